@@ -1,0 +1,8 @@
+pub mod Folder
+pub mod Prefix
+pub mod Steps
+pub mod Store
+pub mod Transfer
+pub mod Memory
+pub mod Sure
+pub mod Disk

@@ -1,0 +1,132 @@
+// The folder of the disk: the edge to the operating system.
+ghost use Rattle.std.specs.Prelude.{◌≡◌, ◌≤◌, length, IfOk};
+ghost use Rattle.outside_core.specs.Folder.{HasCause};
+ghost use Rattle.outside_core.specs.Disk.{disk_folder, CountsFault};
+
+use crate::transfer::{fill, write_all};
+use crate::{Folder, FolderFault};
+use std::fs::OpenOptions;
+use std::io::{self, ErrorKind, Seek, SeekFrom};
+use std::marker::Model;
+use std::rt::Files;
+
+/// The folder that the program runs in, and its standard output. It tells nothing of what it holds.
+///
+/// Trusted is what the operating system does: which octets a file gives and takes, and that a file that is opened to be
+/// appended to takes them at its end. Its three counts are proved.
+#[derive(Drop)]
+pub struct DiskFolder<R> {
+    rt: R,
+    read_faults: u64,
+    write_faults: u64,
+    refusals: u64,
+}
+
+impl<R> Model for DiskFolder<R> {
+    ghost use Rattle.outside_core.specs.Disk.{DiskCounts};
+
+    ghost Value = { DiskCounts };
+
+    ghost view = { λ f. record { read_faults = f.read_faults; write_faults = f.write_faults; refusals = f.refusals } };
+}
+
+impl<R: Files + Print + Clone + Drop> DiskFolder<R> {
+    pub fn new(rt: R) -> DiskFolder<R>
+        ensures { result ≡ record { read_faults = 0; write_faults = 0; refusals = 0 } }
+    {
+        DiskFolder {
+            rt,
+            read_faults: 0,
+            write_faults: 0,
+            refusals: 0,
+        }
+    }
+
+    fn read_from(&self, name: &str, at: u64, buf: &mut [u8]) -> Result<usize, FolderFault>
+        ensures { IfOk result (λ count. count ≤ length buf.old) }
+    {
+        let mut file = OpenOptions::new().read(true).open(&self.rt, name)?;
+        file.seek(SeekFrom::Start(at))?;
+        Ok(fill(&mut file, buf)?)
+    }
+
+    fn make_empty(&self, name: &str) -> Result<(), FolderFault> {
+        OpenOptions::new()
+            .write(true)
+            .create(true)
+            .truncate(true)
+            .open(&self.rt, name)?;
+        Ok(())
+    }
+
+    fn write_behind(&self, name: &str, piece: &[u8]) -> Result<(), FolderFault> {
+        let mut file = OpenOptions::new()
+            .append(true)
+            .create(true)
+            .open(&self.rt, name)?;
+        Ok(write_all(&mut file, piece)?)
+    }
+
+    fn write_out(&self, piece: &[u8]) -> Result<(), FolderFault> {
+        Ok(write_all(&mut io::writer(&self.rt), piece)?)
+    }
+}
+
+impl From<io::Error> for FolderFault {
+    ghost use Rattle.outside_core.specs.Disk.{IsFaultOf};
+
+    ghost from_gives = { IsFaultOf };
+
+    fn from(error: io::Error) -> FolderFault {
+        match error.kind() {
+            ErrorKind::OutOfMemory => FolderFault::NoMemory,
+            _ => FolderFault::Failed,
+        }
+    }
+}
+
+/// Passes an answer on, and counts its fault.
+fn counted<T>(
+    answer: Result<T, FolderFault>,
+    faults: &mut u64,
+    refusals: &mut u64,
+) -> Result<T, FolderFault>
+    ensures same { result ≡ answer }
+    ensures counts { CountsFault answer faults.old faults.new refusals.old refusals.new }
+
+    // What follows from these, as the trait's clauses ask it.
+    ensures faults { faults.old ≤ faults.new }
+    ensures refusals { refusals.old ≤ refusals.new }
+    ensures cause { HasCause faults.old faults.new refusals.old refusals.new result }
+{
+    match answer {
+        Err(FolderFault::Failed) => *faults = faults.saturating_add(1),
+        Err(FolderFault::NoMemory) => *refusals = refusals.saturating_add(1),
+        Ok(_) => {}
+    }
+    answer
+}
+
+impl<R: Files + Print + Clone + Drop> Folder for DiskFolder<R> {
+    ghost state = { disk_folder };
+
+    fn read_at(&mut self, name: &str, at: u64, buf: &mut [u8]) -> Result<usize, FolderFault> {
+        let read = self.read_from(name, at, buf);
+        counted(read, &mut self.read_faults, &mut self.refusals)
+    }
+
+    fn create(&mut self, name: &str) -> Result<(), FolderFault> {
+        let created = self.make_empty(name);
+        counted(created, &mut self.write_faults, &mut self.refusals)
+    }
+
+    fn append(&mut self, name: &str, piece: &[u8]) -> Result<(), FolderFault> {
+        let appended = self.write_behind(name, piece);
+        counted(appended, &mut self.write_faults, &mut self.refusals)
+    }
+
+    fn say(&mut self, piece: &[u8]) -> Result<(), FolderFault> {
+        let said = self.write_out(piece);
+        counted(said, &mut self.write_faults, &mut self.refusals)
+    }
+}

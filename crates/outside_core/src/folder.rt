@@ -1,0 +1,72 @@
+// A folder as a program sees it. What it holds may be told or not; its counts of faults are always known.
+ghost use Rattle.std.specs.Prelude.{◌⊎◌, ◌≤◌, length, IfOk, OnOk, OnErr};
+ghost use Rattle.outside_core.specs.Folder.{FolderState, OnlyReads, OnlyWrites, OnlySays, KeepsName, HasCause, ReadsFront, Appended, PartlyAppended, Created, Said, PartlySaid};
+
+use std::alloc::{AllocError, AllocFailed};
+use thiserror::Error;
+
+/// Why a folder's call did nothing, or not all.
+#[derive(Clone, Copy, Debug, PartialEq, Eq, Hash, Error)]
+pub enum FolderFault {
+    /// The folder failed.
+    #[error("the folder failed")]
+    Failed,
+    /// The folder found no memory.
+    #[error("the folder found no memory")]
+    NoMemory,
+}
+
+/// Memory was not found.
+#[derive(Clone, Copy, Debug, PartialEq, Eq, Hash, Error)]
+#[error("no memory")]
+pub struct NoMemory;
+
+impl From<AllocError> for NoMemory {
+    fn from(_error: AllocError) -> NoMemory {
+        NoMemory
+    }
+}
+
+impl<T: Drop> From<AllocFailed<T>> for NoMemory {
+    fn from(_error: AllocFailed<T>) -> NoMemory {
+        NoMemory
+    }
+}
+
+/// A folder of named files, and a place to say lines. A name is any text, and a file is a list of octets.
+///
+/// What a folder holds is known of the names that it tells, and which these are never changes. Each call belongs to a
+/// count of faults, of the name or of what is said, and all calls to one count of memory refusals; no count ever falls.
+pub trait Folder {
+    /// What it stands for.
+    ghost state: { Self → FolderState };
+
+    /// Fills the front of `buf` with the octets of the file from `at` on, and answers how many. 0 for a `buf` that isn't
+    /// empty means the end.
+    fn read_at(&mut self, name: &str, at: u64, buf: &mut [u8]) -> Result<usize, FolderFault>
+        ensures octets { IfOk result (ReadsFront (state self.old) name.now at buf.old buf.new) }
+        ensures bound { IfOk result (λ count. count ≤ length buf.old) }
+        ensures only { OnlyReads (state self.old) (state self.new) }
+        ensures cause { HasCause ((state self.old).read_faults name.now) ((state self.new).read_faults name.now) (state self.old).refusals (state self.new).refusals result };
+
+    /// Makes the name hold no octets.
+    fn create(&mut self, name: &str) -> Result<(), FolderFault>
+        ensures ok { OnOk result (Created (state self.old) (state self.new) name.now) }
+        ensures err { OnErr result (KeepsName (state self.old) (state self.new) name.now ⊎ Created (state self.old) (state self.new) name.now) }
+        ensures only { OnlyWrites (state self.old) (state self.new) name.now }
+        ensures cause { HasCause ((state self.old).write_faults name.now) ((state self.new).write_faults name.now) (state self.old).refusals (state self.new).refusals result };
+
+    /// Puts the piece behind what the name holds. A name that isn't held is made.
+    fn append(&mut self, name: &str, piece: &[u8]) -> Result<(), FolderFault>
+        ensures ok { OnOk result (Appended (state self.old) (state self.new) name.now piece.now) }
+        ensures err { OnErr result (PartlyAppended (state self.old) (state self.new) name.now piece.now) }
+        ensures only { OnlyWrites (state self.old) (state self.new) name.now }
+        ensures cause { HasCause ((state self.old).write_faults name.now) ((state self.new).write_faults name.now) (state self.old).refusals (state self.new).refusals result };
+
+    /// Puts the piece behind what was said.
+    fn say(&mut self, piece: &[u8]) -> Result<(), FolderFault>
+        ensures ok { OnOk result (Said (state self.old) (state self.new) piece.now) }
+        ensures err { OnErr result (PartlySaid (state self.old) (state self.new) piece.now) }
+        ensures only { OnlySays (state self.old) (state self.new) }
+        ensures cause { HasCause (state self.old).say_faults (state self.new).say_faults (state self.old).refusals (state self.new).refusals result };
+}

@@ -1,0 +1,150 @@
+// A folder in memory that never fails.
+ghost use Rattle.std.specs.Prelude.{◌≡◌, ◌≤◌, ◌⊎◌, ◌++◌, [], length, unwrap_or, OnOk, OnErr, IfOk, IsOk};
+ghost use Rattle.std.specs.Option.{option_map};
+ghost use Rattle.std.specs.FinMap as finite;
+ghost use Rattle.outside_core.specs.Folder.{ReadsFront, OnlyReads, OnlyWrites, OnlySays, HasCause, KeepsName, Appended, PartlyAppended, Created, Said, PartlySaid};
+ghost use Rattle.outside_core.specs.Sure.{sure_folder, counted, AfterSureWrite};
+
+use crate::store::Store;
+use crate::transfer::copy_from;
+use crate::{Folder, FolderFault, NoMemory};
+use std::alloc::Global;
+use std::marker::Model;
+
+/// A folder in memory that answers `NoMemory` at worst. It tells every name, and one that isn't held reads as empty.
+#[derive(Drop)]
+pub struct SureFolder {
+    store: Store,
+    said: Vec<u8>,
+    calls: u64,
+    refusals: u64,
+}
+
+impl Model for SureFolder {
+    ghost use Rattle.outside_core.specs.Sure.{SureState, sure_code};
+
+    ghost Value = { SureState };
+
+    ghost coded = { sure_code };
+
+    ghost view = { λ f. record { held = f.store; said = f.said.items; calls = f.calls; refusals = f.refusals } };
+}
+
+impl SureFolder {
+    pub fn new(alloc: Global) -> Self
+        ensures { result ≡ record { held = finite.empty; said = []; calls = 0; refusals = 0 } }
+    {
+        SureFolder {
+            store: Store::new(alloc),
+            said: Vec::new(alloc),
+            calls: 0,
+            refusals: 0,
+        }
+    }
+
+    /// Sets what a name holds. It is no call of [`Folder`], and isn't counted.
+    pub fn put(&mut self, name: &str, octets: &[u8]) -> Result<(), NoMemory>
+        ensures ok { OnOk result (self.new ≡ record self.old { held = finite.insert self.old.held name.now octets.now }) }
+        ensures err { OnErr result (self.new ≡ self.old) }
+    {
+        self.store.put(name, octets)?;
+        Ok(())
+    }
+
+    /// The octets that a name holds, `None` where it isn't held.
+    pub fn get(&self, name: &str) -> Option<&[u8]>
+        ensures { option_map (λ octets. octets.now) result ≡ finite.get self.now.held name.now }
+    {
+        self.store.get(name)
+    }
+
+    /// All that was said, in order.
+    pub fn said(&self) -> &[u8]
+        ensures { result.now ≡ self.now.said }
+    {
+        &self.said
+    }
+
+    /// How many calls of [`Folder`] were made, whatever they answered.
+    pub fn calls(&self) -> u64
+        ensures { result ≡ self.now.calls }
+    {
+        self.calls
+    }
+}
+
+impl Folder for SureFolder {
+    ghost state = { sure_folder };
+
+    fn read_at(&mut self, name: &str, at: u64, buf: &mut [u8]) -> Result<usize, FolderFault>
+        ensures octets { IfOk result (ReadsFront (sure_folder self.old) name.now at buf.old buf.new) }
+        ensures bound { IfOk result (λ count. count ≤ length buf.old) }
+        ensures only { OnlyReads (sure_folder self.old) (sure_folder self.new) }
+        ensures cause { HasCause 0 0 self.old.refusals self.new.refusals result }
+
+        ensures sure { IsOk result }
+        ensures after { self.new ≡ counted self.old }
+    {
+        self.calls = self.calls.saturating_add(1);
+        match self.store.get(name) {
+            Some(octets) => Ok(copy_from(octets, at, buf)),
+            None => Ok(0),
+        }
+    }
+
+    #[tactic(auto, using(crate::proofs::Stored::stored_names))]
+    fn create(&mut self, name: &str) -> Result<(), FolderFault>
+        ensures ok { OnOk result (Created (sure_folder self.old) (sure_folder self.new) name.now) }
+        ensures err { OnErr result (KeepsName (sure_folder self.old) (sure_folder self.new) name.now ⊎ Created (sure_folder self.old) (sure_folder self.new) name.now) }
+        ensures only { OnlyWrites (sure_folder self.old) (sure_folder self.new) name.now }
+        ensures cause { HasCause 0 0 self.old.refusals self.new.refusals result }
+
+        ensures after { AfterSureWrite self.old self.new (record self.old { held = finite.insert self.old.held name.now [] }) result }
+    {
+        self.calls = self.calls.saturating_add(1);
+        match self.store.put(name, &[]) {
+            Ok(()) => Ok(()),
+            Err(_) => {
+                self.refusals = self.refusals.saturating_add(1);
+                Err(FolderFault::NoMemory)
+            }
+        }
+    }
+
+    #[tactic(auto, using(crate::proofs::Stored::stored_names))]
+    fn append(&mut self, name: &str, piece: &[u8]) -> Result<(), FolderFault>
+        ensures ok { OnOk result (Appended (sure_folder self.old) (sure_folder self.new) name.now piece.now) }
+        ensures err { OnErr result (PartlyAppended (sure_folder self.old) (sure_folder self.new) name.now piece.now) }
+        ensures only { OnlyWrites (sure_folder self.old) (sure_folder self.new) name.now }
+        ensures cause { HasCause 0 0 self.old.refusals self.new.refusals result }
+
+        ensures after { AfterSureWrite self.old self.new (record self.old { held = finite.insert self.old.held name.now (unwrap_or (finite.get self.old.held name.now) [] ++ piece.now) }) result }
+    {
+        self.calls = self.calls.saturating_add(1);
+        match self.store.append(name, piece) {
+            Ok(()) => Ok(()),
+            Err(_) => {
+                self.refusals = self.refusals.saturating_add(1);
+                Err(FolderFault::NoMemory)
+            }
+        }
+    }
+
+    fn say(&mut self, piece: &[u8]) -> Result<(), FolderFault>
+        ensures ok { OnOk result (Said (sure_folder self.old) (sure_folder self.new) piece.now) }
+        ensures err { OnErr result (PartlySaid (sure_folder self.old) (sure_folder self.new) piece.now) }
+        ensures only { OnlySays (sure_folder self.old) (sure_folder self.new) }
+        ensures cause { HasCause 0 0 self.old.refusals self.new.refusals result }
+
+        ensures after { AfterSureWrite self.old self.new (record self.old { said = self.old.said ++ piece.now }) result }
+    {
+        self.calls = self.calls.saturating_add(1);
+        match self.said.extend_from_slice(piece) {
+            Ok(()) => Ok(()),
+            Err(_) => {
+                self.refusals = self.refusals.saturating_add(1);
+                Err(FolderFault::NoMemory)
+            }
+        }
+    }
+}
