@@ -1,0 +1,4 @@
+pub mod Bits
+pub mod FrameCheck
+pub mod Division
+pub mod Register
