@@ -1,0 +1,133 @@
+// Frames as values.
+ghost use Rattle.std.specs.Prelude.{◌≡◌};
+
+use frame_check::Info;
+
+/// An end of the link.
+#[derive(Clone, Copy, Debug, PartialEq, Eq)]
+pub enum Role {
+    Originator,
+    Answerer,
+}
+
+/// A frame of ITU-T V.42. `command` tells a command from a response where the kind has both, `ns` and `nr` are the numbers N(S) and
+/// N(R) modulo 128, and `pf` is the poll bit of a command and the final bit of a response.
+#[derive(Debug, Drop, PartialEq, Eq)]
+pub enum Frame {
+    I {
+        ns: u8,
+        nr: u8,
+        pf: bool,
+        info: Info,
+    },
+    Rr {
+        command: bool,
+        nr: u8,
+        pf: bool,
+    },
+    Rnr {
+        command: bool,
+        nr: u8,
+        pf: bool,
+    },
+    Rej {
+        command: bool,
+        nr: u8,
+        pf: bool,
+    },
+    Srej {
+        command: bool,
+        nr: u8,
+        pf: bool,
+    },
+    Sabme {
+        pf: bool,
+    },
+    Disc {
+        pf: bool,
+    },
+    Ua {
+        pf: bool,
+    },
+    Dm {
+        pf: bool,
+    },
+    Frmr {
+        pf: bool,
+        info: Info,
+    },
+    Ui {
+        command: bool,
+        pf: bool,
+        info: Info,
+    },
+    Xid {
+        command: bool,
+        pf: bool,
+        info: Info,
+    },
+    Test {
+        command: bool,
+        pf: bool,
+        info: Info,
+    },
+}
+
+impl Frame {
+    /// A second frame of the same content. Unlike a `clone` it can't fail.
+    pub fn copy(&self) -> Frame
+        ensures { result ≡ self.now }
+    {
+        match self {
+            Frame::I { ns, nr, pf, info } => Frame::I {
+                ns: *ns,
+                nr: *nr,
+                pf: *pf,
+                info: info.copy(),
+            },
+            Frame::Rr { command, nr, pf } => Frame::Rr {
+                command: *command,
+                nr: *nr,
+                pf: *pf,
+            },
+            Frame::Rnr { command, nr, pf } => Frame::Rnr {
+                command: *command,
+                nr: *nr,
+                pf: *pf,
+            },
+            Frame::Rej { command, nr, pf } => Frame::Rej {
+                command: *command,
+                nr: *nr,
+                pf: *pf,
+            },
+            Frame::Srej { command, nr, pf } => Frame::Srej {
+                command: *command,
+                nr: *nr,
+                pf: *pf,
+            },
+            Frame::Sabme { pf } => Frame::Sabme { pf: *pf },
+            Frame::Disc { pf } => Frame::Disc { pf: *pf },
+            Frame::Ua { pf } => Frame::Ua { pf: *pf },
+            Frame::Dm { pf } => Frame::Dm { pf: *pf },
+            Frame::Frmr { pf, info } => Frame::Frmr {
+                pf: *pf,
+                info: info.copy(),
+            },
+            Frame::Ui { command, pf, info } => Frame::Ui {
+                command: *command,
+                pf: *pf,
+                info: info.copy(),
+            },
+            Frame::Xid { command, pf, info } => Frame::Xid {
+                command: *command,
+                pf: *pf,
+                info: info.copy(),
+            },
+            Frame::Test { command, pf, info } => Frame::Test {
+                command: *command,
+                pf: *pf,
+                info: info.copy(),
+            },
+        }
+    }
+}

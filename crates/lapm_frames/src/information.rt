@@ -1,0 +1,51 @@
+// I frames: numbers and information, always commands. And the information of any frame.
+ghost use Rattle.std.specs.Prelude.{◌≡◌, ℕ, ◌<◌, ◌≤◌, ◌+◌, ◌%◌, ◌∷◌, length, IfOk, IfErr};
+ghost use Rattle.frame_check.specs.declared.sizes.TheConstants.{INFO};
+ghost use Rattle.lapm_frames.specs.declared.frame.Role.{Role};
+ghost use Rattle.lapm_frames.specs.Frame.{address_of, FrameSpelling};
+ghost use Rattle.lapm_frames.specs.Fault.{FirstFault};
+
+use crate::numbers::number;
+use crate::{Frame, FrameFault};
+use frame_check::{INFO, Info};
+
+/// The information of a frame, where it isn't too long. The frame has `before` octets in front of it.
+pub(crate) fn information(octets: &[u8], before: usize) -> Result<Info, FrameFault>
+    requires { before ≤ 3 }
+    ensures ok { IfOk result (λ info. (info ≡ octets.now) × (length info ≤ INFO)) }
+    ensures err { IfErr result (λ fault. (fault ≡ FrameFault.Long (before + length octets.now))
+        × (INFO < length octets.now)) }
+{
+    if octets.len() > INFO {
+        return Err(FrameFault::Long {
+            len: before + octets.len(),
+        });
+    }
+    let mut info = Info::new();
+    info.extend(octets);
+    Ok(info)
+}
+
+/// Reads what follows an even control octet.
+pub(crate) fn read(control: u8, command: bool, tail: &[u8]) -> Result<Frame, FrameFault>
+    requires { control % 2 ≡ 0 }
+    ensures ok { IfOk result (λ frame. (sender : Role) (dlci : ℕ)
+        → FrameSpelling frame sender dlci (address_of command sender dlci ∷ control ∷ tail.now)) }
+    ensures err { IfErr result (λ fault. (sender : Role) (dlci : ℕ)
+        → FirstFault sender dlci (address_of command sender dlci ∷ control ∷ tail.now) fault) }
+{
+    if !command {
+        return Err(FrameFault::Control { octet: control });
+    }
+    let [numbers, rest @ ..] = tail else {
+        return Err(FrameFault::Short);
+    };
+    let info = information(rest, 3)?;
+    let (nr, pf) = number(*numbers);
+    Ok(Frame::I {
+        ns: control / 2,
+        nr,
+        pf,
+        info,
+    })
+}

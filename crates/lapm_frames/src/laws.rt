@@ -1,0 +1,49 @@
+//! Laws over the definitions of frames and faults alone. The functions do nothing: each law is a contract.
+ghost use Rattle.std.specs.Prelude.{◌≡◌, ◌≢◌, ℕ, ◌+◌, ◌/◌, ◌%◌, ◌<◌, ◌⊎◌, Bool, IsTrue, List, [], ◌∷◌, length, take, not};
+ghost use Rattle.lapm_frames.specs.declared.frame.Role.{Role};
+ghost use Rattle.lapm_frames.specs.declared.frame.Frame.{Frame};
+ghost use Rattle.lapm_frames.specs.declared.fault.FrameFault.{FrameFault};
+ghost use Rattle.lapm_frames.specs.Frame.{address_of, spelled, IsFrame, FrameSpelling};
+ghost use Rattle.lapm_frames.specs.Fault.{FirstFault};
+ghost use Rattle.lapm_frames.specs.Rows.{is_control, has_number, most_octets};
+
+/// A frame has one spelling.
+pub fn one_spelling()
+    ensures exists { (frame : Frame) (sender : Role) (dlci : ℕ) → IsFrame frame
+        → FrameSpelling frame sender dlci (spelled frame sender dlci) }
+    ensures no_other { (frame : Frame) (sender : Role) (dlci : ℕ) (octets others : List ℕ)
+        → FrameSpelling frame sender dlci octets → FrameSpelling frame sender dlci others → octets ≡ others }
+{}
+
+/// A spelling is that of one frame.
+pub fn one_frame()
+    ensures { (frame other : Frame) (sender : Role) (dlci : ℕ) (octets : List ℕ)
+        → FrameSpelling frame sender dlci octets → FrameSpelling other sender dlci octets → frame ≡ other }
+{}
+
+/// Octets have one first fault at most, and none where they are a frame.
+pub fn one_fault()
+    ensures one { (sender : Role) (dlci : ℕ) (octets : List ℕ) (fault other : FrameFault)
+        → FirstFault sender dlci octets fault → FirstFault sender dlci octets other → fault ≡ other }
+    ensures never_both { (frame : Frame) (sender : Role) (dlci : ℕ) (octets : List ℕ) (fault : FrameFault)
+        → FrameSpelling frame sender dlci octets → FirstFault sender dlci octets fault → ⊥ }
+{}
+
+/// The faults by the octets: nothing; an address of two octets, or that of another channel; an address alone; no control octet of
+/// a command, or of a response; a frame that lacks N(R); more octets than the kind has.
+pub fn faults_by_octets()
+    ensures nothing { (sender : Role) (dlci : ℕ) → FirstFault sender dlci [] FrameFault.Short }
+    ensures address { (sender : Role) (dlci octet : ℕ) (rest : List ℕ)
+        → (octet % 2 ≡ 0) ⊎ (octet / 4 ≢ dlci)
+        → FirstFault sender dlci (octet ∷ rest) (FrameFault.Address octet) }
+    ensures address_alone { (sender : Role) (dlci octet : ℕ) → octet % 2 ≡ 1 → octet / 4 ≡ dlci
+        → FirstFault sender dlci (octet ∷ []) FrameFault.Short }
+    ensures control { (sender : Role) (dlci octet : ℕ) (command : Bool) (rest : List ℕ)
+        → IsTrue (not (is_control command octet))
+        → FirstFault sender dlci (address_of command sender dlci ∷ octet ∷ rest) (FrameFault.Control octet) }
+    ensures no_number { (frame : Frame) (sender : Role) (dlci : ℕ) → IsFrame frame → IsTrue (has_number frame)
+        → FirstFault sender dlci (take 2 (spelled frame sender dlci)) FrameFault.Short }
+    ensures too_many { (frame : Frame) (sender : Role) (dlci : ℕ) (octets : List ℕ) → IsFrame frame
+        → take 2 octets ≡ take 2 (spelled frame sender dlci) → most_octets frame < length octets
+        → FirstFault sender dlci octets (FrameFault.Long (length octets)) }
+{}
