@@ -1,0 +1,6 @@
+pub mod Script
+pub mod Heard
+pub mod Direction
+pub mod Run
+pub mod Station
+pub mod World

@@ -1,0 +1,19 @@
+//! What holds in every run, whatever the script loses.
+ghost use Rattle.std.specs.Prelude.{◌≡◌, List, length, ◌≤◌, ◌<◌, ◌*◌, ◌+◌};
+ghost use Rattle.std.specs.List.{concat};
+ghost use Rattle.outside_core.specs.Prefix.{IsPrefixOf};
+ghost use Rattle.line_world.specs.declared.script.Loss.{Loss};
+ghost use Rattle.line_world.specs.Run.{Files, Turn, Ends, RunOf, LastTurn, segments};
+
+/// What each end has taken is the beginning of the other's file, and in the last turn the whole of it.
+pub fn in_order()
+    ensures answ { (f : Files) (script : List Loss) (ts : List Turn) (ends : Ends) → RunOf f script ts ends → IsPrefixOf (concat ends.answ.taken) f.orig }
+    ensures orig { (f : Files) (script : List Loss) (ts : List Turn) (ends : Ends) → RunOf f script ts ends → IsPrefixOf (concat ends.orig.taken) f.answ }
+    ensures whole_answ { (f : Files) (script : List Loss) (ts : List Turn) (ends : Ends) (t : Turn) (mid : Ends) → RunOf f script ts ends → LastTurn f script ts ends t mid → concat mid.answ.taken ≡ f.orig }
+    ensures whole_orig { (f : Files) (script : List Loss) (ts : List Turn) (ends : Ends) (t : Turn) (mid : Ends) → RunOf f script ts ends → LastTurn f script ts ends t mid → concat mid.orig.taken ≡ f.answ }
+{}
+
+/// A run ends within 140 turns for each segment of both files and for six more.
+pub fn bounded()
+    ensures { (f : Files) (script : List Loss) (ts : List Turn) (ends : Ends) → RunOf f script ts ends → length ts < 140 * (segments f.orig + segments f.answ + 6) }
+{}

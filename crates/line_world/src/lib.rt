@@ -1,0 +1,18 @@
+//! Two ends of a link and the line between them, in turns: a pure function of two files and a script of lost slots, apart
+//! from the folder that a turn writes to. `World` makes one turn at a time, `Script` says which slots the line loses,
+//! `Heard` is what arrives at an end.
+#![tactic(auto)]
+
+mod direction;
+mod heard;
+pub mod laws;
+mod script;
+mod station;
+mod world;
+
+pub use heard::Heard;
+pub use script::{Cause, Loss, Script, ScriptFault, read_script};
+pub use world::{Names, RunFault, Step, World};
+
+#[cfg(test)]
+mod tests;
