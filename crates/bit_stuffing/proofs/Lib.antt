@@ -1,0 +1,21 @@
+pub mod Stuffed
+mod Places
+mod Openings
+mod Latest
+mod Ones
+mod BitLists
+mod Gather
+mod Between
+mod Contents
+mod EndsWith
+mod Judged
+pub mod Found
+mod Worked
+pub mod Written
+pub mod Fill
+mod Counters
+mod States
+mod Frames
+mod Plain
+pub mod Sent
+pub mod Sizes

@@ -1,0 +1,50 @@
+-- One more bit: what ended at an earlier place still does.
+use Rattle.std.proofs.Common.{◌≡◌, ℕ, ◌+◌, ◌-◌, ◌<◌, ◌≤◌, Bool, List, [], ◌∷◌, ◌++◌, length, arith, length-append, sym, ◌∙◌}
+use Rattle.std.proofs.lemmas.Grind.{common_steps}
+use Rattle.std.proofs.lemmas.Bool.{false≢true}
+use Rattle.bit_stuffing.specs.Flags.{bit_of, FlagEndsAt, SevenOnesEndAt}
+
+pub length-snoc : (bits : List Bool) (b : Bool) → length (bits ++ b ∷ []) ≡ length bits + 1
+length-snoc bits b = omega (arith, length-append {A = Bool})
+
+-- a bit before the last one
+pub bit-before : (bits : List Bool) (b : Bool) (i : ℕ) → i < length bits → bit_of (bits ++ b ∷ []) i ≡ bit_of bits i
+bit-before bits b i h = grind (arith, common_steps)
+
+pub bit-last : (bits : List Bool) (b : Bool) (i : ℕ) → i ≡ length bits → bit_of (bits ++ b ∷ []) i ≡ b
+bit-last bits b i h = grind (arith, common_steps)
+
+pub flag-stays : (bits : List Bool) (b : Bool) (n : ℕ) → FlagEndsAt bits n → FlagEndsAt (bits ++ b ∷ []) n
+flag-stays bits b n h = record {
+  room = h.room;
+  within = omega (arith, h.within, length-snoc bits b);
+  spelled = λ i l. bit-before bits b (n - 8 + i) (omega (arith, h.room, h.within)) ∙ h.spelled i l;
+}
+
+pub flag-was : (bits : List Bool) (b : Bool) (n : ℕ) → n ≤ length bits → FlagEndsAt (bits ++ b ∷ []) n → FlagEndsAt bits n
+flag-was bits b n within h = record {
+  room = h.room;
+  within = within;
+  spelled = λ i l. sym (bit-before bits b (n - 8 + i) (omega (arith, h.room))) ∙ h.spelled i l;
+}
+
+pub seven-was : (bits : List Bool) (b : Bool) (n : ℕ) → n ≤ length bits → SevenOnesEndAt (bits ++ b ∷ []) n → SevenOnesEndAt bits n
+seven-was bits b n within h = record {
+  room = h.room;
+  within = within;
+  ones = λ i l. sym (bit-before bits b (n - 7 + i) (omega (arith, h.room))) ∙ h.ones i l;
+}
+
+pub seven-stays : (bits : List Bool) (b : Bool) (n : ℕ) → SevenOnesEndAt bits n → SevenOnesEndAt (bits ++ b ∷ []) n
+seven-stays bits b n h = record {
+  room = h.room;
+  within = omega (arith, h.within, length-snoc bits b);
+  ones = λ i l. bit-before bits b (n - 7 + i) (omega (arith, h.room, h.within)) ∙ h.ones i l;
+}
+
+-- at one place a flag or seven ones end, never both
+pub flag_or_seven : (bits : List Bool) (n : ℕ) → FlagEndsAt bits n → SevenOnesEndAt bits n → ⊥
+flag_or_seven bits n f s =
+    let place : n - 8 + 7 ≡ n - 7 + 6 = omega (arith, f.room) in
+    let zero_last = f.spelled 7 (omega arith) in
+    false≢true (sym (rw place at zero_last) ∙ s.ones 6 (omega arith))

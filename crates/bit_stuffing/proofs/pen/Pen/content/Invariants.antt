@@ -1,0 +1,11 @@
+use Rattle.std.proofs.Common.{◌≡◌, ◌++◌, take}
+use Rattle.frame_check.specs.Bits.{bits_of}
+use Rattle.bit_stuffing.specs.Pen.{written}
+use Rattle.bit_stuffing.specs.Stuffing.{stuffed, room_behind}
+use Rattle.bit_stuffing.proofs.pen.Pen.content.Given as goal
+
+abbrev pub invariant-loop-octet : goal.invariant-loop-octet
+invariant-loop-octet l = record {
+  bits : written l.self l.out ≡ written l.fn.self l.fn.out ++ stuffed 5 (bits_of (take l.octet-index l.octets));
+  left : l.left ≡ room_behind 5 (bits_of (take l.octet-index l.octets));
+}

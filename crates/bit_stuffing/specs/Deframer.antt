@@ -1,0 +1,68 @@
+-- What a deframer keeps, and the bits for which it stands.
+use Rattle.std.specs.Prelude.{◌≡◌, ℕ, ◌+◌, ◌-◌, ◌*◌, ◌<◌, ◌≤◌, Bool, true, false, if◌then◌else◌, nat_lt, List, ◌++◌, length, min, All, Option, Some, None}
+use Rattle.std.specs.Int.{bit_at}
+use Rattle.frame_check.specs.declared.sizes.TheConstants.{WHOLE}
+use Rattle.frame_check.specs.Bits.{number, low_bits, bits_of}
+use Rattle.bit_stuffing.specs.Flags.{bit_of, OpenedAt}
+use Rattle.bit_stuffing.specs.Stuffing.{removed, room_after}
+use Rattle.bit_stuffing.specs.Pieces.{content, EndsWhole}
+
+-- the bit so many places back from the end, where ones stand before the first
+abbrev pub back : List Bool → ℕ → Bool
+back bits places = if nat_lt (length bits) places then true else bit_of bits (length bits - places)
+
+-- a number has the latest eight bits, the last one lowest
+pub record HoldsLatest (latest : ℕ) (bits : List Bool) : Type 0 where
+  pub low : latest < 256
+  pub each : (place : ℕ) → place < 8 → bit_at latest place ≡ number (back bits (place + 1))
+
+-- the number of bits behind the flag that is open, up to eight; none where no flag is open
+abbrev pub CountsSince : Option ℕ → List Bool → Type 0
+CountsSince None bits = (p : ℕ) → OpenedAt bits p → ⊥
+CountsSince (Some count) bits = (p : ℕ) × OpenedAt bits p × (count ≡ min 8 (length bits - p))
+
+-- what finds flags: the latest bits, and the bits since the flag that is open
+pub record Finding : Type 0 where
+  pub latest : ℕ
+  pub since : Option ℕ
+
+-- it stands for these bits
+pub record Finds (finding : Finding) (bits : List Bool) : Type 0 where
+  pub holds : HoldsLatest finding.latest bits
+  pub counts : CountsSince finding.since bits
+
+-- what is gathered of a content: whole octets and the low bits of another one, or no more than that there is too much
+pub record Gathering : Type 0 where
+  pub room : ℕ
+  pub octets : List ℕ
+  pub part : ℕ
+  pub held : ℕ
+  pub over : Bool
+
+-- too many bits, or the octets and so many low bits of a part
+abbrev pub KeepsBits : Bool → List ℕ → ℕ → ℕ → List Bool → Type 0
+KeepsBits true octets part held kept = 8 * WHOLE < length kept
+KeepsBits false octets part held kept = (kept ≡ bits_of octets ++ low_bits held part) × All (λ octet. octet < 256) octets
+
+-- what is gathered of a line's bits
+pub record Gathers (gathering : Gathering) (line : List Bool) : Type 0 where
+  pub room_is : gathering.room ≡ room_after 5 line
+  pub keeps : KeepsBits gathering.over gathering.octets gathering.part gathering.held (removed 5 line)
+
+-- what a deframer keeps
+pub record Kept : Type 0 where
+  pub finding : Finding
+  pub gathering : Gathering
+  pub lent : Bool
+
+-- whether the octets are those of a whole piece that the last bit closes
+abbrev pub Lends : Bool → List ℕ → List Bool → Type 0
+Lends true octets bits = EndsWhole bits octets
+Lends false octets bits = (other : List ℕ) → EndsWhole bits other → ⊥
+
+-- A deframer stands for the bits that were pushed. What it has gathered is the content so far, without the last eight bits: they may
+-- yet be a flag.
+pub record DeframerStands (deframer : Kept) (bits : List Bool) : Type 0 where
+  pub finds : Finds deframer.finding bits
+  pub gathers : (p : ℕ) → OpenedAt bits p → p + 8 ≤ length bits → Gathers deframer.gathering (content bits p)
+  pub lends : Lends deframer.lent deframer.gathering.octets bits

@@ -1,0 +1,11 @@
+pub mod Stuffing
+pub mod Flags
+pub mod Events
+pub mod Pieces
+pub mod Found
+pub mod Deframer
+pub mod Slots
+pub mod BitSlot
+pub mod Pen
+pub mod SlotWriter
+pub mod Sent

@@ -1,0 +1,104 @@
+// The pieces in a stream of bits.
+ghost use Rattle.std.specs.Prelude.{◌≡◌, ◌≢◌, IsTrue};
+
+use crate::finder::{Event, FlagFinder};
+use crate::piece::Piece;
+use crate::unstuffer::Unstuffer;
+use std::marker::Model;
+
+/// Finds the pieces in a stream of bits. It keeps no more than the longest frame takes, however long the stream
+/// is.
+#[derive(Drop)]
+pub struct Deframer {
+    finder: FlagFinder,
+    unstuffer: Unstuffer,
+    /// Whether the last bit closed a whole piece.
+    lent: bool,
+}
+
+impl Model for Deframer {
+    ghost use Rattle.bit_stuffing.specs.Deframer.{Kept};
+
+    ghost Value = { Kept };
+
+    ghost view = { λ d. record { finding = d.finder; gathering = d.unstuffer; lent = d.lent } };
+}
+
+fn is_whole(piece: Piece) -> bool
+    ensures yes { IsTrue result → piece ≡ Piece.Whole }
+    ensures no { (IsTrue result → ⊥) → piece ≢ Piece.Whole }
+{
+    match piece {
+        Piece::Whole => true,
+        _ => false,
+    }
+}
+
+impl Deframer {
+    ghost use Rattle.std.specs.Prelude.{ℕ, ◌+◌, ◌≤◌, length, List, Bool, [], ◌∷◌, ◌++◌};
+    ghost use Rattle.bit_stuffing.specs.Flags.{OpenedAt};
+    ghost use Rattle.bit_stuffing.specs.Pieces.{IsAnswer, IsLent, content};
+    ghost use Rattle.bit_stuffing.specs.Found.{answer_of, lent_of};
+    ghost use Rattle.bit_stuffing.specs.Deframer.{DeframerStands, Gathers};
+
+    /// A deframer before the first bit.
+    pub fn new() -> Deframer
+        ensures { DeframerStands result [] }
+    {
+        Deframer {
+            finder: FlagFinder::new(),
+            unstuffer: Unstuffer::new(),
+            lent: false,
+        }
+    }
+
+    /// Gathers the bit that stands before a flag, should one end with the next bit.
+    fn gather(&mut self)
+        ensures gathers { (past : List Bool) (bit : Bool) → DeframerStands self.old past
+            → (p : ℕ) → OpenedAt past p → p + 8 ≤ length (past ++ bit ∷ [])
+            → Gathers self.new.gathering (content (past ++ bit ∷ []) p) }
+        ensures finding { self.new.finding ≡ self.old.finding }
+    {
+        match self.finder.leaving() {
+            Some(bit) => self.unstuffer.push(bit),
+            None => self.unstuffer.clear(),
+        }
+    }
+
+    /// The piece that ends with the next bit of the stream.
+    pub fn push(&mut self, bit: bool) -> Option<Piece>
+        ensures answer { (past : List Bool) → DeframerStands self.old past
+            → IsAnswer past bit result }
+        ensures value { (past : List Bool) → DeframerStands self.old past
+            → result ≡ answer_of (past ++ bit ∷ []) }
+        ensures stands { (past : List Bool) → DeframerStands self.old past
+            → DeframerStands self.new (past ++ bit ∷ []) }
+    {
+        self.gather();
+        self.lent = false;
+        match self.finder.push(bit) {
+            Some(Event::Closed) => {
+                let piece = self.unstuffer.judge();
+                self.lent = is_whole(piece);
+                Some(piece)
+            }
+            Some(Event::Aborted) => Some(Piece::Aborted),
+            None => None,
+        }
+    }
+
+    /// The octets of the piece that the last push answered as whole, with their check. None are lent where
+    /// that push answered anything else, or none was made.
+    pub fn whole(&self) -> &[u8]
+        ensures lent { (past : List Bool) → DeframerStands self.now past
+            → IsLent past result.now }
+        ensures value { (past : List Bool) → DeframerStands self.now past
+            → result.now ≡ lent_of past }
+    {
+        if self.lent {
+            self.unstuffer.octets()
+        } else {
+            &[]
+        }
+    }
+}

@@ -1,0 +1,93 @@
+// Slots of flags, with or without a frame.
+ghost use Rattle.std.specs.Prelude.{◌≡◌, ◌+◌, ◌-◌, ◌*◌, ◌<◌, ◌≤◌, List, Bool, [], ◌∷◌, ◌++◌, length};
+ghost use Rattle.std.specs.Option.{option_copied};
+ghost use Rattle.bit_stuffing.specs.BitSlot.{line_bits};
+ghost use Rattle.bit_stuffing.specs.Pen.{written};
+ghost use Rattle.bit_stuffing.specs.Slots.{Slot, opening, slot_bits};
+ghost use Rattle.bit_stuffing.specs.Slots.Slot.{Flags, Plain};
+
+use crate::bit_slot::BitSlot;
+use crate::pen::Pen;
+use frame_check::SLOT;
+use std::marker::Model;
+
+/// The symbols that may stand before a slot's frame: the rest of an unfinished flag, and four flags.
+pub const HEAD: u16 = 10;
+
+/// The symbols that stand behind a slot's frame at least, so that its receiver may be so many behind.
+pub const TAIL: u16 = 128;
+
+/// Writes a flag slot up to and with its frame's closing flag.
+fn opened(phase: u8, frame: Option<&[u8]>, out: &mut BitSlot) -> Pen
+    requires phase { phase < 8 }
+    requires empty { out.old ≡ [] }
+    requires room { length (opening phase (option_copied frame)) ≤ 4 * SLOT }
+    ensures { written result out.new ≡ opening phase (option_copied frame.entry) }
+{
+    let mut pen = Pen::new();
+    pen.head(phase, out);
+    if let Some(octets) = frame {
+        pen.frame(octets, out);
+    }
+    pen
+}
+
+/// Writes slots of flags, one after another. The flags run on from one slot to the next.
+#[derive(Drop)]
+pub struct SlotWriter {
+    symbols: u16,
+    phase: u8,
+}
+
+impl Model for SlotWriter {
+    ghost use Rattle.std.specs.Prelude.{◌<◌, ◌≤◌, ◌+◌};
+    ghost use Rattle.frame_check.specs.declared.sizes.TheConstants.{SLOT};
+    ghost use Rattle.bit_stuffing.specs.declared.slot_writer.TheConstants.{HEAD, TAIL};
+    ghost use Rattle.bit_stuffing.specs.SlotWriter.{Writer};
+
+    ghost Value = { Writer };
+
+    ghost view = { λ w. record { symbols = w.symbols; phase = w.phase } };
+
+    ghost invariant = { λ w. (HEAD + TAIL < w.symbols) × (w.symbols ≤ SLOT) × (w.phase < 8) };
+}
+
+impl SlotWriter {
+    ghost use Rattle.bit_stuffing.specs.SlotWriter.{WriterStands};
+
+    /// A writer of slots of so many symbols, before the first one.
+    pub fn new(symbols: u16) -> SlotWriter
+        requires low { HEAD + TAIL < symbols }
+        requires high { symbols ≤ SLOT }
+        ensures symbols { result.symbols ≡ symbols }
+        ensures stands { WriterStands result [] }
+    {
+        SlotWriter { symbols, phase: 0 }
+    }
+
+    /// Writes the next slot: flags, and between them the frame, if there is one. It is handed in with its
+    /// check.
+    pub fn slot(&mut self, frame: Option<&[u8]>, out: &mut BitSlot)
+        requires empty { out.old ≡ [] }
+        requires room { length (opening self.old.phase (option_copied frame))
+            ≤ 4 * (self.old.symbols - TAIL) }
+        ensures bits { line_bits out.new
+            ≡ slot_bits (4 * self.old.symbols) self.old.phase (Flags (option_copied frame.entry)) }
+        ensures symbols { self.new.symbols ≡ self.old.symbols }
+        ensures stands { (slots : List Slot) → WriterStands self.old slots
+            → WriterStands self.new (slots ++ Flags (option_copied frame.entry) ∷ []) }
+    {
+        let mut pen = opened(self.phase, frame, out);
+        self.phase = pen.fill(self.symbols, out);
+    }
+
+    /// Tells the writer that a slot of other bits was sent. They begin at once, also behind a flag that is cut,
+    /// and flags begin anew behind them.
+    pub fn restart(&mut self)
+        ensures symbols { self.new.symbols ≡ self.old.symbols }
+        ensures stands { (slots : List Slot) (bits : List Bool) → WriterStands self.old slots
+            → WriterStands self.new (slots ++ Plain bits ∷ []) }
+    {
+        self.phase = 0;
+    }
+}

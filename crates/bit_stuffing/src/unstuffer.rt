@@ -1,0 +1,127 @@
+// The octets of a content, as the bits between two flags come in.
+ghost use Rattle.std.specs.Prelude.{◌≡◌, List, Bool, [], ◌∷◌, ◌++◌};
+
+use crate::bits::with_bit;
+use crate::piece::{Piece, SHORTEST};
+use frame_check::{WHOLE, Whole};
+use std::marker::Model;
+
+/// The most ones in a row that a content's line may have. A zero stands behind them.
+pub(crate) const RUN: u8 = 5;
+
+/// Takes the inserted zeros out of a content's line, and gathers its octets.
+#[derive(Drop)]
+pub(crate) struct Unstuffer {
+    /// How many ones may still follow before a zero has to.
+    room: u8,
+    octets: Whole,
+    /// The low bits of the next octet, and how many they are.
+    part: u8,
+    held: u8,
+    /// Whether the content has more bits than the longest frame.
+    over: bool,
+}
+
+impl Model for Unstuffer {
+    ghost use Rattle.std.specs.Prelude.{◌≤◌, ◌<◌, ◌+◌, ◌*◌, ◌^◌, length};
+    ghost use Rattle.frame_check.specs.declared.sizes.TheConstants.{WHOLE};
+    ghost use Rattle.bit_stuffing.specs.Deframer.{Gathering};
+
+    ghost Value = { Gathering };
+
+    ghost view = { λ u. record { room = u.room; octets = u.octets; part = u.part; held = u.held; over = u.over } };
+
+    ghost invariant = { λ u. (u.room ≤ 5) × (u.held < 8) × (u.part < 2 ^ u.held)
+        × (8 * length u.octets + u.held ≤ 8 * WHOLE) };
+}
+
+impl Unstuffer {
+    ghost use Rattle.bit_stuffing.specs.Deframer.{Gathers, KeepsBits};
+    ghost use Rattle.bit_stuffing.specs.Pieces.{Judged, IsWhole};
+    ghost use Rattle.bit_stuffing.specs.Stuffing.{Fits};
+
+    pub(crate) fn new() -> Unstuffer
+        ensures { Gathers result [] }
+    {
+        Unstuffer {
+            room: RUN,
+            octets: Whole::new(),
+            part: 0,
+            held: 0,
+            over: false,
+        }
+    }
+
+    /// Begins another content.
+    pub(crate) fn clear(&mut self)
+        ensures { Gathers self.new [] }
+    {
+        self.room = RUN;
+        self.octets.clear();
+        self.part = 0;
+        self.held = 0;
+        self.over = false;
+    }
+
+    /// One more bit of the line.
+    pub(crate) fn push(&mut self, bit: bool)
+        ensures { (line : List Bool) → Gathers self.old line → Gathers self.new (line ++ bit ∷ []) }
+    {
+        if self.room == 0 {
+            self.room = RUN;
+        } else {
+            self.room = if bit { self.room - 1 } else { RUN };
+            self.keep(bit);
+        }
+    }
+
+    /// One more bit of the content.
+    fn keep(&mut self, bit: bool)
+        ensures keeps { (kept : List Bool)
+            → KeepsBits self.old.over self.old.octets self.old.part self.old.held kept
+            → KeepsBits self.new.over self.new.octets self.new.part self.new.held (kept ++ bit ∷ []) }
+        ensures room { self.new.room ≡ self.old.room }
+    {
+        if self.over {
+            return;
+        }
+        if self.octets.len() == WHOLE {
+            self.over = true;
+            return;
+        }
+        let part = with_bit(self.part, self.held, bit);
+        if self.held == 7 {
+            self.octets.push(part);
+            self.part = 0;
+            self.held = 0;
+        } else {
+            self.part = part;
+            self.held += 1;
+        }
+    }
+
+    /// What the content is, once all its bits came in.
+    pub(crate) fn judge(&self) -> Piece
+        ensures judged { (line : List Bool) → Fits 5 line → Gathers self.now line
+            → Judged line result }
+        ensures whole { (line : List Bool) → Fits 5 line → Gathers self.now line
+            → result ≡ Piece.Whole → IsWhole line self.now.octets }
+    {
+        if self.over {
+            return Piece::TooLong;
+        }
+        if self.held != 0 || self.room == 0 {
+            return Piece::Ragged;
+        }
+        if self.octets.len() < SHORTEST {
+            return Piece::TooShort;
+        }
+        Piece::Whole
+    }
+
+    pub(crate) fn octets(&self) -> &[u8]
+        ensures { result.now ≡ self.now.octets }
+    {
+        self.octets.as_slice()
+    }
+}
