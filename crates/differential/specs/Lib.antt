@@ -1,0 +1,3 @@
+pub mod Turned
+pub mod Machines
+pub mod Laws

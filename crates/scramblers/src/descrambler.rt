@@ -1,0 +1,43 @@
+ghost use Rattle.std.specs.Prelude.{◌≡◌, ◌≤◌, List, Bool, [], ◌∷◌, ◌++◌};
+ghost use Rattle.scramblers.specs.Machines.{DescramblerStands};
+
+use crate::register::{DEGREE, bit_before, shifted};
+use std::marker::Model;
+
+/// The inverse of the [`Scrambler`](crate::Scrambler) with the same TAP. It keeps the latest bits of the line,
+/// so a wrong bit is forgotten after 23 more.
+#[derive(Debug, Drop)]
+pub struct Descrambler<const TAP: usize> {
+    register: u32,
+}
+
+impl<const TAP: usize> Model for Descrambler<TAP> {
+    ghost use Rattle.std.specs.Prelude.{ℕ, ◌≤◌};
+
+    ghost Value = { ℕ };
+
+    ghost view = { λ s. s.register };
+
+    ghost invariant = { λ s. (1 ≤ TAP) × (TAP ≤ 22) };
+}
+
+impl<const TAP: usize> Descrambler<TAP> {
+    /// A descrambler before the line's first bit, with a register of zeros.
+    pub fn new() -> Descrambler<TAP>
+        requires low { 1 ≤ TAP }
+        requires high { TAP ≤ 22 }
+        ensures { DescramblerStands TAP result [] [] }
+    {
+        Descrambler { register: 0 }
+    }
+
+    /// The output's next bit, for the line's next bit.
+    pub fn push(&mut self, bit: bool) -> bool
+        ensures { (line output : List Bool) → DescramblerStands TAP self.old line output
+            → DescramblerStands TAP self.new (line ++ bit ∷ []) (output ++ result ∷ []) }
+    {
+        let read = bit ^ bit_before(self.register, TAP) ^ bit_before(self.register, DEGREE);
+        self.register = shifted(self.register, bit);
+        read
+    }
+}

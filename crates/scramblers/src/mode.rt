@@ -1,0 +1,12 @@
+/// The tap of the modem that called: 1 + x^-18 + x^-23 (ITU-T V.32, scramblers).
+pub const CALL_TAP: usize = 18;
+
+/// The tap of the modem that answered: 1 + x^-5 + x^-23 (ITU-T V.32, scramblers).
+pub const ANSWER_TAP: usize = 5;
+
+/// Which modem sends: the one that called, with [`CALL_TAP`], or the one that answered, with [`ANSWER_TAP`].
+#[derive(Clone, Copy, Debug, PartialEq, Eq)]
+pub enum Mode {
+    Call,
+    Answer,
+}

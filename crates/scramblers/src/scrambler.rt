@@ -1,0 +1,42 @@
+ghost use Rattle.std.specs.Prelude.{◌≡◌, ◌≤◌, List, Bool, [], ◌∷◌, ◌++◌};
+ghost use Rattle.scramblers.specs.Machines.{ScramblerStands};
+
+use crate::register::{DEGREE, bit_before, shifted};
+use std::marker::Model;
+
+/// A scrambler with the generating polynomial 1 + x^-TAP + x^-23. It keeps the latest bits of the line.
+#[derive(Debug, Drop)]
+pub struct Scrambler<const TAP: usize> {
+    register: u32,
+}
+
+impl<const TAP: usize> Model for Scrambler<TAP> {
+    ghost use Rattle.std.specs.Prelude.{ℕ, ◌≤◌};
+
+    ghost Value = { ℕ };
+
+    ghost view = { λ s. s.register };
+
+    ghost invariant = { λ s. (1 ≤ TAP) × (TAP ≤ 22) };
+}
+
+impl<const TAP: usize> Scrambler<TAP> {
+    /// A scrambler whose line begins, with a register of zeros.
+    pub fn new() -> Scrambler<TAP>
+        requires low { 1 ≤ TAP }
+        requires high { TAP ≤ 22 }
+        ensures { ScramblerStands TAP result [] [] }
+    {
+        Scrambler { register: 0 }
+    }
+
+    /// The line's next bit, for the input's next bit.
+    pub fn push(&mut self, bit: bool) -> bool
+        ensures { (input line : List Bool) → ScramblerStands TAP self.old input line
+            → ScramblerStands TAP self.new (input ++ bit ∷ []) (line ++ result ∷ []) }
+    {
+        let sent = bit ^ bit_before(self.register, TAP) ^ bit_before(self.register, DEGREE);
+        self.register = shifted(self.register, sent);
+        sent
+    }
+}

@@ -1,0 +1,15 @@
+pub use Rattle.differential.specs.Turned
+pub use Rattle.differential.specs.Machines
+pub use Rattle.symbol_map.specs.Labels
+pub use Rattle.symbol_map.specs.Points
+pub use Rattle.symbol_map.specs.Distance
+pub mod Sequences
+pub mod Codes
+pub mod Table
+pub mod Previous
+pub mod V32Laws
+pub mod Quads
+pub mod Encoder
+pub mod LabelReader
+pub mod Rotation
+pub mod Laws
