@@ -1,120 +1,122 @@
--- What an end with one outstanding segment is, in plain values, and what it does: one definition a rule.
-use Rattle.std.specs.Prelude.{ℕ, ◌+◌, ◌%◌, ◌==◌, nat_lt, nat_le, Bool, true, false, not, ◌&&◌, List, [], ◌∷◌, ◌++◌, length, slice_get, Option, Some, None, if◌then◌else◌}
-use Rattle.frame_check.specs.declared.sizes.TheConstants.{INFO}
-use Rattle.lapm_frames.specs.declared.frame.Frame.{Frame}
-use Rattle.lapm_frames.specs.declared.frame.Frame.TheVariants.{I, Rr}
-use Rattle.lapm_link.specs.declared.sent.Sent.{Sent}
-use Rattle.lapm_link.specs.declared.sent.Sent.TheVariants as sent
-use Rattle.lapm_link.specs.declared.end.TheConstants.{PERIOD, TRIES}
+use Rattle.std.specs.Prelude.{ℕ, Bool, true, false, if◌then◌else◌, nat_lt, List, length, Option, Some, None, slice_index_or}
+use Rattle.lapm_frames.specs.declared.frame.Role.{Role}
+use Rattle.lapm_frames.specs.declared.frame.Role.TheVariants.{Originator, Answerer}
+use Rattle.xid_params.specs.declared.terms.Terms.{Terms}
+use Rattle.xid_params.specs.Terms.{agree, default_offer}
+use Rattle.lapm_sender.specs.Outgoing.{Outgoing, wanted, with_piece, is_whole}
+use Rattle.lapm_sender.specs.Outgoing as outgoing
+use Rattle.lapm_receiver.specs.Incoming.{Incoming, next_delivered, after_delivered}
+use Rattle.lapm_receiver.specs.Incoming as incoming
+use Rattle.break_signals.specs.Breaks.{OwnBreaks, TheirBreaks, no_breaks, none_heard, takes_break, after_ask, waits}
+use Rattle.lapm_link.specs.declared.setup.Setup.{Setup}
+use Rattle.lapm_link.specs.declared.phase.Phase.{Phase}
+use Rattle.lapm_link.specs.declared.phase.Phase.TheVariants.{Detecting, Negotiating, Establishing, Connected, Releasing, Closed}
 
+-- an answer that is due: each that becomes due takes the place of the one before
+pub data Answer : Type 0 where
+  Adp_due : Answer
+  Xid_due : Answer
+  Ua_due : (pf : Bool) → Answer
+  Dm_due : (pf : Bool) → Answer
+
+-- what an end owes at once (what its receiver owes is of that part)
+pub record Owes : Type 0 where
+  pub answer : Option Answer
+  pub reply : Bool  -- an RR response with F = 1
+
+-- what an end waits for (the retry count and the awaited poll are of the sender's part)
+pub record Wait : Type 0 where
+  pub try : Bool  -- the frame of a U try is due
+  pub try_set : ℕ  -- the turn in which its timer was set
+  pub try_count : ℕ
+  pub poll : Bool  -- a poll is due
+  pub urgent : Bool  -- the first I frame is urgent
+  pub timer : Option ℕ  -- the turn in which the timer was set, where it runs
+
+-- what an end is, in plain values
 pub record Account : Type 0 where
-  -- the segments offered so far, and whether the file has ended
-  pub pieces : List (List ℕ)
-  pub ended : Bool
-  -- how many of them are acknowledged, and whether the next one is sent
-  pub front : ℕ
-  pub outstanding : Bool
-  -- the segments taken in order, and how many of them were delivered
-  pub taken : List (List ℕ)
-  pub given : ℕ
-  -- whether an acknowledgement is owed
-  pub owed : Bool
-  -- how often the outstanding segment went again, and the turn in which it went last
-  pub tries : ℕ
-  pub timer : Option ℕ
+  pub setup : Setup
+  pub phase : Phase
+  pub terms : Terms  -- what is agreed, and before that what two default offers give
+  pub numbered : Bool  -- an I frame or a supervisory frame was heard
+  pub outgoing : Outgoing
+  pub incoming : Incoming
+  pub own_breaks : OwnBreaks
+  pub their_breaks : TheirBreaks
+  pub breaks_told : ℕ  -- how many of their lengths the user was given
+  pub owes : Owes
+  pub wait : Wait
+  pub special : Bool  -- a BRK, a BRKACK or an SREJ was sent at the last speaking
 
-abbrev pub fresh : Account
-fresh = record { pieces = []; ended = false; front = 0; outstanding = false; taken = []; given = 0; owed = false; tries = 0; timer = None }
-
--- N(R) acknowledges the outstanding segment where it is the number behind it
-abbrev pub acknowledges : Account → ℕ → Bool
-acknowledges a nr = a.outstanding && (nr == (a.front + 1) % 128)
-
-abbrev pub acknowledged : Account → ℕ → Account
-acknowledged a nr = if acknowledges a nr then record a { front = a.front + 1; outstanding = false; tries = 0; timer = None } else a
-
--- an I frame's segment is taken where N(S) is the number of the next one
-abbrev pub taken_with : Account → ℕ → List ℕ → Account
-taken_with a ns info = record a { taken = if ns == length a.taken % 128 then a.taken ++ info ∷ [] else a.taken; owed = true }
-
--- the N(R) of a frame that acknowledges; I and RR frames do
-abbrev pub acknowledging : Frame → Option ℕ
-acknowledging (I ns nr pf info) = Some nr
-acknowledging (Rr command nr pf) = Some nr
-acknowledging frame = None
-
--- N(S) and the segment of an I frame
-abbrev pub bringing : Frame → Option (ℕ × List ℕ)
-bringing (I ns nr pf info) = Some (ns, info)
-bringing frame = None
-
-abbrev pub acknowledged_by : Account → Option ℕ → Account
-acknowledged_by a None = a
-acknowledged_by a (Some nr) = acknowledged a nr
-
-abbrev pub taken_by : Account → Option (ℕ × List ℕ) → Account
-taken_by a None = a
-taken_by a (Some s) = taken_with a s.0 s.1
-
--- hearing a frame, or none: what it acknowledges counts first, and then its segment; other frames are ignored
-abbrev pub hear : Account → Option Frame → Account
-hear a None = a
-hear a (Some frame) = taken_by (acknowledged_by a (acknowledging frame)) (bringing frame)
-
--- the segment that is taken and not yet delivered
-abbrev pub undelivered : Account → Option (List ℕ)
-undelivered a = slice_get a.taken a.given
-
--- all that was taken is delivered
-abbrev pub deliver : Account → Account
-deliver a = record a { given = length a.taken }
-
--- the number of the segment to be read: none is, while one isn't acknowledged or where the file has ended
-abbrev pub wants : Account → Option ℕ
-wants a = if not a.ended && nat_lt (length a.pieces) (a.front + 1) then Some (length a.pieces) else None
-
--- a piece shorter than a segment ends the file, and an empty one ends it without a segment
-abbrev pub offer : Account → List ℕ → Account
-offer a [] = record a { ended = true }
-offer a (x ∷ xs) = record a { pieces = a.pieces ++ (x ∷ xs) ∷ []; ended = nat_lt (length (x ∷ xs)) INFO }
-
--- the file has ended, and every segment is acknowledged
-abbrev pub whole : Account → Bool
-whole a = a.ended && (a.front == length a.pieces)
-
--- what is sent, and the account after it
-pub record Spoken : Type 0 where
-  pub sent : Sent
-  pub account : Account
-
--- a timer that was set in a turn expires one period later, in that turn alone
-abbrev pub expired : Option ℕ → ℕ → Bool
-expired None turn = false
-expired (Some set) turn = set + PERIOD == turn
-
--- where no segment goes: an acknowledgement that is owed, else flags
-abbrev pub speak_shortly : Account → Spoken
-speak_shortly a =
-    if a.owed then record { sent = sent.Frame (Rr false (length a.taken % 128) false); account = record a { owed = false } }
-    else record { sent = sent.Flags; account = a }
-
--- a segment goes, and its timer is set; its frame carries the acknowledgement
-abbrev pub sends : ℕ → ℕ → Account → List ℕ → Spoken
-sends turn tries a info = record {
-  sent = sent.Frame (I (a.front % 128) (length a.taken % 128) false info);
-  account = record a { outstanding = true; owed = false; tries = tries; timer = Some turn };
+abbrev pub fresh : Setup → Account
+fresh setup = record {
+  setup = setup;
+  phase = Detecting;
+  terms = agree default_offer default_offer;
+  numbered = false;
+  outgoing = outgoing.not_begun;
+  incoming = incoming.not_begun;
+  own_breaks = no_breaks;
+  their_breaks = none_heard;
+  breaks_told = 0;
+  owes = record { answer = None; reply = false };
+  wait = record { try = false; try_set = 0; try_count = 0; poll = false; urgent = false; timer = None };
+  special = false;
 }
 
--- the segment of the front's number goes, where there is one
-abbrev pub speak_segment : ℕ → ℕ → Account → Option (List ℕ) → Spoken
-speak_segment turn tries a None = speak_shortly a
-speak_segment turn tries a (Some info) = sends turn tries a info
+abbrev pub is_originator : Role → Bool
+is_originator Originator = true
+is_originator Answerer = false
 
--- where the timer expires, the segment goes again, or its tries are spent; else the next one goes where none is outstanding
-abbrev pub speak_by : Bool → ℕ → Account → Option Spoken
-speak_by true turn a = if nat_le TRIES a.tries then None else Some (speak_segment turn (a.tries + 1) a (slice_get a.pieces a.front))
-speak_by false turn a = Some (speak_segment turn 0 a (if a.outstanding then None else slice_get a.pieces a.front))
+abbrev pub is_connected : Phase → Bool
+is_connected Connected = true
+is_connected Detecting = false
+is_connected Negotiating = false
+is_connected Establishing = false
+is_connected Releasing = false
+is_connected Closed = false
 
--- speaking in a turn; none where the tries are spent
-abbrev pub speak : ℕ → Account → Option Spoken
-speak turn a = speak_by (expired a.timer turn) turn a
+-- what this role's segments have agreed, and its window
+abbrev pub size_for : Role → Terms → ℕ
+size_for Originator terms = terms.len_o
+size_for Answerer terms = terms.len_a
+
+abbrev pub window_for : Role → Terms → ℕ
+window_for Originator terms = terms.window_o
+window_for Answerer terms = terms.window_a
+
+-- what the other calls of an end read and change
+
+abbrev pub wants : Account → Option ℕ
+wants a = if is_connected a.phase then wanted a.outgoing else None
+
+abbrev pub piece_size : Account → ℕ
+piece_size a = if is_connected a.phase then a.outgoing.size else 0
+
+abbrev pub after_offer : List ℕ → Account → Account
+after_offer piece a = record a { outgoing = with_piece piece a.outgoing }
+
+abbrev pub delivers : Account → Option (List ℕ)
+delivers a = if is_connected a.phase then next_delivered a.incoming else None
+
+abbrev pub after_delivery : Account → Account
+after_delivery a = if is_connected a.phase then record a { incoming = after_delivered a.incoming } else a
+
+abbrev pub is_done : Account → Bool
+is_done a = if is_connected a.phase then is_whole a.outgoing else false
+
+abbrev pub takes_own : ℕ → Account → Bool
+takes_own turn a = if is_connected a.phase then takes_break turn a.own_breaks else false
+
+abbrev pub after_break_asked : ℕ → ℕ → Account → Account
+after_break_asked turn length_octet a = if is_connected a.phase then record a { own_breaks = after_ask turn length_octet a.own_breaks } else a
+
+abbrev pub break_waits : Account → Bool
+break_waits a = if is_connected a.phase then waits a.own_breaks else false
+
+abbrev pub given_break : Account → Option ℕ
+given_break a =
+    if is_connected a.phase then (if nat_lt a.breaks_told (length a.their_breaks.lengths) then Some (slice_index_or a.their_breaks.lengths a.breaks_told 0) else None) else None
+
+abbrev pub after_given : Account → Account
+after_given a = record a { breaks_told = length a.their_breaks.lengths }

@@ -1,3 +1,6 @@
-pub mod Sent
+pub mod Roles
 pub mod Account
-pub mod End
+pub mod Hear
+pub mod Speak
+pub mod Play
+pub mod Laws

@@ -1,13 +1,15 @@
-//! One end of a link with one segment outstanding at a time: what it hears, takes, is offered and sends, as a pure
-//! function of the frames and turn numbers that it is given. It has no clock and no line. `End` is the end, `Sent` what it
-//! sends in a turn, `Spent` its answer where a segment was never acknowledged.
+//! An end of the link, as a pure function of what arrives and of turn numbers, by ITU-T V.42.
 #![tactic(auto)]
 
-mod end;
+mod arrived;
+mod fault;
+pub mod laws;
+mod phase;
 mod sent;
+mod setup;
 
-pub use end::{End, PERIOD, Spent, TRIES};
+pub use arrived::Arrived;
+pub use fault::LinkFault;
+pub use phase::Phase;
 pub use sent::Sent;
-
-#[cfg(test)]
-mod tests;
+pub use setup::Setup;

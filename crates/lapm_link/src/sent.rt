@@ -1,25 +1,15 @@
-// What an end sends in one turn.
-ghost use Rattle.std.specs.Prelude.{◌≡◌};
-ghost use Rattle.std.specs.Option.{option_copied};
-ghost use Rattle.lapm_link.specs.Sent.{frame_of};
+// What an end sends.
 
 use lapm_frames::Frame;
 
-/// What an end sends in one turn: a frame, or flags alone.
+/// What an end sends in a turn.
 #[derive(Drop)]
 pub enum Sent {
+    /// Nothing but ones.
+    Mark,
+    Odp,
+    Adp,
+    /// Nothing but flags.
     Flags,
     Frame(Frame),
-}
-
-impl Sent {
-    /// The frame, where one is sent.
-    pub fn frame(&self) -> Option<&Frame>
-        ensures { option_copied result ≡ frame_of self.now }
-    {
-        match self {
-            Sent::Flags => None,
-            Sent::Frame(frame) => Some(frame),
-        }
-    }
 }

@@ -4,8 +4,8 @@ use Rattle.std.proofs.lemmas.Bool.Decides.{nat_tests}
 use Rattle.std.proofs.lemmas.Option.{slice_get_within, same_Some}
 use Rattle.frame_check.specs.declared.sizes.TheConstants.{INFO}
 use Rattle.lapm_frames.specs.declared.frame.Frame.{Frame}
-use Rattle.lapm_link.specs.declared.end.TheConstants.{TRIES}
-use Rattle.lapm_link.specs.Account.{Account, fresh, acknowledging, bringing, acknowledged_by, taken_by, hear, deliver, wants, offer, whole, Spoken, expired, speak, speak_by, speak_segment}
+use Rattle.thin_link.specs.declared.end.TheConstants.{TRIES}
+use Rattle.thin_link.specs.Account.{Account, fresh, acknowledging, bringing, acknowledged_by, taken_by, hear, deliver, wants, offer, whole, Spoken, expired, speak, speak_by, speak_segment}
 use Rattle.line_world.specs.declared.script.Loss.{Loss}
 use Rattle.line_world.specs.Heard.{frame_heard}
 use Rattle.line_world.specs.Run.{Files, Turn, Ends, segments, piece_at, offered_at, offered, RunOf, both_whole}

@@ -13,11 +13,11 @@ use Rattle.lapm_frames.specs.declared.frame.Frame.{Frame}
 use Rattle.lapm_frames.specs.declared.frame.Frame.TheVariants.{Rr}
 use Rattle.lapm_frames.specs.declared.frame.Role.{Role}
 use Rattle.lapm_frames.specs.declared.frame.Role.TheVariants.{Originator, Answerer}
-use Rattle.lapm_link.specs.declared.sent.Sent.{Sent}
-use Rattle.lapm_link.specs.declared.sent.Sent.TheVariants as sent
-use Rattle.lapm_link.specs.declared.end.TheConstants.{TRIES}
-use Rattle.lapm_link.specs.Sent.{frame_of}
-use Rattle.lapm_link.specs.Account.{Account, fresh, acknowledged, acknowledging, bringing, acknowledged_by, taken_by, taken_with, hear, undelivered, deliver, wants, offer, whole, Spoken, expired, sends, speak, speak_by, speak_segment}
+use Rattle.thin_link.specs.declared.sent.Sent.{Sent}
+use Rattle.thin_link.specs.declared.sent.Sent.TheVariants as sent
+use Rattle.thin_link.specs.declared.end.TheConstants.{TRIES}
+use Rattle.thin_link.specs.Sent.{frame_of}
+use Rattle.thin_link.specs.Account.{Account, fresh, acknowledged, acknowledging, bringing, acknowledged_by, taken_by, taken_with, hear, undelivered, deliver, wants, offer, whole, Spoken, expired, sends, speak, speak_by, speak_segment}
 use Rattle.line_world.specs.declared.script.Loss.{Loss}
 use Rattle.line_world.specs.declared.heard.Heard.{Heard}
 use Rattle.line_world.specs.Heard.{frame_heard, frame_sent, crossed}

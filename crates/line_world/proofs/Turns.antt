@@ -3,9 +3,9 @@ use Rattle.std.proofs.Common.{◌≡◌, ◌∙◌, ℕ, ◌-◌, List, Option, 
 use Rattle.outside_core.specs.Folder.{FolderState}
 use Rattle.lapm_frames.specs.declared.frame.Frame.{Frame}
 use Rattle.lapm_frames.specs.declared.frame.Role.{Role}
-use Rattle.lapm_link.specs.Account.{Account, Spoken}
-use Rattle.lapm_link.specs.declared.end.Spent.{Spent}
-use Rattle.lapm_link.specs.declared.sent.Sent.{Sent}
+use Rattle.thin_link.specs.Account.{Account, Spoken}
+use Rattle.thin_link.specs.declared.end.Spent.{Spent}
+use Rattle.thin_link.specs.declared.sent.Sent.{Sent}
 use Rattle.line_world.specs.declared.station.Station.{Station}
 use Rattle.line_world.specs.Station.{Holds, SpeaksFor}
 use Rattle.line_world.specs.declared.script.Loss.{Loss}

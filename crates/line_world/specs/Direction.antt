@@ -5,7 +5,7 @@ use Rattle.frame_check.specs.declared.check.Check.TheVariants.{Sixteen}
 use Rattle.lapm_frames.specs.declared.frame.Frame.{Frame}
 use Rattle.lapm_frames.specs.declared.frame.Role.{Role}
 use Rattle.lapm_frames.specs.Frame.{IsFrame, spelled}
-use Rattle.lapm_link.specs.declared.sent.Sent.{Sent}
+use Rattle.thin_link.specs.declared.sent.Sent.{Sent}
 use Rattle.line_world.specs.declared.direction.Direction.{Direction}
 use Rattle.line_world.specs.Heard.{frame_sent}
 

@@ -1,9 +1,9 @@
 -- What a slot is to the end that hears it.
 use Rattle.std.specs.Prelude.{Bool, true, false, Option, Some, None}
 use Rattle.lapm_frames.specs.declared.frame.Frame.{Frame}
-use Rattle.lapm_link.specs.declared.sent.Sent.{Sent}
-use Rattle.lapm_link.specs.declared.sent.Sent.TheVariants as sent
-use Rattle.lapm_link.specs.Sent.{frame_of}
+use Rattle.thin_link.specs.declared.sent.Sent.{Sent}
+use Rattle.thin_link.specs.declared.sent.Sent.TheVariants as sent
+use Rattle.thin_link.specs.Sent.{frame_of}
 use Rattle.line_world.specs.declared.heard.Heard.{Heard}
 use Rattle.line_world.specs.declared.heard.Heard.TheVariants.{Nothing, Passed, Lost}
 

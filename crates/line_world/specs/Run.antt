@@ -3,8 +3,8 @@ use Rattle.std.specs.Prelude.{◌≡◌, ℕ, ◌+◌, ◌-◌, ◌*◌, ◌/◌
 use Rattle.frame_check.specs.declared.sizes.TheConstants.{INFO}
 use Rattle.lapm_frames.specs.declared.frame.Role.{Role}
 use Rattle.lapm_frames.specs.declared.frame.Role.TheVariants.{Originator, Answerer}
-use Rattle.lapm_link.specs.declared.sent.Sent.{Sent}
-use Rattle.lapm_link.specs.Account.{Account, fresh, hear, undelivered, deliver, wants, offer, whole, Spoken, speak}
+use Rattle.thin_link.specs.declared.sent.Sent.{Sent}
+use Rattle.thin_link.specs.Account.{Account, fresh, hear, undelivered, deliver, wants, offer, whole, Spoken, speak}
 use Rattle.line_world.specs.declared.script.Loss.{Loss}
 use Rattle.line_world.specs.declared.heard.Heard.{Heard}
 use Rattle.line_world.specs.Heard.{frame_heard, frame_sent, crossed}

@@ -1,9 +1,9 @@
 -- For which account and file a station stands.
 use Rattle.std.specs.Prelude.{◌≡◌, ℕ, List, Option, Some, None, Result, Ok, Err}
-use Rattle.lapm_link.specs.Account.{Account, Spoken}
-use Rattle.lapm_link.specs.End.{Stands, IsDelivered, counted}
-use Rattle.lapm_link.specs.declared.sent.Sent.{Sent}
-use Rattle.lapm_link.specs.declared.end.Spent.{Spent}
+use Rattle.thin_link.specs.Account.{Account, Spoken}
+use Rattle.thin_link.specs.End.{Stands, IsDelivered, counted}
+use Rattle.thin_link.specs.declared.sent.Sent.{Sent}
+use Rattle.thin_link.specs.declared.end.Spent.{Spent}
 use Rattle.line_world.specs.declared.station.Station.{Station}
 
 -- The station has this file, and its end stands for the account.

@@ -2,7 +2,7 @@
 use Rattle.std.specs.Prelude.{◌≡◌, ◌≢◌, ◌⊎◌, ℕ, ◌+◌, ◌≤◌, List, [], ◌∷◌, length, unwrap_or, Some, Result, Ok, Err}
 use Rattle.lapm_frames.specs.declared.frame.Role.{Role}
 use Rattle.lapm_frames.specs.declared.frame.Role.TheVariants.{Originator, Answerer}
-use Rattle.lapm_link.specs.Account.{Spoken, hear, undelivered, speak}
+use Rattle.thin_link.specs.Account.{Spoken, hear, undelivered, speak}
 use Rattle.outside_core.specs.Folder.{FolderState, GoesOn, KeepsName, Puts, PutsPart, Rose}
 use Rattle.line_world.specs.declared.script.Loss.{Loss}
 use Rattle.line_world.specs.declared.heard.Heard.{Heard}

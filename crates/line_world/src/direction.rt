@@ -1,8 +1,8 @@
 // One direction of the line.
 ghost use Rattle.std.specs.Prelude.{◌≡◌, ◌-◌, Option};
 ghost use Rattle.lapm_frames.specs.declared.frame.Frame.{Frame};
-ghost use Rattle.lapm_link.specs.Sent.{IsSendable};
-ghost use Rattle.lapm_link.specs.declared.sent.Sent.{Sent};
+ghost use Rattle.thin_link.specs.Sent.{IsSendable};
+ghost use Rattle.thin_link.specs.declared.sent.Sent.{Sent};
 ghost use Rattle.line_world.specs.Heard.{crossed, frame_sent};
 ghost use Rattle.line_world.specs.Script.{loses};
 ghost use Rattle.line_world.specs.Direction.{Carries, IsCarried, sender_of};
@@ -10,7 +10,7 @@ ghost use Rattle.line_world.specs.Direction.{Carries, IsCarried, sender_of};
 use crate::{Heard, Script};
 use frame_check::{Check, Whole, append, passes};
 use lapm_frames::{Frame, Role, read, write};
-use lapm_link::Sent;
+use thin_link::Sent;
 
 /// How many octets the check of a frame has.
 const CHECK: usize = 2;

@@ -4,7 +4,7 @@ ghost use Rattle.std.specs.Option.{option_copied};
 ghost use Rattle.line_world.specs.Heard.{frame_heard};
 
 use lapm_frames::Frame;
-use lapm_link::Sent;
+use thin_link::Sent;
 
 /// What arrives at an end in a turn: nothing, what was sent, or that it was lost.
 #[derive(Drop)]

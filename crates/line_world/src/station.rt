@@ -1,16 +1,16 @@
 // An end of the link together with the file that its user sends.
 ghost use Rattle.std.specs.Prelude.{◌≡◌, ℕ, List, ◌<◌, ◌≤◌, ◌+◌, ◌^◌, ◌≢◌, length, OnOk, OnErr, IfOk, unwrap_or, [], MatchResult};
 ghost use Rattle.outside_core.specs.Folder.{OnlyWrites, HasCause, Puts, PutsPart};
-ghost use Rattle.lapm_link.specs.Sent.{IsSendable};
-ghost use Rattle.lapm_link.specs.Account.{Account, fresh, hear, undelivered, deliver, whole, speak};
+ghost use Rattle.thin_link.specs.Sent.{IsSendable};
+ghost use Rattle.thin_link.specs.Account.{Account, fresh, hear, undelivered, deliver, whole, speak};
 ghost use Rattle.line_world.specs.Heard.{frame_heard};
 ghost use Rattle.line_world.specs.Run.{piece_at, offered};
 ghost use Rattle.line_world.specs.Station.{Holds, IsIdle, counted_of, SpeaksFor};
 
 use crate::Heard;
 use frame_check::INFO;
-use lapm_link::{End, Sent, Spent};
 use outside_core::{Folder, FolderFault};
+use thin_link::{End, Sent, Spent};
 
 #[derive(Drop)]
 pub(crate) struct Station {

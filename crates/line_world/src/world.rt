@@ -2,7 +2,7 @@
 ghost use Rattle.std.specs.Prelude.{◌≡◌, ◌<◌, ◌+◌, ◌^◌, ◌≢◌, ◌&&◌, [], List, ℕ, OnOk, OnErr, IfErr, MatchResult};
 ghost use Rattle.outside_core.specs.Folder.{Rose};
 ghost use Rattle.line_world.specs.declared.script.Loss.{Loss};
-ghost use Rattle.lapm_link.specs.Account.{Account, whole};
+ghost use Rattle.thin_link.specs.Account.{Account, whole};
 ghost use Rattle.line_world.specs.Run.{Files, Turn, Ends, start, delivered_both, offered_both, both_whole};
 ghost use Rattle.line_world.specs.World.{During, WorldAfter, IsReady, files_of, script_of, turn_of, Written, written, AreApart, HeardBoth, KeepsLine, CountsTo, AreIdle, SpeaksAs, Wrote, WrotePart, IsFolderFault, IsTries, TurnIs, number_after, HasRunCause, OnlyGot};
 
@@ -10,8 +10,8 @@ use crate::direction::Direction;
 use crate::station::Station;
 use crate::{Heard, Script};
 use lapm_frames::Role;
-use lapm_link::Spent;
 use outside_core::{Folder, FolderFault};
+use thin_link::Spent;
 
 /// The names of a run's files: what each end sends, what each end received, and the trace.
 #[derive(Clone, Copy)]

@@ -1,6 +1,6 @@
 use Rattle.std.proofs.Common.{◌≡◌, ◌∙◌, subst, ap, Option, unwrap_or, [], List, ℕ}
 use Rattle.outside_core.specs.Folder.{FolderState, PutsPart}
-use Rattle.lapm_link.specs.Account.{undelivered}
+use Rattle.thin_link.specs.Account.{undelivered}
 use Rattle.line_world.proofs.Stations.{OnErr-map, part-appended}
 use Rattle.line_world.proofs.station.Station.hand_out.Goals as goal
 

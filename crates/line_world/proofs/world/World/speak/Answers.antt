@@ -1,7 +1,7 @@
 use Rattle.std.proofs.Common.{◌∙◌, ℕ, ap, sym, subst, Some, is_some}
 use Rattle.lapm_frames.specs.declared.frame.Role.TheVariants.{Originator, Answerer}
-use Rattle.lapm_link.specs.Account.{speak}
-use Rattle.lapm_link.specs.declared.sent.Sent.{Sent}
+use Rattle.thin_link.specs.Account.{speak}
+use Rattle.thin_link.specs.declared.sent.Sent.{Sent}
 use Rattle.line_world.specs.Direction.{Carries}
 use Rattle.line_world.proofs.Turns.{spoke-ok, spoke-err, lost-as}
 use Rattle.line_world.proofs.world.World.speak.Goals as goal

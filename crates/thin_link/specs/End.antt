@@ -1,9 +1,9 @@
 -- For which account an end stands.
 use Rattle.std.specs.Prelude.{◌≡◌, ℕ, ◌+◌, ◌≤◌, ◌<◌, true, length, slice_get, None, Some, Option, Result, Ok, Err, false}
-use Rattle.lapm_link.specs.Account.{Account, Spoken, undelivered}
-use Rattle.lapm_link.specs.declared.end.End.{End}
-use Rattle.lapm_link.specs.declared.end.Spent.{Spent}
-use Rattle.lapm_link.specs.declared.sent.Sent.{Sent}
+use Rattle.thin_link.specs.Account.{Account, Spoken, undelivered}
+use Rattle.thin_link.specs.declared.end.End.{End}
+use Rattle.thin_link.specs.declared.end.Spent.{Spent}
+use Rattle.thin_link.specs.declared.sent.Sent.{Sent}
 
 -- The end keeps the segment that isn't acknowledged yet and the one that isn't delivered yet, and numbers for the rest.
 pub record Stands (e : End) (a : Account) : Type 0 where

@@ -1,9 +1,9 @@
 // An end with one segment outstanding at a time.
 ghost use Rattle.std.specs.Prelude.{◌≡◌, slice_get, OnSome, ◌<◌, ◌+◌, ◌^◌, length, IfOk, ◌≤◌};
 ghost use Rattle.std.specs.Option.{option_copied};
-ghost use Rattle.lapm_link.specs.Sent.{IsSendable};
-ghost use Rattle.lapm_link.specs.Account.{Account, fresh, acknowledged, taken_with, hear, undelivered, wants, offer, whole, speak, speak_segment, speak_shortly, expired, deliver};
-ghost use Rattle.lapm_link.specs.End.{Stands, IsDelivered, IsWanting, SpeaksAs, counted};
+ghost use Rattle.thin_link.specs.Sent.{IsSendable};
+ghost use Rattle.thin_link.specs.Account.{Account, fresh, acknowledged, taken_with, hear, undelivered, wants, offer, whole, speak, speak_segment, speak_shortly, expired, deliver};
+ghost use Rattle.thin_link.specs.End.{Stands, IsDelivered, IsWanting, SpeaksAs, counted};
 
 use crate::Sent;
 use frame_check::{INFO, Info};

@@ -2,8 +2,8 @@
 use Rattle.std.specs.Prelude.{Option, Some, None}
 use Rattle.lapm_frames.specs.declared.frame.Frame.{Frame}
 use Rattle.lapm_frames.specs.Frame.{IsFrame}
-use Rattle.lapm_link.specs.declared.sent.Sent.{Sent}
-use Rattle.lapm_link.specs.declared.sent.Sent.TheVariants as sent
+use Rattle.thin_link.specs.declared.sent.Sent.{Sent}
+use Rattle.thin_link.specs.declared.sent.Sent.TheVariants as sent
 
 -- the frame that is sent, where one is
 abbrev pub frame_of : Sent → Option Frame

@@ -1,0 +1,8 @@
+// Which pattern is seen.
+
+/// A pattern of the detection phase: the originator's and the answerer's.
+#[derive(Clone, Copy, Debug, PartialEq, Eq)]
+pub enum Seen {
+    Odp,
+    Adp,
+}

@@ -1,0 +1,289 @@
+use Rattle.std.proofs.Common.{◌≡◌, ℕ, ◌+◌, ◌-◌, ◌%◌, ◌<◌, ◌≤◌, ◌≢◌, ◌&&◌, not, Bool, true, false, cond, nat_eq, nat_lt, nat_le, List, [], ◌∷◌, ◌++◌, length, take, slice_index_or, arith, length-append, refl, sym, ◌∙◌, ap, subst, Option, Some, None}
+use Rattle.std.proofs.lemmas.List.{take-append-le, take_more}
+use Rattle.std.proofs.lemmas.Grind.{common_steps}
+use borrow.Author.Tests.{ltb-true, eqb-true}
+use Rattle.std.proofs.lemmas.Bool.{ltb-false, eqb-false, false≢true}
+use Rattle.std.specs.List.{AllByRecursion}
+use Rattle.break_signals.specs.declared.word.BreakWord.{BreakWord}
+use Rattle.break_signals.specs.declared.word.BreakWord.TheVariants.{Brk, Ack}
+use Rattle.break_signals.specs.Breaks.{OwnBreaks, TheirBreaks, after_ask, ticked, after_answer, with_given, after_break, after_brk, after_ack}
+use Rattle.lapm_link.proofs.Flow.{all_weaker, all_both, all_snoc}
+
+-- a BRK and a BRKACK on the line, with the place of the break among those taken
+pub record BrkOn : Type 0 where
+  pub place : ℕ
+  pub number : ℕ
+  pub length_octet : ℕ
+
+pub record AckOn : Type 0 where
+  pub place : ℕ
+  pub number : ℕ
+
+abbrev pub BrksInOrder : List BrkOn → Type 0
+BrksInOrder [] = Unit {0}
+BrksInOrder (b ∷ rest) = AllByRecursion (λ c. b.place ≤ c.place) rest × BrksInOrder rest
+
+abbrev pub AcksInOrder : List AckOn → Type 0
+AcksInOrder [] = Unit {0}
+AcksInOrder (b ∷ rest) = AllByRecursion (λ c. b.place ≤ c.place) rest × AcksInOrder rest
+
+pub record IsBrk (lengths : List ℕ) (answered given : ℕ) (e : BrkOn) : Type 0 where
+  pub within : e.place < length lengths
+  pub low : given ≤ e.place + 1
+  pub high : e.place ≤ answered
+  pub number : e.number ≡ e.place % 2
+  pub is : e.length_octet ≡ slice_index_or lengths e.place 0
+
+pub record IsAck (answered given : ℕ) (e : AckOn) : Type 0 where
+  pub high : e.place + 1 ≤ given
+  pub low : answered ≤ e.place + 1
+  pub number : e.number ≡ e.place % 2
+
+-- the answer that is due is to the last break that was given
+abbrev pub IsPending : ℕ → Option BreakWord → Type 0
+IsPending given None = Unit {0}
+IsPending given (Some (Ack number length_octet)) = (1 ≤ given) × (number ≡ (given - 1) % 2)
+IsPending given (Some (Brk number length_octet)) = ⊥
+
+-- breaks of one end, what the other was given, and both kinds of words on the lines
+pub record BreaksGo (lengths : List ℕ) (answered : ℕ) (brk : Bool) (given : List ℕ) (ack : Option BreakWord) (forward : List BrkOn) (back : List AckOn) : Type 0 where
+  pub low : answered ≤ length given
+  pub high : length given ≤ answered + 1
+  pub taken : length given ≤ length lengths
+  pub waits_low : answered ≤ length lengths
+  pub waits_high : length lengths ≤ answered + 1
+  pub given_is : given ≡ take (length given) lengths
+  pub due : brk ≡ true → answered < length lengths
+  pub pending : IsPending (length given) ack
+  pub brks : AllByRecursion (IsBrk lengths answered (length given)) forward
+  pub brks_in_order : BrksInOrder forward
+  pub acks : AllByRecursion (IsAck answered (length given)) back
+  pub acks_in_order : AcksInOrder back
+
+abbrev pub Go : OwnBreaks → TheirBreaks → List BrkOn → List AckOn → Type 0
+Go b t brks acks = BreaksGo b.lengths b.answered b.brk t.lengths t.ack brks acks
+
+brks-snoc : (xs : List BrkOn) (y : BrkOn) → BrksInOrder xs → AllByRecursion (λ r. r.place ≤ y.place) xs → BrksInOrder (xs ++ y ∷ [])
+brks-snoc [] y h each = (tt, tt)
+brks-snoc (x ∷ xs) y h each = (all_snoc (λ t. x.place ≤ t.place) xs y h.0 each.0, brks-snoc xs y h.1 each.1)
+
+acks-snoc : (xs : List AckOn) (y : AckOn) → AcksInOrder xs → AllByRecursion (λ r. r.place ≤ y.place) xs → AcksInOrder (xs ++ y ∷ [])
+acks-snoc [] y h each = (tt, tt)
+acks-snoc (x ∷ xs) y h each = (all_snoc (λ t. x.place ≤ t.place) xs y h.0 each.0, acks-snoc xs y h.1 each.1)
+
+number-append : (lengths : List ℕ) (l n : ℕ) → n < length lengths → slice_index_or (lengths ++ l ∷ []) n 0 ≡ slice_index_or lengths n 0
+number-append lengths l n h = grind (arith, common_steps)
+
+-- a break is taken
+pub go-asked : (b : OwnBreaks) (t : TheirBreaks) (brks : List BrkOn) (acks : List AckOn) (turn l : ℕ) → Go b t brks acks → Go (after_ask turn l b) t brks acks
+go-asked b t brks acks turn l h = go (nat_lt b.answered (length b.lengths)) refl (nat_le b.rest turn)
+  where
+    more : length b.lengths ≤ b.answered → Go (record b { lengths = b.lengths ++ l ∷ []; brk = true; set = turn; count = 0 }) t brks acks
+    more none = record {
+      low = h.low;
+      high = h.high;
+      taken = omega (arith, h.taken, length-append {A = ℕ});
+      waits_low = omega (arith, h.waits_low, length-append {A = ℕ});
+      waits_high = omega (arith, none, length-append {A = ℕ});
+      given_is = h.given_is ∙ sym (take-append-le (length t.lengths) b.lengths (l ∷ []) h.taken);
+      due = λ e. omega (arith, h.waits_low, length-append {A = ℕ});
+      pending = h.pending;
+      brks = all_weaker (IsBrk b.lengths b.answered (length t.lengths)) (IsBrk (b.lengths ++ l ∷ []) b.answered (length t.lengths)) brks
+          (λ e o. record { within = omega (arith, o.within, length-append {A = ℕ}); low = o.low; high = o.high; number = o.number; is = o.is ∙ sym (number-append b.lengths l e.place o.within) }) h.brks;
+      brks_in_order = h.brks_in_order;
+      acks = h.acks;
+      acks_in_order = h.acks_in_order;
+    }
+
+    go : (w : Bool) → nat_lt b.answered (length b.lengths) ≡ w → (r : Bool) → Go (cond (not w && r) (record b { lengths = b.lengths ++ l ∷ []; brk = true; set = turn; count = 0 }) b) t brks acks
+    go true e r = h
+    go false e true = more (ltb-false b.answered (length b.lengths) e)
+    go false e false = h
+
+-- whether a BRK is due changes
+pub go-due : (b : OwnBreaks) (t : TheirBreaks) (brks : List BrkOn) (acks : List AckOn) (brk : Bool) → Go b t brks acks → (brk ≡ true → b.answered < length b.lengths) → BreaksGo b.lengths b.answered brk t.lengths t.ack brks acks
+go-due b t brks acks brk h due = record {
+  low = h.low;
+  high = h.high;
+  taken = h.taken;
+  waits_low = h.waits_low;
+  waits_high = h.waits_high;
+  given_is = h.given_is;
+  due = due;
+  pending = h.pending;
+  brks = h.brks;
+  brks_in_order = h.brks_in_order;
+  acks = h.acks;
+  acks_in_order = h.acks_in_order;
+}
+
+abbrev pub OnTicked : TheirBreaks → List BrkOn → List AckOn → Option OwnBreaks → Type 0
+OnTicked t brks acks None = Unit {0}
+OnTicked t brks acks (Some b) = Go b t brks acks
+
+pub go-ticked : (b : OwnBreaks) (t : TheirBreaks) (brks : List BrkOn) (acks : List AckOn) (turn period tries : ℕ) → Go b t brks acks → OnTicked t brks acks (ticked turn period tries b)
+go-ticked b t brks acks turn period tries h = go (nat_lt b.answered (length b.lengths)) refl (nat_eq turn (b.set + period)) (nat_eq b.count tries)
+  where
+    go : (w : Bool) → nat_lt b.answered (length b.lengths) ≡ w → (r c : Bool) → OnTicked t brks acks (cond (w && r) (cond c None (Some (record b { brk = true; set = turn; count = b.count + 1 }))) (Some b))
+    go true e true true = tt
+    go true e true false = go-due b t brks acks true h (λ z. ltb-true b.answered (length b.lengths) e)
+    go true e false c = h
+    go false e r c = h
+
+-- a BRK goes on the line
+pub go-brk : (b : OwnBreaks) (t : TheirBreaks) (brks : List BrkOn) (acks : List AckOn) → b.brk ≡ true → Go b t brks acks
+    → Go (after_brk b) t (brks ++ (record { place = b.answered; number = b.answered % 2; length_octet = slice_index_or b.lengths b.answered 0 }) ∷ []) acks
+go-brk b t brks acks e h = record {
+  low = h.low;
+  high = h.high;
+  taken = h.taken;
+  waits_low = h.waits_low;
+  waits_high = h.waits_high;
+  given_is = h.given_is;
+  due = λ z. absurd (false≢true z);
+  pending = h.pending;
+  brks = all_snoc (IsBrk b.lengths b.answered (length t.lengths)) brks (record { place = b.answered; number = b.answered % 2; length_octet = slice_index_or b.lengths b.answered 0 }) h.brks
+      (record { within = h.due e; low = h.high; high = omega arith; number = refl; is = refl });
+  brks_in_order = brks-snoc brks (record { place = b.answered; number = b.answered % 2; length_octet = slice_index_or b.lengths b.answered 0 }) h.brks_in_order
+      (all_weaker (IsBrk b.lengths b.answered (length t.lengths)) (λ r. r.place ≤ b.answered) brks (λ r o. o.high) h.brks);
+  acks = h.acks;
+  acks_in_order = h.acks_in_order;
+}
+
+-- a BRKACK goes on the line
+pub go-ack : (b : OwnBreaks) (t : TheirBreaks) (brks : List BrkOn) (acks : List AckOn) (number length_octet : ℕ) → t.ack ≡ Some (Ack number length_octet) → Go b t brks acks
+    → Go b (after_ack t) brks (acks ++ (record { place = length t.lengths - 1; number = number }) ∷ [])
+go-ack b t brks acks number length_octet e h =
+    let pending : (1 ≤ length t.lengths) × (number ≡ (length t.lengths - 1) % 2) = subst (IsPending (length t.lengths)) e h.pending in
+    record {
+      low = h.low;
+      high = h.high;
+      taken = h.taken;
+      waits_low = h.waits_low;
+      waits_high = h.waits_high;
+      given_is = h.given_is;
+      due = h.due;
+      pending = tt;
+      brks = h.brks;
+      brks_in_order = h.brks_in_order;
+      acks = all_snoc (IsAck b.answered (length t.lengths)) acks (record { place = length t.lengths - 1; number = number }) h.acks
+          (record { high = omega (arith, pending.0); low = omega (arith, h.low, pending.0); number = pending.1 });
+      acks_in_order = acks-snoc acks (record { place = length t.lengths - 1; number = number }) h.acks_in_order
+          (all_weaker (IsAck b.answered (length t.lengths)) (λ r. r.place ≤ length t.lengths - 1) acks (λ r o. omega (arith, o.high)) h.acks);
+    }
+
+-- words are lost, or pass unheard
+pub go-brk-lost : (b : OwnBreaks) (t : TheirBreaks) (e : BrkOn) (brks : List BrkOn) (acks : List AckOn) → Go b t (e ∷ brks) acks → Go b t brks acks
+go-brk-lost b t e brks acks h = record {
+  low = h.low;
+  high = h.high;
+  taken = h.taken;
+  waits_low = h.waits_low;
+  waits_high = h.waits_high;
+  given_is = h.given_is;
+  due = h.due;
+  pending = h.pending;
+  brks = h.brks.1;
+  brks_in_order = h.brks_in_order.1;
+  acks = h.acks;
+  acks_in_order = h.acks_in_order;
+}
+
+pub go-ack-lost : (b : OwnBreaks) (t : TheirBreaks) (e : AckOn) (brks : List BrkOn) (acks : List AckOn) → Go b t brks (e ∷ acks) → Go b t brks acks
+go-ack-lost b t e brks acks h = record {
+  low = h.low;
+  high = h.high;
+  taken = h.taken;
+  waits_low = h.waits_low;
+  waits_high = h.waits_high;
+  given_is = h.given_is;
+  due = h.due;
+  pending = h.pending;
+  brks = h.brks;
+  brks_in_order = h.brks_in_order;
+  acks = h.acks.1;
+  acks_in_order = h.acks_in_order.1;
+}
+
+-- a BRK is heard
+pub go-brk-heard : (b : OwnBreaks) (t : TheirBreaks) (place number length_octet : ℕ) (brks : List BrkOn) (acks : List AckOn)
+    → Go b t ((record { place = place; number = number; length_octet = length_octet }) ∷ brks) acks → Go b (after_break number length_octet t) brks acks
+go-brk-heard b t place number length_octet brks acks h = go (nat_eq number (length t.lengths % 2)) refl
+  where
+    same_place : number ≡ length t.lengths % 2 → place ≡ length t.lengths
+    same_place e = omega (arith, e, h.brks.0.number, h.brks.0.low, h.brks.0.high, h.low)
+
+    other_place : number ≢ length t.lengths % 2 → place + 1 ≡ length t.lengths
+    other_place e = let k : place ≢ length t.lengths = (λ z. e (h.brks.0.number ∙ ap (λ m. m % 2) z)) in omega (arith, k, h.brks.0.low, h.brks.0.high, h.low)
+
+    given : place ≡ length t.lengths → BreaksGo b.lengths b.answered b.brk (t.lengths ++ length_octet ∷ []) (Some (Ack number length_octet)) brks acks
+    given e =
+        let longer : length (t.lengths ++ length_octet ∷ []) ≡ length t.lengths + 1 = omega (arith, length-append {A = ℕ}) in
+        let within : length t.lengths < length b.lengths = omega (arith, h.brks.0.within, e) in
+        let less : (length t.lengths + 1) - 1 ≡ place = omega (arith, e) in
+        record {
+          low = omega (arith, h.low, longer);
+          high = omega (arith, h.brks.0.high, e, longer);
+          taken = omega (arith, within, longer);
+          waits_low = h.waits_low;
+          waits_high = h.waits_high;
+          given_is = rw (longer, take_more b.lengths (length t.lengths) 0 within, ← h.given_is) (ap (λ x. t.lengths ++ x ∷ []) (h.brks.0.is ∙ ap (λ m. slice_index_or b.lengths m 0) e));
+          due = h.due;
+          pending = (omega (arith, longer), h.brks.0.number ∙ ap (λ m. m % 2) (sym (ap (λ m. m - 1) longer ∙ less)));
+          brks = all_both (IsBrk b.lengths b.answered (length t.lengths)) (λ c. place ≤ c.place) (IsBrk b.lengths b.answered (length (t.lengths ++ length_octet ∷ []))) brks
+              (λ c o q. record { within = o.within; low = omega (arith, q, e, longer); high = o.high; number = o.number; is = o.is }) h.brks.1 h.brks_in_order.0;
+          brks_in_order = h.brks_in_order.1;
+          acks = all_weaker (IsAck b.answered (length t.lengths)) (IsAck b.answered (length (t.lengths ++ length_octet ∷ []))) acks (λ c o. record { high = omega (arith, o.high, longer); low = o.low; number = o.number }) h.acks;
+          acks_in_order = h.acks_in_order;
+        }
+
+    again : place + 1 ≡ length t.lengths → BreaksGo b.lengths b.answered b.brk t.lengths (Some (Ack number length_octet)) brks acks
+    again e =
+        let less : length t.lengths - 1 ≡ place = omega (arith, e) in
+        record {
+          low = h.low;
+          high = h.high;
+          taken = h.taken;
+          waits_low = h.waits_low;
+          waits_high = h.waits_high;
+          given_is = h.given_is;
+          due = h.due;
+          pending = (omega (arith, e), h.brks.0.number ∙ ap (λ m. m % 2) (sym less));
+          brks = h.brks.1;
+          brks_in_order = h.brks_in_order.1;
+          acks = h.acks;
+          acks_in_order = h.acks_in_order;
+        }
+
+    go : (w : Bool) → nat_eq number (length t.lengths % 2) ≡ w → BreaksGo b.lengths b.answered b.brk (with_given (cond w (Some length_octet) None) t.lengths) (Some (Ack number length_octet)) brks acks
+    go true e = given (same_place (eqb-true number (length t.lengths % 2) e))
+    go false e = again (other_place (eqb-false number (length t.lengths % 2) e))
+
+-- a BRKACK is heard
+pub go-ack-heard : (b : OwnBreaks) (t : TheirBreaks) (turn place number : ℕ) (brks : List BrkOn) (acks : List AckOn)
+    → Go b t brks ((record { place = place; number = number }) ∷ acks) → Go (after_answer turn number b) t brks acks
+go-ack-heard b t turn place number brks acks h = go (nat_lt b.answered (length b.lengths)) refl (nat_eq number (b.answered % 2)) refl
+  where
+    ended : number ≡ b.answered % 2 → Go (record b { answered = b.answered + 1; brk = false; count = 0; rest = turn + 8 }) t brks acks
+    ended e =
+        let at : place ≡ b.answered = omega (arith, e, h.acks.0.number, h.acks.0.low, h.acks.0.high, h.high) in
+        record {
+          low = omega (arith, h.acks.0.high, at);
+          high = omega (arith, h.high);
+          taken = h.taken;
+          waits_low = omega (arith, h.acks.0.high, at, h.taken);
+          waits_high = omega (arith, h.waits_high);
+          given_is = h.given_is;
+          due = λ z. absurd (false≢true z);
+          pending = h.pending;
+          brks = all_weaker (IsBrk b.lengths b.answered (length t.lengths)) (IsBrk b.lengths (b.answered + 1) (length t.lengths)) brks (λ c o. record { within = o.within; low = o.low; high = omega (arith, o.high); number = o.number; is = o.is }) h.brks;
+          brks_in_order = h.brks_in_order;
+          acks = all_both (IsAck b.answered (length t.lengths)) (λ c. place ≤ c.place) (IsAck (b.answered + 1) (length t.lengths)) acks (λ c o q. record { high = o.high; low = omega (arith, q, at); number = o.number }) h.acks.1 h.acks_in_order.0;
+          acks_in_order = h.acks_in_order.1;
+        }
+
+    go : (w : Bool) → nat_lt b.answered (length b.lengths) ≡ w → (c : Bool) → nat_eq number (b.answered % 2) ≡ c
+        → Go (cond (w && c) (record b { answered = b.answered + 1; brk = false; count = 0; rest = turn + 8 }) b) t brks acks
+    go true e true f = ended (eqb-true number (b.answered % 2) f)
+    go true e false f = go-ack-lost b t (record { place = place; number = number }) brks acks h
+    go false e c f = go-ack-lost b t (record { place = place; number = number }) brks acks h

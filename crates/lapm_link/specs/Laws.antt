@@ -1,0 +1,68 @@
+use Rattle.std.specs.Prelude.{◌≡◌, ℕ, ◌+◌, ◌≤◌, Bool, List, ◌∷◌, ◌++◌, Option, Some, None}
+use Rattle.lapm_frames.specs.declared.frame.Role.TheVariants.{Originator, Answerer}
+use Rattle.lapm_frames.specs.declared.frame.Frame.TheVariants.{I}
+use Rattle.lapm_receiver.specs.Incoming.{Incoming, kind_of, next_expected}
+use Rattle.lapm_receiver.specs.declared.took.Took.TheVariants.{InOrder, Kept}
+use Rattle.xid_params.specs.Offers.{IsAllowed}
+use Rattle.lapm_link.specs.declared.sent.Sent.TheVariants as slots
+use Rattle.lapm_link.specs.declared.setup.Setup.{Setup}
+use Rattle.lapm_link.specs.declared.phase.Phase.TheVariants.{Connected}
+use Rattle.lapm_link.specs.declared.fault.LinkFault.{LinkFault}
+use Rattle.lapm_link.specs.declared.fault.LinkFault.TheVariants.{NotDetected, Spent, BadAck, PeerReset, PeerRefused}
+use Rattle.lapm_link.specs.Account.{fresh}
+use Rattle.lapm_link.specs.Play.{Slot, Side, Play, Event, play, start}
+
+abbrev pub IsPrefixOf : {X : Type 0} → List X → List X → Type 0
+IsPrefixOf {X} xs ys = (rest : List X) × (xs ++ rest ≡ ys)
+
+-- the setups of two ends that play
+pub record MayPlay (so sa : Setup) : Type 0 where
+  pub originates : so.role ≡ Originator
+  pub answers : sa.role ≡ Answerer
+  pub offer_o : IsAllowed so.offer
+  pub offer_a : IsAllowed sa.offer
+
+-- what a play of these events comes to, from two fresh ends
+abbrev pub played : Setup → Setup → List Event → Play
+played so sa events = play events (start (fresh so) (fresh sa))
+
+-- What an end took in order is a prefix of what was offered at the other.
+abbrev pub TakesInOrder : Type 0
+TakesInOrder = (so sa : Setup) (events : List Event) → MayPlay so sa →
+    IsPrefixOf (played so sa events).answerer.account.incoming.taken (played so sa events).originator.account.outgoing.pieces
+    × IsPrefixOf (played so sa events).originator.account.incoming.taken (played so sa events).answerer.account.outgoing.pieces
+
+-- an end breaks for want of answers alone
+abbrev pub WantsAnswers : Option LinkFault → Type 0
+WantsAnswers None = Unit {0}
+WantsAnswers (Some NotDetected) = Unit {0}
+WantsAnswers (Some (Spent segment since)) = Unit {0}
+WantsAnswers (Some (BadAck nr va high)) = ⊥
+WantsAnswers (Some (PeerReset va vr)) = ⊥
+WantsAnswers (Some PeerRefused) = ⊥
+
+abbrev pub BreaksForWantAlone : Type 0
+BreaksForWantAlone = (so sa : Setup) (events : List Event) → MayPlay so sa →
+    WantsAnswers (played so sa events).originator.fault × WantsAnswers (played so sa events).answerer.fault
+
+-- what a receiver makes of a segment, by its meant number
+abbrev pub IsTakenBy : Incoming → ℕ → ℕ → Type 0
+IsTakenBy i ns n =
+    (kind_of ns i ≡ InOrder → n ≡ next_expected i) × (n ≡ next_expected i → kind_of ns i ≡ InOrder)
+    × (kind_of ns i ≡ Kept → (next_expected i + 1 ≤ n) × (n + 1 ≤ next_expected i + i.window))
+
+-- what is next to be heard at a Connected end
+abbrev pub NextIsTaken : Side → Side → Type 0
+NextIsTaken from to =
+    (ns nr : ℕ) (pf : Bool) (info : List ℕ) (n told : ℕ) (rest : List Slot) → from.line ≡ (record { sent = slots.Frame (I ns nr pf info); number = n; told = told }) ∷ rest → to.account.phase ≡ Connected → IsTakenBy to.account.incoming ns n
+
+-- An I frame that a Connected end hears is InOrder exactly where its meant number is the next one expected, and Kept only within the window behind it.
+abbrev pub TakesByNumber : Type 0
+TakesByNumber = (so sa : Setup) (events : List Event) → MayPlay so sa →
+    NextIsTaken (played so sa events).originator (played so sa events).answerer × NextIsTaken (played so sa events).answerer (played so sa events).originator
+
+-- The break lengths given at an end are a prefix of those taken at the other.
+abbrev pub GivesBreaksInOrder : Type 0
+GivesBreaksInOrder = (so sa : Setup) (events : List Event) →
+    IsPrefixOf (played so sa events).answerer.account.their_breaks.lengths (played so sa events).originator.account.own_breaks.lengths
+    × IsPrefixOf (played so sa events).originator.account.their_breaks.lengths (played so sa events).answerer.account.own_breaks.lengths

@@ -1,0 +1,16 @@
+// What goes wrong with acknowledgements.
+
+/// An acknowledgement of a number that wasn't sent. All three are modulo 128: the number received, the number of segments
+/// acknowledged, and one more than the highest number sent.
+#[derive(Clone, Copy, Debug, PartialEq, Eq)]
+pub struct BadAck {
+    pub nr: u8,
+    pub va: u8,
+    pub high: u8,
+}
+
+/// All tries are spent. `segment` is the number of the oldest segment that isn't acknowledged.
+#[derive(Clone, Copy, Debug, PartialEq, Eq)]
+pub struct Spent {
+    pub segment: u64,
+}
