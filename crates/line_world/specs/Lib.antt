@@ -1,5 +1,8 @@
 pub mod Script
 pub mod Heard
+pub mod Slots
+pub mod Received
+pub mod Receiver
 pub mod Direction
 pub mod Run
 pub mod Station
