@@ -16,3 +16,12 @@ code_of WriteFault = 6
 code_of (LineLost role symbol) = 7
 code_of (LinkLost role segment turn) = 9
 code_of NoMemory = 11
+
+-- input that is refused before anything is written
+abbrev pub IsRefusal : Status → Type 0
+IsRefusal Usage = Unit {0}
+IsRefusal (BadScript line cause) = Unit {0}
+IsRefusal (BadHex at) = Unit {0}
+IsRefusal (BadXid fault) = Unit {0}
+IsRefusal (TooLong word) = Unit {0}
+IsRefusal status = ⊥
