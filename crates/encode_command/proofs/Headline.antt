@@ -136,3 +136,23 @@ headline-of words old new n s a = record {
   read = read-of words old new n s a;
   write = write-of words old new n s a;
 }
+
+-- no recording is told how the program is used
+pub not-usage : (words : List (List ℕ)) (old new : FolderState) (n : EncodeNames) (s : Status) → AnswersEncode words old new n s → s ≢ status.Usage
+not-usage words old new n s a e = elim a.tells.said [
+  | inl h ↦ by a.job (sym h.0 ∙ e)
+  | inr h ↦ elim h [ inl f ↦ write (sym f.0 ∙ e) | inr f ↦ memory (sym f.0 ∙ e) ]
+]
+  where
+    write : status.WriteFault ≡ status.Usage → ⊥
+    write e = cc
+
+    memory : status.NoMemory ≡ status.Usage → ⊥
+    memory e = cc
+
+    by : (job : Result ℕ EncodeFault) → status_of job ≡ status.Usage → ⊥
+    by (Ok samples) e = cc
+    by (Err TooLong) e = cc
+    by (Err ReadFault) e = cc
+    by (Err WriteFault) e = cc
+    by (Err NoMemory) e = cc

@@ -1,5 +1,5 @@
 // The command: the recording is made, and its line is said.
-ghost use Rattle.std.specs.Prelude.{◌≡◌, true, map, string_bytes};
+ghost use Rattle.std.specs.Prelude.{◌≡◌, ◌≢◌, true, map, string_bytes};
 ghost use Rattle.encode_command.specs.Words.{named, are_apart};
 ghost use Rattle.encode_command.specs.Answers.{AnswersEncode};
 ghost use Rattle.encode_command.specs.Headline.{Headline};
@@ -27,6 +27,8 @@ pub fn encode<F: Folder>(folder: &mut F, words: &[String], names: &EncodeWords<'
 
     // The output becomes the file's recording, or the beginning of it where the command ends by a fault.
     ensures headline { Headline (F.state folder.old) (F.state folder.new) (named names.now) result }
+
+    ensures known { result ≢ Status.Usage }
 
     // Each answer comes where it has to, with its line.
     ensures answer { AnswersEncode (map string_bytes words.now) (F.state folder.old) (F.state folder.new) (named names.now) result }

@@ -12,7 +12,7 @@ use Rattle.run_command.specs.declared.limits.TheConstants.{LIMITS}
 use Rattle.line_world.specs.declared.world.RunFault.{RunFault}
 use Rattle.line_world.specs.declared.world.RunFault.TheVariants as faults
 use Rattle.command_base.specs.declared.status.Status.{Status}
-use Rattle.command_base.specs.declared.status.Status.TheVariants.{Done, ReadFault, WriteFault, NoMemory}
+use Rattle.command_base.specs.declared.status.Status.TheVariants.{Done, Usage, ReadFault, WriteFault, NoMemory}
 use Rattle.command_base.specs.Status.{IsRefusal}
 use Rattle.command_base.specs.Lines.{done_line}
 use Rattle.command_base.specs.Outputs.{Holds, HoldsPart, KeptOrEmpty, KeepsAll}
@@ -241,3 +241,26 @@ headline-of words old new n s a =
       read = read-by-job words old a.before new n a.job s l;
       write = write-by-job words old a.before new n a.job s l;
     }
+
+-- no run is told how the program is used
+pub not-usage : (words : List (List ℕ)) (old new : FolderState) (n : RunNames) (s : Status) → AnswersRun words old new n s → s ≢ Usage
+not-usage words old new n s a e = elim a.tells.said [
+  | inl h ↦ by a.job (sym h.0 ∙ e)
+  | inr h ↦ elim h [ inl f ↦ write (sym f.0 ∙ e) | inr f ↦ memory (sym f.0 ∙ e) ]
+]
+  where
+    write : WriteFault ≡ Usage → ⊥
+    write e = cc
+
+    memory : NoMemory ≡ Usage → ⊥
+    memory e = cc
+
+    by : (job : Result ℕ Ending) → status_of job ≡ Usage → ⊥
+    by (Ok turn) e = cc
+    by (Err (Refused (refusals.BadScript line cause))) e = cc
+    by (Err (Refused (refusals.TooLong word))) e = cc
+    by (Err (Refused refusals.ReadFault)) e = cc
+    by (Err (Refused refusals.NoMemory)) e = cc
+    by (Err (Stopped faults.WriteFault)) e = cc
+    by (Err (Stopped (faults.LinkLost role segment turn))) e = cc
+    by (Err (Stopped faults.NoMemory)) e = cc

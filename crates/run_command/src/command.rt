@@ -1,5 +1,5 @@
 // The command: its inputs are opened, its outputs made, turns follow to its end, and its line is said.
-ghost use Rattle.std.specs.Prelude.{◌≡◌, true, map, string_bytes};
+ghost use Rattle.std.specs.Prelude.{◌≡◌, ◌≢◌, true, map, string_bytes};
 ghost use Rattle.run_command.specs.Words.{named, are_apart};
 ghost use Rattle.run_command.specs.Ends.{Ends, OnlyOutputs};
 ghost use Rattle.run_command.specs.Answers.{AnswersRun};
@@ -77,6 +77,8 @@ pub fn run<F: Folder>(
 
     // Each end receives a prefix of the other's file, and done means that both are whole.
     ensures headline { Headline (F.state folder.old) (F.state folder.new) (named names.now) result }
+
+    ensures known { result ≢ Status.Usage }
 
     // Each answer comes where it has to, with its line.
     ensures answer { AnswersRun (map string_bytes words.now) (F.state folder.old) (F.state folder.new) (named names.now) result }

@@ -1,17 +1,16 @@
 // Runs over a folder in memory, with what each says and leaves.
 use super::*;
+use command_base::Status;
 use lapm_frames::Role;
-use line_world::Cause;
+use noise_script::Cause;
 use outside_core::MemoryFolder;
 use std::alloc::{AllocError, Global};
 use std::process::Abort;
 use std::test::Fail;
 
-const RUN: [&str; 7] = ["run", "o", "a", "s", "go", "ga", "t"];
-
-fn words(alloc: Global, texts: &[&str]) -> Result<Vec<String>, AllocError> {
+fn words(alloc: Global) -> Result<Vec<String>, AllocError> {
     let mut words = Vec::new(alloc);
-    for text in texts {
+    for text in ["run", "o", "a", "s", "go", "ga", "t"] {
         words.push(String::from_str(alloc, text)?)?;
     }
     Ok(words)
@@ -30,60 +29,29 @@ fn folder_of(alloc: Global, orig: &[u8], answ: &[u8], script: &[u8]) -> Result<M
 fn answers(
     rt: &impl Abort,
     alloc: Global,
-    texts: &[&str],
     folder: &mut MemoryFolder,
     status: Status,
     said: &str,
 ) -> Result<(), Fail> {
-    let words = words(alloc, texts)?;
-    let answer = modem(alloc, &words, folder);
-    assert!(rt; answer == status);
+    let words = words(alloc)?;
+    match run_words(&words) {
+        Some(names) => assert!(rt; run(alloc, folder, &words, &names) == status),
+        None => assert!(rt; false),
+    }
     assert!(rt; folder.said() == said.as_bytes());
     Ok(())
 }
 
-fn holds(rt: &impl Abort, folder: &MemoryFolder, name: &str, octets: &[u8]) {
-    assert!(rt; folder.get(name) == Some(octets));
-}
-
-fn holds_no_output(rt: &impl Abort, folder: &MemoryFolder) {
-    assert!(rt; folder.get("go").is_none());
-    assert!(rt; folder.get("ga").is_none());
-    assert!(rt; folder.get("t").is_none());
-}
-
-#[test]
-fn empty_files_are_done_at_once(rt: HostRuntime) -> Result<(), Fail> {
-    let mut folder = folder_of(rt.alloc(), b"", b"", b"")?;
-    answers(&rt, rt.alloc(), &RUN, &mut folder, Status::Done, "done 0\n")?;
-    holds(&rt, &folder, "go", b"");
-    holds(&rt, &folder, "ga", b"");
-    Ok(())
-}
-
-#[test]
-fn one_octet_crosses_each_way(rt: HostRuntime) -> Result<(), Fail> {
-    let mut folder = folder_of(rt.alloc(), b"a", b"b", b"")?;
-    answers(&rt, rt.alloc(), &RUN, &mut folder, Status::Done, "done 2\n")?;
-    holds(&rt, &folder, "go", b"b");
-    holds(&rt, &folder, "ga", b"a");
-    holds(&rt, &folder, "t", b"");
-    Ok(())
+/// What both ends received, and the trace.
+fn holds(rt: &impl Abort, folder: &MemoryFolder, got: [Option<&[u8]>; 3]) {
+    assert!(rt; [folder.get("go"), folder.get("ga"), folder.get("t")] == got);
 }
 
 #[test]
 fn a_lost_frame_goes_again(rt: HostRuntime) -> Result<(), Fail> {
     let mut folder = folder_of(rt.alloc(), b"a", b"b", b"lose answ 0 1")?;
-    answers(
-        &rt,
-        rt.alloc(),
-        &RUN,
-        &mut folder,
-        Status::Done,
-        "done 22\n",
-    )?;
-    holds(&rt, &folder, "go", b"b");
-    holds(&rt, &folder, "ga", b"a");
+    answers(&rt, rt.alloc(), &mut folder, Status::Done, "done 22\n")?;
+    holds(&rt, &folder, [Some(b"b"), Some(b"a"), Some(b"")]);
     Ok(())
 }
 
@@ -95,137 +63,39 @@ fn a_line_that_loses_all_ends_the_link(rt: HostRuntime) -> Result<(), Fail> {
         segment: 0,
         turn: 120,
     };
-    answers(
-        &rt,
-        rt.alloc(),
-        &RUN,
-        &mut folder,
-        lost,
-        "link lost: orig segment 0 turn 120\n",
-    )?;
-    assert!(&rt; lost.code() == 9);
-    holds(&rt, &folder, "go", b"");
-    holds(&rt, &folder, "ga", b"a");
-    holds(&rt, &folder, "t", b"");
+    let said = "link lost: orig segment 0 turn 120\n";
+    answers(&rt, rt.alloc(), &mut folder, lost, said)?;
+    holds(&rt, &folder, [Some(b""), Some(b"a"), Some(b"")]);
     Ok(())
 }
 
 #[test]
-fn segments_cross_in_order_over_a_line_with_losses(rt: HostRuntime) -> Result<(), Fail> {
-    let alloc = rt.alloc();
-    let mut long = Vec::new(alloc);
-    for octet in 0..=255u8 {
-        long.push(octet)?;
-        long.push(octet)?;
-    }
-    let script = b"lose orig 3 1\nlose answ 10 2\nlose orig 40 1";
-    let mut folder = folder_of(alloc, &long, b"short", script)?;
-    let words = words(alloc, &RUN)?;
-    assert!(&rt; modem(alloc, &words, &mut folder) == Status::Done);
-    holds(&rt, &folder, "ga", &long);
-    holds(&rt, &folder, "go", b"short");
-    Ok(())
-}
-
-#[test]
-fn other_words_are_told_the_usage(rt: HostRuntime) -> Result<(), Fail> {
-    let usage = "usage: modem run\n";
-    for texts in [
-        ["run", "o", "a", "s", "go", "go", "t"],
-        ["run", "o", "a", "s", "go", "ga", "s"],
-        ["run", "o", "a", "s", "o", "ga", "t"],
-        ["ran", "o", "a", "s", "go", "ga", "t"],
-    ] {
-        let mut folder = folder_of(rt.alloc(), b"a", b"b", b"")?;
-        answers(&rt, rt.alloc(), &texts, &mut folder, Status::Usage, usage)?;
-        holds_no_output(&rt, &folder);
-        holds(&rt, &folder, "o", b"a");
-    }
-    let mut folder = MemoryFolder::new(rt.alloc());
-    answers(&rt, rt.alloc(), &[], &mut folder, Status::Usage, usage)?;
-    assert!(&rt; Status::Usage.code() == 2);
-    Ok(())
-}
-
-#[test]
-fn a_missing_file_is_a_read_fault(rt: HostRuntime) -> Result<(), Fail> {
-    let mut folder = MemoryFolder::new(rt.alloc());
-    folder.put("a", b"")?;
-    folder.put("s", b"")?;
-    answers(
-        &rt,
-        rt.alloc(),
-        &RUN,
-        &mut folder,
-        Status::ReadFault,
-        "read fault\n",
-    )?;
-    assert!(&rt; Status::ReadFault.code() == 5);
-    holds_no_output(&rt, &folder);
-    Ok(())
-}
-
-#[test]
-fn a_long_input_is_named(rt: HostRuntime) -> Result<(), Fail> {
+fn long_inputs_are_named(rt: HostRuntime) -> Result<(), Fail> {
     let alloc = rt.alloc();
     let long = vec![in alloc; 7u8; 1_048_577]?;
-    let too_long = Status::TooLong { word: 1 };
     let mut folder = folder_of(alloc, &long, b"", b"")?;
-    answers(&rt, alloc, &RUN, &mut folder, too_long, "too long: o\n")?;
-    assert!(&rt; too_long.code() == 4);
-    holds_no_output(&rt, &folder);
-
+    let orig = Status::TooLong { word: 1 };
+    answers(&rt, alloc, &mut folder, orig, "too long: o\n")?;
     let mut folder = folder_of(alloc, b"", &long, b"")?;
-    answers(
-        &rt,
-        alloc,
-        &RUN,
-        &mut folder,
-        Status::TooLong { word: 2 },
-        "too long: a\n",
-    )?;
-    holds_no_output(&rt, &folder);
-
-    let long = vec![in alloc; 7u8; 65_537]?;
-    let mut folder = folder_of(alloc, b"", b"", &long)?;
-    answers(
-        &rt,
-        alloc,
-        &RUN,
-        &mut folder,
-        Status::TooLong { word: 3 },
-        "too long: s\n",
-    )?;
-    holds_no_output(&rt, &folder);
+    let answ = Status::TooLong { word: 2 };
+    answers(&rt, alloc, &mut folder, answ, "too long: a\n")?;
+    let mut folder = folder_of(alloc, b"", b"", &long[..65_537])?;
+    let script = Status::TooLong { word: 3 };
+    answers(&rt, alloc, &mut folder, script, "too long: s\n")?;
+    holds(&rt, &folder, [None, None, None]);
     Ok(())
 }
 
 #[test]
 fn the_first_faulty_line_of_a_script_is_named(rt: HostRuntime) -> Result<(), Fail> {
-    let cases: [(&[u8], u32, &str); 8] = [
-        (b"\n", 1, "bad script: line 1: word\n"),
-        (
-            b"lose orig 0 1\nlose orig 0\n",
-            2,
-            "bad script: line 2: word\n",
-        ),
-        (b"lose  orig 0 1\n", 1, "bad script: line 1: word\n"),
-        (b"lose orig 0 0", 1, "bad script: line 1: word\n"),
-        (b"lose orig 4294967296 1", 1, "bad script: line 1: word\n"),
-        (b"lose orig 00000000001 1", 1, "bad script: line 1: word\n"),
-        (b"lose both 0 1", 1, "bad script: line 1: word\n"),
-        (b"lose answ 0 1\r\n", 1, "bad script: line 1: word\n"),
-    ];
-    for (script, line, said) in cases {
-        let mut folder = folder_of(rt.alloc(), b"a", b"b", script)?;
-        let bad = Status::BadScript {
-            line,
-            cause: Cause::Word,
-        };
-        answers(&rt, rt.alloc(), &RUN, &mut folder, bad, said)?;
-        assert!(&rt; bad.code() == 3);
-        holds_no_output(&rt, &folder);
-    }
+    let mut folder = folder_of(rt.alloc(), b"a", b"b", b"lose orig 0 1\nlose orig 0\n")?;
+    let bad = Status::BadScript {
+        line: 2,
+        cause: Cause::Word,
+    };
+    let said = "bad script: line 2: word\n";
+    answers(&rt, rt.alloc(), &mut folder, bad, said)?;
+    holds(&rt, &folder, [None, None, None]);
     Ok(())
 }
 
@@ -233,37 +103,15 @@ fn the_first_faulty_line_of_a_script_is_named(rt: HostRuntime) -> Result<(), Fai
 /// at a call, the answer is named by the call's kind.
 #[test]
 fn each_call_that_fails_is_named_by_its_kind(rt: HostRuntime) -> Result<(), Fail> {
-    let alloc = rt.alloc();
-    let words = words(alloc, &RUN)?;
-    let mut sound = folder_of(alloc, b"a", b"b", b"")?;
-    assert!(&rt; modem(alloc, &words, &mut sound) == Status::Done);
-    assert!(&rt; sound.calls() == 14);
     for number in 1..=14u64 {
-        let mut folder = folder_of(alloc, b"a", b"b", b"")?;
+        let mut folder = folder_of(rt.alloc(), b"a", b"b", b"")?;
         folder.fail_at(&[number])?;
-        let status = modem(alloc, &words, &mut folder);
-        assert!(&rt; matches!(folder.get("t"), None | Some([])));
-        if number <= 8 {
-            assert!(&rt; status == Status::ReadFault);
-            assert!(&rt; folder.said() == b"read fault\n".as_slice());
-            holds_no_output(&rt, &folder);
-        } else if number <= 13 {
-            assert!(&rt; status == Status::WriteFault);
-            assert!(&rt; folder.said() == b"write fault\n".as_slice());
-            assert!(&rt; folder.get("ga") != Some(b"a".as_slice()));
-        } else {
-            assert!(&rt; status == Status::WriteFault);
-            assert!(&rt; folder.said().is_empty());
-            holds(&rt, &folder, "go", b"b");
-            holds(&rt, &folder, "ga", b"a");
-        }
+        let (status, said) = match number {
+            1..=8 => (Status::ReadFault, "read fault\n"),
+            9..=13 => (Status::WriteFault, "write fault\n"),
+            _ => (Status::WriteFault, ""),
+        };
+        answers(&rt, rt.alloc(), &mut folder, status, said)?;
     }
     Ok(())
-}
-
-#[test]
-fn codes_are_those_of_the_table(rt: HostRuntime) {
-    assert!(&rt; Status::Done.code() == 0);
-    assert!(&rt; Status::WriteFault.code() == 6);
-    assert!(&rt; Status::NoMemory.code() == 11);
 }
