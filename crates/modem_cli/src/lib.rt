@@ -2,17 +2,9 @@
 //! what the words say and answers a `Status`, whose `code` is the exit status of the program.
 #![tactic(auto)]
 
-mod inputs;
-mod limits;
-mod lines;
-mod outputs;
-mod run;
-mod status;
 mod top;
-mod turns;
-mod words;
 
-pub use status::Status;
+pub use command_base::Status;
 pub use top::modem;
 
 #[cfg(test)]

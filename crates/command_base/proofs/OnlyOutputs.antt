@@ -1,0 +1,25 @@
+-- What follows from several steps over one output.
+use Rattle.std.proofs.Common.{◌≡◌, ◌∙◌, ℕ, List, IsTrue, refl, subst}
+use Rattle.outside_core.specs.Folder.{FolderState, GoesOn, OnlyReads, OnlyWrites}
+use Rattle.outside_core.specs.Steps.{GoesOn-refl, GoesOn-trans, KeepsName-trans}
+use Rattle.command_base.specs.Outputs.{OnlyOutput}
+
+-- a name that is told was told before
+pub told_earlier : {a b : FolderState} → GoesOn a b → (n : List ℕ) → IsTrue (b.tells n) → IsTrue (a.tells n)
+told_earlier g n told = subst IsTrue (g.tells n) told
+
+pub OnlyOutput-refl : (a : FolderState) (n : List ℕ) → OnlyOutput a a n
+OnlyOutput-refl a n = record { goes_on = GoesOn-refl a; names = λ other apart told. refl; said = refl }
+
+pub OnlyOutput-reads : {a b : FolderState} (n : List ℕ) → OnlyReads a b → OnlyOutput a b n
+OnlyOutput-reads n r = record { goes_on = r.goes_on; names = λ other apart. r.names other; said = r.said }
+
+pub OnlyOutput-writes : {a b : FolderState} (n : List ℕ) → OnlyWrites a b n → OnlyOutput a b n
+OnlyOutput-writes n w = record { goes_on = w.goes_on; names = w.names; said = w.said }
+
+pub OnlyOutput-trans : {a b c : FolderState} (n : List ℕ) → OnlyOutput a b n → OnlyOutput b c n → OnlyOutput a c n
+OnlyOutput-trans {a} {b} {c} n p q = record {
+  goes_on = GoesOn-trans p.goes_on q.goes_on;
+  names = λ other apart. KeepsName-trans a b c other p.goes_on (p.names other apart) (q.names other apart);
+  said = q.said ∙ p.said;
+}

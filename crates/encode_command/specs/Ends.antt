@@ -1,0 +1,47 @@
+-- How the making of a recording ends, before its line is said. What is said of a name's octets holds where the folder
+-- tells that name.
+use Rattle.std.specs.Prelude.{◌≡◌, ◌⊎◌, ℕ, IsTrue, List, Result, Ok, Err}
+use Rattle.outside_core.specs.Folder.{FolderState, octets_at, KeepsName, Rose}
+use Rattle.recordings.specs.Recording.{IsRecordingOf}
+use Rattle.command_base.specs.declared.limits.TheConstants.{FILE_LIMIT}
+use Rattle.command_base.specs.Inputs.{IsWithin, IsLonger}
+use Rattle.command_base.specs.Outputs.{Holds, HoldsFront, KeepsAll}
+use Rattle.encode_command.specs.declared.fault.EncodeFault.{EncodeFault}
+use Rattle.encode_command.specs.declared.fault.EncodeFault.TheVariants.{TooLong, ReadFault, WriteFault, NoMemory}
+use Rattle.encode_command.specs.Words.{EncodeNames}
+
+-- The file is within its limit, and this is its recording.
+pub record RecordsFile (old : FolderState) (n : EncodeNames) (recording : List ℕ) (samples : ℕ) : Type 0 where
+  pub octets : List ℕ
+  pub within : IsWithin old n.file FILE_LIMIT
+  pub read : IsTrue (old.tells n.file) → octets ≡ octets_at old n.file
+  pub recorded : IsRecordingOf n.mode octets recording samples
+
+-- The output holds the file's recording, of so many samples.
+pub record WritesAll (old new : FolderState) (n : EncodeNames) (samples : ℕ) : Type 0 where
+  pub recording : List ℕ
+  pub records : RecordsFile old n recording samples
+  pub rec : Holds new n.rec recording
+
+-- The output holds the beginning of the file's recording.
+pub record WritesPart (old new : FolderState) (n : EncodeNames) : Type 0 where
+  pub recording : List ℕ
+  pub samples : ℕ
+  pub records : RecordsFile old n recording samples
+  pub rec : HoldsFront new n.rec recording
+
+-- the output is as it was, or holds the beginning of the file's recording
+abbrev pub LeavesPart : FolderState → FolderState → EncodeNames → Type 0
+LeavesPart old new n = KeepsName old new n.rec ⊎ WritesPart old new n
+
+-- why there is no recording, or no whole one
+abbrev pub EndsBy : FolderState → FolderState → EncodeNames → EncodeFault → Type 0
+EndsBy old new n TooLong = KeepsAll old new × IsLonger old n.file FILE_LIMIT
+EndsBy old new n ReadFault = Rose (old.read_faults n.file) (new.read_faults n.file) × LeavesPart old new n
+EndsBy old new n WriteFault = Rose (old.write_faults n.rec) (new.write_faults n.rec) × IsWithin old n.file FILE_LIMIT × LeavesPart old new n
+EndsBy old new n NoMemory = Rose old.refusals new.refusals × LeavesPart old new n
+
+-- how the making of a recording ends: with so many samples, or by a fault
+abbrev pub Ends : FolderState → FolderState → EncodeNames → Result ℕ EncodeFault → Type 0
+Ends old new n (Ok samples) = WritesAll old new n samples
+Ends old new n (Err fault) = EndsBy old new n fault

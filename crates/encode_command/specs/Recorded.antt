@@ -1,0 +1,27 @@
+-- How far a file is recorded.
+use Rattle.std.specs.Prelude.{◌≡◌, ℕ, IsTrue, List, [], ◌++◌, length, take}
+use Rattle.outside_core.specs.Folder.{FolderState, octets_at}
+use Rattle.scramblers.specs.Mode.{tap_of}
+use Rattle.modulator.specs.Modulates.{Kept}
+use Rattle.recordings.specs.Recording.{header_of, RecorderStands}
+use Rattle.command_base.specs.declared.limits.TheConstants.{FILE_LIMIT}
+use Rattle.command_base.specs.Inputs.{IsWithin}
+use Rattle.command_base.specs.Outputs.{Holds, OnlyOutput}
+use Rattle.encode_command.specs.Words.{EncodeNames}
+
+-- The file is within its limit, and the output was made.
+pub record Begun (old now : FolderState) (n : EncodeNames) : Type 0 where
+  pub within : IsWithin old n.file FILE_LIMIT
+  pub only : OnlyOutput old now n.rec
+  pub empty : Holds now n.rec []
+
+-- The first octets of the file, so many, are recorded behind the header, and the output holds that.
+pub record RecordedTo (old now : FolderState) (n : EncodeNames) (kept : Kept) (at : ℕ) : Type 0 where
+  pub octets : List ℕ
+  pub recorded : List ℕ
+  pub stands : RecorderStands (tap_of n.mode) kept octets recorded
+  pub count : at ≡ length octets
+  pub within : IsWithin old n.file FILE_LIMIT
+  pub front : IsTrue (old.tells n.file) → octets ≡ take at (octets_at old n.file)
+  pub only : OnlyOutput old now n.rec
+  pub rec : Holds now n.rec (header_of n.mode ++ recorded)

@@ -1,0 +1,15 @@
+//! The command `encode`: a file becomes a recording of one direction of a line. A pure function of the words and of the
+//! folder that are handed in. [`encode_words`] reads the words, and [`encode`] does what they say.
+#![tactic(auto)]
+
+mod command;
+mod fault;
+mod recording;
+mod words;
+
+pub use command::encode;
+pub use fault::EncodeFault;
+pub use words::{EncodeWords, encode_words};
+
+#[cfg(test)]
+mod tests;

@@ -1,0 +1,125 @@
+// A file's octets, recorded piece by piece.
+ghost use Rattle.std.specs.Prelude.{◌≡◌, ◌≤◌, ◌+◌, ◌*◌, ◌++◌, ℕ, List, IfOk, IfErr, length, true};
+ghost use Rattle.outside_core.specs.Folder.{FolderState};
+ghost use Rattle.scramblers.specs.Mode.{tap_of};
+ghost use Rattle.recordings.specs.Recording.{RecorderStands};
+ghost use Rattle.command_base.specs.declared.limits.TheConstants.{FILE_LIMIT};
+ghost use Rattle.command_base.specs.Outputs.{OnlyOutput};
+ghost use Rattle.encode_command.specs.Words.{named, are_apart};
+ghost use Rattle.encode_command.specs.Ends.{WritesAll, EndsBy, Ends};
+ghost use Rattle.encode_command.specs.Recorded.{Begun, RecordedTo};
+
+use crate::EncodeFault;
+use crate::fault::{read_fault, write_fault};
+use crate::words::EncodeWords;
+use command_base::{FILE_LIMIT, append_output, create_output, is_longer, read_piece};
+use frame_check::Octets;
+use outside_core::Folder;
+use recordings::{Recorder, header_octets};
+use scramblers::{ANSWER_TAP, CALL_TAP, Mode};
+
+/// How many octets are read at a time.
+const PIECE: usize = 128;
+
+/// How many octets of a recording a piece becomes, eight for each of its own.
+const RECORDED_PIECE: usize = 1024;
+
+/// The octets of the samples of a piece.
+fn record_piece<const TAP: usize>(
+    recorder: &mut Recorder<TAP>,
+    piece: &[u8],
+) -> Octets<RECORDED_PIECE>
+    requires { length piece.now ≤ PIECE }
+    ensures { (octets recorded : List ℕ) → RecorderStands TAP recorder.old octets recorded
+        → RecorderStands TAP recorder.new (octets ++ piece.now) (recorded ++ result) }
+{
+    let mut recorded = Octets::new();
+    for octet in piece {
+        recorded.extend(recorder.push(*octet).as_slice());
+    }
+    recorded
+}
+
+/// Records the next piece of the file, and answers how many octets it has: none at the file's end.
+fn record_next<F: Folder, const TAP: usize>(
+    folder: &mut F,
+    names: &EncodeWords<'_>,
+    recorder: &mut Recorder<TAP>,
+    at: u64,
+) -> Result<usize, EncodeFault>
+    requires tap { tap_of names.now.mode ≡ TAP }
+    requires apart { are_apart (named names.now) ≡ true }
+    requires within { at ≤ FILE_LIMIT }
+    ensures ok { (start : FolderState) → RecordedTo start (F.state folder.old) (named names.now) recorder.old at
+        → IfOk result (λ count. RecordedTo start (F.state folder.new) (named names.now) recorder.new (at + count)) }
+    ensures end { (start : FolderState) → RecordedTo start (F.state folder.old) (named names.now) recorder.old at
+        → IfOk result (λ count. count ≡ 0 → WritesAll start (F.state folder.new) (named names.now) (2 * at)) }
+    ensures err { (start : FolderState) → RecordedTo start (F.state folder.old) (named names.now) recorder.old at
+        → IfErr result (EndsBy start (F.state folder.new) (named names.now)) }
+    ensures bound { IfOk result (λ count. at + count ≤ FILE_LIMIT) }
+    ensures only { OnlyOutput (F.state folder.old) (F.state folder.new) names.now.rec.now }
+{
+    let mut piece = [0u8; PIECE];
+    let count = match read_piece(folder, names.file, FILE_LIMIT, at, &mut piece) {
+        Ok(0) => return Ok(0),
+        Ok(count) => count,
+        Err(fault) => return Err(read_fault(fault)),
+    };
+    let recorded = record_piece(recorder, &piece[..count]);
+    match append_output(folder, names.rec, recorded.as_slice()) {
+        Ok(()) => Ok(count),
+        Err(fault) => Err(write_fault(fault)),
+    }
+}
+
+/// Records the whole file behind the header: the number of samples.
+fn record_file<F: Folder, const TAP: usize>(
+    folder: &mut F,
+    names: &EncodeWords<'_>,
+) -> Result<u64, EncodeFault>
+    requires tap { tap_of names.now.mode ≡ TAP }
+    requires low { 1 ≤ TAP }
+    requires high { TAP ≤ 22 }
+    requires apart { are_apart (named names.now) ≡ true }
+    ensures ends { (start : FolderState) → Begun start (F.state folder.old) (named names.now)
+        → Ends start (F.state folder.new) (named names.now) result }
+    ensures only { OnlyOutput (F.state folder.old) (F.state folder.new) names.now.rec.now }
+{
+    let mut recorder = Recorder::<TAP>::new();
+    match append_output(folder, names.rec, header_octets(names.mode).as_slice()) {
+        Ok(()) => {}
+        Err(fault) => return Err(write_fault(fault)),
+    }
+    let mut at: u64 = 0;
+    loop {
+        match record_next(folder, names, &mut recorder, at) {
+            Ok(0) => return Ok(2 * at),
+            Ok(count) => at += count as u64,
+            Err(fault) => return Err(fault),
+        }
+    }
+}
+
+/// The file's length is looked at, the output made, and the file recorded: the number of samples.
+pub(crate) fn make_recording<F: Folder>(
+    folder: &mut F,
+    names: &EncodeWords<'_>,
+) -> Result<u64, EncodeFault>
+    requires { are_apart (named names.now) ≡ true }
+    ensures ends { Ends (F.state folder.old) (F.state folder.new) (named names.now) result }
+    ensures only { OnlyOutput (F.state folder.old) (F.state folder.new) names.now.rec.now }
+{
+    match is_longer(folder, names.file, FILE_LIMIT) {
+        Ok(false) => {}
+        Ok(true) => return Err(EncodeFault::TooLong),
+        Err(fault) => return Err(read_fault(fault)),
+    }
+    match create_output(folder, names.rec) {
+        Ok(()) => {}
+        Err(fault) => return Err(write_fault(fault)),
+    }
+    match names.mode {
+        Mode::Call => record_file::<F, CALL_TAP>(folder, names),
+        Mode::Answer => record_file::<F, ANSWER_TAP>(folder, names),
+    }
+}

@@ -1,0 +1,48 @@
+// The words of the command.
+ghost use Rattle.std.specs.Prelude.{◌≡◌, true, IfSome, string_bytes, map};
+ghost use Rattle.std.specs.Option.{option_map};
+ghost use Rattle.encode_command.specs.Words.{mode_named, names_of, named, are_apart};
+
+use scramblers::Mode;
+
+/// A recording that is to be made.
+#[derive(Clone, Copy)]
+pub struct EncodeWords<'a> {
+    pub mode: Mode,
+    pub file: &'a str,
+    pub rec: &'a str,
+}
+
+/// The mode that a word names, where it names one.
+fn mode_of(word: &str) -> Option<Mode>
+    ensures { result ≡ mode_named word.now }
+{
+    if word == "call" {
+        Some(Mode::Call)
+    } else if word == "answer" {
+        Some(Mode::Answer)
+    } else {
+        None
+    }
+}
+
+/// The words of `encode`, where these are such words.
+pub fn encode_words(words: &[String]) -> Option<EncodeWords<'_>>
+    ensures names { option_map named result ≡ names_of (map string_bytes words.now) }
+    ensures apart { IfSome result (λ names. are_apart (named names) ≡ true) }
+{
+    let [command, mode, file, rec] = words else {
+        return None;
+    };
+    if command.as_str() != "encode" || rec.as_str() == file.as_str() {
+        return None;
+    }
+    match mode_of(mode.as_str()) {
+        Some(mode) => Some(EncodeWords {
+            mode,
+            file: file.as_str(),
+            rec: rec.as_str(),
+        }),
+        None => None,
+    }
+}
