@@ -2,7 +2,7 @@
 ghost use Rattle.std.specs.Prelude.{◌≡◌, ℕ, IsTrue, List, ◌+◌, ◌<◌, ◌≤◌, length, Some, [], ◌∷◌, ◌++◌};
 ghost use Rattle.exact_decoder.specs.Columns.{sums_at};
 ghost use Rattle.exact_decoder.specs.Tails.{EachLong, IsMoved, IsParted};
-ghost use Rattle.exact_decoder.specs.Decoder.{IsLeastSum};
+ghost use Rattle.exact_decoder.specs.Kept.{IsLeastSum};
 ghost use Rattle.exact_decoder.specs.declared.labels.TheConstants.{ROOM};
 
 use crate::labels::{Labels, common, strip};
