@@ -5,3 +5,5 @@ pub mod Advanced
 pub mod Pushed
 pub mod Least
 pub mod Started
+pub mod Measured
+pub mod Taken

@@ -1,10 +1,11 @@
-use Rattle.std.proofs.Common.{◌≡◌, ◌≢◌, ℕ, ◌+◌, ◌-◌, ◌<◌, ◌≤◌, inl, inr, MatchOption, append_assoc, length-append, List, [], ◌∷◌, ◌++◌, length, drop, get_or, set, Option, Some, None, option_map, arith, refl, sym, ◌∙◌, ap}
+use Rattle.std.proofs.Common.{◌≡◌, ◌≢◌, ℕ, ◌+◌, ◌-◌, ◌<◌, ◌≤◌, inl, inr, MatchOption, append_assoc, length-append, List, [], ◌∷◌, ◌++◌, length, take, drop, All, get_or, set, Option, Some, None, option_map, arith, refl, sym, ◌∙◌, ap}
 use Rattle.std.proofs.lemmas.Grind.{common_steps}
 use Rattle.std.proofs.lemmas.Bool.{cases_lt}
-use Rattle.std.proofs.lemmas.List.{append-nil}
+use Rattle.std.proofs.lemmas.List.{append-nil, take_at}
+use Rattle.std.proofs.lemmas.List.Elements.{All-same, All-drop, All-take, All-append}
 use Rattle.exact_decoder.specs.declared.choice.Choice.{Choice}
 use Rattle.exact_decoder.specs.Columns.{sums_at, new_sums_at, sum_of, tail_at, longer}
-use Rattle.exact_decoder.specs.Tails.{EachLong, BeginsWith, IsApart, IsMoved, IsParted}
+use Rattle.exact_decoder.specs.Tails.{EachLong, AllLabelsBelow, BeginsWith, IsApart, IsMoved, IsParted}
 
 set-other : (xs : List (List ℕ)) (x : List ℕ) (n i : ℕ) → i ≢ n → get_or (set xs n x) i [] ≡ get_or xs i []
 set-other xs x n i l = grind (arith, common_steps)
@@ -132,9 +133,10 @@ pub record MovedSoFar (sums : List (Option ℕ)) (old tails : List (List ℕ)) (
   pub count : length labels + left ≡ unreleased
   pub moved : IsMoved sums old labels tails
   pub long : EachLong sums tails left
+  pub below : (labels : ℕ) → AllLabelsBelow labels old → AllLabelsBelow labels tails
 
 pub moved-none : (sums : List (Option ℕ)) (tails : List (List ℕ)) (pending : List ℕ) (unreleased : ℕ) → EachLong sums tails unreleased → MovedSoFar sums tails tails pending pending unreleased unreleased
-moved-none sums tails pending unreleased long = record { labels = []; pending_is = sym (append-nil pending); count = omega arith; moved = λ s m e. refl; long = long }
+moved-none sums tails pending unreleased long = record { labels = []; pending_is = sym (append-nil pending); count = omega arith; moved = λ s m e. refl; long = long; below = λ n h. h }
 
 pub moved-more : (sums : List (Option ℕ)) (old tails next : List (List ℕ)) (before pending pushed : List ℕ) (unreleased left label : ℕ) → 0 < left → BeginsWith sums tails label → ((s : ℕ) → tail_at next s ≡ drop 1 (tail_at tails s)) → pushed ≡ pending ++ label ∷ []
     → MovedSoFar sums old tails before pending unreleased left → MovedSoFar sums old next before pushed unreleased (left - 1)
@@ -152,7 +154,17 @@ moved-more sums old tails next before pending pushed unreleased left label some 
       let l : length (tail_at tails s) ≡ length (label ∷ b.0) = ap length b.1 in
       let k : length (tail_at next s) ≡ length b.0 = ap length n in
       omega (arith, l, k, h.long s m r);
+  below = λ n b s. All-same (λ x. x < n) (tail_at next s) (drop 1 (tail_at tails s)) (stripped s) (All-drop (λ x. x < n) 1 (tail_at tails s) (h.below n b s));
 }
+
+-- labels that were moved from a list of the code's labels are labels of the code
+pub moved-below : (labels : ℕ) (sums : List (Option ℕ)) (old new : List (List ℕ)) (pending pushed moved : List ℕ) → pushed ≡ pending ++ moved → IsMoved sums old moved new → ((s : ℕ) × (m : ℕ) × (sums_at sums s ≡ Some m)) → AllLabelsBelow labels old
+    → All (λ x. x < labels) pending → All (λ x. x < labels) pushed
+moved-below labels sums old new pending pushed moved e h some below b =
+    let was = h some.0 some.1 some.2 in
+    let part : take (length moved) (tail_at old some.0) ≡ moved = ap (take (length moved)) was ∙ take_at moved (tail_at new some.0) (length moved) refl in
+    let mine : All (λ x. x < labels) moved = All-same (λ x. x < labels) moved (take (length moved) (tail_at old some.0)) (sym part) (All-take (λ x. x < labels) (length moved) (tail_at old some.0) (below some.0)) in
+    All-same (λ x. x < labels) pushed (pending ++ moved) e (All-append (λ x. x < labels) pending moved b mine)
 
 pub long-some : (sums : List (Option ℕ)) (tails : List (List ℕ)) (left : ℕ) → 0 < left → EachLong sums tails left → (s m : ℕ) → sums_at sums s ≡ Some m → tail_at tails s ≢ []
 long-some sums tails left some h s m r e = let l : length (tail_at tails s) ≡ 0 = ap length e in absurd (omega (arith, l, h s m r))

@@ -1,5 +1,5 @@
 -- The decoder after one sample more.
-use Rattle.std.proofs.Common.{◌≡◌, ℕ, ◌+◌, ◌*◌, ◌^◌, ◌<◌, ◌≤◌, inl, inr, Bool, List, [], ◌∷◌, ◌++◌, length, take, Option, Some, None, option_map, arith, append_assoc, length-append, refl, sym, ◌∙◌, ap, subst}
+use Rattle.std.proofs.Common.{◌≡◌, ℕ, ◌+◌, ◌*◌, ◌^◌, ◌<◌, ◌≤◌, inl, inr, Bool, List, [], ◌∷◌, ◌++◌, length, take, All, Option, Some, None, option_map, arith, append_assoc, length-append, refl, sym, ◌∙◌, ap, subst}
 use Rattle.std.proofs.lemmas.Bool.{cases_lt}
 use Rattle.std.proofs.lemmas.List.{append-nil, take-append-le, take_all}
 use Rattle.symbol_map.specs.declared.sample.Sample.{Sample}
@@ -16,7 +16,7 @@ use Rattle.exact_decoder.specs.declared.choice.Choice.{Choice}
 use Rattle.exact_decoder.specs.Columns.{choice_at, branch_of, sums_at, branches_at, new_sums_at, tail_at, longer}
 use Rattle.exact_decoder.specs.Tails.{IsParted}
 use Rattle.exact_decoder.specs.Kept.{Kept, KeepsSurvivors, Stepped, Released}
-use Rattle.exact_decoder.specs.Decoder.{Decoding, DecoderStands, heard}
+use Rattle.exact_decoder.specs.Decoder.{Decoding, IsSound, DecoderStands, heard}
 use Rattle.exact_decoder.proofs.Advanced.{within_choices}
 
 -- the paths and sums may be written otherwise
@@ -189,3 +189,17 @@ stands-stays table points depth starts sample d samples taken symbol e h = recor
 
     same : heard d.lost (samples ++ sample ∷ []) ≡ heard d.lost samples
     same = ap (λ o. heard o (samples ++ sample ∷ [])) e ∙ take-append-le (symbol + 1) samples (sample ∷ []) (omega (arith, was.within)) ∙ sym (ap (λ o. heard o samples) e)
+
+-- what holds whatever was pushed
+pub sound-next : (labels depth : ℕ) (old new : Decoding) (between : Kept) → IsSound labels depth old → old.count < 2 ^ 56 → old.pending ≡ [] → old.lost ≡ None → new.count ≡ old.count + 1 → between.unreleased ≡ old.survivors.unreleased + 1
+    → ((bound : ℕ) → ((s m : ℕ) → sums_at old.survivors.sums s ≡ Some m → m ≤ bound) → (s m : ℕ) → sums_at between.sums s ≡ Some m → m ≤ bound + 2 ^ 34)
+    → Released between old.pending new.survivors new.pending → (All (λ label. label < labels) old.pending → All (λ label. label < labels) new.pending) → (new.lost ≡ None → new.survivors.unreleased ≤ depth) → IsSound labels depth new
+sound-next labels depth old new between h few none runs count more small r below room = record {
+  low = h.low;
+  high = h.high;
+  few = omega arith;
+  small = λ s m e. omega (arith, small (old.count * 2 ^ 34) h.small s m (subst (λ l. sums_at l s ≡ Some m) r.sums_stay e), count);
+  room = room;
+  few_pending = omega (arith, ap length r.pending_is, length-append {A = ℕ} old.pending r.labels, ap length none, r.count, more, h.room runs);
+  pending_below = below h.pending_below;
+}
