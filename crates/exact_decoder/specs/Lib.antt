@@ -8,3 +8,4 @@ pub mod Columns
 pub mod Tails
 pub mod Kept
 pub mod Decoder
+pub mod Signs
