@@ -1,0 +1,3 @@
+mod Registers
+mod Readings
+mod Answered

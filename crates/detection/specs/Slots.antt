@@ -1,5 +1,5 @@
 -- Slots that carry patterns, ones or flags.
-use Rattle.std.specs.Prelude.{ℕ, zero, suc, ◌-◌, Bool, List, ◌++◌, map, Option}
+use Rattle.std.specs.Prelude.{ℕ, zero, suc, ◌-◌, Bool, List, [], ◌++◌, map, Option}
 use Rattle.detection.specs.declared.seen.Seen.{Seen}
 use Rattle.detection.specs.Patterns.{first, second, ones}
 use Rattle.bit_stuffing.specs.Slots.{Slot, sent_bits}
