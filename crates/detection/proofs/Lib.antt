@@ -1,3 +1,4 @@
 mod Registers
 mod Readings
 mod Answered
+mod Written

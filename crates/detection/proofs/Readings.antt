@@ -149,7 +149,27 @@ some-twice seen left bits (Some last) h g = (
 )
 
 -- the gaps of two whole patterns
+
+abbrev pub at_first : Seen → ℕ → List Bool → List Bool
+at_first seen gap rest = ones gap ++ (reverse (first seen) ++ rest)
+
+abbrev pub at_second : Seen → ℕ → List Bool → List Bool
+at_second seen gap rest = ones gap ++ (reverse (second seen) ++ rest)
+
+first-gap : (seen : Seen) (g h : ℕ) (rest other : List Bool) → IsGap g → IsGap h → at_first seen g rest ≡ at_first seen h other → (g ≡ h) × (rest ≡ other)
+first-gap seen g h rest other g_in h_in same =
+    first-once seen 17 17 (at_first seen g rest) rest other (record { gap = g; low = g_in.low; high = g_in.high; ends = refl }) (record { gap = h; low = h_in.low; high = h_in.high; ends = same })
+
+second-gap : (seen : Seen) (g h : ℕ) (rest other : List Bool) → IsGap g → IsGap h → at_second seen g rest ≡ at_second seen h other → (g ≡ h) × (rest ≡ other)
+second-gap seen g h rest other g_in h_in same =
+    second-once seen 17 17 (at_second seen g rest) rest other (record { gap = g; low = g_in.low; high = g_in.high; ends = refl }) (record { gap = h; low = h_in.low; high = h_in.high; ends = same })
+
 pub gaps-once : (seen : Seen) (bits : List Bool) (x y : EndsPattern seen bits) → (x.a ≡ y.a) × (x.b ≡ y.b) × (x.e ≡ y.e)
 gaps-once seen bits x y =
-    let c = pattern-chain seen bits x in
-    ?
+    let eight : IsGap 8 = record { low = lit≤ tt; high = lit≤ tt } in
+    let same : backwards seen x.a x.b x.e (reverse x.before) ≡ backwards seen y.a y.b y.e (reverse y.before) =
+    sym (reverse-twice seen x.a x.b x.e x.before) ∙ ap reverse (sym x.ends ∙ y.ends) ∙ reverse-twice seen y.a y.b y.e y.before in
+    let last = second-gap seen 8 8 (at_first seen x.e (at_second seen x.b (at_first seen x.a (reverse x.before)))) (at_first seen y.e (at_second seen y.b (at_first seen y.a (reverse y.before)))) eight eight same in
+    let third = first-gap seen x.e y.e (at_second seen x.b (at_first seen x.a (reverse x.before))) (at_second seen y.b (at_first seen y.a (reverse y.before))) x.e_gap y.e_gap last.1 in
+    let next = second-gap seen x.b y.b (at_first seen x.a (reverse x.before)) (at_first seen y.a (reverse y.before)) x.b_gap y.b_gap third.1 in
+    let front = first-gap seen x.a y.a (reverse x.before) (reverse y.before) x.a_gap y.a_gap next.1 in (front.0, next.0, third.0)
