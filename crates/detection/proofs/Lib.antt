@@ -2,3 +2,7 @@ mod Registers
 mod Readings
 mod Answered
 mod Written
+mod Sightings
+mod Calm
+mod Twice
+mod Borders
