@@ -8,7 +8,7 @@ use Rattle.bit_stuffing.specs.Slots.Slot.{Plain, Flags}
 use Rattle.bit_stuffing.proofs.Sizes.{length-slot_bits}
 use Rattle.detection.specs.declared.seen.Seen.{Seen}
 use Rattle.detection.specs.declared.seen.Seen.TheVariants.{Odp, Adp}
-use Rattle.detection.specs.Patterns.{first, ones, twice, EndsPattern}
+use Rattle.detection.specs.Patterns.{second, ones, twice, EndsPattern}
 use Rattle.detection.specs.Slots.{Signal, patterns, pattern_bits, slot_of, slots_of}
 use Rattle.detection.specs.Slots.Signal.{PatternSlot, MarkSlot, FlagSlot}
 use Rattle.detection.proofs.Calm.{Calm, calm-behind, no_eight, no_eight-at, slot-begins, slot-calm}
@@ -105,13 +105,96 @@ module _ (past : List Bool) (phase : ℕ) (h : Ended past phase) (seen : Seen) (
 -- no pattern ends in a flag slot
 pub none-in_flags : (size phase : ℕ) (frame : Option (List ℕ)) (past : List Bool) → Ended past phase → (p : ℕ) → 0 < p → p ≤ length (slot_bits size phase (Flags frame)) → (seen : Seen)
     → EndsPattern seen (past ++ take p (slot_bits size phase (Flags frame))) → ⊥
-none-in_flags size phase frame past h p low high seen x = each (split-ends h.front (take phase flag ++ take p line) (x.before ++ (before_last seen x.a x.b x.e ++ second_of)) (ones 8) ?)
+none-in_flags size phase frame past h p low high seen x = in_line (slot_bits size phase (Flags frame)) (slot-begins size phase frame) (slot-calm size phase frame) high x
+  where
+    in_line : (line : List Bool) → (rest : List Bool) × (take phase flag ++ line ≡ false ∷ rest) → Calm (take phase flag ++ line) 6 → p ≤ length line → EndsPattern seen (past ++ take p line) → ⊥
+    in_line line begins calm high x = each (split-ends h.front (take phase flag ++ take p line) (x.before ++ (before_last seen x.a x.b x.e ++ second seen)) (ones 8) same)
+      where
+        same : h.front ++ (take phase flag ++ take p line) ≡ (x.before ++ (before_last seen x.a x.b x.e ++ second seen)) ++ ones 8
+        same =
+            sym (append_assoc h.front (take phase flag) (take p line)) ∙ ap (λ l. l ++ take p line) (sym h.cut) ∙ x.ends
+            ∙ sym (append_assoc x.before (before_last seen x.a x.b x.e ++ second seen) (ones 8))
+
+        whole : (take phase flag ++ take p line) ++ drop p line ≡ take phase flag ++ line
+        whole = append_assoc (take phase flag) (take p line) (drop p line) ∙ ap (λ l. take phase flag ++ l) (take-append-drop p line)
+
+        some : 0 < length (take phase flag ++ take p line)
+        some = omega (arith, low, length-append {A = Bool} (take phase flag) (take p line), length-take-le p line high)
+
+        zero_first : get_or (take phase flag ++ take p line) 0 false ≡ false
+        zero_first = sym (get_or_append_left (take phase flag ++ take p line) (drop p line) false 0 some) ∙ ap (λ l. get_or l 0 false) (whole ∙ begins.1)
+
+        each : Longer h.front (take phase flag ++ take p line) (x.before ++ (before_last seen x.a x.b x.e ++ second seen)) (ones 8) ⊎ Over h.front (take phase flag ++ take p line) (x.before ++ (before_last seen x.a x.b x.e ++ second seen)) (ones 8) → ⊥
+        each (inl w) = no_eight w.more (drop p line) (subst (λ l. Calm l 6) (sym whole ∙ ap (λ l. l ++ drop p line) w.bits_is ∙ append_assoc w.more (ones 8) (drop p line)) calm)
+        each (inr w) =
+            let none : length w.lead + 0 ≡ length w.lead = omega arith in
+            let few : length w.lead < 8 = omega (arith, ap length w.text_is, length-append {A = Bool} w.lead (take phase flag ++ take p line), some) in
+            let one : get_or (ones 8) (length w.lead) false ≡ true = get_or-replicate 8 (length w.lead) true false few in
+            let zero_there : get_or (ones 8) (length w.lead) false ≡ false =
+            ap (λ l. get_or l (length w.lead) false) w.text_is ∙ ap (λ i. get_or (w.lead ++ (take phase flag ++ take p line)) i false) (sym none) ∙ get_or-append-add w.lead (take phase flag ++ take p line) 0 false ∙ zero_first in
+            false≢true (sym zero_there ∙ one)
+
+-- nor in a mark slot
+pub none-in_marks : (size phase : ℕ) (past : List Bool) → Ended past phase → (p : ℕ) → 0 < p → p ≤ size → (seen : Seen) → EndsPattern seen (past ++ take p (ones size)) → ⊥
+none-in_marks size phase past h p low high seen x = each (split-ends past (take p (ones size)) x.before (twice seen x.a x.b x.e) x.ends)
+  where
+    wide : length (take p (ones size)) ≡ p
+    wide = length-take-le p (ones size) (omega (arith, high, length-replicate {A = Bool} size true))
+
+    one : (i : ℕ) → i < p → get_or (take p (ones size)) i false ≡ true
+    one i l = get_or-take p (ones size) i false l ∙ get_or-replicate size i true false (omega arith)
+
+    each : Longer past (take p (ones size)) x.before (twice seen x.a x.b x.e) ⊎ Over past (take p (ones size)) x.before (twice seen x.a x.b x.e) → ⊥
+    each (inl w) =
+        let none : length w.more + 0 ≡ length w.more = omega arith in
+        let room : length w.more < p = omega (arith, wide, ap length w.bits_is, length-append {A = Bool} w.more (twice seen x.a x.b x.e), length-twice seen x.a x.b x.e) in
+        let zero_there : get_or (take p (ones size)) (length w.more) false ≡ false =
+        ap (λ l. get_or l (length w.more) false) w.bits_is ∙ ap (λ i. get_or (w.more ++ twice seen x.a x.b x.e) i false) (sym none) ∙ get_or-append-add w.more (twice seen x.a x.b x.e) 0 false ∙ start-zero seen x.a x.b x.e in
+        false≢true (sym zero_there ∙ one (length w.more) room)
+    each (inr w) =
+        let short = border past phase h seen x.a x.b x.e x.a_gap.low x.a_gap.high x.b_gap.high x.e_gap.high (take p (ones size)) x.before (omega (arith, low, wide)) w in
+        let place : length w.lead + (9 + x.a - length w.lead) ≡ 9 + x.a = omega (arith, short, x.a_gap.low) in
+        let room : 9 + x.a - length w.lead < p = omega (arith, wide, short, x.a_gap.low, x.b_gap.low, x.e_gap.low, ap length w.text_is, length-append {A = Bool} w.lead (take p (ones size)), length-twice seen x.a x.b x.e) in
+        let zero_there : get_or (take p (ones size)) (9 + x.a - length w.lead) false ≡ false =
+        slot-bit past phase h seen x.a x.b x.e x.a_gap.low x.a_gap.high x.b_gap.high x.e_gap.high (take p (ones size)) x.before w (9 + x.a - length w.lead) ∙ ap (λ i. get_or (twice seen x.a x.b x.e) i false) place ∙ second-zero seen x.a x.b x.e in
+        false≢true (sym zero_there ∙ one (9 + x.a - length w.lead) room)
+
+-- the first zeros of a pattern slot
+
+first-zero : (size : ℕ) (kind : Seen) → get_or (pattern_bits size kind) 0 false ≡ false
+first-zero size Odp = refl
+first-zero size Adp = refl
+
+ninth-zero : (size : ℕ) (kind : Seen) → get_or (pattern_bits size kind) 8 false ≡ false
+ninth-zero size Odp = refl
+ninth-zero size Adp = refl
+
+-- what ends in a pattern slot stands in it
+pub inside-patterns : (size phase : ℕ) (kind : Seen) (past : List Bool) → Ended past phase → (p : ℕ) → 0 < p → p ≤ length (pattern_bits size kind) → (seen : Seen)
+    → EndsPattern seen (past ++ take p (pattern_bits size kind)) → EndsPattern seen (take p (pattern_bits size kind))
+inside-patterns size phase kind past h p low high seen x = each (split-ends past line x.before (twice seen x.a x.b x.e) x.ends)
   where
     line : List Bool
-    line = slot_bits size phase (Flags frame)
+    line = take p (pattern_bits size kind)
 
-    second_of : List Bool
-    second_of = []
+    wide : length (take p (pattern_bits size kind)) ≡ p
+    wide = length-take-le p (pattern_bits size kind) high
 
-    each : Longer h.front (take phase flag ++ take p (slot_bits size phase (Flags frame))) (x.before ++ (before_last seen x.a x.b x.e ++ second_of)) (ones 8) ⊎ Over h.front (take phase flag ++ take p (slot_bits size phase (Flags frame))) (x.before ++ (before_last seen x.a x.b x.e ++ second_of)) (ones 8) → ⊥
-    each w = ?
+    each : Longer past (take p (pattern_bits size kind)) x.before (twice seen x.a x.b x.e) ⊎ Over past (take p (pattern_bits size kind)) x.before (twice seen x.a x.b x.e) → EndsPattern seen (take p (pattern_bits size kind))
+    each (inl w) = record { before = w.more; a = x.a; b = x.b; e = x.e; a_gap = x.a_gap; b_gap = x.b_gap; e_gap = x.e_gap; ends = w.bits_is }
+    each (inr w) = absurd (elim (cases_lt (length w.lead) 9) [ inl near ↦ ninth near | inr far ↦ begins far ])
+      where
+        short : length w.lead ≤ 16
+        short = border past phase h seen x.a x.b x.e x.a_gap.low x.a_gap.high x.b_gap.high x.e_gap.high (take p (pattern_bits size kind)) x.before (omega (arith, low, wide)) w
+
+        room : 52 ≤ p
+        room = omega (arith, wide, short, x.a_gap.low, x.b_gap.low, x.e_gap.low, ap length w.text_is, length-append {A = Bool} w.lead (take p (pattern_bits size kind)), length-twice seen x.a x.b x.e)
+
+        bit_at_place : (i : ℕ) → i < p → get_or (pattern_bits size kind) i false ≡ get_or (twice seen x.a x.b x.e) (length w.lead + i) false
+        bit_at_place i l = sym (get_or-take p (pattern_bits size kind) i false l) ∙ slot-bit past phase h seen x.a x.b x.e x.a_gap.low x.a_gap.high x.b_gap.high x.e_gap.high (take p (pattern_bits size kind)) x.before w i
+
+        ninth : length w.lead < 9 → ⊥
+        ninth near = false≢true (sym (ninth-zero size kind) ∙ bit_at_place 8 (omega (arith, room)) ∙ gap-ones seen x.a x.b x.e (length w.lead + 8) (omega (arith, w.some)) (omega (arith, x.a_gap.low)))
+
+        begins : 9 ≤ length w.lead → ⊥
+        begins far = false≢true (sym (first-zero size kind) ∙ bit_at_place 0 (omega (arith, room)) ∙ gap-ones seen x.a x.b x.e (length w.lead + 0) (omega arith) (omega (arith, short, x.a_gap.low)))

@@ -6,3 +6,4 @@ mod Sightings
 mod Calm
 mod Twice
 mod Borders
+mod Inside
