@@ -29,7 +29,7 @@ same-bits (false ∷ xs) (true ∷ ys) e = absurd (false≢true e)
 ends-text : (bits text : List Bool) → ends_with beq bits text ≡ true → bits ≡ take (length bits - length text) bits ++ text
 ends-text bits text e = sym (take-append-drop (length bits - length text) bits) ∙ ap (λ l. take (length bits - length text) bits ++ l) (sym (same-bits text (drop (length bits - length text) bits) e))
 
-text-ends : (bits before text : List Bool) → bits ≡ before ++ text → ends_with beq bits text ≡ true
+pub text-ends : (bits before text : List Bool) → bits ≡ before ++ text → ends_with beq bits text ≡ true
 text-ends bits before text e =
     let front : length before ≡ length bits - length text = omega (arith, ap length e, length-append {A = Bool} before text) in
     let rest : drop (length bits - length text) bits ≡ text = ap (drop (length bits - length text)) e ∙ drop_at before text (length bits - length text) front in
