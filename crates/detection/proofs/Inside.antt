@@ -105,6 +105,9 @@ rest_of false b c e x y = absurd (false≢true x)
 not_below : (m n : ℕ) → n ≤ m → nat_lt m n ≡ false
 not_below m n h = grind (arith, nat_tests)
 
+below_of : (m n : ℕ) → nat_lt m n ≡ true → m < n
+below_of m n e = grind (arith, nat_tests)
+
 pub placed : (size : ℕ) (kind seen : Seen) (p : ℕ) → 552 < size → p ≤ size → EndsPattern seen (take p (pattern_bits size kind)) → (is_end p ≡ true) × (kind ≡ seen)
 placed size kind seen p long high x = elim (cases_lt p 368) [ inl early ↦ in_patterns early | inr late ↦ absurd (behind late) ]
   where
@@ -154,18 +157,15 @@ pub end-place : (p : ℕ) → is_end p ≡ true → (k : ℕ) × (k < 9) × (p �
 end-place p e =
     let r = both (nat_lt 70 p) (nat_lt p 360 && nat_eq (p % 36) 35) e in
     let s = both (nat_lt p 360) (nat_eq (p % 36) 35) r.1 in
-    let low : 70 < p = lt_of r.0 in
-    let high : p < 360 = lt_of s.0 in
+    let low : 70 < p = below_of 70 p r.0 in
+    let high : p < 360 = below_of p 360 s.0 in
     let rem : p % 36 ≡ 35 = eqb-true (p % 36) 35 s.1 in
     ((p - 71) / 36, omega arith, omega arith)
-  where
-    lt_of : {m n : ℕ} → nat_lt m n ≡ true → m < n
-    lt_of h = ?
 
 -- as a list
 
 own-late : (kind : Seen) (p : ℕ) → 368 < p → own kind p ≡ None
-own-late kind p h = let late = not_below p 360 (omega arith) in each (nat_lt 70 p)
+own-late kind p h = each (nat_lt 70 p)
   where
     late : nat_lt p 360 ≡ false
     late = not_below p 360 (omega arith)

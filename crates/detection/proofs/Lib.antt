@@ -7,3 +7,4 @@ mod Calm
 mod Twice
 mod Borders
 mod Inside
+mod Sent
