@@ -12,4 +12,4 @@ pub returns : goal.returns
 returns c = λ width recent wide h.
     let later = subst (λ (l : List Bool). LeftBehind width l c.args.most recent (Some c.in_ok-rest.rest)) c.second.ensures.bits (c.in_ok-rest.ensures width recent (omega arith) h) in
     some-once width c.args.seen c.args.most c.in_ok-rest.rest recent c.before_character-2.result wide later
-        (λ wide middle room g. subst (λ (l : List Bool). LeftBehind wide l 17 middle c.before_character-2.result) c.first.ensures.bits (c.before_character-2.ensures wide middle room g))
+    (λ wide middle room g. subst (λ (l : List Bool). LeftBehind wide l 17 middle c.before_character-2.result) c.first.ensures.bits (c.before_character-2.ensures wide middle room g))
