@@ -8,3 +8,4 @@ mod Twice
 mod Borders
 mod Inside
 mod Sent
+mod Worked

@@ -1,17 +1,19 @@
 -- What is seen in slots is what was sent in them.
-use Rattle.std.proofs.Common.{◌≡◌, ℕ, zero, suc, ◌+◌, ◌*◌, ◌<◌, ◌≤◌, Bool, true, false, if◌then◌else◌, List, [], ◌∷◌, ◌++◌, length, take, map, Option, Some, None, arith, append_assoc, refl, sym, ◌∙◌, ap, subst}
+use Rattle.std.proofs.Common.{◌≡◌, ℕ, zero, suc, ◌+◌, ◌*◌, ◌<◌, ◌≤◌, Bool, true, false, if◌then◌else◌, List, [], ◌∷◌, ◌++◌, All, length, take, map, Option, Some, None, arith, append_assoc, refl, sym, ◌∙◌, ap, subst}
 use Rattle.std.proofs.lemmas.Bool.{false≢true}
 use Rattle.std.proofs.lemmas.List.{map-append, length-replicate}
-use Rattle.bit_stuffing.specs.Slots.{slot_bits, sent_bits, phase_after, IsSlot, AreSlots}
+use Rattle.std.proofs.lemmas.List.Elements.{All-head, All-tail}
+use Rattle.bit_stuffing.specs.Slots.{slot_bits, sent_bits, next_phase, phase_after, IsSlot, AreSlots}
 use Rattle.bit_stuffing.specs.Slots.Slot.{Plain, Flags}
-use Rattle.bit_stuffing.proofs.Fill.{bits-append}
-use Rattle.bit_stuffing.proofs.Sizes.{length-slot_bits}
+use Rattle.bit_stuffing.proofs.Fill.{bits-append, next-low}
+use Rattle.bit_stuffing.proofs.Sizes.{length-slot_bits, length-empty, length-opening}
 use Rattle.detection.specs.declared.seen.Seen.{Seen}
 use Rattle.detection.specs.Patterns.{EndsPattern, IsSeen, seen_at}
-use Rattle.detection.specs.Slots.{Signal, pattern_bits, slot_of, slots_of, signal_bits}
+use Rattle.detection.specs.Slots.{Signal, CanCarry, pattern_bits, slot_of, slots_of, signal_bits}
 use Rattle.detection.specs.Slots.Signal.{PatternSlot, MarkSlot, FlagSlot}
 use Rattle.detection.specs.Sights.{sights_of, seen_in, EndsInSlot, IsSent}
 use Rattle.detection.proofs.Answered.{seen-once}
+use Rattle.detection.proofs.Written.{pattern-plain, mark-plain}
 use Rattle.detection.proofs.Sightings.{ranged, ranged-none, sights-ranged}
 use Rattle.detection.proofs.Borders.{Ended, ended-start, ended-all, are-split, none-in_flags, none-in_marks, inside-patterns}
 use Rattle.detection.proofs.Inside.{is_end, own, placed, ends-there, end-place, own-sights, length-pattern_bits}
@@ -111,3 +113,17 @@ module _ (size : ℕ) (before : List Signal) (signal : Signal) (long : 552 < siz
       ∙ sym (seen-once (past ++ take p (slot_bits size (phase_after size (slots_of size before)) (slot_of size signal))) (own_of signal p) (seen-in_slot size (phase_after size (slots_of size before)) past signal long ended parts.1 p low high)))
       ∙ ap (λ n. sights_of past ++ ranged (own_of signal) (length past) n) wide
       ∙ ap (λ l. sights_of past ++ l) (own-all (length past))
+
+-- slots of any kinds
+pub can-follow : (size phase : ℕ) (signals : List Signal) → 552 < size → phase < 8 → All (CanCarry size) signals → AreSlots size phase (slots_of size signals)
+can-follow size phase [] long low all = tt
+can-follow size phase (signal ∷ signals) long low all = (
+  fits signal (All-head (CanCarry size) signal signals all),
+  can-follow size (next_phase size phase (slot_of size signal)) signals long (next-low size phase (slot_of size signal)) (All-tail (CanCarry size) signal signals all),
+)
+  where
+    fits : (signal : Signal) → CanCarry size signal → IsSlot size phase (slot_of size signal)
+    fits (PatternSlot seen) can = pattern-plain size seen (omega arith)
+    fits MarkSlot can = mark-plain size (omega arith)
+    fits (FlagSlot None) can = omega (arith, length-empty phase low)
+    fits (FlagSlot (Some octets)) can = (can.0, omega (arith, can.1, length-opening phase octets low))
