@@ -1,10 +1,10 @@
 -- A pattern never reaches over a border of slots.
-use Rattle.std.proofs.Common.{◌≡◌, ◌⊎◌, inl, inr, ℕ, zero, suc, ◌+◌, ◌-◌, ◌*◌, ◌/◌, ◌%◌, ◌<◌, ◌≤◌, Bool, true, false, List, [], ◌∷◌, ◌++◌, length, get_or, take, drop, map, Option, Some, None, arith, append_assoc, length-append, length-take, refl, sym, ◌∙◌, ap, subst}
+use Rattle.std.proofs.Common.{◌≡◌, ◌⊎◌, inl, inr, ℕ, ◌+◌, ◌-◌, ◌/◌, ◌%◌, ◌<◌, ◌≤◌, Bool, true, false, List, [], ◌∷◌, ◌++◌, length, get_or, take, drop, Option, arith, append_assoc, length-append, refl, sym, ◌∙◌, ap, subst}
 use Rattle.std.proofs.lemmas.Bool.{cases_lt, false≢true}
-use Rattle.std.proofs.lemmas.List.{append-nil, take-append-drop, take-append-le, length-take-le, length-replicate, map-append, get_or-take, get_or-replicate, get_or_append_left, get_or-append_right, get_or-append-add}
+use Rattle.std.proofs.lemmas.List.{append-nil, take-append-drop, length-take-le, length-replicate, get_or-take, get_or-replicate, get_or_append_left, get_or-append_right, get_or-append-add}
 use Rattle.bit_stuffing.specs.Flags.{flag}
-use Rattle.bit_stuffing.specs.Slots.{Slot, flags, fill, opening, slot_bits, next_phase, bits_from, phase_from, phase_after, IsSlot, AreSlots}
-use Rattle.bit_stuffing.specs.Slots.Slot.{Plain, Flags}
+use Rattle.bit_stuffing.specs.Slots.{Slot, flags, opening, slot_bits, next_phase, bits_from, phase_from, IsSlot, AreSlots}
+use Rattle.bit_stuffing.specs.Slots.Slot.{Flags}
 use Rattle.bit_stuffing.proofs.Sizes.{length-slot_bits}
 use Rattle.detection.specs.declared.seen.Seen.{Seen}
 use Rattle.detection.specs.declared.seen.Seen.TheVariants.{Odp, Adp}

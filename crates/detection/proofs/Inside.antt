@@ -1,5 +1,5 @@
 -- Where patterns end in a pattern slot.
-use Rattle.std.proofs.Common.{◌≡◌, inl, inr, ℕ, zero, suc, ◌+◌, ◌-◌, ◌*◌, ◌/◌, ◌%◌, ◌<◌, ◌≤◌, Bool, true, false, not, ◌&&◌, ◌||◌, if◌then◌else◌, nat_eq, nat_lt, List, [], ◌∷◌, ◌++◌, length, get_or, take, drop, Option, Some, None, lit≤, arith, append_assoc, length-append, refl, sym, ◌∙◌, ap, subst}
+use Rattle.std.proofs.Common.{◌≡◌, inl, inr, ℕ, zero, suc, ◌+◌, ◌-◌, ◌*◌, ◌/◌, ◌%◌, ◌<◌, ◌≤◌, Bool, true, false, not, ◌&&◌, ◌||◌, if◌then◌else◌, nat_eq, nat_lt, List, ◌++◌, length, get_or, take, Option, Some, None, lit≤, arith, append_assoc, length-append, refl, sym, ◌∙◌, ap}
 use Rattle.std.specs.Bool.{beq}
 use Rattle.std.specs.List.{ends_with}
 use Rattle.std.specs.Cmp.Lexicographic.{pointwise}
@@ -9,8 +9,8 @@ use Rattle.std.proofs.lemmas.List.{take-append-le, length-take-le, length-replic
 use Rattle.detection.specs.declared.seen.Seen.{Seen}
 use Rattle.detection.specs.declared.seen.Seen.TheVariants.{Odp, Adp}
 use Rattle.detection.specs.Patterns.{second, ones, twice, EndsPattern, IsGap}
-use Rattle.detection.specs.Slots.{pattern, patterns, pattern_bits}
-use Rattle.detection.specs.Sights.{Sight, sights_from}
+use Rattle.detection.specs.Slots.{patterns, pattern_bits}
+use Rattle.detection.specs.Sights.{sights_from}
 use Rattle.detection.proofs.Answered.{same-bits, text-ends}
 use Rattle.detection.proofs.Written.{ones-append}
 use Rattle.detection.proofs.Sightings.{ranged, ranged-quiet}

@@ -1,10 +1,9 @@
 -- What is seen in slots is what was sent in them.
-use Rattle.std.proofs.Common.{◌≡◌, ℕ, zero, suc, ◌+◌, ◌*◌, ◌<◌, ◌≤◌, Bool, true, false, if◌then◌else◌, List, [], ◌∷◌, ◌++◌, All, length, take, map, Option, Some, None, arith, append_assoc, refl, sym, ◌∙◌, ap, subst}
+use Rattle.std.proofs.Common.{◌≡◌, ℕ, suc, ◌+◌, ◌<◌, ◌≤◌, Bool, true, false, if◌then◌else◌, List, [], ◌∷◌, ◌++◌, All, length, take, Option, Some, None, arith, append_assoc, refl, sym, ◌∙◌, ap, subst}
 use Rattle.std.proofs.lemmas.Bool.{false≢true}
 use Rattle.std.proofs.lemmas.List.{map-append, length-replicate}
 use Rattle.std.proofs.lemmas.List.Elements.{All-head, All-tail}
 use Rattle.bit_stuffing.specs.Slots.{slot_bits, sent_bits, next_phase, phase_after, IsSlot, AreSlots}
-use Rattle.bit_stuffing.specs.Slots.Slot.{Plain, Flags}
 use Rattle.bit_stuffing.proofs.Fill.{bits-append, next-low}
 use Rattle.bit_stuffing.proofs.Sizes.{length-slot_bits, length-empty, length-opening}
 use Rattle.detection.specs.declared.seen.Seen.{Seen}

@@ -1,8 +1,5 @@
-use Rattle.std.proofs.Common.{◌≡◌, lit≤, sym, subst}
-use Rattle.std.specs.Bool.{IsTrue}
+use Rattle.std.proofs.Common.{lit≤}
 use Rattle.std.proofs.lemmas.Bool.{false≢true}
-use Rattle.detection.specs.Patterns.{EndsPattern}
-use Rattle.detection.specs.Reader.{LeftBehindOnce}
 use Rattle.detection.proofs.Readings.{none-twice, some-twice}
 use Rattle.detection.proofs.reader.ends_pattern.Goals as goal
 

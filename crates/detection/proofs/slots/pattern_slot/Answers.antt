@@ -1,5 +1,4 @@
 use Rattle.std.proofs.Common.{◌≡◌, ◌-◌, ◌*◌, ◌++◌, length, arith, sym, ◌∙◌, ap, subst}
-use Rattle.bit_stuffing.specs.BitSlot.{line_bits}
 use Rattle.bit_stuffing.specs.Slots.{IsPlain}
 use Rattle.detection.specs.Patterns.{ones}
 use Rattle.detection.specs.Slots.{pattern, patterns}

@@ -1,6 +1,5 @@
-use Rattle.std.proofs.Common.{ℕ, ◌≡◌, Bool, List, false, true, [], ◌∷◌, ◌++◌, Some, None, rules, sym, ◌∙◌, subst}
+use Rattle.std.proofs.Common.{ℕ, Bool, List, [], ◌∷◌, ◌++◌, rules, sym, ◌∙◌, subst}
 use Rattle.std.proofs.lemmas.Bool.{false≢true}
-use Rattle.detection.specs.declared.seen.Seen.TheVariants.{Odp, Adp}
 use Rattle.detection.specs.Patterns.{IsSeen}
 use Rattle.detection.specs.Reader.{ReaderStands}
 use Rattle.detection.proofs.Registers.{reader-shifted}
