@@ -1,0 +1,5 @@
+pub mod Signals
+pub mod Recorded
+pub mod Received
+pub mod Outcomes
+pub mod Line
