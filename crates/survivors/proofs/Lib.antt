@@ -1,0 +1,4 @@
+pub mod Snoc
+pub mod Bellman
+pub mod Release
+pub mod Columns
