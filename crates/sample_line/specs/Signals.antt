@@ -1,12 +1,14 @@
 -- The slot of bits in which what an end sends goes over the line.
-use Rattle.std.specs.Prelude.{ℕ, ◌%◌, if◌then◌else◌, nat_eq, List, Option, Some, None, slice_index_or}
+use Rattle.std.specs.Prelude.{ℕ, ◌%◌, ◌-◌, ◌*◌, ◌≤◌, length, if◌then◌else◌, nat_eq, List, Option, Some, None, slice_index_or}
 use Rattle.frame_check.specs.declared.check.Check.{Check}
 use Rattle.frame_check.specs.declared.check.Check.TheVariants.{Sixteen}
 use Rattle.frame_check.specs.Division.{with_check}
 use Rattle.lapm_frames.specs.declared.frame.Role.{Role}
 use Rattle.lapm_frames.specs.declared.frame.Frame.{Frame}
 use Rattle.lapm_frames.specs.declared.frame.Frame.TheVariants.{I, Rr, Rnr, Rej, Srej, Sabme, Disc, Ua, Dm, Frmr, Ui, Xid, Test}
-use Rattle.lapm_frames.specs.Frame.{spelled}
+use Rattle.lapm_frames.specs.Frame.{spelled, IsFrame}
+use Rattle.bit_stuffing.specs.declared.slot_writer.TheConstants.{TAIL}
+use Rattle.bit_stuffing.specs.Slots.{opening}
 use Rattle.detection.specs.declared.seen.Seen.TheVariants as seen
 use Rattle.detection.specs.Slots.{Signal}
 use Rattle.detection.specs.Slots.Signal.{PatternSlot, MarkSlot, FlagSlot}
@@ -44,3 +46,11 @@ signal_of check sender dlci sent.Odp = PatternSlot seen.Odp
 signal_of check sender dlci sent.Adp = PatternSlot seen.Adp
 signal_of check sender dlci sent.Flags = FlagSlot None
 signal_of check sender dlci (sent.Frame frame) = FlagSlot (Some (checked check sender dlci frame))
+
+-- What fits a slot of so many symbols, behind so many bits of an unfinished flag.
+abbrev pub IsCodable : Check → Role → ℕ → ℕ → ℕ → Sent → Type 0
+IsCodable check sender dlci symbols phase sent.Mark = Unit {0}
+IsCodable check sender dlci symbols phase sent.Odp = Unit {0}
+IsCodable check sender dlci symbols phase sent.Adp = Unit {0}
+IsCodable check sender dlci symbols phase sent.Flags = Unit {0}
+IsCodable check sender dlci symbols phase (sent.Frame frame) = IsFrame frame × (length (opening phase (Some (checked check sender dlci frame))) ≤ 4 * (symbols - TAIL))
