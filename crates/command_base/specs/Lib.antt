@@ -1,0 +1,6 @@
+pub mod Status
+pub mod Words
+pub mod Inputs
+pub mod Outputs
+pub mod Lines
+pub mod Tells

@@ -1,0 +1,65 @@
+-- The line that each answer says.
+use Rattle.std.specs.Prelude.{ℕ, List, [], ◌++◌, codes, decimal, slice_index_or}
+use Rattle.noise_script.specs.declared.cause.Cause.{Cause}
+use Rattle.noise_script.specs.declared.cause.Cause.TheVariants.{Word, Count, Number, Range, Repeated, Limit}
+use Rattle.xid_params.specs.declared.fault.XidFault.{XidFault}
+use Rattle.xid_params.specs.declared.fault.XidFault.TheVariants as xid
+use Rattle.command_base.specs.declared.status.Status.{Status}
+use Rattle.command_base.specs.declared.status.Status.TheVariants.{Done, Usage, BadScript, BadRecording, BadHex, BadXid, TooLong, ReadFault, WriteFault, LineLost, LinkLost, NoMemory}
+use Rattle.command_base.specs.Words.{role_word}
+
+abbrev pub cause_word : Cause → List ℕ
+cause_word Word = codes "word"
+cause_word Count = codes "count"
+cause_word Number = codes "number"
+cause_word Range = codes "range"
+cause_word Repeated = codes "repeated"
+cause_word Limit = codes "limit"
+
+-- why a field spells no offer
+abbrev pub xid_words : XidFault → List ℕ
+xid_words xid.Format = codes "format"
+xid_words (xid.Group at) = codes "group" ++ codes " at " ++ decimal at
+xid_words (xid.Length at) = codes "length" ++ codes " at " ++ decimal at
+xid_words (xid.Value at) = codes "value" ++ codes " at " ++ decimal at
+xid_words (xid.Repeated at) = codes "repeated" ++ codes " at " ++ decimal at
+
+-- ---- commands that are done
+
+abbrev pub count_line : List ℕ → ℕ → List ℕ
+count_line word number = word ++ codes " " ++ decimal number ++ codes "\n"
+
+abbrev pub done_line : ℕ → List ℕ
+done_line turn = count_line (codes "done") turn
+
+abbrev pub samples_line : ℕ → List ℕ
+samples_line samples = count_line (codes "samples") samples
+
+abbrev pub octets_line : ℕ → List ℕ
+octets_line octets = count_line (codes "octets") octets
+
+abbrev pub pieces_line : ℕ → List ℕ
+pieces_line pieces = count_line (codes "pieces") pieces
+
+-- ---- other answers
+
+abbrev pub too_long_line : List ℕ → List ℕ
+too_long_line word = codes "too long: " ++ word ++ codes "\n"
+
+-- the lines that say no word of the command line; those of Done and of Usage are said elsewhere
+abbrev pub short_line : Status → List ℕ
+short_line (BadScript line cause) = codes "bad script: line " ++ decimal line ++ codes ": " ++ cause_word cause ++ codes "\n"
+short_line (BadRecording at) = codes "bad recording: at " ++ decimal at ++ codes "\n"
+short_line (BadHex at) = codes "bad hex: at " ++ decimal at ++ codes "\n"
+short_line (BadXid fault) = codes "bad xid: " ++ xid_words fault ++ codes "\n"
+short_line ReadFault = codes "read fault\n"
+short_line WriteFault = codes "write fault\n"
+short_line (LineLost role symbol) = codes "line lost: " ++ role_word role ++ codes " symbol " ++ decimal symbol ++ codes "\n"
+short_line (LinkLost role segment turn) = codes "link lost: " ++ role_word role ++ codes " segment " ++ decimal segment ++ codes " turn " ++ decimal turn ++ codes "\n"
+short_line NoMemory = codes "no memory\n"
+short_line status = []
+
+-- the line of an answer that is neither Done nor Usage, to these words
+abbrev pub status_line : List (List ℕ) → Status → List ℕ
+status_line words (TooLong word) = too_long_line (slice_index_or words word [])
+status_line words status = short_line status

@@ -1,0 +1,30 @@
+-- What a command leaves of its outputs. What is said of a name's octets holds where the folder tells that name.
+use Rattle.std.specs.Prelude.{◌≡◌, ◌≢◌, ◌⊎◌, ℕ, ◌++◌, IsTrue, List, []}
+use Rattle.outside_core.specs.Prefix.{IsPrefixOf}
+use Rattle.outside_core.specs.Folder.{FolderState, octets_at, GoesOn, KeepsName}
+
+-- a name holds these octets
+abbrev pub Holds : FolderState → List ℕ → List ℕ → Type 0
+Holds f name octets = IsTrue (f.tells name) → octets_at f name ≡ octets
+
+-- a name holds these octets, and behind them a part of the next piece
+abbrev pub HoldsPart : FolderState → List ℕ → List ℕ → List ℕ → Type 0
+HoldsPart f name octets piece = IsTrue (f.tells name) → (part : List ℕ) × IsPrefixOf part piece × (octets_at f name ≡ octets ++ part)
+
+-- a name holds the beginning of these octets
+abbrev pub HoldsFront : FolderState → List ℕ → List ℕ → Type 0
+HoldsFront f name octets = IsTrue (f.tells name) → IsPrefixOf (octets_at f name) octets
+
+-- an output that was to be created is as it was, or holds no octets
+abbrev pub KeptOrEmpty : FolderState → FolderState → List ℕ → Type 0
+KeptOrEmpty old new name = KeepsName old new name ⊎ Holds new name []
+
+-- no name has changed
+abbrev pub KeepsAll : FolderState → FolderState → Type 0
+KeepsAll old new = (name : List ℕ) → KeepsName old new name
+
+-- Of all names this one alone was touched, and nothing was said.
+pub record OnlyOutput (old new : FolderState) (output : List ℕ) : Type 0 where
+  pub goes_on : GoesOn old new
+  pub names : (other : List ℕ) → other ≢ output → KeepsName old new other
+  pub said : new.said ≡ old.said

@@ -1,0 +1,27 @@
+-- Exit statuses.
+use Rattle.std.specs.Prelude.{ℕ}
+use Rattle.command_base.specs.declared.status.Status.{Status}
+use Rattle.command_base.specs.declared.status.Status.TheVariants.{Done, Usage, BadScript, BadRecording, BadHex, BadXid, TooLong, ReadFault, WriteFault, LineLost, LinkLost, NoMemory}
+
+abbrev pub code_of : Status → ℕ
+code_of Done = 0
+code_of Usage = 2
+code_of (BadScript line cause) = 3
+code_of (BadRecording at) = 3
+code_of (BadHex at) = 3
+code_of (BadXid fault) = 3
+code_of (TooLong word) = 4
+code_of ReadFault = 5
+code_of WriteFault = 6
+code_of (LineLost role symbol) = 7
+code_of (LinkLost role segment turn) = 9
+code_of NoMemory = 11
+
+-- input that is refused before anything is written
+abbrev pub IsRefusal : Status → Type 0
+IsRefusal Usage = Unit {0}
+IsRefusal (BadScript line cause) = Unit {0}
+IsRefusal (BadHex at) = Unit {0}
+IsRefusal (BadXid fault) = Unit {0}
+IsRefusal (TooLong word) = Unit {0}
+IsRefusal status = ⊥

@@ -1,0 +1,23 @@
+//! What every command of the modem has in common: how it ends ([`Status`]), the line that it then says ([`tell`],
+//! [`tell_status`]), the limits of inputs, and single steps over a folder's inputs and outputs. A pure function of the
+//! values and of the folder that are handed in.
+#![tactic(auto)]
+
+mod input;
+mod limits;
+mod lines;
+mod output;
+mod status;
+mod telling;
+mod words;
+
+pub use input::{is_longer, read_file, read_piece};
+pub use limits::{FILE_LIMIT, HEX_LIMIT, RECORDING_LIMIT, RUN_FILE_LIMIT, SCRIPT_LIMIT};
+pub use lines::{LINE, Line, write_count, write_done, write_octets, write_pieces, write_samples};
+pub use output::{append_output, create_output};
+pub use status::Status;
+pub use telling::{tell, tell_status};
+pub use words::role_of;
+
+#[cfg(test)]
+mod tests;

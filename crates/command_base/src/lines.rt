@@ -1,0 +1,177 @@
+// The lines that answers say.
+ghost use Rattle.std.specs.Prelude.{◌≡◌, ◌≤◌, ◌+◌, ◌++◌, length, decimal, codes};
+ghost use Rattle.command_base.specs.Words.{role_word};
+ghost use Rattle.command_base.specs.Lines.{cause_word, xid_words, count_line, done_line, samples_line, octets_line, pieces_line, short_line};
+
+use crate::Status;
+use frame_check::Octets;
+use itoa::Buffer;
+use lapm_frames::Role;
+use noise_script::Cause;
+use xid_params::XidFault;
+
+/// The most octets of a line that says no word of the command line.
+pub const LINE: usize = 96;
+
+/// A line that is to be said, with the line feed at its end.
+pub type Line = Octets<LINE>;
+
+/// Puts a number behind the line, in decimal digits.
+fn put_number(line: &mut Line, number: u64)
+    requires { length line.old + 20 ≤ LINE }
+    ensures text { line.new ≡ line.old ++ decimal number }
+    ensures room { length line.new ≤ length line.old + 20 }
+{
+    let mut buffer = Buffer::new();
+    line.extend(buffer.format(number).as_bytes());
+}
+
+fn role_text(role: Role) -> &'static str
+    ensures text { result.now ≡ role_word role }
+    ensures short { length result.now ≤ 4 }
+{
+    match role {
+        Role::Originator => "orig",
+        Role::Answerer => "answ",
+    }
+}
+
+fn cause_text(cause: Cause) -> &'static str
+    ensures text { result.now ≡ cause_word cause }
+    ensures short { length result.now ≤ 8 }
+{
+    match cause {
+        Cause::Word => "word",
+        Cause::Count => "count",
+        Cause::Number => "number",
+        Cause::Range => "range",
+        Cause::Repeated => "repeated",
+        Cause::Limit => "limit",
+    }
+}
+
+/// Puts a word, and the number of a place behind it.
+fn put_place(line: &mut Line, word: &str, at: usize)
+    requires { length line.old + length word.now + 24 ≤ LINE }
+    ensures text { line.new ≡ line.old ++ word.now ++ codes " at " ++ decimal at }
+    ensures room { length line.new ≤ length line.old + length word.now + 24 }
+{
+    line.extend(word.as_bytes());
+    line.extend(b" at ");
+    put_number(line, at as u64);
+}
+
+/// Puts why a field spells no offer.
+fn put_xid_fault(line: &mut Line, fault: XidFault)
+    requires { length line.old + 32 ≤ LINE }
+    ensures text { line.new ≡ line.old ++ xid_words fault }
+    ensures room { length line.new ≤ length line.old + 32 }
+{
+    match fault {
+        XidFault::Format => line.extend(b"format"),
+        XidFault::Group { at } => put_place(line, "group", at),
+        XidFault::Length { at } => put_place(line, "length", at),
+        XidFault::Value { at } => put_place(line, "value", at),
+        XidFault::Repeated { at } => put_place(line, "repeated", at),
+    }
+}
+
+/// The line of a word and a number.
+pub fn write_count(word: &str, number: u64) -> Line
+    requires { length word.now ≤ 8 }
+    ensures { result ≡ count_line word.now number }
+{
+    let mut line = Line::new();
+    line.extend(word.as_bytes());
+    line.extend(b" ");
+    put_number(&mut line, number);
+    line.extend(b"\n");
+    line
+}
+
+/// The line of a run that is done, with its last turn.
+pub fn write_done(turn: u64) -> Line
+    ensures { result ≡ done_line turn }
+{
+    write_count("done", turn)
+}
+
+/// The line of a recording that is written, with the number of its samples.
+pub fn write_samples(samples: u64) -> Line
+    ensures { result ≡ samples_line samples }
+{
+    write_count("samples", samples)
+}
+
+/// The line of a recording that is read, with the number of octets found in it.
+pub fn write_octets(octets: u64) -> Line
+    ensures { result ≡ octets_line octets }
+{
+    write_count("octets", octets)
+}
+
+/// The line behind the pieces of a stream of bits, with their number.
+pub fn write_pieces(pieces: u64) -> Line
+    ensures { result ≡ pieces_line pieces }
+{
+    write_count("pieces", pieces)
+}
+
+/// The line of a status that says no word of the command line.
+pub(crate) fn write_short(status: Status) -> Line
+    ensures { result ≡ short_line status }
+{
+    let mut line = Line::new();
+    match status {
+        Status::Done | Status::Usage | Status::TooLong { .. } => {}
+        Status::BadScript {
+            line: number,
+            cause,
+        } => {
+            line.extend(b"bad script: line ");
+            put_number(&mut line, u64::from(number));
+            line.extend(b": ");
+            line.extend(cause_text(cause).as_bytes());
+            line.extend(b"\n");
+        }
+        Status::BadRecording { at } => {
+            line.extend(b"bad recording: at ");
+            put_number(&mut line, at);
+            line.extend(b"\n");
+        }
+        Status::BadHex { at } => {
+            line.extend(b"bad hex: at ");
+            put_number(&mut line, at);
+            line.extend(b"\n");
+        }
+        Status::BadXid(fault) => {
+            line.extend(b"bad xid: ");
+            put_xid_fault(&mut line, fault);
+            line.extend(b"\n");
+        }
+        Status::ReadFault => line.extend(b"read fault\n"),
+        Status::WriteFault => line.extend(b"write fault\n"),
+        Status::LineLost { role, symbol } => {
+            line.extend(b"line lost: ");
+            line.extend(role_text(role).as_bytes());
+            line.extend(b" symbol ");
+            put_number(&mut line, symbol);
+            line.extend(b"\n");
+        }
+        Status::LinkLost {
+            role,
+            segment,
+            turn,
+        } => {
+            line.extend(b"link lost: ");
+            line.extend(role_text(role).as_bytes());
+            line.extend(b" segment ");
+            put_number(&mut line, segment);
+            line.extend(b" turn ");
+            put_number(&mut line, turn);
+            line.extend(b"\n");
+        }
+        Status::NoMemory => line.extend(b"no memory\n"),
+    }
+    line
+}

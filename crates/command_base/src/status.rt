@@ -1,0 +1,55 @@
+// How a command ends.
+ghost use Rattle.std.specs.Prelude.{◌≡◌};
+
+use lapm_frames::Role;
+use noise_script::Cause;
+use xid_params::XidFault;
+
+/// How a command ends. Everything but `Done` has one cause, which the contract of the command names.
+#[derive(Clone, Copy, Debug, PartialEq, Eq)]
+pub enum Status {
+    Done,
+    /// The words are no command's.
+    Usage,
+    /// The script's first faulty line, counted from 1.
+    BadScript { line: u32, cause: Cause },
+    /// The octet of a recording that is none of a recording's, or the place where one is missing, counted from 0.
+    BadRecording { at: u64 },
+    /// The octet that is no hexadecimal digit, counted from 0, or the number of digits where that is odd.
+    BadHex { at: u64 },
+    /// The digits spell no offer.
+    BadXid(XidFault),
+    /// The input that this word names, or is, is longer than its limit. Words count from 0.
+    TooLong { word: usize },
+    ReadFault,
+    WriteFault,
+    /// What that end receives can't be followed from that symbol on, counted from 0.
+    LineLost { role: Role, symbol: u64 },
+    /// That end sent a segment as often as it may, and never heard an acknowledgement.
+    LinkLost { role: Role, segment: u64, turn: u64 },
+    NoMemory,
+}
+
+impl Status {
+    ghost use Rattle.command_base.specs.Status.{code_of};
+
+    /// The exit status.
+    pub fn code(&self) -> u8
+        ensures { result ≡ code_of self.now }
+    {
+        match self {
+            Status::Done => 0,
+            Status::Usage => 2,
+            Status::BadScript { .. }
+            | Status::BadRecording { .. }
+            | Status::BadHex { .. }
+            | Status::BadXid(_) => 3,
+            Status::TooLong { .. } => 4,
+            Status::ReadFault => 5,
+            Status::WriteFault => 6,
+            Status::LineLost { .. } => 7,
+            Status::LinkLost { .. } => 9,
+            Status::NoMemory => 11,
+        }
+    }
+}

@@ -1,0 +1,52 @@
+// Saying the line of an answer.
+ghost use Rattle.std.specs.Prelude.{map, string_bytes, OnOk, OnErr};
+ghost use Rattle.outside_core.specs.Folder.{OnlySays, HasCause, Said, PartlySaid};
+ghost use Rattle.command_base.specs.Lines.{status_line, too_long_line};
+ghost use Rattle.command_base.specs.Tells.{Tells};
+
+use crate::Status;
+use crate::lines::write_short;
+use outside_core::{Folder, FolderFault};
+
+/// Says the line of an answer. A fault then takes the place of the answer.
+pub fn tell<F: Folder>(folder: &mut F, line: &[u8], answer: Status) -> Status
+    ensures { Tells (F.state folder.old) (F.state folder.new) line.now answer result }
+{
+    match folder.say(line) {
+        Ok(()) => answer,
+        Err(FolderFault::Failed) => Status::WriteFault,
+        Err(FolderFault::NoMemory) => Status::NoMemory,
+    }
+}
+
+/// Says that an input is too long, in three pieces, so that no memory is taken for its name.
+fn say_too_long<F: Folder>(folder: &mut F, name: &str) -> Result<(), FolderFault>
+    ensures ok { OnOk result (Said (F.state folder.old) (F.state folder.new) (too_long_line name.now)) }
+    ensures err { OnErr result (PartlySaid (F.state folder.old) (F.state folder.new) (too_long_line name.now)) }
+    ensures only { OnlySays (F.state folder.old) (F.state folder.new) }
+    ensures cause { HasCause (F.state folder.old).say_faults (F.state folder.new).say_faults (F.state folder.old).refusals (F.state folder.new).refusals result }
+{
+    folder.say(b"too long: ")?;
+    folder.say(name.as_bytes())?;
+    folder.say(b"\n")
+}
+
+/// Says the line of an answer that is neither `Done` nor `Usage`.
+pub fn tell_status<F: Folder>(folder: &mut F, words: &[String], status: Status) -> Status
+    ensures { Tells (F.state folder.old) (F.state folder.new) (status_line (map string_bytes words.now) status) status result }
+{
+    match status {
+        Status::TooLong { word } => {
+            let name = match words.get(word) {
+                Some(name) => name.as_str(),
+                None => "",
+            };
+            match say_too_long(folder, name) {
+                Ok(()) => status,
+                Err(FolderFault::Failed) => Status::WriteFault,
+                Err(FolderFault::NoMemory) => Status::NoMemory,
+            }
+        }
+        _ => tell(folder, write_short(status).as_slice(), status),
+    }
+}

@@ -1,0 +1,18 @@
+//! The command `run`: two ends send each other a file over a line that loses what a script says. A pure function of the
+//! words and of the folder that are handed in. [`run_words`] reads the words, and [`run`] does what they say.
+#![tactic(auto)]
+
+mod command;
+mod ending;
+mod inputs;
+mod limits;
+mod outputs;
+mod turns;
+mod words;
+
+pub use command::run;
+pub use ending::{Ending, Refusal};
+pub use words::{RunWords, run_words};
+
+#[cfg(test)]
+mod tests;
