@@ -6,4 +6,5 @@ pub use Rattle.survivors.specs.Steps
 pub mod Choices
 pub mod Columns
 pub mod Tails
+pub mod Kept
 pub mod Decoder

@@ -4,11 +4,8 @@ ghost use Rattle.survivors.specs.Trellises.{trellis_of};
 ghost use Rattle.survivors.specs.Survivors.{IsFirstLeast};
 ghost use Rattle.exact_decoder.specs.Decoder.{DecoderStands};
 
-use crate::choice::Choice;
 use crate::labels::Labels;
-use crate::release::{least, release};
-use crate::room::{no_choices, no_labels, no_sums};
-use crate::step::step;
+use crate::survivors::Survivors;
 use crate::tail::Tail;
 use outside_core::NoMemory;
 use std::alloc::Global;
@@ -22,8 +19,8 @@ pub struct Lost {
     pub symbol: u64,
 }
 
-/// The exact decoder of a code's sequences from one state. It keeps the survivor of each state: the sum of its
-/// squared distances, and those of its labels that are not released, at most `DEPTH`.
+/// The exact decoder of a code's sequences from one state. At most `DEPTH` labels of each survivor are unreleased
+/// while the line is not lost.
 #[derive(Drop)]
 pub struct Decoder<
     C: TrellisCode<STATES, LABELS> + Drop,
@@ -32,16 +29,10 @@ pub struct Decoder<
     const DEPTH: usize,
 > {
     code: C,
-    sums: Vec<Option<u128>>,
-    tails: Vec<Labels>,
-    unreleased: usize,
+    survivors: Survivors<STATES, LABELS>,
     count: u64,
     pending: Labels,
     lost: Option<u64>,
-    // Filled anew with each sample.
-    distances: Vec<u64>,
-    choices: Vec<Option<Choice>>,
-    next: Vec<Labels>,
 }
 
 impl<
@@ -50,15 +41,13 @@ impl<
     const LABELS: usize,
     const DEPTH: usize,
 > Model for Decoder<C, STATES, LABELS, DEPTH> {
-    ghost use Rattle.std.specs.Prelude.{◌≡◌, ◌≤◌, length};
-    ghost use Rattle.exact_decoder.specs.Decoder.{Decoding, IsShaped};
+    ghost use Rattle.exact_decoder.specs.Decoder.{Decoding, IsSound};
 
     ghost Value = { Decoding };
 
-    ghost view = { λ d. record { sums = d.sums.items; tails = d.tails.items; unreleased = d.unreleased; count = d.count; pending = d.pending; lost = d.lost } };
+    ghost view = { λ d. record { survivors = d.survivors; count = d.count; pending = d.pending; lost = d.lost } };
 
-    ghost invariant = { λ d. (1 ≤ DEPTH) × (DEPTH ≤ 128) × (length d.distances.items ≡ LABELS) × (length d.choices.items ≡ STATES) × (length d.next.items ≡ STATES)
-        × IsShaped STATES LABELS DEPTH (record { sums = d.sums.items; tails = d.tails.items; unreleased = d.unreleased; count = d.count; pending = d.pending; lost = d.lost }) };
+    ghost invariant = { λ d. IsSound LABELS DEPTH (record { survivors = d.survivors; count = d.count; pending = d.pending; lost = d.lost }) };
 }
 
 impl<
@@ -81,23 +70,12 @@ impl<
         ensures pending { IfOk result (λ d. d.pending ≡ []) }
         ensures lost { IfOk result (λ d. d.lost ≡ None) }
     {
-        let mut sums = no_sums(alloc, STATES)?;
-        sums[start as usize] = Some(0);
-        let tails = no_labels(alloc, STATES)?;
-        let distances = vec![in alloc; 0; LABELS]?;
-        let choices = no_choices(alloc, STATES)?;
-        let next = no_labels(alloc, STATES)?;
         Ok(Decoder {
             code,
-            sums,
-            tails,
-            unreleased: 0,
+            survivors: Survivors::new(alloc, start)?,
             count: 0,
             pending: Labels::new(),
             lost: None,
-            distances,
-            choices,
-            next,
         })
     }
 
@@ -115,25 +93,11 @@ impl<
         if let Some(symbol) = self.lost {
             return Err(Lost { symbol });
         }
-        step(
-            &self.code,
-            sample,
-            &mut self.distances,
-            &mut self.choices,
-            &mut self.sums,
-            &self.tails,
-            &mut self.next,
-        );
-        std::mem::swap(&mut self.tails, &mut self.next);
+        self.survivors.push(&self.code, sample);
+        self.survivors.release(&mut self.pending);
         let symbol = self.count;
         self.count = symbol + 1;
-        self.unreleased = release(
-            &self.sums,
-            &mut self.tails,
-            self.unreleased + 1,
-            &mut self.pending,
-        );
-        if self.unreleased > DEPTH {
+        if self.survivors.unreleased() > DEPTH {
             self.lost = Some(symbol);
             return Err(Lost { symbol });
         }
@@ -180,7 +144,6 @@ impl<
             → IsFirstLeast (trellis_of C.table C.points starts) samples (taken ++ result) }
         ensures bound { All (λ label. label < LABELS) result }
     {
-        let best = least(&self.sums);
-        Tail::of(self.tails[best].as_slice())
+        Tail::of(self.survivors.least())
     }
 }

@@ -1,7 +1,7 @@
 // The labels of a survivor that are not released yet.
-ghost use Rattle.std.specs.Prelude.{◌≡◌, ◌≢◌, ℕ, List, ◌+◌, ◌<◌, ◌≤◌, length, drop, IfSome, MatchOption, Some, None, [], ◌∷◌, ◌++◌, slice_index_or};
-ghost use Rattle.exact_decoder.specs.Columns.{sums_at, tail_at, longer};
-ghost use Rattle.exact_decoder.specs.Tails.{BeginsWith, IsApart};
+ghost use Rattle.std.specs.Prelude.{◌≡◌, ◌≢◌, ℕ, List, ◌+◌, ◌<◌, ◌≤◌, length, drop, IfSome, MatchOption, Some, None, [], ◌∷◌, ◌++◌};
+ghost use Rattle.exact_decoder.specs.Columns.{sums_at, tail_at, choice_at, longer};
+ghost use Rattle.exact_decoder.specs.Tails.{AllFollow, BeginsWith, IsApart};
 
 use crate::choice::Choice;
 use arrayvec::ArrayVec;
@@ -106,9 +106,9 @@ fn follow(tails: &[Labels], choice: Option<Choice>, next: &mut Labels)
 /// Gives each state the labels that its choice leads to.
 pub fn follow_all(tails: &[Labels], choices: &[Option<Choice>], next: &mut [Labels])
     requires choices { length choices.now ≡ length next.old }
-    requires known { (to : ℕ) → IfSome (slice_index_or choices.now to None) (λ c. c.before < length tails.now) }
-    requires room { (to : ℕ) → IfSome (slice_index_or choices.now to None) (λ c. length (tail_at tails.now c.before) < ROOM) }
-    ensures { (to : ℕ) → to < length next.old → tail_at next.new to ≡ longer tails.now (slice_index_or choices.now to None) }
+    requires known { (to : ℕ) → IfSome (choice_at choices.now to) (λ c. c.before < length tails.now) }
+    requires room { (to : ℕ) → IfSome (choice_at choices.now to) (λ c. length (tail_at tails.now c.before) < ROOM) }
+    ensures { AllFollow tails.now choices.now next.new }
 {
     for (to, choice) in choices.iter().enumerate() {
         follow(tails, *choice, &mut next[to]);

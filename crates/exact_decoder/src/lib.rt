@@ -9,6 +9,7 @@ mod labels;
 mod release;
 mod room;
 mod step;
+mod survivors;
 mod tail;
 #[cfg(test)]
 mod tests;

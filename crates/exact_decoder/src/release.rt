@@ -1,8 +1,8 @@
 // What all survivors agree on, and the survivor of least cost.
 ghost use Rattle.std.specs.Prelude.{◌≡◌, ℕ, IsTrue, List, ◌+◌, ◌<◌, ◌≤◌, length, Some, [], ◌∷◌, ◌++◌};
 ghost use Rattle.exact_decoder.specs.Columns.{sums_at};
-ghost use Rattle.exact_decoder.specs.Tails.{EachLong, IsMoved, IsParted};
-ghost use Rattle.exact_decoder.specs.Decoder.{IsLeastSum};
+ghost use Rattle.exact_decoder.specs.Tails.{EachLong, AllLabelsBelow, IsMoved, IsParted};
+ghost use Rattle.exact_decoder.specs.Kept.{IsLeastSum};
 ghost use Rattle.exact_decoder.specs.declared.labels.TheConstants.{ROOM};
 
 use crate::labels::{Labels, common, strip};
@@ -21,6 +21,7 @@ pub fn release(
     ensures long { EachLong sums.now tails.new result }
     ensures moved { (labels : List ℕ) × (pending.new ≡ pending.old ++ labels) × (length labels + result ≡ unreleased) × IsMoved sums.now tails.old labels tails.new }
     ensures parted { IsParted sums.now tails.new }
+    ensures below { (labels : ℕ) → AllLabelsBelow labels tails.old → AllLabelsBelow labels tails.new }
 {
     let mut left = unreleased;
     while left > 0 {

@@ -1,4 +1,4 @@
-// The survivors after one sample more.
+// One sample more, over what stands at each state.
 ghost use Rattle.std.specs.Prelude.{◌≡◌, ℕ, ◌+◌, ◌<◌, ◌≤◌, ◌^◌, length, slice_index, Some, All};
 ghost use Rattle.exact_decoder.specs.Columns.{AreDistances, sums_at, new_sums_at, tail_at};
 ghost use Rattle.exact_decoder.specs.Tails.{EachLong, AllLabelsBelow, AllChosen, AllFollow};

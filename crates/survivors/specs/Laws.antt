@@ -24,7 +24,12 @@ abbrev pub SomeSurvives : Type 0
 SomeSurvives = (t : Trellis Sample) (states labels steps : ℕ) (samples : List Sample)
     → HasLaws t states labels steps → (survivor : List ℕ) × (end : ℕ) × IsSurvivor t samples survivor end
 
--- one list is released
+-- a list is released
+abbrev pub SomeIsReleased : Type 0
+SomeIsReleased = (t : Trellis Sample) (states labels steps : ℕ) (samples : List Sample)
+    → HasLaws t states labels steps → (front : List ℕ) × IsReleased t samples front
+
+-- and one alone
 abbrev pub ReleasedOnce : Type 0
 ReleasedOnce = (t : Trellis Sample) (samples : List Sample) (a b : List ℕ)
     → IsReleased t samples a → IsReleased t samples b → a ≡ b

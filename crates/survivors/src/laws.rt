@@ -1,5 +1,5 @@
 //! Laws of survivors, of what they release, and of where a line is lost. Each function's contract is a law.
-ghost use Rattle.survivors.specs.Laws.{SurvivesOnce, FrontsSurvive, EachReachedSurvives, SomeSurvives, ReleasedOnce, ReleasedStays, ReleasedIsLeast, LostOnce, LostStays};
+ghost use Rattle.survivors.specs.Laws.{SurvivesOnce, FrontsSurvive, EachReachedSurvives, SomeSurvives, SomeIsReleased, ReleasedOnce, ReleasedStays, ReleasedIsLeast, LostOnce, LostStays};
 
 /// A state has at most one survivor.
 pub fn states_have_one_survivor()
@@ -17,9 +17,10 @@ pub fn reached_states_have_survivors()
     ensures some { SomeSurvives }
 {}
 
-/// At most one list is released.
+/// Whatever the samples, one list is released.
 pub fn one_list_is_released()
-    ensures { ReleasedOnce }
+    ensures some { SomeIsReleased }
+    ensures once { ReleasedOnce }
 {}
 
 /// What is released stays a prefix of what is released later, whatever samples follow.
