@@ -24,15 +24,15 @@ sights_before bits (suc n) = sights_before bits n ++ sights_at (suc n) (seen_at 
 unfoldable pub sights_of : List Bool → List Sight
 sights_of bits = sights_before bits (length bits)
 
--- so many sights of a pattern, each 36 bits behind the one before
-abbrev pub sights_from : ℕ → ℕ → Seen → List Sight
-sights_from zero place seen = []
-sights_from (suc count) place seen = record { place = place; seen = seen } ∷ sights_from count (place + 36) seen
+-- so many sights of a pattern, each 36 bits behind the one before, from this place of a slot on
+abbrev pub sights_from : ℕ → ℕ → ℕ → Seen → List Sight
+sights_from zero start place seen = []
+sights_from (suc count) start place seen = record { place = start + place; seen = seen } ∷ sights_from count start (place + 36) seen
 
 -- What is seen in a slot before which so many bits stand: its pattern at the end of its second pattern, and so on up to its tenth. In
 -- other slots nothing is.
 abbrev pub seen_in : ℕ → Signal → List Sight
-seen_in start (PatternSlot seen) = sights_from 9 (start + 71) seen
+seen_in start (PatternSlot seen) = sights_from 9 start 71 seen
 seen_in start MarkSlot = []
 seen_in start (FlagSlot frame) = []
 

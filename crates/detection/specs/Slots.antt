@@ -1,8 +1,8 @@
 -- Slots that carry patterns, ones or flags.
-use Rattle.std.specs.Prelude.{ℕ, zero, suc, ◌-◌, Bool, List, ◌++◌, map, Option}
+use Rattle.std.specs.Prelude.{ℕ, zero, suc, ◌+◌, ◌-◌, ◌*◌, ◌/◌, ◌≤◌, Bool, List, [], ◌++◌, length, map, Option, Some, None}
 use Rattle.detection.specs.declared.seen.Seen.{Seen}
 use Rattle.detection.specs.Patterns.{first, second, ones}
-use Rattle.bit_stuffing.specs.Slots.{Slot, sent_bits}
+use Rattle.bit_stuffing.specs.Slots.{Slot, IsFrame, sent_bits}
 use Rattle.bit_stuffing.specs.Slots.Slot.{Plain, Flags}
 
 -- a pattern as it is sent: a stop bit and eight more ones stand behind each character
@@ -32,6 +32,14 @@ slot_of size (FlagSlot frame) = Flags frame
 
 abbrev pub slots_of : ℕ → List Signal → List Slot
 slots_of size signals = map (slot_of size) signals
+
+-- What a slot can carry, whatever flags came before: a frame that a deframer takes, and for which there is room. Stuffing makes a content
+-- longer by no more than a fifth.
+abbrev pub CanCarry : ℕ → Signal → Type 0
+CanCarry size (PatternSlot seen) = Unit {0}
+CanCarry size MarkSlot = Unit {0}
+CanCarry size (FlagSlot None) = Unit {0}
+CanCarry size (FlagSlot (Some octets)) = IsFrame octets × (47 + 8 * length octets + 8 * length octets / 5 ≤ size)
 
 -- the bits of all slots in order, the flag phase running on
 abbrev pub signal_bits : ℕ → List Signal → List Bool

@@ -1,10 +1,10 @@
 //! Laws over the definitions alone. The functions do nothing: each law is a contract.
-ghost use Rattle.std.specs.Prelude.{◌≡◌, ℕ, ◌+◌, ◌*◌, ◌<◌, ◌≤◌, Bool, List, [], ◌∷◌, ◌++◌, length, Option};
-ghost use Rattle.bit_stuffing.specs.Slots.{AreSlots, IsPlain};
+ghost use Rattle.std.specs.Prelude.{◌≡◌, ℕ, ◌+◌, ◌*◌, ◌<◌, ◌≤◌, All, Bool, List, [], ◌∷◌, ◌++◌, length, Option};
+ghost use Rattle.bit_stuffing.specs.Slots.{AreSlots, IsPlain, phase_after, slot_bits};
 ghost use Rattle.bit_stuffing.specs.declared.slot_writer.TheConstants.{HEAD, TAIL};
 ghost use Rattle.detection.specs.declared.seen.Seen.{Seen};
 ghost use Rattle.detection.specs.Patterns.{EndsPattern, IsSeen, ones, seen_at};
-ghost use Rattle.detection.specs.Slots.{Signal, pattern_bits, signal_bits, slots_of};
+ghost use Rattle.detection.specs.Slots.{Signal, CanCarry, pattern_bits, signal_bits, slot_of, slots_of};
 ghost use Rattle.detection.specs.Slots.Signal.{PatternSlot};
 ghost use Rattle.detection.specs.Sights.{EndsInSlot, IsSent, Sight, SightsAdded};
 ghost use Rattle.detection.specs.Sights.{seen_in, sights_at, sights_of};
@@ -38,6 +38,20 @@ pub fn sights_stay()
 pub fn patterns_are_plain()
     ensures patterns { (size : ℕ) (seen : Seen) → 4 * (HEAD + TAIL) < size → IsPlain size (pattern_bits size seen) }
     ensures marks { (size : ℕ) → 4 * (HEAD + TAIL) < size → IsPlain size (ones size) }
+{}
+
+/// Slots of any kinds may follow one another, if each can carry what it does.
+pub fn signals_are_slots()
+    ensures { (size : ℕ) (signals : List Signal) → 4 * (HEAD + TAIL) < size → All (CanCarry size) signals
+        → AreSlots size 0 (slots_of size signals) }
+{}
+
+/// One more slot comes behind those before, and so do its bits, by the flag phase behind them.
+pub fn signals_grow()
+    ensures slots { (size : ℕ) (before : List Signal) (signal : Signal) → slots_of size (before ++ signal ∷ [])
+        ≡ slots_of size before ++ slot_of size signal ∷ [] }
+    ensures bits { (size : ℕ) (before : List Signal) (signal : Signal) → signal_bits size (before ++ signal ∷ [])
+        ≡ signal_bits size before ++ slot_bits size (phase_after size (slots_of size before)) (slot_of size signal) }
 {}
 
 /// Each pattern slot has its pattern, whatever came before: it ends first at the slot's 71st bit.

@@ -1,5 +1,5 @@
 // Slots of patterns and of ones.
-ghost use Rattle.std.specs.Prelude.{◌≡◌, ◌+◌, ◌*◌, ◌<◌, ◌≤◌, [], ◌++◌, length};
+ghost use Rattle.std.specs.Prelude.{◌≡◌, ◌+◌, ◌-◌, ◌*◌, ◌<◌, ◌≤◌, All, [], ◌++◌, length};
 ghost use Rattle.bit_stuffing.specs.BitSlot.{line_bits};
 ghost use Rattle.bit_stuffing.specs.Slots.{IsPlain};
 ghost use Rattle.detection.specs.Patterns.{ones};
@@ -14,7 +14,8 @@ const PATTERNS: u16 = 10;
 
 /// The quads of a pattern: a character, nine ones, the other character and nine ones.
 fn quads(seen: Seen) -> [u8; 9]
-    ensures { line_bits result ≡ pattern seen }
+    ensures bits { line_bits result ≡ pattern seen }
+    ensures small { All (λ quad. quad < 16) result }
 {
     match seen {
         Seen::Odp => [2, 2, 14, 15, 11, 8, 12, 15, 15],
@@ -25,7 +26,8 @@ fn quads(seen: Seen) -> [u8; 9]
 /// Writes a pattern.
 fn write_pattern(seen: Seen, out: &mut BitSlot)
     requires { length out.old + 9 ≤ SLOT }
-    ensures { line_bits out.new ≡ line_bits out.old ++ pattern seen }
+    ensures bits { line_bits out.new ≡ line_bits out.old ++ pattern seen }
+    ensures count { length out.new ≡ length out.old + 9 }
 {
     for quad in quads(seen) {
         out.push(quad);
