@@ -7,7 +7,10 @@
 mod cause;
 mod entry;
 mod fault;
+mod forms;
 mod limits;
+mod lines;
+mod numbers;
 mod offset;
 mod script;
 
