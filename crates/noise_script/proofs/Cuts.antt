@@ -12,6 +12,9 @@ is_no_feed octet = not (eqb octet 10)
 abbrev pub is_no_blank : ℕ → Bool
 is_no_blank octet = not (is_blank octet)
 
+some-cons : (x : ℕ) (xs : List ℕ) → x ∷ xs ≢ []
+some-cons x xs e = cc
+
 -- one octet more passes a test
 pub passes-more : (test : ℕ → Bool) (xs : List ℕ) (i : ℕ) → i < length xs → list_all test (take i xs) ≡ true → test (get_or xs i 0) ≡ true → list_all test (take (i + 1) xs) ≡ true
 passes-more test xs i h a b = list_all_more test xs i 0 h ∙ rw (a, b) refl
@@ -53,7 +56,7 @@ line-last (x ∷ []) n h =
 line-last (x ∷ y ∷ text) n h =
     let x_not : eqb x 10 ≡ false = not-true _ (and_parts _ _ h).0 in
     let y_not : eqb y 10 ≡ false = not-true _ (and_parts _ _ (and_parts _ _ h).1).0 in
-    line-goes-on x y text x_not y_not ∙ ap (onto_first x) (line-last (y ∷ text) (λ e. cc) (and_parts _ _ h).1)
+    line-goes-on x y text x_not y_not ∙ ap (onto_first x) (line-last (y ∷ text) (some-cons _ _) (and_parts _ _ h).1)
 
 -- blanks before a line's words change nothing
 pub blank-skipped : (line : List ℕ) (i : ℕ) → i < length line → is_blank (get_or line i 0) ≡ true → words_of (drop i line) ≡ words_of (drop (i + 1) line)
@@ -89,7 +92,7 @@ word-cut (x ∷ []) rest n h e =
 word-cut (x ∷ y ∷ front) rest n h e =
     let x_not : is_blank x ≡ false = not-true _ (and_parts _ _ h).0 in
     let y_not : is_blank y ≡ false = not-true _ (and_parts _ _ (and_parts _ _ h).1).0 in
-    word-goes-on x y (front ++ rest) x_not y_not ∙ ap (onto_first x) (word-cut (y ∷ front) rest (λ e. cc) (and_parts _ _ h).1 e)
+    word-goes-on x y (front ++ rest) x_not y_not ∙ ap (onto_first x) (word-cut (y ∷ front) rest (some-cons _ _) (and_parts _ _ h).1 e)
 
 -- a line that begins in a word has an octet
 pub word-some : (line : List ℕ) → is_in_word line ≡ true → (0 < length line) × (is_blank (get_or line 0 0) ≡ false)

@@ -25,7 +25,8 @@ value-small [] h = omega arith
 value-small (x ∷ digits) h =
     let later = value-small digits (and_parts _ _ h).1 in
     let few : x ≤ 57 = leb-true x 57 (and_parts _ _ (and_parts _ _ h).0).1 in
-    rw (pow-suc 10 (length digits)) (bounded (x - 48) (10 ^ length digits) (value_of digits) (omega (arith, few)) later)
+    let low : x - 48 ≤ 9 = omega (arith, few) in
+    rw (pow-suc 10 (length digits)) (bounded (x - 48) (10 ^ length digits) (value_of digits) low later)
   where
     bounded : (a p v : ℕ) → a ≤ 9 → v < p → a * p + v < p * 10
     bounded a p v h l = grind arith

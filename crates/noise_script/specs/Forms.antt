@@ -171,3 +171,21 @@ Misspells words cause = IsUnknown words cause ⊎ (IsMiscounted words cause ⊎ 
 abbrev pub LineSays : List (List ℕ) → Option Entry → Type 0
 LineSays words None = is_passed_over words ≡ true
 LineSays words (Some entry) = SpellsLine words entry
+
+-- the first of these words spells the value, and these are the others
+pub record Reads (argument : Argument) (words : List (List ℕ)) (value : Value) (rest : List (List ℕ)) : Type 0 where
+  pub word : List ℕ
+  pub words_are : words ≡ word ∷ rest
+  pub spells : Spells argument word value
+
+-- the first of these words spells none
+pub record FailsToRead (argument : Argument) (words : List (List ℕ)) (cause : Cause) : Type 0 where
+  pub word : List ℕ
+  pub rest : List (List ℕ)
+  pub words_are : words ≡ word ∷ rest
+  pub fails : Fails argument word cause
+
+-- all these words spell what an entry of the form says
+pub record SpellsForm (form : Form) (words : List (List ℕ)) (entry : Entry) : Type 0 where
+  pub form_is : form_of entry ≡ form
+  pub each : SpellsEach (arguments_of form) words (values_of entry)

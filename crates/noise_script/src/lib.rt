@@ -12,6 +12,7 @@ mod limits;
 mod lines;
 mod numbers;
 mod offset;
+mod reading;
 mod script;
 
 pub use cause::Cause;
