@@ -29,3 +29,20 @@ pub struct Noise {
     pub amplitude: u16,
     pub seed: u64,
 }
+
+/// How many turns a slot is on the line: from the originator to the answerer, and back.
+#[derive(Clone, Copy, Debug, PartialEq, Eq)]
+pub(crate) struct Delays {
+    pub(crate) orig: u8,
+    pub(crate) answ: u8,
+}
+
+/// What one line says.
+#[derive(Clone, Copy, Debug, PartialEq, Eq)]
+pub(crate) enum Entry {
+    Delay(Delays),
+    Tries(u8),
+    Lose(Loss),
+    Hit(Hit),
+    Noise(Noise),
+}

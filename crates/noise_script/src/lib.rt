@@ -7,8 +7,12 @@
 mod cause;
 mod entry;
 mod fault;
+mod forms;
 mod limits;
+mod lines;
+mod numbers;
 mod offset;
+mod reading;
 mod script;
 
 pub use cause::Cause;
