@@ -1,0 +1,6 @@
+pub mod Offsets
+pub mod Script
+pub mod Lines
+pub mod Numbers
+pub mod Forms
+pub mod Grammar

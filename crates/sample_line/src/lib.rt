@@ -1,0 +1,17 @@
+//! One direction of the line, from the slots that an end sends to what the other end hears: a pure function of slots and of a
+//! script. [`Line`] codes slots as bits and passes them as samples to the receiver's decoder; [`Heard`] is what becomes of a slot.
+#![tactic(auto)]
+
+mod channel;
+mod checks;
+mod heard;
+mod line;
+mod receiver;
+mod tally;
+mod transmitter;
+
+pub use heard::Heard;
+pub use line::Line;
+
+#[cfg(test)]
+mod tests;
