@@ -2,3 +2,5 @@ pub mod Sums
 pub mod Cuts
 pub mod Digits
 pub mod Words
+pub mod Entries
+pub mod Progress

@@ -4,3 +4,4 @@ pub mod Lines
 pub mod Numbers
 pub mod Forms
 pub mod Grammar
+pub mod Draft

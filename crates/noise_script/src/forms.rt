@@ -1,7 +1,8 @@
 // The forms of a script's lines. A further form is a row of each function here.
 ghost use Rattle.std.specs.Prelude.{◌≡◌, ◌≢◌, IfSome, IfNone, length};
-ghost use Rattle.noise_script.specs.Forms.{row, word_of, arguments_of};
+ghost use Rattle.noise_script.specs.Forms.{row, word_of, arguments_of, most, too_many};
 
+use crate::Cause;
 use crate::limits::{HIT_LINES, LOSE_LINES, NOISE_LINES};
 
 /// A line's form, by its first word.
@@ -58,6 +59,7 @@ impl Form {
         }
     }
 
+    /// How many lines of the form there may be.
     pub(crate) fn bound(self) -> Bound
         ensures { result ≡ (row self).bound }
     {
@@ -67,6 +69,27 @@ impl Form {
             Form::Lose => Bound::AtMost(LOSE_LINES),
             Form::Hit => Bound::AtMost(HIT_LINES),
             Form::Noise => Bound::AtMost(NOISE_LINES),
+        }
+    }
+}
+
+impl Bound {
+    pub(crate) fn most(self) -> usize
+        ensures { result ≡ most self }
+    {
+        match self {
+            Bound::Once => 1,
+            Bound::AtMost(lines) => lines,
+        }
+    }
+
+    /// What is wrong with a line more than that.
+    pub(crate) fn too_many(self) -> Cause
+        ensures { result ≡ too_many self }
+    {
+        match self {
+            Bound::Once => Cause::Repeated,
+            Bound::AtMost(_) => Cause::Limit,
         }
     }
 }

@@ -5,6 +5,7 @@
 #![tactic(auto)]
 
 mod cause;
+mod draft;
 mod entry;
 mod fault;
 mod forms;
@@ -12,6 +13,7 @@ mod limits;
 mod lines;
 mod numbers;
 mod offset;
+mod reader;
 mod reading;
 mod script;
 
@@ -20,4 +22,5 @@ pub use entry::{Hit, Loss, Noise};
 pub use fault::ScriptFault;
 pub use limits::{HIT_LINES, LOSE_LINES, NOISE_LINES, OFFSET_MOST, SCRIPT_OCTETS};
 pub use offset::Offset;
+pub use reader::read_script;
 pub use script::Script;
