@@ -4,3 +4,5 @@ pub mod Digits
 pub mod Words
 pub mod Entries
 pub mod Progress
+pub mod Ranges
+pub mod Unique

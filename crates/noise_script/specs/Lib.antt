@@ -5,3 +5,4 @@ pub mod Numbers
 pub mod Forms
 pub mod Grammar
 pub mod Draft
+pub mod Laws

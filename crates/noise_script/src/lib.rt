@@ -9,6 +9,7 @@ mod draft;
 mod entry;
 mod fault;
 mod forms;
+pub mod laws;
 mod limits;
 mod lines;
 mod numbers;
@@ -24,3 +25,6 @@ pub use limits::{HIT_LINES, LOSE_LINES, NOISE_LINES, OFFSET_MOST, SCRIPT_OCTETS}
 pub use offset::Offset;
 pub use reader::read_script;
 pub use script::Script;
+
+#[cfg(test)]
+mod tests;
