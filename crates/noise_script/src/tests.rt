@@ -3,6 +3,7 @@ ghost use Rattle.noise_script.specs.declared.limits.TheConstants.{SCRIPT_OCTETS}
 
 use crate::{Cause, Offset, SCRIPT_OCTETS, ScriptFault, read_script};
 use lapm_frames::Role;
+use std::alloc::Global;
 use std::process::Abort;
 use std::test::Fail;
 
@@ -10,10 +11,11 @@ const ORIGINATOR: Role = Role::Originator;
 
 const ANSWERER: Role = Role::Answerer;
 
-fn refuses(rt: &HostRuntime, text: &[u8], line: u32, cause: Cause)
+/// Reads the text, which is refused at that line for that cause.
+fn refuses(rt: &impl Abort, alloc: Global, text: &[u8], line: u32, cause: Cause)
     requires { length text.now ≤ SCRIPT_OCTETS }
 {
-    match read_script(rt.alloc(), text) {
+    match read_script(alloc, text) {
         Ok(_) => panic!(rt; "a script"),
         Err(fault) => assert_eq!(rt; fault, ScriptFault::Line { line, cause }),
     }
@@ -21,13 +23,13 @@ fn refuses(rt: &HostRuntime, text: &[u8], line: u32, cause: Cause)
 
 #[test]
 fn first_faults(rt: HostRuntime) {
-    refuses(&rt, b"# a comment\nspeed 3\n", 2, Cause::Word);
-    refuses(&rt, b"delay 1", 1, Cause::Count);
-    refuses(&rt, b"n400 x", 1, Cause::Number);
-    refuses(&rt, b"n400 5\nn400 5\n", 2, Cause::Repeated);
-    refuses(&rt, b"k orig 0", 1, Cause::Word);
-    refuses(&rt, b"n400 5\r", 1, Cause::Number);
-    refuses(&rt, b"\n\ndelay 61 x\n", 3, Cause::Range);
+    refuses(&rt, rt.alloc(), b"# a comment\nspeed 3\n", 2, Cause::Word);
+    refuses(&rt, rt.alloc(), b"delay 1", 1, Cause::Count);
+    refuses(&rt, rt.alloc(), b"n400 x", 1, Cause::Number);
+    refuses(&rt, rt.alloc(), b"n400 5\nn400 5\n", 2, Cause::Repeated);
+    refuses(&rt, rt.alloc(), b"k orig 0", 1, Cause::Word);
+    refuses(&rt, rt.alloc(), b"n400 5\r", 1, Cause::Number);
+    refuses(&rt, rt.alloc(), b"\n\ndelay 61 x\n", 3, Cause::Range);
 }
 
 #[test]
