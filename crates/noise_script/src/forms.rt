@@ -1,4 +1,5 @@
-// The forms of a script's lines. A further form is a row of each function here.
+// The forms of a script's lines: their words, ranges and limits. A further form is a row of each function here, and a
+// function that reads it.
 ghost use Rattle.std.specs.Prelude.{◌≡◌, ◌≢◌, IfSome, IfNone, length};
 ghost use Rattle.noise_script.specs.Forms.{row, word_of, arguments_of, most, too_many};
 
@@ -21,6 +22,42 @@ pub(crate) enum Bound {
     Once,
     AtMost(usize),
 }
+
+/// What a number may be, ends included.
+#[derive(Clone, Copy, Debug, PartialEq, Eq)]
+pub(crate) struct Range {
+    pub(crate) low: u64,
+    pub(crate) high: u64,
+}
+
+pub(crate) const DELAY: Range = Range { low: 1, high: 60 };
+
+pub(crate) const TRIES: Range = Range { low: 1, high: 20 };
+
+pub(crate) const TURN: Range = Range {
+    low: 0,
+    high: 4294967295,
+};
+
+pub(crate) const COUNT: Range = Range {
+    low: 1,
+    high: 4294967295,
+};
+
+pub(crate) const SYMBOL: Range = Range {
+    low: 0,
+    high: 1099511627775,
+};
+
+pub(crate) const AMPLITUDE: Range = Range {
+    low: 0,
+    high: 32767,
+};
+
+pub(crate) const SEED: Range = Range {
+    low: 0,
+    high: u64::MAX,
+};
 
 impl Form {
     /// The form of the lines that begin with a word.
