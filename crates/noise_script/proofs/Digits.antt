@@ -23,8 +23,9 @@ value-more word i h = ap value_of (take_more word i 0 h) ∙ value-snoc (take i 
 pub value-small : (digits : List ℕ) → list_all is_digit digits ≡ true → value_of digits < 10 ^ length digits
 value-small [] h = omega arith
 value-small (x ∷ digits) h =
-    let later = value-small digits (and_parts _ _ h).1 in
-    let few : x ≤ 57 = leb-true x 57 (and_parts _ _ (and_parts _ _ h).0).1 in
+    let parts = and_parts (is_digit x) (list_all is_digit digits) h in
+    let later = value-small digits parts.1 in
+    let few : x ≤ 57 = leb-true x 57 (and_parts (leb 48 x) (leb x 57) parts.0).1 in
     let low : x - 48 ≤ 9 = omega (arith, few) in
     rw (pow-suc 10 (length digits)) (bounded (x - 48) (10 ^ length digits) (value_of digits) low later)
   where

@@ -6,3 +6,4 @@ pub mod Entries
 pub mod Progress
 pub mod Ranges
 pub mod Unique
+pub mod Exists

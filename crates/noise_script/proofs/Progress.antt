@@ -25,12 +25,12 @@ too-many said words entry form bound cause full s f t e b c = record {
 pub not-full : (said : List Entry) (entry : Entry) (form : Form) (full : Bool) → form ≡ form_of entry → full ≡ false → full ≡ nat_le (most (row form).bound) (standing form said) → standing (form_of entry) said < most (row (form_of entry)).bound
 not-full said entry form full f t e = subst (λ (x : Form). standing x said < most (row x).bound) f (leb-false _ _ (sym e ∙ t))
 
-says-passed : {lines : List (List ℕ)} {said : List Entry} (line : List ℕ) → Says lines said → is_passed_over (words_of line) ≡ true → Says (lines ++ line ∷ []) said
+pub says-passed : {lines : List (List ℕ)} {said : List Entry} (line : List ℕ) → Says lines said → is_passed_over (words_of line) ≡ true → Says (lines ++ line ∷ []) said
 says-passed line nothing p = passed_over p nothing
 says-passed line (passed_over q s) p = passed_over q (says-passed line s p)
 says-passed line (spelled q s) p = spelled q (says-passed line s p)
 
-says-more : {lines : List (List ℕ)} {said : List Entry} (line : List ℕ) (entry : Entry) → Says lines said → SpellsLine (words_of line) entry → Says (lines ++ line ∷ []) (said ++ entry ∷ [])
+pub says-more : {lines : List (List ℕ)} {said : List Entry} (line : List ℕ) (entry : Entry) → Says lines said → SpellsLine (words_of line) entry → Says (lines ++ line ∷ []) (said ++ entry ∷ [])
 says-more line entry nothing p = spelled p nothing
 says-more line entry (passed_over q s) p = passed_over q (says-more line entry s p)
 says-more line entry (spelled q s) p = spelled q (says-more line entry s p)
@@ -38,7 +38,7 @@ says-more line entry (spelled q s) p = spelled q (says-more line entry s p)
 pub holds-none : (text : List ℕ) (draft : Draft) → Holds draft [] → HoldsUpTo text text 0 draft
 holds-none text draft h = record { before = []; lines_are = refl; number_is = refl; said = []; says = nothing; allowed = allowed-none; holds = h }
 
-regrouped : (before : List (List ℕ)) (line : List ℕ) (after : List (List ℕ)) → before ++ (line ∷ after) ≡ (before ++ line ∷ []) ++ after
+pub regrouped : (before : List (List ℕ)) (line : List ℕ) (after : List (List ℕ)) → before ++ (line ∷ after) ≡ (before ++ line ∷ []) ++ after
 regrouped before line after = sym (append_assoc before (line ∷ []) after)
 
 pub holds-more : (text rest line behind : List ℕ) (number next : ℕ) (old new : Draft) (h : HoldsUpTo text rest number old) → lines_of rest ≡ line ∷ lines_of behind → next ≡ number + 1 → HoldsLine h.said (words_of line) new → HoldsUpTo text behind next new

@@ -136,22 +136,22 @@ fails-once (argument ∷ arguments) (word ∷ words) a b (inr (v, t, f)) (inr (u
 
 -- lines
 
-abbrev role_of : Value → Role
+abbrev pub role_of : Value → Role
 role_of (RoleIs role) = role
 role_of _ = Originator
 
-abbrev number_of : Value → ℕ
+abbrev pub number_of : Value → ℕ
 number_of (NumberIs n) = n
 number_of _ = 0
 
-abbrev signed_of : Value → ℤ
+abbrev pub signed_of : Value → ℤ
 signed_of (SignedIs z) = z
 signed_of _ = pos 0
 
-abbrev at : List Value → ℕ → Value
+abbrev pub at : List Value → ℕ → Value
 at values i = get_or values i (NumberIs 0)
 
-abbrev entry_of : Form → List Value → Entry
+abbrev pub entry_of : Form → List Value → Entry
 entry_of forms.Delay v = entries.Delay (record { orig = number_of (at v 0); answ = number_of (at v 1) })
 entry_of forms.Tries v = entries.Tries (number_of (at v 0))
 entry_of forms.Lose v = entries.Lose (record { role = role_of (at v 0); from = number_of (at v 1); count = number_of (at v 2) })

@@ -1,5 +1,9 @@
 use Rattle.noise_script.proofs.Unique.{spelling-once, spelling-fault, fault-once}
+use Rattle.noise_script.proofs.Exists.{some-answer}
 use Rattle.noise_script.proofs.laws.one_answer.Goals as goal
+
+pub returns-clause-some : goal.returns-clause-some
+returns-clause-some c = some-answer
 
 pub returns-clause-scripts : goal.returns-clause-scripts
 returns-clause-scripts c = spelling-once
