@@ -1,10 +1,10 @@
 -- Where a text's first line and a line's first word end.
-use Rattle.std.proofs.Common.{◌≡◌, ◌≢◌, ◌⊎◌, inl, inr, ℕ, zero, suc, ◌+◌, ◌<◌, ◌≤◌, Bool, true, false, not, ◌&&◌, cond, eqb, List, [], ◌∷◌, ◌++◌, length, take, drop, get_or, refl, sym, ap, subst, ◌∙◌, arith, add-one, drop-cons, append-nil, ◌-◌, length-drop, take-append-drop}
-use Rattle.std.proofs.lemmas.Bool.{and_parts, not-true, false≢true, true≢false, ne_eqb}
+use Rattle.std.proofs.Common.{◌≡◌, ◌≢◌, ℕ, zero, suc, ◌+◌, ◌<◌, ◌≤◌, Bool, true, false, not, ◌&&◌, cond, eqb, List, [], ◌∷◌, ◌++◌, length, take, drop, get_or, refl, sym, ap, subst, ◌∙◌, arith, add-one, drop-cons, append-nil, ◌-◌, length-drop, take-append-drop}
+use Rattle.std.proofs.lemmas.Bool.{and_parts, not-true, false≢true, ne_eqb}
 use Rattle.std.proofs.lemmas.List.{take_all}
 use Rattle.std.proofs.lemmas.List.Folds.{list_all_more}
 use Rattle.std.specs.List.{list_all, onto_first}
-use Rattle.noise_script.specs.Lines.{begins_with, lines_of, without_return, is_blank, is_in_word, words_of}
+use Rattle.noise_script.specs.Lines.{lines_of, without_return, is_blank, is_in_word, words_of}
 
 abbrev pub is_no_feed : ℕ → Bool
 is_no_feed octet = not (eqb octet 10)

@@ -1,9 +1,8 @@
 -- What lines say, one line more at a time.
-use Rattle.std.proofs.Common.{◌≡◌, ◌≢◌, ◌⊎◌, inl, inr, ℕ, zero, suc, ◌+◌, ◌*◌, ◌<◌, ◌≤◌, Bool, true, false, cond, List, [], ◌∷◌, ◌++◌, length, Option, Some, None, is_some, refl, sym, ap, subst, ◌∙◌, arith, append-nil, append_assoc, length-append, leb}
+use Rattle.std.proofs.Common.{◌≡◌, ℕ, ◌+◌, ◌<◌, ◌≤◌, Bool, true, false, cond, List, [], ◌∷◌, ◌++◌, length, Option, Some, None, is_some, refl, sym, ap, subst, ◌∙◌, arith, append-nil}
 use Rattle.std.specs.Global.{Vec}
-use Rattle.std.specs.Prelude.{IfSome}
 use mir.Val.{bool_byte}
-use Rattle.std.proofs.lemmas.Bool.{leb-true, leb-false, false≢true}
+use Rattle.std.proofs.lemmas.Bool.{false≢true}
 use Rattle.noise_script.specs.declared.entry.Loss.{Loss}
 use Rattle.noise_script.specs.declared.entry.Hit.{Hit}
 use Rattle.noise_script.specs.declared.entry.Noise.{Noise}
@@ -13,12 +12,9 @@ use Rattle.noise_script.specs.declared.entry.Entry.TheVariants as entries
 use Rattle.noise_script.specs.declared.forms.Form.{Form}
 use Rattle.noise_script.specs.declared.forms.Form.TheVariants as forms
 use Rattle.noise_script.specs.declared.draft.Draft.{Draft}
-use Rattle.noise_script.specs.Lines.{words_of, is_passed_over}
-use Rattle.noise_script.specs.Forms.{row, form_of, most, arguments_of, values_of, SpellsLine, SpellsEach}
-use Rattle.noise_script.specs.Offsets.{AreQuiet}
-use Rattle.noise_script.specs.Script.{ScriptValue, IsInLimits}
-use Rattle.noise_script.specs.Grammar.{Says, nothing, passed_over, spelled, same_form, standing, AreAllowed, delays_in, tries_in, losses_in, hits_in, noises_in, delays_or_one, tries_or_five, script_of}
-use Rattle.noise_script.specs.Draft.{Holds, draft_script}
+use Rattle.noise_script.specs.Forms.{row, form_of, most}
+use Rattle.noise_script.specs.Grammar.{same_form, standing, AreAllowed, delays_in, tries_in, losses_in, hits_in, noises_in}
+use Rattle.noise_script.specs.Draft.{Holds}
 
 pub losses-append : (a b : List Entry) → losses_in (a ++ b) ≡ losses_in a ++ losses_in b
 losses-append [] b = refl
@@ -162,7 +158,6 @@ holds-delays draft said entry delays is h a few =
     let room : standing forms.Delay said < 1 = subst (λ (e : Entry). standing (form_of e) said < most (row (form_of e)).bound) is few in
     subst (λ (e : Entry). Holds (record draft { delays = Some delays }) (said ++ e ∷ [])) (sym is) (holds-delays-said draft said delays h a room)
 
-
 holds-tries-said : (draft : Draft) (said : List Entry) (tries : ℕ) → Holds draft said → AreAllowed said → standing forms.Tries said < 1 → Holds (record draft { tries = Some tries }) (said ++ entries.Tries tries ∷ [])
 holds-tries-said draft said tries h a few = record {
   delays = h.delays ∙ sym (delays-append said (entries.Tries tries ∷ []) ∙ same-delays (delays_in said));
@@ -181,7 +176,6 @@ holds-tries draft said entry tries is h a few =
     let room : standing forms.Tries said < 1 = subst (λ (e : Entry). standing (form_of e) said < most (row (form_of e)).bound) is few in
     subst (λ (e : Entry). Holds (record draft { tries = Some tries }) (said ++ e ∷ [])) (sym is) (holds-tries-said draft said tries h a room)
 
-
 holds-loss-said : (draft : Draft) (said : List Entry) (loss : Loss) (losses : Vec Loss) → Holds draft said → losses.items ≡ draft.losses.items ++ loss ∷ [] → Holds (record draft { losses = losses }) (said ++ entries.Lose loss ∷ [])
 holds-loss-said draft said loss losses h pushed = record {
   delays = h.delays ∙ sym (delays-append said (entries.Lose loss ∷ []) ∙ same-delays (delays_in said));
@@ -194,7 +188,6 @@ holds-loss-said draft said loss losses h pushed = record {
 pub holds-loss : (draft : Draft) (said : List Entry) (entry : Entry) (loss : Loss) (losses : Vec Loss) → entry ≡ entries.Lose loss → Holds draft said → losses.items ≡ draft.losses.items ++ loss ∷ [] → Holds (record draft { losses = losses }) (said ++ entry ∷ [])
 holds-loss draft said entry loss losses is h pushed = subst (λ (e : Entry). Holds (record draft { losses = losses }) (said ++ e ∷ [])) (sym is) (holds-loss-said draft said loss losses h pushed)
 
-
 holds-hit-said : (draft : Draft) (said : List Entry) (hit : Hit) (hits : Vec Hit) → Holds draft said → hits.items ≡ draft.hits.items ++ hit ∷ [] → Holds (record draft { hits = hits }) (said ++ entries.Hit hit ∷ [])
 holds-hit-said draft said hit hits h pushed = record {
   delays = h.delays ∙ sym (delays-append said (entries.Hit hit ∷ []) ∙ same-delays (delays_in said));
@@ -206,7 +199,6 @@ holds-hit-said draft said hit hits h pushed = record {
 
 pub holds-hit : (draft : Draft) (said : List Entry) (entry : Entry) (hit : Hit) (hits : Vec Hit) → entry ≡ entries.Hit hit → Holds draft said → hits.items ≡ draft.hits.items ++ hit ∷ [] → Holds (record draft { hits = hits }) (said ++ entry ∷ [])
 holds-hit draft said entry hit hits is h pushed = subst (λ (e : Entry). Holds (record draft { hits = hits }) (said ++ e ∷ [])) (sym is) (holds-hit-said draft said hit hits h pushed)
-
 
 holds-noise-said : (draft : Draft) (said : List Entry) (noise : Noise) (noises : Vec Noise) → Holds draft said → noises.items ≡ draft.noises.items ++ noise ∷ [] → Holds (record draft { noises = noises }) (said ++ entries.Noise noise ∷ [])
 holds-noise-said draft said noise noises h pushed = record {

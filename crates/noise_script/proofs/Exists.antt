@@ -1,5 +1,5 @@
 -- Each text spells a script or has a first fault.
-use Rattle.std.proofs.Common.{◌≡◌, ◌≢◌, ◌⊎◌, inl, inr, ℕ, zero, suc, ◌+◌, ◌<◌, ◌≤◌, Bool, true, false, ℤ, pos, neg_ℤ, ◌<ℤ◌, ◌≤ℤ◌, List, [], ◌∷◌, ◌++◌, length, refl, sym, ap, subst, ◌∙◌, arith, append-nil, length-append}
+use Rattle.std.proofs.Common.{◌≡◌, ◌≢◌, ◌⊎◌, inl, inr, ℕ, ◌+◌, ◌<◌, ◌≤◌, true, false, ℤ, pos, neg_ℤ, ◌<ℤ◌, ◌≤ℤ◌, List, [], ◌∷◌, ◌++◌, length, refl, sym, ap, subst, ◌∙◌, arith, append-nil}
 use Rattle.std.proofs.lemmas.Bool.{cases_eq, cases_lt, cases_Bool}
 use Rattle.std.proofs.lemmas.Int.{by_lt_z}
 use Rattle.lapm_frames.specs.declared.frame.Role.{Role}
@@ -11,13 +11,12 @@ use Rattle.noise_script.specs.declared.forms.Form.{Form}
 use Rattle.noise_script.specs.declared.forms.Form.TheVariants as forms
 use Rattle.noise_script.specs.Lines.{begins_with, lines_of, words_of, is_passed_over}
 use Rattle.noise_script.specs.Numbers.{is_number, value_of, is_signed, signed_value_of}
-use Rattle.noise_script.specs.Forms.{Argument, ARole, Number, Signed, Value, RoleIs, NumberIs, SignedIs, row, word_of, arguments_of, form_of, values_of, most, too_many, role_word, Spells, Fails, SpellsEach, FirstFails, turn, count, symbol, coordinate, SpellsLine, IsUnknown, IsMiscounted, IsMisread, Misspells}
-use Rattle.noise_script.specs.Script.{ScriptValue}
-use Rattle.noise_script.specs.Grammar.{Says, nothing, passed_over, spelled, standing, AreAllowed, IsTooMany, IsFaulty, script_of, ScriptSpelling, FirstFault}
+use Rattle.noise_script.specs.Forms.{Argument, ARole, Number, Signed, Value, RoleIs, NumberIs, SignedIs, row, word_of, arguments_of, form_of, values_of, most, too_many, role_word, Spells, Fails, SpellsEach, FirstFails, turn, count, symbol, coordinate, SpellsLine, Misspells}
+use Rattle.noise_script.specs.Grammar.{Says, nothing, standing, AreAllowed, IsFaulty, script_of}
 use Rattle.noise_script.specs.Laws.{SomeAnswer}
 use Rattle.noise_script.proofs.Entries.{allowed-none, allowed-more}
 use Rattle.noise_script.proofs.Progress.{says-passed, says-more, regrouped}
-use Rattle.noise_script.proofs.Unique.{role_of, number_of, signed_of, at, entry_of}
+use Rattle.noise_script.proofs.Unique.{role_of, number_of, signed_of, entry_of}
 
 -- one word
 
@@ -128,22 +127,25 @@ onto value e f = e ∙ ap (λ vs. value ∷ vs) f
 both : {a b : Value} {xs ys : List Value} → a ≡ b → xs ≡ ys → a ∷ xs ≡ b ∷ ys
 both e f = rw (e, f) refl
 
+rests : (form : Form) (values list : List Value) → values ≡ list → values_of (entry_of form list) ≡ list → values_of (entry_of form values) ≡ values
+rests form values list e f = subst (λ vs. values_of (entry_of form vs) ≡ vs) {x = list} (sym e) f
+
 values-again : (form : Form) (words : List (List ℕ)) (values : List Value) → SpellsEach (arguments_of form) words values → values_of (entry_of form values) ≡ values
 values-again forms.Delay words values s =
     let a = peel (Number 1 60) ((Number 1 60) ∷ []) words values s in
     let b = peel (Number 1 60) [] a.rest a.others a.each in
     let all : values ≡ a.value ∷ b.value ∷ [] = onto a.value a.values_are (onto b.value b.values_are (b.each.1)) in
-    subst (λ vs. values_of (entry_of forms.Delay vs) ≡ vs) (sym all) (both (number-is 1 60 a.word a.value a.spells) (both (number-is 1 60 b.word b.value b.spells) (refl)))
+    rests forms.Delay values (a.value ∷ b.value ∷ []) all (both (number-is 1 60 a.word a.value a.spells) (both (number-is 1 60 b.word b.value b.spells) (refl)))
 values-again forms.Tries words values s =
     let a = peel (Number 1 20) [] words values s in
     let all : values ≡ a.value ∷ [] = onto a.value a.values_are (a.each.1) in
-    subst (λ vs. values_of (entry_of forms.Tries vs) ≡ vs) (sym all) (both (number-is 1 20 a.word a.value a.spells) (refl))
+    rests forms.Tries values (a.value ∷ []) all (both (number-is 1 20 a.word a.value a.spells) (refl))
 values-again forms.Lose words values s =
     let a = peel ARole (turn ∷ count ∷ []) words values s in
     let b = peel turn (count ∷ []) a.rest a.others a.each in
     let c = peel count [] b.rest b.others b.each in
     let all : values ≡ a.value ∷ b.value ∷ c.value ∷ [] = onto a.value a.values_are (onto b.value b.values_are (onto c.value c.values_are (c.each.1))) in
-    subst (λ vs. values_of (entry_of forms.Lose vs) ≡ vs) (sym all) (both (role-is a.word a.value a.spells) (both (number-is 0 4294967295 b.word b.value b.spells) (both (number-is 1 4294967295 c.word c.value c.spells) (refl))))
+    rests forms.Lose values (a.value ∷ b.value ∷ c.value ∷ []) all (both (role-is a.word a.value a.spells) (both (number-is 0 4294967295 b.word b.value b.spells) (both (number-is 1 4294967295 c.word c.value c.spells) (refl))))
 values-again forms.Hit words values s =
     let a = peel ARole (symbol ∷ count ∷ coordinate ∷ coordinate ∷ []) words values s in
     let b = peel symbol (count ∷ coordinate ∷ coordinate ∷ []) a.rest a.others a.each in
@@ -151,7 +153,7 @@ values-again forms.Hit words values s =
     let d = peel coordinate (coordinate ∷ []) c.rest c.others c.each in
     let e = peel coordinate [] d.rest d.others d.each in
     let all : values ≡ a.value ∷ b.value ∷ c.value ∷ d.value ∷ e.value ∷ [] = onto a.value a.values_are (onto b.value b.values_are (onto c.value c.values_are (onto d.value d.values_are (onto e.value e.values_are (e.each.1))))) in
-    subst (λ vs. values_of (entry_of forms.Hit vs) ≡ vs) (sym all) (both (role-is a.word a.value a.spells) (both (number-is 0 1099511627775 b.word b.value b.spells) (both (number-is 1 4294967295 c.word c.value c.spells) (both (signed-is (neg_ℤ (pos 32768)) (pos 32767) d.word d.value d.spells) (both (signed-is (neg_ℤ (pos 32768)) (pos 32767) e.word e.value e.spells) (refl))))))
+    rests forms.Hit values (a.value ∷ b.value ∷ c.value ∷ d.value ∷ e.value ∷ []) all (both (role-is a.word a.value a.spells) (both (number-is 0 1099511627775 b.word b.value b.spells) (both (number-is 1 4294967295 c.word c.value c.spells) (both (signed-is (neg_ℤ (pos 32768)) (pos 32767) d.word d.value d.spells) (both (signed-is (neg_ℤ (pos 32768)) (pos 32767) e.word e.value e.spells) (refl))))))
 values-again forms.Noise words values s =
     let a = peel ARole (symbol ∷ count ∷ (Number 0 32767) ∷ (Number 0 18446744073709551615) ∷ []) words values s in
     let b = peel symbol (count ∷ (Number 0 32767) ∷ (Number 0 18446744073709551615) ∷ []) a.rest a.others a.each in
@@ -159,7 +161,7 @@ values-again forms.Noise words values s =
     let d = peel (Number 0 32767) ((Number 0 18446744073709551615) ∷ []) c.rest c.others c.each in
     let e = peel (Number 0 18446744073709551615) [] d.rest d.others d.each in
     let all : values ≡ a.value ∷ b.value ∷ c.value ∷ d.value ∷ e.value ∷ [] = onto a.value a.values_are (onto b.value b.values_are (onto c.value c.values_are (onto d.value d.values_are (onto e.value e.values_are (e.each.1))))) in
-    subst (λ vs. values_of (entry_of forms.Noise vs) ≡ vs) (sym all) (both (role-is a.word a.value a.spells) (both (number-is 0 1099511627775 b.word b.value b.spells) (both (number-is 1 4294967295 c.word c.value c.spells) (both (number-is 0 32767 d.word d.value d.spells) (both (number-is 0 18446744073709551615 e.word e.value e.spells) (refl))))))
+    rests forms.Noise values (a.value ∷ b.value ∷ c.value ∷ d.value ∷ e.value ∷ []) all (both (role-is a.word a.value a.spells) (both (number-is 0 1099511627775 b.word b.value b.spells) (both (number-is 1 4294967295 c.word c.value c.spells) (both (number-is 0 32767 d.word d.value d.spells) (both (number-is 0 18446744073709551615 e.word e.value e.spells) (refl))))))
 
 form-again : (form : Form) (values : List Value) → form_of (entry_of form values) ≡ form
 form-again forms.Delay values = refl

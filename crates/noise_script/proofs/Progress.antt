@@ -1,5 +1,5 @@
 -- Reading a text line by line.
-use Rattle.std.proofs.Common.{◌≡◌, ◌≢◌, ◌⊎◌, inl, inr, ℕ, zero, suc, ◌+◌, ◌<◌, ◌≤◌, Bool, true, false, cond, nat_le, List, [], ◌∷◌, ◌++◌, length, refl, sym, ap, subst, ◌∙◌, arith, append-nil, append_assoc, length-append}
+use Rattle.std.proofs.Common.{◌≡◌, inl, inr, ℕ, ◌+◌, ◌<◌, ◌≤◌, Bool, true, false, nat_le, List, [], ◌∷◌, ◌++◌, refl, sym, ap, subst, ◌∙◌, arith, append_assoc, length-append}
 use Rattle.std.proofs.lemmas.Bool.{leb-true, leb-false}
 use Rattle.noise_script.specs.declared.cause.Cause.{Cause}
 use Rattle.noise_script.specs.declared.entry.Entry.{Entry}
@@ -10,7 +10,7 @@ use Rattle.noise_script.specs.declared.fault.ScriptFault.{ScriptFault}
 use Rattle.noise_script.specs.declared.fault.ScriptFault.TheVariants as faults
 use Rattle.noise_script.specs.Lines.{lines_of, words_of, is_passed_over}
 use Rattle.noise_script.specs.Forms.{row, form_of, most, too_many, SpellsLine}
-use Rattle.noise_script.specs.Grammar.{Says, nothing, passed_over, spelled, standing, AreAllowed, IsTooMany, IsFaulty, FirstFault, IsFaultOf}
+use Rattle.noise_script.specs.Grammar.{Says, nothing, passed_over, spelled, standing, IsTooMany, IsFaultOf}
 use Rattle.noise_script.specs.Draft.{Holds, HoldsLine, IsLineFault, HoldsUpTo}
 use Rattle.noise_script.proofs.Entries.{allowed-none, allowed-more}
 

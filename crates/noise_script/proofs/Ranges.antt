@@ -1,16 +1,13 @@
 -- What a script's lines say is in its range.
-use Rattle.std.proofs.Common.{◌≡◌, ◌≢◌, ◌⊎◌, inl, inr, ℕ, zero, suc, ◌+◌, ◌<◌, ◌≤◌, List, [], ◌∷◌, ◌++◌, length, refl, sym, ap, subst, ◌∙◌, arith, append-nil}
-use Rattle.noise_script.specs.declared.entry.Delays.{Delays}
+use Rattle.std.proofs.Common.{◌≡◌, ℕ, ◌≤◌, List, [], ◌∷◌, refl, sym, subst, ◌∙◌, arith, append-nil}
 use Rattle.noise_script.specs.declared.entry.Entry.{Entry}
 use Rattle.noise_script.specs.declared.entry.Entry.TheVariants as entries
-use Rattle.noise_script.specs.declared.forms.Form.{Form}
 use Rattle.noise_script.specs.declared.forms.Form.TheVariants as forms
 use Rattle.noise_script.specs.declared.draft.Draft.{Draft}
-use Rattle.noise_script.specs.Lines.{lines_of}
-use Rattle.noise_script.specs.Forms.{SpellsEach, SpellsLine, arguments_of, values_of, form_of}
+use Rattle.noise_script.specs.Forms.{SpellsEach, arguments_of, values_of, form_of}
 use Rattle.noise_script.specs.Offsets.{IsQuiet, AreQuiet}
 use Rattle.noise_script.specs.Script.{ScriptValue, IsInLimits}
-use Rattle.noise_script.specs.Grammar.{Says, nothing, passed_over, spelled, standing, AreAllowed, delays_in, tries_in, losses_in, hits_in, noises_in, delays_or_one, tries_or_five, script_of, ScriptSpelling}
+use Rattle.noise_script.specs.Grammar.{Says, nothing, passed_over, spelled, AreAllowed, delays_in, tries_in, noises_in, delays_or_one, tries_or_five, script_of, ScriptSpelling}
 use Rattle.noise_script.specs.Draft.{Holds, HoldsUpTo, draft_script}
 use Rattle.noise_script.proofs.Entries.{standing-lose, standing-hit, standing-noise}
 

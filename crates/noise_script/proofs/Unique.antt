@@ -1,6 +1,6 @@
 -- A text spells one script at most, or has one first fault, and never both.
-use Rattle.std.proofs.Common.{◌≡◌, ◌≢◌, ◌⊎◌, inl, inr, ℕ, zero, suc, ◌+◌, ◌*◌, ◌<◌, ◌≤◌, Bool, true, false, ℤ, pos, ◌<ℤ◌, List, [], ◌∷◌, ◌++◌, length, get_or, refl, sym, ap, subst, ◌∙◌, arith, append-nil}
-use Rattle.std.proofs.lemmas.Bool.{false≢true, true≢false}
+use Rattle.std.proofs.Common.{◌≡◌, ◌⊎◌, inl, inr, ℕ, suc, ◌+◌, ◌<◌, true, false, ℤ, pos, ◌<ℤ◌, List, [], ◌∷◌, ◌++◌, length, get_or, refl, sym, ap, subst, ◌∙◌, arith}
+use Rattle.std.proofs.lemmas.Bool.{false≢true}
 use Rattle.std.proofs.lemmas.Int.{ints}
 use Rattle.lapm_frames.specs.declared.frame.Role.{Role}
 use Rattle.lapm_frames.specs.declared.frame.Role.TheVariants.{Originator, Answerer}
@@ -10,11 +10,11 @@ use Rattle.noise_script.specs.declared.entry.Entry.{Entry}
 use Rattle.noise_script.specs.declared.entry.Entry.TheVariants as entries
 use Rattle.noise_script.specs.declared.forms.Form.{Form}
 use Rattle.noise_script.specs.declared.forms.Form.TheVariants as forms
-use Rattle.noise_script.specs.Lines.{begins_with, lines_of, words_of, is_passed_over}
-use Rattle.noise_script.specs.Numbers.{is_number, value_of, is_signed, signed_value_of}
-use Rattle.noise_script.specs.Forms.{Argument, ARole, Number, Signed, Value, RoleIs, NumberIs, SignedIs, row, word_of, arguments_of, form_of, values_of, most, too_many, role_word, Spells, Fails, SpellsEach, FirstFails, SpellsLine, IsUnknown, IsMiscounted, IsMisread, Misspells}
+use Rattle.noise_script.specs.Lines.{begins_with, words_of, is_passed_over}
+use Rattle.noise_script.specs.Numbers.{value_of, signed_value_of}
+use Rattle.noise_script.specs.Forms.{Argument, ARole, Number, Signed, Value, RoleIs, NumberIs, SignedIs, row, word_of, arguments_of, form_of, values_of, too_many, role_word, Spells, Fails, SpellsEach, FirstFails, SpellsLine, IsUnknown, IsMiscounted, IsMisread, Misspells}
 use Rattle.noise_script.specs.Script.{ScriptValue}
-use Rattle.noise_script.specs.Grammar.{Says, nothing, passed_over, spelled, AreAllowed, IsTooMany, IsFaulty, script_of, ScriptSpelling, FirstFault}
+use Rattle.noise_script.specs.Grammar.{Says, nothing, passed_over, spelled, AreAllowed, IsFaulty, script_of, ScriptSpelling, FirstFault}
 use Rattle.noise_script.proofs.Entries.{allowed-full}
 
 cons-head : {X : Type 0} (x y : X) (xs ys : List X) → x ∷ xs ≡ y ∷ ys → x ≡ y

@@ -21,6 +21,7 @@ pub(crate) struct Draft {
 }
 
 const DEFAULT_DELAYS: Delays = Delays { orig: 1, answ: 1 };
+
 const DEFAULT_TRIES: u8 = 5;
 
 impl Draft {

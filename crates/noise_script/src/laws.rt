@@ -7,12 +7,10 @@ pub fn one_answer()
     ensures scripts { ScriptsAreOne }
     ensures faults { FaultsAreOne }
     ensures apart { NoFaultInScripts }
-{
-}
+{}
 
 /// Lines and words from the front, as a reader meets them.
 pub fn cuts()
     ensures lines { LinesFromFront }
     ensures words { WordsFromFront }
-{
-}
+{}

@@ -3,8 +3,8 @@ ghost use Rattle.std.specs.Prelude.{◌≡◌, ◌≤◌};
 ghost use Rattle.noise_script.specs.Script.{IsInLimits, script_with, delay_of, loses, offset_of};
 ghost use Rattle.noise_script.specs.Offsets.{IsWithin};
 
-use crate::offset::{both, covers, offset_of_hits, offset_of_noises};
 use crate::entry::Delays;
+use crate::offset::{covers, offset_of_hits, offset_of_noises, total};
 use crate::{Hit, Loss, Noise, OFFSET_MOST, Offset};
 use lapm_frames::Role;
 use std::marker::Model;
@@ -85,7 +85,7 @@ impl Script {
         ensures value { result ≡ offset_of self.now sender symbol }
         ensures small { IsWithin OFFSET_MOST result }
     {
-        both(
+        total(
             offset_of_hits(&self.hits, sender, symbol),
             offset_of_noises(&self.noises, sender, symbol),
         )

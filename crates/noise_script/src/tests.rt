@@ -45,7 +45,8 @@ fn an_empty_script_has_defaults(rt: HostRuntime) -> Result<(), Fail> {
 
 #[test]
 fn each_kind_of_line(rt: HostRuntime) -> Result<(), Fail> {
-    let text = b" delay\t2 060\r\nn400 20\n\nlose answ 5 2\nhit orig 7 1 -32768 -0\nhit orig 7 2 1 1";
+    let text =
+        b" delay\t2 060\r\nn400 20\n\nlose answ 5 2\nhit orig 7 1 -32768 -0\nhit orig 7 2 1 1";
     let script = read_script(rt.alloc(), text)?;
     assert_eq!(rt; script.delay(ORIGINATOR), 2);
     assert_eq!(rt; script.delay(ANSWERER), 60);

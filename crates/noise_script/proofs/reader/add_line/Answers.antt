@@ -1,5 +1,4 @@
-use Rattle.std.proofs.Common.{◌≡◌, ◌∙◌, inl, inr, ◌<◌, ◌≤◌, ◌++◌, ◌∷◌, [], List, refl, sym, ap, subst, arith}
-use Rattle.noise_script.specs.declared.entry.Entry.{Entry}
+use Rattle.std.proofs.Common.{inr, refl}
 use Rattle.noise_script.specs.Forms.{SpellsLine}
 use Rattle.noise_script.specs.Lines.{words_of}
 use Rattle.noise_script.proofs.Progress.{too-many, not-full}

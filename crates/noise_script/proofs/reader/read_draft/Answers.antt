@@ -1,6 +1,5 @@
-use Rattle.std.proofs.Common.{◌+◌, length, refl, arith}
-use Rattle.std.proofs.lemmas.Result.{err_from_is_err_and}
-use Rattle.noise_script.proofs.Progress.{holds-none, holds-more, fault-of}
+use Rattle.std.proofs.Common.{◌+◌, refl, arith}
+use Rattle.noise_script.proofs.Progress.{holds-none, holds-more}
 use Rattle.noise_script.proofs.reader.read_draft.Goals as goal
 
 pub loop-rest-init : goal.loop-rest-init

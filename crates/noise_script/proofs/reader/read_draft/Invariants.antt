@@ -1,4 +1,4 @@
-use Rattle.std.proofs.Common.{ℕ, ◌+◌, ◌≤◌, length}
+use Rattle.std.proofs.Common.{◌+◌, ◌≤◌, length}
 use Rattle.noise_script.specs.Draft.{HoldsUpTo}
 use Rattle.noise_script.proofs.reader.read_draft.Given as goal
 

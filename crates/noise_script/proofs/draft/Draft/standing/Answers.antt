@@ -1,7 +1,6 @@
-use Rattle.std.proofs.Common.{◌≡◌, ◌∙◌, sym, ap, length, cond, is_some}
+use Rattle.std.proofs.Common.{◌∙◌, sym, ap, length}
 use Rattle.noise_script.specs.Grammar.{standing}
 use Rattle.noise_script.specs.declared.forms.Form.{Form}
-use Rattle.noise_script.specs.declared.forms.Form.TheVariants as forms
 use Rattle.noise_script.proofs.Entries.{counted-delay, counted-tries, standing-lose, standing-hit, standing-noise}
 use Rattle.noise_script.proofs.draft.Draft.standing.Goals as goal
 
