@@ -1,10 +1,10 @@
 -- Where a text's first line and a line's first word end.
-use Rattle.std.proofs.Common.{◌≡◌, ◌≢◌, ◌⊎◌, inl, inr, ℕ, zero, suc, ◌+◌, ◌<◌, ◌≤◌, Bool, true, false, not, ◌&&◌, cond, eqb, List, [], ◌∷◌, ◌++◌, length, take, drop, get_or, refl, sym, ap, subst, ◌∙◌, arith, add-one, drop-cons, append-nil, ◌-◌, length-drop, take-append-drop}
-use Rattle.std.proofs.lemmas.Bool.{and_parts, not-true, false≢true, true≢false, ne_eqb}
+use Rattle.std.proofs.Common.{◌≡◌, ◌≢◌, ℕ, zero, suc, ◌+◌, ◌<◌, ◌≤◌, Bool, true, false, not, ◌&&◌, cond, eqb, List, [], ◌∷◌, ◌++◌, length, take, drop, get_or, refl, sym, ap, subst, ◌∙◌, arith, add-one, drop-cons, append-nil, ◌-◌, length-drop, take-append-drop}
+use Rattle.std.proofs.lemmas.Bool.{and_parts, not-true, false≢true, ne_eqb}
 use Rattle.std.proofs.lemmas.List.{take_all}
 use Rattle.std.proofs.lemmas.List.Folds.{list_all_more}
 use Rattle.std.specs.List.{list_all, onto_first}
-use Rattle.noise_script.specs.Lines.{begins_with, lines_of, without_return, is_blank, is_in_word, words_of}
+use Rattle.noise_script.specs.Lines.{lines_of, without_return, is_blank, is_in_word, words_of}
 
 abbrev pub is_no_feed : ℕ → Bool
 is_no_feed octet = not (eqb octet 10)
@@ -58,14 +58,17 @@ line-last (x ∷ y ∷ text) n h =
     let y_not : eqb y 10 ≡ false = not-true _ (and_parts _ _ (and_parts _ _ h).1).0 in
     line-goes-on x y text x_not y_not ∙ ap (onto_first x) (line-last (y ∷ text) (some-cons _ _) (and_parts _ _ h).1)
 
+pub blank-first : (octet : ℕ) (line : List ℕ) → is_blank octet ≡ true → words_of (octet ∷ line) ≡ words_of line
+blank-first octet line b = rw b refl
+
+pub blank-ends : (octet : ℕ) (line : List ℕ) → is_blank octet ≡ true → is_in_word (octet ∷ line) ≡ false
+blank-ends octet line b = rw b refl
+
 -- blanks before a line's words change nothing
 pub blank-skipped : (line : List ℕ) (i : ℕ) → i < length line → is_blank (get_or line i 0) ≡ true → words_of (drop i line) ≡ words_of (drop (i + 1) line)
 blank-skipped line i h b =
     let cut : drop i line ≡ get_or line i 0 ∷ drop (suc i) line = drop-cons line i 0 h in
     rw (cut, add-one i) (blank-first (get_or line i 0) (drop (suc i) line) b)
-  where
-    blank-first : (x : ℕ) (rest : List ℕ) → is_blank x ≡ true → words_of (x ∷ rest) ≡ words_of rest
-    blank-first x rest b = rw b refl
 
 pub word-begins : (line : List ℕ) (i : ℕ) → i < length line → is_blank (get_or line i 0) ≡ false → is_in_word (drop i line) ≡ true
 word-begins line i h b =

@@ -1,12 +1,12 @@
 -- Numbers by their digits.
-use Rattle.std.proofs.Common.{◌≡◌, ◌≢◌, ◌⊎◌, inl, inr, ℕ, zero, suc, ◌+◌, ◌-◌, ◌*◌, ◌^◌, ◌<◌, ◌≤◌, Bool, true, false, not, ◌&&◌, cond, eqb, leb, List, [], ◌∷◌, ◌++◌, length, take, drop, get_or, refl, sym, ap, subst, ◌∙◌, arith, add-one, length-append, length-take}
-use Rattle.std.proofs.lemmas.Bool.{and_parts, leb-true, le-leb, lt-leb}
-use Rattle.std.proofs.lemmas.List.{take_more, take_all}
-use Rattle.std.proofs.lemmas.List.Folds.{list_all_more, list_all_at}
+use Rattle.std.proofs.Common.{◌≡◌, ℕ, suc, ◌+◌, ◌-◌, ◌*◌, ◌^◌, ◌<◌, ◌≤◌, true, leb, List, [], ◌∷◌, ◌++◌, length, take, get_or, refl, ap, ◌∙◌, arith, length-append, length-take}
+use Rattle.std.proofs.lemmas.Bool.{and_parts, leb-true}
+use Rattle.std.proofs.lemmas.List.{take_more}
+use Rattle.std.proofs.lemmas.List.Folds.{list_all_more}
 use Rattle.std.proofs.Math.Nat.{pow-le-pow_right}
 use native.Mathlib.Nat.{pow-suc}
 use Rattle.std.specs.List.{list_all}
-use Rattle.noise_script.specs.Numbers.{is_digit, is_number, value_of}
+use Rattle.noise_script.specs.Numbers.{is_digit, value_of}
 
 pub value-snoc : (digits : List ℕ) (digit : ℕ) → value_of (digits ++ digit ∷ []) ≡ 10 * value_of digits + (digit - 48)
 value-snoc [] digit = omega arith
@@ -23,8 +23,9 @@ value-more word i h = ap value_of (take_more word i 0 h) ∙ value-snoc (take i 
 pub value-small : (digits : List ℕ) → list_all is_digit digits ≡ true → value_of digits < 10 ^ length digits
 value-small [] h = omega arith
 value-small (x ∷ digits) h =
-    let later = value-small digits (and_parts _ _ h).1 in
-    let few : x ≤ 57 = leb-true x 57 (and_parts _ _ (and_parts _ _ h).0).1 in
+    let parts = and_parts (is_digit x) (list_all is_digit digits) h in
+    let later = value-small digits parts.1 in
+    let few : x ≤ 57 = leb-true x 57 (and_parts (leb 48 x) (leb x 57) parts.0).1 in
     let low : x - 48 ≤ 9 = omega (arith, few) in
     rw (pow-suc 10 (length digits)) (bounded (x - 48) (10 ^ length digits) (value_of digits) low later)
   where

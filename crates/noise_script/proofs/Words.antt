@@ -1,7 +1,5 @@
 -- Reading words one behind another.
-use Rattle.std.proofs.Common.{◌≡◌, ◌⊎◌, inl, inr, ℕ, List, [], ◌∷◌, sym, subst, Result, Ok, Err}
-use Rattle.std.specs.Prelude.{MatchResult, IsErrAnd}
-use Rattle.std.proofs.lemmas.Result.{err_from_is_err_and}
+use Rattle.std.proofs.Common.{inl, inr, ℕ, List, ◌∷◌, sym, subst}
 use Rattle.noise_script.specs.declared.cause.Cause.{Cause}
 use Rattle.noise_script.specs.Forms.{Argument, Value, Reads, FailsToRead, FirstFails}
 

@@ -1,6 +1,5 @@
 -- The texts that spell scripts, and the first fault of a text that spells none.
-use Rattle.std.specs.Prelude.{◌≡◌, ◌⊎◌, ℕ, ◌+◌, ◌<◌, ◌≤◌, Bool, true, false, List, [], ◌∷◌, ◌++◌, length, Option, Some, None}
-use Rattle.std.specs.List.{count_by}
+use Rattle.std.specs.Prelude.{◌≡◌, ◌⊎◌, ℕ, ◌+◌, ◌≤◌, Bool, true, false, if◌then◌else◌, List, [], ◌∷◌, ◌++◌, length, Option, Some, None}
 use Rattle.noise_script.specs.declared.cause.Cause.{Cause}
 use Rattle.noise_script.specs.declared.entry.Loss.{Loss}
 use Rattle.noise_script.specs.declared.entry.Hit.{Hit}
@@ -32,7 +31,8 @@ same_form _ _ = false
 
 -- how many lines of a form there are
 abbrev pub standing : Form → List Entry → ℕ
-standing form said = count_by (λ entry. same_form form (form_of entry)) said
+standing form [] = 0
+standing form (entry ∷ said) = (if same_form form (form_of entry) then 1 else 0) + standing form said
 
 -- of no form there are too many
 abbrev pub AreAllowed : List Entry → Type 0

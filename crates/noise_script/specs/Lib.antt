@@ -4,3 +4,5 @@ pub mod Lines
 pub mod Numbers
 pub mod Forms
 pub mod Grammar
+pub mod Draft
+pub mod Laws

@@ -4,6 +4,7 @@ use Rattle.std.specs.List.{list_any}
 use Rattle.noise_script.specs.declared.limits.TheConstants.{LOSE_LINES, HIT_LINES, NOISE_LINES}
 use Rattle.lapm_frames.specs.declared.frame.Role.{Role}
 use Rattle.lapm_frames.specs.declared.frame.Role.TheVariants.{Originator, Answerer}
+use Rattle.noise_script.specs.declared.entry.Delays.{Delays}
 use Rattle.noise_script.specs.declared.entry.Loss.{Loss}
 use Rattle.noise_script.specs.declared.entry.Hit.{Hit}
 use Rattle.noise_script.specs.declared.entry.Noise.{Noise}
@@ -19,6 +20,16 @@ pub record ScriptValue : Type 0 where
   pub losses : List Loss
   pub hits : List Hit
   pub noises : List Noise
+
+abbrev pub script_with : Delays → ℕ → List Loss → List Hit → List Noise → ScriptValue
+script_with delays tries losses hits noises = record {
+  delay_orig = delays.orig;
+  delay_answ = delays.answ;
+  tries = tries;
+  losses = losses;
+  hits = hits;
+  noises = noises;
+}
 
 -- turns that a slot of this sender is on the line
 abbrev pub delay_of : ScriptValue → Role → ℕ

@@ -1,5 +1,6 @@
 // What a line of a script says.
 
+use crate::forms::Form;
 use lapm_frames::Role;
 
 /// The slots that a role sends in `count` turns from `from` on.
@@ -45,4 +46,22 @@ pub(crate) enum Entry {
     Lose(Loss),
     Hit(Hit),
     Noise(Noise),
+}
+
+impl Entry {
+    ghost use Rattle.noise_script.specs.Forms.{form_of};
+    ghost use Rattle.std.specs.Prelude.{◌≡◌};
+
+    /// The form of the lines that say this.
+    pub(crate) fn form(&self) -> Form
+        ensures { result ≡ form_of self.now }
+    {
+        match self {
+            Entry::Delay(_) => Form::Delay,
+            Entry::Tries(_) => Form::Tries,
+            Entry::Lose(_) => Form::Lose,
+            Entry::Hit(_) => Form::Hit,
+            Entry::Noise(_) => Form::Noise,
+        }
+    }
 }

@@ -5,13 +5,16 @@
 #![tactic(auto)]
 
 mod cause;
+mod draft;
 mod entry;
 mod fault;
 mod forms;
+pub mod laws;
 mod limits;
 mod lines;
 mod numbers;
 mod offset;
+mod reader;
 mod reading;
 mod script;
 
@@ -20,4 +23,8 @@ pub use entry::{Hit, Loss, Noise};
 pub use fault::ScriptFault;
 pub use limits::{HIT_LINES, LOSE_LINES, NOISE_LINES, OFFSET_MOST, SCRIPT_OCTETS};
 pub use offset::Offset;
+pub use reader::read_script;
 pub use script::Script;
+
+#[cfg(test)]
+mod tests;

@@ -5,6 +5,7 @@ ghost use Rattle.noise_script.specs.Lines.{begins_with};
 ghost use Rattle.noise_script.specs.Forms.{ARole, Number, Signed, RoleIs, NumberIs, SignedIs, Spells, Fails};
 
 use crate::Cause;
+use crate::forms::Range;
 use lapm_frames::Role;
 
 /// A number of 1 to 20 decimal digits.
@@ -26,12 +27,12 @@ fn read_digits(word: &[u8]) -> Option<u128>
     Some(value)
 }
 
-/// A number of 1 to 20 decimal digits, where it is from `low` to `high`.
-pub(crate) fn read_number(word: &[u8], low: u64, high: u64) -> Result<u64, Cause>
-    ensures { MatchResult result (λ value. Spells (Number low high) word.now (NumberIs value)) (Fails (Number low high) word.now) }
+/// A number of 1 to 20 decimal digits, where it is in its range.
+pub(crate) fn read_number(word: &[u8], range: Range) -> Result<u64, Cause>
+    ensures { MatchResult result (λ value. Spells (Number range.low range.high) word.now (NumberIs value)) (Fails (Number range.low range.high) word.now) }
 {
     let value = read_digits(word).ok_or(Cause::Number)?;
-    if value < u128::from(low) || value > u128::from(high) {
+    if value < u128::from(range.low) || value > u128::from(range.high) {
         return Err(Cause::Range);
     }
     Ok(value as u64)

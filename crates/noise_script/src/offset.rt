@@ -2,7 +2,7 @@
 ghost use Rattle.std.specs.Prelude.{◌≡◌, ◌+◌, ◌<◌, ◌≤◌, ◌*◌, ◌-◌, ◌^◌, length, map};
 ghost use Rattle.noise_script.specs.Offsets.{plus, sum_of, IsWithin, stream_of, word_at, drawn, drawn_offset, covers, same_role, hit_offset, noise_offset, IsQuiet, AreQuiet};
 
-use crate::limits::{HIT_LINES, NOISE_LINES};
+use crate::limits::{HIT_LINES, NOISE_LINES, OFFSET_MOST};
 use crate::{Hit, Noise};
 use lapm_frames::Role;
 use rand_core::utils::NextWord;
@@ -36,6 +36,7 @@ fn plus(a: Offset, b: Offset) -> Offset
     }
 }
 
+/// What one hit line adds to a symbol.
 fn hit_offset(hit: &Hit, sender: Role, symbol: u64) -> Offset
     ensures value { result ≡ hit_offset sender symbol hit.now }
     ensures small { IsWithin 32768 result }
@@ -59,7 +60,7 @@ fn stream_of(sender: Role) -> u64
     }
 }
 
-/// A part of an offset from half a word.
+/// A part of an offset from half a word, at most `amplitude` from zero.
 fn drawn(amplitude: u16, half: u32) -> i32
     requires { half < 65536 }
     ensures { result ≡ drawn amplitude half }
@@ -67,6 +68,7 @@ fn drawn(amplitude: u16, half: u32) -> i32
     (half % (2 * u32::from(amplitude) + 1)) as i32 - i32::from(amplitude)
 }
 
+/// A generator's word, counted from 0, without the words before it.
 fn word_at(seed: u64, stream: u64, place: u64) -> u32
     ensures { result ≡ word_at seed stream place }
 {
@@ -75,6 +77,7 @@ fn word_at(seed: u64, stream: u64, place: u64) -> u32
     words.next_word()
 }
 
+/// An offset from a word: re by its low half, im by its high half.
 fn drawn_offset(amplitude: u16, word: u32) -> Offset
     requires { amplitude < 32768 }
     ensures value { result ≡ drawn_offset amplitude word }
@@ -86,6 +89,7 @@ fn drawn_offset(amplitude: u16, word: u32) -> Offset
     }
 }
 
+/// What one noise line adds to a symbol.
 fn noise_offset(noise: &Noise, sender: Role, symbol: u64) -> Offset
     requires { IsQuiet noise.now }
     ensures value { result ≡ noise_offset sender symbol noise.now }
@@ -98,7 +102,7 @@ fn noise_offset(noise: &Noise, sender: Role, symbol: u64) -> Offset
     drawn_offset(noise.amplitude, word)
 }
 
-/// What hit lines add to a symbol.
+/// What hit lines add to a symbol, together.
 pub(crate) fn offset_of_hits(hits: &[Hit], sender: Role, symbol: u64) -> Offset
     requires { length hits.now ≤ HIT_LINES }
     ensures value { result ≡ sum_of (map (hit_offset sender symbol) hits.now) }
@@ -111,7 +115,7 @@ pub(crate) fn offset_of_hits(hits: &[Hit], sender: Role, symbol: u64) -> Offset
     sum
 }
 
-/// What noise lines add to a symbol.
+/// What noise lines add to a symbol, together.
 pub(crate) fn offset_of_noises(noises: &[Noise], sender: Role, symbol: u64) -> Offset
     requires few { length noises.now ≤ NOISE_LINES }
     requires quiet { AreQuiet noises.now }
@@ -125,12 +129,12 @@ pub(crate) fn offset_of_noises(noises: &[Noise], sender: Role, symbol: u64) -> O
     sum
 }
 
-/// The sum of two offsets.
-pub(crate) fn both(a: Offset, b: Offset) -> Offset
-    requires a { IsWithin (32768 * HIT_LINES) a }
-    requires b { IsWithin (32767 * NOISE_LINES) b }
-    ensures value { result ≡ plus a b }
-    ensures small { IsWithin 35651520 result }
+/// What hit lines and noise lines add together.
+pub(crate) fn total(hits: Offset, noises: Offset) -> Offset
+    requires hits { IsWithin (32768 * HIT_LINES) hits }
+    requires noises { IsWithin (32767 * NOISE_LINES) noises }
+    ensures value { result ≡ plus hits noises }
+    ensures small { IsWithin OFFSET_MOST result }
 {
-    plus(a, b)
+    plus(hits, noises)
 }

@@ -5,17 +5,10 @@ ghost use Rattle.noise_script.specs.Forms.{ARole, Number, Signed, RoleIs, Number
 
 use crate::Cause;
 use crate::entry::{Delays, Entry, Hit, Loss, Noise};
-use crate::forms::Form;
+use crate::forms::{AMPLITUDE, COUNT, DELAY, Form, Range, SEED, SYMBOL, TRIES, TURN};
 use crate::lines::{count_words, next_word};
 use crate::numbers::{read_number, read_role, read_signed};
 use lapm_frames::Role;
-
-const DELAY_MOST: u64 = 60;
-const TRIES_MOST: u64 = 20;
-const TURN_MOST: u64 = 4_294_967_295;
-const COUNT_MOST: u64 = 4_294_967_295;
-const SYMBOL_MOST: u64 = 1_099_511_627_775;
-const AMPLITUDE_MOST: u64 = 32767;
 
 /// The role at the front of a line, and the line behind it.
 fn role(line: &[u8]) -> Result<(Role, &[u8]), Cause>
@@ -26,13 +19,13 @@ fn role(line: &[u8]) -> Result<(Role, &[u8]), Cause>
     Ok((read_role(word)?, rest))
 }
 
-/// The number from `low` to `high` at the front of a line, and the line behind it.
-fn number(line: &[u8], low: u64, high: u64) -> Result<(u64, &[u8]), Cause>
+/// The number at the front of a line, and the line behind it.
+fn number(line: &[u8], range: Range) -> Result<(u64, &[u8]), Cause>
     requires { 0 < length (words_of line.now) }
-    ensures { MatchResult result (λ read. Reads (Number low high) (words_of line.now) (NumberIs read.0) (words_of read.1.now)) (FailsToRead (Number low high) (words_of line.now)) }
+    ensures { MatchResult result (λ read. Reads (Number range.low range.high) (words_of line.now) (NumberIs read.0) (words_of read.1.now)) (FailsToRead (Number range.low range.high) (words_of line.now)) }
 {
     let (word, rest) = next_word(line).ok_or(Cause::Count)?;
-    Ok((read_number(word, low, high)?, rest))
+    Ok((read_number(word, range)?, rest))
 }
 
 /// The coordinate at the front of a line, and the line behind it.
@@ -48,8 +41,8 @@ fn read_delays(words: &[u8]) -> Result<Delays, Cause>
     requires { length (words_of words.now) ≡ 2 }
     ensures { MatchResult result (λ delays. SpellsForm Form.Delay (words_of words.now) (Entry.Delay delays)) (FirstFails (arguments_of Form.Delay) (words_of words.now)) }
 {
-    let (orig, words) = number(words, 1, DELAY_MOST)?;
-    let (answ, _) = number(words, 1, DELAY_MOST)?;
+    let (orig, words) = number(words, DELAY)?;
+    let (answ, _) = number(words, DELAY)?;
     Ok(Delays {
         orig: orig as u8,
         answ: answ as u8,
@@ -60,7 +53,7 @@ fn read_tries(words: &[u8]) -> Result<u8, Cause>
     requires { length (words_of words.now) ≡ 1 }
     ensures { MatchResult result (λ tries. SpellsForm Form.Tries (words_of words.now) (Entry.Tries tries)) (FirstFails (arguments_of Form.Tries) (words_of words.now)) }
 {
-    let (tries, _) = number(words, 1, TRIES_MOST)?;
+    let (tries, _) = number(words, TRIES)?;
     Ok(tries as u8)
 }
 
@@ -69,8 +62,8 @@ fn read_loss(words: &[u8]) -> Result<Loss, Cause>
     ensures { MatchResult result (λ loss. SpellsForm Form.Lose (words_of words.now) (Entry.Lose loss)) (FirstFails (arguments_of Form.Lose) (words_of words.now)) }
 {
     let (role, words) = role(words)?;
-    let (from, words) = number(words, 0, TURN_MOST)?;
-    let (count, _) = number(words, 1, COUNT_MOST)?;
+    let (from, words) = number(words, TURN)?;
+    let (count, _) = number(words, COUNT)?;
     Ok(Loss {
         role,
         from: from as u32,
@@ -83,8 +76,8 @@ fn read_hit(words: &[u8]) -> Result<Hit, Cause>
     ensures { MatchResult result (λ hit. SpellsForm Form.Hit (words_of words.now) (Entry.Hit hit)) (FirstFails (arguments_of Form.Hit) (words_of words.now)) }
 {
     let (role, words) = role(words)?;
-    let (from, words) = number(words, 0, SYMBOL_MOST)?;
-    let (count, words) = number(words, 1, COUNT_MOST)?;
+    let (from, words) = number(words, SYMBOL)?;
+    let (count, words) = number(words, COUNT)?;
     let (re, words) = coordinate(words)?;
     let (im, _) = coordinate(words)?;
     Ok(Hit {
@@ -101,10 +94,10 @@ fn read_noise(words: &[u8]) -> Result<Noise, Cause>
     ensures { MatchResult result (λ noise. SpellsForm Form.Noise (words_of words.now) (Entry.Noise noise)) (FirstFails (arguments_of Form.Noise) (words_of words.now)) }
 {
     let (role, words) = role(words)?;
-    let (from, words) = number(words, 0, SYMBOL_MOST)?;
-    let (count, words) = number(words, 1, COUNT_MOST)?;
-    let (amplitude, words) = number(words, 0, AMPLITUDE_MOST)?;
-    let (seed, _) = number(words, 0, u64::MAX)?;
+    let (from, words) = number(words, SYMBOL)?;
+    let (count, words) = number(words, COUNT)?;
+    let (amplitude, words) = number(words, AMPLITUDE)?;
+    let (seed, _) = number(words, SEED)?;
     Ok(Noise {
         role,
         from,

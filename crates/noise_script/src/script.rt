@@ -1,9 +1,10 @@
 // What the line does to slots and samples, by a script.
 ghost use Rattle.std.specs.Prelude.{◌≡◌, ◌≤◌};
-ghost use Rattle.noise_script.specs.Script.{delay_of, loses, offset_of};
+ghost use Rattle.noise_script.specs.Script.{IsInLimits, script_with, delay_of, loses, offset_of};
 ghost use Rattle.noise_script.specs.Offsets.{IsWithin};
 
-use crate::offset::{both, covers, offset_of_hits, offset_of_noises};
+use crate::entry::Delays;
+use crate::offset::{covers, offset_of_hits, offset_of_noises, total};
 use crate::{Hit, Loss, Noise, OFFSET_MOST, Offset};
 use lapm_frames::Role;
 use std::marker::Model;
@@ -30,6 +31,26 @@ impl Model for Script {
 }
 
 impl Script {
+    pub(crate) fn new(
+        delays: Delays,
+        tries: u8,
+        losses: Vec<Loss>,
+        hits: Vec<Hit>,
+        noises: Vec<Noise>,
+    ) -> Self
+        requires { IsInLimits (script_with delays tries losses.items hits.items noises.items) }
+        ensures { result ≡ script_with delays tries losses.items hits.items noises.items }
+    {
+        Script {
+            delay_orig: delays.orig,
+            delay_answ: delays.answ,
+            tries,
+            losses,
+            hits,
+            noises,
+        }
+    }
+
     /// How many turns a slot of this sender is on the line.
     pub fn delay(&self, sender: Role) -> u8
         ensures value { result ≡ delay_of self.now sender }
@@ -64,7 +85,7 @@ impl Script {
         ensures value { result ≡ offset_of self.now sender symbol }
         ensures small { IsWithin OFFSET_MOST result }
     {
-        both(
+        total(
             offset_of_hits(&self.hits, sender, symbol),
             offset_of_noises(&self.noises, sender, symbol),
         )

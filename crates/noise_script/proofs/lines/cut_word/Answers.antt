@@ -1,8 +1,5 @@
-use Rattle.std.proofs.Common.{◌≡◌, ◌≢◌, ℕ, List, [], ◌∷◌, ◌++◌, take, drop, get_or, length, true, false, sym, ap, subst, ◌∙◌, arith, append-nil}
-use Rattle.std.proofs.lemmas.List.{take_all}
-use Rattle.std.specs.List.{list_all}
-use Rattle.noise_script.specs.Lines.{is_blank, is_in_word, words_of}
-use Rattle.noise_script.proofs.Cuts.{is_no_blank, word-cut-at, word-whole}
+use Rattle.std.proofs.Common.{sym, ◌∙◌}
+use Rattle.noise_script.proofs.Cuts.{word-cut-at, word-whole}
 use Rattle.noise_script.proofs.lines.cut_word.Goals as goal
 
 pub returns-then-is_blank-clause-words : goal.returns-then-is_blank-clause-words

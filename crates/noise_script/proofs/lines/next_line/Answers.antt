@@ -1,5 +1,4 @@
-use Rattle.std.proofs.Common.{◌≡◌, ◌≢◌, ℕ, List, [], ◌∷◌, ◌++◌, take, drop, get_or, length, true, false, sym, ap, subst, ◌∙◌, arith, append-nil}
-use Rattle.noise_script.proofs.Cuts.{passes-more, no-feed, line-cut-at, line-whole}
+use Rattle.noise_script.proofs.Cuts.{line-cut-at, line-whole}
 use Rattle.noise_script.proofs.lines.next_line.Goals as goal
 
 pub returns-then-octet-eq10-clause-lines : goal.returns-then-octet-eq10-clause-lines

@@ -1,6 +1,4 @@
-use Rattle.std.proofs.Common.{◌≡◌, ℕ, ◌+◌, ◌-◌, ◌*◌, ◌^◌, ◌<◌, ◌≤◌, true, take, length, get_or, sym, ap, subst, ◌∙◌, refl, arith, Fits}
-use Rattle.std.specs.List.{list_all}
-use Rattle.noise_script.specs.Numbers.{is_digit, value_of}
+use Rattle.std.proofs.Common.{sym, ◌∙◌, arith}
 use Rattle.noise_script.proofs.Digits.{digit-more, digits-more, front-small, tenfold-fits}
 use Rattle.noise_script.proofs.numbers.read_digits.Goals as goal
 
