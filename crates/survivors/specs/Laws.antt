@@ -1,5 +1,5 @@
 -- Laws of survivors, of what they release and of where a line is lost.
-use Rattle.std.specs.Prelude.{◌≡◌, ℕ, List, [], ◌∷◌, ◌++◌, length, take, Option, Some}
+use Rattle.std.specs.Prelude.{◌≡◌, ℕ, List, ◌++◌, length, take, Option, Some}
 use Rattle.symbol_map.specs.declared.sample.Sample.{Sample}
 use Rattle.survivors.specs.Trellises.{Trellis, IsSequence, HasLaws}
 use Rattle.survivors.specs.Orders.{IsPrefixOf}

@@ -1,4 +1,4 @@
-use Rattle.std.proofs.Common.{ℕ, ◌≡◌, ◌<◌, Some, All, length, arith, sym, ◌∙◌, ap, subst}
+use Rattle.std.proofs.Common.{ℕ, ◌≡◌, ◌<◌, Some, length, arith, sym, ◌∙◌, ap, subst}
 use Rattle.std.proofs.lemmas.List.Elements.{All-same}
 use Rattle.exact_decoder.specs.Columns.{sums_at, tail_at}
 use Rattle.exact_decoder.specs.Kept.{Kept, IsLeastSum}

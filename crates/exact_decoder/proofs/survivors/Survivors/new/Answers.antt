@@ -1,4 +1,4 @@
-use Rattle.std.proofs.Common.{replicate, set, Some, None, [], refl, sym, ◌∙◌, ap, subst, length, arith}
+use Rattle.std.proofs.Common.{replicate, set, Some, [], sym, ◌∙◌, ap, subst, length, arith}
 use Rattle.std.proofs.lemmas.List.{length-replicate}
 use Rattle.exact_decoder.specs.Kept.{IsShaped}
 use Rattle.exact_decoder.proofs.Started.{start-shaped}
