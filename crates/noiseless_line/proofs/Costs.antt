@@ -19,7 +19,7 @@ far-swap a b in_a in_b = distance_of-swap (point_of a) (point_of b) ∙ distance
 
 pub length-points : (labels : List ℕ) → length (map point_of labels) ≡ length labels
 length-points [] = refl
-length-points (x ∷ labels) = ap (λ n. n + 1) (length-points labels)
+length-points (x ∷ labels) = omega (arith, length-points labels)
 
 pub cost-append : (f q : List ℕ) (r w : List Sample) → length f ≡ length r → cost far_from (f ++ q) (r ++ w) ≡ cost far_from f r + cost far_from q w
 cost-append [] q [] w h = omega arith

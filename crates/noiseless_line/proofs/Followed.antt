@@ -53,7 +53,7 @@ sent-survives start end labels l = record {
     against other o (inl none) = inl (no-cost-own start start end end other labels (leads-of start (map point_of labels) other end o) l (o.same_length ∙ length-points labels) none)
     against other o (inr some) = inr (inl (elim (cases_lt 0 (cost far_from other (map point_of labels))) [
       | inl more ↦ omega (arith, cost-own labels)
-      | inr zero_is ↦ let none : cost far_from other (map point_of labels) ≡ 0 = omega arith in absurd (some none)
+      | inr none_more ↦ let none : cost far_from other (map point_of labels) ≡ 0 = omega arith in absurd (some none)
     ]))
 
 pub only-least : (start end : ℕ) (labels : List ℕ) → Leads next_state start labels end → IsOnlyLeast start labels (map point_of labels)

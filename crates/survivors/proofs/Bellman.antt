@@ -5,7 +5,8 @@ use Rattle.trellis_tables.specs.Sequences.{cost}
 use Rattle.survivors.specs.Orders.{Beats}
 use Rattle.survivors.specs.Trellises.{Trellis, IsSequence}
 use Rattle.survivors.specs.Survivors.{IsSurvivor}
-use Rattle.survivors.proofs.Snoc.{Leads-snoc, Leads-front, cost-snoc, Less-last, Less-front, Less-of_front, snoc_of}
+use Rattle.trellis_tables.proofs.Sequences.{Leads-snoc, Leads-front, cost-snoc}
+use Rattle.survivors.proofs.Snoc.{Less-last, Less-front, Less-of_front, snoc_of}
 
 pub length-snoc : {X : Type 0} (xs : List X) (x : X) → length (xs ++ x ∷ []) ≡ length xs + 1
 length-snoc {X} xs x = omega (arith, length-append {A = X})

@@ -5,7 +5,8 @@ use Rattle.trellis_tables.specs.Sequences.{cost}
 use Rattle.survivors.specs.Trellises.{Trellis, IsSequence}
 use Rattle.survivors.specs.Survivors.{IsSurvivor}
 use Rattle.survivors.specs.Steps.{Branch, KnowsState, Keeps, GoesOn, Enters, Chooses}
-use Rattle.survivors.proofs.Snoc.{Leads-front, cost-snoc, snoc_of}
+use Rattle.trellis_tables.proofs.Sequences.{Leads-front, cost-snoc}
+use Rattle.survivors.proofs.Snoc.{snoc_of}
 use Rattle.survivors.proofs.Release.{survivor-one}
 use Rattle.survivors.proofs.Bellman.{Candidate, survivor-more, length-snoc}
 

@@ -6,7 +6,8 @@ use Rattle.std.proofs.Math.Nat.{eq-or-lt_of_le}
 use Rattle.trellis_tables.specs.Sequences.{Leads, cost}
 use Rattle.survivors.specs.Trellises.{Trellis, IsSequence, HasLaws}
 use Rattle.survivors.specs.Survivors.{IsSurvivor}
-use Rattle.survivors.proofs.Snoc.{Leads-front, snoc_of}
+use Rattle.trellis_tables.proofs.Sequences.{Leads-front}
+use Rattle.survivors.proofs.Snoc.{snoc_of}
 use Rattle.survivors.proofs.Release.{survivor-one}
 use Rattle.survivors.proofs.Bellman.{Candidate, IsChosen, length-snoc, sequence-more, survivor-more}
 
