@@ -8,11 +8,11 @@
 
 mod choice;
 mod decoder;
+mod kept;
 mod labels;
 mod release;
 mod room;
 mod step;
-mod survivors;
 mod tail;
 #[cfg(test)]
 mod tests;

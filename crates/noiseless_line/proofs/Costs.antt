@@ -1,8 +1,8 @@
 -- What labels cost against the points of others, in units of 2048 squared.
-use Rattle.std.proofs.Common.{◌≡◌, ℕ, ◌+◌, ◌*◌, ◌<◌, ◌≤◌, List, [], ◌∷◌, ◌++◌, length, map, arith, refl, sym, ◌∙◌, ap, subst}
+use Rattle.std.proofs.Common.{◌≡◌, ℕ, ◌+◌, ◌*◌, ◌<◌, List, [], ◌∷◌, ◌++◌, length, map, arith, refl, ◌∙◌}
 use Rattle.symbol_map.specs.declared.sample.Sample.{Sample}
 use Rattle.symbol_map.specs.Points.{point_of}
-use Rattle.symbol_map.specs.Distance.{distance_of, apart}
+use Rattle.symbol_map.specs.Distance.{apart}
 use Rattle.symbol_map.proofs.Distances.{distance_of-swap, equal_from_no_distance, no_distance_from_equal}
 use Rattle.symbol_map.proofs.MapFacts.{distance_in_map_units, points_differ}
 use Rattle.trellis_tables.specs.Sequences.{Leads, cost}

@@ -1,5 +1,5 @@
 -- Survivors of samples without noise, and what they release.
-use Rattle.std.proofs.Common.{◌≡◌, ℕ, ◌+◌, ◌-◌, ◌*◌, ◌<◌, ◌≤◌, ◌⊎◌, inl, inr, nat_eq, List, [], ◌∷◌, ◌++◌, length, map, take, drop, arith, length-append, append_assoc, Option, Some, None, refl, sym, ◌∙◌, ap, subst, eq-eqb}
+use Rattle.std.proofs.Common.{◌≡◌, ℕ, ◌+◌, ◌-◌, ◌<◌, ◌≤◌, ◌⊎◌, inl, inr, nat_eq, List, ◌++◌, length, map, take, drop, arith, length-append, append_assoc, None, refl, sym, ◌∙◌, ap, subst, eq-eqb}
 use Rattle.std.proofs.lemmas.Bool.{cases_lt, cases_eq, eqb-true}
 use Rattle.std.proofs.lemmas.List.{map-append, take-map, take_all, take_at, take-append-le, take-append-drop, length-take-le}
 use Rattle.symbol_map.specs.declared.sample.Sample.{Sample}
@@ -11,7 +11,7 @@ use Rattle.trellis_tables.specs.Laws.{far_from}
 use Rattle.trellis_tables.proofs.Sequences.{Leads-take, Leads_once}
 use Rattle.survivors.specs.Trellises.{IsSequence, HasLaws}
 use Rattle.survivors.specs.Orders.{IsPrefixOf, Beats}
-use Rattle.survivors.specs.Survivors.{IsSurvivor, IsReleased, IsLeast, LostIs}
+use Rattle.survivors.specs.Survivors.{IsSurvivor, IsReleased, LostIs}
 use Rattle.survivors.proofs.Release.{survivor-one}
 use Rattle.survivors.proofs.Bellman.{least_cost}
 use Rattle.survivors.proofs.Fronts.{fronts-survive, lost-once}

@@ -1,8 +1,7 @@
 -- Two sequences of one length part for good behind the last state that they share. What the parted symbols cost grows.
-use Rattle.std.proofs.Common.{◌≡◌, ◌≢◌, ℕ, zero, suc, ◌+◌, ◌*◌, ◌<◌, ◌≤◌, ◌⊎◌, inl, inr, List, [], ◌∷◌, ◌++◌, length, map, arith, Some, refl, sym, ◌∙◌, ap, subst}
+use Rattle.std.proofs.Common.{◌≡◌, ℕ, zero, suc, ◌+◌, ◌*◌, ◌≤◌, ◌⊎◌, inl, inr, List, [], ◌∷◌, ◌++◌, length, map, arith, Some, refl, sym, ap, subst}
 use Rattle.std.proofs.lemmas.Bool.{cases_eq}
 use Rattle.symbol_map.specs.Points.{point_of}
-use Rattle.symbol_map.specs.Distance.{apart}
 use Rattle.trellis_tables.specs.Sequences.{Leads, cost}
 use Rattle.trellis_tables.specs.Table.{next_state}
 use Rattle.trellis_tables.specs.Laws.{far_from}
@@ -59,18 +58,18 @@ meets s t u v (a ∷ q) (d ∷ c) (m, i, p) (n, j, o) h =
     now later = elim (cases_eq s t) [
       | inr differ ↦ inl (differ, m, n, i, j, later)
       | inl same ↦ inr (record {
-          front = [];
-          own_front = [];
-          rest = a ∷ q;
-          own_rest = d ∷ c;
-          joined = refl;
-          own_joined = refl;
-          same_length = refl;
-          mid = s;
-          leads = refl;
-          own_leads = sym same;
-          behind = (m, n, i, subst (λ x. next_state x d ≡ Some n) (sym same) j, later);
-        })
+        front = [];
+        own_front = [];
+        rest = a ∷ q;
+        own_rest = d ∷ c;
+        joined = refl;
+        own_joined = refl;
+        same_length = refl;
+        mid = s;
+        leads = refl;
+        own_leads = sym same;
+        behind = (m, n, i, subst (λ x. next_state x d ≡ Some n) (sym same) j, later);
+      })
     ]
 
     step : Parted m q n c ⊎ Meeting m q n c → Parted s (a ∷ q) t (d ∷ c) ⊎ Meeting s (a ∷ q) t (d ∷ c)

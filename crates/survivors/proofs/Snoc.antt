@@ -1,5 +1,5 @@
 -- The order from the last label, where both lists go on by one label.
-use Rattle.std.proofs.Common.{◌≡◌, ℕ, ◌+◌, ◌<◌, inl, inr, List, [], ◌∷◌, ◌++◌, length, arith, refl, ap, Option, Some}
+use Rattle.std.proofs.Common.{◌≡◌, ℕ, ◌+◌, ◌<◌, inl, inr, List, [], ◌∷◌, ◌++◌, length, arith, refl, ap}
 use Rattle.std.proofs.lemmas.List.{append_cancel_right}
 use Rattle.survivors.specs.Orders.{LessFromLast}
 

@@ -5,7 +5,7 @@ use Rattle.exact_decoder.specs.Columns.{sums_at}
 use Rattle.exact_decoder.specs.Tails.{EachLong, AllLabelsBelow, IsMoved, IsParted}
 use Rattle.exact_decoder.specs.Kept.{Kept, Released}
 use Rattle.exact_decoder.proofs.Lists.{moved-below}
-use Rattle.exact_decoder.proofs.survivors.Survivors.release.Goals as goal
+use Rattle.exact_decoder.proofs.kept.Survivors.release.Goals as goal
 
 pub invariant_of-self : goal.invariant_of-self
 invariant_of-self g c =

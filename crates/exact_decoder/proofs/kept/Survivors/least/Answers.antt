@@ -3,7 +3,7 @@ use Rattle.std.proofs.lemmas.List.Elements.{All-same}
 use Rattle.exact_decoder.specs.Columns.{sums_at, tail_at}
 use Rattle.exact_decoder.specs.Kept.{Kept, IsLeastSum}
 use Rattle.exact_decoder.proofs.Lists.{at_default}
-use Rattle.exact_decoder.proofs.survivors.Survivors.least.Goals as goal
+use Rattle.exact_decoder.proofs.kept.Survivors.least.Goals as goal
 
 pub least-requires : goal.least-requires
 least-requires g c = subst (λ l. (s : ℕ) × (m : ℕ) × (sums_at l s ≡ Some m)) (sym c.deref.ensures.value) c.self.invariant.3.some_reached
