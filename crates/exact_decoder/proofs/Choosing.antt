@@ -1,3 +1,4 @@
+-- The best branch by a label below a number.
 use Rattle.std.proofs.Common.{◌≡◌, ℕ, ◌+◌, ◌<◌, ◌≤◌, ◌⊎◌, inl, inr, List, Option, Some, None, MatchOption, arith, sym, ap, subst}
 use Rattle.std.proofs.lemmas.Bool.{cases_lt}
 use Rattle.exact_decoder.specs.declared.choice.Choice.{Choice}

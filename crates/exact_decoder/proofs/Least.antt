@@ -1,9 +1,9 @@
 -- The first state of least sum, and the sequence of its survivor.
-use Rattle.std.proofs.Common.{◌≡◌, ℕ, ◌+◌, ◌<◌, ◌≤◌, inl, inr, List, ◌++◌, length, Option, Some, arith, refl, sym, ◌∙◌, ap, subst}
+use Rattle.std.proofs.Common.{◌≡◌, ℕ, ◌+◌, ◌<◌, ◌≤◌, inl, inr, List, ◌++◌, length, Option, Some, arith, sym, ◌∙◌, ap}
 use Rattle.std.proofs.lemmas.Bool.{cases_lt}
 use Rattle.trellis_tables.specs.Sequences.{cost}
 use Rattle.survivors.specs.Trellises.{Trellis, IsSequence}
-use Rattle.survivors.specs.Survivors.{IsSurvivor, IsLeast, IsFirstLeast}
+use Rattle.survivors.specs.Survivors.{IsFirstLeast}
 use Rattle.survivors.specs.Steps.{KnowsState}
 use Rattle.survivors.proofs.Columns.{kept, known}
 use Rattle.survivors.proofs.Release.{survivor-one}

@@ -1,3 +1,4 @@
+-- Loops over the lists that stand at all states.
 use Rattle.std.proofs.Common.{◌≡◌, ◌≢◌, ℕ, ◌+◌, ◌-◌, ◌<◌, ◌≤◌, inl, inr, MatchOption, append_assoc, length-append, List, [], ◌∷◌, ◌++◌, length, take, drop, All, get_or, set, Option, Some, None, option_map, arith, refl, sym, ◌∙◌, ap}
 use Rattle.std.proofs.lemmas.Grind.{common_steps}
 use Rattle.std.proofs.lemmas.Bool.{cases_lt}

@@ -1,11 +1,10 @@
 -- The distances of the labels below a number.
-use Rattle.std.proofs.Common.{◌≡◌, ◌≢◌, ℕ, ◌+◌, ◌^◌, ◌<◌, ◌≤◌, inl, inr, List, length, get_or, set, slice_index, arith, sym, ◌∙◌, ap, subst}
+use Rattle.std.proofs.Common.{◌≡◌, ◌≢◌, ℕ, ◌+◌, ◌^◌, ◌<◌, ◌≤◌, inl, inr, List, length, set, slice_index, arith, sym, ◌∙◌, ap}
 use Rattle.std.proofs.lemmas.Grind.{common_steps}
 use Rattle.std.proofs.lemmas.Bool.{cases_lt}
 use Rattle.std.proofs.lemmas.List.{length-set}
 use Rattle.symbol_map.specs.declared.sample.Sample.{Sample}
 use Rattle.symbol_map.specs.Distance.{distance_of}
-use Rattle.exact_decoder.specs.Columns.{AreDistances}
 
 pub record MeasuredBelow (points : ℕ → Sample) (labels : ℕ) (sample : Sample) (distances : List ℕ) (n : ℕ) : Type 0 where
   pub long : length distances ≡ labels

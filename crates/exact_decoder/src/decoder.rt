@@ -4,8 +4,8 @@ ghost use Rattle.survivors.specs.Trellises.{trellis_of};
 ghost use Rattle.survivors.specs.Survivors.{IsFirstLeast};
 ghost use Rattle.exact_decoder.specs.Decoder.{DecoderStands};
 
+use crate::kept::Survivors;
 use crate::labels::Labels;
-use crate::survivors::Survivors;
 use crate::tail::Tail;
 use outside_core::NoMemory;
 use std::alloc::Global;

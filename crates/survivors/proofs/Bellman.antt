@@ -1,3 +1,4 @@
+-- The front of a survivor survives, and the best branch from the survivors before makes the survivor.
 use Rattle.std.proofs.Common.{◌≡◌, ℕ, ◌+◌, ◌<◌, ◌≤◌, ◌⊎◌, inl, inr, List, [], ◌∷◌, ◌++◌, length, arith, length-append, refl, sym, ◌∙◌, ap, subst, Some}
 use Rattle.std.proofs.lemmas.List.{append_cancel_right}
 use Rattle.std.proofs.lemmas.Bool.{cases_lt}
@@ -5,7 +6,8 @@ use Rattle.trellis_tables.specs.Sequences.{cost}
 use Rattle.survivors.specs.Orders.{Beats}
 use Rattle.survivors.specs.Trellises.{Trellis, IsSequence}
 use Rattle.survivors.specs.Survivors.{IsSurvivor}
-use Rattle.survivors.proofs.Snoc.{Leads-snoc, Leads-front, cost-snoc, Less-last, Less-front, Less-of_front, snoc_of}
+use Rattle.trellis_tables.proofs.Sequences.{Leads-snoc, Leads-front, cost-snoc}
+use Rattle.survivors.proofs.Snoc.{Less-last, Less-front, Less-of_front, snoc_of}
 
 pub length-snoc : {X : Type 0} (xs : List X) (x : X) → length (xs ++ x ∷ []) ≡ length xs + 1
 length-snoc {X} xs x = omega (arith, length-append {A = X})

@@ -1,3 +1,4 @@
+-- The sums and paths of all states, sample by sample.
 use Rattle.std.proofs.Common.{◌≡◌, ℕ, ◌+◌, ◌-◌, ◌<◌, ◌≤◌, ◌⊎◌, inl, inr, Bool, true, false, if◌then◌else◌, List, [], ◌∷◌, ◌++◌, length, arith, refl, sym, ◌∙◌, ap, subst, Option, Some, None, option_map}
 use Rattle.std.proofs.lemmas.Bool.{false≢true}
 use Rattle.std.proofs.Math.Nat.{eq-or-lt_of_le}
@@ -5,7 +6,8 @@ use Rattle.trellis_tables.specs.Sequences.{cost}
 use Rattle.survivors.specs.Trellises.{Trellis, IsSequence}
 use Rattle.survivors.specs.Survivors.{IsSurvivor}
 use Rattle.survivors.specs.Steps.{Branch, KnowsState, Keeps, GoesOn, Enters, Chooses}
-use Rattle.survivors.proofs.Snoc.{Leads-front, cost-snoc, snoc_of}
+use Rattle.trellis_tables.proofs.Sequences.{Leads-front, cost-snoc}
+use Rattle.survivors.proofs.Snoc.{snoc_of}
 use Rattle.survivors.proofs.Release.{survivor-one}
 use Rattle.survivors.proofs.Bellman.{Candidate, survivor-more, length-snoc}
 

@@ -5,10 +5,11 @@ use Rattle.std.proofs.lemmas.List.{append-nil}
 use Rattle.std.proofs.Math.Nat.{eq-or-lt_of_le}
 use Rattle.trellis_tables.specs.Sequences.{Leads, cost}
 use Rattle.survivors.specs.Trellises.{Trellis, IsSequence, HasLaws}
-use Rattle.survivors.specs.Survivors.{IsSurvivor, IsLeast}
-use Rattle.survivors.proofs.Snoc.{Leads-front, snoc_of}
+use Rattle.survivors.specs.Survivors.{IsSurvivor}
+use Rattle.trellis_tables.proofs.Sequences.{Leads-front}
+use Rattle.survivors.proofs.Snoc.{snoc_of}
 use Rattle.survivors.proofs.Release.{survivor-one}
-use Rattle.survivors.proofs.Bellman.{Candidate, IsChosen, length-snoc, sequence-more, survivor-more, least_cost}
+use Rattle.survivors.proofs.Bellman.{Candidate, IsChosen, length-snoc, sequence-more, survivor-more}
 
 -- a state has a survivor, or never sequence leads to it
 abbrev pub Decided : {X : Type 0} → Trellis X → List X → ℕ → Type 0
@@ -128,10 +129,12 @@ decided-more {X} c states labels steps samples sample laws decided to = with-bes
     kept d state l q = elim (d state) [ inl s ↦ s | inr never ↦ absurd (never l q) ]
 
     chosen : (a : Candidate c samples to) → ((b : Candidate c samples to) → b.label < labels → NoWorse c samples sample to a b) → IsChosen c samples sample to a
-    chosen a best = record { best = λ b. elim (best b (laws.bounded b.before b.label to b.branch).1) [
-      | inl less ↦ inr (inl less)
-      | inr (equal, most) ↦ elim (eq-or-lt_of_le most) [ inl one ↦ inl one | inr first ↦ inr (inr (equal, first)) ]
-    ] }
+    chosen a best = record {
+      best = λ b. elim (best b (laws.bounded b.before b.label to b.branch).1) [
+        | inl less ↦ inr (inl less)
+        | inr (equal, most) ↦ elim (eq-or-lt_of_le most) [ inl one ↦ inl one | inr first ↦ inr (inr (equal, first)) ]
+      ];
+    }
 
     none : ((a : Candidate c samples to) → a.label < labels → ⊥) → (l : List ℕ) → IsSequence c (samples ++ sample ∷ []) l to → ⊥
     none nothing l q =
@@ -144,8 +147,10 @@ decided-more {X} c states labels steps samples sample laws decided to = with-bes
         nothing (record { before = parts.0; labels = k.0; label = cut.1; survivor = k.1; branch = parts.2 }) (laws.bounded parts.0 cut.1 to parts.2).1
 
     with-best : BestBelow c samples sample to labels → Decided c (samples ++ sample ∷ []) to
-    with-best (inl (a, low, best)) = inl (a.labels ++ a.label ∷ [],
-        survivor-more c samples sample to a (λ s u label e f. enters-once c states labels steps laws s u label to e f) (λ state l q. kept decided state l q) (chosen a best))
+    with-best (inl (a, low, best)) = inl (
+      a.labels ++ a.label ∷ [],
+      survivor-more c samples sample to a (λ s u label e f. enters-once c states labels steps laws s u label to e f) (λ state l q. kept decided state l q) (chosen a best),
+    )
     with-best (inr nothing) = inr (none nothing)
 
 decided-from : {X : Type 0} (c : Trellis X) (states labels steps : ℕ) (samples more : List X) → HasLaws c states labels steps → ((state : ℕ) → Decided c samples state) → (state : ℕ) → Decided c (samples ++ more) state

@@ -1,5 +1,5 @@
 -- What survivors begin with, and what stays of it.
-use Rattle.std.proofs.Common.{◌≡◌, ℕ, ◌+◌, ◌<◌, ◌≤◌, ◌⊎◌, inl, inr, List, [], ◌∷◌, ◌++◌, length, take, drop, arith, length-append, append_assoc, refl, sym, ◌∙◌, ap, subst, Option, Some, None}
+use Rattle.std.proofs.Common.{◌≡◌, ℕ, ◌+◌, ◌<◌, ◌≤◌, inl, inr, List, [], ◌∷◌, ◌++◌, length, take, drop, arith, length-append, append_assoc, refl, sym, ◌∙◌, ap, subst, Option, Some, None}
 use Rattle.std.proofs.lemmas.List.{append-nil, take-append-drop, take_all, take-take, take_at, take-append-le}
 use Rattle.std.proofs.lemmas.Bool.{cases_lt, cases_eq}
 use Rattle.survivors.specs.Trellises.{Trellis}
@@ -57,9 +57,9 @@ lost-once c depth samples (Some m) None h k = absurd (k (m + 1) (omega (arith, h
 lost-once c depth samples (Some m) (Some n) h k = ap Some (elim (cases_eq m n) [
   | inl e ↦ e
   | inr differ ↦ elim (cases_lt m n) [
-      | inl less ↦ absurd (k.first (m + 1) (omega arith) h.over)
-      | inr more ↦ let other : n < m = elim (cases_lt n m) [ inl l ↦ l | inr l ↦ let e : m ≡ n = omega arith in absurd (differ e) ] in absurd (h.first (n + 1) (omega arith) k.over)
-    ]
+    | inl less ↦ absurd (k.first (m + 1) (omega arith) h.over)
+    | inr more ↦ let other : n < m = elim (cases_lt n m) [ inl l ↦ l | inr l ↦ let e : m ≡ n = omega arith in absurd (differ e) ] in absurd (h.first (n + 1) (omega arith) k.over)
+  ]
 ])
 
 -- the first samples stay the same

@@ -1,7 +1,7 @@
 -- The survivor of least cost, and the longest list that all survivors begin with.
-use Rattle.std.proofs.Common.{◌≡◌, ℕ, zero, suc, ◌+◌, ◌<◌, ◌≤◌, ◌⊎◌, inl, inr, List, [], ◌∷◌, ◌++◌, length, take, drop, arith, length-append, append_assoc, refl, sym, ◌∙◌, ap, subst}
+use Rattle.std.proofs.Common.{◌≡◌, ℕ, zero, suc, ◌<◌, ◌≤◌, ◌⊎◌, inl, inr, List, [], ◌∷◌, ◌++◌, length, take, drop, arith, length-append, refl, sym, ◌∙◌, ap, subst}
 use Rattle.std.proofs.lemmas.Bool.{cases_lt, cases_eq}
-use Rattle.std.proofs.lemmas.List.{take_at, take_all, take-take, take-append-drop}
+use Rattle.std.proofs.lemmas.List.{take_at, take-take, take-append-drop}
 use Rattle.trellis_tables.specs.Sequences.{cost}
 use Rattle.survivors.specs.Trellises.{Trellis, IsSequence, HasLaws}
 use Rattle.survivors.specs.Orders.{IsPrefixOf}
@@ -26,27 +26,47 @@ least-below {X} c samples each (suc n) = next (each n) (least-below c samples ea
         ap (λ k. cost c.distance k samples) (survivor-one c samples other labels n (subst (λ t. IsSurvivor c samples other t) e v) s)
 
     next : Decided c samples n → LeastBelow c samples n → LeastBelow c samples (suc n)
-    next (inr never) (inl (labels, end, s, best)) = inl (labels, end, s, λ state other l v. elim (cases_lt state n) [
-      | inl less ↦ best state other less v
-      | inr more ↦ let e : state ≡ n = omega arith in absurd (never other (subst (λ t. IsSequence c samples other t) e v.sequence))
-    ])
+    next (inr never) (inl (labels, end, s, best)) = inl (
+      labels,
+      end,
+      s,
+      λ state other l v. elim (cases_lt state n) [
+        | inl less ↦ best state other less v
+        | inr more ↦ let e : state ≡ n = omega arith in absurd (never other (subst (λ t. IsSequence c samples other t) e v.sequence))
+      ],
+    )
     next (inr never) (inr none) = inr (λ state other l v. elim (cases_lt state n) [
       | inl less ↦ none state other less v
       | inr more ↦ let e : state ≡ n = omega arith in never other (subst (λ t. IsSequence c samples other t) e v.sequence)
     ])
-    next (inl (new, s)) (inr none) = inl (new, n, s, λ state other l v. elim (cases_lt state n) [
-      | inl less ↦ absurd (none state other less v)
-      | inr more ↦ omega (arith, at-last new state other s v l more)
-    ])
+    next (inl (new, s)) (inr none) = inl (
+      new,
+      n,
+      s,
+      λ state other l v. elim (cases_lt state n) [
+        | inl less ↦ absurd (none state other less v)
+        | inr more ↦ omega (arith, at-last new state other s v l more)
+      ],
+    )
     next (inl (new, s)) (inl (labels, end, t, best)) = elim (cases_lt (cost c.distance new samples) (cost c.distance labels samples)) [
-      | inl cheaper ↦ inl (new, n, s, λ state other l v. elim (cases_lt state n) [
+      | inl cheaper ↦ inl (
+        new,
+        n,
+        s,
+        λ state other l v. elim (cases_lt state n) [
           | inl less ↦ omega (arith, best state other less v)
           | inr more ↦ omega (arith, at-last new state other s v l more)
-        ])
-      | inr most ↦ inl (labels, end, t, λ state other l v. elim (cases_lt state n) [
+        ],
+      )
+      | inr most ↦ inl (
+        labels,
+        end,
+        t,
+        λ state other l v. elim (cases_lt state n) [
           | inl less ↦ best state other less v
           | inr more ↦ omega (arith, at-last new state other s v l more)
-        ])
+        ],
+      )
     ]
 
 -- a least sequence that is a survivor

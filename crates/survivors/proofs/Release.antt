@@ -1,8 +1,9 @@
-use Rattle.std.proofs.Common.{◌≡◌, ◌≢◌, ℕ, ◌⊎◌, inl, inr, List, [], ◌∷◌, ◌++◌, arith, refl, sym, subst, Option, Some}
+-- A state has one survivor; a prefix of two lists that part is a prefix of what they share.
+use Rattle.std.proofs.Common.{◌≡◌, ◌≢◌, ℕ, ◌≤◌, ◌⊎◌, inl, inr, List, [], ◌∷◌, ◌++◌, arith, refl, sym, subst, Option, Some}
 use Rattle.std.proofs.lemmas.List.{append-nil}
 use Rattle.survivors.specs.Orders.{LessFromLast, Beats, IsPrefixOf}
 use Rattle.survivors.specs.Trellises.{Trellis}
-use Rattle.survivors.specs.Survivors.{IsSurvivor, IsReleased}
+use Rattle.survivors.specs.Survivors.{IsSurvivor, IsReleased, IsFirstLeast}
 
 not_less-self : (a : List ℕ) → LessFromLast a a → ⊥
 not_less-self [] h = h
@@ -28,6 +29,13 @@ survivor-one c samples a b state h k = one (h.best b k.sequence) (k.best a h.seq
     one (inr (inl f)) (inr (inr (e, g))) = absurd (omega arith)
     one (inr (inr (e, f))) (inr (inl g)) = absurd (omega arith)
     one (inr (inr (e, f))) (inr (inr (i, g))) = absurd (not_less-both a b f g)
+
+pub first-least-once : {X : Type 0} (c : Trellis X) (samples : List X) (a b : List ℕ) → IsFirstLeast c samples a → IsFirstLeast c samples b → a ≡ b
+first-least-once c samples a b h k =
+    let below : h.end ≤ k.end = h.first k.end b k.survivor k.least in
+    let above : k.end ≤ h.end = k.first h.end a h.survivor h.least in
+    let same : h.end ≡ k.end = omega arith in
+    survivor-one c samples a b k.end (subst (IsSurvivor c samples a) same h.survivor) k.survivor
 
 -- a prefix of two lists that part after a front is a prefix of the front
 pub prefix-parted : (other front a b : List ℕ) (x y : ℕ) → x ≢ y → IsPrefixOf other (front ++ x ∷ a) → IsPrefixOf other (front ++ y ∷ b) → IsPrefixOf other front

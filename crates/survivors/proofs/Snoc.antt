@@ -1,24 +1,7 @@
-use Rattle.std.proofs.Common.{◌≡◌, ℕ, ◌+◌, ◌<◌, inl, inr, List, [], ◌∷◌, ◌++◌, length, arith, refl, ap, Option, Some}
+-- The order from the last label, where both lists go on by one label.
+use Rattle.std.proofs.Common.{◌≡◌, ℕ, ◌+◌, ◌<◌, inl, inr, List, [], ◌∷◌, ◌++◌, length, arith, refl, ap}
 use Rattle.std.proofs.lemmas.List.{append_cancel_right}
-use Rattle.trellis_tables.specs.Sequences.{Leads, cost}
 use Rattle.survivors.specs.Orders.{LessFromLast}
-
--- a sequence goes on by one label
-pub Leads-snoc : (next : ℕ → ℕ → Option ℕ) (from : ℕ) (labels : List ℕ) (mid label to : ℕ) → Leads next from labels mid → next mid label ≡ Some to → Leads next from (labels ++ label ∷ []) to
-Leads-snoc next from [] mid label to e b = (to, rw e b, refl)
-Leads-snoc next from (l ∷ labels) mid label to (m, e, rest) b = (m, e, Leads-snoc next m labels mid label to rest b)
-
-pub Leads-front : (next : ℕ → ℕ → Option ℕ) (from : ℕ) (labels : List ℕ) (label to : ℕ) → Leads next from (labels ++ label ∷ []) to → (mid : ℕ) × Leads next from labels mid × (next mid label ≡ Some to)
-Leads-front next from [] label to (m, e, same) = (from, refl, rw (← same) e)
-Leads-front next from (l ∷ labels) label to (m, e, rest) = let r = Leads-front next m labels label to rest in (r.0, (m, e, r.1), r.2)
-
-pub cost-snoc : {X : Type 0} (distance : ℕ → X → ℕ) (labels : List ℕ) (samples : List X) (label : ℕ) (sample : X) → length labels ≡ length samples → cost distance (labels ++ label ∷ []) (samples ++ sample ∷ []) ≡ cost distance labels samples + distance label sample
-cost-snoc distance [] [] label sample h = omega arith
-cost-snoc distance [] (y ∷ samples) label sample h = absurd (omega arith)
-cost-snoc distance (x ∷ labels) [] label sample h = absurd (omega arith)
-cost-snoc distance (x ∷ labels) (y ∷ samples) label sample h =
-    let same : length labels ≡ length samples = omega arith in
-    omega (arith, cost-snoc distance labels samples label sample same)
 
 pub Less-last : (a b : List ℕ) (x y : ℕ) → length a ≡ length b → x < y → LessFromLast (a ++ x ∷ []) (b ++ y ∷ [])
 Less-last [] [] x y h l = inr (refl, l)

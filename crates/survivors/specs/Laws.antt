@@ -1,9 +1,9 @@
 -- Laws of survivors, of what they release and of where a line is lost.
-use Rattle.std.specs.Prelude.{◌≡◌, ℕ, List, [], ◌∷◌, ◌++◌, length, take, Option, Some}
+use Rattle.std.specs.Prelude.{◌≡◌, ℕ, List, ◌++◌, length, take, Option, Some}
 use Rattle.symbol_map.specs.declared.sample.Sample.{Sample}
 use Rattle.survivors.specs.Trellises.{Trellis, IsSequence, HasLaws}
 use Rattle.survivors.specs.Orders.{IsPrefixOf}
-use Rattle.survivors.specs.Survivors.{IsSurvivor, IsReleased, IsLeast, LostIs}
+use Rattle.survivors.specs.Survivors.{IsSurvivor, IsReleased, IsLeast, IsFirstLeast, LostIs}
 
 -- a state has one survivor
 abbrev pub SurvivesOnce : Type 0
@@ -43,6 +43,11 @@ ReleasedStays = (t : Trellis Sample) (samples more : List Sample) (front later :
 abbrev pub ReleasedIsLeast : Type 0
 ReleasedIsLeast = (t : Trellis Sample) (states labels steps : ℕ) (samples : List Sample) (front : List ℕ)
     → HasLaws t states labels steps → IsReleased t samples front → (rest : List ℕ) × IsLeast t samples (front ++ rest)
+
+-- of the least sequences that survive one has the smallest end state
+abbrev pub FirstLeastOnce : Type 0
+FirstLeastOnce = (t : Trellis Sample) (samples : List Sample) (a b : List ℕ)
+    → IsFirstLeast t samples a → IsFirstLeast t samples b → a ≡ b
 
 -- a line is lost with one symbol or not at all, and stays lost with it
 abbrev pub LostOnce : Type 0

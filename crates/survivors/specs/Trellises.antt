@@ -1,5 +1,5 @@
 -- A trellis: what a decoder searches. Its sequences are those of a code that start in one of some states.
-use Rattle.std.specs.Prelude.{◌≡◌, ℕ, ◌<◌, ◌≤◌, Bool, true, List, length, Option, Some}
+use Rattle.std.specs.Prelude.{◌≡◌, ℕ, ◌<◌, ◌≤◌, Bool, true, List, length, Option}
 use Rattle.symbol_map.specs.declared.sample.Sample.{Sample}
 use Rattle.symbol_map.specs.Distance.{distance_of}
 use Rattle.trellis_tables.specs.Sequences.{IsCodeSequence}

@@ -1,5 +1,5 @@
 //! Laws of survivors, of what they release, and of where a line is lost. Each function's contract is a law.
-ghost use Rattle.survivors.specs.Laws.{SurvivesOnce, FrontsSurvive, EachReachedSurvives, SomeSurvives, SomeIsReleased, ReleasedOnce, ReleasedStays, ReleasedIsLeast, LostOnce, LostStays};
+ghost use Rattle.survivors.specs.Laws.{SurvivesOnce, FrontsSurvive, EachReachedSurvives, SomeSurvives, SomeIsReleased, ReleasedOnce, ReleasedStays, ReleasedIsLeast, FirstLeastOnce, LostOnce, LostStays};
 
 /// A state has at most one survivor.
 pub fn states_have_one_survivor()
@@ -31,6 +31,11 @@ pub fn released_labels_stay()
 /// What is released begins a sequence than which none costs less.
 pub fn released_labels_begin_a_least_sequence()
     ensures { ReleasedIsLeast }
+{}
+
+/// At most one sequence is the survivor of least cost with the smallest end state.
+pub fn one_survivor_is_first_of_the_least()
+    ensures { FirstLeastOnce }
 {}
 
 /// A line is lost with one symbol or not at all, and it stays so, whatever samples follow.

@@ -1,7 +1,6 @@
 use Rattle.std.proofs.Common.{true, ◌<◌, length, arith, ◌∙◌}
 use Rattle.exact_decoder.specs.declared.labels.TheConstants.{ROOM}
 use Rattle.exact_decoder.specs.Columns.{tail_at}
-use Rattle.exact_decoder.specs.Tails.{AllChosen}
 use Rattle.exact_decoder.proofs.Lists.{within_sums}
 use Rattle.exact_decoder.proofs.Advanced.{reached-next, long-next, below-next, small-next, leaves_within, each_choice}
 use Rattle.exact_decoder.proofs.step.step.Goals as goal
@@ -22,7 +21,7 @@ follow_all-requires-clause-room g c = each_choice (λ ch. length (tail_at c.args
 pub returns-clause-some : goal.returns-clause-some
 returns-clause-some g c =
     let r = reached-next g.C.TrellisCode.table g.C.TrellisCode.points g.row.STATES g.row.LABELS g.C.TrellisCode.REACH c.args.sample c.args.sums.now c.choose_all.new.choices (λ s. true) g.met.C.TrellisCode.reach_some g.met.C.TrellisCode.reaches
-        (λ starts. c.choose_all.ensures starts c.args.sample c.measure.ensures.exact) c.requires.some c.requires.states in
+    (λ starts. c.choose_all.ensures starts c.args.sample c.measure.ensures.exact) c.requires.some c.requires.states in
     (r.0, r.1, c.take_sums.ensures r.0 ∙ r.2)
 
 pub returns-clause-long : goal.returns-clause-long

@@ -1,7 +1,6 @@
-use Rattle.std.proofs.Common.{◌≡◌, ◌++◌, None, [], sym, ◌∙◌, ap, subst}
+use Rattle.std.proofs.Common.{◌≡◌, ◌++◌, None, [], sym, ◌∙◌, subst}
 use Rattle.survivors.specs.Trellises.{trellis_of}
 use Rattle.survivors.specs.Survivors.{IsFirstLeast}
-use Rattle.exact_decoder.specs.Columns.{tail_at}
 use Rattle.exact_decoder.specs.Decoder.{Decoding, DecoderStands}
 use Rattle.exact_decoder.proofs.Taken.{stands-final}
 use Rattle.exact_decoder.proofs.decoder.Decoder.finish.Goals as goal

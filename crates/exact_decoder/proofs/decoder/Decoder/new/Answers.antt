@@ -1,4 +1,4 @@
-use Rattle.std.proofs.Common.{◌≡◌, ◌<◌, ℕ, Some, None, [], All, refl, sym, ◌∙◌, ap, subst, length, arith}
+use Rattle.std.proofs.Common.{◌≡◌, ◌<◌, Some, None, [], refl, ap, subst, length, arith}
 use Rattle.std.proofs.lemmas.List.Elements.{All-same, All-nil}
 use Rattle.exact_decoder.specs.Columns.{sums_at}
 use Rattle.exact_decoder.specs.Decoder.{Decoding}

@@ -1,11 +1,11 @@
-use Rattle.std.proofs.Common.{ℕ, ◌≡◌, ◌<◌, ◌++◌, Some, All, length, arith, sym, ◌∙◌, ap, subst, refl}
+use Rattle.std.proofs.Common.{ℕ, ◌≡◌, Some, length, arith, sym, ◌∙◌, ap, subst, refl}
 use Rattle.std.specs.Vec.{with_items}
 use Rattle.std.proofs.lemmas.List.{with_items_is}
 use Rattle.exact_decoder.specs.Columns.{sums_at}
 use Rattle.exact_decoder.specs.Tails.{EachLong, AllLabelsBelow, IsMoved, IsParted}
 use Rattle.exact_decoder.specs.Kept.{Kept, Released}
 use Rattle.exact_decoder.proofs.Lists.{moved-below}
-use Rattle.exact_decoder.proofs.survivors.Survivors.release.Goals as goal
+use Rattle.exact_decoder.proofs.kept.Survivors.release.Goals as goal
 
 pub invariant_of-self : goal.invariant_of-self
 invariant_of-self g c =
@@ -50,4 +50,4 @@ returns-clause-below g c = λ h.
     let shape = c.self.invariant.3 in
     let m = c.release-self-inside.ensures.moved in
     moved-below g.row.LABELS c.deref.result.now c.deref_mut.result.now c.release-self-inside.new.tails c.args.pending.now c.release-self-inside.new.pending m.0 m.1 m.3
-        (subst (λ l. (s : ℕ) × (m : ℕ) × (sums_at l s ≡ Some m)) (sym s_was) shape.some_reached) (subst (AllLabelsBelow g.row.LABELS) (sym t_was) shape.tails_below) h
+    (subst (λ l. (s : ℕ) × (m : ℕ) × (sums_at l s ≡ Some m)) (sym s_was) shape.some_reached) (subst (AllLabelsBelow g.row.LABELS) (sym t_was) shape.tails_below) h

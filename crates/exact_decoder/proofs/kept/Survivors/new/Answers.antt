@@ -1,8 +1,8 @@
-use Rattle.std.proofs.Common.{replicate, set, Some, None, [], refl, sym, ◌∙◌, ap, subst, length, arith}
+use Rattle.std.proofs.Common.{replicate, set, Some, [], sym, ◌∙◌, ap, subst, length, arith}
 use Rattle.std.proofs.lemmas.List.{length-replicate}
 use Rattle.exact_decoder.specs.Kept.{IsShaped}
 use Rattle.exact_decoder.proofs.Started.{start-shaped}
-use Rattle.exact_decoder.proofs.survivors.Survivors.new.Goals as goal
+use Rattle.exact_decoder.proofs.kept.Survivors.new.Goals as goal
 
 pub invariant_of-result : goal.invariant_of-result
 invariant_of-result g c = (

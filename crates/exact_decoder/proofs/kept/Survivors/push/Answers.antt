@@ -4,7 +4,7 @@ use Rattle.std.proofs.lemmas.List.{with_items_is}
 use Rattle.exact_decoder.specs.Columns.{sums_at}
 use Rattle.exact_decoder.specs.Tails.{EachLong, AllLabelsBelow, AllChosen, AllFollow}
 use Rattle.exact_decoder.specs.Kept.{Kept, Stepped}
-use Rattle.exact_decoder.proofs.survivors.Survivors.push.Goals as goal
+use Rattle.exact_decoder.proofs.kept.Survivors.push.Goals as goal
 
 pub step-requires-clause-small : goal.step-requires-clause-small
 step-requires-clause-small g c =

@@ -1,9 +1,9 @@
-use Rattle.std.proofs.Common.{ℕ, ◌≡◌, ◌<◌, Some, All, length, arith, sym, ◌∙◌, ap, subst}
+use Rattle.std.proofs.Common.{ℕ, ◌≡◌, ◌<◌, Some, length, arith, sym, ◌∙◌, ap, subst}
 use Rattle.std.proofs.lemmas.List.Elements.{All-same}
 use Rattle.exact_decoder.specs.Columns.{sums_at, tail_at}
 use Rattle.exact_decoder.specs.Kept.{Kept, IsLeastSum}
 use Rattle.exact_decoder.proofs.Lists.{at_default}
-use Rattle.exact_decoder.proofs.survivors.Survivors.least.Goals as goal
+use Rattle.exact_decoder.proofs.kept.Survivors.least.Goals as goal
 
 pub least-requires : goal.least-requires
 least-requires g c = subst (λ l. (s : ℕ) × (m : ℕ) × (sums_at l s ≡ Some m)) (sym c.deref.ensures.value) c.self.invariant.3.some_reached
