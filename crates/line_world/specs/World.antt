@@ -43,9 +43,12 @@ slots_before role [] = []
 slots_before role (t ∷ ts) = slots_of role ts
 
 -- what the line carries after some turns: the slots of the last one, behind those of all others
-pub record CarriesLast (w : World) (ts : List Turn) : Type 0 where
+pub record BothCarry (w : World) (ts : List Turn) : Type 0 where
   pub from_orig : Carries w.from_orig Originator (slots_before Originator ts) (last_sent Originator ts)
   pub from_answ : Carries w.from_answ Answerer (slots_before Answerer ts) (last_sent Answerer ts)
+
+unfoldable pub CarriesLast : World → List Turn → Type 0
+CarriesLast w ts = BothCarry w ts
 
 -- the slots of all these turns have arrived
 pub record HaveArrived (w : World) (ts : List Turn) : Type 0 where
