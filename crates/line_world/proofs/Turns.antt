@@ -18,7 +18,8 @@ use Rattle.line_world.specs.declared.world.World.{World}
 use Rattle.line_world.specs.Direction.{Carries}
 use Rattle.line_world.specs.Slots.{slot_sent}
 use Rattle.line_world.specs.Run.{Files, Turn, Ends, IsSpent, Listens, both_whole, last_sent}
-use Rattle.line_world.specs.World.{Written, WritesTurn, Stopped, EndsBy, IsFolderFault, HasRunCause, IsTries, IsLinkLost, SameLine, BothCarry, CarriesLast, HaveArrived, slots_before, slots_of}
+use Rattle.line_world.specs.World.{Written, WritesTurn, Stopped, EndsBy, IsFolderFault, HasRunCause, IsTries, IsLinkLost, SameLine, BothCarry, CarriesLast, HaveArrived}
+use Rattle.line_world.specs.Crossing.{slots_before, slots_of}
 use Rattle.line_world.specs.Heard.{crossed}
 use Rattle.line_world.specs.Script.{loses}
 

@@ -1,6 +1,6 @@
 use Rattle.lapm_frames.specs.declared.frame.Role.TheVariants.{Originator, Answerer}
 use Rattle.line_world.specs.Run.{last_sent}
-use Rattle.line_world.specs.World.{slots_before}
+use Rattle.line_world.specs.Crossing.{slots_before}
 use Rattle.line_world.proofs.Turns.{arrival, both-carry, orig-arrived, answ-arrived}
 use Rattle.line_world.proofs.world.World.hear.Goals as goal
 
