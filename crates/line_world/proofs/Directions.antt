@@ -1,11 +1,9 @@
 -- What is received in a slot that was sent.
-use Rattle.std.proofs.Common.{◌≡◌, ℕ, zero, suc, ◌+◌, ◌-◌, ◌*◌, ◌/◌, ◌<◌, ◌≤◌, List, Bool, false, [], ◌∷◌, ◌++◌, All, length, get_or, Option, Some, None, lit<, refl, sym, ap, subst, ◌∙◌, arith, append_assoc, length-append, inl, inr, drop}
-use Rattle.std.specs.Option.{option_map}
+use Rattle.std.proofs.Common.{◌≡◌, ℕ, zero, suc, ◌+◌, ◌-◌, ◌*◌, ◌<◌, ◌≤◌, List, Bool, false, [], ◌∷◌, ◌++◌, length, get_or, Option, Some, None, lit<, refl, sym, ap, subst, ◌∙◌, arith, length-append, inl, inr}
 use Rattle.std.proofs.lemmas.List.{append-nil, append_cancel_left, drop_all, get_or_default}
 use Rattle.std.proofs.lemmas.Bool.{cases_lt}
-use Rattle.std.proofs.lemmas.List.Elements.{All-head, All-nil}
+use Rattle.std.proofs.lemmas.List.Elements.{All-head}
 use Rattle.frame_check.specs.declared.sizes.TheConstants.{WHOLE, SLOT}
-use Rattle.bit_stuffing.specs.declared.piece.Piece.TheVariants.{Whole}
 use Rattle.bit_stuffing.specs.declared.slot_writer.TheConstants.{TAIL}
 use Rattle.bit_stuffing.specs.Flags.{flag}
 use Rattle.bit_stuffing.specs.Found.{Found, pieces_of}
@@ -13,12 +11,11 @@ use Rattle.bit_stuffing.specs.Sent.{FoundIn, whole_at}
 use Rattle.bit_stuffing.specs.SlotWriter.{Writer, WriterStands}
 use Rattle.bit_stuffing.specs.Slots.{Slot, AreSlots, IsSlot, opening, rest_of_flag, slot_bits, sent_bits, next_phase, phase_from, phase_after, flags_behind}
 use Rattle.bit_stuffing.specs.Slots.Slot.{Flags}
-use Rattle.bit_stuffing.proofs.Fill.{phase-low, bits-append, phase-append}
+use Rattle.bit_stuffing.proofs.Fill.{phase-low, bits-append}
 use Rattle.bit_stuffing.proofs.Sent.{found-is-sent}
 use Rattle.bit_stuffing.proofs.Sizes.{length-empty, length-opening}
 use Rattle.lapm_frames.specs.declared.frame.Frame.{Frame}
 use Rattle.lapm_frames.specs.declared.frame.Role.{Role}
-use Rattle.lapm_frames.specs.Frame.{IsFrame}
 use Rattle.thin_link.specs.declared.sent.Sent.{Sent}
 use Rattle.thin_link.specs.declared.sent.Sent.TheVariants as sent
 use Rattle.thin_link.specs.Sent.{frame_of, IsSendable}
@@ -26,8 +23,8 @@ use Rattle.line_world.specs.declared.direction.Direction.{Direction}
 use Rattle.line_world.specs.Direction.{Carries}
 use Rattle.line_world.specs.Heard.{frame_sent}
 use Rattle.line_world.specs.Slots.{CanBeSent, bits_sent, frame_octets, slot_of, slot_sent, slot_size}
-use Rattle.line_world.specs.Received.{BringNone, BringsFrame, CarriesFrame, IsLast, LastFrame, Receives}
-use Rattle.line_world.proofs.Frames.{carried-spelled, frame-long, frame-short, one-carried}
+use Rattle.line_world.specs.Received.{BringsFrame, CarriesFrame, IsLast, Receives}
+use Rattle.line_world.proofs.Frames.{one-carried}
 
 -- one more slot fits behind others
 pub slots-more : (size phase : ℕ) (slots : List Slot) (slot : Slot) → AreSlots size phase slots → IsSlot size (phase_from size phase slots) slot → AreSlots size phase (slots ++ slot ∷ [])

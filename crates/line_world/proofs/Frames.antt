@@ -1,5 +1,5 @@
 -- The octets of a whole piece, and the frame that they carry.
-use Rattle.std.proofs.Common.{◌≡◌, ℕ, ◌+◌, ◌-◌, ◌≤◌, List, length, take, Option, Some, None, IfSome, IfNone, Result, Ok, Err, IfOk, refl, sym, ap, subst, ◌∙◌, arith, length-append}
+use Rattle.std.proofs.Common.{◌≡◌, ℕ, ◌+◌, ◌-◌, ◌≤◌, List, length, take, IfSome, IfNone, Result, Ok, Err, IfOk, sym, ap, subst, ◌∙◌, arith, length-append}
 use Rattle.std.specs.Result.{result_ok}
 use Rattle.frame_check.specs.FrameCheck.{Passes, IsChecked}
 use Rattle.frame_check.specs.Division.{check_of, with_check}

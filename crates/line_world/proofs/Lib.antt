@@ -6,4 +6,5 @@ pub mod SlotBits
 pub mod Directions
 pub mod Turns
 pub mod Order
+pub mod Crossing
 pub mod Bound

@@ -1,11 +1,10 @@
 -- What is received as bits follow one another.
-use Rattle.std.proofs.Common.{◌≡◌, ◌≢◌, ℕ, Bool, List, [], ◌∷◌, ◌++◌, All, Option, Some, None, append_assoc, refl, sym, ◌∙◌, ap, subst}
+use Rattle.std.proofs.Common.{◌≡◌, ◌≢◌, ℕ, Bool, List, [], ◌∷◌, ◌++◌, Option, Some, None, append_assoc, refl, sym, ◌∙◌, ap, subst}
 use Rattle.std.specs.Option.{option_map, option_map_or}
 use Rattle.std.proofs.lemmas.List.{append-nil}
 use Rattle.std.proofs.lemmas.List.Elements.{All-nil, All-push}
 use Rattle.bit_stuffing.specs.declared.piece.Piece.{Piece}
 use Rattle.bit_stuffing.specs.declared.piece.Piece.TheVariants.{Whole}
-use Rattle.bit_stuffing.specs.Deframer.{DeframerStands}
 use Rattle.bit_stuffing.specs.Found.{Found, found_at, listed, pieces_of}
 use Rattle.bit_stuffing.proofs.Found.{pieces-more}
 use Rattle.lapm_frames.specs.declared.frame.Frame.{Frame}

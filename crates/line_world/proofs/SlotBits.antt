@@ -1,5 +1,5 @@
 -- The bits of a slot, one after another.
-use Rattle.std.proofs.Common.{◌≡◌, ℕ, ◌+◌, ◌/◌, ◌^◌, ◌<◌, List, Bool, [], ◌∷◌, ◌++◌, length, take, nat_eq, bit_and, get_or, arith, ap, sym, ◌∙◌, false}
+use Rattle.std.proofs.Common.{◌≡◌, ℕ, ◌+◌, ◌/◌, ◌^◌, ◌<◌, List, [], ◌∷◌, ◌++◌, length, take, nat_eq, bit_and, get_or, arith, ap, sym, ◌∙◌, false}
 use Rattle.std.proofs.lemmas.Nat.{and_mask}
 use Rattle.std.proofs.lemmas.List.{append-nil, take_more}
 use Rattle.std.proofs.lemmas.Grind.{flat_map-append}

@@ -18,7 +18,8 @@ use Rattle.line_world.specs.declared.world.World.{World}
 use Rattle.line_world.specs.Direction.{Carries}
 use Rattle.line_world.specs.Slots.{slot_sent}
 use Rattle.line_world.specs.Run.{Files, Turn, Ends, IsSpent, Listens, both_whole, last_sent}
-use Rattle.line_world.specs.World.{Written, WritesTurn, Stopped, EndsBy, IsFolderFault, HasRunCause, IsTries, IsLinkLost, SameLine, HaveArrived, slots_before, slots_of}
+use Rattle.line_world.specs.World.{Written, WritesTurn, Stopped, EndsBy, IsFolderFault, HasRunCause, IsTries, IsLinkLost, SameLine, BothCarry, CarriesLast, HaveArrived}
+use Rattle.line_world.specs.Crossing.{slots_before, slots_of}
 use Rattle.line_world.specs.Heard.{crossed}
 use Rattle.line_world.specs.Script.{loses}
 
@@ -26,6 +27,15 @@ use Rattle.line_world.specs.Script.{loses}
 pub arrival : (heard : Heard) (l m : List Loss) (a : Role) (i j : ℕ) (sent : Option Frame) →
     heard ≡ crossed (loses l a (i - 1)) sent → l ≡ m → i ≡ j → heard ≡ crossed (loses m a (j - 1)) sent
 arrival heard l m a i j sent h p r = h ∙ (λ k. crossed (loses (p k) a (r k - 1)) sent)
+
+-- what the line carries, a direction at a time
+pub both-carry : (w : World) (ts : List Turn) → CarriesLast w ts → BothCarry w ts
+unfolding CarriesLast
+both-carry w ts h = h
+
+pub carries-last : (w : World) (ts : List Turn) → Carries w.from_orig Originator (slots_before Originator ts) (last_sent Originator ts) → Carries w.from_answ Answerer (slots_before Answerer ts) (last_sent Answerer ts) → CarriesLast w ts
+unfolding CarriesLast
+carries-last w ts from_orig from_answ = record { from_orig = from_orig; from_answ = from_answ }
 
 -- the slots of all turns have arrived
 pub orig-arrived : (d : Direction) (ts : List Turn) → Carries d Originator (slots_before Originator ts ++ slot_sent Originator (last_sent Originator ts)) None → Carries d Originator (slots_of Originator ts) None

@@ -5,5 +5,6 @@ pub mod Received
 pub mod Receiver
 pub mod Direction
 pub mod Run
+pub mod Crossing
 pub mod Station
 pub mod World

@@ -1,9 +1,7 @@
 -- For which run a world stands, and what a turn of it writes.
-use Rattle.std.specs.Prelude.{◌≡◌, ◌≢◌, ◌⊎◌, ℕ, ◌+◌, ◌≤◌, List, [], ◌∷◌, ◌++◌, length, unwrap_or, Option, Some, None, Result, Ok, Err}
-use Rattle.bit_stuffing.specs.Slots.{Slot}
+use Rattle.std.specs.Prelude.{◌≡◌, ◌≢◌, ◌⊎◌, ℕ, ◌+◌, ◌≤◌, List, [], ◌∷◌, length, unwrap_or, Some, None, Result, Ok, Err}
 use Rattle.lapm_frames.specs.declared.frame.Role.{Role}
 use Rattle.lapm_frames.specs.declared.frame.Role.TheVariants.{Originator, Answerer}
-use Rattle.thin_link.specs.declared.sent.Sent.{Sent}
 use Rattle.thin_link.specs.Account.{Spoken, hear, undelivered, speak}
 use Rattle.outside_core.specs.Folder.{FolderState, GoesOn, KeepsName, Puts, PutsPart, Rose}
 use Rattle.line_world.specs.declared.script.Loss.{Loss}
@@ -18,7 +16,7 @@ use Rattle.line_world.specs.Run.{Files, Turn, Ends, Arrives, listens, delivered,
 use Rattle.line_world.specs.Heard.{frame_heard}
 use Rattle.line_world.specs.Station.{Holds, IsIdle, counted_of}
 use Rattle.line_world.specs.Direction.{Carries, sender_of}
-use Rattle.line_world.specs.Slots.{slot_sent}
+use Rattle.line_world.specs.Crossing.{slots_before, slots_of}
 
 -- Some turns were made over these files and this script, and the ends now stand for these accounts.
 pub record During (w : World) (f : Files) (script : List Loss) (ts : List Turn) (ends : Ends) : Type 0 where
@@ -27,25 +25,13 @@ pub record During (w : World) (f : Files) (script : List Loss) (ts : List Turn) 
   pub script_is : w.script ≡ script
   pub turn : w.turn ≡ length ts
 
--- what a role sent in a turn
-abbrev pub sent_in : Role → Turn → Option Sent
-sent_in Originator t = t.orig.sent
-sent_in Answerer t = t.answ.sent
-
--- the slots that a role sent in these turns, in order of time
-abbrev pub slots_of : Role → List Turn → List Slot
-slots_of role [] = []
-slots_of role (t ∷ ts) = slots_of role ts ++ slot_sent role (sent_in role t)
-
--- those of all turns but the last one
-abbrev pub slots_before : Role → List Turn → List Slot
-slots_before role [] = []
-slots_before role (t ∷ ts) = slots_of role ts
-
 -- what the line carries after some turns: the slots of the last one, behind those of all others
-pub record CarriesLast (w : World) (ts : List Turn) : Type 0 where
+pub record BothCarry (w : World) (ts : List Turn) : Type 0 where
   pub from_orig : Carries w.from_orig Originator (slots_before Originator ts) (last_sent Originator ts)
   pub from_answ : Carries w.from_answ Answerer (slots_before Answerer ts) (last_sent Answerer ts)
+
+unfoldable pub CarriesLast : World → List Turn → Type 0
+CarriesLast w ts = BothCarry w ts
 
 -- the slots of all these turns have arrived
 pub record HaveArrived (w : World) (ts : List Turn) : Type 0 where

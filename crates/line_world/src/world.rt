@@ -65,6 +65,7 @@ fn write_fault(fault: FolderFault) -> RunFault
 
 impl World {
     /// A world before its first turn.
+    #[tactic(auto, unfolding(crate::specs::World::CarriesLast))]
     pub fn new(script: Script, orig: Vec<u8>, answ: Vec<u8>) -> World
         ensures files { files_of result ≡ record { orig = orig.items; answ = answ.items } }
         ensures script { script_of result ≡ script }

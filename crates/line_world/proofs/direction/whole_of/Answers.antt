@@ -1,5 +1,3 @@
-use Rattle.std.proofs.Common.{◌≤◌, ℕ, List, length, sym, subst}
-use Rattle.frame_check.specs.declared.sizes.TheConstants.{WHOLE}
 use Rattle.line_world.proofs.Frames.{frame-short}
 use Rattle.line_world.proofs.direction.whole_of.Goals as goal
 

@@ -1,4 +1,4 @@
-use Rattle.std.proofs.Common.{List, Bool, Option, Some, None, refl, sym, ap, subst, [], ◌++◌, ◌∙◌}
+use Rattle.std.proofs.Common.{List, Bool, ap, subst, [], ◌++◌, ◌∙◌}
 use Rattle.bit_stuffing.specs.BitSlot.{line_bits}
 use Rattle.bit_stuffing.specs.SlotWriter.{WriterStands}
 use Rattle.bit_stuffing.specs.Slots.{Slot, AreSlots, sent_bits, phase_after}

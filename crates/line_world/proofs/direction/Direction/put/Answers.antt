@@ -1,9 +1,9 @@
-use Rattle.std.proofs.Common.{◌≡◌, ◌≤◌, ◌*◌, ◌-◌, List, ℕ, length, sym, ap, subst, Some, [], ◌∷◌, ◌++◌, ◌∙◌, arith}
+use Rattle.std.proofs.Common.{◌≡◌, ◌≤◌, List, ℕ, length, sym, ap, subst, Some, [], ◌∷◌, ◌++◌}
 use Rattle.bit_stuffing.specs.SlotWriter.{WriterStands}
 use Rattle.bit_stuffing.specs.BitSlot.{line_bits}
 use Rattle.bit_stuffing.specs.Slots.{Slot, AreSlots, slot_bits, phase_after}
 use Rattle.bit_stuffing.specs.Slots.Slot.{Flags}
-use Rattle.line_world.specs.Slots.{frame_octets, slot_size}
+use Rattle.line_world.specs.Slots.{slot_size}
 use Rattle.line_world.proofs.Frames.{frame-long}
 use Rattle.line_world.proofs.Directions.{room-frame, frame-fits, slots-more, nothing-more, writer-bits}
 use Rattle.line_world.proofs.direction.Direction.put.Goals as goal

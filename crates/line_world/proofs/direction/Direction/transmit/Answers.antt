@@ -1,4 +1,4 @@
-use Rattle.std.proofs.Common.{◌≡◌, List, Option, Some, None, sym, ap, subst, [], ◌∷◌, ◌++◌, ◌∙◌}
+use Rattle.std.proofs.Common.{None, sym, ap, subst, ◌∙◌}
 use Rattle.lapm_frames.specs.declared.frame.Frame.{Frame}
 use Rattle.lapm_frames.specs.declared.frame.Role.{Role}
 use Rattle.thin_link.specs.Sent.{IsSendable}
@@ -8,7 +8,6 @@ use Rattle.bit_stuffing.specs.SlotWriter.{WriterStands}
 use Rattle.bit_stuffing.specs.Slots.{Slot, AreSlots}
 use Rattle.bit_stuffing.specs.Slots.Slot.{Flags}
 use Rattle.line_world.specs.Slots.{frame_octets, slot_size}
-use Rattle.line_world.specs.Direction.{Carries}
 use Rattle.line_world.proofs.Directions.{as-sent, flags-are, frame-is, flags-fit, slots-more, nothing-more, writer-bits}
 use Rattle.line_world.proofs.direction.Direction.transmit.Goals as goal
 

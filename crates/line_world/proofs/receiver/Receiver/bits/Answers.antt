@@ -1,4 +1,4 @@
-use Rattle.std.proofs.Common.{Bool, List, ℕ, ◌++◌, ◌≡◌, ◌≤◌, length, take, ap, arith, subst, ◌∙◌}
+use Rattle.std.proofs.Common.{Bool, List, ℕ, ◌++◌, ◌≡◌, take, ap, arith, subst, ◌∙◌}
 use Rattle.std.proofs.lemmas.List.{take_all}
 use Rattle.frame_check.specs.Bits.{low_bits}
 use Rattle.bit_stuffing.specs.BitSlot.{line_bits}

@@ -1,4 +1,4 @@
-use Rattle.std.proofs.Common.{Bool, List, [], ◌∷◌, ◌++◌, ◌+◌, ◌/◌, ◌^◌, nat_eq, bit_and, take, ap, arith, subst, append_assoc, ◌∙◌}
+use Rattle.std.proofs.Common.{Bool, List, [], ◌∷◌, ◌++◌, ◌/◌, ◌^◌, nat_eq, bit_and, take, ap, arith, subst, append_assoc, ◌∙◌}
 use Rattle.frame_check.specs.Bits.{low_bits}
 use Rattle.line_world.specs.Receiver.{ReceiverStands}
 use Rattle.line_world.proofs.SlotBits.{quad-part}

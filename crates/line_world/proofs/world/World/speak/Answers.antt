@@ -3,7 +3,7 @@ use Rattle.lapm_frames.specs.declared.frame.Role.TheVariants.{Originator, Answer
 use Rattle.thin_link.specs.Account.{speak}
 use Rattle.thin_link.specs.declared.sent.Sent.{Sent}
 use Rattle.line_world.specs.Direction.{Carries}
-use Rattle.line_world.specs.World.{slots_of}
+use Rattle.line_world.specs.Crossing.{slots_of}
 use Rattle.line_world.proofs.Turns.{spoke-ok, spoke-err, lost-as}
 use Rattle.line_world.proofs.world.World.speak.Goals as goal
 

@@ -1,11 +1,11 @@
-use Rattle.std.proofs.Common.{◌∙◌, arith, sym, ap, subst, refl, Result, Err, Some, None, IfErr}
+use Rattle.std.proofs.Common.{◌∷◌, ◌∙◌, arith, sym, ap, subst, refl, Result, Err, Some, None, IfErr}
 use Rattle.std.proofs.lemmas.Result.{err_from_is_err_and}
 use Rattle.outside_core.specs.Folder.{FolderState}
 use Rattle.line_world.specs.Run.{Turn, Ends, GoingTurn, listens}
 use Rattle.line_world.specs.declared.world.Step.{Step}
 use Rattle.line_world.specs.declared.world.RunFault.{RunFault}
 use Rattle.line_world.specs.World.{TurnIs, HasRunCause, written}
-use Rattle.line_world.proofs.Turns.{stopped-as, lost-in, lost-cause, line-stays}
+use Rattle.line_world.proofs.Turns.{stopped-as, lost-in, lost-cause, line-stays, carries-last}
 use Rattle.line_world.proofs.world.World.turn.Goals as goal
 
 pub returns-in_err-hand_out-clause-turn : goal.returns-in_err-hand_out-clause-turn
@@ -84,7 +84,7 @@ returns-clause-turn g c f script ts ends w =
       world = record {
         run = (ends, w.run, going);
         during = record { orig = s.during.orig; answ = s.during.answ; script_is = s.during.script_is; turn = omega (arith, s.during.turn) };
-        carries = record { from_orig = s.from_orig; from_answ = s.from_answ };
+        carries = carries-last _ (t ∷ ts) s.from_orig s.from_answ;
       };
       writes = record { got_o = wrote.got_o; got_a = wrote.got_a };
     }
