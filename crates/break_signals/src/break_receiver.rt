@@ -1,5 +1,5 @@
 // The other end's breaks.
-ghost use Rattle.std.specs.Prelude.{◌≡◌, ◌<◌, IsSome};
+ghost use Rattle.std.specs.Prelude.{◌≡◌, ◌<◌, IsSome, IfSome};
 
 use crate::word::BreakWord;
 use std::marker::Model;
@@ -18,13 +18,15 @@ impl Model for BreakReceiver {
 
     ghost view = { λ r. record { expected = r.expected; ack = r.ack } };
 
-    ghost use Rattle.std.specs.Prelude.{◌<◌};
+    ghost use Rattle.std.specs.Prelude.{◌<◌, IfSome};
+    ghost use Rattle.break_signals.specs.Words.{number_of};
 
-    ghost invariant = { λ r. r.expected < 2 };
+    ghost invariant = { λ r. (r.expected < 2) × IfSome r.ack (λ word. number_of word < 2) };
 }
 
 impl BreakReceiver {
     ghost use Rattle.break_signals.specs.Breaks.{TheirBreaks, none_heard, gives, after_break, after_ack};
+    ghost use Rattle.break_signals.specs.Words.{number_of};
     ghost use Rattle.break_signals.specs.Keeping.{StandsTheirs};
 
     /// A receiver that expects the break of number 0.
@@ -55,6 +57,7 @@ impl BreakReceiver {
     pub fn due(&self) -> Option<BreakWord>
         ensures value { result ≡ self.now.ack }
         ensures due { (b : TheirBreaks) → StandsTheirs self.now b → result ≡ b.ack }
+        ensures number { IfSome result (λ word. number_of word < 2) }
     {
         self.ack
     }

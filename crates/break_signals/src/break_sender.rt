@@ -1,5 +1,5 @@
 // An end's own breaks.
-ghost use Rattle.std.specs.Prelude.{◌≡◌, ◌<◌, ◌^◌, ◌+◌, min, true, IsSome, OnErr, MatchResult, Some, None};
+ghost use Rattle.std.specs.Prelude.{◌≡◌, ◌<◌, ◌^◌, ◌+◌, min, true, IsSome, IfSome, OnErr, MatchResult, Some, None};
 
 use crate::word::BreakWord;
 use std::marker::Model;
@@ -58,6 +58,7 @@ impl Model for BreakSender {
 
 impl BreakSender {
     ghost use Rattle.break_signals.specs.Breaks.{OwnBreaks, no_breaks, waits, takes_break, after_ask, ticked, own_due, after_brk, after_answer};
+    ghost use Rattle.break_signals.specs.Words.{number_of};
     ghost use Rattle.break_signals.specs.Keeping.{StandsOwn, due_by, Ticks};
 
     /// A sender of breaks of which none waits.
@@ -112,6 +113,7 @@ impl BreakSender {
     pub fn due(&self) -> Option<BreakWord>
         ensures value { result ≡ due_by self.now }
         ensures due { (b : OwnBreaks) → StandsOwn self.now b → result ≡ own_due b }
+        ensures number { IfSome result (λ word. number_of word < 2) }
     {
         match self.waiting {
             Some(waiting) if waiting.due => Some(BreakWord::Brk {
