@@ -1,5 +1,6 @@
 // The other end's breaks.
 ghost use Rattle.std.specs.Prelude.{◌≡◌, ◌<◌, IsSome, IfSome};
+ghost use Rattle.break_signals.specs.Words.{number_of};
 
 use crate::word::BreakWord;
 use std::marker::Model;
@@ -26,7 +27,6 @@ impl Model for BreakReceiver {
 
 impl BreakReceiver {
     ghost use Rattle.break_signals.specs.Breaks.{TheirBreaks, none_heard, gives, after_break, after_ack};
-    ghost use Rattle.break_signals.specs.Words.{number_of};
     ghost use Rattle.break_signals.specs.Keeping.{StandsTheirs};
 
     /// A receiver that expects the break of number 0.
@@ -56,8 +56,8 @@ impl BreakReceiver {
     /// The BRKACK that is due.
     pub fn due(&self) -> Option<BreakWord>
         ensures value { result ≡ self.now.ack }
-        ensures due { (b : TheirBreaks) → StandsTheirs self.now b → result ≡ b.ack }
         ensures number { IfSome result (λ word. number_of word < 2) }
+        ensures due { (b : TheirBreaks) → StandsTheirs self.now b → result ≡ b.ack }
     {
         self.ack
     }

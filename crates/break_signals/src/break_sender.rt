@@ -1,5 +1,6 @@
 // An end's own breaks.
 ghost use Rattle.std.specs.Prelude.{◌≡◌, ◌<◌, ◌^◌, ◌+◌, min, true, IsSome, IfSome, OnErr, MatchResult, Some, None};
+ghost use Rattle.break_signals.specs.Words.{number_of};
 
 use crate::word::BreakWord;
 use std::marker::Model;
@@ -58,7 +59,6 @@ impl Model for BreakSender {
 
 impl BreakSender {
     ghost use Rattle.break_signals.specs.Breaks.{OwnBreaks, no_breaks, waits, takes_break, after_ask, ticked, own_due, after_brk, after_answer};
-    ghost use Rattle.break_signals.specs.Words.{number_of};
     ghost use Rattle.break_signals.specs.Keeping.{StandsOwn, due_by, Ticks};
 
     /// A sender of breaks of which none waits.
@@ -112,8 +112,8 @@ impl BreakSender {
     /// The BRK that is due.
     pub fn due(&self) -> Option<BreakWord>
         ensures value { result ≡ due_by self.now }
-        ensures due { (b : OwnBreaks) → StandsOwn self.now b → result ≡ own_due b }
         ensures number { IfSome result (λ word. number_of word < 2) }
+        ensures due { (b : OwnBreaks) → StandsOwn self.now b → result ≡ own_due b }
     {
         match self.waiting {
             Some(waiting) if waiting.due => Some(BreakWord::Brk {

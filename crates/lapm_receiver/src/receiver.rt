@@ -1,5 +1,5 @@
 // The order of the other end's segments.
-ghost use Rattle.std.specs.Prelude.{◌≡◌, ◌≤◌, ◌<◌, ◌^◌, ◌%◌, ◌+◌, ◌↔◌, ℕ, List, length, drop, true, false, IfOk, IsTrue, IsSome, Some, is_some};
+ghost use Rattle.std.specs.Prelude.{◌≡◌, ◌≤◌, ◌<◌, ◌^◌, ◌%◌, ◌+◌, ◌↔◌, ℕ, List, length, drop, true, false, nat_lt, IfOk, IsTrue, IsSome, Some, is_some};
 ghost use Rattle.std.specs.Bool.{OnFalse};
 ghost use Rattle.std.specs.Option.{option_map};
 
@@ -84,6 +84,7 @@ impl Receiver {
         ensures stands { (i : Incoming) → StandsIn self.old i → StandsIn self.new (with_segment info.now i) }
         ensures terms { SameTerms self.old self.new }
         ensures count { self.new.taken ≡ self.old.taken + length self.new.ready }
+        ensures few_ready { length self.new.ready ≤ 127 }
     {
         self.slots.take(info);
         self.gapped = false;
@@ -120,6 +121,7 @@ impl Receiver {
         ensures stands { (i : Incoming) → StandsIn self.old i → StandsIn self.new (after_take ns info.now i) }
         ensures terms { SameTerms self.old self.new }
         ensures count { self.new.taken ≡ self.old.taken + length self.new.ready }
+        ensures few_ready { length self.new.ready ≤ 127 }
     {
         let ahead = (ns + 128 - self.nr()) % 128;
         if ahead == 0 {
@@ -139,6 +141,7 @@ impl Receiver {
 
     /// Copies the next segment in order into `out`, in place of what that held. False where none is left.
     pub fn deliver(&mut self, out: &mut Info) -> bool
+        ensures left { result ≡ nat_lt 0 (length self.old.ready) }
         ensures answer { (i : Incoming) → StandsIn self.old i → result ≡ is_some (next_delivered i) }
         ensures segment { (i : Incoming) (segment : List ℕ) → StandsIn self.old i
             → next_delivered i ≡ Some segment → out.new ≡ segment }

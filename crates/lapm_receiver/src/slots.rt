@@ -126,7 +126,8 @@ impl Slots {
         requires delivered { self.old.ready ≡ [] }
         requires some { 1 ≤ self.old.room }
         requires few { self.old.taken < 2 ^ 56 }
-        ensures { self.new ≡ record self.old { taken = self.old.taken + length (info.now ∷ run_from (self.old.taken + 1) self.old.held); ready = info.now ∷ run_from (self.old.taken + 1) self.old.held; held = rest_from (self.old.taken + 1) self.old.held } }
+        ensures bound { length self.new.ready ≤ self.old.room }
+        ensures taken { self.new ≡ record self.old { taken = self.old.taken + length (info.now ∷ run_from (self.old.taken + 1) self.old.held); ready = info.now ∷ run_from (self.old.taken + 1) self.old.held; held = rest_from (self.old.taken + 1) self.old.held } }
     {
         if let Some(slot) = self.ring.get_mut(0) {
             *slot = Some(info.copy());
