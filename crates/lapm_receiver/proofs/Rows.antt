@@ -1,8 +1,8 @@
 -- Rows of slots, and what stands in them.
-use Rattle.std.proofs.Common.{◌≡◌, ℕ, zero, suc, ◌+◌, ◌-◌, ◌^◌, ◌<◌, ◌≤◌, Bool, true, false, cond, not, ◌||◌, ◌&&◌, List, [], ◌∷◌, ◌++◌, length, drop, set, replicate, nat_eq, nat_lt, nat_le, Some, None, Bor, refl, sym, ap, subst, ◌∙◌, arith}
+use Rattle.std.proofs.Common.{◌≡◌, ℕ, zero, suc, ◌+◌, ◌-◌, ◌^◌, ◌<◌, ◌≤◌, Bool, true, false, cond, not, ◌&&◌, List, [], ◌∷◌, ◌++◌, length, drop, set, replicate, nat_eq, nat_lt, nat_le, Some, None, Bor, refl, sym, ap, subst, ◌∙◌, arith}
 use Rattle.std.specs.Prelude.{slice_get, unwrap_or, is_some, IfSome, Option}
 use Rattle.std.specs.Option.{option_copied}
-use Rattle.std.specs.List.{find, position, position_or_len, range_with_len}
+use Rattle.std.specs.List.{find, position, position_or_len}
 use Rattle.std.proofs.lemmas.List.{length-append, length-drop}
 use Rattle.std.proofs.lemmas.List.Sums.{prefix_len-le-length}
 use Rattle.std.proofs.Math.ListN.{drop_of_length-le}
@@ -37,6 +37,7 @@ ready-count ss o e = rw e (by (nat_lt (position_or_len is_empty ss) (length ss))
   where
     within : position_or_len is_empty ss ≤ length ss
     within = prefix_len-le-length (λ x. not (is_empty x)) ss
+
     by : (t : Bool) → nat_lt (position_or_len is_empty ss) (length ss) ≡ t → unwrap_or (cond t (Some (position_or_len is_empty ss)) None) (length ss) ≡ length (ready_of ss)
     by true e = sym (ready-length ss)
     by false e = let same : length ss ≡ position_or_len is_empty ss = grind (arith, nat_tests, e, within) in same ∙ sym (ready-length ss)
@@ -313,15 +314,15 @@ empty-slot low first start place k ss later missing is h s l e =
     let number : first + (place - start) ≡ first + (k - start) + 1 = omega (arith, is, s) in
     let next : missing ≡ missing_among low (first + (k - start) + 1) (drop place ss) = h.missing_is ∙ ap (λ n. missing_among low n (drop place ss)) number in
     let step : (any_held (drop place ss) ≡ any_held (info_at (slice_get ss k) ∷ drop place ss))
-        × (cond (any_held (drop place ss) && nat_le low (first + (k - start))) (Some (first + (k - start))) (missing_among low (first + (k - start) + 1) (drop place ss)) ≡ missing_among low (first + (k - start)) (info_at (slice_get ss k) ∷ drop place ss))
-        = scans-empty low (first + (k - start)) (info_at (slice_get ss k)) (drop place ss) e in
+    × (cond (any_held (drop place ss) && nat_le low (first + (k - start))) (Some (first + (k - start))) (missing_among low (first + (k - start) + 1) (drop place ss)) ≡ missing_among low (first + (k - start)) (info_at (slice_get ss k) ∷ drop place ss))
+    = scans-empty low (first + (k - start)) (info_at (slice_get ss k)) (drop place ss) e in
     record {
       above = omega (arith, is, s);
       later_is = rw at (h.later_is ∙ step.0);
       missing_is = ap (λ t. cond (t && nat_le low (first + (k - start))) (Some (first + (k - start))) missing) h.later_is
-        ∙ ap (λ m. cond (any_held (drop place ss) && nat_le low (first + (k - start))) (Some (first + (k - start))) m) next
-        ∙ step.1
-        ∙ ap (λ xs. missing_among low (first + (k - start)) xs) (sym at);
+          ∙ ap (λ m. cond (any_held (drop place ss) && nat_le low (first + (k - start))) (Some (first + (k - start))) m) next
+          ∙ step.1
+          ∙ ap (λ xs. missing_among low (first + (k - start)) xs) (sym at);
     }
 
 pub found-slot : (low first start place k : ℕ) (ss : Row) (later : Bool) (missing : Option ℕ) → place ≡ suc k → Scans low first start ss later missing place → start < place → place ≤ length ss

@@ -1,5 +1,5 @@
 -- What a receiver stands for after each call.
-use Rattle.std.proofs.Common.{◌≡◌, ℕ, zero, suc, ◌+◌, ◌-◌, ◌<◌, ◌≤◌, Bool, true, false, cond, ◌||◌, ◌⊎◌, inl, inr, List, [], ◌∷◌, ◌++◌, length, drop, nat_eq, nat_lt, nat_le, Some, None, refl, sym, ap, subst, ◌∙◌, arith}
+use Rattle.std.proofs.Common.{◌≡◌, ℕ, zero, suc, ◌+◌, ◌-◌, ◌<◌, ◌≤◌, Bool, true, false, cond, ◌||◌, ◌⊎◌, inl, inr, List, [], ◌∷◌, ◌++◌, length, drop, nat_eq, nat_lt, nat_le, Some, None, refl, sym, ap, ◌∙◌, arith}
 use Rattle.std.specs.Prelude.{Option}
 use Rattle.std.specs.List.{find, range_with_len}
 use Rattle.std.proofs.lemmas.List.{length-append, length-drop}
@@ -10,7 +10,7 @@ use Rattle.lapm_receiver.specs.declared.took.Took.TheVariants.{Kept}
 use Rattle.lapm_receiver.specs.Held.{Held, is_held, with_held, run_from, rest_from, missing_from, is_among, first_outside}
 use Rattle.lapm_receiver.specs.Slots.{IsRising}
 use Rattle.lapm_receiver.specs.Incoming.{Incoming, with_segment, after_kind, after_delivered, asks, after_asked}
-use Rattle.lapm_receiver.specs.Taking.{Taking, AskedBelow, StandsIn}
+use Rattle.lapm_receiver.specs.Taking.{Taking, StandsIn}
 
 -- what is held behind a run stays so
 rest-held : (n r : ℕ) (hs : List Held) → r + length (run_from r hs) ≤ n → is_held n (rest_from r hs) ≡ is_held n hs
@@ -43,10 +43,10 @@ stands-next t i info h none =
       asked_are = record {
         lie_below = h.asked_are.lie_below;
         were_asked = λ n low high.
-          let behind : length i.taken ≤ n = omega (arith, more, low) in
-          let run : length i.taken + 1 + length (run_from (length i.taken + 1) i.held) ≤ n = omega (arith, more, low) in
-          let same : is_held n (rest_from (length i.taken + 1) i.held) ≡ is_held n i.held = rest-held n (length i.taken + 1) i.held run in
-          elim (h.asked_are.were_asked n behind high) [ inl held ↦ inl (same ∙ held) | inr among ↦ inr among ];
+            let behind : length i.taken ≤ n = omega (arith, more, low) in
+            let run : length i.taken + 1 + length (run_from (length i.taken + 1) i.held) ≤ n = omega (arith, more, low) in
+            let same : is_held n (rest_from (length i.taken + 1) i.held) ≡ is_held n i.held = rest-held n (length i.taken + 1) i.held run in
+            elim (h.asked_are.were_asked n behind high) [ inl held ↦ inl (same ∙ held) | inr among ↦ inr among ];
       };
       rej_is = h.rej_is;
       gapped_is = refl;
@@ -61,9 +61,11 @@ with-held n s (h ∷ hs) e = by (nat_lt s.number h.number) (inner (nat_eq h.numb
     inner : (u : Bool) → nat_eq h.number n ≡ u → u || is_held n hs ≡ true → (is_held n hs ≡ true → is_held n (with_held s hs) ≡ true) → nat_eq h.number n || is_held n (with_held s hs) ≡ true
     inner true w e rest = rw w refl
     inner false w e rest = rw w (rest e)
+
     first : (u : Bool) → u || (nat_eq h.number n || is_held n hs) ≡ true
     first true = refl
     first false = e
+
     by : (t : Bool) → nat_eq h.number n || is_held n (with_held s hs) ≡ true → is_held n (cond t (s ∷ h ∷ hs) (h ∷ with_held s hs)) ≡ true
     by true rest = first (nat_eq s.number n)
     by false rest = rest
@@ -72,23 +74,23 @@ with-held n s (h ∷ hs) e = by (nat_lt s.number h.number) (inner (nat_eq h.numb
 pub stands-kept : (t : Taking) (i : Incoming) (ahead : ℕ) (info : List ℕ) → StandsIn t i
     → StandsIn (record t { held = with_held (record { number = t.taken + ahead; info = info }) t.held }) (after_kind Kept ahead info i)
 stands-kept t i ahead info h = record {
-    window_is = h.window_is;
-    srej_is = h.srej_is;
-    taken_is = h.taken_is;
-    given_within = h.given_within;
-    ready_is = h.ready_is;
-    held_is = rw (h.taken_is, h.held_is) refl;
-    asked_are = record {
-      lie_below = h.asked_are.lie_below;
-      were_asked = λ n low high. elim (h.asked_are.were_asked n low high) [
-        inl held ↦ inl (with-held n (record { number = length i.taken + ahead; info = info }) i.held held) |
-        inr among ↦ inr among
-      ];
-    };
-    rej_is = h.rej_is;
-    gapped_is = h.gapped_is;
-    owed_is = h.owed_is;
-  }
+  window_is = h.window_is;
+  srej_is = h.srej_is;
+  taken_is = h.taken_is;
+  given_within = h.given_within;
+  ready_is = h.ready_is;
+  held_is = rw (h.taken_is, h.held_is) refl;
+  asked_are = record {
+    lie_below = h.asked_are.lie_below;
+    were_asked = λ n low high. elim (h.asked_are.were_asked n low high) [
+      | inl held ↦ inl (with-held n (record { number = length i.taken + ahead; info = info }) i.held held)
+      | inr among ↦ inr among
+    ];
+  };
+  rej_is = h.rej_is;
+  gapped_is = h.gapped_is;
+  owed_is = h.owed_is;
+}
 
 -- a segment is delivered
 drop-next : {X : Type 0} (n : ℕ) (xs : List X) → drop 1 (drop n xs) ≡ drop (n + 1) xs
@@ -101,17 +103,17 @@ stands-delivered t i h = by (nat_lt i.given (length i.taken)) refl
   where
     by : (u : Bool) → nat_lt i.given (length i.taken) ≡ u → StandsIn (record t { ready = drop 1 t.ready }) (cond u (record i { given = i.given + 1 }) i)
     by true e = record {
-        window_is = h.window_is;
-        srej_is = h.srej_is;
-        taken_is = h.taken_is;
-        given_within = grind (arith, nat_tests, e);
-        ready_is = rw h.ready_is (drop-next i.given i.taken);
-        held_is = h.held_is;
-        asked_are = record { lie_below = h.asked_are.lie_below; were_asked = h.asked_are.were_asked };
-        rej_is = h.rej_is;
-        gapped_is = h.gapped_is;
-        owed_is = h.owed_is;
-      }
+      window_is = h.window_is;
+      srej_is = h.srej_is;
+      taken_is = h.taken_is;
+      given_within = grind (arith, nat_tests, e);
+      ready_is = rw h.ready_is (drop-next i.given i.taken);
+      held_is = h.held_is;
+      asked_are = record { lie_below = h.asked_are.lie_below; were_asked = h.asked_are.were_asked };
+      rej_is = h.rej_is;
+      gapped_is = h.gapped_is;
+      owed_is = h.owed_is;
+    }
     by false e =
         let beyond : length i.taken ≤ i.given = grind (arith, nat_tests, e) in
         let nothing : drop i.given i.taken ≡ [] = drop_of_length-le i.taken beyond in
@@ -152,7 +154,7 @@ outside-found : (low : ℕ) (asked : List ℕ) (r : ℕ) (hs : List Held) → Is
 outside-found low asked r [] rising told = refl
 outside-found low asked r (h ∷ hs) rising told = up (h.number - r) r (omega (arith, rising.0)) (λ m low_m. told m low_m)
     (outside-found low asked (h.number + 1) hs rising.1 (λ m low_m free. told m (omega (arith, rising.0, low_m))
-      (let other : nat_eq h.number m ≡ false = grind (arith, nat_tests, low_m) in rw other free)))
+    (let other : nat_eq h.number m ≡ false = grind (arith, nat_tests, low_m) in rw other free)))
   where
     up : (k r : ℕ) → r + k ≡ h.number → ((m : ℕ) → r ≤ m → nat_eq h.number m || is_held m hs ≡ false → Told low asked m)
         → first_outside asked (missing_from (h.number + 1) hs) ≡ find (λ m. nat_le low m) (missing_from (h.number + 1) hs)
@@ -174,8 +176,8 @@ told-by t i h m low free = by (nat_lt m t.asked_below) refl (is_among m i.asked)
     by true e false f =
         let below : m < t.asked_below = grind (arith, nat_tests, e) in
         elim (h.asked_are.were_asked m (omega (arith, low, h.taken_is)) below) [
-          inl held ↦ (let full : is_held m t.held ≡ true = rw h.held_is held in cc) |
-          inr among ↦ cc
+          | inl held ↦ (let full : is_held m t.held ≡ true = rw h.held_is held in cc)
+          | inr among ↦ cc
         ]
 
 -- by SREJ what is asked for is the first missing number from the limit on
@@ -273,8 +275,10 @@ stands-asked t i found n h rising srej e a =
         by : (u : Bool) → is_among m i.asked ≡ u → u || nat_eq n m ≡ true → m < n + 1
         by true w among = let less : m < t.asked_below = h.asked_are.lie_below m w in omega (arith, less, least.above)
         by false w among = grind (arith, nat_tests, among)
+
     more : (m : ℕ) (u : Bool) → is_among m i.asked ≡ u → u ≡ true → is_among m (i.asked ++ n ∷ []) ≡ true
     more m u w t = rw (among-snoc m n i.asked, w, t) refl
+
     asked : IsLeast t.asked_below t.taken n t.held → (m : ℕ) → length i.taken ≤ m → m < n + 1 → (is_held m i.held ≡ true) ⊎ (is_among m (i.asked ++ n ∷ []) ≡ true)
     asked least m low less = by (nat_eq n m) refl (nat_lt m t.asked_below) refl
       where

@@ -59,7 +59,12 @@ fn info_in(ring: &HeapCircularBuffer<Option<Info>>, place: usize) -> Option<&Inf
 
 /// The number of the first empty slot from `start` on that stands before a full one and whose number isn't below `low`.
 /// The slot at `start` has the number `first`.
-fn least_missing(ring: &HeapCircularBuffer<Option<Info>>, start: usize, first: u64, low: u64) -> Option<u64>
+fn least_missing(
+    ring: &HeapCircularBuffer<Option<Info>>,
+    start: usize,
+    first: u64,
+    low: u64,
+) -> Option<u64>
     requires within { start ≤ length ring.now.items }
     requires few { first < 2 ^ 57 }
     ensures { result ≡ missing_among low first (drop start ring.now.items) }

@@ -25,8 +25,8 @@ loop-place-preserved c =
     let within : c.loop-place.place ≤ length c.args.ring.now.items = omega (arith, c.loop-place.auto.place, c.len-place.ensures.len) in
     let empty : is_some (info_at (slice_get c.args.ring.now.items (c.loop-place.place - 1))) ≡ false = sym (ap (λ o. is_some o) c.info_in.ensures) ∙ copied-some c.info_in.result ∙ sym c.if-is_some.ensures in
     elim c.else-later.branch [
-      else-later-via-then-later+else-low-number w ↦ low-slot _ _ _ _ _ _ _ _ is c.loop-place.invariant c.loop-place-test.true within empty w.if-later.true w.if-low-number.false |
-      else-later-via-else-later w ↦ last-slot _ _ _ _ _ _ _ _ is c.loop-place.invariant c.loop-place-test.true within empty w.if-later.false
+      | else-later-via-then-later+else-low-number w ↦ low-slot _ _ _ _ _ _ _ _ is c.loop-place.invariant c.loop-place-test.true within empty w.if-later.true w.if-low-number.false
+      | else-later-via-else-later w ↦ last-slot _ _ _ _ _ _ _ _ is c.loop-place.invariant c.loop-place-test.true within empty w.if-later.false
     ]
 
 pub returns : goal.returns
