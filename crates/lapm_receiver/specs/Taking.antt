@@ -1,5 +1,5 @@
 -- What a receiver keeps, and the part of an account for which it stands.
-use Rattle.std.specs.Prelude.{◌≡◌, ◌≢◌, ℕ, ◌<◌, ◌≤◌, ◌⊎◌, Bool, true, if◌then◌else◌, nat_le, List, Contains, length, drop, find, Option, Some, None}
+use Rattle.std.specs.Prelude.{◌≡◌, ℕ, ◌<◌, ◌≤◌, ◌⊎◌, Bool, true, if◌then◌else◌, nat_le, List, length, drop, find, Option, Some, None}
 use Rattle.lapm_receiver.specs.Held.{Held, missing_from, is_held, is_among}
 use Rattle.lapm_receiver.specs.Incoming.{Incoming, next_expected}
 
