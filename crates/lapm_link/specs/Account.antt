@@ -1,3 +1,5 @@
+-- What an end of the link is, in plain values: all pieces offered and taken, what it owes and what it waits for. The parts of the
+-- sender, the receiver and the breaks are those of their own crates.
 use Rattle.std.specs.Prelude.{ℕ, Bool, true, false, if◌then◌else◌, nat_lt, List, length, Option, Some, None, slice_index_or}
 use Rattle.lapm_frames.specs.declared.frame.Role.{Role}
 use Rattle.lapm_frames.specs.declared.frame.Role.TheVariants.{Originator, Answerer}

@@ -1,3 +1,5 @@
+-- What an end becomes by what it hears: one definition a rule, then one a phase, by the rules of ITU-T V.42 and of this link. A
+-- Connected end breaks where an acknowledgement is of no number that was sent, or where the other end begins anew or refuses.
 use Rattle.std.specs.Prelude.{ℕ, ◌%◌, Bool, true, false, not, if◌then◌else◌, ◌&&◌, ◌||◌, nat_lt, List, Option, Some, None, Result, Ok, Err}
 use Rattle.lapm_frames.specs.declared.frame.Role.{Role}
 use Rattle.lapm_frames.specs.declared.frame.Role.TheVariants.{Originator, Answerer}
