@@ -1,0 +1,99 @@
+// An end's own breaks.
+ghost use Rattle.std.specs.Prelude.{◌≡◌, ◌<◌, ◌^◌, IsSome, OnErr, MatchResult, Some, None};
+
+use crate::word::BreakWord;
+use std::marker::Model;
+
+/// All tries of a break are spent.
+#[derive(Clone, Copy, Debug, PartialEq, Eq)]
+pub struct Spent0;
+
+/// A break that waits for its answer.
+#[derive(Clone, Copy)]
+struct Waiting {
+    /// In units of 10 ms.
+    units: u8,
+    due: bool,
+    set: u64,
+    count: u16,
+}
+
+/// An end's own breaks: one at a time waits for its answer.
+#[derive(Drop)]
+pub struct BreakSender {
+    number: u8,
+    waiting: Option<Waiting>,
+    rest: u64,
+}
+
+impl Model for BreakSender {
+    ghost use Rattle.break_signals.specs.Keeping.{Asking};
+
+    ghost Value = { Asking };
+
+    ghost view = { λ s. record { number = s.number; waiting = s.waiting; rest = s.rest } };
+}
+
+impl BreakSender {
+    ghost use Rattle.break_signals.specs.Breaks.{OwnBreaks, no_breaks, waits, takes_break, after_ask, ticked, own_due, after_brk, after_answer};
+    ghost use Rattle.break_signals.specs.Keeping.{StandsOwn, due_by, Ticks};
+
+    /// A sender of breaks of which none waits.
+    pub fn new() -> BreakSender
+        ensures { StandsOwn result no_breaks }
+    {
+        BreakSender {
+            number: 0,
+            waiting: None,
+            rest: 0,
+        }
+    }
+
+    /// Asks for a break of this length, in units of 10 ms. False where one waits, or the rest after the last one isn't over.
+    pub fn ask(&mut self, turn: u64, length: u8) -> bool
+        requires { turn < 2 ^ 40 }
+        ensures answer { (b : OwnBreaks) → StandsOwn self.old b → result ≡ takes_break turn b }
+        ensures stands { (b : OwnBreaks) → StandsOwn self.old b → StandsOwn self.new (after_ask turn length b) }
+    {
+        false
+    }
+
+    /// The end speaks in this turn: where the timer of the break that waits expires, its BRK is due again.
+    pub fn tick(&mut self, turn: u64, period: u32, tries: u8) -> Result<(), Spent0>
+        requires { turn < 2 ^ 40 }
+        ensures answer { (b : OwnBreaks) → StandsOwn self.old b
+            → MatchResult result (λ _. Ticks self.new (ticked turn period tries b)) (λ _. ticked turn period tries b ≡ None) }
+        ensures unchanged { OnErr result (self.new ≡ self.old) }
+    {
+        Ok(())
+    }
+
+    /// The BRK that is due.
+    pub fn due(&self) -> Option<BreakWord>
+        ensures value { result ≡ due_by self.now }
+        ensures due { (b : OwnBreaks) → StandsOwn self.now b → result ≡ own_due b }
+    {
+        None
+    }
+
+    /// The BRK was sent.
+    pub fn sent(&mut self)
+        requires { IsSome (due_by self.old) }
+        ensures { (b : OwnBreaks) → StandsOwn self.old b → StandsOwn self.new (after_brk b) }
+    {
+    }
+
+    /// A BRKACK of this number was heard in this turn.
+    pub fn answered(&mut self, turn: u64, number: u8)
+        requires { turn < 2 ^ 40 }
+        ensures { (b : OwnBreaks) → StandsOwn self.old b → StandsOwn self.new (after_answer turn number b) }
+    {
+    }
+
+    /// Whether a break waits for its answer.
+    pub fn waiting(&self) -> bool
+        ensures { (b : OwnBreaks) → StandsOwn self.now b → result ≡ waits b }
+    {
+        self.waiting.is_some()
+    }
+}

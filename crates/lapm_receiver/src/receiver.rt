@@ -1,0 +1,134 @@
+// The order of the other end's segments.
+ghost use Rattle.std.specs.Prelude.{◌≡◌, ◌≤◌, ◌<◌, ◌^◌, ◌%◌, ◌↔◌, ℕ, List, length, IfOk, IsTrue, IsSome, Some, is_some};
+ghost use Rattle.std.specs.Bool.{OnFalse};
+ghost use Rattle.std.specs.Option.{option_map};
+
+use crate::took::Took;
+use circular_buffer::HeapCircularBuffer;
+use frame_check::Info;
+use outside_core::NoMemory;
+use std::alloc::Global;
+use std::marker::Model;
+
+/// The segments that an end takes, by ITU-T V.42: those in order until they are delivered, and those that came before their
+/// turn.
+#[derive(Drop)]
+pub struct Receiver {
+    slots: HeapCircularBuffer<Option<Info>>,
+    window: u8,
+    srej: bool,
+    taken: u64,
+    delivered: u64,
+    asked_below: u64,
+    rej: bool,
+    gapped: bool,
+    owed: bool,
+}
+
+impl Model for Receiver {
+    ghost use Rattle.std.specs.Prelude.{[]};
+    ghost use Rattle.lapm_receiver.specs.Taking.{Taking};
+
+    ghost Value = { Taking };
+
+    ghost view = { λ r. record { room = r.slots.capacity; window = r.window; srej = r.srej; taken = r.taken; ready = []; held = []; asked_below = r.asked_below; rej = r.rej; gapped = r.gapped; owed = r.owed } };
+}
+
+impl Receiver {
+    ghost use Rattle.lapm_receiver.specs.Incoming.{Incoming, not_begun, begun, kind_of, after_take, next_delivered, after_delivered, undelivered, next_expected, asks, after_asked, after_told};
+    ghost use Rattle.lapm_receiver.specs.Taking.{StandsIn, asked_by};
+
+    /// A receiver that isn't begun, with room for so many segments. It takes all its memory here.
+    pub fn new(alloc: Global, room: u8) -> Result<Receiver, NoMemory>
+        requires some { 1 ≤ room }
+        requires few { room ≤ 127 }
+        ensures stands { IfOk result (λ receiver. StandsIn receiver not_begun) }
+        ensures room { IfOk result (λ receiver. receiver.room ≡ room) }
+    {
+        Err(NoMemory)
+    }
+
+    /// Begins with the agreed window. `srej` is whether single segments may be asked for.
+    pub fn begin(&mut self, window: u8, srej: bool)
+        requires not_begun { self.old.window ≡ 0 }
+        requires window_low { 1 ≤ window }
+        requires window_high { window ≤ self.old.room }
+        requires window_srej { IsTrue srej → window ≤ 64 }
+        ensures stands { StandsIn self.new (begun window srej) }
+        ensures room { self.new.room ≡ self.old.room }
+    {
+    }
+
+    /// Takes a segment of number `ns` modulo 128.
+    pub fn take(&mut self, ns: u8, info: &Info) -> Took
+        requires begun { 1 ≤ self.old.window }
+        requires number { ns < 128 }
+        requires few { self.old.taken < 2 ^ 56 }
+        requires delivered { length self.old.ready ≡ 0 }
+        ensures kind { (i : Incoming) → StandsIn self.old i → result ≡ kind_of ns i }
+        ensures stands { (i : Incoming) → StandsIn self.old i → StandsIn self.new (after_take ns info.now i) }
+        ensures room { self.new.room ≡ self.old.room }
+    {
+        Took::Gap
+    }
+
+    /// Copies the next segment in order into `out`, in place of what that held. False where none is left.
+    pub fn deliver(&mut self, out: &mut Info) -> bool
+        ensures answer { (i : Incoming) → StandsIn self.old i → result ≡ is_some (next_delivered i) }
+        ensures segment { (i : Incoming) (segment : List ℕ) → StandsIn self.old i
+            → next_delivered i ≡ Some segment → out.new ≡ segment }
+        ensures stands { (i : Incoming) → StandsIn self.old i → StandsIn self.new (after_delivered i) }
+        ensures unchanged { OnFalse result (self.new ≡ self.old) }
+        ensures out_unchanged { OnFalse result (out.new ≡ out.old) }
+        ensures room { self.new.room ≡ self.old.room }
+    {
+        false
+    }
+
+    /// How many segments are taken in order and not delivered.
+    pub fn undelivered(&self) -> usize
+        ensures value { result ≡ length self.now.ready }
+        ensures undelivered { (i : Incoming) → StandsIn self.now i → result ≡ undelivered i }
+    {
+        0
+    }
+
+    /// The next number expected, modulo 128.
+    pub fn nr(&self) -> u8
+        ensures { (i : Incoming) → StandsIn self.now i → result ≡ next_expected i % 128 }
+    {
+        (self.taken % 128) as u8
+    }
+
+    /// The number to ask for by REJ or SREJ, modulo 128, where one is due.
+    pub fn ask(&self) -> Option<u8>
+        ensures value { result ≡ option_map (λ n. n % 128) (asked_by self.now) }
+        ensures due { IsSome result ↔ IsSome (asked_by self.now) }
+        ensures asks { (i : Incoming) → StandsIn self.now i → result ≡ option_map (λ n. n % 128) (asks i) }
+    {
+        None
+    }
+
+    /// That number was asked for.
+    pub fn asked(&mut self)
+        requires { IsSome (asked_by self.old) }
+        ensures stands { (i : Incoming) (n : ℕ) → StandsIn self.old i → asks i ≡ Some n → StandsIn self.new (after_asked n i) }
+        ensures room { self.new.room ≡ self.old.room }
+    {
+    }
+
+    /// Whether an acknowledgement is owed.
+    pub fn owed(&self) -> bool
+        ensures { (i : Incoming) → StandsIn self.now i → result ≡ i.owed }
+    {
+        self.owed
+    }
+
+    /// A frame with the next number expected was sent.
+    pub fn told(&mut self)
+        ensures stands { (i : Incoming) → StandsIn self.old i → StandsIn self.new (after_told i) }
+        ensures room { self.new.room ≡ self.old.room }
+    {
+        self.owed = false;
+    }
+}
