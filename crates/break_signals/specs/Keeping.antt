@@ -1,5 +1,5 @@
 -- What the two halves keep of breaks, and the parts of an account for which they stand.
-use Rattle.std.specs.Prelude.{◌≡◌, ℕ, ◌+◌, ◌%◌, min, Bool, false, if◌then◌else◌, List, length, Option, Some, None, slice_index_or}
+use Rattle.std.specs.Prelude.{◌≡◌, ℕ, ◌+◌, ◌^◌, ◌<◌, ◌%◌, min, false, if◌then◌else◌, length, Option, Some, None, slice_index_or}
 use Rattle.break_signals.specs.declared.word.BreakWord.{BreakWord}
 use Rattle.break_signals.specs.declared.word.BreakWord.TheVariants.{Brk}
 use Rattle.break_signals.specs.declared.break_sender.Waiting.{Waiting}
@@ -10,6 +10,11 @@ pub record Asking : Type 0 where
   pub number : ℕ  -- of the break that waits or, where none does, of the next one
   pub waiting : Option Waiting
   pub rest : ℕ
+
+-- its timer was set in a turn that may be
+abbrev pub IsEarly : Option Waiting → Type 0
+IsEarly None = Unit {0}
+IsEarly (Some w) = w.set < 2 ^ 40
 
 -- The break that waits is the one length that isn't answered. Its count needs to be known up to the greatest u16 alone, since a number of
 -- tries is below 256.

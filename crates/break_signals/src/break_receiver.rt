@@ -17,6 +17,10 @@ impl Model for BreakReceiver {
     ghost Value = { Answering };
 
     ghost view = { λ r. record { expected = r.expected; ack = r.ack } };
+
+    ghost use Rattle.std.specs.Prelude.{◌<◌};
+
+    ghost invariant = { λ r. r.expected < 2 };
 }
 
 impl BreakReceiver {
@@ -39,7 +43,12 @@ impl BreakReceiver {
         ensures gives { (b : TheirBreaks) → StandsTheirs self.old b → result ≡ gives number length b }
         ensures stands { (b : TheirBreaks) → StandsTheirs self.old b → StandsTheirs self.new (after_break number length b) }
     {
-        None
+        self.ack = Some(BreakWord::Ack { number, length });
+        if number != self.expected {
+            return None;
+        }
+        self.expected = 1 - number;
+        Some(length)
     }
 
     /// The BRKACK that is due.

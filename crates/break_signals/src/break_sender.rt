@@ -1,8 +1,11 @@
 // An end's own breaks.
-ghost use Rattle.std.specs.Prelude.{◌≡◌, ◌<◌, ◌^◌, IsSome, OnErr, MatchResult, Some, None};
+ghost use Rattle.std.specs.Prelude.{◌≡◌, ◌<◌, ◌^◌, ◌+◌, min, true, IsSome, OnErr, MatchResult, Some, None};
 
 use crate::word::BreakWord;
 use std::marker::Model;
+
+/// After a break was answered no other one is taken for so many turns.
+const REST: u64 = 8;
 
 /// All tries of a break are spent.
 #[derive(Clone, Copy, Debug, PartialEq, Eq)]
@@ -18,6 +21,20 @@ struct Waiting {
     count: u16,
 }
 
+impl Waiting {
+    /// The same break where its timer has expired in this turn.
+    fn again(self, turn: u64) -> Waiting
+        ensures { result ≡ record { units = self.units; due = true; set = turn; count = min (self.count + 1) 65535 } }
+    {
+        Waiting {
+            due: true,
+            set: turn,
+            count: self.count.saturating_add(1),
+            ..self
+        }
+    }
+}
+
 /// An end's own breaks: one at a time waits for its answer.
 #[derive(Drop)]
 pub struct BreakSender {
@@ -31,7 +48,12 @@ impl Model for BreakSender {
 
     ghost Value = { Asking };
 
+    ghost use Rattle.break_signals.specs.Keeping.{IsEarly};
+    ghost use Rattle.std.specs.Prelude.{◌<◌};
+
     ghost view = { λ s. record { number = s.number; waiting = s.waiting; rest = s.rest } };
+
+    ghost invariant = { λ s. (s.number < 2) × IsEarly s.waiting };
 }
 
 impl BreakSender {
@@ -55,7 +77,16 @@ impl BreakSender {
         ensures answer { (b : OwnBreaks) → StandsOwn self.old b → result ≡ takes_break turn b }
         ensures stands { (b : OwnBreaks) → StandsOwn self.old b → StandsOwn self.new (after_ask turn length b) }
     {
-        false
+        if self.waiting.is_some() || turn < self.rest {
+            return false;
+        }
+        self.waiting = Some(Waiting {
+            units: length,
+            due: true,
+            set: turn,
+            count: 0,
+        });
+        true
     }
 
     /// The end speaks in this turn: where the timer of the break that waits expires, its BRK is due again.
@@ -65,7 +96,16 @@ impl BreakSender {
             → MatchResult result (λ _. Ticks self.new (ticked turn period tries b)) (λ _. ticked turn period tries b ≡ None) }
         ensures unchanged { OnErr result (self.new ≡ self.old) }
     {
-        Ok(())
+        match self.waiting {
+            Some(waiting) if turn == waiting.set + u64::from(period) => {
+                if waiting.count == u16::from(tries) {
+                    return Err(Spent0);
+                }
+                self.waiting = Some(waiting.again(turn));
+                Ok(())
+            }
+            _ => Ok(()),
+        }
     }
 
     /// The BRK that is due.
@@ -73,7 +113,13 @@ impl BreakSender {
         ensures value { result ≡ due_by self.now }
         ensures due { (b : OwnBreaks) → StandsOwn self.now b → result ≡ own_due b }
     {
-        None
+        match self.waiting {
+            Some(waiting) if waiting.due => Some(BreakWord::Brk {
+                number: self.number,
+                length: waiting.units,
+            }),
+            _ => None,
+        }
     }
 
     /// The BRK was sent.
@@ -81,6 +127,12 @@ impl BreakSender {
         requires { IsSome (due_by self.old) }
         ensures { (b : OwnBreaks) → StandsOwn self.old b → StandsOwn self.new (after_brk b) }
     {
+        if let Some(waiting) = self.waiting {
+            self.waiting = Some(Waiting {
+                due: false,
+                ..waiting
+            });
+        }
     }
 
     /// A BRKACK of this number was heard in this turn.
@@ -88,6 +140,11 @@ impl BreakSender {
         requires { turn < 2 ^ 40 }
         ensures { (b : OwnBreaks) → StandsOwn self.old b → StandsOwn self.new (after_answer turn number b) }
     {
+        if self.waiting.is_some() && number == self.number {
+            self.waiting = None;
+            self.number = 1 - number;
+            self.rest = turn + REST;
+        }
     }
 
     /// Whether a break waits for its answer.

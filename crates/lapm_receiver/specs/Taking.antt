@@ -35,6 +35,18 @@ pub record StandsIn (receiver : Taking) (i : Incoming) : Type 0 where
   pub gapped_is : receiver.gapped ≡ i.gapped
   pub owed_is : receiver.owed ≡ i.owed
 
+-- what a receiver began with
+pub record SameTerms (old new : Taking) : Type 0 where
+  pub room_is : new.room ≡ old.room
+  pub window_is : new.window ≡ old.window
+  pub srej_is : new.srej ≡ old.srej
+
+-- the same segments
+pub record SameSegments (old new : Taking) : Type 0 where
+  pub taken_is : new.taken ≡ old.taken
+  pub ready_is : new.ready ≡ old.ready
+  pub held_is : new.held ≡ old.held
+
 -- the number to ask for, of what a receiver keeps
 abbrev pub asked_by : Taking → Option ℕ
 asked_by receiver =

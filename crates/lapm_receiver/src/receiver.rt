@@ -1,5 +1,5 @@
 // The order of the other end's segments.
-ghost use Rattle.std.specs.Prelude.{◌≡◌, ◌≤◌, ◌<◌, ◌^◌, ◌%◌, ◌↔◌, ℕ, List, length, IfOk, IsTrue, IsSome, Some, is_some};
+ghost use Rattle.std.specs.Prelude.{◌≡◌, ◌≤◌, ◌<◌, ◌^◌, ◌%◌, ◌+◌, ◌↔◌, ℕ, List, length, drop, false, IfOk, IsTrue, IsSome, Some, is_some};
 ghost use Rattle.std.specs.Bool.{OnFalse};
 ghost use Rattle.std.specs.Option.{option_map};
 
@@ -36,7 +36,7 @@ impl Model for Receiver {
 
 impl Receiver {
     ghost use Rattle.lapm_receiver.specs.Incoming.{Incoming, not_begun, begun, kind_of, after_take, next_delivered, after_delivered, undelivered, next_expected, asks, after_asked, after_told};
-    ghost use Rattle.lapm_receiver.specs.Taking.{StandsIn, asked_by};
+    ghost use Rattle.lapm_receiver.specs.Taking.{StandsIn, SameTerms, SameSegments, asked_by};
 
     /// A receiver that isn't begun, with room for so many segments. It takes all its memory here.
     pub fn new(alloc: Global, room: u8) -> Result<Receiver, NoMemory>
@@ -67,7 +67,8 @@ impl Receiver {
         requires delivered { length self.old.ready ≡ 0 }
         ensures kind { (i : Incoming) → StandsIn self.old i → result ≡ kind_of ns i }
         ensures stands { (i : Incoming) → StandsIn self.old i → StandsIn self.new (after_take ns info.now i) }
-        ensures room { self.new.room ≡ self.old.room }
+        ensures terms { SameTerms self.old self.new }
+        ensures count { self.new.taken ≡ self.old.taken + length self.new.ready }
     {
         Took::Gap
     }
@@ -80,7 +81,7 @@ impl Receiver {
         ensures stands { (i : Incoming) → StandsIn self.old i → StandsIn self.new (after_delivered i) }
         ensures unchanged { OnFalse result (self.new ≡ self.old) }
         ensures out_unchanged { OnFalse result (out.new ≡ out.old) }
-        ensures room { self.new.room ≡ self.old.room }
+        ensures value { self.new ≡ record self.old { ready = drop 1 self.old.ready } }
     {
         false
     }
@@ -91,6 +92,14 @@ impl Receiver {
         ensures undelivered { (i : Incoming) → StandsIn self.now i → result ≡ undelivered i }
     {
         0
+    }
+
+    /// The number of segments taken in order so far.
+    pub fn taken(&self) -> u64
+        ensures value { result ≡ self.now.taken }
+        ensures taken { (i : Incoming) → StandsIn self.now i → result ≡ next_expected i }
+    {
+        self.taken
     }
 
     /// The next number expected, modulo 128.
@@ -113,7 +122,8 @@ impl Receiver {
     pub fn asked(&mut self)
         requires { IsSome (asked_by self.old) }
         ensures stands { (i : Incoming) (n : ℕ) → StandsIn self.old i → asks i ≡ Some n → StandsIn self.new (after_asked n i) }
-        ensures room { self.new.room ≡ self.old.room }
+        ensures terms { SameTerms self.old self.new }
+        ensures segments { SameSegments self.old self.new }
     {
     }
 
@@ -127,7 +137,7 @@ impl Receiver {
     /// A frame with the next number expected was sent.
     pub fn told(&mut self)
         ensures stands { (i : Incoming) → StandsIn self.old i → StandsIn self.new (after_told i) }
-        ensures room { self.new.room ≡ self.old.room }
+        ensures value { self.new ≡ record self.old { owed = false } }
     {
         self.owed = false;
     }

@@ -34,6 +34,13 @@ pub record StandsOut (sender : Sending) (o : Outgoing) : Type 0 where
   pub count_is : sender.count ≡ o.count
   pub awaited_is : sender.awaited ≡ o.awaited
 
+-- what a sender began with
+pub record SameTerms (old new : Sending) : Type 0 where
+  pub room_is : new.room ≡ old.room
+  pub window_is : new.window ≡ old.window
+  pub size_is : new.size ≡ old.size
+  pub tries_is : new.tries ≡ old.tries
+
 -- the number of the next segment that a sender wants, of what it keeps
 abbrev pub wanted_by : Sending → Option ℕ
 wanted_by sender = if not sender.ended && nat_lt (length sender.kept) sender.window then Some (sender.front + length sender.kept) else None

@@ -36,7 +36,7 @@ impl Model for Sender {
 
 impl Sender {
     ghost use Rattle.lapm_sender.specs.Outgoing.{Outgoing, not_begun, begun, wanted, with_piece, next_number, acknowledged, rejected, replied, selected, expired, is_whole, is_outstanding};
-    ghost use Rattle.lapm_sender.specs.Sending.{StandsOut, wanted_by, GivesNext, Advances, Follows, RefusesAck, SpendsAll};
+    ghost use Rattle.lapm_sender.specs.Sending.{StandsOut, wanted_by, GivesNext, Advances, Follows, RefusesAck, SpendsAll, SameTerms};
 
     /// A sender that isn't begun, with room for so many segments. It takes all its memory here.
     pub fn new(alloc: Global, room: u8) -> Result<Sender, NoMemory>
@@ -76,7 +76,7 @@ impl Sender {
         requires wanted { IsSomeAnd (wanted_by self.old) (λ number. number < 2 ^ 56) }
         requires short { length piece.now ≤ self.old.size }
         ensures stands { (o : Outgoing) → StandsOut self.old o → StandsOut self.new (with_piece piece.now o) }
-        ensures room { self.new.room ≡ self.old.room }
+        ensures terms { SameTerms self.old self.new }
     {
     }
 
@@ -93,7 +93,7 @@ impl Sender {
             → MatchOption result (next_number o ≡ None) (GivesNext self.new out.new o) }
         ensures unchanged { IfNone result (self.new ≡ self.old) }
         ensures out_unchanged { IfNone result (out.new ≡ out.old) }
-        ensures room { self.new.room ≡ self.old.room }
+        ensures terms { SameTerms self.old self.new }
     {
         None
     }
@@ -104,7 +104,7 @@ impl Sender {
         ensures answer { (o : Outgoing) → StandsOut self.old o
             → MatchResult result (Advances self.new o (acknowledged nr o)) (RefusesAck nr o (acknowledged nr o)) }
         ensures unchanged { OnErr result (self.new ≡ self.old) }
-        ensures room { self.new.room ≡ self.old.room }
+        ensures terms { SameTerms self.old self.new }
     {
         Ok(false)
     }
@@ -115,7 +115,7 @@ impl Sender {
         ensures answer { (o : Outgoing) → StandsOut self.old o
             → MatchResult result (Advances self.new o (rejected nr o)) (RefusesAck nr o (rejected nr o)) }
         ensures unchanged { OnErr result (self.new ≡ self.old) }
-        ensures room { self.new.room ≡ self.old.room }
+        ensures terms { SameTerms self.old self.new }
     {
         Ok(false)
     }
@@ -125,7 +125,7 @@ impl Sender {
         ensures answer { (o : Outgoing) → StandsOut self.old o
             → MatchResult result (λ _. Follows self.new (selected nr o)) (RefusesAck nr o (selected nr o)) }
         ensures unchanged { OnErr result (self.new ≡ self.old) }
-        ensures room { self.new.room ≡ self.old.room }
+        ensures terms { SameTerms self.old self.new }
     {
         Ok(())
     }
@@ -136,7 +136,7 @@ impl Sender {
         ensures answer { (o : Outgoing) → StandsOut self.old o
             → MatchResult result (λ _. Follows self.new (expired o)) (SpendsAll o (expired o)) }
         ensures unchanged { OnErr result (self.new ≡ self.old) }
-        ensures room { self.new.room ≡ self.old.room }
+        ensures terms { SameTerms self.old self.new }
     {
         Ok(())
     }
@@ -147,9 +147,17 @@ impl Sender {
         ensures answer { (o : Outgoing) → StandsOut self.old o
             → MatchResult result (Advances self.new o (replied nr o)) (RefusesAck nr o (replied nr o)) }
         ensures unchanged { OnErr result (self.new ≡ self.old) }
-        ensures room { self.new.room ≡ self.old.room }
+        ensures terms { SameTerms self.old self.new }
     {
         Ok(false)
+    }
+
+    /// The number of segments that are acknowledged.
+    pub fn front(&self) -> u64
+        ensures value { result ≡ self.now.front }
+        ensures front { (o : Outgoing) → StandsOut self.now o → result ≡ o.front }
+    {
+        self.front
     }
 
     /// Whether the file has ended and every segment is acknowledged.
