@@ -7,3 +7,4 @@ mod Speaking
 mod Playing
 mod Breaking
 mod BreakPlaying
+mod Kept
