@@ -1,5 +1,6 @@
 -- What a sender keeps, and the part of an account for which it stands.
-use Rattle.std.specs.Prelude.{◌≡◌, ℕ, ◌+◌, ◌%◌, ◌≤◌, Bool, not, if◌then◌else◌, ◌&&◌, nat_lt, List, [], length, drop, Option, Some, None, slice_index_or}
+use Rattle.std.specs.Prelude.{◌≡◌, ℕ, ◌+◌, ◌^◌, ◌%◌, ◌≤◌, Bool, not, if◌then◌else◌, ◌&&◌, nat_lt, List, [], length, drop, Option, Some, None, slice_index_or}
+use Rattle.frame_check.specs.declared.sizes.TheConstants.{INFO}
 use Rattle.lapm_sender.specs.declared.faults.BadAck.{BadAck}
 use Rattle.lapm_sender.specs.declared.faults.Spent.{Spent}
 use Rattle.lapm_sender.specs.Outgoing.{Outgoing, next_number, after_next}
@@ -18,6 +19,19 @@ pub record Sending : Type 0 where
   pub chosen : List ℕ
   pub count : ℕ
   pub awaited : Bool
+
+-- what is true of each sender
+pub record IsSending (front kept room window size tries high from count : ℕ) : Type 0 where
+  pub room_low : room ≤ 127
+  pub window_room : window ≤ room
+  pub kept_window : kept ≤ window
+  pub size_low : size ≤ INFO
+  pub front_from : front ≤ from
+  pub from_high : from ≤ high
+  pub high_kept : high ≤ front + kept
+  pub few : front + kept ≤ 2 ^ 56
+  pub count_tries : count ≤ tries
+  pub tries_low : tries ≤ 20
 
 -- a sender stands for a part with these segments offered: it has them all but those that are acknowledged
 pub record StandsOut (sender : Sending) (o : Outgoing) : Type 0 where

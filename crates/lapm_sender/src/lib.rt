@@ -5,6 +5,8 @@
 
 mod faults;
 pub mod laws;
+mod numbers;
+mod segments;
 mod sender;
 
 pub use faults::{BadAck, Spent};

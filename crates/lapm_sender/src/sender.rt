@@ -1,9 +1,10 @@
 // The window of an end's own segments.
-ghost use Rattle.std.specs.Prelude.{◌≡◌, ◌≤◌, ◌<◌, ◌^◌, length, IfOk, OnErr, IfNone, IsSomeAnd, MatchResult, MatchOption, is_some};
+ghost use Rattle.std.specs.Prelude.{◌≡◌, ◌≤◌, ◌<◌, ◌^◌, length, IfOk, OnErr, IfNone, IsSomeAnd, MatchResult, MatchOption, is_some, [], ◌+◌, ◌-◌, ◌%◌, max, nat_lt, slice_index_or};
 ghost use Rattle.frame_check.specs.declared.sizes.TheConstants.{INFO};
 
 use crate::faults::{BadAck, Spent};
-use circular_buffer::HeapCircularBuffer;
+use crate::numbers::{meant_by, modulo};
+use crate::segments::Segments;
 use frame_check::Info;
 use outside_core::NoMemory;
 use std::alloc::Global;
@@ -13,12 +14,11 @@ use std::marker::Model;
 /// end has acknowledged it.
 #[derive(Drop)]
 pub struct Sender {
-    kept: HeapCircularBuffer<Info>,
+    segments: Segments,
     window: u8,
     size: u16,
     tries: u8,
     ended: bool,
-    front: u64,
     high: u64,
     from: u64,
     count: u8,
@@ -26,16 +26,18 @@ pub struct Sender {
 }
 
 impl Model for Sender {
-    ghost use Rattle.std.specs.Prelude.{[]};
-    ghost use Rattle.lapm_sender.specs.Sending.{Sending};
+    ghost use Rattle.std.specs.Prelude.{length};
+    ghost use Rattle.lapm_sender.specs.Sending.{Sending, IsSending};
 
     ghost Value = { Sending };
 
-    ghost view = { λ s. record { room = s.kept.capacity; window = s.window; size = s.size; tries = s.tries; kept = s.kept.items; ended = s.ended; front = s.front; high = s.high; from = s.from; chosen = []; count = s.count; awaited = s.awaited } };
+    ghost view = { λ s. record { room = s.segments.room; window = s.window; size = s.size; tries = s.tries; kept = s.segments.kept; ended = s.ended; front = s.segments.front; high = s.high; from = s.from; chosen = s.segments.chosen; count = s.count; awaited = s.awaited } };
+
+    ghost invariant = { λ s. IsSending s.segments.front (length s.segments.kept) s.segments.room s.window s.size s.tries s.high s.from s.count };
 }
 
 impl Sender {
-    ghost use Rattle.lapm_sender.specs.Outgoing.{Outgoing, not_begun, begun, wanted, with_piece, next_number, acknowledged, rejected, replied, selected, expired, is_whole, is_outstanding};
+    ghost use Rattle.lapm_sender.specs.Outgoing.{Outgoing, not_begun, begun, wanted, with_piece, next_number, advanced, acknowledged, rejected, replied, selected, expired, is_whole, is_outstanding};
     ghost use Rattle.lapm_sender.specs.Sending.{StandsOut, wanted_by, GivesNext, Advances, Follows, RefusesAck, SpendsAll, SameTerms};
 
     /// A sender that isn't begun, with room for so many segments. It takes all its memory here.
@@ -45,7 +47,18 @@ impl Sender {
         ensures stands { IfOk result (λ sender. StandsOut sender not_begun) }
         ensures room { IfOk result (λ sender. sender.room ≡ room) }
     {
-        Err(NoMemory)
+        let segments = Segments::new(alloc, room)?;
+        Ok(Sender {
+            segments,
+            window: 0,
+            size: 0,
+            tries: 0,
+            ended: false,
+            high: 0,
+            from: 0,
+            count: 0,
+            awaited: false,
+        })
     }
 
     /// Begins with the agreed window, length of a segment in octets, and number of tries. `polled` is whether a poll is
@@ -61,6 +74,15 @@ impl Sender {
         ensures stands { StandsOut self.new (begun window piece tries polled) }
         ensures room { self.new.room ≡ self.old.room }
     {
+        self.segments.restart();
+        self.window = window;
+        self.size = piece;
+        self.tries = tries;
+        self.ended = false;
+        self.high = 0;
+        self.from = 0;
+        self.count = 0;
+        self.awaited = polled;
     }
 
     /// The number of the next segment to read, where there is room in the window and the file hasn't ended.
@@ -68,7 +90,12 @@ impl Sender {
         ensures value { result ≡ wanted_by self.now }
         ensures wanted { (o : Outgoing) → StandsOut self.now o → result ≡ wanted o }
     {
-        None
+        let next = self.segments.end();
+        if !self.ended && next < self.segments.front() + u64::from(self.window) {
+            Some(next)
+        } else {
+            None
+        }
     }
 
     /// Takes the next segment of the file. One that isn't full ends the file; an empty one is no segment.
@@ -78,13 +105,33 @@ impl Sender {
         ensures stands { (o : Outgoing) → StandsOut self.old o → StandsOut self.new (with_piece piece.now o) }
         ensures terms { SameTerms self.old self.new }
     {
+        match piece {
+            [] => self.ended = true,
+            _ => {
+                self.ended = piece.len() < usize::from(self.size);
+                self.segments.push(piece);
+            }
+        }
     }
 
     /// Whether a segment may be sent now.
     pub fn ready(&self) -> bool
         ensures { (o : Outgoing) → StandsOut self.now o → result ≡ is_some (next_number o) }
     {
-        false
+        !self.awaited && (self.segments.least_chosen().is_some() || self.from < self.segments.end())
+    }
+
+    /// Copies a segment into `out`, and gives its number modulo 128. It has then been sent.
+    fn send(&mut self, number: u64, out: &mut Info) -> u8
+        requires low { self.old.front ≤ number }
+        requires high { number < self.old.front + length self.old.kept }
+        ensures number { result ≡ number % 128 }
+        ensures segment { out.new ≡ slice_index_or self.old.kept (number - self.old.front) [] }
+        ensures sent { self.new ≡ record self.old { high = max self.old.high (number + 1) } }
+    {
+        self.segments.copy(number, out);
+        self.high = self.high.max(number + 1);
+        modulo(number)
     }
 
     /// Copies the segment that is to be sent now into `out`, in place of what that held, and gives its number modulo 128.
@@ -95,7 +142,49 @@ impl Sender {
         ensures out_unchanged { IfNone result (out.new ≡ out.old) }
         ensures terms { SameTerms self.old self.new }
     {
-        None
+        if self.awaited {
+            return None;
+        }
+        match self.segments.least_chosen() {
+            Some(number) => {
+                let ns = self.send(number, out);
+                self.segments.drop_least();
+                Some(ns)
+            }
+            None if self.from < self.segments.end() => {
+                let ns = self.send(self.from, out);
+                self.from += 1;
+                Some(ns)
+            }
+            None => None,
+        }
+    }
+
+    /// All segments before this number are acknowledged. True where the front advances.
+    fn advance(&mut self, number: u64) -> bool
+        requires low { self.old.front ≤ number }
+        requires high { number ≤ self.old.high }
+        ensures stands { (o : Outgoing) → StandsOut self.old o → StandsOut self.new (advanced o number) }
+        ensures advances { result ≡ nat_lt self.old.front number }
+        ensures terms { SameTerms self.old self.new }
+    {
+        let advances = self.segments.front() < number;
+        self.segments.advance(number);
+        self.from = self.from.max(number);
+        if advances {
+            self.count = 0;
+        }
+        advances
+    }
+
+    fn bad_ack(&self, nr: u8) -> BadAck
+        ensures { result ≡ record { nr = nr; va = self.now.front % 128; high = self.now.high % 128 } }
+    {
+        BadAck {
+            nr,
+            va: modulo(self.segments.front()),
+            high: modulo(self.high),
+        }
     }
 
     /// Takes the acknowledgement of all segments before number `nr` modulo 128. True where the front advanced.
@@ -106,7 +195,10 @@ impl Sender {
         ensures unchanged { OnErr result (self.new ≡ self.old) }
         ensures terms { SameTerms self.old self.new }
     {
-        Ok(false)
+        match meant_by(self.segments.front(), self.high, nr) {
+            Some(number) => Ok(self.advance(number)),
+            None => Err(self.bad_ack(nr)),
+        }
     }
 
     /// The same, and sending goes on from that number.
@@ -117,7 +209,9 @@ impl Sender {
         ensures unchanged { OnErr result (self.new ≡ self.old) }
         ensures terms { SameTerms self.old self.new }
     {
-        Ok(false)
+        let advances = self.acked(nr)?;
+        self.from = self.segments.front();
+        Ok(advances)
     }
 
     /// Number `nr` modulo 128 alone is to be sent again. It acknowledges nothing.
@@ -127,7 +221,13 @@ impl Sender {
         ensures unchanged { OnErr result (self.new ≡ self.old) }
         ensures terms { SameTerms self.old self.new }
     {
-        Ok(())
+        if self.outstanding() {
+            if let Some(number) = meant_by(self.segments.front(), self.high - 1, nr) {
+                self.segments.choose(number);
+                return Ok(());
+            }
+        }
+        Err(self.bad_ack(nr))
     }
 
     /// A period has passed without an answer: one more try, and a poll is awaited.
@@ -138,6 +238,13 @@ impl Sender {
         ensures unchanged { OnErr result (self.new ≡ self.old) }
         ensures terms { SameTerms self.old self.new }
     {
+        if self.count == self.tries {
+            return Err(Spent {
+                segment: self.segments.front(),
+            });
+        }
+        self.count += 1;
+        self.awaited = true;
         Ok(())
     }
 
@@ -149,7 +256,13 @@ impl Sender {
         ensures unchanged { OnErr result (self.new ≡ self.old) }
         ensures terms { SameTerms self.old self.new }
     {
-        Ok(false)
+        let advances = self.rejected(nr)?;
+        self.segments.choose_none();
+        self.awaited = false;
+        if !self.outstanding() {
+            self.count = 0;
+        }
+        Ok(advances)
     }
 
     /// The number of segments that are acknowledged.
@@ -157,21 +270,22 @@ impl Sender {
         ensures value { result ≡ self.now.front }
         ensures front { (o : Outgoing) → StandsOut self.now o → result ≡ o.front }
     {
-        self.front
+        self.segments.front()
     }
 
     /// Whether the file has ended and every segment is acknowledged.
     pub fn whole(&self) -> bool
         ensures { (o : Outgoing) → StandsOut self.now o → result ≡ is_whole o }
     {
-        false
+        self.ended && self.segments.front() == self.segments.end()
     }
 
     /// Whether a segment was sent that isn't acknowledged.
     pub fn outstanding(&self) -> bool
-        ensures { (o : Outgoing) → StandsOut self.now o → result ≡ is_outstanding o }
+        ensures value { result ≡ nat_lt self.now.front self.now.high }
+        ensures outstanding { (o : Outgoing) → StandsOut self.now o → result ≡ is_outstanding o }
     {
-        self.front < self.high
+        self.segments.front() < self.high
     }
 
     /// Whether a poll is awaited.
