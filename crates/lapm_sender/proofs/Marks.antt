@@ -1,5 +1,5 @@
 -- Segments that are marked to be sent again.
-use Rattle.std.proofs.Common.{◌≡◌, ℕ, zero, suc, ◌+◌, ◌-◌, ◌<◌, ◌≤◌, Bool, true, false, cond, not, List, [], ◌∷◌, ◌++◌, length, map, drop, set, nat_eq, nat_lt, nat_le, Some, None, refl, sym, ap, subst, ◌∙◌, arith}
+use Rattle.std.proofs.Common.{◌≡◌, ℕ, zero, suc, ◌+◌, ◌-◌, ◌<◌, ◌≤◌, Bool, true, false, cond, not, List, [], ◌∷◌, ◌++◌, length, drop, set, nat_eq, nat_lt, nat_le, Some, None, refl, sym, ap, subst, ◌∙◌, arith}
 use Rattle.std.specs.Prelude.{slice_get, is_some, Option}
 use Rattle.std.specs.Option.{option_map}
 use Rattle.std.specs.List.{position, position_or_len}
@@ -58,6 +58,7 @@ marked-set m n zero (s ∷ ss) info e l = by s.again
   where
     same : m ≡ n
     same = omega arith
+
     by : (t : Bool) → n ∷ marked_from (n + 1) ss ≡ with_number m (cond t (n ∷ marked_from (n + 1) ss) (marked_from (n + 1) ss))
     by true =
         let less : nat_lt m n ≡ false = grind (arith, nat_tests) in
@@ -68,6 +69,7 @@ marked-set m n (suc k) (s ∷ ss) info e l = by s.again (marked-set m (n + 1) k 
   where
     others : List Segment
     others = set ss k (record { info = info; again = true })
+
     by : (t : Bool) → marked_from (n + 1) others ≡ with_number m (marked_from (n + 1) ss)
         → cond t (n ∷ marked_from (n + 1) others) (marked_from (n + 1) others) ≡ with_number m (cond t (n ∷ marked_from (n + 1) ss) (marked_from (n + 1) ss))
     by true rest =
@@ -91,6 +93,7 @@ first-marked n (s ∷ ss) = by s.again (first-marked (n + 1) ss)
   where
     p : ℕ
     p = position_or_len is_marked ss
+
     by : (t : Bool) → slice_get (marked_from (n + 1) ss) 0 ≡ cond (nat_lt p (length ss)) (Some (n + 1 + p)) None
         → slice_get (cond t (n ∷ marked_from (n + 1) ss) (marked_from (n + 1) ss)) 0
         ≡ cond (nat_lt (cond (not t) (1 + p) 0) (suc (length ss))) (Some (n + cond (not t) (1 + p) 0)) None
@@ -111,6 +114,7 @@ marked-clear n (s ∷ ss) info = by s.again refl (marked-clear (n + 1) ss info)
   where
     p : ℕ
     p = position_or_len is_marked ss
+
     by : (t : Bool) → s.again ≡ t → marked_from (n + 1) (set ss p (record { info = info; again = false })) ≡ drop 1 (marked_from (n + 1) ss)
         → marked_from n (set (s ∷ ss) (cond (not t) (1 + p) 0) (record { info = info; again = false })) ≡ drop 1 (cond t (n ∷ marked_from (n + 1) ss) (marked_from (n + 1) ss))
     by true e rest = refl
@@ -122,6 +126,7 @@ none-marked n (s ∷ ss) l = by s.again l (none-marked (n + 1) ss)
   where
     p : ℕ
     p = position_or_len is_marked ss
+
     by : (t : Bool) → suc (length ss) ≤ cond (not t) (1 + p) 0 → (length ss ≤ p → marked_from (n + 1) ss ≡ [])
         → cond t (n ∷ marked_from (n + 1) ss) (marked_from (n + 1) ss) ≡ []
     by true l rest = absurd (omega arith)
@@ -169,6 +174,7 @@ seen-push room front ss info v e = subst (λ v. length v.kept < v.room → seen 
   where
     s : Segment
     s = record { info = info; again = false }
+
     core : length (infos ss) < room → seen room front (drop (length (ss ++ s ∷ []) - room) (ss ++ s ∷ [])) ≡ record (seen room front ss) { kept = infos ss ++ info ∷ [] }
     core less =
         let none : length (ss ++ s ∷ []) - room ≡ 0 = omega (arith, less, infos-length ss, length-append ss (s ∷ [])) in
@@ -185,7 +191,7 @@ seen-advance room front number ss v e = subst (λ v. v.front ≤ number → numb
     core low high =
         let gone : length ss - (length ss - (number - front)) ≡ number - front = omega (arith, low, high, infos-length ss) in
         rw gone (same-seen room number (drop (number - front) ss) (drop (number - front) (infos ss)) (from_number number (marked_from front ss))
-            (sym (drop-map (λ s. s.info) (number - front) ss)) (marked-drop number front (number - front) ss (omega (arith, low))))
+        (sym (drop-map (λ s. s.info) (number - front) ss)) (marked-drop number front (number - front) ss (omega (arith, low))))
 
 -- a number is marked
 pub seen-choose : (room front number : ℕ) (ss : List Segment) (s : Segment) (v : Unacknowledged) → seen room front ss ≡ v → v.front ≤ number → slice_get ss (number - front) ≡ Some s
@@ -204,7 +210,7 @@ pub seen-clear : (room front place : ℕ) (ss : List Segment) (s : Segment) (v :
 seen-clear room front place ss s v e first is =
     subst (λ v. seen room front (set ss place (record { info = s.info; again = false })) ≡ record v { chosen = drop 1 v.chosen }) e
     (same-seen room front (set ss place (record { info = s.info; again = false })) (infos ss) (drop 1 (marked_from front ss)) (infos-set place ss s false is)
-        (rw (first-place ss place first).0 (marked-clear front ss s.info)))
+    (rw (first-place ss place first).0 (marked-clear front ss s.info)))
 
 -- no number is marked
 pub seen-none : (room front : ℕ) (ss : List Segment) (v : Unacknowledged) → seen room front ss ≡ v → None ≡ position is_marked ss → v ≡ record v { chosen = drop 1 v.chosen }

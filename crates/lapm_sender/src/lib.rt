@@ -11,3 +11,6 @@ mod sender;
 
 pub use faults::{BadAck, Spent};
 pub use sender::Sender;
+
+#[cfg(test)]
+mod tests;
