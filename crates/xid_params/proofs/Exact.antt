@@ -1,17 +1,24 @@
 -- A field has one offer or one first fault, and never both.
-use Rattle.std.proofs.Common.{◌≡◌, ◌≢◌, ℕ, suc, ◌+◌, ◌/◌, ◌%◌, ◌<◌, ◌≤◌, ◌⊎◌, inl, inr, List, [], ◌∷◌, ◌++◌, length, Option, Some, None, Result, Ok, Err, append_assoc, length-append, arith, refl, sym, ◌∙◌, ap, subst}
-use Rattle.std.specs.Prelude.{IfOk, IfErr, ◌↔◌}
+use Rattle.std.proofs.Common.{◌≡◌, ◌≢◌, ℕ, suc, ◌+◌, ◌/◌, ◌%◌, ◌<◌, ◌≤◌, ◌⊎◌, inl, inr, List, [], ◌∷◌, ◌++◌, length, Option, Some, None, Result, Ok, Err, lit≤, append_assoc, length-append, arith, refl, sym, ◌∙◌, ap, subst}
+use Rattle.std.specs.Prelude.{IfOk, IfErr, ◌↔◌, IsTrue, not, unwrap_or}
+use Rattle.std.proofs.lemmas.Bool.{false≢true}
+use Rattle.std.proofs.lemmas.Bool.Decides.{nat_tests}
+use Rattle.std.proofs.lemmas.Result.{IfOk-weaker}
+use Rattle.frame_check.specs.declared.sizes.TheConstants.{INFO}
 use Rattle.std.specs.List.{flat_map}
 use Rattle.std.specs.Result.{result_ok}
 use Rattle.xid_params.specs.declared.fault.XidFault.{XidFault}
 use Rattle.xid_params.specs.declared.fault.XidFault.TheVariants.{Format, Group, Length, Value, Repeated}
 use Rattle.xid_params.specs.declared.offer.Offer.{Offer}
-use Rattle.xid_params.specs.Parts.{Part, group_octets, named}
-use Rattle.xid_params.specs.Offers.{Passes, IsEnd, GroupsSpell, OfferSpelling, offer_in, AreOctets}
+use Rattle.xid_params.specs.declared.parameter.Parameter.TheVariants.{TxLength, RxLength, TxWindow, RxWindow}
+use Rattle.xid_params.specs.Parts.{Part, group_octets, named, number_of}
+use Rattle.xid_params.specs.Parameters.{identifier_of, accepts, is_low, octets_of_bits, segments_of, stands_well, said, offer_of, AreWell}
+use Rattle.xid_params.specs.Offers.{Passes, IsEnd, GroupsSpell, OfferSpelling, offer_in, AreOctets, IsAllowed}
 use Rattle.xid_params.specs.Terms.{default_offer}
 use Rattle.xid_params.specs.Faults.{place_of, place_behind, IsGroupWrong, IsParameterWrong, GroupHas, InnerHas, FormatHas, IsNoXid, Has, IsFirst, FirstFault, ParameterHas}
 use Rattle.xid_params.specs.Gathered.{Offers}
 use Rattle.xid_params.proofs.Lists.{group-free, GoesOn, IsLonger, compare}
+use Rattle.xid_params.proofs.Tables.{and-right, well-none}
 use Rattle.xid_params.proofs.Parameters.{within}
 use Rattle.xid_params.proofs.Groups.{BehindGroups, WithinGroups, further, group-from, place-more, inner-from}
 use Rattle.xid_params.proofs.Found.{spelled-is-found, found-is-spelled}
@@ -37,8 +44,8 @@ pub never-both : (octets : List ℕ) (offer : Offer) (q : ℕ) (fault : XidFault
 never-both octets offer q fault s h =
     let o = gathered s.groups offer s.offers in
     elim (further octets s.rest s.groups o.0 q fault s.passes o.1 h) [
-      inl b ↦ nothing-more s.rest b.tail b.more b.identifier s.ends b.rest_is b.ends b.no_end
-    | inr w ↦ nothing-more s.rest ((length w.content / 256) ∷ (length w.content % 256) ∷ (w.content ++ w.after)) w.more 128 s.ends w.rest_is w.ends (λ e. absurd (omega (arith, e)))
+      | inl b ↦ nothing-more s.rest b.tail b.more b.identifier s.ends b.rest_is b.ends b.no_end
+      | inr w ↦ nothing-more s.rest ((length w.content / 256) ∷ (length w.content % 256) ∷ (w.content ++ w.after)) w.more 128 s.ends w.rest_is w.ends (λ e. absurd (omega (arith, e)))
     ]
 
 pub one-offer : (octets : List ℕ) (offer other : Offer) → OfferSpelling octets offer → OfferSpelling octets other → offer ≡ other
@@ -88,12 +95,12 @@ apart octets q f g h i =
     let from = inner-from i.content (place_behind i.groups + 3) q g i.inner in
     let to = within i.content (place_behind i.groups + 3) q g i.inner in
     elim (compare group_octets group-free h.groups i.groups (h.identifier ∷ h.tail) (group_octets part ++ i.rest) both) [
-      inl n ↦ (let behind : place_behind i.groups ≡ place_behind h.groups + length (flat_map group_octets n.more) = ap place_behind n.parts_are ∙ place-more h.groups n.more in absurd (omega (arith, h.at_is, from.0)))
-    | inr l ↦
-        let same = group-free.free part l.next i.rest (flat_map group_octets l.more ++ h.identifier ∷ h.tail) l.rest_is in
-        let size : length i.content ≡ length l.next.value = ap (λ p. length p.value) same.0 in
-        let behind : place_behind h.groups ≡ place_behind i.groups + length (flat_map group_octets (l.next ∷ l.more)) = ap place_behind l.parts_are ∙ place-more i.groups (l.next ∷ l.more) in
-        absurd (omega (arith, h.at_is, to.1, length-append l.next.value (flat_map group_octets l.more)))
+      | inl n ↦ (let behind : place_behind i.groups ≡ place_behind h.groups + length (flat_map group_octets n.more) = ap place_behind n.parts_are ∙ place-more h.groups n.more in absurd (omega (arith, h.at_is, from.0)))
+      | inr l ↦
+          let same = group-free.free part l.next i.rest (flat_map group_octets l.more ++ h.identifier ∷ h.tail) l.rest_is in
+          let size : length i.content ≡ length l.next.value = ap (λ p. length p.value) same.0 in
+          let behind : place_behind h.groups ≡ place_behind i.groups + length (flat_map group_octets (l.next ∷ l.more)) = ap place_behind l.parts_are ∙ place-more i.groups (l.next ∷ l.more) in
+          absurd (omega (arith, h.at_is, to.1, length-append l.next.value (flat_map group_octets l.more)))
     ]
 
 format-alone : (octets rest : List ℕ) → octets ≡ 130 ∷ rest → IsNoXid octets → ⊥
@@ -146,14 +153,52 @@ same-found octets (Err fault) are ok err = go (offer_in octets) refl where
   go None e = sym e
   go (Some offer) e = absurd (never-both octets offer err.at fault (found-is-spelled octets offer are e) err.here)
 
--- a field that doesn't begin with 82
-pub format-first : (octets : List ℕ) → IsNoXid octets → FirstFault octets Format
-format-first octets h = record {
-  at = 0;
-  here = inl (record { begins = h; at_is = refl; fault_is = refl });
-  first = λ q other k. go q other k;
-} where
-  go : (q : ℕ) (other : XidFault) → Has octets q other → (0 < place_of other) ⊎ ((0 ≡ place_of other) × (0 ≤ q))
-  go q other (inl k) = inr (ap place_of (sym k.fault_is), omega arith)
-  go q other (inr (inl k)) = absurd (format-alone octets (flat_map group_octets k.groups ++ k.identifier ∷ k.tail) k.passes.whole h)
-  go q other (inr (inr k)) = absurd (format-alone octets (flat_map group_octets k.groups ++ (group_octets (record { identifier = 128; value = k.content }) ++ k.rest)) k.passes.whole h)
+pub some-answer : (octets : List ℕ) (result : Result Offer XidFault) → IfOk result (OfferSpelling octets) → ((fault : XidFault) → (result ≡ Err fault) ↔ FirstFault octets fault) → ((offer : Offer) × OfferSpelling octets offer) ⊎ ((fault : XidFault) × FirstFault octets fault)
+some-answer octets (Ok offer) ok faults = inl (offer, ok)
+some-answer octets (Err fault) ok faults = inr (fault, (faults fault).0 refl)
+
+-- the offer that is spelled keeps to the least and the most
+
+length-allowed : (parts : List Part) → IsTrue (stands_well TxLength parts) → (1 ≤ unwrap_or (said octets_of_bits parts) 128) × (unwrap_or (said octets_of_bits parts) 128 ≤ INFO)
+length-allowed [] w = (lit≤ tt, lit≤ tt)
+length-allowed (part ∷ []) w =
+    let high = and-right (accepts TxLength (length part.value)) (not (is_low TxLength part.value)) w in
+    let least : 1 ≤ number_of part.value / 8 = grind (arith, nat_tests) in
+    (omega arith, omega arith)
+length-allowed (part ∷ again ∷ parts) w = absurd (false≢true w)
+
+window-allowed : (parts : List Part) → IsTrue (stands_well TxWindow parts) → (1 ≤ unwrap_or (said segments_of parts) 15) × (unwrap_or (said segments_of parts) 15 ≤ 127)
+window-allowed [] w = (lit≤ tt, lit≤ tt)
+window-allowed (part ∷ []) w =
+    let high = and-right (accepts TxWindow (length part.value)) (not (is_low TxWindow part.value)) w in
+    let least : 1 ≤ number_of part.value = grind (arith, nat_tests) in
+    (omega arith, omega arith)
+window-allowed (part ∷ again ∷ parts) w = absurd (false≢true w)
+
+offer-allowed : (parts : List Part) → AreWell parts → IsAllowed (offer_of parts)
+offer-allowed parts w =
+    let tx_len = length-allowed (named (identifier_of TxLength) parts) (w.each TxLength) in
+    let rx_len = length-allowed (named (identifier_of RxLength) parts) (w.each RxLength) in
+    let tx_window = window-allowed (named (identifier_of TxWindow) parts) (w.each TxWindow) in
+    let rx_window = window-allowed (named (identifier_of RxWindow) parts) (w.each RxWindow) in
+    record {
+      tx_len_low = tx_len.0;
+      tx_len_high = tx_len.1;
+      rx_len_low = rx_len.0;
+      rx_len_high = rx_len.1;
+      tx_window_low = tx_window.0;
+      tx_window_high = tx_window.1;
+      rx_window_low = rx_window.0;
+      rx_window_high = rx_window.1;
+    }
+
+groups-allowed : (groups : List Part) (offer : Offer) → GroupsSpell groups offer → IsAllowed offer
+groups-allowed [] offer e = subst IsAllowed (sym e) (offer-allowed [] well-none)
+groups-allowed (group ∷ []) offer s = subst IsAllowed (sym s.offer_is) (offer-allowed s.parts s.well)
+groups-allowed (group ∷ again ∷ groups) offer h = absurd h
+
+pub spelled-allowed : (octets : List ℕ) (offer : Offer) → OfferSpelling octets offer → IsAllowed offer
+spelled-allowed octets offer s = groups-allowed (named 128 s.groups) offer s.offers
+
+pub all-allowed : (octets : List ℕ) (result : Result Offer XidFault) → IfOk result (OfferSpelling octets) → IfOk result IsAllowed
+all-allowed octets result ok = IfOk-weaker result (OfferSpelling octets) IsAllowed (spelled-allowed octets) ok

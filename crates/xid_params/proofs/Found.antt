@@ -198,19 +198,21 @@ all-each parts h =
     let functions = and-right (stands_well Functions (named 3 parts)) (stands_well TxLength (named 5 parts) && (stands_well RxLength (named 6 parts) && (stands_well TxWindow (named 7 parts) && stands_well RxWindow (named 8 parts)))) h in
     let tx_length = and-right (stands_well TxLength (named 5 parts)) (stands_well RxLength (named 6 parts) && (stands_well TxWindow (named 7 parts) && stands_well RxWindow (named 8 parts))) functions in
     let rx_length = and-right (stands_well RxLength (named 6 parts)) (stands_well TxWindow (named 7 parts) && stands_well RxWindow (named 8 parts)) tx_length in
-    record { each = each
-      (and-left (stands_well Functions (named 3 parts)) (stands_well TxLength (named 5 parts) && (stands_well RxLength (named 6 parts) && (stands_well TxWindow (named 7 parts) && stands_well RxWindow (named 8 parts)))) h)
-      (and-left (stands_well TxLength (named 5 parts)) (stands_well RxLength (named 6 parts) && (stands_well TxWindow (named 7 parts) && stands_well RxWindow (named 8 parts))) functions)
-      (and-left (stands_well RxLength (named 6 parts)) (stands_well TxWindow (named 7 parts) && stands_well RxWindow (named 8 parts)) tx_length)
-      (and-left (stands_well TxWindow (named 7 parts)) (stands_well RxWindow (named 8 parts)) rx_length)
-      (and-right (stands_well TxWindow (named 7 parts)) (stands_well RxWindow (named 8 parts)) rx_length) } where
-  each : IsTrue (stands_well Functions (named 3 parts)) → IsTrue (stands_well TxLength (named 5 parts)) → IsTrue (stands_well RxLength (named 6 parts)) → IsTrue (stands_well TxWindow (named 7 parts)) → IsTrue (stands_well RxWindow (named 8 parts))
-      → (p : Parameter) → IsTrue (stands_well p (named (identifier_of p) parts))
-  each a b c d e Functions = a
-  each a b c d e TxLength = b
-  each a b c d e RxLength = c
-  each a b c d e TxWindow = d
-  each a b c d e RxWindow = e
+    record {
+      each = each
+          (and-left (stands_well Functions (named 3 parts)) (stands_well TxLength (named 5 parts) && (stands_well RxLength (named 6 parts) && (stands_well TxWindow (named 7 parts) && stands_well RxWindow (named 8 parts)))) h)
+          (and-left (stands_well TxLength (named 5 parts)) (stands_well RxLength (named 6 parts) && (stands_well TxWindow (named 7 parts) && stands_well RxWindow (named 8 parts))) functions)
+          (and-left (stands_well RxLength (named 6 parts)) (stands_well TxWindow (named 7 parts) && stands_well RxWindow (named 8 parts)) tx_length)
+          (and-left (stands_well TxWindow (named 7 parts)) (stands_well RxWindow (named 8 parts)) rx_length)
+          (and-right (stands_well TxWindow (named 7 parts)) (stands_well RxWindow (named 8 parts)) rx_length);
+    } where
+      each : IsTrue (stands_well Functions (named 3 parts)) → IsTrue (stands_well TxLength (named 5 parts)) → IsTrue (stands_well RxLength (named 6 parts)) → IsTrue (stands_well TxWindow (named 7 parts)) → IsTrue (stands_well RxWindow (named 8 parts))
+          → (p : Parameter) → IsTrue (stands_well p (named (identifier_of p) parts))
+      each a b c d e Functions = a
+      each a b c d e TxLength = b
+      each a b c d e RxLength = c
+      each a b c d e TxWindow = d
+      each a b c d e RxWindow = e
 
 found-with : (content : List ℕ) (found : Option (List Part)) (offer : Offer) → ((parts : List Part) → found ≡ Some parts → content ≡ flat_map parameter_octets parts) → option_and_then offer_with found ≡ Some offer → ParametersSpell content offer
 found-with content None offer back e = cc

@@ -124,7 +124,7 @@ group-further : (octets rest : List ℕ) (groups : List Part) (offered : Option 
 group-further octets rest groups offered q fault p o h =
     let both : flat_map group_octets groups ++ rest ≡ flat_map group_octets h.groups ++ h.identifier ∷ h.tail = tail-same 130 (flat_map group_octets groups ++ rest) (flat_map group_octets h.groups ++ h.identifier ∷ h.tail) (sym p.whole ∙ h.passes.whole) in
     elim (compare group_octets group-free groups h.groups rest (h.identifier ∷ h.tail) both) [
-      inl g ↦ record {
+      | inl g ↦ record {
         more = g.more;
         identifier = h.identifier;
         tail = h.tail;
@@ -134,7 +134,7 @@ group-further octets rest groups offered q fault p o h =
         at_is = h.at_is ∙ ap place_behind g.parts_are ∙ place-more groups g.more;
         wrong = subst (λ ps. IsGroupWrong ps h.identifier h.tail q fault) g.parts_are h.wrong;
       }
-    | inr l ↦ absurd (group-none-wrong offered groups h.groups l.more l.next h.identifier h.tail (flat_map group_octets l.more ++ rest) q fault o l.parts_are l.rest_is h.wrong)
+      | inr l ↦ absurd (group-none-wrong offered groups h.groups l.more l.next h.identifier h.tail (flat_map group_octets l.more ++ rest) q fault o l.parts_are l.rest_is h.wrong)
     ]
 
 -- and so do faults of parameters
@@ -143,7 +143,7 @@ inner-further octets rest groups offered q fault p o h =
     let part : Part = record { identifier = 128; value = h.content } in
     let both : flat_map group_octets groups ++ rest ≡ flat_map group_octets h.groups ++ (group_octets part ++ h.rest) = tail-same 130 (flat_map group_octets groups ++ rest) (flat_map group_octets h.groups ++ (group_octets part ++ h.rest)) (sym p.whole ∙ h.passes.whole) in
     elim (compare group_octets group-free groups h.groups rest (group_octets part ++ h.rest) both) [
-      inl g ↦ record {
+      | inl g ↦ record {
         more = g.more;
         content = h.content;
         after = h.rest;
@@ -151,10 +151,10 @@ inner-further octets rest groups offered q fault p o h =
         ends = ends-more groups g.more h.groups g.parts_are h.passes.none_ends;
         inner = subst (λ n. ParameterHas h.content (n + 3) q fault) (ap place_behind g.parts_are ∙ place-more groups g.more) h.inner;
       }
-    | inr l ↦
-        let same = group-free.free part l.next h.rest (flat_map group_octets l.more ++ rest) l.rest_is in
-        let s = is-spelled offered groups h.groups l.more l.next o l.parts_are (sym (ap (λ g. g.identifier) same.0)) in
-        absurd (no-fault h.content s.offer (place_behind h.groups + 3) q fault (subst (λ g. ParametersSpell g.value s.offer) (sym same.0) s.spells) h.inner)
+      | inr l ↦
+          let same = group-free.free part l.next h.rest (flat_map group_octets l.more ++ rest) l.rest_is in
+          let s = is-spelled offered groups h.groups l.more l.next o l.parts_are (sym (ap (λ g. g.identifier) same.0)) in
+          absurd (no-fault h.content s.offer (place_behind h.groups + 3) q fault (subst (λ g. ParametersSpell g.value s.offer) (sym same.0) s.spells) h.inner)
     ]
 
 format-none : (octets groups rest : List ℕ) (q : ℕ) (fault : XidFault) → octets ≡ 130 ∷ rest → FormatHas octets q fault → ⊥
@@ -207,12 +207,12 @@ first-group octets tail groups offered identifier at fault p o no_end at_is wron
   at = at;
   here = inr (inl (record { groups = groups; identifier = identifier; tail = tail; passes = p; no_end = no_end; at_is = at_is; wrong = wrong }));
   first = λ q other h. elim (further octets (identifier ∷ tail) groups offered q other p o h) [
-      inl b ↦ group-before groups b.more identifier b.identifier tail b.tail at q fault other wrong least b.rest_is (b.at_is ∙ ap (λ n. n + length (flat_map group_octets b.more)) (sym at_is)) b.wrong
+    | inl b ↦ group-before groups b.more identifier b.identifier tail b.tail at q fault other wrong least b.rest_is (b.at_is ∙ ap (λ n. n + length (flat_map group_octets b.more)) (sym at_is)) b.wrong
     | inr w ↦
         let to = group-to groups identifier tail at fault wrong in
         let from = inner-from w.content (place_behind groups + length (flat_map group_octets w.more) + 3) q other w.inner in
         le-before (place_of fault) (place_of other) at q (omega (arith, to, from.0, from.1)) (omega (arith, from.0))
-    ];
+  ];
 }
 
 least-group-length : (groups : List Part) (identifier : ℕ) (tail : List ℕ) (at : ℕ) → (identifier ≡ 128 → named 128 groups ≡ []) → (other : XidFault) → IsGroupWrong groups identifier tail at other → at + 1 ≤ place_of other
@@ -285,9 +285,9 @@ first-inner octets tail content after groups offered at fault p o at_is none e f
     inner = subst (λ n. ParameterHas content (n + 3) f.at fault) at_is f.here;
   }));
   first = λ q other h. elim (further octets (128 ∷ tail) groups offered q other p o h) [
-      inl b ↦ inner-before-group groups b.more tail content after b.tail at b.identifier q fault other none e f b.rest_is (b.at_is ∙ ap (λ n. n + length (flat_map group_octets b.more)) (sym at_is)) b.wrong
+    | inl b ↦ inner-before-group groups b.more tail content after b.tail at b.identifier q fault other none e f b.rest_is (b.at_is ∙ ap (λ n. n + length (flat_map group_octets b.more)) (sym at_is)) b.wrong
     | inr w ↦ inner-before-inner w.more tail content after w.content w.after at q fault other e f w.rest_is (subst (λ n. ParameterHas w.content (n + length (flat_map group_octets w.more) + 3) q other) (sym at_is) w.inner)
-    ];
+  ];
 }
 
 -- where the next group begins

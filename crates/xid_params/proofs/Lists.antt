@@ -27,10 +27,12 @@ parameter-free' : (i j : ℕ) (v w x y : List ℕ) → i ∷ length v ∷ v ++ x
 parameter-free' i j v w x y e = (cc, cc, cc)
 
 pub parameter-free : IsFree parameter_octets
-parameter-free = record { free = λ a b x y e.
-    let p = parameter-free' a.identifier b.identifier a.value b.value x y e in
-    let q = cut-append a.value b.value x y p.1 p.2 in
-    (part-is a.identifier b.identifier a.value b.value p.0 q.0, q.1) }
+parameter-free = record {
+  free = λ a b x y e.
+      let p = parameter-free' a.identifier b.identifier a.value b.value x y e in
+      let q = cut-append a.value b.value x y p.1 p.2 in
+      (part-is a.identifier b.identifier a.value b.value p.0 q.0, q.1);
+}
 
 group-free' : (i j h k l m : ℕ) (v w : List ℕ) → i ∷ h ∷ l ∷ v ≡ j ∷ k ∷ m ∷ w → (i ≡ j) × (h ≡ k) × (l ≡ m) × (v ≡ w)
 group-free' i j h k l m v w e = (cc, cc, cc, cc)
@@ -39,10 +41,12 @@ same-number : (m n : ℕ) → m / 256 ≡ n / 256 → m % 256 ≡ n % 256 → m 
 same-number m n h l = omega arith
 
 pub group-free : IsFree group_octets
-group-free = record { free = λ a b x y e.
-    let p = group-free' a.identifier b.identifier (length a.value / 256) (length b.value / 256) (length a.value % 256) (length b.value % 256) (a.value ++ x) (b.value ++ y) e in
-    let q = cut-append a.value b.value x y (same-number (length a.value) (length b.value) p.1 p.2) p.3 in
-    (part-is a.identifier b.identifier a.value b.value p.0 q.0, q.1) }
+group-free = record {
+  free = λ a b x y e.
+      let p = group-free' a.identifier b.identifier (length a.value / 256) (length b.value / 256) (length a.value % 256) (length b.value % 256) (a.value ++ x) (b.value ++ y) e in
+      let q = cut-append a.value b.value x y (same-number (length a.value) (length b.value) p.1 p.2) p.3 in
+      (part-is a.identifier b.identifier a.value b.value p.0 q.0, q.1);
+}
 
 -- ys goes on behind xs
 pub record GoesOn (spell : Part → List ℕ) (xs ys : List Part) (x y : List ℕ) : Type 0 where
@@ -64,8 +68,8 @@ compare spell free (a ∷ xs) [] x y e = inr (record { next = a; more = xs; part
 compare spell free (a ∷ xs) (b ∷ ys) x y e =
     let p = free.free a b (flat_map spell xs ++ x) (flat_map spell ys ++ y) (sym (append_assoc (spell a) (flat_map spell xs) x) ∙ e ∙ append_assoc (spell b) (flat_map spell ys) y) in
     elim (compare spell free xs ys x y p.1) [
-      inl g ↦ inl (record { more = g.more; parts_are = ap (λ h. h ∷ ys) (sym p.0) ∙ ap (λ t. a ∷ t) g.parts_are; rest_is = g.rest_is })
-    | inr g ↦ inr (record { next = g.next; more = g.more; parts_are = ap (λ h. h ∷ xs) p.0 ∙ ap (λ t. b ∷ t) g.parts_are; rest_is = g.rest_is })
+      | inl g ↦ inl (record { more = g.more; parts_are = ap (λ h. h ∷ ys) (sym p.0) ∙ ap (λ t. a ∷ t) g.parts_are; rest_is = g.rest_is })
+      | inr g ↦ inr (record { next = g.next; more = g.more; parts_are = ap (λ h. h ∷ xs) p.0 ∙ ap (λ t. b ∷ t) g.parts_are; rest_is = g.rest_is })
     ]
 
 one-more : (b : Bool) (a : Part) (xs ys zs : List Part) → zs ≡ xs ++ ys → cond b (a ∷ zs) zs ≡ cond b (a ∷ xs) xs ++ ys

@@ -101,18 +101,18 @@ pub record Behind (parts : List Part) (rest : List ℕ) (here q : ℕ) (fault : 
 pub behind : (content rest : List ℕ) (parts : List Part) (start q : ℕ) (fault : XidFault) → AreWell parts → content ≡ flat_map parameter_octets parts ++ rest → ParameterHas content start q fault
     → Behind parts rest (start + length (flat_map parameter_octets parts)) q fault
 behind content rest parts start q fault w e h = elim (compare parameter_octets parameter-free parts h.parts rest (h.identifier ∷ h.tail) (sym e ∙ h.whole)) [
-    inl g ↦ record {
-      more = g.more;
-      identifier = h.identifier;
-      tail = h.tail;
-      rest_is = g.rest_is;
-      at_is =
+  | inl g ↦ record {
+    more = g.more;
+    identifier = h.identifier;
+    tail = h.tail;
+    rest_is = g.rest_is;
+    at_is =
         let split : flat_map parameter_octets h.parts ≡ flat_map parameter_octets parts ++ flat_map parameter_octets g.more = ap (flat_map parameter_octets) g.parts_are ∙ flat_map-append parameter_octets parts g.more in
         omega (arith, h.at_is, ap length split, length-append (flat_map parameter_octets parts) (flat_map parameter_octets g.more));
-      wrong = subst (λ ps. IsParameterWrong ps h.identifier h.tail q fault) g.parts_are h.wrong;
-    }
+    wrong = subst (λ ps. IsParameterWrong ps h.identifier h.tail q fault) g.parts_are h.wrong;
+  }
   | inr l ↦ absurd (none-wrong parts h.parts l.more l.next h.identifier h.tail (flat_map parameter_octets l.more ++ rest) q fault w l.parts_are l.rest_is h.wrong)
-  ]
+]
 
 pub le-before : (f g at q : ℕ) → f ≤ g → at ≤ q → (f < g) ⊎ ((f ≡ g) × (at ≤ q))
 le-before f g at q l m = elim (cases_lt f g) [ inl h ↦ inl h | inr h ↦ inr (omega arith, m) ]

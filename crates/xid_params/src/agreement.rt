@@ -24,7 +24,11 @@ pub fn default_offer() -> Offer
 fn lowered(srej: bool, window: u8) -> u8
     ensures { result ≡ lowered srej window }
 {
-    if srej { window.min(SREJ_WINDOW) } else { window }
+    if srej {
+        window.min(SREJ_WINDOW)
+    } else {
+        window
+    }
 }
 
 /// What the two ends use: in each direction what its sender sends and its receiver takes, and the functions that both have.

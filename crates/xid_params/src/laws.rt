@@ -1,9 +1,11 @@
-//! Laws over the definitions alone. The functions do nothing: each law is a contract.
-ghost use Rattle.std.specs.Prelude.{◌≡◌, ℕ, List};
+//! Laws over the definitions alone. The functions do nothing, or nothing that tells: each law is a contract.
+ghost use Rattle.std.specs.Prelude.{◌≡◌, ℕ, ◌⊎◌, List};
 ghost use Rattle.xid_params.specs.declared.offer.Offer.{Offer};
 ghost use Rattle.xid_params.specs.declared.fault.XidFault.{XidFault};
 ghost use Rattle.xid_params.specs.Offers.{OfferSpelling, DefaultIsRead, ReadsWritten, SpellingIsFound};
 ghost use Rattle.xid_params.specs.Faults.{Has, FirstFault};
+
+use crate::read_offer;
 
 /// The default offer is read back from its spelling.
 pub fn default_is_read()
@@ -33,3 +35,10 @@ pub fn one_fault()
     ensures never_both { (octets : List ℕ) (offer : Offer) (at : ℕ) (fault : XidFault)
         → OfferSpelling octets offer → Has octets at fault → ⊥ }
 {}
+
+/// Every field spells an offer or has a first fault.
+pub fn one_answer(info: &[u8])
+    ensures { ((offer : Offer) × OfferSpelling info.now offer) ⊎ ((fault : XidFault) × FirstFault info.now fault) }
+{
+    let _ = read_offer(info);
+}

@@ -19,3 +19,6 @@ pub use offer::Offer;
 pub use reader::read_offer;
 pub use terms::Terms;
 pub use writer::write_offer;
+
+#[cfg(test)]
+mod tests;

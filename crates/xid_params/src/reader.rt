@@ -5,7 +5,7 @@ ghost use Rattle.xid_params.specs.declared.offer.Offer.{Offer};
 ghost use Rattle.xid_params.specs.declared.fault.XidFault.{XidFault};
 ghost use Rattle.xid_params.specs.Parts.{Part, named};
 ghost use Rattle.xid_params.specs.Parameters.{ParametersSpell};
-ghost use Rattle.xid_params.specs.Offers.{OfferSpelling, offer_in};
+ghost use Rattle.xid_params.specs.Offers.{OfferSpelling, IsAllowed, offer_in};
 ghost use Rattle.xid_params.specs.Faults.{ParameterHas, IsFirst, FirstFault};
 ghost use Rattle.xid_params.specs.Gathered.{Offers};
 
@@ -91,6 +91,7 @@ fn read_groups(groups: &[u8]) -> Result<Offer, XidFault>
 /// over, and so is everything from a group's identifier FF on.
 pub fn read_offer(info: &[u8]) -> Result<Offer, XidFault>
     ensures ok { IfOk result (OfferSpelling info.now) }
+    ensures allowed { IfOk result IsAllowed }
     ensures all { (offer : Offer) → OfferSpelling info.now offer → result ≡ Ok offer }
     ensures fault { (fault : XidFault) → (result ≡ Err fault) ↔ FirstFault info.now fault }
     ensures offer { result_ok result ≡ offer_in info.now }

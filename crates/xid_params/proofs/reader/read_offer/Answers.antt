@@ -2,7 +2,7 @@ use Rattle.std.proofs.Common.{◌≡◌, ◌∷◌, arith, sym, ◌∙◌, ap, s
 use Rattle.std.specs.Prelude.{IfOk, IfErr}
 use Rattle.xid_params.specs.Offers.{OfferSpelling}
 use Rattle.xid_params.specs.Faults.{FirstFault}
-use Rattle.xid_params.proofs.Exact.{all-offers, all-faults, same-found}
+use Rattle.xid_params.proofs.Exact.{all-offers, all-faults, same-found, all-allowed}
 use Rattle.xid_params.proofs.reader.read_offer.Goals as goal
 use Rattle.xid_params.proofs.reader.read_offer.Goals.{After-read_groups}
 
@@ -23,3 +23,6 @@ returns-in-Some-clause-fault c = all-faults c.args.info.now c.read_groups.result
 
 pub returns-in-Some-clause-offer : goal.returns-in-Some-clause-offer
 returns-in-Some-clause-offer c = same-found c.args.info.now c.read_groups.result (λ i. omega (arith, c.type_inv.info i)) (offer_is_right c) (fault_is_right c)
+
+pub returns-in-Some-clause-allowed : goal.returns-in-Some-clause-allowed
+returns-in-Some-clause-allowed c = all-allowed c.args.info.now c.read_groups.result (offer_is_right c)
