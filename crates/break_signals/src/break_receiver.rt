@@ -1,5 +1,6 @@
 // The other end's breaks.
-ghost use Rattle.std.specs.Prelude.{◌≡◌, ◌<◌, IsSome};
+ghost use Rattle.std.specs.Prelude.{◌≡◌, ◌<◌, IsSome, IfSome};
+ghost use Rattle.break_signals.specs.Words.{number_of};
 
 use crate::word::BreakWord;
 use std::marker::Model;
@@ -18,9 +19,10 @@ impl Model for BreakReceiver {
 
     ghost view = { λ r. record { expected = r.expected; ack = r.ack } };
 
-    ghost use Rattle.std.specs.Prelude.{◌<◌};
+    ghost use Rattle.std.specs.Prelude.{◌<◌, IfSome};
+    ghost use Rattle.break_signals.specs.Words.{number_of};
 
-    ghost invariant = { λ r. r.expected < 2 };
+    ghost invariant = { λ r. (r.expected < 2) × IfSome r.ack (λ word. number_of word < 2) };
 }
 
 impl BreakReceiver {
@@ -54,6 +56,7 @@ impl BreakReceiver {
     /// The BRKACK that is due.
     pub fn due(&self) -> Option<BreakWord>
         ensures value { result ≡ self.now.ack }
+        ensures number { IfSome result (λ word. number_of word < 2) }
         ensures due { (b : TheirBreaks) → StandsTheirs self.now b → result ≡ b.ack }
     {
         self.ack

@@ -1,5 +1,6 @@
 // An end's own breaks.
-ghost use Rattle.std.specs.Prelude.{◌≡◌, ◌<◌, ◌^◌, ◌+◌, min, true, IsSome, OnErr, MatchResult, Some, None};
+ghost use Rattle.std.specs.Prelude.{◌≡◌, ◌<◌, ◌^◌, ◌+◌, min, true, IsSome, IfSome, OnErr, MatchResult, Some, None};
+ghost use Rattle.break_signals.specs.Words.{number_of};
 
 use crate::word::BreakWord;
 use std::marker::Model;
@@ -111,6 +112,7 @@ impl BreakSender {
     /// The BRK that is due.
     pub fn due(&self) -> Option<BreakWord>
         ensures value { result ≡ due_by self.now }
+        ensures number { IfSome result (λ word. number_of word < 2) }
         ensures due { (b : OwnBreaks) → StandsOwn self.now b → result ≡ own_due b }
     {
         match self.waiting {
