@@ -8,3 +8,4 @@ mod Playing
 mod Breaking
 mod BreakPlaying
 mod Kept
+mod Saying

@@ -5,7 +5,7 @@ use Rattle.lapm_frames.specs.declared.frame.Frame.{Frame}
 use Rattle.lapm_frames.specs.declared.frame.Frame.TheVariants.{I, Rr, Rnr, Rej, Srej, Sabme, Disc, Ua, Dm, Frmr, Ui, Xid, Test}
 use Rattle.xid_params.specs.declared.terms.Terms.{Terms}
 use Rattle.lapm_sender.specs.Outgoing as outgoing
-use Rattle.lapm_sender.specs.Sending.{StandsOut}
+use Rattle.lapm_sender.specs.Sending.{StandsOut, wanted_by}
 use Rattle.lapm_receiver.specs.Incoming as incoming
 use Rattle.lapm_receiver.specs.Taking.{Taking, StandsIn}
 use Rattle.break_signals.specs.Breaks.{no_breaks, none_heard}
@@ -16,6 +16,7 @@ use Rattle.lapm_link.specs.declared.arrived.Arrived.{Arrived}
 use Rattle.lapm_link.specs.declared.arrived.Arrived.TheVariants as arrivals
 use Rattle.lapm_link.specs.declared.sent.Sent.{Sent}
 use Rattle.lapm_link.specs.declared.fault.LinkFault.{LinkFault}
+use Rattle.lapm_link.specs.declared.phase.Phase.{Phase}
 use Rattle.lapm_link.specs.declared.phase.Phase.TheVariants as phases
 use Rattle.lapm_link.specs.declared.attempt.Attempt.{Attempt}
 use Rattle.lapm_link.specs.declared.asking.Asking.{Asking}
@@ -225,3 +226,41 @@ SpeaksLinked (Ok said) end (Ok sent) = SaysLinked said end sent
 SpeaksLinked (Err fault) end (Err broken) = broken ≡ fault
 SpeaksLinked (Ok said) end (Err broken) = ⊥
 SpeaksLinked (Err fault) end (Ok sent) = ⊥
+
+-- the same setup, and the same segments and breaks are taken
+pub record SameTaken (old new : Connected) : Type 0 where
+  pub setup_is : new.setup ≡ old.setup
+  pub taken_is : new.receiver.taken ≡ old.receiver.taken
+  pub ready_is : new.receiver.ready ≡ old.receiver.ready
+  pub given_is : new.breaks.given ≡ old.breaks.given
+
+-- no segment and no break is taken, so that what may be heard before may be heard after it
+pub record TakesNothing (old new : AnyEnd) : Type 0 where
+  pub taken_of : taken_of new ≤ taken_of old
+  pub undelivered_of : undelivered_of new ≤ undelivered_of old
+  pub waiting_of : waiting_of old ≡ None → waiting_of new ≡ None
+
+-- what the other calls read of an end
+abbrev pub phase_of : AnyEnd → Phase
+phase_of (ends.Detecting end) = phases.Detecting
+phase_of (ends.Negotiating end) = phases.Negotiating
+phase_of (ends.Establishing end) = phases.Establishing
+phase_of (ends.Connected end) = phases.Connected
+phase_of (ends.Releasing end) = phases.Releasing
+phase_of (ends.Closed end) = phases.Closed
+
+abbrev pub wanted_of : AnyEnd → Option ℕ
+wanted_of (ends.Detecting end) = None
+wanted_of (ends.Negotiating end) = None
+wanted_of (ends.Establishing end) = None
+wanted_of (ends.Connected end) = wanted_by end.sender
+wanted_of (ends.Releasing end) = None
+wanted_of (ends.Closed end) = None
+
+abbrev pub piece_of : AnyEnd → ℕ
+piece_of (ends.Detecting end) = 0
+piece_of (ends.Negotiating end) = 0
+piece_of (ends.Establishing end) = 0
+piece_of (ends.Connected end) = end.sender.size
+piece_of (ends.Releasing end) = 0
+piece_of (ends.Closed end) = 0

@@ -1,5 +1,5 @@
 // An answerer that has heard an offer.
-ghost use Rattle.std.specs.Prelude.{◌≡◌, ◌<◌, ◌^◌};
+ghost use Rattle.std.specs.Prelude.{◌≡◌};
 ghost use Rattle.lapm_frames.specs.declared.frame.Role.{Role};
 ghost use Rattle.xid_params.specs.Offers.{IsAllowed, offer_in};
 ghost use Rattle.xid_params.specs.Terms.{agree};
@@ -22,10 +22,12 @@ pub(crate) struct Answering {
 impl Answering {
     ghost use Rattle.lapm_link.specs.declared.answer.Answer.{Answer};
     ghost use Rattle.lapm_link.specs.declared.phase.Phase.{Phase};
+    ghost use Rattle.lapm_link.specs.declared.any_end.AnyEnd.{AnyEnd};
+    ghost use Rattle.lapm_link.specs.declared.negotiating.Talk.{Talk};
     ghost use Rattle.lapm_link.specs.Account.{Account};
     ghost use Rattle.lapm_link.specs.Hear.{on_xid_command, on_negotiating, hear, owing};
     ghost use Rattle.lapm_link.specs.Speak.{speak_answer};
-    ghost use Rattle.lapm_link.specs.Stands.{IsUnlinked, IsAnswering, StandsFor, Hears, IsNumbered, Speaks};
+    ghost use Rattle.lapm_link.specs.Stands.{IsUnlinked, IsAnswering, StandsFor, Hears, Speaks, TakesNothing, taken_of};
 
     /// It has heard this offer, and owes its own.
     pub(crate) fn new(memory: Unlinked, theirs: &Offer) -> Answering
@@ -41,7 +43,8 @@ impl Answering {
     }
 
     pub(crate) fn end(self) -> AnyEnd
-        ensures { (a : Account) → IsAnswering self a → StandsFor result a }
+        ensures stands { (a : Account) → IsAnswering self a → StandsFor result a }
+        ensures value { result ≡ AnyEnd.Negotiating (record { talk = Talk.Answering self }) }
     {
         AnyEnd::Negotiating(Negotiating {
             talk: Talk::Answering(self),
@@ -50,7 +53,8 @@ impl Answering {
 
     /// An XID command. One whose information is refused is ignored.
     fn on_offer(self, info: &Info) -> AnyEnd
-        ensures { (a : Account) → IsAnswering self a → StandsFor result (on_xid_command (offer_in info.now) a) }
+        ensures becomes { (a : Account) → IsAnswering self a → StandsFor result (on_xid_command (offer_in info.now) a) }
+        ensures counted { taken_of result ≡ 0 }
     {
         match offer_of(info) {
             None => self.end(),
@@ -59,7 +63,8 @@ impl Answering {
     }
 
     fn on_disc(self, pf: bool) -> AnyEnd
-        ensures { (a : Account) → IsAnswering self a → StandsFor result (owing (Answer.Dm pf) a) }
+        ensures becomes { (a : Account) → IsAnswering self a → StandsFor result (owing (Answer.Dm pf) a) }
+        ensures counted { taken_of result ≡ 0 }
     {
         let mut answering = self;
         answering.agreed.memory.owe(Answer::Dm { pf });
@@ -67,7 +72,8 @@ impl Answering {
     }
 
     fn on_frame(self, frame: &Frame, turn: u64) -> AnyEnd
-        ensures { (a : Account) → IsAnswering self a → Hears (on_negotiating Role.Answerer frame.now turn a) a (Ok result) }
+        ensures hears { (a : Account) → IsAnswering self a → Hears (on_negotiating Role.Answerer frame.now turn a) a (Ok result) }
+        ensures counted { taken_of result ≡ 0 }
     {
         match frame {
             Frame::Xid {
@@ -82,7 +88,8 @@ impl Answering {
     }
 
     pub(crate) fn hear(self, turn: u64, arrived: &Arrived) -> AnyEnd
-        ensures { (a : Account) → IsAnswering self a → Hears (hear turn arrived.now a) a (Ok result) }
+        ensures hears { (a : Account) → IsAnswering self a → Hears (hear turn arrived.now a) a (Ok result) }
+        ensures counted { taken_of result ≡ 0 }
     {
         match arrived {
             Arrived::Nothing => {
@@ -96,7 +103,8 @@ impl Answering {
     }
 
     pub(crate) fn speak(self, sent: &mut Sent) -> AnyEnd
-        ensures { (a : Account) → IsAnswering self a → Speaks (speak_answer a) a sent.old sent.new (Ok result) }
+        ensures speaks { (a : Account) → IsAnswering self a → Speaks (speak_answer a) a sent.old sent.new (Ok result) }
+        ensures takes_nothing { TakesNothing (AnyEnd.Negotiating (record { talk = Talk.Answering self })) result }
     {
         let mut answering = self;
         *sent = answering.agreed.memory.say_answer(Sent::Flags);

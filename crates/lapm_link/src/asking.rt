@@ -1,5 +1,5 @@
 // An originator that sends its offer.
-ghost use Rattle.std.specs.Prelude.{◌≡◌};
+ghost use Rattle.std.specs.Prelude.{◌≡◌, IfOk};
 ghost use Rattle.lapm_frames.specs.declared.frame.Role.{Role};
 ghost use Rattle.xid_params.specs.Offers.{offer_in};
 
@@ -21,10 +21,12 @@ pub(crate) struct Asking {
 
 impl Asking {
     ghost use Rattle.lapm_link.specs.declared.phase.Phase.{Phase};
+    ghost use Rattle.lapm_link.specs.declared.any_end.AnyEnd.{AnyEnd};
+    ghost use Rattle.lapm_link.specs.declared.negotiating.Talk.{Talk};
     ghost use Rattle.lapm_link.specs.Account.{Account};
     ghost use Rattle.lapm_link.specs.Hear.{on_xid_response, on_negotiating, hear, trying};
     ghost use Rattle.lapm_link.specs.Speak.{speak_negotiating};
-    ghost use Rattle.lapm_link.specs.Stands.{IsUnlinked, IsAsking, StandsFor, Hears, Speaks, IsNumbered};
+    ghost use Rattle.lapm_link.specs.Stands.{IsUnlinked, IsAsking, StandsFor, Hears, Speaks, TakesNothing, taken_of};
 
     /// It begins in this turn.
     pub(crate) fn new(memory: Unlinked, turn: u64) -> Asking
@@ -36,7 +38,8 @@ impl Asking {
     }
 
     pub(crate) fn end(self) -> AnyEnd
-        ensures { (a : Account) → IsAsking self a → StandsFor result a }
+        ensures stands { (a : Account) → IsAsking self a → StandsFor result a }
+        ensures value { result ≡ AnyEnd.Negotiating (record { talk = Talk.Asking self }) }
     {
         AnyEnd::Negotiating(Negotiating {
             talk: Talk::Asking(self),
@@ -45,7 +48,8 @@ impl Asking {
 
     /// An XID response. One whose information is refused is ignored.
     fn on_offer(self, info: &Info, turn: u64) -> AnyEnd
-        ensures { (a : Account) → IsAsking self a → StandsFor result (on_xid_response (offer_in info.now) turn a) }
+        ensures becomes { (a : Account) → IsAsking self a → StandsFor result (on_xid_response (offer_in info.now) turn a) }
+        ensures counted { taken_of result ≡ 0 }
     {
         match offer_of(info) {
             None => self.end(),
@@ -54,7 +58,8 @@ impl Asking {
     }
 
     fn on_frame(self, frame: &Frame, turn: u64) -> Result<AnyEnd, Broken>
-        ensures { (a : Account) → IsAsking self a → Hears (on_negotiating Role.Originator frame.now turn a) a result }
+        ensures hears { (a : Account) → IsAsking self a → Hears (on_negotiating Role.Originator frame.now turn a) a result }
+        ensures counted { IfOk result (λ end. taken_of end ≡ 0) }
     {
         match frame {
             Frame::Xid {
@@ -68,7 +73,8 @@ impl Asking {
     }
 
     pub(crate) fn hear(self, turn: u64, arrived: &Arrived) -> Result<AnyEnd, Broken>
-        ensures { (a : Account) → IsAsking self a → Hears (hear turn arrived.now a) a result }
+        ensures hears { (a : Account) → IsAsking self a → Hears (hear turn arrived.now a) a result }
+        ensures counted { IfOk result (λ end. taken_of end ≡ 0) }
     {
         match arrived {
             Arrived::Nothing => {
@@ -82,7 +88,8 @@ impl Asking {
     }
 
     pub(crate) fn speak(self, turn: u64, sent: &mut Sent) -> Result<AnyEnd, Broken>
-        ensures { (a : Account) → IsAsking self a → Speaks (speak_negotiating Role.Originator turn a) a sent.old sent.new result }
+        ensures speaks { (a : Account) → IsAsking self a → Speaks (speak_negotiating Role.Originator turn a) a sent.old sent.new result }
+        ensures takes_nothing { IfOk result (TakesNothing (AnyEnd.Negotiating (record { talk = Talk.Asking self }))) }
     {
         let mut asking = self;
         let setup = asking.memory.setup;

@@ -1,5 +1,5 @@
 // An end whose link is over.
-ghost use Rattle.std.specs.Prelude.{◌≡◌, ◌<◌, ◌^◌, None};
+ghost use Rattle.std.specs.Prelude.{◌≡◌, ◌<◌, ◌^◌, None, IfOk};
 ghost use Rattle.lapm_link.specs.Fits.{IsSetUp};
 
 use crate::answer::{Answer, slot_of, without_adp};
@@ -43,10 +43,11 @@ impl Closed {
     ghost use Rattle.lapm_link.specs.Account.{Account};
     ghost use Rattle.lapm_link.specs.Hear.{on_closed, hear, owing};
     ghost use Rattle.lapm_link.specs.Speak.{speak, Said, answering, else_says, says};
-    ghost use Rattle.lapm_link.specs.Stands.{StandsFor, Hears, Speaks, IsNumbered};
+    ghost use Rattle.lapm_link.specs.Stands.{StandsFor, Hears, Speaks, IsNumbered, TakesNothing, taken_of};
 
     fn on_frame(self, frame: &Frame) -> AnyEnd
-        ensures { (a : Account) → StandsFor (AnyEnd.Closed self) a → Hears (on_closed frame.now a) a (Ok result) }
+        ensures hears { (a : Account) → StandsFor (AnyEnd.Closed self) a → Hears (on_closed frame.now a) a (Ok result) }
+        ensures counted { taken_of result ≡ 0 }
     {
         let mut end = self;
         if let Frame::Disc { pf } = frame {
@@ -59,7 +60,8 @@ impl Closed {
     pub fn hear(self, turn: u64, arrived: &Arrived) -> Result<AnyEnd, Broken>
         requires turn { turn < 2 ^ 40 }
         requires numbers { IsNumbered arrived.now }
-        ensures { (a : Account) → StandsFor (AnyEnd.Closed self) a → Hears (hear turn arrived.now a) a result }
+        ensures hears { (a : Account) → StandsFor (AnyEnd.Closed self) a → Hears (hear turn arrived.now a) a result }
+        ensures counted { IfOk result (λ end. taken_of end ≡ 0) }
     {
         let _ = turn;
         match arrived {
@@ -76,7 +78,8 @@ impl Closed {
     /// What the end sends in this turn, and then is.
     pub fn speak(self, turn: u64, release: bool, sent: &mut Sent) -> Result<AnyEnd, Broken>
         requires { turn < 2 ^ 40 }
-        ensures { (a : Account) → StandsFor (AnyEnd.Closed self) a → Speaks (speak turn release a) a sent.old sent.new result }
+        ensures speaks { (a : Account) → StandsFor (AnyEnd.Closed self) a → Speaks (speak turn release a) a sent.old sent.new result }
+        ensures takes_nothing { IfOk result (TakesNothing (AnyEnd.Closed self)) }
     {
         let _ = turn;
         let _ = release;

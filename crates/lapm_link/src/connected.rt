@@ -1,5 +1,6 @@
 // An end whose link is up.
 ghost use Rattle.std.specs.Prelude.{◌≡◌, ◌≤◌};
+ghost use Rattle.lapm_link.specs.Account.{size_for};
 ghost use Rattle.lapm_link.specs.Fits.{IsSetUp};
 
 use crate::answer::Answer;
@@ -8,11 +9,13 @@ use crate::Setup;
 use break_signals::{BreakReceiver, BreakSender};
 use lapm_receiver::Receiver;
 use lapm_sender::Sender;
+use xid_params::Terms;
 
 /// An end whose link is up.
 #[derive(Drop)]
 pub struct Connected {
     pub(crate) setup: Setup,
+    pub(crate) terms: Terms,
     pub(crate) sender: Sender,
     pub(crate) receiver: Receiver,
     pub(crate) breaks: Breaks,
@@ -25,6 +28,8 @@ pub struct Connected {
     ghost set_up: { IsSetUp setup },
     ghost sender_begun: { 1 ≤ sender.window },
     ghost receiver_begun: { 1 ≤ receiver.window },
+    ghost sender_size: { sender.size ≡ size_for setup.role terms },
+    ghost receiver_srej: { receiver.srej ≡ terms.srej },
 }
 
 /// Breaks both ways.
@@ -66,16 +71,20 @@ impl Connected {
     ghost use Rattle.lapm_link.specs.Stands.{IsUnlinked, Links};
 
     /// A link that comes up in this turn: the originator polls at once. Both parts have begun.
-    pub(crate) fn new(setup: Setup, answer: Option<Answer>, sender: Sender, receiver: Receiver, turn: u64) -> Connected
+    pub(crate) fn new(setup: Setup, answer: Option<Answer>, terms: Terms, sender: Sender, receiver: Receiver, turn: u64) -> Connected
         requires set_up { IsSetUp setup }
         requires sender { 1 ≤ sender.window }
         requires receiver { 1 ≤ receiver.window }
-        ensures { (a : Account) (o : Outgoing) (i : Incoming) → IsUnlinked setup answer a → StandsOut sender o → StandsIn receiver i
+        requires size { sender.size ≡ size_for setup.role terms }
+        requires srej { receiver.srej ≡ terms.srej }
+        ensures links { (a : Account) (o : Outgoing) (i : Incoming) → IsUnlinked setup answer a → StandsOut sender o → StandsIn receiver i
             → Links result (record a { phase = Phase.Connected; outgoing = o; incoming = i; wait = first_wait a.setup.role turn a.wait }) }
+        ensures receiver { result.receiver ≡ receiver }
     {
         let originates = is_originator(setup.role);
         Connected {
             setup,
+            terms,
             sender,
             receiver,
             breaks: Breaks {

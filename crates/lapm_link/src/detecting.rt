@@ -27,7 +27,7 @@ impl Detecting {
     ghost use Rattle.lapm_link.specs.Account.{Account, fresh};
     ghost use Rattle.lapm_link.specs.Hear.{on_pattern, on_xid_command, on_detecting, hear};
     ghost use Rattle.lapm_link.specs.Speak.{speak};
-    ghost use Rattle.lapm_link.specs.Stands.{StandsFor, Hears, Speaks, IsNumbered};
+    ghost use Rattle.lapm_link.specs.Stands.{StandsFor, Hears, Speaks, IsNumbered, TakesNothing, taken_of};
 
     /// An end that is set up so. It takes all the memory that the end will need.
     pub fn new(alloc: Global, setup: Setup) -> Result<Detecting, NoMemory>
@@ -39,7 +39,8 @@ impl Detecting {
     }
 
     fn on_pattern(self, seen: Seen, turn: u64) -> AnyEnd
-        ensures { (a : Account) → StandsFor (AnyEnd.Detecting self) a → StandsFor result (on_pattern a.setup.role seen turn a) }
+        ensures becomes { (a : Account) → StandsFor (AnyEnd.Detecting self) a → StandsFor result (on_pattern a.setup.role seen turn a) }
+        ensures counted { taken_of result ≡ 0 }
     {
         let mut memory = self.memory;
         match (memory.setup.role, seen) {
@@ -54,8 +55,9 @@ impl Detecting {
 
     /// An XID command. One whose information is refused is ignored.
     fn on_offer(self, info: &Info) -> AnyEnd
-        ensures { (a : Account) → StandsFor (AnyEnd.Detecting self) a → a.setup.role ≡ Role.Answerer
+        ensures becomes { (a : Account) → StandsFor (AnyEnd.Detecting self) a → a.setup.role ≡ Role.Answerer
             → StandsFor result (on_xid_command (offer_in info.now) a) }
+        ensures counted { taken_of result ≡ 0 }
     {
         match offer_of(info) {
             None => AnyEnd::Detecting(self),
@@ -65,8 +67,9 @@ impl Detecting {
 
     /// A frame at an answerer.
     fn answer(self, frame: &Frame, turn: u64) -> AnyEnd
-        ensures { (a : Account) → StandsFor (AnyEnd.Detecting self) a → a.setup.role ≡ Role.Answerer
+        ensures hears { (a : Account) → StandsFor (AnyEnd.Detecting self) a → a.setup.role ≡ Role.Answerer
             → Hears (on_detecting Role.Answerer frame.now turn a) a (Ok result) }
+        ensures counted { taken_of result ≡ 0 }
     {
         match frame {
             Frame::Xid {
@@ -86,7 +89,8 @@ impl Detecting {
     pub fn hear(self, turn: u64, arrived: &Arrived) -> Result<AnyEnd, Broken>
         requires turn { turn < 2 ^ 40 }
         requires numbers { IsNumbered arrived.now }
-        ensures { (a : Account) → StandsFor (AnyEnd.Detecting self) a → Hears (hear turn arrived.now a) a result }
+        ensures hears { (a : Account) → StandsFor (AnyEnd.Detecting self) a → Hears (hear turn arrived.now a) a result }
+        ensures counted { IfOk result (λ end. taken_of end ≡ 0) }
     {
         match arrived {
             Arrived::Nothing => {
@@ -105,7 +109,8 @@ impl Detecting {
     /// What the end sends in this turn, and then is. The originator breaks once it got no answer in all its tries.
     pub fn speak(self, turn: u64, release: bool, sent: &mut Sent) -> Result<AnyEnd, Broken>
         requires { turn < 2 ^ 40 }
-        ensures { (a : Account) → StandsFor (AnyEnd.Detecting self) a → Speaks (speak turn release a) a sent.old sent.new result }
+        ensures speaks { (a : Account) → StandsFor (AnyEnd.Detecting self) a → Speaks (speak turn release a) a sent.old sent.new result }
+        ensures takes_nothing { IfOk result (TakesNothing (AnyEnd.Detecting self)) }
     {
         let _ = release;
         let mut memory = self.memory;

@@ -1,5 +1,5 @@
 // An originator that sets the link up.
-ghost use Rattle.std.specs.Prelude.{◌≡◌, ◌<◌, ◌^◌};
+ghost use Rattle.std.specs.Prelude.{◌≡◌, ◌<◌, ◌^◌, IfOk};
 
 use crate::attempt::Attempt;
 use crate::unlinked::Agreed;
@@ -18,7 +18,7 @@ impl Establishing {
     ghost use Rattle.lapm_link.specs.Account.{Account};
     ghost use Rattle.lapm_link.specs.Hear.{on_establishing, hear, trying};
     ghost use Rattle.lapm_link.specs.Speak.{speak};
-    ghost use Rattle.lapm_link.specs.Stands.{IsUnlinked, StandsFor, Hears, Speaks, IsNumbered};
+    ghost use Rattle.lapm_link.specs.Stands.{IsUnlinked, StandsFor, Hears, Speaks, IsNumbered, TakesNothing, taken_of};
 
     /// It begins in this turn.
     pub(crate) fn new(agreed: Agreed, turn: u64) -> Establishing
@@ -30,7 +30,8 @@ impl Establishing {
     }
 
     fn on_frame(self, frame: &Frame, turn: u64) -> Result<AnyEnd, Broken>
-        ensures { (a : Account) → StandsFor (AnyEnd.Establishing self) a → Hears (on_establishing frame.now turn a) a result }
+        ensures hears { (a : Account) → StandsFor (AnyEnd.Establishing self) a → Hears (on_establishing frame.now turn a) a result }
+        ensures counted { IfOk result (λ end. taken_of end ≡ 0) }
     {
         match frame {
             Frame::Ua { pf: true } => Ok(AnyEnd::Connected(self.agreed.connect(turn))),
@@ -43,7 +44,8 @@ impl Establishing {
     pub fn hear(self, turn: u64, arrived: &Arrived) -> Result<AnyEnd, Broken>
         requires turn { turn < 2 ^ 40 }
         requires numbers { IsNumbered arrived.now }
-        ensures { (a : Account) → StandsFor (AnyEnd.Establishing self) a → Hears (hear turn arrived.now a) a result }
+        ensures hears { (a : Account) → StandsFor (AnyEnd.Establishing self) a → Hears (hear turn arrived.now a) a result }
+        ensures counted { IfOk result (λ end. taken_of end ≡ 0) }
     {
         match arrived {
             Arrived::Nothing => {
@@ -59,7 +61,8 @@ impl Establishing {
     /// What the end sends in this turn, and then is. It breaks once all its tries are spent.
     pub fn speak(self, turn: u64, release: bool, sent: &mut Sent) -> Result<AnyEnd, Broken>
         requires { turn < 2 ^ 40 }
-        ensures { (a : Account) → StandsFor (AnyEnd.Establishing self) a → Speaks (speak turn release a) a sent.old sent.new result }
+        ensures speaks { (a : Account) → StandsFor (AnyEnd.Establishing self) a → Speaks (speak turn release a) a sent.old sent.new result }
+        ensures takes_nothing { IfOk result (TakesNothing (AnyEnd.Establishing self)) }
     {
         let _ = release;
         let mut end = self;

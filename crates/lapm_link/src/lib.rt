@@ -25,6 +25,7 @@ mod releasing;
 mod rules;
 mod sent;
 mod setup;
+mod steps;
 mod terms;
 mod timer;
 mod unlinked;

@@ -1,5 +1,5 @@
 // An end that negotiates.
-ghost use Rattle.std.specs.Prelude.{◌≡◌, ◌<◌, ◌^◌};
+ghost use Rattle.std.specs.Prelude.{◌≡◌, ◌<◌, ◌^◌, IfOk};
 
 use crate::answering::Answering;
 use crate::asking::Asking;
@@ -21,13 +21,14 @@ impl Negotiating {
     ghost use Rattle.lapm_link.specs.Account.{Account};
     ghost use Rattle.lapm_link.specs.Hear.{hear};
     ghost use Rattle.lapm_link.specs.Speak.{speak};
-    ghost use Rattle.lapm_link.specs.Stands.{StandsFor, Hears, Speaks, IsNumbered};
+    ghost use Rattle.lapm_link.specs.Stands.{StandsFor, Hears, Speaks, IsNumbered, TakesNothing, taken_of};
 
     /// What the end becomes by what it hears in this turn.
     pub fn hear(self, turn: u64, arrived: &Arrived) -> Result<AnyEnd, Broken>
         requires turn { turn < 2 ^ 40 }
         requires numbers { IsNumbered arrived.now }
-        ensures { (a : Account) → StandsFor (AnyEnd.Negotiating self) a → Hears (hear turn arrived.now a) a result }
+        ensures hears { (a : Account) → StandsFor (AnyEnd.Negotiating self) a → Hears (hear turn arrived.now a) a result }
+        ensures counted { IfOk result (λ end. taken_of end ≡ 0) }
     {
         match self.talk {
             Talk::Asking(asking) => asking.hear(turn, arrived),
@@ -38,7 +39,8 @@ impl Negotiating {
     /// What the end sends in this turn, and then is. The originator breaks once all its tries are spent.
     pub fn speak(self, turn: u64, release: bool, sent: &mut Sent) -> Result<AnyEnd, Broken>
         requires { turn < 2 ^ 40 }
-        ensures { (a : Account) → StandsFor (AnyEnd.Negotiating self) a → Speaks (speak turn release a) a sent.old sent.new result }
+        ensures speaks { (a : Account) → StandsFor (AnyEnd.Negotiating self) a → Speaks (speak turn release a) a sent.old sent.new result }
+        ensures takes_nothing { IfOk result (TakesNothing (AnyEnd.Negotiating self)) }
     {
         let _ = release;
         match self.talk {

@@ -1,5 +1,5 @@
 // An originator that takes the link down.
-ghost use Rattle.std.specs.Prelude.{◌≡◌, ◌<◌, ◌^◌};
+ghost use Rattle.std.specs.Prelude.{◌≡◌, ◌<◌, ◌^◌, IfOk};
 ghost use Rattle.lapm_link.specs.Fits.{IsSetUp};
 
 use crate::answer::{Answer, without_adp};
@@ -22,10 +22,11 @@ impl Releasing {
     ghost use Rattle.lapm_link.specs.Account.{Account};
     ghost use Rattle.lapm_link.specs.Hear.{on_releasing, hear};
     ghost use Rattle.lapm_link.specs.Speak.{speak, speak_releasing};
-    ghost use Rattle.lapm_link.specs.Stands.{StandsFor, Hears, Speaks, IsNumbered};
+    ghost use Rattle.lapm_link.specs.Stands.{StandsFor, Hears, Speaks, IsNumbered, TakesNothing, taken_of};
 
     fn on_frame(self, frame: &Frame) -> AnyEnd
-        ensures { (a : Account) → StandsFor (AnyEnd.Releasing self) a → Hears (on_releasing frame.now a) a (Ok result) }
+        ensures hears { (a : Account) → StandsFor (AnyEnd.Releasing self) a → Hears (on_releasing frame.now a) a (Ok result) }
+        ensures counted { taken_of result ≡ 0 }
     {
         match frame {
             Frame::Ua { pf: true } | Frame::Dm { pf: true } => AnyEnd::Closed(Closed {
@@ -40,7 +41,8 @@ impl Releasing {
     pub fn hear(self, turn: u64, arrived: &Arrived) -> Result<AnyEnd, Broken>
         requires turn { turn < 2 ^ 40 }
         requires numbers { IsNumbered arrived.now }
-        ensures { (a : Account) → StandsFor (AnyEnd.Releasing self) a → Hears (hear turn arrived.now a) a result }
+        ensures hears { (a : Account) → StandsFor (AnyEnd.Releasing self) a → Hears (hear turn arrived.now a) a result }
+        ensures counted { IfOk result (λ end. taken_of end ≡ 0) }
     {
         let _ = turn;
         match arrived {
@@ -57,7 +59,8 @@ impl Releasing {
     /// What the end sends in this turn, and then is. It breaks once all its tries are spent.
     pub fn speak(self, turn: u64, release: bool, sent: &mut Sent) -> Result<AnyEnd, Broken>
         requires { turn < 2 ^ 40 }
-        ensures { (a : Account) → StandsFor (AnyEnd.Releasing self) a → Speaks (speak turn release a) a sent.old sent.new result }
+        ensures speaks { (a : Account) → StandsFor (AnyEnd.Releasing self) a → Speaks (speak turn release a) a sent.old sent.new result }
+        ensures takes_nothing { IfOk result (TakesNothing (AnyEnd.Releasing self)) }
     {
         let _ = release;
         let mut end = self;

@@ -1,5 +1,5 @@
 // What a Connected end becomes by what it hears: one function a rule.
-ghost use Rattle.std.specs.Prelude.{◌≡◌, ℕ, ◌<◌, ◌^◌, length, nat_lt, if◌then◌else◌, Option, None, Result, MatchResult};
+ghost use Rattle.std.specs.Prelude.{◌≡◌, ℕ, ◌+◌, ◌<◌, ◌≤◌, ◌^◌, length, IfOk, nat_lt, if◌then◌else◌, Option, None, Result, MatchResult};
 ghost use Rattle.lapm_sender.specs.Outgoing.{Outgoing, acknowledged, rejected, replied, selected};
 ghost use Rattle.lapm_sender.specs.Sending.{StandsOut, Advances, RefusesAck};
 ghost use Rattle.break_signals.specs.Words.{word_in};
@@ -28,7 +28,7 @@ fn bad_ack(bad: BadAck) -> LinkFault
 impl Connected {
     ghost use Rattle.lapm_link.specs.Account.{Account};
     ghost use Rattle.lapm_link.specs.Hear.{timer_after, on_number};
-    ghost use Rattle.lapm_link.specs.Stands.{Links, LinksBeside, Becomes};
+    ghost use Rattle.lapm_link.specs.Stands.{Links, LinksBeside, Becomes, SameTaken};
 
     /// The sender's timer behind an N(R), by whether a poll was awaited before and whether the front advanced.
     fn timer_after(&self, turn: u64, awaited: bool, advanced: bool) -> Option<u64>
@@ -57,9 +57,7 @@ impl Connected {
             → awaited ≡ a.outgoing.awaited
             → MatchResult taken (Advances self.old.sender a.outgoing after) (RefusesAck nr a.outgoing after)
             → Becomes (on_number turn nr after a) self.new result }
-        ensures setup { self.new.setup ≡ self.old.setup }
-        ensures receiver { self.new.receiver ≡ self.old.receiver }
-        ensures breaks { self.new.breaks ≡ self.old.breaks }
+        ensures same { SameTaken self.old self.new }
     {
         match taken {
             Ok(advanced) => {
@@ -75,9 +73,7 @@ impl Connected {
     fn acknowledge(&mut self, turn: u64, nr: u8) -> Result<(), LinkFault>
         requires { nr < 128 }
         ensures becomes { (a : Account) → Links self.old a → Becomes (on_number turn nr (acknowledged nr a.outgoing) a) self.new result }
-        ensures setup { self.new.setup ≡ self.old.setup }
-        ensures receiver { self.new.receiver ≡ self.old.receiver }
-        ensures breaks { self.new.breaks ≡ self.old.breaks }
+        ensures same { SameTaken self.old self.new }
     {
         let awaited = self.sender.awaiting();
         let taken = self.sender.acked(nr);
@@ -88,7 +84,7 @@ impl Connected {
     fn go_back(&mut self, turn: u64, nr: u8) -> Result<(), LinkFault>
         requires { nr < 128 }
         ensures becomes { (a : Account) → Links self.old a → Becomes (on_number turn nr (rejected nr a.outgoing) a) self.new result }
-        ensures setup { self.new.setup ≡ self.old.setup }
+        ensures same { SameTaken self.old self.new }
     {
         let awaited = self.sender.awaiting();
         let taken = self.sender.rejected(nr);
@@ -99,7 +95,7 @@ impl Connected {
     fn end_wait(&mut self, turn: u64, nr: u8) -> Result<(), LinkFault>
         requires { nr < 128 }
         ensures becomes { (a : Account) → Links self.old a → Becomes (on_number turn nr (replied nr a.outgoing) a) self.new result }
-        ensures setup { self.new.setup ≡ self.old.setup }
+        ensures same { SameTaken self.old self.new }
     {
         let awaited = self.sender.awaiting();
         let taken = self.sender.replied(nr);
@@ -109,7 +105,7 @@ impl Connected {
     /// This number alone is to be sent again.
     fn select(&mut self, turn: u64, nr: u8) -> Result<(), LinkFault>
         ensures becomes { (a : Account) → Links self.old a → Becomes (on_number turn nr (selected nr a.outgoing) a) self.new result }
-        ensures setup { self.new.setup ≡ self.old.setup }
+        ensures same { SameTaken self.old self.new }
     {
         let awaited = self.sender.awaiting();
         let taken = match self.sender.selected(nr) {
@@ -125,7 +121,7 @@ impl Connected {
     ghost use Rattle.lapm_link.specs.declared.answer.Answer.{Answer};
     ghost use Rattle.lapm_link.specs.Account.{Account};
     ghost use Rattle.lapm_link.specs.Hear.{on_number, ends_wait, on_i, on_ready, on_rej, on_srej, on_sabme, on_disc, on_word, peer_reset};
-    ghost use Rattle.lapm_link.specs.Stands.{Links, StandsFor, Hears, Becomes};
+    ghost use Rattle.lapm_link.specs.Stands.{Links, StandsFor, Hears, Becomes, SameTaken, taken_of};
 
     fn on_i(&mut self, turn: u64, ns: u8, nr: u8, pf: bool, info: &Info) -> Result<(), LinkFault>
         requires ns { ns < 128 }
@@ -134,6 +130,7 @@ impl Connected {
         requires delivered { length self.old.receiver.ready ≡ 0 }
         ensures becomes { (a : Account) → Links self.old a → Becomes (on_i turn ns nr pf info.now a) self.new result }
         ensures setup { self.new.setup ≡ self.old.setup }
+        ensures counted { self.new.receiver.taken ≤ self.old.receiver.taken + 128 }
     {
         self.acknowledge(turn, nr)?;
         let _ = self.receiver.take(ns, info);
@@ -153,7 +150,7 @@ impl Connected {
         requires { nr < 128 }
         ensures becomes { (a : Account) → Links self.old a
             → Becomes (on_number turn nr (if ends then replied nr a.outgoing else acknowledged nr a.outgoing) a) self.new result }
-        ensures setup { self.new.setup ≡ self.old.setup }
+        ensures same { SameTaken self.old self.new }
     {
         if ends {
             self.end_wait(turn, nr)
@@ -166,7 +163,7 @@ impl Connected {
     fn on_ready(&mut self, turn: u64, command: bool, nr: u8, pf: bool) -> Result<(), LinkFault>
         requires { nr < 128 }
         ensures becomes { (a : Account) → Links self.old a → Becomes (on_ready turn command nr pf a) self.new result }
-        ensures setup { self.new.setup ≡ self.old.setup }
+        ensures same { SameTaken self.old self.new }
     {
         let ends = self.ends_wait(command, pf);
         self.take_ready(turn, nr, ends)?;
@@ -180,7 +177,7 @@ impl Connected {
         requires { nr < 128 }
         ensures becomes { (a : Account) → Links self.old a
             → Becomes (on_number turn nr (if ends then replied nr a.outgoing else rejected nr a.outgoing) a) self.new result }
-        ensures setup { self.new.setup ≡ self.old.setup }
+        ensures same { SameTaken self.old self.new }
     {
         if ends {
             self.end_wait(turn, nr)
@@ -192,7 +189,7 @@ impl Connected {
     fn on_rej(&mut self, turn: u64, command: bool, nr: u8, pf: bool) -> Result<(), LinkFault>
         requires { nr < 128 }
         ensures becomes { (a : Account) → Links self.old a → Becomes (on_rej turn command nr pf a) self.new result }
-        ensures setup { self.new.setup ≡ self.old.setup }
+        ensures same { SameTaken self.old self.new }
     {
         let ends = self.ends_wait(command, pf);
         self.take_rej(turn, nr, ends)?;
@@ -214,7 +211,7 @@ impl Connected {
     /// An answerer that has heard no number yet owes a UA, and resets nothing.
     fn on_sabme(&mut self, pf: bool) -> Result<(), LinkFault>
         ensures becomes { (a : Account) → Links self.old a → Becomes (on_sabme pf a) self.new result }
-        ensures setup { self.new.setup ≡ self.old.setup }
+        ensures same { SameTaken self.old self.new }
     {
         if self.numbered || is_originator(self.setup.role) {
             return Err(self.peer_reset());
@@ -224,7 +221,8 @@ impl Connected {
     }
 
     fn on_disc(self, pf: bool) -> Result<AnyEnd, Broken>
-        ensures { (a : Account) → Links self a → Hears (on_disc a.setup.role pf a) a result }
+        ensures hears { (a : Account) → Links self a → Hears (on_disc a.setup.role pf a) a result }
+        ensures counted { IfOk result (λ end. taken_of end ≡ 0) }
     {
         match self.setup.role {
             Role::Originator => Err(Broken::new(LinkFault::PeerRefused, self.setup)),
@@ -240,7 +238,7 @@ impl Connected {
         requires turn { turn < 2 ^ 40 }
         requires given { self.old.breaks.given ≡ None }
         ensures links { (a : Account) → Links self.old a → Links self.new (on_word turn (word_in info.now) a) }
-        ensures setup { self.new.setup ≡ self.old.setup }
+        ensures counted { self.new.receiver.taken ≡ self.old.receiver.taken }
     {
         match read_break(info.as_slice()) {
             Ok(BreakWord::Brk { number, length }) => {
@@ -257,12 +255,13 @@ impl Connected {
     ghost use Rattle.lapm_link.specs.Account.{Account};
     ghost use Rattle.lapm_link.specs.Hear.{on_connected, hear};
     ghost use Rattle.lapm_link.specs.declared.fault.LinkFault.{LinkFault};
-    ghost use Rattle.lapm_link.specs.Stands.{Links, StandsFor, Hears, HasNumbers, IsNumbered, Becomes};
+    ghost use Rattle.lapm_link.specs.Stands.{Links, StandsFor, Hears, HasNumbers, IsNumbered, Becomes, taken_of};
 
     /// The end as a rule left it, or closed.
     fn after(self, heard: Result<(), LinkFault>) -> Result<AnyEnd, Broken>
-        ensures { (a : Account) (becomes : Result Account LinkFault) → Becomes becomes self heard → self.setup ≡ a.setup
+        ensures hears { (a : Account) (becomes : Result Account LinkFault) → Becomes becomes self heard → self.setup ≡ a.setup
             → Hears becomes a result }
+        ensures counted { IfOk result (λ end. taken_of end ≤ self.receiver.taken) }
     {
         match heard {
             Ok(()) => Ok(AnyEnd::Connected(self)),
@@ -276,7 +275,8 @@ impl Connected {
         requires counted { self.receiver.taken < 2 ^ 56 }
         requires delivered { length self.receiver.ready ≡ 0 }
         requires given { self.breaks.given ≡ None }
-        ensures { (a : Account) → Links self a → Hears (on_connected frame.now turn a) a result }
+        ensures hears { (a : Account) → Links self a → Hears (on_connected frame.now turn a) a result }
+        ensures counted { IfOk result (λ end. taken_of end ≤ self.receiver.taken + 128) }
     {
         let mut end = self;
         match frame {
@@ -322,7 +322,8 @@ impl Connected {
         requires counted { self.receiver.taken < 2 ^ 56 }
         requires delivered { length self.receiver.ready ≡ 0 }
         requires given { self.breaks.given ≡ None }
-        ensures { (a : Account) → StandsFor (AnyEnd.Connected self) a → Hears (hear turn arrived.now a) a result }
+        ensures hears { (a : Account) → StandsFor (AnyEnd.Connected self) a → Hears (hear turn arrived.now a) a result }
+        ensures counted { IfOk result (λ end. taken_of end ≤ self.receiver.taken + 128) }
     {
         match arrived {
             Arrived::Nothing => {

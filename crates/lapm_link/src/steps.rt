@@ -1,5 +1,8 @@
 // What a Connected end sends: the timers, and one function a step.
-ghost use Rattle.std.specs.Prelude.{◌≡◌, ◌<◌, ◌^◌, false};
+ghost use Rattle.std.specs.Prelude.{◌≡◌, ◌<◌, ◌^◌, true, false, IfOk};
+ghost use Rattle.lapm_frames.specs.declared.frame.Frame.{Frame};
+ghost use Rattle.break_signals.specs.Words.{number_of, spelled};
+ghost use Rattle.lapm_link.specs.declared.sent.Sent.{Sent};
 
 use crate::answer::slot_of;
 use crate::connected::Connected;
@@ -30,7 +33,7 @@ fn word_slot(word: &BreakWord) -> Sent
 impl Connected {
     ghost use Rattle.lapm_link.specs.Account.{Account};
     ghost use Rattle.lapm_link.specs.Speak.{timer_expires, on_timer, on_break_timer};
-    ghost use Rattle.lapm_link.specs.Stands.{Links, Becomes};
+    ghost use Rattle.lapm_link.specs.Stands.{Links, Becomes, SameTaken};
 
     fn timer_expires(&self, turn: u64) -> bool
         ensures { (a : Account) → Links self.now a → result ≡ timer_expires turn a a.wait.timer }
@@ -44,7 +47,7 @@ impl Connected {
     /// Where the sender's timer expires, the end polls.
     fn on_timer(&mut self, turn: u64) -> Result<(), LinkFault>
         ensures becomes { (a : Account) → Links self.old a → Becomes (on_timer turn a) self.new result }
-        ensures setup { self.new.setup ≡ self.old.setup }
+        ensures same { SameTaken self.old self.new }
     {
         if !self.timer_expires(turn) {
             return Ok(());
@@ -63,7 +66,7 @@ impl Connected {
     fn on_break_timer(&mut self, turn: u64) -> Result<(), LinkFault>
         requires { turn < 2 ^ 40 }
         ensures becomes { (a : Account) → Links self.old a → Becomes (on_break_timer turn a) self.new result }
-        ensures setup { self.new.setup ≡ self.old.setup }
+        ensures same { SameTaken self.old self.new }
     {
         match self.breaks.own.tick(turn, self.setup.period, self.setup.tries) {
             Ok(()) => Ok(()),
@@ -75,13 +78,13 @@ impl Connected {
 // The steps.
 impl Connected {
     ghost use Rattle.lapm_link.specs.Account.{Account};
-    ghost use Rattle.lapm_link.specs.Speak.{step1, step2, step3, step4, step5, step6, step7, step8, steps};
-    ghost use Rattle.lapm_link.specs.Stands.{Links, Gives, SaysLinked};
+    ghost use Rattle.lapm_link.specs.Speak.{says_frame, nr_of, telling, step1, step2, step3, step4, step5, step6, step7, step8, steps};
+    ghost use Rattle.lapm_link.specs.Stands.{Links, Gives, SaysLinked, SameTaken};
 
     /// An answer that is due.
     fn say_answer(&mut self) -> Option<Sent>
         ensures gives { (a : Account) → Links self.old a → Gives (step1 a) a self.new result }
-        ensures setup { self.new.setup ≡ self.old.setup }
+        ensures same { SameTaken self.old self.new }
     {
         match self.owes.answer {
             None => None,
@@ -96,7 +99,7 @@ impl Connected {
     fn say_ready(&mut self, command: bool, pf: bool) -> Sent
         ensures says { (a : Account) → Links self.old a
             → SaysLinked (says_frame (Frame.Rr command (nr_of a) pf) (telling a)) self.new result }
-        ensures setup { self.new.setup ≡ self.old.setup }
+        ensures same { SameTaken self.old self.new }
     {
         let nr = self.receiver.nr();
         self.receiver.told();
@@ -106,7 +109,7 @@ impl Connected {
     /// The reply to a poll.
     fn say_reply(&mut self) -> Option<Sent>
         ensures gives { (a : Account) → Links self.old a → Gives (step2 a) a self.new result }
-        ensures setup { self.new.setup ≡ self.old.setup }
+        ensures same { SameTaken self.old self.new }
     {
         if !self.owes.reply {
             return None;
@@ -118,7 +121,7 @@ impl Connected {
     /// A poll.
     fn say_poll(&mut self) -> Option<Sent>
         ensures gives { (a : Account) → Links self.old a → Gives (step3 a) a self.new result }
-        ensures setup { self.new.setup ≡ self.old.setup }
+        ensures same { SameTaken self.old self.new }
     {
         if !self.wait.poll {
             return None;
@@ -130,7 +133,7 @@ impl Connected {
     /// The first I frame behind the answer to a poll.
     fn say_urgent(&mut self, turn: u64) -> Option<Sent>
         ensures gives { (a : Account) → Links self.old a → Gives (step4 turn a) a self.new result }
-        ensures setup { self.new.setup ≡ self.old.setup }
+        ensures same { SameTaken self.old self.new }
     {
         if !self.wait.urgent {
             return None;
@@ -141,7 +144,7 @@ impl Connected {
     /// The answer to a break, else an own one.
     fn say_break(&mut self, special: bool) -> Option<Sent>
         ensures gives { (a : Account) → Links self.old a → Gives (step5 special a) a self.new result }
-        ensures setup { self.new.setup ≡ self.old.setup }
+        ensures same { SameTaken self.old self.new }
     {
         if special {
             return None;
@@ -162,10 +165,10 @@ impl Connected {
     /// A REJ, or an SREJ.
     fn say_asking(&mut self, special: bool) -> Option<Sent>
         ensures gives { (a : Account) → Links self.old a → Gives (step6 special a) a self.new result }
-        ensures setup { self.new.setup ≡ self.old.setup }
+        ensures same { SameTaken self.old self.new }
     {
         let nr = self.receiver.ask()?;
-        if !self.receiver.uses_srej() {
+        if !self.terms.srej {
             self.receiver.asked();
             self.receiver.told();
             return Some(Sent::Frame(Frame::Rej {
@@ -189,7 +192,7 @@ impl Connected {
     /// An I frame. An answerer sends none before it has heard a number.
     fn say_segment(&mut self, turn: u64) -> Option<Sent>
         ensures gives { (a : Account) → Links self.old a → Gives (step7 turn a) a self.new result }
-        ensures setup { self.new.setup ≡ self.old.setup }
+        ensures same { SameTaken self.old self.new }
     {
         if !is_originator(self.setup.role) && !self.numbered {
             return None;
@@ -211,7 +214,7 @@ impl Connected {
     /// The acknowledgement that is owed.
     fn say_acknowledgement(&mut self) -> Option<Sent>
         ensures gives { (a : Account) → Links self.old a → Gives (step8 a) a self.new result }
-        ensures setup { self.new.setup ≡ self.old.setup }
+        ensures same { SameTaken self.old self.new }
     {
         if !self.receiver.owed() {
             return None;
@@ -222,7 +225,7 @@ impl Connected {
     /// The first step that gives something, else flags.
     fn first_step(&mut self, turn: u64, special: bool) -> Sent
         ensures says { (a : Account) → Links self.old a → SaysLinked (steps turn special a) self.new result }
-        ensures setup { self.new.setup ≡ self.old.setup }
+        ensures same { SameTaken self.old self.new }
     {
         if let Some(sent) = self.say_answer() {
             return sent;
@@ -258,13 +261,13 @@ impl Connected {
     ghost use Rattle.lapm_link.specs.Account.{Account};
     ghost use Rattle.lapm_link.specs.Hear.{trying};
     ghost use Rattle.lapm_link.specs.Speak.{speak_linked, speak};
-    ghost use Rattle.lapm_link.specs.Stands.{Links, StandsFor, Speaks, SpeaksLinked};
+    ghost use Rattle.lapm_link.specs.Stands.{Links, StandsFor, Speaks, SpeaksLinked, SameTaken, TakesNothing};
 
     /// The timers first, and then a step.
     fn say(&mut self, turn: u64) -> Result<Sent, LinkFault>
         requires { turn < 2 ^ 40 }
         ensures speaks { (a : Account) → Links self.old a → SpeaksLinked (speak_linked turn a) self.new result }
-        ensures setup { self.new.setup ≡ self.old.setup }
+        ensures same { SameTaken self.old self.new }
     {
         self.on_timer(turn)?;
         self.on_break_timer(turn)?;
@@ -289,7 +292,8 @@ impl Connected {
     /// once all tries of a poll or of a break are spent.
     pub fn speak(self, turn: u64, release: bool, sent: &mut Sent) -> Result<AnyEnd, Broken>
         requires { turn < 2 ^ 40 }
-        ensures { (a : Account) → StandsFor (AnyEnd.Connected self) a → Speaks (speak turn release a) a sent.old sent.new result }
+        ensures speaks { (a : Account) → StandsFor (AnyEnd.Connected self) a → Speaks (speak turn release a) a sent.old sent.new result }
+        ensures takes_nothing { IfOk result (TakesNothing (AnyEnd.Connected self)) }
     {
         if release && is_originator(self.setup.role) {
             return self.release(turn).speak(turn, release, sent);

@@ -119,8 +119,9 @@ impl Agreed {
 
     /// The link is up.
     pub(crate) fn connect(self, turn: u64) -> Connected
-        ensures { (a : Account) → IsUnlinked self.memory.setup self.memory.answer a → self.terms ≡ a.terms
+        ensures links { (a : Account) → IsUnlinked self.memory.setup self.memory.answer a → self.terms ≡ a.terms
             → Links result (connected turn a) }
+        ensures counted { result.receiver.taken ≡ 0 }
     {
         let Unlinked {
             setup,
@@ -135,13 +136,14 @@ impl Agreed {
         let their_window = window_for(other(setup.role), &terms);
         sender.begin(window, size, setup.tries, originates);
         receiver.begin(their_window, terms.srej);
-        Connected::new(setup, answer, sender, receiver, turn)
+        Connected::new(setup, answer, terms, sender, receiver, turn)
     }
 
     /// The link is up at an answerer, which owes a UA.
     pub(crate) fn accept(self, pf: bool, turn: u64) -> Connected
-        ensures { (a : Account) → IsUnlinked self.memory.setup self.memory.answer a → self.terms ≡ a.terms
+        ensures links { (a : Account) → IsUnlinked self.memory.setup self.memory.answer a → self.terms ≡ a.terms
             → Links result (owing (Answer.Ua pf) (connected turn a)) }
+        ensures counted { result.receiver.taken ≡ 0 }
     {
         let mut agreed = self;
         agreed.memory.owe(Answer::Ua { pf });

@@ -14,12 +14,12 @@ use Rattle.lapm_link.proofs.detecting.Detecting.on_pattern.Goals as goal
 by_role : (end : AnyEnd) (turn : _) (a : Account) (r r' : Role) (s s' : Seen) → r ≡ r' → s ≡ s' → StandsFor end (on_pattern r' s' turn a) → StandsFor end (on_pattern r s turn a)
 by_role end turn a r r' s s' e f h = rw (e, f) h
 
-pub returns-in-Originator-Adp : goal.returns-in-Originator-Adp
-returns-in-Originator-Adp c = λ a h.
+pub returns-in-Originator-Adp-clause-becomes : goal.returns-in-Originator-Adp-clause-becomes
+returns-in-Originator-Adp-clause-becomes c = λ a h.
     let role : a.setup.role ≡ Originator = ap (λ (s : Setup). s.role) (sym h.1.setup_is) ∙ c.in-Originator-Adp.is-0 in
-    by_role _ c.args.turn a _ _ _ _ role c.in-Originator-Adp.is-1 (c.end.ensures _ (c.new.ensures a role h.1))
+    by_role _ c.args.turn a _ _ _ _ role c.in-Originator-Adp.is-1 (c.end.ensures.stands _ (c.new.ensures a role h.1))
 
-pub returns-in-Answerer-Odp : goal.returns-in-Answerer-Odp
-returns-in-Answerer-Odp c = λ a h.
+pub returns-in-Answerer-Odp-clause-becomes : goal.returns-in-Answerer-Odp-clause-becomes
+returns-in-Answerer-Odp-clause-becomes c = λ a h.
     let role : a.setup.role ≡ Answerer = ap (λ (s : Setup). s.role) (sym h.1.setup_is) ∙ c.in-Answerer-Odp.is-0 in
     by_role (ends.Detecting (record { memory = c.owe.new.self })) c.args.turn a _ _ _ _ role c.in-Answerer-Odp.is-1 (h.0, c.owe.ensures.account a h.1)
