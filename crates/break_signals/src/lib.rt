@@ -1,5 +1,6 @@
-//! Break signals both ways: their words in UI frames, the break that waits for its answer, and the breaks of the other end, each
-//! given once. A pure function of words and turn numbers. The central types are [`BreakSender`] and [`BreakReceiver`].
+//! Break signals both ways: their words in UI frames (a profile of our own), the break that waits for its answer, and the breaks
+//! of the other end, each given once. A pure function of words and turn numbers. The central types are [`BreakSender`] and
+//! [`BreakReceiver`].
 #![tactic(auto)]
 
 mod break_receiver;

@@ -1,5 +1,5 @@
 // The octets of a break's word.
-ghost use Rattle.std.specs.Prelude.{◌≡◌, ◌<◌, []};
+ghost use Rattle.std.specs.Prelude.{◌≡◌, ◌<◌, [], IfOk};
 ghost use Rattle.break_signals.specs.Words.{word_in, spelled, number_of};
 
 use crate::{BreakFault, BreakWord};
@@ -13,7 +13,8 @@ const BRKACK: u8 = 0x60;
 
 /// The word that the information of a UI frame spells, or its first fault.
 pub fn read_break(info: &[u8]) -> Result<BreakWord, BreakFault>
-    ensures { result ≡ word_in info.now }
+    ensures word { result ≡ word_in info.now }
+    ensures number { IfOk result (λ word. number_of word < 2) }
 {
     match info {
         [] => Err(BreakFault::Length { len: 0 }),

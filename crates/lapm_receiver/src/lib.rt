@@ -4,7 +4,11 @@
 
 pub mod laws;
 mod receiver;
+mod slots;
 mod took;
 
 pub use receiver::Receiver;
 pub use took::Took;
+
+#[cfg(test)]
+mod tests;
