@@ -1,5 +1,5 @@
 -- A field has one offer or one first fault, and never both.
-use Rattle.std.proofs.Common.{◌≡◌, ◌≢◌, ℕ, suc, ◌+◌, ◌/◌, ◌%◌, ◌<◌, ◌≤◌, ◌⊎◌, inl, inr, List, [], ◌∷◌, ◌++◌, length, Option, Some, None, Result, Ok, Err, lit≤, append_assoc, length-append, arith, refl, sym, ◌∙◌, ap, subst}
+use Rattle.std.proofs.Common.{◌≡◌, ◌≢◌, ℕ, ◌+◌, ◌/◌, ◌%◌, ◌<◌, ◌≤◌, ◌⊎◌, inl, inr, List, [], ◌∷◌, ◌++◌, length, Option, Some, None, Result, Ok, Err, lit≤, length-append, arith, refl, sym, ◌∙◌, ap, subst}
 use Rattle.std.specs.Prelude.{IfOk, IfErr, ◌↔◌, IsTrue, not, unwrap_or}
 use Rattle.std.proofs.lemmas.Bool.{false≢true}
 use Rattle.std.proofs.lemmas.Bool.Decides.{nat_tests}
@@ -13,14 +13,13 @@ use Rattle.xid_params.specs.declared.offer.Offer.{Offer}
 use Rattle.xid_params.specs.declared.parameter.Parameter.TheVariants.{TxLength, RxLength, TxWindow, RxWindow}
 use Rattle.xid_params.specs.Parts.{Part, group_octets, named, number_of}
 use Rattle.xid_params.specs.Parameters.{identifier_of, accepts, is_low, octets_of_bits, segments_of, stands_well, said, offer_of, AreWell}
-use Rattle.xid_params.specs.Offers.{Passes, IsEnd, GroupsSpell, OfferSpelling, offer_in, AreOctets, IsAllowed}
-use Rattle.xid_params.specs.Terms.{default_offer}
-use Rattle.xid_params.specs.Faults.{place_of, place_behind, IsGroupWrong, IsParameterWrong, GroupHas, InnerHas, FormatHas, IsNoXid, Has, IsFirst, FirstFault, ParameterHas}
+use Rattle.xid_params.specs.Offers.{IsEnd, GroupsSpell, OfferSpelling, offer_in, AreOctets, IsAllowed}
+use Rattle.xid_params.specs.Faults.{place_of, place_behind, IsGroupWrong, IsParameterWrong, GroupHas, InnerHas, IsNoXid, Has, FirstFault}
 use Rattle.xid_params.specs.Gathered.{Offers}
-use Rattle.xid_params.proofs.Lists.{group-free, GoesOn, IsLonger, compare}
+use Rattle.xid_params.proofs.Lists.{group-free, compare}
 use Rattle.xid_params.proofs.Tables.{and-right, well-none}
 use Rattle.xid_params.proofs.Parameters.{within}
-use Rattle.xid_params.proofs.Groups.{BehindGroups, WithinGroups, further, group-from, place-more, inner-from}
+use Rattle.xid_params.proofs.Groups.{further, place-more, inner-from}
 use Rattle.xid_params.proofs.Found.{spelled-is-found, found-is-spelled}
 
 -- what is gathered of the groups of a spelling

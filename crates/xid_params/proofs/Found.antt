@@ -1,10 +1,9 @@
 -- The offer that is found is the one that is spelled.
-use Rattle.std.proofs.Common.{◌≡◌, ◌≢◌, ℕ, zero, suc, ◌+◌, ◌-◌, ◌*◌, ◌/◌, ◌%◌, ◌<◌, ◌≤◌, Bool, true, false, IsTrue, ◌&&◌, List, [], ◌∷◌, ◌++◌, length, take, drop, nat_eq, nat_le, cond, Option, Some, None, get_or, append_assoc, length-append, length-drop, arith, refl, sym, ◌∙◌, ap, subst}
+use Rattle.std.proofs.Common.{◌≡◌, ℕ, zero, suc, ◌+◌, ◌*◌, ◌/◌, ◌%◌, ◌<◌, ◌≤◌, Bool, true, false, IsTrue, ◌&&◌, List, [], ◌∷◌, ◌++◌, length, take, drop, nat_eq, nat_le, cond, Option, Some, None, append_assoc, length-append, length-drop, arith, refl, sym, ◌∙◌, ap, subst}
 use Rattle.std.specs.List.{flat_map}
-use Rattle.std.specs.Option.{option_map, option_and_then}
-use Rattle.std.proofs.lemmas.Bool.{false≢true}
+use Rattle.std.specs.Option.{option_and_then}
 use Rattle.std.proofs.lemmas.Bool.Decides.{nat_tests}
-use Rattle.std.proofs.lemmas.List.{append-nil, take-append-drop, length-take-le}
+use Rattle.std.proofs.lemmas.List.{take-append-drop, length-take-le}
 use Rattle.std.proofs.lemmas.Grind.{common_steps}
 use Rattle.std.proofs.Math.Seq.{take-append_seam, drop-append_seam}
 use Rattle.xid_params.specs.declared.offer.Offer.{Offer}
@@ -12,8 +11,7 @@ use Rattle.xid_params.specs.declared.parameter.Parameter.{Parameter}
 use Rattle.xid_params.specs.declared.parameter.Parameter.TheVariants.{Functions, TxLength, RxLength, TxWindow, RxWindow}
 use Rattle.xid_params.specs.Parts.{Part, group_octets, parameter_octets, named}
 use Rattle.xid_params.specs.Parameters.{identifier_of, stands_well, offer_of, AreWell, ParametersSpell}
-use Rattle.xid_params.specs.Offers.{Passes, IsEnd, GroupsSpell, OfferSpelling, before, groups_in, parameters_in, all_well, offer_with, offer_of_groups, offer_in, AreOctets, SpellingIsFound}
-use Rattle.xid_params.specs.Terms.{default_offer}
+use Rattle.xid_params.specs.Offers.{IsEnd, GroupsSpell, OfferSpelling, before, groups_in, parameters_in, all_well, offer_with, offer_of_groups, offer_in, AreOctets, SpellingIsFound}
 use Rattle.xid_params.proofs.Tables.{and-left, and-right, and-both}
 
 -- from a spelling to what is found

@@ -1,8 +1,7 @@
 -- Groups as they are passed, the faults of a field, and the first of these.
-use Rattle.std.proofs.Common.{◌≡◌, ◌≢◌, ℕ, suc, ◌+◌, ◌-◌, ◌*◌, ◌/◌, ◌%◌, ◌<◌, ◌≤◌, ◌⊎◌, inl, inr, Bool, true, false, IsTrue, List, [], ◌∷◌, ◌++◌, length, nat_eq, cond, Option, Some, None, append_assoc, length-append, arith, refl, sym, ◌∙◌, ap, subst}
-use Rattle.std.specs.Prelude.{is_some, unwrap_or}
+use Rattle.std.proofs.Common.{◌≡◌, ◌≢◌, ℕ, suc, ◌+◌, ◌-◌, ◌/◌, ◌%◌, ◌<◌, ◌≤◌, ◌⊎◌, inl, inr, true, false, List, [], ◌∷◌, ◌++◌, length, nat_eq, cond, Option, Some, None, append_assoc, length-append, arith, refl, sym, ◌∙◌, ap, subst}
+use Rattle.std.specs.Prelude.{unwrap_or}
 use Rattle.std.specs.List.{flat_map}
-use Rattle.std.proofs.lemmas.Bool.{false≢true}
 use Rattle.std.proofs.lemmas.Bool.Decides.{nat_tests}
 use Rattle.std.proofs.lemmas.List.{append-nil}
 use Rattle.std.proofs.lemmas.List.Concat.{flat_map-append}
@@ -15,7 +14,7 @@ use Rattle.xid_params.specs.Offers.{Passes, IsEnd, GroupsSpell, OfferSpelling}
 use Rattle.xid_params.specs.Terms.{default_offer}
 use Rattle.xid_params.specs.Faults.{place_of, place_behind, IsGroupCut, IsGroupWrong, GroupHas, InnerHas, FormatHas, Has, IsFirst, FirstFault, ParameterHas}
 use Rattle.xid_params.specs.Gathered.{IsOffered, Offers}
-use Rattle.xid_params.proofs.Lists.{group-free, cut-append, GoesOn, IsLonger, compare, named-append}
+use Rattle.xid_params.proofs.Lists.{group-free, compare, named-append}
 use Rattle.xid_params.proofs.Tables.{named-other, named-first}
 use Rattle.xid_params.proofs.Parameters.{le-before, no-fault, within, fault-from}
 

@@ -1,5 +1,5 @@
 -- Group 80: its parameters as they are passed, their faults, and the first of these.
-use Rattle.std.proofs.Common.{◌≡◌, ◌≢◌, ℕ, suc, ◌+◌, ◌-◌, ◌*◌, ◌<◌, ◌≤◌, ◌⊎◌, inl, inr, Bool, true, false, not, IsTrue, List, [], ◌∷◌, ◌++◌, length, Option, Some, None, append_assoc, length-append, arith, refl, sym, ◌∙◌, ap, subst}
+use Rattle.std.proofs.Common.{◌≡◌, ℕ, suc, ◌+◌, ◌-◌, ◌<◌, ◌≤◌, ◌⊎◌, inl, inr, Bool, true, false, not, IsTrue, List, [], ◌∷◌, ◌++◌, length, append_assoc, length-append, arith, refl, sym, ◌∙◌, ap, subst}
 use Rattle.std.specs.List.{flat_map}
 use Rattle.std.proofs.lemmas.Bool.{false≢true, cases_lt}
 use Rattle.std.proofs.lemmas.List.{append-nil}
@@ -11,10 +11,10 @@ use Rattle.xid_params.specs.declared.offer.Offer.{Offer}
 use Rattle.xid_params.specs.declared.parameter.Parameter.{Parameter}
 use Rattle.xid_params.specs.Parts.{Part, parameter_octets, named}
 use Rattle.xid_params.specs.Parameters.{identifier_of, accepts, is_low, AreWell, ParametersSpell}
-use Rattle.xid_params.specs.Faults.{place_of, IsParameterCut, IsRepeated, IsMeasuredWrong, IsValuedLow, IsValueWrong, IsTaggedWrong, IsParameterWrong, ParameterHas, IsFirst}
+use Rattle.xid_params.specs.Faults.{place_of, IsParameterCut, IsRepeated, HasWrongLength, IsIdentifiedWrong, IsParameterWrong, ParameterHas, IsFirst}
 use Rattle.xid_params.specs.Gathered.{Stands}
-use Rattle.xid_params.proofs.Lists.{IsFree, parameter-free, cut-append, GoesOn, IsLonger, compare}
-use Rattle.xid_params.proofs.Tables.{same-parameter, StandsAlone, stands-alone, well-none}
+use Rattle.xid_params.proofs.Lists.{parameter-free, cut-append, compare}
+use Rattle.xid_params.proofs.Tables.{same-parameter, stands-alone}
 
 -- what is known of the parameters that were passed
 pub record ParametersPassed (content rest : List ℕ) (given : Given) : Type 0 where
@@ -54,7 +54,7 @@ whole-not-cut (count ∷ more) value rest e h =
     absurd (omega (arith, ap length m, length-append value rest))
 
 -- its length is that of the value
-measured : (tail value rest : List ℕ) (identifier : ℕ) (q : Parameter) → tail ≡ length value ∷ (value ++ rest) → identifier ≡ identifier_of q → IsTrue (accepts q (length value)) → IsMeasuredWrong identifier tail → ⊥
+measured : (tail value rest : List ℕ) (identifier : ℕ) (q : Parameter) → tail ≡ length value ∷ (value ++ rest) → identifier ≡ identifier_of q → IsTrue (accepts q (length value)) → HasWrongLength identifier tail → ⊥
 measured tail value rest identifier q e is accepted m =
     let same : m.parameter ≡ q = same-parameter m.parameter q (sym m.identifier_is ∙ is) in
     let both : m.count ∷ m.rest ≡ length value ∷ (value ++ rest) = sym m.tail_is ∙ e in
@@ -197,27 +197,27 @@ pub cut-exit : (content rest tail : List ℕ) (given : Given) (identifier start 
     → IsFirst (ParameterHas content start) (Length (start + (length content - length rest) + 1))
 cut-exit content rest tail given identifier start e new cut = subst (λ o. ParametersPassed content o given → IsFirst (ParameterHas content start) (Length (start + (length content - length o) + 1))) (sym e) (cut-first content tail given identifier start new cut)
 
-tagged-at : (content tail value after : List ℕ) (parts : List Part) (identifier start at : ℕ) (fault : XidFault) → AreWell parts → content ≡ flat_map parameter_octets parts ++ identifier ∷ tail → at ≡ start + length (flat_map parameter_octets parts)
-    → (IsRepeated parts identifier → ⊥) → tail ≡ length value ∷ (value ++ after) → IsTaggedWrong identifier value at fault → IsFirst (ParameterHas content start) fault
-tagged-at content tail value after parts identifier start at (Length place) w e at_is new t_is t = first-parameter content parts identifier tail start at (Length place) w e at_is
+identified-at : (content tail value after : List ℕ) (parts : List Part) (identifier start at : ℕ) (fault : XidFault) → AreWell parts → content ≡ flat_map parameter_octets parts ++ identifier ∷ tail → at ≡ start + length (flat_map parameter_octets parts)
+    → (IsRepeated parts identifier → ⊥) → tail ≡ length value ∷ (value ++ after) → IsIdentifiedWrong identifier value at fault → IsFirst (ParameterHas content start) fault
+identified-at content tail value after parts identifier start at (Length place) w e at_is new t_is t = first-parameter content parts identifier tail start at (Length place) w e at_is
     (t.wrong.0, inr (record { parameter = t.parameter; identifier_is = t.identifier_is; count = length value; rest = value ++ after; tail_is = t_is; refused = t.wrong.1 }))
     (λ other h. let least = least-length parts identifier tail at new other h in let is : place ≡ at + 1 = t.wrong.0 in omega arith)
-tagged-at content tail value after parts identifier start at (Value place) w e at_is new t_is t = first-parameter content parts identifier tail start at (Value place) w e at_is
+identified-at content tail value after parts identifier start at (Value place) w e at_is new t_is t = first-parameter content parts identifier tail start at (Value place) w e at_is
     (t.wrong.0, record { parameter = t.parameter; identifier_is = t.identifier_is; value = value; rest = after; tail_is = t_is; accepted = t.wrong.1; low = t.wrong.2 })
     (λ other h. let least = least-value parts identifier tail value after t.parameter at new t_is t.identifier_is t.wrong.1 other h in let is : place ≡ at + 2 = t.wrong.0 in omega arith)
-tagged-at content tail value after parts identifier start at (Repeated place) w e at_is new t_is t = absurd t.wrong
-tagged-at content tail value after parts identifier start at (Group place) w e at_is new t_is t = absurd t.wrong
-tagged-at content tail value after parts identifier start at Format w e at_is new t_is t = absurd t.wrong
+identified-at content tail value after parts identifier start at (Repeated place) w e at_is new t_is t = absurd t.wrong
+identified-at content tail value after parts identifier start at (Group place) w e at_is new t_is t = absurd t.wrong
+identified-at content tail value after parts identifier start at Format w e at_is new t_is t = absurd t.wrong
 
-tagged-first : (content tail value after : List ℕ) (given : Given) (identifier start : ℕ) (fault : XidFault) → identifier ∷ tail ≡ parameter_octets (record { identifier = identifier; value = value }) ++ after
-    → ((parts : List Part) → Stands given parts → IsRepeated parts identifier → ⊥) → IsTaggedWrong identifier value (start + (length content - length (identifier ∷ tail))) fault → ParametersPassed content (identifier ∷ tail) given → IsFirst (ParameterHas content start) fault
-tagged-first content tail value after given identifier start fault e new t p =
-    tagged-at content tail value after p.parts identifier start (start + (length content - length (identifier ∷ tail))) fault p.well p.whole (place-is content (identifier ∷ tail) p.parts start p.whole) (new p.parts p.stands)
+identified-first : (content tail value after : List ℕ) (given : Given) (identifier start : ℕ) (fault : XidFault) → identifier ∷ tail ≡ parameter_octets (record { identifier = identifier; value = value }) ++ after
+    → ((parts : List Part) → Stands given parts → IsRepeated parts identifier → ⊥) → IsIdentifiedWrong identifier value (start + (length content - length (identifier ∷ tail))) fault → ParametersPassed content (identifier ∷ tail) given → IsFirst (ParameterHas content start) fault
+identified-first content tail value after given identifier start fault e new t p =
+    identified-at content tail value after p.parts identifier start (start + (length content - length (identifier ∷ tail))) fault p.well p.whole (place-is content (identifier ∷ tail) p.parts start p.whole) (new p.parts p.stands)
     (whole-tail identifier (length value) tail value after e) t
 
-pub tagged-exit : (content rest tail value after : List ℕ) (given : Given) (identifier start : ℕ) (fault : XidFault) → rest ≡ identifier ∷ tail → identifier ∷ tail ≡ parameter_octets (record { identifier = identifier; value = value }) ++ after
-    → ((parts : List Part) → Stands given parts → IsRepeated parts identifier → ⊥) → IsTaggedWrong identifier value (start + (length content - length rest)) fault → ParametersPassed content rest given → IsFirst (ParameterHas content start) fault
-tagged-exit content rest tail value after given identifier start fault r e new = subst (λ o. IsTaggedWrong identifier value (start + (length content - length o)) fault → ParametersPassed content o given → IsFirst (ParameterHas content start) fault) (sym r) (tagged-first content tail value after given identifier start fault e new)
+pub identified-exit : (content rest tail value after : List ℕ) (given : Given) (identifier start : ℕ) (fault : XidFault) → rest ≡ identifier ∷ tail → identifier ∷ tail ≡ parameter_octets (record { identifier = identifier; value = value }) ++ after
+    → ((parts : List Part) → Stands given parts → IsRepeated parts identifier → ⊥) → IsIdentifiedWrong identifier value (start + (length content - length rest)) fault → ParametersPassed content rest given → IsFirst (ParameterHas content start) fault
+identified-exit content rest tail value after given identifier start fault r e new = subst (λ o. IsIdentifiedWrong identifier value (start + (length content - length o)) fault → ParametersPassed content o given → IsFirst (ParameterHas content start) fault) (sym r) (identified-first content tail value after given identifier start fault e new)
 
 -- behind a parameter that stands well
 pub passed-more : (content rest tail value after : List ℕ) (given next : Given) (identifier : ℕ) → rest ≡ identifier ∷ tail → identifier ∷ tail ≡ parameter_octets (record { identifier = identifier; value = value }) ++ after

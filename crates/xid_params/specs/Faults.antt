@@ -52,7 +52,7 @@ pub record IsRepeated (parts : List Part) (identifier : ℕ) : Type 0 where
   pub again : named identifier parts ≢ []
 
 -- it has a length that it may not have
-pub record IsMeasuredWrong (identifier : ℕ) (tail : List ℕ) : Type 0 where
+pub record HasWrongLength (identifier : ℕ) (tail : List ℕ) : Type 0 where
   pub parameter : Parameter
   pub identifier_is : identifier ≡ identifier_of parameter
   pub count : ℕ
@@ -61,7 +61,7 @@ pub record IsMeasuredWrong (identifier : ℕ) (tail : List ℕ) : Type 0 where
   pub refused : IsTrue (not (accepts parameter count))
 
 -- it has a length that it may have, and a value that is low
-pub record IsValuedLow (identifier : ℕ) (tail : List ℕ) : Type 0 where
+pub record HasLowValue (identifier : ℕ) (tail : List ℕ) : Type 0 where
   pub parameter : Parameter
   pub identifier_is : identifier ≡ identifier_of parameter
   pub value : List ℕ
@@ -77,7 +77,7 @@ IsValueWrong parameter value at (Value place) = (place ≡ at + 2) × IsTrue (ac
 IsValueWrong parameter value at _ = ⊥
 
 -- the same by the identifier of a parameter that is read
-pub record IsTaggedWrong (identifier : ℕ) (value : List ℕ) (at : ℕ) (fault : XidFault) : Type 0 where
+pub record IsIdentifiedWrong (identifier : ℕ) (value : List ℕ) (at : ℕ) (fault : XidFault) : Type 0 where
   pub parameter : Parameter
   pub identifier_is : identifier ≡ identifier_of parameter
   pub wrong : IsValueWrong parameter value at fault
@@ -85,8 +85,8 @@ pub record IsTaggedWrong (identifier : ℕ) (value : List ℕ) (at : ℕ) (fault
 -- what is wrong with a parameter at this place
 abbrev pub IsParameterWrong : List Part → ℕ → List ℕ → ℕ → XidFault → Type 0
 IsParameterWrong parts identifier tail at (Repeated place) = (place ≡ at) × IsRepeated parts identifier
-IsParameterWrong parts identifier tail at (Length place) = (place ≡ at + 1) × (IsParameterCut tail ⊎ IsMeasuredWrong identifier tail)
-IsParameterWrong parts identifier tail at (Value place) = (place ≡ at + 2) × IsValuedLow identifier tail
+IsParameterWrong parts identifier tail at (Length place) = (place ≡ at + 1) × (IsParameterCut tail ⊎ HasWrongLength identifier tail)
+IsParameterWrong parts identifier tail at (Value place) = (place ≡ at + 2) × HasLowValue identifier tail
 IsParameterWrong parts identifier tail at _ = ⊥
 
 -- In what begins at the place `start`, a parameter that begins at this place has the fault.

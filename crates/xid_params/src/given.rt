@@ -2,7 +2,7 @@
 ghost use Rattle.std.specs.Prelude.{◌≡◌, ◌≢◌, ℕ, ◌+◌, ◌*◌, ◌≤◌, ◌<◌, ◌^◌, List, [], ◌∷◌, ◌++◌, ◌↔◌, IsTrue, not, length, OnOk, IfErr};
 ghost use Rattle.xid_params.specs.Parts.{Part, named};
 ghost use Rattle.xid_params.specs.Parameters.{identifier_of, accepts, is_low, has_bit, octets_of_bits, segments_of, AreWell, offer_of};
-ghost use Rattle.xid_params.specs.Faults.{IsTaggedWrong, IsRepeated};
+ghost use Rattle.xid_params.specs.Faults.{IsIdentifiedWrong, IsRepeated};
 ghost use Rattle.xid_params.specs.Gathered.{Stands};
 
 use crate::parameter::{Parameter, number};
@@ -111,7 +111,7 @@ impl Given {
             → Stands self.new (parts ++ record { identifier = identifier; value = value.now } ∷ [])) }
         ensures well { OnOk result ((parts : List Part) → AreWell parts → (IsRepeated parts identifier → ⊥)
             → AreWell (parts ++ record { identifier = identifier; value = value.now } ∷ [])) }
-        ensures err { IfErr result (IsTaggedWrong identifier value.now at) }
+        ensures err { IfErr result (IsIdentifiedWrong identifier value.now at) }
     {
         let Some(parameter) = Parameter::of(identifier) else {
             return Ok(());

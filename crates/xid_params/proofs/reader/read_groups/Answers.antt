@@ -1,4 +1,4 @@
-use Rattle.std.proofs.Common.{◌≡◌, ◌+◌, ◌-◌, ◌<◌, ◌≤◌, List, length, arith, refl, sym}
+use Rattle.std.proofs.Common.{arith, refl}
 use Rattle.std.proofs.lemmas.Result.{err_from_is_err_and}
 use Rattle.xid_params.proofs.Groups.{second-exit, cut-group-exit, inner-exit, groups-more, group-room}
 use Rattle.xid_params.proofs.reader.read_groups.Goals as goal

@@ -1,10 +1,7 @@
-use Rattle.std.proofs.Common.{◌≡◌, ◌+◌, ◌-◌, ◌<◌, ◌≤◌, List, length, arith, refl, sym}
+use Rattle.std.proofs.Common.{arith, refl}
 use Rattle.std.proofs.lemmas.Bool.{false≢true}
 use Rattle.std.proofs.lemmas.Result.{err_from_is_err_and}
-use Rattle.xid_params.specs.Parts.{Part}
-use Rattle.xid_params.specs.Faults.{IsRepeated}
-use Rattle.xid_params.specs.Gathered.{Stands}
-use Rattle.xid_params.proofs.Parameters.{repeated-exit, cut-exit, tagged-exit, passed-more, whole-room}
+use Rattle.xid_params.proofs.Parameters.{repeated-exit, cut-exit, identified-exit, passed-more, whole-room}
 use Rattle.xid_params.proofs.reader.read_parameters.Goals as goal
 
 pub returns-then-repeats-clause-err : goal.returns-then-repeats-clause-err
@@ -25,7 +22,7 @@ take-requires c =
 pub returns-in_err-take-clause-err : goal.returns-in_err-take-clause-err
 returns-in_err-take-clause-err c =
     let q = err_from_is_err_and c.from_residual.result c.from_residual.ensures.1 in
-    rw (q.1, q.2) (tagged-exit c.args.content.now c.loop-identifier.rest.now c.in-Some.tail.now c.in-Some-parameter_value.value.now c.in-Some-parameter_value.after.now c.loop-identifier.given c.in-Some.identifier.now c.args.start c.in_err-take.field-0.0 c.in-Some.ensures.cases.0 (c.in-Some-parameter_value.ensures.some c.in-Some.identifier.now)
+    rw (q.1, q.2) (identified-exit c.args.content.now c.loop-identifier.rest.now c.in-Some.tail.now c.in-Some-parameter_value.value.now c.in-Some-parameter_value.after.now c.loop-identifier.given c.in-Some.identifier.now c.args.start c.in_err-take.field-0.0 c.in-Some.ensures.cases.0 (c.in-Some-parameter_value.ensures.some c.in-Some.identifier.now)
     (λ parts s r. false≢true ((c.if-repeats.ensures parts s).1 r)) c.in_err-take.ensures.err c.loop-identifier.invariant)
 
 pub loop-identifier-smaller : goal.loop-identifier-smaller
