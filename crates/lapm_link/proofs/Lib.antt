@@ -9,3 +9,6 @@ mod Breaking
 mod BreakPlaying
 mod Kept
 mod Saying
+mod SaidNumbers
+mod Telling
+mod Fitting

@@ -7,3 +7,4 @@ pub mod Attempt
 pub mod Stands
 pub mod Play
 pub mod Laws
+pub mod EndLaws

@@ -27,6 +27,8 @@ mod sent;
 mod setup;
 mod steps;
 mod terms;
+#[cfg(test)]
+mod tests;
 mod timer;
 mod unlinked;
 

@@ -255,7 +255,7 @@ impl Connected {
     ghost use Rattle.lapm_link.specs.Account.{Account};
     ghost use Rattle.lapm_link.specs.Hear.{on_connected, hear};
     ghost use Rattle.lapm_link.specs.declared.fault.LinkFault.{LinkFault};
-    ghost use Rattle.lapm_link.specs.Stands.{Links, StandsFor, Hears, HasNumbers, IsNumbered, Becomes, taken_of};
+    ghost use Rattle.lapm_link.specs.Stands.{Links, StandsFor, Hears, HasNumbers, IsNumbered, Becomes, taken_of, undelivered_of, waiting_of};
 
     /// The end as a rule left it, or closed.
     fn after(self, heard: Result<(), LinkFault>) -> Result<AnyEnd, Broken>
@@ -319,11 +319,11 @@ impl Connected {
     pub fn hear(self, turn: u64, arrived: &Arrived) -> Result<AnyEnd, Broken>
         requires turn { turn < 2 ^ 40 }
         requires numbers { IsNumbered arrived.now }
-        requires counted { self.receiver.taken < 2 ^ 56 }
-        requires delivered { length self.receiver.ready ≡ 0 }
-        requires given { self.breaks.given ≡ None }
+        requires counted { taken_of (AnyEnd.Connected self) < 2 ^ 56 }
+        requires delivered { undelivered_of (AnyEnd.Connected self) ≡ 0 }
+        requires given { waiting_of (AnyEnd.Connected self) ≡ None }
         ensures hears { (a : Account) → StandsFor (AnyEnd.Connected self) a → Hears (hear turn arrived.now a) a result }
-        ensures counted { IfOk result (λ end. taken_of end ≤ self.receiver.taken + 128) }
+        ensures counted { IfOk result (λ end. taken_of end ≤ taken_of (AnyEnd.Connected self) + 128) }
     {
         match arrived {
             Arrived::Nothing => {
