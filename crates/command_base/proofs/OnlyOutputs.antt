@@ -1,5 +1,5 @@
 -- What follows from several steps over one output.
-use Rattle.std.proofs.Common.{◌≡◌, ◌∙◌, ℕ, List, IsTrue, refl, subst}
+use Rattle.std.proofs.Common.{◌∙◌, ℕ, List, IsTrue, refl, subst}
 use Rattle.outside_core.specs.Folder.{FolderState, GoesOn, OnlyReads, OnlyWrites}
 use Rattle.outside_core.specs.Steps.{GoesOn-refl, GoesOn-trans, KeepsName-trans}
 use Rattle.command_base.specs.Outputs.{OnlyOutput}

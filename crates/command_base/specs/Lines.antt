@@ -5,7 +5,7 @@ use Rattle.noise_script.specs.declared.cause.Cause.TheVariants.{Word, Count, Num
 use Rattle.xid_params.specs.declared.fault.XidFault.{XidFault}
 use Rattle.xid_params.specs.declared.fault.XidFault.TheVariants as xid
 use Rattle.command_base.specs.declared.status.Status.{Status}
-use Rattle.command_base.specs.declared.status.Status.TheVariants.{Done, Usage, BadScript, BadRecording, BadHex, BadXid, TooLong, ReadFault, WriteFault, LineLost, LinkLost, NoMemory}
+use Rattle.command_base.specs.declared.status.Status.TheVariants.{BadScript, BadRecording, BadHex, BadXid, TooLong, ReadFault, WriteFault, LineLost, LinkLost, NoMemory}
 use Rattle.command_base.specs.Words.{role_word}
 
 abbrev pub cause_word : Cause → List ℕ

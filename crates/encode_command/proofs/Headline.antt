@@ -1,19 +1,19 @@
 -- From every answer to what the command promises.
-use Rattle.std.proofs.Common.{◌≡◌, ◌≢◌, ◌⊎◌, ◌∙◌, inl, inr, ℕ, List, [], ◌++◌, IsTrue, Result, Ok, Err, refl, sym, ap, subst, arith, append-nil}
+use Rattle.std.proofs.Common.{◌≡◌, ◌≢◌, ◌⊎◌, ◌∙◌, inl, inr, ℕ, List, [], ◌++◌, Result, Ok, Err, refl, sym, ap, subst, arith, append-nil}
 use Rattle.std.specs.Option.{option_map}
 use Rattle.outside_core.specs.Prefix.{IsPrefixOf}
-use Rattle.outside_core.specs.Folder.{FolderState, octets_at, GoesOn, KeepsName, Said, Rose}
+use Rattle.outside_core.specs.Folder.{FolderState, GoesOn, KeepsName, Said, Rose}
 use Rattle.outside_core.specs.Steps.{KeepsName-trans, told_later, octets-kept, Rose-later}
 use Rattle.recordings.specs.Recording.{IsRecordingOf}
 use Rattle.command_base.specs.declared.status.Status.{Status}
 use Rattle.command_base.specs.declared.status.Status.TheVariants as status
 use Rattle.command_base.specs.Status.{IsRefusal}
 use Rattle.command_base.specs.Lines.{samples_line}
-use Rattle.command_base.specs.Outputs.{KeepsAll, OnlyOutput}
+use Rattle.command_base.specs.Outputs.{KeepsAll}
 use Rattle.encode_command.specs.declared.fault.EncodeFault.{EncodeFault}
 use Rattle.encode_command.specs.declared.fault.EncodeFault.TheVariants.{TooLong, ReadFault, WriteFault, NoMemory}
 use Rattle.encode_command.specs.Words.{EncodeNames}
-use Rattle.encode_command.specs.Ends.{RecordsFile, WritesAll, WritesPart, LeavesPart, EndsBy, Ends}
+use Rattle.encode_command.specs.Ends.{WritesAll, WritesPart, Ends}
 use Rattle.encode_command.specs.Answers.{status_of, line_of, AnswersEncode}
 use Rattle.encode_command.specs.Headline.{HoldsBeginning, HoldsWhole, Headline}
 

@@ -1,15 +1,14 @@
 -- From single steps to how the making of a recording ends.
-use Rattle.std.proofs.Common.{◌≡◌, ◌≢◌, ◌∙◌, inl, inr, ℕ, ◌+◌, ◌-◌, ◌*◌, ◌<◌, ◌≤◌, min, nat_lt, Bool, true, false, IsTrue, List, [], ◌∷◌, ◌++◌, length, take, drop, Result, Ok, Err, refl, sym, ap, subst, arith, rules, append-nil, append_assoc, length-append, length-take}
+use Rattle.std.proofs.Common.{◌≡◌, ◌≢◌, ◌∙◌, inl, inr, ℕ, ◌+◌, ◌-◌, ◌*◌, ◌≤◌, min, nat_lt, Bool, true, false, IsTrue, List, [], ◌++◌, length, take, drop, Err, refl, sym, ap, subst, arith, rules, append-nil, append_assoc, length-append}
 use Rattle.std.proofs.Math.Seq.{take-add}
 use Rattle.std.proofs.lemmas.Bool.Decides.{nat_tests}
 use Rattle.std.proofs.lemmas.List.{take-append-drop, take_all}
 use Rattle.outside_core.specs.Prefix.{IsPrefixOf}
-use Rattle.outside_core.specs.Folder.{FolderState, octets_at, GoesOn, KeepsName, OnlyReads, OnlyWrites, HasCause, Rose, Puts, PutsPart}
+use Rattle.outside_core.specs.Folder.{FolderState, octets_at, OnlyReads, OnlyWrites, HasCause, Rose, Puts, PutsPart}
 use Rattle.outside_core.specs.Steps.{KeepsName-trans, told_later, octets-kept, Rose-later}
 use Rattle.outside_core.specs.declared.folder.FolderFault.{FolderFault}
 use Rattle.outside_core.specs.declared.folder.FolderFault.TheVariants as folder
 use Rattle.scramblers.specs.declared.mode.Mode.{Mode}
-use Rattle.scramblers.specs.declared.mode.Mode.TheVariants.{Call, Answer}
 use Rattle.scramblers.specs.Mode.{tap_of}
 use Rattle.modulator.specs.Modulates.{Kept}
 use Rattle.recordings.specs.Recording.{header_of, IsRecordingOf, RecorderStands}
@@ -20,7 +19,7 @@ use Rattle.command_base.proofs.OnlyOutputs.{told_earlier, OnlyOutput-reads, Only
 use Rattle.encode_command.specs.declared.fault.EncodeFault.{EncodeFault}
 use Rattle.encode_command.specs.declared.fault.EncodeFault.TheVariants.{ReadFault, WriteFault, NoMemory}
 use Rattle.encode_command.specs.Words.{EncodeNames, are_apart}
-use Rattle.encode_command.specs.Ends.{RecordsFile, WritesAll, WritesPart, LeavesPart, EndsBy}
+use Rattle.encode_command.specs.Ends.{WritesAll, WritesPart, LeavesPart, EndsBy}
 use Rattle.encode_command.specs.Recorded.{Begun, RecordedTo}
 use Rattle.encode_command.proofs.Longer.{goes_on, prefix-trans}
 

@@ -61,22 +61,11 @@ fn each_call_that_fails_is_named_by_its_kind(rt: HostRuntime) -> Result<(), Fail
     let alloc = rt.alloc();
     let file = vec![in alloc; 7u8; 300]?;
     let words = words(alloc, "call")?;
-    let kinds = [
-        Status::ReadFault,
-        Status::WriteFault,
-        Status::WriteFault,
-        Status::ReadFault,
-        Status::WriteFault,
-        Status::ReadFault,
-        Status::WriteFault,
-        Status::ReadFault,
-        Status::WriteFault,
-        Status::ReadFault,
-        Status::WriteFault,
-    ];
-    let mut number = 0;
-    for kind in kinds {
-        number += 1;
+    for number in 1..=11u64 {
+        let kind = match number {
+            1 | 4 | 6 | 8 | 10 => Status::ReadFault,
+            _ => Status::WriteFault,
+        };
         let mut folder = MemoryFolder::new(alloc);
         folder.put("f", &file)?;
         folder.fail_at(&[number])?;

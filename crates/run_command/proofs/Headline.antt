@@ -1,5 +1,5 @@
 -- From how a run ends to the headline.
-use Rattle.std.proofs.Common.{◌≡◌, ◌≢◌, ◌⊎◌, inl, inr, ℕ, ◌+◌, ◌*◌, ◌<◌, List, ◌++◌, IsTrue, Option, Some, MatchOption, Result, Ok, Err, refl, sym, ◌∙◌, ap, subst, arith, append_assoc}
+use Rattle.std.proofs.Common.{◌≡◌, ◌≢◌, ◌⊎◌, inl, inr, ℕ, ◌+◌, ◌*◌, ◌<◌, List, ◌++◌, IsTrue, Result, Ok, Err, sym, ◌∙◌, ap, subst, arith, append_assoc}
 use Rattle.std.specs.Option.{option_map}
 use Rattle.outside_core.specs.Prefix.{IsPrefixOf}
 use Rattle.outside_core.specs.Folder.{FolderState, octets_at, GoesOn, KeepsName, Said, Rose}
@@ -17,14 +17,13 @@ use Rattle.command_base.specs.Status.{IsRefusal}
 use Rattle.command_base.specs.Lines.{done_line}
 use Rattle.command_base.specs.Outputs.{Holds, HoldsPart, KeptOrEmpty, KeepsAll}
 use Rattle.command_base.specs.Tells.{Tells}
-use Rattle.run_command.specs.declared.ending.Refusal.{Refusal}
 use Rattle.run_command.specs.declared.ending.Refusal.TheVariants as refusals
 use Rattle.run_command.specs.declared.ending.Ending.{Ending}
 use Rattle.run_command.specs.declared.ending.Ending.TheVariants.{Refused, Stopped}
 use Rattle.run_command.specs.Words.{RunNames}
 use Rattle.run_command.specs.Inputs.{ReadRose}
 use Rattle.run_command.specs.Ends.{WriteRose, EndsDone, EndsLost, EndsInTurn, EndsCreating, EndsLate, EndsBy, Ends}
-use Rattle.run_command.specs.Answers.{line_of, status_of, refusal_status, fault_status, ending_status, AnswersRun}
+use Rattle.run_command.specs.Answers.{line_of, status_of, ending_status, AnswersRun}
 use Rattle.run_command.specs.Headline.{KeptOrPrefix, HoldsWhole, SaysDone, Headline}
 
 -- what a received file holds begins the file that was read

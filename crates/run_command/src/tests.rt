@@ -79,7 +79,8 @@ fn long_inputs_are_named(rt: HostRuntime) -> Result<(), Fail> {
     let mut folder = folder_of(alloc, b"", &long, b"")?;
     let answ = Status::TooLong { word: 2 };
     answers(&rt, alloc, &mut folder, answ, "too long: a\n")?;
-    let mut folder = folder_of(alloc, b"", b"", &long[..65_537])?;
+    let long = vec![in alloc; 7u8; 65_537]?;
+    let mut folder = folder_of(alloc, b"", b"", &long)?;
     let script = Status::TooLong { word: 3 };
     answers(&rt, alloc, &mut folder, script, "too long: s\n")?;
     holds(&rt, &folder, [None, None, None]);

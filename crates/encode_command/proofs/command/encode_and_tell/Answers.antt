@@ -1,4 +1,4 @@
-use Rattle.std.proofs.Common.{◌∙◌, List, ℕ, Ok, Err, Result, map, string_bytes, subst}
+use Rattle.std.proofs.Common.{◌∙◌, List, ℕ, Ok, Err, map, string_bytes, subst}
 use Rattle.outside_core.specs.Folder.{FolderState}
 use Rattle.command_base.specs.declared.status.Status.{Status}
 use Rattle.command_base.specs.declared.status.Status.TheVariants.{Done}

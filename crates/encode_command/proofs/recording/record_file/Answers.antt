@@ -1,8 +1,7 @@
-use Rattle.std.proofs.Common.{◌∙◌, ℕ, List, [], sym, subst}
-use Rattle.outside_core.specs.Folder.{FolderState, Puts, PutsPart}
-use Rattle.recordings.specs.Recording.{header_of, RecorderStands}
+use Rattle.std.proofs.Common.{◌∙◌, ℕ, List, subst}
+use Rattle.outside_core.specs.Folder.{FolderState, PutsPart}
 use Rattle.encode_command.specs.Words.{EncodeNames, named}
-use Rattle.encode_command.proofs.Making.{header-failed, header-recorded}
+use Rattle.encode_command.proofs.Making.{header-failed}
 use Rattle.encode_command.proofs.recording.record_file.Goals as goal
 
 pub returns-in-Err-clause-ends : goal.returns-in-Err-clause-ends

@@ -1,12 +1,11 @@
-use Rattle.std.proofs.Common.{◌≡◌, ℕ, List, ◌++◌, IsTrue, length, take, drop, min, ◌-◌, ◌≤◌, sym, subst, arith, length-append}
+use Rattle.std.proofs.Common.{◌≡◌, ℕ, List, ◌++◌, IsTrue, length, take, min, ◌-◌, sym, subst, arith}
 use Rattle.std.proofs.lemmas.List.{length-take-le}
 use Rattle.outside_core.specs.Folder.{FolderState, octets_at, Puts, PutsPart}
 use Rattle.scramblers.specs.Mode.{tap_of}
 use Rattle.modulator.specs.Modulates.{Kept}
-use Rattle.recordings.specs.Recording.{header_of, RecorderStands}
+use Rattle.recordings.specs.Recording.{RecorderStands}
 use Rattle.command_base.specs.declared.limits.TheConstants.{FILE_LIMIT}
 use Rattle.encode_command.specs.Words.{EncodeNames, named}
-use Rattle.encode_command.specs.Recorded.{RecordedTo}
 use Rattle.encode_command.proofs.Making.{read-failed, recorded-more, recorded-whole, piece-failed}
 use Rattle.encode_command.proofs.recording.record_next.Goals as goal
 

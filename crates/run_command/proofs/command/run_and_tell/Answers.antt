@@ -1,10 +1,9 @@
-use Rattle.std.proofs.Common.{◌∙◌, List, ℕ, Ok, Err, Result, map, string_bytes, subst}
+use Rattle.std.proofs.Common.{◌∙◌, List, ℕ, Ok, Err, map, string_bytes, subst}
 use Rattle.outside_core.specs.Folder.{FolderState}
 use Rattle.command_base.specs.declared.status.Status.{Status}
 use Rattle.command_base.specs.declared.status.Status.TheVariants.{Done}
 use Rattle.command_base.specs.Lines.{status_line}
 use Rattle.command_base.specs.Tells.{Tells}
-use Rattle.run_command.specs.declared.ending.Ending.{Ending}
 use Rattle.run_command.proofs.command.run_and_tell.Goals as goal
 
 pub returns-in-Ok : goal.returns-in-Ok

@@ -1,0 +1,52 @@
+-- How a listing ends, before its last line is said. What is said of a name's octets holds where the folder tells that name.
+use Rattle.std.specs.Prelude.{◌≡◌, ℕ, IsTrue, List, [], ◌++◌, length, Result, Ok, Err}
+use Rattle.outside_core.specs.Folder.{FolderState, octets_at, Said, PartlySaid, Rose}
+use Rattle.outside_core.specs.declared.folder.FolderFault.TheVariants.{Failed, NoMemory}
+use Rattle.frame_check.specs.Bits.{bits_of}
+use Rattle.bit_stuffing.specs.Found.{Found, pieces_of}
+use Rattle.command_base.specs.declared.limits.TheConstants.{FILE_LIMIT}
+use Rattle.command_base.specs.Inputs.{IsWithin, IsLonger}
+use Rattle.frames_command.specs.declared.fault.FramesFault.{FramesFault}
+use Rattle.frames_command.specs.declared.fault.FramesFault.TheVariants.{TooLong, Unread, Unsaid}
+use Rattle.frames_command.specs.Words.{FramesNames}
+use Rattle.frames_command.specs.Readings.{AreLines}
+
+-- The lines of all pieces of the file's bits were said, in order, and they are so many.
+pub record SaysAll (old new : FolderState) (n : FramesNames) (count : ℕ) : Type 0 where
+  pub octets : List ℕ
+  pub within : IsWithin old n.bits FILE_LIMIT
+  pub read : IsTrue (old.tells n.bits) → octets ≡ octets_at old n.bits
+  pub lines : List ℕ
+  pub are_lines : AreLines n.sender (pieces_of (bits_of octets)) lines
+  pub said : Said old new lines
+  pub count_is : count ≡ length (pieces_of (bits_of octets))
+
+-- These are the lines of the first pieces of the file's bits.
+pub record AreFirst (old : FolderState) (n : FramesNames) (lines : List ℕ) : Type 0 where
+  pub octets : List ℕ
+  pub read : IsTrue (old.tells n.bits) → octets ≡ octets_at old n.bits
+  pub told : List Found
+  pub rest : List Found
+  pub pieces_are : pieces_of (bits_of octets) ≡ told ++ rest
+  pub are_lines : AreLines n.sender told lines
+
+-- the lines of the first pieces were said
+abbrev pub SaysFirst : FolderState → FolderState → FramesNames → Type 0
+SaysFirst old new n = (lines : List ℕ) × AreFirst old n lines × Said old new lines
+
+-- a beginning of the lines of the first pieces was said
+abbrev pub SaysPart : FolderState → FolderState → FramesNames → Type 0
+SaysPart old new n = (lines : List ℕ) × AreFirst old n lines × PartlySaid old new lines
+
+-- why not all pieces are listed
+abbrev pub EndsBy : FolderState → FolderState → FramesNames → FramesFault → Type 0
+EndsBy old new n TooLong = IsLonger old n.bits FILE_LIMIT × Said old new []
+EndsBy old new n (Unread Failed) = Rose (old.read_faults n.bits) (new.read_faults n.bits) × SaysFirst old new n
+EndsBy old new n (Unread NoMemory) = Rose old.refusals new.refusals × SaysFirst old new n
+EndsBy old new n (Unsaid Failed) = Rose old.say_faults new.say_faults × IsWithin old n.bits FILE_LIMIT × SaysPart old new n
+EndsBy old new n (Unsaid NoMemory) = Rose old.refusals new.refusals × IsWithin old n.bits FILE_LIMIT × SaysPart old new n
+
+-- how a listing ends: with so many pieces, or by a fault
+abbrev pub Ends : FolderState → FolderState → FramesNames → Result ℕ FramesFault → Type 0
+Ends old new n (Ok count) = SaysAll old new n count
+Ends old new n (Err fault) = EndsBy old new n fault

@@ -1,0 +1,6 @@
+pub mod Words
+pub mod Readings
+pub mod Heard
+pub mod Ends
+pub mod Answers
+pub mod Headline

@@ -1,0 +1,39 @@
+// The command: the pieces are listed, and the last line is said.
+ghost use Rattle.std.specs.Prelude.{◌≡◌, ◌≢◌, map, string_bytes};
+ghost use Rattle.frames_command.specs.Words.{named};
+ghost use Rattle.frames_command.specs.Answers.{AnswersFrames};
+ghost use Rattle.frames_command.specs.Headline.{Headline};
+
+use crate::FramesFault;
+use crate::fault::{status_of_read, status_of_say};
+use crate::listing::list_pieces;
+use crate::words::FramesWords;
+use command_base::{Status, tell, tell_status, write_pieces};
+use outside_core::Folder;
+
+/// The place of the file's name among the words.
+const BITS: usize = 2;
+
+/// Lists the pieces, and says how it ended.
+fn list_and_tell<F: Folder>(folder: &mut F, words: &[String], names: &FramesWords<'_>) -> Status
+    ensures { AnswersFrames (map string_bytes words.now) (F.state folder.old) (F.state folder.new) (named names.now) result }
+{
+    match list_pieces(folder, names) {
+        Ok(pieces) => tell(folder, write_pieces(pieces).as_slice(), Status::Done),
+        Err(FramesFault::TooLong) => tell_status(folder, words, Status::TooLong { word: BITS }),
+        Err(FramesFault::Unread(fault)) => tell_status(folder, words, status_of_read(fault)),
+        Err(FramesFault::Unsaid(fault)) => status_of_say(fault),
+    }
+}
+
+/// Does what the words of a listing say, and answers how it ended. The line of the answer is said last.
+pub fn frames<F: Folder>(folder: &mut F, words: &[String], names: &FramesWords<'_>) -> Status
+    // A line is said for each piece of the file's bits, and then their number. No file changes.
+    ensures headline { Headline (F.state folder.old) (F.state folder.new) (named names.now) result }
+    ensures known { result ≢ Status.Usage }
+
+    // Each answer comes where it has to, with its line.
+    ensures answer { AnswersFrames (map string_bytes words.now) (F.state folder.old) (F.state folder.new) (named names.now) result }
+{
+    list_and_tell(folder, words, names)
+}

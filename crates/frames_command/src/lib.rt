@@ -1,0 +1,19 @@
+//! The command `frames`: the pieces of a stream of bits are listed, a line each. A pure function of the words and of the
+//! folder that are handed in. [`frames_words`] reads the words, and [`frames`] does what they say.
+#![tactic(auto)]
+
+mod command;
+mod fault;
+mod lines;
+mod listener;
+mod listing;
+mod reading;
+mod words;
+
+pub use command::frames;
+pub use fault::FramesFault;
+pub use reading::Reading;
+pub use words::{FramesWords, frames_words};
+
+#[cfg(test)]
+mod tests;

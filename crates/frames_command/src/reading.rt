@@ -1,0 +1,53 @@
+// What a piece of a stream is to a reader of frames.
+ghost use Rattle.std.specs.Prelude.{◌≡◌};
+ghost use Rattle.bit_stuffing.specs.Found.{Found};
+ghost use Rattle.frames_command.specs.Readings.{ReadsWhole, Reads};
+
+use bit_stuffing::Piece;
+use frame_check::{Check, passes};
+use lapm_frames::{Frame, FrameFault, Role, read};
+
+/// What a piece of a stream is to a reader of frames, who knows the end that sent it.
+#[derive(Drop)]
+pub enum Reading {
+    Frame(Frame),
+    /// The check is right, and the octets before it are no frame.
+    Refused(FrameFault),
+    /// The check is wrong. The number is that of all octets, with those of the check.
+    BadCheck { octets: usize },
+    Ragged,
+    Aborted,
+    TooLong,
+    TooShort,
+}
+
+/// How many octets the check has.
+const CHECK: usize = 2;
+
+/// What a whole piece of these octets is.
+fn read_whole(octets: &[u8], sender: Role) -> Reading
+    ensures { ReadsWhole sender octets.now result }
+{
+    if !passes(octets, Check::Sixteen) {
+        return Reading::BadCheck {
+            octets: octets.len(),
+        };
+    }
+    match read(&octets[..octets.len() - CHECK], sender, 0) {
+        Ok(frame) => Reading::Frame(frame),
+        Err(fault) => Reading::Refused(fault),
+    }
+}
+
+/// What a piece is, of these octets where it is whole.
+pub(crate) fn read_piece(piece: Piece, octets: &[u8], sender: Role) -> Reading
+    ensures { (found : Found) → found.piece ≡ piece → found.octets ≡ octets.now → Reads sender found result }
+{
+    match piece {
+        Piece::Whole => read_whole(octets, sender),
+        Piece::Ragged => Reading::Ragged,
+        Piece::Aborted => Reading::Aborted,
+        Piece::TooLong => Reading::TooLong,
+        Piece::TooShort => Reading::TooShort,
+    }
+}
