@@ -1,2 +1,4 @@
 mod Halves
 mod Playings
+mod Longer
+mod Samples
