@@ -2,3 +2,5 @@ mod Halves
 mod Playings
 mod Longer
 mod Samples
+mod Parts
+mod Steps

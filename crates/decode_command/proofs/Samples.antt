@@ -1,5 +1,7 @@
 -- Samples of octets that are read piece by piece.
-use Rattle.std.proofs.Common.{◌≡◌, ◌∙◌, ℕ, suc, zero, ◌+◌, ◌*◌, ◌/◌, ◌%◌, ◌<◌, ◌≤◌, List, [], ◌∷◌, ◌++◌, length, take, slice_index, refl, sym, ap, arith}
+use Rattle.std.proofs.Common.{◌≡◌, ◌∙◌, ℕ, suc, zero, ◌+◌, ◌*◌, ◌/◌, ◌%◌, ◌<◌, ◌≤◌, List, [], ◌∷◌, ◌++◌, length, take, drop, slice_index, inl, inr, refl, sym, ap, arith}
+use Rattle.std.proofs.lemmas.Bool.{cases_lt}
+use Rattle.std.proofs.lemmas.List.{take_all, take-append-drop}
 use Rattle.symbol_map.specs.declared.sample.Sample.{Sample}
 use Rattle.decode_command.specs.Recordings.{sample_of, sample_at, samples_in}
 
@@ -39,3 +41,28 @@ samples_in-whole (a ∷ b ∷ c ∷ []) = refl
 samples_in-whole (a ∷ b ∷ c ∷ d ∷ xs) =
     let count : 4 * (length (a ∷ b ∷ c ∷ d ∷ xs) / 4) ≡ suc (suc (suc (suc (4 * (length xs / 4))))) = omega arith in
     rw count (ap (λ rest. sample_of a b c d ∷ rest) (samples_in-whole xs))
+
+pub samples_in-all : (n : ℕ) (xs : List ℕ) → length xs / 4 ≤ n → samples_in (take (4 * n) xs) ≡ samples_in xs
+samples_in-all n xs h =
+    elim (cases_lt (4 * n) (length xs)) [
+      | inl less ↦
+          let count : n ≡ length xs / 4 = omega arith in
+          ap (λ m. samples_in (take (4 * m) xs)) count ∙ samples_in-whole xs
+      | inr all ↦ ap samples_in (take_all (4 * n) xs (omega (arith, all)))
+    ]
+
+-- samples stay, whatever octets follow
+pub samples_in-front : (xs ys : List ℕ) → (more : List Sample) × (samples_in (xs ++ ys) ≡ samples_in xs ++ more)
+samples_in-front [] ys = (samples_in ys, refl)
+samples_in-front (a ∷ []) ys = (samples_in (a ∷ ys), refl)
+samples_in-front (a ∷ b ∷ []) ys = (samples_in (a ∷ b ∷ ys), refl)
+samples_in-front (a ∷ b ∷ c ∷ []) ys = (samples_in (a ∷ b ∷ c ∷ ys), refl)
+samples_in-front (a ∷ b ∷ c ∷ d ∷ xs) ys =
+    let rest = samples_in-front xs ys in
+    (rest.0, ap (λ more. sample_of a b c d ∷ more) rest.1)
+
+-- those of the first octets, and the others
+pub samples_in-split : (n : ℕ) (xs : List ℕ) → (more : List Sample) × (samples_in xs ≡ samples_in (take n xs) ++ more)
+samples_in-split n xs =
+    let f = samples_in-front (take n xs) (drop n xs) in
+    (f.0, ap samples_in (sym (take-append-drop n xs)) ∙ f.1)
