@@ -4,3 +4,4 @@ mod Longer
 mod Samples
 mod Parts
 mod Steps
+mod Known

@@ -1,6 +1,6 @@
 // The command: the recording is decoded, and its line is said.
-ghost use Rattle.std.specs.Prelude.{◌≡◌, ◌≤◌, true, [], IfOk, IfErr, map, string_bytes};
-ghost use Rattle.outside_core.specs.Folder.{FolderState, OnlyReads};
+ghost use Rattle.std.specs.Prelude.{◌≡◌, ◌≢◌, ◌≤◌, ℕ, List, true, [], IfOk, IfErr, map, string_bytes};
+ghost use Rattle.outside_core.specs.Folder.{FolderState, KeepsName, OnlyReads};
 ghost use Rattle.scramblers.specs.Mode.{tap_of};
 ghost use Rattle.command_base.specs.Outputs.{OnlyOutput};
 ghost use Rattle.decode_command.specs.Words.{named, are_apart};
@@ -112,6 +112,10 @@ pub fn decode<F: Folder>(
     names: &DecodeWords<'_>,
 ) -> Status
     requires { are_apart (named names.now) ≡ true }
+
+    // No name but the output changes, and these words are never told how the program is used.
+    ensures names { (other : List ℕ) → other ≢ names.now.file.now → KeepsName (F.state folder.old) (F.state folder.new) other }
+    ensures known { result ≢ Status.Usage }
 
     // Each answer comes where it has to, with its line.
     ensures answer { AnswersDecode (map string_bytes words.now) (F.state folder.old) (F.state folder.new) (named names.now) result }
