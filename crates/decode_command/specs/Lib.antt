@@ -3,5 +3,7 @@ pub mod Headers
 pub mod Recordings
 pub mod Octets
 pub mod Playing
+pub mod Played
 pub mod Ends
+pub mod Opened
 pub mod Answers

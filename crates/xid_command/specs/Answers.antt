@@ -1,5 +1,5 @@
 -- What the command answers, and what it says.
-use Rattle.std.specs.Prelude.{◌≡◌, ◌⊎◌, ℕ, ◌≤◌, List, length, Result, Ok}
+use Rattle.std.specs.Prelude.{◌≡◌, ◌⊎◌, ℕ, ◌≤◌, List, length, Ok}
 use Rattle.hex.specs.Hex.{decode_of}
 use Rattle.outside_core.specs.Folder.{FolderState}
 use Rattle.xid_params.specs.declared.offer.Offer.{Offer}

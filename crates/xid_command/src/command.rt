@@ -1,5 +1,6 @@
 // The command: digits are read, the field is understood, and a line is said.
-ghost use Rattle.std.specs.Prelude.{map, string_bytes, IfErr, IfOk};
+ghost use Rattle.std.specs.Prelude.{◌≢◌, map, string_bytes, IfErr, IfOk};
+ghost use Rattle.command_base.specs.Outputs.{KeepsAll};
 ghost use Rattle.xid_command.specs.Answers.{AnswersXid, Explains, Refuses};
 
 use crate::digits::read_digits;
@@ -23,6 +24,18 @@ fn explain(digits: &str) -> Result<Offer, Status>
 /// Says the offer of an information field, given in hexadecimal digits, or why it spells none. No memory is taken, and no name
 /// of the folder is touched.
 pub fn xid<F: Folder>(folder: &mut F, words: &[String], digits: &str) -> Status
+    // No name changes, and these words are never told how the program is used.
+    ensures names { KeepsAll (F.state folder.old) (F.state folder.new) }
+    ensures known { result ≢ Status.Usage }
+
+    // Each answer comes where it has to, with its line.
+    ensures answer { AnswersXid (map string_bytes words.now) (F.state folder.old) (F.state folder.new) digits.now result }
+{
+    explain_and_tell(folder, words, digits)
+}
+
+/// Says the offer, or why the digits spell none.
+fn explain_and_tell<F: Folder>(folder: &mut F, words: &[String], digits: &str) -> Status
     ensures { AnswersXid (map string_bytes words.now) (F.state folder.old) (F.state folder.new) digits.now result }
 {
     match explain(digits) {

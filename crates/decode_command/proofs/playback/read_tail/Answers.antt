@@ -24,4 +24,4 @@ returns g c before octets read =
     let i = c.loop-label.invariant.read before octets read in
     let all : length c.args.labels.now ≤ c.loop-label.label-index = omega arith in
     OctetsRead-carries g.row.TAP c.loop-label.reader (before ++ c.args.labels.now) (octets ++ c.loop-label.octets)
-        (subst (λ (xs : List ℕ). OctetsRead g.row.TAP c.loop-label.reader (before ++ xs) (octets ++ c.loop-label.octets)) (take_all c.loop-label.label-index c.args.labels.now all) i)
+    (subst (λ (xs : List ℕ). OctetsRead g.row.TAP c.loop-label.reader (before ++ xs) (octets ++ c.loop-label.octets)) (take_all c.loop-label.label-index c.args.labels.now all) i)
