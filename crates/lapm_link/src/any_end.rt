@@ -114,6 +114,7 @@ impl AnyEnd {
         ensures segment { (a : Account) (segment : List ℕ) → StandsFor self.old a → delivers a ≡ Some segment → out.new ≡ segment }
         ensures account { (a : Account) → StandsFor self.old a → StandsFor self.new (after_delivery a) }
         ensures unchanged { OnFalse result (out.new ≡ out.old) }
+        ensures delivered { OnFalse result (undelivered_of self.new ≡ 0) }
         ensures takes_nothing { TakesNothing self.old self.new }
     {
         match self {

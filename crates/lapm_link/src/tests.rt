@@ -157,6 +157,22 @@ fn lines(turn: u64) -> (Sent, Sent) {
     }
 }
 
+/// Hears and then speaks. From turn 10 on both files are whole, and the originator is told to release.
+fn turn(end: AnyEnd, number: u64, arrived: &Arrived, octet: u8, got: &mut Info, sent: &mut Sent) -> Result<AnyEnd, &'static str>
+    requires turn { number < 2 ^ 40 }
+    requires numbers { IsNumbered arrived.now }
+    requires counted { taken_of end ≤ 128 * number }
+    requires delivered { undelivered_of end ≡ 0 }
+    requires given { waiting_of end ≡ None }
+    ensures counted { IfOk result (λ after. taken_of after ≤ 128 * number + 128) }
+    ensures delivered { IfOk result (λ after. undelivered_of after ≡ 0) }
+    ensures given { IfOk result (λ after. waiting_of after ≡ None) }
+{
+    let heard = listen(end, number, arrived, octet, got)?;
+    let release = number >= 10 && heard.whole();
+    say(heard, number, release, sent)
+}
+
 #[test]
 fn two_files_of_one_octet(rt: HostRuntime) -> Result<(), Fail> {
     let mut originator = AnyEnd::Detecting(Detecting::new(rt.alloc(), setup(Role::Originator))?);
@@ -165,16 +181,13 @@ fn two_files_of_one_octet(rt: HostRuntime) -> Result<(), Fail> {
     let mut got_a = Info::new();
     let mut from_o = Sent::Mark;
     let mut from_a = Sent::Mark;
-    for turn in 0..12u64 {
+    for number in 0..12u64 {
         let at_o = arrival(&from_a);
         let at_a = arrival(&from_o);
-        originator = listen(originator, turn, &at_o, b'a', &mut got_o)?;
-        answerer = listen(answerer, turn, &at_a, b'b', &mut got_a)?;
-        let release = originator.whole() && answerer.whole();
-        originator = say(originator, turn, release, &mut from_o)?;
-        answerer = say(answerer, turn, false, &mut from_a)?;
-        let (line_o, line_a) = lines(turn);
-        assert!(rt; from_o == line_o && from_a == line_a, "in turn {turn}");
+        originator = turn(originator, number, &at_o, b'a', &mut got_o, &mut from_o)?;
+        answerer = turn(answerer, number, &at_a, b'b', &mut got_a, &mut from_a)?;
+        let wanted = lines(number);
+        assert!(rt; from_o == wanted.0 && from_a == wanted.1, "in turn {number}");
     }
     originator = listen(originator, 12, &arrival(&from_a), b'a', &mut got_o)?;
     assert_eq!(rt; originator.phase(), Phase::Closed);
@@ -185,7 +198,6 @@ fn two_files_of_one_octet(rt: HostRuntime) -> Result<(), Fail> {
 
 /// An originator whose link is up in turn 2.
 fn connected(originator: Detecting) -> Result<AnyEnd, &'static str>
-    requires { taken_of (AnyEnd.Detecting originator) ≡ 0 }
     ensures counted { IfOk result (λ end. taken_of end ≤ 384) }
     ensures delivered { IfOk result (λ end. undelivered_of end ≡ 0) }
     ensures given { IfOk result (λ end. waiting_of end ≡ None) }
