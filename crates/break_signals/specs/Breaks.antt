@@ -1,4 +1,4 @@
-use Rattle.std.specs.Prelude.{ℕ, ◌+◌, ◌%◌, Bool, true, false, not, if◌then◌else◌, ◌&&◌, nat_eq, nat_lt, nat_le, List, [], ◌∷◌, ◌++◌, length, Option, Some, None, slice_index_or}
+use Rattle.std.specs.Prelude.{◌≡◌, ℕ, ◌+◌, ◌%◌, Bool, true, false, not, if◌then◌else◌, ◌&&◌, nat_eq, nat_lt, nat_le, List, [], ◌∷◌, ◌++◌, length, Option, Some, None, slice_index_or}
 use Rattle.break_signals.specs.declared.word.BreakWord.{BreakWord}
 use Rattle.break_signals.specs.declared.word.BreakWord.TheVariants.{Brk, Ack}
 
@@ -70,3 +70,7 @@ after_break number length_octet b = record { lengths = with_given (gives number 
 -- sent (due is ack)
 abbrev pub after_ack : TheirBreaks → TheirBreaks
 after_ack b = record b { ack = None }
+
+-- A break that is heard again is not given again.
+abbrev pub GivesOnce : Type 0
+GivesOnce = (number first again : ℕ) (b : TheirBreaks) → gives number again (after_break number first b) ≡ None

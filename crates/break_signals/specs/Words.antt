@@ -28,3 +28,6 @@ number_of (Ack number length_octet) = number
 
 abbrev pub IsReadBack : Type 0
 IsReadBack = (word : BreakWord) → number_of word < 2 → word_in (spelled word) ≡ Ok word
+
+abbrev pub IsSpelledBack : Type 0
+IsSpelledBack = (octets : List ℕ) (word : BreakWord) → word_in octets ≡ Ok word → spelled word ≡ octets

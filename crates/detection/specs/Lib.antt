@@ -1,0 +1,4 @@
+pub mod Patterns
+pub mod Reader
+pub mod Slots
+pub mod Sights

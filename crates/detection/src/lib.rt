@@ -1,6 +1,18 @@
 //! The patterns by which two modems find that both correct errors, by ITU-T V.42: a pure function of bits.
+//!
+//! [`pattern_slot`] and [`mark_slot`] write slots of bits, and [`PatternReader`] tells at each bit of a stream
+//! which pattern ends there, if one does.
 #![tactic(auto)]
 
+mod characters;
+pub mod laws;
+mod reader;
 mod seen;
+mod slots;
 
+pub use reader::PatternReader;
 pub use seen::Seen;
+pub use slots::{mark_slot, pattern_slot};
+
+#[cfg(test)]
+mod tests;

@@ -24,7 +24,9 @@ use Rattle.lapm_link.specs.declared.fault.LinkFault.{LinkFault}
 use Rattle.lapm_link.specs.declared.fault.LinkFault.TheVariants.{NotDetected}
 use Rattle.lapm_link.specs.declared.phase.Phase.{Phase}
 use Rattle.lapm_link.specs.declared.phase.Phase.TheVariants.{Detecting, Negotiating, Establishing, Connected, Releasing, Closed}
-use Rattle.lapm_link.specs.Account.{Account, Answer, Adp_due, Xid_due, Ua_due, Dm_due, Wait, fresh, is_originator, is_connected, after_offer, after_delivery, after_break_asked, wants, piece_size}
+use Rattle.lapm_link.specs.declared.answer.Answer.{Answer}
+use Rattle.lapm_link.specs.declared.answer.Answer.TheVariants as answers
+use Rattle.lapm_link.specs.Account.{Account, Wait, fresh, is_originator, is_connected, after_offer, after_delivery, after_break_asked, wants, piece_size}
 use Rattle.lapm_link.specs.Hear.{hear, on_frame, on_connected, on_detecting, on_negotiating, on_establishing, on_releasing, on_closed, on_xid_command, on_xid_response, on_i, on_ready, on_rej, on_srej, on_number, on_sabme, peer_reset, on_disc, on_word, on_seen, on_pattern, then_in, replying, hurrying, taking, ends_wait, owing, trying}
 use Rattle.lapm_link.specs.Speak.{Said, says, says_frame, says_own, says_break, says_asking, says_segment, else_says, where_says, steps, step1, step2, step3, step4, step5, step6, step7, step8, step9, may_send, nr_of, telling, running, speak, speak_in, speak_detecting, speak_negotiating, speak_releasing, speak_linked, u_try, tries_frame, trying_again, answering, on_timer, on_break_timer, then_tries, after_timers, polling, breaking, spent, timer_expires}
 use Rattle.lapm_link.specs.Play.{Slot, Side, Play, Pair, Event, Speaks, Passes, Is_lost, Hears_nothing, Is_offered, Is_asked, Delivers, Gives_break, arrives, seen_from, play_of, spoken, heard, passes, is_lost, is_offered, happens_at, role_of, goes_on, happens, play, start}
@@ -156,7 +158,7 @@ disc-leaves : (a : Account) (pf : Bool) (r : Role) → OnHeard (Leaves a) (on_di
 disc-leaves a pf Originator = tt
 disc-leaves a pf Answerer = (refl, refl)
 
-sabme-leaves : (a : Account) (pf b : Bool) → OnHeard (Leaves a) (cond b (Err (peer_reset a)) (Ok (owing (Ua_due pf) a)))
+sabme-leaves : (a : Account) (pf b : Bool) → OnHeard (Leaves a) (cond b (Err (peer_reset a)) (Ok (owing (answers.Ua pf) a)))
 sabme-leaves a pf true = tt
 sabme-leaves a pf false = (refl, refl)
 
@@ -248,10 +250,10 @@ plain b y lx ly told sent n h e f =
 
 answers-both : (x y : Account) (lx ly : List Slot) (told : ℕ) → BothGo x y lx ly → (d : Option Answer) → AllSaid (SaysBoth y lx ly told) (answering d x)
 answers-both x y lx ly told h None = tt
-answers-both x y lx ly told h (Some Adp_due) = plain (record x { owes = record x.owes { answer = None } }) y lx ly told slots.Adp 0 h refl refl
-answers-both x y lx ly told h (Some Xid_due) = plain (record x { owes = record x.owes { answer = None } }) y lx ly told (slots.Frame (Xid false false (written x.setup.offer))) 0 h refl refl
-answers-both x y lx ly told h (Some (Ua_due pf)) = plain (record x { owes = record x.owes { answer = None } }) y lx ly told (slots.Frame (Ua pf)) 0 h refl refl
-answers-both x y lx ly told h (Some (Dm_due pf)) = plain (record x { owes = record x.owes { answer = None } }) y lx ly told (slots.Frame (Dm pf)) 0 h refl refl
+answers-both x y lx ly told h (Some answers.Adp) = plain (record x { owes = record x.owes { answer = None } }) y lx ly told slots.Adp 0 h refl refl
+answers-both x y lx ly told h (Some answers.Xid) = plain (record x { owes = record x.owes { answer = None } }) y lx ly told (slots.Frame (Xid false false (written x.setup.offer))) 0 h refl refl
+answers-both x y lx ly told h (Some (answers.Ua pf)) = plain (record x { owes = record x.owes { answer = None } }) y lx ly told (slots.Frame (Ua pf)) 0 h refl refl
+answers-both x y lx ly told h (Some (answers.Dm pf)) = plain (record x { owes = record x.owes { answer = None } }) y lx ly told (slots.Frame (Dm pf)) 0 h refl refl
 
 answer-both : (x y : Account) (lx ly : List Slot) (told : ℕ) (sent : Sent) → BothGo x y lx ly → brk_of sent 0 ≡ [] → ack_of sent 0 ≡ [] → SaysBoth y lx ly told (else_says (answering x.owes.answer x) (says sent x))
 answer-both x y lx ly told sent h e f = else-says (SaysBoth y lx ly told) (answering x.owes.answer x) (says sent x) (answers-both x y lx ly told h x.owes.answer) (plain x y lx ly told sent 0 h e f)

@@ -14,7 +14,9 @@ use Rattle.lapm_link.specs.declared.sent.Sent.TheVariants as slots
 use Rattle.lapm_link.specs.declared.setup.Setup.{Setup}
 use Rattle.lapm_link.specs.declared.phase.Phase.{Phase}
 use Rattle.lapm_link.specs.declared.phase.Phase.TheVariants.{Detecting, Negotiating, Establishing, Connected, Releasing, Closed}
-use Rattle.lapm_link.specs.Account.{Account, Answer, Adp_due, Xid_due, Ua_due, Dm_due}
+use Rattle.lapm_link.specs.declared.answer.Answer.{Answer}
+use Rattle.lapm_link.specs.declared.answer.Answer.TheVariants as answers
+use Rattle.lapm_link.specs.Account.{Account}
 use Rattle.lapm_link.specs.Play.{Slot}
 use Rattle.lapm_link.proofs.Flow.{all_weaker}
 use Rattle.lapm_link.proofs.Ends.{Goes, back-forgotten, line-lost}
@@ -52,10 +54,10 @@ FromA sa k m (slots.Frame frame) n told = IsLinked (slots.Frame frame) n told
 
 abbrev pub DueA : ℕ → ℕ → Option Answer → Type 0
 DueA k m None = Unit {0}
-DueA k m (Some Adp_due) = Unit {0}
-DueA k m (Some Xid_due) = 1 ≤ m
-DueA k m (Some (Ua_due pf)) = Unit {0}
-DueA k m (Some (Dm_due pf)) = 4 ≤ k
+DueA k m (Some answers.Adp) = Unit {0}
+DueA k m (Some answers.Xid) = 1 ≤ m
+DueA k m (Some (answers.Ua pf)) = Unit {0}
+DueA k m (Some (answers.Dm pf)) = 4 ≤ k
 
 abbrev pub NotSabme : Sent → Type 0
 NotSabme (slots.Frame (Sabme pf)) = ⊥
@@ -140,10 +142,10 @@ from_a-later sa k m k' m' sent n told e f h = h
 
 pub due-later : (k m k' m' : ℕ) (answer : Option Answer) → k ≤ k' → m ≤ m' → DueA k m answer → DueA k' m' answer
 due-later k m k' m' None e f h = tt
-due-later k m k' m' (Some Adp_due) e f h = tt
-due-later k m k' m' (Some Xid_due) e f h = omega (arith, h)
-due-later k m k' m' (Some (Ua_due pf)) e f h = tt
-due-later k m k' m' (Some (Dm_due pf)) e f h = omega (arith, h)
+due-later k m k' m' (Some answers.Adp) e f h = tt
+due-later k m k' m' (Some answers.Xid) e f h = omega (arith, h)
+due-later k m k' m' (Some (answers.Ua pf)) e f h = tt
+due-later k m k' m' (Some (answers.Dm pf)) e f h = omega (arith, h)
 
 -- the two ends as linked ends
 pub linked-o : (so sa : Setup) (o a : Account) (lo la : List Slot) → Good so sa o a lo la → IsBegun (terms_of so sa).window_o (terms_of so sa).window_a (terms_of so sa).srej o

@@ -13,7 +13,9 @@ use Rattle.lapm_link.specs.declared.fault.LinkFault.{LinkFault}
 use Rattle.lapm_link.specs.declared.setup.Setup.{Setup}
 use Rattle.lapm_link.specs.declared.phase.Phase.{Phase}
 use Rattle.lapm_link.specs.declared.phase.Phase.TheVariants.{Detecting, Negotiating, Establishing, Connected, Releasing, Closed}
-use Rattle.lapm_link.specs.Account.{Account, Answer, Adp_due, Xid_due, Ua_due, Dm_due, is_originator, window_for}
+use Rattle.lapm_link.specs.declared.answer.Answer.{Answer}
+use Rattle.lapm_link.specs.declared.answer.Answer.TheVariants as answers
+use Rattle.lapm_link.specs.Account.{Account, is_originator, window_for}
 use Rattle.lapm_link.specs.Hear.{hear, on_frame, on_connected, on_detecting, on_negotiating, on_establishing, on_releasing, on_closed, on_xid_command, on_xid_response, on_sabme, peer_reset, on_disc, on_seen, on_pattern, owing, connected, trying, on_nothing, without_adp}
 use Rattle.lapm_link.specs.Play.{Slot, arrives}
 use Rattle.lapm_link.proofs.Ends.{Goes}
@@ -35,7 +37,7 @@ framed frame n told = record { sent = slots.Frame frame; number = n; told = told
 a-xid : (so sa : Setup) (o a : Account) (lo la : List Slot) → Good so sa o a lo la → rank a.phase ≤ 1 → IsFresh a → (info : List ℕ) → info ≡ written so.offer → WellA so sa o lo la (Ok (on_xid_command (offer_in info) a))
 a-xid so sa o a lo la g low fresh info e =
     subst (λ m. WellA so sa o lo la (Ok (on_xid_command m a))) (sym (ap offer_in e ∙ g.deal.read_o))
-    (changed-a so sa o a lo la g (owing Xid_due (record a { phase = Negotiating; terms = agree so.offer a.setup.offer })) refl (omega arith) low
+    (changed-a so sa o a lo la g (owing answers.Xid (record a { phase = Negotiating; terms = agree so.offer a.setup.offer })) refl (omega arith) low
     (fresh, ap (λ s. agree so.offer s.offer) g.setup_a) (λ e. (g.early e).1) g.numbered g.flow_oa g.flow_ao)
 
 role-a : (so sa : Setup) (o a : Account) (lo la : List Slot) → Good so sa o a lo la → a.setup.role ≡ Answerer
@@ -44,9 +46,9 @@ role-a so sa o a lo la g = ap (λ s. s.role) g.setup_a ∙ g.deal.role_a
 role-o : (so sa : Setup) (o a : Account) (lo la : List Slot) → Good so sa o a lo la → o.setup.role ≡ Originator
 role-o so sa o a lo la g = ap (λ s. s.role) g.setup_o ∙ g.deal.role_o
 
-a-connects : (so sa : Setup) (o a : Account) (lo la : List Slot) → Good so sa o a lo la → rank a.phase ≤ 3 → IsFresh a → a.terms ≡ terms_of so sa → (pf : Bool) (turn : ℕ) → Good so sa o (owing (Ua_due pf) (connected turn a)) lo la
+a-connects : (so sa : Setup) (o a : Account) (lo la : List Slot) → Good so sa o a lo la → rank a.phase ≤ 3 → IsFresh a → a.terms ≡ terms_of so sa → (pf : Bool) (turn : ℕ) → Good so sa o (owing (answers.Ua pf) (connected turn a)) lo la
 a-connects so sa o a lo la g low fresh terms pf turn =
-    changed-a so sa o a lo la g (owing (Ua_due pf) (connected turn a)) refl tt low
+    changed-a so sa o a lo la g (owing (answers.Ua pf) (connected turn a)) refl tt low
     (own (role-a so sa o a lo la g) ∙ ap (λ t. t.window_a) terms, theirs (role-a so sa o a lo la g) ∙ ap (λ t. t.window_o) terms, ap (λ t. t.srej) terms) (λ e. (g.early e).1) g.numbered
     (subst (λ i. Goes (terms_of so sa).window_o (terms_of so sa).srej o.outgoing i lo la) fresh.1 g.flow_oa)
     (subst (λ p. Goes (terms_of so sa).window_a (terms_of so sa).srej p o.incoming la lo) fresh.0 g.flow_ao)
@@ -105,35 +107,35 @@ a-negotiating so sa o a lo la turn n told (Sabme pf) h e =
     a-connects so sa o a lo la (lost-o so sa o a (framed (Sabme pf) n told) lo la h) (omega (arith, ap rank e)) place.0 place.1 pf turn
 a-negotiating so sa o a lo la turn n told (Disc pf) h e =
     let g = lost-o so sa o a (framed (Disc pf) n told) lo la h in
-    changed-a so sa o a lo la g (owing (Dm_due pf) a) refl h.line_o.0 (omega arith) (place (g.place_a)) (λ e. (g.early e).1) g.numbered g.flow_oa g.flow_ao
+    changed-a so sa o a lo la g (owing (answers.Dm pf) a) refl h.line_o.0 (omega arith) (place (g.place_a)) (λ e. (g.early e).1) g.numbered g.flow_oa g.flow_ao
   where
-    place : PlaceA (terms_of so sa) a.phase a → PlaceA (terms_of so sa) a.phase (owing (Dm_due pf) a)
-    place k = subst (λ p. PlaceA (terms_of so sa) p (owing (Dm_due pf) a)) (sym e) (subst (λ p. PlaceA (terms_of so sa) p a) e k)
+    place : PlaceA (terms_of so sa) a.phase a → PlaceA (terms_of so sa) a.phase (owing (answers.Dm pf) a)
+    place k = subst (λ p. PlaceA (terms_of so sa) p (owing (answers.Dm pf) a)) (sym e) (subst (λ p. PlaceA (terms_of so sa) p a) e k)
 a-negotiating so sa o a lo la turn n told frame h e = lost-o so sa o a (framed frame n told) lo la h
 
 a-closed : (so sa : Setup) (o a : Account) (lo la : List Slot) (n told : ℕ) (frame : Frame) → Good so sa o a (framed frame n told ∷ lo) la → a.phase ≡ Closed → WellA so sa o lo la (on_closed frame a)
 a-closed so sa o a lo la n told (Disc pf) h e =
     let g = lost-o so sa o a (framed (Disc pf) n told) lo la h in
-    changed-a so sa o a lo la g (owing (Dm_due pf) a) refl h.line_o.0 (omega arith) (place (g.place_a)) (λ e. (g.early e).1) g.numbered g.flow_oa g.flow_ao
+    changed-a so sa o a lo la g (owing (answers.Dm pf) a) refl h.line_o.0 (omega arith) (place (g.place_a)) (λ e. (g.early e).1) g.numbered g.flow_oa g.flow_ao
   where
-    place : PlaceA (terms_of so sa) a.phase a → PlaceA (terms_of so sa) a.phase (owing (Dm_due pf) a)
-    place k = subst (λ p. PlaceA (terms_of so sa) p (owing (Dm_due pf) a)) (sym e) (subst (λ p. PlaceA (terms_of so sa) p a) e k)
+    place : PlaceA (terms_of so sa) a.phase a → PlaceA (terms_of so sa) a.phase (owing (answers.Dm pf) a)
+    place k = subst (λ p. PlaceA (terms_of so sa) p (owing (answers.Dm pf) a)) (sym e) (subst (λ p. PlaceA (terms_of so sa) p a) e k)
 a-closed so sa o a lo la n told frame h e = lost-o so sa o a (framed frame n told) lo la h
 
 -- SABME and DISC at a Connected answerer
 a-sabme : (so sa : Setup) (o a : Account) (lo la : List Slot) (n told : ℕ) (pf : Bool) → Good so sa o a (framed (Sabme pf) n told ∷ lo) la → a.phase ≡ Connected → WellA so sa o lo la (on_sabme pf a)
 a-sabme so sa o a lo la n told pf h e = go a.numbered refl a.setup.role (role-a so sa o a (framed (Sabme pf) n told ∷ lo) la h)
   where
-    go : (b : Bool) → a.numbered ≡ b → (r : Role) → r ≡ Answerer → WellA so sa o lo la (cond (b || is_originator r) (Err (peer_reset a)) (Ok (owing (Ua_due pf) a)))
+    go : (b : Bool) → a.numbered ≡ b → (r : Role) → r ≡ Answerer → WellA so sa o lo la (cond (b || is_originator r) (Err (peer_reset a)) (Ok (owing (answers.Ua pf) a)))
     go true t r q = absurd (h.numbered t).0
-    go false t r q = subst (λ r. WellA so sa o lo la (cond (is_originator r) (Err (peer_reset a)) (Ok (owing (Ua_due pf) a)))) (sym q)
+    go false t r q = subst (λ r. WellA so sa o lo la (cond (is_originator r) (Err (peer_reset a)) (Ok (owing (answers.Ua pf) a)))) (sym q)
         (let g = lost-o so sa o a (framed (Sabme pf) n told) lo la h in
-        changed-a so sa o a lo la g (owing (Ua_due pf) a) refl tt (omega arith) (subst (λ p. PlaceA (terms_of so sa) p (owing (Ua_due pf) a)) (sym e) (subst (λ p. PlaceA (terms_of so sa) p a) e g.place_a)) (λ e. (g.early e).1) g.numbered g.flow_oa g.flow_ao)
+        changed-a so sa o a lo la g (owing (answers.Ua pf) a) refl tt (omega arith) (subst (λ p. PlaceA (terms_of so sa) p (owing (answers.Ua pf) a)) (sym e) (subst (λ p. PlaceA (terms_of so sa) p a) e g.place_a)) (λ e. (g.early e).1) g.numbered g.flow_oa g.flow_ao)
 
 a-disc : (so sa : Setup) (o a : Account) (lo la : List Slot) (n told : ℕ) (pf : Bool) → Good so sa o a (framed (Disc pf) n told ∷ lo) la → a.phase ≡ Connected → WellA so sa o lo la (on_disc Answerer pf a)
 a-disc so sa o a lo la n told pf h e =
     let g = lost-o so sa o a (framed (Disc pf) n told) lo la h in
-    changed-a so sa o a lo la g (owing (Ua_due pf) (record a { phase = Closed })) refl tt (omega (arith, ap rank e)) (subst (λ p. PlaceA (terms_of so sa) p a) e g.place_a) (λ e. (g.early e).1) g.numbered g.flow_oa g.flow_ao
+    changed-a so sa o a lo la g (owing (answers.Ua pf) (record a { phase = Closed })) refl tt (omega (arith, ap rank e)) (subst (λ p. PlaceA (terms_of so sa) p a) e g.place_a) (λ e. (g.early e).1) g.numbered g.flow_oa g.flow_ao
 
 a-connected : (so sa : Setup) (o a : Account) (lo la : List Slot) (turn n told : ℕ) (frame : Frame) → Good so sa o a (framed frame n told ∷ lo) la → a.phase ≡ Connected → WellA so sa o lo la (on_connected frame turn a)
 a-connected so sa o a lo la turn n told (Sabme pf) h e = a-sabme so sa o a lo la n told pf h e
@@ -160,10 +162,10 @@ a-nothing so sa o a lo la g =
   where
     due : (d : Option Answer) → DueA (rank o.phase) (rank a.phase) d → DueA (rank o.phase) (rank a.phase) (without_adp d)
     due None k = tt
-    due (Some Adp_due) k = tt
-    due (Some Xid_due) k = k
-    due (Some (Ua_due pf)) k = tt
-    due (Some (Dm_due pf)) k = k
+    due (Some answers.Adp) k = tt
+    due (Some answers.Xid) k = k
+    due (Some (answers.Ua pf)) k = tt
+    due (Some (answers.Dm pf)) k = k
 
     place : (p : Phase) → PlaceA (terms_of so sa) p a → PlaceA (terms_of so sa) p (on_nothing a)
     place Detecting k = k
@@ -177,7 +179,7 @@ a-nothing so sa o a lo la g =
 a-odp : (so sa : Setup) (o a : Account) (lo la : List Slot) → Good so sa o a lo la → (turn : ℕ) (p : Phase) → a.phase ≡ p → Good so sa o (on_seen p seen.Odp turn a) lo la
 a-odp so sa o a lo la g turn Detecting e =
     subst (λ r. Good so sa o (on_pattern r seen.Odp turn a) lo la) (sym (role-a so sa o a lo la g))
-    (changed-a so sa o a lo la g (owing Adp_due a) refl tt (omega arith) (subst (λ p. PlaceA (terms_of so sa) p (owing Adp_due a)) (sym e) (subst (λ p. PlaceA (terms_of so sa) p a) e g.place_a)) (λ e. (g.early e).1) g.numbered g.flow_oa g.flow_ao)
+    (changed-a so sa o a lo la g (owing answers.Adp a) refl tt (omega arith) (subst (λ p. PlaceA (terms_of so sa) p (owing answers.Adp a)) (sym e) (subst (λ p. PlaceA (terms_of so sa) p a) e g.place_a)) (λ e. (g.early e).1) g.numbered g.flow_oa g.flow_ao)
 a-odp so sa o a lo la g turn Negotiating e = g
 a-odp so sa o a lo la g turn Establishing e = g
 a-odp so sa o a lo la g turn Connected e = g

@@ -7,3 +7,8 @@ mod Speaking
 mod Playing
 mod Breaking
 mod BreakPlaying
+mod Kept
+mod Saying
+mod SaidNumbers
+mod Telling
+mod Fitting

@@ -13,7 +13,9 @@ use Rattle.lapm_link.specs.declared.fault.LinkFault.TheVariants.{NotDetected, Sp
 use Rattle.lapm_link.specs.declared.setup.Setup.{Setup}
 use Rattle.lapm_link.specs.declared.phase.Phase.{Phase}
 use Rattle.lapm_link.specs.declared.phase.Phase.TheVariants.{Detecting, Negotiating, Establishing, Connected, Releasing, Closed}
-use Rattle.lapm_link.specs.Account.{Account, Answer, Adp_due, Xid_due, Ua_due, Dm_due, Wait, is_originator}
+use Rattle.lapm_link.specs.declared.answer.Answer.{Answer}
+use Rattle.lapm_link.specs.declared.answer.Answer.TheVariants as answers
+use Rattle.lapm_link.specs.Account.{Account, Wait, is_originator}
 use Rattle.lapm_link.specs.Hear.{trying}
 use Rattle.lapm_link.specs.Speak.{Said, says, says_frame, else_says, where_says, step1, speak, speak_in, speak_detecting, speak_negotiating, speak_releasing, speak_linked, u_try, tries_frame, trying_again, answering, on_timer, on_break_timer, then_tries, after_timers, polling, breaking, spent, timer_expires}
 use Rattle.lapm_link.specs.Play.{Slot}
@@ -303,10 +305,10 @@ a-answered so sa o a lo la g = changed-a so sa o a lo la g (record a { owes = re
 
 a-answers : (so sa : Setup) (o a : Account) (lo la : List Slot) → Good so sa o a lo la → (d : Option Answer) → DueA (rank o.phase) (rank a.phase) d → AllSaid (SaidA so sa (next_expected a.incoming) o lo la) (answering d a)
 a-answers so sa o a lo la g None due = tt
-a-answers so sa o a lo la g (Some Adp_due) due = quiet-a so sa o (record a { owes = record a.owes { answer = None } }) lo la (a-answered so sa o a lo la g) slots.Adp refl refl tt
-a-answers so sa o a lo la g (Some Xid_due) due = quiet-a so sa o (record a { owes = record a.owes { answer = None } }) lo la (a-answered so sa o a lo la g) (slots.Frame (Xid false false (written a.setup.offer))) refl refl (ap (λ s. written s.offer) g.setup_a, due)
-a-answers so sa o a lo la g (Some (Ua_due pf)) due = quiet-a so sa o (record a { owes = record a.owes { answer = None } }) lo la (a-answered so sa o a lo la g) (slots.Frame (Ua pf)) refl refl tt
-a-answers so sa o a lo la g (Some (Dm_due pf)) due = quiet-a so sa o (record a { owes = record a.owes { answer = None } }) lo la (a-answered so sa o a lo la g) (slots.Frame (Dm pf)) refl refl due
+a-answers so sa o a lo la g (Some answers.Adp) due = quiet-a so sa o (record a { owes = record a.owes { answer = None } }) lo la (a-answered so sa o a lo la g) slots.Adp refl refl tt
+a-answers so sa o a lo la g (Some answers.Xid) due = quiet-a so sa o (record a { owes = record a.owes { answer = None } }) lo la (a-answered so sa o a lo la g) (slots.Frame (Xid false false (written a.setup.offer))) refl refl (ap (λ s. written s.offer) g.setup_a, due)
+a-answers so sa o a lo la g (Some (answers.Ua pf)) due = quiet-a so sa o (record a { owes = record a.owes { answer = None } }) lo la (a-answered so sa o a lo la g) (slots.Frame (Ua pf)) refl refl tt
+a-answers so sa o a lo la g (Some (answers.Dm pf)) due = quiet-a so sa o (record a { owes = record a.owes { answer = None } }) lo la (a-answered so sa o a lo la g) (slots.Frame (Dm pf)) refl refl due
 
 linked-from-a : (sa : Setup) (k m : ℕ) (sent : Sent) (n told : ℕ) → IsLinked sent n told → FromA sa k m sent n told
 linked-from-a sa k m (slots.Frame (Xid false pf info)) n told h = absurd h

@@ -1,3 +1,5 @@
+-- What an end of the link is, in plain values: all pieces offered and taken, what it owes and what it waits for. The parts of the
+-- sender, the receiver and the breaks are those of their own crates.
 use Rattle.std.specs.Prelude.{ℕ, Bool, true, false, if◌then◌else◌, nat_lt, List, length, Option, Some, None, slice_index_or}
 use Rattle.lapm_frames.specs.declared.frame.Role.{Role}
 use Rattle.lapm_frames.specs.declared.frame.Role.TheVariants.{Originator, Answerer}
@@ -9,15 +11,9 @@ use Rattle.lapm_receiver.specs.Incoming.{Incoming, next_delivered, after_deliver
 use Rattle.lapm_receiver.specs.Incoming as incoming
 use Rattle.break_signals.specs.Breaks.{OwnBreaks, TheirBreaks, no_breaks, none_heard, takes_break, after_ask, waits}
 use Rattle.lapm_link.specs.declared.setup.Setup.{Setup}
+use Rattle.lapm_link.specs.declared.answer.Answer.{Answer}
 use Rattle.lapm_link.specs.declared.phase.Phase.{Phase}
 use Rattle.lapm_link.specs.declared.phase.Phase.TheVariants.{Detecting, Negotiating, Establishing, Connected, Releasing, Closed}
-
--- an answer that is due: each that becomes due takes the place of the one before
-pub data Answer : Type 0 where
-  Adp_due : Answer
-  Xid_due : Answer
-  Ua_due : (pf : Bool) → Answer
-  Dm_due : (pf : Bool) → Answer
 
 -- what an end owes at once (what its receiver owes is of that part)
 pub record Owes : Type 0 where

@@ -1,3 +1,5 @@
+-- What an end becomes by what it hears: one definition a rule, then one a phase, by the rules of ITU-T V.42 and of this link. A
+-- Connected end breaks where an acknowledgement is of no number that was sent, or where the other end begins anew or refuses.
 use Rattle.std.specs.Prelude.{ℕ, ◌%◌, Bool, true, false, not, if◌then◌else◌, ◌&&◌, ◌||◌, nat_lt, List, Option, Some, None, Result, Ok, Err}
 use Rattle.lapm_frames.specs.declared.frame.Role.{Role}
 use Rattle.lapm_frames.specs.declared.frame.Role.TheVariants.{Originator, Answerer}
@@ -24,7 +26,9 @@ use Rattle.lapm_link.specs.declared.phase.Phase.{Phase}
 use Rattle.lapm_link.specs.declared.phase.Phase.TheVariants.{Detecting, Negotiating, Establishing, Connected, Releasing, Closed}
 use Rattle.lapm_link.specs.declared.fault.LinkFault.{LinkFault}
 use Rattle.lapm_link.specs.declared.fault.LinkFault.TheVariants.{BadAck, PeerReset, PeerRefused}
-use Rattle.lapm_link.specs.Account.{Account, Answer, Adp_due, Xid_due, Ua_due, Dm_due, Wait, is_originator, size_for, window_for}
+use Rattle.lapm_link.specs.declared.answer.Answer.{Answer}
+use Rattle.lapm_link.specs.declared.answer.Answer.TheVariants as answers
+use Rattle.lapm_link.specs.Account.{Account, Wait, is_originator, size_for, window_for}
 
 -- an answer becomes due in the place of any that is
 abbrev pub owing : Answer → Account → Account
@@ -51,10 +55,10 @@ connected turn a = record a {
 -- on nothing: an ADP is no longer due
 abbrev pub without_adp : Option Answer → Option Answer
 without_adp None = None
-without_adp (Some Adp_due) = None
-without_adp (Some Xid_due) = Some Xid_due
-without_adp (Some (Ua_due pf)) = Some (Ua_due pf)
-without_adp (Some (Dm_due pf)) = Some (Dm_due pf)
+without_adp (Some answers.Adp) = None
+without_adp (Some answers.Xid) = Some answers.Xid
+without_adp (Some (answers.Ua pf)) = Some (answers.Ua pf)
+without_adp (Some (answers.Dm pf)) = Some (answers.Dm pf)
 
 abbrev pub on_nothing : Account → Account
 on_nothing a = record a { owes = record a.owes { answer = without_adp a.owes.answer } }
@@ -63,13 +67,13 @@ on_nothing a = record a { owes = record a.owes { answer = without_adp a.owes.ans
 abbrev pub on_pattern : Role → Seen → ℕ → Account → Account
 on_pattern Originator Adp turn a = trying Negotiating turn a
 on_pattern Originator Odp turn a = a
-on_pattern Answerer Odp turn a = owing Adp_due a
+on_pattern Answerer Odp turn a = owing answers.Adp a
 on_pattern Answerer Adp turn a = a
 
 -- on an XID command, at an answerer: none is an information field that is refused
 abbrev pub on_xid_command : Option Offer → Account → Account
 on_xid_command None a = a
-on_xid_command (Some offer) a = owing Xid_due (record a { phase = Negotiating; terms = agree offer a.setup.offer })
+on_xid_command (Some offer) a = owing answers.Xid (record a { phase = Negotiating; terms = agree offer a.setup.offer })
 
 -- on an XID response, at an originator
 abbrev pub on_xid_response : Option Offer → ℕ → Account → Account
@@ -79,15 +83,15 @@ on_xid_response (Some offer) turn a = trying Establishing turn (record a { terms
 -- each phase before Connected: role and frame
 abbrev pub on_detecting : Role → Frame → ℕ → Account → Result Account LinkFault
 on_detecting Answerer (Xid true pf info) turn a = Ok (on_xid_command (offer_in info) a)
-on_detecting Answerer (Sabme pf) turn a = Ok (owing (Ua_due pf) (connected turn (record a { terms = agree default_offer a.setup.offer })))
+on_detecting Answerer (Sabme pf) turn a = Ok (owing (answers.Ua pf) (connected turn (record a { terms = agree default_offer a.setup.offer })))
 on_detecting role frame turn a = Ok a
 
 abbrev pub on_negotiating : Role → Frame → ℕ → Account → Result Account LinkFault
 on_negotiating Originator (Xid false pf info) turn a = Ok (on_xid_response (offer_in info) turn a)
 on_negotiating Originator (Dm pf) turn a = Err PeerRefused
 on_negotiating Answerer (Xid true pf info) turn a = Ok (on_xid_command (offer_in info) a)
-on_negotiating Answerer (Sabme pf) turn a = Ok (owing (Ua_due pf) (connected turn a))
-on_negotiating Answerer (Disc pf) turn a = Ok (owing (Dm_due pf) a)
+on_negotiating Answerer (Sabme pf) turn a = Ok (owing (answers.Ua pf) (connected turn a))
+on_negotiating Answerer (Disc pf) turn a = Ok (owing (answers.Dm pf) a)
 on_negotiating role frame turn a = Ok a
 
 abbrev pub on_establishing : Frame → ℕ → Account → Result Account LinkFault
@@ -102,7 +106,7 @@ on_releasing (Dm true) a = Ok (record a { phase = Closed })
 on_releasing frame a = Ok a
 
 abbrev pub on_closed : Frame → Account → Result Account LinkFault
-on_closed (Disc pf) a = Ok (owing (Dm_due pf) a)
+on_closed (Disc pf) a = Ok (owing (answers.Dm pf) a)
 on_closed frame a = Ok a
 
 -- Connected: the sender's timer, by what an N(R) made of the sender's part. Where the wait for a poll ends with nothing outstanding it stops.
@@ -167,12 +171,12 @@ abbrev pub peer_reset : Account → LinkFault
 peer_reset a = PeerReset a.outgoing.front (next_expected a.incoming)
 
 abbrev pub on_sabme : Bool → Account → Result Account LinkFault
-on_sabme pf a = if a.numbered || is_originator a.setup.role then Err (peer_reset a) else Ok (owing (Ua_due pf) a)
+on_sabme pf a = if a.numbered || is_originator a.setup.role then Err (peer_reset a) else Ok (owing (answers.Ua pf) a)
 
 -- on DISC
 abbrev pub on_disc : Role → Bool → Account → Result Account LinkFault
 on_disc Originator pf a = Err PeerRefused
-on_disc Answerer pf a = Ok (owing (Ua_due pf) (record a { phase = Closed }))
+on_disc Answerer pf a = Ok (owing (answers.Ua pf) (record a { phase = Closed }))
 
 -- on UI: a break or a break's answer; what is refused is ignored
 abbrev pub on_word : ℕ → Result BreakWord BreakFault → Account → Account

@@ -2,5 +2,9 @@ pub mod Roles
 pub mod Account
 pub mod Hear
 pub mod Speak
+pub mod Fits
+pub mod Attempt
+pub mod Stands
 pub mod Play
 pub mod Laws
+pub mod EndLaws

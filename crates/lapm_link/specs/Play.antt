@@ -1,3 +1,5 @@
+-- Plays: two ends and what is on the line both ways, over any list of events. Turn numbers are free, so that a timer may expire
+-- at any speaking or at none; whatever is sent may be lost, and nothing overtakes.
 use Rattle.std.specs.Prelude.{ℕ, Bool, if◌then◌else◌, ◌&&◌, nat_le, List, [], ◌∷◌, ◌++◌, length, Option, Some, None, Result, Ok, Err}
 use Rattle.std.specs.Prelude.{is_some}
 use Rattle.lapm_frames.specs.declared.frame.Role.{Role}

@@ -1,3 +1,4 @@
+-- The roles of the two ends.
 use Rattle.lapm_frames.specs.declared.frame.Role.{Role}
 use Rattle.lapm_frames.specs.declared.frame.Role.TheVariants.{Originator, Answerer}
 

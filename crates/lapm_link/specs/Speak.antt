@@ -1,3 +1,5 @@
+-- What an end sends and then is: one definition a rule, then one a phase. A Connected end looks at its timers first, and then
+-- sends what the first of nine steps gives that applies. An end breaks once all its tries are spent.
 use Rattle.std.specs.Prelude.{ℕ, ◌+◌, ◌-◌, ◌*◌, ◌%◌, Bool, true, false, if◌then◌else◌, ◌&&◌, ◌||◌, nat_eq, nat_le, [], length, Option, Some, None, Result, Ok, Err, slice_index_or}
 use Rattle.lapm_frames.specs.declared.frame.Role.{Role}
 use Rattle.lapm_frames.specs.declared.frame.Role.TheVariants.{Originator, Answerer}
@@ -15,7 +17,9 @@ use Rattle.lapm_link.specs.declared.phase.Phase.{Phase}
 use Rattle.lapm_link.specs.declared.phase.Phase.TheVariants.{Detecting, Negotiating, Establishing, Connected, Releasing, Closed}
 use Rattle.lapm_link.specs.declared.fault.LinkFault.{LinkFault}
 use Rattle.lapm_link.specs.declared.fault.LinkFault.TheVariants.{NotDetected, Spent}
-use Rattle.lapm_link.specs.Account.{Account, Answer, Adp_due, Xid_due, Ua_due, Dm_due, is_originator}
+use Rattle.lapm_link.specs.declared.answer.Answer.{Answer}
+use Rattle.lapm_link.specs.declared.answer.Answer.TheVariants as answers
+use Rattle.lapm_link.specs.Account.{Account, is_originator}
 use Rattle.lapm_link.specs.Hear.{trying}
 
 -- What is sent, its meant number, and the account after it. The meant number is, of an I frame, that of its segment, of an SREJ the one asked for,
@@ -47,10 +51,10 @@ spent turn a = Spent a.outgoing.front (turn - (a.setup.tries + 1) * a.setup.peri
 
 -- an answer that is due
 abbrev pub frame_for : Answer → Account → Sent
-frame_for Adp_due a = slots.Adp
-frame_for Xid_due a = slots.Frame (Xid false false (written a.setup.offer))
-frame_for (Ua_due pf) a = slots.Frame (Ua pf)
-frame_for (Dm_due pf) a = slots.Frame (Dm pf)
+frame_for answers.Adp a = slots.Adp
+frame_for answers.Xid a = slots.Frame (Xid false false (written a.setup.offer))
+frame_for (answers.Ua pf) a = slots.Frame (Ua pf)
+frame_for (answers.Dm pf) a = slots.Frame (Dm pf)
 
 abbrev pub answering : Option Answer → Account → Option Said
 answering None a = None

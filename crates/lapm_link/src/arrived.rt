@@ -4,7 +4,7 @@ use detection::Seen;
 use lapm_frames::Frame;
 
 /// What arrives at an end in a turn.
-#[derive(Drop)]
+#[derive(Debug, Drop, PartialEq, Eq)]
 pub enum Arrived {
     Nothing,
     Pattern(Seen),

@@ -1,15 +1,46 @@
-//! An end of the link, as a pure function of what arrives and of turn numbers, by ITU-T V.42.
+//! An end of the link, as a pure function of what arrives and of turn numbers, by ITU-T V.42. There is no clock and no line: in
+//! each turn an end hears and then speaks.
+//!
+//! The states are types of their own, and each moves into the next one. The central types are [`AnyEnd`], an end in any of them;
+//! [`Arrived`], what it hears; [`Sent`], what it sends; and [`Broken`], why a link ended.
 #![tactic(auto)]
 
+mod answer;
+mod answering;
+mod any_end;
 mod arrived;
+mod asking;
+mod attempt;
+mod closed;
+mod connected;
+mod detecting;
+mod establishing;
 mod fault;
+
 pub mod laws;
+mod negotiating;
+mod offers;
 mod phase;
+mod releasing;
+mod rules;
 mod sent;
 mod setup;
+mod steps;
+mod terms;
+#[cfg(test)]
+mod tests;
+mod timer;
+mod unlinked;
 
+pub use any_end::AnyEnd;
 pub use arrived::Arrived;
+pub use closed::{Broken, Closed};
+pub use connected::Connected;
+pub use detecting::Detecting;
+pub use establishing::Establishing;
 pub use fault::LinkFault;
+pub use negotiating::Negotiating;
 pub use phase::Phase;
+pub use releasing::Releasing;
 pub use sent::Sent;
 pub use setup::Setup;

@@ -131,7 +131,7 @@ slice_take : {X : Type 0} (xs : List X) (n : ℕ) (x : X) → slice_get xs n ≡
 slice_take xs n x e = ap (λ m. take m xs) (add-one n) ∙ slice_take-suc xs n x e
 
 -- how long a piece is
-length-piece_at : (file : List ℕ) (n : ℕ) → length (piece_at file n) ≡ min INFO (length file - INFO * n)
+pub length-piece_at : (file : List ℕ) (n : ℕ) → length (piece_at file n) ≡ min INFO (length file - INFO * n)
 length-piece_at file n = length-take INFO (drop (INFO * n) file) ∙ ap (λ m. min INFO m) (length-drop (INFO * n) file)
 
 length-cons : {X : Type 0} (x : X) (xs : List X) → 1 ≤ length (x ∷ xs)
@@ -295,7 +295,7 @@ acknowledged_by-taken : (a : Account) (k : Option ℕ) → (acknowledged_by a k)
 acknowledged_by-taken a None = refl
 acknowledged_by-taken a (Some nr) = acknowledged-taken a nr
 
-taken_by-sending : (a : Account) (b : Option (ℕ × List ℕ)) → sending (taken_by a b) ≡ sending a
+pub taken_by-sending : (a : Account) (b : Option (ℕ × List ℕ)) → sending (taken_by a b) ≡ sending a
 taken_by-sending a None = refl
 taken_by-sending a (Some b) = refl
 

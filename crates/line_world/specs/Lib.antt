@@ -1,6 +1,10 @@
 pub mod Script
 pub mod Heard
+pub mod Slots
+pub mod Received
+pub mod Receiver
 pub mod Direction
 pub mod Run
+pub mod Crossing
 pub mod Station
 pub mod World

@@ -3,6 +3,7 @@ use Rattle.std.specs.Prelude.{◌≡◌, ◌≢◌, ◌⊎◌, ℕ, ◌+◌, ◌
 use Rattle.std.specs.List.{list_any, All}
 use Rattle.lapm_frames.specs.declared.frame.Role.{Role}
 use Rattle.lapm_frames.specs.declared.frame.Role.TheVariants.{Originator, Answerer}
+use Rattle.noise_script.specs.declared.cause.Cause.TheVariants.{Word}
 use Rattle.line_world.specs.declared.script.Loss.{Loss}
 use Rattle.line_world.specs.declared.script.ScriptFault.{ScriptFault}
 use Rattle.line_world.specs.declared.script.ScriptFault.TheVariants as faults
@@ -77,7 +78,7 @@ pub record FirstFault (text : List ℕ) (number : ℕ) : Type 0 where
 abbrev pub IsCut : ℕ → List ℕ → List ℕ → List ℕ → Type 0
 IsCut end text front back = Lacks end front × ((text ≡ front ++ (end ∷ back)) ⊎ ((text ≡ front) × (back ≡ [])))
 
--- the fault of a text: its first faulty line
+-- the fault of a text: its first faulty line, whose words are no loss
 abbrev pub IsFaultOf : List ℕ → ScriptFault → Type 0
-IsFaultOf text (faults.Line line cause) = FirstFault text line
+IsFaultOf text (faults.Line line cause) = (cause ≡ Word) × FirstFault text line
 IsFaultOf text faults.NoMemory = Unit {0}

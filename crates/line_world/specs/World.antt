@@ -1,5 +1,5 @@
 -- For which run a world stands, and what a turn of it writes.
-use Rattle.std.specs.Prelude.{◌≡◌, ◌≢◌, ◌⊎◌, ℕ, ◌+◌, ◌≤◌, List, [], ◌∷◌, length, unwrap_or, Some, Result, Ok, Err}
+use Rattle.std.specs.Prelude.{◌≡◌, ◌≢◌, ◌⊎◌, ℕ, ◌+◌, ◌≤◌, List, [], ◌∷◌, length, unwrap_or, Some, None, Result, Ok, Err}
 use Rattle.lapm_frames.specs.declared.frame.Role.{Role}
 use Rattle.lapm_frames.specs.declared.frame.Role.TheVariants.{Originator, Answerer}
 use Rattle.thin_link.specs.Account.{Spoken, hear, undelivered, speak}
@@ -16,6 +16,7 @@ use Rattle.line_world.specs.Run.{Files, Turn, Ends, Arrives, listens, delivered,
 use Rattle.line_world.specs.Heard.{frame_heard}
 use Rattle.line_world.specs.Station.{Holds, IsIdle, counted_of}
 use Rattle.line_world.specs.Direction.{Carries, sender_of}
+use Rattle.line_world.specs.Crossing.{slots_before, slots_of}
 
 -- Some turns were made over these files and this script, and the ends now stand for these accounts.
 pub record During (w : World) (f : Files) (script : List Loss) (ts : List Turn) (ends : Ends) : Type 0 where
@@ -24,10 +25,18 @@ pub record During (w : World) (f : Files) (script : List Loss) (ts : List Turn) 
   pub script_is : w.script ≡ script
   pub turn : w.turn ≡ length ts
 
--- what the line carries after some turns
-pub record CarriesLast (w : World) (ts : List Turn) : Type 0 where
-  pub from_orig : Carries w.from_orig (last_sent Originator ts)
-  pub from_answ : Carries w.from_answ (last_sent Answerer ts)
+-- what the line carries after some turns: the slots of the last one, behind those of all others
+pub record BothCarry (w : World) (ts : List Turn) : Type 0 where
+  pub from_orig : Carries w.from_orig Originator (slots_before Originator ts) (last_sent Originator ts)
+  pub from_answ : Carries w.from_answ Answerer (slots_before Answerer ts) (last_sent Answerer ts)
+
+unfoldable pub CarriesLast : World → List Turn → Type 0
+CarriesLast w ts = BothCarry w ts
+
+-- the slots of all these turns have arrived
+pub record HaveArrived (w : World) (ts : List Turn) : Type 0 where
+  pub from_orig : Carries w.from_orig Originator (slots_of Originator ts) None
+  pub from_answ : Carries w.from_answ Answerer (slots_of Answerer ts) None
 
 -- The world is after these turns, with the ends' accounts.
 pub record WorldAfter (w : World) (f : Files) (script : List Loss) (ts : List Turn) (ends : Ends) : Type 0 where
@@ -104,12 +113,18 @@ pub record HeardBoth (w : World) (f : Files) (script : List Loss) (ts : List Tur
   pub orig_arrives : Arrives script Originator ts orig_heard
   pub answ_arrives : Arrives script Answerer ts answ_heard
   pub during : During w f script ts (record { orig = hear ends.orig (frame_heard orig_heard); answ = hear ends.answ (frame_heard answ_heard) })
+  pub arrived : HaveArrived w ts
 
 -- the turn's number, the script and the senders stay
 pub record KeepsLine (old new : World) : Type 0 where
   pub turn : new.turn ≡ old.turn
   pub orig_sends : sender_of new.from_orig ≡ sender_of old.from_orig
   pub answ_sends : sender_of new.from_answ ≡ sender_of old.from_answ
+
+-- what is on the line stays
+pub record SameLine (old new : World) : Type 0 where
+  pub from_orig : new.from_orig ≡ old.from_orig
+  pub from_answ : new.from_answ ≡ old.from_answ
 
 -- nothing waits to be delivered at either end
 pub record AreIdle (w : World) : Type 0 where
@@ -146,8 +161,8 @@ pub record Spoke (w : World) (f : Files) (script : List Loss) (ts : List Turn) (
   pub orig_speaks : speak (length ts) mid.orig ≡ Some orig
   pub answ_speaks : speak (length ts) mid.answ ≡ Some answ
   pub during : During w f script ts (record { orig = orig.account; answ = answ.account })
-  pub from_orig : Carries w.from_orig (Some orig.sent)
-  pub from_answ : Carries w.from_answ (Some answ.sent)
+  pub from_orig : Carries w.from_orig Originator (slots_of Originator ts) (Some orig.sent)
+  pub from_answ : Carries w.from_answ Answerer (slots_of Answerer ts) (Some answ.sent)
 
 -- the fault is that an end's tries are spent
 abbrev pub IsTries : RunFault → Type 0

@@ -1,82 +1,127 @@
 // One direction of the line.
-ghost use Rattle.std.specs.Prelude.{◌≡◌, ◌-◌, Option};
-ghost use Rattle.lapm_frames.specs.declared.frame.Frame.{Frame};
-ghost use Rattle.thin_link.specs.Sent.{IsSendable};
-ghost use Rattle.thin_link.specs.declared.sent.Sent.{Sent};
-ghost use Rattle.line_world.specs.Heard.{crossed, frame_sent};
-ghost use Rattle.line_world.specs.Script.{loses};
-ghost use Rattle.line_world.specs.Direction.{Carries, IsCarried, sender_of};
+ghost use Rattle.std.specs.Prelude.{◌≡◌, ◌≤◌, length};
+ghost use Rattle.frame_check.specs.declared.sizes.TheConstants.{SLOT, WHOLE};
+ghost use Rattle.lapm_frames.specs.Frame.{IsFrame};
+ghost use Rattle.line_world.specs.Slots.{frame_octets};
 
+use crate::receiver::Receiver;
 use crate::{Heard, Script};
-use frame_check::{Check, Whole, append, passes};
-use lapm_frames::{Frame, Role, read, write};
+use bit_stuffing::{BitSlot, SlotWriter};
+use frame_check::{Check, SLOT, Whole, append};
+use lapm_frames::{Frame, Role, write};
 use thin_link::Sent;
 
-/// How many octets the check of a frame has.
-const CHECK: usize = 2;
-
-/// The frame that the line carries, where its octets pass the check and spell one.
-fn received(octets: &[u8], sender: Role) -> Option<Frame>
-    ensures { (sent : Option Frame) → IsCarried octets.now sender sent → result ≡ sent }
+/// A frame's octets with their check.
+fn whole_of(frame: &Frame, sender: Role) -> Whole
+    requires { IsFrame frame.now }
+    ensures octets { result ≡ frame_octets sender frame.now }
+    ensures short { length result ≤ WHOLE }
 {
-    let Some(len) = octets.len().checked_sub(CHECK) else {
-        return None;
-    };
-    if !passes(octets, Check::Sixteen) {
-        return None;
-    }
-    let (front, _) = octets.split_at(len);
-    read(front, sender, 0).ok()
+    let mut octets = Whole::new();
+    write(frame, sender, 0, &mut octets);
+    append(&mut octets, Check::Sixteen);
+    octets
 }
 
-/// What one end sends arrives at the other in the next turn. The line carries a frame's octets with their check; none stand
-/// for flags.
+/// The slots that one end sends, each of which arrives at the other in the next turn.
 #[derive(Drop)]
 pub(crate) struct Direction {
-    sender: Role,
-    octets: Whole,
+    writer: SlotWriter,
+    /// The slot that is on the line.
+    slot: BitSlot,
+    receiver: Receiver,
+    ghost sized: { writer.symbols ≡ SLOT },
 }
 
 impl Direction {
+    ghost use Rattle.std.specs.Prelude.{◌-◌, ◌++◌, [], List, Bool, None, Some, Option};
+    ghost use Rattle.bit_stuffing.specs.BitSlot.{line_bits};
+    ghost use Rattle.bit_stuffing.specs.Slots.{Slot};
+    ghost use Rattle.lapm_frames.specs.declared.frame.Frame.{Frame};
+    ghost use Rattle.lapm_frames.specs.declared.frame.Role.{Role};
+    ghost use Rattle.thin_link.specs.Sent.{IsSendable};
+    ghost use Rattle.thin_link.specs.declared.sent.Sent.{Sent};
+    ghost use Rattle.line_world.specs.Heard.{crossed, frame_sent};
+    ghost use Rattle.line_world.specs.Script.{loses};
+    ghost use Rattle.line_world.specs.Slots.{slot_sent};
+    ghost use Rattle.line_world.specs.Received.{ArrivesIn, CarriesFrame, Receives};
+    ghost use Rattle.line_world.specs.Receiver.{ReceiverStands};
+    ghost use Rattle.line_world.specs.Direction.{Carries, sender_of};
+
     pub fn new(sender: Role) -> Direction
         ensures sender { sender_of result ≡ sender }
-        ensures empty { Carries result None }
+        ensures carries { Carries result sender [] None }
     {
         Direction {
-            sender,
-            octets: Whole::new(),
+            writer: SlotWriter::new(SLOT as u16),
+            slot: BitSlot::new(),
+            receiver: Receiver::new(sender),
         }
     }
 
-    /// Puts what is sent in this turn on the line.
+    /// Puts the slot of what is sent in this turn on the line.
     pub fn transmit(&mut self, sent: &Sent)
         requires { IsSendable sent.now }
         ensures sender { sender_of self.new ≡ sender_of self.old }
-        ensures carries { Carries self.new (Some sent.now) }
+        ensures carries { (sender : Role) (slots : List Slot) → Carries self.old sender slots None
+            → Carries self.new sender slots (Some sent.now) }
     {
-        self.octets.clear();
-        match sent {
-            Sent::Flags => {}
-            Sent::Frame(frame) => {
-                write(frame, self.sender, 0, &mut self.octets);
-                append(&mut self.octets, Check::Sixteen);
+        self.slot.clear();
+        match sent.frame() {
+            None => self.writer.slot(None, &mut self.slot),
+            Some(frame) => {
+                let octets = whole_of(frame, self.receiver.sender());
+                self.put(octets.as_slice());
             }
         }
     }
 
-    /// What arrives in a turn: the slot of the turn before, unless the script loses it.
-    pub fn arrive(&self, script: &Script, turn: u64) -> Heard
-        ensures { (sent : Option Sent) → Carries self.now sent → result ≡ crossed (loses script.now (sender_of self.now) (turn - 1)) (frame_sent sent) }
+    /// Writes a slot with the octets of a frame and its check.
+    fn put(&mut self, octets: &[u8])
+        requires empty { self.old.slot ≡ [] }
+        requires short { length octets.now ≤ WHOLE }
+        ensures sender { sender_of self.new ≡ sender_of self.old }
+        ensures carries { (sender : Role) (slots : List Slot) (frame : Frame) → Carries self.old sender slots None
+            → CarriesFrame sender octets.now frame → Carries self.new sender slots (Some (Sent.Frame frame)) }
     {
-        match received(self.octets.as_slice(), self.sender) {
+        self.writer.slot(Some(octets), &mut self.slot);
+    }
+
+    /// The last frame in the bits on the line. All of them pass.
+    fn pass(&mut self) -> Option<Frame>
+        ensures sender { sender_of self.new ≡ sender_of self.old }
+        ensures received { (past : List Bool) → ReceiverStands self.old.receiver past []
+            → Receives (sender_of self.old) past (line_bits self.old.slot) result }
+        ensures sent { (sender : Role) (before : List Slot) (sent : Option Sent) → Carries self.old sender before sent
+            → result ≡ frame_sent sent }
+        ensures carries { (sender : Role) (before : List Slot) (sent : Option Sent) → Carries self.old sender before sent
+            → Carries self.new sender (before ++ slot_sent sender sent) None }
+    {
+        let frame = self.receiver.receive(&self.slot);
+        self.slot.clear();
+        frame
+    }
+
+    /// What arrives in a turn: the slot of the turn before, unless the script loses it. All its bits pass either way.
+    pub fn arrive(&mut self, script: &Script, turn: u64) -> Heard
+        ensures sender { sender_of self.new ≡ sender_of self.old }
+
+        // What arrives is what is received in the bits on the line, whatever they are.
+        ensures received { (past : List Bool) → ReceiverStands self.old.receiver past []
+            → ArrivesIn (sender_of self.old) past (line_bits self.old.slot) (loses script.now (sender_of self.old) (turn - 1)) result }
+
+        // In the slots that were sent, that is what was sent.
+        ensures heard { (sender : Role) (before : List Slot) (sent : Option Sent) → Carries self.old sender before sent
+            → result ≡ crossed (loses script.now sender (turn - 1)) (frame_sent sent) }
+        ensures carries { (sender : Role) (before : List Slot) (sent : Option Sent) → Carries self.old sender before sent
+            → Carries self.new sender (before ++ slot_sent sender sent) None }
+    {
+        let received = self.pass();
+        let lost = script.loses(self.receiver.sender(), turn.saturating_sub(1));
+        match received {
             None => Heard::Nothing,
-            Some(frame) => {
-                if script.loses(self.sender, turn.saturating_sub(1)) {
-                    Heard::Lost(Sent::Frame(frame))
-                } else {
-                    Heard::Passed(Sent::Frame(frame))
-                }
-            }
+            Some(frame) if lost => Heard::Lost(Sent::Frame(frame)),
+            Some(frame) => Heard::Passed(Sent::Frame(frame)),
         }
     }
 }

@@ -3,6 +3,7 @@ ghost use Rattle.std.specs.Prelude.{◌≡◌, MatchResult, true, false, codes, 
 ghost use Rattle.line_world.specs.Script.{loses, IsDigit, IsNumber, role_word, LossLine, IsCut, Spells, IsFaultOf};
 
 use lapm_frames::Role;
+use noise_script::Cause;
 use std::alloc::Global;
 use std::marker::Model;
 
@@ -18,12 +19,6 @@ pub struct Loss {
 #[derive(Drop)]
 pub struct Script {
     losses: Vec<Loss>,
-}
-
-/// What is wrong with a line of a script.
-#[derive(Clone, Copy, Debug, PartialEq, Eq)]
-pub enum Cause {
-    Word,
 }
 
 /// Why a text is no script.

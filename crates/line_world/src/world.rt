@@ -4,7 +4,7 @@ ghost use Rattle.outside_core.specs.Folder.{Rose};
 ghost use Rattle.line_world.specs.declared.script.Loss.{Loss};
 ghost use Rattle.thin_link.specs.Account.{Account, whole};
 ghost use Rattle.line_world.specs.Run.{Files, Turn, Ends, start, delivered_both, offered_both, both_whole};
-ghost use Rattle.line_world.specs.World.{During, WorldAfter, IsReady, files_of, script_of, turn_of, Written, written, AreApart, HeardBoth, KeepsLine, CountsTo, AreIdle, SpeaksAs, Wrote, WrotePart, IsFolderFault, IsTries, TurnIs, number_after, HasRunCause, OnlyGot};
+ghost use Rattle.line_world.specs.World.{During, WorldAfter, IsReady, files_of, script_of, turn_of, Written, written, AreApart, HeardBoth, HaveArrived, SameLine, KeepsLine, CountsTo, AreIdle, SpeaksAs, Wrote, WrotePart, IsFolderFault, IsTries, TurnIs, number_after, HasRunCause, OnlyGot};
 
 use crate::direction::Direction;
 use crate::station::Station;
@@ -65,6 +65,7 @@ fn write_fault(fault: FolderFault) -> RunFault
 
 impl World {
     /// A world before its first turn.
+    #[tactic(auto, unfolding(crate::specs::World::CarriesLast))]
     pub fn new(script: Script, orig: Vec<u8>, answ: Vec<u8>) -> World
         ensures files { files_of result ≡ record { orig = orig.items; answ = answ.items } }
         ensures script { script_of result ≡ script }
@@ -109,6 +110,7 @@ impl World {
         ensures during { OnOk result ((f : Files) (script : List Loss) (ts : List Turn) (ends : Ends) → During self.old f script ts ends → During self.new f script ts (delivered_both ends)) }
         ensures idle { OnOk result (AreIdle self.new) }
         ensures kept { KeepsLine self.old self.new }
+        ensures line { SameLine self.old self.new }
         ensures counted { (most : ℕ) → CountsTo self.old most → CountsTo self.new most }
 
         ensures ok { OnOk result ((f : Files) (script : List Loss) (ts : List Turn) (ends : Ends) → During self.old f script ts ends → Wrote (F.state folder.old) (F.state folder.new) (written names.now) ends) }
@@ -131,6 +133,7 @@ impl World {
         ensures during { (f : Files) (script : List Loss) (ts : List Turn) (ends : Ends) → During self.old f script ts ends → During self.new f script ts (offered_both f ends) }
         ensures idle { AreIdle self.old → AreIdle self.new }
         ensures kept { KeepsLine self.old self.new }
+        ensures line { SameLine self.old self.new }
         ensures counted { (most : ℕ) → CountsTo self.old most → CountsTo self.new most }
     {
         self.orig.supply();
@@ -158,7 +161,7 @@ impl World {
     /// Both ends speak, and what they send is put on the line.
     fn speak(&mut self) -> Result<(), RunFault>
         requires early { turn_of self.old < 2 ^ 40 }
-        ensures spoken { (f : Files) (script : List Loss) (ts : List Turn) (mid : Ends) → During self.old f script ts mid → SpeaksAs self.new f script ts mid result }
+        ensures spoken { (f : Files) (script : List Loss) (ts : List Turn) (mid : Ends) → During self.old f script ts mid → HaveArrived self.old ts → SpeaksAs self.new f script ts mid result }
         ensures tries { IfErr result IsTries }
         ensures idle { AreIdle self.old → AreIdle self.new }
         ensures kept { KeepsLine self.old self.new }

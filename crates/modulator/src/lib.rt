@@ -4,7 +4,7 @@
 
 mod modulator;
 
-pub use modulator::Modulator;
+pub use modulator::{Modulator, quad_of};
 
 #[cfg(test)]
 mod tests;

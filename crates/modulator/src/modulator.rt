@@ -55,7 +55,7 @@ impl<const TAP: usize> Modulator<TAP> {
 }
 
 /// The quad of four bits in time order.
-fn quad_of(q1: bool, q2: bool, q3: bool, q4: bool) -> u8
+pub fn quad_of(q1: bool, q2: bool, q3: bool, q4: bool) -> u8
     ensures bits { low_bits 4 result ≡ q1 ∷ q2 ∷ q3 ∷ q4 ∷ [] }
     ensures bound { result < 16 }
 {

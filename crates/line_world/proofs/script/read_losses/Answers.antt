@@ -6,7 +6,7 @@ use Rattle.line_world.proofs.script.read_losses.Goals as goal
 
 pub returns-in-None-clause-fault : goal.returns-in-None-clause-fault
 returns-in-None-clause-fault c =
-    fault-of c.args.text.now _ _ _ c.loop-rest.losses.items c.loop-rest.line c.loop-rest.invariant.spelled c.loop-rest.invariant.line (λ e. grind (arith, e, c.loop-rest-test.ensures)) c.cut.ensures (c.in-None.ensures.none refl)
+    (refl, fault-of c.args.text.now _ _ _ c.loop-rest.losses.items c.loop-rest.line c.loop-rest.invariant.spelled c.loop-rest.invariant.line (λ e. grind (arith, e, c.loop-rest-test.ensures)) c.cut.ensures (c.in-None.ensures.none refl))
 
 pub loop-rest-preserved : goal.loop-rest-preserved
 loop-rest-preserved c =

@@ -7,7 +7,7 @@ use Rattle.line_world.proofs.Scripts.{spells-once, no-fault}
 use Rattle.line_world.proofs.script.read_script.Goals as goal
 
 only-memory : (text : List ℕ) (losses : List Loss) (fault : ScriptFault) → IsFaultOf text fault → Spells losses text → fault ≡ faults.NoMemory
-only-memory text losses (faults.Line line cause) f s = absurd (no-fault losses text line s f)
+only-memory text losses (faults.Line line cause) f s = absurd (no-fault losses text line s f.1)
 only-memory text losses faults.NoMemory f s = refl
 
 pub returns-in-Ok-clause-all : goal.returns-in-Ok-clause-all

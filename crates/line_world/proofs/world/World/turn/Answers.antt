@@ -1,11 +1,11 @@
-use Rattle.std.proofs.Common.{◌∙◌, arith, sym, ap, subst, refl, Result, Err, Some, None, IfErr}
+use Rattle.std.proofs.Common.{◌∷◌, ◌∙◌, arith, sym, ap, subst, refl, Result, Err, Some, None, IfErr}
 use Rattle.std.proofs.lemmas.Result.{err_from_is_err_and}
 use Rattle.outside_core.specs.Folder.{FolderState}
 use Rattle.line_world.specs.Run.{Turn, Ends, GoingTurn, listens}
 use Rattle.line_world.specs.declared.world.Step.{Step}
 use Rattle.line_world.specs.declared.world.RunFault.{RunFault}
 use Rattle.line_world.specs.World.{TurnIs, HasRunCause, written}
-use Rattle.line_world.proofs.Turns.{stopped-as, lost-in, lost-cause}
+use Rattle.line_world.proofs.Turns.{stopped-as, lost-in, lost-cause, line-stays, carries-last}
 use Rattle.line_world.proofs.world.World.turn.Goals as goal
 
 pub returns-in_err-hand_out-clause-turn : goal.returns-in_err-hand_out-clause-turn
@@ -55,7 +55,7 @@ returns-in_err-speak-clause-turn g c f script ts ends w =
     (record { orig_heard = h.orig_arrives; answ_heard = h.answ_arrives; orig = refl; answ = refl })
     (sym (c.whole.ensures f script ts _ mid) ∙ c.if-whole.false) refl refl
     (record { got_o = wrote.got_o; got_a = wrote.got_a })
-    (c.in_err-speak.ensures.spoken f script ts _ mid))
+    (c.in_err-speak.ensures.spoken f script ts _ mid (line-stays _ _ ts c.supply.ensures.line (line-stays _ _ ts c.in_ok-hand_out.ensures.line h.arrived))))
 
 pub returns-in_err-speak-clause-cause : goal.returns-in_err-speak-clause-cause
 returns-in_err-speak-clause-cause g c =
@@ -68,7 +68,7 @@ returns-clause-turn g c f script ts ends w =
     let h = c.hear.ensures.heard f script ts ends w in
     let wrote = c.in_ok-hand_out.ensures.ok f script ts _ h.during in
     let mid = c.supply.ensures.during f script ts _ (c.in_ok-hand_out.ensures.during f script ts _ h.during) in
-    let s = c.in_ok-speak.ensures.spoken f script ts _ mid in
+    let s = c.in_ok-speak.ensures.spoken f script ts _ mid (line-stays _ _ ts c.supply.ensures.line (line-stays _ _ ts c.in_ok-hand_out.ensures.line h.arrived)) in
     let t : Turn = record { orig = record { heard = h.orig_heard; sent = Some s.orig.sent }; answ = record { heard = h.answ_heard; sent = Some s.answ.sent } } in
     let after : Ends = record { orig = s.orig.account; answ = s.answ.account } in
     let going : GoingTurn f script ts ends t after = record {
@@ -84,7 +84,7 @@ returns-clause-turn g c f script ts ends w =
       world = record {
         run = (ends, w.run, going);
         during = record { orig = s.during.orig; answ = s.during.answ; script_is = s.during.script_is; turn = omega (arith, s.during.turn) };
-        carries = record { from_orig = s.from_orig; from_answ = s.from_answ };
+        carries = carries-last _ (t ∷ ts) s.from_orig s.from_answ;
       };
       writes = record { got_o = wrote.got_o; got_a = wrote.got_a };
     }

@@ -1,0 +1,31 @@
+use Rattle.std.proofs.Common.{◌≡◌, ◌∙◌, ℕ, List, sym, ap, subst, refl, map, string_bytes, Ok, Err}
+use Rattle.outside_core.specs.Folder.{FolderState}
+use Rattle.command_base.specs.declared.status.Status.{Status}
+use Rattle.command_base.specs.declared.status.Status.TheVariants.{Done}
+use Rattle.command_base.specs.Lines.{status_line}
+use Rattle.command_base.specs.Tells.{Tells}
+use Rattle.decode_command.proofs.command.decode_and_tell.Goals as goal
+
+pub returns-in-Ok : goal.returns-in-Ok
+returns-in-Ok g c =
+    let before : FolderState = g.F.Folder.state c.decode_recording.new.folder in
+    let new : FolderState = g.F.Folder.state c.tell.new.folder in
+    record {
+      job = Ok c.in-Ok.octets;
+      before = before;
+      ends = c.in-Ok.ensures.ends;
+      only = c.decode_recording.ensures.only;
+      tells = subst (λ (line : List ℕ). Tells before new line Done c.tell.result) (c.as_slice.ensures.items ∙ c.write_octets.ensures) c.tell.ensures;
+    }
+
+pub returns-in-Err : goal.returns-in-Err
+returns-in-Err g c =
+    let before : FolderState = g.F.Folder.state c.decode_recording.new.folder in
+    let new : FolderState = g.F.Folder.state c.tell_status.new.folder in
+    record {
+      job = Err c.in-Err.fault;
+      before = before;
+      ends = c.in-Err.ensures.ends;
+      only = c.decode_recording.ensures.only;
+      tells = subst (λ (status : Status). Tells before new (status_line (map string_bytes c.args.words.now) status) status c.tell_status.result) c.status_of_fault.ensures c.tell_status.ensures;
+    }

@@ -1,0 +1,9 @@
+pub mod Words
+pub mod Headers
+pub mod Recordings
+pub mod Octets
+pub mod Playing
+pub mod Played
+pub mod Ends
+pub mod Opened
+pub mod Answers

@@ -1,0 +1,196 @@
+// A recording played from the folder, and its octets written into it.
+ghost use Rattle.std.specs.Prelude.{◌≡◌, ◌≤◌, ◌<◌, ◌+◌, ◌*◌, ◌%◌, ◌^◌, ◌++◌, ℕ, None, List, [], true, IfOk, IfErr, OnOk, MatchResult, length, slice_index};
+ghost use Rattle.symbol_map.specs.declared.sample.Sample.{Sample};
+ghost use Rattle.outside_core.specs.Folder.{FolderState};
+ghost use Rattle.scramblers.specs.Mode.{tap_of};
+ghost use Rattle.command_base.specs.declared.limits.TheConstants.{RECORDING_LIMIT};
+ghost use Rattle.command_base.specs.Outputs.{OnlyOutput};
+ghost use Rattle.decode_command.specs.Words.{named, are_apart};
+ghost use Rattle.decode_command.specs.Recordings.{coordinate, sample_at};
+ghost use Rattle.decode_command.specs.Playing.{Hears, IsReady};
+ghost use Rattle.decode_command.specs.Played.{PlayedTo, PlaysPiece, IsAtEnd};
+ghost use Rattle.decode_command.specs.Ends.{hearer_of, EndsBy, Ends};
+ghost use Rattle.recordings.specs.declared.header.TheConstants.{HEADER};
+
+use crate::DecodeFault;
+use crate::fault::{read_fault, write_fault};
+use crate::playback::{Playback, ROOM};
+use crate::words::DecodeWords;
+use byteorder::{ByteOrder, LittleEndian};
+use command_base::{RECORDING_LIMIT, append_output, read_piece};
+use exact_decoder::Lost;
+use frame_check::Octets;
+use lapm_frames::Role;
+use outside_core::Folder;
+use recordings::HEADER;
+use scramblers::Mode;
+use symbol_map::Sample;
+
+/// How many octets a sample has.
+const SAMPLE: usize = 4;
+
+/// How many octets are read at a time: there is room for those that their samples give.
+const PIECE: usize = 512;
+
+/// The coordinate that two octets from a place on are, the low one first.
+fn coordinate_at(octets: &[u8], place: usize) -> i16
+    requires { place + 2 ≤ length octets.now }
+    ensures { result ≡ coordinate (slice_index octets.now place) (slice_index octets.now (place + 1)) }
+{
+    LittleEndian::read_i16(&[octets[place], octets[place + 1]])
+}
+
+/// The sample at a place, counted in samples.
+fn sample_at(octets: &[u8], place: usize) -> Sample
+    requires { 4 * place + 4 ≤ length octets.now }
+    ensures { result ≡ sample_at octets.now place }
+{
+    let from = SAMPLE * place;
+    Sample {
+        re: coordinate_at(octets, from),
+        im: coordinate_at(octets, from + 2),
+    }
+}
+
+/// Plays the whole samples of a piece, up to the one that loses the line.
+fn play_piece<const TAP: usize>(
+    playback: &mut Playback<TAP>,
+    piece: &[u8],
+    octets: &mut Octets<ROOM>,
+) -> Result<(), Lost>
+    requires few { length piece.now ≤ PIECE }
+    requires empty { octets.old ≡ [] }
+    requires ready { IsReady playback.old RECORDING_LIMIT }
+    ensures plays { (samples : List Sample) (before : List ℕ) → Hears TAP playback.old samples before
+        → PlaysPiece TAP playback.new samples piece.now (before ++ octets.new) result }
+    ensures taken { playback.new.decoder.pending ≡ [] }
+    ensures ready { (most : ℕ) → IsReady playback.old most → OnOk result (IsReady playback.new (most + length piece.now)) }
+{
+    for place in 0..piece.len() / SAMPLE {
+        match playback.push(sample_at(piece, place), octets) {
+            Ok(()) => {}
+            Err(lost) => return Err(lost),
+        }
+    }
+    Ok(())
+}
+
+/// The end that hears what is sent in this mode.
+fn hearer_of(mode: Mode) -> Role
+    ensures { result ≡ hearer_of mode }
+{
+    match mode {
+        Mode::Call => Role::Answerer,
+        Mode::Answer => Role::Originator,
+    }
+}
+
+/// What a step has read, and the octets that it gave.
+#[derive(Clone, Copy)]
+pub(crate) struct Step {
+    pub read: usize,
+    pub given: usize,
+}
+
+/// Plays the next piece of the recording, and writes the octets that it gives. Nothing is read at the recording's end.
+pub(crate) fn play_next<F: Folder, const TAP: usize>(
+    folder: &mut F,
+    names: &DecodeWords<'_>,
+    mode: Mode,
+    playback: &mut Playback<TAP>,
+    at: u64,
+) -> Result<Step, DecodeFault>
+    requires tap { tap_of mode ≡ TAP }
+    requires apart { are_apart (named names.now) ≡ true }
+    requires within { at ≤ RECORDING_LIMIT }
+    requires ready { IsReady playback.old at }
+    ensures ok { (start : FolderState) (written : ℕ) → PlayedTo start (F.state folder.old) (named names.now) mode playback.old at written
+        → IfOk result (λ step. PlayedTo start (F.state folder.new) (named names.now) mode playback.new (at + step.read) (written + step.given)) }
+    ensures end { (start : FolderState) (written : ℕ) → PlayedTo start (F.state folder.old) (named names.now) mode playback.old at written
+        → IfOk result (λ step. step.read ≡ 0 → IsAtEnd start (named names.now) at) }
+    ensures err { (start : FolderState) (written : ℕ) → PlayedTo start (F.state folder.old) (named names.now) mode playback.old at written
+        → IfErr result (EndsBy start (F.state folder.new) (named names.now)) }
+    ensures ready { IfOk result (λ step. IsReady playback.new (at + step.read)) }
+    ensures bound { IfOk result (λ step. at + step.read ≤ RECORDING_LIMIT) }
+    ensures given { IfOk result (λ step. step.given ≤ ROOM) }
+    ensures only { OnlyOutput (F.state folder.old) (F.state folder.new) names.now.file.now }
+{
+    let mut piece = [0u8; PIECE];
+    let read = match read_piece(folder, names.rec, RECORDING_LIMIT, at, &mut piece) {
+        Ok(read) => read,
+        Err(fault) => return Err(read_fault(fault)),
+    };
+    let mut octets = Octets::new();
+    let played = play_piece(playback, &piece[..read], &mut octets);
+    match append_output(folder, names.file, octets.as_slice()) {
+        Ok(()) => {}
+        Err(fault) => return Err(write_fault(fault)),
+    }
+    match played {
+        Ok(()) if read % SAMPLE == 0 => Ok(Step {
+            read,
+            given: octets.len(),
+        }),
+        Ok(()) => Err(DecodeFault::BadRecording {
+            at: at + (read - read % SAMPLE) as u64,
+        }),
+        Err(lost) => Err(DecodeFault::LineLost {
+            role: hearer_of(mode),
+            symbol: lost.symbol,
+        }),
+    }
+}
+
+/// Plays the recording from behind its header to its end: how many octets were written.
+pub(crate) fn play_to_end<F: Folder, const TAP: usize>(
+    folder: &mut F,
+    names: &DecodeWords<'_>,
+    mode: Mode,
+    playback: &mut Playback<TAP>,
+) -> Result<u64, DecodeFault>
+    requires tap { tap_of mode ≡ TAP }
+    requires apart { are_apart (named names.now) ≡ true }
+    requires ready { IsReady playback.old 0 }
+    ensures ok { (start : FolderState) → PlayedTo start (F.state folder.old) (named names.now) mode playback.old HEADER 0
+        → IfOk result (λ written. (at : ℕ) × PlayedTo start (F.state folder.new) (named names.now) mode playback.new at written × IsAtEnd start (named names.now) at) }
+    ensures err { (start : FolderState) → PlayedTo start (F.state folder.old) (named names.now) mode playback.old HEADER 0
+        → IfErr result (EndsBy start (F.state folder.new) (named names.now)) }
+    ensures ready { IfOk result (λ written. IsReady playback.new RECORDING_LIMIT) }
+    ensures bound { IfOk result (λ written. written ≤ 2 ^ 60) }
+    ensures only { OnlyOutput (F.state folder.old) (F.state folder.new) names.now.file.now }
+{
+    let mut at = HEADER as u64;
+    let mut written: u64 = 0;
+    loop {
+        match play_next(folder, names, mode, playback, at) {
+            Ok(step) if step.read == 0 => return Ok(written + step.given as u64),
+            Ok(step) => {
+                at += step.read as u64;
+                written += step.given as u64;
+            }
+            Err(fault) => return Err(fault),
+        }
+    }
+}
+
+/// Writes the octets of the labels that follow the released ones: how many octets were written in all.
+pub(crate) fn write_rest<F: Folder, const TAP: usize>(
+    folder: &mut F,
+    names: &DecodeWords<'_>,
+    playback: Playback<TAP>,
+    written: u64,
+) -> Result<u64, DecodeFault>
+    requires apart { are_apart (named names.now) ≡ true }
+    requires taken { playback.decoder.pending ≡ [] }
+    requires not_lost { playback.decoder.lost ≡ None }
+    requires room { written ≤ 2 ^ 60 }
+    ensures ends { (start : FolderState) (mode : Mode) (at : ℕ) → tap_of mode ≡ TAP → PlayedTo start (F.state folder.old) (named names.now) mode playback.entry at written
+        → IsAtEnd start (named names.now) at → Ends start (F.state folder.new) (named names.now) result }
+    ensures only { OnlyOutput (F.state folder.old) (F.state folder.new) names.now.file.now }
+{
+    let octets = playback.finish();
+    match append_output(folder, names.file, octets.as_slice()) {
+        Ok(()) => Ok(written + octets.len() as u64),
+        Err(fault) => Err(write_fault(fault)),
+    }
+}

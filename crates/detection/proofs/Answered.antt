@@ -1,0 +1,135 @@
+-- The answer at each bit, as a relation and as a function.
+use Rattle.std.proofs.Common.{◌≡◌, ℕ, zero, suc, ◌+◌, ◌-◌, ◌<◌, inl, inr, Bool, true, false, ◌||◌, if◌then◌else◌, List, [], ◌∷◌, ◌++◌, length, get_or, take, drop, reverse, Option, Some, None, arith, length-append, refl, sym, ◌∙◌, ap}
+use Rattle.std.specs.Bool.{beq}
+use Rattle.std.specs.List.{ends_with}
+use Rattle.std.specs.Cmp.Lexicographic.{pointwise}
+use Rattle.std.proofs.lemmas.Bool.{false≢true, cases_lt}
+use Rattle.std.proofs.lemmas.List.{drop_at, take-append-drop}
+use Rattle.detection.specs.declared.seen.Seen.{Seen}
+use Rattle.detection.specs.declared.seen.Seen.TheVariants.{Odp, Adp}
+use Rattle.detection.specs.Patterns.{twice, EndsPattern, IsGap, IsSeen, some_below, some_gap, ends_pattern, seen_at}
+use Rattle.detection.proofs.Readings.{backwards, reverse-twice}
+
+-- a test of the last bits
+
+pub bits-same : (xs : List Bool) → pointwise beq xs xs ≡ true
+bits-same [] = refl
+bits-same (true ∷ xs) = bits-same xs
+bits-same (false ∷ xs) = bits-same xs
+
+pub same-bits : (xs ys : List Bool) → pointwise beq xs ys ≡ true → xs ≡ ys
+same-bits [] [] e = refl
+same-bits [] (y ∷ ys) e = absurd (false≢true e)
+same-bits (x ∷ xs) [] e = absurd (false≢true e)
+same-bits (true ∷ xs) (true ∷ ys) e = ap (λ t. true ∷ t) (same-bits xs ys e)
+same-bits (false ∷ xs) (false ∷ ys) e = ap (λ t. false ∷ t) (same-bits xs ys e)
+same-bits (true ∷ xs) (false ∷ ys) e = absurd (false≢true e)
+same-bits (false ∷ xs) (true ∷ ys) e = absurd (false≢true e)
+
+ends-text : (bits text : List Bool) → ends_with beq bits text ≡ true → bits ≡ take (length bits - length text) bits ++ text
+ends-text bits text e = sym (take-append-drop (length bits - length text) bits) ∙ ap (λ l. take (length bits - length text) bits ++ l) (sym (same-bits text (drop (length bits - length text) bits) e))
+
+pub text-ends : (bits before text : List Bool) → bits ≡ before ++ text → ends_with beq bits text ≡ true
+text-ends bits before text e =
+    let front : length before ≡ length bits - length text = omega (arith, ap length e, length-append {A = Bool} before text) in
+    let rest : drop (length bits - length text) bits ≡ text = ap (drop (length bits - length text)) e ∙ drop_at before text (length bits - length text) front in
+    ap (pointwise beq text) rest ∙ bits-same text
+
+-- a test of some numbers
+
+either : (a b : Bool) → (a || b) ≡ true → (P : Type 0) → (a ≡ true → P) → (b ≡ true → P) → P
+either true b e P f g = f refl
+either false b e P f g = g e
+
+or-left : (a b : Bool) → a ≡ true → (a || b) ≡ true
+or-left true b e = refl
+or-left false b e = absurd (false≢true e)
+
+or-right : (a b : Bool) → b ≡ true → (a || b) ≡ true
+or-right true b e = refl
+or-right false b e = e
+
+below-found : (n : ℕ) (test : ℕ → Bool) → some_below n test ≡ true → (i : ℕ) × (i < n) × (test i ≡ true)
+below-found zero test e = absurd (false≢true e)
+below-found (suc n) test e = either (test n) (some_below n test) e ((i : ℕ) × (i < suc n) × (test i ≡ true))
+    (λ here. (n, omega arith, here))
+    (λ lower. let r = below-found n test lower in (r.0, omega (arith, r.1), r.2))
+
+below-at : (n : ℕ) (test : ℕ → Bool) (i : ℕ) → i < n → test i ≡ true → some_below n test ≡ true
+below-at zero test i h e = absurd (omega arith)
+below-at (suc n) test i h e = elim (cases_lt i n) [
+  | inl lower ↦ or-right (test n) (some_below n test) (below-at n test i lower e)
+  | inr here ↦ let same : i ≡ n = omega arith in or-left (test n) (some_below n test) (ap test (sym same) ∙ e)
+]
+
+gap-found : (test : ℕ → Bool) → some_gap test ≡ true → (gap : ℕ) × IsGap gap × (test gap ≡ true)
+gap-found test e = let r = below-found 10 (λ more. test (8 + more)) e in (8 + r.0, record { low = omega arith; high = omega (arith, r.1) }, r.2)
+
+gap-at : (test : ℕ → Bool) (gap : ℕ) → IsGap gap → test gap ≡ true → some_gap test ≡ true
+gap-at test gap g e = let place : 8 + (gap - 8) ≡ gap = omega (arith, g.low) in below-at 10 (λ more. test (8 + more)) (gap - 8) (omega (arith, g.low, g.high)) (ap test place ∙ e)
+
+-- the test of a pattern
+
+pub test-pattern : (seen : Seen) (bits : List Bool) → ends_pattern seen bits ≡ true → EndsPattern seen bits
+test-pattern seen bits t =
+    let a = gap-found (λ a. some_gap (λ b. some_gap (λ e. ends_with beq bits (twice seen a b e)))) t in
+    let b = gap-found (λ b. some_gap (λ e. ends_with beq bits (twice seen a.0 b e))) a.2 in
+    let e = gap-found (λ e. ends_with beq bits (twice seen a.0 b.0 e)) b.2 in
+    record {
+      before = take (length bits - length (twice seen a.0 b.0 e.0)) bits;
+      a = a.0;
+      b = b.0;
+      e = e.0;
+      a_gap = a.1;
+      b_gap = b.1;
+      e_gap = e.1;
+      ends = ends-text bits (twice seen a.0 b.0 e.0) e.2;
+    }
+
+pub pattern-test : (seen : Seen) (bits : List Bool) → EndsPattern seen bits → ends_pattern seen bits ≡ true
+pattern-test seen bits p =
+    gap-at (λ a. some_gap (λ b. some_gap (λ e. ends_with beq bits (twice seen a b e)))) p.a p.a_gap
+    (gap-at (λ b. some_gap (λ e. ends_with beq bits (twice seen p.a b e))) p.b p.b_gap
+    (gap-at (λ e. ends_with beq bits (twice seen p.a p.b e)) p.e p.e_gap
+    (text-ends bits p.before (twice seen p.a p.b p.e) p.ends)))
+
+-- two patterns never end at one bit
+not_both : (bits : List Bool) → EndsPattern Odp bits → EndsPattern Adp bits → ⊥
+not_both bits x y =
+    let same : backwards Odp x.a x.b x.e (reverse x.before) ≡ backwards Adp y.a y.b y.e (reverse y.before) =
+    sym (reverse-twice Odp x.a x.b x.e x.before) ∙ ap reverse (sym x.ends ∙ y.ends) ∙ reverse-twice Adp y.a y.b y.e y.before in
+    false≢true (sym (ap (λ l. get_or l 8 true) same))
+
+pub kind-once : (bits : List Bool) (one other : Seen) → EndsPattern one bits → EndsPattern other bits → one ≡ other
+kind-once bits Odp Odp x y = refl
+kind-once bits Odp Adp x y = absurd (not_both bits x y)
+kind-once bits Adp Odp x y = absurd (not_both bits y x)
+kind-once bits Adp Adp x y = refl
+
+-- the function gives the answer
+
+pub seen-is : (bits : List Bool) → IsSeen bits (seen_at bits)
+unfolding seen_at
+seen-is bits = each (ends_pattern Odp bits) (ends_pattern Adp bits) refl refl
+  where
+    each : (o a : Bool) → ends_pattern Odp bits ≡ o → ends_pattern Adp bits ≡ a → IsSeen bits (if o then Some Odp else (if a then Some Adp else None))
+    each true a x y = test-pattern Odp bits x
+    each false true x y = test-pattern Adp bits y
+    each false false x y = none
+      where
+        none : (seen : Seen) → EndsPattern seen bits → ⊥
+        none Odp p = false≢true (sym x ∙ pattern-test Odp bits p)
+        none Adp p = false≢true (sym y ∙ pattern-test Adp bits p)
+
+same_answer : (bits : List Bool) (one other : Option Seen) → IsSeen bits one → IsSeen bits other → one ≡ other
+same_answer bits None None x y = refl
+same_answer bits None (Some seen) x y = absurd (x seen y)
+same_answer bits (Some seen) None x y = absurd (y seen x)
+same_answer bits (Some one) (Some other) x y = ap Some (kind-once bits one other x y)
+
+pub seen-once : (bits : List Bool) (answer : Option Seen) → IsSeen bits answer → answer ≡ seen_at bits
+seen-once bits answer h = same_answer bits answer (seen_at bits) h (seen-is bits)
+
+pub seen-none : (bits : List Bool) → (EndsPattern Odp bits → ⊥) → (EndsPattern Adp bits → ⊥) → IsSeen bits None
+seen-none bits odp adp Odp p = odp p
+seen-none bits odp adp Adp p = adp p

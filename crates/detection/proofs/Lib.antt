@@ -1,0 +1,11 @@
+mod Registers
+mod Readings
+mod Answered
+mod Written
+mod Sightings
+mod Calm
+mod Twice
+mod Borders
+mod Inside
+mod Sent
+mod Worked

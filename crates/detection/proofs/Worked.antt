@@ -1,0 +1,29 @@
+-- Worked values of the definitions.
+use Rattle.std.proofs.Common.{◌≡◌, true, false, [], ◌∷◌, ◌++◌, refl, Some, None}
+use Rattle.bit_stuffing.specs.BitSlot.{line_bits}
+use Rattle.detection.specs.declared.seen.Seen.TheVariants.{Odp, Adp}
+use Rattle.detection.specs.Patterns.{ones, first, second, twice, seen_at}
+use Rattle.detection.specs.Slots.{pattern}
+
+sixteen : seen_at (twice Odp 16 16 16) ≡ Some Odp
+unfolding seen_at
+sixteen = refl
+
+seventeen : seen_at (true ∷ false ∷ twice Adp 17 8 12) ≡ Some Adp
+unfolding seen_at
+seventeen = refl
+
+seven : seen_at (twice Odp 9 7 9) ≡ None
+unfolding seen_at
+seven = refl
+
+eighteen : seen_at (twice Adp 9 9 18) ≡ None
+unfolding seen_at
+eighteen = refl
+
+early : seen_at (first Odp ++ ones 9 ++ second Odp ++ ones 9 ++ first Odp ++ ones 9 ++ second Odp ++ ones 7) ≡ None
+unfolding seen_at
+early = refl
+
+nine_quads : line_bits (2 ∷ 2 ∷ 14 ∷ 15 ∷ 11 ∷ 8 ∷ 12 ∷ 15 ∷ 15 ∷ []) ≡ pattern Odp
+nine_quads = refl

@@ -1,0 +1,105 @@
+// Patterns in a stream of bits.
+ghost use Rattle.std.specs.Prelude.{◌≡◌, ◌+◌, ◌<◌, ◌≤◌, ◌↔◌, ℕ, List, Bool, IsTrue};
+ghost use Rattle.frame_check.specs.Bits.{low_bits};
+ghost use Rattle.detection.specs.Patterns.{EndsPattern};
+ghost use Rattle.detection.specs.Reader.{Holds, ReaderStands, LeftBehind, LeftBehindOnce};
+
+use crate::Seen;
+use crate::characters::{first, second};
+use std::marker::Model;
+
+/// The most ones behind a character, its stop bit among them.
+const LONGEST: u32 = 17;
+
+/// The fewest of them.
+const SHORTEST: u32 = 8;
+
+/// The bits before a character that the latest bits end with, where the fewest ones stand behind it, or more up to so
+/// many.
+fn before_character(latest: u128, character: u128, most: u32) -> Option<u128>
+    requires start { character < 256 }
+    requires few { most ≤ 17 }
+    ensures { (width : ℕ) (recent : List Bool) → most + 9 ≤ width → Holds width latest recent
+        → LeftBehind width (low_bits 9 character) most recent result }
+{
+    let gap = latest
+        .trailing_ones()
+        .saturating_sub(character.trailing_ones());
+    if gap < SHORTEST || gap > most {
+        return None;
+    }
+    let rest = latest >> gap;
+    if rest & 0x1ff == character {
+        Some(rest >> 9)
+    } else {
+        None
+    }
+}
+
+/// The bits before a whole pattern that the latest bits end with, where up to so many ones stand behind it.
+fn before_pattern(latest: u128, seen: Seen, most: u32) -> Option<u128>
+    requires { most ≤ 17 }
+    ensures { (width : ℕ) (recent : List Bool) → most + 35 ≤ width → Holds width latest recent
+        → LeftBehindOnce width seen most recent result }
+{
+    let rest = before_character(latest, second(seen), most)?;
+    before_character(rest, first(seen), LONGEST)
+}
+
+/// Whether the latest bits are two whole patterns, up to the eighth one behind the last character.
+fn ends_pattern(latest: u128, seen: Seen) -> bool
+    ensures { (bits : List Bool) → ReaderStands latest bits → (IsTrue result ↔ EndsPattern seen bits) }
+{
+    match before_pattern(latest, seen, SHORTEST) {
+        Some(rest) => before_pattern(rest, seen, LONGEST).is_some(),
+        None => false,
+    }
+}
+
+/// Finds patterns in a stream of bits. It keeps the latest 128 bits, which is more than two patterns have, however
+/// long the gaps in them are.
+#[derive(Drop)]
+pub struct PatternReader {
+    latest: u128,
+}
+
+impl Model for PatternReader {
+    ghost use Rattle.std.specs.Prelude.{ℕ};
+
+    ghost Value = { ℕ };
+
+    ghost view = { λ r. r.latest };
+}
+
+impl PatternReader {
+    ghost use Rattle.std.specs.Prelude.{[], ◌∷◌, ◌++◌};
+    ghost use Rattle.detection.specs.Patterns.{IsSeen, seen_at};
+
+    /// A reader before the first bit.
+    pub fn new() -> PatternReader
+        ensures { ReaderStands result [] }
+    {
+        PatternReader { latest: u128::MAX }
+    }
+
+    /// The pattern that ends with the next bit of the stream: two whole patterns in a row, up to the eighth one
+    /// behind the last character. By ITU-T V.42, 8 to 17 ones stand behind each character, its stop bit among
+    /// them.
+    pub fn push(&mut self, bit: bool) -> Option<Seen>
+        ensures answer { (past : List Bool) → ReaderStands self.old past
+            → IsSeen (past ++ bit ∷ []) result }
+        ensures value { (past : List Bool) → ReaderStands self.old past
+            → result ≡ seen_at (past ++ bit ∷ []) }
+        ensures stands { (past : List Bool) → ReaderStands self.old past
+            → ReaderStands self.new (past ++ bit ∷ []) }
+    {
+        self.latest = (self.latest << 1) | u128::from(bit);
+        if ends_pattern(self.latest, Seen::Odp) {
+            Some(Seen::Odp)
+        } else if ends_pattern(self.latest, Seen::Adp) {
+            Some(Seen::Adp)
+        } else {
+            None
+        }
+    }
+}

@@ -1,0 +1,110 @@
+-- A decoder before its first sample.
+use Rattle.std.proofs.Common.{◌≡◌, ◌≢◌, ℕ, zero, suc, add-one, ◌+◌, ◌<◌, ◌≤◌, nat_eq, inl, inr, Bool, true, false, if◌then◌else◌, List, [], ◌∷◌, ◌++◌, length, get_or, replicate, set, Option, Some, None, arith, refl, sym, ◌∙◌, ap, subst}
+use Rattle.std.proofs.lemmas.Grind.{common_steps}
+use Rattle.std.proofs.lemmas.Bool.{cases_lt}
+use Rattle.std.proofs.lemmas.Bool.Decides.{nat_tests}
+use Rattle.std.proofs.lemmas.List.{length-replicate, length-set}
+use Rattle.std.proofs.lemmas.List.Elements.{All-nil, All-same}
+use Rattle.symbol_map.specs.declared.sample.Sample.{Sample}
+use Rattle.survivors.specs.Trellises.{Trellis, trellis_of}
+use Rattle.survivors.specs.Survivors.{IsReleased, LostIs}
+use Rattle.survivors.specs.Steps.{Keeps}
+use Rattle.survivors.proofs.Columns.{Keeps-start}
+use Rattle.exact_decoder.specs.Columns.{sums_at, tail_at}
+use Rattle.exact_decoder.specs.Kept.{Kept, IsShaped, KeepsSurvivors}
+use Rattle.exact_decoder.specs.Decoder.{Decoding, DecoderStands, heard}
+use Rattle.exact_decoder.proofs.Pushed.{released-of}
+
+pub replicate-more : {X : Type 0} (n : ℕ) (x : X) → replicate (n + 1) x ≡ replicate n x ++ x ∷ []
+replicate-more {X} n x = rw (add-one n) (each n)
+  where
+    each : (n : ℕ) → x ∷ replicate n x ≡ replicate n x ++ x ∷ []
+    each zero = refl
+    each (suc n) = ap (λ l. x ∷ l) (each n)
+
+pub get_or-replicate : {X : Type 0} (n i : ℕ) (x d : X) → i < n → get_or (replicate n x) i d ≡ x
+get_or-replicate n i x d l = grind (arith, common_steps)
+
+pub replicate-past : {X : Type 0} (n i : ℕ) (x d : X) → n ≤ i → get_or (replicate n x) i d ≡ d
+replicate-past n i x d l = grind (arith, common_steps)
+
+pub empty-tails : (n s : ℕ) → tail_at (replicate n []) s ≡ []
+empty-tails n s = elim (cases_lt s n) [ inl l ↦ get_or-replicate n s [] [] l | inr l ↦ replicate-past n s [] [] l ]
+
+-- the sums of a decoder that starts in one state
+pub one_start : (states start : ℕ) → start < states → (s : ℕ) → sums_at (set (replicate states None) start (Some 0)) s ≡ (if nat_eq s start then Some 0 else None)
+one_start states start h s = each (nat_eq s start) refl
+  where
+    apart : (s start : ℕ) → nat_eq s start ≡ false → s ≢ start
+    apart s start e = grind (arith, nat_tests)
+
+    same : (s start : ℕ) → nat_eq s start ≡ true → s ≡ start
+    same s start e = grind (arith, nat_tests)
+
+    other : (xs : List (Option ℕ)) (x : Option ℕ) (n i : ℕ) → i ≢ n → get_or (set xs n x) i None ≡ get_or xs i None
+    other xs x n i l = grind (arith, common_steps)
+
+    here : (xs : List (Option ℕ)) (x : Option ℕ) (n i : ℕ) → i ≡ n → n < length xs → get_or (set xs n x) i None ≡ x
+    here xs x n i e l = grind (arith, common_steps)
+
+    nowhere : sums_at (replicate states None) s ≡ None
+    nowhere = elim (cases_lt s states) [ inl l ↦ get_or-replicate states s None None l | inr l ↦ replicate-past states s None None l ]
+
+    each : (b : Bool) → nat_eq s start ≡ b → sums_at (set (replicate states None) start (Some 0)) s ≡ (if b then Some 0 else None)
+    each true e = here (replicate states None) (Some 0) start s (same s start e) (omega (arith, h, length-replicate {A = Option ℕ} states None))
+    each false e = other (replicate states None) (Some 0) start s (apart s start e) ∙ nowhere
+
+-- sums that are those of a start are zero
+pub start-zero : (sums : List (Option ℕ)) (starts : ℕ → Bool) → ((s : ℕ) → sums_at sums s ≡ (if starts s then Some 0 else None)) → (s m : ℕ) → sums_at sums s ≡ Some m → m ≡ 0
+start-zero sums starts h s m e = each (starts s) (sym e ∙ h s)
+  where
+    each : (b : Bool) → Some m ≡ (if b then Some 0 else None) → m ≡ 0
+    each true q = cc
+    each false q = absurd cc
+
+abbrev pub start_sum : Bool → Option ℕ
+start_sum b = if b then Some 0 else None
+
+pub self_start : (s : ℕ) → start_sum (nat_eq s s) ≡ Some 0
+self_start s = let e : nat_eq s s ≡ true = grind (arith, nat_tests) in rw e refl
+
+-- what is kept before the first sample
+abbrev pub start_kept : ℕ → ℕ → Kept
+start_kept states start = record { sums = set (replicate states None) start (Some 0); tails = replicate states []; unreleased = 0 }
+
+pub start-reached : (states start : ℕ) → start < states → sums_at (set (replicate states None) start (Some 0)) start ≡ Some 0
+start-reached states start h = one_start states start h start ∙ self_start start
+
+pub start-shaped : (states labels start : ℕ) → start < states → IsShaped states labels (start_kept states start)
+start-shaped states labels start h = record {
+  sums_long = length-set (replicate states None) start (Some 0) ∙ length-replicate states None;
+  tails_long = length-replicate states [];
+  each_long = λ s m e. ap length (empty-tails states s);
+  some_reached = (start, 0, start-reached states start h);
+  tails_below = λ s. All-same (λ label. label < labels) (tail_at (replicate states []) s) [] (empty-tails states s) (All-nil (λ label. label < labels));
+}
+
+pub start-small : (states start : ℕ) → start < states → (s m : ℕ) → sums_at (set (replicate states None) start (Some 0)) s ≡ Some m → m ≡ 0
+start-small states start h = start-zero (set (replicate states None) start (Some 0)) (λ s. nat_eq s start) (one_start states start h)
+
+pub start-keeps : {X : Type 0} (c : Trellis X) (states start : ℕ) → start < states → ((s : ℕ) → c.starts s ≡ nat_eq s start) → KeepsSurvivors c (start_kept states start) [] [] × IsReleased c [] []
+start-keeps {X} c states start h starts = (
+  record { base = 0; keeps = keeps; long = refl },
+  released-of c [] 0 (set (replicate states None) start (Some 0)) (replicate states []) [] keeps (inl (start, 0, start-reached states start h, empty-tails states start)),
+)
+  where
+    keeps : Keeps c [] 0 (sums_at (set (replicate states None) start (Some 0))) (λ s. [] ++ tail_at (replicate states []) s)
+    keeps = Keeps-start c (sums_at (set (replicate states None) start (Some 0))) (λ s. [] ++ tail_at (replicate states []) s) (λ s. empty-tails states s)
+        (λ s. one_start states start h s ∙ ap (λ b. if b then Some 0 else None) (sym (starts s)))
+
+pub start-stands : (table : ℕ → ℕ → Option ℕ) (points : ℕ → Sample) (states depth start : ℕ) (d : Decoding) → start < states → d.survivors ≡ start_kept states start → d.count ≡ 0 → d.pending ≡ [] → d.lost ≡ None
+    → DecoderStands table points (λ state. nat_eq state start) depth d [] []
+start-stands table points states depth start d h kept count pending lost =
+    let c = trellis_of table points (λ state. nat_eq state start) in
+    let k = start-keeps c states start h (λ s. refl) in
+    record {
+      counted = count ∙ sym (ap (λ o. length (heard o [])) lost);
+      lost = subst (LostIs c depth []) (sym lost) (λ n within o. let l = o.over in absurd (omega arith));
+      released = subst (λ s. IsReleased c s ([] ++ d.pending)) (sym (ap (λ o. heard o []) lost)) (subst (IsReleased c []) (sym pending) k.1);
+      survivors = λ _. subst (λ p. KeepsSurvivors c d.survivors [] p) (sym pending) (subst (λ v. KeepsSurvivors c v [] []) (sym kept) k.0);
+    }

@@ -1,0 +1,11 @@
+pub use Rattle.symbol_map.specs.Distance
+pub use Rattle.trellis_tables.specs.Sequences
+pub use Rattle.survivors.specs.Trellises
+pub use Rattle.survivors.specs.Survivors
+pub use Rattle.survivors.specs.Steps
+pub mod Choices
+pub mod Columns
+pub mod Tails
+pub mod Kept
+pub mod Decoder
+pub mod Signs

@@ -1,0 +1,149 @@
+ghost use Rattle.std.specs.Prelude.{◌≡◌, ℕ, IfOk, IfSome, ◌↔◌, nat_eq, option_to_list, Bool, List, All, ◌+◌, ◌<◌, ◌≤◌, ◌^◌, length, drop, Some, None, [], ◌∷◌, ◌++◌, MatchResult, MatchOption};
+ghost use Rattle.symbol_map.specs.declared.sample.Sample.{Sample};
+ghost use Rattle.survivors.specs.Trellises.{trellis_of};
+ghost use Rattle.survivors.specs.Survivors.{IsFirstLeast};
+ghost use Rattle.exact_decoder.specs.Decoder.{DecoderStands};
+
+use crate::kept::Survivors;
+use crate::labels::Labels;
+use crate::tail::Tail;
+use outside_core::NoMemory;
+use std::alloc::Global;
+use std::marker::Model;
+use symbol_map::Sample;
+use trellis_tables::TrellisCode;
+
+/// The line was lost with this symbol, counted from 0: more labels than the depth were unreleased after it.
+#[derive(Clone, Copy, Debug, PartialEq, Eq)]
+pub struct Lost {
+    pub symbol: u64,
+}
+
+/// The exact decoder of a code's sequences from one state. At most `DEPTH` labels of each survivor are unreleased
+/// while the line is not lost.
+#[derive(Drop)]
+pub struct Decoder<
+    C: TrellisCode<STATES, LABELS> + Drop,
+    const STATES: usize,
+    const LABELS: usize,
+    const DEPTH: usize,
+> {
+    code: C,
+    survivors: Survivors<STATES, LABELS>,
+    count: u64,
+    pending: Labels,
+    lost: Option<u64>,
+}
+
+impl<
+    C: TrellisCode<STATES, LABELS> + Drop,
+    const STATES: usize,
+    const LABELS: usize,
+    const DEPTH: usize,
+> Model for Decoder<C, STATES, LABELS, DEPTH> {
+    ghost use Rattle.exact_decoder.specs.Decoder.{Decoding, IsSound};
+
+    ghost Value = { Decoding };
+
+    ghost view = { λ d. record { survivors = d.survivors; count = d.count; pending = d.pending; lost = d.lost } };
+
+    ghost invariant = { λ d. IsSound LABELS DEPTH (record { survivors = d.survivors; count = d.count; pending = d.pending; lost = d.lost }) };
+}
+
+impl<
+    C: TrellisCode<STATES, LABELS> + Drop,
+    const STATES: usize,
+    const LABELS: usize,
+    const DEPTH: usize,
+> Decoder<C, STATES, LABELS, DEPTH> {
+    /// A decoder before its first sample, whose sequences start in this state. All its memory is taken here.
+    pub fn new(
+        alloc: Global,
+        code: C,
+        start: u8,
+    ) -> Result<Decoder<C, STATES, LABELS, DEPTH>, NoMemory>
+        requires start { start < STATES }
+        requires low { 1 ≤ DEPTH }
+        requires high { DEPTH ≤ 128 }
+        ensures stands { IfOk result (λ d. DecoderStands C.table C.points (λ state. nat_eq state start) DEPTH d [] []) }
+        ensures count { IfOk result (λ d. d.count ≡ 0) }
+        ensures pending { IfOk result (λ d. d.pending ≡ []) }
+        ensures lost { IfOk result (λ d. d.lost ≡ None) }
+    {
+        Ok(Decoder {
+            code,
+            survivors: Survivors::new(alloc, start)?,
+            count: 0,
+            pending: Labels::new(),
+            lost: None,
+        })
+    }
+
+    /// One sample more. `Lost` comes with the first sample after which more than `DEPTH` labels are unreleased,
+    /// and again with each later one.
+    pub fn push(&mut self, sample: Sample) -> Result<(), Lost>
+        requires taken { self.old.pending ≡ [] }
+        requires count { self.old.count < 2 ^ 56 }
+        ensures stands { (starts : ℕ → Bool) (samples : List Sample) (taken : List ℕ) → DecoderStands C.table C.points starts DEPTH self.old samples taken
+            → DecoderStands C.table C.points starts DEPTH self.new (samples ++ sample ∷ []) taken }
+        ensures answer { MatchResult result (λ _. self.new.lost ≡ None) (λ lost. self.new.lost ≡ Some lost.symbol) }
+        ensures stays { (symbol : ℕ) → self.old.lost ≡ Some symbol → self.new ≡ self.old }
+        ensures count { self.new.count ≤ self.old.count + 1 }
+    {
+        if let Some(symbol) = self.lost {
+            return Err(Lost { symbol });
+        }
+        self.survivors.push(&self.code, sample);
+        self.survivors.release(&mut self.pending);
+        let symbol = self.count;
+        self.count = symbol + 1;
+        if self.survivors.unreleased() > DEPTH {
+            self.lost = Some(symbol);
+            return Err(Lost { symbol });
+        }
+        Ok(())
+    }
+
+    /// The oldest label that is released and not yet taken.
+    pub fn take(&mut self) -> Option<u8>
+        ensures stands { (starts : ℕ → Bool) (samples : List Sample) (taken : List ℕ) → DecoderStands C.table C.points starts DEPTH self.old samples taken
+            → DecoderStands C.table C.points starts DEPTH self.new samples (taken ++ option_to_list result) }
+        ensures first { MatchOption result (self.old.pending ≡ []) (λ label. self.old.pending ≡ label ∷ self.new.pending) }
+        ensures rest { self.new ≡ record self.old { pending = drop 1 self.old.pending } }
+        ensures bound { IfSome result (λ label. label < LABELS) }
+    {
+        let label = self.pending.first()?;
+        self.pending.drop_first();
+        Some(label)
+    }
+
+    /// How many labels are released and not taken.
+    pub fn pending(&self) -> usize
+        ensures value { result ≡ length self.now.pending }
+        ensures few { result ≤ DEPTH + 1 }
+    {
+        self.pending.as_slice().len()
+    }
+
+    /// Where the line was lost.
+    pub fn lost(&self) -> Option<Lost>
+        ensures { MatchOption result (self.now.lost ≡ None) (λ lost. self.now.lost ≡ Some lost.symbol) }
+    {
+        match self.lost {
+            Some(symbol) => Some(Lost { symbol }),
+            None => None,
+        }
+    }
+
+    /// The labels behind the released ones in the least whole sequence: of survivors of one cost that of the
+    /// smallest end state.
+    pub fn finish(self) -> Tail
+        requires taken { self.pending ≡ [] }
+        requires lost { self.lost ≡ None }
+        ensures least { (starts : ℕ → Bool) (samples : List Sample) (taken : List ℕ) → DecoderStands C.table C.points starts DEPTH self samples taken
+            → IsFirstLeast (trellis_of C.table C.points starts) samples (taken ++ result) }
+        ensures bound { All (λ label. label < LABELS) result }
+    {
+        Tail::of(self.survivors.least())
+    }
+}

@@ -1,0 +1,21 @@
+//! The exact decoder of a trellis code, as a pure function of the samples so far: [`Decoder`] releases labels as
+//! soon as all survivors agree on them, and tells with which symbol too many were left unreleased ([`Lost`]).
+//! No label is ever decided otherwise. It works for each [`trellis_tables::TrellisCode`].
+//!
+//! It is the Viterbi algorithm with squared distances. The survivor of each state is a sum and a list of labels,
+//! which goes from state to state with each sample (register exchange).
+#![tactic(auto)]
+
+mod choice;
+mod decoder;
+mod kept;
+mod labels;
+mod release;
+mod room;
+mod step;
+mod tail;
+#[cfg(test)]
+mod tests;
+
+pub use decoder::{Decoder, Lost};
+pub use tail::Tail;

@@ -1,0 +1,31 @@
+-- What an end that isn't connected keeps of its account as that goes on.
+use Rattle.std.proofs.Common.{◌≡◌, ℕ, Bool, Option, refl}
+use Rattle.xid_params.specs.declared.terms.Terms.{Terms}
+use Rattle.lapm_link.specs.declared.setup.Setup.{Setup}
+use Rattle.lapm_link.specs.declared.answer.Answer.{Answer}
+use Rattle.lapm_link.specs.declared.phase.Phase.{Phase}
+use Rattle.lapm_link.specs.Account.{Account}
+use Rattle.lapm_link.specs.Stands.{IsUnlinked}
+
+-- phase, terms and tries may change
+pub moved : {setup : Setup} {answer : Option Answer} {a : Account} (p : Phase) (t : Terms) (due : Bool) (set count : ℕ) → IsUnlinked setup answer a
+    → IsUnlinked setup answer (record a { phase = p; terms = t; wait = record a.wait { try = due; try_set = set; try_count = count } })
+moved p t due set count h = record {
+  setup_is = h.setup_is;
+  answer_is = h.answer_is;
+  numbered_is = h.numbered_is;
+  outgoing_is = h.outgoing_is;
+  incoming_is = h.incoming_is;
+  own_is = h.own_is;
+  their_is = h.their_is;
+  told_is = h.told_is;
+  reply_is = h.reply_is;
+  poll_is = h.poll_is;
+  urgent_is = h.urgent_is;
+  timer_is = h.timer_is;
+  special_is = h.special_is;
+}
+
+-- the same setup and answer
+pub as_kept : {setup setup' : Setup} {answer answer' : Option Answer} (a : Account) → setup' ≡ setup → answer' ≡ answer → IsUnlinked setup answer a → IsUnlinked setup' answer' a
+as_kept a s e h = rw (s, e) h

@@ -1,0 +1,96 @@
+// An end whose link is over.
+ghost use Rattle.std.specs.Prelude.{◌≡◌, ◌<◌, ◌^◌, None, IfOk};
+ghost use Rattle.lapm_link.specs.Fits.{IsSetUp};
+
+use crate::answer::{Answer, slot_of, without_adp};
+use crate::{AnyEnd, Arrived, LinkFault, Sent, Setup};
+use lapm_frames::Frame;
+
+/// An end whose link is over. It answers a DISC.
+#[derive(Drop)]
+pub struct Closed {
+    pub(crate) setup: Setup,
+    pub(crate) answer: Option<Answer>,
+    ghost set_up: { IsSetUp setup },
+}
+
+/// The link broke: why, and the end that is left, which owes nothing.
+#[derive(Drop)]
+pub struct Broken {
+    pub fault: LinkFault,
+    pub end: Closed,
+}
+
+impl Broken {
+    pub(crate) fn new(fault: LinkFault, setup: Setup) -> Broken
+        requires { IsSetUp setup }
+        ensures fault { result.fault ≡ fault }
+        ensures setup { result.end.setup ≡ setup }
+        ensures answer { result.end.answer ≡ None }
+    {
+        Broken {
+            fault,
+            end: Closed {
+                setup,
+                answer: None,
+            },
+        }
+    }
+}
+
+impl Closed {
+    ghost use Rattle.lapm_link.specs.declared.answer.Answer.{Answer};
+    ghost use Rattle.lapm_link.specs.Account.{Account};
+    ghost use Rattle.lapm_link.specs.Hear.{on_closed, hear, owing};
+    ghost use Rattle.lapm_link.specs.Speak.{speak, Said, answering, else_says, says};
+    ghost use Rattle.lapm_link.specs.Stands.{StandsFor, Hears, Speaks, IsNumbered, TakesNothing, taken_of};
+
+    fn on_frame(self, frame: &Frame) -> AnyEnd
+        ensures hears { (a : Account) → StandsFor (AnyEnd.Closed self) a → Hears (on_closed frame.now a) a (Ok result) }
+        ensures counted { taken_of result ≡ 0 }
+    {
+        let mut end = self;
+        if let Frame::Disc { pf } = frame {
+            end.answer = Some(Answer::Dm { pf: *pf });
+        }
+        AnyEnd::Closed(end)
+    }
+
+    /// What the end becomes by what it hears in this turn.
+    pub fn hear(self, turn: u64, arrived: &Arrived) -> Result<AnyEnd, Broken>
+        requires turn { turn < 2 ^ 40 }
+        requires numbers { IsNumbered arrived.now }
+        ensures hears { (a : Account) → StandsFor (AnyEnd.Closed self) a → Hears (hear turn arrived.now a) a result }
+        ensures counted { IfOk result (λ end. taken_of end ≡ 0) }
+    {
+        let _ = turn;
+        match arrived {
+            Arrived::Nothing => {
+                let mut end = self;
+                end.answer = without_adp(end.answer);
+                Ok(AnyEnd::Closed(end))
+            }
+            Arrived::Pattern(_) => Ok(AnyEnd::Closed(self)),
+            Arrived::Frame(frame) => Ok(self.on_frame(frame)),
+        }
+    }
+
+    /// What the end sends in this turn, and then is.
+    pub fn speak(self, turn: u64, release: bool, sent: &mut Sent) -> Result<AnyEnd, Broken>
+        requires { turn < 2 ^ 40 }
+        ensures speaks { (a : Account) → StandsFor (AnyEnd.Closed self) a → Speaks (speak turn release a) a sent.old sent.new result }
+        ensures takes_nothing { IfOk result (TakesNothing (AnyEnd.Closed self)) }
+    {
+        let _ = turn;
+        let _ = release;
+        let mut end = self;
+        match end.answer {
+            None => *sent = Sent::Flags,
+            Some(answer) => {
+                end.answer = None;
+                *sent = slot_of(answer, &end.setup);
+            }
+        }
+        Ok(AnyEnd::Closed(end))
+    }
+}

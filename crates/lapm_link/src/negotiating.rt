@@ -1,0 +1,51 @@
+// An end that negotiates.
+ghost use Rattle.std.specs.Prelude.{◌≡◌, ◌<◌, ◌^◌, IfOk};
+
+use crate::answering::Answering;
+use crate::asking::Asking;
+use crate::{AnyEnd, Arrived, Broken, Sent};
+
+/// An end that negotiates: the originator sends its offer until the other one comes, and the answerer has heard one.
+#[derive(Drop)]
+pub struct Negotiating {
+    pub(crate) talk: Talk,
+}
+
+#[derive(Drop)]
+pub(crate) enum Talk {
+    Asking(Asking),
+    Answering(Answering),
+}
+
+impl Negotiating {
+    ghost use Rattle.lapm_link.specs.Account.{Account};
+    ghost use Rattle.lapm_link.specs.Hear.{hear};
+    ghost use Rattle.lapm_link.specs.Speak.{speak};
+    ghost use Rattle.lapm_link.specs.Stands.{StandsFor, Hears, Speaks, IsNumbered, TakesNothing, taken_of};
+
+    /// What the end becomes by what it hears in this turn.
+    pub fn hear(self, turn: u64, arrived: &Arrived) -> Result<AnyEnd, Broken>
+        requires turn { turn < 2 ^ 40 }
+        requires numbers { IsNumbered arrived.now }
+        ensures hears { (a : Account) → StandsFor (AnyEnd.Negotiating self) a → Hears (hear turn arrived.now a) a result }
+        ensures counted { IfOk result (λ end. taken_of end ≡ 0) }
+    {
+        match self.talk {
+            Talk::Asking(asking) => asking.hear(turn, arrived),
+            Talk::Answering(answering) => Ok(answering.hear(turn, arrived)),
+        }
+    }
+
+    /// What the end sends in this turn, and then is. The originator breaks once all its tries are spent.
+    pub fn speak(self, turn: u64, release: bool, sent: &mut Sent) -> Result<AnyEnd, Broken>
+        requires { turn < 2 ^ 40 }
+        ensures speaks { (a : Account) → StandsFor (AnyEnd.Negotiating self) a → Speaks (speak turn release a) a sent.old sent.new result }
+        ensures takes_nothing { IfOk result (TakesNothing (AnyEnd.Negotiating self)) }
+    {
+        let _ = release;
+        match self.talk {
+            Talk::Asking(asking) => asking.speak(turn, sent),
+            Talk::Answering(answering) => Ok(answering.speak(sent)),
+        }
+    }
+}

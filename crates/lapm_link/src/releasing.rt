@@ -1,0 +1,78 @@
+// An originator that takes the link down.
+ghost use Rattle.std.specs.Prelude.{◌≡◌, ◌<◌, ◌^◌, IfOk};
+ghost use Rattle.lapm_link.specs.Fits.{IsSetUp};
+
+use crate::answer::{Answer, without_adp};
+use crate::attempt::Attempt;
+use crate::{AnyEnd, Arrived, Broken, Closed, Sent, Setup};
+use lapm_frames::Frame;
+
+/// An originator that sends its DISC until it is answered.
+#[derive(Drop)]
+pub struct Releasing {
+    pub(crate) setup: Setup,
+    pub(crate) answer: Option<Answer>,
+    /// How many segments were acknowledged.
+    pub(crate) front: u64,
+    pub(crate) attempt: Attempt,
+    ghost set_up: { IsSetUp setup },
+}
+
+impl Releasing {
+    ghost use Rattle.lapm_link.specs.Account.{Account};
+    ghost use Rattle.lapm_link.specs.Hear.{on_releasing, hear};
+    ghost use Rattle.lapm_link.specs.Speak.{speak, speak_releasing};
+    ghost use Rattle.lapm_link.specs.Stands.{StandsFor, Hears, Speaks, IsNumbered, TakesNothing, taken_of};
+
+    fn on_frame(self, frame: &Frame) -> AnyEnd
+        ensures hears { (a : Account) → StandsFor (AnyEnd.Releasing self) a → Hears (on_releasing frame.now a) a (Ok result) }
+        ensures counted { taken_of result ≡ 0 }
+    {
+        match frame {
+            Frame::Ua { pf: true } | Frame::Dm { pf: true } => AnyEnd::Closed(Closed {
+                setup: self.setup,
+                answer: self.answer,
+            }),
+            _ => AnyEnd::Releasing(self),
+        }
+    }
+
+    /// What the end becomes by what it hears in this turn.
+    pub fn hear(self, turn: u64, arrived: &Arrived) -> Result<AnyEnd, Broken>
+        requires turn { turn < 2 ^ 40 }
+        requires numbers { IsNumbered arrived.now }
+        ensures hears { (a : Account) → StandsFor (AnyEnd.Releasing self) a → Hears (hear turn arrived.now a) a result }
+        ensures counted { IfOk result (λ end. taken_of end ≡ 0) }
+    {
+        let _ = turn;
+        match arrived {
+            Arrived::Nothing => {
+                let mut end = self;
+                end.answer = without_adp(end.answer);
+                Ok(AnyEnd::Releasing(end))
+            }
+            Arrived::Pattern(_) => Ok(AnyEnd::Releasing(self)),
+            Arrived::Frame(frame) => Ok(self.on_frame(frame)),
+        }
+    }
+
+    /// What the end sends in this turn, and then is. It breaks once all its tries are spent.
+    pub fn speak(self, turn: u64, release: bool, sent: &mut Sent) -> Result<AnyEnd, Broken>
+        requires { turn < 2 ^ 40 }
+        ensures speaks { (a : Account) → StandsFor (AnyEnd.Releasing self) a → Speaks (speak turn release a) a sent.old sent.new result }
+        ensures takes_nothing { IfOk result (TakesNothing (AnyEnd.Releasing self)) }
+    {
+        let _ = release;
+        let mut end = self;
+        let setup = end.setup;
+        let front = end.front;
+        let frame = Frame::Disc { pf: true };
+        match end.attempt.speak(turn, &setup, front, frame) {
+            Ok(said) => {
+                *sent = said;
+                Ok(AnyEnd::Releasing(end))
+            }
+            Err(fault) => Err(Broken::new(fault, setup)),
+        }
+    }
+}

@@ -1,0 +1,338 @@
+// What a Connected end becomes by what it hears: one function a rule.
+ghost use Rattle.std.specs.Prelude.{◌≡◌, ℕ, ◌+◌, ◌<◌, ◌≤◌, ◌^◌, length, IfOk, nat_lt, if◌then◌else◌, Option, None, Result, MatchResult};
+ghost use Rattle.lapm_sender.specs.Outgoing.{Outgoing, acknowledged, rejected, replied, selected};
+ghost use Rattle.lapm_sender.specs.Sending.{StandsOut, Advances, RefusesAck};
+ghost use Rattle.break_signals.specs.Words.{word_in};
+
+use crate::answer::{Answer, without_adp};
+use crate::connected::Connected;
+use crate::terms::is_originator;
+use crate::{AnyEnd, Arrived, Broken, Closed, LinkFault};
+use break_signals::{BreakWord, read_break};
+use frame_check::Info;
+use lapm_frames::{Frame, Role};
+use lapm_sender::BadAck;
+
+/// What the end breaks by, where an acknowledgement is of no number that was sent.
+fn bad_ack(bad: BadAck) -> LinkFault
+    ensures { result ≡ LinkFault.BadAck bad.nr bad.va bad.high }
+{
+    LinkFault::BadAck {
+        nr: bad.nr,
+        va: bad.va,
+        high: bad.high,
+    }
+}
+
+// The number of a frame.
+impl Connected {
+    ghost use Rattle.lapm_link.specs.Account.{Account};
+    ghost use Rattle.lapm_link.specs.Hear.{timer_after, on_number};
+    ghost use Rattle.lapm_link.specs.Stands.{Links, LinksBeside, Becomes, SameTaken};
+
+    /// The sender's timer behind an N(R), by whether a poll was awaited before and whether the front advanced.
+    fn timer_after(&self, turn: u64, awaited: bool, advanced: bool) -> Option<u64>
+        ensures { (old new : Outgoing) → StandsOut self.now.sender new → awaited ≡ old.awaited → advanced ≡ nat_lt old.front new.front
+            → result ≡ timer_after turn old new self.now.wait.timer }
+    {
+        let outstanding = self.sender.outstanding();
+        let awaiting = self.sender.awaiting();
+        if awaited && !awaiting && !outstanding {
+            return None;
+        }
+        if !advanced {
+            return self.wait.timer;
+        }
+        if outstanding || awaiting {
+            Some(turn)
+        } else {
+            None
+        }
+    }
+
+    /// The sender has taken the number of an I frame or of a supervisory frame, or refused it.
+    fn count(&mut self, turn: u64, awaited: bool, taken: Result<bool, BadAck>) -> Result<(), LinkFault>
+        ensures becomes { (a : Account) (after : Option Outgoing) (nr : ℕ)
+            → LinksBeside self.old.setup self.old.receiver self.old.breaks self.old.owes self.old.wait self.old.numbered self.old.special a
+            → awaited ≡ a.outgoing.awaited
+            → MatchResult taken (Advances self.old.sender a.outgoing after) (RefusesAck nr a.outgoing after)
+            → Becomes (on_number turn nr after a) self.new result }
+        ensures same { SameTaken self.old self.new }
+    {
+        match taken {
+            Ok(advanced) => {
+                self.wait.timer = self.timer_after(turn, awaited, advanced);
+                self.numbered = true;
+                Ok(())
+            }
+            Err(bad) => Err(bad_ack(bad)),
+        }
+    }
+
+    /// N(R) acknowledges all before it.
+    fn acknowledge(&mut self, turn: u64, nr: u8) -> Result<(), LinkFault>
+        requires { nr < 128 }
+        ensures becomes { (a : Account) → Links self.old a → Becomes (on_number turn nr (acknowledged nr a.outgoing) a) self.new result }
+        ensures same { SameTaken self.old self.new }
+    {
+        let awaited = self.sender.awaiting();
+        let taken = self.sender.acked(nr);
+        self.count(turn, awaited, taken)
+    }
+
+    /// The same, and sending goes on from it.
+    fn go_back(&mut self, turn: u64, nr: u8) -> Result<(), LinkFault>
+        requires { nr < 128 }
+        ensures becomes { (a : Account) → Links self.old a → Becomes (on_number turn nr (rejected nr a.outgoing) a) self.new result }
+        ensures same { SameTaken self.old self.new }
+    {
+        let awaited = self.sender.awaiting();
+        let taken = self.sender.rejected(nr);
+        self.count(turn, awaited, taken)
+    }
+
+    /// The same, and the poll that was awaited is answered.
+    fn end_wait(&mut self, turn: u64, nr: u8) -> Result<(), LinkFault>
+        requires { nr < 128 }
+        ensures becomes { (a : Account) → Links self.old a → Becomes (on_number turn nr (replied nr a.outgoing) a) self.new result }
+        ensures same { SameTaken self.old self.new }
+    {
+        let awaited = self.sender.awaiting();
+        let taken = self.sender.replied(nr);
+        self.count(turn, awaited, taken)
+    }
+
+    /// This number alone is to be sent again.
+    fn select(&mut self, turn: u64, nr: u8) -> Result<(), LinkFault>
+        ensures becomes { (a : Account) → Links self.old a → Becomes (on_number turn nr (selected nr a.outgoing) a) self.new result }
+        ensures same { SameTaken self.old self.new }
+    {
+        let awaited = self.sender.awaiting();
+        let taken = match self.sender.selected(nr) {
+            Ok(()) => Ok(false),
+            Err(bad) => Err(bad),
+        };
+        self.count(turn, awaited, taken)
+    }
+}
+
+// The rules, one a kind of frame.
+impl Connected {
+    ghost use Rattle.lapm_link.specs.declared.answer.Answer.{Answer};
+    ghost use Rattle.lapm_link.specs.Account.{Account};
+    ghost use Rattle.lapm_link.specs.Hear.{on_number, ends_wait, on_i, on_ready, on_rej, on_srej, on_sabme, on_disc, on_word, peer_reset};
+    ghost use Rattle.lapm_link.specs.Stands.{Links, StandsFor, Hears, Becomes, SameTaken, taken_of};
+
+    fn on_i(&mut self, turn: u64, ns: u8, nr: u8, pf: bool, info: &Info) -> Result<(), LinkFault>
+        requires ns { ns < 128 }
+        requires nr { nr < 128 }
+        requires counted { self.old.receiver.taken < 2 ^ 56 }
+        requires delivered { length self.old.receiver.ready ≡ 0 }
+        ensures becomes { (a : Account) → Links self.old a → Becomes (on_i turn ns nr pf info.now a) self.new result }
+        ensures setup { self.new.setup ≡ self.old.setup }
+        ensures counted { self.new.receiver.taken ≤ self.old.receiver.taken + 128 }
+    {
+        self.acknowledge(turn, nr)?;
+        let _ = self.receiver.take(ns, info);
+        self.owes.reply = self.owes.reply || pf;
+        Ok(())
+    }
+
+    /// Whether a frame is the answer to the poll that is awaited.
+    fn ends_wait(&self, command: bool, pf: bool) -> bool
+        ensures { (a : Account) → Links self.now a → result ≡ ends_wait command pf a }
+    {
+        self.sender.awaiting() && pf && !command
+    }
+
+    /// An RR or RNR ends the wait, or acknowledges alone.
+    fn take_ready(&mut self, turn: u64, nr: u8, ends: bool) -> Result<(), LinkFault>
+        requires { nr < 128 }
+        ensures becomes { (a : Account) → Links self.old a
+            → Becomes (on_number turn nr (if ends then replied nr a.outgoing else acknowledged nr a.outgoing) a) self.new result }
+        ensures same { SameTaken self.old self.new }
+    {
+        if ends {
+            self.end_wait(turn, nr)
+        } else {
+            self.acknowledge(turn, nr)
+        }
+    }
+
+    /// RR or RNR.
+    fn on_ready(&mut self, turn: u64, command: bool, nr: u8, pf: bool) -> Result<(), LinkFault>
+        requires { nr < 128 }
+        ensures becomes { (a : Account) → Links self.old a → Becomes (on_ready turn command nr pf a) self.new result }
+        ensures same { SameTaken self.old self.new }
+    {
+        let ends = self.ends_wait(command, pf);
+        self.take_ready(turn, nr, ends)?;
+        self.owes.reply = self.owes.reply || command && pf;
+        self.wait.urgent = self.wait.urgent || ends;
+        Ok(())
+    }
+
+    /// A REJ ends the wait, or makes sending go on from its number.
+    fn take_rej(&mut self, turn: u64, nr: u8, ends: bool) -> Result<(), LinkFault>
+        requires { nr < 128 }
+        ensures becomes { (a : Account) → Links self.old a
+            → Becomes (on_number turn nr (if ends then replied nr a.outgoing else rejected nr a.outgoing) a) self.new result }
+        ensures same { SameTaken self.old self.new }
+    {
+        if ends {
+            self.end_wait(turn, nr)
+        } else {
+            self.go_back(turn, nr)
+        }
+    }
+
+    fn on_rej(&mut self, turn: u64, command: bool, nr: u8, pf: bool) -> Result<(), LinkFault>
+        requires { nr < 128 }
+        ensures becomes { (a : Account) → Links self.old a → Becomes (on_rej turn command nr pf a) self.new result }
+        ensures same { SameTaken self.old self.new }
+    {
+        let ends = self.ends_wait(command, pf);
+        self.take_rej(turn, nr, ends)?;
+        self.owes.reply = self.owes.reply || command && pf;
+        self.wait.urgent = self.wait.urgent || ends;
+        Ok(())
+    }
+
+    /// The other end begins anew.
+    fn peer_reset(&self) -> LinkFault
+        ensures { (a : Account) → Links self.now a → result ≡ peer_reset a }
+    {
+        LinkFault::PeerReset {
+            va: self.sender.front(),
+            vr: self.receiver.taken(),
+        }
+    }
+
+    /// An answerer that has heard no number yet owes a UA, and resets nothing.
+    fn on_sabme(&mut self, pf: bool) -> Result<(), LinkFault>
+        ensures becomes { (a : Account) → Links self.old a → Becomes (on_sabme pf a) self.new result }
+        ensures same { SameTaken self.old self.new }
+    {
+        if self.numbered || is_originator(self.setup.role) {
+            return Err(self.peer_reset());
+        }
+        self.owes.answer = Some(Answer::Ua { pf });
+        Ok(())
+    }
+
+    fn on_disc(self, pf: bool) -> Result<AnyEnd, Broken>
+        ensures hears { (a : Account) → Links self a → Hears (on_disc a.setup.role pf a) a result }
+        ensures counted { IfOk result (λ end. taken_of end ≡ 0) }
+    {
+        match self.setup.role {
+            Role::Originator => Err(Broken::new(LinkFault::PeerRefused, self.setup)),
+            Role::Answerer => Ok(AnyEnd::Closed(Closed {
+                setup: self.setup,
+                answer: Some(Answer::Ua { pf }),
+            })),
+        }
+    }
+
+    /// A break, or a break's answer. What is refused is ignored.
+    fn on_word(&mut self, turn: u64, info: &Info)
+        requires turn { turn < 2 ^ 40 }
+        requires given { self.old.breaks.given ≡ None }
+        ensures links { (a : Account) → Links self.old a → Links self.new (on_word turn (word_in info.now) a) }
+        ensures counted { self.new.receiver.taken ≡ self.old.receiver.taken }
+    {
+        match read_break(info.as_slice()) {
+            Ok(BreakWord::Brk { number, length }) => {
+                self.breaks.given = self.breaks.their.take(number, length);
+            }
+            Ok(BreakWord::Ack { number, .. }) => self.breaks.own.answered(turn, number),
+            Err(_) => {}
+        }
+    }
+}
+
+// What the end then is.
+impl Connected {
+    ghost use Rattle.lapm_link.specs.Account.{Account};
+    ghost use Rattle.lapm_link.specs.Hear.{on_connected, hear};
+    ghost use Rattle.lapm_link.specs.declared.fault.LinkFault.{LinkFault};
+    ghost use Rattle.lapm_link.specs.Stands.{Links, StandsFor, Hears, HasNumbers, IsNumbered, Becomes, taken_of, undelivered_of, waiting_of};
+
+    /// The end as a rule left it, or closed.
+    fn after(self, heard: Result<(), LinkFault>) -> Result<AnyEnd, Broken>
+        ensures hears { (a : Account) (becomes : Result Account LinkFault) → Becomes becomes self heard → self.setup ≡ a.setup
+            → Hears becomes a result }
+        ensures counted { IfOk result (λ end. taken_of end ≤ self.receiver.taken) }
+    {
+        match heard {
+            Ok(()) => Ok(AnyEnd::Connected(self)),
+            Err(fault) => Err(Broken::new(fault, self.setup)),
+        }
+    }
+
+    fn on_frame(self, turn: u64, frame: &Frame) -> Result<AnyEnd, Broken>
+        requires turn { turn < 2 ^ 40 }
+        requires numbers { HasNumbers frame.now }
+        requires counted { self.receiver.taken < 2 ^ 56 }
+        requires delivered { length self.receiver.ready ≡ 0 }
+        requires given { self.breaks.given ≡ None }
+        ensures hears { (a : Account) → Links self a → Hears (on_connected frame.now turn a) a result }
+        ensures counted { IfOk result (λ end. taken_of end ≤ self.receiver.taken + 128) }
+    {
+        let mut end = self;
+        match frame {
+            Frame::I { ns, nr, pf, info } => {
+                let heard = end.on_i(turn, *ns, *nr, *pf, info);
+                end.after(heard)
+            }
+            Frame::Rr { command, nr, pf } | Frame::Rnr { command, nr, pf } => {
+                let heard = end.on_ready(turn, *command, *nr, *pf);
+                end.after(heard)
+            }
+            Frame::Rej { command, nr, pf } => {
+                let heard = end.on_rej(turn, *command, *nr, *pf);
+                end.after(heard)
+            }
+            Frame::Srej { nr, .. } => {
+                let heard = end.select(turn, *nr);
+                end.after(heard)
+            }
+            Frame::Sabme { pf } => {
+                let heard = end.on_sabme(*pf);
+                end.after(heard)
+            }
+            Frame::Disc { pf } => end.on_disc(*pf),
+            Frame::Dm { .. } => Err(Broken::new(LinkFault::PeerRefused, end.setup)),
+            Frame::Frmr { .. } => {
+                let fault = end.peer_reset();
+                Err(Broken::new(fault, end.setup))
+            }
+            Frame::Ui { info, .. } => {
+                end.on_word(turn, info);
+                Ok(AnyEnd::Connected(end))
+            }
+            Frame::Ua { .. } | Frame::Xid { .. } | Frame::Test { .. } => Ok(AnyEnd::Connected(end)),
+        }
+    }
+
+    /// What the end becomes by what it hears in this turn. It breaks where an N(R) is of no number that was sent, and where the other
+    /// end begins anew or refuses.
+    pub fn hear(self, turn: u64, arrived: &Arrived) -> Result<AnyEnd, Broken>
+        requires turn { turn < 2 ^ 40 }
+        requires numbers { IsNumbered arrived.now }
+        requires counted { taken_of (AnyEnd.Connected self) < 2 ^ 56 }
+        requires delivered { undelivered_of (AnyEnd.Connected self) ≡ 0 }
+        requires given { waiting_of (AnyEnd.Connected self) ≡ None }
+        ensures hears { (a : Account) → StandsFor (AnyEnd.Connected self) a → Hears (hear turn arrived.now a) a result }
+        ensures counted { IfOk result (λ end. taken_of end ≤ taken_of (AnyEnd.Connected self) + 128) }
+    {
+        match arrived {
+            Arrived::Nothing => {
+                let mut end = self;
+                end.owes.answer = without_adp(end.owes.answer);
+                Ok(AnyEnd::Connected(end))
+            }
+            Arrived::Pattern(_) => Ok(AnyEnd::Connected(self)),
+            Arrived::Frame(frame) => self.on_frame(turn, frame),
+        }
+    }
+}

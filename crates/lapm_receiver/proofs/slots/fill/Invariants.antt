@@ -1,0 +1,6 @@
+use Rattle.std.proofs.Common.{◌≡◌, replicate, None}
+use Rattle.circular_buffer.specs.Buffer.{buffer}
+use Rattle.lapm_receiver.proofs.slots.fill.Given as goal
+
+abbrev pub invariant-loop-count : goal.invariant-loop-count
+invariant-loop-count l = l.ring ≡ buffer (replicate l._count None) l.fn.ring.capacity

@@ -1,0 +1,36 @@
+use Rattle.std.proofs.Common.{None, sym, ap, subst, ◌∙◌}
+use Rattle.lapm_frames.specs.declared.frame.Frame.{Frame}
+use Rattle.lapm_frames.specs.declared.frame.Role.{Role}
+use Rattle.thin_link.specs.Sent.{IsSendable}
+use Rattle.thin_link.specs.declared.sent.Sent.TheVariants as sent
+use Rattle.bit_stuffing.specs.BitSlot.{line_bits}
+use Rattle.bit_stuffing.specs.SlotWriter.{WriterStands}
+use Rattle.bit_stuffing.specs.Slots.{Slot, AreSlots}
+use Rattle.bit_stuffing.specs.Slots.Slot.{Flags}
+use Rattle.line_world.specs.Slots.{frame_octets, slot_size}
+use Rattle.line_world.proofs.Directions.{as-sent, flags-are, frame-is, flags-fit, slots-more, nothing-more, writer-bits}
+use Rattle.line_world.proofs.direction.Direction.transmit.Goals as goal
+
+pub returns-in-None-clause-carries : goal.returns-in-None-clause-carries
+returns-in-None-clause-carries c sender slots h =
+    let slot : Slot = Flags None in
+    let coded = nothing-more (λ s. WriterStands c.args.self.now.writer s) slots h.coded in
+    as-sent _ sender slots c.args.sent.now sent.Flags (flags-are c.args.sent.now (sym c.in-None.ensures)) (record {
+      sender_is = h.sender_is;
+      sendable = tt;
+      fit = slots-more slot_size 0 slots slot (nothing-more (AreSlots slot_size 0) slots h.fit) (flags-fit slots);
+      coded = c.slot.ensures.stands slots coded;
+      passed = h.passed;
+      bits = writer-bits c.args.self.now.writer slots slot _ c.args.self.now.sized coded c.slot.ensures.bits;
+    })
+
+pub returns-in-Some-clause-carries : goal.returns-in-Some-clause-carries
+returns-in-Some-clause-carries c sender slots h =
+    let frame : Frame = c.in-Some.frame.now in
+    let is = frame-is c.args.sent.now frame (sym c.in-Some.ensures) in
+    as-sent _ sender slots c.args.sent.now (sent.Frame frame) is (c.put.ensures.carries sender slots frame
+    (record { sender_is = h.sender_is; sendable = tt; fit = h.fit; coded = h.coded; passed = h.passed; bits = ap line_bits c.clear.ensures })
+    (record {
+      is_frame = subst IsSendable is c.requires;
+      octets_are = c.as_slice.ensures.items ∙ c.whole_of-octets.ensures.octets ∙ ap (λ (r : Role). frame_octets r frame) (c.sender.ensures ∙ h.sender_is);
+    }))

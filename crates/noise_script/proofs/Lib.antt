@@ -1,0 +1,9 @@
+pub mod Sums
+pub mod Cuts
+pub mod Digits
+pub mod Words
+pub mod Entries
+pub mod Progress
+pub mod Ranges
+pub mod Unique
+pub mod Exists

@@ -1,0 +1,76 @@
+-- Reading a text line by line.
+use Rattle.std.proofs.Common.{◌≡◌, inl, inr, ℕ, ◌+◌, ◌<◌, ◌≤◌, Bool, true, false, nat_le, List, [], ◌∷◌, ◌++◌, refl, sym, ap, subst, ◌∙◌, arith, append_assoc, length-append}
+use Rattle.std.proofs.lemmas.Bool.{leb-true, leb-false}
+use Rattle.noise_script.specs.declared.cause.Cause.{Cause}
+use Rattle.noise_script.specs.declared.entry.Entry.{Entry}
+use Rattle.noise_script.specs.declared.forms.Form.{Form}
+use Rattle.noise_script.specs.declared.forms.Bound.{Bound}
+use Rattle.noise_script.specs.declared.draft.Draft.{Draft}
+use Rattle.noise_script.specs.declared.fault.ScriptFault.{ScriptFault}
+use Rattle.noise_script.specs.declared.fault.ScriptFault.TheVariants as faults
+use Rattle.noise_script.specs.Lines.{lines_of, words_of, is_passed_over}
+use Rattle.noise_script.specs.Forms.{row, form_of, most, too_many, SpellsLine}
+use Rattle.noise_script.specs.Grammar.{Says, nothing, passed_over, spelled, standing, IsTooMany, IsFaultOf}
+use Rattle.noise_script.specs.Draft.{Holds, HoldsLine, IsLineFault, HoldsUpTo}
+use Rattle.noise_script.proofs.Entries.{allowed-none, allowed-more}
+
+pub too-many : (said : List Entry) (words : List (List ℕ)) (entry : Entry) (form : Form) (bound : Bound) (cause : Cause) (full : Bool) → SpellsLine words entry → form ≡ form_of entry → full ≡ true → full ≡ nat_le (most (row form).bound) (standing form said) → bound ≡ (row form).bound → cause ≡ too_many bound → IsTooMany said words cause
+too-many said words entry form bound cause full s f t e b c = record {
+  entry = entry;
+  spelled_line = s;
+  full = subst (λ (x : Form). most (row x).bound ≤ standing x said) f (leb-true _ _ (sym e ∙ t));
+  cause_is = c ∙ ap too_many b ∙ ap (λ (x : Form). too_many (row x).bound) f;
+}
+
+pub not-full : (said : List Entry) (entry : Entry) (form : Form) (full : Bool) → form ≡ form_of entry → full ≡ false → full ≡ nat_le (most (row form).bound) (standing form said) → standing (form_of entry) said < most (row (form_of entry)).bound
+not-full said entry form full f t e = subst (λ (x : Form). standing x said < most (row x).bound) f (leb-false _ _ (sym e ∙ t))
+
+pub says-passed : {lines : List (List ℕ)} {said : List Entry} (line : List ℕ) → Says lines said → is_passed_over (words_of line) ≡ true → Says (lines ++ line ∷ []) said
+says-passed line nothing p = passed_over p nothing
+says-passed line (passed_over q s) p = passed_over q (says-passed line s p)
+says-passed line (spelled q s) p = spelled q (says-passed line s p)
+
+pub says-more : {lines : List (List ℕ)} {said : List Entry} (line : List ℕ) (entry : Entry) → Says lines said → SpellsLine (words_of line) entry → Says (lines ++ line ∷ []) (said ++ entry ∷ [])
+says-more line entry nothing p = spelled p nothing
+says-more line entry (passed_over q s) p = passed_over q (says-more line entry s p)
+says-more line entry (spelled q s) p = spelled q (says-more line entry s p)
+
+pub holds-none : (text : List ℕ) (draft : Draft) → Holds draft [] → HoldsUpTo text text 0 draft
+holds-none text draft h = record { before = []; lines_are = refl; number_is = refl; said = []; says = nothing; allowed = allowed-none; holds = h }
+
+pub regrouped : (before : List (List ℕ)) (line : List ℕ) (after : List (List ℕ)) → before ++ (line ∷ after) ≡ (before ++ line ∷ []) ++ after
+regrouped before line after = sym (append_assoc before (line ∷ []) after)
+
+pub holds-more : (text rest line behind : List ℕ) (number next : ℕ) (old new : Draft) (h : HoldsUpTo text rest number old) → lines_of rest ≡ line ∷ lines_of behind → next ≡ number + 1 → HoldsLine h.said (words_of line) new → HoldsUpTo text behind next new
+holds-more text rest line behind number next old new h l n (inl p) = record {
+  before = h.before ++ line ∷ [];
+  lines_are = h.lines_are ∙ ap (λ ls. h.before ++ ls) l ∙ regrouped h.before line (lines_of behind);
+  number_is = let long = length-append h.before (line ∷ []) in omega (arith, n, h.number_is, long);
+  said = h.said;
+  says = says-passed line h.says p.0;
+  allowed = h.allowed;
+  holds = p.1;
+}
+holds-more text rest line behind number next old new h l n (inr (entry, s, few, holds)) = record {
+  before = h.before ++ line ∷ [];
+  lines_are = h.lines_are ∙ ap (λ ls. h.before ++ ls) l ∙ regrouped h.before line (lines_of behind);
+  number_is = let long = length-append h.before (line ∷ []) in omega (arith, n, h.number_is, long);
+  said = h.said ++ entry ∷ [];
+  says = says-more line entry h.says s;
+  allowed = allowed-more h.said entry h.allowed few;
+  holds = holds;
+}
+
+pub fault-of : (text rest line behind : List ℕ) (number next : ℕ) (old : Draft) (fault : ScriptFault) (h : HoldsUpTo text rest number old) → lines_of rest ≡ line ∷ lines_of behind → next ≡ number + 1 → IsLineFault h.said (words_of line) next fault → IsFaultOf text fault
+fault-of text rest line behind number next old (faults.Line at cause) h l n f = record {
+  before = h.before;
+  line = line;
+  after = lines_of behind;
+  lines_are = h.lines_are ∙ ap (λ ls. h.before ++ ls) l;
+  number_is = omega (arith, f.0, n, h.number_is);
+  said = h.said;
+  says = h.says;
+  allowed = h.allowed;
+  faulty = f.1;
+}
+fault-of text rest line behind number next old faults.NoMemory h l n f = tt

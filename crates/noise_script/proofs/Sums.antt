@@ -1,0 +1,61 @@
+-- Sums of offsets, line by line.
+use Rattle.std.proofs.Common.{◌≡◌, ℕ, zero, suc, ◌+◌, ◌*◌, ◌≤◌, ◌<◌, pos, List, [], ◌∷◌, ◌++◌, length, take, map, get_or, refl, sym, ap, ◌∙◌, arith}
+use Rattle.std.proofs.lemmas.Int.{ints}
+use Rattle.std.proofs.lemmas.List.{take_more}
+use Rattle.noise_script.specs.declared.entry.Hit.{Hit}
+use Rattle.noise_script.specs.declared.entry.Noise.{Noise}
+use Rattle.lapm_frames.specs.declared.frame.Role.TheVariants.{Originator}
+use Rattle.noise_script.specs.declared.offset.Offset.{Offset}
+use Rattle.noise_script.specs.Offsets.{plus, sum_of, nothing, IsWithin, IsQuiet, AreQuiet}
+
+pub same-offset : (a b : Offset) → a.re ≡ b.re → a.im ≡ b.im → a ≡ b
+same-offset a b r i = rw (r, i) refl
+
+plus-nothing : (a : Offset) → plus a nothing ≡ plus nothing a
+plus-nothing a = same-offset (plus a nothing) (plus nothing a) (omega (arith, ints)) (omega (arith, ints))
+
+plus-assoc : (a b c : Offset) → plus a (plus b c) ≡ plus (plus a b) c
+plus-assoc a b c = same-offset (plus a (plus b c)) (plus (plus a b) c) (omega (arith, ints)) (omega (arith, ints))
+
+pub sum_of-more : {X : Type 0} (f : X → Offset) (xs : List X) (x : X) → sum_of (map f (xs ++ x ∷ [])) ≡ plus (sum_of (map f xs)) (f x)
+sum_of-more f [] x = plus-nothing (f x)
+sum_of-more f (y ∷ xs) x = ap (plus (f y)) (sum_of-more f xs x) ∙ plus-assoc (f y) (sum_of (map f xs)) (f x)
+
+pub sum_of-next : {X : Type 0} (f : X → Offset) (xs : List X) (i : ℕ) (d : X) → i < length xs → sum_of (map f (take (i + 1) xs)) ≡ plus (sum_of (map f (take i xs))) (f (get_or xs i d))
+sum_of-next f xs i d h = ap (λ ys. sum_of (map f ys)) (take_more xs i d h) ∙ sum_of-more f (take i xs) (get_or xs i d)
+
+pub within-more : (m i : ℕ) (a b : Offset) → IsWithin (m * i) a → IsWithin m b → IsWithin (m * (i + 1)) (plus a b)
+within-more m i a b p q = record {
+  re_low = omega (arith, ints, p.re_low, q.re_low);
+  re_high = omega (arith, ints, p.re_high, q.re_high);
+  im_low = omega (arith, ints, p.im_low, q.im_low);
+  im_high = omega (arith, ints, p.im_high, q.im_high);
+}
+
+pub within-far : (m n : ℕ) (a : Offset) → m ≤ n → IsWithin m a → IsWithin n a
+within-far m n a h p = record {
+  re_low = omega (arith, ints, p.re_low);
+  re_high = omega (arith, ints, p.re_high);
+  im_low = omega (arith, ints, p.im_low);
+  im_high = omega (arith, ints, p.im_high);
+}
+
+pub quiet-at : (noises : List Noise) (i : ℕ) (d : Noise) → AreQuiet noises → i < length noises → IsQuiet (get_or noises i d)
+quiet-at [] i d q h = absurd (omega (arith, h))
+quiet-at (noise ∷ noises) zero d q h = q.0
+quiet-at (noise ∷ noises) (suc i) d q h = quiet-at noises i d q.1 (omega (arith, h))
+
+pub quiet-more : (noises : List Noise) (noise : Noise) → AreQuiet noises → IsQuiet noise → AreQuiet (noises ++ noise ∷ [])
+quiet-more [] noise q h = (h, tt)
+quiet-more (x ∷ noises) noise q h = (q.0, quiet-more noises noise q.1 h)
+
+-- one line more is added
+pub added : {X : Type 0} (f : X → Offset) (xs : List X) (i : ℕ) (d : X) (sum offset result : Offset) → i < length xs → sum ≡ sum_of (map f (take i xs)) → offset ≡ f (get_or xs i d) → result ≡ plus sum offset → result ≡ sum_of (map f (take (i + 1) xs))
+added f xs i d sum offset result h s o r = r ∙ rw (s, o) (sym (sum_of-next f xs i d h))
+
+-- what stands for a line behind the last one
+abbrev pub no_hit : Hit
+no_hit = record { role = Originator; from = 0; count = 0; re = pos 0; im = pos 0 }
+
+abbrev pub no_noise : Noise
+no_noise = record { role = Originator; from = 0; count = 0; amplitude = 0; seed = 0 }

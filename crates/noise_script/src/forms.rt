@@ -1,0 +1,132 @@
+// The forms of a script's lines: their words, ranges and limits. A further form is a row of each function here, and a
+// function that reads it.
+ghost use Rattle.std.specs.Prelude.{◌≡◌, ◌≢◌, IfSome, IfNone, length};
+ghost use Rattle.noise_script.specs.Forms.{row, word_of, arguments_of, most, too_many};
+
+use crate::Cause;
+use crate::limits::{HIT_LINES, LOSE_LINES, NOISE_LINES};
+
+/// A line's form, by its first word.
+#[derive(Clone, Copy, Debug, PartialEq, Eq)]
+pub(crate) enum Form {
+    Delay,
+    Tries,
+    Lose,
+    Hit,
+    Noise,
+}
+
+/// How many lines of a form there may be.
+#[derive(Clone, Copy, Debug, PartialEq, Eq)]
+pub(crate) enum Bound {
+    Once,
+    AtMost(usize),
+}
+
+/// What a number may be, ends included.
+#[derive(Clone, Copy, Debug, PartialEq, Eq)]
+pub(crate) struct Range {
+    pub(crate) low: u64,
+    pub(crate) high: u64,
+}
+
+pub(crate) const DELAY: Range = Range { low: 1, high: 60 };
+
+pub(crate) const TRIES: Range = Range { low: 1, high: 20 };
+
+pub(crate) const TURN: Range = Range {
+    low: 0,
+    high: 4294967295,
+};
+
+pub(crate) const COUNT: Range = Range {
+    low: 1,
+    high: 4294967295,
+};
+
+pub(crate) const SYMBOL: Range = Range {
+    low: 0,
+    high: 1099511627775,
+};
+
+pub(crate) const AMPLITUDE: Range = Range {
+    low: 0,
+    high: 32767,
+};
+
+pub(crate) const SEED: Range = Range {
+    low: 0,
+    high: u64::MAX,
+};
+
+impl Form {
+    /// The form of the lines that begin with a word.
+    pub(crate) fn of_word(word: &[u8]) -> Option<Form>
+        ensures some { IfSome result (λ form. word.now ≡ word_of form) }
+        ensures none { IfNone result ((form : Form) → word.now ≢ word_of form) }
+    {
+        if word == b"delay".as_slice() {
+            return Some(Form::Delay);
+        }
+        if word == b"n400".as_slice() {
+            return Some(Form::Tries);
+        }
+        if word == b"lose".as_slice() {
+            return Some(Form::Lose);
+        }
+        if word == b"hit".as_slice() {
+            return Some(Form::Hit);
+        }
+        if word == b"noise".as_slice() {
+            return Some(Form::Noise);
+        }
+        None
+    }
+
+    /// How many words follow the first.
+    pub(crate) fn arguments(self) -> usize
+        ensures { result ≡ length (arguments_of self) }
+    {
+        match self {
+            Form::Delay => 2,
+            Form::Tries => 1,
+            Form::Lose => 3,
+            Form::Hit => 5,
+            Form::Noise => 5,
+        }
+    }
+
+    /// How many lines of the form there may be.
+    pub(crate) fn bound(self) -> Bound
+        ensures { result ≡ (row self).bound }
+    {
+        match self {
+            Form::Delay => Bound::Once,
+            Form::Tries => Bound::Once,
+            Form::Lose => Bound::AtMost(LOSE_LINES),
+            Form::Hit => Bound::AtMost(HIT_LINES),
+            Form::Noise => Bound::AtMost(NOISE_LINES),
+        }
+    }
+}
+
+impl Bound {
+    pub(crate) fn most(self) -> usize
+        ensures { result ≡ most self }
+    {
+        match self {
+            Bound::Once => 1,
+            Bound::AtMost(lines) => lines,
+        }
+    }
+
+    /// What is wrong with a line more than that.
+    pub(crate) fn too_many(self) -> Cause
+        ensures { result ≡ too_many self }
+    {
+        match self {
+            Bound::Once => Cause::Repeated,
+            Bound::AtMost(_) => Cause::Limit,
+        }
+    }
+}

@@ -1,0 +1,140 @@
+// Offsets of samples, as the lines of a script give them.
+ghost use Rattle.std.specs.Prelude.{◌≡◌, ◌+◌, ◌<◌, ◌≤◌, ◌*◌, ◌-◌, ◌^◌, length, map};
+ghost use Rattle.noise_script.specs.Offsets.{plus, sum_of, IsWithin, stream_of, word_at, drawn, drawn_offset, covers, same_role, hit_offset, noise_offset, IsQuiet, AreQuiet};
+
+use crate::limits::{HIT_LINES, NOISE_LINES, OFFSET_MOST};
+use crate::{Hit, Noise};
+use lapm_frames::Role;
+use rand_core::utils::NextWord;
+use rand_pcg::Lcg64Xsh32;
+
+/// What the line adds to a sample, in the units of samples.
+#[derive(Clone, Copy, Debug, PartialEq, Eq)]
+pub struct Offset {
+    pub re: i32,
+    pub im: i32,
+}
+
+const NOTHING: Offset = Offset { re: 0, im: 0 };
+
+/// Whether a place is one of `count` places from `from` on.
+pub(crate) fn covers(from: u64, count: u32, place: u64) -> bool
+    ensures { result ≡ covers from count place }
+{
+    from <= place && place - from < u64::from(count)
+}
+
+/// The sum of two offsets that are far from overflowing.
+fn plus(a: Offset, b: Offset) -> Offset
+    requires a { IsWithin (2 ^ 30 - 1) a }
+    requires b { IsWithin (2 ^ 30) b }
+    ensures { result ≡ plus a b }
+{
+    Offset {
+        re: a.re + b.re,
+        im: a.im + b.im,
+    }
+}
+
+/// What one hit line adds to a symbol.
+fn hit_offset(hit: &Hit, sender: Role, symbol: u64) -> Offset
+    ensures value { result ≡ hit_offset sender symbol hit.now }
+    ensures small { IsWithin 32768 result }
+{
+    if hit.role != sender || !covers(hit.from, hit.count, symbol) {
+        return NOTHING;
+    }
+    Offset {
+        re: i32::from(hit.re),
+        im: i32::from(hit.im),
+    }
+}
+
+/// The generator's stream for the noise on what a role sends.
+fn stream_of(sender: Role) -> u64
+    ensures { result ≡ stream_of sender }
+{
+    match sender {
+        Role::Originator => 54,
+        Role::Answerer => 55,
+    }
+}
+
+/// A part of an offset from half a word, at most `amplitude` from zero.
+fn drawn(amplitude: u16, half: u32) -> i32
+    requires { half < 65536 }
+    ensures { result ≡ drawn amplitude half }
+{
+    (half % (2 * u32::from(amplitude) + 1)) as i32 - i32::from(amplitude)
+}
+
+/// A generator's word, counted from 0, without the words before it.
+fn word_at(seed: u64, stream: u64, place: u64) -> u32
+    ensures { result ≡ word_at seed stream place }
+{
+    let mut words = Lcg64Xsh32::new(seed, stream);
+    words.advance(place);
+    words.next_word()
+}
+
+/// An offset from a word: re by its low half, im by its high half.
+fn drawn_offset(amplitude: u16, word: u32) -> Offset
+    requires { amplitude < 32768 }
+    ensures value { result ≡ drawn_offset amplitude word }
+    ensures small { IsWithin 32767 result }
+{
+    Offset {
+        re: drawn(amplitude, word % 65536),
+        im: drawn(amplitude, word / 65536),
+    }
+}
+
+/// What one noise line adds to a symbol.
+fn noise_offset(noise: &Noise, sender: Role, symbol: u64) -> Offset
+    requires { IsQuiet noise.now }
+    ensures value { result ≡ noise_offset sender symbol noise.now }
+    ensures small { IsWithin 32767 result }
+{
+    if noise.role != sender || !covers(noise.from, noise.count, symbol) {
+        return NOTHING;
+    }
+    let word = word_at(noise.seed, stream_of(noise.role), symbol - noise.from);
+    drawn_offset(noise.amplitude, word)
+}
+
+/// What hit lines add to a symbol, together.
+pub(crate) fn offset_of_hits(hits: &[Hit], sender: Role, symbol: u64) -> Offset
+    requires { length hits.now ≤ HIT_LINES }
+    ensures value { result ≡ sum_of (map (hit_offset sender symbol) hits.now) }
+    ensures small { IsWithin (32768 * HIT_LINES) result }
+{
+    let mut sum = NOTHING;
+    for hit in hits {
+        sum = plus(sum, hit_offset(hit, sender, symbol));
+    }
+    sum
+}
+
+/// What noise lines add to a symbol, together.
+pub(crate) fn offset_of_noises(noises: &[Noise], sender: Role, symbol: u64) -> Offset
+    requires few { length noises.now ≤ NOISE_LINES }
+    requires quiet { AreQuiet noises.now }
+    ensures value { result ≡ sum_of (map (noise_offset sender symbol) noises.now) }
+    ensures small { IsWithin (32767 * NOISE_LINES) result }
+{
+    let mut sum = NOTHING;
+    for noise in noises {
+        sum = plus(sum, noise_offset(noise, sender, symbol));
+    }
+    sum
+}
+
+/// What hit lines and noise lines add together.
+pub(crate) fn total(hits: Offset, noises: Offset) -> Offset
+    requires hits { IsWithin (32768 * HIT_LINES) hits }
+    requires noises { IsWithin (32767 * NOISE_LINES) noises }
+    ensures value { result ≡ plus hits noises }
+    ensures small { IsWithin OFFSET_MOST result }
+{
+    plus(hits, noises)
+}

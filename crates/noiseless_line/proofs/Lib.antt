@@ -1,0 +1,4 @@
+pub mod Costs
+pub mod Meetings
+pub mod Detours
+pub mod Followed

@@ -1,0 +1,8 @@
+pub use Rattle.symbol_map.specs.Points
+pub use Rattle.trellis_tables.specs.Sequences
+pub use Rattle.trellis_tables.specs.Table
+pub use Rattle.survivors.specs.Trellises
+pub use Rattle.survivors.specs.Survivors
+pub use Rattle.exact_decoder.specs.Decoder
+pub mod Noiseless
+pub mod Laws

@@ -1,0 +1,7 @@
+pub mod Snoc
+pub mod Bellman
+pub mod Release
+pub mod Columns
+pub mod Fronts
+pub mod Existence
+pub mod Least

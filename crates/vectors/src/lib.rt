@@ -1,0 +1,5 @@
+//! Worked values that cross several crates, as tables of tests. It has no call of its own.
+#![tactic(auto)]
+
+#[cfg(test)]
+mod tests;

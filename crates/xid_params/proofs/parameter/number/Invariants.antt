@@ -1,0 +1,6 @@
+use Rattle.std.proofs.Common.{◌≡◌, ◌<◌, ◌^◌, take}
+use Rattle.xid_params.specs.Parts.{number_of}
+use Rattle.xid_params.proofs.parameter.number.Given as goal
+
+abbrev pub invariant-loop-octet : goal.invariant-loop-octet
+invariant-loop-octet l = record { spelled : l.number ≡ number_of (take l.octet-index l.octets); small : l.number < 256 ^ l.octet-index }
