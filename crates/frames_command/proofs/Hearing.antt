@@ -1,9 +1,10 @@
 -- What a listener heard, one more step at a time.
-use Rattle.std.proofs.Common.{◌≡◌, ◌∙◌, ℕ, ◌+◌, ◌*◌, ◌/◌, ◌^◌, ◌<◌, ◌≤◌, Bool, false, List, [], ◌∷◌, ◌++◌, length, take, drop, get_or, nat_eq, bit_and, Option, Some, None, refl, sym, ap, subst, arith, append-nil, append_assoc, length-append}
+use Rattle.std.proofs.Common.{◌≡◌, ◌∙◌, ℕ, ◌+◌, ◌*◌, ◌/◌, ◌^◌, ◌<◌, ◌≤◌, Bool, false, List, [], ◌∷◌, ◌++◌, length, take, drop, get_or, Result, Ok, Err, OnOk, nat_eq, bit_and, Option, Some, None, refl, sym, ap, subst, arith, append-nil, append_assoc, length-append}
 use Rattle.std.specs.Option.{option_map, option_map_or}
 use Rattle.std.proofs.lemmas.List.{take_more, take-append-drop, take_all}
 use Rattle.std.proofs.lemmas.Nat.{and_mask}
-use Rattle.outside_core.specs.Folder.{FolderState, Said, PartlySaid}
+use Rattle.outside_core.specs.Folder.{FolderState, OnlySays, Said, PartlySaid}
+use Rattle.outside_core.specs.Steps.{GoesOn-trans, KeepsName-trans}
 use Rattle.frame_check.specs.Bits.{octet_bits, bits_of}
 use Rattle.frame_check.proofs.BitLists.{length-low_bits, get_or-low_bits, bits_of-snoc, bits_of-append}
 use Rattle.bit_stuffing.specs.declared.piece.Piece.{Piece}
@@ -15,7 +16,7 @@ use Rattle.command_base.proofs.Saying.{Said-Said, Said-PartlySaid, PartlySaid-lo
 use Rattle.frames_command.specs.declared.reading.Reading.{Reading}
 use Rattle.frames_command.specs.Readings.{Reads, AreLines, reading_line}
 use Rattle.frames_command.specs.Heard.{Listening, Heard, PartlyHeard}
-use Rattle.frames_command.proofs.Lines.{AreLines-more}
+use Rattle.frames_command.proofs.PieceLines.{AreLines-more}
 
 -- what is found at the last of the bits, where a piece is answered there
 pub record FoundThere (bits : List Bool) (piece : Piece) : Type 0 where
@@ -139,3 +140,15 @@ pub octets-left : (bits : List Bool) (octets : List ℕ) (i : ℕ) → (bits ++ 
 octets-left bits octets i =
     append_assoc bits (bits_of (take i octets)) (bits_of (drop i octets))
     ∙ ap (λ xs. bits ++ xs) (sym (bits_of-append (take i octets) (drop i octets)) ∙ ap bits_of (take-append-drop i octets))
+
+-- what follows where it went well
+pub on-ok-map : {T E : Type 0} {P Q : Type 0} (r : Result T E) → (P → Q) → OnOk r P → OnOk r Q
+on-ok-map (Ok value) f p = f p
+on-ok-map (Err fault) f p = tt
+
+pub says-trans : (a b c : FolderState) → OnlySays a b → OnlySays b c → OnlySays a c
+says-trans a b c p q = record {
+  goes_on = GoesOn-trans p.goes_on q.goes_on;
+  names = λ name. KeepsName-trans a b c name p.goes_on (p.names name) (q.names name);
+  read_faults = λ name. q.read_faults name ∙ p.read_faults name;
+}

@@ -1,3 +1,4 @@
-pub mod Lines
+pub mod PieceLines
 pub mod Hearing
-pub mod Listing
+pub mod Listed
+pub mod Headline

@@ -1,7 +1,8 @@
 // The command: the pieces are listed, and the last line is said.
-ghost use Rattle.std.specs.Prelude.{◌≡◌, ◌≢◌, map, string_bytes};
+ghost use Rattle.std.specs.Prelude.{◌≡◌, ◌≢◌, Err, map, string_bytes};
 ghost use Rattle.frames_command.specs.Words.{named};
-ghost use Rattle.frames_command.specs.Answers.{AnswersFrames};
+ghost use Rattle.frames_command.specs.Answers.{Finishes, AnswersFrames};
+ghost use Rattle.frames_command.specs.declared.fault.FramesFault.{FramesFault};
 ghost use Rattle.frames_command.specs.Headline.{Headline};
 
 use crate::FramesFault;
@@ -14,15 +15,24 @@ use outside_core::Folder;
 /// The place of the file's name among the words.
 const BITS: usize = 2;
 
+/// Says the line of a listing that ends before its last piece. Where a piece's line was not said, nothing more is.
+fn tell_fault<F: Folder>(folder: &mut F, words: &[String], fault: FramesFault) -> Status
+    ensures { Finishes (map string_bytes words.now) (F.state folder.old) (F.state folder.new) (Err fault) result }
+{
+    match fault {
+        FramesFault::TooLong => tell_status(folder, words, Status::TooLong { word: BITS }),
+        FramesFault::Unread(fault) => tell_status(folder, words, status_of_read(fault)),
+        FramesFault::Unsaid(fault) => status_of_say(fault),
+    }
+}
+
 /// Lists the pieces, and says how it ended.
 fn list_and_tell<F: Folder>(folder: &mut F, words: &[String], names: &FramesWords<'_>) -> Status
     ensures { AnswersFrames (map string_bytes words.now) (F.state folder.old) (F.state folder.new) (named names.now) result }
 {
     match list_pieces(folder, names) {
         Ok(pieces) => tell(folder, write_pieces(pieces).as_slice(), Status::Done),
-        Err(FramesFault::TooLong) => tell_status(folder, words, Status::TooLong { word: BITS }),
-        Err(FramesFault::Unread(fault)) => tell_status(folder, words, status_of_read(fault)),
-        Err(FramesFault::Unsaid(fault)) => status_of_say(fault),
+        Err(fault) => tell_fault(folder, words, fault),
     }
 }
 

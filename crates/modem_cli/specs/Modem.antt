@@ -11,23 +11,28 @@ use Rattle.run_command.specs.Answers.{AnswersRun}
 use Rattle.encode_command.specs.Words.{EncodeNames, names_of as encode_names}
 use Rattle.encode_command.specs.Headline.{Headline as EncodeHeadline}
 use Rattle.encode_command.specs.Answers.{AnswersEncode}
+use Rattle.frames_command.specs.Words.{FramesNames, names_of as frames_names}
+use Rattle.frames_command.specs.Headline.{Headline as FramesHeadline}
+use Rattle.frames_command.specs.Answers.{AnswersFrames}
 
 -- the words are those of no command
 abbrev pub IsNoCommand : List (List ℕ) → Type 0
-IsNoCommand words = (run_names words ≡ None) × (encode_names words ≡ None)
+IsNoCommand words = (run_names words ≡ None) × (encode_names words ≡ None) × (frames_names words ≡ None)
 
 -- the commands that there are
 abbrev pub usage_line : List ℕ
-usage_line = codes "usage: modem run, encode\n"
+usage_line = codes "usage: modem run, encode, frames\n"
 
 -- What holds of the files after any words.
 pub record Promises (words : List (List ℕ)) (old new : FolderState) (s : Status) : Type 0 where
   pub run : (n : RunNames) → run_names words ≡ Some n → RunHeadline old new n s
   pub encode : (n : EncodeNames) → encode_names words ≡ Some n → EncodeHeadline old new n s
+  pub frames : (n : FramesNames) → frames_names words ≡ Some n → FramesHeadline old new n s
   pub other : IsNoCommand words → KeepsAll old new
 
 -- The answer to any words.
 pub record Answers (words : List (List ℕ)) (old new : FolderState) (s : Status) : Type 0 where
   pub run : (n : RunNames) → run_names words ≡ Some n → AnswersRun words old new n s
   pub encode : (n : EncodeNames) → encode_names words ≡ Some n → AnswersEncode words old new n s
+  pub frames : (n : FramesNames) → frames_names words ≡ Some n → AnswersFrames words old new n s
   pub other : IsNoCommand words → Tells old new usage_line Usage s

@@ -32,12 +32,14 @@ fn each_command_is_done(rt: HostRuntime) -> Result<(), Fail> {
     answers(&rt, rt.alloc(), &run, Status::Done, "done 2\n")?;
     let encode = ["encode", "call", "o", "r"];
     answers(&rt, rt.alloc(), &encode, Status::Done, "samples 2\n")?;
+    let frames = ["frames", "orig", "o"];
+    answers(&rt, rt.alloc(), &frames, Status::Done, "pieces 0\n")?;
     Ok(())
 }
 
 #[test]
 fn other_words_are_told_the_usage(rt: HostRuntime) -> Result<(), Fail> {
-    let usage = "usage: modem run, encode\n";
+    let usage = "usage: modem run, encode, frames\n";
     let runs = [
         ["run", "o", "a", "s", "go", "go", "t"],
         ["run", "o", "a", "s", "go", "ga", "s"],
@@ -53,6 +55,9 @@ fn other_words_are_told_the_usage(rt: HostRuntime) -> Result<(), Fail> {
     ];
     for encode in encodings {
         answers(&rt, rt.alloc(), &encode, Status::Usage, usage)?;
+    }
+    for listing in [["frames", "originator", "o"], ["frame", "orig", "o"]] {
+        answers(&rt, rt.alloc(), &listing, Status::Usage, usage)?;
     }
     answers(&rt, rt.alloc(), &[], Status::Usage, usage)?;
     Ok(())

@@ -4,6 +4,7 @@ ghost use Rattle.modem_cli.specs.Modem.{IsNoCommand, Answers, Promises};
 
 use command_base::{Status, tell};
 use encode_command::{encode, encode_words};
+use frames_command::{frames, frames_words};
 use outside_core::Folder;
 use run_command::{run, run_words};
 use std::alloc::Global;
@@ -11,7 +12,7 @@ use std::alloc::Global;
 /// Does what the words of a command line say, and answers how it ended. Each answer's line is said last.
 pub fn modem<F: Folder>(alloc: Global, words: &[String], folder: &mut F) -> Status
     // Each end of a run receives a prefix of the other's file, and done means that both are whole. What `encode` writes is
-    // the file's recording, or the beginning of it.
+    // the file's recording, or the beginning of it. What `frames` says are the pieces of the file's bits.
     ensures promises { Promises (map string_bytes words.now) (F.state folder.old) (F.state folder.new) result }
 
     // Each answer comes where it has to, with its line.
@@ -26,5 +27,8 @@ pub fn modem<F: Folder>(alloc: Global, words: &[String], folder: &mut F) -> Stat
     if let Some(names) = encode_words(words) {
         return encode(folder, words, &names);
     }
-    tell(folder, b"usage: modem run, encode\n", Status::Usage)
+    if let Some(names) = frames_words(words) {
+        return frames(folder, words, &names);
+    }
+    tell(folder, b"usage: modem run, encode, frames\n", Status::Usage)
 }

@@ -5,13 +5,13 @@ use Rattle.frames_command.specs.Words.{named}
 use Rattle.frames_command.specs.Heard.{OnlyListens, Begun, HeardTo}
 use Rattle.frames_command.proofs.listing.hear_file.Given as goal
 
-abbrev pub invariant-loop-count : goal.invariant-loop-count
-invariant-loop-count g l = record {
+abbrev pub invariant-loop-listener : goal.invariant-loop-listener
+invariant-loop-listener g l = record {
   within : l.at ≤ FILE_LIMIT;
   pieces : l.listener.pieces ≤ 8 * l.at;
   heard : (start : FolderState) → Begun start (g.F.Folder.state l.fn.folder) (named l.names) → HeardTo start (g.F.Folder.state l.folder) (named l.names) l.listener l.at;
   only : OnlyListens (g.F.Folder.state l.fn.folder) (g.F.Folder.state l.folder);
 }
 
-abbrev pub decreases-loop-count : goal.decreases-loop-count
-decreases-loop-count g l = FILE_LIMIT - l.at
+abbrev pub decreases-loop-listener : goal.decreases-loop-listener
+decreases-loop-listener g l = FILE_LIMIT - l.at

@@ -137,10 +137,10 @@ say-failed start old mid new n l at count piece fault h read reads says hears ca
     part = (
       partly.lines,
       are-first start n (h.octets ++ piece) partly.heard partly.rest partly.lines
-      (λ told. let file : List ℕ = octets_at start n.bits in
-      (drop (at + count) file, ap (λ xs. xs ++ drop (at + count) file) (front-more start old n l at count piece h read told) ∙ take-append-drop (at + count) file))
-      (bits_of-append h.octets piece ∙ partly.bits_are)
-      (subst (λ (role : Role). AreLines role (pieces_of partly.heard) partly.lines) h.sender_is partly.are_lines),
+          (λ told. let file : List ℕ = octets_at start n.bits in
+          (drop (at + count) file, ap (λ xs. xs ++ drop (at + count) file) (front-more start old n l at count piece h read told) ∙ take-append-drop (at + count) file))
+          (bits_of-append h.octets piece ∙ partly.bits_are)
+          (subst (λ (role : Role). AreLines role (pieces_of partly.heard) partly.lines) h.sender_is partly.are_lines),
       partly.said,
     )
 
@@ -197,3 +197,6 @@ said-nothing f = go f.said
     go : (said : Option (List ℕ)) → said ≡ option_map (λ s. s ++ []) said
     go None = refl
     go (Some s) = ap Some (sym (append-nil s))
+
+pub listens-refl : (a : FolderState) → OnlyListens a a
+listens-refl a = record { goes_on = GoesOn-refl a; names = λ name told. refl }

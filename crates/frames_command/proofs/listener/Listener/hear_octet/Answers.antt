@@ -1,0 +1,29 @@
+use Rattle.std.proofs.Common.{◌∙◌, ◌+◌, ◌/◌, ◌^◌, Bool, List, [], ◌∷◌, ◌++◌, take, drop, nat_eq, bit_and, ap, subst, arith}
+use Rattle.outside_core.specs.Folder.{FolderState}
+use Rattle.frame_check.specs.Bits.{octet_bits}
+use Rattle.lapm_frames.specs.declared.frame.Role.{Role}
+use Rattle.frames_command.specs.Heard.{Heard, PartlyHeard}
+use Rattle.frames_command.proofs.Hearing.{partly-longer, bit-more, bits-left, says-trans}
+use Rattle.frames_command.proofs.listener.Listener.hear_octet.Goals as goal
+
+pub returns-in-Err-clause-err : goal.returns-in-Err-clause-err
+returns-in-Err-clause-err g c = λ start bits heard.
+    let new : FolderState = g.F.Folder.state c.hear_bit.new.folder in
+    let place = c.loop-place.place in let all : List Bool = octet_bits c.args.octet in let front : List Bool = bits ++ take place all in
+    let bit : Bool = nat_eq (bit_and (c.args.octet / 2 ^ place) 1) 1 in
+    let partly : PartlyHeard start new c.loop-place.self.sender (front ++ bit ∷ []) = c.in-Err.ensures.err start front (c.loop-place.invariant.heard start bits heard) in
+    subst (λ (role : Role). PartlyHeard start new role (bits ++ all)) c.loop-place.invariant.sender
+    (partly-longer start new c.loop-place.self.sender (front ++ bit ∷ []) (drop (place + 1) all) (bits ++ all)
+    (ap (λ xs. xs ++ drop (place + 1) all) (bit-more bits c.args.octet place (omega (arith, c.loop-place-test.true))) ∙ bits-left bits c.args.octet (place + 1)) partly)
+
+pub loop-place-preserved : goal.loop-place-preserved
+loop-place-preserved g c =
+    let old : FolderState = g.F.Folder.state c.args.folder.now in let now : FolderState = g.F.Folder.state c.loop-place.folder in let new : FolderState = g.F.Folder.state c.hear_bit.new.folder in
+    let place = c.loop-place.place in let all : List Bool = octet_bits c.args.octet in
+    record {
+      heard = λ start bits heard. subst (λ (bs : List Bool). Heard start new c.hear_bit.new.self bs) (bit-more bits c.args.octet place (omega (arith, c.loop-place-test.true)))
+          (c.in-Ok.ensures.ok start (bits ++ take place all) (c.loop-place.invariant.heard start bits heard));
+      only = says-trans old now new c.loop-place.invariant.only c.in-Ok.ensures.only;
+      sender = c.in-Ok.ensures.sender ∙ c.loop-place.invariant.sender;
+      pieces = omega (arith, c.in-Ok.ensures.pieces, c.loop-place.invariant.pieces);
+    }

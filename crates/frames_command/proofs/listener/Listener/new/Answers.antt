@@ -1,0 +1,10 @@
+use Rattle.std.proofs.Common.{refl}
+use Rattle.frames_command.specs.Heard.{Listening}
+use Rattle.frames_command.proofs.Hearing.{heard-nothing}
+use Rattle.frames_command.proofs.Listed.{said-nothing}
+use Rattle.frames_command.proofs.listener.Listener.new.Goals as goal
+
+pub returns-clause-heard : goal.returns-clause-heard
+returns-clause-heard c = λ start.
+    let l : Listening = record { deframer = c.new.result; sender = c.args.sender; pieces = 0 } in
+    heard-nothing start l c.new.ensures refl (said-nothing start)

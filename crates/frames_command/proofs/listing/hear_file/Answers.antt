@@ -1,0 +1,15 @@
+use Rattle.std.proofs.Common.{arith}
+use Rattle.outside_core.specs.Folder.{FolderState}
+use Rattle.frames_command.specs.Words.{named}
+use Rattle.frames_command.proofs.Listed.{heard-none-yet, listens-refl}
+use Rattle.frames_command.proofs.listing.hear_file.Goals as goal
+
+pub loop-listener-init : goal.loop-listener-init
+loop-listener-init g c =
+    let old : FolderState = g.F.Folder.state c.args.folder.now in
+    record {
+      within = omega arith;
+      pieces = omega (arith, c.new-listener.ensures.pieces);
+      heard = λ start b. heard-none-yet start old (named c.args.names.now) c.new-listener.result b c.new-listener.ensures.sender c.new-listener.ensures.heard;
+      only = listens-refl old;
+    }
