@@ -71,6 +71,7 @@ all turn special a =
     urgent : (b : Bool) → AllSaid IsHeard (cond b (says_segment turn (may_send a) a) None)
     urgent true = segment turn (may_send a) a
     urgent false = tt
+
     breaks : (b : Bool) → AllSaid IsHeard (cond b None (says_break a.their_breaks.ack a))
     breaks true = tt
     breaks false = word a.their_breaks.ack a
@@ -87,6 +88,7 @@ tried turn frame a h = go (nat_eq turn (a.wait.try_set + a.setup.period)) (nat_e
   where
     once : (b : Account) → IsHeard (tries_frame frame b)
     once b = else-says IsHeard (where_says b.wait.try (says_frame frame (record b { wait = record b.wait { try = false } }))) (says slots.Flags b) (where-says IsHeard b.wait.try _ h) tt
+
     go : (b c : Bool) → OnHeard (cond b (cond c (Err (spent turn a)) (Ok (tries_frame frame (trying_again turn a)))) (Ok (tries_frame frame a)))
     go true true = tt
     go true false = once (trying_again turn a)
@@ -98,6 +100,7 @@ in_phase phases.Detecting turn release a = go a.setup.role
     late : (b : Bool) → OnHeard (cond b (Err NotDetected) (Ok (says slots.Odp a)))
     late true = tt
     late false = tt
+
     go : (r : Role) → OnHeard (speak_detecting r turn a)
     go Originator = late (nat_le ((a.setup.tries + 1) * a.setup.period) turn)
     go Answerer = else-says IsHeard (answering a.owes.answer a) (says slots.Mark a) (answer a.owes.answer a) tt

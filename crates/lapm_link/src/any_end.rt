@@ -6,8 +6,11 @@ ghost use Rattle.lapm_link.specs.Hear.{hear};
 ghost use Rattle.lapm_link.specs.Speak.{speak};
 ghost use Rattle.lapm_link.specs.Stands.{StandsFor, Hears, Speaks, IsNumbered, TakesNothing, phase_of, taken_of, undelivered_of, waiting_of, wanted_of, piece_of};
 
-use crate::{Arrived, Broken, Closed, Connected, Detecting, Establishing, Negotiating, Phase, Releasing, Sent};
 use crate::terms::size_for;
+use crate::{
+    Arrived, Broken, Closed, Connected, Detecting, Establishing, Negotiating, Phase, Releasing,
+    Sent,
+};
 use frame_check::Info;
 
 /// An end in any of its states. The calls besides `hear` and `speak` read and change a Connected end alone.

@@ -44,7 +44,13 @@ impl Attempt {
     }
 
     /// What is sent in this turn. `front` is the oldest segment that isn't acknowledged.
-    pub(crate) fn speak(&mut self, turn: u64, setup: &Setup, front: u64, frame: Frame) -> Result<Sent, LinkFault>
+    pub(crate) fn speak(
+        &mut self,
+        turn: u64,
+        setup: &Setup,
+        front: u64,
+        frame: Frame,
+    ) -> Result<Sent, LinkFault>
         ensures { (a : Account) → Tries self.old a → setup.now ≡ a.setup → front ≡ a.outgoing.front
             → TriesSo (u_try turn frame a) a self.new result }
     {

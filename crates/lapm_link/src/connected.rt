@@ -3,9 +3,9 @@ ghost use Rattle.std.specs.Prelude.{◌≡◌, ◌≤◌};
 ghost use Rattle.lapm_link.specs.Account.{size_for};
 ghost use Rattle.lapm_link.specs.Fits.{IsSetUp};
 
+use crate::Setup;
 use crate::answer::Answer;
 use crate::terms::is_originator;
-use crate::Setup;
 use break_signals::{BreakReceiver, BreakSender};
 use lapm_receiver::Receiver;
 use lapm_sender::Sender;
@@ -71,7 +71,14 @@ impl Connected {
     ghost use Rattle.lapm_link.specs.Stands.{IsUnlinked, Links};
 
     /// A link that comes up in this turn: the originator polls at once. Both parts have begun.
-    pub(crate) fn new(setup: Setup, answer: Option<Answer>, terms: Terms, sender: Sender, receiver: Receiver, turn: u64) -> Connected
+    pub(crate) fn new(
+        setup: Setup,
+        answer: Option<Answer>,
+        terms: Terms,
+        sender: Sender,
+        receiver: Receiver,
+        turn: u64,
+    ) -> Connected
         requires set_up { IsSetUp setup }
         requires sender { 1 ≤ sender.window }
         requires receiver { 1 ≤ receiver.window }

@@ -35,7 +35,10 @@ impl Establishing {
     {
         match frame {
             Frame::Ua { pf: true } => Ok(AnyEnd::Connected(self.agreed.connect(turn))),
-            Frame::Dm { pf: true } => Err(Broken::new(LinkFault::PeerRefused, self.agreed.memory.setup)),
+            Frame::Dm { pf: true } => Err(Broken::new(
+                LinkFault::PeerRefused,
+                self.agreed.memory.setup,
+            )),
             _ => Ok(AnyEnd::Establishing(self)),
         }
     }

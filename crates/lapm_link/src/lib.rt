@@ -16,7 +16,6 @@ mod connected;
 mod detecting;
 mod establishing;
 mod fault;
-
 pub mod laws;
 mod negotiating;
 mod offers;

@@ -51,7 +51,12 @@ impl Connected {
     }
 
     /// The sender has taken the number of an I frame or of a supervisory frame, or refused it.
-    fn count(&mut self, turn: u64, awaited: bool, taken: Result<bool, BadAck>) -> Result<(), LinkFault>
+    fn count(
+        &mut self,
+        turn: u64,
+        awaited: bool,
+        taken: Result<bool, BadAck>,
+    ) -> Result<(), LinkFault>
         ensures becomes { (a : Account) (after : Option Outgoing) (nr : ℕ)
             → LinksBeside self.old.setup self.old.receiver self.old.breaks self.old.owes self.old.wait self.old.numbered self.old.special a
             → awaited ≡ a.outgoing.awaited

@@ -5,9 +5,9 @@ ghost use Rattle.break_signals.specs.Words.{number_of, spelled};
 ghost use Rattle.lapm_link.specs.declared.sent.Sent.{Sent};
 
 use crate::answer::slot_of;
+use crate::attempt::Attempt;
 use crate::connected::Connected;
 use crate::releasing::Releasing;
-use crate::attempt::Attempt;
 use crate::terms::is_originator;
 use crate::timer::{is_expired, spent, started};
 use crate::{AnyEnd, Broken, LinkFault, Sent};
@@ -68,7 +68,11 @@ impl Connected {
         ensures becomes { (a : Account) → Links self.old a → Becomes (on_break_timer turn a) self.new result }
         ensures same { SameTaken self.old self.new }
     {
-        match self.breaks.own.tick(turn, self.setup.period, self.setup.tries) {
+        match self
+            .breaks
+            .own
+            .tick(turn, self.setup.period, self.setup.tries)
+        {
             Ok(()) => Ok(()),
             Err(_) => Err(spent(self.sender.front(), turn, &self.setup)),
         }

@@ -32,7 +32,10 @@ fn is_numbered(frame: &Frame) -> bool
 {
     match frame {
         Frame::I { ns, nr, .. } => *ns < 128 && *nr < 128,
-        Frame::Rr { nr, .. } | Frame::Rnr { nr, .. } | Frame::Rej { nr, .. } | Frame::Srej { nr, .. } => *nr < 128,
+        Frame::Rr { nr, .. }
+        | Frame::Rnr { nr, .. }
+        | Frame::Rej { nr, .. }
+        | Frame::Srej { nr, .. } => *nr < 128,
         _ => true,
     }
 }
@@ -81,7 +84,13 @@ fn feed(end: &mut AnyEnd, octet: u8)
 }
 
 /// Hears, takes what is delivered and given, and is offered what is wanted.
-fn listen(end: AnyEnd, turn: u64, arrived: &Arrived, octet: u8, got: &mut Info) -> Result<AnyEnd, &'static str>
+fn listen(
+    end: AnyEnd,
+    turn: u64,
+    arrived: &Arrived,
+    octet: u8,
+    got: &mut Info,
+) -> Result<AnyEnd, &'static str>
     requires turn { turn < 2 ^ 40 }
     requires numbers { IsNumbered arrived.now }
     requires counted { taken_of end ≤ 128 * turn }
@@ -158,7 +167,14 @@ fn lines(turn: u64) -> (Sent, Sent) {
 }
 
 /// Hears and then speaks. From turn 10 on both files are whole, and the originator is told to release.
-fn turn(end: AnyEnd, number: u64, arrived: &Arrived, octet: u8, got: &mut Info, sent: &mut Sent) -> Result<AnyEnd, &'static str>
+fn turn(
+    end: AnyEnd,
+    number: u64,
+    arrived: &Arrived,
+    octet: u8,
+    got: &mut Info,
+    sent: &mut Sent,
+) -> Result<AnyEnd, &'static str>
     requires turn { number < 2 ^ 40 }
     requires numbers { IsNumbered arrived.now }
     requires counted { taken_of end ≤ 128 * number }
@@ -187,7 +203,10 @@ fn two_files_of_one_octet(rt: HostRuntime) -> Result<(), Fail> {
         originator = turn(originator, number, &at_o, b'a', &mut got_o, &mut from_o)?;
         answerer = turn(answerer, number, &at_a, b'b', &mut got_a, &mut from_a)?;
         let wanted = lines(number);
-        assert!(rt; from_o == wanted.0 && from_a == wanted.1, "in turn {number}");
+        assert!(rt;
+            from_o == wanted.0 && from_a == wanted.1,
+            "in turn {number}"
+        );
     }
     originator = listen(originator, 12, &arrival(&from_a), b'a', &mut got_o)?;
     assert_eq!(rt; originator.phase(), Phase::Closed);
@@ -203,9 +222,21 @@ fn connected(originator: Detecting) -> Result<AnyEnd, &'static str>
     ensures given { IfOk result (λ end. waiting_of end ≡ None) }
 {
     let mut got = Info::new();
-    let seen = listen(AnyEnd::Detecting(originator), 0, &arrival(&Sent::Adp), b'a', &mut got)?;
+    let seen = listen(
+        AnyEnd::Detecting(originator),
+        0,
+        &arrival(&Sent::Adp),
+        b'a',
+        &mut got,
+    )?;
     let agreed = listen(seen, 1, &arrival(&xid(false)), b'a', &mut got)?;
-    listen(agreed, 2, &arrival(&Sent::Frame(Frame::Ua { pf: true })), b'a', &mut got)
+    listen(
+        agreed,
+        2,
+        &arrival(&Sent::Frame(Frame::Ua { pf: true })),
+        b'a',
+        &mut got,
+    )
 }
 
 #[test]

@@ -8,7 +8,6 @@ use crate::connected::Connected;
 use crate::offers::terms_of;
 use crate::terms::{is_originator, other, size_for, window_for};
 use crate::{Sent, Setup};
-
 use lapm_receiver::Receiver;
 use lapm_sender::Sender;
 use outside_core::NoMemory;

@@ -189,19 +189,19 @@ SrejAsksAgain =
 pub record FarRej : Type 0 where
   pub asked : lines_from 184 1 (lines 296 (far false)) ≡ idle flags ∷ heard (i 4 0) (rej 3) ∷ []
   pub again :
-    lines_from 204 12 (lines 296 (far false)) ≡
-    heard (rej 3) (i 3 0) ∷ idle flags ∷
-    idle (i 4 0) ∷ idle flags ∷
-    idle (i 5 0) ∷ idle flags ∷
-    idle (i 6 0) ∷ idle flags ∷
-    idle (i 7 0) ∷ idle flags ∷
-    idle (i 8 0) ∷ idle flags ∷
-    idle (i 9 0) ∷ idle flags ∷
-    idle (i 10 0) ∷ idle flags ∷
-    idle (i 11 0) ∷ idle flags ∷
-    idle (i 12 0) ∷ idle flags ∷
-    idle (i 13 0) ∷ idle flags ∷
-    idle (i 14 0) ∷ idle flags ∷ []
+      lines_from 204 12 (lines 296 (far false)) ≡
+      heard (rej 3) (i 3 0) ∷ idle flags ∷
+      idle (i 4 0) ∷ idle flags ∷
+      idle (i 5 0) ∷ idle flags ∷
+      idle (i 6 0) ∷ idle flags ∷
+      idle (i 7 0) ∷ idle flags ∷
+      idle (i 8 0) ∷ idle flags ∷
+      idle (i 9 0) ∷ idle flags ∷
+      idle (i 10 0) ∷ idle flags ∷
+      idle (i 11 0) ∷ idle flags ∷
+      idle (i 12 0) ∷ idle flags ∷
+      idle (i 13 0) ∷ idle flags ∷
+      idle (i 14 0) ∷ idle flags ∷ []
   pub done : lines_from 295 5 (lines 300 (far false)) ≡ last_heard ua ∷ last ∷ []
 
 -- With SREJ segment 3 alone goes again in turn 204, and the run is done in turn 284.

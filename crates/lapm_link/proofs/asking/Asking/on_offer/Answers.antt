@@ -18,5 +18,5 @@ pub returns-in-Some-clause-becomes : goal.returns-in-Some-clause-becomes
 returns-in-Some-clause-becomes c = λ a h.
     by_offer (ends.Establishing c.new.result) c.args.turn a _ _ c.in-Some.ensures.offer
     (c.new.ensures (record a { terms = agree a.setup.offer c.in-Some.offer })
-     (as_kept _ c.agree.ensures.setup c.agree.ensures.answer (moved a.phase (agree a.setup.offer c.in-Some.offer) a.wait.try a.wait.try_set a.wait.try_count h.unlinked))
-     (rw (c.agree.ensures.terms, h.unlinked.setup_is, h.originates) refl))
+    (as_kept _ c.agree.ensures.setup c.agree.ensures.answer (moved a.phase (agree a.setup.offer c.in-Some.offer) a.wait.try a.wait.try_set a.wait.try_count h.unlinked))
+    (rw (c.agree.ensures.terms, h.unlinked.setup_is, h.originates) refl))
