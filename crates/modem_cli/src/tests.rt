@@ -5,7 +5,12 @@ use std::alloc::Global;
 use std::process::Abort;
 use std::test::Fail;
 
-/// Does what the words say, with three small files, and looks at the answer and at what was said.
+/// The recording of an octet of zeros, as the end that calls sends it.
+const RECORDING: [u8; 16] = [
+    0x56, 0x33, 0x32, 0x52, 0, 0, 0, 0, 0x00, 0xe0, 0x00, 0x08, 0x00, 0xe0, 0x00, 0x08,
+];
+
+/// Does what the words say, with four small files, and looks at the answer and at what was said.
 fn answers(
     rt: &impl Abort,
     alloc: Global,
@@ -21,6 +26,7 @@ fn answers(
     folder.put("o", b"a")?;
     folder.put("a", b"b")?;
     folder.put("s", b"")?;
+    folder.put("r", &RECORDING)?;
     assert!(rt; modem(alloc, &words, &mut folder) == status);
     assert!(rt; folder.said() == said.as_bytes());
     Ok(())
@@ -32,14 +38,18 @@ fn each_command_is_done(rt: HostRuntime) -> Result<(), Fail> {
     answers(&rt, rt.alloc(), &run, Status::Done, "done 2\n")?;
     let encode = ["encode", "call", "o", "r"];
     answers(&rt, rt.alloc(), &encode, Status::Done, "samples 2\n")?;
+    let decode = ["decode", "r", "f"];
+    answers(&rt, rt.alloc(), &decode, Status::Done, "octets 1\n")?;
     let frames = ["frames", "orig", "o"];
     answers(&rt, rt.alloc(), &frames, Status::Done, "pieces 0\n")?;
+    let offer = "window tx=15 rx=15 length tx=128 rx=128 srej=0 check32=0\n";
+    answers(&rt, rt.alloc(), &["xid", "82"], Status::Done, offer)?;
     Ok(())
 }
 
 #[test]
 fn other_words_are_told_the_usage(rt: HostRuntime) -> Result<(), Fail> {
-    let usage = "usage: modem run, encode, frames\n";
+    let usage = "usage: modem run, encode, decode, frames, xid\n";
     let runs = [
         ["run", "o", "a", "s", "go", "go", "t"],
         ["run", "o", "a", "s", "go", "ga", "s"],
@@ -56,8 +66,13 @@ fn other_words_are_told_the_usage(rt: HostRuntime) -> Result<(), Fail> {
     for encode in encodings {
         answers(&rt, rt.alloc(), &encode, Status::Usage, usage)?;
     }
-    for listing in [["frames", "originator", "o"], ["frame", "orig", "o"]] {
-        answers(&rt, rt.alloc(), &listing, Status::Usage, usage)?;
+    let three = [
+        ["frames", "originator", "o"],
+        ["frame", "orig", "o"],
+        ["decode", "r", "r"],
+    ];
+    for words in three {
+        answers(&rt, rt.alloc(), &words, Status::Usage, usage)?;
     }
     answers(&rt, rt.alloc(), &[], Status::Usage, usage)?;
     Ok(())

@@ -3,11 +3,13 @@ ghost use Rattle.std.specs.Prelude.{◌≡◌, map, string_bytes};
 ghost use Rattle.modem_cli.specs.Modem.{IsNoCommand, Answers, Promises};
 
 use command_base::{Status, tell};
+use decode_command::{decode, decode_words};
 use encode_command::{encode, encode_words};
 use frames_command::{frames, frames_words};
 use outside_core::Folder;
 use run_command::{run, run_words};
 use std::alloc::Global;
+use xid_command::{xid, xid_words};
 
 /// Does what the words of a command line say, and answers how it ended. Each answer's line is said last.
 pub fn modem<F: Folder>(alloc: Global, words: &[String], folder: &mut F) -> Status
@@ -27,8 +29,18 @@ pub fn modem<F: Folder>(alloc: Global, words: &[String], folder: &mut F) -> Stat
     if let Some(names) = encode_words(words) {
         return encode(folder, words, &names);
     }
+    if let Some(names) = decode_words(words) {
+        return decode(alloc, folder, words, &names);
+    }
     if let Some(names) = frames_words(words) {
         return frames(folder, words, &names);
     }
-    tell(folder, b"usage: modem run, encode, frames\n", Status::Usage)
+    if let Some(digits) = xid_words(words) {
+        return xid(folder, words, digits);
+    }
+    tell(
+        folder,
+        b"usage: modem run, encode, decode, frames, xid\n",
+        Status::Usage,
+    )
 }

@@ -9,7 +9,6 @@ use crate::limits::Limits;
 use crate::words::RunWords;
 use command_base::{is_longer, read_file};
 use line_world::{Script, ScriptFault, read_script};
-use noise_script::Cause;
 use outside_core::{Folder, FolderFault};
 use std::alloc::Global;
 
@@ -62,11 +61,7 @@ fn open_script<F: Folder>(
     };
     match read_script(alloc, &text) {
         Ok(script) => Ok(script),
-        // A script has lines of one word alone, so a faulty line has this cause.
-        Err(ScriptFault::Line { line, .. }) => Err(Refusal::BadScript {
-            line,
-            cause: Cause::Word,
-        }),
+        Err(ScriptFault::Line { line, cause }) => Err(Refusal::BadScript { line, cause }),
         Err(ScriptFault::NoMemory) => Err(Refusal::NoMemory),
     }
 }
