@@ -1,5 +1,5 @@
 -- What a step gives whose condition holds, and the end once it has been said.
-use Rattle.std.proofs.Common.{◌≡◌, Bool, true, false, Some, refl}
+use Rattle.std.proofs.Common.{◌≡◌, ℕ, Bool, true, false, Option, Some, None, Result, Ok, Err, refl, ◌&&◌}
 use Rattle.lapm_receiver.specs.Taking.{Taking}
 use Rattle.lapm_link.specs.declared.setup.Setup.{Setup}
 use Rattle.lapm_link.specs.declared.connected.Breaks.{Breaks}
@@ -8,8 +8,14 @@ use Rattle.lapm_link.specs.declared.connected.Wait.{Wait}
 use Rattle.lapm_link.specs.declared.connected.Connected.{Connected}
 use Rattle.lapm_link.specs.declared.sent.Sent.{Sent}
 use Rattle.lapm_link.specs.Account.{Account}
-use Rattle.lapm_link.specs.Speak.{Said, where_says}
-use Rattle.lapm_link.specs.Stands.{Gives, SaysLinked, LinksBeside}
+use Rattle.lapm_link.specs.declared.fault.LinkFault.{LinkFault}
+use Rattle.lapm_link.specs.declared.closed.Broken.{Broken}
+use Rattle.lapm_link.specs.declared.any_end.AnyEnd.{AnyEnd}
+use Rattle.lapm_link.specs.declared.phase.Phase.TheVariants as phases
+use Rattle.lapm_link.specs.Account.{is_originator}
+use Rattle.lapm_link.specs.Hear.{trying}
+use Rattle.lapm_link.specs.Speak.{Said, where_says, else_says, steps, on_break_timer, then_tries, after_timers, speak_connected, speak_releasing}
+use Rattle.lapm_link.specs.Stands.{Gives, SaysLinked, Links, LinksBeside, Becomes, SpeaksLinked, Speaks}
 
 pub gives_where : {end : Connected} {sent : Sent} (b : Bool) (said : Said) (a : Account) → b ≡ true → SaysLinked said end sent → Gives (where_says b said) a end (Some sent)
 gives_where b said a e h = rw e h
@@ -55,3 +61,67 @@ replied h = record {
   timer_is = h.timer_is;
   special_is = h.special_is;
 }
+
+-- the last speaking is forgotten
+pub forgotten : {setup : Setup} {receiver : Taking} {breaks : Breaks} {owes : Owes} {wait : Wait} {numbered special : Bool} {a : Account}
+    → LinksBeside setup receiver breaks owes wait numbered special a → LinksBeside setup receiver breaks owes wait numbered false (record a { special = false })
+forgotten h = record {
+  phase_is = h.phase_is;
+  setup_is = h.setup_is;
+  numbered_is = h.numbered_is;
+  receiver_stands = h.receiver_stands;
+  own_stand = h.own_stand;
+  their_stand = h.their_stand;
+  told_within = h.told_within;
+  given_is = h.given_is;
+  answer_is = h.answer_is;
+  reply_is = h.reply_is;
+  poll_is = h.poll_is;
+  urgent_is = h.urgent_is;
+  timer_is = h.timer_is;
+  special_is = refl;
+}
+
+-- The first step that gives something is what is said.
+pub first : (end : Connected) (sent : Sent) (o : Option Said) (rest : Said) (a : Account) → Gives o a end (Some sent) → SaysLinked (else_says o rest) end sent
+first end sent None rest a h = absurd h
+first end sent (Some said) rest a h = h
+
+pub next : (end end' : Connected) (sent : Sent) (o : Option Said) (rest : Said) (a : Account) → Gives o a end None → (Links end a → SaysLinked rest end' sent)
+    → SaysLinked (else_says o rest) end' sent
+next end end' sent None rest a h k = k h
+next end end' sent (Some said) rest a h k = absurd h
+
+-- The timers come first: the second one breaks the link, or neither does.
+breaks_off : (end : Connected) (broken : LinkFault) (turn : ℕ) (special : Bool) (r : Result Account LinkFault) → Becomes r end (Err broken)
+    → SpeaksLinked (after_timers turn special r) end (Err broken)
+breaks_off end broken turn special (Ok b) h = absurd h
+breaks_off end broken turn special (Err fault) h = h
+
+pub second_breaks : (end1 end2 : Connected) (broken : LinkFault) (turn : ℕ) (special : Bool) (r : Result Account LinkFault) → Becomes r end1 (Ok tt)
+    → ((b : Account) → Links end1 b → Becomes (on_break_timer turn b) end2 (Err broken)) → SpeaksLinked (after_timers turn special (then_tries turn r)) end2 (Err broken)
+second_breaks end1 end2 broken turn special (Err fault) h k = absurd h
+second_breaks end1 end2 broken turn special (Ok b) h k = breaks_off end2 broken turn special (on_break_timer turn b) (k b h)
+
+goes_on : (end end' : Connected) (sent : Sent) (turn : ℕ) (special : Bool) (r : Result Account LinkFault) → Becomes r end (Ok tt)
+    → ((b : Account) → Links end b → SaysLinked (steps turn special (record b { special = false })) end' sent) → SpeaksLinked (after_timers turn special r) end' (Ok sent)
+goes_on end end' sent turn special (Ok b) h k = k b h
+goes_on end end' sent turn special (Err fault) h k = absurd h
+
+pub timers_pass : (end1 end2 end3 : Connected) (sent : Sent) (turn : ℕ) (special : Bool) (r : Result Account LinkFault) → Becomes r end1 (Ok tt)
+    → ((b : Account) → Links end1 b → Becomes (on_break_timer turn b) end2 (Ok tt))
+    → ((b : Account) → Links end2 b → SaysLinked (steps turn special (record b { special = false })) end3 sent) → SpeaksLinked (after_timers turn special (then_tries turn r)) end3 (Ok sent)
+timers_pass end1 end2 end3 sent turn special (Err fault) h k l = absurd h
+timers_pass end1 end2 end3 sent turn special (Ok b) h k l = goes_on end2 end3 sent turn special (on_break_timer turn b) (k b h) l
+
+-- An originator that is told to release speaks as one that releases.
+as_before : (before sent : Sent) (r : Result Said LinkFault) (result : Result AnyEnd Broken) (turn : ℕ) (a : Account) → Speaks r (trying phases.Releasing turn a) before sent result
+    → Speaks r a before sent result
+as_before before sent (Ok said) (Ok end) turn a h = h
+as_before before sent (Err fault) (Err broken) turn a h = (h.0, record { fault_is = h.1.fault_is; over = record { setup_is = h.1.over.setup_is; answer_is = h.1.over.answer_is } })
+as_before before sent (Ok said) (Err broken) turn a h = absurd h
+as_before before sent (Err fault) (Ok end) turn a h = absurd h
+
+pub releases : (before sent : Sent) (result : Result AnyEnd Broken) (turn : ℕ) (release : Bool) (a : Account) → release ≡ true → is_originator a.setup.role ≡ true
+    → Speaks (speak_releasing turn (trying phases.Releasing turn a)) (trying phases.Releasing turn a) before sent result → Speaks (speak_connected turn release a) a before sent result
+releases before sent result turn release a e f h = rw (e, f) (as_before before sent (speak_releasing turn (trying phases.Releasing turn a)) result turn a h)

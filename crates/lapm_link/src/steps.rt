@@ -273,9 +273,9 @@ impl Connected {
         ensures speaks { (a : Account) → Links self.old a → SpeaksLinked (speak_linked turn a) self.new result }
         ensures same { SameTaken self.old self.new }
     {
+        let special = self.special;
         self.on_timer(turn)?;
         self.on_break_timer(turn)?;
-        let special = self.special;
         self.special = false;
         Ok(self.first_step(turn, special))
     }
