@@ -1,0 +1,7 @@
+pub mod Checking
+pub mod Tallying
+pub mod Finding
+pub mod Standing
+pub mod Passing
+pub mod Once
+pub mod Arriving

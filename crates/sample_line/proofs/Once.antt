@@ -1,0 +1,236 @@
+-- What is recorded, given and received is one, and goes on.
+use Rattle.std.proofs.Common.{◌≡◌, inl, inr, ◌∙◌, ◌+◌, ◌*◌, ◌/◌, ◌%◌, ◌<◌, ◌≤◌, ℕ, zero, suc, Bool, true, false, nat_eq, List, [], ◌∷◌, ◌++◌, length, take, drop, map, refl, sym, ap, subst, arith, All}
+use Rattle.std.specs.List.{flat_map}
+use Rattle.std.proofs.lemmas.Bool.{false≢true, cases_eq, eqb-true}
+use Rattle.std.proofs.Math.Seq.{take-nil, take-append_seam}
+use Rattle.std.proofs.lemmas.List.{take-append-drop, take-map}
+use Rattle.std.proofs.lemmas.List.Elements.{All-take}
+use Rattle.frame_check.specs.declared.check.Check.{Check}
+use Rattle.frame_check.specs.Bits.{low_bits}
+use Rattle.frame_check.proofs.Checks.{fronts-one}
+use Rattle.scramblers.specs.Mode.{tap_of}
+use Rattle.scramblers.proofs.Readings.{Scrambles_once, Scrambles-take, Descrambles_once}
+use Rattle.symbol_map.specs.declared.sample.Sample.{Sample}
+use Rattle.symbol_map.specs.Points.{point_of}
+use Rattle.trellis_tables.specs.Encoder.{Encodes}
+use Rattle.trellis_tables.proofs.Codings.{Encodes_once, Encodes-take}
+use Rattle.survivors.proofs.Fronts.{released-once, stays-prefix}
+use Rattle.modulator.specs.Modulates.{Modulates}
+use Rattle.demodulator.specs.Demodulates.{line_of, Demodulates}
+use Rattle.demodulator.proofs.Readings.{length-fours, first-stay}
+use Rattle.detection.specs.declared.seen.Seen.{Seen}
+use Rattle.detection.specs.Sights.{Sight, sights_of}
+use Rattle.bit_stuffing.specs.Found.{Found, pieces_of}
+use Rattle.bit_stuffing.specs.Sent.{wholes}
+use Rattle.lapm_frames.specs.declared.frame.Role.{Role}
+use Rattle.lapm_frames.specs.declared.frame.Role.TheVariants.{Originator, Answerer}
+use Rattle.lapm_frames.specs.declared.frame.Frame.{Frame}
+use Rattle.lapm_frames.specs.Frame.{FrameSpelling}
+use Rattle.lapm_frames.proofs.Spellings.{frames-one}
+use Rattle.lapm_link.specs.declared.sent.Sent.{Sent}
+use Rattle.lapm_link.specs.declared.sent.Sent.TheVariants as sent
+use Rattle.noise_script.specs.Script.{ScriptValue, offset_of}
+use Rattle.sample_line.specs.declared.heard.Heard.{Heard}
+use Rattle.sample_line.specs.declared.heard.Heard.TheVariants as heard
+use Rattle.sample_line.specs.Outcomes.{IsSilent, IsWhatWasSent, IsOutcome}
+use Rattle.sample_line.specs.Recorded.{mode_of, displaced, displaced_from, Records}
+use Rattle.sample_line.specs.Received.{line_trellis, SpellsFrame, AreFrames, FoundBetween, Gives, Receives}
+use Rattle.sample_line.specs.Signals.{check_heard}
+
+tap-some : (sender : Role) → 1 ≤ tap_of (mode_of sender)
+tap-some Originator = omega arith
+tap-some Answerer = omega arith
+
+-- recordings
+
+odd-same : (a b : ℕ) → nat_eq (a % 2) 1 ≡ nat_eq (b % 2) 1 → a % 2 ≡ b % 2
+odd-same a b e = elim (cases_eq (a % 2) 1) [
+  | inl one ↦ elim (cases_eq (b % 2) 1) [ inl also ↦ one ∙ sym also | inr other ↦ absurd (differ a b one other e) ]
+  | inr even ↦ elim (cases_eq (b % 2) 1) [ inl one ↦ absurd (differ b a one even (sym e)) | inr also ↦ omega arith ]
+]
+  where
+    differ : (m n : ℕ) → m % 2 ≡ 1 → (n % 2 ≡ 1 → ⊥) → nat_eq (m % 2) 1 ≡ nat_eq (n % 2) 1 → ⊥
+    differ m n one other q = other (eqb-true (n % 2) 1 (sym q ∙ ap (λ k. nat_eq k 1) one))
+
+quad-same : (q r : ℕ) → q < 16 → r < 16 → q % 2 ≡ r % 2 → q / 2 % 2 ≡ r / 2 % 2 → q / 2 / 2 % 2 ≡ r / 2 / 2 % 2 → q / 2 / 2 / 2 % 2 ≡ r / 2 / 2 / 2 % 2 → q ≡ r
+quad-same q r low high a b c d = omega arith
+
+head-tail : {X : Type 0} (x y : X) (a b : List X) → x ∷ a ≡ y ∷ b → (x ≡ y) × (a ≡ b)
+head-tail x y a b e = (cc, cc)
+
+All-head : (quad : ℕ) (quads : List ℕ) → All (λ q. q < 16) (quad ∷ quads) → quad < 16
+All-head quad quads h = h 0 0 (omega arith)
+
+All-tail : (quad : ℕ) (quads : List ℕ) → All (λ q. q < 16) (quad ∷ quads) → All (λ q. q < 16) quads
+All-tail quad quads h k d low = h (suc k) d (omega (arith, low))
+
+quads-once : (quads others : List ℕ) → All (λ q. q < 16) quads → All (λ q. q < 16) others → flat_map (low_bits 4) quads ≡ flat_map (low_bits 4) others → quads ≡ others
+quads-once [] [] h k e = refl
+quads-once [] (r ∷ others) h k e = absurd cc
+quads-once (q ∷ quads) [] h k e = absurd cc
+quads-once (q ∷ quads) (r ∷ others) h k e =
+    let first = head-tail _ _ _ _ e in
+    let second = head-tail _ _ _ _ first.1 in
+    let third = head-tail _ _ _ _ second.1 in
+    let fourth = head-tail _ _ _ _ third.1 in
+    let same : q ≡ r = quad-same q r (All-head q quads h) (All-head r others k) (odd-same q r first.0) (odd-same (q / 2) (r / 2) second.0) (odd-same (q / 2 / 2) (r / 2 / 2) third.0) (odd-same (q / 2 / 2 / 2) (r / 2 / 2 / 2) fourth.0) in
+    let others-same : quads ≡ others = quads-once quads others (All-tail q quads h) (All-tail r others k) fourth.1 in
+    rw (same, others-same) refl
+
+modulates-once : (tap : ℕ) (bits : List Bool) (samples other : List Sample) → 1 ≤ tap → Modulates tap bits samples → Modulates tap bits other → samples ≡ other
+modulates-once tap bits samples other low h k =
+    let line : h.line ≡ k.line = Scrambles_once tap bits h.line k.line low h.scrambled k.scrambled in
+    let quads : h.quads ≡ k.quads = quads-once h.quads k.quads h.are_quads k.are_quads (sym h.in_fours ∙ line ∙ k.in_fours) in
+    let labels : h.labels ≡ k.labels = Encodes_once k.quads h.labels k.labels h.end k.end (subst (λ (xs : List ℕ). Encodes xs h.labels h.end) quads h.encoded) k.encoded in
+    h.points ∙ ap (map point_of) labels ∙ sym k.points
+
+pub recorded-once : (script : ScriptValue) (sender : Role) (bits : List Bool) (samples other : List Sample)
+    → Records script sender bits samples → Records script sender bits other → samples ≡ other
+recorded-once script sender bits samples other h k =
+    h.samples_are ∙ ap (displaced_from script sender 0) (modulates-once (tap_of (mode_of sender)) bits h.points k.points (tap-some sender) h.modulated k.modulated) ∙ sym k.samples_are
+
+take-fours : (n : ℕ) (quads : List ℕ) → take (4 * n) (flat_map (low_bits 4) quads) ≡ flat_map (low_bits 4) (take n quads)
+take-fours zero quads = refl
+take-fours (suc n) [] = take-nil (4 * suc n)
+take-fours (suc n) (quad ∷ quads) =
+    let four : 4 * suc n ≡ suc (suc (suc (suc (4 * n)))) = omega arith in
+    let first : take (4 * suc n) (flat_map (low_bits 4) (quad ∷ quads)) ≡ low_bits 4 quad ++ take (4 * n) (flat_map (low_bits 4) quads) = ap (λ m. take m (flat_map (low_bits 4) (quad ∷ quads))) four in
+    first ∙ ap (λ xs. low_bits 4 quad ++ xs) (take-fours n quads)
+
+modulates-take : (tap n : ℕ) (bits : List Bool) (samples : List Sample) → 1 ≤ tap → Modulates tap bits samples → Modulates tap (take (4 * n) bits) (take n samples)
+modulates-take tap n bits samples low h =
+    let coded = Encodes-take h.quads h.labels h.end n h.encoded in
+    record {
+      line = take (4 * n) h.line;
+      quads = take n h.quads;
+      labels = take n h.labels;
+      end = coded.0;
+      scrambled = Scrambles-take tap (4 * n) bits h.line low h.scrambled;
+      in_fours = ap (take (4 * n)) h.in_fours ∙ take-fours n h.quads;
+      are_quads = All-take (λ q. q < 16) n h.quads h.are_quads;
+      encoded = coded.1;
+      points = ap (take n) h.points ∙ take-map point_of n h.labels;
+    }
+
+displaced-take : (script : ScriptValue) (sender : Role) (symbol n : ℕ) (points : List Sample) → take n (displaced_from script sender symbol points) ≡ displaced_from script sender symbol (take n points)
+displaced-take script sender symbol zero points = refl
+displaced-take script sender symbol (suc n) [] = refl
+displaced-take script sender symbol (suc n) (point ∷ points) = ap (λ xs. displaced (offset_of script sender symbol) point ∷ xs) (displaced-take script sender (symbol + 1) n points)
+
+recorded-take : (script : ScriptValue) (sender : Role) (n : ℕ) (bits : List Bool) (samples : List Sample) → Records script sender bits samples → Records script sender (take (4 * n) bits) (take n samples)
+recorded-take script sender n bits samples h = record {
+  points = take n h.points;
+  modulated = modulates-take (tap_of (mode_of sender)) n bits h.points (tap-some sender) h.modulated;
+  samples_are = ap (take n) h.samples_are ∙ displaced-take script sender 0 n h.points;
+}
+
+length-modulated : (tap : ℕ) (bits : List Bool) (samples : List Sample) → (h : Modulates tap bits samples) → length bits ≡ 4 * length h.quads
+length-modulated tap bits samples h = sym h.scrambled.lengths ∙ ap length h.in_fours ∙ length-fours h.quads
+
+pub recordings-grow : (script : ScriptValue) (sender : Role) (bits more : List Bool) (before samples : List Sample)
+    → Records script sender bits before → Records script sender (bits ++ more) samples → (rest : List Sample) × (samples ≡ before ++ rest)
+recordings-grow script sender bits more before samples h k =
+    let n : ℕ = length h.modulated.quads in
+    let first : take (4 * n) (bits ++ more) ≡ bits = ap (λ m. take m (bits ++ more)) (sym (length-modulated (tap_of (mode_of sender)) bits h.points h.modulated)) ∙ take-append_seam bits more in
+    let same : take n samples ≡ before = recorded-once script sender bits (take n samples) before (subst (λ (xs : List Bool). Records script sender xs (take n samples)) first (recorded-take script sender n (bits ++ more) samples k)) h in
+    (drop n samples, sym (take-append-drop n samples) ∙ ap (λ xs. xs ++ drop n samples) same)
+
+-- what samples give
+
+pub given-once : (sender : Role) (samples : List Sample) (bits other : List Bool) → Gives sender samples bits → Gives sender samples other → bits ≡ other
+given-once sender samples bits other h k =
+    let labels : h.labels ≡ k.labels = released-once line_trellis samples h.labels k.labels h.released k.released in
+    Descrambles_once (tap_of (mode_of sender)) (line_of k.labels) bits other (subst (λ (xs : List ℕ). Demodulates (tap_of (mode_of sender)) xs bits) labels h.read) k.read
+
+pub given-stays : (sender : Role) (samples more : List Sample) (bits later : List Bool)
+    → Gives sender samples bits → Gives sender (samples ++ more) later → (rest : List Bool) × (later ≡ bits ++ rest)
+given-stays sender samples more bits later h k =
+    let tap : ℕ = tap_of (mode_of sender) in
+    let n : ℕ = length h.labels in
+    let grown = stays-prefix line_trellis samples more h.labels k.labels h.released k.released in
+    let first : take n k.labels ≡ h.labels = ap (take n) grown.1 ∙ take-append_seam h.labels grown.0 in
+    let same : take (4 * n) later ≡ bits = Descrambles_once tap (line_of h.labels) (take (4 * n) later) bits
+    (subst (λ (xs : List ℕ). Demodulates tap xs (take (4 * n) later)) first (first-stay tap n k.labels later (tap-some sender) k.read)) h.read in
+    (drop (4 * n) later, sym (take-append-drop (4 * n) later) ∙ ap (λ xs. xs ++ drop (4 * n) later) same)
+
+-- what is received in a slot
+
+spelled-once : (check : Check) (sender : Role) (dlci : ℕ) (whole : List ℕ) (frame other : Frame) → SpellsFrame check sender dlci whole frame → SpellsFrame check sender dlci whole other → frame ≡ other
+spelled-once check sender dlci whole frame other h k =
+    frames-one frame other sender dlci k.octets (subst (λ (xs : List ℕ). FrameSpelling frame sender dlci xs) (fronts-one (check_heard check whole) h.octets k.octets whole h.passes k.passes) h.spelling) k.spelling
+
+frames-once : (check : Check) (sender : Role) (dlci : ℕ) (wholes : List (List ℕ)) (frames others : List Frame)
+    → AreFrames check sender dlci wholes frames → AreFrames check sender dlci wholes others → frames ≡ others
+frames-once check sender dlci [] frames others h k = h ∙ sym k
+frames-once check sender dlci (whole ∷ wholes) frames others (inl h) (inl k) = frames-once check sender dlci wholes frames others h.1 k.1
+frames-once check sender dlci (whole ∷ wholes) frames others (inl h) (inr k) = absurd (h.0 k.0 k.2)
+frames-once check sender dlci (whole ∷ wholes) frames others (inr h) (inl k) = absurd (k.0 h.0 h.2)
+frames-once check sender dlci (whole ∷ wholes) frames others (inr h) (inr k) =
+    let same : h.0 ≡ k.0 = spelled-once check sender dlci whole h.0 k.0 h.2 k.2 in
+    let rest : h.1 ≡ k.1 = frames-once check sender dlci wholes h.1 k.1 h.4 k.4 in
+    h.3 ∙ ap (λ f. f ∷ h.1) same ∙ ap (λ xs. k.0 ∷ xs) rest ∙ sym k.3
+
+same-behind : {X : Type 0} (front a b : List X) → front ++ a ≡ front ++ b → a ≡ b
+same-behind [] a b e = e
+same-behind (x ∷ front) a b e = same-behind front a b (head-tail _ _ _ _ e).1
+
+found-once : (check : Check) (sender : Role) (dlci : ℕ) (earlier later : List Bool) (frames others : List Frame) (patterns other_patterns : List Seen)
+    → FoundBetween check sender dlci earlier later frames patterns → FoundBetween check sender dlci earlier later others other_patterns
+    → (frames ≡ others) × (patterns ≡ other_patterns)
+found-once check sender dlci earlier later frames others patterns other_patterns h k =
+    let pieces : h.pieces ≡ k.pieces = same-behind (pieces_of earlier) h.pieces k.pieces (sym h.pieces_are ∙ k.pieces_are) in
+    let sights : h.sights ≡ k.sights = same-behind (sights_of earlier) h.sights k.sights (sym h.sights_are ∙ k.sights_are) in (
+      frames-once check sender dlci (wholes k.pieces) frames others (subst (λ (xs : List Found). AreFrames check sender dlci (wholes xs) frames) pieces h.frames_are) k.frames_are,
+      h.patterns_are ∙ ap (map (λ (sight : Sight). sight.seen)) sights ∙ sym k.patterns_are,
+    )
+
+pub received-once : (check : Check) (sender : Role) (dlci : ℕ) (before upto : List Sample) (frames others : List Frame) (patterns other_patterns : List Seen)
+    → Receives check sender dlci before upto frames patterns → Receives check sender dlci before upto others other_patterns
+    → (frames ≡ others) × (patterns ≡ other_patterns)
+received-once check sender dlci before upto frames others patterns other_patterns h k =
+    let earlier : h.earlier ≡ k.earlier = given-once sender before h.earlier k.earlier h.gave k.gave in
+    let later : h.later ≡ k.later = given-once sender upto h.later k.later h.gives k.gives in
+    found-once check sender dlci k.earlier k.later frames others patterns other_patterns
+    (subst (λ (xs : List Bool). FoundBetween check sender dlci xs k.later frames patterns) earlier
+    (subst (λ (xs : List Bool). FoundBetween check sender dlci h.earlier xs frames patterns) later h.found)) k.found
+
+-- outcomes
+
+silent-sent : (s : Sent) (frames : List Frame) (patterns : List Seen) → IsSilent frames patterns → IsWhatWasSent s frames patterns → ⊥
+silent-sent sent.Mark frames patterns q w = w
+silent-sent sent.Flags frames patterns q w = w
+silent-sent sent.Odp frames patterns q w = w.1 q.1
+silent-sent sent.Adp frames patterns q w = w.1 q.1
+silent-sent (sent.Frame frame) frames patterns q w = none (sym q.0 ∙ w.0)
+  where
+    none : [] ≡ frame ∷ [] → ⊥
+    none e = absurd cc
+
+pub outcome-once : (loses : Bool) (s : Sent) (frames : List Frame) (patterns : List Seen) (h other : Heard)
+    → IsOutcome loses s frames patterns h → IsOutcome loses s frames patterns other → h ≡ other
+outcome-once true s frames patterns heard.Nothing heard.Nothing a b = refl
+outcome-once true s frames patterns heard.Nothing (heard.Lost t) a b = absurd (false≢true (sym a ∙ b.1))
+outcome-once true s frames patterns heard.Nothing (heard.Passed t) a b = absurd b
+outcome-once true s frames patterns heard.Nothing heard.Chance a b = absurd b
+outcome-once true s frames patterns (heard.Lost t) heard.Nothing a b = absurd (false≢true (sym b ∙ a.1))
+outcome-once true s frames patterns (heard.Lost t) (heard.Lost u) a b = ap heard.Lost (a.0 ∙ sym b.0)
+outcome-once true s frames patterns (heard.Lost t) (heard.Passed u) a b = absurd b
+outcome-once true s frames patterns (heard.Lost t) heard.Chance a b = absurd b
+outcome-once true s frames patterns (heard.Passed t) other a b = absurd a
+outcome-once true s frames patterns heard.Chance other a b = absurd a
+outcome-once false s frames patterns heard.Nothing heard.Nothing a b = refl
+outcome-once false s frames patterns heard.Nothing (heard.Lost t) a b = absurd (false≢true (sym a.0 ∙ b.1))
+outcome-once false s frames patterns heard.Nothing (heard.Passed t) a b = absurd (silent-sent s frames patterns a.1 b.1)
+outcome-once false s frames patterns heard.Nothing heard.Chance a b = absurd (b.0 a.1)
+outcome-once false s frames patterns (heard.Lost t) heard.Nothing a b = absurd (false≢true (sym b.0 ∙ a.1))
+outcome-once false s frames patterns (heard.Lost t) (heard.Lost u) a b = ap heard.Lost (a.0 ∙ sym b.0)
+outcome-once false s frames patterns (heard.Lost t) (heard.Passed u) a b = absurd (silent-sent s frames patterns a.2 b.1)
+outcome-once false s frames patterns (heard.Lost t) heard.Chance a b = absurd (b.0 a.2)
+outcome-once false s frames patterns (heard.Passed t) heard.Nothing a b = absurd (silent-sent s frames patterns b.1 a.1)
+outcome-once false s frames patterns (heard.Passed t) (heard.Lost u) a b = absurd (silent-sent s frames patterns b.2 a.1)
+outcome-once false s frames patterns (heard.Passed t) (heard.Passed u) a b = ap heard.Passed (a.0 ∙ sym b.0)
+outcome-once false s frames patterns (heard.Passed t) heard.Chance a b = absurd (b.1 a.1)
+outcome-once false s frames patterns heard.Chance heard.Nothing a b = absurd (a.0 b.1)
+outcome-once false s frames patterns heard.Chance (heard.Lost t) a b = absurd (a.0 b.2)
+outcome-once false s frames patterns heard.Chance (heard.Passed t) a b = absurd (a.1 b.1)
+outcome-once false s frames patterns heard.Chance heard.Chance a b = refl

@@ -1,0 +1,91 @@
+-- What the relations of the parts say of samples and bits.
+use Rattle.std.proofs.Common.{◌≡◌, ◌∙◌, ◌+◌, ◌<◌, ℕ, ℤ, Bool, List, [], ◌∷◌, ◌++◌, length, take, None, refl, sym, ap, subst, arith, get_or}
+use Rattle.std.proofs.lemmas.List.{append-nil, take_more, append_assoc}
+use Rattle.std.proofs.lemmas.Grind.{flat_map-append}
+use Rattle.frame_check.specs.Bits.{low_bits}
+use Rattle.bit_stuffing.specs.BitSlot.{line_bits}
+use Rattle.scramblers.specs.declared.mode.Mode.{Mode}
+use Rattle.scramblers.specs.declared.mode.Mode.TheVariants.{Call, Answer}
+use Rattle.scramblers.specs.Mode.{tap_of}
+use Rattle.symbol_map.specs.declared.sample.Sample.{Sample}
+use Rattle.survivors.specs.Survivors.{IsReleased}
+use Rattle.exact_decoder.specs.Decoder.{heard}
+use Rattle.modulator.specs.Modulates.{Modulates}
+use Rattle.demodulator.specs.Demodulates.{Demodulates}
+use Rattle.lapm_frames.specs.declared.frame.Role.{Role}
+use Rattle.noise_script.specs.Script.{ScriptValue, offset_of}
+use Rattle.sample_line.specs.declared.modes.ModeModulator.{ModeModulator}
+use Rattle.sample_line.specs.declared.modes.ModeModulator.TheVariants as modulators
+use Rattle.sample_line.specs.declared.modes.ModeDemodulator.{ModeDemodulator}
+use Rattle.sample_line.specs.declared.modes.ModeDemodulator.TheVariants as demodulators
+use Rattle.sample_line.specs.declared.transmitter.Transmitter.{Transmitter}
+use Rattle.sample_line.specs.declared.hearer.Hearer.{Hearer}
+use Rattle.sample_line.specs.Modes.{ModulatesAs, DemodulatesAs}
+use Rattle.sample_line.specs.Recorded.{mode_of, saturated, displaced, displaced_from, Records}
+use Rattle.sample_line.specs.Received.{line_trellis, Gives}
+use Rattle.sample_line.specs.Transmits.{Transmits}
+use Rattle.sample_line.specs.Hears.{Hears}
+
+pub displaced-snoc : (script : ScriptValue) (sender : Role) (symbol : ℕ) (points : List Sample) (point : Sample)
+    → displaced_from script sender symbol (points ++ point ∷ []) ≡ displaced_from script sender symbol points ++ displaced (offset_of script sender (symbol + length points)) point ∷ []
+displaced-snoc script sender symbol [] point =
+    let e : symbol ≡ symbol + 0 = omega arith in
+    ap (λ n. displaced (offset_of script sender n) point ∷ []) e
+displaced-snoc script sender symbol (first ∷ points) point =
+    let e : symbol + 1 + length points ≡ symbol + length (first ∷ points) = omega arith in
+    ap (λ xs. displaced (offset_of script sender symbol) first ∷ xs)
+    (displaced-snoc script sender (symbol + 1) points point ∙ ap (λ n. displaced_from script sender (symbol + 1) points ++ displaced (offset_of script sender n) point ∷ []) e)
+
+pub displaced-behind : (script : ScriptValue) (sender : Role) (symbol : ℕ) (points : List Sample) (point : Sample) → symbol ≡ length points
+    → displaced_from script sender 0 points ++ displaced (offset_of script sender symbol) point ∷ [] ≡ displaced_from script sender 0 (points ++ point ∷ [])
+displaced-behind script sender symbol points point e =
+    let n : symbol ≡ 0 + length points = omega (arith, e) in
+    ap (λ m. displaced_from script sender 0 points ++ displaced (offset_of script sender m) point ∷ []) n ∙ sym (displaced-snoc script sender 0 points point)
+
+pub same-saturated : (result a b : ℤ) → result ≡ saturated a → a ≡ b → result ≡ saturated b
+same-saturated result a b e same = e ∙ ap saturated same
+
+pub same-sample : (a b : Sample) → a.re ≡ b.re → a.im ≡ b.im → a ≡ b
+same-sample a b r i = rw (r, i) refl
+
+pub modulates-as : (mode : Mode) (m : ModeModulator) (bits : List Bool) (points : List Sample) → ModulatesAs mode m bits points → Modulates (tap_of mode) bits points
+modulates-as Call (modulators.Call m) bits points h = record { line = h.line; quads = h.quads; labels = h.labels; end = m.coder.state; scrambled = h.scrambler.scrambled; in_fours = h.in_fours; are_quads = h.are_quads; encoded = h.encoder.encodes; points = h.points }
+modulates-as Answer (modulators.Answer m) bits points h = record { line = h.line; quads = h.quads; labels = h.labels; end = m.coder.state; scrambled = h.scrambler.scrambled; in_fours = h.in_fours; are_quads = h.are_quads; encoded = h.encoder.encodes; points = h.points }
+modulates-as Call (modulators.Answer m) bits points h = absurd h
+modulates-as Answer (modulators.Call m) bits points h = absurd h
+
+pub demodulates-as : (mode : Mode) (d : ModeDemodulator) (labels : List ℕ) (bits : List Bool) → DemodulatesAs mode d labels bits → Demodulates (tap_of mode) labels bits
+demodulates-as Call (demodulators.Call d) labels bits h = h.descrambler.descrambled
+demodulates-as Answer (demodulators.Answer d) labels bits h = h.descrambler.descrambled
+demodulates-as Call (demodulators.Answer d) labels bits h = absurd h
+demodulates-as Answer (demodulators.Call d) labels bits h = absurd h
+
+-- a transmitter's samples are what is recorded of its bits
+pub recorded : (transmitter : Transmitter) (script : ScriptValue) (bits : List Bool) (samples : List Sample) → Transmits transmitter script bits samples → Records script transmitter.sender bits samples
+recorded transmitter script bits samples h = record {
+  points = h.points;
+  modulated = modulates-as (mode_of transmitter.sender) transmitter.modulator bits h.points h.modulator;
+  samples_are = h.samples_are;
+}
+
+-- where each released label was taken, what was read is what the samples give
+pub gives : (sender : Role) (hearer : Hearer) (samples : List Sample) (read : List Bool) → Hears (mode_of sender) hearer samples read
+    → hearer.decoder.lost ≡ None → hearer.decoder.pending ≡ [] → Gives sender samples read
+gives sender hearer samples read h not_lost taken = record {
+  labels = h.labels;
+  released = subst (λ (xs : List Sample). IsReleased line_trellis xs h.labels) (ap (λ l. heard l samples) not_lost)
+      (subst (λ (xs : List ℕ). IsReleased line_trellis (heard hearer.decoder.lost samples) xs) (ap (λ p. h.labels ++ p) taken ∙ append-nil h.labels) h.decoder.released);
+  read = demodulates-as (mode_of sender) hearer.receiver.demodulator h.labels read h.receiver.demodulator;
+}
+
+-- one more quad of a slot
+pub slot-part : (quads : List ℕ) (i : ℕ) → i < length quads → line_bits (take i quads) ++ low_bits 4 (get_or quads i 0) ≡ line_bits (take (i + 1) quads)
+slot-part quads i h =
+    ap (λ l. line_bits (take i quads) ++ l) (sym (append-nil (low_bits 4 (get_or quads i 0)))) ∙ sym (flat_map-append (low_bits 4) (take i quads) (get_or quads i 0 ∷ []))
+    ∙ ap line_bits (sym (take_more quads i 0 h))
+
+-- and of all that was sent
+pub sent-part : (before : List Bool) (quads : List ℕ) (i quad : ℕ) → i < length quads → quad ≡ get_or quads i 0
+    → (before ++ line_bits (take i quads)) ++ low_bits 4 quad ≡ before ++ line_bits (take (i + 1) quads)
+sent-part before quads i quad h e =
+    append_assoc before (line_bits (take i quads)) (low_bits 4 quad) ∙ ap (λ q. before ++ (line_bits (take i quads) ++ low_bits 4 q)) e ∙ ap (λ xs. before ++ xs) (slot-part quads i h)

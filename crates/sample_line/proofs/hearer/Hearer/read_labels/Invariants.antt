@@ -1,0 +1,15 @@
+use Rattle.std.proofs.Common.{◌≡◌, ◌+◌, length, List, Bool}
+use Rattle.scramblers.specs.declared.mode.Mode.{Mode}
+use Rattle.symbol_map.specs.declared.sample.Sample.{Sample}
+use Rattle.sample_line.specs.Hears.{HearsBetween}
+use Rattle.sample_line.proofs.hearer.Hearer.read_labels.Given as goal
+
+abbrev pub invariant-loop : goal.invariant-loop
+invariant-loop l = record {
+  stands : (mode : Mode) (samples : List Sample) (earlier : List Bool)
+      → HearsBetween mode l.fn.self samples l.slot.check l.slot.sender l.slot.dlci l.slot.sent.now earlier l.fn.tally
+      → HearsBetween mode l.self samples l.slot.check l.slot.sender l.slot.dlci l.slot.sent.now earlier l.tally;
+  left : length l.self.decoder.pending + l.counter ≡ length l.fn.self.decoder.pending;
+  count : l.self.decoder.count ≡ l.fn.self.decoder.count;
+  lost : l.self.decoder.lost ≡ l.fn.self.decoder.lost;
+}

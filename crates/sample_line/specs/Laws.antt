@@ -1,0 +1,44 @@
+-- Laws of what is recorded and received.
+use Rattle.std.specs.Prelude.{◌≡◌, ℕ, Bool, List, ◌++◌}
+use Rattle.frame_check.specs.declared.check.Check.{Check}
+use Rattle.symbol_map.specs.declared.sample.Sample.{Sample}
+use Rattle.detection.specs.declared.seen.Seen.{Seen}
+use Rattle.lapm_frames.specs.declared.frame.Role.{Role}
+use Rattle.lapm_frames.specs.declared.frame.Frame.{Frame}
+use Rattle.lapm_link.specs.declared.sent.Sent.{Sent}
+use Rattle.noise_script.specs.Script.{ScriptValue}
+use Rattle.sample_line.specs.declared.heard.Heard.{Heard}
+use Rattle.sample_line.specs.Recorded.{Records}
+use Rattle.sample_line.specs.Received.{Gives, Receives}
+use Rattle.sample_line.specs.Outcomes.{IsOutcome}
+
+-- what is recorded of bits is one list
+abbrev pub RecordedOnce : Type 0
+RecordedOnce = (script : ScriptValue) (sender : Role) (bits : List Bool) (samples other : List Sample)
+    → Records script sender bits samples → Records script sender bits other → samples ≡ other
+
+-- and a prefix of what is recorded once more bits follow
+abbrev pub RecordingsGrow : Type 0
+RecordingsGrow = (script : ScriptValue) (sender : Role) (bits more : List Bool) (before samples : List Sample)
+    → Records script sender bits before → Records script sender (bits ++ more) samples
+    → (rest : List Sample) × (samples ≡ before ++ rest)
+
+-- what samples give is one list of bits
+abbrev pub GivenOnce : Type 0
+GivenOnce = (sender : Role) (samples : List Sample) (bits other : List Bool) → Gives sender samples bits → Gives sender samples other → bits ≡ other
+
+-- and stays, whatever samples follow
+abbrev pub GivenStays : Type 0
+GivenStays = (sender : Role) (samples more : List Sample) (bits later : List Bool)
+    → Gives sender samples bits → Gives sender (samples ++ more) later → (rest : List Bool) × (later ≡ bits ++ rest)
+
+-- one list of frames and one of patterns are received in a slot
+abbrev pub ReceivedOnce : Type 0
+ReceivedOnce = (check : Check) (sender : Role) (dlci : ℕ) (before upto : List Sample) (frames others : List Frame) (patterns other_patterns : List Seen)
+    → Receives check sender dlci before upto frames patterns → Receives check sender dlci before upto others other_patterns
+    → (frames ≡ others) × (patterns ≡ other_patterns)
+
+-- and they have one outcome
+abbrev pub OneOutcome : Type 0
+OneOutcome = (loses : Bool) (s : Sent) (frames : List Frame) (patterns : List Seen) (heard other : Heard)
+    → IsOutcome loses s frames patterns heard → IsOutcome loses s frames patterns other → heard ≡ other

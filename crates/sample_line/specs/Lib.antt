@@ -1,0 +1,12 @@
+pub mod Signals
+pub mod Recorded
+pub mod Received
+pub mod Outcomes
+pub mod Tallies
+pub mod Modes
+pub mod Receiver
+pub mod Transmits
+pub mod Hears
+pub mod Path
+pub mod Line
+pub mod Laws

@@ -1,0 +1,64 @@
+-- What is received of samples: the frames and patterns in the bits of the labels that they release.
+use Rattle.std.specs.Prelude.{◌≡◌, ◌⊎◌, ℕ, Bool, nat_eq, List, [], ◌∷◌, ◌++◌, map}
+use Rattle.frame_check.specs.declared.check.Check.{Check}
+use Rattle.frame_check.specs.FrameCheck.{IsChecked}
+use Rattle.scramblers.specs.Mode.{tap_of}
+use Rattle.symbol_map.specs.declared.sample.Sample.{Sample}
+use Rattle.symbol_map.specs.Points.{point_of}
+use Rattle.trellis_tables.specs.Table.{next_state}
+use Rattle.survivors.specs.Trellises.{Trellis, trellis_of}
+use Rattle.survivors.specs.Survivors.{IsReleased}
+use Rattle.demodulator.specs.Demodulates.{Demodulates}
+use Rattle.bit_stuffing.specs.Found.{Found, pieces_of}
+use Rattle.bit_stuffing.specs.Sent.{wholes}
+use Rattle.detection.specs.declared.seen.Seen.{Seen}
+use Rattle.detection.specs.Sights.{Sight, sights_of}
+use Rattle.lapm_frames.specs.declared.frame.Role.{Role}
+use Rattle.lapm_frames.specs.declared.frame.Frame.{Frame}
+use Rattle.lapm_frames.specs.Frame.{FrameSpelling}
+use Rattle.sample_line.specs.Signals.{check_heard}
+use Rattle.sample_line.specs.Recorded.{mode_of}
+
+-- the code of the line, whose sequences start in state 0
+abbrev pub line_trellis : Trellis Sample
+line_trellis = trellis_of next_state point_of (λ state. nat_eq state 0)
+
+-- the most labels that may be unreleased
+abbrev pub line_depth : ℕ
+line_depth = 128
+
+-- The bits that these samples give: those of the labels that they release.
+pub record Gives (sender : Role) (samples : List Sample) (bits : List Bool) : Type 0 where
+  pub labels : List ℕ
+  pub released : IsReleased line_trellis samples labels
+  pub read : Demodulates (tap_of (mode_of sender)) labels bits
+
+-- octets between two flags that pass the check and spell a frame of the sender on this channel
+pub record SpellsFrame (check : Check) (sender : Role) (dlci : ℕ) (whole : List ℕ) (frame : Frame) : Type 0 where
+  pub octets : List ℕ
+  pub passes : IsChecked (check_heard check whole) octets whole
+  pub spelling : FrameSpelling frame sender dlci octets
+
+-- the frames among such octets, in order; what spells none is dropped
+abbrev pub AreFrames : Check → Role → ℕ → List (List ℕ) → List Frame → Type 0
+AreFrames check sender dlci [] frames = frames ≡ []
+AreFrames check sender dlci (whole ∷ others) frames =
+    ((frame : Frame) → SpellsFrame check sender dlci whole frame → ⊥) × AreFrames check sender dlci others frames
+    ⊎ (frame : Frame) × (rest : List Frame) × SpellsFrame check sender dlci whole frame × (frames ≡ frame ∷ rest) × AreFrames check sender dlci others rest
+
+-- The frames and patterns that are found in the bits once the later ones are there: those that end behind the earlier ones.
+pub record FoundBetween (check : Check) (sender : Role) (dlci : ℕ) (earlier later : List Bool) (frames : List Frame) (patterns : List Seen) : Type 0 where
+  pub pieces : List Found
+  pub pieces_are : pieces_of later ≡ pieces_of earlier ++ pieces
+  pub frames_are : AreFrames check sender dlci (wholes pieces) frames
+  pub sights : List Sight
+  pub sights_are : sights_of later ≡ sights_of earlier ++ sights
+  pub patterns_are : patterns ≡ map (λ (sight : Sight). sight.seen) sights
+
+-- What is received in a slot: what the samples up to its end give, without what those before it gave.
+pub record Receives (check : Check) (sender : Role) (dlci : ℕ) (before upto : List Sample) (frames : List Frame) (patterns : List Seen) : Type 0 where
+  pub earlier : List Bool
+  pub later : List Bool
+  pub gave : Gives sender before earlier
+  pub gives : Gives sender upto later
+  pub found : FoundBetween check sender dlci earlier later frames patterns

@@ -1,0 +1,14 @@
+-- For which bits and samples a transmitter stands.
+use Rattle.std.specs.Prelude.{◌≡◌, Bool, List, length}
+use Rattle.symbol_map.specs.declared.sample.Sample.{Sample}
+use Rattle.noise_script.specs.Script.{ScriptValue}
+use Rattle.sample_line.specs.declared.transmitter.Transmitter.{Transmitter}
+use Rattle.sample_line.specs.Recorded.{mode_of, displaced_from}
+use Rattle.sample_line.specs.Modes.{ModulatesAs}
+
+-- The modulator has made points of the bits, and the samples are these points, displaced by the script.
+pub record Transmits (transmitter : Transmitter) (script : ScriptValue) (bits : List Bool) (samples : List Sample) : Type 0 where
+  pub points : List Sample
+  pub modulator : ModulatesAs (mode_of transmitter.sender) transmitter.modulator bits points
+  pub counted : transmitter.symbol ≡ length points
+  pub samples_are : samples ≡ displaced_from script transmitter.sender 0 points

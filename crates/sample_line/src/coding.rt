@@ -1,0 +1,80 @@
+// The slot of bits of what an end sends.
+ghost use Rattle.std.specs.Prelude.{◌≡◌, ◌+◌, ◌*◌, ◌<◌, ◌≤◌, List, [], ◌∷◌, ◌++◌};
+ghost use Rattle.frame_check.specs.declared.sizes.TheConstants.{SLOT};
+ghost use Rattle.bit_stuffing.specs.BitSlot.{line_bits};
+ghost use Rattle.bit_stuffing.specs.Slots.{Slot, slot_bits};
+ghost use Rattle.bit_stuffing.specs.SlotWriter.{WriterStands};
+ghost use Rattle.bit_stuffing.specs.declared.slot_writer.TheConstants.{HEAD, TAIL};
+ghost use Rattle.detection.specs.Slots.{slot_of};
+ghost use Rattle.detection.specs.Slots.Signal.{MarkSlot, PatternSlot};
+ghost use Rattle.sample_line.specs.Signals.{signal_of, IsCodable};
+
+use crate::checks::checked_octets;
+use bit_stuffing::{BitSlot, SlotWriter};
+use detection::{Seen, mark_slot, pattern_slot};
+use frame_check::Check;
+use lapm_frames::Role;
+use lapm_link::Sent;
+
+/// Writes a slot of ones.
+fn write_mark(writer: &mut SlotWriter, symbols: u16, out: &mut BitSlot)
+    requires symbols { symbols ≡ writer.old.symbols }
+    requires low { HEAD + TAIL < symbols }
+    requires high { symbols ≤ SLOT }
+    requires empty { out.old ≡ [] }
+    ensures bits { line_bits out.new ≡ slot_bits (4 * writer.old.symbols) writer.old.phase (slot_of (4 * writer.old.symbols) MarkSlot) }
+    ensures symbols { writer.new.symbols ≡ writer.old.symbols }
+    ensures stands { (slots : List Slot) → WriterStands writer.old slots
+        → WriterStands writer.new (slots ++ slot_of (4 * writer.old.symbols) MarkSlot ∷ []) }
+{
+    mark_slot(symbols, out);
+    writer.restart();
+}
+
+/// Writes a slot of patterns.
+fn write_patterns(writer: &mut SlotWriter, symbols: u16, seen: Seen, out: &mut BitSlot)
+    requires symbols { symbols ≡ writer.old.symbols }
+    requires low { HEAD + TAIL < symbols }
+    requires high { symbols ≤ SLOT }
+    requires empty { out.old ≡ [] }
+    ensures bits { line_bits out.new ≡ slot_bits (4 * writer.old.symbols) writer.old.phase (slot_of (4 * writer.old.symbols) (PatternSlot seen)) }
+    ensures symbols { writer.new.symbols ≡ writer.old.symbols }
+    ensures stands { (slots : List Slot) → WriterStands writer.old slots
+        → WriterStands writer.new (slots ++ slot_of (4 * writer.old.symbols) (PatternSlot seen) ∷ []) }
+{
+    pattern_slot(seen, symbols, out);
+    writer.restart();
+}
+
+/// Writes the slot of what is sent. A frame has the check that its kind has where the ends use `check`.
+pub(crate) fn write_sent(
+    writer: &mut SlotWriter,
+    symbols: u16,
+    sent: &Sent,
+    check: Check,
+    sender: Role,
+    dlci: u8,
+    out: &mut BitSlot,
+)
+    requires symbols { symbols ≡ writer.old.symbols }
+    requires low { HEAD + TAIL < symbols }
+    requires high { symbols ≤ SLOT }
+    requires channel { dlci < 64 }
+    requires empty { out.old ≡ [] }
+    requires codable { IsCodable check sender dlci writer.old.symbols writer.old.phase sent.now }
+    ensures bits { line_bits out.new ≡ slot_bits (4 * writer.old.symbols) writer.old.phase (slot_of (4 * writer.old.symbols) (signal_of check sender dlci sent.now)) }
+    ensures symbols { writer.new.symbols ≡ writer.old.symbols }
+    ensures stands { (slots : List Slot) → WriterStands writer.old slots
+        → WriterStands writer.new (slots ++ slot_of (4 * writer.old.symbols) (signal_of check sender dlci sent.now) ∷ []) }
+{
+    match sent {
+        Sent::Mark => write_mark(writer, symbols, out),
+        Sent::Odp => write_patterns(writer, symbols, Seen::Odp, out),
+        Sent::Adp => write_patterns(writer, symbols, Seen::Adp, out),
+        Sent::Flags => writer.slot(None, out),
+        Sent::Frame(frame) => {
+            let octets = checked_octets(frame, check, sender, dlci);
+            writer.slot(Some(octets.as_slice()), out);
+        }
+    }
+}

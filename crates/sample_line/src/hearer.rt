@@ -1,0 +1,90 @@
+// The end that hears: samples to labels, and what is found in their bits.
+ghost use Rattle.std.specs.Prelude.{◌≡◌, ◌+◌, ◌<◌, ◌≤◌, ◌^◌, Bool, List, [], ◌∷◌, ◌++◌, drop, IfOk, None, OnOk};
+ghost use Rattle.scramblers.specs.declared.mode.Mode.{Mode};
+ghost use Rattle.symbol_map.specs.declared.sample.Sample.{Sample};
+ghost use Rattle.sample_line.specs.Hears.{Hears, HearsBetween, HearsSample};
+
+use crate::receiver::{Receiver, Slot};
+use crate::tally::Tally;
+use exact_decoder::{Decoder, Lost};
+use outside_core::NoMemory;
+use scramblers::Mode;
+use std::alloc::Global;
+use symbol_map::Sample;
+use trellis_tables::V32Code;
+
+/// How many labels may be unreleased before the line is lost.
+pub const DEPTH: usize = 128;
+
+/// The decoder of a line.
+pub type LineDecoder = Decoder<V32Code, 8, 32, DEPTH>;
+
+/// The decoder, and what reads the labels that it releases.
+#[derive(Drop)]
+pub(crate) struct Hearer {
+    pub decoder: LineDecoder,
+    receiver: Receiver,
+}
+
+impl Hearer {
+    pub fn new(alloc: Global, mode: Mode) -> Result<Hearer, NoMemory>
+        ensures count { IfOk result (λ hearer. hearer.decoder.count ≡ 0) }
+        ensures pending { IfOk result (λ hearer. hearer.decoder.pending ≡ []) }
+        ensures lost { IfOk result (λ hearer. hearer.decoder.lost ≡ None) }
+        ensures stands { IfOk result (λ hearer. Hears mode hearer [] []) }
+    {
+        Ok(Hearer {
+            decoder: Decoder::new(alloc, V32Code, 0)?,
+            receiver: Receiver::new(mode),
+        })
+    }
+
+    /// The tally once the oldest label that the decoder released was read, if there is one.
+    fn read_label(&mut self, slot: Slot<'_>, tally: Tally) -> Tally
+        requires { slot.dlci < 64 }
+        ensures stands { (mode : Mode) (samples : List Sample) (earlier : List Bool)
+            → HearsBetween mode self.old samples slot.entry.check slot.entry.sender slot.entry.dlci slot.entry.sent.now earlier tally
+            → HearsBetween mode self.new samples slot.entry.check slot.entry.sender slot.entry.dlci slot.entry.sent.now earlier result }
+        ensures pending { self.new.decoder.pending ≡ drop 1 self.old.decoder.pending }
+        ensures count { self.new.decoder.count ≡ self.old.decoder.count }
+        ensures lost { self.new.decoder.lost ≡ self.old.decoder.lost }
+    {
+        match self.decoder.take() {
+            Some(label) => self.receiver.push(label, slot, tally),
+            None => tally,
+        }
+    }
+
+    /// The tally once all labels that the decoder released were read.
+    fn read_labels(&mut self, slot: Slot<'_>, tally: Tally) -> Tally
+        requires { slot.dlci < 64 }
+        ensures stands { (mode : Mode) (samples : List Sample) (earlier : List Bool)
+            → HearsBetween mode self.old samples slot.entry.check slot.entry.sender slot.entry.dlci slot.entry.sent.now earlier tally
+            → HearsBetween mode self.new samples slot.entry.check slot.entry.sender slot.entry.dlci slot.entry.sent.now earlier result }
+        ensures pending { self.new.decoder.pending ≡ [] }
+        ensures count { self.new.decoder.count ≡ self.old.decoder.count }
+        ensures lost { self.new.decoder.lost ≡ self.old.decoder.lost }
+    {
+        let mut tally = tally;
+        for _ in 0..self.decoder.pending() {
+            tally = self.read_label(slot, tally);
+        }
+        tally
+    }
+
+    /// The tally once one sample more was heard, and each label that it releases was read.
+    pub fn hear(&mut self, sample: Sample, slot: Slot<'_>, tally: Tally) -> Result<Tally, Lost>
+        requires channel { slot.dlci < 64 }
+        requires pending { self.old.decoder.pending ≡ [] }
+        requires count { self.old.decoder.count < 2 ^ 56 }
+        ensures stands { (mode : Mode) (samples : List Sample) (earlier : List Bool)
+            → HearsBetween mode self.old samples slot.entry.check slot.entry.sender slot.entry.dlci slot.entry.sent.now earlier tally
+            → HearsSample mode self.new (samples ++ sample ∷ []) slot.entry.check slot.entry.sender slot.entry.dlci slot.entry.sent.now earlier result }
+        ensures pending { OnOk result (self.new.decoder.pending ≡ []) }
+        ensures lost { OnOk result (self.new.decoder.lost ≡ None) }
+        ensures count { self.new.decoder.count ≤ self.old.decoder.count + 1 }
+    {
+        self.decoder.push(sample)?;
+        Ok(self.read_labels(slot, tally))
+    }
+}

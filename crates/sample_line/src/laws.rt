@@ -1,0 +1,20 @@
+//! Laws over the definitions alone. The functions do nothing: each law is a contract.
+ghost use Rattle.sample_line.specs.Laws.{RecordedOnce, RecordingsGrow, GivenOnce, GivenStays, ReceivedOnce, OneOutcome};
+
+/// What is recorded of bits is one list, and a prefix of what is recorded once more bits follow.
+pub fn recordings_grow()
+    ensures once { RecordedOnce }
+    ensures grow { RecordingsGrow }
+{}
+
+/// The bits that samples give are one list, and they stay, whatever samples follow.
+pub fn given_bits_stay()
+    ensures once { GivenOnce }
+    ensures stay { GivenStays }
+{}
+
+/// In a slot one list of frames and one of patterns are received, and they have one outcome.
+pub fn one_outcome()
+    ensures received { ReceivedOnce }
+    ensures outcome { OneOutcome }
+{}

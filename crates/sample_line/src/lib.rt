@@ -1,0 +1,22 @@
+//! One direction of the line, from the slots that an end sends to what the other end hears: a pure function of slots and of a
+//! script. [`Line`] codes slots as bits and passes them as samples to the receiver's decoder; [`Heard`] is what becomes of a slot.
+#![tactic(auto)]
+
+mod checks;
+mod coding;
+mod heard;
+mod hearer;
+pub mod laws;
+mod line;
+mod modes;
+mod path;
+mod receiver;
+mod tally;
+mod transmitter;
+
+pub use heard::Heard;
+pub use hearer::{DEPTH, LineDecoder};
+pub use line::Line;
+
+#[cfg(test)]
+mod tests;

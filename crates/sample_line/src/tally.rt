@@ -1,0 +1,137 @@
+// What was received in a slot so far, beside what was sent in it.
+ghost use Rattle.std.specs.Prelude.{◌≡◌, true, false, [], ◌∷◌, ◌++◌, List, option_to_list};
+ghost use Rattle.lapm_frames.specs.declared.frame.Frame.{Frame};
+ghost use Rattle.detection.specs.declared.seen.Seen.{Seen};
+ghost use Rattle.lapm_link.specs.declared.sent.Sent.{Sent};
+ghost use Rattle.sample_line.specs.Outcomes.{is_message, IsLostAs, IsOutcome};
+ghost use Rattle.sample_line.specs.Tallies.{Tallies, carries, after_frame, after_pattern};
+
+use crate::Heard;
+use detection::Seen;
+use lapm_frames::Frame;
+use lapm_link::Sent;
+
+/// What was received in a slot so far.
+#[derive(Clone, Copy, Debug)]
+pub(crate) enum Tally {
+    /// Nothing.
+    Silent,
+    /// Exactly what was sent.
+    AsSent,
+    /// Something else.
+    Other,
+}
+
+/// Whether the slot carries this frame.
+fn carries_frame(sent: &Sent, frame: &Frame) -> bool
+    ensures yes { result ≡ true → sent.now ≡ Sent.Frame frame.now }
+    ensures no { result ≡ false → sent.now ≡ Sent.Frame frame.now → ⊥ }
+{
+    match sent {
+        Sent::Frame(other) => other == frame,
+        _ => false,
+    }
+}
+
+/// Whether the slot carries this pattern.
+fn carries_pattern(sent: &Sent, pattern: Seen) -> bool
+    ensures { result ≡ carries sent.now pattern }
+{
+    match sent {
+        Sent::Odp => pattern == Seen::Odp,
+        Sent::Adp => pattern == Seen::Adp,
+        _ => false,
+    }
+}
+
+/// Whether a frame or a pattern is sent.
+fn is_message(sent: &Sent) -> bool
+    ensures { result ≡ is_message sent.now }
+{
+    match sent {
+        Sent::Mark | Sent::Flags => false,
+        Sent::Odp | Sent::Adp | Sent::Frame(_) => true,
+    }
+}
+
+fn copy_of(sent: &Sent) -> Sent
+    ensures { result ≡ sent.now }
+{
+    match sent {
+        Sent::Mark => Sent::Mark,
+        Sent::Odp => Sent::Odp,
+        Sent::Adp => Sent::Adp,
+        Sent::Flags => Sent::Flags,
+        Sent::Frame(frame) => Sent::Frame(frame.copy()),
+    }
+}
+
+/// What becomes of a slot in which nothing is heard.
+fn unheard(sent: &Sent) -> Heard
+    ensures { IsLostAs sent.now result }
+{
+    if is_message(sent) {
+        Heard::Lost(copy_of(sent))
+    } else {
+        Heard::Nothing
+    }
+}
+
+impl Tally {
+    /// A frame more was received, which the slot carries or not.
+    fn after_frame(self, carried: bool) -> Tally
+        ensures { result ≡ after_frame carried self }
+    {
+        match self {
+            Tally::Silent => { if carried { Tally::AsSent } else { Tally::Other } }
+            Tally::AsSent | Tally::Other => Tally::Other,
+        }
+    }
+
+    /// A pattern more was received, which the slot carries or not.
+    fn after_pattern(self, carried: bool) -> Tally
+        ensures { result ≡ after_pattern carried self }
+    {
+        match self {
+            Tally::Silent | Tally::AsSent => { if carried { Tally::AsSent } else { Tally::Other } }
+            Tally::Other => Tally::Other,
+        }
+    }
+
+    /// A frame more was received, if there is one.
+    pub fn with_frame(self, sent: &Sent, frame: Option<Frame>) -> Tally
+        ensures { (frames : List Frame) (patterns : List Seen) → Tallies sent.now frames patterns self
+            → Tallies sent.now (frames ++ option_to_list frame) patterns result }
+    {
+        match frame {
+            Some(frame) => self.after_frame(carries_frame(sent, &frame)),
+            None => self,
+        }
+    }
+
+    /// A pattern more was received, if there is one.
+    pub fn with_pattern(self, sent: &Sent, pattern: Option<Seen>) -> Tally
+        ensures { (frames : List Frame) (patterns : List Seen) → Tallies sent.now frames patterns self
+            → Tallies sent.now frames (patterns ++ option_to_list pattern) result }
+    {
+        match pattern {
+            Some(pattern) => self.after_pattern(carries_pattern(sent, pattern)),
+            None => self,
+        }
+    }
+
+    /// What becomes of the slot.
+    pub fn outcome(self, sent: &Sent, loses: bool) -> Heard
+        ensures { (frames : List Frame) (patterns : List Seen) → Tallies sent.now frames patterns self
+            → IsOutcome loses sent.now frames patterns result }
+    {
+        if loses {
+            return unheard(sent);
+        }
+        match self {
+            Tally::Silent => unheard(sent),
+            Tally::AsSent => Heard::Passed(copy_of(sent)),
+            Tally::Other => Heard::Chance,
+        }
+    }
+}

@@ -1,0 +1,75 @@
+// Bits become samples, and the script displaces them on their way.
+ghost use Rattle.std.specs.Prelude.{◌≡◌, ◌+◌, ◌<◌, ◌^◌, Bool, List, [], ◌∷◌, ◌++◌};
+ghost use Rattle.frame_check.specs.Bits.{low_bits};
+ghost use Rattle.symbol_map.specs.declared.sample.Sample.{Sample};
+ghost use Rattle.noise_script.specs.Script.{ScriptValue};
+ghost use Rattle.noise_script.specs.Offsets.{IsWithin};
+ghost use Rattle.noise_script.specs.declared.limits.TheConstants.{OFFSET_MOST};
+ghost use Rattle.sample_line.specs.Recorded.{saturated, displaced};
+ghost use Rattle.sample_line.specs.Transmits.{Transmits};
+
+use crate::modes::{ModeModulator, mode_of};
+use lapm_frames::Role;
+use noise_script::{Offset, Script};
+use symbol_map::Sample;
+
+/// A coordinate, held at the ends of 16 bits.
+fn saturated(coordinate: i32) -> i16
+    ensures { result ≡ saturated coordinate }
+{
+    if coordinate < -32768 {
+        i16::MIN
+    } else if 32767 < coordinate {
+        i16::MAX
+    } else {
+        coordinate as i16
+    }
+}
+
+/// A point with an offset added.
+fn displaced(offset: Offset, point: Sample) -> Sample
+    requires { IsWithin OFFSET_MOST offset }
+    ensures { result ≡ displaced offset point }
+{
+    Sample {
+        re: saturated(offset.re + i32::from(point.re)),
+        im: saturated(offset.im + i32::from(point.im)),
+    }
+}
+
+/// What makes samples of an end's bits. Symbols are counted from 0 over all slots.
+#[derive(Drop)]
+pub(crate) struct Transmitter {
+    pub sender: Role,
+    modulator: ModeModulator,
+    pub symbol: u64,
+}
+
+impl Transmitter {
+    pub fn new(sender: Role) -> Transmitter
+        ensures sender { result.sender ≡ sender }
+        ensures symbol { result.symbol ≡ 0 }
+        ensures stands { (script : ScriptValue) → Transmits result script [] [] }
+    {
+        Transmitter {
+            sender,
+            modulator: ModeModulator::new(mode_of(sender)),
+            symbol: 0,
+        }
+    }
+
+    /// The next sample as it arrives, for the next four bits.
+    pub fn send(&mut self, script: &Script, quad: u8) -> Sample
+        requires quad { quad < 16 }
+        requires symbol { self.old.symbol < 2 ^ 60 }
+        ensures stands { (bits : List Bool) (samples : List Sample) → Transmits self.old script.now bits samples
+            → Transmits self.new script.now (bits ++ low_bits 4 quad) (samples ++ result ∷ []) }
+        ensures sender { self.new.sender ≡ self.old.sender }
+        ensures symbol { self.new.symbol ≡ self.old.symbol + 1 }
+    {
+        let point = self.modulator.push(quad);
+        let offset = script.offset(self.sender, self.symbol);
+        self.symbol += 1;
+        displaced(offset, point)
+    }
+}
