@@ -3,10 +3,12 @@ ghost use Rattle.std.specs.Prelude.{◌≡◌, ◌+◌, ◌*◌, ◌≤◌, ◌<
 ghost use Rattle.lapm_link.specs.Fits.{IsSetUp};
 ghost use Rattle.lapm_link.specs.Stands.{HasNumbers, IsNumbered, TakesNothing, taken_of, undelivered_of, waiting_of};
 
-use crate::{AnyEnd, Arrived, Detecting, LinkFault, Phase, Sent, Setup};
+use crate::{AnyEnd, Arrived, Broken, Detecting, LinkFault, Phase, Sent, Setup};
 use detection::Seen;
 use frame_check::Info;
 use lapm_frames::{Frame, Role};
+use outside_core::NoMemory;
+use std::alloc::Global;
 use std::test::Fail;
 use xid_params::default_offer;
 
@@ -166,6 +168,11 @@ fn lines(turn: u64) -> (Sent, Sent) {
     }
 }
 
+fn are_lines(turn: u64, from_o: &Sent, from_a: &Sent) -> bool {
+    let (line_o, line_a) = lines(turn);
+    *from_o == line_o && *from_a == line_a
+}
+
 /// Hears and then speaks. From turn 10 on both files are whole, and the originator is told to release.
 fn turn(
     end: AnyEnd,
@@ -189,29 +196,93 @@ fn turn(
     say(heard, number, release, sent)
 }
 
+/// Two ends, what each sent last, and what each got.
+#[derive(Drop)]
+struct Pair {
+    originator: AnyEnd,
+    answerer: AnyEnd,
+    from_originator: Sent,
+    from_answerer: Sent,
+    got_originator: Info,
+    got_answerer: Info,
+}
+
+impl Pair {
+    fn new(alloc: Global) -> Result<Pair, NoMemory>
+        ensures counted { IfOk result (λ pair. (taken_of pair.originator ≡ 0) × (taken_of pair.answerer ≡ 0)) }
+        ensures delivered { IfOk result (λ pair. (undelivered_of pair.originator ≡ 0) × (undelivered_of pair.answerer ≡ 0)) }
+        ensures given { IfOk result (λ pair. (waiting_of pair.originator ≡ None) × (waiting_of pair.answerer ≡ None)) }
+    {
+        let originator = Detecting::new(alloc, setup(Role::Originator))?;
+        let answerer = Detecting::new(alloc, setup(Role::Answerer))?;
+        Ok(Pair {
+            originator: AnyEnd::Detecting(originator),
+            answerer: AnyEnd::Detecting(answerer),
+            from_originator: Sent::Mark,
+            from_answerer: Sent::Mark,
+            got_originator: Info::new(),
+            got_answerer: Info::new(),
+        })
+    }
+
+    /// Both hear what the other one sent last, and then speak.
+    fn turn(self, number: u64) -> Result<Pair, &'static str>
+        requires turn { number < 2 ^ 40 }
+        requires counted { (taken_of self.originator ≤ 128 * number) × (taken_of self.answerer ≤ 128 * number) }
+        requires delivered { (undelivered_of self.originator ≡ 0) × (undelivered_of self.answerer ≡ 0) }
+        requires given { (waiting_of self.originator ≡ None) × (waiting_of self.answerer ≡ None) }
+        ensures counted { IfOk result (λ pair. (taken_of pair.originator ≤ 128 * number + 128) × (taken_of pair.answerer ≤ 128 * number + 128)) }
+        ensures delivered { IfOk result (λ pair. (undelivered_of pair.originator ≡ 0) × (undelivered_of pair.answerer ≡ 0)) }
+        ensures given { IfOk result (λ pair. (waiting_of pair.originator ≡ None) × (waiting_of pair.answerer ≡ None)) }
+    {
+        let Pair {
+            originator,
+            answerer,
+            mut from_originator,
+            mut from_answerer,
+            mut got_originator,
+            mut got_answerer,
+        } = self;
+        let at_originator = arrival(&from_answerer);
+        let at_answerer = arrival(&from_originator);
+        let originator = turn(
+            originator,
+            number,
+            &at_originator,
+            b'a',
+            &mut got_originator,
+            &mut from_originator,
+        )?;
+        let answerer = turn(
+            answerer,
+            number,
+            &at_answerer,
+            b'b',
+            &mut got_answerer,
+            &mut from_answerer,
+        )?;
+        Ok(Pair {
+            originator,
+            answerer,
+            from_originator,
+            from_answerer,
+            got_originator,
+            got_answerer,
+        })
+    }
+}
+
 #[test]
 fn two_files_of_one_octet(rt: HostRuntime) -> Result<(), Fail> {
-    let mut originator = AnyEnd::Detecting(Detecting::new(rt.alloc(), setup(Role::Originator))?);
-    let mut answerer = AnyEnd::Detecting(Detecting::new(rt.alloc(), setup(Role::Answerer))?);
-    let mut got_o = Info::new();
-    let mut got_a = Info::new();
-    let mut from_o = Sent::Mark;
-    let mut from_a = Sent::Mark;
+    let mut pair = Pair::new(rt.alloc())?;
     for number in 0..12u64 {
-        let at_o = arrival(&from_a);
-        let at_a = arrival(&from_o);
-        originator = turn(originator, number, &at_o, b'a', &mut got_o, &mut from_o)?;
-        answerer = turn(answerer, number, &at_a, b'b', &mut got_a, &mut from_a)?;
-        let wanted = lines(number);
-        assert!(rt;
-            from_o == wanted.0 && from_a == wanted.1,
-            "in turn {number}"
-        );
+        pair = pair.turn(number)?;
+        assert!(rt; are_lines(number, &pair.from_originator, &pair.from_answerer));
     }
-    originator = listen(originator, 12, &arrival(&from_a), b'a', &mut got_o)?;
-    assert_eq!(rt; originator.phase(), Phase::Closed);
-    assert_eq!(rt; got_o.as_slice(), b"b".as_slice());
-    assert_eq!(rt; got_a.as_slice(), b"a".as_slice());
+    pair = pair.turn(12)?;
+    assert_eq!(rt; pair.originator.phase(), Phase::Closed);
+    assert_eq!(rt; pair.got_originator.as_slice(), b"b".as_slice());
+    assert_eq!(rt; pair.got_answerer.as_slice(), b"a".as_slice());
     Ok(())
 }
 
@@ -239,6 +310,19 @@ fn connected(originator: Detecting) -> Result<AnyEnd, &'static str>
     )
 }
 
+/// How the link breaks by what it hears in turn 3.
+fn broken_by(end: AnyEnd, arrived: &Arrived) -> Result<Broken, &'static str>
+    requires numbers { IsNumbered arrived.now }
+    requires counted { taken_of end ≤ 384 }
+    requires delivered { undelivered_of end ≡ 0 }
+    requires given { waiting_of end ≡ None }
+{
+    match end.hear(3, arrived) {
+        Ok(_) => Err("it went on"),
+        Err(broken) => Ok(broken),
+    }
+}
+
 #[test]
 fn an_acknowledgement_of_what_was_not_sent_breaks_the_link(rt: HostRuntime) -> Result<(), Fail> {
     let end = connected(Detecting::new(rt.alloc(), setup(Role::Originator))?)?;
@@ -249,9 +333,7 @@ fn an_acknowledgement_of_what_was_not_sent_breaks_the_link(rt: HostRuntime) -> R
         pf: false,
         info: info(b"b"),
     });
-    let Err(broken) = end.hear(3, &segment) else {
-        return Err("it went on")?;
-    };
+    let broken = broken_by(end, &segment)?;
     let fault = LinkFault::BadAck {
         nr: 5,
         va: 0,
