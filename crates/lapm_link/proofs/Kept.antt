@@ -1,5 +1,5 @@
 -- What an end that isn't connected keeps of its account as that goes on.
-use Rattle.std.proofs.Common.{◌≡◌, ℕ, Bool, Option, refl}
+use Rattle.std.proofs.Common.{◌≡◌, ℕ, Bool, Option}
 use Rattle.xid_params.specs.declared.terms.Terms.{Terms}
 use Rattle.lapm_link.specs.declared.setup.Setup.{Setup}
 use Rattle.lapm_link.specs.declared.answer.Answer.{Answer}

@@ -1,5 +1,5 @@
 -- What a step gives whose condition holds, and the end once it has been said.
-use Rattle.std.proofs.Common.{◌≡◌, ℕ, Bool, true, false, Option, Some, None, Result, Ok, Err, refl, ◌&&◌}
+use Rattle.std.proofs.Common.{◌≡◌, ℕ, Bool, true, false, Option, Some, None, Result, Ok, Err, refl}
 use Rattle.lapm_receiver.specs.Taking.{Taking}
 use Rattle.lapm_link.specs.declared.setup.Setup.{Setup}
 use Rattle.lapm_link.specs.declared.connected.Breaks.{Breaks}

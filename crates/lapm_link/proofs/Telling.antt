@@ -1,14 +1,11 @@
 -- What an account tells of an end that stands for it.
-use Rattle.std.proofs.Common.{◌≡◌, ℕ, ◌-◌, ◌≤◌, length, drop, None, refl, sym, ap, ◌∙◌, subst, arith, length-drop}
-use Rattle.lapm_link.specs.declared.any_end.AnyEnd.{AnyEnd}
+use Rattle.std.proofs.Common.{length, refl, sym, ap, arith, length-drop}
 use Rattle.lapm_link.specs.declared.any_end.AnyEnd.TheVariants as ends
 use Rattle.lapm_link.specs.declared.negotiating.Negotiating.{Negotiating}
 use Rattle.lapm_link.specs.declared.negotiating.Talk.{Talk}
 use Rattle.lapm_link.specs.declared.negotiating.Talk.TheVariants as talks
-use Rattle.lapm_link.specs.declared.phase.Phase.{Phase}
-use Rattle.lapm_link.specs.declared.phase.Phase.TheVariants as phases
-use Rattle.lapm_link.specs.Account.{Account, given_break, is_connected}
-use Rattle.lapm_link.specs.Stands.{StandsFor, Negotiates, phase_of, taken_of, undelivered_of, waiting_of}
+use Rattle.lapm_link.specs.Account.{Account}
+use Rattle.lapm_link.specs.Stands.{Negotiates}
 use Rattle.lapm_link.specs.EndLaws.{Tells, AccountTells}
 
 negotiating : (end : Negotiating) (talk : Talk) (a : Account) → Negotiates talk a → Tells (ends.Negotiating end) a

@@ -1,5 +1,5 @@
 -- Laws on ends and their accounts.
-use Rattle.std.specs.Prelude.{◌≡◌, ℕ, ◌≤◌, Bool, length, Result, Ok}
+use Rattle.std.specs.Prelude.{◌≡◌, ℕ, ◌≤◌, Bool, length, Ok}
 use Rattle.lapm_receiver.specs.Incoming.{undelivered}
 use Rattle.lapm_link.specs.declared.any_end.AnyEnd.{AnyEnd}
 use Rattle.lapm_link.specs.Account.{Account, given_break}

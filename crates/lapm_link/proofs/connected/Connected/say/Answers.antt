@@ -1,4 +1,4 @@
-use Rattle.std.proofs.Common.{◌≡◌, refl, sym, subst, Bool, false}
+use Rattle.std.proofs.Common.{◌≡◌, Bool, false}
 use Rattle.std.proofs.lemmas.Result.{err_from_is_err_and}
 use Rattle.lapm_link.specs.declared.connected.Connected.{Connected}
 use Rattle.lapm_link.specs.declared.sent.Sent.{Sent}

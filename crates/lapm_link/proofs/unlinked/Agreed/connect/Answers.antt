@@ -1,4 +1,4 @@
-use Rattle.std.proofs.Common.{◌≡◌, refl, ℕ, Bool, ap}
+use Rattle.std.proofs.Common.{◌≡◌, ℕ, Bool}
 use Rattle.xid_params.specs.declared.terms.Terms.{Terms}
 use Rattle.lapm_sender.specs.Sending.{Sending, StandsOut}
 use Rattle.lapm_sender.specs.Outgoing as outgoing
