@@ -5,3 +5,4 @@ pub mod Standing
 pub mod Passing
 pub mod Once
 pub mod Arriving
+pub mod Fitting

@@ -1,6 +1,7 @@
 -- Laws of what is recorded and received.
-use Rattle.std.specs.Prelude.{◌≡◌, ℕ, Bool, List, ◌++◌}
+use Rattle.std.specs.Prelude.{◌≡◌, ℕ, ◌<◌, Bool, List, ◌++◌}
 use Rattle.frame_check.specs.declared.check.Check.{Check}
+use Rattle.frame_check.specs.declared.sizes.TheConstants.{SLOT}
 use Rattle.symbol_map.specs.declared.sample.Sample.{Sample}
 use Rattle.detection.specs.declared.seen.Seen.{Seen}
 use Rattle.lapm_frames.specs.declared.frame.Role.{Role}
@@ -11,6 +12,7 @@ use Rattle.sample_line.specs.declared.heard.Heard.{Heard}
 use Rattle.sample_line.specs.Recorded.{Records}
 use Rattle.sample_line.specs.Received.{Gives, Receives}
 use Rattle.sample_line.specs.Outcomes.{IsOutcome}
+use Rattle.sample_line.specs.Signals.{IsSendable, IsCodable}
 
 -- what is recorded of bits is one list
 abbrev pub RecordedOnce : Type 0
@@ -42,3 +44,7 @@ ReceivedOnce = (check : Check) (sender : Role) (dlci : ℕ) (before upto : List 
 abbrev pub OneOutcome : Type 0
 OneOutcome = (loses : Bool) (s : Sent) (frames : List Frame) (patterns : List Seen) (heard other : Heard)
     → IsOutcome loses s frames patterns heard → IsOutcome loses s frames patterns other → heard ≡ other
+
+-- what can be sent fits a slot of the most symbols, behind any unfinished flag
+abbrev pub AllFits : Type 0
+AllFits = (check : Check) (sender : Role) (dlci phase : ℕ) (s : Sent) → phase < 8 → IsSendable s → IsCodable check sender dlci SLOT phase s

@@ -54,3 +54,11 @@ IsCodable check sender dlci symbols phase sent.Odp = Unit {0}
 IsCodable check sender dlci symbols phase sent.Adp = Unit {0}
 IsCodable check sender dlci symbols phase sent.Flags = Unit {0}
 IsCodable check sender dlci symbols phase (sent.Frame frame) = IsFrame frame × (length (opening phase (Some (checked check sender dlci frame))) ≤ 4 * (symbols - TAIL))
+
+-- what can be sent: a frame's numbers and information are in their limits
+abbrev pub IsSendable : Sent → Type 0
+IsSendable sent.Mark = Unit {0}
+IsSendable sent.Odp = Unit {0}
+IsSendable sent.Adp = Unit {0}
+IsSendable sent.Flags = Unit {0}
+IsSendable (sent.Frame frame) = IsFrame frame

@@ -1,5 +1,5 @@
 //! Laws over the definitions alone. The functions do nothing: each law is a contract.
-ghost use Rattle.sample_line.specs.Laws.{RecordedOnce, RecordingsGrow, GivenOnce, GivenStays, ReceivedOnce, OneOutcome};
+ghost use Rattle.sample_line.specs.Laws.{RecordedOnce, RecordingsGrow, GivenOnce, GivenStays, ReceivedOnce, OneOutcome, AllFits};
 
 /// What is recorded of bits is one list, and a prefix of what is recorded once more bits follow.
 pub fn recordings_grow()
@@ -17,4 +17,9 @@ pub fn given_bits_stay()
 pub fn one_outcome()
     ensures received { ReceivedOnce }
     ensures outcome { OneOutcome }
+{}
+
+/// What can be sent fits a slot of `SLOT` symbols, whatever part of a flag is unfinished before it.
+pub fn all_fits()
+    ensures { AllFits }
 {}

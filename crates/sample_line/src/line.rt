@@ -54,6 +54,7 @@ impl Line {
         requires high { symbols ≤ SLOT }
         ensures sender { IfOk result (λ line. sender_of line ≡ sender) }
         ensures symbols { IfOk result (λ line. line.writer.symbols ≡ symbols) }
+        ensures phase { IfOk result (λ line. line.writer.phase ≡ 0) }
         ensures passed { IfOk result (λ line. line.passed ≡ 0) }
         ensures not_lost { IfOk result (λ line. (decoder_of line).lost ≡ None) }
         ensures taken { IfOk result (λ line. (decoder_of line).pending ≡ []) }

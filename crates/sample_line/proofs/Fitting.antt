@@ -1,0 +1,53 @@
+-- What can be sent fits a slot of the most symbols.
+use Rattle.std.proofs.Common.{ℕ, ◌+◌, ◌<◌, ◌≤◌, length, lit≤, arith, length-append}
+use Rattle.frame_check.specs.declared.check.Check.{Check}
+use Rattle.frame_check.specs.declared.check.Check.TheVariants.{Sixteen, ThirtyTwo}
+use Rattle.frame_check.specs.declared.sizes.TheConstants.{INFO, WHOLE, SLOT}
+use Rattle.frame_check.specs.Division.{check_of, count_of}
+use Rattle.frame_check.proofs.Checks.{length-check_of}
+use Rattle.bit_stuffing.proofs.Sizes.{length-opening}
+use Rattle.lapm_frames.specs.declared.frame.Role.{Role}
+use Rattle.lapm_frames.specs.declared.frame.Frame.{Frame}
+use Rattle.lapm_frames.specs.declared.frame.Frame.TheVariants.{I, Rr, Rnr, Rej, Srej, Sabme, Disc, Ua, Dm, Frmr, Ui, Xid, Test}
+use Rattle.lapm_frames.specs.Frame.{spelled, IsFrame}
+use Rattle.lapm_link.specs.declared.sent.Sent.{Sent}
+use Rattle.lapm_link.specs.declared.sent.Sent.TheVariants as sent
+use Rattle.sample_line.specs.Signals.{check_for, checked, IsCodable, IsSendable}
+
+spelled-short : (frame : Frame) (sender : Role) (dlci : ℕ) → IsFrame frame → length (spelled frame sender dlci) ≤ 3 + INFO
+spelled-short (I ns nr pf info) sender dlci h = omega (arith, h.2)
+spelled-short (Rr command nr pf) sender dlci h = omega arith
+spelled-short (Rnr command nr pf) sender dlci h = omega arith
+spelled-short (Rej command nr pf) sender dlci h = omega arith
+spelled-short (Srej command nr pf) sender dlci h = omega arith
+spelled-short (Sabme pf) sender dlci h = omega arith
+spelled-short (Disc pf) sender dlci h = omega arith
+spelled-short (Ua pf) sender dlci h = omega arith
+spelled-short (Dm pf) sender dlci h = omega arith
+spelled-short (Frmr pf info) sender dlci h = omega arith
+spelled-short (Ui command pf info) sender dlci h = omega arith
+spelled-short (Xid command pf info) sender dlci h = omega arith
+spelled-short (Test command pf info) sender dlci h = omega arith
+
+count-small : (check : Check) → count_of check ≤ 4
+count-small Sixteen = lit≤ tt
+count-small ThirtyTwo = lit≤ tt
+
+checked-short : (check : Check) (sender : Role) (dlci : ℕ) (frame : Frame) → IsFrame frame → length (checked check sender dlci frame) ≤ WHOLE
+checked-short check sender dlci frame h =
+    let used : Check = check_for check frame in
+    omega (
+      arith,
+      spelled-short frame sender dlci h,
+      length-append (spelled frame sender dlci) (check_of used (spelled frame sender dlci)),
+      length-check_of used (spelled frame sender dlci),
+      count-small used,
+    )
+
+pub fits : (check : Check) (sender : Role) (dlci phase : ℕ) (s : Sent) → phase < 8 → IsSendable s → IsCodable check sender dlci SLOT phase s
+fits check sender dlci phase sent.Mark low h = tt
+fits check sender dlci phase sent.Odp low h = tt
+fits check sender dlci phase sent.Adp low h = tt
+fits check sender dlci phase sent.Flags low h = tt
+fits check sender dlci phase (sent.Frame frame) low h =
+    (h, omega (arith, length-opening phase (checked check sender dlci frame) low, checked-short check sender dlci frame h))
