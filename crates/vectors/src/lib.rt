@@ -2,4 +2,6 @@
 #![tactic(auto)]
 
 #[cfg(test)]
+mod reactions;
+#[cfg(test)]
 mod tests;

@@ -1,0 +1,93 @@
+// What an end does in its next turn, for each state that it can be in and each thing that it can hear.
+use std::alloc::Global;
+use std::test::Fail;
+
+mod answerer;
+mod end;
+mod originator;
+mod slot;
+mod stage;
+
+use end::{Observed, Standing};
+use lapm_link::{LinkFault, Phase};
+use slot::{ARRIVALS, Slot};
+use stage::{STAGES, Stage};
+
+/// What an end does in a turn by what it hears: the phase that it is then in and what it sends, or why it gives its link up.
+#[derive(Clone, Copy, Debug)]
+enum Reaction {
+    Sends(Phase, Slot),
+    Breaks(LinkFault),
+}
+
+fn bad_ack(nr: u8, va: u8, high: u8) -> Reaction {
+    Reaction::Breaks(LinkFault::BadAck { nr, va, high })
+}
+
+fn reset(va: u64, vr: u64) -> Reaction {
+    Reaction::Breaks(LinkFault::PeerReset { va, vr })
+}
+
+/// What the rules ask for, not what the code was seen to do.
+fn expected(stage: Stage, heard: Slot) -> Reaction {
+    match stage {
+        Stage::OriginatorDetecting => originator::detecting(heard),
+        Stage::OfferSent => originator::offer_sent(heard),
+        Stage::SabmeSent => originator::sabme_sent(heard),
+        Stage::PollSent => originator::poll_sent(heard),
+        Stage::SegmentSent => originator::segment_sent(heard),
+        Stage::PollSentAgain => originator::poll_sent_again(heard),
+        Stage::PollHeldBack => originator::poll_held_back(heard),
+        Stage::SegmentAcknowledged => originator::segment_acknowledged(heard),
+        Stage::DiscSent => originator::disc_sent(heard),
+        Stage::AnswererDetecting => answerer::detecting(heard),
+        Stage::OfferAnswered => answerer::offer_answered(heard),
+        Stage::NothingHeard => answerer::nothing_heard(heard),
+        Stage::SegmentTaken => answerer::segment_taken(heard),
+        Stage::SrejAgreed => answerer::srej_agreed(heard),
+        Stage::SrejSent => answerer::srej_sent(heard),
+        Stage::OriginatorClosed | Stage::AnswererClosed => closed(heard),
+    }
+}
+
+/// The link is over, at either end.
+fn closed(heard: Slot) -> Reaction {
+    match heard {
+        Slot::Disc(pf) => Reaction::Sends(Phase::Closed, Slot::Dm(pf)),
+        _ => Reaction::Sends(Phase::Closed, Slot::Flags),
+    }
+}
+
+/// A pair at which an end did something else.
+#[derive(Debug, Drop)]
+struct Differs {
+    stage: Stage,
+    heard: Slot,
+    observed: Observed,
+    expected: Observed,
+}
+
+/// One pair of the table.
+fn compare(alloc: Global, stage: Stage, heard: Slot) -> Result<(), Fail> {
+    let expected = Observed::of(expected(stage, heard));
+    let observed = Standing::at(alloc, stage)?.react(heard);
+    if observed != expected {
+        return Err(Fail::from(Differs {
+            stage,
+            heard,
+            observed,
+            expected,
+        }));
+    }
+    Ok(())
+}
+
+#[test]
+fn each_state_at_each_arrival(rt: HostRuntime) -> Result<(), Fail> {
+    for stage in STAGES {
+        for heard in ARRIVALS {
+            compare(rt.alloc(), stage, heard)?;
+        }
+    }
+    Ok(())
+}

@@ -1,0 +1,109 @@
+// What an answerer does.
+use super::Reaction::{self, Breaks, Sends};
+use super::slot::Kind::{Command, Response};
+use super::slot::Says::{Brk, BrkAck, Offer};
+use super::slot::Slot::{self, *};
+use super::slot::Supervisory::{Rej, Rr, Srej};
+use super::{bad_ack, reset};
+use lapm_link::LinkFault::PeerRefused;
+use lapm_link::Phase::{Closed, Connected, Detecting, Negotiating};
+
+pub(super) fn detecting(heard: Slot) -> Reaction {
+    match heard {
+        Odp => Sends(Detecting, Adp),
+        Xid(Command, Offer) => Sends(Negotiating, Xid(Response, Offer)),
+        Sabme(pf) => Sends(Connected, Ua(pf)),
+        _ => Sends(Detecting, Mark),
+    }
+}
+
+pub(super) fn offer_answered(heard: Slot) -> Reaction {
+    match heard {
+        Xid(Command, Offer) => Sends(Negotiating, Xid(Response, Offer)),
+        Sabme(pf) => Sends(Connected, Ua(pf)),
+        Disc(pf) => Sends(Negotiating, Dm(pf)),
+        _ => Sends(Negotiating, Flags),
+    }
+}
+
+/// The segment waits until an I frame or a supervisory frame is heard, and a SABME may come again until then. 0 is the only N(R)
+/// that is right, and no SREJ is.
+pub(super) fn nothing_heard(heard: Slot) -> Reaction {
+    match heard {
+        I(_, 1, _) | S(_, _, 1, _) => bad_ack(1, 0, 0),
+        S(Srej, _, 0, _) => bad_ack(0, 0, 0),
+
+        I(0, _, true) => Sends(Connected, S(Rr, Response, 1, true)),
+        I(0, _, false) => Sends(Connected, I(0, 1, false)),
+        I(1, _, true) => Sends(Connected, S(Rr, Response, 0, true)),
+        I(127, _, _) => Sends(Connected, I(0, 0, false)),
+        I(..) => Sends(Connected, S(Rej, Response, 0, false)),
+        S(_, Command, _, true) => Sends(Connected, S(Rr, Response, 0, true)),
+        S(..) => Sends(Connected, I(0, 0, false)),
+
+        Ui(_, _, Brk(n, length)) => Sends(Connected, Ui(Command, false, BrkAck(n, length))),
+        Sabme(pf) => Sends(Connected, Ua(pf)),
+        Frmr(_) => reset(0, 0),
+        Dm(_) => Breaks(PeerRefused),
+        Disc(pf) => Sends(Closed, Ua(pf)),
+        _ => Sends(Connected, Flags),
+    }
+}
+
+/// The segment 1 is expected, and nothing is sent but answers.
+pub(super) fn segment_taken(heard: Slot) -> Reaction {
+    match heard {
+        I(_, 1, _) | S(_, _, 1, _) => bad_ack(1, 0, 0),
+        S(Srej, _, 0, _) => bad_ack(0, 0, 0),
+
+        I(0, _, pf) => Sends(Connected, S(Rr, Response, 1, pf)),
+        I(1, _, pf) => Sends(Connected, S(Rr, Response, 2, pf)),
+        I(127, _, _) => Sends(Connected, S(Rr, Response, 1, false)),
+        I(..) => Sends(Connected, S(Rej, Response, 1, false)),
+        S(_, Command, _, true) => Sends(Connected, S(Rr, Response, 1, true)),
+
+        Ui(_, _, Brk(n, length)) => Sends(Connected, Ui(Command, false, BrkAck(n, length))),
+        Sabme(_) | Frmr(_) => reset(0, 1),
+        Dm(_) => Breaks(PeerRefused),
+        Disc(pf) => Sends(Closed, Ua(pf)),
+        _ => Sends(Connected, Flags),
+    }
+}
+
+/// A segment that is missing is asked for by its number, and those behind it are held.
+pub(super) fn srej_agreed(heard: Slot) -> Reaction {
+    match heard {
+        I(_, 1, _) | S(_, _, 1, _) => bad_ack(1, 0, 0),
+        S(Srej, _, 0, _) => bad_ack(0, 0, 0),
+
+        I(0, _, pf) => Sends(Connected, S(Rr, Response, 1, pf)),
+        I(1, _, true) => Sends(Connected, S(Rr, Response, 0, true)),
+        I(127, _, _) => Sends(Connected, S(Rr, Response, 0, false)),
+        I(..) => Sends(Connected, S(Srej, Response, 0, false)),
+        S(_, Command, _, true) => Sends(Connected, S(Rr, Response, 0, true)),
+
+        Ui(_, _, Brk(n, length)) => Sends(Connected, Ui(Command, false, BrkAck(n, length))),
+        Sabme(_) | Frmr(_) => reset(0, 0),
+        Dm(_) => Breaks(PeerRefused),
+        Disc(pf) => Sends(Closed, Ua(pf)),
+        _ => Sends(Connected, Flags),
+    }
+}
+
+/// With the segment 0 the held one is taken too. In the turn after an SREJ no other one goes, and no BRKACK.
+pub(super) fn srej_sent(heard: Slot) -> Reaction {
+    match heard {
+        I(_, 1, _) | S(_, _, 1, _) => bad_ack(1, 0, 0),
+        S(Srej, _, 0, _) => bad_ack(0, 0, 0),
+
+        I(0, _, pf) => Sends(Connected, S(Rr, Response, 2, pf)),
+        I(1, _, pf) => Sends(Connected, S(Rr, Response, 0, pf)),
+        I(127, _, _) => Sends(Connected, S(Rr, Response, 0, false)),
+        S(_, Command, _, true) => Sends(Connected, S(Rr, Response, 0, true)),
+
+        Sabme(_) | Frmr(_) => reset(0, 0),
+        Dm(_) => Breaks(PeerRefused),
+        Disc(pf) => Sends(Closed, Ua(pf)),
+        _ => Sends(Connected, Flags),
+    }
+}

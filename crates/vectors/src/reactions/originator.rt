@@ -1,0 +1,133 @@
+// What an originator does.
+use super::Reaction::{self, Breaks, Sends};
+use super::slot::Kind::{Command, Response};
+use super::slot::Says::{Brk, BrkAck, Offer};
+use super::slot::Slot::{self, *};
+use super::slot::Supervisory::{Rej, Rr, Srej};
+use super::{bad_ack, reset};
+use lapm_link::LinkFault::PeerRefused;
+use lapm_link::Phase::{Closed, Connected, Detecting, Establishing, Negotiating, Releasing};
+
+pub(super) fn detecting(heard: Slot) -> Reaction {
+    match heard {
+        Adp => Sends(Negotiating, Xid(Command, Offer)),
+        _ => Sends(Detecting, Odp),
+    }
+}
+
+pub(super) fn offer_sent(heard: Slot) -> Reaction {
+    match heard {
+        Xid(Response, Offer) => Sends(Establishing, Sabme(true)),
+        Dm(_) => Breaks(PeerRefused),
+        _ => Sends(Negotiating, Flags),
+    }
+}
+
+pub(super) fn sabme_sent(heard: Slot) -> Reaction {
+    match heard {
+        Ua(true) => Sends(Connected, S(Rr, Command, 0, true)),
+        Dm(true) => Breaks(PeerRefused),
+        _ => Sends(Establishing, Flags),
+    }
+}
+
+/// The segment waits until the poll is answered. 0 is the only N(R) that is right, and no SREJ is.
+pub(super) fn poll_sent(heard: Slot) -> Reaction {
+    match heard {
+        I(_, 1, _) | S(_, _, 1, _) => bad_ack(1, 0, 0),
+        S(Srej, _, 0, _) => bad_ack(0, 0, 0),
+
+        I(0, _, pf) => Sends(Connected, S(Rr, Response, 1, pf)),
+        I(1, _, true) => Sends(Connected, S(Rr, Response, 0, true)),
+        I(127, _, _) => Sends(Connected, S(Rr, Response, 0, false)),
+        I(..) => Sends(Connected, S(Rej, Response, 0, false)),
+        S(_, Command, _, true) => Sends(Connected, S(Rr, Response, 0, true)),
+        S(_, Response, _, true) => Sends(Connected, I(0, 0, false)),
+
+        Ui(_, _, Brk(n, length)) => Sends(Connected, Ui(Command, false, BrkAck(n, length))),
+        Sabme(_) | Frmr(_) => reset(0, 0),
+        Dm(_) | Disc(_) => Breaks(PeerRefused),
+        _ => Sends(Connected, Flags),
+    }
+}
+
+/// The segment goes again where it is asked for. 0 and 1 are right as N(R), and SREJ may ask for 0.
+pub(super) fn segment_sent(heard: Slot) -> Reaction {
+    match heard {
+        S(Srej, _, 1, _) => bad_ack(1, 0, 1),
+
+        I(0, _, pf) => Sends(Connected, S(Rr, Response, 1, pf)),
+        I(1, _, true) => Sends(Connected, S(Rr, Response, 0, true)),
+        I(127, _, _) => Sends(Connected, S(Rr, Response, 0, false)),
+        I(..) => Sends(Connected, S(Rej, Response, 0, false)),
+        S(Srej, _, 0, _) => Sends(Connected, I(0, 0, false)),
+        S(_, Command, _, true) => Sends(Connected, S(Rr, Response, 0, true)),
+        S(Rej, _, 0, _) => Sends(Connected, I(0, 0, false)),
+
+        Ui(_, _, Brk(n, length)) => Sends(Connected, Ui(Command, false, BrkAck(n, length))),
+        Sabme(_) | Frmr(_) => reset(0, 0),
+        Dm(_) | Disc(_) => Breaks(PeerRefused),
+        _ => Sends(Connected, Flags),
+    }
+}
+
+/// The segment goes again once the poll is answered, unless the answer acknowledges it.
+pub(super) fn poll_sent_again(heard: Slot) -> Reaction {
+    match heard {
+        S(Srej, _, 1, _) => bad_ack(1, 0, 1),
+
+        I(0, _, pf) => Sends(Connected, S(Rr, Response, 1, pf)),
+        I(1, _, true) => Sends(Connected, S(Rr, Response, 0, true)),
+        I(127, _, _) => Sends(Connected, S(Rr, Response, 0, false)),
+        I(..) => Sends(Connected, S(Rej, Response, 0, false)),
+        S(Srej, _, 0, _) => Sends(Connected, Flags),
+        S(_, Command, _, true) => Sends(Connected, S(Rr, Response, 0, true)),
+        S(_, Response, 0, true) => Sends(Connected, I(0, 0, false)),
+
+        Ui(_, _, Brk(n, length)) => Sends(Connected, Ui(Command, false, BrkAck(n, length))),
+        Sabme(_) | Frmr(_) => reset(0, 0),
+        Dm(_) | Disc(_) => Breaks(PeerRefused),
+        _ => Sends(Connected, Flags),
+    }
+}
+
+/// The poll goes before all but the reply to the other end's poll, also where its own answer seems to have come.
+pub(super) fn poll_held_back(heard: Slot) -> Reaction {
+    match heard {
+        S(Srej, _, 1, _) => bad_ack(1, 0, 1),
+
+        I(0, _, true) => Sends(Connected, S(Rr, Response, 1, true)),
+        I(0, _, false) => Sends(Connected, S(Rr, Command, 1, true)),
+        I(_, _, true) => Sends(Connected, S(Rr, Response, 0, true)),
+        S(Srej, _, 0, _) => Sends(Connected, S(Rr, Command, 0, true)),
+        S(_, Command, _, true) => Sends(Connected, S(Rr, Response, 0, true)),
+
+        Sabme(_) | Frmr(_) => reset(0, 0),
+        Dm(_) | Disc(_) => Breaks(PeerRefused),
+        _ => Sends(Connected, S(Rr, Command, 0, true)),
+    }
+}
+
+/// 1 is the only N(R) that is right, and no SREJ is. The segment 1 is expected.
+pub(super) fn segment_acknowledged(heard: Slot) -> Reaction {
+    match heard {
+        I(_, 0, _) | S(_, _, 0, _) => bad_ack(0, 1, 1),
+        S(Srej, _, 1, _) => bad_ack(1, 1, 1),
+
+        I(0, _, _) => Sends(Connected, S(Rr, Response, 1, false)),
+        I(1, _, _) => Sends(Connected, S(Rr, Response, 2, false)),
+        S(_, Command, _, true) => Sends(Connected, S(Rr, Response, 1, true)),
+
+        Ui(_, _, Brk(n, length)) => Sends(Connected, Ui(Command, false, BrkAck(n, length))),
+        Sabme(_) | Frmr(_) => reset(1, 1),
+        Dm(_) | Disc(_) => Breaks(PeerRefused),
+        _ => Sends(Connected, Flags),
+    }
+}
+
+pub(super) fn disc_sent(heard: Slot) -> Reaction {
+    match heard {
+        Ua(true) | Dm(true) => Sends(Closed, Flags),
+        _ => Sends(Releasing, Flags),
+    }
+}

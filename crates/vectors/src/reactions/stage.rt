@@ -1,0 +1,149 @@
+// The states that an end is in before it hears what the table names.
+ghost use Rattle.lapm_link.specs.Fits.{IsSetUp};
+
+use super::slot::{Kind, Says, Slot, Supervisory, offer};
+use lapm_frames::Role;
+use lapm_link::Setup;
+
+/// A state of an end, named by what it did last. The file of an end is one segment, where nothing else is said.
+#[derive(Clone, Copy, Debug)]
+pub(super) enum Stage {
+    OriginatorDetecting,
+    /// Negotiating: the XID command is out.
+    OfferSent,
+    /// Establishing: the SABME is out.
+    SabmeSent,
+    /// Connected: the poll is out, and no segment was sent.
+    PollSent,
+    /// Connected: the poll was answered, and the segment is out.
+    SegmentSent,
+    /// Connected: the segment's timer has expired, and the poll is out.
+    PollSentAgain,
+    /// Connected: the segment's timer has expired, and the reply to the other end's poll went before the own poll.
+    PollHeldBack,
+    /// Connected: the segment is acknowledged, and one of the other end's is taken.
+    SegmentAcknowledged,
+    /// Releasing: the DISC is out.
+    DiscSent,
+    OriginatorClosed,
+    AnswererDetecting,
+    /// Negotiating: the XID command was answered.
+    OfferAnswered,
+    /// Connected: no I frame and no supervisory frame was heard.
+    NothingHeard,
+    /// Connected: a segment is taken. The file is empty.
+    SegmentTaken,
+    /// Connected with SREJ: a poll was answered. The file is empty.
+    SrejAgreed,
+    /// Connected with SREJ: the second segment is held, and the first one was asked for. The file is empty.
+    SrejSent,
+    AnswererClosed,
+}
+
+pub(super) const STAGES: [Stage; 17] = [
+    Stage::OriginatorDetecting,
+    Stage::OfferSent,
+    Stage::SabmeSent,
+    Stage::PollSent,
+    Stage::SegmentSent,
+    Stage::PollSentAgain,
+    Stage::PollHeldBack,
+    Stage::SegmentAcknowledged,
+    Stage::DiscSent,
+    Stage::OriginatorClosed,
+    Stage::AnswererDetecting,
+    Stage::OfferAnswered,
+    Stage::NothingHeard,
+    Stage::SegmentTaken,
+    Stage::SrejAgreed,
+    Stage::SrejSent,
+    Stage::AnswererClosed,
+];
+
+/// Timers expire three turns after they were set.
+const PERIOD: u32 = 3;
+
+const NONE: Slot = Slot::Flags;
+
+const ADP: Slot = Slot::Adp;
+
+const OFFER: Slot = Slot::Xid(Kind::Command, Says::Offer);
+
+const OFFER_WITH_SREJ: Slot = Slot::Xid(Kind::Command, Says::OfferWithSrej);
+
+const ANSWER: Slot = Slot::Xid(Kind::Response, Says::Offer);
+
+const SABME: Slot = Slot::Sabme(true);
+
+const DISC: Slot = Slot::Disc(true);
+
+const UA: Slot = Slot::Ua(true);
+
+const POLL: Slot = Slot::S(Supervisory::Rr, Kind::Command, 0, true);
+
+const REPLY: Slot = Slot::S(Supervisory::Rr, Kind::Response, 0, true);
+
+const FIRST: Slot = Slot::I(0, 0, false);
+
+const SECOND: Slot = Slot::I(1, 0, false);
+
+const ACKNOWLEDGING: Slot = Slot::I(0, 1, false);
+
+impl Stage {
+    pub(super) fn role(self) -> Role {
+        match self {
+            Stage::AnswererDetecting
+            | Stage::OfferAnswered
+            | Stage::NothingHeard
+            | Stage::SegmentTaken
+            | Stage::SrejAgreed
+            | Stage::SrejSent
+            | Stage::AnswererClosed => Role::Answerer,
+            _ => Role::Originator,
+        }
+    }
+
+    pub(super) fn setup(self) -> Setup
+        ensures { IsSetUp result }
+    {
+        Setup {
+            role: self.role(),
+            offer: offer(matches!(self, Stage::SrejAgreed | Stage::SrejSent)),
+            tries: 5,
+            period: PERIOD,
+        }
+    }
+
+    pub(super) fn file(self) -> &'static [u8] {
+        match self {
+            Stage::SegmentTaken | Stage::SrejAgreed | Stage::SrejSent => b"",
+            _ => b"f",
+        }
+    }
+
+    /// Whether the end is told to release as soon as it is Connected.
+    pub(super) fn releases(self) -> bool {
+        matches!(self, Stage::DiscSent | Stage::OriginatorClosed)
+    }
+
+    /// What the end has heard in each turn, from the first on.
+    pub(super) fn heard(self) -> &'static [Slot] {
+        match self {
+            Stage::OriginatorDetecting | Stage::AnswererDetecting => &[NONE],
+            Stage::OfferSent => &[NONE, ADP],
+            Stage::SabmeSent => &[NONE, ADP, ANSWER],
+            Stage::PollSent | Stage::DiscSent => &[NONE, ADP, ANSWER, UA],
+            Stage::OriginatorClosed => &[NONE, ADP, ANSWER, UA, UA],
+            Stage::SegmentSent => &[NONE, ADP, ANSWER, UA, REPLY],
+            Stage::PollSentAgain => &[NONE, ADP, ANSWER, UA, REPLY, NONE, NONE, NONE],
+            Stage::PollHeldBack => &[NONE, ADP, ANSWER, UA, REPLY, NONE, NONE, POLL],
+            Stage::SegmentAcknowledged => &[NONE, ADP, ANSWER, UA, REPLY, ACKNOWLEDGING],
+            Stage::OfferAnswered => &[NONE, OFFER],
+            Stage::NothingHeard => &[NONE, OFFER, SABME],
+            Stage::SegmentTaken => &[NONE, OFFER, SABME, FIRST],
+            Stage::SrejAgreed => &[NONE, OFFER_WITH_SREJ, SABME, POLL],
+            Stage::SrejSent => &[NONE, OFFER_WITH_SREJ, SABME, POLL, SECOND],
+            Stage::AnswererClosed => &[NONE, OFFER, SABME, DISC],
+        }
+    }
+}
