@@ -1,5 +1,5 @@
 -- Slots that fit one another, and what fits a slot.
-use Rattle.std.proofs.Common.{◌≡◌, ◌∙◌, ℕ, zero, suc, ◌+◌, ◌-◌, ◌*◌, ◌/◌, ◌<◌, ◌≤◌, Bool, true, false, List, [], ◌∷◌, ◌++◌, length, All, Some, None, refl, sym, ap, subst, arith, lit<, length-append}
+use Rattle.std.proofs.Common.{◌≡◌, ◌∙◌, ℕ, ◌+◌, ◌-◌, ◌*◌, ◌/◌, ◌<◌, ◌≤◌, Bool, true, false, List, [], ◌∷◌, ◌++◌, length, All, Some, None, ap, arith, lit<, length-append}
 use Rattle.std.proofs.Math.Nat.{mul-suc}
 use Rattle.std.proofs.lemmas.List.Elements.{All-nil, All-cons, All-append}
 use Rattle.frame_check.specs.declared.check.Check.{Check}
@@ -8,8 +8,7 @@ use Rattle.frame_check.specs.declared.sizes.TheConstants.{SLOT, INFO}
 use Rattle.frame_check.specs.Division.{check_of, count_of}
 use Rattle.frame_check.proofs.Checks.{check_of-is, length-check_of}
 use Rattle.bit_stuffing.specs.declared.slot_writer.TheConstants.{TAIL}
-use Rattle.bit_stuffing.specs.Slots as slots
-use Rattle.bit_stuffing.specs.Slots.{Slot, AreSlots, IsSlot, bits_from, phase_from, next_phase, opening, framed, flags, rest_of_flag, slot_bits}
+use Rattle.bit_stuffing.specs.Slots.{AreSlots, IsSlot, bits_from, phase_from, next_phase, opening, framed, flags, rest_of_flag, slot_bits}
 use Rattle.bit_stuffing.proofs.Fill.{length-flags, next-low}
 use Rattle.bit_stuffing.proofs.Sizes.{length-slot_bits, length-empty, length-opening}
 use Rattle.detection.specs.Slots.{Signal, slot_of, slots_of}
@@ -22,7 +21,7 @@ use Rattle.lapm_frames.specs.Frame.{IsFrame, address_of, numbered, marked, spell
 use Rattle.lapm_link.specs.declared.sent.Sent.{Sent}
 use Rattle.lapm_link.specs.declared.sent.Sent.TheVariants as sent
 use Rattle.sample_line.specs.Signals.{check_for, checked, signal_of, IsCodable}
-use Rattle.line_laws.specs.Fitting.{Fits, AreFit, HasOctets, information_of}
+use Rattle.line_laws.specs.Fitting.{Fits, AreFit, HasOctets, IsSendable, OfOctets, information_of}
 use Rattle.line_laws.proofs.Patterns.{ArePlain}
 
 pub fit-slot : (plain : ArePlain) (size phase : ℕ) (signal : Signal) → 552 < size → phase < 8 → Fits size phase signal → IsSlot size phase (slot_of size signal)
@@ -116,9 +115,6 @@ each-codable check sender dlci phase frame low is =
 
 -- the octets of a frame
 
-abbrev IsOctet : ℕ → Type 0
-IsOctet octet = octet < 256
-
 address-small : (command : Bool) (sender : Role) (dlci : ℕ) → dlci < 64 → address_of command sender dlci < 256
 address-small true Originator dlci low = omega arith
 address-small false Originator dlci low = omega arith
@@ -164,15 +160,18 @@ spelled-small (Ui command pf info) sender dlci low is h = marked-all command sen
 spelled-small (Xid command pf info) sender dlci low is h = marked-all command sender dlci 0xaf pf info low (lit< tt) h
 spelled-small (Test command pf info) sender dlci low is h = marked-all command sender dlci 0xe3 pf info low (lit< tt) h
 
-checked-taken : (check : Check) (sender : Role) (dlci : ℕ) (frame : Frame) → dlci < 64 → IsFrame frame → All (λ octet. octet < 256) (information_of frame) → slots.IsFrame (checked check sender dlci frame)
-checked-taken check sender dlci frame low is h =
+checked-small : (check : Check) (sender : Role) (dlci : ℕ) (frame : Frame) → dlci < 64 → IsFrame frame → All (λ octet. octet < 256) (information_of frame) → All (λ octet. octet < 256) (checked check sender dlci frame)
+checked-small check sender dlci frame low is h =
     let octets : List ℕ = spelled frame sender dlci in
     let kind : Check = check_for check frame in
-    record {
-      small = All-append (λ octet. octet < 256) octets (check_of kind octets) (spelled-small frame sender dlci low is h) (check_of-is kind octets).are_octets;
-      low = omega (arith, length-whole check sender dlci frame, (length-spelled frame sender dlci).0, (count-two kind).0);
-      high = omega (arith, few-besides check sender dlci frame, length-information frame is);
-    }
+    All-append (λ octet. octet < 256) octets (check_of kind octets) (spelled-small frame sender dlci low is h) (check_of-is kind octets).are_octets
+
+pub spelled-octets : (check : Check) (sender : Role) (dlci : ℕ) (s : Sent) → dlci < 64 → IsSendable s → HasOctets s → OfOctets (signal_of check sender dlci s)
+spelled-octets check sender dlci sent.Mark low is h = tt
+spelled-octets check sender dlci sent.Odp low is h = tt
+spelled-octets check sender dlci sent.Adp low is h = tt
+spelled-octets check sender dlci sent.Flags low is h = tt
+spelled-octets check sender dlci (sent.Frame frame) low is h = checked-small check sender dlci frame low is h
 
 some-flags : (count : ℕ) (before behind : List Bool) → 8 * count ≤ length (before ++ flags count ++ behind)
 some-flags count before behind = omega (arith, length-append {A = Bool} (before ++ flags count) behind, length-append {A = Bool} before (flags count), length-flags count)
@@ -181,10 +180,28 @@ some-opening : (phase : ℕ) (frame : List ℕ) → 32 ≤ length (opening phase
 some-opening phase frame = some-flags 4 (rest_of_flag phase) (framed (Some frame))
 
 -- what can be coded fits
-pub codable-fits : (check : Check) (sender : Role) (dlci symbols phase : ℕ) (s : Sent) → dlci < 64 → HasOctets s → IsCodable check sender dlci symbols phase s → Fits (4 * symbols) phase (signal_of check sender dlci s)
-codable-fits check sender dlci symbols phase sent.Mark low h k = tt
-codable-fits check sender dlci symbols phase sent.Odp low h k = tt
-codable-fits check sender dlci symbols phase sent.Adp low h k = tt
-codable-fits check sender dlci symbols phase sent.Flags low h k = tt
-codable-fits check sender dlci symbols phase (sent.Frame frame) low h k =
-    (checked-taken check sender dlci frame low k.0 h, omega (arith, k.1, some-opening phase (checked check sender dlci frame)))
+
+pub codable-sendable : (check : Check) (sender : Role) (dlci symbols phase : ℕ) (s : Sent) → IsCodable check sender dlci symbols phase s → IsSendable s
+codable-sendable check sender dlci symbols phase sent.Mark k = tt
+codable-sendable check sender dlci symbols phase sent.Odp k = tt
+codable-sendable check sender dlci symbols phase sent.Adp k = tt
+codable-sendable check sender dlci symbols phase sent.Flags k = tt
+codable-sendable check sender dlci symbols phase (sent.Frame frame) k = k.0
+
+frame-fits : (check : Check) (sender : Role) (dlci symbols phase : ℕ) (frame : Frame) → All (λ octet. octet < 256) (checked check sender dlci frame) → IsFrame frame
+    → length (opening phase (Some (checked check sender dlci frame))) ≤ 4 * (symbols - TAIL) → Fits (4 * symbols) phase (FlagSlot (Some (checked check sender dlci frame)))
+frame-fits check sender dlci symbols phase frame small is room = (
+  record {
+    small = small;
+    low = omega (arith, length-whole check sender dlci frame, (length-spelled frame sender dlci).0, (count-two (check_for check frame)).0);
+    high = omega (arith, few-besides check sender dlci frame, length-information frame is);
+  },
+  omega (arith, room, some-opening phase (checked check sender dlci frame)),
+)
+
+pub codable-fits : (check : Check) (sender : Role) (dlci symbols phase : ℕ) (s : Sent) → OfOctets (signal_of check sender dlci s) → IsCodable check sender dlci symbols phase s → Fits (4 * symbols) phase (signal_of check sender dlci s)
+codable-fits check sender dlci symbols phase sent.Mark small k = tt
+codable-fits check sender dlci symbols phase sent.Odp small k = tt
+codable-fits check sender dlci symbols phase sent.Adp small k = tt
+codable-fits check sender dlci symbols phase sent.Flags small k = tt
+codable-fits check sender dlci symbols phase (sent.Frame frame) small k = frame-fits check sender dlci symbols phase frame small k.0 k.1

@@ -1,18 +1,15 @@
 -- What is received in a slot is what was sent in it.
-use Rattle.std.proofs.Common.{◌≡◌, ◌∙◌, inr, ℕ, ◌+◌, ◌*◌, ◌%◌, ◌<◌, ◌≤◌, nat_eq, Bool, true, false, List, [], ◌∷◌, ◌++◌, length, take, drop, map, replicate, All, Some, None, Ok, Err, Result, refl, sym, ap, subst, arith, append-nil, append_assoc, length-append}
-use Rattle.std.specs.Prelude.{◌≢◌}
+use Rattle.std.proofs.Common.{◌≡◌, ◌∙◌, inr, ℕ, ◌*◌, ◌%◌, ◌<◌, nat_eq, Bool, true, false, List, [], ◌∷◌, ◌++◌, length, take, drop, map, replicate, Ok, Err, Result, refl, sym, ap, subst, arith, append-nil, append_assoc}
 use Rattle.std.proofs.Math.Seq.{take-append_seam, drop-append_seam}
 use Rattle.std.proofs.lemmas.Bool.{ne_eqb}
 use Rattle.std.proofs.lemmas.List.{take_all, take-append-drop, length-drop}
 use Rattle.std.proofs.lemmas.List.Elements.{All-replicate}
 use Rattle.frame_check.specs.declared.check.Check.{Check}
-use Rattle.frame_check.specs.declared.check.Check.TheVariants.{Sixteen}
 use Rattle.frame_check.specs.FrameCheck.{IsChecked}
 use Rattle.frame_check.proofs.Checks.{with_check-is}
 use Rattle.scramblers.specs.Mode.{tap_of}
 use Rattle.scramblers.proofs.Readings.{Descrambles_once}
 use Rattle.symbol_map.specs.declared.sample.Sample.{Sample}
-use Rattle.symbol_map.specs.Points.{point_of}
 use Rattle.survivors.specs.Survivors.{IsReleased}
 use Rattle.exact_decoder.specs.declared.decoder.Lost.{Lost}
 use Rattle.noiseless_line.proofs.Costs.{length-points}
@@ -33,6 +30,7 @@ use Rattle.lapm_link.specs.declared.sent.Sent.{Sent}
 use Rattle.lapm_link.specs.declared.sent.Sent.TheVariants as sent
 use Rattle.noise_script.specs.Script.{ScriptValue}
 use Rattle.sample_line.specs.declared.heard.Heard.{Heard}
+use Rattle.sample_line.specs.declared.heard.Heard.TheVariants.{Chance}
 use Rattle.sample_line.specs.Outcomes.{IsPattern, IsOutcome}
 use Rattle.sample_line.specs.Recorded.{mode_of, Records}
 use Rattle.sample_line.specs.Received.{line_trellis, AreFrames, FoundBetween, Gives, Receives, SpellsFrame}
@@ -45,7 +43,7 @@ use Rattle.line_laws.specs.Unhindered.{DisplacesNone, frames_in, patterns_in, un
 use Rattle.line_laws.proofs.Patterns.{AreSeen}
 use Rattle.line_laws.proofs.Fitting.{fit-front}
 use Rattle.line_laws.proofs.Recordings.{tap-some}
-use Rattle.line_laws.proofs.Settled.{Lags, FindsNoMore, settled-all, settled-finds, slot-adds}
+use Rattle.line_laws.proofs.Settled.{Lags, settled-all, settled-finds, slot-adds}
 use Rattle.line_laws.proofs.Undisplaced.{recorded-noiseless, none-within}
 
 -- all but the last 96 bits were read
@@ -210,6 +208,16 @@ heard-sent laws line script passed waiting signal check dlci loses s heard none 
     let same = received-sent laws script check sender dlci line.writer.symbols passed s p.before p.upto p.frames p.patterns none long fit_s is p.recorded_before recorded p.received in
     outcome-once loses s (frames_in s) (patterns_in s) heard (unhindered loses s)
     (subst (λ (xs : List Seen). IsOutcome loses s (frames_in s) xs heard) same.1 (subst (λ (xs : List Frame). IsOutcome loses s xs p.patterns heard) same.0 p.outcome)) (as-expected loses s)
+
+pub never-chance : (loses : Bool) (s : Sent) → unhindered loses s ≡ Chance → ⊥
+never-chance loses sent.Mark e = absurd cc
+never-chance loses sent.Flags e = absurd cc
+never-chance true sent.Odp e = absurd cc
+never-chance false sent.Odp e = absurd cc
+never-chance true sent.Adp e = absurd cc
+never-chance false sent.Adp e = absurd cc
+never-chance true (sent.Frame frame) e = absurd cc
+never-chance false (sent.Frame frame) e = absurd cc
 
 pub passes-sent : (laws : AreSeen) (line : Kept) (script : ScriptValue) (passed waiting : List Signal) (signal : Signal) (check : Check) (dlci : ℕ) (loses : Bool) (s : Sent) (result : Result Heard Lost)
     → DisplacesNone script (sender_of line) → 138 < line.writer.symbols → AreFit (size_of line) 0 (passed ++ signal ∷ [])

@@ -1,5 +1,5 @@
 -- Bits in fours have a recording, and a line that is lost stays lost in what goes on from there.
-use Rattle.std.proofs.Common.{◌≡◌, ◌∙◌, ℕ, zero, suc, ◌+◌, ◌*◌, ◌/◌, ◌%◌, ◌<◌, ◌≤◌, Bool, true, false, List, [], ◌∷◌, ◌++◌, length, map, sum, Some, refl, sym, ap, subst, arith, All, append-nil, append_assoc, length-append}
+use Rattle.std.proofs.Common.{◌≡◌, ◌∙◌, ℕ, zero, suc, ◌+◌, ◌*◌, ◌/◌, ◌%◌, ◌<◌, ◌≤◌, Bool, true, false, List, [], ◌∷◌, ◌++◌, length, map, sum, Some, refl, sym, ap, subst, arith, All, append-nil, append_assoc}
 use Rattle.std.proofs.Math.Nat.{mul_assoc}
 use Rattle.std.specs.List.{flat_map}
 use Rattle.std.proofs.lemmas.List.Elements.{All-nil, All-cons, All-head, All-tail}
@@ -22,7 +22,6 @@ use Rattle.survivors.specs.Survivors.{LostIs}
 use Rattle.survivors.proofs.Fronts.{lost-stays}
 use Rattle.lapm_frames.specs.declared.frame.Role.{Role}
 use Rattle.lapm_frames.specs.declared.frame.Role.TheVariants.{Originator, Answerer}
-use Rattle.modulator.specs.Modulates.{Modulates}
 use Rattle.noise_script.specs.Script.{ScriptValue}
 use Rattle.sample_line.specs.Recorded.{mode_of, displaced_from, Records}
 use Rattle.sample_line.specs.Received.{line_trellis, line_depth}
@@ -125,28 +124,30 @@ coded-none = record { leads = refl; turned_is = refl; uncoded_is = refl }
 are-coded : (quads : List ℕ) → All (λ quad. quad < 16) quads → AreCoded quads
 are-coded quads are = coded-from [] quads [] 0 (omega arith) are coded-none
 
+recorded-of : (script : ScriptValue) (sender : Role) (bits line : List Bool) → Scrambles (tap_of (mode_of sender)) bits line → (fours : AreFours line) → (coded : AreCoded fours.quads)
+    → Records script sender bits (displaced_from script sender 0 (map point_of coded.labels))
+recorded-of script sender bits line scrambled fours coded = record {
+  points = map point_of coded.labels;
+  modulated = record {
+    line = line;
+    quads = fours.quads;
+    labels = coded.labels;
+    end = coded.end;
+    scrambled = scrambled;
+    in_fours = fours.in_fours;
+    are_quads = fours.are_quads;
+    encoded = coded.encoded;
+    points = refl;
+  };
+  samples_are = refl;
+}
+
 pub recorded-some : (script : ScriptValue) (sender : Role) (bits : List Bool) → length bits % 4 ≡ 0 → (samples : List Sample) × Records script sender bits samples
 recorded-some script sender bits whole =
     let line = some-line (tap_of (mode_of sender)) bits (tap-some sender) in
     let fours = are-fours (length bits / 4) line.0 (omega (arith, whole, line.1.lengths)) in
-    let coded = are-coded fours.quads fours.are_quads in (
-      displaced_from script sender 0 (map point_of coded.labels),
-      record {
-        points = map point_of coded.labels;
-        modulated = record {
-          line = line.0;
-          quads = fours.quads;
-          labels = coded.labels;
-          end = coded.end;
-          scrambled = line.1;
-          in_fours = fours.in_fours;
-          are_quads = fours.are_quads;
-          encoded = coded.encoded;
-          points = refl;
-        };
-        samples_are = refl;
-      },
-    )
+    let coded = are-coded fours.quads fours.are_quads in
+    (displaced_from script sender 0 (map point_of coded.labels), recorded-of script sender bits line.0 line.1 fours coded)
 
 -- slots of so many symbols have bits in fours
 

@@ -1,5 +1,5 @@
 -- What is found in the bits of slots ends well before their last bit, so that it is found as well where the last 96 bits are not yet read.
-use Rattle.std.proofs.Common.{◌≡◌, ◌∙◌, ◌⊎◌, inl, inr, ℕ, zero, suc, ◌+◌, ◌*◌, ◌<◌, ◌≤◌, Bool, true, false, List, [], ◌∷◌, ◌++◌, length, drop, All, Some, None, refl, sym, ap, subst, arith, append-nil, append_assoc, length-append}
+use Rattle.std.proofs.Common.{◌≡◌, ◌∙◌, ℕ, zero, suc, ◌+◌, ◌*◌, ◌<◌, ◌≤◌, Bool, true, false, List, [], ◌∷◌, ◌++◌, length, All, Some, None, refl, sym, ap, subst, arith, append-nil, append_assoc, length-append}
 use Rattle.std.proofs.Math.Seq.{drop-append_seam}
 use Rattle.std.proofs.lemmas.List.Elements.{All-nil, All-cons, All-append, All-drop, All-head, All-tail, All-weaker}
 use Rattle.bit_stuffing.specs.declared.piece.Piece.{Piece}
@@ -7,7 +7,6 @@ use Rattle.bit_stuffing.specs.declared.piece.Piece.TheVariants.{Whole, Ragged, A
 use Rattle.bit_stuffing.specs.Found.{Found, pieces_of}
 use Rattle.bit_stuffing.specs.Sent.{FoundIn, aborted_at, octets_if_whole, whole_at, wholes}
 use Rattle.bit_stuffing.specs.Slots.{Slot, AreSlots, phase_after, slot_bits, opening, sent_bits, flags_behind}
-use Rattle.bit_stuffing.specs.Slots.Slot.{Plain, Flags}
 use Rattle.bit_stuffing.proofs.Found.{pieces-none}
 use Rattle.bit_stuffing.proofs.Sent.{found-is-sent, pieces-stay}
 use Rattle.bit_stuffing.proofs.Sizes.{length-slot_bits}
@@ -166,6 +165,6 @@ settled-finds seen bits read s l =
       added = p.0;
       pieces = pieces;
       none = none-whole p.0 (both (IsEarly (length bits)) (λ (found : Found). (length read < found.place) × (found.place ≤ length (read ++ l.rest))) (λ (found : Found). found.piece ≡ Whole → ⊥) p.0 early p.1.places
-      (λ found a b whole. omega (arith, a whole, b.0, few)));
+          (λ found a b whole. omega (arith, a whole, b.0, few)));
       sights = sights ∙ ap (λ xs. sights_of read ++ xs) unseen ∙ append-nil (sights_of read);
     }

@@ -40,7 +40,14 @@ information_of (Ui command pf info) = info
 information_of (Xid command pf info) = info
 information_of (Test command pf info) = info
 
--- what is sent carries octets, as the types of the code say
+-- what a slot carries are octets, as the types of the code say
+abbrev pub OfOctets : Signal → Type 0
+OfOctets (PatternSlot seen) = Unit {0}
+OfOctets MarkSlot = Unit {0}
+OfOctets (FlagSlot None) = Unit {0}
+OfOctets (FlagSlot (Some octets)) = All (λ octet. octet < 256) octets
+
+-- and so is the information of a frame that is sent
 abbrev pub HasOctets : Sent → Type 0
 HasOctets sent.Mark = Unit {0}
 HasOctets sent.Odp = Unit {0}

@@ -1,5 +1,5 @@
 -- Laws of lines whose symbols are not displaced.
-use Rattle.std.specs.Prelude.{◌≡◌, ℕ, ◌+◌, ◌-◌, ◌*◌, ◌/◌, ◌%◌, ◌<◌, ◌≤◌, Bool, List, [], ◌∷◌, ◌++◌, length, Result, Ok, Some}
+use Rattle.std.specs.Prelude.{◌≡◌, ℕ, ◌+◌, ◌-◌, ◌*◌, ◌/◌, ◌%◌, ◌<◌, ◌≤◌, Bool, List, [], ◌∷◌, ◌++◌, length, All, false, Result, Ok, Some}
 use Rattle.frame_check.specs.declared.check.Check.{Check}
 use Rattle.frame_check.specs.declared.sizes.TheConstants.{SLOT}
 use Rattle.symbol_map.specs.declared.sample.Sample.{Sample}
@@ -14,17 +14,25 @@ use Rattle.lapm_frames.specs.declared.frame.Frame.{Frame}
 use Rattle.lapm_frames.specs.Frame.{IsFrame}
 use Rattle.lapm_link.specs.declared.sent.Sent.{Sent}
 use Rattle.lapm_link.specs.declared.sent.Sent.TheVariants as sent
+use Rattle.noise_script.specs.declared.entry.Hit.{Hit}
+use Rattle.noise_script.specs.declared.entry.Noise.{Noise}
+use Rattle.noise_script.specs.Offsets.{same_role}
 use Rattle.noise_script.specs.Script.{ScriptValue}
 use Rattle.sample_line.specs.declared.heard.Heard.{Heard}
+use Rattle.sample_line.specs.declared.heard.Heard.TheVariants as heard
 use Rattle.sample_line.specs.Signals.{checked, signal_of, IsCodable}
 use Rattle.sample_line.specs.Recorded.{Records}
 use Rattle.sample_line.specs.Received.{Receives, line_trellis, line_depth}
 use Rattle.sample_line.specs.Path.{LosesAt, LosesWithin}
 use Rattle.sample_line.specs.Line.{Kept, Passes, PassesSlot, sender_of, size_of}
-use Rattle.line_laws.specs.Fitting.{Fits, AreFit, HasOctets, IsSendable, information_of}
+use Rattle.line_laws.specs.Fitting.{Fits, AreFit, HasOctets, IsSendable, OfOctets, information_of}
 use Rattle.line_laws.specs.Unhindered.{DisplacesNone, frames_in, patterns_in, unhindered}
 
--- a script that has neither hits nor noise displaces no symbol
+-- a script whose hit lines and noise lines are for the other role displaces no symbol
+abbrev pub OthersLinesDisplaceNone : Type 0
+OthersLinesDisplaceNone = (script : ScriptValue) (sender : Role) → All (λ (hit : Hit). same_role hit.role sender ≡ false) script.hits
+    → All (λ (noise : Noise). same_role noise.role sender ≡ false) script.noises → DisplacesNone script sender
+
 abbrev pub EmptyScriptDisplacesNone : Type 0
 EmptyScriptDisplacesNone = (script : ScriptValue) (sender : Role) → script.hits ≡ [] → script.noises ≡ [] → DisplacesNone script sender
 
@@ -46,8 +54,15 @@ SlotsHaveSize = (size : ℕ) (signals : List Signal) → 4 * (HEAD + TAIL) < siz
 
 -- what can be coded in slots of so many symbols fits them
 abbrev pub CodableFits : Type 0
-CodableFits = (check : Check) (sender : Role) (dlci symbols phase : ℕ) (s : Sent) → dlci < 64 → HasOctets s
+CodableFits = (check : Check) (sender : Role) (dlci symbols phase : ℕ) (s : Sent) → OfOctets (signal_of check sender dlci s)
     → IsCodable check sender dlci symbols phase s → Fits (4 * symbols) phase (signal_of check sender dlci s)
+
+abbrev pub CodableIsSendable : Type 0
+CodableIsSendable = (check : Check) (sender : Role) (dlci symbols phase : ℕ) (s : Sent) → IsCodable check sender dlci symbols phase s → IsSendable s
+
+-- a frame is written in octets, if its information is
+abbrev pub SpelledInOctets : Type 0
+SpelledInOctets = (check : Check) (sender : Role) (dlci : ℕ) (s : Sent) → dlci < 64 → IsSendable s → HasOctets s → OfOctets (signal_of check sender dlci s)
 
 -- a frame has at most seven octets besides its information: an address, two of control and four of check
 abbrev pub FewOctetsBesidesInformation : Type 0
@@ -103,10 +118,14 @@ ReceivedIsSent = (script : ScriptValue) (check : Check) (sender : Role) (dlci sy
     → (frames ≡ frames_in s) × (patterns ≡ patterns_in s)
 
 abbrev pub HeardIsSent : Type 0
-HeardIsSent = (line : Kept) (script : ScriptValue) (passed waiting : List Signal) (signal : Signal) (check : Check) (dlci : ℕ) (loses : Bool) (s : Sent) (heard : Heard)
+HeardIsSent = (line : Kept) (script : ScriptValue) (passed waiting : List Signal) (signal : Signal) (check : Check) (dlci : ℕ) (loses : Bool) (s : Sent) (h : Heard)
     → DisplacesNone script (sender_of line) → HEAD + TAIL < line.writer.symbols → AreFit (size_of line) 0 (passed ++ signal ∷ [])
     → signal ≡ signal_of check (sender_of line) dlci s → IsSendable s
-    → PassesSlot line script passed signal waiting check dlci loses s heard → heard ≡ unhindered loses s
+    → PassesSlot line script passed signal waiting check dlci loses s h → h ≡ unhindered loses s
+
+-- which is never a chance match
+abbrev pub NeverChance : Type 0
+NeverChance = (loses : Bool) (s : Sent) → unhindered loses s ≡ heard.Chance → ⊥
 
 -- and the slot does pass
 abbrev pub PassesUnhindered : Type 0

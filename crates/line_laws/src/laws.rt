@@ -1,14 +1,15 @@
 //! Laws over the definitions alone: each law is a contract. The functions do nothing but name the laws that they rest on.
-ghost use Rattle.line_laws.specs.Laws.{EmptyScriptDisplacesNone, FirstOnesFit, OneMoreFits, SlotsThatFitAreSlots, SlotsHaveSize};
-ghost use Rattle.line_laws.specs.Laws.{CodableFits, FewOctetsBesidesInformation, ShortIsCodable, EachFrameIsCodable};
+ghost use Rattle.line_laws.specs.Laws.{OthersLinesDisplaceNone, EmptyScriptDisplacesNone, FirstOnesFit, OneMoreFits, SlotsThatFitAreSlots, SlotsHaveSize};
+ghost use Rattle.line_laws.specs.Laws.{CodableFits, CodableIsSendable, SpelledInOctets, FewOctetsBesidesInformation, ShortIsCodable, EachFrameIsCodable};
 ghost use Rattle.line_laws.specs.Laws.{EachIsRecorded, SlotsAreRecorded, LossStays, LossIsInEachRecording};
-ghost use Rattle.line_laws.specs.Laws.{NeverLost, ReceivedIsSent, HeardIsSent, PassesUnhindered};
+ghost use Rattle.line_laws.specs.Laws.{NeverLost, ReceivedIsSent, HeardIsSent, NeverChance, PassesUnhindered};
 
 use detection::laws::{patterns_are_plain, seen_is_sent, sights_stay};
 
-/// A script without hit lines and noise lines displaces no symbol.
-pub fn empty_scripts_displace_nothing()
-    ensures { EmptyScriptDisplacesNone }
+/// A script displaces no symbol of a role for which it has neither hit lines nor noise lines.
+pub fn scripts_displace_by_their_lines_alone()
+    ensures others { OthersLinesDisplaceNone }
+    ensures empty { EmptyScriptDisplacesNone }
 {}
 
 /// Slots that fit are slots of the line, each of the same size, and more may follow them.
@@ -24,6 +25,8 @@ pub fn slots_that_fit_follow_one_another()
 /// What can be coded fits, and that is so of each frame in slots of enough symbols.
 pub fn codable_slots_fit()
     ensures fits { CodableFits }
+    ensures sendable { CodableIsSendable }
+    ensures octets { SpelledInOctets }
     ensures few { FewOctetsBesidesInformation }
     ensures short { ShortIsCodable }
     ensures longest { EachFrameIsCodable }
@@ -61,6 +64,7 @@ pub fn received_is_sent()
 /// match.
 pub fn heard_is_sent()
     ensures heard { HeardIsSent }
+    ensures never_chance { NeverChance }
     ensures passes { PassesUnhindered }
 {
     patterns_are_plain();

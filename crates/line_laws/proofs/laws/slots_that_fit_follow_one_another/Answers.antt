@@ -1,4 +1,4 @@
-use Rattle.std.proofs.Common.{lit<, arith}
+use Rattle.std.proofs.Common.{lit<}
 use Rattle.line_laws.proofs.Patterns.{ArePlain}
 use Rattle.line_laws.proofs.Fitting.{fit-front, fit-more, fit-slots, length-fit}
 use Rattle.line_laws.proofs.laws.slots_that_fit_follow_one_another.Goals as goal
