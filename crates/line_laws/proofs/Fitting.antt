@@ -4,7 +4,7 @@ use Rattle.std.proofs.Math.Nat.{mul-suc}
 use Rattle.std.proofs.lemmas.List.Elements.{All-nil, All-cons, All-append}
 use Rattle.frame_check.specs.declared.check.Check.{Check}
 use Rattle.frame_check.specs.declared.check.Check.TheVariants.{Sixteen, ThirtyTwo}
-use Rattle.frame_check.specs.declared.sizes.TheConstants.{SLOT, INFO}
+use Rattle.frame_check.specs.declared.sizes.TheConstants.{SLOT, INFO, WHOLE}
 use Rattle.frame_check.specs.Division.{check_of, count_of}
 use Rattle.frame_check.proofs.Checks.{check_of-is, length-check_of}
 use Rattle.bit_stuffing.specs.declared.slot_writer.TheConstants.{TAIL}
@@ -109,9 +109,13 @@ short-codable check sender dlci symbols phase most frame low is few room =
     let long = length-opening phase (checked check sender dlci frame) low in
     (is, omega (arith, long, few, room))
 
-pub each-codable : (check : Check) (sender : Role) (dlci phase : ℕ) (frame : Frame) → phase < 8 → IsFrame frame → IsCodable check sender dlci SLOT phase (sent.Frame frame)
-each-codable check sender dlci phase frame low is =
-    short-codable check sender dlci SLOT phase 135 frame low is (omega (arith, few-besides check sender dlci frame, length-information frame is)) (omega arith)
+pub each-codable : (check : Check) (sender : Role) (dlci phase : ℕ) (s : Sent) → phase < 8 → IsSendable s → IsCodable check sender dlci SLOT phase s
+each-codable check sender dlci phase sent.Mark low is = tt
+each-codable check sender dlci phase sent.Odp low is = tt
+each-codable check sender dlci phase sent.Adp low is = tt
+each-codable check sender dlci phase sent.Flags low is = tt
+each-codable check sender dlci phase (sent.Frame frame) low is =
+    short-codable check sender dlci SLOT phase WHOLE frame low is (omega (arith, few-besides check sender dlci frame, length-information frame is)) (omega arith)
 
 -- the octets of a frame
 

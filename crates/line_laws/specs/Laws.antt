@@ -41,7 +41,7 @@ EmptyScriptDisplacesNone = (script : ScriptValue) (sender : Role) → script.hit
 abbrev pub FirstOnesFit : Type 0
 FirstOnesFit = (size : ℕ) (before more : List Signal) → AreFit size 0 (before ++ more) → AreFit size 0 before
 
--- one more may follow exactly where it fits behind the flag phase there
+-- one more may follow where it fits, by the flag phase behind those before
 abbrev pub OneMoreFits : Type 0
 OneMoreFits = (size : ℕ) (before : List Signal) (signal : Signal)
     → AreFit size 0 before → Fits size (phase_after size (slots_of size before)) signal → AreFit size 0 (before ++ signal ∷ [])
@@ -75,10 +75,9 @@ ShortIsCodable = (check : Check) (sender : Role) (dlci symbols phase most : ℕ)
     → length (checked check sender dlci frame) ≤ most → 47 + 8 * most + 8 * most / 5 ≤ 4 * (symbols - TAIL)
     → IsCodable check sender dlci symbols phase (sent.Frame frame)
 
--- in slots of SLOT symbols each frame can be coded
-abbrev pub EachFrameIsCodable : Type 0
-EachFrameIsCodable = (check : Check) (sender : Role) (dlci phase : ℕ) (frame : Frame) → phase < 8 → IsFrame frame
-    → IsCodable check sender dlci SLOT phase (sent.Frame frame)
+-- in slots of SLOT symbols all that may be sent can be coded
+abbrev pub EachIsCodable : Type 0
+EachIsCodable = (check : Check) (sender : Role) (dlci phase : ℕ) (s : Sent) → phase < 8 → IsSendable s → IsCodable check sender dlci SLOT phase s
 
 -- recordings
 

@@ -1,6 +1,6 @@
 //! Laws over the definitions alone: each law is a contract. The functions do nothing but name the laws that they rest on.
 ghost use Rattle.line_laws.specs.Laws.{OthersLinesDisplaceNone, EmptyScriptDisplacesNone, FirstOnesFit, OneMoreFits, SlotsThatFitAreSlots, SlotsHaveSize};
-ghost use Rattle.line_laws.specs.Laws.{CodableFits, CodableIsSendable, SpelledInOctets, FewOctetsBesidesInformation, ShortIsCodable, EachFrameIsCodable};
+ghost use Rattle.line_laws.specs.Laws.{CodableFits, CodableIsSendable, SpelledInOctets, FewOctetsBesidesInformation, ShortIsCodable, EachIsCodable};
 ghost use Rattle.line_laws.specs.Laws.{EachIsRecorded, SlotsAreRecorded, LossStays, LossIsInEachRecording};
 ghost use Rattle.line_laws.specs.Laws.{NeverLost, ReceivedIsSent, HeardIsSent, NeverChance, PassesUnhindered};
 
@@ -22,14 +22,14 @@ pub fn slots_that_fit_follow_one_another()
     patterns_are_plain();
 }
 
-/// What can be coded fits, and that is so of each frame in slots of enough symbols.
+/// What can be coded fits, and a frame can be coded in slots of enough symbols.
 pub fn codable_slots_fit()
     ensures fits { CodableFits }
     ensures sendable { CodableIsSendable }
     ensures octets { SpelledInOctets }
     ensures few { FewOctetsBesidesInformation }
     ensures short { ShortIsCodable }
-    ensures longest { EachFrameIsCodable }
+    ensures longest { EachIsCodable }
 {}
 
 /// Whatever the script, each list of bits in fours has a recording.
