@@ -1,0 +1,211 @@
+-- Slots that fit one another, and what fits a slot.
+use Rattle.std.proofs.Common.{◌≡◌, ◌∙◌, ℕ, ◌+◌, ◌-◌, ◌*◌, ◌/◌, ◌<◌, ◌≤◌, Bool, true, false, List, [], ◌∷◌, ◌++◌, length, All, Some, None, ap, arith, lit<, length-append}
+use Rattle.std.proofs.Math.Nat.{mul-suc}
+use Rattle.std.proofs.lemmas.List.Elements.{All-nil, All-cons, All-append}
+use Rattle.frame_check.specs.declared.check.Check.{Check}
+use Rattle.frame_check.specs.declared.check.Check.TheVariants.{Sixteen, ThirtyTwo}
+use Rattle.frame_check.specs.declared.sizes.TheConstants.{SLOT, INFO, WHOLE}
+use Rattle.frame_check.specs.Division.{check_of, count_of}
+use Rattle.frame_check.proofs.Checks.{check_of-is, length-check_of}
+use Rattle.bit_stuffing.specs.declared.slot_writer.TheConstants.{TAIL}
+use Rattle.bit_stuffing.specs.Slots.{AreSlots, IsSlot, bits_from, phase_from, next_phase, opening, framed, flags, rest_of_flag, slot_bits}
+use Rattle.bit_stuffing.proofs.Fill.{length-flags, next-low}
+use Rattle.bit_stuffing.proofs.Sizes.{length-slot_bits, length-empty, length-opening}
+use Rattle.detection.specs.Slots.{Signal, slot_of, slots_of}
+use Rattle.detection.specs.Slots.Signal.{PatternSlot, MarkSlot, FlagSlot}
+use Rattle.lapm_frames.specs.declared.frame.Role.{Role}
+use Rattle.lapm_frames.specs.declared.frame.Role.TheVariants.{Originator, Answerer}
+use Rattle.lapm_frames.specs.declared.frame.Frame.{Frame}
+use Rattle.lapm_frames.specs.declared.frame.Frame.TheVariants.{I, Rr, Rnr, Rej, Srej, Sabme, Disc, Ua, Dm, Frmr, Ui, Xid, Test}
+use Rattle.lapm_frames.specs.Frame.{IsFrame, address_of, numbered, marked, spelled}
+use Rattle.lapm_link.specs.declared.sent.Sent.{Sent}
+use Rattle.lapm_link.specs.declared.sent.Sent.TheVariants as sent
+use Rattle.sample_line.specs.Signals.{check_for, checked, signal_of, IsCodable}
+use Rattle.line_laws.specs.Fitting.{Fits, AreFit, HasOctets, IsSendable, OfOctets, information_of}
+use Rattle.line_laws.proofs.Patterns.{ArePlain}
+
+pub fit-slot : (plain : ArePlain) (size phase : ℕ) (signal : Signal) → 552 < size → phase < 8 → Fits size phase signal → IsSlot size phase (slot_of size signal)
+fit-slot plain size phase (PatternSlot seen) long low h = plain.patterns size seen long
+fit-slot plain size phase MarkSlot long low h = plain.marks size long
+fit-slot plain size phase (FlagSlot None) long low h = omega (arith, length-empty phase low)
+fit-slot plain size phase (FlagSlot (Some octets)) long low h = (h.0, omega (arith, h.1))
+
+pub fit-slots : (plain : ArePlain) (size phase : ℕ) (signals : List Signal) → 552 < size → phase < 8 → AreFit size phase signals → AreSlots size phase (slots_of size signals)
+fit-slots plain size phase [] long low h = tt
+fit-slots plain size phase (signal ∷ signals) long low h =
+    (fit-slot plain size phase signal long low h.0, fit-slots plain size (next_phase size phase (slot_of size signal)) signals long (next-low size phase (slot_of size signal)) h.1)
+
+pub fit-front : (size phase : ℕ) (before more : List Signal) → AreFit size phase (before ++ more) → AreFit size phase before
+fit-front size phase [] more h = tt
+fit-front size phase (signal ∷ before) more h = (h.0, fit-front size (next_phase size phase (slot_of size signal)) before more h.1)
+
+pub fit-last : (size phase : ℕ) (before : List Signal) (signal : Signal) → AreFit size phase (before ++ signal ∷ []) → Fits size (phase_from size phase (slots_of size before)) signal
+fit-last size phase [] signal h = h.0
+fit-last size phase (first ∷ before) signal h = fit-last size (next_phase size phase (slot_of size first)) before signal h.1
+
+pub fit-more : (size phase : ℕ) (before : List Signal) (signal : Signal) → AreFit size phase before → Fits size (phase_from size phase (slots_of size before)) signal → AreFit size phase (before ++ signal ∷ [])
+fit-more size phase [] signal h fits = (fits, tt)
+fit-more size phase (first ∷ before) signal h fits = (h.0, fit-more size (next_phase size phase (slot_of size first)) before signal h.1 fits)
+
+pub length-fit : (plain : ArePlain) (size phase : ℕ) (signals : List Signal) → 552 < size → phase < 8 → AreFit size phase signals → length (bits_from size phase (slots_of size signals)) ≡ size * length signals
+length-fit plain size phase [] long low h = omega arith
+length-fit plain size phase (signal ∷ signals) long low h =
+    let slot = slot_of size signal in
+    let rest = length-fit plain size (next_phase size phase slot) signals long (next-low size phase slot) h.1 in
+    let both = length-append {A = Bool} (slot_bits size phase slot) (bits_from size (next_phase size phase slot) (slots_of size signals)) in
+    let here = length-slot_bits size phase slot (fit-slot plain size phase signal long low h.0) in
+    omega (arith, both, here, rest, mul-suc size (length signals))
+
+-- how many octets a frame has
+
+pub length-spelled : (frame : Frame) (sender : Role) (dlci : ℕ) → (2 ≤ length (spelled frame sender dlci)) × (length (spelled frame sender dlci) ≤ 3 + length (information_of frame))
+length-spelled (I ns nr pf info) sender dlci = (omega arith, omega arith)
+length-spelled (Rr command nr pf) sender dlci = (omega arith, omega arith)
+length-spelled (Rnr command nr pf) sender dlci = (omega arith, omega arith)
+length-spelled (Rej command nr pf) sender dlci = (omega arith, omega arith)
+length-spelled (Srej command nr pf) sender dlci = (omega arith, omega arith)
+length-spelled (Sabme pf) sender dlci = (omega arith, omega arith)
+length-spelled (Disc pf) sender dlci = (omega arith, omega arith)
+length-spelled (Ua pf) sender dlci = (omega arith, omega arith)
+length-spelled (Dm pf) sender dlci = (omega arith, omega arith)
+length-spelled (Frmr pf info) sender dlci = (omega arith, omega arith)
+length-spelled (Ui command pf info) sender dlci = (omega arith, omega arith)
+length-spelled (Xid command pf info) sender dlci = (omega arith, omega arith)
+length-spelled (Test command pf info) sender dlci = (omega arith, omega arith)
+
+length-information : (frame : Frame) → IsFrame frame → length (information_of frame) ≤ INFO
+length-information (I ns nr pf info) h = h.2
+length-information (Rr command nr pf) h = omega arith
+length-information (Rnr command nr pf) h = omega arith
+length-information (Rej command nr pf) h = omega arith
+length-information (Srej command nr pf) h = omega arith
+length-information (Sabme pf) h = omega arith
+length-information (Disc pf) h = omega arith
+length-information (Ua pf) h = omega arith
+length-information (Dm pf) h = omega arith
+length-information (Frmr pf info) h = h
+length-information (Ui command pf info) h = h
+length-information (Xid command pf info) h = h
+length-information (Test command pf info) h = h
+
+count-two : (check : Check) → (2 ≤ count_of check) × (count_of check ≤ 4)
+count-two Sixteen = (omega arith, omega arith)
+count-two ThirtyTwo = (omega arith, omega arith)
+
+length-whole : (check : Check) (sender : Role) (dlci : ℕ) (frame : Frame) → length (checked check sender dlci frame) ≡ length (spelled frame sender dlci) + count_of (check_for check frame)
+length-whole check sender dlci frame =
+    length-append {A = ℕ} (spelled frame sender dlci) (check_of (check_for check frame) (spelled frame sender dlci))
+    ∙ ap (λ n. length (spelled frame sender dlci) + n) (length-check_of (check_for check frame) (spelled frame sender dlci))
+
+pub few-besides : (check : Check) (sender : Role) (dlci : ℕ) (frame : Frame) → length (checked check sender dlci frame) ≤ 7 + length (information_of frame)
+few-besides check sender dlci frame = omega (arith, length-whole check sender dlci frame, (length-spelled frame sender dlci).1, (count-two (check_for check frame)).1)
+
+-- frames that can be coded
+
+pub short-codable : (check : Check) (sender : Role) (dlci symbols phase most : ℕ) (frame : Frame) → phase < 8 → IsFrame frame
+    → length (checked check sender dlci frame) ≤ most → 47 + 8 * most + 8 * most / 5 ≤ 4 * (symbols - TAIL)
+    → IsCodable check sender dlci symbols phase (sent.Frame frame)
+short-codable check sender dlci symbols phase most frame low is few room =
+    let long = length-opening phase (checked check sender dlci frame) low in
+    (is, omega (arith, long, few, room))
+
+pub each-codable : (check : Check) (sender : Role) (dlci phase : ℕ) (s : Sent) → phase < 8 → IsSendable s → IsCodable check sender dlci SLOT phase s
+each-codable check sender dlci phase sent.Mark low is = tt
+each-codable check sender dlci phase sent.Odp low is = tt
+each-codable check sender dlci phase sent.Adp low is = tt
+each-codable check sender dlci phase sent.Flags low is = tt
+each-codable check sender dlci phase (sent.Frame frame) low is =
+    short-codable check sender dlci SLOT phase WHOLE frame low is (omega (arith, few-besides check sender dlci frame, length-information frame is)) (omega arith)
+
+-- the octets of a frame
+
+address-small : (command : Bool) (sender : Role) (dlci : ℕ) → dlci < 64 → address_of command sender dlci < 256
+address-small true Originator dlci low = omega arith
+address-small false Originator dlci low = omega arith
+address-small true Answerer dlci low = omega arith
+address-small false Answerer dlci low = omega arith
+
+numbered-small : (nr : ℕ) (pf : Bool) → nr < 128 → numbered nr pf < 256
+numbered-small nr true low = omega arith
+numbered-small nr false low = omega arith
+
+marked-small : (control : ℕ) (pf : Bool) → control < 240 → marked control pf < 256
+marked-small control true low = omega arith
+marked-small control false low = omega arith
+
+two-small : (a b : ℕ) (rest : List ℕ) → a < 256 → b < 256 → All (λ octet. octet < 256) rest → All (λ octet. octet < 256) (a ∷ b ∷ rest)
+two-small a b rest low_a low_b h = All-cons (λ octet. octet < 256) a (b ∷ rest) low_a (All-cons (λ octet. octet < 256) b rest low_b h)
+
+short-small : (command : Bool) (sender : Role) (dlci control nr : ℕ) (pf : Bool) → dlci < 64 → control < 256 → nr < 128
+    → All (λ octet. octet < 256) (address_of command sender dlci ∷ control ∷ numbered nr pf ∷ [])
+short-small command sender dlci control nr pf channel low few =
+    two-small (address_of command sender dlci) control (numbered nr pf ∷ []) (address-small command sender dlci channel) low
+    (All-cons (λ octet. octet < 256) (numbered nr pf) [] (numbered-small nr pf few) (All-nil (λ octet. octet < 256)))
+
+marked-all : (command : Bool) (sender : Role) (dlci control : ℕ) (pf : Bool) (info : List ℕ) → dlci < 64 → control < 240 → All (λ octet. octet < 256) info
+    → All (λ octet. octet < 256) (address_of command sender dlci ∷ marked control pf ∷ info)
+marked-all command sender dlci control pf info channel low h =
+    two-small (address_of command sender dlci) (marked control pf) info (address-small command sender dlci channel) (marked-small control pf low) h
+
+spelled-small : (frame : Frame) (sender : Role) (dlci : ℕ) → dlci < 64 → IsFrame frame → All (λ octet. octet < 256) (information_of frame) → All (λ octet. octet < 256) (spelled frame sender dlci)
+spelled-small (I ns nr pf info) sender dlci low is h =
+    two-small (address_of true sender dlci) (2 * ns) (numbered nr pf ∷ info) (address-small true sender dlci low) (omega (arith, is.0))
+    (All-cons (λ octet. octet < 256) (numbered nr pf) info (numbered-small nr pf is.1) h)
+spelled-small (Rr command nr pf) sender dlci low is h = short-small command sender dlci 0x01 nr pf low (lit< tt) is
+spelled-small (Rnr command nr pf) sender dlci low is h = short-small command sender dlci 0x05 nr pf low (lit< tt) is
+spelled-small (Rej command nr pf) sender dlci low is h = short-small command sender dlci 0x09 nr pf low (lit< tt) is
+spelled-small (Srej command nr pf) sender dlci low is h = short-small command sender dlci 0x0d nr pf low (lit< tt) is
+spelled-small (Sabme pf) sender dlci low is h = marked-all true sender dlci 0x6f pf [] low (lit< tt) h
+spelled-small (Disc pf) sender dlci low is h = marked-all true sender dlci 0x43 pf [] low (lit< tt) h
+spelled-small (Ua pf) sender dlci low is h = marked-all false sender dlci 0x63 pf [] low (lit< tt) h
+spelled-small (Dm pf) sender dlci low is h = marked-all false sender dlci 0x0f pf [] low (lit< tt) h
+spelled-small (Frmr pf info) sender dlci low is h = marked-all false sender dlci 0x87 pf info low (lit< tt) h
+spelled-small (Ui command pf info) sender dlci low is h = marked-all command sender dlci 0x03 pf info low (lit< tt) h
+spelled-small (Xid command pf info) sender dlci low is h = marked-all command sender dlci 0xaf pf info low (lit< tt) h
+spelled-small (Test command pf info) sender dlci low is h = marked-all command sender dlci 0xe3 pf info low (lit< tt) h
+
+checked-small : (check : Check) (sender : Role) (dlci : ℕ) (frame : Frame) → dlci < 64 → IsFrame frame → All (λ octet. octet < 256) (information_of frame) → All (λ octet. octet < 256) (checked check sender dlci frame)
+checked-small check sender dlci frame low is h =
+    let octets : List ℕ = spelled frame sender dlci in
+    let kind : Check = check_for check frame in
+    All-append (λ octet. octet < 256) octets (check_of kind octets) (spelled-small frame sender dlci low is h) (check_of-is kind octets).are_octets
+
+pub spelled-octets : (check : Check) (sender : Role) (dlci : ℕ) (s : Sent) → dlci < 64 → IsSendable s → HasOctets s → OfOctets (signal_of check sender dlci s)
+spelled-octets check sender dlci sent.Mark low is h = tt
+spelled-octets check sender dlci sent.Odp low is h = tt
+spelled-octets check sender dlci sent.Adp low is h = tt
+spelled-octets check sender dlci sent.Flags low is h = tt
+spelled-octets check sender dlci (sent.Frame frame) low is h = checked-small check sender dlci frame low is h
+
+some-flags : (count : ℕ) (before behind : List Bool) → 8 * count ≤ length (before ++ flags count ++ behind)
+some-flags count before behind = omega (arith, length-append {A = Bool} (before ++ flags count) behind, length-append {A = Bool} before (flags count), length-flags count)
+
+some-opening : (phase : ℕ) (frame : List ℕ) → 32 ≤ length (opening phase (Some frame))
+some-opening phase frame = some-flags 4 (rest_of_flag phase) (framed (Some frame))
+
+-- what can be coded fits
+
+pub codable-sendable : (check : Check) (sender : Role) (dlci symbols phase : ℕ) (s : Sent) → IsCodable check sender dlci symbols phase s → IsSendable s
+codable-sendable check sender dlci symbols phase sent.Mark k = tt
+codable-sendable check sender dlci symbols phase sent.Odp k = tt
+codable-sendable check sender dlci symbols phase sent.Adp k = tt
+codable-sendable check sender dlci symbols phase sent.Flags k = tt
+codable-sendable check sender dlci symbols phase (sent.Frame frame) k = k.0
+
+frame-fits : (check : Check) (sender : Role) (dlci symbols phase : ℕ) (frame : Frame) → All (λ octet. octet < 256) (checked check sender dlci frame) → IsFrame frame
+    → length (opening phase (Some (checked check sender dlci frame))) ≤ 4 * (symbols - TAIL) → Fits (4 * symbols) phase (FlagSlot (Some (checked check sender dlci frame)))
+frame-fits check sender dlci symbols phase frame small is room = (
+  record {
+    small = small;
+    low = omega (arith, length-whole check sender dlci frame, (length-spelled frame sender dlci).0, (count-two (check_for check frame)).0);
+    high = omega (arith, few-besides check sender dlci frame, length-information frame is);
+  },
+  omega (arith, room, some-opening phase (checked check sender dlci frame)),
+)
+
+pub codable-fits : (check : Check) (sender : Role) (dlci symbols phase : ℕ) (s : Sent) → OfOctets (signal_of check sender dlci s) → IsCodable check sender dlci symbols phase s → Fits (4 * symbols) phase (signal_of check sender dlci s)
+codable-fits check sender dlci symbols phase sent.Mark small k = tt
+codable-fits check sender dlci symbols phase sent.Odp small k = tt
+codable-fits check sender dlci symbols phase sent.Adp small k = tt
+codable-fits check sender dlci symbols phase sent.Flags small k = tt
+codable-fits check sender dlci symbols phase (sent.Frame frame) small k = frame-fits check sender dlci symbols phase frame small k.0 k.1

@@ -1,0 +1,23 @@
+-- The laws of pattern slots that the lemmas here are handed.
+use Rattle.std.proofs.Common.{◌≡◌, ℕ, ◌<◌, Bool, List, [], ◌∷◌, ◌++◌, length, refl}
+use Rattle.bit_stuffing.specs.Slots.{AreSlots, IsPlain}
+use Rattle.detection.specs.declared.seen.Seen.{Seen}
+use Rattle.detection.specs.Patterns.{ones}
+use Rattle.detection.specs.Slots.{Signal, pattern_bits, signal_bits, slots_of}
+use Rattle.detection.specs.Sights.{Sight, SightsAdded, seen_in, sights_of}
+
+-- patterns and ones may fill a slot
+pub record ArePlain : Type 0 where
+  pub patterns : (size : ℕ) (seen : Seen) → 552 < size → IsPlain size (pattern_bits size seen)
+  pub marks : (size : ℕ) → 552 < size → IsPlain size (ones size)
+
+-- what is seen stays, and in a slot it is what was sent in it
+pub record AreSeen : Type 0 where
+  pub plain : ArePlain
+  pub stay : (bits more : List Bool) → (added : List Sight) × SightsAdded bits more added
+  pub sent : (size : ℕ) (before : List Signal) (signal : Signal) → 552 < size → AreSlots size 0 (slots_of size (before ++ signal ∷ []))
+      → sights_of (signal_bits size (before ++ signal ∷ [])) ≡ sights_of (signal_bits size before) ++ seen_in (length (signal_bits size before)) signal
+
+pub none-seen : sights_of [] ≡ []
+unfolding sights_of
+none-seen = refl

@@ -1,0 +1,229 @@
+-- What is received in a slot is what was sent in it.
+use Rattle.std.proofs.Common.{◌≡◌, ◌∙◌, inr, ℕ, ◌*◌, ◌%◌, ◌<◌, nat_eq, Bool, true, false, List, [], ◌∷◌, ◌++◌, length, take, drop, map, replicate, Ok, Err, Result, refl, sym, ap, subst, arith, append-nil, append_assoc}
+use Rattle.std.proofs.Math.Seq.{take-append_seam, drop-append_seam}
+use Rattle.std.proofs.lemmas.Bool.{ne_eqb}
+use Rattle.std.proofs.lemmas.List.{take_all, take-append-drop, length-drop}
+use Rattle.std.proofs.lemmas.List.Elements.{All-replicate}
+use Rattle.frame_check.specs.declared.check.Check.{Check}
+use Rattle.frame_check.specs.FrameCheck.{IsChecked}
+use Rattle.frame_check.proofs.Checks.{with_check-is}
+use Rattle.scramblers.specs.Mode.{tap_of}
+use Rattle.scramblers.proofs.Readings.{Descrambles_once}
+use Rattle.symbol_map.specs.declared.sample.Sample.{Sample}
+use Rattle.survivors.specs.Survivors.{IsReleased}
+use Rattle.exact_decoder.specs.declared.decoder.Lost.{Lost}
+use Rattle.noiseless_line.proofs.Costs.{length-points}
+use Rattle.noiseless_line.proofs.Followed.{released-sent_at, few-unreleased_at}
+use Rattle.demodulator.specs.Demodulates.{Demodulates, line_of}
+use Rattle.demodulator.proofs.Readings.{comes-back, first-stay, four-each}
+use Rattle.bit_stuffing.specs.Found.{Found, pieces_of}
+use Rattle.bit_stuffing.specs.Sent.{FoundIn, wholes}
+use Rattle.detection.specs.declared.seen.Seen.{Seen}
+use Rattle.detection.specs.declared.seen.Seen.TheVariants as seen
+use Rattle.detection.specs.Sights.{Sight, seen_in, sights_of}
+use Rattle.detection.specs.Slots.{Signal, signal_bits, slot_of}
+use Rattle.lapm_frames.specs.declared.frame.Role.{Role}
+use Rattle.lapm_frames.specs.declared.frame.Frame.{Frame}
+use Rattle.lapm_frames.specs.declared.frame.Frame.TheVariants.{I, Rr, Rnr, Rej, Srej, Sabme, Disc, Ua, Dm, Frmr, Ui, Xid, Test}
+use Rattle.lapm_frames.specs.Frame.{IsFrame, spelled}
+use Rattle.lapm_link.specs.declared.sent.Sent.{Sent}
+use Rattle.lapm_link.specs.declared.sent.Sent.TheVariants as sent
+use Rattle.noise_script.specs.Script.{ScriptValue}
+use Rattle.sample_line.specs.declared.heard.Heard.{Heard}
+use Rattle.sample_line.specs.declared.heard.Heard.TheVariants.{Chance}
+use Rattle.sample_line.specs.Outcomes.{IsPattern, IsOutcome}
+use Rattle.sample_line.specs.Recorded.{mode_of, Records}
+use Rattle.sample_line.specs.Received.{line_trellis, AreFrames, FoundBetween, Gives, Receives, SpellsFrame}
+use Rattle.sample_line.specs.Signals.{check_for, check_heard, checked, signal_of}
+use Rattle.sample_line.specs.Line.{Kept, Passes, PassesSlot, sender_of, size_of}
+use Rattle.sample_line.proofs.Finding.{wholes-append}
+use Rattle.sample_line.proofs.Once.{received-once, outcome-once}
+use Rattle.line_laws.specs.Fitting.{AreFit, IsSendable}
+use Rattle.line_laws.specs.Unhindered.{DisplacesNone, frames_in, patterns_in, unhindered}
+use Rattle.line_laws.proofs.Patterns.{AreSeen}
+use Rattle.line_laws.proofs.Fitting.{fit-front}
+use Rattle.line_laws.proofs.Recordings.{tap-some}
+use Rattle.line_laws.proofs.Settled.{Lags, settled-all, settled-finds, slot-adds}
+use Rattle.line_laws.proofs.Undisplaced.{recorded-noiseless, none-within}
+
+-- all but the last 96 bits were read
+
+lags : (script : ScriptValue) (sender : Role) (bits read : List Bool) (samples : List Sample) → DisplacesNone script sender → Records script sender bits samples → Gives sender samples read → Lags bits read
+lags script sender bits read samples none r g =
+    let tap : ℕ = tap_of (mode_of sender) in
+    let labels : List ℕ = r.modulated.labels in
+    let n : ℕ = length g.labels in
+    let noiseless = recorded-noiseless script sender bits samples none r in
+    let all : take (length samples) samples ≡ samples = take_all (length samples) samples (omega arith) in
+    let released : IsReleased line_trellis (take (length samples) samples) g.labels = subst (λ (xs : List Sample). IsReleased line_trellis xs g.labels) (sym all) g.released in
+    let sent = released-sent_at 0 labels samples (length samples) g.labels noiseless released in
+    let few = few-unreleased_at 0 labels samples (length samples) g.labels (omega arith) noiseless released in
+    let long : length samples ≡ length labels = ap length noiseless.exact ∙ length-points labels in
+    let back : Demodulates tap labels bits = comes-back tap bits r.modulated.line r.modulated.quads labels r.modulated.end r.modulated.scrambled r.modulated.in_fours r.modulated.are_quads r.modulated.encoded in
+    let first : take n labels ≡ g.labels = ap (take n) sent.1 ∙ take-append_seam g.labels sent.0 in
+    let same : take (4 * n) bits ≡ read = Descrambles_once tap (line_of g.labels) (take (4 * n) bits) read
+    (subst (λ (xs : List ℕ). Demodulates tap xs (take (4 * n) bits)) first (first-stay tap n labels bits (tap-some sender) back)) g.read in
+    record {
+      rest = drop (4 * n) bits;
+      goes_on = sym (take-append-drop (4 * n) bits) ∙ ap (λ xs. xs ++ drop (4 * n) bits) same;
+      few = omega (arith, few, long, length-drop (4 * n) bits, four-each tap labels bits back);
+    }
+
+-- a frame comes back from its octets
+
+abbrev HasKind : Check → Role → ℕ → Frame → Type 0
+HasKind check sender dlci frame = check_heard check (checked check sender dlci frame) ≡ check_for check frame
+
+kind-heard : (check : Check) (sender : Role) (dlci : ℕ) (frame : Frame) → HasKind check sender dlci frame
+kind-heard check sender dlci (I ns nr pf info) =
+    let even : nat_eq (2 * ns % 4) 3 ≡ false = ne_eqb (2 * ns % 4) 3 (λ e. omega (arith, e)) in
+    rw even refl
+kind-heard check sender dlci (Rr command nr pf) = refl
+kind-heard check sender dlci (Rnr command nr pf) = refl
+kind-heard check sender dlci (Rej command nr pf) = refl
+kind-heard check sender dlci (Srej command nr pf) = refl
+kind-heard check sender dlci (Sabme true) = refl
+kind-heard check sender dlci (Sabme false) = refl
+kind-heard check sender dlci (Disc true) = refl
+kind-heard check sender dlci (Disc false) = refl
+kind-heard check sender dlci (Ua true) = refl
+kind-heard check sender dlci (Ua false) = refl
+kind-heard check sender dlci (Dm true) = refl
+kind-heard check sender dlci (Dm false) = refl
+kind-heard check sender dlci (Frmr true info) = refl
+kind-heard check sender dlci (Frmr false info) = refl
+kind-heard check sender dlci (Ui command true info) = refl
+kind-heard check sender dlci (Ui command false info) = refl
+kind-heard check sender dlci (Xid command true info) = refl
+kind-heard check sender dlci (Xid command false info) = refl
+kind-heard check sender dlci (Test command true info) = refl
+kind-heard check sender dlci (Test command false info) = refl
+
+spells : (check : Check) (sender : Role) (dlci : ℕ) (frame : Frame) → IsFrame frame → SpellsFrame check sender dlci (checked check sender dlci frame) frame
+spells check sender dlci frame is = record {
+  octets = spelled frame sender dlci;
+  passes = subst (λ (kind : Check). IsChecked kind (spelled frame sender dlci) (checked check sender dlci frame)) (sym (kind-heard check sender dlci frame))
+      (with_check-is (check_for check frame) (spelled frame sender dlci));
+  spelling = (is, refl);
+}
+
+-- what a slot adds
+
+slot-frames : (size start phase : ℕ) (behind : Bool) (check : Check) (sender : Role) (dlci : ℕ) (s : Sent) (added : List Found) → IsSendable s
+    → FoundIn size start phase behind (slot_of size (signal_of check sender dlci s)) added → AreFrames check sender dlci (wholes added) (frames_in s)
+slot-frames size start phase true check sender dlci sent.Mark added is h = subst (λ (xs : List Found). AreFrames check sender dlci (wholes xs) []) (sym h.3) refl
+slot-frames size start phase false check sender dlci sent.Mark added is h = subst (λ (xs : List Found). AreFrames check sender dlci (wholes xs) []) (sym h) refl
+slot-frames size start phase true check sender dlci sent.Odp added is h = subst (λ (xs : List Found). AreFrames check sender dlci (wholes xs) []) (sym h.3) refl
+slot-frames size start phase false check sender dlci sent.Odp added is h = subst (λ (xs : List Found). AreFrames check sender dlci (wholes xs) []) (sym h) refl
+slot-frames size start phase true check sender dlci sent.Adp added is h = subst (λ (xs : List Found). AreFrames check sender dlci (wholes xs) []) (sym h.3) refl
+slot-frames size start phase false check sender dlci sent.Adp added is h = subst (λ (xs : List Found). AreFrames check sender dlci (wholes xs) []) (sym h) refl
+slot-frames size start phase behind check sender dlci sent.Flags added is h = subst (λ (xs : List Found). AreFrames check sender dlci (wholes xs) []) (sym h) refl
+slot-frames size start phase behind check sender dlci (sent.Frame frame) added is h =
+    subst (λ (xs : List Found). AreFrames check sender dlci (wholes xs) (frame ∷ [])) (sym h) (inr (frame, [], spells check sender dlci frame is, refl, refl))
+
+slot-patterns : (check : Check) (sender : Role) (dlci start : ℕ) (s : Sent) → map (λ (sight : Sight). sight.seen) (seen_in start (signal_of check sender dlci s)) ≡ patterns_in s
+slot-patterns check sender dlci start sent.Mark = refl
+slot-patterns check sender dlci start sent.Odp = refl
+slot-patterns check sender dlci start sent.Adp = refl
+slot-patterns check sender dlci start sent.Flags = refl
+slot-patterns check sender dlci start (sent.Frame frame) = refl
+
+same-behind : {X : Type 0} (front a b : List X) → front ++ a ≡ front ++ b → a ≡ b
+same-behind front a b e = sym (drop-append_seam front a) ∙ ap (drop (length front)) e ∙ drop-append_seam front b
+
+-- what is found of a slot in the bits that were read up to its end and not before
+found-sent : (laws : AreSeen) (check : Check) (sender : Role) (dlci size : ℕ) (passed : List Signal) (s : Sent) (earlier later : List Bool) (frames : List Frame) (patterns : List Seen)
+    → 552 < size → AreFit size 0 (passed ++ signal_of check sender dlci s ∷ []) → IsSendable s
+    → Lags (signal_bits size passed) earlier → Lags (signal_bits size (passed ++ signal_of check sender dlci s ∷ [])) later
+    → FoundBetween check sender dlci earlier later frames patterns → FoundBetween check sender dlci earlier later (frames_in s) (patterns_in s)
+found-sent laws check sender dlci size passed s earlier later frames patterns long fit is old new f =
+    let signal : Signal = signal_of check sender dlci s in
+    let a = slot-adds laws size passed signal long fit in
+    let before = settled-finds laws (signal_bits size passed) earlier (settled-all laws size passed long (fit-front size 0 passed (signal ∷ []) fit)) old in
+    let upto = settled-finds laws (signal_bits size (passed ++ signal ∷ [])) later (settled-all laws size (passed ++ signal ∷ []) long fit) new in
+    let start : ℕ = length (signal_bits size passed) in
+    let one_way : pieces_of (signal_bits size (passed ++ signal ∷ [])) ≡ pieces_of earlier ++ (before.added ++ a.added)
+    = a.all ∙ ap (λ xs. xs ++ a.added) before.pieces ∙ append_assoc (pieces_of earlier) before.added a.added in
+    let other_way : pieces_of (signal_bits size (passed ++ signal ∷ [])) ≡ pieces_of earlier ++ (f.pieces ++ upto.added)
+    = upto.pieces ∙ ap (λ xs. xs ++ upto.added) f.pieces_are ∙ append_assoc (pieces_of earlier) f.pieces upto.added in
+    let pieces : f.pieces ++ upto.added ≡ before.added ++ a.added = same-behind (pieces_of earlier) (f.pieces ++ upto.added) (before.added ++ a.added) (sym other_way ∙ one_way) in
+    let octets : wholes f.pieces ≡ wholes a.added
+    = sym (append-nil (wholes f.pieces)) ∙ ap (λ xs. wholes f.pieces ++ xs) (sym upto.none) ∙ sym (wholes-append f.pieces upto.added) ∙ ap wholes pieces
+    ∙ wholes-append before.added a.added ∙ ap (λ xs. xs ++ wholes a.added) before.none in
+    let sights : f.sights ≡ seen_in start signal
+    = same-behind (sights_of earlier) f.sights (seen_in start signal) (sym f.sights_are ∙ sym upto.sights ∙ a.sights ∙ ap (λ xs. xs ++ seen_in start signal) before.sights) in
+    record {
+      pieces = f.pieces;
+      pieces_are = f.pieces_are;
+      frames_are = subst (λ (xs : List (List ℕ)). AreFrames check sender dlci xs (frames_in s)) (sym octets) (slot-frames size start _ _ check sender dlci s a.added is a.found);
+      sights = f.sights;
+      sights_are = f.sights_are;
+      patterns_are = sym (slot-patterns check sender dlci start s) ∙ ap (map (λ (sight : Sight). sight.seen)) (sym sights);
+    }
+
+pub received-sent : (laws : AreSeen) (script : ScriptValue) (check : Check) (sender : Role) (dlci symbols : ℕ) (passed : List Signal) (s : Sent)
+    (before upto : List Sample) (frames : List Frame) (patterns : List Seen)
+    → DisplacesNone script sender → 138 < symbols → AreFit (4 * symbols) 0 (passed ++ signal_of check sender dlci s ∷ []) → IsSendable s
+    → Records script sender (signal_bits (4 * symbols) passed) before
+    → Records script sender (signal_bits (4 * symbols) (passed ++ signal_of check sender dlci s ∷ [])) upto
+    → Receives check sender dlci before upto frames patterns
+    → (frames ≡ frames_in s) × (patterns ≡ patterns_in s)
+received-sent laws script check sender dlci symbols passed s before upto frames patterns none long fit is old new r =
+    received-once check sender dlci before upto frames (frames_in s) patterns (patterns_in s) r (record {
+      earlier = r.earlier;
+      later = r.later;
+      gave = r.gave;
+      gives = r.gives;
+      found = found-sent laws check sender dlci (4 * symbols) passed s r.earlier r.later frames patterns (omega arith) fit is
+          (lags script sender (signal_bits (4 * symbols) passed) r.earlier before none old r.gave)
+          (lags script sender (signal_bits (4 * symbols) (passed ++ signal_of check sender dlci s ∷ [])) r.later upto none new r.gives) r.found;
+    })
+
+-- and has one outcome
+
+all-nine : (pattern : Seen) → IsPattern pattern [] (replicate 9 pattern)
+all-nine pattern = (refl, (λ e. absurd cc), All-replicate (λ other. other ≡ pattern) 9 pattern refl)
+
+as-expected : (loses : Bool) (s : Sent) → IsOutcome loses s (frames_in s) (patterns_in s) (unhindered loses s)
+as-expected true sent.Mark = refl
+as-expected false sent.Mark = (refl, (refl, refl))
+as-expected true sent.Flags = refl
+as-expected false sent.Flags = (refl, (refl, refl))
+as-expected true sent.Odp = (refl, refl)
+as-expected false sent.Odp = (refl, all-nine seen.Odp)
+as-expected true sent.Adp = (refl, refl)
+as-expected false sent.Adp = (refl, all-nine seen.Adp)
+as-expected true (sent.Frame frame) = (refl, refl)
+as-expected false (sent.Frame frame) = (refl, (refl, refl))
+
+pub heard-sent : (laws : AreSeen) (line : Kept) (script : ScriptValue) (passed waiting : List Signal) (signal : Signal) (check : Check) (dlci : ℕ) (loses : Bool) (s : Sent) (heard : Heard)
+    → DisplacesNone script (sender_of line) → 138 < line.writer.symbols → AreFit (size_of line) 0 (passed ++ signal ∷ [])
+    → signal ≡ signal_of check (sender_of line) dlci s → IsSendable s
+    → PassesSlot line script passed signal waiting check dlci loses s heard → heard ≡ unhindered loses s
+heard-sent laws line script passed waiting signal check dlci loses s heard none long fit e is p =
+    let sender : Role = sender_of line in
+    let fit_s : AreFit (size_of line) 0 (passed ++ signal_of check sender dlci s ∷ []) = subst (λ (x : Signal). AreFit (size_of line) 0 (passed ++ x ∷ [])) e fit in
+    let recorded : Records script sender (signal_bits (size_of line) (passed ++ signal_of check sender dlci s ∷ [])) p.upto
+    = subst (λ (x : Signal). Records script sender (signal_bits (size_of line) (passed ++ x ∷ [])) p.upto) e p.recorded in
+    let same = received-sent laws script check sender dlci line.writer.symbols passed s p.before p.upto p.frames p.patterns none long fit_s is p.recorded_before recorded p.received in
+    outcome-once loses s (frames_in s) (patterns_in s) heard (unhindered loses s)
+    (subst (λ (xs : List Seen). IsOutcome loses s (frames_in s) xs heard) same.1 (subst (λ (xs : List Frame). IsOutcome loses s xs p.patterns heard) same.0 p.outcome)) (as-expected loses s)
+
+pub never-chance : (loses : Bool) (s : Sent) → unhindered loses s ≡ Chance → ⊥
+never-chance loses sent.Mark e = absurd cc
+never-chance loses sent.Flags e = absurd cc
+never-chance true sent.Odp e = absurd cc
+never-chance false sent.Odp e = absurd cc
+never-chance true sent.Adp e = absurd cc
+never-chance false sent.Adp e = absurd cc
+never-chance true (sent.Frame frame) e = absurd cc
+never-chance false (sent.Frame frame) e = absurd cc
+
+pub passes-sent : (laws : AreSeen) (line : Kept) (script : ScriptValue) (passed waiting : List Signal) (signal : Signal) (check : Check) (dlci : ℕ) (loses : Bool) (s : Sent) (result : Result Heard Lost)
+    → DisplacesNone script (sender_of line) → 138 < line.writer.symbols → AreFit (size_of line) 0 (passed ++ signal ∷ [])
+    → signal ≡ signal_of check (sender_of line) dlci s → IsSendable s
+    → Passes line script passed signal waiting check dlci loses s result → result ≡ Ok (unhindered loses s)
+passes-sent laws line script passed waiting signal check dlci loses s (Ok heard) none long fit e is p =
+    ap (λ (h : Heard). let r : Result Heard Lost = Ok h in r) (heard-sent laws line script passed waiting signal check dlci loses s heard none long fit e is p)
+passes-sent laws line script passed waiting signal check dlci loses s (Err lost) none long fit e is p =
+    absurd (none-within (sender_of line) script (signal_bits (size_of line) passed) _ lost.symbol none p)

@@ -1,0 +1,12 @@
+use Rattle.line_laws.proofs.Patterns.{AreSeen}
+use Rattle.line_laws.proofs.Received.{received-sent}
+use Rattle.line_laws.proofs.laws.received_is_sent.Goals as goal
+
+pub returns : goal.returns
+returns c =
+    let seen : AreSeen = record {
+      plain = record { patterns = c.patterns_are_plain.ensures.patterns; marks = c.patterns_are_plain.ensures.marks };
+      stay = c.sights_stay.ensures;
+      sent = c.seen_is_sent.ensures;
+    } in
+    received-sent seen

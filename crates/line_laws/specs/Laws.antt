@@ -1,0 +1,134 @@
+-- Laws of lines whose symbols are not displaced.
+use Rattle.std.specs.Prelude.{◌≡◌, ℕ, ◌+◌, ◌-◌, ◌*◌, ◌/◌, ◌%◌, ◌<◌, ◌≤◌, Bool, List, [], ◌∷◌, ◌++◌, length, All, false, Result, Ok, Some}
+use Rattle.frame_check.specs.declared.check.Check.{Check}
+use Rattle.frame_check.specs.declared.sizes.TheConstants.{SLOT}
+use Rattle.symbol_map.specs.declared.sample.Sample.{Sample}
+use Rattle.survivors.specs.Survivors.{LostIs}
+use Rattle.exact_decoder.specs.declared.decoder.Lost.{Lost}
+use Rattle.bit_stuffing.specs.declared.slot_writer.TheConstants.{HEAD, TAIL}
+use Rattle.bit_stuffing.specs.Slots.{AreSlots, phase_after}
+use Rattle.detection.specs.declared.seen.Seen.{Seen}
+use Rattle.detection.specs.Slots.{Signal, signal_bits, slots_of}
+use Rattle.lapm_frames.specs.declared.frame.Role.{Role}
+use Rattle.lapm_frames.specs.declared.frame.Frame.{Frame}
+use Rattle.lapm_frames.specs.Frame.{IsFrame}
+use Rattle.lapm_link.specs.declared.sent.Sent.{Sent}
+use Rattle.lapm_link.specs.declared.sent.Sent.TheVariants as sent
+use Rattle.noise_script.specs.declared.entry.Hit.{Hit}
+use Rattle.noise_script.specs.declared.entry.Noise.{Noise}
+use Rattle.noise_script.specs.Offsets.{same_role}
+use Rattle.noise_script.specs.Script.{ScriptValue}
+use Rattle.sample_line.specs.declared.heard.Heard.{Heard}
+use Rattle.sample_line.specs.declared.heard.Heard.TheVariants as heard
+use Rattle.sample_line.specs.Signals.{checked, signal_of, IsCodable}
+use Rattle.sample_line.specs.Recorded.{Records}
+use Rattle.sample_line.specs.Received.{Receives, line_trellis, line_depth}
+use Rattle.sample_line.specs.Path.{LosesAt, LosesWithin}
+use Rattle.sample_line.specs.Line.{Kept, Passes, PassesSlot, sender_of, size_of}
+use Rattle.line_laws.specs.Fitting.{Fits, AreFit, HasOctets, IsSendable, OfOctets, information_of}
+use Rattle.line_laws.specs.Unhindered.{DisplacesNone, frames_in, patterns_in, unhindered}
+
+-- a script whose hit lines and noise lines are for the other role displaces no symbol
+abbrev pub OthersLinesDisplaceNone : Type 0
+OthersLinesDisplaceNone = (script : ScriptValue) (sender : Role) → All (λ (hit : Hit). same_role hit.role sender ≡ false) script.hits
+    → All (λ (noise : Noise). same_role noise.role sender ≡ false) script.noises → DisplacesNone script sender
+
+abbrev pub EmptyScriptDisplacesNone : Type 0
+EmptyScriptDisplacesNone = (script : ScriptValue) (sender : Role) → script.hits ≡ [] → script.noises ≡ [] → DisplacesNone script sender
+
+-- slots that fit
+
+abbrev pub FirstOnesFit : Type 0
+FirstOnesFit = (size : ℕ) (before more : List Signal) → AreFit size 0 (before ++ more) → AreFit size 0 before
+
+-- one more may follow where it fits, by the flag phase behind those before
+abbrev pub OneMoreFits : Type 0
+OneMoreFits = (size : ℕ) (before : List Signal) (signal : Signal)
+    → AreFit size 0 before → Fits size (phase_after size (slots_of size before)) signal → AreFit size 0 (before ++ signal ∷ [])
+
+abbrev pub SlotsThatFitAreSlots : Type 0
+SlotsThatFitAreSlots = (size : ℕ) (signals : List Signal) → 4 * (HEAD + TAIL) < size → AreFit size 0 signals → AreSlots size 0 (slots_of size signals)
+
+abbrev pub SlotsHaveSize : Type 0
+SlotsHaveSize = (size : ℕ) (signals : List Signal) → 4 * (HEAD + TAIL) < size → AreFit size 0 signals → length (signal_bits size signals) ≡ size * length signals
+
+-- what can be coded in slots of so many symbols fits them
+abbrev pub CodableFits : Type 0
+CodableFits = (check : Check) (sender : Role) (dlci symbols phase : ℕ) (s : Sent) → OfOctets (signal_of check sender dlci s)
+    → IsCodable check sender dlci symbols phase s → Fits (4 * symbols) phase (signal_of check sender dlci s)
+
+abbrev pub CodableIsSendable : Type 0
+CodableIsSendable = (check : Check) (sender : Role) (dlci symbols phase : ℕ) (s : Sent) → IsCodable check sender dlci symbols phase s → IsSendable s
+
+-- a frame is written in octets, if its information is
+abbrev pub SpelledInOctets : Type 0
+SpelledInOctets = (check : Check) (sender : Role) (dlci : ℕ) (s : Sent) → dlci < 64 → IsSendable s → HasOctets s → OfOctets (signal_of check sender dlci s)
+
+-- a frame has at most seven octets besides its information: an address, two of control and four of check
+abbrev pub FewOctetsBesidesInformation : Type 0
+FewOctetsBesidesInformation = (check : Check) (sender : Role) (dlci : ℕ) (frame : Frame)
+    → length (checked check sender dlci frame) ≤ 7 + length (information_of frame)
+
+-- a frame with its check of at most so many octets can be coded at each flag phase, if there is room for the longest stuffing of so many
+abbrev pub ShortIsCodable : Type 0
+ShortIsCodable = (check : Check) (sender : Role) (dlci symbols phase most : ℕ) (frame : Frame) → phase < 8 → IsFrame frame
+    → length (checked check sender dlci frame) ≤ most → 47 + 8 * most + 8 * most / 5 ≤ 4 * (symbols - TAIL)
+    → IsCodable check sender dlci symbols phase (sent.Frame frame)
+
+-- in slots of SLOT symbols all that may be sent can be coded
+abbrev pub EachIsCodable : Type 0
+EachIsCodable = (check : Check) (sender : Role) (dlci phase : ℕ) (s : Sent) → phase < 8 → IsSendable s → IsCodable check sender dlci SLOT phase s
+
+-- recordings
+
+abbrev pub EachIsRecorded : Type 0
+EachIsRecorded = (script : ScriptValue) (sender : Role) (bits : List Bool) → length bits % 4 ≡ 0
+    → (samples : List Sample) × Records script sender bits samples
+
+abbrev pub SlotsAreRecorded : Type 0
+SlotsAreRecorded = (script : ScriptValue) (sender : Role) (symbols : ℕ) (signals : List Signal) → HEAD + TAIL < symbols → AreFit (4 * symbols) 0 signals
+    → (samples : List Sample) × Records script sender (signal_bits (4 * symbols) signals) samples
+
+-- a line that is lost within a slot is lost, with the same symbol, in the recording of the slot
+abbrev pub LossStays : Type 0
+LossStays = (sender : Role) (script : ScriptValue) (before bits : List Bool) (symbol : ℕ) → length (before ++ bits) % 4 ≡ 0
+    → LosesWithin sender script before bits symbol → LosesAt sender script (before ++ bits) symbol
+
+-- and in each recording that goes on from there
+abbrev pub LossIsInEachRecording : Type 0
+LossIsInEachRecording = (sender : Role) (script : ScriptValue) (before bits more : List Bool) (symbol : ℕ) (samples : List Sample)
+    → LosesWithin sender script before bits symbol → Records script sender ((before ++ bits) ++ more) samples
+    → LostIs line_trellis line_depth samples (Some symbol)
+
+-- lines without offsets
+
+abbrev pub NeverLost : Type 0
+NeverLost = (sender : Role) (script : ScriptValue) (before bits : List Bool) (symbol : ℕ)
+    → DisplacesNone script sender → LosesWithin sender script before bits symbol → ⊥
+
+-- exactly what was sent in a slot is received in it
+abbrev pub ReceivedIsSent : Type 0
+ReceivedIsSent = (script : ScriptValue) (check : Check) (sender : Role) (dlci symbols : ℕ) (passed : List Signal) (s : Sent)
+    (before upto : List Sample) (frames : List Frame) (patterns : List Seen)
+    → DisplacesNone script sender → HEAD + TAIL < symbols → AreFit (4 * symbols) 0 (passed ++ signal_of check sender dlci s ∷ []) → IsSendable s
+    → Records script sender (signal_bits (4 * symbols) passed) before
+    → Records script sender (signal_bits (4 * symbols) (passed ++ signal_of check sender dlci s ∷ [])) upto
+    → Receives check sender dlci before upto frames patterns
+    → (frames ≡ frames_in s) × (patterns ≡ patterns_in s)
+
+abbrev pub HeardIsSent : Type 0
+HeardIsSent = (line : Kept) (script : ScriptValue) (passed waiting : List Signal) (signal : Signal) (check : Check) (dlci : ℕ) (loses : Bool) (s : Sent) (h : Heard)
+    → DisplacesNone script (sender_of line) → HEAD + TAIL < line.writer.symbols → AreFit (size_of line) 0 (passed ++ signal ∷ [])
+    → signal ≡ signal_of check (sender_of line) dlci s → IsSendable s
+    → PassesSlot line script passed signal waiting check dlci loses s h → h ≡ unhindered loses s
+
+-- which is never a chance match
+abbrev pub NeverChance : Type 0
+NeverChance = (loses : Bool) (s : Sent) → unhindered loses s ≡ heard.Chance → ⊥
+
+-- and the slot does pass
+abbrev pub PassesUnhindered : Type 0
+PassesUnhindered = (line : Kept) (script : ScriptValue) (passed waiting : List Signal) (signal : Signal) (check : Check) (dlci : ℕ) (loses : Bool) (s : Sent) (result : Result Heard Lost)
+    → DisplacesNone script (sender_of line) → HEAD + TAIL < line.writer.symbols → AreFit (size_of line) 0 (passed ++ signal ∷ [])
+    → signal ≡ signal_of check (sender_of line) dlci s → IsSendable s
+    → Passes line script passed signal waiting check dlci loses s result → result ≡ Ok (unhindered loses s)

@@ -1,0 +1,37 @@
+-- What a line makes of slots if nothing hinders them.
+use Rattle.std.specs.Prelude.{◌≡◌, ℕ, Bool, if◌then◌else◌, List, [], ◌∷◌, replicate}
+use Rattle.detection.specs.declared.seen.Seen.{Seen}
+use Rattle.detection.specs.declared.seen.Seen.TheVariants as seen
+use Rattle.lapm_frames.specs.declared.frame.Role.{Role}
+use Rattle.lapm_frames.specs.declared.frame.Frame.{Frame}
+use Rattle.lapm_link.specs.declared.sent.Sent.{Sent}
+use Rattle.lapm_link.specs.declared.sent.Sent.TheVariants as sent
+use Rattle.noise_script.specs.Offsets.{nothing}
+use Rattle.noise_script.specs.Script.{ScriptValue, offset_of}
+use Rattle.sample_line.specs.declared.heard.Heard.{Heard}
+use Rattle.sample_line.specs.declared.heard.Heard.TheVariants as heard
+use Rattle.sample_line.specs.Outcomes.{is_message}
+
+-- no line of the script displaces a symbol of this sender
+abbrev pub DisplacesNone : ScriptValue → Role → Type 0
+DisplacesNone script sender = (symbol : ℕ) → offset_of script sender symbol ≡ nothing
+
+-- the frames that are to be received
+abbrev pub frames_in : Sent → List Frame
+frames_in sent.Mark = []
+frames_in sent.Odp = []
+frames_in sent.Adp = []
+frames_in sent.Flags = []
+frames_in (sent.Frame frame) = frame ∷ []
+
+-- and the patterns: a pattern slot has ten, and each is seen with the one before it
+abbrev pub patterns_in : Sent → List Seen
+patterns_in sent.Mark = []
+patterns_in sent.Odp = replicate 9 seen.Odp
+patterns_in sent.Adp = replicate 9 seen.Adp
+patterns_in sent.Flags = []
+patterns_in (sent.Frame frame) = []
+
+-- What is to be heard: a message passes, unless a line of the script loses it, and an empty slot is nothing.
+abbrev pub unhindered : Bool → Sent → Heard
+unhindered loses s = if is_message s then (if loses then heard.Lost s else heard.Passed s) else heard.Nothing

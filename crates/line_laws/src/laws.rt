@@ -1,0 +1,73 @@
+//! Laws over the definitions alone: each law is a contract. The functions do nothing but name the laws that they rest on.
+ghost use Rattle.line_laws.specs.Laws.{OthersLinesDisplaceNone, EmptyScriptDisplacesNone, FirstOnesFit, OneMoreFits, SlotsThatFitAreSlots, SlotsHaveSize};
+ghost use Rattle.line_laws.specs.Laws.{CodableFits, CodableIsSendable, SpelledInOctets, FewOctetsBesidesInformation, ShortIsCodable, EachIsCodable};
+ghost use Rattle.line_laws.specs.Laws.{EachIsRecorded, SlotsAreRecorded, LossStays, LossIsInEachRecording};
+ghost use Rattle.line_laws.specs.Laws.{NeverLost, ReceivedIsSent, HeardIsSent, NeverChance, PassesUnhindered};
+
+use detection::laws::{patterns_are_plain, seen_is_sent, sights_stay};
+
+/// A script displaces no symbol of a role for which it has neither hit lines nor noise lines.
+pub fn scripts_displace_by_their_lines_alone()
+    ensures others { OthersLinesDisplaceNone }
+    ensures empty { EmptyScriptDisplacesNone }
+{}
+
+/// Slots that fit are slots of the line, each of the same size, and more may follow them.
+pub fn slots_that_fit_follow_one_another()
+    ensures first { FirstOnesFit }
+    ensures more { OneMoreFits }
+    ensures slots { SlotsThatFitAreSlots }
+    ensures size { SlotsHaveSize }
+{
+    patterns_are_plain();
+}
+
+/// What can be coded fits, and a frame can be coded in slots of enough symbols.
+pub fn codable_slots_fit()
+    ensures fits { CodableFits }
+    ensures sendable { CodableIsSendable }
+    ensures octets { SpelledInOctets }
+    ensures few { FewOctetsBesidesInformation }
+    ensures short { ShortIsCodable }
+    ensures longest { EachIsCodable }
+{}
+
+/// Whatever the script, each list of bits in fours has a recording.
+pub fn each_list_of_fours_is_recorded()
+    ensures bits { EachIsRecorded }
+    ensures slots { SlotsAreRecorded }
+{
+    patterns_are_plain();
+}
+
+/// A line that is lost within a slot is lost with the same symbol in the recording of the whole slot and of all that follow.
+pub fn losses_stay()
+    ensures stays { LossStays }
+    ensures each { LossIsInEachRecording }
+{}
+
+/// A line whose symbols are not displaced is never lost.
+pub fn undisplaced_lines_are_never_lost()
+    ensures { NeverLost }
+{}
+
+/// What is received in a slot of such a line is what was sent in it and nothing else, whatever slots came before.
+pub fn received_is_sent()
+    ensures { ReceivedIsSent }
+{
+    patterns_are_plain();
+    sights_stay();
+    seen_is_sent();
+}
+
+/// So each slot passes, and is heard as what was sent in it. A message that a line of the script loses is lost, and no slot is a chance
+/// match.
+pub fn heard_is_sent()
+    ensures heard { HeardIsSent }
+    ensures never_chance { NeverChance }
+    ensures passes { PassesUnhindered }
+{
+    patterns_are_plain();
+    sights_stay();
+    seen_is_sent();
+}
