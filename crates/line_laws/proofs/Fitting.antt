@@ -4,7 +4,7 @@ use Rattle.std.proofs.Math.Nat.{mul-suc}
 use Rattle.std.proofs.lemmas.List.Elements.{All-nil, All-cons, All-append}
 use Rattle.frame_check.specs.declared.check.Check.{Check}
 use Rattle.frame_check.specs.declared.check.Check.TheVariants.{Sixteen, ThirtyTwo}
-use Rattle.frame_check.specs.declared.sizes.TheConstants.{SLOT, INFO, WHOLE}
+use Rattle.frame_check.specs.declared.sizes.TheConstants.{INFO, WHOLE}
 use Rattle.frame_check.specs.Division.{check_of, count_of}
 use Rattle.frame_check.proofs.Checks.{check_of-is, length-check_of}
 use Rattle.bit_stuffing.specs.declared.slot_writer.TheConstants.{TAIL}
@@ -20,8 +20,8 @@ use Rattle.lapm_frames.specs.declared.frame.Frame.TheVariants.{I, Rr, Rnr, Rej, 
 use Rattle.lapm_frames.specs.Frame.{IsFrame, address_of, numbered, marked, spelled}
 use Rattle.lapm_link.specs.declared.sent.Sent.{Sent}
 use Rattle.lapm_link.specs.declared.sent.Sent.TheVariants as sent
-use Rattle.sample_line.specs.Signals.{check_for, checked, signal_of, IsCodable}
-use Rattle.line_laws.specs.Fitting.{Fits, AreFit, HasOctets, IsSendable, OfOctets, information_of}
+use Rattle.sample_line.specs.Signals.{check_for, checked, signal_of, IsCodable, IsSendable}
+use Rattle.line_laws.specs.Fitting.{Fits, AreFit, HasOctets, OfOctets, information_of}
 use Rattle.line_laws.proofs.Patterns.{ArePlain}
 
 pub fit-slot : (plain : ArePlain) (size phase : ℕ) (signal : Signal) → 552 < size → phase < 8 → Fits size phase signal → IsSlot size phase (slot_of size signal)
@@ -108,14 +108,6 @@ pub short-codable : (check : Check) (sender : Role) (dlci symbols phase most : �
 short-codable check sender dlci symbols phase most frame low is few room =
     let long = length-opening phase (checked check sender dlci frame) low in
     (is, omega (arith, long, few, room))
-
-pub each-codable : (check : Check) (sender : Role) (dlci phase : ℕ) (s : Sent) → phase < 8 → IsSendable s → IsCodable check sender dlci SLOT phase s
-each-codable check sender dlci phase sent.Mark low is = tt
-each-codable check sender dlci phase sent.Odp low is = tt
-each-codable check sender dlci phase sent.Adp low is = tt
-each-codable check sender dlci phase sent.Flags low is = tt
-each-codable check sender dlci phase (sent.Frame frame) low is =
-    short-codable check sender dlci SLOT phase WHOLE frame low is (omega (arith, few-besides check sender dlci frame, length-information frame is)) (omega arith)
 
 -- the octets of a frame
 

@@ -34,11 +34,11 @@ use Rattle.sample_line.specs.declared.heard.Heard.TheVariants.{Chance}
 use Rattle.sample_line.specs.Outcomes.{IsPattern, IsOutcome}
 use Rattle.sample_line.specs.Recorded.{mode_of, Records}
 use Rattle.sample_line.specs.Received.{line_trellis, AreFrames, FoundBetween, Gives, Receives, SpellsFrame}
-use Rattle.sample_line.specs.Signals.{check_for, check_heard, checked, signal_of}
+use Rattle.sample_line.specs.Signals.{check_for, check_heard, checked, signal_of, IsSendable}
 use Rattle.sample_line.specs.Line.{Kept, Passes, PassesSlot, sender_of, size_of}
 use Rattle.sample_line.proofs.Finding.{wholes-append}
 use Rattle.sample_line.proofs.Once.{received-once, outcome-once}
-use Rattle.line_laws.specs.Fitting.{AreFit, IsSendable}
+use Rattle.line_laws.specs.Fitting.{AreFit}
 use Rattle.line_laws.specs.Unhindered.{DisplacesNone, frames_in, patterns_in, unhindered}
 use Rattle.line_laws.proofs.Patterns.{AreSeen}
 use Rattle.line_laws.proofs.Fitting.{fit-front}

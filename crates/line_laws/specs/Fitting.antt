@@ -7,7 +7,6 @@ use Rattle.detection.specs.Slots.{Signal, slot_of}
 use Rattle.detection.specs.Slots.Signal.{PatternSlot, MarkSlot, FlagSlot}
 use Rattle.lapm_frames.specs.declared.frame.Frame.{Frame}
 use Rattle.lapm_frames.specs.declared.frame.Frame.TheVariants.{I, Rr, Rnr, Rej, Srej, Sabme, Disc, Ua, Dm, Frmr, Ui, Xid, Test}
-use Rattle.lapm_frames.specs.Frame.{IsFrame}
 use Rattle.lapm_link.specs.declared.sent.Sent.{Sent}
 use Rattle.lapm_link.specs.declared.sent.Sent.TheVariants as sent
 
@@ -54,11 +53,3 @@ HasOctets sent.Odp = Unit {0}
 HasOctets sent.Adp = Unit {0}
 HasOctets sent.Flags = Unit {0}
 HasOctets (sent.Frame frame) = All (λ octet. octet < 256) (information_of frame)
-
--- a frame that is sent has numbers and information within their bounds
-abbrev pub IsSendable : Sent → Type 0
-IsSendable sent.Mark = Unit {0}
-IsSendable sent.Odp = Unit {0}
-IsSendable sent.Adp = Unit {0}
-IsSendable sent.Flags = Unit {0}
-IsSendable (sent.Frame frame) = IsFrame frame

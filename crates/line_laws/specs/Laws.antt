@@ -1,7 +1,6 @@
 -- Laws of lines whose symbols are not displaced.
 use Rattle.std.specs.Prelude.{◌≡◌, ℕ, ◌+◌, ◌-◌, ◌*◌, ◌/◌, ◌%◌, ◌<◌, ◌≤◌, Bool, List, [], ◌∷◌, ◌++◌, length, All, false, Result, Ok, Some}
 use Rattle.frame_check.specs.declared.check.Check.{Check}
-use Rattle.frame_check.specs.declared.sizes.TheConstants.{SLOT}
 use Rattle.symbol_map.specs.declared.sample.Sample.{Sample}
 use Rattle.survivors.specs.Survivors.{LostIs}
 use Rattle.exact_decoder.specs.declared.decoder.Lost.{Lost}
@@ -20,12 +19,12 @@ use Rattle.noise_script.specs.Offsets.{same_role}
 use Rattle.noise_script.specs.Script.{ScriptValue}
 use Rattle.sample_line.specs.declared.heard.Heard.{Heard}
 use Rattle.sample_line.specs.declared.heard.Heard.TheVariants as heard
-use Rattle.sample_line.specs.Signals.{checked, signal_of, IsCodable}
+use Rattle.sample_line.specs.Signals.{checked, signal_of, IsCodable, IsSendable}
 use Rattle.sample_line.specs.Recorded.{Records}
 use Rattle.sample_line.specs.Received.{Receives, line_trellis, line_depth}
 use Rattle.sample_line.specs.Path.{LosesAt, LosesWithin}
 use Rattle.sample_line.specs.Line.{Kept, Passes, PassesSlot, sender_of, size_of}
-use Rattle.line_laws.specs.Fitting.{Fits, AreFit, HasOctets, IsSendable, OfOctets, information_of}
+use Rattle.line_laws.specs.Fitting.{Fits, AreFit, HasOctets, OfOctets, information_of}
 use Rattle.line_laws.specs.Unhindered.{DisplacesNone, frames_in, patterns_in, unhindered}
 
 -- a script whose hit lines and noise lines are for the other role displaces no symbol
@@ -74,10 +73,6 @@ abbrev pub ShortIsCodable : Type 0
 ShortIsCodable = (check : Check) (sender : Role) (dlci symbols phase most : ℕ) (frame : Frame) → phase < 8 → IsFrame frame
     → length (checked check sender dlci frame) ≤ most → 47 + 8 * most + 8 * most / 5 ≤ 4 * (symbols - TAIL)
     → IsCodable check sender dlci symbols phase (sent.Frame frame)
-
--- in slots of SLOT symbols all that may be sent can be coded
-abbrev pub EachIsCodable : Type 0
-EachIsCodable = (check : Check) (sender : Role) (dlci phase : ℕ) (s : Sent) → phase < 8 → IsSendable s → IsCodable check sender dlci SLOT phase s
 
 -- recordings
 

@@ -1,6 +1,6 @@
 //! Laws over the definitions alone: each law is a contract. The functions do nothing but name the laws that they rest on.
 ghost use Rattle.line_laws.specs.Laws.{OthersLinesDisplaceNone, EmptyScriptDisplacesNone, FirstOnesFit, OneMoreFits, SlotsThatFitAreSlots, SlotsHaveSize};
-ghost use Rattle.line_laws.specs.Laws.{CodableFits, CodableIsSendable, SpelledInOctets, FewOctetsBesidesInformation, ShortIsCodable, EachIsCodable};
+ghost use Rattle.line_laws.specs.Laws.{CodableFits, CodableIsSendable, SpelledInOctets, FewOctetsBesidesInformation, ShortIsCodable};
 ghost use Rattle.line_laws.specs.Laws.{EachIsRecorded, SlotsAreRecorded, LossStays, LossIsInEachRecording};
 ghost use Rattle.line_laws.specs.Laws.{NeverLost, ReceivedIsSent, HeardIsSent, NeverChance, PassesUnhindered};
 
@@ -29,7 +29,6 @@ pub fn codable_slots_fit()
     ensures octets { SpelledInOctets }
     ensures few { FewOctetsBesidesInformation }
     ensures short { ShortIsCodable }
-    ensures longest { EachIsCodable }
 {}
 
 /// Whatever the script, each list of bits in fours has a recording.
