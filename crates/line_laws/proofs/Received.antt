@@ -2,7 +2,7 @@
 use Rattle.std.proofs.Common.{◌≡◌, ◌∙◌, inr, ℕ, ◌*◌, ◌%◌, ◌<◌, nat_eq, Bool, true, false, List, [], ◌∷◌, ◌++◌, length, take, drop, map, replicate, Ok, Err, Result, refl, sym, ap, subst, arith, append-nil, append_assoc}
 use Rattle.std.proofs.Math.Seq.{take-append_seam, drop-append_seam}
 use Rattle.std.proofs.lemmas.Bool.{ne_eqb}
-use Rattle.std.proofs.lemmas.List.{take_all, take-append-drop, length-drop}
+use Rattle.std.proofs.lemmas.List.{map-append, take_all, take-append-drop, length-drop}
 use Rattle.std.proofs.lemmas.List.Elements.{All-replicate}
 use Rattle.frame_check.specs.declared.check.Check.{Check}
 use Rattle.frame_check.specs.FrameCheck.{IsChecked}
@@ -11,17 +11,21 @@ use Rattle.scramblers.specs.Mode.{tap_of}
 use Rattle.scramblers.proofs.Readings.{Descrambles_once}
 use Rattle.symbol_map.specs.declared.sample.Sample.{Sample}
 use Rattle.survivors.specs.Survivors.{IsReleased}
+use Rattle.survivors.proofs.Least.{some-released}
 use Rattle.exact_decoder.specs.declared.decoder.Lost.{Lost}
 use Rattle.noiseless_line.proofs.Costs.{length-points}
-use Rattle.noiseless_line.proofs.Followed.{released-sent_at, few-unreleased_at}
+use Rattle.noiseless_line.proofs.Followed.{few-unreleased_at, released-sent_at, v32_has_laws}
 use Rattle.demodulator.specs.Demodulates.{Demodulates, line_of}
 use Rattle.demodulator.proofs.Readings.{comes-back, first-stay, four-each}
 use Rattle.bit_stuffing.specs.Found.{Found, pieces_of}
 use Rattle.bit_stuffing.specs.Sent.{FoundIn, wholes}
+use Rattle.bit_stuffing.specs.Slots.{phase_after, sent_bits, slot_bits}
+use Rattle.bit_stuffing.proofs.Fill.{bits-append}
+use Rattle.bit_stuffing.proofs.Sent.{pieces-stay}
 use Rattle.detection.specs.declared.seen.Seen.{Seen}
 use Rattle.detection.specs.declared.seen.Seen.TheVariants as seen
 use Rattle.detection.specs.Sights.{Sight, seen_in, sights_of}
-use Rattle.detection.specs.Slots.{Signal, signal_bits, slot_of}
+use Rattle.detection.specs.Slots.{Signal, signal_bits, slot_of, slots_of}
 use Rattle.lapm_frames.specs.declared.frame.Role.{Role}
 use Rattle.lapm_frames.specs.declared.frame.Frame.{Frame}
 use Rattle.lapm_frames.specs.declared.frame.Frame.TheVariants.{I, Rr, Rnr, Rej, Srej, Sabme, Disc, Ua, Dm, Frmr, Ui, Xid, Test}
@@ -37,7 +41,7 @@ use Rattle.sample_line.specs.Received.{line_trellis, AreFrames, FoundBetween, Gi
 use Rattle.sample_line.specs.Signals.{check_for, check_heard, checked, signal_of, IsSendable}
 use Rattle.sample_line.specs.Line.{Kept, Passes, PassesSlot, sender_of, size_of}
 use Rattle.sample_line.proofs.Finding.{wholes-append}
-use Rattle.sample_line.proofs.Once.{received-once, outcome-once}
+use Rattle.sample_line.proofs.Once.{given-stays, outcome-once, received-once, recordings-grow}
 use Rattle.line_laws.specs.Fitting.{AreFit}
 use Rattle.line_laws.specs.Unhindered.{DisplacesNone, frames_in, patterns_in, unhindered}
 use Rattle.line_laws.proofs.Patterns.{AreSeen}
@@ -46,8 +50,23 @@ use Rattle.line_laws.proofs.Recordings.{tap-some}
 use Rattle.line_laws.proofs.Settled.{Lags, settled-all, settled-finds, slot-adds}
 use Rattle.line_laws.proofs.Undisplaced.{recorded-noiseless, none-within}
 
--- all but the last 96 bits were read
+-- the labels of a recording carry its bits
+carried : (script : ScriptValue) (sender : Role) (bits : List Bool) (samples : List Sample) → (r : Records script sender bits samples) → Demodulates (tap_of (mode_of sender)) r.modulated.labels bits
+carried script sender bits samples r =
+    comes-back (tap_of (mode_of sender)) bits r.modulated.line r.modulated.quads r.modulated.labels r.modulated.end r.modulated.scrambled r.modulated.in_fours r.modulated.are_quads r.modulated.encoded
 
+-- and those that its samples release carry the first of them
+released-carry : (script : ScriptValue) (sender : Role) (bits : List Bool) (samples : List Sample) (labels : List ℕ) → DisplacesNone script sender → Records script sender bits samples
+    → IsReleased line_trellis samples labels → Demodulates (tap_of (mode_of sender)) labels (take (4 * length labels) bits)
+released-carry script sender bits samples labels none r released =
+    let tap : ℕ = tap_of (mode_of sender) in
+    let all : take (length samples) samples ≡ samples = take_all (length samples) samples (omega arith) in
+    let sent = released-sent_at 0 r.modulated.labels samples (length samples) labels (recorded-noiseless script sender bits samples none r)
+    (subst (λ (xs : List Sample). IsReleased line_trellis xs labels) (sym all) released) in
+    let first : take (length labels) r.modulated.labels ≡ labels = ap (take (length labels)) sent.1 ∙ take-append_seam labels sent.0 in
+    subst (λ (xs : List ℕ). Demodulates tap xs (take (4 * length labels) bits)) first (first-stay tap (length labels) r.modulated.labels bits (tap-some sender) (carried script sender bits samples r))
+
+-- all but the last 96 bits were read
 lags : (script : ScriptValue) (sender : Role) (bits read : List Bool) (samples : List Sample) → DisplacesNone script sender → Records script sender bits samples → Gives sender samples read → Lags bits read
 lags script sender bits read samples none r g =
     let tap : ℕ = tap_of (mode_of sender) in
@@ -55,18 +74,13 @@ lags script sender bits read samples none r g =
     let n : ℕ = length g.labels in
     let noiseless = recorded-noiseless script sender bits samples none r in
     let all : take (length samples) samples ≡ samples = take_all (length samples) samples (omega arith) in
-    let released : IsReleased line_trellis (take (length samples) samples) g.labels = subst (λ (xs : List Sample). IsReleased line_trellis xs g.labels) (sym all) g.released in
-    let sent = released-sent_at 0 labels samples (length samples) g.labels noiseless released in
-    let few = few-unreleased_at 0 labels samples (length samples) g.labels (omega arith) noiseless released in
+    let few = few-unreleased_at 0 labels samples (length samples) g.labels (omega arith) noiseless (subst (λ (xs : List Sample). IsReleased line_trellis xs g.labels) (sym all) g.released) in
     let long : length samples ≡ length labels = ap length noiseless.exact ∙ length-points labels in
-    let back : Demodulates tap labels bits = comes-back tap bits r.modulated.line r.modulated.quads labels r.modulated.end r.modulated.scrambled r.modulated.in_fours r.modulated.are_quads r.modulated.encoded in
-    let first : take n labels ≡ g.labels = ap (take n) sent.1 ∙ take-append_seam g.labels sent.0 in
-    let same : take (4 * n) bits ≡ read = Descrambles_once tap (line_of g.labels) (take (4 * n) bits) read
-    (subst (λ (xs : List ℕ). Demodulates tap xs (take (4 * n) bits)) first (first-stay tap n labels bits (tap-some sender) back)) g.read in
+    let same : take (4 * n) bits ≡ read = Descrambles_once tap (line_of g.labels) (take (4 * n) bits) read (released-carry script sender bits samples g.labels none r g.released) g.read in
     record {
       rest = drop (4 * n) bits;
       goes_on = sym (take-append-drop (4 * n) bits) ∙ ap (λ xs. xs ++ drop (4 * n) bits) same;
-      few = omega (arith, few, long, length-drop (4 * n) bits, four-each tap labels bits back);
+      few = omega (arith, few, long, length-drop (4 * n) bits, four-each tap labels bits (carried script sender bits samples r));
     }
 
 -- a frame comes back from its octets
@@ -131,12 +145,25 @@ slot-patterns check sender dlci start (sent.Frame frame) = refl
 same-behind : {X : Type 0} (front a b : List X) → front ++ a ≡ front ++ b → a ≡ b
 same-behind front a b e = sym (drop-append_seam front a) ∙ ap (drop (length front)) e ∙ drop-append_seam front b
 
+-- what is found in bits once more of them were read
+pub record Grows (earlier later : List Bool) : Type 0 where
+  pub pieces : List Found
+  pub pieces_are : pieces_of later ≡ pieces_of earlier ++ pieces
+  pub sights : List Sight
+  pub sights_are : sights_of later ≡ sights_of earlier ++ sights
+
+more-grows : (laws : AreSeen) (earlier more : List Bool) → Grows earlier (earlier ++ more)
+more-grows laws earlier more =
+    let pieces = pieces-stay earlier more in
+    let sights = laws.stay earlier more in
+    record { pieces = pieces.0; pieces_are = pieces.1.all; sights = sights.0; sights_are = sights.1.all }
+
 -- what is found of a slot in the bits that were read up to its end and not before
-found-sent : (laws : AreSeen) (check : Check) (sender : Role) (dlci size : ℕ) (passed : List Signal) (s : Sent) (earlier later : List Bool) (frames : List Frame) (patterns : List Seen)
+found-sent : (laws : AreSeen) (check : Check) (sender : Role) (dlci size : ℕ) (passed : List Signal) (s : Sent) (earlier later : List Bool)
     → 552 < size → AreFit size 0 (passed ++ signal_of check sender dlci s ∷ []) → IsSendable s
     → Lags (signal_bits size passed) earlier → Lags (signal_bits size (passed ++ signal_of check sender dlci s ∷ [])) later
-    → FoundBetween check sender dlci earlier later frames patterns → FoundBetween check sender dlci earlier later (frames_in s) (patterns_in s)
-found-sent laws check sender dlci size passed s earlier later frames patterns long fit is old new f =
+    → Grows earlier later → FoundBetween check sender dlci earlier later (frames_in s) (patterns_in s)
+found-sent laws check sender dlci size passed s earlier later long fit is old new f =
     let signal : Signal = signal_of check sender dlci s in
     let a = slot-adds laws size passed signal long fit in
     let before = settled-finds laws (signal_bits size passed) earlier (settled-all laws size passed long (fit-front size 0 passed (signal ∷ []) fit)) old in
@@ -174,10 +201,60 @@ received-sent laws script check sender dlci symbols passed s before upto frames 
       later = r.later;
       gave = r.gave;
       gives = r.gives;
-      found = found-sent laws check sender dlci (4 * symbols) passed s r.earlier r.later frames patterns (omega arith) fit is
+      found = found-sent laws check sender dlci (4 * symbols) passed s r.earlier r.later (omega arith) fit is
           (lags script sender (signal_bits (4 * symbols) passed) r.earlier before none old r.gave)
-          (lags script sender (signal_bits (4 * symbols) (passed ++ signal_of check sender dlci s ∷ [])) r.later upto none new r.gives) r.found;
+          (lags script sender (signal_bits (4 * symbols) (passed ++ signal_of check sender dlci s ∷ [])) r.later upto none new r.gives)
+          (record { pieces = r.found.pieces; pieces_are = r.found.pieces_are; sights = r.found.sights; sights_are = r.found.sights_are });
     })
+
+-- and it is received
+
+gives-some : (script : ScriptValue) (sender : Role) (bits : List Bool) (samples : List Sample) → DisplacesNone script sender → Records script sender bits samples → (read : List Bool) × Gives sender samples read
+gives-some script sender bits samples none r =
+    let some = some-released line_trellis 8 32 2 samples (v32_has_laws 0 (omega arith)) in
+    (take (4 * length some.0) bits, record { labels = some.0; released = some.1; read = released-carry script sender bits samples some.0 none r some.1 })
+
+-- what is given goes on where the recording does
+given-grows : (laws : AreSeen) (script : ScriptValue) (sender : Role) (bits more earlier later : List Bool) (before upto : List Sample)
+    → Records script sender bits before → Records script sender (bits ++ more) upto → Gives sender before earlier → Gives sender upto later → Grows earlier later
+given-grows laws script sender bits more earlier later before upto old new gave gives =
+    let grown = recordings-grow script sender bits more before upto old new in
+    let stays = given-stays sender before grown.0 earlier later gave (subst (λ (xs : List Sample). Gives sender xs later) grown.1 gives) in
+    subst (λ (xs : List Bool). Grows earlier xs) (sym stays.1) (more-grows laws earlier stays.0)
+
+given-received : (laws : AreSeen) (script : ScriptValue) (check : Check) (sender : Role) (dlci size : ℕ) (passed : List Signal) (s : Sent)
+    (before upto : List Sample) (earlier later : List Bool)
+    → DisplacesNone script sender → 552 < size → AreFit size 0 (passed ++ signal_of check sender dlci s ∷ []) → IsSendable s
+    → Records script sender (signal_bits size passed) before → Records script sender (signal_bits size (passed ++ signal_of check sender dlci s ∷ [])) upto
+    → Gives sender before earlier → Gives sender upto later
+    → Receives check sender dlci before upto (frames_in s) (patterns_in s)
+given-received laws script check sender dlci size passed s before upto earlier later none long fit is old new gave gives =
+    let signal : Signal = signal_of check sender dlci s in
+    let slot : List Bool = slot_bits size (phase_after size (slots_of size passed)) (slot_of size signal) in
+    let joined : signal_bits size (passed ++ signal ∷ []) ≡ signal_bits size passed ++ slot
+    = ap (sent_bits size) (map-append (slot_of size) passed (signal ∷ [])) ∙ bits-append size 0 (slots_of size passed) (slot_of size signal) in
+    let added : Records script sender (signal_bits size passed ++ slot) upto = subst (λ (xs : List Bool). Records script sender xs upto) joined new in
+    record {
+      earlier = earlier;
+      later = later;
+      gave = gave;
+      gives = gives;
+      found = found-sent laws check sender dlci size passed s earlier later long fit is
+          (lags script sender (signal_bits size passed) earlier before none old gave)
+          (lags script sender (signal_bits size (passed ++ signal ∷ [])) later upto none new gives)
+          (given-grows laws script sender (signal_bits size passed) slot earlier later before upto old added gave gives);
+    }
+
+pub sent-received : (laws : AreSeen) (script : ScriptValue) (check : Check) (sender : Role) (dlci symbols : ℕ) (passed : List Signal) (s : Sent)
+    (before upto : List Sample)
+    → DisplacesNone script sender → 138 < symbols → AreFit (4 * symbols) 0 (passed ++ signal_of check sender dlci s ∷ []) → IsSendable s
+    → Records script sender (signal_bits (4 * symbols) passed) before
+    → Records script sender (signal_bits (4 * symbols) (passed ++ signal_of check sender dlci s ∷ [])) upto
+    → Receives check sender dlci before upto (frames_in s) (patterns_in s)
+sent-received laws script check sender dlci symbols passed s before upto none long fit is old new =
+    let earlier = gives-some script sender (signal_bits (4 * symbols) passed) before none old in
+    let later = gives-some script sender (signal_bits (4 * symbols) (passed ++ signal_of check sender dlci s ∷ [])) upto none new in
+    given-received laws script check sender dlci (4 * symbols) passed s before upto earlier.0 later.0 none (omega arith) fit is old new earlier.1 later.1
 
 -- and has one outcome
 

@@ -101,7 +101,7 @@ abbrev pub NeverLost : Type 0
 NeverLost = (sender : Role) (script : ScriptValue) (before bits : List Bool) (symbol : ℕ)
     → DisplacesNone script sender → LosesWithin sender script before bits symbol → ⊥
 
--- exactly what was sent in a slot is received in it
+-- nothing but what was sent in a slot is received in it, and all of that is
 abbrev pub ReceivedIsSent : Type 0
 ReceivedIsSent = (script : ScriptValue) (check : Check) (sender : Role) (dlci symbols : ℕ) (passed : List Signal) (s : Sent)
     (before upto : List Sample) (frames : List Frame) (patterns : List Seen)
@@ -111,6 +111,14 @@ ReceivedIsSent = (script : ScriptValue) (check : Check) (sender : Role) (dlci sy
     → Receives check sender dlci before upto frames patterns
     → (frames ≡ frames_in s) × (patterns ≡ patterns_in s)
 
+abbrev pub SentIsReceived : Type 0
+SentIsReceived = (script : ScriptValue) (check : Check) (sender : Role) (dlci symbols : ℕ) (passed : List Signal) (s : Sent) (before upto : List Sample)
+    → DisplacesNone script sender → HEAD + TAIL < symbols → AreFit (4 * symbols) 0 (passed ++ signal_of check sender dlci s ∷ []) → IsSendable s
+    → Records script sender (signal_bits (4 * symbols) passed) before
+    → Records script sender (signal_bits (4 * symbols) (passed ++ signal_of check sender dlci s ∷ [])) upto
+    → Receives check sender dlci before upto (frames_in s) (patterns_in s)
+
+-- so it is what is heard
 abbrev pub HeardIsSent : Type 0
 HeardIsSent = (line : Kept) (script : ScriptValue) (passed waiting : List Signal) (signal : Signal) (check : Check) (dlci : ℕ) (loses : Bool) (s : Sent) (h : Heard)
     → DisplacesNone script (sender_of line) → HEAD + TAIL < line.writer.symbols → AreFit (size_of line) 0 (passed ++ signal ∷ [])

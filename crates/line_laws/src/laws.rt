@@ -2,7 +2,7 @@
 ghost use Rattle.line_laws.specs.Laws.{OthersLinesDisplaceNone, EmptyScriptDisplacesNone, FirstOnesFit, OneMoreFits, SlotsThatFitAreSlots, SlotsHaveSize};
 ghost use Rattle.line_laws.specs.Laws.{CodableFits, CodableIsSendable, SpelledInOctets, FewOctetsBesidesInformation, ShortIsCodable};
 ghost use Rattle.line_laws.specs.Laws.{EachIsRecorded, SlotsAreRecorded, LossStays, LossIsInEachRecording};
-ghost use Rattle.line_laws.specs.Laws.{NeverLost, ReceivedIsSent, HeardIsSent, NeverChance, PassesUnhindered};
+ghost use Rattle.line_laws.specs.Laws.{NeverLost, ReceivedIsSent, SentIsReceived, HeardIsSent, NeverChance, PassesUnhindered};
 
 use detection::laws::{patterns_are_plain, seen_is_sent, sights_stay};
 
@@ -52,7 +52,8 @@ pub fn undisplaced_lines_are_never_lost()
 
 /// What is received in a slot of such a line is what was sent in it and nothing else, whatever slots came before.
 pub fn received_is_sent()
-    ensures { ReceivedIsSent }
+    ensures nothing_else { ReceivedIsSent }
+    ensures all { SentIsReceived }
 {
     patterns_are_plain();
     sights_stay();

@@ -1,5 +1,5 @@
 use Rattle.line_laws.proofs.Patterns.{AreSeen}
-use Rattle.line_laws.proofs.Received.{received-sent}
+use Rattle.line_laws.proofs.Received.{received-sent, sent-received}
 use Rattle.line_laws.proofs.laws.received_is_sent.Goals as goal
 
 pub returns : goal.returns
@@ -9,4 +9,4 @@ returns c =
       stay = c.sights_stay.ensures;
       sent = c.seen_is_sent.ensures;
     } in
-    received-sent seen
+    record { nothing_else = received-sent seen; all = sent-received seen }
