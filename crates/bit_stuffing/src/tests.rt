@@ -1,3 +1,4 @@
+// Pieces in bits, and slots.
 use crate::{BitSlot, Deframer, Piece, SlotWriter};
 use frame_check::{SLOT, WHOLE};
 use std::process::Abort;

@@ -1,3 +1,4 @@
+// Words of breaks, and breaks asked, answered and given.
 use crate::{BreakFault, BreakReceiver, BreakSender, BreakWord, Spent0, read_break, write_break};
 use frame_check::Info;
 use std::test::Fail;

@@ -1,3 +1,4 @@
+// Labels become bits.
 ghost use Rattle.std.specs.Prelude.{◌≡◌, ◌<◌, ◌≤◌, ℕ, Bool, List, [], ◌∷◌, ◌++◌};
 ghost use Rattle.frame_check.specs.Bits.{low_bits};
 ghost use Rattle.demodulator.specs.Demodulates.{DemodulatorStands};

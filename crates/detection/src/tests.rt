@@ -1,3 +1,4 @@
+// Patterns in slots and in streams of bits.
 use crate::{PatternReader, Seen, mark_slot, pattern_slot};
 use bit_stuffing::BitSlot;
 use frame_check::SLOT;

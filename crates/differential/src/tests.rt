@@ -1,3 +1,4 @@
+// Turns there and back.
 use super::*;
 
 #[test]

@@ -1,3 +1,4 @@
+// The coder of quarter turns.
 ghost use Rattle.std.specs.Prelude.{◌≡◌, ℕ, ◌<◌, List, [], ◌∷◌, ◌++◌};
 ghost use Rattle.differential.specs.Machines.{TurnerStands};
 

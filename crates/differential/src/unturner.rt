@@ -1,3 +1,4 @@
+// The decoder of quarter turns.
 ghost use Rattle.std.specs.Prelude.{◌≡◌, ℕ, ◌<◌, List, [], ◌∷◌, ◌++◌};
 ghost use Rattle.differential.specs.Machines.{UnturnerStands};
 

@@ -1,3 +1,4 @@
+// The decoder: samples in, labels out.
 ghost use Rattle.std.specs.Prelude.{◌≡◌, ℕ, IfOk, IfSome, ◌↔◌, nat_eq, option_to_list, Bool, List, All, ◌+◌, ◌<◌, ◌≤◌, ◌^◌, length, drop, Some, None, [], ◌∷◌, ◌++◌, MatchResult, MatchOption};
 ghost use Rattle.symbol_map.specs.declared.sample.Sample.{Sample};
 ghost use Rattle.survivors.specs.Trellises.{trellis_of};

@@ -1,3 +1,4 @@
+// What is kept of the survivors.
 ghost use Rattle.std.specs.Prelude.{◌≡◌, ℕ, All, IfOk, replicate, set, ◌+◌, ◌<◌, ◌≤◌, ◌^◌, length, Some, None, []};
 ghost use Rattle.exact_decoder.specs.Columns.{sums_at, tail_at};
 ghost use Rattle.exact_decoder.specs.Kept.{IsLeastSum, Stepped, Released};

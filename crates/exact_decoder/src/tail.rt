@@ -1,3 +1,4 @@
+// The labels that a decoder gives at its end.
 ghost use Rattle.std.specs.Prelude.{◌≡◌, ◌≤◌, length};
 
 use crate::labels::Labels;

@@ -1,3 +1,4 @@
+// Ties, losses and the states of small codes.
 ghost use Rattle.std.specs.Prelude.{◌≡◌, ◌≤◌, ◌<◌, [], None, IfOk, length};
 
 use super::*;

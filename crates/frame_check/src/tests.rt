@@ -1,3 +1,4 @@
+// Published values of both checks.
 use crate::register::after_octets;
 use crate::{Check, Info, Octets, Whole, append, passes};
 use std::test::Fail;

@@ -1,3 +1,4 @@
+// The text of each kind of frame.
 use crate::{FrameText, write_frame_text};
 use lapm_frames::{Role, read};
 use std::test::Fail;

@@ -1,3 +1,4 @@
+// Each kind of frame, read and written, and each fault at its first place.
 ghost use Rattle.std.specs.Prelude.{◌≡◌, ◌≤◌, length};
 ghost use Rattle.frame_check.specs.declared.sizes.TheConstants.{INFO};
 ghost use Rattle.lapm_frames.specs.Frame.{IsFrame};

@@ -1,3 +1,4 @@
+// Segments in and out of order.
 use crate::{Receiver, Took};
 use frame_check::Info;
 use std::process::Abort;

@@ -1,3 +1,4 @@
+// Segments sent, acknowledged, asked for again and timed out.
 use crate::{BadAck, Sender, Spent};
 use frame_check::Info;
 use std::process::Abort;

@@ -48,6 +48,7 @@ impl Direction {
     ghost use Rattle.line_world.specs.Receiver.{ReceiverStands};
     ghost use Rattle.line_world.specs.Direction.{Carries, sender_of};
 
+    /// A direction on which nothing was sent.
     pub fn new(sender: Role) -> Direction
         ensures sender { sender_of result ≡ sender }
         ensures carries { Carries result sender [] None }

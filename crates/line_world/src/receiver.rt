@@ -46,6 +46,7 @@ pub(crate) struct Receiver {
 }
 
 impl Receiver {
+    /// A receiver before its first bit.
     pub fn new(sender: Role) -> Receiver
         ensures source { source_of result ≡ sender }
         ensures stands { ReceiverStands result [] [] }

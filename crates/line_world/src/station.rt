@@ -34,6 +34,7 @@ fn piece(file: &[u8], number: u64) -> &[u8]
 }
 
 impl Station {
+    /// A station before its first turn.
     pub fn new(file: Vec<u8>) -> Station
         ensures holds { Holds result file.items fresh }
         ensures idle { IsIdle result }

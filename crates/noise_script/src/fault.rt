@@ -1,3 +1,4 @@
+// Why a script is refused.
 ghost use Rattle.std.specs.Prelude.{◌≡◌};
 
 use crate::Cause;

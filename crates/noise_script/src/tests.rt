@@ -1,3 +1,4 @@
+// Scripts, their faults and their offsets.
 ghost use Rattle.std.specs.Prelude.{◌≤◌, length};
 ghost use Rattle.noise_script.specs.declared.limits.TheConstants.{SCRIPT_OCTETS};
 

@@ -31,6 +31,7 @@ impl<R> Model for DiskFolder<R> {
 }
 
 impl<R: Files + Print + Clone + Drop> DiskFolder<R> {
+    /// The folder that the program was started in.
     pub fn new(rt: R) -> DiskFolder<R>
         ensures { result ≡ record { read_faults = 0; write_faults = 0; refusals = 0 } }
     {

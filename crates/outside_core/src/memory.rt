@@ -37,6 +37,7 @@ impl Model for MemoryFolder {
 }
 
 impl MemoryFolder {
+    /// A folder that holds no name, and in which no call is to fail.
     pub fn new(alloc: Global) -> Self
         ensures { result ≡ record { held = finite.empty; said = []; calls = 0; fails = []; read_faults = 0; write_faults = 0; refusals = 0 } }
     {

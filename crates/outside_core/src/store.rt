@@ -7,6 +7,7 @@ use std::alloc::{AllocError, Global};
 use std::collections::BTreeMap;
 use std::marker::Model;
 
+/// Names and their octets, in memory.
 #[derive(Drop)]
 pub struct Store {
     files: BTreeMap<String, Vec<u8>>,
@@ -28,6 +29,7 @@ impl Model for Store {
 }
 
 impl Store {
+    /// A store that holds no name.
     pub fn new(alloc: Global) -> Self
         ensures { result ≡ finite.empty }
     {
@@ -37,6 +39,7 @@ impl Store {
         }
     }
 
+    /// What a name holds, where it is held.
     pub fn get(&self, name: &str) -> Option<&[u8]>
         ensures { option_map (λ octets. octets.now) result ≡ finite.get self.now name.now }
     {

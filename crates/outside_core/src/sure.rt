@@ -31,6 +31,7 @@ impl Model for SureFolder {
 }
 
 impl SureFolder {
+    /// A folder that holds no name.
     pub fn new(alloc: Global) -> Self
         ensures { result ≡ record { held = finite.empty; said = []; calls = 0; refusals = 0 } }
     {

@@ -1,3 +1,4 @@
+// Folders in memory and on disk.
 use crate::transfer::write_all;
 use crate::{DiskFolder, Folder, FolderFault, MemoryFolder, SureFolder};
 use std::io::{self, Write};

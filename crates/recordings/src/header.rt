@@ -1,3 +1,4 @@
+// A recording's header.
 ghost use Rattle.std.specs.Prelude.{◌≡◌};
 ghost use Rattle.recordings.specs.Recording.{header_of};
 

@@ -1,3 +1,4 @@
+// Octets become the octets of their samples.
 ghost use Rattle.std.specs.Prelude.{◌≡◌, ◌≤◌, ◌++◌, ◌∷◌, [], ℕ, List};
 ghost use Rattle.recordings.specs.Recording.{sample_octets, RecorderStands};
 

@@ -27,6 +27,7 @@ pub(crate) struct Hearer {
 }
 
 impl Hearer {
+    /// A hearer before its first sample.
     pub fn new(alloc: Global, mode: Mode) -> Result<Hearer, NoMemory>
         ensures count { IfOk result (λ hearer. hearer.decoder.count ≡ 0) }
         ensures pending { IfOk result (λ hearer. hearer.decoder.pending ≡ []) }

@@ -30,6 +30,7 @@ pub(crate) enum ModeModulator {
 }
 
 impl ModeModulator {
+    /// A modulator before its first bit.
     pub fn new(mode: Mode) -> ModeModulator
         ensures { ModulatesAs mode result [] [] }
     {
@@ -60,6 +61,7 @@ pub(crate) enum ModeDemodulator {
 }
 
 impl ModeDemodulator {
+    /// A demodulator before its first label.
     pub fn new(mode: Mode) -> ModeDemodulator
         ensures { DemodulatesAs mode result [] [] }
     {

@@ -26,6 +26,7 @@ pub(crate) struct Path {
 }
 
 impl Path {
+    /// A path before its first bit. All its memory is taken here.
     pub fn new(alloc: Global, sender: Role) -> Result<Path, NoMemory>
         ensures sender { IfOk result (λ path. path.transmitter.sender ≡ sender) }
         ensures symbol { IfOk result (λ path. path.transmitter.symbol ≡ 0) }

@@ -49,6 +49,7 @@ pub(crate) struct Finder {
 }
 
 impl Finder {
+    /// A finder before its first bit.
     pub fn new() -> Finder
         ensures { HasRead result [] }
     {
@@ -97,6 +98,7 @@ pub(crate) struct Receiver {
 }
 
 impl Receiver {
+    /// A receiver before its first label.
     pub fn new(mode: Mode) -> Receiver
         ensures { ReceiverStands mode result [] [] }
     {

@@ -46,6 +46,7 @@ pub(crate) struct Transmitter {
 }
 
 impl Transmitter {
+    /// A transmitter before its first bit.
     pub fn new(sender: Role) -> Transmitter
         ensures sender { result.sender ≡ sender }
         ensures symbol { result.symbol ≡ 0 }

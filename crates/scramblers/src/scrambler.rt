@@ -1,3 +1,4 @@
+// The scrambler.
 ghost use Rattle.std.specs.Prelude.{◌≡◌, ◌≤◌, List, Bool, [], ◌∷◌, ◌++◌};
 ghost use Rattle.scramblers.specs.Machines.{ScramblerStands};
 

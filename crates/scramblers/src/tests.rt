@@ -1,3 +1,4 @@
+// Octets scrambled and descrambled.
 ghost use Rattle.std.specs.Prelude.{◌≤◌};
 
 use super::*;

@@ -1,3 +1,4 @@
+// The 32-point map.
 ghost use Rattle.std.specs.Prelude.{◌≡◌, ◌<◌};
 ghost use Rattle.symbol_map.specs.Points.{point_of};
 

@@ -1,3 +1,4 @@
+// Squared distances.
 ghost use Rattle.std.specs.Prelude.{◌≡◌, ◌<◌, ◌^◌};
 ghost use Rattle.symbol_map.specs.Distance.{distance_of};
 

@@ -1,3 +1,4 @@
+// Points, distances and nearest labels.
 use super::*;
 
 #[test]

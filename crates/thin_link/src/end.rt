@@ -56,6 +56,7 @@ fn info_of(octets: &[u8]) -> Info
 }
 
 impl End {
+    /// An end before its first turn.
     pub fn new() -> End
         ensures account { Stands result fresh }
         ensures delivered { IsDelivered result }

@@ -1,3 +1,4 @@
+// Quads coded and read again, and the code's states.
 ghost use Rattle.std.specs.Prelude.{◌≡◌, length};
 
 use super::*;

@@ -1,3 +1,4 @@
+// The eight-state code.
 ghost use Rattle.std.proofs.Common.{lit≤};
 ghost use Rattle.symbol_map.specs.Points.{point_of};
 ghost use Rattle.symbol_map.proofs.MapFacts.{points_differ};

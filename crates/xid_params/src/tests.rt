@@ -1,3 +1,4 @@
+// Information fields, read and written.
 ghost use Rattle.std.specs.Prelude.{◌≡◌, [], ◌≤◌};
 ghost use Rattle.xid_params.specs.Offers.{IsAllowed};
 
