@@ -8,6 +8,7 @@ use super::{bad_ack, reset};
 use lapm_link::LinkFault::PeerRefused;
 use lapm_link::Phase::{Closed, Connected, Detecting, Negotiating};
 
+/// Detecting: only what the other end begins with counts.
 pub(super) fn detecting(heard: Slot) -> Reaction {
     match heard {
         Odp => Sends(Detecting, Adp),
@@ -17,6 +18,7 @@ pub(super) fn detecting(heard: Slot) -> Reaction {
     }
 }
 
+/// Negotiating: the other end's SABME is awaited.
 pub(super) fn offer_answered(heard: Slot) -> Reaction {
     match heard {
         Xid(Command, Offer) => Sends(Negotiating, Xid(Response, Offer)),
@@ -26,8 +28,8 @@ pub(super) fn offer_answered(heard: Slot) -> Reaction {
     }
 }
 
-/// The segment waits until an I frame or a supervisory frame is heard, and a SABME may come again until then. 0 is the only N(R)
-/// that is right, and no SREJ is.
+/// Connected: V(A) = 0, V(S) = 0, V(R) = 0. The segment waits until an I frame or a supervisory frame is heard, and until then a
+/// SABME may come again. 0 is the only N(R) that is right, and no SREJ is.
 pub(super) fn nothing_heard(heard: Slot) -> Reaction {
     match heard {
         I(_, 1, _) | S(_, _, 1, _) => bad_ack(1, 0, 0),
@@ -50,7 +52,7 @@ pub(super) fn nothing_heard(heard: Slot) -> Reaction {
     }
 }
 
-/// The segment 1 is expected, and nothing is sent but answers.
+/// Connected: V(A) = 0, V(S) = 0, V(R) = 1. There is no segment to send.
 pub(super) fn segment_taken(heard: Slot) -> Reaction {
     match heard {
         I(_, 1, _) | S(_, _, 1, _) => bad_ack(1, 0, 0),
@@ -70,7 +72,47 @@ pub(super) fn segment_taken(heard: Slot) -> Reaction {
     }
 }
 
-/// A segment that is missing is asked for by its number, and those behind it are held.
+/// Connected: V(A) = 0, V(S) = 0, V(R) = 0. There is no segment to send, and no second REJ goes before the segment 0 has come.
+pub(super) fn rej_sent(heard: Slot) -> Reaction {
+    match heard {
+        I(_, 1, _) | S(_, _, 1, _) => bad_ack(1, 0, 0),
+        S(Srej, _, 0, _) => bad_ack(0, 0, 0),
+
+        I(0, _, pf) => Sends(Connected, S(Rr, Response, 1, pf)),
+        I(1, _, true) => Sends(Connected, S(Rr, Response, 0, true)),
+        I(127, _, _) => Sends(Connected, S(Rr, Response, 0, false)),
+        S(_, Command, _, true) => Sends(Connected, S(Rr, Response, 0, true)),
+
+        Ui(_, _, Brk(n, length)) => Sends(Connected, Ui(Command, false, BrkAck(n, length))),
+        Sabme(_) | Frmr(_) => reset(0, 0),
+        Dm(_) => Breaks(PeerRefused),
+        Disc(pf) => Sends(Closed, Ua(pf)),
+        _ => Sends(Connected, Flags),
+    }
+}
+
+/// Connected: V(A) = 0, V(S) = 0, V(R) = 0. There is no segment to send. The REJ is still to be sent, also where the segment 0 has
+/// come meanwhile, and only the reply to a poll and a BRKACK go before it.
+pub(super) fn rej_held_back(heard: Slot) -> Reaction {
+    match heard {
+        I(_, 1, _) | S(_, _, 1, _) => bad_ack(1, 0, 0),
+        S(Srej, _, 0, _) => bad_ack(0, 0, 0),
+
+        I(0, _, true) => Sends(Connected, S(Rr, Response, 1, true)),
+        I(0, _, false) => Sends(Connected, S(Rej, Response, 1, false)),
+        I(1, _, true) => Sends(Connected, S(Rr, Response, 0, true)),
+        S(_, Command, _, true) => Sends(Connected, S(Rr, Response, 0, true)),
+
+        Ui(_, _, Brk(n, length)) => Sends(Connected, Ui(Command, false, BrkAck(n, length))),
+        Sabme(_) | Frmr(_) => reset(0, 0),
+        Dm(_) => Breaks(PeerRefused),
+        Disc(pf) => Sends(Closed, Ua(pf)),
+        _ => Sends(Connected, S(Rej, Response, 0, false)),
+    }
+}
+
+/// Connected: V(A) = 0, V(S) = 0, V(R) = 0. There is no segment to send. A segment that comes too early is held, and the missing
+/// one is asked for.
 pub(super) fn srej_agreed(heard: Slot) -> Reaction {
     match heard {
         I(_, 1, _) | S(_, _, 1, _) => bad_ack(1, 0, 0),
@@ -90,7 +132,8 @@ pub(super) fn srej_agreed(heard: Slot) -> Reaction {
     }
 }
 
-/// With the segment 0 the held one is taken too. In the turn after an SREJ no other one goes, and no BRKACK.
+/// Connected: V(A) = 0, V(S) = 0, V(R) = 0, and the segment 1 is held. With the segment 0 it is taken too. In the turn after an
+/// SREJ no other one goes, and no BRKACK.
 pub(super) fn srej_sent(heard: Slot) -> Reaction {
     match heard {
         I(_, 1, _) | S(_, _, 1, _) => bad_ack(1, 0, 0),

@@ -41,7 +41,7 @@ pub(super) struct Standing {
     ghost given: { waiting_of end ≡ None },
 }
 
-/// Takes what is delivered, which is two segments at the most.
+/// Takes what is delivered, which is one segment at the most.
 fn take(end: &mut AnyEnd) -> Result<(), &'static str>
     ensures takes_nothing { TakesNothing end.old end.new }
     ensures delivered { IfOk result (λ _. undelivered_of end.new ≡ 0) }
@@ -53,10 +53,7 @@ fn take(end: &mut AnyEnd) -> Result<(), &'static str>
     if !end.deliver(&mut got) {
         return Ok(());
     }
-    if !end.deliver(&mut got) {
-        return Ok(());
-    }
-    Err("three segments in one turn")
+    Err("two segments in one turn")
 }
 
 /// Offers the file, where it is wanted.

@@ -8,6 +8,7 @@ use super::{bad_ack, reset};
 use lapm_link::LinkFault::PeerRefused;
 use lapm_link::Phase::{Closed, Connected, Detecting, Establishing, Negotiating, Releasing};
 
+/// Detecting: the ODP goes in each turn.
 pub(super) fn detecting(heard: Slot) -> Reaction {
     match heard {
         Adp => Sends(Negotiating, Xid(Command, Offer)),
@@ -15,6 +16,7 @@ pub(super) fn detecting(heard: Slot) -> Reaction {
     }
 }
 
+/// Negotiating: an answer to the XID command is awaited.
 pub(super) fn offer_sent(heard: Slot) -> Reaction {
     match heard {
         Xid(Response, Offer) => Sends(Establishing, Sabme(true)),
@@ -23,6 +25,7 @@ pub(super) fn offer_sent(heard: Slot) -> Reaction {
     }
 }
 
+/// Establishing: an answer to the SABME is awaited.
 pub(super) fn sabme_sent(heard: Slot) -> Reaction {
     match heard {
         Ua(true) => Sends(Connected, S(Rr, Command, 0, true)),
@@ -31,7 +34,8 @@ pub(super) fn sabme_sent(heard: Slot) -> Reaction {
     }
 }
 
-/// The segment waits until the poll is answered. 0 is the only N(R) that is right, and no SREJ is.
+/// Connected: V(A) = 0, V(S) = 0, V(R) = 0. An answer to the poll is awaited, and the segment waits for it. 0 is the only N(R)
+/// that is right, and no SREJ is.
 pub(super) fn poll_sent(heard: Slot) -> Reaction {
     match heard {
         I(_, 1, _) | S(_, _, 1, _) => bad_ack(1, 0, 0),
@@ -51,7 +55,8 @@ pub(super) fn poll_sent(heard: Slot) -> Reaction {
     }
 }
 
-/// The segment goes again where it is asked for. 0 and 1 are right as N(R), and SREJ may ask for 0.
+/// Connected: V(A) = 0, V(S) = 1, V(R) = 0. The segment goes again where it is asked for. 0 and 1 are right as N(R), and SREJ
+/// may ask for 0.
 pub(super) fn segment_sent(heard: Slot) -> Reaction {
     match heard {
         S(Srej, _, 1, _) => bad_ack(1, 0, 1),
@@ -71,7 +76,7 @@ pub(super) fn segment_sent(heard: Slot) -> Reaction {
     }
 }
 
-/// The segment goes again once the poll is answered, unless the answer acknowledges it.
+/// Connected: V(A) = 0, V(S) = 1, V(R) = 0. An answer to the poll is awaited, and before it the segment doesn't go again.
 pub(super) fn poll_sent_again(heard: Slot) -> Reaction {
     match heard {
         S(Srej, _, 1, _) => bad_ack(1, 0, 1),
@@ -91,7 +96,8 @@ pub(super) fn poll_sent_again(heard: Slot) -> Reaction {
     }
 }
 
-/// The poll goes before all but the reply to the other end's poll, also where its own answer seems to have come.
+/// Connected: V(A) = 0, V(S) = 1, V(R) = 0. The poll is still to be sent, also where its answer seems to have come, and only the
+/// reply to the other end's poll goes before it.
 pub(super) fn poll_held_back(heard: Slot) -> Reaction {
     match heard {
         S(Srej, _, 1, _) => bad_ack(1, 0, 1),
@@ -108,7 +114,7 @@ pub(super) fn poll_held_back(heard: Slot) -> Reaction {
     }
 }
 
-/// 1 is the only N(R) that is right, and no SREJ is. The segment 1 is expected.
+/// Connected: V(A) = 1, V(S) = 1, V(R) = 1. 1 is the only N(R) that is right, and no SREJ is.
 pub(super) fn segment_acknowledged(heard: Slot) -> Reaction {
     match heard {
         I(_, 0, _) | S(_, _, 0, _) => bad_ack(0, 1, 1),
@@ -125,6 +131,7 @@ pub(super) fn segment_acknowledged(heard: Slot) -> Reaction {
     }
 }
 
+/// Releasing: an answer to the DISC is awaited.
 pub(super) fn disc_sent(heard: Slot) -> Reaction {
     match heard {
         Ua(true) | Dm(true) => Sends(Closed, Flags),

@@ -61,7 +61,7 @@ pub(super) enum Says {
 }
 
 /// What is heard in the table. Flags alone are nothing.
-pub(super) const ARRIVALS: [Slot; 67] = [
+pub(super) const ARRIVALS: &[Slot] = &[
     Slot::Flags,
     Slot::Odp,
     Slot::Adp,

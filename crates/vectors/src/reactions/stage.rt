@@ -5,7 +5,7 @@ use super::slot::{Kind, Says, Slot, Supervisory, offer};
 use lapm_frames::Role;
 use lapm_link::Setup;
 
-/// A state of an end, named by what it did last. The file of an end is one segment, where nothing else is said.
+/// A state of an end. Its file is one segment, where nothing else is said.
 #[derive(Clone, Copy, Debug)]
 pub(super) enum Stage {
     OriginatorDetecting,
@@ -33,6 +33,10 @@ pub(super) enum Stage {
     NothingHeard,
     /// Connected: a segment is taken. The file is empty.
     SegmentTaken,
+    /// Connected: the second segment was heard without the first one, and the REJ is out. The file is empty.
+    RejSent,
+    /// Connected: the same, but the reply to a poll went before the REJ. The file is empty.
+    RejHeldBack,
     /// Connected with SREJ: a poll was answered. The file is empty.
     SrejAgreed,
     /// Connected with SREJ: the second segment is held, and the first one was asked for. The file is empty.
@@ -40,7 +44,7 @@ pub(super) enum Stage {
     AnswererClosed,
 }
 
-pub(super) const STAGES: [Stage; 17] = [
+pub(super) const STAGES: &[Stage] = &[
     Stage::OriginatorDetecting,
     Stage::OfferSent,
     Stage::SabmeSent,
@@ -55,6 +59,8 @@ pub(super) const STAGES: [Stage; 17] = [
     Stage::OfferAnswered,
     Stage::NothingHeard,
     Stage::SegmentTaken,
+    Stage::RejSent,
+    Stage::RejHeldBack,
     Stage::SrejAgreed,
     Stage::SrejSent,
     Stage::AnswererClosed,
@@ -87,6 +93,8 @@ const FIRST: Slot = Slot::I(0, 0, false);
 
 const SECOND: Slot = Slot::I(1, 0, false);
 
+const SECOND_WITH_POLL: Slot = Slot::I(1, 0, true);
+
 const ACKNOWLEDGING: Slot = Slot::I(0, 1, false);
 
 impl Stage {
@@ -96,6 +104,8 @@ impl Stage {
             | Stage::OfferAnswered
             | Stage::NothingHeard
             | Stage::SegmentTaken
+            | Stage::RejSent
+            | Stage::RejHeldBack
             | Stage::SrejAgreed
             | Stage::SrejSent
             | Stage::AnswererClosed => Role::Answerer,
@@ -116,7 +126,11 @@ impl Stage {
 
     pub(super) fn file(self) -> &'static [u8] {
         match self {
-            Stage::SegmentTaken | Stage::SrejAgreed | Stage::SrejSent => b"",
+            Stage::SegmentTaken
+            | Stage::RejSent
+            | Stage::RejHeldBack
+            | Stage::SrejAgreed
+            | Stage::SrejSent => b"",
             _ => b"f",
         }
     }
@@ -141,6 +155,8 @@ impl Stage {
             Stage::OfferAnswered => &[NONE, OFFER],
             Stage::NothingHeard => &[NONE, OFFER, SABME],
             Stage::SegmentTaken => &[NONE, OFFER, SABME, FIRST],
+            Stage::RejSent => &[NONE, OFFER, SABME, SECOND],
+            Stage::RejHeldBack => &[NONE, OFFER, SABME, SECOND_WITH_POLL],
             Stage::SrejAgreed => &[NONE, OFFER_WITH_SREJ, SABME, POLL],
             Stage::SrejSent => &[NONE, OFFER_WITH_SREJ, SABME, POLL, SECOND],
             Stage::AnswererClosed => &[NONE, OFFER, SABME, DISC],
