@@ -26,8 +26,6 @@ mod sent;
 mod setup;
 mod steps;
 mod terms;
-#[cfg(test)]
-mod tests;
 mod timer;
 mod unlinked;
 

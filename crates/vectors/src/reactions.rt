@@ -7,6 +7,7 @@ mod end;
 mod originator;
 mod slot;
 mod stage;
+mod two_ends;
 
 use end::{Observed, Standing};
 use lapm_link::{LinkFault, Phase};

@@ -1,13 +1,15 @@
 // An end that is taken to a state, and what it then does.
 ghost use Rattle.std.specs.Prelude.{◌≡◌, ◌*◌, ◌≤◌, None, IfOk};
-ghost use Rattle.lapm_link.specs.Stands.{TakesNothing, taken_of, undelivered_of, waiting_of};
+ghost use Rattle.lapm_link.specs.Fits.{IsSetUp};
+ghost use Rattle.lapm_link.specs.Stands.{IsNumbered, TakesNothing, taken_of, undelivered_of, waiting_of};
 ghost use Rattle.vectors.specs.declared.reactions.end.TheConstants.{LATEST};
 
 use super::Reaction;
 use super::slot::Slot;
 use super::stage::Stage;
 use frame_check::Info;
-use lapm_link::{AnyEnd, Detecting, LinkFault, Phase, Sent};
+use lapm_link::{AnyEnd, Arrived, Broken, Detecting, LinkFault, Phase, Sent, Setup};
+use outside_core::NoMemory;
 use std::alloc::Global;
 use std::test::Fail;
 
@@ -21,14 +23,14 @@ pub(super) enum Observed {
 impl Observed {
     pub(super) fn of(reaction: Reaction) -> Observed {
         match reaction {
-            Reaction::Sends(phase, slot) => Observed::Sent(phase, slot.sent()),
+            Reaction::Sends(phase, slot) => Observed::Sent(phase, slot.sent(b'f')),
             Reaction::Breaks(fault) => Observed::Broke(fault),
         }
     }
 }
 
-/// No state takes more turns to reach.
-const LATEST: u64 = 8;
+/// No end is taken through more turns.
+const LATEST: u64 = 16;
 
 /// An end that has spoken in the turn before this one.
 #[derive(Drop)]
@@ -42,15 +44,14 @@ pub(super) struct Standing {
 }
 
 /// Takes what is delivered, which is one segment at the most.
-fn take(end: &mut AnyEnd) -> Result<(), &'static str>
+fn take(end: &mut AnyEnd, got: &mut Info) -> Result<(), &'static str>
     ensures takes_nothing { TakesNothing end.old end.new }
     ensures delivered { IfOk result (λ _. undelivered_of end.new ≡ 0) }
 {
-    let mut got = Info::new();
-    if !end.deliver(&mut got) {
+    if !end.deliver(got) {
         return Ok(());
     }
-    if !end.deliver(&mut got) {
+    if !end.deliver(got) {
         return Ok(());
     }
     Err("two segments in one turn")
@@ -68,33 +69,52 @@ fn feed(end: &mut AnyEnd, file: &[u8])
 }
 
 impl Standing {
-    fn new(end: Detecting) -> Standing {
-        Standing {
-            end: AnyEnd::Detecting(end),
+    pub(super) fn new(alloc: Global, setup: Setup) -> Result<Standing, NoMemory>
+        requires { IsSetUp setup }
+    {
+        Ok(Standing {
+            end: AnyEnd::Detecting(Detecting::new(alloc, setup)?),
             turn: 0,
-        }
+        })
     }
 
     /// An end that has spoken in each turn in which it heard what leads to this state.
     pub(super) fn at(alloc: Global, stage: Stage) -> Result<Standing, Fail> {
-        let mut standing = Standing::new(Detecting::new(alloc, stage.setup())?);
+        let mut standing = Standing::new(alloc, stage.setup())?;
+        let mut got = Info::new();
+        let mut sent = Sent::Mark;
         for slot in stage.heard() {
-            standing = standing.turn(*slot, stage.file(), stage.releases())?;
+            let arrived = slot.arrived();
+            standing = standing.turn(
+                &arrived,
+                stage.file(),
+                stage.releases(),
+                &mut got,
+                &mut sent,
+            )?;
         }
         Ok(standing)
     }
 
     /// Hears, takes what is delivered and given, is offered its file where it wants that, and speaks.
-    fn turn(self, heard: Slot, file: &[u8], release: bool) -> Result<Standing, &'static str> {
+    pub(super) fn turn(
+        self,
+        arrived: &Arrived,
+        file: &[u8],
+        release: bool,
+        got: &mut Info,
+        sent: &mut Sent,
+    ) -> Result<Standing, &'static str>
+        requires { IsNumbered arrived.now }
+    {
         let Standing { end, turn } = self;
-        let Ok(mut end) = end.hear(turn, &heard.arrived()) else {
+        let Ok(mut end) = end.hear(turn, arrived) else {
             return Err("the link broke at hearing");
         };
-        take(&mut end)?;
+        take(&mut end, got)?;
         let _ = end.given_break();
         feed(&mut end, file);
-        let mut sent = Sent::Mark;
-        let Ok(end) = end.speak(turn, release, &mut sent) else {
+        let Ok(end) = end.speak(turn, release, sent) else {
             return Err("the link broke at speaking");
         };
         if turn >= LATEST {
@@ -104,6 +124,18 @@ impl Standing {
             end,
             turn: turn + 1,
         })
+    }
+
+    pub(super) fn end(self) -> AnyEnd {
+        self.end
+    }
+
+    /// How the link breaks by what the end hears in this turn.
+    pub(super) fn broken_by(self, heard: Slot) -> Result<Broken, &'static str> {
+        match self.end.hear(self.turn, &heard.arrived()) {
+            Ok(_) => Err("the link goes on"),
+            Err(broken) => Ok(broken),
+        }
     }
 
     /// What the end does in this turn.

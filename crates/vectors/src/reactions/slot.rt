@@ -247,13 +247,13 @@ impl Slot {
         }
     }
 
-    /// The slot as an end sends it whose file is the octet `f`.
-    pub(super) fn sent(self) -> Sent {
+    /// The slot as an end sends it whose file is this octet.
+    pub(super) fn sent(self, file: u8) -> Sent {
         match self {
             Slot::Mark => Sent::Mark,
             Slot::Odp => Sent::Odp,
             Slot::Adp => Sent::Adp,
-            _ => match self.frame(b'f') {
+            _ => match self.frame(file) {
                 None => Sent::Flags,
                 Some(frame) => Sent::Frame(frame),
             },

@@ -1,0 +1,176 @@
+// Two ends over two lines of one turn's delay, and an end by itself.
+ghost use Rattle.std.specs.Prelude.{IsTrue};
+ghost use Rattle.lapm_link.specs.Fits.{IsSetUp};
+ghost use Rattle.lapm_link.specs.Stands.{HasNumbers, IsNumbered};
+
+use super::end::Standing;
+use super::slot::Kind::{Command, Response};
+use super::slot::Says::Offer;
+use super::slot::Slot::{self, *};
+use super::slot::Supervisory::Rr;
+use super::slot::offer;
+use super::stage::Stage;
+use detection::Seen;
+use frame_check::Info;
+use lapm_frames::{Frame, Role};
+use lapm_link::{AnyEnd, Arrived, LinkFault, Phase, Sent, Setup};
+use outside_core::NoMemory;
+use std::alloc::Global;
+use std::test::Fail;
+
+/// What the originator and the answerer send in each turn, where each has a file of one octet.
+const LINES: &[(Slot, Slot)] = &[
+    (Odp, Mark),
+    (Odp, Adp),
+    (Xid(Command, Offer), Adp),
+    (Flags, Xid(Response, Offer)),
+    (Sabme(true), Flags),
+    (Flags, Ua(true)),
+    (S(Rr, Command, 0, true), Flags),
+    (Flags, S(Rr, Response, 0, true)),
+    (I(0, 0, false), I(0, 0, false)),
+    (S(Rr, Response, 1, false), S(Rr, Response, 1, false)),
+    (Disc(true), Flags),
+    (Flags, Ua(true)),
+    (Flags, Flags),
+];
+
+/// From this turn on both files are whole, and the originator is told to release.
+const RELEASE: usize = 10;
+
+fn setup(role: Role) -> Setup
+    ensures { IsSetUp result }
+{
+    Setup {
+        role,
+        offer: offer(false),
+        tries: 5,
+        period: 20,
+    }
+}
+
+fn is_numbered(frame: &Frame) -> bool
+    ensures { IsTrue result → HasNumbers frame.now }
+{
+    match frame {
+        Frame::I { ns, nr, .. } => *ns < 128 && *nr < 128,
+        Frame::Rr { nr, .. }
+        | Frame::Rnr { nr, .. }
+        | Frame::Rej { nr, .. }
+        | Frame::Srej { nr, .. } => *nr < 128,
+        _ => true,
+    }
+}
+
+/// What the other end hears of what was sent.
+fn arrival(sent: &Sent) -> Arrived
+    ensures { IsNumbered result }
+{
+    match sent {
+        Sent::Mark | Sent::Flags => Arrived::Nothing,
+        Sent::Odp => Arrived::Pattern(Seen::Odp),
+        Sent::Adp => Arrived::Pattern(Seen::Adp),
+        Sent::Frame(frame) => {
+            if is_numbered(frame) {
+                Arrived::Frame(frame.copy())
+            } else {
+                Arrived::Nothing
+            }
+        }
+    }
+}
+
+/// An end, its file, what it got, and what it sent last.
+#[derive(Drop)]
+struct Station {
+    standing: Standing,
+    file: u8,
+    got: Info,
+    sent: Sent,
+}
+
+impl Station {
+    fn new(alloc: Global, role: Role, file: u8) -> Result<Station, NoMemory> {
+        Ok(Station {
+            standing: Standing::new(alloc, setup(role))?,
+            file,
+            got: Info::new(),
+            sent: Sent::Mark,
+        })
+    }
+
+    /// Hears and then speaks.
+    fn turn(self, arrived: &Arrived, release: bool) -> Result<Station, &'static str>
+        requires { IsNumbered arrived.now }
+    {
+        let Station {
+            standing,
+            file,
+            mut got,
+            mut sent,
+        } = self;
+        let standing = standing.turn(arrived, &[file], release, &mut got, &mut sent)?;
+        Ok(Station {
+            standing,
+            file,
+            got,
+            sent,
+        })
+    }
+}
+
+/// Both hear what the other one sent last, and then speak.
+fn turn(
+    originator: Station,
+    answerer: Station,
+    release: bool,
+) -> Result<(Station, Station), &'static str> {
+    let at_originator = arrival(&answerer.sent);
+    let at_answerer = arrival(&originator.sent);
+    Ok((
+        originator.turn(&at_originator, release)?,
+        answerer.turn(&at_answerer, false)?,
+    ))
+}
+
+#[test]
+fn two_files_of_one_octet(rt: HostRuntime) -> Result<(), Fail> {
+    let mut originator = Station::new(rt.alloc(), Role::Originator, b'a')?;
+    let mut answerer = Station::new(rt.alloc(), Role::Answerer, b'b')?;
+    for (number, (line_o, line_a)) in LINES.iter().enumerate() {
+        (originator, answerer) = turn(originator, answerer, number >= RELEASE)?;
+        assert_eq!(rt; originator.sent, line_o.sent(b'a'));
+        assert_eq!(rt; answerer.sent, line_a.sent(b'b'));
+    }
+    assert_eq!(rt; originator.standing.end().phase(), Phase::Closed);
+    assert_eq!(rt; originator.got.as_slice(), b"b".as_slice());
+    assert_eq!(rt; answerer.got.as_slice(), b"a".as_slice());
+    Ok(())
+}
+
+#[test]
+fn an_acknowledgement_of_what_was_not_sent_breaks_the_link(rt: HostRuntime) -> Result<(), Fail> {
+    let broken = Standing::at(rt.alloc(), Stage::PollSent)?.broken_by(I(0, 5, false))?;
+    let fault = LinkFault::BadAck {
+        nr: 5,
+        va: 0,
+        high: 0,
+    };
+    assert_eq!(rt; broken.fault, fault);
+    let mut sent = Sent::Mark;
+    let Ok(closed) = AnyEnd::Closed(broken.end).speak(9, false, &mut sent) else {
+        return Err(Fail::new("a closed end broke"));
+    };
+    assert_eq!(rt; closed.phase(), Phase::Closed);
+    assert_eq!(rt; sent, Sent::Flags);
+    Ok(())
+}
+
+#[test]
+fn one_break_waits_at_a_time(rt: HostRuntime) -> Result<(), Fail> {
+    let mut end = Standing::at(rt.alloc(), Stage::PollSent)?.end();
+    assert!(rt; end.ask_break(3, 30));
+    assert!(rt; end.break_waiting());
+    assert!(rt; !end.ask_break(4, 31));
+    Ok(())
+}
