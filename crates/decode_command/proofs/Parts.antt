@@ -19,10 +19,9 @@ use Rattle.command_base.specs.Outputs.{Holds, HoldsFront}
 use Rattle.decode_command.specs.Words.{DecodeNames}
 use Rattle.decode_command.specs.Recordings.{samples_in}
 use Rattle.decode_command.specs.Octets.{Carries}
-use Rattle.decode_command.specs.Playing.{Playing, line_trellis, Hears}
+use Rattle.decode_command.specs.Playing.{Playing, line_trellis, Hears, line_depth}
 use Rattle.decode_command.specs.Played.{LosesWithin, PlaysPiece}
 use Rattle.decode_command.specs.Ends.{MayWrite, DecodesPart, ReadsRecording, RecordingLost, SampleCut, hearer_of}
-use Rattle.decode_command.specs.declared.playback.TheConstants.{DEPTH}
 use Rattle.lapm_frames.specs.declared.frame.Role.{Role}
 use Rattle.recordings.specs.declared.header.TheConstants.{HEADER}
 use Rattle.decode_command.proofs.Longer.{longer}
@@ -114,7 +113,7 @@ lost-part start now n mode p content octets at symbol role within front w role_i
     let s = samples_in-front content rest in
     let more : List Sample = w.more ++ s.0 in
     let all : samples_in (content ++ rest) ≡ w.heard ++ more = s.1 ∙ ap (λ (xs : List Sample). xs ++ s.0) w.split ∙ append_assoc w.heard w.more s.0 in
-    let lost : LostIs line_trellis DEPTH w.heard (Some symbol) = subst (λ (l : Option ℕ). LostIs line_trellis DEPTH w.heard l) w.lost w.hears.decoder.lost in
+    let lost : LostIs line_trellis line_depth w.heard (Some symbol) = subst (λ (l : Option ℕ). LostIs line_trellis line_depth w.heard l) w.lost w.hears.decoder.lost in
     let labels : List ℕ = w.hears.labels in
     let released : IsReleased line_trellis (take (symbol + 1) w.heard) labels =
     subst (λ (xs : List ℕ). IsReleased line_trellis (take (symbol + 1) w.heard) xs) (ap (λ (xs : List ℕ). labels ++ xs) w.all_taken ∙ append-nil labels)
@@ -129,7 +128,7 @@ lost-part start now n mode p content octets at symbol role within front w role_i
             ∙ ap (λ (xs : List ℕ). header_of mode ++ (content ++ xs)) (sym (rest-told (start.tells n.rec) (drop at file_octets) told));
       };
       role_is = role_is;
-      lost = subst (λ (xs : List Sample). LostIs line_trellis DEPTH xs (Some symbol)) (sym all) (lost-stays line_trellis DEPTH w.heard more symbol lost);
+      lost = subst (λ (xs : List Sample). LostIs line_trellis line_depth xs (Some symbol)) (sym all) (lost-stays line_trellis line_depth w.heard more symbol lost);
       labels = labels;
       released = subst (λ (xs : List Sample). IsReleased line_trellis (take (symbol + 1) xs) labels) (sym all) (subst (λ (xs : List Sample). IsReleased line_trellis xs labels) (sym front_take) released);
       octets = octets;
@@ -147,7 +146,7 @@ cut-part start now n mode p content octets at within read cut at_is h not_lost t
   reads = record { within = within; read = read };
   cut = cut;
   at_is = at_is;
-  not_lost = subst (λ (l : Option ℕ). LostIs line_trellis DEPTH (samples_in content) l) not_lost h.decoder.lost;
+  not_lost = subst (λ (l : Option ℕ). LostIs line_trellis line_depth (samples_in content) l) not_lost h.decoder.lost;
   labels = h.labels;
   released = subst (λ (xs : List ℕ). IsReleased line_trellis (samples_in content) xs) (ap (λ (xs : List ℕ). h.labels ++ xs) taken ∙ append-nil h.labels)
       (subst (λ (l : Option ℕ). IsReleased line_trellis (heard l (samples_in content)) (h.labels ++ p.decoder.pending)) not_lost h.decoder.released);

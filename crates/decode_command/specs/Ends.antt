@@ -15,12 +15,11 @@ use Rattle.command_base.specs.Inputs.{IsWithin, IsLonger}
 use Rattle.command_base.specs.Outputs.{KeepsAll, Holds, HoldsFront}
 use Rattle.decode_command.specs.declared.fault.DecodeFault.{DecodeFault}
 use Rattle.decode_command.specs.declared.fault.DecodeFault.TheVariants.{TooLong, BadRecording, LineLost, ReadFault, WriteFault, NoMemory}
-use Rattle.decode_command.specs.declared.playback.TheConstants.{DEPTH}
 use Rattle.decode_command.specs.Words.{DecodeNames}
 use Rattle.decode_command.specs.Headers.{IsBadHeader}
 use Rattle.decode_command.specs.Recordings.{samples_in}
 use Rattle.decode_command.specs.Octets.{Carries}
-use Rattle.decode_command.specs.Playing.{line_trellis, Finishes}
+use Rattle.decode_command.specs.Playing.{line_trellis, Finishes, line_depth}
 
 -- the end that hears what is sent in this mode
 abbrev pub hearer_of : Mode → Role
@@ -35,7 +34,7 @@ pub record ReadsRecording (old : FolderState) (n : DecodeNames) (mode : Mode) (c
 -- it ends with a whole sample, and is not lost
 pub record IsFollowed (content : List ℕ) : Type 0 where
   pub whole : length content % 4 ≡ 0
-  pub not_lost : LostIs line_trellis DEPTH (samples_in content) None
+  pub not_lost : LostIs line_trellis line_depth (samples_in content) None
 
 -- The output holds the whole octets of the least sequence, so many.
 pub record DecodesAll (old new : FolderState) (n : DecodeNames) (count : ℕ) : Type 0 where
@@ -61,7 +60,7 @@ pub record SampleCut (old new : FolderState) (n : DecodeNames) (at : ℕ) : Type
   pub reads : ReadsRecording old n mode content
   pub cut : length content % 4 ≢ 0
   pub at_is : at + length content % 4 ≡ HEADER + length content
-  pub not_lost : LostIs line_trellis DEPTH (samples_in content) None
+  pub not_lost : LostIs line_trellis line_depth (samples_in content) None
   pub labels : List ℕ
   pub released : IsReleased line_trellis (samples_in content) labels
   pub octets : List ℕ
@@ -74,7 +73,7 @@ pub record RecordingLost (old new : FolderState) (n : DecodeNames) (role : Role)
   pub content : List ℕ
   pub reads : ReadsRecording old n mode content
   pub role_is : role ≡ hearer_of mode
-  pub lost : LostIs line_trellis DEPTH (samples_in content) (Some symbol)
+  pub lost : LostIs line_trellis line_depth (samples_in content) (Some symbol)
   pub labels : List ℕ
   pub released : IsReleased line_trellis (take (symbol + 1) (samples_in content)) labels
   pub octets : List ℕ

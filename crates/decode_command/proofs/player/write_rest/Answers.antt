@@ -6,8 +6,7 @@ use Rattle.scramblers.specs.Mode.{tap_of}
 use Rattle.survivors.specs.Survivors.{LostIs}
 use Rattle.decode_command.specs.Words.{DecodeNames, named}
 use Rattle.decode_command.specs.Recordings.{samples_in}
-use Rattle.decode_command.specs.declared.playback.TheConstants.{DEPTH}
-use Rattle.decode_command.specs.Playing.{Playing, Hears, Finishes, line_trellis}
+use Rattle.decode_command.specs.Playing.{Playing, Hears, Finishes, line_trellis, line_depth}
 use Rattle.decode_command.specs.Ends.{IsFollowed}
 use Rattle.decode_command.proofs.Steps.{holds-front, holds-more, ends-write, whole-read}
 use Rattle.decode_command.proofs.player.write_rest.Goals as goal
@@ -24,7 +23,7 @@ returns-in-Ok-clause-ends g c start mode at tap h end =
       mode = mode;
       content = h.content;
       reads = record { within = h.within; read = λ told. whole-read start n mode h.content at h.front end told };
-      followed = record { whole = h.whole; not_lost = subst (λ (l : Option ℕ). LostIs line_trellis DEPTH (samples_in h.content) l) c.requires.not_lost h.hears.decoder.lost };
+      followed = record { whole = h.whole; not_lost = subst (λ (l : Option ℕ). LostIs line_trellis line_depth (samples_in h.content) l) c.requires.not_lost h.hears.decoder.lost };
       octets = h.octets ++ given;
       finishes = subst (λ t. Finishes t (samples_in h.content) (h.octets ++ given)) (sym tap) fin;
       file = holds-more old n2 n.file h.octets given c.append_output.ensures.only.goes_on h.file puts;
@@ -39,7 +38,7 @@ returns-in-Err-clause-ends g c start mode at tap h end =
     let given : List ℕ = c.finish-octets.result in
     let fin = c.finish-octets.ensures (samples_in h.content) h.octets (subst (λ t. Hears t c.args.playback (samples_in h.content) h.octets) tap h.hears) in
     let puts : PutsPart old n2 n.file given = subst (λ (xs : List ℕ). PutsPart old n2 n.file xs) c.as_slice.ensures.items c.in-Err.ensures.err in
-    let followed : IsFollowed h.content = record { whole = h.whole; not_lost = subst (λ (l : Option ℕ). LostIs line_trellis DEPTH (samples_in h.content) l) c.requires.not_lost h.hears.decoder.lost } in
+    let followed : IsFollowed h.content = record { whole = h.whole; not_lost = subst (λ (l : Option ℕ). LostIs line_trellis line_depth (samples_in h.content) l) c.requires.not_lost h.hears.decoder.lost } in
     ends-write start n2 n c.in-Err.fault c.write_fault.result c.write_fault.ensures.failed c.write_fault.ensures.memory
     (λ e. Rose-later _ _ _ _ (h.only.goes_on.writes n.file) (c.in-Err.ensures.cause.failed (ap (λ (x : FolderFault). Err x) e)) (omega arith))
     (λ e. Rose-later _ _ _ _ h.only.goes_on.refused (c.in-Err.ensures.cause.memory (ap (λ (x : FolderFault). Err x) e)) (omega arith))

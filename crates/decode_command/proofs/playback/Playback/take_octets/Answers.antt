@@ -3,9 +3,8 @@ use Rattle.symbol_map.specs.declared.sample.Sample.{Sample}
 use Rattle.symbol_map.specs.Points.{point_of}
 use Rattle.trellis_tables.specs.Table.{next_state}
 use Rattle.exact_decoder.specs.Decoder.{Decoding, DecoderStands}
-use Rattle.decode_command.specs.declared.playback.TheConstants.{DEPTH}
 use Rattle.decode_command.specs.Octets.{OctetsRead}
-use Rattle.decode_command.specs.Playing.{Playing, Hears}
+use Rattle.decode_command.specs.Playing.{Playing, Hears, line_depth}
 use Rattle.decode_command.proofs.playback.Playback.take_octets.Goals as goal
 
 pub loop-label-preserved-in-Some-push : goal.loop-label-preserved-in-Some-push
@@ -52,6 +51,6 @@ returns-clause-hears g c samples before hears =
     let h = c.loop-label.invariant.hears samples before hears in
     record {
       labels = h.labels;
-      decoder = subst (λ (xs : List ℕ). DecoderStands next_state point_of (λ state. nat_eq state 0) DEPTH c.take.new.self samples xs) (append-nil h.labels) (c.in_default.ensures.stands _ samples h.labels h.decoder);
+      decoder = subst (λ (xs : List ℕ). DecoderStands next_state point_of (λ state. nat_eq state 0) line_depth c.take.new.self samples xs) (append-nil h.labels) (c.in_default.ensures.stands _ samples h.labels h.decoder);
       reader = h.reader;
     }
