@@ -1,14 +1,42 @@
 // One test for each table.
 ghost use Rattle.std.specs.Prelude.{◌≤◌};
 
-use bit_stuffing::{Deframer, Piece};
-use frame_check::{Check, Octets, append, passes};
+use bit_stuffing::{Deframer, HEAD, Piece, SHORTEST, TAIL};
+use command_base::{FILE_LIMIT, HEX_LIMIT, RECORDING_LIMIT, RUN_FILE_LIMIT, SCRIPT_LIMIT};
+use frame_check::{Check, INFO, Octets, SLOT, WHOLE, append, passes};
 use frame_text::{FrameText, write_frame_text};
 use lapm_frames::{FrameFault, Role, read};
+use noise_script::{HIT_LINES, LOSE_LINES, NOISE_LINES, SCRIPT_OCTETS};
 use recordings::{Recorder, header_octets};
 use scramblers::{ANSWER_TAP, CALL_TAP, Mode, Scrambler};
 use std::process::Abort;
 use std::test::Fail;
+
+/// The sizes and limits by their numbers: contracts name them, and would follow another number.
+const SIZES: [(u64, u64); 15] = [
+    (INFO as u64, 128),
+    (WHOLE as u64, 135),
+    (SLOT as u64, 464),
+    (SHORTEST as u64, 4),
+    (HEAD as u64, 10),
+    (TAIL as u64, 128),
+    (RUN_FILE_LIMIT, 1_048_576),
+    (FILE_LIMIT, 1_048_576),
+    (SCRIPT_LIMIT, 65_536),
+    (RECORDING_LIMIT, 8_388_616),
+    (HEX_LIMIT as u64, 512),
+    (SCRIPT_OCTETS as u64, 65_536),
+    (LOSE_LINES as u64, 1_024),
+    (HIT_LINES as u64, 1_024),
+    (NOISE_LINES as u64, 64),
+];
+
+#[test]
+fn sizes_and_limits(rt: HostRuntime) {
+    for (size, number) in SIZES {
+        assert_eq!(rt; size, number);
+    }
+}
 
 /// The text for which the value of a check is published, and its two checks.
 const DIGITS: &[u8] = b"123456789";
