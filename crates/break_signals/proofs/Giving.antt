@@ -1,3 +1,4 @@
+-- A break that comes again is given once.
 use Rattle.std.proofs.Common.{◌≡◌, ◌+◌, ◌%◌, Bool, true, false, [], ◌∷◌, ◌++◌, length, nat_eq, refl, arith, None}
 use Rattle.std.proofs.lemmas.Grind.{common_steps}
 use Rattle.std.proofs.lemmas.Bool.Decides.{nat_tests}

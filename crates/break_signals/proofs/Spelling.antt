@@ -1,3 +1,4 @@
+-- What is written is read back, and what is read is written so.
 use Rattle.std.proofs.Common.{◌≡◌, ℕ, Bool, true, false, cond, ◌||◌, List, [], ◌∷◌, nat_eq, nat_lt, refl, subst, arith, Ok, Err}
 use Rattle.std.proofs.lemmas.Bool.Decides.{nat_tests}
 use Rattle.break_signals.specs.Words.{IsReadBack, IsSpelledBack, spelled, word_behind}

@@ -1,3 +1,4 @@
+-- The words of a break in a UI frame: BRK and BRKACK, each with a number and a length.
 use Rattle.std.specs.Prelude.{◌≡◌, ℕ, ◌<◌, if◌then◌else◌, ◌||◌, nat_eq, nat_lt, List, [], ◌∷◌, length, Result, Ok, Err}
 use Rattle.break_signals.specs.declared.word.BreakWord.{BreakWord}
 use Rattle.break_signals.specs.declared.word.BreakWord.TheVariants.{Brk, Ack}

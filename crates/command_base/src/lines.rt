@@ -4,8 +4,8 @@ ghost use Rattle.command_base.specs.Words.{role_word};
 ghost use Rattle.command_base.specs.Lines.{cause_word, xid_words, count_line, done_line, samples_line, octets_line, pieces_line, short_line};
 
 use crate::Status;
+use decimal_text::put_decimal;
 use frame_check::Octets;
-use itoa::Buffer;
 use lapm_frames::Role;
 use noise_script::Cause;
 use xid_params::XidFault;
@@ -15,16 +15,6 @@ pub const LINE: usize = 96;
 
 /// A line that is to be said, with the line feed at its end.
 pub type Line = Octets<LINE>;
-
-/// Puts a number behind the line, in decimal digits.
-fn put_number(line: &mut Line, number: u64)
-    requires { length line.old + 20 ≤ LINE }
-    ensures text { line.new ≡ line.old ++ decimal number }
-    ensures room { length line.new ≤ length line.old + 20 }
-{
-    let mut buffer = Buffer::new();
-    line.extend(buffer.format(number).as_bytes());
-}
 
 fn role_text(role: Role) -> &'static str
     ensures text { result.now ≡ role_word role }
@@ -58,7 +48,7 @@ fn put_place(line: &mut Line, word: &str, at: usize)
 {
     line.extend(word.as_bytes());
     line.extend(b" at ");
-    put_number(line, at as u64);
+    put_decimal(line, at as u64);
 }
 
 /// Puts why a field spells no offer.
@@ -84,7 +74,7 @@ pub fn write_count(word: &str, number: u64) -> Line
     let mut line = Line::new();
     line.extend(word.as_bytes());
     line.extend(b" ");
-    put_number(&mut line, number);
+    put_decimal(&mut line, number);
     line.extend(b"\n");
     line
 }
@@ -129,19 +119,19 @@ pub(crate) fn write_short(status: Status) -> Line
             cause,
         } => {
             line.extend(b"bad script: line ");
-            put_number(&mut line, u64::from(number));
+            put_decimal(&mut line, u64::from(number));
             line.extend(b": ");
             line.extend(cause_text(cause).as_bytes());
             line.extend(b"\n");
         }
         Status::BadRecording { at } => {
             line.extend(b"bad recording: at ");
-            put_number(&mut line, at);
+            put_decimal(&mut line, at);
             line.extend(b"\n");
         }
         Status::BadHex { at } => {
             line.extend(b"bad hex: at ");
-            put_number(&mut line, at);
+            put_decimal(&mut line, at);
             line.extend(b"\n");
         }
         Status::BadXid(fault) => {
@@ -155,7 +145,7 @@ pub(crate) fn write_short(status: Status) -> Line
             line.extend(b"line lost: ");
             line.extend(role_text(role).as_bytes());
             line.extend(b" symbol ");
-            put_number(&mut line, symbol);
+            put_decimal(&mut line, symbol);
             line.extend(b"\n");
         }
         Status::LinkLost {
@@ -166,9 +156,9 @@ pub(crate) fn write_short(status: Status) -> Line
             line.extend(b"link lost: ");
             line.extend(role_text(role).as_bytes());
             line.extend(b" segment ");
-            put_number(&mut line, segment);
+            put_decimal(&mut line, segment);
             line.extend(b" turn ");
-            put_number(&mut line, turn);
+            put_decimal(&mut line, turn);
             line.extend(b"\n");
         }
         Status::NoMemory => line.extend(b"no memory\n"),

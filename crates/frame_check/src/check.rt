@@ -16,7 +16,7 @@ pub enum Check {
 
 impl Check {
     /// How many octets the check has.
-    fn len(self) -> usize
+    pub fn len(self) -> usize
         ensures { result ≡ count_of self }
     {
         match self {

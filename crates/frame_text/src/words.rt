@@ -3,7 +3,7 @@ ghost use Rattle.std.specs.Prelude.{◌≡◌, ◌≤◌, ◌+◌, ◌++◌, len
 ghost use Rattle.frame_text.specs.FrameText.{count_word, kind_word, number_word, poll_word};
 
 use frame_check::{Info, Octets};
-use itoa::Buffer;
+use decimal_text::put_decimal;
 
 /// The most octets of a frame's text.
 pub const TEXT: usize = 160;
@@ -18,9 +18,8 @@ pub(crate) fn put_number(label: &[u8], number: usize, out: &mut FrameText)
     ensures text { out.new ≡ out.old ++ number_word label.now number }
     ensures short { length out.new ≤ length out.old + 23 }
 {
-    let mut buffer = Buffer::new();
     out.extend(label);
-    out.extend(buffer.format(number).as_bytes());
+    put_decimal(out, number as u64);
 }
 
 /// Puts whether the frame is a command or a response.

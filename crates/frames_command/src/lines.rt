@@ -3,9 +3,9 @@ ghost use Rattle.std.specs.Prelude.{◌≡◌, ◌≤◌, ◌<◌, ◌+◌, ◌+
 ghost use Rattle.frames_command.specs.Readings.{hex_digit, hex_octet, fault_words, reading_line};
 
 use crate::reading::Reading;
+use decimal_text::put_decimal;
 use frame_check::Octets;
 use frame_text::{FrameText, write_frame_text};
-use itoa::Buffer;
 use lapm_frames::FrameFault;
 
 /// The most octets of a piece's line.
@@ -36,16 +36,6 @@ fn put_octet(octet: u8, line: &mut PieceLine)
     line.push(digit(octet % 16));
 }
 
-/// Puts a number, in decimal digits.
-fn put_number(number: usize, line: &mut PieceLine)
-    requires { length line.old + 20 ≤ PIECE_LINE }
-    ensures text { line.new ≡ line.old ++ decimal number }
-    ensures room { length line.new ≤ length line.old + 20 }
-{
-    let mut buffer = Buffer::new();
-    line.extend(buffer.format(number).as_bytes());
-}
-
 /// Puts why octets are no frame.
 fn put_fault(fault: FrameFault, line: &mut PieceLine)
     requires { length line.old + 25 ≤ PIECE_LINE }
@@ -64,7 +54,7 @@ fn put_fault(fault: FrameFault, line: &mut PieceLine)
         FrameFault::Short => line.extend(b"short"),
         FrameFault::Long { len } => {
             line.extend(b"long ");
-            put_number(len, line);
+            put_decimal(line, len as u64);
         }
     }
 }
@@ -89,7 +79,7 @@ pub(crate) fn write_reading(reading: &Reading) -> PieceLine
         }
         Reading::BadCheck { octets } => {
             line.extend(b"bad check ");
-            put_number(*octets, &mut line);
+            put_decimal(&mut line, *octets as u64);
             line.extend(b"\n");
         }
         Reading::Ragged => line.extend(b"ragged\n"),

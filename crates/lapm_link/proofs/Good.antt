@@ -1,3 +1,4 @@
+-- What holds all through a play of two ends of ours.
 use Rattle.std.proofs.Common.{◌≡◌, ℕ, ◌≤◌, Bool, true, false, List, [], ◌∷◌, arith, ◌∙◌, Option, Some, None}
 use Rattle.std.specs.List.{AllByRecursion}
 use Rattle.lapm_frames.specs.declared.frame.Role.TheVariants.{Originator, Answerer}

@@ -1,3 +1,4 @@
+-- What was taken stays.
 use Rattle.std.proofs.Common.{◌≡◌, ℕ, ◌+◌, List, [], ◌∷◌, ◌++◌, refl, sym, append-nil}
 use Rattle.lapm_receiver.specs.Incoming.{KeepsTaken, after_kind, kind_of, offset, next_expected}
 use Rattle.lapm_receiver.specs.Held.{run_from}

@@ -1,3 +1,4 @@
+-- What an end takes, as an account: all segments in order so far, those held, and what is to be asked for.
 use Rattle.std.specs.Prelude.{◌≡◌, ℕ, ◌+◌, ◌-◌, ◌%◌, Bool, true, false, not, if◌then◌else◌, ◌||◌, nat_eq, nat_lt, List, [], ◌∷◌, ◌++◌, length, Option, Some, None, slice_index_or}
 use Rattle.lapm_receiver.specs.Held.{Held, is_held, with_held, run_from, rest_from, missing_from, first_outside}
 use Rattle.lapm_receiver.specs.declared.took.Took.{Took}

@@ -1,6 +1,5 @@
 // Which check a frame has, and the frame in checked octets.
 ghost use Rattle.std.specs.Prelude.{◌≡◌, ◌<◌, ◌+◌, ◌≤◌, ◌++◌, ◌∷◌, [], IfSome, IfNone, length, List, ℕ};
-ghost use Rattle.frame_check.specs.Division.{count_of};
 ghost use Rattle.lapm_frames.specs.Frame.{IsFrame};
 ghost use Rattle.lapm_frames.specs.declared.frame.Frame.{Frame};
 ghost use Rattle.sample_line.specs.Signals.{check_for, check_heard, checked};
@@ -45,16 +44,6 @@ pub(crate) fn checked_octets(frame: &Frame, check: Check, sender: Role, dlci: u8
     octets
 }
 
-/// How many octets a check has.
-fn len_of(check: Check) -> usize
-    ensures { result ≡ count_of check }
-{
-    match check {
-        Check::Sixteen => 2,
-        Check::ThirtyTwo => 4,
-    }
-}
-
 /// The frame of this sender and channel that the octets between two flags are, where they pass the check.
 pub(crate) fn frame_in(whole: &[u8], check: Check, sender: Role, dlci: u8) -> Option<Frame>
     requires { dlci < 64 }
@@ -62,7 +51,7 @@ pub(crate) fn frame_in(whole: &[u8], check: Check, sender: Role, dlci: u8) -> Op
     ensures none { IfNone result ((frame : Frame) → SpellsFrame check sender dlci whole.now frame → ⊥) }
 {
     let used = check_heard(whole, check);
-    let Some(len) = whole.len().checked_sub(len_of(used)) else {
+    let Some(len) = whole.len().checked_sub(used.len()) else {
         return None;
     };
     if !passes(whole, used) {

@@ -2,8 +2,8 @@
 ghost use Rattle.std.specs.Prelude.{◌≡◌, ◌≤◌, ◌+◌, ◌++◌, length, decimal, ◌<◌, ◌^◌};
 ghost use Rattle.xid_command.specs.OfferLine.{offer_line, flag_word};
 
+use decimal_text::put_decimal;
 use frame_check::Octets;
-use itoa::Buffer;
 use xid_params::Offer;
 
 /// The most octets of the line of an offer.
@@ -18,8 +18,7 @@ fn put(line: &mut OfferLine, word: &[u8], number: u64)
     ensures room { length line.new ≤ length line.old + length word.now + 20 }
 {
     line.extend(word);
-    let mut buffer = Buffer::new();
-    line.extend(buffer.format(number).as_bytes());
+    put_decimal(line, number);
 }
 
 /// Puts a word behind the line, and behind it 1 where the function is offered and 0 where it isn't.

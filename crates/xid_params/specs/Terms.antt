@@ -1,3 +1,4 @@
+-- What two offers come to.
 use Rattle.std.specs.Prelude.{ℕ, min, Bool, false, if◌then◌else◌, ◌&&◌}
 use Rattle.xid_params.specs.declared.offer.Offer.{Offer}
 use Rattle.xid_params.specs.declared.terms.Terms.{Terms}
