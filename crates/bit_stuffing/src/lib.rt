@@ -18,6 +18,3 @@ pub use bit_slot::BitSlot;
 pub use deframer::Deframer;
 pub use piece::{Piece, SHORTEST};
 pub use slot_writer::{HEAD, SlotWriter, TAIL};
-
-#[cfg(test)]
-mod tests;

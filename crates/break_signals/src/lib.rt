@@ -15,6 +15,3 @@ pub use break_sender::{BreakSender, Spent0};
 pub use fault::BreakFault;
 pub use octets::{read_break, write_break};
 pub use word::BreakWord;
-
-#[cfg(test)]
-mod tests;

@@ -18,6 +18,3 @@ pub use output::{append_output, create_output};
 pub use status::Status;
 pub use telling::{tell, tell_status};
 pub use words::role_of;
-
-#[cfg(test)]
-mod tests;

@@ -6,6 +6,3 @@ mod demodulator;
 pub mod laws;
 
 pub use demodulator::Demodulator;
-
-#[cfg(test)]
-mod tests;

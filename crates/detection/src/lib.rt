@@ -13,6 +13,3 @@ mod slots;
 pub use reader::PatternReader;
 pub use seen::Seen;
 pub use slots::{mark_slot, pattern_slot};
-
-#[cfg(test)]
-mod tests;

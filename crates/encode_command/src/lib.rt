@@ -10,6 +10,3 @@ mod words;
 pub use command::encode;
 pub use fault::EncodeFault;
 pub use words::{EncodeWords, encode_words};
-
-#[cfg(test)]
-mod tests;

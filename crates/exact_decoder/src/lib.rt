@@ -14,8 +14,6 @@ mod release;
 mod room;
 mod step;
 mod tail;
-#[cfg(test)]
-mod tests;
 
 pub use decoder::{Decoder, Lost};
 pub use tail::Tail;

@@ -13,6 +13,3 @@ mod sizes;
 pub use check::{Check, append, passes};
 pub use octets::{Info, Octets, Whole};
 pub use sizes::{INFO, SLOT, WHOLE};
-
-#[cfg(test)]
-mod tests;

@@ -9,6 +9,3 @@ mod words;
 
 pub use text::write_frame_text;
 pub use words::{FrameText, TEXT};
-
-#[cfg(test)]
-mod tests;

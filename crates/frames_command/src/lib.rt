@@ -14,6 +14,3 @@ pub use command::frames;
 pub use fault::FramesFault;
 pub use reading::Reading;
 pub use words::{FramesWords, frames_words};
-
-#[cfg(test)]
-mod tests;

@@ -18,6 +18,3 @@ mod unnumbered;
 pub use fault::FrameFault;
 pub use frame::{Frame, Role};
 pub use spelling::{read, write};
-
-#[cfg(test)]
-mod tests;

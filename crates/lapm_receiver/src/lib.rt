@@ -9,6 +9,3 @@ mod took;
 
 pub use receiver::Receiver;
 pub use took::Took;
-
-#[cfg(test)]
-mod tests;

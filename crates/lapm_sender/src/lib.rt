@@ -11,6 +11,3 @@ mod sender;
 
 pub use faults::{BadAck, Spent};
 pub use sender::Sender;
-
-#[cfg(test)]
-mod tests;

@@ -16,6 +16,3 @@ pub use heard::Heard;
 pub use noise_script::Cause;
 pub use script::{Loss, Script, ScriptFault, read_script};
 pub use world::{Names, RunFault, Step, World};
-
-#[cfg(test)]
-mod tests;

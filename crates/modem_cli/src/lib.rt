@@ -6,6 +6,3 @@ mod top;
 
 pub use command_base::Status;
 pub use top::modem;
-
-#[cfg(test)]
-mod tests;

@@ -5,6 +5,3 @@
 mod modulator;
 
 pub use modulator::{Modulator, quad_of};
-
-#[cfg(test)]
-mod tests;

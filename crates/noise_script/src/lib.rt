@@ -25,6 +25,3 @@ pub use limits::{HIT_LINES, LOSE_LINES, NOISE_LINES, OFFSET_MOST, SCRIPT_OCTETS}
 pub use offset::Offset;
 pub use reader::read_script;
 pub use script::Script;
-
-#[cfg(test)]
-mod tests;

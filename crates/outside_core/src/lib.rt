@@ -13,11 +13,10 @@ mod folder;
 mod memory;
 mod store;
 mod sure;
-#[cfg(test)]
-mod tests;
 mod transfer;
 
 pub use disk::DiskFolder;
 pub use folder::{Folder, FolderFault, NoMemory};
 pub use memory::MemoryFolder;
 pub use sure::SureFolder;
+pub use transfer::{copy_from, fill, write_all};

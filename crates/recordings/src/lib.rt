@@ -7,6 +7,3 @@ mod recorder;
 
 pub use header::{HEADER, header_octets};
 pub use recorder::{RECORDED, Recorder};
-
-#[cfg(test)]
-mod tests;

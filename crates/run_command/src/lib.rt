@@ -13,6 +13,3 @@ mod words;
 pub use command::run;
 pub use ending::{Ending, Refusal};
 pub use words::{RunWords, run_words};
-
-#[cfg(test)]
-mod tests;

@@ -17,6 +17,3 @@ mod transmitter;
 pub use heard::Heard;
 pub use hearer::{DEPTH, LineDecoder};
 pub use line::Line;
-
-#[cfg(test)]
-mod tests;

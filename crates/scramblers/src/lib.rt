@@ -8,8 +8,6 @@ pub mod laws;
 mod mode;
 mod register;
 mod scrambler;
-#[cfg(test)]
-mod tests;
 
 pub use descrambler::Descrambler;
 pub use mode::{ANSWER_TAP, CALL_TAP, Mode};

@@ -8,6 +8,3 @@ mod sent;
 
 pub use end::{End, PERIOD, Spent, TRIES};
 pub use sent::Sent;
-
-#[cfg(test)]
-mod tests;

@@ -9,8 +9,6 @@ mod label_reader;
 pub mod laws;
 mod rotation;
 mod table;
-#[cfg(test)]
-mod tests;
 mod v32;
 
 pub use code::TrellisCode;

@@ -9,6 +9,3 @@ mod words;
 
 pub use command::xid;
 pub use words::xid_words;
-
-#[cfg(test)]
-mod tests;

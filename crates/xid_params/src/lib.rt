@@ -19,6 +19,3 @@ pub use offer::Offer;
 pub use reader::read_offer;
 pub use terms::Terms;
 pub use writer::write_offer;
-
-#[cfg(test)]
-mod tests;

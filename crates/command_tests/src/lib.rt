@@ -1,0 +1,18 @@
+//! Worked runs of each command, over files in memory. It has no call of its own: a crate's tests
+//! would prove its whole code once more.
+#![tactic(auto)]
+
+#[cfg(test)]
+mod choosing;
+#[cfg(test)]
+mod decoding;
+#[cfg(test)]
+mod encoding;
+#[cfg(test)]
+mod explaining;
+#[cfg(test)]
+mod listing;
+#[cfg(test)]
+mod running;
+#[cfg(test)]
+mod saying;

@@ -1,0 +1,126 @@
+// The lines that answers say, and single steps over a folder in memory.
+use command_base::{
+    Status, append_output, create_output, is_longer, read_file, read_piece, role_of, tell_status,
+    write_done, write_octets, write_pieces, write_samples,
+};
+use lapm_frames::Role;
+use noise_script::Cause;
+use outside_core::{FolderFault, MemoryFolder};
+use std::alloc::Global;
+use std::process::Abort;
+use std::test::Fail;
+use xid_params::XidFault;
+
+fn says(rt: &impl Abort, alloc: Global, status: Status, code: u8, said: &str) -> Result<(), Fail> {
+    let words = vec![in alloc;
+        String::from_str(alloc, "run")?,
+        String::from_str(alloc, "o")?,
+    ]?;
+    let mut folder = MemoryFolder::new(alloc);
+    assert!(rt; tell_status(&mut folder, &words, status) == status);
+    assert!(rt; status.code() == code);
+    assert!(rt; folder.said() == said.as_bytes());
+    Ok(())
+}
+
+#[test]
+fn each_status_says_its_line(rt: HostRuntime) -> Result<(), Fail> {
+    let lines = [
+        (
+            Status::BadScript {
+                line: 3,
+                cause: Cause::Range,
+            },
+            3,
+            "bad script: line 3: range\n",
+        ),
+        (Status::BadRecording { at: 12 }, 3, "bad recording: at 12\n"),
+        (Status::BadHex { at: 1 }, 3, "bad hex: at 1\n"),
+        (Status::BadXid(XidFault::Format), 3, "bad xid: format\n"),
+        (
+            Status::BadXid(XidFault::Repeated { at: 7 }),
+            3,
+            "bad xid: repeated at 7\n",
+        ),
+        (Status::TooLong { word: 1 }, 4, "too long: o\n"),
+        (Status::ReadFault, 5, "read fault\n"),
+        (Status::WriteFault, 6, "write fault\n"),
+        (
+            Status::LineLost {
+                role: Role::Answerer,
+                symbol: 128,
+            },
+            7,
+            "line lost: answ symbol 128\n",
+        ),
+        (
+            Status::LinkLost {
+                role: Role::Originator,
+                segment: 0,
+                turn: 120,
+            },
+            9,
+            "link lost: orig segment 0 turn 120\n",
+        ),
+        (Status::NoMemory, 11, "no memory\n"),
+    ];
+    for (status, code, said) in lines {
+        says(&rt, rt.alloc(), status, code, said)?;
+    }
+    assert!(&rt; Status::Done.code() == 0);
+    assert!(&rt; Status::Usage.code() == 2);
+    Ok(())
+}
+
+#[test]
+fn done_lines_have_their_numbers(rt: HostRuntime) {
+    assert!(&rt; write_done(12).as_slice() == b"done 12\n".as_slice());
+    assert!(&rt; write_samples(0).as_slice() == b"samples 0\n".as_slice());
+    assert!(&rt; write_octets(64).as_slice() == b"octets 64\n".as_slice());
+    assert!(&rt; write_pieces(1).as_slice() == b"pieces 1\n".as_slice());
+}
+
+#[test]
+fn a_fault_in_the_middle_of_a_line_is_the_answer(rt: HostRuntime) -> Result<(), Fail> {
+    let words = vec![in rt.alloc(); String::from_str(rt.alloc(), "o")?]?;
+    let mut folder = MemoryFolder::new(rt.alloc());
+    folder.fail_at(&[3])?;
+    let told = tell_status(&mut folder, &words, Status::TooLong { word: 0 });
+    assert!(&rt; told == Status::WriteFault);
+    assert!(&rt; folder.said() == b"too long: o".as_slice());
+    Ok(())
+}
+
+#[test]
+fn inputs_end_at_their_limit(rt: HostRuntime) -> Result<(), Fail> {
+    let mut folder = MemoryFolder::new(rt.alloc());
+    folder.put("f", b"abcde")?;
+    assert!(&rt; is_longer(&mut folder, "f", 5) == Ok(false));
+    assert!(&rt; is_longer(&mut folder, "f", 4) == Ok(true));
+    let mut piece = [0u8; 3];
+    assert!(&rt; read_piece(&mut folder, "f", 4, 2, &mut piece) == Ok(2));
+    assert!(&rt; piece == [b'c', b'd', 0]);
+    assert!(&rt; read_piece(&mut folder, "g", 4, 2, &mut piece) == Err(FolderFault::Failed));
+    match read_file(rt.alloc(), &mut folder, "f", 4) {
+        Ok(file) => assert!(&rt; file.as_slice() == b"abcd".as_slice()),
+        Err(_) => assert!(&rt; false),
+    }
+    Ok(())
+}
+
+#[test]
+fn outputs_are_made_empty_and_grow(rt: HostRuntime) -> Result<(), Fail> {
+    let mut folder = MemoryFolder::new(rt.alloc());
+    folder.put("f", b"abcde")?;
+    assert!(&rt; create_output(&mut folder, "f") == Ok(()));
+    assert!(&rt; append_output(&mut folder, "f", b"xy") == Ok(()));
+    assert!(&rt; folder.get("f") == Some(b"xy".as_slice()));
+    Ok(())
+}
+
+#[test]
+fn ends_have_their_words(rt: HostRuntime) {
+    assert!(&rt; role_of("orig") == Some(Role::Originator));
+    assert!(&rt; role_of("answ") == Some(Role::Answerer));
+    assert!(&rt; role_of("origin") == None);
+}

@@ -1,0 +1,22 @@
+//! Worked values of the crates of the link: checks, slots of bits, patterns, frames, offers, breaks, and both ends of a window. It has no call of its own: a crate's tests
+//! would prove its whole code once more.
+#![tactic(auto)]
+
+#[cfg(test)]
+mod breaks;
+#[cfg(test)]
+mod checks;
+#[cfg(test)]
+mod octets;
+#[cfg(test)]
+mod offers;
+#[cfg(test)]
+mod patterns;
+#[cfg(test)]
+mod receiving;
+#[cfg(test)]
+mod sending;
+#[cfg(test)]
+mod slots;
+#[cfg(test)]
+mod texts;

@@ -1,0 +1,35 @@
+// The text of each kind of frame.
+use frame_text::{FrameText, write_frame_text};
+use lapm_frames::{Role, read};
+use std::test::Fail;
+
+/// The octets of a frame of the originator, and its text.
+const FRAMES: [(&[u8], &[u8]); 16] = [
+    (b"\x03\xfe\x01ab", b"i s=127 r=0 p=1 n=2"),
+    (b"\x03\x02\x14", b"i s=1 r=10 p=0 n=0"),
+    (b"\x03\x01\x01", b"rr cmd r=0 p=1"),
+    (b"\x01\x05\x14", b"rnr rsp r=10 p=0"),
+    (b"\x01\x09\x06", b"rej rsp r=3 p=0"),
+    (b"\x03\x0d\xff", b"srej cmd r=127 p=1"),
+    (b"\x03\x7f", b"sabme cmd p=1"),
+    (b"\x03\x43", b"disc cmd p=0"),
+    (b"\x01\x73", b"ua rsp p=1"),
+    (b"\x01\x0f", b"dm rsp p=0"),
+    (b"\x01\x87a", b"frmr rsp p=0 n=1"),
+    (b"\x03\x03abc", b"ui cmd p=0 n=3"),
+    (b"\x01\x13", b"ui rsp p=1 n=0"),
+    (b"\x03\xafabcdefghijkl", b"xid cmd p=0 n=12"),
+    (b"\x01\xaf", b"xid rsp p=0 n=0"),
+    (b"\x03\xf3ab", b"test cmd p=1 n=2"),
+];
+
+#[test]
+fn each_kind_has_its_text(rt: HostRuntime) -> Result<(), Fail> {
+    for (octets, text) in FRAMES {
+        let frame = read(octets, Role::Originator, 0).map_err(|_| "refused")?;
+        let mut out = FrameText::new();
+        write_frame_text(&frame, &mut out);
+        assert_eq!(rt; out.as_slice(), text);
+    }
+    Ok(())
+}

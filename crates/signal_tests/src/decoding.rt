@@ -1,0 +1,147 @@
+// Ties, losses and the states of small codes.
+ghost use Rattle.std.specs.Prelude.{◌≡◌, ◌≤◌, ◌<◌, [], None, IfOk, length};
+
+use exact_decoder::{Decoder, Lost};
+use outside_core::NoMemory;
+use std::alloc::Global;
+use std::process::Abort;
+use symbol_map::Sample;
+use trellis_tables::{LabelReader, TrellisCode, V32Code};
+
+const MIDDLE: Sample = Sample { re: 0, im: 0 };
+
+type Line = Decoder<V32Code, 8, 32, 128>;
+
+// Decodes two points, and reads the quads that the labels carry.
+fn check_quads(
+    rt: &impl Abort,
+    alloc: Global,
+    first: (i16, i16),
+    second: (i16, i16),
+    quads: [u8; 2],
+) -> Result<(), NoMemory> {
+    let mut decoder: Line = Decoder::new(alloc, V32Code, 0)?;
+    let (re, im) = first;
+    assert!(rt; decoder.push(Sample { re, im }).is_ok());
+    assert_eq!(rt; decoder.pending(), 0);
+    let (re, im) = second;
+    assert!(rt; decoder.push(Sample { re, im }).is_ok());
+    assert_eq!(rt; decoder.pending(), 0);
+    let tail = decoder.finish();
+    let mut reader = LabelReader::new();
+    assert_eq!(rt; tail.as_slice().len(), 2);
+    for (label, quad) in tail.as_slice().iter().zip(&quads) {
+        assert_eq!(rt; reader.push(*label), *quad);
+    }
+    Ok(())
+}
+
+#[test]
+fn two_points(rt: HostRuntime) -> Result<(), NoMemory> {
+    let alloc = rt.alloc();
+    check_quads(&rt, alloc, (-8192, 2048), (0, 2048), [0, 4])?;
+    check_quads(&rt, alloc, (-8192, 2048), (-8192, 2048), [0, 0])?;
+    check_quads(&rt, alloc, (-4096, 6144), (-4096, 6144), [1, 0])?;
+    check_quads(&rt, alloc, (-4096, 6144), (4096, -6144), [1, 2])
+}
+
+// After 128 samples in the middle of the map all survivors tie.
+fn after_ties(rt: &impl Abort, alloc: Global) -> Result<Line, NoMemory>
+    ensures count { IfOk result (λ d. d.count ≤ 128) }
+    ensures pending { IfOk result (λ d. d.pending ≡ []) }
+    ensures lost { IfOk result (λ d. d.lost ≡ None) }
+{
+    let mut decoder: Line = Decoder::new(alloc, V32Code, 0)?;
+    for symbol in 0..128u32 {
+        assert!(rt; decoder.push(MIDDLE).is_ok());
+        assert_eq!(rt; decoder.pending(), 0);
+    }
+    Ok(decoder)
+}
+
+#[test]
+fn of_ties_the_smallest_end_state(rt: HostRuntime) -> Result<(), NoMemory> {
+    let tail = after_ties(&rt, rt.alloc())?.finish();
+    let mut reader = LabelReader::new();
+    assert_eq!(&rt; tail.as_slice().len(), 128);
+    for label in tail.as_slice() {
+        assert_eq!(&rt; reader.push(*label), 4);
+    }
+    Ok(())
+}
+
+#[test]
+fn lost_with_the_symbol_after_the_depth(rt: HostRuntime) -> Result<(), NoMemory> {
+    let mut decoder = after_ties(&rt, rt.alloc())?;
+    assert_eq!(&rt; decoder.lost(), None);
+    assert_eq!(&rt; decoder.push(MIDDLE), Err(Lost { symbol: 128 }));
+    assert_eq!(&rt; decoder.pending(), 0);
+    assert_eq!(&rt; decoder.push(MIDDLE), Err(Lost { symbol: 128 }));
+    assert_eq!(&rt; decoder.lost(), Some(Lost { symbol: 128 }));
+    Ok(())
+}
+
+/// A code of one state, whose two labels tell nothing of each other.
+#[derive(Clone, Copy, Debug)]
+struct Signs;
+
+impl TrellisCode<1, 2> for Signs {
+    ghost use Rattle.std.proofs.Common.{lit≤};
+    ghost use Rattle.exact_decoder.specs.Signs.{signs_next, signs_point, signs_bounded, signs_within, signs_enters_once, signs_reaches, signs_differ};
+
+    const REACH: usize = 1;
+
+    ghost REACH = { 1 };
+
+    ghost table = { signs_next };
+
+    ghost points = { signs_point };
+
+    fn next(&self, _state: u8, _label: u8) -> Option<u8> {
+        Some(0)
+    }
+
+    fn before(&self, _state: u8, _label: u8) -> Option<u8> {
+        Some(0)
+    }
+
+    fn point(&self, label: u8) -> Sample {
+        if label == 0 {
+            Sample { re: -1000, im: 0 }
+        } else {
+            Sample { re: 1000, im: 0 }
+        }
+    }
+
+    ghost states_few = { (lit≤ tt, lit≤ tt) };
+
+    ghost labels_few = { (lit≤ tt, lit≤ tt) };
+
+    ghost reach_some = { lit≤ tt };
+
+    ghost reach_few = { lit≤ tt };
+
+    ghost bounded = { signs_bounded };
+
+    ghost within = { signs_within };
+
+    ghost enters_once = { signs_enters_once };
+
+    ghost reaches = { signs_reaches };
+
+    ghost points_differ = { signs_differ };
+}
+
+#[test]
+fn one_state_releases_each_label(rt: HostRuntime) -> Result<(), NoMemory> {
+    let mut decoder: Decoder<Signs, 1, 2, 1> = Decoder::new(rt.alloc(), Signs, 0)?;
+    assert!(&rt; decoder.push(Sample { re: 7, im: 500 }).is_ok());
+    assert_eq!(&rt; decoder.take(), Some(1));
+    assert_eq!(&rt; decoder.take(), None);
+    assert!(&rt; decoder.push(MIDDLE).is_ok());
+    assert_eq!(&rt; decoder.pending(), 1);
+    assert_eq!(&rt; decoder.take(), Some(0));
+    assert_eq!(&rt; decoder.pending(), 0);
+    assert_eq!(&rt; decoder.finish().as_slice().len(), 0);
+    Ok(())
+}

@@ -1,0 +1,20 @@
+//! Worked values of the crates between octets and samples: scramblers, coding, points, decoding and recordings. It has no call of its own: a crate's tests
+//! would prove its whole code once more.
+#![tactic(auto)]
+
+#[cfg(test)]
+mod decoding;
+#[cfg(test)]
+mod demodulation;
+#[cfg(test)]
+mod differences;
+#[cfg(test)]
+mod modulation;
+#[cfg(test)]
+mod points;
+#[cfg(test)]
+mod recorded;
+#[cfg(test)]
+mod scrambling;
+#[cfg(test)]
+mod trellis;

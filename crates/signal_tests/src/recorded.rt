@@ -1,0 +1,24 @@
+// Recordings of an octet in both modes.
+use recordings::{Recorder, header_octets};
+use scramblers::{ANSWER_TAP, CALL_TAP, Mode};
+
+#[test]
+fn headers_name_the_mode(rt: HostRuntime) {
+    let call = header_octets(Mode::Call);
+    assert!(&rt; call.as_slice() == [0x56, 0x33, 0x32, 0x52, 0, 0, 0, 0].as_slice());
+    let answer = header_octets(Mode::Answer);
+    assert!(&rt; answer.as_slice() == [0x56, 0x33, 0x32, 0x52, 1, 0, 0, 0].as_slice());
+}
+
+#[test]
+fn an_octet_becomes_two_samples(rt: HostRuntime) {
+    let mut call = Recorder::<CALL_TAP>::new();
+    let zero = call.push(0x00);
+    assert!(&rt; zero.as_slice() == [0x00, 0xe0, 0x00, 0x08, 0x00, 0xe0, 0x00, 0x08].as_slice());
+    let mut call = Recorder::<CALL_TAP>::new();
+    let one = call.push(0x01);
+    assert!(&rt; one.as_slice() == [0x00, 0xf0, 0x00, 0x18, 0x00, 0xf0, 0x00, 0x18].as_slice());
+    let mut answer = Recorder::<ANSWER_TAP>::new();
+    let one = answer.push(0x01);
+    assert!(&rt; one.as_slice() == [0x00, 0xf0, 0x00, 0x18, 0x00, 0x10, 0x00, 0xe8].as_slice());
+}

@@ -1,0 +1,68 @@
+// Slots through a line and back.
+ghost use Rattle.std.specs.Prelude.{◌≡◌, ◌+◌, ◌<◌, ◌^◌, List, [], OnOk};
+ghost use Rattle.frame_check.specs.declared.sizes.TheConstants.{SLOT};
+ghost use Rattle.detection.specs.Slots.{Signal};
+ghost use Rattle.sample_line.specs.Signals.{IsSendable};
+ghost use Rattle.sample_line.specs.Line.{LineStands};
+
+use bit_stuffing::BitSlot;
+use exact_decoder::Lost;
+use frame_check::{Check, SLOT};
+use lapm_frames::Role;
+use lapm_link::Sent;
+use noise_script::{Script, read_script};
+use sample_line::{Heard, Line, laws};
+use std::alloc::Global;
+use std::test::Fail;
+
+mod chance;
+mod frames;
+mod losses;
+mod noise;
+mod zero;
+
+/// Codes the next slot by one check, passes it, and judges it by the other check.
+fn through(
+    line: &mut Line,
+    script: &Script,
+    sent: &Sent,
+    coded: Check,
+    judged: Check,
+) -> Result<Heard, Lost>
+    requires symbols { line.old.writer.symbols ≡ SLOT }
+    requires few { line.old.passed < 2 ^ 40 }
+    requires sendable { IsSendable sent.now }
+    requires stands { (passed : List Signal) × LineStands line.old script.now passed [] }
+    ensures symbols { line.new.writer.symbols ≡ SLOT }
+    ensures passed { line.new.passed ≡ line.old.passed + 1 }
+    ensures stands { OnOk result ((passed : List Signal) × LineStands line.new script.now passed []) }
+{
+    laws::all_fits();
+    let mut slot = BitSlot::new();
+    line.code(sent, coded, 0, &mut slot);
+    line.pass(script, &slot, sent, false, judged, 0)
+}
+
+/// Whether a slot is heard as it was sent.
+fn is_as_sent(heard: &Heard, sent: &Sent) -> bool {
+    match heard {
+        Heard::Nothing => matches!(sent, Sent::Mark | Sent::Flags),
+        Heard::Passed(passed) => passed == sent,
+        Heard::Lost(_) | Heard::Chance => false,
+    }
+}
+
+/// What is heard of a line's first slot.
+fn first_slot(
+    alloc: Global,
+    sender: Role,
+    script: &Script,
+    sent: &Sent,
+    coded: Check,
+    judged: Check,
+) -> Result<Heard, Fail>
+    requires { IsSendable sent.now }
+{
+    let mut line = Line::new(alloc, sender, SLOT as u16)?;
+    Ok(through(&mut line, script, sent, coded, judged)?)
+}
