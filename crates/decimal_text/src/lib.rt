@@ -4,6 +4,3 @@
 mod put;
 
 pub use put::put_decimal;
-
-#[cfg(test)]
-mod tests;

@@ -2,8 +2,8 @@
 ghost use Rattle.std.specs.Prelude.{◌≡◌, ◌≤◌, ◌+◌, ◌++◌, length, decimal};
 ghost use Rattle.frame_text.specs.FrameText.{count_word, kind_word, number_word, poll_word};
 
-use frame_check::{Info, Octets};
 use decimal_text::put_decimal;
+use frame_check::{Info, Octets};
 
 /// The most octets of a frame's text.
 pub const TEXT: usize = 160;

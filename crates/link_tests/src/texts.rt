@@ -1,4 +1,6 @@
-// The text of each kind of frame.
+// The text of each kind of frame, and numbers as texts.
+use decimal_text::put_decimal;
+use frame_check::Octets;
 use frame_text::{FrameText, write_frame_text};
 use lapm_frames::{Role, read};
 use std::test::Fail;
@@ -31,5 +33,16 @@ fn each_kind_has_its_text(rt: HostRuntime) -> Result<(), Fail> {
         write_frame_text(&frame, &mut out);
         assert_eq!(rt; out.as_slice(), text);
     }
+    Ok(())
+}
+
+#[test]
+fn numbers_stand_behind_what_is_there(rt: HostRuntime) -> Result<(), Fail> {
+    let mut octets = Octets::<64>::new();
+    octets.extend(b"a ");
+    put_decimal(&mut octets, 0);
+    octets.push(b' ');
+    put_decimal(&mut octets, u64::MAX);
+    assert_eq!(rt; octets.as_slice(), b"a 0 18446744073709551615".as_slice());
     Ok(())
 }
