@@ -1,13 +1,13 @@
 -- Whatever samples follow, the octets that were given begin those that are given then.
-use Rattle.std.proofs.Common.{◌≡◌, ◌∙◌, ℕ, suc, zero, ◌+◌, ◌-◌, ◌*◌, ◌/◌, ◌%◌, ◌<◌, ◌≤◌, Bool, true, false, List, [], ◌∷◌, ◌++◌, length, length-append, map, take, drop, refl, sym, ap, subst, arith, append-nil, append_assoc, All, nat_eq, get_or, eqb-true}
-use Rattle.std.specs.List.{range_with_len, flat_map}
+use Rattle.std.proofs.Common.{◌≡◌, ◌∙◌, ℕ, ◌*◌, ◌/◌, ◌<◌, ◌≤◌, Bool, false, List, ◌++◌, length, map, take, drop, refl, sym, ap, subst, arith, append_assoc, eqb-true}
+use Rattle.std.specs.List.{range_with_len}
 use Rattle.std.proofs.Math.Seq.{take-append_seam}
 use Rattle.std.proofs.lemmas.Grind.{flat_map-append}
 use Rattle.std.proofs.lemmas.List.{take-append-drop, length-take, length-drop}
 use Rattle.std.proofs.lemmas.List.Elements.{All-append}
 use Rattle.std.proofs.lemmas.List.FromFn.{length-map-range_with_len, get_or-map-range_with_len}
 use Rattle.outside_core.specs.Prefix.{IsPrefixOf}
-use Rattle.frame_check.specs.Bits.{low_bits, octet_bits, bits_of, octets_of}
+use Rattle.frame_check.specs.Bits.{octet_bits, bits_of, octets_of}
 use Rattle.frame_check.proofs.BitLists.{bits_of-octets_of, octets_of-are_octets}
 use Rattle.scramblers.specs.Stream.{xor, bit_at_place, earlier}
 use Rattle.scramblers.specs.Scrambles.{Descrambles}
@@ -18,7 +18,7 @@ use Rattle.survivors.specs.Survivors.{IsReleased}
 use Rattle.survivors.proofs.Least.{some-released}
 use Rattle.survivors.proofs.Fronts.{stays-prefix}
 use Rattle.demodulator.specs.Demodulates.{line_of, Demodulates}
-use Rattle.demodulator.proofs.Readings.{four-each, first-stay}
+use Rattle.demodulator.proofs.Readings.{first-stay}
 use Rattle.scramblers.proofs.Readings.{Descrambles_once}
 use Rattle.decode_command.specs.Octets.{AreWholeOctets, Carries}
 use Rattle.decode_command.specs.Playing.{line_trellis}

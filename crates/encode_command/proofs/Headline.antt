@@ -10,6 +10,7 @@ use Rattle.command_base.specs.declared.status.Status.TheVariants as status
 use Rattle.command_base.specs.Status.{IsRefusal}
 use Rattle.command_base.specs.Lines.{samples_line}
 use Rattle.command_base.specs.Outputs.{KeepsAll}
+use Rattle.command_base.proofs.Answering.{done-plain, read-plain, tells-plain, tells-fault, tells-refusal, tells-other}
 use Rattle.encode_command.specs.declared.fault.EncodeFault.{EncodeFault}
 use Rattle.encode_command.specs.declared.fault.EncodeFault.TheVariants.{TooLong, ReadFault, WriteFault, NoMemory}
 use Rattle.encode_command.specs.Words.{EncodeNames}
@@ -39,34 +40,18 @@ left-later : (old before new : FolderState) (n : EncodeNames) → GoesOn old bef
 left-later old before new n g k (inl h) = inl (KeepsName-trans old before new n.rec g h k)
 left-later old before new n g k (inr h) = inr (λ file rec. let p = h file rec in (p.0, p.1, p.2, subst (λ (xs : List ℕ). IsPrefixOf xs p.0) (sym (octets-kept before new n.rec k (told_later g n.rec rec))) p.3))
 
--- the answer is the job's, unless the say failed
-said-by : (words : List (List ℕ)) (old new : FolderState) (n : EncodeNames) (s t : Status) (a : AnswersEncode words old new n s) → s ≡ t → t ≢ status.WriteFault → t ≢ status.NoMemory → status_of a.job ≡ t
-said-by words old new n s t a e w m = elim a.tells.said [
-  | inl h ↦ sym h.0 ∙ e
-  | inr h ↦ elim h [ inl f ↦ absurd (w (sym e ∙ f.0)) | inr f ↦ absurd (m (sym e ∙ f.0)) ]
-]
-
-done-write : status.Done ≢ status.WriteFault
-done-write e = cc
-
-done-memory : status.Done ≢ status.NoMemory
-done-memory e = cc
-
 whole-of : (words : List (List ℕ)) (old new : FolderState) (n : EncodeNames) (s : Status) → AnswersEncode words old new n s → s ≡ status.Done → HoldsWhole old new n
-whole-of words old new n s a e = by a.job refl (said-by words old new n s status.Done a e done-write done-memory)
+whole-of words old new n s a e = by a.job refl told.0
   where
-    done-read : status.ReadFault ≡ status.Done → ⊥
-    done-read e = cc
+    told : (status_of a.job ≡ status.Done) × Said a.before new (line_of words a.job)
+    told = tells-plain a.before new (line_of words a.job) (status_of a.job) s status.Done a.tells e done-plain
 
     by : (job : Result ℕ EncodeFault) → a.job ≡ job → status_of a.job ≡ status.Done → HoldsWhole old new n
     by (Ok samples) j d =
         let w : WritesAll old a.before n samples = subst (Ends old a.before n) j a.ends in
-        let told : Said a.before new (samples_line samples) = elim a.tells.said [
-          | inl h ↦ subst (λ (job : Result ℕ EncodeFault). Said a.before new (line_of words job)) j h.1
-          | inr h ↦ elim h [ inl f ↦ absurd (done-write (sym e ∙ f.0)) | inr f ↦ absurd (done-memory (sym e ∙ f.0)) ]
-        ] in (
+        let said : Said a.before new (samples_line samples) = subst (λ (job : Result ℕ EncodeFault). Said a.before new (line_of words job)) j told.1 in (
           samples,
-          told ∙ ap (option_map (λ x. x ++ samples_line samples)) a.only.said,
+          said ∙ ap (option_map (λ x. x ++ samples_line samples)) a.only.said,
           λ file rec. subst (λ (p : List ℕ × List ℕ). IsRecordingOf n.mode p.0 p.1 samples)
               (λ i. (w.records.read file i, (sym (octets-kept a.before new n.rec (a.tells.only.names n.rec) (told_later a.only.goes_on n.rec rec) ∙ w.rec (told_later a.only.goes_on n.rec rec))) i)) w.records.recorded,
         )
@@ -89,20 +74,11 @@ refused-of words old new n s a r name = KeepsName-trans old a.before new name a.
     by (Err NoMemory) e q = absurd q
 
     kept : KeepsAll old a.before
-    kept = elim a.tells.said [
-      | inl h ↦ by a.job a.ends (subst IsRefusal h.0 r)
-      | inr h ↦ elim h [ inl f ↦ absurd (subst IsRefusal f.0 r) | inr f ↦ absurd (subst IsRefusal f.0 r) ]
-    ]
+    kept = by a.job a.ends (tells-refusal a.before new (line_of words a.job) (status_of a.job) s a.tells r)
 
 read-of : (words : List (List ℕ)) (old new : FolderState) (n : EncodeNames) (s : Status) → AnswersEncode words old new n s → s ≡ status.ReadFault → Rose (old.read_faults n.file) (new.read_faults n.file)
-read-of words old new n s a e = by a.job a.ends (said-by words old new n s status.ReadFault a e read-write read-memory)
+read-of words old new n s a e = by a.job a.ends (tells-plain a.before new (line_of words a.job) (status_of a.job) s status.ReadFault a.tells e read-plain).0
   where
-    read-write : status.ReadFault ≢ status.WriteFault
-    read-write e = cc
-
-    read-memory : status.ReadFault ≢ status.NoMemory
-    read-memory e = cc
-
     by : (job : Result ℕ EncodeFault) → Ends old a.before n job → status_of job ≡ status.ReadFault → Rose (old.read_faults n.file) (new.read_faults n.file)
     by (Err ReadFault) h q = Rose-later _ _ (a.before.read_faults n.file) _ (omega arith) h.0 (a.tells.only.goes_on.reads n.file)
     by (Ok samples) h q = absurd cc
@@ -111,14 +87,11 @@ read-of words old new n s a e = by a.job a.ends (said-by words old new n s statu
     by (Err NoMemory) h q = absurd cc
 
 write-of : (words : List (List ℕ)) (old new : FolderState) (n : EncodeNames) (s : Status) → AnswersEncode words old new n s → s ≡ status.WriteFault → Rose (old.write_faults n.rec) (new.write_faults n.rec) ⊎ Rose old.say_faults new.say_faults
-write-of words old new n s a e = elim a.tells.said [
-  | inl h ↦ inl (by a.job a.ends (sym h.0 ∙ e))
-  | inr h ↦ elim h [ inl f ↦ inr (Rose-later old.say_faults a.before.say_faults new.say_faults new.say_faults a.only.goes_on.says f.1 (omega arith)) | inr f ↦ absurd (memory-write (sym f.0 ∙ e)) ]
+write-of words old new n s a e = elim (tells-fault a.before new (line_of words a.job) (status_of a.job) s a.tells e) [
+  | inl own ↦ inl (by a.job a.ends own)
+  | inr rose ↦ inr (Rose-later old.say_faults a.before.say_faults new.say_faults new.say_faults a.only.goes_on.says rose (omega arith))
 ]
   where
-    memory-write : status.NoMemory ≡ status.WriteFault → ⊥
-    memory-write e = cc
-
     by : (job : Result ℕ EncodeFault) → Ends old a.before n job → status_of job ≡ status.WriteFault → Rose (old.write_faults n.rec) (new.write_faults n.rec)
     by (Err WriteFault) h q = Rose-later _ _ (a.before.write_faults n.rec) _ (omega arith) h.0 (a.tells.only.goes_on.writes n.rec)
     by (Ok samples) h q = absurd cc
@@ -139,18 +112,9 @@ headline-of words old new n s a = record {
 
 -- no recording is told how the program is used
 pub not-usage : (words : List (List ℕ)) (old new : FolderState) (n : EncodeNames) (s : Status) → AnswersEncode words old new n s → s ≢ status.Usage
-not-usage words old new n s a e = elim a.tells.said [
-  | inl h ↦ by a.job (sym h.0 ∙ e)
-  | inr h ↦ elim h [ inl f ↦ write (sym f.0 ∙ e) | inr f ↦ memory (sym f.0 ∙ e) ]
-]
+not-usage words old new n s a = tells-other a.before new (line_of words a.job) (status_of a.job) s a.tells (by a.job)
   where
-    write : status.WriteFault ≡ status.Usage → ⊥
-    write e = cc
-
-    memory : status.NoMemory ≡ status.Usage → ⊥
-    memory e = cc
-
-    by : (job : Result ℕ EncodeFault) → status_of job ≡ status.Usage → ⊥
+    by : (job : Result ℕ EncodeFault) → status_of job ≢ status.Usage
     by (Ok samples) e = cc
     by (Err TooLong) e = cc
     by (Err ReadFault) e = cc

@@ -1,25 +1,23 @@
 -- From single steps to how a listing ends.
-use Rattle.std.proofs.Common.{◌≡◌, ◌∙◌, ℕ, ◌+◌, ◌-◌, ◌*◌, ◌<◌, ◌≤◌, min, nat_lt, Bool, true, false, IsTrue, List, [], ◌∷◌, ◌++◌, length, take, drop, Option, Some, None, Result, Ok, Err, refl, sym, ap, subst, arith, append-nil, append_assoc, length-append}
+use Rattle.std.proofs.Common.{◌≡◌, ◌∙◌, ℕ, ◌+◌, ◌-◌, ◌≤◌, min, nat_lt, Bool, true, false, IsTrue, List, [], ◌++◌, length, take, drop, Option, Some, None, Err, refl, sym, ap, subst, arith, append-nil, append_assoc, length-append}
 use Rattle.std.proofs.Math.Seq.{take-add}
 use Rattle.std.proofs.lemmas.Bool.Decides.{nat_tests}
 use Rattle.std.proofs.lemmas.List.{take-append-drop, take_all}
 use Rattle.std.specs.Option.{option_map}
 use Rattle.outside_core.specs.Prefix.{IsPrefixOf}
-use Rattle.outside_core.specs.Folder.{FolderState, octets_at, GoesOn, KeepsName, OnlyReads, OnlySays, HasCause, Rose, Said, PartlySaid}
+use Rattle.outside_core.specs.Folder.{FolderState, octets_at, OnlyReads, OnlySays, HasCause, Said}
 use Rattle.outside_core.specs.Steps.{GoesOn-refl, GoesOn-trans, KeepsName-trans, told_later, octets-kept, Rose-later}
 use Rattle.outside_core.specs.declared.folder.FolderFault.{FolderFault}
 use Rattle.outside_core.specs.declared.folder.FolderFault.TheVariants.{Failed, NoMemory}
 use Rattle.frame_check.specs.Bits.{bits_of}
 use Rattle.frame_check.proofs.BitLists.{bits_of-append}
 use Rattle.bit_stuffing.specs.Found.{Found, pieces_of}
-use Rattle.bit_stuffing.specs.Sent.{Added}
 use Rattle.bit_stuffing.proofs.Found.{pieces-none}
 use Rattle.bit_stuffing.proofs.Sent.{pieces-stay}
 use Rattle.lapm_frames.specs.declared.frame.Role.{Role}
 use Rattle.command_base.specs.declared.limits.TheConstants.{FILE_LIMIT}
 use Rattle.command_base.specs.Inputs.{IsWithin}
-use Rattle.frames_command.specs.declared.fault.FramesFault.{FramesFault}
-use Rattle.frames_command.specs.declared.fault.FramesFault.TheVariants.{TooLong, Unread, Unsaid}
+use Rattle.frames_command.specs.declared.fault.FramesFault.TheVariants.{Unread, Unsaid}
 use Rattle.frames_command.specs.Words.{FramesNames}
 use Rattle.frames_command.specs.Readings.{AreLines}
 use Rattle.frames_command.specs.Heard.{Listening, OnlyListens, Heard, PartlyHeard, HeardTo, Begun}

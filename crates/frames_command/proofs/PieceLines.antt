@@ -1,11 +1,6 @@
 -- Lines of pieces, one more at a time.
-use Rattle.std.proofs.Common.{◌≡◌, ◌∙◌, ℕ, Bool, List, [], ◌∷◌, ◌++◌, length, Option, Some, None, refl, sym, ap, subst, arith, append-nil, append_assoc, length-append}
-use Rattle.std.specs.Option.{option_map, option_map_or}
-use Rattle.outside_core.specs.Folder.{FolderState, Said, PartlySaid}
-use Rattle.bit_stuffing.specs.declared.piece.Piece.{Piece}
-use Rattle.bit_stuffing.specs.Found.{Found, found_at, pieces_of, listed}
-use Rattle.bit_stuffing.proofs.Found.{pieces-more}
-use Rattle.bit_stuffing.specs.Deframer.{Kept, DeframerStands}
+use Rattle.std.proofs.Common.{◌∙◌, ℕ, List, [], ◌∷◌, ◌++◌, refl, sym, ap, append-nil, append_assoc}
+use Rattle.bit_stuffing.specs.Found.{Found}
 use Rattle.lapm_frames.specs.declared.frame.Role.{Role}
 use Rattle.frames_command.specs.declared.reading.Reading.{Reading}
 use Rattle.frames_command.specs.Readings.{Reads, AreLines, reading_line}

@@ -484,22 +484,15 @@ plays-go (e ∷ es) p h = plays-go es (happens e p) (event-go p e p.originator.f
 
 no-breaks : BreaksGo [] 0 false [] None [] []
 no-breaks = record {
-  low = omega arith;
-  high = omega arith;
-  taken = omega arith;
-  waits_low = omega arith;
-  waits_high = omega arith;
-  given_is = refl;
+  given_are = record { low = omega arith; high = omega arith; taken = omega arith; waits_low = omega arith; waits_high = omega arith; is = refl };
   due = λ e. absurd (false≢true e);
   pending = tt;
-  brks = tt;
-  brks_in_order = tt;
-  acks = tt;
-  acks_in_order = tt;
+  brks = record { each = tt; in_order = tt };
+  acks = record { each = tt; in_order = tt };
 }
 
 prefix : (b : OwnBreaks) (t : TheirBreaks) (brks : List BrkOn) (acks : List AckOn) → Go b t brks acks → IsPrefixOf t.lengths b.lengths
-prefix b t brks acks h = (drop (length t.lengths) b.lengths, ap (λ l. l ++ drop (length t.lengths) b.lengths) h.given_is ∙ take-append-drop (length t.lengths) b.lengths)
+prefix b t brks acks h = (drop (length t.lengths) b.lengths, ap (λ l. l ++ drop (length t.lengths) b.lengths) h.given_are.is ∙ take-append-drop (length t.lengths) b.lengths)
 
 pub gives_breaks_always : GivesBreaksInOrder
 gives_breaks_always so sa events =

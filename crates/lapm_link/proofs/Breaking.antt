@@ -46,20 +46,32 @@ IsPending given None = Unit {0}
 IsPending given (Some (Ack number length_octet)) = (1 ≤ given) × (number ≡ (given - 1) % 2)
 IsPending given (Some (Brk number length_octet)) = ⊥
 
--- breaks of one end, what the other was given, and both kinds of words on the lines
-pub record BreaksGo (lengths : List ℕ) (answered : ℕ) (brk : Bool) (given : List ℕ) (ack : Option BreakWord) (forward : List BrkOn) (back : List AckOn) : Type 0 where
+-- The parts of what holds, each over what it speaks of: what doesn't change is handed on whole.
+
+-- what is answered, given and taken, in this order, and one break at a time
+pub record AreGiven (lengths : List ℕ) (answered : ℕ) (given : List ℕ) : Type 0 where
   pub low : answered ≤ length given
   pub high : length given ≤ answered + 1
   pub taken : length given ≤ length lengths
   pub waits_low : answered ≤ length lengths
   pub waits_high : length lengths ≤ answered + 1
-  pub given_is : given ≡ take (length given) lengths
+  pub is : given ≡ take (length given) lengths
+
+pub record AreBrks (lengths : List ℕ) (answered given : ℕ) (brks : List BrkOn) : Type 0 where
+  pub each : AllByRecursion (IsBrk lengths answered given) brks
+  pub in_order : BrksInOrder brks
+
+pub record AreAcks (answered given : ℕ) (acks : List AckOn) : Type 0 where
+  pub each : AllByRecursion (IsAck answered given) acks
+  pub in_order : AcksInOrder acks
+
+-- breaks of one end, what the other was given, and both kinds of words on the lines
+pub record BreaksGo (lengths : List ℕ) (answered : ℕ) (brk : Bool) (given : List ℕ) (ack : Option BreakWord) (forward : List BrkOn) (back : List AckOn) : Type 0 where
+  pub given_are : AreGiven lengths answered given
   pub due : brk ≡ true → answered < length lengths
   pub pending : IsPending (length given) ack
-  pub brks : AllByRecursion (IsBrk lengths answered (length given)) forward
-  pub brks_in_order : BrksInOrder forward
-  pub acks : AllByRecursion (IsAck answered (length given)) back
-  pub acks_in_order : AcksInOrder back
+  pub brks : AreBrks lengths answered (length given) forward
+  pub acks : AreAcks answered (length given) back
 
 abbrev pub Go : OwnBreaks → TheirBreaks → List BrkOn → List AckOn → Type 0
 Go b t brks acks = BreaksGo b.lengths b.answered b.brk t.lengths t.ack brks acks
@@ -81,19 +93,22 @@ go-asked b t brks acks turn l h = go (nat_lt b.answered (length b.lengths)) refl
   where
     more : length b.lengths ≤ b.answered → Go (record b { lengths = b.lengths ++ l ∷ []; brk = true; set = turn; count = 0 }) t brks acks
     more none = record {
-      low = h.low;
-      high = h.high;
-      taken = omega (arith, h.taken, length-append {A = ℕ});
-      waits_low = omega (arith, h.waits_low, length-append {A = ℕ});
-      waits_high = omega (arith, none, length-append {A = ℕ});
-      given_is = h.given_is ∙ sym (take-append-le (length t.lengths) b.lengths (l ∷ []) h.taken);
-      due = λ e. omega (arith, h.waits_low, length-append {A = ℕ});
+      given_are = record {
+        low = h.given_are.low;
+        high = h.given_are.high;
+        taken = omega (arith, h.given_are.taken, length-append {A = ℕ});
+        waits_low = omega (arith, h.given_are.waits_low, length-append {A = ℕ});
+        waits_high = omega (arith, none, length-append {A = ℕ});
+        is = h.given_are.is ∙ sym (take-append-le (length t.lengths) b.lengths (l ∷ []) h.given_are.taken);
+      };
+      due = λ e. omega (arith, h.given_are.waits_low, length-append {A = ℕ});
       pending = h.pending;
-      brks = all_weaker (IsBrk b.lengths b.answered (length t.lengths)) (IsBrk (b.lengths ++ l ∷ []) b.answered (length t.lengths)) brks
-          (λ e o. record { within = omega (arith, o.within, length-append {A = ℕ}); low = o.low; high = o.high; number = o.number; is = o.is ∙ sym (number-append b.lengths l e.place o.within) }) h.brks;
-      brks_in_order = h.brks_in_order;
+      brks = record {
+        each = all_weaker (IsBrk b.lengths b.answered (length t.lengths)) (IsBrk (b.lengths ++ l ∷ []) b.answered (length t.lengths)) brks
+            (λ e o. record { within = omega (arith, o.within, length-append {A = ℕ}); low = o.low; high = o.high; number = o.number; is = o.is ∙ sym (number-append b.lengths l e.place o.within) }) h.brks.each;
+        in_order = h.brks.in_order;
+      };
       acks = h.acks;
-      acks_in_order = h.acks_in_order;
     }
 
     go : (w : Bool) → nat_lt b.answered (length b.lengths) ≡ w → (r : Bool) → Go (cond (not w && r) (record b { lengths = b.lengths ++ l ∷ []; brk = true; set = turn; count = 0 }) b) t brks acks
@@ -103,20 +118,7 @@ go-asked b t brks acks turn l h = go (nat_lt b.answered (length b.lengths)) refl
 
 -- whether a BRK is due changes
 pub go-due : (b : OwnBreaks) (t : TheirBreaks) (brks : List BrkOn) (acks : List AckOn) (brk : Bool) → Go b t brks acks → (brk ≡ true → b.answered < length b.lengths) → BreaksGo b.lengths b.answered brk t.lengths t.ack brks acks
-go-due b t brks acks brk h due = record {
-  low = h.low;
-  high = h.high;
-  taken = h.taken;
-  waits_low = h.waits_low;
-  waits_high = h.waits_high;
-  given_is = h.given_is;
-  due = due;
-  pending = h.pending;
-  brks = h.brks;
-  brks_in_order = h.brks_in_order;
-  acks = h.acks;
-  acks_in_order = h.acks_in_order;
-}
+go-due b t brks acks brk h due = record { given_are = h.given_are; due = due; pending = h.pending; brks = h.brks; acks = h.acks }
 
 abbrev pub OnTicked : TheirBreaks → List BrkOn → List AckOn → Option OwnBreaks → Type 0
 OnTicked t brks acks None = Unit {0}
@@ -135,21 +137,18 @@ go-ticked b t brks acks turn period tries h = go (nat_lt b.answered (length b.le
 pub go-brk : (b : OwnBreaks) (t : TheirBreaks) (brks : List BrkOn) (acks : List AckOn) → b.brk ≡ true → Go b t brks acks
     → Go (after_brk b) t (brks ++ (record { place = b.answered; number = b.answered % 2; length_octet = slice_index_or b.lengths b.answered 0 }) ∷ []) acks
 go-brk b t brks acks e h = record {
-  low = h.low;
-  high = h.high;
-  taken = h.taken;
-  waits_low = h.waits_low;
-  waits_high = h.waits_high;
-  given_is = h.given_is;
+  given_are = h.given_are;
   due = λ z. absurd (false≢true z);
   pending = h.pending;
-  brks = all_snoc (IsBrk b.lengths b.answered (length t.lengths)) brks (record { place = b.answered; number = b.answered % 2; length_octet = slice_index_or b.lengths b.answered 0 }) h.brks
-      (record { within = h.due e; low = h.high; high = omega arith; number = refl; is = refl });
-  brks_in_order = brks-snoc brks (record { place = b.answered; number = b.answered % 2; length_octet = slice_index_or b.lengths b.answered 0 }) h.brks_in_order
-      (all_weaker (IsBrk b.lengths b.answered (length t.lengths)) (λ r. r.place ≤ b.answered) brks (λ r o. o.high) h.brks);
+  brks = record {
+    each = all_snoc (IsBrk b.lengths b.answered (length t.lengths)) brks new h.brks.each (record { within = h.due e; low = h.given_are.high; high = omega arith; number = refl; is = refl });
+    in_order = brks-snoc brks new h.brks.in_order (all_weaker (IsBrk b.lengths b.answered (length t.lengths)) (λ r. r.place ≤ b.answered) brks (λ r o. o.high) h.brks.each);
+  };
   acks = h.acks;
-  acks_in_order = h.acks_in_order;
 }
+  where
+    new : BrkOn
+    new = record { place = b.answered; number = b.answered % 2; length_octet = slice_index_or b.lengths b.answered 0 }
 
 -- a BRKACK goes on the line
 pub go-ack : (b : OwnBreaks) (t : TheirBreaks) (brks : List BrkOn) (acks : List AckOn) (number length_octet : ℕ) → t.ack ≡ Some (Ack number length_octet) → Go b t brks acks
@@ -157,54 +156,25 @@ pub go-ack : (b : OwnBreaks) (t : TheirBreaks) (brks : List BrkOn) (acks : List 
 go-ack b t brks acks number length_octet e h =
     let pending : (1 ≤ length t.lengths) × (number ≡ (length t.lengths - 1) % 2) = subst (IsPending (length t.lengths)) e h.pending in
     record {
-      low = h.low;
-      high = h.high;
-      taken = h.taken;
-      waits_low = h.waits_low;
-      waits_high = h.waits_high;
-      given_is = h.given_is;
+      given_are = h.given_are;
       due = h.due;
       pending = tt;
       brks = h.brks;
-      brks_in_order = h.brks_in_order;
-      acks = all_snoc (IsAck b.answered (length t.lengths)) acks (record { place = length t.lengths - 1; number = number }) h.acks
-          (record { high = omega (arith, pending.0); low = omega (arith, h.low, pending.0); number = pending.1 });
-      acks_in_order = acks-snoc acks (record { place = length t.lengths - 1; number = number }) h.acks_in_order
-          (all_weaker (IsAck b.answered (length t.lengths)) (λ r. r.place ≤ length t.lengths - 1) acks (λ r o. omega (arith, o.high)) h.acks);
+      acks = record {
+        each = all_snoc (IsAck b.answered (length t.lengths)) acks new h.acks.each (record { high = omega (arith, pending.0); low = omega (arith, h.given_are.low, pending.0); number = pending.1 });
+        in_order = acks-snoc acks new h.acks.in_order (all_weaker (IsAck b.answered (length t.lengths)) (λ r. r.place ≤ length t.lengths - 1) acks (λ r o. omega (arith, o.high)) h.acks.each);
+      };
     }
+  where
+    new : AckOn
+    new = record { place = length t.lengths - 1; number = number }
 
 -- words are lost, or pass unheard
 pub go-brk-lost : (b : OwnBreaks) (t : TheirBreaks) (e : BrkOn) (brks : List BrkOn) (acks : List AckOn) → Go b t (e ∷ brks) acks → Go b t brks acks
-go-brk-lost b t e brks acks h = record {
-  low = h.low;
-  high = h.high;
-  taken = h.taken;
-  waits_low = h.waits_low;
-  waits_high = h.waits_high;
-  given_is = h.given_is;
-  due = h.due;
-  pending = h.pending;
-  brks = h.brks.1;
-  brks_in_order = h.brks_in_order.1;
-  acks = h.acks;
-  acks_in_order = h.acks_in_order;
-}
+go-brk-lost b t e brks acks h = record { given_are = h.given_are; due = h.due; pending = h.pending; brks = record { each = h.brks.each.1; in_order = h.brks.in_order.1 }; acks = h.acks }
 
 pub go-ack-lost : (b : OwnBreaks) (t : TheirBreaks) (e : AckOn) (brks : List BrkOn) (acks : List AckOn) → Go b t brks (e ∷ acks) → Go b t brks acks
-go-ack-lost b t e brks acks h = record {
-  low = h.low;
-  high = h.high;
-  taken = h.taken;
-  waits_low = h.waits_low;
-  waits_high = h.waits_high;
-  given_is = h.given_is;
-  due = h.due;
-  pending = h.pending;
-  brks = h.brks;
-  brks_in_order = h.brks_in_order;
-  acks = h.acks.1;
-  acks_in_order = h.acks_in_order.1;
-}
+go-ack-lost b t e brks acks h = record { given_are = h.given_are; due = h.due; pending = h.pending; brks = h.brks; acks = record { each = h.acks.each.1; in_order = h.acks.in_order.1 } }
 
 -- a BRK is heard
 pub go-brk-heard : (b : OwnBreaks) (t : TheirBreaks) (place number length_octet : ℕ) (brks : List BrkOn) (acks : List AckOn)
@@ -212,48 +182,47 @@ pub go-brk-heard : (b : OwnBreaks) (t : TheirBreaks) (place number length_octet 
 go-brk-heard b t place number length_octet brks acks h = go (nat_eq number (length t.lengths % 2)) refl
   where
     same_place : number ≡ length t.lengths % 2 → place ≡ length t.lengths
-    same_place e = omega (arith, e, h.brks.0.number, h.brks.0.low, h.brks.0.high, h.low)
+    same_place e = omega (arith, e, h.brks.each.0.number, h.brks.each.0.low, h.brks.each.0.high, h.given_are.low)
 
     other_place : number ≢ length t.lengths % 2 → place + 1 ≡ length t.lengths
-    other_place e = let k : place ≢ length t.lengths = (λ z. e (h.brks.0.number ∙ ap (λ m. m % 2) z)) in omega (arith, k, h.brks.0.low, h.brks.0.high, h.low)
+    other_place e = let k : place ≢ length t.lengths = (λ z. e (h.brks.each.0.number ∙ ap (λ m. m % 2) z)) in omega (arith, k, h.brks.each.0.low, h.brks.each.0.high, h.given_are.low)
 
     given : place ≡ length t.lengths → BreaksGo b.lengths b.answered b.brk (t.lengths ++ length_octet ∷ []) (Some (Ack number length_octet)) brks acks
     given e =
         let longer : length (t.lengths ++ length_octet ∷ []) ≡ length t.lengths + 1 = omega (arith, length-append {A = ℕ}) in
-        let within : length t.lengths < length b.lengths = omega (arith, h.brks.0.within, e) in
+        let within : length t.lengths < length b.lengths = omega (arith, h.brks.each.0.within, e) in
         let less : (length t.lengths + 1) - 1 ≡ place = omega (arith, e) in
         record {
-          low = omega (arith, h.low, longer);
-          high = omega (arith, h.brks.0.high, e, longer);
-          taken = omega (arith, within, longer);
-          waits_low = h.waits_low;
-          waits_high = h.waits_high;
-          given_is = rw (longer, take_more b.lengths (length t.lengths) 0 within, ← h.given_is) (ap (λ x. t.lengths ++ x ∷ []) (h.brks.0.is ∙ ap (λ m. slice_index_or b.lengths m 0) e));
+          given_are = record {
+            low = omega (arith, h.given_are.low, longer);
+            high = omega (arith, h.brks.each.0.high, e, longer);
+            taken = omega (arith, within, longer);
+            waits_low = h.given_are.waits_low;
+            waits_high = h.given_are.waits_high;
+            is = rw (longer, take_more b.lengths (length t.lengths) 0 within, ← h.given_are.is) (ap (λ x. t.lengths ++ x ∷ []) (h.brks.each.0.is ∙ ap (λ m. slice_index_or b.lengths m 0) e));
+          };
           due = h.due;
-          pending = (omega (arith, longer), h.brks.0.number ∙ ap (λ m. m % 2) (sym (ap (λ m. m - 1) longer ∙ less)));
-          brks = all_both (IsBrk b.lengths b.answered (length t.lengths)) (λ c. place ≤ c.place) (IsBrk b.lengths b.answered (length (t.lengths ++ length_octet ∷ []))) brks
-              (λ c o q. record { within = o.within; low = omega (arith, q, e, longer); high = o.high; number = o.number; is = o.is }) h.brks.1 h.brks_in_order.0;
-          brks_in_order = h.brks_in_order.1;
-          acks = all_weaker (IsAck b.answered (length t.lengths)) (IsAck b.answered (length (t.lengths ++ length_octet ∷ []))) acks (λ c o. record { high = omega (arith, o.high, longer); low = o.low; number = o.number }) h.acks;
-          acks_in_order = h.acks_in_order;
+          pending = (omega (arith, longer), h.brks.each.0.number ∙ ap (λ m. m % 2) (sym (ap (λ m. m - 1) longer ∙ less)));
+          brks = record {
+            each = all_both (IsBrk b.lengths b.answered (length t.lengths)) (λ c. place ≤ c.place) (IsBrk b.lengths b.answered (length (t.lengths ++ length_octet ∷ []))) brks
+                (λ c o q. record { within = o.within; low = omega (arith, q, e, longer); high = o.high; number = o.number; is = o.is }) h.brks.each.1 h.brks.in_order.0;
+            in_order = h.brks.in_order.1;
+          };
+          acks = record {
+            each = all_weaker (IsAck b.answered (length t.lengths)) (IsAck b.answered (length (t.lengths ++ length_octet ∷ []))) acks (λ c o. record { high = omega (arith, o.high, longer); low = o.low; number = o.number }) h.acks.each;
+            in_order = h.acks.in_order;
+          };
         }
 
     again : place + 1 ≡ length t.lengths → BreaksGo b.lengths b.answered b.brk t.lengths (Some (Ack number length_octet)) brks acks
     again e =
         let less : length t.lengths - 1 ≡ place = omega (arith, e) in
         record {
-          low = h.low;
-          high = h.high;
-          taken = h.taken;
-          waits_low = h.waits_low;
-          waits_high = h.waits_high;
-          given_is = h.given_is;
+          given_are = h.given_are;
           due = h.due;
-          pending = (omega (arith, e), h.brks.0.number ∙ ap (λ m. m % 2) (sym less));
-          brks = h.brks.1;
-          brks_in_order = h.brks_in_order.1;
+          pending = (omega (arith, e), h.brks.each.0.number ∙ ap (λ m. m % 2) (sym less));
+          brks = record { each = h.brks.each.1; in_order = h.brks.in_order.1 };
           acks = h.acks;
-          acks_in_order = h.acks_in_order;
         }
 
     go : (w : Bool) → nat_eq number (length t.lengths % 2) ≡ w → BreaksGo b.lengths b.answered b.brk (with_given (cond w (Some length_octet) None) t.lengths) (Some (Ack number length_octet)) brks acks
@@ -267,20 +236,28 @@ go-ack-heard b t turn place number brks acks h = go (nat_lt b.answered (length b
   where
     ended : number ≡ b.answered % 2 → Go (record b { answered = b.answered + 1; brk = false; count = 0; rest = turn + 8 }) t brks acks
     ended e =
-        let at : place ≡ b.answered = omega (arith, e, h.acks.0.number, h.acks.0.low, h.acks.0.high, h.high) in
+        let at : place ≡ b.answered = omega (arith, e, h.acks.each.0.number, h.acks.each.0.low, h.acks.each.0.high, h.given_are.high) in
         record {
-          low = omega (arith, h.acks.0.high, at);
-          high = omega (arith, h.high);
-          taken = h.taken;
-          waits_low = omega (arith, h.acks.0.high, at, h.taken);
-          waits_high = omega (arith, h.waits_high);
-          given_is = h.given_is;
+          given_are = record {
+            low = omega (arith, h.acks.each.0.high, at);
+            high = omega (arith, h.given_are.high);
+            taken = h.given_are.taken;
+            waits_low = omega (arith, h.acks.each.0.high, at, h.given_are.taken);
+            waits_high = omega (arith, h.given_are.waits_high);
+            is = h.given_are.is;
+          };
           due = λ z. absurd (false≢true z);
           pending = h.pending;
-          brks = all_weaker (IsBrk b.lengths b.answered (length t.lengths)) (IsBrk b.lengths (b.answered + 1) (length t.lengths)) brks (λ c o. record { within = o.within; low = o.low; high = omega (arith, o.high); number = o.number; is = o.is }) h.brks;
-          brks_in_order = h.brks_in_order;
-          acks = all_both (IsAck b.answered (length t.lengths)) (λ c. place ≤ c.place) (IsAck (b.answered + 1) (length t.lengths)) acks (λ c o q. record { high = o.high; low = omega (arith, q, at); number = o.number }) h.acks.1 h.acks_in_order.0;
-          acks_in_order = h.acks_in_order.1;
+          brks = record {
+            each = all_weaker (IsBrk b.lengths b.answered (length t.lengths)) (IsBrk b.lengths (b.answered + 1) (length t.lengths)) brks
+                (λ c o. record { within = o.within; low = o.low; high = omega (arith, o.high); number = o.number; is = o.is }) h.brks.each;
+            in_order = h.brks.in_order;
+          };
+          acks = record {
+            each = all_both (IsAck b.answered (length t.lengths)) (λ c. place ≤ c.place) (IsAck (b.answered + 1) (length t.lengths)) acks
+                (λ c o q. record { high = o.high; low = omega (arith, q, at); number = o.number }) h.acks.each.1 h.acks.in_order.0;
+            in_order = h.acks.in_order.1;
+          };
         }
 
     go : (w : Bool) → nat_lt b.answered (length b.lengths) ≡ w → (c : Bool) → nat_eq number (b.answered % 2) ≡ c

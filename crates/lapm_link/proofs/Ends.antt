@@ -73,26 +73,26 @@ replies_in-snoc (s ∷ line) slot = ap (λ l. (record { told = s.told; asked = a
 -- A sender hears the oldest slot of the line back.
 
 pub back-forgotten : (w : ℕ) (srej : Bool) (o : Outgoing) (i : Incoming) (forward : List Slot) (slot : Slot) (rest : List Slot) → Goes w srej o i forward (slot ∷ rest) → Goes w srej o i forward rest
-back-forgotten w srej o i forward slot rest h = keeps-forgotten (flow w srej o i forward (slot ∷ rest)) (record { told = slot.told; asked = asked_of slot.sent slot.number }) (replies_in rest) refl h
+back-forgotten w srej o i forward slot rest h = keeps-forgotten (flow w srej o i forward rest) (record { told = slot.told; asked = asked_of slot.sent slot.number }) (replies_in rest) h
 
 -- its N(R) is found
 pub ack-found : (w : ℕ) (srej : Bool) (o : Outgoing) (i : Incoming) (forward : List Slot) (slot : Slot) (rest : List Slot) → Goes w srej o i forward (slot ∷ rest) → meant o.front o.high (slot.told % 128) ≡ Some slot.told
-ack-found w srej o i forward slot rest h = meant-found o.front o.high slot.told h.replies.0.low (omega (arith, h.replies.0.high, h.nexts)) (omega (arith, h.highs, h.window_high))
+ack-found w srej o i forward slot rest h = meant-found o.front o.high slot.told h.told.each.0.low (omega (arith, h.told.each.0.high, h.range.nexts)) (omega (arith, h.range.highs, h.width.high))
 
 pub back-advanced : (w : ℕ) (srej : Bool) (o : Outgoing) (i : Incoming) (forward : List Slot) (slot : Slot) (rest : List Slot) → Goes w srej o i forward (slot ∷ rest) → Goes w srej (advanced o slot.told) i forward rest
 back-advanced w srej o i forward slot rest h =
-    keeps-acked (flow w srej o i forward (slot ∷ rest)) (record { told = slot.told; asked = asked_of slot.sent slot.number }) (replies_in rest) (max o.from slot.told) (from_number slot.told o.chosen) refl h
-    (omega arith) (omega (arith, h.from_high, h.replies.0.high, h.nexts)) (from_number-choices o.front o.high slot.told o.chosen h.choices)
+    keeps-acked (flow w srej o i forward rest) (record { told = slot.told; asked = asked_of slot.sent slot.number }) (replies_in rest) (max o.from slot.told) (from_number slot.told o.chosen) h
+    (omega arith) (omega (arith, h.to_send.high, h.told.each.0.high, h.range.nexts)) (from_number-choices o.front o.high slot.told o.chosen h.to_send.choices)
 
 pub back-rejected : (w : ℕ) (srej : Bool) (o : Outgoing) (i : Incoming) (forward : List Slot) (slot : Slot) (rest : List Slot) → Goes w srej o i forward (slot ∷ rest) → Goes w srej (gone_back (advanced o slot.told)) i forward rest
 back-rejected w srej o i forward slot rest h =
-    keeps-acked (flow w srej o i forward (slot ∷ rest)) (record { told = slot.told; asked = asked_of slot.sent slot.number }) (replies_in rest) slot.told (from_number slot.told o.chosen) refl h
-    (omega arith) (omega (arith, h.replies.0.high, h.nexts)) (from_number-choices o.front o.high slot.told o.chosen h.choices)
+    keeps-acked (flow w srej o i forward rest) (record { told = slot.told; asked = asked_of slot.sent slot.number }) (replies_in rest) slot.told (from_number slot.told o.chosen) h
+    (omega arith) (omega (arith, h.told.each.0.high, h.range.nexts)) (from_number-choices o.front o.high slot.told o.chosen h.to_send.choices)
 
 pub back-replied : (w : ℕ) (srej : Bool) (o : Outgoing) (i : Incoming) (forward : List Slot) (slot : Slot) (rest : List Slot) → Goes w srej o i forward (slot ∷ rest) → Goes w srej (wait_ended (advanced o slot.told)) i forward rest
 back-replied w srej o i forward slot rest h =
-    keeps-acked (flow w srej o i forward (slot ∷ rest)) (record { told = slot.told; asked = asked_of slot.sent slot.number }) (replies_in rest) slot.told [] refl h
-    (omega arith) (omega (arith, h.replies.0.high, h.nexts)) tt
+    keeps-acked (flow w srej o i forward rest) (record { told = slot.told; asked = asked_of slot.sent slot.number }) (replies_in rest) slot.told [] h
+    (omega arith) (omega (arith, h.told.each.0.high, h.range.nexts)) tt
 
 -- an SREJ's number is found
 pub chosen_with : ℕ → Outgoing → Outgoing
@@ -102,14 +102,14 @@ pub back-selected : (w : ℕ) (srej : Bool) (o : Outgoing) (i : Incoming) (forwa
     → Goes w srej o i forward ((record { sent = slots.Frame (Srej command nr pf); number = n; told = told }) ∷ rest) → nr ≡ n % 128
     → (selected nr o ≡ Some (record o { chosen = with_number n o.chosen })) × Goes w srej (record o { chosen = with_number n o.chosen }) i forward rest
 back-selected w srej o i forward command pf nr n told rest h e =
-    let in_range : (told ≤ n) × (n < o.high) = h.replies.0.askable in
-    let low : o.front ≤ n = omega (arith, h.replies.0.low, in_range.0) in
-    let found : meant o.front (o.high - 1) (n % 128) ≡ Some n = meant-found o.front (o.high - 1) n low (omega (arith, in_range.1)) (omega (arith, h.highs, h.window_high)) in
+    let in_range : (told ≤ n) × (n < o.high) = h.told.each.0.askable in
+    let low : o.front ≤ n = omega (arith, h.told.each.0.low, in_range.0) in
+    let found : meant o.front (o.high - 1) (n % 128) ≡ Some n = meant-found o.front (o.high - 1) n low (omega (arith, in_range.1)) (omega (arith, h.range.highs, h.width.high)) in
     let some : nat_lt o.front o.high ≡ true = grind (arith, nat_tests, low, in_range.1) in (
       rw (some, e, found) refl,
       keeps-chosen (flow w srej o i forward rest) o.from (with_number n o.chosen)
-          (keeps-forgotten (flow w srej o i forward ((record { sent = slots.Frame (Srej command nr pf); number = n; told = told }) ∷ rest)) (record { told = told; asked = Some n }) (replies_in rest) refl h)
-          h.from_low h.from_high (with_number-all (IsChoice o.front o.high) n o.chosen (low, in_range.1) h.choices),
+          (keeps-forgotten (flow w srej o i forward rest) (record { told = told; asked = Some n }) (replies_in rest) h)
+          h.to_send.low h.to_send.high (with_number-all (IsChoice o.front o.high) n o.chosen (low, in_range.1) h.to_send.choices),
     )
 
 -- A receiver hears the oldest slot of the line to it.
@@ -120,7 +120,7 @@ line-passed w srej o i slot rest back e h = subst (λ l. Sound (record (flow w s
 
 segments-dropped : (p : Flow) (l rest : List Segment) → Sound (record p { segments = l ++ rest }) → Sound (record p { segments = rest })
 segments-dropped p [] rest h = h
-segments-dropped p (s ∷ l) rest h = segments-dropped p l rest (keeps-dropped (record p { segments = s ∷ l ++ rest }) s (l ++ rest) refl h)
+segments-dropped p (s ∷ l) rest h = segments-dropped p l rest (keeps-dropped p s (l ++ rest) h)
 
 pub line-lost : (w : ℕ) (srej : Bool) (o : Outgoing) (i : Incoming) (slot : Slot) (rest back : List Slot) → Goes w srej o i (slot ∷ rest) back → Goes w srej o i rest back
 line-lost w srej o i slot rest back h = segments-dropped (flow w srej o i rest back) (segment_of slot.sent slot.number) (segments_in rest) h
@@ -145,23 +145,23 @@ line-taken w srej o i ns nr pf info n told rest back h spelled window same = sub
     d = (n % 128 + 128 - length i.taken % 128) % 128
 
     p : Flow
-    p = flow w srej o i ((record { sent = slots.Frame (I ns nr pf info); number = n; told = told }) ∷ rest) back
+    p = flow w srej o i rest back
 
     s : Segment
     s = record { number = n; info = info }
 
     go : (z : Bool) → nat_eq d 0 ≡ z → (l : Bool) → nat_lt d i.window ≡ l → (y : Bool) → i.srej ≡ y → (k : Bool) → is_held (r + d) i.held ≡ k
         → Goes w srej o (after_kind (cond z InOrder (cond l (cond y (cond k Repeat Kept) Gap) Repeat)) d info i) rest back
-    go true z l t y u k v = keeps-taken p s (segments_in rest) refl h (distance-0 n r w o.front o.high h.segments.0.below h.segments.0.near h.highs h.fronts h.window_high (eqb-true d 0 z))
-    go false z false t y u k v = keeps-dropped p s (segments_in rest) refl h
-    go false z true t false u k v = keeps-dropped p s (segments_in rest) refl h
-    go false z true t true u true v = keeps-dropped p s (segments_in rest) refl h
+    go true z l t y u k v = keeps-taken p s (segments_in rest) h (distance-0 n r w o.front o.high h.line.each.0.below h.line.each.0.near h.range.highs h.range.fronts h.width.high (eqb-true d 0 z))
+    go false z false t y u k v = keeps-dropped p s (segments_in rest) h
+    go false z true t false u k v = keeps-dropped p s (segments_in rest) h
+    go false z true t true u true v = keeps-dropped p s (segments_in rest) h
     go false z true t true u false v =
         let near : d < w = subst (λ x. d < x) window (ltb-true d i.window t) in
-        let at : n ≡ r + d = distance-of n r w o.front o.high h.segments.0.below h.segments.0.near h.highs h.fronts (h.window_srej (sym same ∙ u)) near in
+        let at : n ≡ r + d = distance-of n r w o.front o.high h.line.each.0.below h.line.each.0.near h.range.highs h.range.fronts (h.width.selective (sym same ∙ u)) near in
         let far : d ≢ 0 = eqb-false d 0 z in
         subst (λ m. Sound (record p { segments = segments_in rest; held = with_held (record { number = m; info = info }) i.held })) at
-        (keeps-kept p s (segments_in rest) refl h (omega (arith, at, far)) (ap (λ m. is_held m i.held) at ∙ v))
+        (keeps-kept p s (segments_in rest) h (omega (arith, at, far)) (ap (λ m. is_held m i.held) at ∙ v))
 
 -- InOrder comes exactly where the meant number is the next one expected
 pub order-exact : (w : ℕ) (srej : Bool) (o : Outgoing) (i : Incoming) (nr : ℕ) (pf : Bool) (info : List ℕ) (n told : ℕ) (rest back : List Slot)
@@ -184,7 +184,7 @@ order-exact w srej o i nr pf info n told rest back h window same = (
     back_to e = let z : d ≡ 0 = omega arith in grind (arith, nat_tests)
 
     there : (z : Bool) → nat_eq d 0 ≡ z → (l y k : Bool) → cond z InOrder (cond l (cond y (cond k Repeat Kept) Gap) Repeat) ≡ InOrder → n ≡ r
-    there true z l y k e = distance-0 n r w o.front o.high h.segments.0.below h.segments.0.near h.highs h.fronts h.window_high (eqb-true d 0 z)
+    there true z l y k e = distance-0 n r w o.front o.high h.line.each.0.below h.line.each.0.near h.range.highs h.range.fronts h.width.high (eqb-true d 0 z)
     there false z true true true e = cc
     there false z true true false e = cc
     there false z true false k e = cc
@@ -197,7 +197,7 @@ order-exact w srej o i nr pf info n told rest back h window same = (
     kept false z true t true u true e = cc
     kept false z true t true u false e =
         let near : d < w = subst (λ x. d < x) window (ltb-true d i.window t) in
-        let at : n ≡ r + d = distance-of n r w o.front o.high h.segments.0.below h.segments.0.near h.highs h.fronts (h.window_srej (sym same ∙ u)) near in
+        let at : n ≡ r + d = distance-of n r w o.front o.high h.line.each.0.below h.line.each.0.near h.range.highs h.range.fronts (h.width.selective (sym same ∙ u)) near in
         let far : d ≢ 0 = eqb-false d 0 z in
         (omega (arith, at, far), omega (arith, at, near))
 
@@ -228,8 +228,8 @@ line-sent w srej o i line back n ns nr told pf h window e =
         let some : o.from < length o.pieces = ltb-true o.from (length o.pieces) t in
         let free : o.from < o.front + o.window = ltb-true o.from (o.front + o.window) u in
         subst (λ m. Sound (record p { segments = segments_in line ++ (record { number = n; info = slice_index_or o.pieces n [] }) ∷ []; high = max o.high (m + 1); from = m + 1; chosen = o.chosen })) (sym at)
-        (keeps-sent p n (n + 1) o.chosen h (omega (arith, h.from_low, at)) (omega (arith, some, at)) (omega (arith, free, at, window)) (omega (arith, h.from_low, at)) (omega arith)
-        (all_weaker (IsChoice o.front o.high) (IsChoice o.front (max o.high (n + 1))) o.chosen (λ m (a, b). (a, omega (arith, b))) h.choices))
+        (keeps-sent p n (n + 1) o.chosen h (omega (arith, h.to_send.low, at)) (omega (arith, some, at)) (omega (arith, free, at, window)) (omega (arith, h.to_send.low, at)) (omega arith)
+        (all_weaker (IsChoice o.front o.high) (IsChoice o.front (max o.high (n + 1))) o.chosen (λ m (a, b). (a, omega (arith, b))) h.to_send.choices))
     fresh_one true false t u c e = cc
     fresh_one false u t v c e = cc
 
@@ -237,9 +237,9 @@ line-sent w srej o i line back n ns nr told pf h window e =
     picks [] c e = fresh_one (nat_lt o.from (length o.pieces)) (nat_lt o.from (o.front + o.window)) refl refl c e
     picks (m ∷ rest) c e =
         let at : m ≡ n = cc in
-        let all = subst (AllByRecursion (IsChoice o.front o.high)) (sym c) h.choices in
+        let all = subst (AllByRecursion (IsChoice o.front o.high)) (sym c) h.to_send.choices in
         subst (λ m. Sound (record p { segments = segments_in line ++ (record { number = n; info = slice_index_or o.pieces n [] }) ∷ []; high = max o.high (m + 1); from = o.from; chosen = rest })) (sym at)
-        (keeps-sent p n o.from rest h (omega (arith, all.0.0, at)) (omega (arith, all.0.1, at, h.offered)) (omega (arith, all.0.1, at, h.highs)) h.from_low (omega (arith, h.from_high))
+        (keeps-sent p n o.from rest h (omega (arith, all.0.0, at)) (omega (arith, all.0.1, at, h.range.offers)) (omega (arith, all.0.1, at, h.range.highs)) h.to_send.low (omega (arith, h.to_send.high))
         (all_weaker (IsChoice o.front o.high) (IsChoice o.front (max o.high (n + 1))) rest (λ m (a, b). (a, omega (arith, b))) all.1))
 
     awaits : (t : Bool) (l : List ℕ) → l ≡ o.chosen → cond t None (next_among l o) ≡ Some n → Sound (q (sent_among l o))
@@ -282,5 +282,5 @@ asked-lies w srej o i forward back n h used e = go i.srej used e
   where
     go : (b : Bool) → b ≡ true → cond b (first_outside i.asked (missing_from (next_expected i) i.held)) (cond i.rej (Some (next_expected i)) None) ≡ Some n → (next_expected i ≤ n) × (n < o.high)
     go true t f = outside-lies (λ n. (next_expected i ≤ n) × (n < o.high)) i.asked (missing_from (next_expected i) i.held) n
-        (missing-lies (next_expected i) (next_expected i) o.high i.held (omega arith) (rising-lower (next_expected i + 1) (next_expected i) i.held (omega arith) h.rising) (all_weaker (IsHeldRight (flow w srej o i forward back)) (λ k. k.number < o.high) i.held (λ k q. q.below) h.held)) f
+        (missing-lies (next_expected i) (next_expected i) o.high i.held (omega arith) (rising-lower (next_expected i + 1) (next_expected i) i.held (omega arith) h.held.rising) (all_weaker (IsHeldRight o.high o.pieces) (λ k. k.number < o.high) i.held (λ k q. q.below) h.held.right)) f
     go false t f = absurd (false≢true t)

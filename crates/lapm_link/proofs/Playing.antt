@@ -249,24 +249,13 @@ window-fits false m n a b c d = (omega arith, omega arith, λ e. absurd (false�
 
 flow-starts : (w : ℕ) (srej : Bool) → (1 ≤ w) × (w ≤ 127) × (srej ≡ true → w ≤ 64) → Goes w srej outgoing.not_begun incoming.not_begun [] []
 flow-starts w srej fits = record {
-  window_low = fits.0;
-  window_high = fits.1;
-  window_srej = fits.2;
-  fronts = omega arith;
-  nexts = omega arith;
-  highs = omega arith;
-  offered = omega arith;
-  from_low = omega arith;
-  from_high = omega arith;
-  choices = tt;
+  width = record { low = fits.0; high = fits.1; selective = fits.2 };
+  range = record { fronts = omega arith; nexts = omega arith; highs = omega arith; offers = omega arith };
+  to_send = record { low = omega arith; high = omega arith; choices = tt };
   taken_is = refl;
-  held = tt;
-  held_in_order = tt;
-  rising = tt;
-  segments = tt;
-  segments_in_order = tt;
-  replies = tt;
-  replies_in_order = tt;
+  held = record { right = tt; in_order = tt; rising = tt };
+  line = record { each = tt; in_order = tt };
+  told = record { each = tt; in_order = tt };
 }
 
 pub starts-well : (so sa : Setup) → MayPlay so sa → GoodPlay so sa (start (fresh so) (fresh sa))

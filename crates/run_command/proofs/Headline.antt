@@ -12,11 +12,12 @@ use Rattle.run_command.specs.declared.limits.TheConstants.{LIMITS}
 use Rattle.line_world.specs.declared.world.RunFault.{RunFault}
 use Rattle.line_world.specs.declared.world.RunFault.TheVariants as faults
 use Rattle.command_base.specs.declared.status.Status.{Status}
-use Rattle.command_base.specs.declared.status.Status.TheVariants.{Done, Usage, ReadFault, WriteFault, NoMemory}
+use Rattle.command_base.specs.declared.status.Status.TheVariants.{Done, Usage, ReadFault, WriteFault}
 use Rattle.command_base.specs.Status.{IsRefusal}
 use Rattle.command_base.specs.Lines.{done_line}
 use Rattle.command_base.specs.Outputs.{Holds, HoldsPart, KeptOrEmpty, KeepsAll}
 use Rattle.command_base.specs.Tells.{Tells}
+use Rattle.command_base.proofs.Answering.{done-plain, read-plain, tells-plain, tells-fault, tells-refusal, tells-other}
 use Rattle.run_command.specs.declared.ending.Refusal.TheVariants as refusals
 use Rattle.run_command.specs.declared.ending.Ending.{Ending}
 use Rattle.run_command.specs.declared.ending.Ending.TheVariants.{Refused, Stopped}
@@ -159,56 +160,31 @@ refused-of old before n (Stopped faults.WriteFault) e r = absurd r
 refused-of old before n (Stopped (faults.LinkLost role segment turn)) e r = absurd r
 refused-of old before n (Stopped faults.NoMemory) e r = absurd r
 
--- an answer that isn't a fault of the say is the job's
-said-by : (words : List (List ℕ)) (old before new : FolderState) (n : RunNames) (job : Result ℕ Ending) (s t : Status) → Last words old before new n job s → s ≡ t → t ≢ WriteFault → t ≢ NoMemory → status_of job ≡ t
-said-by words old before new n job s t l e w m = elim l.tells.said [
-  | inl h ↦ sym h.0 ∙ e
-  | inr h ↦ elim h [ inl f ↦ absurd (w (sym e ∙ f.0)) | inr f ↦ absurd (m (sym e ∙ f.0)) ]
-]
-
-done-fault : Done ≢ WriteFault
-done-fault e = cc
-
-done-memory : Done ≢ NoMemory
-done-memory e = cc
-
-read-fault : ReadFault ≢ WriteFault
-read-fault e = cc
-
-read-memory : ReadFault ≢ NoMemory
-read-memory e = cc
-
 done-line : (words : List (List ℕ)) (old before new : FolderState) (n : RunNames) (number : ℕ) (s : Status) → Last words old before new n (Ok number) s → before.said ≡ old.said → s ≡ Done → Said old new (done_line number)
-done-line words old before new n number s l k e = elim l.tells.said [
-  | inl h ↦ h.1 ∙ ap (option_map (λ x. x ++ done_line number)) k
-  | inr h ↦ elim h [ inl f ↦ absurd (done-fault (sym e ∙ f.0)) | inr f ↦ absurd (done-memory (sym e ∙ f.0)) ]
-]
+done-line words old before new n number s l k e = (tells-plain before new (done_line number) Done s Done l.tells e done-plain).1 ∙ ap (option_map (λ x. x ++ done_line number)) k
 
 by-job : (words : List (List ℕ)) (old before new : FolderState) (n : RunNames) (job : Result ℕ Ending) (s : Status) → Last words old before new n job s → before.said ≡ old.said → s ≡ Done →
     HoldsWhole old new n.got_o n.answ × HoldsWhole old new n.got_a n.orig × SaysDone old new n
 by-job words old before new n (Ok number) s l k e =
     let w = whole-of words old before new n number s l in
     (w.0, w.1, (number, done-line words old before new n number s l k e, bound-of old before n number l.ends))
-by-job words old before new n (Err t) s l k e = absurd (not-done t (said-by words old before new n (Err t) s Done l e done-fault done-memory))
+by-job words old before new n (Err t) s l k e = absurd (not-done t (tells-plain before new (line_of words (Err t)) (status_of (Err t)) s Done l.tells e done-plain).0)
 
 read-by-job : (words : List (List ℕ)) (old before new : FolderState) (n : RunNames) (job : Result ℕ Ending) (s : Status) → Last words old before new n job s → s ≡ ReadFault → ReadRose old new n
-read-by-job words old before new n (Ok number) s l e = absurd (done-read (said-by words old before new n (Ok number) s ReadFault l e read-fault read-memory))
+read-by-job words old before new n (Ok number) s l e = absurd (done-read (tells-plain before new (line_of words (Ok number)) Done s ReadFault l.tells e read-plain).0)
   where
     done-read : Done ≡ ReadFault → ⊥
     done-read e = cc
-read-by-job words old before new n (Err t) s l e = read-of old before new n t l.later l.ends (said-by words old before new n (Err t) s ReadFault l e read-fault read-memory)
+read-by-job words old before new n (Err t) s l e = read-of old before new n t l.later l.ends (tells-plain before new (line_of words (Err t)) (status_of (Err t)) s ReadFault l.tells e read-plain).0
 
 write-by-job : (words : List (List ℕ)) (old before new : FolderState) (n : RunNames) (job : Result ℕ Ending) (s : Status) → Last words old before new n job s → s ≡ WriteFault → WriteRose old new n ⊎ Rose old.say_faults new.say_faults
-write-by-job words old before new n job s l e = elim l.tells.said [
-  | inl h ↦ inl (by job l.ends (sym h.0 ∙ e))
-  | inr h ↦ elim h [ inl f ↦ inr (omega (arith, l.earlier.says, f.1)) | inr f ↦ absurd (memory-write (sym f.0 ∙ e)) ]
+write-by-job words old before new n job s l e = elim (tells-fault before new (line_of words job) (status_of job) s l.tells e) [
+  | inl own ↦ inl (by job l.ends own)
+  | inr rose ↦ inr (omega (arith, l.earlier.says, rose))
 ]
   where
-    memory-write : NoMemory ≡ WriteFault → ⊥
-    memory-write e = cc
-
     by : (job : Result ℕ Ending) → Ends LIMITS old before n job → status_of job ≡ WriteFault → WriteRose old new n
-    by (Ok number) ends e = absurd (done-fault e)
+    by (Ok number) ends e = absurd (done-plain.write e)
     by (Err t) ends e = write-of old before new n t l.later ends e
 
 refused-by-job : (words : List (List ℕ)) (old before new : FolderState) (n : RunNames) (job : Result ℕ Ending) (s : Status) → Last words old before new n job s → IsRefusal s → KeepsAll old new
@@ -219,10 +195,7 @@ refused-by-job words old before new n job s l r name = KeepsName-trans old befor
     by (Err t) ends q = refused-of old before n t ends q
 
     kept : KeepsAll old before
-    kept = elim l.tells.said [
-      | inl h ↦ by job l.ends (subst IsRefusal h.0 r)
-      | inr h ↦ elim h [ inl f ↦ absurd (subst IsRefusal f.0 r) | inr f ↦ absurd (subst IsRefusal f.0 r) ]
-    ]
+    kept = by job l.ends (tells-refusal before new (line_of words job) (status_of job) s l.tells r)
 
 -- the headline holds of every answer
 pub headline-of : (words : List (List ℕ)) (old new : FolderState) (n : RunNames) (s : Status) → AnswersRun words old new n s → Headline old new n s
@@ -243,18 +216,9 @@ headline-of words old new n s a =
 
 -- no run is told how the program is used
 pub not-usage : (words : List (List ℕ)) (old new : FolderState) (n : RunNames) (s : Status) → AnswersRun words old new n s → s ≢ Usage
-not-usage words old new n s a e = elim a.tells.said [
-  | inl h ↦ by a.job (sym h.0 ∙ e)
-  | inr h ↦ elim h [ inl f ↦ write (sym f.0 ∙ e) | inr f ↦ memory (sym f.0 ∙ e) ]
-]
+not-usage words old new n s a = tells-other a.before new (line_of words a.job) (status_of a.job) s a.tells (by a.job)
   where
-    write : WriteFault ≡ Usage → ⊥
-    write e = cc
-
-    memory : NoMemory ≡ Usage → ⊥
-    memory e = cc
-
-    by : (job : Result ℕ Ending) → status_of job ≡ Usage → ⊥
+    by : (job : Result ℕ Ending) → status_of job ≢ Usage
     by (Ok turn) e = cc
     by (Err (Refused (refusals.BadScript line cause))) e = cc
     by (Err (Refused (refusals.TooLong word))) e = cc

@@ -1,27 +1,15 @@
 -- What every answer of the command leaves alone, and that it is never told how the program is used.
-use Rattle.std.proofs.Common.{◌≡◌, ◌≢◌, ◌∙◌, ◌⊎◌, inl, inr, ℕ, List, sym}
+use Rattle.std.proofs.Common.{◌≢◌, inl, inr, ℕ, List}
 use Rattle.outside_core.specs.Folder.{FolderState}
 use Rattle.command_base.specs.declared.status.Status.{Status}
 use Rattle.command_base.specs.declared.status.Status.TheVariants as status
 use Rattle.command_base.specs.Outputs.{KeepsAll}
-use Rattle.command_base.specs.Tells.{Tells}
+use Rattle.command_base.proofs.Answering.{tells-other}
 use Rattle.xid_command.specs.Answers.{AnswersXid, Refuses}
 
 pub names-kept : (words : List (List ℕ)) (old new : FolderState) (digits : List ℕ) (s : Status) → AnswersXid words old new digits s → KeepsAll old new
 names-kept words old new digits s (inl says) name = says.tells.only.names name
 names-kept words old new digits s (inr why) name = why.tells.only.names name
-
-tells-other : (old new : FolderState) (line : List ℕ) (answer s : Status) → Tells old new line answer s → answer ≢ status.Usage → s ≢ status.Usage
-tells-other old new line answer s t other e = elim t.said [
-  | inl h ↦ other (sym h.0 ∙ e)
-  | inr h ↦ elim h [ inl f ↦ write (sym f.0 ∙ e) | inr f ↦ memory (sym f.0 ∙ e) ]
-]
-  where
-    write : status.WriteFault ≡ status.Usage → ⊥
-    write e = cc
-
-    memory : status.NoMemory ≡ status.Usage → ⊥
-    memory e = cc
 
 refuses-other : (digits : List ℕ) (answer : Status) → Refuses digits answer → answer ≢ status.Usage
 refuses-other digits status.Usage r e = r

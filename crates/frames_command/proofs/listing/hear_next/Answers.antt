@@ -1,8 +1,7 @@
 use Rattle.std.proofs.Common.{List, ℕ, take, arith}
 use Rattle.std.proofs.lemmas.List.{length-take-le}
 use Rattle.outside_core.specs.Folder.{FolderState}
-use Rattle.frames_command.specs.Words.{FramesNames, named}
-use Rattle.frames_command.specs.Heard.{Listening}
+use Rattle.frames_command.specs.Words.{named}
 use Rattle.frames_command.proofs.Listed.{read-failed, heard-more, say-failed}
 use Rattle.frames_command.proofs.listing.hear_next.Goals as goal
 

@@ -16,7 +16,7 @@ returns-then-not-passes-clause-none c frame h =
 pub returns-clause-some : goal.returns-clause-some
 returns-clause-some c =
     let whole : List ℕ = c.args.whole.now in
-    let front : c.split_at.result.0.now ≡ in_front c.args.check whole = c.split_at.ensures.front ∙ ap (λ n. take n whole) c.in-Some.ensures.1 ∙ ap (λ n. take (length whole - n) whole) (c.len-used.ensures ∙ ap count_of c.check_heard-used.ensures) in
+    let front : c.split_at.result.0.now ≡ in_front c.args.check whole = c.split_at.ensures.front ∙ ap (λ n. take n whole) c.in-Some.ensures.1 ∙ ap (λ n. take (length whole - n) whole) (c.len.ensures ∙ ap count_of c.check_heard-used.ensures) in
     let spelled = subst (λ (xs : List ℕ). IfOk c.read.result (λ frame. FrameSpelling frame c.args.sender c.args.dlci xs)) front c.read.ensures.ok in
     subst (λ (o : Option Frame). IfSome o (SpellsFrame c.args.check c.args.sender c.args.dlci whole)) (sym c.ok.ensures.value)
     (read-some c.args.check c.args.sender c.args.dlci whole c.read.result (subst (λ (k : Check). Passes k whole) c.check_heard-used.ensures (c.if-not-passes.ensures.0 refl)) spelled)
@@ -24,6 +24,6 @@ returns-clause-some c =
 pub returns-clause-none : goal.returns-clause-none
 returns-clause-none c =
     let whole : List ℕ = c.args.whole.now in
-    let front : c.split_at.result.0.now ≡ in_front c.args.check whole = c.split_at.ensures.front ∙ ap (λ n. take n whole) c.in-Some.ensures.1 ∙ ap (λ n. take (length whole - n) whole) (c.len-used.ensures ∙ ap count_of c.check_heard-used.ensures) in
+    let front : c.split_at.result.0.now ≡ in_front c.args.check whole = c.split_at.ensures.front ∙ ap (λ n. take n whole) c.in-Some.ensures.1 ∙ ap (λ n. take (length whole - n) whole) (c.len.ensures ∙ ap count_of c.check_heard-used.ensures) in
     subst (λ (o : Option Frame). IfNone o ((frame : Frame) → SpellsFrame c.args.check c.args.sender c.args.dlci whole frame → ⊥)) (sym c.ok.ensures.value)
     (read-none c.args.check c.args.sender c.args.dlci whole c.read.result (λ frame s. c.read.ensures.all frame (subst (λ (xs : List ℕ). FrameSpelling frame c.args.sender c.args.dlci xs) (sym front) s)))

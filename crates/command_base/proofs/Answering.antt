@@ -1,0 +1,66 @@
+-- What an answer tells of the line that was said last, and of what it belongs to.
+use Rattle.std.proofs.Common.{◌≡◌, ◌≢◌, ◌⊎◌, ◌∙◌, inl, inr, ℕ, List, sym, subst}
+use Rattle.outside_core.specs.Folder.{FolderState, Said, Rose}
+use Rattle.command_base.specs.declared.status.Status.{Status}
+use Rattle.command_base.specs.declared.status.Status.TheVariants.{Done, Usage, ReadFault, WriteFault, NoMemory}
+use Rattle.command_base.specs.Status.{IsRefusal}
+use Rattle.command_base.specs.Tells.{Tells}
+
+-- an answer that isn't given where a line was not said whole
+pub record IsPlain (s : Status) : Type 0 where
+  pub write : s ≢ WriteFault
+  pub memory : s ≢ NoMemory
+
+done-write : Done ≢ WriteFault
+done-write e = cc
+
+done-memory : Done ≢ NoMemory
+done-memory e = cc
+
+pub done-plain : IsPlain Done
+done-plain = record { write = done-write; memory = done-memory }
+
+read-write : ReadFault ≢ WriteFault
+read-write e = cc
+
+read-memory : ReadFault ≢ NoMemory
+read-memory e = cc
+
+pub read-plain : IsPlain ReadFault
+read-plain = record { write = read-write; memory = read-memory }
+
+usage-write : Usage ≢ WriteFault
+usage-write e = cc
+
+usage-memory : Usage ≢ NoMemory
+usage-memory e = cc
+
+usage-plain : IsPlain Usage
+usage-plain = record { write = usage-write; memory = usage-memory }
+
+-- a plain answer is the one whose line was to be said, and it was said
+pub tells-plain : (old new : FolderState) (line : List ℕ) (answer s t : Status) → Tells old new line answer s → s ≡ t → IsPlain t → (answer ≡ t) × Said old new line
+tells-plain old new line answer s t tells e p = elim tells.said [
+  | inl h ↦ (sym h.0 ∙ e, h.1)
+  | inr h ↦ elim h [ inl f ↦ absurd (p.write (sym e ∙ f.0)) | inr f ↦ absurd (p.memory (sym e ∙ f.0)) ]
+]
+
+-- a write fault is the answer's own, or the say's
+pub tells-fault : (old new : FolderState) (line : List ℕ) (answer s : Status) → Tells old new line answer s → s ≡ WriteFault → (answer ≡ WriteFault) ⊎ Rose old.say_faults new.say_faults
+tells-fault old new line answer s tells e = elim tells.said [
+  | inl h ↦ inl (sym h.0 ∙ e)
+  | inr h ↦ elim h [ inl f ↦ inr f.1 | inr f ↦ absurd (memory (sym f.0 ∙ e)) ]
+]
+  where
+    memory : NoMemory ≡ WriteFault → ⊥
+    memory e = cc
+
+pub tells-refusal : (old new : FolderState) (line : List ℕ) (answer s : Status) → Tells old new line answer s → IsRefusal s → IsRefusal answer
+tells-refusal old new line answer s tells r = elim tells.said [
+  | inl h ↦ subst IsRefusal h.0 r
+  | inr h ↦ elim h [ inl f ↦ absurd (subst IsRefusal f.0 r) | inr f ↦ absurd (subst IsRefusal f.0 r) ]
+]
+
+-- how the program is used is told only where that is the answer
+pub tells-other : (old new : FolderState) (line : List ℕ) (answer s : Status) → Tells old new line answer s → answer ≢ Usage → s ≢ Usage
+tells-other old new line answer s tells other e = other (tells-plain old new line answer s Usage tells e usage-plain).0
