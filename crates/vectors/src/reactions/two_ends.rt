@@ -119,29 +119,60 @@ impl Station {
     }
 }
 
-/// Both hear what the other one sent last, and then speak.
-fn turn(
+/// Two ends, and what each sent last on its way to the other.
+#[derive(Drop)]
+struct Pair {
     originator: Station,
     answerer: Station,
-    release: bool,
-) -> Result<(Station, Station), &'static str> {
-    let at_originator = arrival(&answerer.sent);
-    let at_answerer = arrival(&originator.sent);
-    Ok((
-        originator.turn(&at_originator, release)?,
-        answerer.turn(&at_answerer, false)?,
-    ))
+}
+
+impl Pair {
+    fn new(alloc: Global) -> Result<Pair, NoMemory> {
+        Ok(Pair {
+            originator: Station::new(alloc, Role::Originator, b'a')?,
+            answerer: Station::new(alloc, Role::Answerer, b'b')?,
+        })
+    }
+
+    /// Both hear what the other one sent last, and then speak.
+    fn turn(self, release: bool) -> Result<Pair, &'static str> {
+        let at_originator = arrival(&self.answerer.sent);
+        let at_answerer = arrival(&self.originator.sent);
+        Ok(Pair {
+            originator: self.originator.turn(&at_originator, release)?,
+            answerer: self.answerer.turn(&at_answerer, false)?,
+        })
+    }
+
+    fn has_sent(&self, line_o: &Slot, line_a: &Slot) -> bool {
+        self.originator.sent == line_o.sent(b'a') && self.answerer.sent == line_a.sent(b'b')
+    }
+}
+
+/// The turn in which an end sent something else.
+#[derive(Debug, Drop)]
+struct SentAnother {
+    turn: usize,
+}
+
+/// Passes a turn for each of the lines, and compares what both send.
+fn pass_turns(alloc: Global) -> Result<Pair, Fail> {
+    let mut pair = Pair::new(alloc)?;
+    for (number, (line_o, line_a)) in LINES.iter().enumerate() {
+        pair = pair.turn(number >= RELEASE)?;
+        if !pair.has_sent(line_o, line_a) {
+            return Err(Fail::from(SentAnother { turn: number }));
+        }
+    }
+    Ok(pair)
 }
 
 #[test]
 fn two_files_of_one_octet(rt: HostRuntime) -> Result<(), Fail> {
-    let mut originator = Station::new(rt.alloc(), Role::Originator, b'a')?;
-    let mut answerer = Station::new(rt.alloc(), Role::Answerer, b'b')?;
-    for (number, (line_o, line_a)) in LINES.iter().enumerate() {
-        (originator, answerer) = turn(originator, answerer, number >= RELEASE)?;
-        assert_eq!(rt; originator.sent, line_o.sent(b'a'));
-        assert_eq!(rt; answerer.sent, line_a.sent(b'b'));
-    }
+    let Pair {
+        originator,
+        answerer,
+    } = pass_turns(rt.alloc())?;
     assert_eq!(rt; originator.standing.end().phase(), Phase::Closed);
     assert_eq!(rt; originator.got.as_slice(), b"b".as_slice());
     assert_eq!(rt; answerer.got.as_slice(), b"a".as_slice());
