@@ -1,6 +1,6 @@
 -- What the top call promises and answers, over the folder before and after it: by the words, what their command does.
-use Rattle.std.specs.Prelude.{◌≡◌, ◌≢◌, ℕ, List, Some, None, codes}
-use Rattle.outside_core.specs.Folder.{FolderState, KeepsName}
+use Rattle.std.specs.Prelude.{◌≡◌, ℕ, List, Some, None, codes}
+use Rattle.outside_core.specs.Folder.{FolderState}
 use Rattle.command_base.specs.declared.status.Status.{Status}
 use Rattle.command_base.specs.declared.status.Status.TheVariants.{Usage}
 use Rattle.command_base.specs.Outputs.{KeepsAll}
@@ -12,6 +12,7 @@ use Rattle.encode_command.specs.Words.{EncodeNames, names_of as encode_names}
 use Rattle.encode_command.specs.Headline.{Headline as EncodeHeadline}
 use Rattle.encode_command.specs.Answers.{AnswersEncode}
 use Rattle.decode_command.specs.Words.{DecodeNames, names_of as decode_names}
+use Rattle.decode_command.specs.Headline.{Headline as DecodeHeadline}
 use Rattle.decode_command.specs.Answers.{AnswersDecode}
 use Rattle.frames_command.specs.Words.{FramesNames, names_of as frames_names}
 use Rattle.frames_command.specs.Headline.{Headline as FramesHeadline}
@@ -32,7 +33,7 @@ usage_line = codes "usage: modem run, encode, decode, frames, xid\n"
 pub record Promises (words : List (List ℕ)) (old new : FolderState) (s : Status) : Type 0 where
   pub run : (n : RunNames) → run_names words ≡ Some n → RunHeadline old new n s
   pub encode : (n : EncodeNames) → encode_names words ≡ Some n → EncodeHeadline old new n s
-  pub decode : (n : DecodeNames) → decode_names words ≡ Some n → (other : List ℕ) → other ≢ n.file → KeepsName old new other
+  pub decode : (n : DecodeNames) → decode_names words ≡ Some n → DecodeHeadline old new n s
   pub frames : (n : FramesNames) → frames_names words ≡ Some n → FramesHeadline old new n s
   pub xid : (digits : List ℕ) → digits_named words ≡ Some digits → KeepsAll old new
   pub other : IsNoCommand words → KeepsAll old new

@@ -14,7 +14,8 @@ use xid_command::{xid, xid_words};
 /// Does what the words of a command line say, and answers how it ended. Each answer's line is said last.
 pub fn modem<F: Folder>(alloc: Global, words: &[String], folder: &mut F) -> Status
     // Each end of a run receives a prefix of the other's file, and done means that both are whole. What `encode` writes is
-    // the file's recording, or the beginning of it. What `frames` says are the pieces of the file's bits.
+    // the file's recording, or the beginning of it. What `decode` writes is carried by a code sequence that is no farther from the
+    // recording than any other, or is the beginning of that. What `frames` says are the pieces of the file's bits.
     ensures promises { Promises (map string_bytes words.now) (F.state folder.old) (F.state folder.new) result }
 
     // Each answer comes where it has to, with its line.
