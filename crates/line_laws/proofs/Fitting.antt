@@ -4,7 +4,7 @@ use Rattle.std.proofs.Math.Nat.{mul-suc}
 use Rattle.std.proofs.lemmas.List.Elements.{All-nil, All-cons, All-append}
 use Rattle.frame_check.specs.declared.check.Check.{Check}
 use Rattle.frame_check.specs.declared.check.Check.TheVariants.{Sixteen, ThirtyTwo}
-use Rattle.frame_check.specs.declared.sizes.TheConstants.{INFO, WHOLE}
+use Rattle.frame_check.specs.declared.sizes.TheConstants.{INFO}
 use Rattle.frame_check.specs.Division.{check_of, count_of}
 use Rattle.frame_check.proofs.Checks.{check_of-is, length-check_of}
 use Rattle.bit_stuffing.specs.declared.slot_writer.TheConstants.{TAIL}

@@ -1,5 +1,6 @@
 -- What is received in a slot is what was sent in it.
-use Rattle.std.proofs.Common.{◌≡◌, ◌∙◌, inr, ℕ, ◌*◌, ◌%◌, ◌<◌, nat_eq, Bool, true, false, List, [], ◌∷◌, ◌++◌, length, take, drop, map, replicate, Ok, Err, Result, refl, sym, ap, subst, arith, append-nil, append_assoc}
+use Rattle.std.proofs.Common.{◌≡◌, ◌∙◌, inr, ℕ, ◌+◌, ◌*◌, ◌%◌, ◌<◌, ◌≤◌, nat_eq, Bool, true, false, List, [], ◌∷◌, ◌++◌, length, take, drop, map, replicate, Ok, Err, Result, refl, sym, ap, subst, arith, length-append, append-nil, append_assoc}
+use Rattle.std.proofs.Math.Nat.{mul_assoc, mul-suc}
 use Rattle.std.proofs.Math.Seq.{take-append_seam, drop-append_seam}
 use Rattle.std.proofs.lemmas.Bool.{ne_eqb}
 use Rattle.std.proofs.lemmas.List.{map-append, take_all, take-append-drop, length-drop}
@@ -16,7 +17,7 @@ use Rattle.exact_decoder.specs.declared.decoder.Lost.{Lost}
 use Rattle.noiseless_line.proofs.Costs.{length-points}
 use Rattle.noiseless_line.proofs.Followed.{few-unreleased_at, released-sent_at, v32_has_laws}
 use Rattle.demodulator.specs.Demodulates.{Demodulates, line_of}
-use Rattle.demodulator.proofs.Readings.{comes-back, first-stay, four-each}
+use Rattle.demodulator.proofs.Readings.{first-stay, four-each}
 use Rattle.bit_stuffing.specs.Found.{Found, pieces_of}
 use Rattle.bit_stuffing.specs.Sent.{FoundIn, wholes}
 use Rattle.bit_stuffing.specs.Slots.{phase_after, sent_bits, slot_bits}
@@ -39,44 +40,39 @@ use Rattle.sample_line.specs.Outcomes.{IsPattern, IsOutcome}
 use Rattle.sample_line.specs.Recorded.{mode_of, Records}
 use Rattle.sample_line.specs.Received.{line_trellis, AreFrames, FoundBetween, Gives, Receives, SpellsFrame}
 use Rattle.sample_line.specs.Signals.{check_for, check_heard, checked, signal_of, IsSendable}
-use Rattle.sample_line.specs.Line.{Kept, Passes, PassesSlot, sender_of, size_of}
+use Rattle.sample_line.specs.Line.{bits_behind, Kept, Passes, PassesSlot, sender_of, size_of}
 use Rattle.sample_line.proofs.Finding.{wholes-append}
 use Rattle.sample_line.proofs.Once.{given-stays, outcome-once, received-once, recordings-grow}
 use Rattle.line_laws.specs.Fitting.{AreFit}
-use Rattle.line_laws.specs.Unhindered.{DisplacesNone, frames_in, patterns_in, unhindered}
+use Rattle.line_laws.specs.Unhindered.{DisplacesNoneBefore, frames_in, patterns_in, unhindered}
 use Rattle.line_laws.proofs.Patterns.{AreSeen}
-use Rattle.line_laws.proofs.Fitting.{fit-front}
+use Rattle.line_laws.proofs.Fitting.{fit-front, length-fit}
 use Rattle.line_laws.proofs.Recordings.{tap-some}
 use Rattle.line_laws.proofs.Settled.{Lags, settled-all, settled-finds, slot-adds}
-use Rattle.line_laws.proofs.Undisplaced.{recorded-noiseless, none-within}
+use Rattle.line_laws.proofs.Undisplaced.{carried, recorded-noiseless, none-within}
 
--- the labels of a recording carry its bits
-carried : (script : ScriptValue) (sender : Role) (bits : List Bool) (samples : List Sample) → (r : Records script sender bits samples) → Demodulates (tap_of (mode_of sender)) r.modulated.labels bits
-carried script sender bits samples r =
-    comes-back (tap_of (mode_of sender)) bits r.modulated.line r.modulated.quads r.modulated.labels r.modulated.end r.modulated.scrambled r.modulated.in_fours r.modulated.are_quads r.modulated.encoded
-
--- and those that its samples release carry the first of them
-released-carry : (script : ScriptValue) (sender : Role) (bits : List Bool) (samples : List Sample) (labels : List ℕ) → DisplacesNone script sender → Records script sender bits samples
+-- the labels that the samples release carry the first of the bits
+released-carry : (script : ScriptValue) (sender : Role) (count : ℕ) (bits : List Bool) (samples : List Sample) (labels : List ℕ) → DisplacesNoneBefore script sender count → length bits ≤ 4 * count → Records script sender bits samples
     → IsReleased line_trellis samples labels → Demodulates (tap_of (mode_of sender)) labels (take (4 * length labels) bits)
-released-carry script sender bits samples labels none r released =
+released-carry script sender count bits samples labels none few r released =
     let tap : ℕ = tap_of (mode_of sender) in
     let all : take (length samples) samples ≡ samples = take_all (length samples) samples (omega arith) in
-    let sent = released-sent_at 0 r.modulated.labels samples (length samples) labels (recorded-noiseless script sender bits samples none r)
+    let sent = released-sent_at 0 r.modulated.labels samples (length samples) labels (recorded-noiseless script sender count bits samples none few r)
     (subst (λ (xs : List Sample). IsReleased line_trellis xs labels) (sym all) released) in
     let first : take (length labels) r.modulated.labels ≡ labels = ap (take (length labels)) sent.1 ∙ take-append_seam labels sent.0 in
     subst (λ (xs : List ℕ). Demodulates tap xs (take (4 * length labels) bits)) first (first-stay tap (length labels) r.modulated.labels bits (tap-some sender) (carried script sender bits samples r))
 
 -- all but the last 96 bits were read
-lags : (script : ScriptValue) (sender : Role) (bits read : List Bool) (samples : List Sample) → DisplacesNone script sender → Records script sender bits samples → Gives sender samples read → Lags bits read
-lags script sender bits read samples none r g =
+lags : (script : ScriptValue) (sender : Role) (count : ℕ) (bits read : List Bool) (samples : List Sample) → DisplacesNoneBefore script sender count → length bits ≤ 4 * count → Records script sender bits samples → Gives sender samples read → Lags bits read
+lags script sender count bits read samples none within r g =
     let tap : ℕ = tap_of (mode_of sender) in
     let labels : List ℕ = r.modulated.labels in
     let n : ℕ = length g.labels in
-    let noiseless = recorded-noiseless script sender bits samples none r in
+    let noiseless = recorded-noiseless script sender count bits samples none within r in
     let all : take (length samples) samples ≡ samples = take_all (length samples) samples (omega arith) in
     let few = few-unreleased_at 0 labels samples (length samples) g.labels (omega arith) noiseless (subst (λ (xs : List Sample). IsReleased line_trellis xs g.labels) (sym all) g.released) in
     let long : length samples ≡ length labels = ap length noiseless.exact ∙ length-points labels in
-    let same : take (4 * n) bits ≡ read = Descrambles_once tap (line_of g.labels) (take (4 * n) bits) read (released-carry script sender bits samples g.labels none r g.released) g.read in
+    let same : take (4 * n) bits ≡ read = Descrambles_once tap (line_of g.labels) (take (4 * n) bits) read (released-carry script sender count bits samples g.labels none within r g.released) g.read in
     record {
       rest = drop (4 * n) bits;
       goes_on = sym (take-append-drop (4 * n) bits) ∙ ap (λ xs. xs ++ drop (4 * n) bits) same;
@@ -188,31 +184,47 @@ found-sent laws check sender dlci size passed s earlier later long fit is old ne
       patterns_are = sym (slot-patterns check sender dlci start s) ∙ ap (map (λ (sight : Sight). sight.seen)) (sym sights);
     }
 
+-- the bits of slots, and of the slots before the last
+bounds : (laws : AreSeen) (symbols : ℕ) (passed : List Signal) (signal : Signal) → 138 < symbols → AreFit (4 * symbols) 0 (passed ++ signal ∷ [])
+    → (length (signal_bits (4 * symbols) passed) ≤ 4 * (symbols * (length passed + 1))) × (length (signal_bits (4 * symbols) (passed ++ signal ∷ [])) ≤ 4 * (symbols * (length passed + 1)))
+bounds laws symbols passed signal long fit =
+    let all = length-fit laws.plain (4 * symbols) 0 (passed ++ signal ∷ []) (omega arith) (omega arith) fit in
+    let some = length-fit laws.plain (4 * symbols) 0 passed (omega arith) (omega arith) (fit-front (4 * symbols) 0 passed (signal ∷ []) fit) in
+    let one_more : length (passed ++ signal ∷ []) ≡ length passed + 1 = length-append {A = Signal} passed (signal ∷ []) in
+    (rw some (by-size symbols (length passed)), rw (all, one_more) (whole-size symbols (length passed)))
+  where
+    whole-size : (m n : ℕ) → 4 * m * (n + 1) ≤ 4 * (m * (n + 1))
+    whole-size m n = subst (λ k. k ≤ 4 * (m * (n + 1))) (sym (mul_assoc 4 m (n + 1))) (omega arith)
+
+    by-size : (m n : ℕ) → 4 * m * n ≤ 4 * (m * (n + 1))
+    by-size m n = subst (λ k. k ≤ 4 * (m * (n + 1))) (sym (mul_assoc 4 m n)) (let more = mul-suc m n in omega (arith, more))
+
 pub received-sent : (laws : AreSeen) (script : ScriptValue) (check : Check) (sender : Role) (dlci symbols : ℕ) (passed : List Signal) (s : Sent)
     (before upto : List Sample) (frames : List Frame) (patterns : List Seen)
-    → DisplacesNone script sender → 138 < symbols → AreFit (4 * symbols) 0 (passed ++ signal_of check sender dlci s ∷ []) → IsSendable s
+    → DisplacesNoneBefore script sender (symbols * (length passed + 1)) → 138 < symbols → AreFit (4 * symbols) 0 (passed ++ signal_of check sender dlci s ∷ []) → IsSendable s
     → Records script sender (signal_bits (4 * symbols) passed) before
     → Records script sender (signal_bits (4 * symbols) (passed ++ signal_of check sender dlci s ∷ [])) upto
     → Receives check sender dlci before upto frames patterns
     → (frames ≡ frames_in s) × (patterns ≡ patterns_in s)
 received-sent laws script check sender dlci symbols passed s before upto frames patterns none long fit is old new r =
+    let b = bounds laws symbols passed (signal_of check sender dlci s) long fit in
     received-once check sender dlci before upto frames (frames_in s) patterns (patterns_in s) r (record {
       earlier = r.earlier;
       later = r.later;
       gave = r.gave;
       gives = r.gives;
       found = found-sent laws check sender dlci (4 * symbols) passed s r.earlier r.later (omega arith) fit is
-          (lags script sender (signal_bits (4 * symbols) passed) r.earlier before none old r.gave)
-          (lags script sender (signal_bits (4 * symbols) (passed ++ signal_of check sender dlci s ∷ [])) r.later upto none new r.gives)
+          (lags script sender (symbols * (length passed + 1)) (signal_bits (4 * symbols) passed) r.earlier before none b.0 old r.gave)
+          (lags script sender (symbols * (length passed + 1)) (signal_bits (4 * symbols) (passed ++ signal_of check sender dlci s ∷ [])) r.later upto none b.1 new r.gives)
           (record { pieces = r.found.pieces; pieces_are = r.found.pieces_are; sights = r.found.sights; sights_are = r.found.sights_are });
     })
 
 -- and it is received
 
-gives-some : (script : ScriptValue) (sender : Role) (bits : List Bool) (samples : List Sample) → DisplacesNone script sender → Records script sender bits samples → (read : List Bool) × Gives sender samples read
-gives-some script sender bits samples none r =
+gives-some : (script : ScriptValue) (sender : Role) (count : ℕ) (bits : List Bool) (samples : List Sample) → DisplacesNoneBefore script sender count → length bits ≤ 4 * count → Records script sender bits samples → (read : List Bool) × Gives sender samples read
+gives-some script sender count bits samples none few r =
     let some = some-released line_trellis 8 32 2 samples (v32_has_laws 0 (omega arith)) in
-    (take (4 * length some.0) bits, record { labels = some.0; released = some.1; read = released-carry script sender bits samples some.0 none r some.1 })
+    (take (4 * length some.0) bits, record { labels = some.0; released = some.1; read = released-carry script sender count bits samples some.0 none few r some.1 })
 
 -- what is given goes on where the recording does
 given-grows : (laws : AreSeen) (script : ScriptValue) (sender : Role) (bits more earlier later : List Bool) (before upto : List Sample)
@@ -224,11 +236,11 @@ given-grows laws script sender bits more earlier later before upto old new gave 
 
 given-received : (laws : AreSeen) (script : ScriptValue) (check : Check) (sender : Role) (dlci size : ℕ) (passed : List Signal) (s : Sent)
     (before upto : List Sample) (earlier later : List Bool)
-    → DisplacesNone script sender → 552 < size → AreFit size 0 (passed ++ signal_of check sender dlci s ∷ []) → IsSendable s
+    → (count : ℕ) → DisplacesNoneBefore script sender count → length (signal_bits size passed) ≤ 4 * count → length (signal_bits size (passed ++ signal_of check sender dlci s ∷ [])) ≤ 4 * count → 552 < size → AreFit size 0 (passed ++ signal_of check sender dlci s ∷ []) → IsSendable s
     → Records script sender (signal_bits size passed) before → Records script sender (signal_bits size (passed ++ signal_of check sender dlci s ∷ [])) upto
     → Gives sender before earlier → Gives sender upto later
     → Receives check sender dlci before upto (frames_in s) (patterns_in s)
-given-received laws script check sender dlci size passed s before upto earlier later none long fit is old new gave gives =
+given-received laws script check sender dlci size passed s before upto earlier later count none few_before few_upto long fit is old new gave gives =
     let signal : Signal = signal_of check sender dlci s in
     let slot : List Bool = slot_bits size (phase_after size (slots_of size passed)) (slot_of size signal) in
     let joined : signal_bits size (passed ++ signal ∷ []) ≡ signal_bits size passed ++ slot
@@ -240,21 +252,23 @@ given-received laws script check sender dlci size passed s before upto earlier l
       gave = gave;
       gives = gives;
       found = found-sent laws check sender dlci size passed s earlier later long fit is
-          (lags script sender (signal_bits size passed) earlier before none old gave)
-          (lags script sender (signal_bits size (passed ++ signal ∷ [])) later upto none new gives)
+          (lags script sender count (signal_bits size passed) earlier before none few_before old gave)
+          (lags script sender count (signal_bits size (passed ++ signal ∷ [])) later upto none few_upto new gives)
           (given-grows laws script sender (signal_bits size passed) slot earlier later before upto old added gave gives);
     }
 
 pub sent-received : (laws : AreSeen) (script : ScriptValue) (check : Check) (sender : Role) (dlci symbols : ℕ) (passed : List Signal) (s : Sent)
     (before upto : List Sample)
-    → DisplacesNone script sender → 138 < symbols → AreFit (4 * symbols) 0 (passed ++ signal_of check sender dlci s ∷ []) → IsSendable s
+    → DisplacesNoneBefore script sender (symbols * (length passed + 1)) → 138 < symbols → AreFit (4 * symbols) 0 (passed ++ signal_of check sender dlci s ∷ []) → IsSendable s
     → Records script sender (signal_bits (4 * symbols) passed) before
     → Records script sender (signal_bits (4 * symbols) (passed ++ signal_of check sender dlci s ∷ [])) upto
     → Receives check sender dlci before upto (frames_in s) (patterns_in s)
 sent-received laws script check sender dlci symbols passed s before upto none long fit is old new =
-    let earlier = gives-some script sender (signal_bits (4 * symbols) passed) before none old in
-    let later = gives-some script sender (signal_bits (4 * symbols) (passed ++ signal_of check sender dlci s ∷ [])) upto none new in
-    given-received laws script check sender dlci (4 * symbols) passed s before upto earlier.0 later.0 none (omega arith) fit is old new earlier.1 later.1
+    let count : ℕ = symbols * (length passed + 1) in
+    let b = bounds laws symbols passed (signal_of check sender dlci s) long fit in
+    let earlier = gives-some script sender count (signal_bits (4 * symbols) passed) before none b.0 old in
+    let later = gives-some script sender count (signal_bits (4 * symbols) (passed ++ signal_of check sender dlci s ∷ [])) upto none b.1 new in
+    given-received laws script check sender dlci (4 * symbols) passed s before upto earlier.0 later.0 count none b.0 b.1 (omega arith) fit is old new earlier.1 later.1
 
 -- and has one outcome
 
@@ -274,7 +288,7 @@ as-expected true (sent.Frame frame) = (refl, refl)
 as-expected false (sent.Frame frame) = (refl, (refl, refl))
 
 pub heard-sent : (laws : AreSeen) (line : Kept) (script : ScriptValue) (passed waiting : List Signal) (signal : Signal) (check : Check) (dlci : ℕ) (loses : Bool) (s : Sent) (heard : Heard)
-    → DisplacesNone script (sender_of line) → 138 < line.writer.symbols → AreFit (size_of line) 0 (passed ++ signal ∷ [])
+    → DisplacesNoneBefore script (sender_of line) (line.writer.symbols * (length passed + 1)) → 138 < line.writer.symbols → AreFit (size_of line) 0 (passed ++ signal ∷ [])
     → signal ≡ signal_of check (sender_of line) dlci s → IsSendable s
     → PassesSlot line script passed signal waiting check dlci loses s heard → heard ≡ unhindered loses s
 heard-sent laws line script passed waiting signal check dlci loses s heard none long fit e is p =
@@ -297,10 +311,15 @@ never-chance true (sent.Frame frame) e = absurd cc
 never-chance false (sent.Frame frame) e = absurd cc
 
 pub passes-sent : (laws : AreSeen) (line : Kept) (script : ScriptValue) (passed waiting : List Signal) (signal : Signal) (check : Check) (dlci : ℕ) (loses : Bool) (s : Sent) (result : Result Heard Lost)
-    → DisplacesNone script (sender_of line) → 138 < line.writer.symbols → AreFit (size_of line) 0 (passed ++ signal ∷ [])
+    → DisplacesNoneBefore script (sender_of line) (line.writer.symbols * (length passed + 1)) → 138 < line.writer.symbols → AreFit (size_of line) 0 (passed ++ signal ∷ [])
     → signal ≡ signal_of check (sender_of line) dlci s → IsSendable s
     → Passes line script passed signal waiting check dlci loses s result → result ≡ Ok (unhindered loses s)
 passes-sent laws line script passed waiting signal check dlci loses s (Ok heard) none long fit e is p =
     ap (λ (h : Heard). let r : Result Heard Lost = Ok h in r) (heard-sent laws line script passed waiting signal check dlci loses s heard none long fit e is p)
 passes-sent laws line script passed waiting signal check dlci loses s (Err lost) none long fit e is p =
-    absurd (none-within (sender_of line) script (signal_bits (size_of line) passed) _ lost.symbol none p)
+    let size : ℕ = size_of line in
+    let joined : signal_bits size (passed ++ signal ∷ []) ≡ signal_bits size passed ++ bits_behind size passed signal
+    = ap (sent_bits size) (map-append (slot_of size) passed (signal ∷ [])) ∙ bits-append size 0 (slots_of size passed) (slot_of size signal) in
+    let few = (bounds laws line.writer.symbols passed signal long fit).1 in
+    absurd (none-within (sender_of line) script (line.writer.symbols * (length passed + 1)) (signal_bits size passed) (bits_behind size passed signal) lost.symbol none
+    (subst (λ (xs : List Bool). length xs ≤ 4 * (line.writer.symbols * (length passed + 1))) joined few) p)

@@ -1,52 +1,64 @@
--- Samples that no line of a script displaces.
-use Rattle.std.proofs.Common.{◌≡◌, ◌∙◌, ℕ, zero, suc, ◌+◌, ◌-◌, Bool, false, All, List, [], ◌∷◌, ◌++◌, map, refl, ap, arith, Some, None}
+-- Samples that no line of a script displaces, up to some symbol.
+use Rattle.std.proofs.Common.{◌≡◌, ◌∙◌, ℕ, zero, suc, ◌+◌, ◌*◌, ◌-◌, ◌<◌, ◌≤◌, nat_le, Bool, true, false, cond, ◌&&◌, All, List, [], ◌∷◌, ◌++◌, length, map, refl, ap, arith, length-append, Some, None}
+use Rattle.std.proofs.lemmas.Bool.Decides.{nat_tests}
 use Rattle.std.proofs.lemmas.List.Elements.{All-head, All-nil, All-same, All-tail}
-use Rattle.std.specs.Prelude.{ℤ, pos, ◌*ℤ◌, ◌&&◌, if◌then◌else◌}
+use Rattle.std.specs.Prelude.{ℤ, pos, ◌*ℤ◌}
 use Rattle.symbol_map.specs.declared.sample.Sample.{Sample}
 use Rattle.symbol_map.specs.Points.{map_points, point_of, plus}
 use Rattle.std.specs.Prelude.{slice_index_or}
+use Rattle.scramblers.specs.Mode.{tap_of}
 use Rattle.survivors.proofs.Fronts.{lost-once}
 use Rattle.noiseless_line.specs.Noiseless.{IsNoiseless}
 use Rattle.noiseless_line.proofs.Followed.{never-lost}
+use Rattle.demodulator.specs.Demodulates.{Demodulates}
+use Rattle.demodulator.proofs.Readings.{comes-back, four-each}
 use Rattle.lapm_frames.specs.declared.frame.Role.{Role}
 use Rattle.noise_script.specs.declared.entry.Hit.{Hit}
 use Rattle.noise_script.specs.declared.entry.Noise.{Noise}
 use Rattle.noise_script.specs.Offsets.{covers, drawn_offset, nothing, hit_offset, noise_offset, same_role, stream_of, sum_of, word_at}
 use Rattle.noise_script.specs.Offsets as offsets
 use Rattle.noise_script.specs.Script.{ScriptValue}
-use Rattle.sample_line.specs.Recorded.{displaced, displaced_from, Records}
+use Rattle.sample_line.specs.Recorded.{displaced, displaced_from, mode_of, Records}
 use Rattle.sample_line.specs.Received.{line_trellis, line_depth}
 use Rattle.sample_line.specs.Path.{LosesAt, LosesWithin}
-use Rattle.line_laws.specs.Unhindered.{DisplacesNone}
+use Rattle.line_laws.specs.Unhindered.{DisplacesNoneBefore}
 
--- lines of a script that are for the other role
+-- lines of a script that are for the other role, or for later symbols
 
-hits-none : (sender : Role) (symbol : ℕ) (hits : List Hit) → All (λ (hit : Hit). same_role hit.role sender ≡ false) hits → sum_of (map (hit_offset sender symbol) hits) ≡ nothing
-hits-none sender symbol [] h = refl
-hits-none sender symbol (hit ∷ hits) h =
-    let other : same_role hit.role sender ≡ false = All-head (λ (one : Hit). same_role one.role sender ≡ false) hit hits h in
-    let rest = hits-none sender symbol hits (All-tail (λ (one : Hit). same_role one.role sender ≡ false) hit hits h) in
+quiet : {X : Type 0} (b : Bool) (from n symbol count : ℕ) (there none : X) → (b ≡ true → count ≤ from) → symbol < count → cond (b && covers from n symbol) there none ≡ none
+quiet true from n symbol count there none late within =
+    let least : count ≤ from = late refl in
+    let before : nat_le from symbol ≡ false = grind (arith, nat_tests) in
+    rw before refl
+quiet false from n symbol count there none late within = refl
+
+hits-none : (sender : Role) (symbol count : ℕ) (hits : List Hit) → symbol < count → All (λ (hit : Hit). same_role hit.role sender ≡ true → count ≤ hit.from) hits → sum_of (map (hit_offset sender symbol) hits) ≡ nothing
+hits-none sender symbol count [] within h = refl
+hits-none sender symbol count (hit ∷ hits) within h =
+    let late : same_role hit.role sender ≡ true → count ≤ hit.from = All-head (λ (one : Hit). same_role one.role sender ≡ true → count ≤ one.from) hit hits h in
+    let rest = hits-none sender symbol count hits within (All-tail (λ (one : Hit). same_role one.role sender ≡ true → count ≤ one.from) hit hits h) in
     ap (λ offset. offsets.plus (hit_offset sender symbol hit) offset) rest
-    ∙ ap (λ (b : Bool). offsets.plus (if b && covers hit.from hit.count symbol then record { re = hit.re; im = hit.im } else nothing) nothing) other
+    ∙ ap (λ offset. offsets.plus offset nothing) (quiet (same_role hit.role sender) hit.from hit.count symbol count (record { re = hit.re; im = hit.im }) nothing late within)
 
-noises-none : (sender : Role) (symbol : ℕ) (noises : List Noise) → All (λ (noise : Noise). same_role noise.role sender ≡ false) noises → sum_of (map (noise_offset sender symbol) noises) ≡ nothing
-noises-none sender symbol [] h = refl
-noises-none sender symbol (noise ∷ noises) h =
-    let other : same_role noise.role sender ≡ false = All-head (λ (one : Noise). same_role one.role sender ≡ false) noise noises h in
-    let rest = noises-none sender symbol noises (All-tail (λ (one : Noise). same_role one.role sender ≡ false) noise noises h) in
+noises-none : (sender : Role) (symbol count : ℕ) (noises : List Noise) → symbol < count → All (λ (noise : Noise). same_role noise.role sender ≡ true → count ≤ noise.from) noises → sum_of (map (noise_offset sender symbol) noises) ≡ nothing
+noises-none sender symbol count [] within h = refl
+noises-none sender symbol count (noise ∷ noises) within h =
+    let late : same_role noise.role sender ≡ true → count ≤ noise.from = All-head (λ (one : Noise). same_role one.role sender ≡ true → count ≤ one.from) noise noises h in
+    let rest = noises-none sender symbol count noises within (All-tail (λ (one : Noise). same_role one.role sender ≡ true → count ≤ one.from) noise noises h) in
     ap (λ offset. offsets.plus (noise_offset sender symbol noise) offset) rest
-    ∙ ap (λ (b : Bool). offsets.plus (if b && covers noise.from noise.count symbol then drawn_offset noise.amplitude (word_at noise.seed (stream_of noise.role) (symbol - noise.from)) else nothing) nothing) other
+    ∙ ap (λ offset. offsets.plus offset nothing)
+    (quiet (same_role noise.role sender) noise.from noise.count symbol count (drawn_offset noise.amplitude (word_at noise.seed (stream_of noise.role) (symbol - noise.from))) nothing late within)
 
-pub others-displace_none : (script : ScriptValue) (sender : Role) → All (λ (hit : Hit). same_role hit.role sender ≡ false) script.hits
-    → All (λ (noise : Noise). same_role noise.role sender ≡ false) script.noises → DisplacesNone script sender
-others-displace_none script sender hits noises symbol =
-    ap (λ offset. offsets.plus offset (sum_of (map (noise_offset sender symbol) script.noises))) (hits-none sender symbol script.hits hits)
-    ∙ ap (offsets.plus nothing) (noises-none sender symbol script.noises noises)
+pub later-displace_none : (script : ScriptValue) (sender : Role) (count : ℕ) → All (λ (hit : Hit). same_role hit.role sender ≡ true → count ≤ hit.from) script.hits
+    → All (λ (noise : Noise). same_role noise.role sender ≡ true → count ≤ noise.from) script.noises → DisplacesNoneBefore script sender count
+later-displace_none script sender count hits noises symbol within =
+    ap (λ offset. offsets.plus offset (sum_of (map (noise_offset sender symbol) script.noises))) (hits-none sender symbol count script.hits within hits)
+    ∙ ap (offsets.plus nothing) (noises-none sender symbol count script.noises within noises)
 
-pub empty-displaces_none : (script : ScriptValue) (sender : Role) → script.hits ≡ [] → script.noises ≡ [] → DisplacesNone script sender
-empty-displaces_none script sender hits noises = others-displace_none script sender
-    (All-same (λ (hit : Hit). same_role hit.role sender ≡ false) script.hits [] hits (All-nil (λ (hit : Hit). same_role hit.role sender ≡ false)))
-    (All-same (λ (noise : Noise). same_role noise.role sender ≡ false) script.noises [] noises (All-nil (λ (noise : Noise). same_role noise.role sender ≡ false)))
+pub empty-displaces_none : (script : ScriptValue) (sender : Role) (count : ℕ) → script.hits ≡ [] → script.noises ≡ [] → DisplacesNoneBefore script sender count
+empty-displaces_none script sender count hits noises = later-displace_none script sender count
+    (All-same (λ (hit : Hit). same_role hit.role sender ≡ true → count ≤ hit.from) script.hits [] hits (All-nil (λ (hit : Hit). same_role hit.role sender ≡ true → count ≤ hit.from)))
+    (All-same (λ (noise : Noise). same_role noise.role sender ≡ true → count ≤ noise.from) script.noises [] noises (All-nil (λ (noise : Noise). same_role noise.role sender ≡ true → count ≤ noise.from)))
 
 -- points of the map stay where they are
 
@@ -68,28 +80,41 @@ one-stays (point ∷ points) (suc place) h = one-stays points place h.1
 point-stays : (label : ℕ) → displaced nothing (point_of label) ≡ point_of label
 point-stays label = one-stays map_points label all-stay
 
-points-stay : (script : ScriptValue) (sender : Role) (symbol : ℕ) (labels : List ℕ) → DisplacesNone script sender → displaced_from script sender symbol (map point_of labels) ≡ map point_of labels
-points-stay script sender symbol [] h = refl
-points-stay script sender symbol (label ∷ labels) h =
-    ap (λ offset. displaced offset (point_of label) ∷ displaced_from script sender (symbol + 1) (map point_of labels)) (h symbol)
+points-stay : (script : ScriptValue) (sender : Role) (count symbol : ℕ) (labels : List ℕ) → DisplacesNoneBefore script sender count → symbol + length labels ≤ count
+    → displaced_from script sender symbol (map point_of labels) ≡ map point_of labels
+points-stay script sender count symbol [] h few = refl
+points-stay script sender count symbol (label ∷ labels) h few =
+    ap (λ offset. displaced offset (point_of label) ∷ displaced_from script sender (symbol + 1) (map point_of labels)) (h symbol (omega arith))
     ∙ ap (λ point. point ∷ displaced_from script sender (symbol + 1) (map point_of labels)) (point-stays label)
-    ∙ ap (λ points. point_of label ∷ points) (points-stay script sender (symbol + 1) labels h)
+    ∙ ap (λ points. point_of label ∷ points) (points-stay script sender count (symbol + 1) labels h (omega arith))
 
--- so what is recorded is without noise
-pub recorded-noiseless : (script : ScriptValue) (sender : Role) (bits : List Bool) (samples : List Sample) → DisplacesNone script sender
+-- the labels of a recording carry its bits
+pub carried : (script : ScriptValue) (sender : Role) (bits : List Bool) (samples : List Sample) → (r : Records script sender bits samples) → Demodulates (tap_of (mode_of sender)) r.modulated.labels bits
+carried script sender bits samples r =
+    comes-back (tap_of (mode_of sender)) bits r.modulated.line r.modulated.quads r.modulated.labels r.modulated.end r.modulated.scrambled r.modulated.in_fours r.modulated.are_quads r.modulated.encoded
+
+-- what is recorded of undisplaced symbols is without noise
+pub recorded-noiseless : (script : ScriptValue) (sender : Role) (count : ℕ) (bits : List Bool) (samples : List Sample) → DisplacesNoneBefore script sender count → length bits ≤ 4 * count
     → (r : Records script sender bits samples) → IsNoiseless 0 r.modulated.labels samples
-recorded-noiseless script sender bits samples h r = record {
-  start_there = omega arith;
-  end = r.modulated.end;
-  leads = r.modulated.encoded.leads;
-  exact = r.samples_are ∙ ap (displaced_from script sender 0) r.modulated.points ∙ points-stay script sender 0 r.modulated.labels h;
-}
+recorded-noiseless script sender count bits samples h few r =
+    let fours = four-each (tap_of (mode_of sender)) r.modulated.labels bits (carried script sender bits samples r) in
+    record {
+      start_there = omega arith;
+      end = r.modulated.end;
+      leads = r.modulated.encoded.leads;
+      exact = r.samples_are ∙ ap (displaced_from script sender 0) r.modulated.points ∙ points-stay script sender count 0 r.modulated.labels h (omega (arith, few, fours));
+    }
 
-none-at : (sender : Role) (script : ScriptValue) (bits : List Bool) (symbol : ℕ) → DisplacesNone script sender → LosesAt sender script bits symbol → ⊥
-none-at sender script bits symbol h l =
-    let never = never-lost 0 line_depth l.recorded.modulated.labels l.samples (recorded-noiseless script sender bits l.samples h l.recorded) (omega arith) in
+none-at : (sender : Role) (script : ScriptValue) (count : ℕ) (bits : List Bool) (symbol : ℕ) → DisplacesNoneBefore script sender count → length bits ≤ 4 * count → LosesAt sender script bits symbol → ⊥
+none-at sender script count bits symbol h few l =
+    let never = never-lost 0 line_depth l.recorded.modulated.labels l.samples (recorded-noiseless script sender count bits l.samples h few l.recorded) (omega arith) in
     let both : Some symbol ≡ None = lost-once line_trellis line_depth l.samples (Some symbol) None l.lost never in
     absurd cc
 
-pub none-within : (sender : Role) (script : ScriptValue) (before bits : List Bool) (symbol : ℕ) → DisplacesNone script sender → LosesWithin sender script before bits symbol → ⊥
-none-within sender script before bits symbol h l = none-at sender script (before ++ l.first) symbol h l.loses
+pub none-within : (sender : Role) (script : ScriptValue) (count : ℕ) (before bits : List Bool) (symbol : ℕ) → DisplacesNoneBefore script sender count → length (before ++ bits) ≤ 4 * count
+    → LosesWithin sender script before bits symbol → ⊥
+none-within sender script count before bits symbol h few l =
+    let all = length-append {A = Bool} before bits in
+    let some = length-append {A = Bool} before l.first in
+    let two : length bits ≡ length l.first + length l.rest = ap length l.bits_are ∙ length-append {A = Bool} l.first l.rest in
+    none-at sender script count (before ++ l.first) symbol h (omega (arith, few, all, some, two)) l.loses

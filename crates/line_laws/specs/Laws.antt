@@ -1,5 +1,5 @@
--- Laws of lines whose symbols are not displaced.
-use Rattle.std.specs.Prelude.{◌≡◌, ℕ, ◌+◌, ◌-◌, ◌*◌, ◌/◌, ◌%◌, ◌<◌, ◌≤◌, Bool, List, [], ◌∷◌, ◌++◌, length, All, false, Result, Ok, Some}
+-- Laws of lines whose symbols are not displaced, up to some symbol.
+use Rattle.std.specs.Prelude.{◌≡◌, ℕ, ◌+◌, ◌-◌, ◌*◌, ◌/◌, ◌%◌, ◌<◌, ◌≤◌, Bool, List, [], ◌∷◌, ◌++◌, length, All, true, Result, Ok, Some}
 use Rattle.frame_check.specs.declared.check.Check.{Check}
 use Rattle.symbol_map.specs.declared.sample.Sample.{Sample}
 use Rattle.survivors.specs.Survivors.{LostIs}
@@ -25,15 +25,16 @@ use Rattle.sample_line.specs.Received.{Receives, line_trellis, line_depth}
 use Rattle.sample_line.specs.Path.{LosesAt, LosesWithin}
 use Rattle.sample_line.specs.Line.{Kept, Passes, PassesSlot, sender_of, size_of}
 use Rattle.line_laws.specs.Fitting.{Fits, AreFit, HasOctets, OfOctets, information_of}
-use Rattle.line_laws.specs.Unhindered.{DisplacesNone, frames_in, patterns_in, unhindered}
+use Rattle.line_laws.specs.Unhindered.{DisplacesNoneBefore, frames_in, patterns_in, unhindered}
 
--- a script whose hit lines and noise lines are for the other role displaces no symbol
-abbrev pub OthersLinesDisplaceNone : Type 0
-OthersLinesDisplaceNone = (script : ScriptValue) (sender : Role) → All (λ (hit : Hit). same_role hit.role sender ≡ false) script.hits
-    → All (λ (noise : Noise). same_role noise.role sender ≡ false) script.noises → DisplacesNone script sender
+-- a script displaces no symbol before the first that its hit lines and noise lines for the role name
+abbrev pub LaterLinesDisplaceNone : Type 0
+LaterLinesDisplaceNone = (script : ScriptValue) (sender : Role) (count : ℕ) → All (λ (hit : Hit). same_role hit.role sender ≡ true → count ≤ hit.from) script.hits
+    → All (λ (noise : Noise). same_role noise.role sender ≡ true → count ≤ noise.from) script.noises → DisplacesNoneBefore script sender count
 
+-- and no symbol at all where it has no such lines
 abbrev pub EmptyScriptDisplacesNone : Type 0
-EmptyScriptDisplacesNone = (script : ScriptValue) (sender : Role) → script.hits ≡ [] → script.noises ≡ [] → DisplacesNone script sender
+EmptyScriptDisplacesNone = (script : ScriptValue) (sender : Role) (count : ℕ) → script.hits ≡ [] → script.noises ≡ [] → DisplacesNoneBefore script sender count
 
 -- slots that fit
 
@@ -95,17 +96,17 @@ LossIsInEachRecording = (sender : Role) (script : ScriptValue) (before bits more
     → LosesWithin sender script before bits symbol → Records script sender ((before ++ bits) ++ more) samples
     → LostIs line_trellis line_depth samples (Some symbol)
 
--- lines without offsets
+-- lines without offsets, up to the end of a slot
 
 abbrev pub NeverLost : Type 0
-NeverLost = (sender : Role) (script : ScriptValue) (before bits : List Bool) (symbol : ℕ)
-    → DisplacesNone script sender → LosesWithin sender script before bits symbol → ⊥
+NeverLost = (sender : Role) (script : ScriptValue) (count : ℕ) (before bits : List Bool) (symbol : ℕ)
+    → DisplacesNoneBefore script sender count → length (before ++ bits) ≤ 4 * count → LosesWithin sender script before bits symbol → ⊥
 
 -- nothing but what was sent in a slot is received in it, and all of that is
 abbrev pub ReceivedIsSent : Type 0
 ReceivedIsSent = (script : ScriptValue) (check : Check) (sender : Role) (dlci symbols : ℕ) (passed : List Signal) (s : Sent)
     (before upto : List Sample) (frames : List Frame) (patterns : List Seen)
-    → DisplacesNone script sender → HEAD + TAIL < symbols → AreFit (4 * symbols) 0 (passed ++ signal_of check sender dlci s ∷ []) → IsSendable s
+    → DisplacesNoneBefore script sender (symbols * (length passed + 1)) → HEAD + TAIL < symbols → AreFit (4 * symbols) 0 (passed ++ signal_of check sender dlci s ∷ []) → IsSendable s
     → Records script sender (signal_bits (4 * symbols) passed) before
     → Records script sender (signal_bits (4 * symbols) (passed ++ signal_of check sender dlci s ∷ [])) upto
     → Receives check sender dlci before upto frames patterns
@@ -113,7 +114,7 @@ ReceivedIsSent = (script : ScriptValue) (check : Check) (sender : Role) (dlci sy
 
 abbrev pub SentIsReceived : Type 0
 SentIsReceived = (script : ScriptValue) (check : Check) (sender : Role) (dlci symbols : ℕ) (passed : List Signal) (s : Sent) (before upto : List Sample)
-    → DisplacesNone script sender → HEAD + TAIL < symbols → AreFit (4 * symbols) 0 (passed ++ signal_of check sender dlci s ∷ []) → IsSendable s
+    → DisplacesNoneBefore script sender (symbols * (length passed + 1)) → HEAD + TAIL < symbols → AreFit (4 * symbols) 0 (passed ++ signal_of check sender dlci s ∷ []) → IsSendable s
     → Records script sender (signal_bits (4 * symbols) passed) before
     → Records script sender (signal_bits (4 * symbols) (passed ++ signal_of check sender dlci s ∷ [])) upto
     → Receives check sender dlci before upto (frames_in s) (patterns_in s)
@@ -121,7 +122,7 @@ SentIsReceived = (script : ScriptValue) (check : Check) (sender : Role) (dlci sy
 -- so it is what is heard
 abbrev pub HeardIsSent : Type 0
 HeardIsSent = (line : Kept) (script : ScriptValue) (passed waiting : List Signal) (signal : Signal) (check : Check) (dlci : ℕ) (loses : Bool) (s : Sent) (h : Heard)
-    → DisplacesNone script (sender_of line) → HEAD + TAIL < line.writer.symbols → AreFit (size_of line) 0 (passed ++ signal ∷ [])
+    → DisplacesNoneBefore script (sender_of line) (line.writer.symbols * (length passed + 1)) → HEAD + TAIL < line.writer.symbols → AreFit (size_of line) 0 (passed ++ signal ∷ [])
     → signal ≡ signal_of check (sender_of line) dlci s → IsSendable s
     → PassesSlot line script passed signal waiting check dlci loses s h → h ≡ unhindered loses s
 
@@ -132,6 +133,6 @@ NeverChance = (loses : Bool) (s : Sent) → unhindered loses s ≡ heard.Chance 
 -- and the slot does pass
 abbrev pub PassesUnhindered : Type 0
 PassesUnhindered = (line : Kept) (script : ScriptValue) (passed waiting : List Signal) (signal : Signal) (check : Check) (dlci : ℕ) (loses : Bool) (s : Sent) (result : Result Heard Lost)
-    → DisplacesNone script (sender_of line) → HEAD + TAIL < line.writer.symbols → AreFit (size_of line) 0 (passed ++ signal ∷ [])
+    → DisplacesNoneBefore script (sender_of line) (line.writer.symbols * (length passed + 1)) → HEAD + TAIL < line.writer.symbols → AreFit (size_of line) 0 (passed ++ signal ∷ [])
     → signal ≡ signal_of check (sender_of line) dlci s → IsSendable s
     → Passes line script passed signal waiting check dlci loses s result → result ≡ Ok (unhindered loses s)

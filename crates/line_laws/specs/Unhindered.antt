@@ -1,5 +1,5 @@
 -- What a line makes of slots if nothing hinders them.
-use Rattle.std.specs.Prelude.{◌≡◌, ℕ, Bool, if◌then◌else◌, List, [], ◌∷◌, replicate}
+use Rattle.std.specs.Prelude.{◌≡◌, ℕ, ◌<◌, Bool, if◌then◌else◌, List, [], ◌∷◌, replicate}
 use Rattle.detection.specs.declared.seen.Seen.{Seen}
 use Rattle.detection.specs.declared.seen.Seen.TheVariants as seen
 use Rattle.lapm_frames.specs.declared.frame.Role.{Role}
@@ -12,9 +12,9 @@ use Rattle.sample_line.specs.declared.heard.Heard.{Heard}
 use Rattle.sample_line.specs.declared.heard.Heard.TheVariants as heard
 use Rattle.sample_line.specs.Outcomes.{is_message}
 
--- no line of the script displaces a symbol of this sender
-abbrev pub DisplacesNone : ScriptValue → Role → Type 0
-DisplacesNone script sender = (symbol : ℕ) → offset_of script sender symbol ≡ nothing
+-- no line of the script displaces one of this sender's first symbols, so many
+abbrev pub DisplacesNoneBefore : ScriptValue → Role → ℕ → Type 0
+DisplacesNoneBefore script sender count = (symbol : ℕ) → symbol < count → offset_of script sender symbol ≡ nothing
 
 -- the frames that are to be received
 abbrev pub frames_in : Sent → List Frame

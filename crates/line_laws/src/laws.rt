@@ -1,14 +1,14 @@
 //! Laws over the definitions alone: each law is a contract. The functions do nothing but name the laws that they rest on.
-ghost use Rattle.line_laws.specs.Laws.{OthersLinesDisplaceNone, EmptyScriptDisplacesNone, FirstOnesFit, OneMoreFits, SlotsThatFitAreSlots, SlotsHaveSize};
+ghost use Rattle.line_laws.specs.Laws.{LaterLinesDisplaceNone, EmptyScriptDisplacesNone, FirstOnesFit, OneMoreFits, SlotsThatFitAreSlots, SlotsHaveSize};
 ghost use Rattle.line_laws.specs.Laws.{CodableFits, CodableIsSendable, SpelledInOctets, FewOctetsBesidesInformation, ShortIsCodable};
 ghost use Rattle.line_laws.specs.Laws.{EachIsRecorded, SlotsAreRecorded, LossStays, LossIsInEachRecording};
 ghost use Rattle.line_laws.specs.Laws.{NeverLost, ReceivedIsSent, SentIsReceived, HeardIsSent, NeverChance, PassesUnhindered};
 
 use detection::laws::{patterns_are_plain, seen_is_sent, sights_stay};
 
-/// A script displaces no symbol of a role for which it has neither hit lines nor noise lines.
+/// A script displaces no symbol of a role before the first that its hit lines and noise lines for that role name.
 pub fn scripts_displace_by_their_lines_alone()
-    ensures others { OthersLinesDisplaceNone }
+    ensures later { LaterLinesDisplaceNone }
     ensures empty { EmptyScriptDisplacesNone }
 {}
 
@@ -45,12 +45,13 @@ pub fn losses_stay()
     ensures each { LossIsInEachRecording }
 {}
 
-/// A line whose symbols are not displaced is never lost.
+/// A line is not lost before a symbol is displaced.
 pub fn undisplaced_lines_are_never_lost()
     ensures { NeverLost }
 {}
 
-/// What is received in a slot of such a line is what was sent in it and nothing else, whatever slots came before.
+/// Where no symbol is displaced up to the end of a slot, what is received in it is what was sent in it and nothing else, whatever slots
+/// came before.
 pub fn received_is_sent()
     ensures nothing_else { ReceivedIsSent }
     ensures all { SentIsReceived }
@@ -60,7 +61,7 @@ pub fn received_is_sent()
     seen_is_sent();
 }
 
-/// So each slot passes, and is heard as what was sent in it. A message that a line of the script loses is lost, and no slot is a chance
+/// So each slot up to then passes, and is heard as what was sent in it. A message that a line of the script loses is lost, and no slot is a chance
 /// match.
 pub fn heard_is_sent()
     ensures heard { HeardIsSent }
