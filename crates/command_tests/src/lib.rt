@@ -1,5 +1,6 @@
-//! Worked runs of each command, over files in memory. It has no call of its own: a crate's tests
-//! would prove its whole code once more.
+//! Worked runs of each command, over files in memory.
+//!
+//! It has no call of its own. In their own crates these tests would prove each crate's whole code once more.
 #![tactic(auto)]
 
 #[cfg(test)]

@@ -32,7 +32,7 @@ abbrev pub LaterLinesDisplaceNone : Type 0
 LaterLinesDisplaceNone = (script : ScriptValue) (sender : Role) (count : ℕ) → All (λ (hit : Hit). same_role hit.role sender ≡ true → count ≤ hit.from) script.hits
     → All (λ (noise : Noise). same_role noise.role sender ≡ true → count ≤ noise.from) script.noises → DisplacesNoneBefore script sender count
 
--- and no symbol at all where it has no such lines
+-- and none at all where it has neither hit lines nor noise lines
 abbrev pub EmptyScriptDisplacesNone : Type 0
 EmptyScriptDisplacesNone = (script : ScriptValue) (sender : Role) (count : ℕ) → script.hits ≡ [] → script.noises ≡ [] → DisplacesNoneBefore script sender count
 

@@ -1,5 +1,6 @@
-//! Worked values of the crates of the link: checks, slots of bits, patterns, frames, offers, breaks, and both ends of a window. It has no call of its own: a crate's tests
-//! would prove its whole code once more.
+//! Worked values of the crates of the link: checks, slots of bits, patterns, frames, offers, breaks, and both ends of a window.
+//!
+//! It has no call of its own. In their own crates these tests would prove each crate's whole code once more.
 #![tactic(auto)]
 
 #[cfg(test)]

@@ -1,5 +1,6 @@
-//! Worked values of the crates between octets and samples: scramblers, coding, points, decoding and recordings. It has no call of its own: a crate's tests
-//! would prove its whole code once more.
+//! Worked values of the crates between octets and samples: scramblers, coding, points, decoding and recordings.
+//!
+//! It has no call of its own. In their own crates these tests would prove each crate's whole code once more.
 #![tactic(auto)]
 
 #[cfg(test)]

@@ -1,5 +1,6 @@
-//! Worked runs of the crates that join a link, a line and files: folders, scripts, the line of samples and the run's world. It has no call of its own: a crate's tests
-//! would prove its whole code once more.
+//! Worked runs of the crates that join a link, a line and files: folders, scripts, the line of samples and the run's world.
+//!
+//! It has no call of its own. In their own crates these tests would prove each crate's whole code once more.
 #![tactic(auto)]
 
 #[cfg(test)]
