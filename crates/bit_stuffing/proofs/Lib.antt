@@ -19,3 +19,4 @@ mod Frames
 mod Plain
 pub mod Sent
 pub mod Sizes
+pub mod OneFrame

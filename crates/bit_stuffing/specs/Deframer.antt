@@ -2,10 +2,11 @@
 use Rattle.std.specs.Prelude.{◌≡◌, ℕ, ◌+◌, ◌-◌, ◌*◌, ◌<◌, ◌≤◌, Bool, true, false, if◌then◌else◌, nat_lt, List, ◌++◌, length, min, All, Option, Some, None}
 use Rattle.std.specs.Int.{bit_at}
 use Rattle.frame_check.specs.declared.sizes.TheConstants.{WHOLE}
-use Rattle.frame_check.specs.Bits.{number, low_bits, bits_of}
+use Rattle.plain_lists.specs.Bits.{number, low_bits, bits_of}
 use Rattle.bit_stuffing.specs.Flags.{bit_of, OpenedAt}
 use Rattle.bit_stuffing.specs.Stuffing.{removed, room_after}
 use Rattle.bit_stuffing.specs.Pieces.{content, EndsWhole}
+use Rattle.plain_lists.specs.Octets.{AreOctets}
 
 -- the bit so many places back from the end, where ones stand before the first
 abbrev pub back : List Bool → ℕ → Bool
@@ -42,7 +43,7 @@ pub record Gathering : Type 0 where
 -- too many bits, or the octets and so many low bits of a part
 abbrev pub KeepsBits : Bool → List ℕ → ℕ → ℕ → List Bool → Type 0
 KeepsBits true octets part held kept = 8 * WHOLE < length kept
-KeepsBits false octets part held kept = (kept ≡ bits_of octets ++ low_bits held part) × All (λ octet. octet < 256) octets
+KeepsBits false octets part held kept = (kept ≡ bits_of octets ++ low_bits held part) × AreOctets octets
 
 -- what is gathered of a line's bits
 pub record Gathers (gathering : Gathering) (line : List Bool) : Type 0 where

@@ -1,12 +1,13 @@
 -- The answer at each bit of a stream, by the places of the flags in all bits so far.
 use Rattle.std.specs.Prelude.{◌≡◌, ◌⊎◌, ℕ, ◌-◌, ◌*◌, ◌<◌, ◌≤◌, Bool, List, [], ◌∷◌, ◌++◌, length, take, drop, All, Option, Some, None}
 use Rattle.frame_check.specs.declared.sizes.TheConstants.{WHOLE}
-use Rattle.frame_check.specs.Bits.{bits_of}
+use Rattle.plain_lists.specs.Bits.{bits_of}
 use Rattle.bit_stuffing.specs.declared.piece.Piece.{Piece}
 use Rattle.bit_stuffing.specs.declared.piece.Piece.TheVariants.{Whole, Ragged, Aborted, TooLong, TooShort}
 use Rattle.bit_stuffing.specs.declared.piece.TheConstants.{SHORTEST}
 use Rattle.bit_stuffing.specs.Flags.{Aborts, Closes}
 use Rattle.bit_stuffing.specs.Stuffing.{Stuffs, removed}
+use Rattle.plain_lists.specs.Octets.{AreOctets}
 
 -- what stands between the flag that ends at place p and the flag that the last eight bits are
 abbrev pub content : List Bool → ℕ → List Bool
@@ -14,7 +15,7 @@ content bits p = drop p (take (length bits - 8) bits)
 
 -- the bits carry these octets
 pub record Carries (bits : List Bool) (octets : List ℕ) : Type 0 where
-  pub small : All (λ octet. octet < 256) octets
+  pub small : AreOctets octets
   pub stuffs : Stuffs (bits_of octets) bits
 
 -- the bits carry whole octets, as many as a frame may have

@@ -4,6 +4,8 @@ ghost use Rattle.std.specs.Prelude.{List, [], ◌∷◌, ◌++◌, length, repli
 ghost use Rattle.std.specs.Bool.{beq};
 ghost use Rattle.std.specs.List.{ends_with};
 ghost use Rattle.bit_stuffing.specs.declared.piece.Piece.{Piece};
+ghost use Rattle.bit_stuffing.specs.declared.piece.TheConstants.{SHORTEST};
+ghost use Rattle.bit_stuffing.specs.declared.slot_writer.TheConstants.{HEAD, TAIL};
 ghost use Rattle.bit_stuffing.specs.Found.{Found, found_at, listed, pieces_of, seven_ones};
 ghost use Rattle.bit_stuffing.specs.Found.{answer_of, lent_of};
 ghost use Rattle.bit_stuffing.specs.Flags.{Closes};
@@ -11,8 +13,17 @@ ghost use Rattle.bit_stuffing.specs.Pieces.{Carries, IsAnswer, IsLent, content};
 ghost use Rattle.bit_stuffing.specs.Sent.{Added, AreWholeOrAborted, SlotAdds, wholes};
 ghost use Rattle.bit_stuffing.specs.Slots.{Slot, are_flagless, frames_of, opening, slot_bits};
 ghost use Rattle.bit_stuffing.specs.Slots.{AreSlots, IsPlain, IsSlot};
+ghost use Rattle.bit_stuffing.specs.Slots.Slot.{Flags};
 ghost use Rattle.bit_stuffing.specs.Slots.{next_phase, phase_after, sent_bits};
 ghost use Rattle.bit_stuffing.specs.Stuffing.{Fits, Stuffs, removed, room_after, stuffed};
+
+/// The numbers that the rules name: the octets of the shortest frame with its check, and the symbols that a slot has before a frame
+/// and behind it.
+pub fn sizes()
+    ensures shortest { SHORTEST ≡ 4 }
+    ensures head { HEAD ≡ 10 }
+    ensures tail { TAIL ≡ 128 }
+{}
 
 /// Each content has exactly one stuffing.
 pub fn one_stuffing()
@@ -81,6 +92,12 @@ pub fn sent_grows()
         ≡ sent_bits size slots ++ slot_bits size (phase_after size slots) slot }
     ensures phase { (size : ℕ) (slots : List Slot) (slot : Slot) → phase_after size (slots ++ slot ∷ [])
         ≡ next_phase size (phase_after size slots) slot }
+{}
+
+/// The bits of a flag slot tell which frame it carries, and whether it carries one.
+pub fn one_frame()
+    ensures { (size phase : ℕ) (one other : Option (List ℕ)) → IsSlot size phase (Flags one) → IsSlot size phase (Flags other)
+        → slot_bits size phase (Flags one) ≡ slot_bits size phase (Flags other) → one ≡ other }
 {}
 
 /// A slot's bits are as many as its size. Behind it stand fewer than the eight bits of a flag.

@@ -1,5 +1,4 @@
 pub mod Status
-pub mod Words
 pub mod Inputs
 pub mod Outputs
 pub mod Lines

@@ -1,20 +1,11 @@
 -- The line that each answer says.
 use Rattle.std.specs.Prelude.{ℕ, List, [], ◌++◌, codes, decimal, slice_index_or}
-use Rattle.noise_script.specs.declared.cause.Cause.{Cause}
-use Rattle.noise_script.specs.declared.cause.Cause.TheVariants.{Word, Count, Number, Range, Repeated, Limit}
 use Rattle.xid_params.specs.declared.fault.XidFault.{XidFault}
 use Rattle.xid_params.specs.declared.fault.XidFault.TheVariants as xid
 use Rattle.command_base.specs.declared.status.Status.{Status}
 use Rattle.command_base.specs.declared.status.Status.TheVariants.{BadScript, BadRecording, BadHex, BadXid, TooLong, ReadFault, WriteFault, LineLost, LinkLost, NoMemory}
-use Rattle.command_base.specs.Words.{role_word}
-
-abbrev pub cause_word : Cause → List ℕ
-cause_word Word = codes "word"
-cause_word Count = codes "count"
-cause_word Number = codes "number"
-cause_word Range = codes "range"
-cause_word Repeated = codes "repeated"
-cause_word Limit = codes "limit"
+use Rattle.roles.specs.Role.{role_word}
+use Rattle.script_causes.specs.Cause.{cause_word}
 
 -- why a field spells no offer
 abbrev pub xid_words : XidFault → List ℕ

@@ -1,6 +1,6 @@
 -- What a command leaves of its outputs. What is said of a name's octets holds where the folder tells that name.
 use Rattle.std.specs.Prelude.{◌≡◌, ◌≢◌, ◌⊎◌, ℕ, ◌++◌, IsTrue, List, []}
-use Rattle.outside_core.specs.Prefix.{IsPrefixOf}
+use Rattle.plain_lists.specs.Prefix.{IsPrefixOf}
 use Rattle.outside_core.specs.Folder.{FolderState, octets_at, GoesOn, KeepsName}
 
 -- a name holds these octets

@@ -9,7 +9,6 @@ mod lines;
 mod output;
 mod status;
 mod telling;
-mod words;
 
 pub use input::{is_longer, read_file, read_piece};
 pub use limits::{FILE_LIMIT, HEX_LIMIT, RECORDING_LIMIT, RUN_FILE_LIMIT, SCRIPT_LIMIT};
@@ -17,4 +16,3 @@ pub use lines::{LINE, Line, write_count, write_done, write_octets, write_pieces,
 pub use output::{append_output, create_output};
 pub use status::Status;
 pub use telling::{tell, tell_status};
-pub use words::role_of;

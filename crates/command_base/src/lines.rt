@@ -1,13 +1,14 @@
 // The lines that answers say.
 ghost use Rattle.std.specs.Prelude.{◌≡◌, ◌≤◌, ◌+◌, ◌++◌, length, decimal, codes};
-ghost use Rattle.command_base.specs.Words.{role_word};
-ghost use Rattle.command_base.specs.Lines.{cause_word, xid_words, count_line, done_line, samples_line, octets_line, pieces_line, short_line};
+ghost use Rattle.roles.specs.Role.{role_word};
+ghost use Rattle.command_base.specs.Lines.{xid_words, count_line, done_line, samples_line, octets_line, pieces_line, short_line};
+ghost use Rattle.script_causes.specs.Cause.{cause_word};
 
 use crate::Status;
-use decimal_text::put_decimal;
+use line_texts::put_decimal;
 use frame_check::Octets;
-use lapm_frames::Role;
-use noise_script::Cause;
+use roles::Role;
+use script_causes::Cause;
 use xid_params::XidFault;
 
 /// The most octets of a line that says no word of the command line.
@@ -15,30 +16,6 @@ pub const LINE: usize = 96;
 
 /// A line that is to be said, with the line feed at its end.
 pub type Line = Octets<LINE>;
-
-fn role_text(role: Role) -> &'static str
-    ensures text { result.now ≡ role_word role }
-    ensures short { length result.now ≤ 4 }
-{
-    match role {
-        Role::Originator => "orig",
-        Role::Answerer => "answ",
-    }
-}
-
-fn cause_text(cause: Cause) -> &'static str
-    ensures text { result.now ≡ cause_word cause }
-    ensures short { length result.now ≤ 8 }
-{
-    match cause {
-        Cause::Word => "word",
-        Cause::Count => "count",
-        Cause::Number => "number",
-        Cause::Range => "range",
-        Cause::Repeated => "repeated",
-        Cause::Limit => "limit",
-    }
-}
 
 /// Puts a word, and the number of a place behind it.
 fn put_place(line: &mut Line, word: &str, at: usize)
@@ -121,7 +98,7 @@ pub(crate) fn write_short(status: Status) -> Line
             line.extend(b"bad script: line ");
             put_decimal(&mut line, u64::from(number));
             line.extend(b": ");
-            line.extend(cause_text(cause).as_bytes());
+            line.extend(cause.word().as_bytes());
             line.extend(b"\n");
         }
         Status::BadRecording { at } => {
@@ -143,7 +120,7 @@ pub(crate) fn write_short(status: Status) -> Line
         Status::WriteFault => line.extend(b"write fault\n"),
         Status::LineLost { role, symbol } => {
             line.extend(b"line lost: ");
-            line.extend(role_text(role).as_bytes());
+            line.extend(role.word().as_bytes());
             line.extend(b" symbol ");
             put_decimal(&mut line, symbol);
             line.extend(b"\n");
@@ -154,7 +131,7 @@ pub(crate) fn write_short(status: Status) -> Line
             turn,
         } => {
             line.extend(b"link lost: ");
-            line.extend(role_text(role).as_bytes());
+            line.extend(role.word().as_bytes());
             line.extend(b" segment ");
             put_decimal(&mut line, segment);
             line.extend(b" turn ");

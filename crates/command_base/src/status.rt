@@ -1,8 +1,8 @@
 // How a command ends.
 ghost use Rattle.std.specs.Prelude.{◌≡◌};
 
-use lapm_frames::Role;
-use noise_script::Cause;
+use roles::Role;
+use script_causes::Cause;
 use xid_params::XidFault;
 
 /// How a command ends. Everything but `Done` has one cause, which the contract of the command names.

@@ -1,7 +1,7 @@
 // Runs over a folder in memory, with what each says and leaves.
 use command_base::Status;
-use lapm_frames::Role;
-use noise_script::Cause;
+use roles::Role;
+use script_causes::Cause;
 use outside_core::MemoryFolder;
 use run_command::{run, run_words};
 use std::alloc::{AllocError, Global};

@@ -1,10 +1,10 @@
 // The lines that answers say, and single steps over a folder in memory.
 use command_base::{
-    Status, append_output, create_output, is_longer, read_file, read_piece, role_of, tell_status,
+    Status, append_output, create_output, is_longer, read_file, read_piece, tell_status,
     write_done, write_octets, write_pieces, write_samples,
 };
-use lapm_frames::Role;
-use noise_script::Cause;
+use roles::Role;
+use script_causes::Cause;
 use outside_core::{FolderFault, MemoryFolder};
 use std::alloc::Global;
 use std::process::Abort;
@@ -120,7 +120,7 @@ fn outputs_are_made_empty_and_grow(rt: HostRuntime) -> Result<(), Fail> {
 
 #[test]
 fn ends_have_their_words(rt: HostRuntime) {
-    assert!(&rt; role_of("orig") == Some(Role::Originator));
-    assert!(&rt; role_of("answ") == Some(Role::Answerer));
-    assert!(&rt; role_of("origin") == None);
+    assert!(&rt; Role::of_word(b"orig") == Some(Role::Originator));
+    assert!(&rt; Role::of_word(b"answ") == Some(Role::Answerer));
+    assert!(&rt; Role::of_word(b"origin") == None);
 }

@@ -20,7 +20,7 @@ use byteorder::{ByteOrder, LittleEndian};
 use command_base::{RECORDING_LIMIT, append_output, read_piece};
 use exact_decoder::Lost;
 use frame_check::Octets;
-use lapm_frames::Role;
+use roles::Role;
 use outside_core::Folder;
 use recordings::HEADER;
 use scramblers::Mode;

@@ -1,6 +1,6 @@
 // Labels become bits.
 ghost use Rattle.std.specs.Prelude.{◌≡◌, ◌<◌, ◌≤◌, ℕ, Bool, List, [], ◌∷◌, ◌++◌};
-ghost use Rattle.frame_check.specs.Bits.{low_bits};
+ghost use Rattle.plain_lists.specs.Bits.{low_bits};
 ghost use Rattle.demodulator.specs.Demodulates.{DemodulatorStands};
 
 use modulator::quad_of;

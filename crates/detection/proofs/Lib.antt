@@ -9,3 +9,4 @@ mod Borders
 mod Inside
 mod Sent
 mod Worked
+pub mod OneSignal

@@ -1,8 +1,8 @@
 //! Laws over the definitions alone. The functions do nothing: each law is a contract.
 ghost use Rattle.std.specs.Prelude.{◌≡◌, ℕ, ◌+◌, ◌*◌, ◌<◌, ◌≤◌, All, Bool, List, [], ◌∷◌, ◌++◌, length, Option};
-ghost use Rattle.bit_stuffing.specs.Slots.{AreSlots, IsPlain, phase_after, slot_bits};
+ghost use Rattle.bit_stuffing.specs.Slots.{AreSlots, IsPlain, IsSlot, phase_after, slot_bits};
 ghost use Rattle.bit_stuffing.specs.declared.slot_writer.TheConstants.{HEAD, TAIL};
-ghost use Rattle.detection.specs.declared.seen.Seen.{Seen};
+ghost use Rattle.slot_contents.specs.declared.seen.Seen.{Seen};
 ghost use Rattle.detection.specs.Patterns.{EndsPattern, IsSeen, ones, seen_at};
 ghost use Rattle.detection.specs.Slots.{Signal, CanCarry, pattern_bits, signal_bits, slot_of, slots_of};
 ghost use Rattle.detection.specs.Slots.Signal.{PatternSlot};
@@ -38,6 +38,12 @@ pub fn sights_stay()
 pub fn patterns_are_plain()
     ensures patterns { (size : ℕ) (seen : Seen) → 4 * (HEAD + TAIL) < size → IsPlain size (pattern_bits size seen) }
     ensures marks { (size : ℕ) → 4 * (HEAD + TAIL) < size → IsPlain size (ones size) }
+{}
+
+/// The bits of a slot tell what it carries: at one size and flag phase no two of them are those of different signals.
+pub fn one_signal()
+    ensures { (size phase : ℕ) (one other : Signal) → 8 < size → phase < 8 → IsSlot size phase (slot_of size one) → IsSlot size phase (slot_of size other)
+        → slot_bits size phase (slot_of size one) ≡ slot_bits size phase (slot_of size other) → one ≡ other }
 {}
 
 /// Slots of any kinds may follow one another, if each can carry what it does.

@@ -7,9 +7,8 @@
 mod characters;
 pub mod laws;
 mod reader;
-mod seen;
 mod slots;
 
 pub use reader::PatternReader;
-pub use seen::Seen;
+pub use slot_contents::Seen;
 pub use slots::{mark_slot, pattern_slot};

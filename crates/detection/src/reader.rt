@@ -1,6 +1,6 @@
 // Patterns in a stream of bits.
 ghost use Rattle.std.specs.Prelude.{◌≡◌, ◌+◌, ◌<◌, ◌≤◌, ◌↔◌, ℕ, List, Bool, IsTrue};
-ghost use Rattle.frame_check.specs.Bits.{low_bits};
+ghost use Rattle.plain_lists.specs.Bits.{low_bits};
 ghost use Rattle.detection.specs.Patterns.{EndsPattern};
 ghost use Rattle.detection.specs.Reader.{Holds, ReaderStands, LeftBehind, LeftBehindOnce};
 

@@ -1,6 +1,7 @@
 -- Laws of differential coding, over all lists of numbers below 4.
 use Rattle.std.specs.Prelude.{◌≡◌, ℕ, ◌+◌, ◌/◌, ◌%◌, ◌<◌, ◌≤◌, min, List, length, map, take, slice_index, All}
 use Rattle.differential.specs.Turned.{turned, before, unturned}
+use Rattle.plain_lists.specs.Xor.{xor_ℕ, and_ℕ}
 
 -- each number is a quarter turn below 4
 abbrev pub AreTurns : List ℕ → Type 0
@@ -18,18 +19,11 @@ TurnsAgain = (y : List ℕ) → AreTurns y → turned (unturned y) ≡ y
 abbrev pub GoesOn : Type 0
 GoesOn = (q : List ℕ) (n : ℕ) → n < length q → slice_index (turned q) n ≡ (before (turned q) n + slice_index q n) % 4
 
--- exclusive or, and and, of two bits that are 0 or 1
-abbrev pub xor : ℕ → ℕ → ℕ
-xor a b = (a + b) % 2
-
-abbrev pub and : ℕ → ℕ → ℕ
-and a b = min a b
-
 -- One turn in bits, with q = Q1 + 2·Q2 and y = Y1 + 2·Y2: Y1 becomes Q1 xor Y1, and Y2 becomes
 -- Q2 xor Y2 xor (Q1 and Y1).
 abbrev pub TurnsInBits : Type 0
 TurnsInBits = (y q : ℕ) → y < 4 → q < 4 → let sent = (y + q) % 4 in
-    (sent % 2 ≡ xor (q % 2) (y % 2)) × (sent / 2 ≡ xor (xor (q / 2) (y / 2)) (and (q % 2) (y % 2)))
+    (sent % 2 ≡ xor_ℕ (q % 2) (y % 2)) × (sent / 2 ≡ xor_ℕ (xor_ℕ (q / 2) (y / 2)) (and_ℕ (q % 2) (y % 2)))
 
 -- what was sent of the first turns stays, whatever follows
 abbrev pub FirstTurnsStay : Type 0

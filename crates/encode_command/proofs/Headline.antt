@@ -1,7 +1,7 @@
 -- From every answer to what the command promises.
 use Rattle.std.proofs.Common.{◌≡◌, ◌≢◌, ◌⊎◌, ◌∙◌, inl, inr, ℕ, List, [], ◌++◌, Result, Ok, Err, refl, sym, ap, subst, arith, append-nil}
 use Rattle.std.specs.Option.{option_map}
-use Rattle.outside_core.specs.Prefix.{IsPrefixOf}
+use Rattle.plain_lists.specs.Prefix.{IsPrefixOf}
 use Rattle.outside_core.specs.Folder.{FolderState, GoesOn, KeepsName, Said, Rose}
 use Rattle.outside_core.specs.Steps.{KeepsName-trans, told_later, octets-kept, Rose-later}
 use Rattle.recordings.specs.Recording.{IsRecordingOf}

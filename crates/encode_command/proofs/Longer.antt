@@ -4,12 +4,13 @@ use Rattle.std.specs.List.{flat_map}
 use Rattle.std.proofs.lemmas.Grind.{flat_map-append}
 use Rattle.std.proofs.lemmas.List.{map-append}
 use Rattle.std.proofs.lemmas.List.Elements.{All-push}
-use Rattle.outside_core.specs.Prefix.{IsPrefixOf}
-use Rattle.frame_check.specs.Bits.{low_bits, octet_bits, bits_of, number}
+use Rattle.plain_lists.specs.Prefix.{IsPrefixOf}
+use Rattle.plain_lists.specs.Bits.{low_bits, octet_bits, bits_of, number}
 use Rattle.scramblers.specs.declared.mode.Mode.{Mode}
 use Rattle.scramblers.specs.declared.mode.Mode.TheVariants.{Call, Answer}
 use Rattle.scramblers.specs.Mode.{tap_of}
-use Rattle.scramblers.specs.Stream.{xor, earlier}
+use Rattle.scramblers.specs.Stream.{earlier}
+use Rattle.plain_lists.specs.Xor.{xor}
 use Rattle.scramblers.specs.Scrambles.{Scrambles}
 use Rattle.scramblers.proofs.Streams.{Scrambles-more}
 use Rattle.differential.proofs.Places.{turned-snoc}

@@ -3,7 +3,7 @@ use Rattle.std.proofs.Common.{◌≡◌, ◌≢◌, ◌∙◌, inl, inr, ℕ, �
 use Rattle.std.proofs.Math.Seq.{take-add}
 use Rattle.std.proofs.lemmas.Bool.Decides.{nat_tests}
 use Rattle.std.proofs.lemmas.List.{take-append-drop, take_all}
-use Rattle.outside_core.specs.Prefix.{IsPrefixOf}
+use Rattle.plain_lists.specs.Prefix.{IsPrefixOf}
 use Rattle.outside_core.specs.Folder.{FolderState, octets_at, OnlyReads, OnlyWrites, HasCause, Rose, Puts, PutsPart}
 use Rattle.outside_core.specs.Steps.{KeepsName-trans, told_later, octets-kept, Rose-later}
 use Rattle.outside_core.specs.declared.folder.FolderFault.{FolderFault}

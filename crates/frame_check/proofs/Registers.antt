@@ -5,8 +5,9 @@ use Rattle.std.proofs.lemmas.Nat.Bits.{bit_at-suc, bit_at_above, bit_at_xor, bit
 use Rattle.std.specs.Int.{bit_at}
 use Rattle.std.specs.Bool.{beq}
 use Rattle.std.proofs.lemmas.Nat.{xor_lt, and_mask}
-use Rattle.frame_check.specs.Bits.{number, octet_bits, bits_of}
-use Rattle.frame_check.specs.FrameCheck.{xor, coefficient}
+use Rattle.plain_lists.specs.Bits.{number, octet_bits, bits_of}
+use Rattle.frame_check.specs.FrameCheck.{coefficient}
+use Rattle.plain_lists.specs.Xor.{xor}
 use Rattle.frame_check.specs.Division.{next_remainder, remainder_from}
 use Rattle.frame_check.specs.Register.{Mirrors, Holds, Divides}
 use Rattle.frame_check.proofs.Polynomials.{xor_false, coefficient-behind, coefficient-lowest, at_power-other, coefficient-chosen}

@@ -1,14 +1,11 @@
 -- The frame check of ITU-T V.42, by division of polynomials over the field of two elements.
 -- A polynomial is the list of its coefficients, that of the lowest power first.
 use Rattle.std.specs.Prelude.{◌≡◌, ℕ, ◌<◌, Bool, true, false, not, if◌then◌else◌, List, [], ◌∷◌, ◌++◌, All, length, map, reverse, replicate, slice_index_or}
-use Rattle.std.specs.Bool.{beq}
 use Rattle.frame_check.specs.declared.check.Check.{Check}
 use Rattle.frame_check.specs.declared.check.Check.TheVariants.{Sixteen, ThirtyTwo}
-use Rattle.frame_check.specs.Bits.{bits_of}
-
--- the sum of two elements of the field: whether exactly one of them is one
-abbrev pub xor : Bool → Bool → Bool
-xor a b = not (beq a b)
+use Rattle.plain_lists.specs.Bits.{bits_of}
+use Rattle.plain_lists.specs.Xor.{xor}
+use Rattle.plain_lists.specs.Octets.{AreOctets}
 
 -- the coefficient of a power
 abbrev pub coefficient : List Bool → ℕ → Bool
@@ -18,7 +15,7 @@ coefficient p power = slice_index_or p power false
 abbrev pub Same : List Bool → List Bool → Type 0
 Same p q = (power : ℕ) → coefficient p power ≡ coefficient q power
 
--- the sum
+-- the sum: that of two coefficients is one where exactly one of them is
 abbrev pub plus : List Bool → List Bool → List Bool
 plus [] q = q
 plus (a ∷ p) [] = a ∷ p
@@ -61,7 +58,7 @@ pub record Leaves (width : ℕ) (generator bits remainder : List Bool) : Type 0 
 
 -- These octets are the check of those: their bits are the complement of the remainder, the coefficient of the highest power first.
 pub record IsCheckOf (check : Check) (octets check_octets : List ℕ) : Type 0 where
-  pub are_octets : All (λ n. n < 256) check_octets
+  pub are_octets : AreOctets check_octets
   pub remainder : List Bool
   pub leaves : Leaves (width_of check) (generator_of check) (bits_of octets) remainder
   pub complement : bits_of check_octets ≡ map not (reverse remainder)

@@ -1,4 +1,3 @@
-pub mod Bits
 pub mod FrameCheck
 pub mod Division
 pub mod Register

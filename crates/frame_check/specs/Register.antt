@@ -1,7 +1,7 @@
 -- What the register of the check holds: the coefficients of a polynomial, mirrored.
 use Rattle.std.specs.Prelude.{◌≡◌, ℕ, ◌+◌, ◌-◌, ◌<◌, ◌≤◌, ◌^◌, Bool, true, List, length}
 use Rattle.std.specs.Int.{bit_at}
-use Rattle.frame_check.specs.Bits.{number}
+use Rattle.plain_lists.specs.Bits.{number}
 use Rattle.frame_check.specs.FrameCheck.{coefficient}
 
 -- the low bit of the register is the coefficient of the highest power below the width

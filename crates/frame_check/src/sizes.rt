@@ -4,7 +4,7 @@
 pub const INFO: usize = 128;
 
 /// The most octets of a frame with its check: an address, two of control, the information and four of check.
-pub const WHOLE: usize = 135;
+pub const WHOLE: usize = INFO + 7;
 
 /// The most symbols of a slot. Each carries four bits, and the longest frame leaves 128 symbols behind its closing flag.
 pub const SLOT: usize = 464;

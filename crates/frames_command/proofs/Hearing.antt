@@ -5,13 +5,13 @@ use Rattle.std.proofs.lemmas.List.{take_more, take-append-drop}
 use Rattle.std.proofs.lemmas.Nat.{and_mask}
 use Rattle.outside_core.specs.Folder.{FolderState, OnlySays, Said, PartlySaid}
 use Rattle.outside_core.specs.Steps.{GoesOn-trans, KeepsName-trans}
-use Rattle.frame_check.specs.Bits.{octet_bits, bits_of}
+use Rattle.plain_lists.specs.Bits.{octet_bits, bits_of}
 use Rattle.frame_check.proofs.BitLists.{length-low_bits, get_or-low_bits, bits_of-snoc, bits_of-append}
 use Rattle.bit_stuffing.specs.declared.piece.Piece.{Piece}
 use Rattle.bit_stuffing.specs.Found.{Found, found_at, pieces_of, listed, answer_of, lent_of}
 use Rattle.bit_stuffing.specs.Deframer.{DeframerStands}
 use Rattle.bit_stuffing.proofs.Found.{pieces-none, pieces-more}
-use Rattle.lapm_frames.specs.declared.frame.Role.{Role}
+use Rattle.roles.specs.declared.role.Role.{Role}
 use Rattle.command_base.proofs.Saying.{Said-Said, Said-PartlySaid}
 use Rattle.frames_command.specs.declared.reading.Reading.{Reading}
 use Rattle.frames_command.specs.Readings.{Reads, AreLines, reading_line}

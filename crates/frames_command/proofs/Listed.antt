@@ -4,17 +4,17 @@ use Rattle.std.proofs.Math.Seq.{take-add}
 use Rattle.std.proofs.lemmas.Bool.Decides.{nat_tests}
 use Rattle.std.proofs.lemmas.List.{take-append-drop, take_all}
 use Rattle.std.specs.Option.{option_map}
-use Rattle.outside_core.specs.Prefix.{IsPrefixOf}
+use Rattle.plain_lists.specs.Prefix.{IsPrefixOf}
 use Rattle.outside_core.specs.Folder.{FolderState, octets_at, OnlyReads, OnlySays, HasCause, Said}
 use Rattle.outside_core.specs.Steps.{GoesOn-refl, GoesOn-trans, KeepsName-trans, told_later, octets-kept, Rose-later}
 use Rattle.outside_core.specs.declared.folder.FolderFault.{FolderFault}
 use Rattle.outside_core.specs.declared.folder.FolderFault.TheVariants.{Failed, NoMemory}
-use Rattle.frame_check.specs.Bits.{bits_of}
+use Rattle.plain_lists.specs.Bits.{bits_of}
 use Rattle.frame_check.proofs.BitLists.{bits_of-append}
 use Rattle.bit_stuffing.specs.Found.{Found, pieces_of}
 use Rattle.bit_stuffing.proofs.Found.{pieces-none}
 use Rattle.bit_stuffing.proofs.Sent.{pieces-stay}
-use Rattle.lapm_frames.specs.declared.frame.Role.{Role}
+use Rattle.roles.specs.declared.role.Role.{Role}
 use Rattle.command_base.specs.declared.limits.TheConstants.{FILE_LIMIT}
 use Rattle.command_base.specs.Inputs.{IsWithin}
 use Rattle.frames_command.specs.declared.fault.FramesFault.TheVariants.{Unread, Unsaid}

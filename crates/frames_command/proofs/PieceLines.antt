@@ -1,7 +1,7 @@
 -- Lines of pieces, one more at a time.
 use Rattle.std.proofs.Common.{◌∙◌, ℕ, List, [], ◌∷◌, ◌++◌, refl, sym, ap, append-nil, append_assoc}
 use Rattle.bit_stuffing.specs.Found.{Found}
-use Rattle.lapm_frames.specs.declared.frame.Role.{Role}
+use Rattle.roles.specs.declared.role.Role.{Role}
 use Rattle.frames_command.specs.declared.reading.Reading.{Reading}
 use Rattle.frames_command.specs.Readings.{Reads, AreLines, reading_line}
 

@@ -2,7 +2,7 @@
 use Rattle.std.specs.Prelude.{◌≡◌, ℕ, IsTrue, List, [], ◌++◌, length, Result, Ok, Err}
 use Rattle.outside_core.specs.Folder.{FolderState, octets_at, Said, PartlySaid, Rose}
 use Rattle.outside_core.specs.declared.folder.FolderFault.TheVariants.{Failed, NoMemory}
-use Rattle.frame_check.specs.Bits.{bits_of}
+use Rattle.plain_lists.specs.Bits.{bits_of}
 use Rattle.bit_stuffing.specs.Found.{Found, pieces_of}
 use Rattle.command_base.specs.declared.limits.TheConstants.{FILE_LIMIT}
 use Rattle.command_base.specs.Inputs.{IsWithin, IsLonger}

@@ -1,10 +1,10 @@
 -- How far a stream of bits was heard, and what was said of it.
 use Rattle.std.specs.Prelude.{◌≡◌, ℕ, Bool, IsTrue, List, ◌++◌, length, take}
 use Rattle.outside_core.specs.Folder.{FolderState, octets_at, GoesOn, OnlyReads, Said, PartlySaid}
-use Rattle.frame_check.specs.Bits.{bits_of}
+use Rattle.plain_lists.specs.Bits.{bits_of}
 use Rattle.bit_stuffing.specs.Deframer.{Kept, DeframerStands}
 use Rattle.bit_stuffing.specs.Found.{pieces_of}
-use Rattle.lapm_frames.specs.declared.frame.Role.{Role}
+use Rattle.roles.specs.declared.role.Role.{Role}
 use Rattle.command_base.specs.declared.limits.TheConstants.{FILE_LIMIT}
 use Rattle.command_base.specs.Inputs.{IsWithin}
 use Rattle.command_base.specs.Outputs.{KeepsAll}

@@ -5,12 +5,12 @@ use Rattle.frame_check.specs.declared.check.Check.TheVariants.{Sixteen}
 use Rattle.bit_stuffing.specs.declared.piece.Piece.{Piece}
 use Rattle.bit_stuffing.specs.declared.piece.Piece.TheVariants as pieces
 use Rattle.bit_stuffing.specs.Found.{Found}
-use Rattle.lapm_frames.specs.declared.frame.Role.{Role}
+use Rattle.roles.specs.declared.role.Role.{Role}
 use Rattle.lapm_frames.specs.declared.fault.FrameFault.{FrameFault}
 use Rattle.lapm_frames.specs.declared.fault.FrameFault.TheVariants as faults
 use Rattle.lapm_frames.specs.Frame.{FrameSpelling}
 use Rattle.lapm_frames.specs.Fault.{FirstFault}
-use Rattle.frame_text.specs.FrameText.{frame_text}
+use Rattle.line_texts.specs.FrameText.{frame_text}
 use Rattle.frames_command.specs.declared.reading.Reading.{Reading}
 use Rattle.frames_command.specs.declared.reading.Reading.TheVariants as readings
 

@@ -3,9 +3,9 @@ ghost use Rattle.std.specs.Prelude.{◌≡◌, ◌≤◌, ◌<◌, ◌+◌, ◌+
 ghost use Rattle.frames_command.specs.Readings.{hex_digit, hex_octet, fault_words, reading_line};
 
 use crate::reading::Reading;
-use decimal_text::put_decimal;
+use line_texts::put_decimal;
 use frame_check::Octets;
-use frame_text::{FrameText, write_frame_text};
+use line_texts::{FrameText, write_frame_text};
 use lapm_frames::FrameFault;
 
 /// The most octets of a piece's line.

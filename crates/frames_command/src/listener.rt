@@ -1,13 +1,13 @@
 // A listener to a stream of bits, who says what each piece is.
 ghost use Rattle.std.specs.Prelude.{◌≡◌, ◌≤◌, ◌<◌, ◌+◌, ◌*◌, ◌^◌, ℕ, Bool, List, [], ◌∷◌, ◌++◌, OnOk, OnErr, length};
 ghost use Rattle.outside_core.specs.Folder.{FolderState, OnlySays, HasCause};
-ghost use Rattle.frame_check.specs.Bits.{octet_bits, bits_of};
+ghost use Rattle.plain_lists.specs.Bits.{octet_bits, bits_of};
 ghost use Rattle.frames_command.specs.Heard.{Heard, PartlyHeard};
 
 use crate::lines::write_reading;
 use crate::reading::read_piece;
 use bit_stuffing::Deframer;
-use lapm_frames::Role;
+use roles::Role;
 use outside_core::{Folder, FolderFault};
 use std::marker::Model;
 

@@ -5,7 +5,8 @@ ghost use Rattle.frames_command.specs.Readings.{ReadsWhole, Reads};
 
 use bit_stuffing::Piece;
 use frame_check::{Check, passes};
-use lapm_frames::{Frame, FrameFault, Role, read};
+use lapm_frames::{Frame, FrameFault, read};
+use roles::Role;
 
 /// What a piece of a stream is to a reader of frames, who knows the end that sent it.
 #[derive(Drop)]

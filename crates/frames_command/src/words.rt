@@ -3,8 +3,7 @@ ghost use Rattle.std.specs.Prelude.{◌≡◌, string_bytes, map};
 ghost use Rattle.std.specs.Option.{option_map};
 ghost use Rattle.frames_command.specs.Words.{names_of, named};
 
-use command_base::role_of;
-use lapm_frames::Role;
+use roles::Role;
 
 /// A stream of bits that is to be listed.
 #[derive(Clone, Copy)]
@@ -24,7 +23,7 @@ pub fn frames_words(words: &[String]) -> Option<FramesWords<'_>>
     if command.as_str() != "frames" {
         return None;
     }
-    match role_of(sender.as_str()) {
+    match Role::of_word(sender.as_bytes()) {
         Some(sender) => Some(FramesWords {
             sender,
             bits: bits.as_str(),

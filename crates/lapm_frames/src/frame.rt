@@ -3,13 +3,6 @@ ghost use Rattle.std.specs.Prelude.{◌≡◌};
 
 use frame_check::Info;
 
-/// An end of the link.
-#[derive(Clone, Copy, Debug, PartialEq, Eq)]
-pub enum Role {
-    Originator,
-    Answerer,
-}
-
 /// A frame of ITU-T V.42. `command` tells a command from a response where the kind has both, `ns` and `nr` are the numbers N(S) and
 /// N(R) modulo 128, and `pf` is the poll bit of a command and the final bit of a response.
 #[derive(Debug, Drop, PartialEq, Eq)]

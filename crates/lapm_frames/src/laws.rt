@@ -1,6 +1,6 @@
 //! Laws over the definitions of frames and faults alone. The functions do nothing: each law is a contract.
 ghost use Rattle.std.specs.Prelude.{◌≡◌, ◌≢◌, ℕ, ◌+◌, ◌/◌, ◌%◌, ◌<◌, ◌⊎◌, Bool, IsTrue, List, [], ◌∷◌, length, take, not};
-ghost use Rattle.lapm_frames.specs.declared.frame.Role.{Role};
+ghost use Rattle.roles.specs.declared.role.Role.{Role};
 ghost use Rattle.lapm_frames.specs.declared.frame.Frame.{Frame};
 ghost use Rattle.lapm_frames.specs.declared.fault.FrameFault.{FrameFault};
 ghost use Rattle.lapm_frames.specs.Frame.{address_of, spelled, IsFrame, FrameSpelling};

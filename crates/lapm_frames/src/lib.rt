@@ -16,5 +16,6 @@ mod supervisory;
 mod unnumbered;
 
 pub use fault::FrameFault;
-pub use frame::{Frame, Role};
+pub use frame::Frame;
+pub use roles::Role;
 pub use spelling::{read, write};

@@ -1,6 +1,6 @@
 // Frames as octets: the address, then the control octet, then what its family has behind it.
 ghost use Rattle.std.specs.Prelude.{◌≡◌, ℕ, ◌<◌, [], ◌∷◌, ◌↔◌, IfOk, IfErr};
-ghost use Rattle.lapm_frames.specs.declared.frame.Role.{Role};
+ghost use Rattle.roles.specs.declared.role.Role.{Role};
 ghost use Rattle.lapm_frames.specs.declared.frame.Frame.{Frame};
 ghost use Rattle.lapm_frames.specs.declared.fault.FrameFault.{FrameFault};
 ghost use Rattle.lapm_frames.specs.Frame.{address_of, spelled, IsFrame, FrameSpelling};

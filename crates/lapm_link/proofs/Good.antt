@@ -1,7 +1,7 @@
 -- What holds all through a play of two ends of ours.
 use Rattle.std.proofs.Common.{◌≡◌, ℕ, ◌≤◌, Bool, true, false, List, [], ◌∷◌, arith, ◌∙◌, Option, Some, None}
 use Rattle.std.specs.List.{AllByRecursion}
-use Rattle.lapm_frames.specs.declared.frame.Role.TheVariants.{Originator, Answerer}
+use Rattle.roles.specs.declared.role.Role.TheVariants.{Originator, Answerer}
 use Rattle.lapm_frames.specs.declared.frame.Frame.TheVariants.{Sabme, Disc, Ua, Dm, Xid}
 use Rattle.xid_params.specs.declared.terms.Terms.{Terms}
 use Rattle.xid_params.specs.Terms.{agree}
@@ -10,8 +10,8 @@ use Rattle.lapm_sender.specs.Outgoing.{Outgoing}
 use Rattle.lapm_sender.specs.Outgoing as outgoing
 use Rattle.lapm_receiver.specs.Incoming.{Incoming, next_expected}
 use Rattle.lapm_receiver.specs.Incoming as incoming
-use Rattle.lapm_link.specs.declared.sent.Sent.{Sent}
-use Rattle.lapm_link.specs.declared.sent.Sent.TheVariants as slots
+use Rattle.slot_contents.specs.declared.sent.Sent.{Sent}
+use Rattle.slot_contents.specs.declared.sent.Sent.TheVariants as slots
 use Rattle.lapm_link.specs.declared.setup.Setup.{Setup}
 use Rattle.lapm_link.specs.declared.phase.Phase.{Phase}
 use Rattle.lapm_link.specs.declared.phase.Phase.TheVariants.{Detecting, Negotiating, Establishing, Connected, Releasing, Closed}

@@ -13,10 +13,11 @@ use Rattle.break_signals.specs.declared.word.BreakWord.TheVariants.{Brk, Ack}
 use Rattle.break_signals.specs.declared.fault.BreakFault.{BreakFault}
 use Rattle.break_signals.specs.Words.{word_in, spelled}
 use Rattle.break_signals.specs.Breaks.{own_due}
-use Rattle.lapm_link.specs.declared.sent.Sent.{Sent}
-use Rattle.lapm_link.specs.declared.sent.Sent.TheVariants as slots
+use Rattle.slot_contents.specs.declared.sent.Sent.{Sent}
+use Rattle.slot_contents.specs.declared.sent.Sent.TheVariants as slots
 use Rattle.lapm_link.specs.declared.fault.LinkFault.{LinkFault}
-use Rattle.lapm_link.specs.Account.{Account, is_originator}
+use Rattle.lapm_link.specs.Account.{Account}
+use Rattle.roles.specs.Role.{is_originator}
 use Rattle.lapm_link.specs.Hear.{on_connected, on_i, on_ready, on_rej, on_srej, on_number, on_word, then_in, replying, hurrying, taking, ends_wait}
 use Rattle.lapm_link.specs.Speak.{Said, says, says_frame, else_says, where_says, steps, step1, step2, step3, step4, step5, step6, step7, step8, step9, may_send, says_segment, says_asking, says_break, says_own, says_word, nr_of, telling}
 use Rattle.lapm_link.specs.Play.{Slot}

@@ -3,7 +3,7 @@ use Rattle.std.proofs.Common.{◌≡◌, ℕ, ◌+◌, ◌%◌, ◌≤◌, ◌&&
 use Rattle.std.specs.Prelude.{is_some}
 use Rattle.std.proofs.lemmas.Bool.{false≢true}
 use Rattle.std.proofs.lemmas.List.{take-append-drop}
-use Rattle.lapm_frames.specs.declared.frame.Role.TheVariants.{Originator, Answerer}
+use Rattle.roles.specs.declared.role.Role.TheVariants.{Originator, Answerer}
 use Rattle.lapm_frames.specs.declared.frame.Frame.TheVariants.{I}
 use Rattle.xid_params.specs.Terms.{lowered}
 use Rattle.xid_params.proofs.Reading.{reads_written_always}
@@ -12,7 +12,7 @@ use Rattle.lapm_sender.specs.Outgoing as outgoing
 use Rattle.lapm_receiver.specs.Incoming as incoming
 use Rattle.break_signals.specs.Breaks.{after_ask}
 use Rattle.lapm_receiver.specs.Incoming.{Incoming, after_delivered, next_expected}
-use Rattle.lapm_link.specs.declared.sent.Sent.TheVariants as slots
+use Rattle.slot_contents.specs.declared.sent.Sent.TheVariants as slots
 use Rattle.lapm_link.specs.declared.fault.LinkFault.{LinkFault}
 use Rattle.lapm_link.specs.declared.fault.LinkFault.TheVariants.{NotDetected, Spent, BadAck, PeerReset, PeerRefused}
 use Rattle.lapm_link.specs.declared.setup.Setup.{Setup}
@@ -22,7 +22,8 @@ use Rattle.lapm_link.specs.Account.{Account, fresh, wants, piece_size, after_off
 use Rattle.lapm_link.specs.Hear.{hear, on_nothing}
 use Rattle.lapm_link.specs.Speak.{Said, speak}
 use Rattle.lapm_link.specs.Play.{Slot, Play, Event, Speaks, Passes, Is_lost, Hears_nothing, Is_offered, Is_asked, Delivers, Gives_break, arrives, seen_from, play_of, spoken, heard, passes, is_lost, is_offered, happens_at, role_of, goes_on, happens, play, start}
-use Rattle.lapm_link.specs.Laws.{IsPrefixOf, MayPlay, played, TakesInOrder, WantsAnswers, BreaksForWantAlone, IsTakenBy, TakesByNumber}
+use Rattle.lapm_link.specs.Laws.{MayPlay, played, TakesInOrder, WantsAnswers, BreaksForWantAlone, IsTakenBy, TakesByNumber}
+use Rattle.plain_lists.specs.Prefix.{IsPrefixOf}
 use Rattle.lapm_link.proofs.Flow.{keeps-offered}
 use Rattle.lapm_link.proofs.Ends.{Goes, flow, order-exact}
 use Rattle.lapm_link.proofs.Good.{rank, PlaceO, PlaceA, DueA, LineO, LineA, terms_of, Good, lost-o, lost-a, changed-o, changed-a}

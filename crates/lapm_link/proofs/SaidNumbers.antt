@@ -2,20 +2,21 @@
 use Rattle.std.proofs.Common.{ℕ, ◌+◌, ◌*◌, Bool, true, false, cond, nat_eq, nat_le, Option, Some, None, Result, Ok, Err, arith, subst, ◌&&◌}
 use Rattle.lapm_frames.specs.declared.frame.Frame.{Frame}
 use Rattle.lapm_frames.specs.declared.frame.Frame.TheVariants.{Sabme, Disc, Xid}
-use Rattle.lapm_frames.specs.declared.frame.Role.{Role}
-use Rattle.lapm_frames.specs.declared.frame.Role.TheVariants.{Originator, Answerer}
+use Rattle.roles.specs.declared.role.Role.{Role}
+use Rattle.roles.specs.declared.role.Role.TheVariants.{Originator, Answerer}
 use Rattle.xid_params.specs.Offers.{written}
 use Rattle.lapm_receiver.specs.Incoming.{asks}
 use Rattle.break_signals.specs.declared.word.BreakWord.{BreakWord}
 use Rattle.break_signals.specs.Breaks.{own_due}
-use Rattle.lapm_link.specs.declared.sent.Sent.TheVariants as slots
+use Rattle.slot_contents.specs.declared.sent.Sent.TheVariants as slots
 use Rattle.lapm_link.specs.declared.fault.LinkFault.{LinkFault}
 use Rattle.lapm_link.specs.declared.fault.LinkFault.TheVariants.{NotDetected}
 use Rattle.lapm_link.specs.declared.phase.Phase.{Phase}
 use Rattle.lapm_link.specs.declared.phase.Phase.TheVariants as phases
 use Rattle.lapm_link.specs.declared.answer.Answer.{Answer}
 use Rattle.lapm_link.specs.declared.answer.Answer.TheVariants as answers
-use Rattle.lapm_link.specs.Account.{Account, is_originator}
+use Rattle.lapm_link.specs.Account.{Account}
+use Rattle.roles.specs.Role.{is_originator}
 use Rattle.lapm_link.specs.Hear.{trying}
 use Rattle.lapm_link.specs.Speak.{Said, says, says_frame, says_segment, says_own, says_break, says_asking, where_says, answering, may_send, step1, step2, step3, step4, step5, step6, step7, step8, step9, steps, speak_in, speak_detecting, speak_negotiating, speak_releasing, speak_linked, u_try, tries_frame, trying_again, spent, on_timer, then_tries, after_timers}
 use Rattle.lapm_link.specs.Play.{arrives}

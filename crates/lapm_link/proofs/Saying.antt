@@ -6,13 +6,13 @@ use Rattle.lapm_link.specs.declared.connected.Breaks.{Breaks}
 use Rattle.lapm_link.specs.declared.connected.Owes.{Owes}
 use Rattle.lapm_link.specs.declared.connected.Wait.{Wait}
 use Rattle.lapm_link.specs.declared.connected.Connected.{Connected}
-use Rattle.lapm_link.specs.declared.sent.Sent.{Sent}
+use Rattle.slot_contents.specs.declared.sent.Sent.{Sent}
 use Rattle.lapm_link.specs.Account.{Account}
 use Rattle.lapm_link.specs.declared.fault.LinkFault.{LinkFault}
 use Rattle.lapm_link.specs.declared.closed.Broken.{Broken}
 use Rattle.lapm_link.specs.declared.any_end.AnyEnd.{AnyEnd}
 use Rattle.lapm_link.specs.declared.phase.Phase.TheVariants as phases
-use Rattle.lapm_link.specs.Account.{is_originator}
+use Rattle.roles.specs.Role.{is_originator}
 use Rattle.lapm_link.specs.Hear.{trying}
 use Rattle.lapm_link.specs.Speak.{Said, where_says, else_says, steps, on_break_timer, then_tries, after_timers, speak_connected, speak_releasing}
 use Rattle.lapm_link.specs.Stands.{Gives, SaysLinked, Links, LinksBeside, Becomes, SpeaksLinked, Speaks}

@@ -1,8 +1,8 @@
 -- What an end of the link is, in plain values: all pieces offered and taken, what it owes and what it waits for. The parts of the
 -- sender, the receiver and the breaks are those of their own crates.
 use Rattle.std.specs.Prelude.{ℕ, Bool, true, false, if◌then◌else◌, nat_lt, List, length, Option, Some, None, slice_index_or}
-use Rattle.lapm_frames.specs.declared.frame.Role.{Role}
-use Rattle.lapm_frames.specs.declared.frame.Role.TheVariants.{Originator, Answerer}
+use Rattle.roles.specs.declared.role.Role.{Role}
+use Rattle.roles.specs.declared.role.Role.TheVariants.{Originator, Answerer}
 use Rattle.xid_params.specs.declared.terms.Terms.{Terms}
 use Rattle.xid_params.specs.Terms.{agree, default_offer}
 use Rattle.lapm_sender.specs.Outgoing.{Outgoing, wanted, with_piece, is_whole}
@@ -59,10 +59,6 @@ fresh setup = record {
   wait = record { try = false; try_set = 0; try_count = 0; poll = false; urgent = false; timer = None };
   special = false;
 }
-
-abbrev pub is_originator : Role → Bool
-is_originator Originator = true
-is_originator Answerer = false
 
 abbrev pub is_connected : Phase → Bool
 is_connected Connected = true

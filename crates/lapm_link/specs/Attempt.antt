@@ -1,6 +1,6 @@
 -- A frame that goes until it is answered, and the account for which it stands.
 use Rattle.std.specs.Prelude.{◌≡◌, ◌+◌, Result, Ok, Err}
-use Rattle.lapm_link.specs.declared.sent.Sent.{Sent}
+use Rattle.slot_contents.specs.declared.sent.Sent.{Sent}
 use Rattle.lapm_link.specs.declared.fault.LinkFault.{LinkFault}
 use Rattle.lapm_link.specs.declared.attempt.Attempt.{Attempt}
 use Rattle.lapm_link.specs.Account.{Account}

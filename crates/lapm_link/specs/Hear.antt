@@ -1,9 +1,9 @@
 -- What an end becomes by what it hears: one definition a rule, then one a phase, by the rules of ITU-T V.42 and of this link. A
 -- Connected end breaks where an acknowledgement is of no number that was sent, or where the other end begins anew or refuses.
 use Rattle.std.specs.Prelude.{ℕ, ◌%◌, Bool, true, false, not, if◌then◌else◌, ◌&&◌, ◌||◌, nat_lt, List, Option, Some, None, Result, Ok, Err}
-use Rattle.lapm_frames.specs.declared.frame.Role.{Role}
-use Rattle.lapm_frames.specs.declared.frame.Role.TheVariants.{Originator, Answerer}
-use Rattle.lapm_link.specs.Roles.{other}
+use Rattle.roles.specs.declared.role.Role.{Role}
+use Rattle.roles.specs.declared.role.Role.TheVariants.{Originator, Answerer}
+use Rattle.roles.specs.Role.{other}
 use Rattle.lapm_frames.specs.declared.frame.Frame.{Frame}
 use Rattle.lapm_frames.specs.declared.frame.Frame.TheVariants.{I, Rr, Rnr, Rej, Srej, Sabme, Disc, Ua, Dm, Frmr, Ui, Xid, Test}
 use Rattle.xid_params.specs.declared.offer.Offer.{Offer}
@@ -18,17 +18,18 @@ use Rattle.break_signals.specs.declared.word.BreakWord.TheVariants.{Brk, Ack}
 use Rattle.break_signals.specs.declared.fault.BreakFault.{BreakFault}
 use Rattle.break_signals.specs.Words.{word_in}
 use Rattle.break_signals.specs.Breaks.{after_answer, after_break}
-use Rattle.detection.specs.declared.seen.Seen.{Seen}
-use Rattle.detection.specs.declared.seen.Seen.TheVariants.{Odp, Adp}
-use Rattle.lapm_link.specs.declared.arrived.Arrived.{Arrived}
-use Rattle.lapm_link.specs.declared.arrived.Arrived.TheVariants as arrivals
+use Rattle.slot_contents.specs.declared.seen.Seen.{Seen}
+use Rattle.slot_contents.specs.declared.seen.Seen.TheVariants.{Odp, Adp}
+use Rattle.slot_contents.specs.declared.arrived.Arrived.{Arrived}
+use Rattle.slot_contents.specs.declared.arrived.Arrived.TheVariants as arrivals
 use Rattle.lapm_link.specs.declared.phase.Phase.{Phase}
 use Rattle.lapm_link.specs.declared.phase.Phase.TheVariants.{Detecting, Negotiating, Establishing, Connected, Releasing, Closed}
 use Rattle.lapm_link.specs.declared.fault.LinkFault.{LinkFault}
 use Rattle.lapm_link.specs.declared.fault.LinkFault.TheVariants.{BadAck, PeerReset, PeerRefused}
 use Rattle.lapm_link.specs.declared.answer.Answer.{Answer}
 use Rattle.lapm_link.specs.declared.answer.Answer.TheVariants as answers
-use Rattle.lapm_link.specs.Account.{Account, Wait, is_originator, size_for, window_for}
+use Rattle.lapm_link.specs.Account.{Account, Wait, size_for, window_for}
+use Rattle.roles.specs.Role.{is_originator}
 
 -- an answer becomes due in the place of any that is
 abbrev pub owing : Answer → Account → Account

@@ -1,20 +1,18 @@
 -- The laws of plays from two fresh ends.
 use Rattle.std.specs.Prelude.{◌≡◌, ℕ, ◌+◌, ◌≤◌, Bool, List, ◌∷◌, ◌++◌, Option, Some, None}
-use Rattle.lapm_frames.specs.declared.frame.Role.TheVariants.{Originator, Answerer}
+use Rattle.roles.specs.declared.role.Role.TheVariants.{Originator, Answerer}
 use Rattle.lapm_frames.specs.declared.frame.Frame.TheVariants.{I}
 use Rattle.lapm_receiver.specs.Incoming.{Incoming, kind_of, next_expected}
 use Rattle.lapm_receiver.specs.declared.took.Took.TheVariants.{InOrder, Kept}
 use Rattle.xid_params.specs.Offers.{IsAllowed}
-use Rattle.lapm_link.specs.declared.sent.Sent.TheVariants as slots
+use Rattle.slot_contents.specs.declared.sent.Sent.TheVariants as slots
 use Rattle.lapm_link.specs.declared.setup.Setup.{Setup}
 use Rattle.lapm_link.specs.declared.phase.Phase.TheVariants.{Connected}
 use Rattle.lapm_link.specs.declared.fault.LinkFault.{LinkFault}
 use Rattle.lapm_link.specs.declared.fault.LinkFault.TheVariants.{NotDetected, Spent, BadAck, PeerReset, PeerRefused}
 use Rattle.lapm_link.specs.Account.{fresh}
 use Rattle.lapm_link.specs.Play.{Slot, Side, Play, Event, play, start}
-
-abbrev pub IsPrefixOf : {X : Type 0} → List X → List X → Type 0
-IsPrefixOf {X} xs ys = (rest : List X) × (xs ++ rest ≡ ys)
+use Rattle.plain_lists.specs.Prefix.{IsPrefixOf}
 
 -- the setups of two ends that play
 pub record MayPlay (so sa : Setup) : Type 0 where

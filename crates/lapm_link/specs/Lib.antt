@@ -1,4 +1,3 @@
-pub mod Roles
 pub mod Account
 pub mod Hear
 pub mod Speak

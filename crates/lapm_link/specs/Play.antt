@@ -2,14 +2,14 @@
 -- at any speaking or at none; whatever is sent may be lost, and nothing overtakes.
 use Rattle.std.specs.Prelude.{ℕ, Bool, if◌then◌else◌, ◌&&◌, nat_le, List, [], ◌∷◌, ◌++◌, length, Option, Some, None, Result, Ok, Err}
 use Rattle.std.specs.Prelude.{is_some}
-use Rattle.lapm_frames.specs.declared.frame.Role.{Role}
-use Rattle.lapm_frames.specs.declared.frame.Role.TheVariants.{Originator, Answerer}
+use Rattle.roles.specs.declared.role.Role.{Role}
+use Rattle.roles.specs.declared.role.Role.TheVariants.{Originator, Answerer}
 use Rattle.lapm_receiver.specs.Incoming.{next_expected}
-use Rattle.detection.specs.declared.seen.Seen.TheVariants as seen
-use Rattle.lapm_link.specs.declared.arrived.Arrived.{Arrived}
-use Rattle.lapm_link.specs.declared.arrived.Arrived.TheVariants as arrivals
-use Rattle.lapm_link.specs.declared.sent.Sent.{Sent}
-use Rattle.lapm_link.specs.declared.sent.Sent.TheVariants as slots
+use Rattle.slot_contents.specs.declared.seen.Seen.TheVariants as seen
+use Rattle.slot_contents.specs.declared.arrived.Arrived.{Arrived}
+use Rattle.slot_contents.specs.declared.arrived.Arrived.TheVariants as arrivals
+use Rattle.slot_contents.specs.declared.sent.Sent.{Sent}
+use Rattle.slot_contents.specs.declared.sent.Sent.TheVariants as slots
 use Rattle.lapm_link.specs.declared.fault.LinkFault.{LinkFault}
 use Rattle.lapm_link.specs.Account.{Account, wants, piece_size, after_offer, after_delivery, after_break_asked, after_given}
 use Rattle.lapm_link.specs.Hear.{hear}

@@ -1,8 +1,8 @@
 -- What an end sends and then is: one definition a rule, then one a phase. A Connected end looks at its timers first, and then
 -- sends what the first of nine steps gives that applies. An end breaks once all its tries are spent.
 use Rattle.std.specs.Prelude.{ℕ, ◌+◌, ◌-◌, ◌*◌, ◌%◌, Bool, true, false, if◌then◌else◌, ◌&&◌, ◌||◌, nat_eq, nat_le, [], length, Option, Some, None, Result, Ok, Err, slice_index_or}
-use Rattle.lapm_frames.specs.declared.frame.Role.{Role}
-use Rattle.lapm_frames.specs.declared.frame.Role.TheVariants.{Originator, Answerer}
+use Rattle.roles.specs.declared.role.Role.{Role}
+use Rattle.roles.specs.declared.role.Role.TheVariants.{Originator, Answerer}
 use Rattle.lapm_frames.specs.declared.frame.Frame.{Frame}
 use Rattle.lapm_frames.specs.declared.frame.Frame.TheVariants.{I, Rr, Rej, Srej, Sabme, Disc, Ua, Dm, Ui, Xid}
 use Rattle.xid_params.specs.Offers.{written}
@@ -11,15 +11,16 @@ use Rattle.lapm_receiver.specs.Incoming.{next_expected, asks, after_asked, after
 use Rattle.break_signals.specs.declared.word.BreakWord.{BreakWord}
 use Rattle.break_signals.specs.Words.{spelled}
 use Rattle.break_signals.specs.Breaks.{OwnBreaks, own_due, after_brk, after_ack, ticked}
-use Rattle.lapm_link.specs.declared.sent.Sent.{Sent}
-use Rattle.lapm_link.specs.declared.sent.Sent.TheVariants as slots
+use Rattle.slot_contents.specs.declared.sent.Sent.{Sent}
+use Rattle.slot_contents.specs.declared.sent.Sent.TheVariants as slots
 use Rattle.lapm_link.specs.declared.phase.Phase.{Phase}
 use Rattle.lapm_link.specs.declared.phase.Phase.TheVariants.{Detecting, Negotiating, Establishing, Connected, Releasing, Closed}
 use Rattle.lapm_link.specs.declared.fault.LinkFault.{LinkFault}
 use Rattle.lapm_link.specs.declared.fault.LinkFault.TheVariants.{NotDetected, Spent}
 use Rattle.lapm_link.specs.declared.answer.Answer.{Answer}
 use Rattle.lapm_link.specs.declared.answer.Answer.TheVariants as answers
-use Rattle.lapm_link.specs.Account.{Account, is_originator}
+use Rattle.lapm_link.specs.Account.{Account}
+use Rattle.roles.specs.Role.{is_originator}
 use Rattle.lapm_link.specs.Hear.{trying}
 
 -- What is sent, its meant number, and the account after it. The meant number is, of an I frame, that of its segment, of an SREJ the one asked for,

@@ -1,6 +1,6 @@
 -- For which account an end stands, and what its calls then answer. An end keeps of its account what its state can still need.
 use Rattle.std.specs.Prelude.{◌≡◌, ℕ, ◌<◌, ◌≤◌, Bool, false, if◌then◌else◌, nat_lt, length, Option, Some, None, Result, Ok, Err, slice_index_or}
-use Rattle.lapm_frames.specs.declared.frame.Role.TheVariants.{Originator, Answerer}
+use Rattle.roles.specs.declared.role.Role.TheVariants.{Originator, Answerer}
 use Rattle.lapm_frames.specs.declared.frame.Frame.{Frame}
 use Rattle.lapm_frames.specs.declared.frame.Frame.TheVariants.{I, Rr, Rnr, Rej, Srej, Sabme, Disc, Ua, Dm, Frmr, Ui, Xid, Test}
 use Rattle.xid_params.specs.declared.terms.Terms.{Terms}
@@ -12,9 +12,9 @@ use Rattle.break_signals.specs.Breaks.{no_breaks, none_heard}
 use Rattle.break_signals.specs.Keeping.{StandsOwn, StandsTheirs}
 use Rattle.lapm_link.specs.declared.setup.Setup.{Setup}
 use Rattle.lapm_link.specs.declared.answer.Answer.{Answer}
-use Rattle.lapm_link.specs.declared.arrived.Arrived.{Arrived}
-use Rattle.lapm_link.specs.declared.arrived.Arrived.TheVariants as arrivals
-use Rattle.lapm_link.specs.declared.sent.Sent.{Sent}
+use Rattle.slot_contents.specs.declared.arrived.Arrived.{Arrived}
+use Rattle.slot_contents.specs.declared.arrived.Arrived.TheVariants as arrivals
+use Rattle.slot_contents.specs.declared.sent.Sent.{Sent}
 use Rattle.lapm_link.specs.declared.fault.LinkFault.{LinkFault}
 use Rattle.lapm_link.specs.declared.phase.Phase.{Phase}
 use Rattle.lapm_link.specs.declared.phase.Phase.TheVariants as phases

@@ -1,6 +1,6 @@
 // An answerer that has heard an offer.
 ghost use Rattle.std.specs.Prelude.{◌≡◌};
-ghost use Rattle.lapm_frames.specs.declared.frame.Role.{Role};
+ghost use Rattle.roles.specs.declared.role.Role.{Role};
 ghost use Rattle.xid_params.specs.Offers.{IsAllowed, offer_in};
 ghost use Rattle.xid_params.specs.Terms.{agree};
 

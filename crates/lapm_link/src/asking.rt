@@ -1,6 +1,6 @@
 // An originator that sends its offer.
 ghost use Rattle.std.specs.Prelude.{◌≡◌, IfOk};
-ghost use Rattle.lapm_frames.specs.declared.frame.Role.{Role};
+ghost use Rattle.roles.specs.declared.role.Role.{Role};
 ghost use Rattle.xid_params.specs.Offers.{offer_in};
 
 use crate::attempt::Attempt;

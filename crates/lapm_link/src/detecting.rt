@@ -1,6 +1,6 @@
 // An end that looks for the other one.
 ghost use Rattle.std.specs.Prelude.{◌≡◌, ◌<◌, ◌^◌, ◌+◌, ◌*◌, nat_le, IfOk};
-ghost use Rattle.lapm_frames.specs.declared.frame.Role.{Role};
+ghost use Rattle.roles.specs.declared.role.Role.{Role};
 ghost use Rattle.xid_params.specs.Offers.{offer_in};
 ghost use Rattle.lapm_link.specs.Fits.{IsSetUp};
 
@@ -10,10 +10,11 @@ use crate::asking::Asking;
 use crate::offers::offer_of;
 use crate::unlinked::Unlinked;
 use crate::{AnyEnd, Arrived, Broken, LinkFault, Sent, Setup};
-use detection::Seen;
 use frame_check::Info;
-use lapm_frames::{Frame, Role};
+use lapm_frames::Frame;
 use outside_core::NoMemory;
+use roles::Role;
+use slot_contents::Seen;
 use std::alloc::Global;
 use xid_params::default_offer;
 

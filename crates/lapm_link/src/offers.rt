@@ -1,12 +1,12 @@
 // Offers in the information of XID frames.
 ghost use Rattle.std.specs.Prelude.{◌≡◌, IfSome};
-ghost use Rattle.lapm_frames.specs.declared.frame.Role.{Role};
+ghost use Rattle.roles.specs.declared.role.Role.{Role};
 ghost use Rattle.xid_params.specs.Terms.{agree};
 ghost use Rattle.xid_params.specs.Offers.{offer_in, written, IsAllowed};
 ghost use Rattle.lapm_link.specs.Fits.{agreed_by};
 
 use frame_check::Info;
-use lapm_frames::Role;
+use roles::Role;
 use xid_params::{Offer, Terms, agree, read_offer, write_offer};
 
 /// The offer that the information spells, where it isn't refused.

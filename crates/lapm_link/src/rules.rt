@@ -10,8 +10,9 @@ use crate::terms::is_originator;
 use crate::{AnyEnd, Arrived, Broken, Closed, LinkFault};
 use break_signals::{BreakWord, read_break};
 use frame_check::Info;
-use lapm_frames::{Frame, Role};
+use lapm_frames::Frame;
 use lapm_sender::BadAck;
+use roles::Role;
 
 /// What the end breaks by, where an acknowledgement is of no number that was sent.
 fn bad_ack(bad: BadAck) -> LinkFault

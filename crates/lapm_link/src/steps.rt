@@ -2,7 +2,7 @@
 ghost use Rattle.std.specs.Prelude.{◌≡◌, ◌<◌, ◌^◌, true, false, IfOk};
 ghost use Rattle.lapm_frames.specs.declared.frame.Frame.{Frame};
 ghost use Rattle.break_signals.specs.Words.{number_of, spelled};
-ghost use Rattle.lapm_link.specs.declared.sent.Sent.{Sent};
+ghost use Rattle.slot_contents.specs.declared.sent.Sent.{Sent};
 
 use crate::answer::slot_of;
 use crate::attempt::Attempt;

@@ -1,9 +1,10 @@
 // Roles, and the agreed terms by role.
 ghost use Rattle.std.specs.Prelude.{◌≡◌};
-ghost use Rattle.lapm_link.specs.Roles.{other};
-ghost use Rattle.lapm_link.specs.Account.{is_originator, size_for, window_for};
+ghost use Rattle.roles.specs.Role.{other};
+ghost use Rattle.lapm_link.specs.Account.{size_for, window_for};
+ghost use Rattle.roles.specs.Role.{is_originator};
 
-use lapm_frames::Role;
+use roles::Role;
 use xid_params::Terms;
 
 /// The other end's role.

@@ -13,13 +13,13 @@ use Rattle.bit_stuffing.proofs.Fill.{length-flags, next-low}
 use Rattle.bit_stuffing.proofs.Sizes.{length-slot_bits, length-empty, length-opening}
 use Rattle.detection.specs.Slots.{Signal, slot_of, slots_of}
 use Rattle.detection.specs.Slots.Signal.{PatternSlot, MarkSlot, FlagSlot}
-use Rattle.lapm_frames.specs.declared.frame.Role.{Role}
-use Rattle.lapm_frames.specs.declared.frame.Role.TheVariants.{Originator, Answerer}
+use Rattle.roles.specs.declared.role.Role.{Role}
+use Rattle.roles.specs.declared.role.Role.TheVariants.{Originator, Answerer}
 use Rattle.lapm_frames.specs.declared.frame.Frame.{Frame}
 use Rattle.lapm_frames.specs.declared.frame.Frame.TheVariants.{I, Rr, Rnr, Rej, Srej, Sabme, Disc, Ua, Dm, Frmr, Ui, Xid, Test}
 use Rattle.lapm_frames.specs.Frame.{IsFrame, address_of, numbered, marked, spelled}
-use Rattle.lapm_link.specs.declared.sent.Sent.{Sent}
-use Rattle.lapm_link.specs.declared.sent.Sent.TheVariants as sent
+use Rattle.slot_contents.specs.declared.sent.Sent.{Sent}
+use Rattle.slot_contents.specs.declared.sent.Sent.TheVariants as sent
 use Rattle.sample_line.specs.Signals.{check_for, checked, signal_of, IsCodable, IsSendable}
 use Rattle.line_laws.specs.Fitting.{Fits, AreFit, HasOctets, OfOctets, information_of}
 use Rattle.line_laws.proofs.Patterns.{ArePlain}

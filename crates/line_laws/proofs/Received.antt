@@ -23,21 +23,22 @@ use Rattle.bit_stuffing.specs.Sent.{FoundIn, wholes}
 use Rattle.bit_stuffing.specs.Slots.{phase_after, sent_bits, slot_bits}
 use Rattle.bit_stuffing.proofs.Fill.{bits-append}
 use Rattle.bit_stuffing.proofs.Sent.{pieces-stay}
-use Rattle.detection.specs.declared.seen.Seen.{Seen}
-use Rattle.detection.specs.declared.seen.Seen.TheVariants as seen
+use Rattle.slot_contents.specs.declared.seen.Seen.{Seen}
+use Rattle.slot_contents.specs.declared.seen.Seen.TheVariants as seen
 use Rattle.detection.specs.Sights.{Sight, seen_in, sights_of}
 use Rattle.detection.specs.Slots.{Signal, signal_bits, slot_of, slots_of}
-use Rattle.lapm_frames.specs.declared.frame.Role.{Role}
+use Rattle.roles.specs.declared.role.Role.{Role}
 use Rattle.lapm_frames.specs.declared.frame.Frame.{Frame}
 use Rattle.lapm_frames.specs.declared.frame.Frame.TheVariants.{I, Rr, Rnr, Rej, Srej, Sabme, Disc, Ua, Dm, Frmr, Ui, Xid, Test}
 use Rattle.lapm_frames.specs.Frame.{IsFrame, spelled}
-use Rattle.lapm_link.specs.declared.sent.Sent.{Sent}
-use Rattle.lapm_link.specs.declared.sent.Sent.TheVariants as sent
+use Rattle.slot_contents.specs.declared.sent.Sent.{Sent}
+use Rattle.slot_contents.specs.declared.sent.Sent.TheVariants as sent
 use Rattle.noise_script.specs.Script.{ScriptValue}
-use Rattle.sample_line.specs.declared.heard.Heard.{Heard}
-use Rattle.sample_line.specs.declared.heard.Heard.TheVariants.{Chance}
+use Rattle.slot_contents.specs.declared.heard.Heard.{Heard}
+use Rattle.slot_contents.specs.declared.heard.Heard.TheVariants.{Chance}
 use Rattle.sample_line.specs.Outcomes.{IsPattern, IsOutcome}
-use Rattle.sample_line.specs.Recorded.{mode_of, Records}
+use Rattle.sample_line.specs.Recorded.{Records}
+use Rattle.roles.specs.Role.{mode_of}
 use Rattle.sample_line.specs.Received.{line_trellis, AreFrames, FoundBetween, Gives, Receives, SpellsFrame}
 use Rattle.sample_line.specs.Signals.{check_for, check_heard, checked, signal_of, IsSendable}
 use Rattle.sample_line.specs.Line.{bits_behind, Kept, Passes, PassesSlot, sender_of, size_of}

@@ -3,12 +3,13 @@ use Rattle.std.proofs.Common.{◌≡◌, ◌∙◌, ℕ, zero, suc, ◌+◌, ◌
 use Rattle.std.proofs.Math.Nat.{mul_assoc}
 use Rattle.std.specs.List.{flat_map}
 use Rattle.std.proofs.lemmas.List.Elements.{All-nil, All-cons, All-head, All-tail}
-use Rattle.frame_check.specs.Bits.{low_bits, number}
+use Rattle.plain_lists.specs.Bits.{low_bits, number}
 use Rattle.differential.specs.Turned.{turned}
 use Rattle.differential.proofs.Places.{turned-snoc}
 use Rattle.scramblers.specs.Mode.{tap_of}
 use Rattle.scramblers.specs.Scrambles.{Scrambles}
-use Rattle.scramblers.specs.Stream.{xor, earlier}
+use Rattle.scramblers.specs.Stream.{earlier}
+use Rattle.plain_lists.specs.Xor.{xor}
 use Rattle.scramblers.proofs.Streams.{Scrambles-more}
 use Rattle.symbol_map.specs.declared.sample.Sample.{Sample}
 use Rattle.symbol_map.specs.Points.{point_of}
@@ -20,10 +21,11 @@ use Rattle.trellis_tables.proofs.Tables.{next_by_y-lt}
 use Rattle.trellis_tables.proofs.Codings.{Encodes-more}
 use Rattle.survivors.specs.Survivors.{LostIs}
 use Rattle.survivors.proofs.Fronts.{lost-stays}
-use Rattle.lapm_frames.specs.declared.frame.Role.{Role}
-use Rattle.lapm_frames.specs.declared.frame.Role.TheVariants.{Originator, Answerer}
+use Rattle.roles.specs.declared.role.Role.{Role}
+use Rattle.roles.specs.declared.role.Role.TheVariants.{Originator, Answerer}
 use Rattle.noise_script.specs.Script.{ScriptValue}
-use Rattle.sample_line.specs.Recorded.{mode_of, displaced_from, Records}
+use Rattle.sample_line.specs.Recorded.{displaced_from, Records}
+use Rattle.roles.specs.Role.{mode_of}
 use Rattle.sample_line.specs.Received.{line_trellis, line_depth}
 use Rattle.sample_line.specs.Path.{LosesAt, LosesWithin}
 use Rattle.sample_line.proofs.Once.{recordings-grow}

@@ -12,13 +12,15 @@ use Rattle.noiseless_line.specs.Noiseless.{IsNoiseless}
 use Rattle.noiseless_line.proofs.Followed.{never-lost}
 use Rattle.demodulator.specs.Demodulates.{Demodulates}
 use Rattle.demodulator.proofs.Readings.{comes-back, four-each}
-use Rattle.lapm_frames.specs.declared.frame.Role.{Role}
+use Rattle.roles.specs.declared.role.Role.{Role}
 use Rattle.noise_script.specs.declared.entry.Hit.{Hit}
 use Rattle.noise_script.specs.declared.entry.Noise.{Noise}
-use Rattle.noise_script.specs.Offsets.{covers, drawn_offset, nothing, hit_offset, noise_offset, same_role, stream_of, sum_of, word_at}
+use Rattle.noise_script.specs.Offsets.{covers, drawn_offset, nothing, hit_offset, noise_offset, stream_of, sum_of, word_at}
+use Rattle.roles.specs.Role.{same_role}
 use Rattle.noise_script.specs.Offsets as offsets
 use Rattle.noise_script.specs.Script.{ScriptValue}
-use Rattle.sample_line.specs.Recorded.{displaced, displaced_from, mode_of, Records}
+use Rattle.sample_line.specs.Recorded.{displaced, displaced_from, Records}
+use Rattle.roles.specs.Role.{mode_of}
 use Rattle.sample_line.specs.Received.{line_trellis, line_depth}
 use Rattle.sample_line.specs.Path.{LosesAt, LosesWithin}
 use Rattle.line_laws.specs.Unhindered.{DisplacesNoneBefore}

@@ -7,8 +7,9 @@ use Rattle.detection.specs.Slots.{Signal, slot_of}
 use Rattle.detection.specs.Slots.Signal.{PatternSlot, MarkSlot, FlagSlot}
 use Rattle.lapm_frames.specs.declared.frame.Frame.{Frame}
 use Rattle.lapm_frames.specs.declared.frame.Frame.TheVariants.{I, Rr, Rnr, Rej, Srej, Sabme, Disc, Ua, Dm, Frmr, Ui, Xid, Test}
-use Rattle.lapm_link.specs.declared.sent.Sent.{Sent}
-use Rattle.lapm_link.specs.declared.sent.Sent.TheVariants as sent
+use Rattle.slot_contents.specs.declared.sent.Sent.{Sent}
+use Rattle.slot_contents.specs.declared.sent.Sent.TheVariants as sent
+use Rattle.plain_lists.specs.Octets.{AreOctets}
 
 -- What fits a slot of this size, behind so many bits of an unfinished flag: a frame that a deframer takes, behind whose closing flag
 -- the bits of TAIL symbols are left.
@@ -44,7 +45,7 @@ abbrev pub OfOctets : Signal → Type 0
 OfOctets (PatternSlot seen) = Unit {0}
 OfOctets MarkSlot = Unit {0}
 OfOctets (FlagSlot None) = Unit {0}
-OfOctets (FlagSlot (Some octets)) = All (λ octet. octet < 256) octets
+OfOctets (FlagSlot (Some octets)) = AreOctets octets
 
 -- and so is the information of a frame that is sent
 abbrev pub HasOctets : Sent → Type 0
@@ -52,4 +53,4 @@ HasOctets sent.Mark = Unit {0}
 HasOctets sent.Odp = Unit {0}
 HasOctets sent.Adp = Unit {0}
 HasOctets sent.Flags = Unit {0}
-HasOctets (sent.Frame frame) = All (λ octet. octet < 256) (information_of frame)
+HasOctets (sent.Frame frame) = AreOctets (information_of frame)

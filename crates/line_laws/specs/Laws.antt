@@ -6,19 +6,19 @@ use Rattle.survivors.specs.Survivors.{LostIs}
 use Rattle.exact_decoder.specs.declared.decoder.Lost.{Lost}
 use Rattle.bit_stuffing.specs.declared.slot_writer.TheConstants.{HEAD, TAIL}
 use Rattle.bit_stuffing.specs.Slots.{AreSlots, phase_after}
-use Rattle.detection.specs.declared.seen.Seen.{Seen}
+use Rattle.slot_contents.specs.declared.seen.Seen.{Seen}
 use Rattle.detection.specs.Slots.{Signal, signal_bits, slots_of}
-use Rattle.lapm_frames.specs.declared.frame.Role.{Role}
+use Rattle.roles.specs.declared.role.Role.{Role}
 use Rattle.lapm_frames.specs.declared.frame.Frame.{Frame}
 use Rattle.lapm_frames.specs.Frame.{IsFrame}
-use Rattle.lapm_link.specs.declared.sent.Sent.{Sent}
-use Rattle.lapm_link.specs.declared.sent.Sent.TheVariants as sent
+use Rattle.slot_contents.specs.declared.sent.Sent.{Sent}
+use Rattle.slot_contents.specs.declared.sent.Sent.TheVariants as sent
 use Rattle.noise_script.specs.declared.entry.Hit.{Hit}
 use Rattle.noise_script.specs.declared.entry.Noise.{Noise}
-use Rattle.noise_script.specs.Offsets.{same_role}
+use Rattle.roles.specs.Role.{same_role}
 use Rattle.noise_script.specs.Script.{ScriptValue}
-use Rattle.sample_line.specs.declared.heard.Heard.{Heard}
-use Rattle.sample_line.specs.declared.heard.Heard.TheVariants as heard
+use Rattle.slot_contents.specs.declared.heard.Heard.{Heard}
+use Rattle.slot_contents.specs.declared.heard.Heard.TheVariants as heard
 use Rattle.sample_line.specs.Signals.{checked, signal_of, IsCodable, IsSendable}
 use Rattle.sample_line.specs.Recorded.{Records}
 use Rattle.sample_line.specs.Received.{Receives, line_trellis, line_depth}

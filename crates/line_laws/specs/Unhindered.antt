@@ -1,15 +1,15 @@
 -- What a line makes of slots if nothing hinders them.
 use Rattle.std.specs.Prelude.{◌≡◌, ℕ, ◌<◌, Bool, if◌then◌else◌, List, [], ◌∷◌, replicate}
-use Rattle.detection.specs.declared.seen.Seen.{Seen}
-use Rattle.detection.specs.declared.seen.Seen.TheVariants as seen
-use Rattle.lapm_frames.specs.declared.frame.Role.{Role}
+use Rattle.slot_contents.specs.declared.seen.Seen.{Seen}
+use Rattle.slot_contents.specs.declared.seen.Seen.TheVariants as seen
+use Rattle.roles.specs.declared.role.Role.{Role}
 use Rattle.lapm_frames.specs.declared.frame.Frame.{Frame}
-use Rattle.lapm_link.specs.declared.sent.Sent.{Sent}
-use Rattle.lapm_link.specs.declared.sent.Sent.TheVariants as sent
+use Rattle.slot_contents.specs.declared.sent.Sent.{Sent}
+use Rattle.slot_contents.specs.declared.sent.Sent.TheVariants as sent
 use Rattle.noise_script.specs.Offsets.{nothing}
 use Rattle.noise_script.specs.Script.{ScriptValue, offset_of}
-use Rattle.sample_line.specs.declared.heard.Heard.{Heard}
-use Rattle.sample_line.specs.declared.heard.Heard.TheVariants as heard
+use Rattle.slot_contents.specs.declared.heard.Heard.{Heard}
+use Rattle.slot_contents.specs.declared.heard.Heard.TheVariants as heard
 use Rattle.sample_line.specs.Outcomes.{is_message}
 
 -- no line of the script displaces one of this sender's first symbols, so many

@@ -12,8 +12,8 @@ use Rattle.bit_stuffing.specs.Slots.{Slot, AreSlots, opening, sent_bits, phase_a
 use Rattle.bit_stuffing.proofs.Fill.{bits-append}
 use Rattle.bit_stuffing.proofs.Sent.{found-is-sent}
 use Rattle.lapm_frames.specs.declared.frame.Frame.{Frame}
-use Rattle.lapm_frames.specs.declared.frame.Role.{Role}
-use Rattle.lapm_frames.specs.declared.frame.Role.TheVariants.{Originator, Answerer}
+use Rattle.roles.specs.declared.role.Role.{Role}
+use Rattle.roles.specs.declared.role.Role.TheVariants.{Originator, Answerer}
 use Rattle.lapm_frames.specs.Frame.{IsFrame, address_of, numbered, spelled}
 use Rattle.thin_link.specs.declared.sent.Sent.{Sent}
 use Rattle.thin_link.specs.declared.sent.Sent.TheVariants as sent
@@ -25,7 +25,8 @@ use Rattle.line_world.specs.Heard.{frame_heard, frame_sent}
 use Rattle.line_world.specs.Run.{Files, Turn, Ends, piece_at, offered_at, offered, listens, last_sent, GoingTurn, RunOf}
 use Rattle.line_world.specs.Slots.{CanBeSent, bits_sent, frame_octets, slot_of, slot_sent, slot_size}
 use Rattle.line_world.specs.Received.{BringNone, BringsFrame, IsLast, Receives}
-use Rattle.line_world.specs.Crossing.{AreOctets, LastReceived, slots_before, slots_of}
+use Rattle.line_world.specs.Crossing.{LastReceived, slots_before, slots_of}
+use Rattle.plain_lists.specs.Octets.{AreOctets}
 use Rattle.line_world.proofs.Frames.{frame-long, frame-short}
 use Rattle.line_world.proofs.Received.{received-none}
 use Rattle.line_world.proofs.Directions.{flags-fit, frame-fits, slots-more, slot-received}

@@ -15,7 +15,7 @@ use Rattle.bit_stuffing.proofs.Fill.{phase-low, bits-append}
 use Rattle.bit_stuffing.proofs.Sent.{found-is-sent}
 use Rattle.bit_stuffing.proofs.Sizes.{length-empty, length-opening}
 use Rattle.lapm_frames.specs.declared.frame.Frame.{Frame}
-use Rattle.lapm_frames.specs.declared.frame.Role.{Role}
+use Rattle.roles.specs.declared.role.Role.{Role}
 use Rattle.thin_link.specs.declared.sent.Sent.{Sent}
 use Rattle.thin_link.specs.declared.sent.Sent.TheVariants as sent
 use Rattle.thin_link.specs.Sent.{frame_of, IsSendable}

@@ -8,7 +8,7 @@ use Rattle.frame_check.specs.declared.sizes.TheConstants.{INFO, WHOLE}
 use Rattle.frame_check.proofs.Checks.{length-check_of, with_check-is, with_check-one, front-checked}
 use Rattle.lapm_frames.specs.declared.frame.Frame.{Frame}
 use Rattle.lapm_frames.specs.declared.frame.Frame.TheVariants.{I, Rr, Rnr, Rej, Srej, Sabme, Disc, Ua, Dm, Frmr, Ui, Xid, Test}
-use Rattle.lapm_frames.specs.declared.frame.Role.{Role}
+use Rattle.roles.specs.declared.role.Role.{Role}
 use Rattle.lapm_frames.specs.declared.fault.FrameFault.{FrameFault}
 use Rattle.lapm_frames.specs.Frame.{FrameSpelling, IsFrame, spelled}
 use Rattle.lapm_frames.proofs.Spellings.{frames-one}

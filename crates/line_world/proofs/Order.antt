@@ -7,12 +7,12 @@ use Rattle.std.proofs.lemmas.Bool.Decides.{nat_tests}
 use Rattle.std.proofs.lemmas.Option.{slice_get_past, slice_get_within, same_Some}
 use Rattle.std.proofs.lemmas.List.{take-append-le, take-append-drop}
 use Rattle.std.proofs.lemmas.List.Folds.{concat-append}
-use Rattle.outside_core.specs.Prefix.{IsPrefixOf}
+use Rattle.plain_lists.specs.Prefix.{IsPrefixOf}
 use Rattle.frame_check.specs.declared.sizes.TheConstants.{INFO}
 use Rattle.lapm_frames.specs.declared.frame.Frame.{Frame}
 use Rattle.lapm_frames.specs.declared.frame.Frame.TheVariants.{Rr}
-use Rattle.lapm_frames.specs.declared.frame.Role.{Role}
-use Rattle.lapm_frames.specs.declared.frame.Role.TheVariants.{Originator, Answerer}
+use Rattle.roles.specs.declared.role.Role.{Role}
+use Rattle.roles.specs.declared.role.Role.TheVariants.{Originator, Answerer}
 use Rattle.thin_link.specs.declared.sent.Sent.{Sent}
 use Rattle.thin_link.specs.declared.sent.Sent.TheVariants as sent
 use Rattle.thin_link.specs.declared.end.TheConstants.{TRIES}

@@ -2,10 +2,11 @@
 use Rattle.std.proofs.Common.{◌≡◌, ◌≢◌, inl, inr, ℕ, zero, suc, ◌+◌, ◌-◌, ◌*◌, ◌^◌, ◌<◌, ◌≤◌, List, [], ◌∷◌, ◌++◌, length, take, get_or, refl, sym, ap, subst, ◌∙◌, arith, codes, append-nil, add-one, length-append, lit<}
 use Rattle.std.proofs.lemmas.Grind.{common_steps}
 use Rattle.std.specs.List.{All}
-use Rattle.lapm_frames.specs.declared.frame.Role.{Role}
-use Rattle.lapm_frames.specs.declared.frame.Role.TheVariants.{Originator, Answerer}
+use Rattle.roles.specs.declared.role.Role.{Role}
+use Rattle.roles.specs.declared.role.Role.TheVariants.{Originator, Answerer}
 use Rattle.line_world.specs.declared.script.Loss.{Loss}
-use Rattle.line_world.specs.Script.{IsDigit, value_of, role_word, IsNumber, LossLine, Lacks, IsCut, Begins, SpellsUpTo, Spells, FirstFault}
+use Rattle.line_world.specs.Script.{IsDigit, value_of, IsNumber, LossLine, Lacks, IsCut, Begins, SpellsUpTo, Spells, FirstFault}
+use Rattle.roles.specs.Role.{role_word}
 
 cons-head : {X : Type 0} (x y : X) (xs ys : List X) → x ∷ xs ≡ y ∷ ys → x ≡ y
 cons-head x y xs ys e = cc

@@ -2,15 +2,13 @@
 use Rattle.std.specs.Prelude.{ℕ, ◌<◌, List, [], ◌∷◌, ◌++◌, All, Option}
 use Rattle.bit_stuffing.specs.Slots.{Slot, phase_after, sent_bits}
 use Rattle.lapm_frames.specs.declared.frame.Frame.{Frame}
-use Rattle.lapm_frames.specs.declared.frame.Role.{Role}
-use Rattle.lapm_frames.specs.declared.frame.Role.TheVariants.{Originator, Answerer}
+use Rattle.roles.specs.declared.role.Role.{Role}
+use Rattle.roles.specs.declared.role.Role.TheVariants.{Originator, Answerer}
 use Rattle.thin_link.specs.declared.sent.Sent.{Sent}
 use Rattle.line_world.specs.Run.{Turn, last_sent}
 use Rattle.line_world.specs.Slots.{bits_sent, slot_sent, slot_size}
 use Rattle.line_world.specs.Received.{Receives}
-
-abbrev pub AreOctets : List ℕ → Type 0
-AreOctets octets = All (λ octet. octet < 256) octets
+use Rattle.plain_lists.specs.Octets.{AreOctets}
 
 -- what a role sent in a turn
 abbrev pub sent_in : Role → Turn → Option Sent

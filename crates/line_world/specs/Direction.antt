@@ -3,7 +3,7 @@ use Rattle.std.specs.Prelude.{◌≡◌, List, [], ◌++◌, Option}
 use Rattle.bit_stuffing.specs.BitSlot.{line_bits}
 use Rattle.bit_stuffing.specs.SlotWriter.{WriterStands}
 use Rattle.bit_stuffing.specs.Slots.{Slot, AreSlots, sent_bits, phase_after}
-use Rattle.lapm_frames.specs.declared.frame.Role.{Role}
+use Rattle.roles.specs.declared.role.Role.{Role}
 use Rattle.thin_link.specs.declared.sent.Sent.{Sent}
 use Rattle.line_world.specs.declared.direction.Direction.{Direction}
 use Rattle.line_world.specs.Receiver.{ReceiverStands, source_of}

@@ -1,7 +1,7 @@
 -- For which bits a receiver stands.
 use Rattle.std.specs.Prelude.{Bool, List, ◌++◌}
 use Rattle.bit_stuffing.specs.Deframer.{DeframerStands}
-use Rattle.lapm_frames.specs.declared.frame.Role.{Role}
+use Rattle.roles.specs.declared.role.Role.{Role}
 use Rattle.line_world.specs.declared.receiver.Receiver.{Receiver}
 use Rattle.line_world.specs.Received.{Receives}
 

@@ -1,8 +1,8 @@
 -- Runs of two ends in turns, over two files and a script.
 use Rattle.std.specs.Prelude.{◌≡◌, ℕ, ◌+◌, ◌-◌, ◌*◌, ◌/◌, ◌&&◌, is_some, Bool, true, false, List, [], ◌∷◌, length, take, drop, unwrap_or, Option, Some, None}
 use Rattle.frame_check.specs.declared.sizes.TheConstants.{INFO}
-use Rattle.lapm_frames.specs.declared.frame.Role.{Role}
-use Rattle.lapm_frames.specs.declared.frame.Role.TheVariants.{Originator, Answerer}
+use Rattle.roles.specs.declared.role.Role.{Role}
+use Rattle.roles.specs.declared.role.Role.TheVariants.{Originator, Answerer}
 use Rattle.thin_link.specs.declared.sent.Sent.{Sent}
 use Rattle.thin_link.specs.Account.{Account, fresh, hear, undelivered, deliver, wants, offer, whole, Spoken, speak}
 use Rattle.line_world.specs.declared.script.Loss.{Loss}

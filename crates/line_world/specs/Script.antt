@@ -1,26 +1,18 @@
 -- Scripts of lost slots: what they mean, and how they are spelled.
 use Rattle.std.specs.Prelude.{◌≡◌, ◌≢◌, ◌⊎◌, ℕ, ◌+◌, ◌-◌, ◌*◌, ◌^◌, ◌<◌, ◌≤◌, ◌&&◌, nat_lt, nat_le, Bool, true, false, List, [], ◌∷◌, ◌++◌, length, codes}
 use Rattle.std.specs.List.{list_any, All}
-use Rattle.lapm_frames.specs.declared.frame.Role.{Role}
-use Rattle.lapm_frames.specs.declared.frame.Role.TheVariants.{Originator, Answerer}
-use Rattle.noise_script.specs.declared.cause.Cause.TheVariants.{Word}
+use Rattle.roles.specs.declared.role.Role.{Role}
+use Rattle.roles.specs.declared.role.Role.TheVariants.{Originator, Answerer}
+use Rattle.script_causes.specs.declared.cause.Cause.TheVariants.{Word}
 use Rattle.line_world.specs.declared.script.Loss.{Loss}
 use Rattle.line_world.specs.declared.script.ScriptFault.{ScriptFault}
 use Rattle.line_world.specs.declared.script.ScriptFault.TheVariants as faults
-
-abbrev pub same_role : Role → Role → Bool
-same_role Originator Originator = true
-same_role Originator Answerer = false
-same_role Answerer Originator = false
-same_role Answerer Answerer = true
+use Rattle.roles.specs.Role.{role_word, same_role}
 
 -- the slot that a role sends in a turn is lost: a line names it
 abbrev pub loses : List Loss → Role → ℕ → Bool
 loses losses role turn = list_any (λ l. same_role l.role role && nat_le l.from turn && nat_lt turn (l.from + l.count)) losses
 
-abbrev pub role_word : Role → List ℕ
-role_word Originator = codes "orig"
-role_word Answerer = codes "answ"
 
 abbrev pub IsDigit : ℕ → Type 0
 IsDigit octet = (48 ≤ octet) × (octet ≤ 57)

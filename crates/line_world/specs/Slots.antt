@@ -7,7 +7,7 @@ use Rattle.frame_check.specs.declared.sizes.TheConstants.{SLOT}
 use Rattle.bit_stuffing.specs.Slots.{Slot, slot_bits}
 use Rattle.bit_stuffing.specs.Slots.Slot.{Flags}
 use Rattle.lapm_frames.specs.declared.frame.Frame.{Frame}
-use Rattle.lapm_frames.specs.declared.frame.Role.{Role}
+use Rattle.roles.specs.declared.role.Role.{Role}
 use Rattle.lapm_frames.specs.Frame.{spelled}
 use Rattle.thin_link.specs.Sent.{IsSendable, frame_of}
 use Rattle.thin_link.specs.declared.sent.Sent.{Sent}

@@ -1,7 +1,7 @@
 -- For which run a world stands, and what a turn of it writes.
 use Rattle.std.specs.Prelude.{◌≡◌, ◌≢◌, ◌⊎◌, ℕ, ◌+◌, ◌≤◌, List, [], ◌∷◌, length, unwrap_or, Some, None, Result, Ok, Err}
-use Rattle.lapm_frames.specs.declared.frame.Role.{Role}
-use Rattle.lapm_frames.specs.declared.frame.Role.TheVariants.{Originator, Answerer}
+use Rattle.roles.specs.declared.role.Role.{Role}
+use Rattle.roles.specs.declared.role.Role.TheVariants.{Originator, Answerer}
 use Rattle.thin_link.specs.Account.{Spoken, hear, undelivered, speak}
 use Rattle.outside_core.specs.Folder.{FolderState, GoesOn, KeepsName, Puts, PutsPart, Rose}
 use Rattle.line_world.specs.declared.script.Loss.{Loss}

@@ -8,7 +8,8 @@ use crate::receiver::Receiver;
 use crate::{Heard, Script};
 use bit_stuffing::{BitSlot, SlotWriter};
 use frame_check::{Check, SLOT, Whole, append};
-use lapm_frames::{Frame, Role, write};
+use lapm_frames::{Frame, write};
+use roles::Role;
 use thin_link::Sent;
 
 /// A frame's octets with their check.
@@ -38,7 +39,7 @@ impl Direction {
     ghost use Rattle.bit_stuffing.specs.BitSlot.{line_bits};
     ghost use Rattle.bit_stuffing.specs.Slots.{Slot};
     ghost use Rattle.lapm_frames.specs.declared.frame.Frame.{Frame};
-    ghost use Rattle.lapm_frames.specs.declared.frame.Role.{Role};
+    ghost use Rattle.roles.specs.declared.role.Role.{Role};
     ghost use Rattle.thin_link.specs.Sent.{IsSendable};
     ghost use Rattle.thin_link.specs.declared.sent.Sent.{Sent};
     ghost use Rattle.line_world.specs.Heard.{crossed, frame_sent};

@@ -1,11 +1,12 @@
 //! What holds in every run, whatever the script loses.
 ghost use Rattle.std.specs.Prelude.{◌≡◌, List, Option, length, ◌≤◌, ◌<◌, ◌*◌, ◌+◌};
 ghost use Rattle.std.specs.List.{concat};
-ghost use Rattle.outside_core.specs.Prefix.{IsPrefixOf};
+ghost use Rattle.plain_lists.specs.Prefix.{IsPrefixOf};
 ghost use Rattle.line_world.specs.declared.script.Loss.{Loss};
 ghost use Rattle.lapm_frames.specs.declared.frame.Frame.{Frame};
-ghost use Rattle.lapm_frames.specs.declared.frame.Role.{Role};
-ghost use Rattle.line_world.specs.Crossing.{AreOctets, LastReceived};
+ghost use Rattle.roles.specs.declared.role.Role.{Role};
+ghost use Rattle.line_world.specs.Crossing.{LastReceived};
+ghost use Rattle.plain_lists.specs.Octets.{AreOctets};
 ghost use Rattle.line_world.specs.Heard.{frame_sent};
 ghost use Rattle.line_world.specs.Run.{Files, Turn, Ends, RunOf, LastTurn, last_sent, segments};
 

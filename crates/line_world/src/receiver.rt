@@ -1,6 +1,6 @@
 // The far end of a direction: frames out of the bits that arrive.
 ghost use Rattle.std.specs.Prelude.{◌≡◌, ◌≢◌, ◌<◌, ◌++◌, ◌∷◌, [], IfSome, IfNone, IsTrue, List, Bool, None, Some};
-ghost use Rattle.frame_check.specs.Bits.{low_bits};
+ghost use Rattle.plain_lists.specs.Bits.{low_bits};
 ghost use Rattle.bit_stuffing.specs.BitSlot.{line_bits};
 ghost use Rattle.bit_stuffing.specs.declared.piece.Piece.TheVariants.{Whole};
 ghost use Rattle.lapm_frames.specs.declared.frame.Frame.{Frame};
@@ -9,7 +9,8 @@ ghost use Rattle.line_world.specs.Receiver.{ReceiverStands, source_of};
 
 use bit_stuffing::{BitSlot, Deframer, Piece};
 use frame_check::{Check, passes};
-use lapm_frames::{Frame, Role, read};
+use lapm_frames::{Frame, read};
+use roles::Role;
 
 /// How many octets the check of a frame has.
 const CHECK: usize = 2;

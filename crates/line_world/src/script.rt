@@ -1,9 +1,10 @@
 // Scripts of lost slots.
 ghost use Rattle.std.specs.Prelude.{◌≡◌, MatchResult, true, false, codes, ℕ, ◌+◌, ◌-◌, ◌*◌, ◌^◌, ◌<◌, ◌≤◌, [], IfSome, IfOk, List, length, IsTrue, IsErrOf, IfErr, MatchOption};
-ghost use Rattle.line_world.specs.Script.{loses, IsDigit, IsNumber, role_word, LossLine, IsCut, Spells, IsFaultOf};
+ghost use Rattle.line_world.specs.Script.{loses, IsDigit, IsNumber, LossLine, IsCut, Spells, IsFaultOf};
+ghost use Rattle.roles.specs.Role.{role_word};
 
-use lapm_frames::Role;
-use noise_script::Cause;
+use roles::Role;
+use script_causes::Cause;
 use std::alloc::Global;
 use std::marker::Model;
 

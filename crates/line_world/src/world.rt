@@ -9,7 +9,7 @@ ghost use Rattle.line_world.specs.World.{During, WorldAfter, IsReady, files_of, 
 use crate::direction::Direction;
 use crate::station::Station;
 use crate::{Heard, Script};
-use lapm_frames::Role;
+use roles::Role;
 use outside_core::{Folder, FolderFault};
 use thin_link::Spent;
 

@@ -4,7 +4,8 @@ ghost use Rattle.frame_check.specs.declared.sizes.TheConstants.{INFO};
 ghost use Rattle.lapm_frames.specs.Frame.{IsFrame};
 
 use frame_check::{Check, INFO, Info, Whole, append};
-use lapm_frames::{Frame, FrameFault, Role, read, write};
+use lapm_frames::{Frame, FrameFault, read, write};
+use roles::Role;
 use std::process::Abort;
 
 const ORIGINATOR: Role = Role::Originator;

@@ -1,8 +1,9 @@
 // The text of each kind of frame, and numbers as texts.
-use decimal_text::put_decimal;
+use line_texts::put_decimal;
 use frame_check::Octets;
-use frame_text::{FrameText, write_frame_text};
-use lapm_frames::{Role, read};
+use line_texts::{FrameText, write_frame_text};
+use lapm_frames::read;
+use roles::Role;
 use std::test::Fail;
 
 /// The octets of a frame of the originator, and its text.

@@ -2,8 +2,8 @@
 -- information, which is one octet in all of these.
 use Rattle.std.specs.Prelude.{ℕ, zero, suc, Bool, true, false, List, [], ◌∷◌, Option, Some, None}
 use Rattle.lapm_frames.specs.declared.frame.Frame.TheVariants.{I, Rr, Rej, Srej, Sabme, Disc, Ua, Ui, Xid}
-use Rattle.lapm_link.specs.declared.sent.Sent.{Sent}
-use Rattle.lapm_link.specs.declared.sent.Sent.TheVariants as slots
+use Rattle.slot_contents.specs.declared.sent.Sent.{Sent}
+use Rattle.slot_contents.specs.declared.sent.Sent.TheVariants as slots
 use Rattle.link_traces.specs.Runs.{Row}
 
 abbrev pub odp : Sent

@@ -2,16 +2,17 @@
 use Rattle.std.proofs.Common.{◌≡◌, ◌≢◌, ◌⊎◌, inl, inr, ℕ, ◌+◌, ◌<◌, ◌≤◌, true, false, ℤ, pos, neg_ℤ, ◌<ℤ◌, ◌≤ℤ◌, List, [], ◌∷◌, ◌++◌, length, refl, sym, ap, subst, ◌∙◌, arith, append-nil}
 use Rattle.std.proofs.lemmas.Bool.{cases_eq, cases_lt, cases_Bool}
 use Rattle.std.proofs.lemmas.Int.{by_lt_z}
-use Rattle.lapm_frames.specs.declared.frame.Role.{Role}
-use Rattle.lapm_frames.specs.declared.frame.Role.TheVariants.{Originator, Answerer}
-use Rattle.noise_script.specs.declared.cause.Cause.{Cause}
-use Rattle.noise_script.specs.declared.cause.Cause.TheVariants as causes
+use Rattle.roles.specs.declared.role.Role.{Role}
+use Rattle.roles.specs.declared.role.Role.TheVariants.{Originator, Answerer}
+use Rattle.script_causes.specs.declared.cause.Cause.{Cause}
+use Rattle.script_causes.specs.declared.cause.Cause.TheVariants as causes
 use Rattle.noise_script.specs.declared.entry.Entry.{Entry}
 use Rattle.noise_script.specs.declared.forms.Form.{Form}
 use Rattle.noise_script.specs.declared.forms.Form.TheVariants as forms
 use Rattle.noise_script.specs.Lines.{begins_with, lines_of, words_of, is_passed_over}
 use Rattle.noise_script.specs.Numbers.{is_number, value_of, is_signed, signed_value_of}
-use Rattle.noise_script.specs.Forms.{Argument, ARole, Number, Signed, Value, RoleIs, NumberIs, SignedIs, row, word_of, arguments_of, form_of, values_of, most, too_many, role_word, Spells, Fails, SpellsEach, FirstFails, turn, count, symbol, coordinate, SpellsLine, Misspells}
+use Rattle.noise_script.specs.Forms.{Argument, ARole, Number, Signed, Value, RoleIs, NumberIs, SignedIs, row, word_of, arguments_of, form_of, values_of, most, too_many, Spells, Fails, SpellsEach, FirstFails, turn, count, symbol, coordinate, SpellsLine, Misspells}
+use Rattle.roles.specs.Role.{role_word}
 use Rattle.noise_script.specs.Grammar.{Says, nothing, standing, AreAllowed, IsFaulty, script_of}
 use Rattle.noise_script.specs.Laws.{SomeAnswer}
 use Rattle.noise_script.proofs.Entries.{allowed-none, allowed-more}

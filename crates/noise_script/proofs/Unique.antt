@@ -2,17 +2,18 @@
 use Rattle.std.proofs.Common.{◌≡◌, ◌⊎◌, inl, inr, ℕ, suc, ◌+◌, ◌<◌, true, false, ℤ, pos, ◌<ℤ◌, List, [], ◌∷◌, ◌++◌, length, get_or, refl, sym, ap, subst, ◌∙◌, arith}
 use Rattle.std.proofs.lemmas.Bool.{false≢true}
 use Rattle.std.proofs.lemmas.Int.{ints}
-use Rattle.lapm_frames.specs.declared.frame.Role.{Role}
-use Rattle.lapm_frames.specs.declared.frame.Role.TheVariants.{Originator, Answerer}
-use Rattle.noise_script.specs.declared.cause.Cause.{Cause}
-use Rattle.noise_script.specs.declared.cause.Cause.TheVariants as causes
+use Rattle.roles.specs.declared.role.Role.{Role}
+use Rattle.roles.specs.declared.role.Role.TheVariants.{Originator, Answerer}
+use Rattle.script_causes.specs.declared.cause.Cause.{Cause}
+use Rattle.script_causes.specs.declared.cause.Cause.TheVariants as causes
 use Rattle.noise_script.specs.declared.entry.Entry.{Entry}
 use Rattle.noise_script.specs.declared.entry.Entry.TheVariants as entries
 use Rattle.noise_script.specs.declared.forms.Form.{Form}
 use Rattle.noise_script.specs.declared.forms.Form.TheVariants as forms
 use Rattle.noise_script.specs.Lines.{begins_with, words_of, is_passed_over}
 use Rattle.noise_script.specs.Numbers.{value_of, signed_value_of}
-use Rattle.noise_script.specs.Forms.{Argument, ARole, Number, Signed, Value, RoleIs, NumberIs, SignedIs, row, word_of, arguments_of, form_of, values_of, too_many, role_word, Spells, Fails, SpellsEach, FirstFails, SpellsLine, IsUnknown, IsMiscounted, IsMisread, Misspells}
+use Rattle.noise_script.specs.Forms.{Argument, ARole, Number, Signed, Value, RoleIs, NumberIs, SignedIs, row, word_of, arguments_of, form_of, values_of, too_many, Spells, Fails, SpellsEach, FirstFails, SpellsLine, IsUnknown, IsMiscounted, IsMisread, Misspells}
+use Rattle.roles.specs.Role.{role_word}
 use Rattle.noise_script.specs.Script.{ScriptValue}
 use Rattle.noise_script.specs.Grammar.{Says, nothing, passed_over, spelled, AreAllowed, IsFaulty, script_of, ScriptSpelling, FirstFault}
 use Rattle.noise_script.proofs.Entries.{allowed-full}

@@ -1,6 +1,6 @@
 -- Reading words one behind another.
 use Rattle.std.proofs.Common.{inl, inr, ℕ, List, ◌∷◌, sym, subst}
-use Rattle.noise_script.specs.declared.cause.Cause.{Cause}
+use Rattle.script_causes.specs.declared.cause.Cause.{Cause}
 use Rattle.noise_script.specs.Forms.{Argument, Value, Reads, FailsToRead, FirstFails}
 
 pub fails-here : (argument : Argument) (arguments : List Argument) (words : List (List ℕ)) (cause : Cause) → FailsToRead argument words cause → FirstFails (argument ∷ arguments) words cause

@@ -1,9 +1,9 @@
 -- The forms of a script's lines, and how a line is spelled and misspelled.
 use Rattle.std.specs.Prelude.{◌≡◌, ◌≢◌, ◌⊎◌, ℕ, ◌<◌, ◌≤◌, true, false, ℤ, pos, neg_ℤ, ◌<ℤ◌, ◌≤ℤ◌, List, [], ◌∷◌, length, codes, Option, Some, None}
-use Rattle.lapm_frames.specs.declared.frame.Role.{Role}
-use Rattle.lapm_frames.specs.declared.frame.Role.TheVariants.{Originator, Answerer}
-use Rattle.noise_script.specs.declared.cause.Cause.{Cause}
-use Rattle.noise_script.specs.declared.cause.Cause.TheVariants as causes
+use Rattle.roles.specs.declared.role.Role.{Role}
+use Rattle.roles.specs.declared.role.Role.TheVariants.{Originator, Answerer}
+use Rattle.script_causes.specs.declared.cause.Cause.{Cause}
+use Rattle.script_causes.specs.declared.cause.Cause.TheVariants as causes
 use Rattle.noise_script.specs.declared.limits.TheConstants.{LOSE_LINES, HIT_LINES, NOISE_LINES}
 use Rattle.noise_script.specs.declared.entry.Entry.{Entry}
 use Rattle.noise_script.specs.declared.entry.Entry.TheVariants as entries
@@ -13,6 +13,7 @@ use Rattle.noise_script.specs.declared.forms.Bound.{Bound}
 use Rattle.noise_script.specs.declared.forms.Bound.TheVariants.{Once, AtMost}
 use Rattle.noise_script.specs.Lines.{begins_with, is_passed_over}
 use Rattle.noise_script.specs.Numbers.{is_number, value_of, is_signed, signed_value_of}
+use Rattle.roles.specs.Role.{role_word}
 
 -- what a word behind the first may be: a role, a number from low to high, or one that may have a minus sign
 pub data Argument : Type 0 where
@@ -80,10 +81,6 @@ values_of (entries.Tries tries) = NumberIs tries ∷ []
 values_of (entries.Lose loss) = RoleIs loss.role ∷ NumberIs loss.from ∷ NumberIs loss.count ∷ []
 values_of (entries.Hit hit) = RoleIs hit.role ∷ NumberIs hit.from ∷ NumberIs hit.count ∷ SignedIs hit.re ∷ SignedIs hit.im ∷ []
 values_of (entries.Noise noise) = RoleIs noise.role ∷ NumberIs noise.from ∷ NumberIs noise.count ∷ NumberIs noise.amplitude ∷ NumberIs noise.seed ∷ []
-
-abbrev pub role_word : Role → List ℕ
-role_word Originator = codes "orig"
-role_word Answerer = codes "answ"
 
 -- numbers are in their range, ends included
 pub record IsNumber (low high : ℕ) (word : List ℕ) (value : ℕ) : Type 0 where

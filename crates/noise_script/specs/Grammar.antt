@@ -1,6 +1,6 @@
 -- The texts that spell scripts, and the first fault of a text that spells none.
 use Rattle.std.specs.Prelude.{◌≡◌, ◌⊎◌, ℕ, ◌+◌, ◌≤◌, Bool, true, false, if◌then◌else◌, List, [], ◌∷◌, ◌++◌, length, Option, Some, None}
-use Rattle.noise_script.specs.declared.cause.Cause.{Cause}
+use Rattle.script_causes.specs.declared.cause.Cause.{Cause}
 use Rattle.noise_script.specs.declared.entry.Loss.{Loss}
 use Rattle.noise_script.specs.declared.entry.Hit.{Hit}
 use Rattle.noise_script.specs.declared.entry.Noise.{Noise}

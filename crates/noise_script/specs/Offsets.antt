@@ -1,18 +1,13 @@
 -- What the lines of a script add to the samples that an end sends.
 use Rattle.std.specs.Prelude.{ℕ, ◌+◌, ◌-◌, ◌*◌, ◌/◌, ◌%◌, ◌≤◌, ◌&&◌, nat_lt, nat_le, Bool, true, false, if◌then◌else◌, ℤ, pos, neg_ℤ, ◌+ℤ◌, ◌-ℤ◌, ◌≤ℤ◌, List, [], ◌∷◌}
-use Rattle.lapm_frames.specs.declared.frame.Role.{Role}
-use Rattle.lapm_frames.specs.declared.frame.Role.TheVariants.{Originator, Answerer}
+use Rattle.roles.specs.declared.role.Role.{Role}
+use Rattle.roles.specs.declared.role.Role.TheVariants.{Originator, Answerer}
 use Rattle.rand_pcg.specs.Lcg.{advance, started, increment_of}
 use Rattle.rand_pcg.specs.Pcg.{pcg32, multiplier_64}
 use Rattle.noise_script.specs.declared.entry.Hit.{Hit}
 use Rattle.noise_script.specs.declared.entry.Noise.{Noise}
 use Rattle.noise_script.specs.declared.offset.Offset.{Offset}
-
-abbrev pub same_role : Role → Role → Bool
-same_role Originator Originator = true
-same_role Originator Answerer = false
-same_role Answerer Originator = false
-same_role Answerer Answerer = true
+use Rattle.roles.specs.Role.{same_role}
 
 -- the place is one of count places from that one on
 abbrev pub covers : ℕ → ℕ → ℕ → Bool

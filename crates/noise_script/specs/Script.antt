@@ -2,14 +2,15 @@
 use Rattle.std.specs.Prelude.{ℕ, ◌≤◌, ◌&&◌, Bool, List, length, map}
 use Rattle.std.specs.List.{list_any}
 use Rattle.noise_script.specs.declared.limits.TheConstants.{LOSE_LINES, HIT_LINES, NOISE_LINES}
-use Rattle.lapm_frames.specs.declared.frame.Role.{Role}
-use Rattle.lapm_frames.specs.declared.frame.Role.TheVariants.{Originator, Answerer}
+use Rattle.roles.specs.declared.role.Role.{Role}
+use Rattle.roles.specs.declared.role.Role.TheVariants.{Originator, Answerer}
 use Rattle.noise_script.specs.declared.entry.Delays.{Delays}
 use Rattle.noise_script.specs.declared.entry.Loss.{Loss}
 use Rattle.noise_script.specs.declared.entry.Hit.{Hit}
 use Rattle.noise_script.specs.declared.entry.Noise.{Noise}
 use Rattle.noise_script.specs.declared.offset.Offset.{Offset}
-use Rattle.noise_script.specs.Offsets.{same_role, covers, plus, sum_of, hit_offset, noise_offset, AreQuiet}
+use Rattle.noise_script.specs.Offsets.{covers, plus, sum_of, hit_offset, noise_offset, AreQuiet}
+use Rattle.roles.specs.Role.{same_role}
 
 pub record ScriptValue : Type 0 where
   -- turns from the originator to the answerer, and back

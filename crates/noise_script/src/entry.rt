@@ -1,7 +1,7 @@
 // What a line of a script says.
 
 use crate::forms::Form;
-use lapm_frames::Role;
+use roles::Role;
 
 /// The slots that a role sends in `count` turns from `from` on.
 #[derive(Clone, Copy, Debug, PartialEq, Eq)]

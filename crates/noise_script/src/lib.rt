@@ -4,7 +4,6 @@
 //! is added to each symbol. [`read_script`] reads one from a text, or names the first faulty line and its [`Cause`].
 #![tactic(auto)]
 
-mod cause;
 mod draft;
 mod entry;
 mod fault;
@@ -18,10 +17,10 @@ mod reader;
 mod reading;
 mod script;
 
-pub use cause::Cause;
 pub use entry::{Hit, Loss, Noise};
 pub use fault::ScriptFault;
 pub use limits::{HIT_LINES, LOSE_LINES, NOISE_LINES, OFFSET_MOST, SCRIPT_OCTETS};
 pub use offset::Offset;
 pub use reader::read_script;
 pub use script::Script;
+pub use script_causes::Cause;

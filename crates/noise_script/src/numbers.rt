@@ -6,7 +6,7 @@ ghost use Rattle.noise_script.specs.Forms.{ARole, Number, Signed, RoleIs, Number
 
 use crate::Cause;
 use crate::forms::Range;
-use lapm_frames::Role;
+use roles::Role;
 
 /// A number of 1 to 20 decimal digits.
 fn read_digits(word: &[u8]) -> Option<u128>
@@ -64,11 +64,5 @@ pub(crate) fn read_signed(word: &[u8], low: i16, high: i16) -> Result<i16, Cause
 pub(crate) fn read_role(word: &[u8]) -> Result<Role, Cause>
     ensures { MatchResult result (λ role. Spells ARole word.now (RoleIs role)) (Fails ARole word.now) }
 {
-    if word == b"orig".as_slice() {
-        return Ok(Role::Originator);
-    }
-    if word == b"answ".as_slice() {
-        return Ok(Role::Answerer);
-    }
-    Err(Cause::Word)
+    Role::of_word(word).ok_or(Cause::Word)
 }

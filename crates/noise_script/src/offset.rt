@@ -1,10 +1,11 @@
 // Offsets of samples, as the lines of a script give them.
 ghost use Rattle.std.specs.Prelude.{◌≡◌, ◌+◌, ◌<◌, ◌≤◌, ◌*◌, ◌-◌, ◌^◌, length, map};
-ghost use Rattle.noise_script.specs.Offsets.{plus, sum_of, IsWithin, stream_of, word_at, drawn, drawn_offset, covers, same_role, hit_offset, noise_offset, IsQuiet, AreQuiet};
+ghost use Rattle.noise_script.specs.Offsets.{plus, sum_of, IsWithin, stream_of, word_at, drawn, drawn_offset, covers, hit_offset, noise_offset, IsQuiet, AreQuiet};
+ghost use Rattle.roles.specs.Role.{same_role};
 
 use crate::limits::{HIT_LINES, NOISE_LINES, OFFSET_MOST};
 use crate::{Hit, Noise};
-use lapm_frames::Role;
+use roles::Role;
 use rand_core::utils::NextWord;
 use rand_pcg::Lcg64Xsh32;
 

@@ -8,7 +8,7 @@ use crate::entry::{Delays, Entry, Hit, Loss, Noise};
 use crate::forms::{AMPLITUDE, COUNT, DELAY, Form, Range, SEED, SYMBOL, TRIES, TURN};
 use crate::lines::{count_words, next_word};
 use crate::numbers::{read_number, read_role, read_signed};
-use lapm_frames::Role;
+use roles::Role;
 
 /// The role at the front of a line, and the line behind it.
 fn role(line: &[u8]) -> Result<(Role, &[u8]), Cause>

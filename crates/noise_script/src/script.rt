@@ -6,7 +6,7 @@ ghost use Rattle.noise_script.specs.Offsets.{IsWithin};
 use crate::entry::Delays;
 use crate::offset::{covers, offset_of_hits, offset_of_noises, total};
 use crate::{Hit, Loss, Noise, OFFSET_MOST, Offset};
-use lapm_frames::Role;
+use roles::Role;
 use std::marker::Model;
 
 /// What the line does to the slots and samples that cross it, and how often an end tries.

@@ -1,5 +1,4 @@
 pub mod Folder
-pub mod Prefix
 pub mod Steps
 pub mod Store
 pub mod Transfer

@@ -2,7 +2,7 @@
 use Rattle.std.proofs.Common.{◌≡◌, ◌∙◌, ℕ, ◌*◌, ◌/◌, ◌%◌, ◌<◌, List, [], ◌∷◌, ◌++◌, length, refl, sym, ap, arith, append-nil, append_assoc, length-append}
 use Rattle.std.specs.List.{flat_map}
 use Rattle.std.proofs.lemmas.Grind.{flat_map-append}
-use Rattle.frame_check.specs.Bits.{low_bits, octet_bits, bits_of}
+use Rattle.plain_lists.specs.Bits.{low_bits, octet_bits, bits_of}
 
 -- eight bits are the low four and the high four
 two-fours : (octet : ℕ) → octet < 256 → low_bits 4 (octet % 16) ++ low_bits 4 (octet / 16) ≡ octet_bits octet

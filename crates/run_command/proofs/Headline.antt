@@ -1,10 +1,10 @@
 -- From how a run ends to the headline.
 use Rattle.std.proofs.Common.{◌≡◌, ◌≢◌, ◌⊎◌, inl, inr, ℕ, ◌+◌, ◌*◌, ◌<◌, List, ◌++◌, IsTrue, Result, Ok, Err, sym, ◌∙◌, ap, subst, arith, append_assoc}
 use Rattle.std.specs.Option.{option_map}
-use Rattle.outside_core.specs.Prefix.{IsPrefixOf}
+use Rattle.plain_lists.specs.Prefix.{IsPrefixOf}
 use Rattle.outside_core.specs.Folder.{FolderState, octets_at, GoesOn, KeepsName, Said, Rose}
 use Rattle.outside_core.specs.Steps.{KeepsName-trans, told_later, octets-kept}
-use Rattle.lapm_frames.specs.declared.frame.Role.{Role}
+use Rattle.roles.specs.declared.role.Role.{Role}
 use Rattle.line_world.specs.Run.{segments}
 use Rattle.line_world.proofs.Order.{run-linked, run-whole, mid-order, mid-prefix, heard-prefix}
 use Rattle.line_world.proofs.Bound.{run-length}

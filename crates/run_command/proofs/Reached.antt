@@ -3,7 +3,7 @@ use Rattle.std.proofs.Common.{◌≡◌, ℕ, ◌+◌, ◌-◌, ◌*◌, ◌≤�
 use Rattle.std.specs.List.{concat}
 use Rattle.outside_core.specs.Folder.{FolderState, GoesOn, Puts, PutsPart}
 use Rattle.outside_core.specs.Steps.{GoesOn-refl, GoesOn-trans, KeepsName-trans}
-use Rattle.lapm_frames.specs.declared.frame.Role.{Role}
+use Rattle.roles.specs.declared.role.Role.{Role}
 use Rattle.thin_link.specs.Account.{Account, hear}
 use Rattle.line_world.specs.declared.script.Loss.{Loss}
 use Rattle.line_world.specs.declared.heard.Heard.{Heard}

@@ -3,7 +3,7 @@ use Rattle.std.specs.Prelude.{◌≡◌, ◌≢◌, ◌⊎◌, ℕ, List, [], Re
 use Rattle.outside_core.specs.Folder.{FolderState, GoesOn, KeepsName, Rose}
 use Rattle.outside_core.specs.declared.folder.FolderFault.{FolderFault}
 use Rattle.outside_core.specs.declared.folder.FolderFault.TheVariants as folder
-use Rattle.lapm_frames.specs.declared.frame.Role.{Role}
+use Rattle.roles.specs.declared.role.Role.{Role}
 use Rattle.line_world.specs.declared.script.Loss.{Loss}
 use Rattle.line_world.specs.declared.world.RunFault.{RunFault}
 use Rattle.line_world.specs.declared.world.RunFault.TheVariants.{WriteFault, LinkLost, NoMemory}

@@ -1,7 +1,7 @@
 -- What a run promises, over the folder before and after it. What is said of a name's octets holds where the folder
 -- tells that name.
 use Rattle.std.specs.Prelude.{◌≡◌, ◌≢◌, ◌⊎◌, ℕ, ◌+◌, ◌*◌, ◌<◌, IsTrue, List}
-use Rattle.outside_core.specs.Prefix.{IsPrefixOf}
+use Rattle.plain_lists.specs.Prefix.{IsPrefixOf}
 use Rattle.outside_core.specs.Folder.{FolderState, octets_at, KeepsName, Said, Rose}
 use Rattle.line_world.specs.Run.{segments}
 use Rattle.command_base.specs.declared.status.Status.{Status}

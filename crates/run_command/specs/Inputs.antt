@@ -4,8 +4,8 @@ use Rattle.outside_core.specs.Folder.{FolderState, octets_at, Rose}
 use Rattle.line_world.specs.Run.{Files}
 use Rattle.line_world.specs.Script.{Spells, FirstFault}
 use Rattle.line_world.specs.declared.script.Loss.{Loss}
-use Rattle.noise_script.specs.declared.cause.Cause.{Cause}
-use Rattle.noise_script.specs.declared.cause.Cause.TheVariants.{Word}
+use Rattle.script_causes.specs.declared.cause.Cause.{Cause}
+use Rattle.script_causes.specs.declared.cause.Cause.TheVariants.{Word}
 use Rattle.command_base.specs.Inputs.{IsWithin, IsLonger}
 use Rattle.run_command.specs.Words.{RunNames}
 use Rattle.run_command.specs.declared.limits.Limits.{Limits}

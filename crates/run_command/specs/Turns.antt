@@ -3,8 +3,8 @@ use Rattle.std.specs.Prelude.{◌≡◌, ℕ, List, length, Result, Ok, Err}
 use Rattle.std.specs.List.{concat}
 use Rattle.outside_core.specs.Folder.{FolderState}
 use Rattle.command_base.specs.Outputs.{Holds, HoldsPart}
-use Rattle.lapm_frames.specs.declared.frame.Role.{Role}
-use Rattle.lapm_frames.specs.declared.frame.Role.TheVariants.{Originator, Answerer}
+use Rattle.roles.specs.declared.role.Role.{Role}
+use Rattle.roles.specs.declared.role.Role.TheVariants.{Originator, Answerer}
 use Rattle.line_world.specs.declared.script.Loss.{Loss}
 use Rattle.line_world.specs.declared.heard.Heard.{Heard}
 use Rattle.line_world.specs.declared.world.RunFault.{RunFault}

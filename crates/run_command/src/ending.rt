@@ -4,7 +4,7 @@ ghost use Rattle.run_command.specs.Answers.{refusal_status, fault_status, ending
 
 use command_base::Status;
 use line_world::RunFault;
-use noise_script::Cause;
+use script_causes::Cause;
 
 /// Why a run's inputs are not taken.
 #[derive(Clone, Copy, Debug, PartialEq, Eq)]

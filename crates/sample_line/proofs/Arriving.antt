@@ -3,19 +3,19 @@ use Rattle.std.proofs.Common.{◌≡◌, ◌∙◌, ℕ, Bool, List, [], ◌++�
 use Rattle.std.proofs.lemmas.List.{append-nil, take-append-drop}
 use Rattle.std.proofs.lemmas.Grind.{flat_map-append}
 use Rattle.frame_check.specs.declared.check.Check.{Check}
-use Rattle.frame_check.specs.Bits.{low_bits}
+use Rattle.plain_lists.specs.Bits.{low_bits}
 use Rattle.bit_stuffing.specs.BitSlot.{line_bits}
 use Rattle.symbol_map.specs.declared.sample.Sample.{Sample}
 use Rattle.exact_decoder.specs.declared.decoder.Lost.{Lost}
-use Rattle.lapm_frames.specs.declared.frame.Role.{Role}
-use Rattle.lapm_link.specs.declared.sent.Sent.{Sent}
+use Rattle.roles.specs.declared.role.Role.{Role}
+use Rattle.slot_contents.specs.declared.sent.Sent.{Sent}
 use Rattle.noise_script.specs.Script.{ScriptValue}
 use Rattle.sample_line.specs.declared.hearer.Hearer.{Hearer}
 use Rattle.sample_line.specs.declared.transmitter.Transmitter.{Transmitter}
 use Rattle.sample_line.specs.declared.path.Path.{Path}
 use Rattle.sample_line.specs.declared.tally.Tally.{Tally}
 use Rattle.sample_line.specs.declared.tally.Tally.TheVariants.{Silent}
-use Rattle.sample_line.specs.Recorded.{mode_of}
+use Rattle.roles.specs.Role.{mode_of}
 use Rattle.sample_line.specs.Transmits.{Transmits}
 use Rattle.sample_line.specs.Hears.{HearsSample}
 use Rattle.sample_line.specs.Path.{Carries, CarriesBetween, LosesAt, LosesWithin, Arrives}

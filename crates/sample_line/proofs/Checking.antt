@@ -6,7 +6,7 @@ use Rattle.frame_check.specs.FrameCheck.{Passes}
 use Rattle.frame_check.specs.Division.{count_of}
 use Rattle.frame_check.proofs.Checks.{front-checked}
 use Rattle.lapm_frames.specs.declared.frame.Frame.{Frame}
-use Rattle.lapm_frames.specs.declared.frame.Role.{Role}
+use Rattle.roles.specs.declared.role.Role.{Role}
 use Rattle.lapm_frames.specs.declared.fault.FrameFault.{FrameFault}
 use Rattle.lapm_frames.specs.Frame.{FrameSpelling}
 use Rattle.sample_line.specs.Signals.{check_heard}

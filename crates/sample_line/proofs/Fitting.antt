@@ -6,12 +6,12 @@ use Rattle.frame_check.specs.declared.sizes.TheConstants.{INFO, WHOLE, SLOT}
 use Rattle.frame_check.specs.Division.{check_of, count_of}
 use Rattle.frame_check.proofs.Checks.{length-check_of}
 use Rattle.bit_stuffing.proofs.Sizes.{length-opening}
-use Rattle.lapm_frames.specs.declared.frame.Role.{Role}
+use Rattle.roles.specs.declared.role.Role.{Role}
 use Rattle.lapm_frames.specs.declared.frame.Frame.{Frame}
 use Rattle.lapm_frames.specs.declared.frame.Frame.TheVariants.{I, Rr, Rnr, Rej, Srej, Sabme, Disc, Ua, Dm, Frmr, Ui, Xid, Test}
 use Rattle.lapm_frames.specs.Frame.{spelled, IsFrame}
-use Rattle.lapm_link.specs.declared.sent.Sent.{Sent}
-use Rattle.lapm_link.specs.declared.sent.Sent.TheVariants as sent
+use Rattle.slot_contents.specs.declared.sent.Sent.{Sent}
+use Rattle.slot_contents.specs.declared.sent.Sent.TheVariants as sent
 use Rattle.sample_line.specs.Signals.{check_for, checked, IsCodable, IsSendable}
 
 spelled-short : (frame : Frame) (sender : Role) (dlci : ℕ) → IsFrame frame → length (spelled frame sender dlci) ≤ 3 + INFO

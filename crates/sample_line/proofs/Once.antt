@@ -6,7 +6,7 @@ use Rattle.std.proofs.Math.Seq.{take-nil, take-append_seam}
 use Rattle.std.proofs.lemmas.List.{take-append-drop, take-map}
 use Rattle.std.proofs.lemmas.List.Elements.{All-take}
 use Rattle.frame_check.specs.declared.check.Check.{Check}
-use Rattle.frame_check.specs.Bits.{low_bits}
+use Rattle.plain_lists.specs.Bits.{low_bits}
 use Rattle.frame_check.proofs.Checks.{fronts-one}
 use Rattle.scramblers.specs.Mode.{tap_of}
 use Rattle.scramblers.proofs.Readings.{Scrambles_once, Scrambles-take, Descrambles_once}
@@ -18,22 +18,23 @@ use Rattle.survivors.proofs.Fronts.{released-once, stays-prefix}
 use Rattle.modulator.specs.Modulates.{Modulates}
 use Rattle.demodulator.specs.Demodulates.{line_of, Demodulates}
 use Rattle.demodulator.proofs.Readings.{length-fours, first-stay}
-use Rattle.detection.specs.declared.seen.Seen.{Seen}
+use Rattle.slot_contents.specs.declared.seen.Seen.{Seen}
 use Rattle.detection.specs.Sights.{Sight, sights_of}
 use Rattle.bit_stuffing.specs.Found.{Found, pieces_of}
 use Rattle.bit_stuffing.specs.Sent.{wholes}
-use Rattle.lapm_frames.specs.declared.frame.Role.{Role}
-use Rattle.lapm_frames.specs.declared.frame.Role.TheVariants.{Originator, Answerer}
+use Rattle.roles.specs.declared.role.Role.{Role}
+use Rattle.roles.specs.declared.role.Role.TheVariants.{Originator, Answerer}
 use Rattle.lapm_frames.specs.declared.frame.Frame.{Frame}
 use Rattle.lapm_frames.specs.Frame.{FrameSpelling}
 use Rattle.lapm_frames.proofs.Spellings.{frames-one}
-use Rattle.lapm_link.specs.declared.sent.Sent.{Sent}
-use Rattle.lapm_link.specs.declared.sent.Sent.TheVariants as sent
+use Rattle.slot_contents.specs.declared.sent.Sent.{Sent}
+use Rattle.slot_contents.specs.declared.sent.Sent.TheVariants as sent
 use Rattle.noise_script.specs.Script.{ScriptValue, offset_of}
-use Rattle.sample_line.specs.declared.heard.Heard.{Heard}
-use Rattle.sample_line.specs.declared.heard.Heard.TheVariants as heard
+use Rattle.slot_contents.specs.declared.heard.Heard.{Heard}
+use Rattle.slot_contents.specs.declared.heard.Heard.TheVariants as heard
 use Rattle.sample_line.specs.Outcomes.{IsSilent, IsWhatWasSent, IsOutcome}
-use Rattle.sample_line.specs.Recorded.{mode_of, displaced, displaced_from, Records}
+use Rattle.sample_line.specs.Recorded.{displaced, displaced_from, Records}
+use Rattle.roles.specs.Role.{mode_of}
 use Rattle.sample_line.specs.Received.{line_trellis, SpellsFrame, AreFrames, FoundBetween, Gives, Receives}
 use Rattle.sample_line.specs.Signals.{check_heard}
 

@@ -2,7 +2,7 @@
 use Rattle.std.proofs.Common.{◌≡◌, ◌∙◌, ◌+◌, ◌<◌, ℕ, ℤ, Bool, List, [], ◌∷◌, ◌++◌, length, take, None, refl, sym, ap, subst, arith, get_or}
 use Rattle.std.proofs.lemmas.List.{append-nil, take_more, append_assoc}
 use Rattle.std.proofs.lemmas.Grind.{flat_map-append}
-use Rattle.frame_check.specs.Bits.{low_bits}
+use Rattle.plain_lists.specs.Bits.{low_bits}
 use Rattle.bit_stuffing.specs.BitSlot.{line_bits}
 use Rattle.scramblers.specs.declared.mode.Mode.{Mode}
 use Rattle.scramblers.specs.declared.mode.Mode.TheVariants.{Call, Answer}
@@ -12,7 +12,7 @@ use Rattle.survivors.specs.Survivors.{IsReleased}
 use Rattle.exact_decoder.specs.Decoder.{heard}
 use Rattle.modulator.specs.Modulates.{Modulates}
 use Rattle.demodulator.specs.Demodulates.{Demodulates}
-use Rattle.lapm_frames.specs.declared.frame.Role.{Role}
+use Rattle.roles.specs.declared.role.Role.{Role}
 use Rattle.noise_script.specs.Script.{ScriptValue, offset_of}
 use Rattle.sample_line.specs.declared.modes.ModeModulator.{ModeModulator}
 use Rattle.sample_line.specs.declared.modes.ModeModulator.TheVariants as modulators
@@ -21,7 +21,8 @@ use Rattle.sample_line.specs.declared.modes.ModeDemodulator.TheVariants as demod
 use Rattle.sample_line.specs.declared.transmitter.Transmitter.{Transmitter}
 use Rattle.sample_line.specs.declared.hearer.Hearer.{Hearer}
 use Rattle.sample_line.specs.Modes.{ModulatesAs, DemodulatesAs}
-use Rattle.sample_line.specs.Recorded.{mode_of, saturated, displaced, displaced_from, Records}
+use Rattle.sample_line.specs.Recorded.{saturated, displaced, displaced_from, Records}
+use Rattle.roles.specs.Role.{mode_of}
 use Rattle.sample_line.specs.Received.{line_trellis, Gives}
 use Rattle.sample_line.specs.Transmits.{Transmits}
 use Rattle.sample_line.specs.Hears.{Hears}

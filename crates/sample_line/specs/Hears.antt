@@ -8,8 +8,8 @@ use Rattle.trellis_tables.specs.Table.{next_state}
 use Rattle.survivors.specs.Survivors.{LostIs}
 use Rattle.exact_decoder.specs.Decoder.{DecoderStands}
 use Rattle.exact_decoder.specs.declared.decoder.Lost.{Lost}
-use Rattle.lapm_frames.specs.declared.frame.Role.{Role}
-use Rattle.lapm_link.specs.declared.sent.Sent.{Sent}
+use Rattle.roles.specs.declared.role.Role.{Role}
+use Rattle.slot_contents.specs.declared.sent.Sent.{Sent}
 use Rattle.sample_line.specs.declared.hearer.Hearer.{Hearer}
 use Rattle.sample_line.specs.declared.tally.Tally.{Tally}
 use Rattle.sample_line.specs.Received.{line_trellis, line_depth}

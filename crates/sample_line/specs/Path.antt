@@ -4,12 +4,13 @@ use Rattle.frame_check.specs.declared.check.Check.{Check}
 use Rattle.symbol_map.specs.declared.sample.Sample.{Sample}
 use Rattle.survivors.specs.Survivors.{LostIs}
 use Rattle.exact_decoder.specs.declared.decoder.Lost.{Lost}
-use Rattle.lapm_frames.specs.declared.frame.Role.{Role}
-use Rattle.lapm_link.specs.declared.sent.Sent.{Sent}
+use Rattle.roles.specs.declared.role.Role.{Role}
+use Rattle.slot_contents.specs.declared.sent.Sent.{Sent}
 use Rattle.noise_script.specs.Script.{ScriptValue}
 use Rattle.sample_line.specs.declared.path.Path.{Path}
 use Rattle.sample_line.specs.declared.tally.Tally.{Tally}
-use Rattle.sample_line.specs.Recorded.{mode_of, Records}
+use Rattle.sample_line.specs.Recorded.{Records}
+use Rattle.roles.specs.Role.{mode_of}
 use Rattle.sample_line.specs.Received.{line_trellis, line_depth}
 use Rattle.sample_line.specs.Transmits.{Transmits}
 use Rattle.sample_line.specs.Hears.{Hears}

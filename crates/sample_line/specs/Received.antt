@@ -11,13 +11,13 @@ use Rattle.survivors.specs.Survivors.{IsReleased}
 use Rattle.demodulator.specs.Demodulates.{Demodulates}
 use Rattle.bit_stuffing.specs.Found.{Found, pieces_of}
 use Rattle.bit_stuffing.specs.Sent.{wholes}
-use Rattle.detection.specs.declared.seen.Seen.{Seen}
+use Rattle.slot_contents.specs.declared.seen.Seen.{Seen}
 use Rattle.detection.specs.Sights.{Sight, sights_of}
-use Rattle.lapm_frames.specs.declared.frame.Role.{Role}
+use Rattle.roles.specs.declared.role.Role.{Role}
 use Rattle.lapm_frames.specs.declared.frame.Frame.{Frame}
 use Rattle.lapm_frames.specs.Frame.{FrameSpelling}
 use Rattle.sample_line.specs.Signals.{check_heard}
-use Rattle.sample_line.specs.Recorded.{mode_of}
+use Rattle.roles.specs.Role.{mode_of}
 
 -- the code of the line, whose sequences start in state 0
 abbrev pub line_trellis : Trellis Sample

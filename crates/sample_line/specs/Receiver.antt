@@ -4,8 +4,8 @@ use Rattle.frame_check.specs.declared.check.Check.{Check}
 use Rattle.scramblers.specs.declared.mode.Mode.{Mode}
 use Rattle.bit_stuffing.specs.Deframer.{DeframerStands}
 use Rattle.detection.specs.Reader.{ReaderStands}
-use Rattle.lapm_frames.specs.declared.frame.Role.{Role}
-use Rattle.lapm_link.specs.declared.sent.Sent.{Sent}
+use Rattle.roles.specs.declared.role.Role.{Role}
+use Rattle.slot_contents.specs.declared.sent.Sent.{Sent}
 use Rattle.sample_line.specs.declared.receiver.Finder.{Finder}
 use Rattle.sample_line.specs.declared.receiver.Receiver.{Receiver}
 use Rattle.sample_line.specs.declared.tally.Tally.{Tally}

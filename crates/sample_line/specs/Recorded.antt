@@ -5,15 +5,11 @@ use Rattle.scramblers.specs.declared.mode.Mode.TheVariants.{Call, Answer}
 use Rattle.scramblers.specs.Mode.{tap_of}
 use Rattle.symbol_map.specs.declared.sample.Sample.{Sample}
 use Rattle.modulator.specs.Modulates.{Modulates}
-use Rattle.lapm_frames.specs.declared.frame.Role.{Role}
-use Rattle.lapm_frames.specs.declared.frame.Role.TheVariants.{Originator, Answerer}
+use Rattle.roles.specs.declared.role.Role.{Role}
+use Rattle.roles.specs.declared.role.Role.TheVariants.{Originator, Answerer}
 use Rattle.noise_script.specs.declared.offset.Offset.{Offset}
 use Rattle.noise_script.specs.Script.{ScriptValue, offset_of}
-
--- the originator called
-abbrev pub mode_of : Role → Mode
-mode_of Originator = Call
-mode_of Answerer = Answer
+use Rattle.roles.specs.Role.{mode_of}
 
 -- a coordinate is held at the ends of 16 bits
 abbrev pub saturated : ℤ → ℤ

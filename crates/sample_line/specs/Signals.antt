@@ -3,17 +3,17 @@ use Rattle.std.specs.Prelude.{ℕ, ◌%◌, ◌-◌, ◌*◌, ◌≤◌, length,
 use Rattle.frame_check.specs.declared.check.Check.{Check}
 use Rattle.frame_check.specs.declared.check.Check.TheVariants.{Sixteen}
 use Rattle.frame_check.specs.Division.{with_check}
-use Rattle.lapm_frames.specs.declared.frame.Role.{Role}
+use Rattle.roles.specs.declared.role.Role.{Role}
 use Rattle.lapm_frames.specs.declared.frame.Frame.{Frame}
 use Rattle.lapm_frames.specs.declared.frame.Frame.TheVariants.{I, Rr, Rnr, Rej, Srej, Sabme, Disc, Ua, Dm, Frmr, Ui, Xid, Test}
 use Rattle.lapm_frames.specs.Frame.{spelled, IsFrame}
 use Rattle.bit_stuffing.specs.declared.slot_writer.TheConstants.{TAIL}
 use Rattle.bit_stuffing.specs.Slots.{opening}
-use Rattle.detection.specs.declared.seen.Seen.TheVariants as seen
+use Rattle.slot_contents.specs.declared.seen.Seen.TheVariants as seen
 use Rattle.detection.specs.Slots.{Signal}
 use Rattle.detection.specs.Slots.Signal.{PatternSlot, MarkSlot, FlagSlot}
-use Rattle.lapm_link.specs.declared.sent.Sent.{Sent}
-use Rattle.lapm_link.specs.declared.sent.Sent.TheVariants as sent
+use Rattle.slot_contents.specs.declared.sent.Sent.{Sent}
+use Rattle.slot_contents.specs.declared.sent.Sent.TheVariants as sent
 
 -- the check of a frame, where the two ends agreed on this one: the frames that carry numbers have it, all others that of 16 bits
 abbrev pub check_for : Check → Frame → Check

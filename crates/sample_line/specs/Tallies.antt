@@ -1,12 +1,12 @@
 -- What was received in a slot so far, beside what was sent in it.
 use Rattle.std.specs.Prelude.{ℕ, Bool, true, false, List}
 use Rattle.frame_check.specs.declared.check.Check.{Check}
-use Rattle.lapm_frames.specs.declared.frame.Role.{Role}
+use Rattle.roles.specs.declared.role.Role.{Role}
 use Rattle.lapm_frames.specs.declared.frame.Frame.{Frame}
-use Rattle.detection.specs.declared.seen.Seen.{Seen}
-use Rattle.detection.specs.declared.seen.Seen.TheVariants as seen
-use Rattle.lapm_link.specs.declared.sent.Sent.{Sent}
-use Rattle.lapm_link.specs.declared.sent.Sent.TheVariants as sent
+use Rattle.slot_contents.specs.declared.seen.Seen.{Seen}
+use Rattle.slot_contents.specs.declared.seen.Seen.TheVariants as seen
+use Rattle.slot_contents.specs.declared.sent.Sent.{Sent}
+use Rattle.slot_contents.specs.declared.sent.Sent.TheVariants as sent
 use Rattle.sample_line.specs.declared.tally.Tally.{Tally}
 use Rattle.sample_line.specs.declared.tally.Tally.TheVariants.{Silent, AsSent, Other}
 use Rattle.sample_line.specs.Outcomes.{IsSilent, IsWhatWasSent}

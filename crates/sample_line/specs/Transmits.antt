@@ -3,7 +3,8 @@ use Rattle.std.specs.Prelude.{◌≡◌, Bool, List, length}
 use Rattle.symbol_map.specs.declared.sample.Sample.{Sample}
 use Rattle.noise_script.specs.Script.{ScriptValue}
 use Rattle.sample_line.specs.declared.transmitter.Transmitter.{Transmitter}
-use Rattle.sample_line.specs.Recorded.{mode_of, displaced_from}
+use Rattle.sample_line.specs.Recorded.{displaced_from}
+use Rattle.roles.specs.Role.{mode_of}
 use Rattle.sample_line.specs.Modes.{ModulatesAs}
 
 -- The modulator has made points of the bits, and the samples are these points, displaced by the script.

@@ -6,7 +6,8 @@ ghost use Rattle.sample_line.specs.Signals.{check_for, check_heard, checked};
 ghost use Rattle.sample_line.specs.Received.{SpellsFrame};
 
 use frame_check::{Check, Whole, append, passes};
-use lapm_frames::{Frame, Role, read, write};
+use lapm_frames::{Frame, read, write};
+use roles::Role;
 
 /// The check of a frame, where the ends use this one: I frames and supervisory frames have it, all others that of 16 bits.
 fn check_for(frame: &Frame, check: Check) -> Check

@@ -11,10 +11,11 @@ ghost use Rattle.sample_line.specs.Signals.{signal_of, IsCodable};
 
 use crate::checks::checked_octets;
 use bit_stuffing::{BitSlot, SlotWriter};
-use detection::{Seen, mark_slot, pattern_slot};
+use detection::{mark_slot, pattern_slot};
+use slot_contents::Seen;
 use frame_check::Check;
-use lapm_frames::Role;
-use lapm_link::Sent;
+use roles::Role;
+use slot_contents::Sent;
 
 /// Writes a slot of ones.
 fn write_mark(writer: &mut SlotWriter, symbols: u16, out: &mut BitSlot)

@@ -4,7 +4,6 @@
 
 mod checks;
 mod coding;
-mod heard;
 mod hearer;
 pub mod laws;
 mod line;
@@ -14,6 +13,6 @@ mod receiver;
 mod tally;
 mod transmitter;
 
-pub use heard::Heard;
 pub use hearer::{DEPTH, LineDecoder};
 pub use line::Line;
+pub use slot_contents::Heard;

@@ -1,26 +1,14 @@
 // A modulator and a demodulator of either mode.
 ghost use Rattle.std.specs.Prelude.{◌≡◌, ◌<◌, ℕ, Bool, List, [], ◌∷◌, ◌++◌};
-ghost use Rattle.frame_check.specs.Bits.{low_bits};
+ghost use Rattle.plain_lists.specs.Bits.{low_bits};
 ghost use Rattle.scramblers.specs.declared.mode.Mode.{Mode};
 ghost use Rattle.symbol_map.specs.declared.sample.Sample.{Sample};
 ghost use Rattle.sample_line.specs.Modes.{ModulatesAs, DemodulatesAs};
-ghost use Rattle.sample_line.specs.Recorded.{mode_of};
 
 use demodulator::Demodulator;
-use lapm_frames::Role;
 use modulator::Modulator;
 use scramblers::{ANSWER_TAP, CALL_TAP, Mode};
 use symbol_map::Sample;
-
-/// The mode that an end sends in: the originator called.
-pub(crate) fn mode_of(sender: Role) -> Mode
-    ensures { result ≡ mode_of sender }
-{
-    match sender {
-        Role::Originator => Mode::Call,
-        Role::Answerer => Mode::Answer,
-    }
-}
 
 /// A modulator of either mode.
 #[derive(Drop)]

@@ -1,19 +1,18 @@
 // The way of bits from the end that sends to the end that hears.
 ghost use Rattle.std.specs.Prelude.{◌≡◌, ◌+◌, ◌<◌, ◌≤◌, ◌^◌, Bool, List, [], ◌++◌, IfOk, None, OnOk};
-ghost use Rattle.frame_check.specs.Bits.{low_bits};
+ghost use Rattle.plain_lists.specs.Bits.{low_bits};
 ghost use Rattle.frame_check.specs.declared.sizes.TheConstants.{SLOT};
 ghost use Rattle.bit_stuffing.specs.BitSlot.{line_bits};
 ghost use Rattle.noise_script.specs.Script.{ScriptValue};
 ghost use Rattle.sample_line.specs.Path.{Carries, CarriesBetween, Arrives, PassesBits};
 
 use crate::hearer::Hearer;
-use crate::modes::mode_of;
 use crate::receiver::Slot;
 use crate::tally::Tally;
 use crate::transmitter::Transmitter;
 use bit_stuffing::BitSlot;
 use exact_decoder::Lost;
-use lapm_frames::Role;
+use roles::Role;
 use noise_script::Script;
 use outside_core::NoMemory;
 use std::alloc::Global;
@@ -37,7 +36,7 @@ impl Path {
     {
         Ok(Path {
             transmitter: Transmitter::new(sender),
-            hearer: Hearer::new(alloc, mode_of(sender))?,
+            hearer: Hearer::new(alloc, sender.mode())?,
         })
     }
 

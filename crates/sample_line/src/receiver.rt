@@ -1,6 +1,6 @@
 // The receiver behind the decoder: labels to bits, and what is found in them.
 ghost use Rattle.std.specs.Prelude.{◌≡◌, ◌<◌, ℕ, Bool, List, [], ◌∷◌, ◌++◌, option_to_list};
-ghost use Rattle.frame_check.specs.Bits.{low_bits};
+ghost use Rattle.plain_lists.specs.Bits.{low_bits};
 ghost use Rattle.scramblers.specs.declared.mode.Mode.{Mode};
 ghost use Rattle.bit_stuffing.specs.Deframer.{DeframerStands};
 ghost use Rattle.bit_stuffing.specs.Found.{found_at, listed};
@@ -15,8 +15,9 @@ use crate::tally::Tally;
 use bit_stuffing::{Deframer, Piece};
 use detection::PatternReader;
 use frame_check::Check;
-use lapm_frames::{Frame, Role};
-use lapm_link::Sent;
+use lapm_frames::Frame;
+use roles::Role;
+use slot_contents::Sent;
 use scramblers::Mode;
 
 /// What is known of the slot that is received: what was sent in it, and how its receiver judges frames.

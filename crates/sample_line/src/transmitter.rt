@@ -1,6 +1,6 @@
 // Bits become samples, and the script displaces them on their way.
 ghost use Rattle.std.specs.Prelude.{◌≡◌, ◌+◌, ◌<◌, ◌^◌, Bool, List, [], ◌∷◌, ◌++◌};
-ghost use Rattle.frame_check.specs.Bits.{low_bits};
+ghost use Rattle.plain_lists.specs.Bits.{low_bits};
 ghost use Rattle.symbol_map.specs.declared.sample.Sample.{Sample};
 ghost use Rattle.noise_script.specs.Script.{ScriptValue};
 ghost use Rattle.noise_script.specs.Offsets.{IsWithin};
@@ -8,8 +8,8 @@ ghost use Rattle.noise_script.specs.declared.limits.TheConstants.{OFFSET_MOST};
 ghost use Rattle.sample_line.specs.Recorded.{saturated, displaced};
 ghost use Rattle.sample_line.specs.Transmits.{Transmits};
 
-use crate::modes::{ModeModulator, mode_of};
-use lapm_frames::Role;
+use crate::modes::ModeModulator;
+use roles::Role;
 use noise_script::{Offset, Script};
 use symbol_map::Sample;
 
@@ -54,7 +54,7 @@ impl Transmitter {
     {
         Transmitter {
             sender,
-            modulator: ModeModulator::new(mode_of(sender)),
+            modulator: ModeModulator::new(sender.mode()),
             symbol: 0,
         }
     }

@@ -1,10 +1,5 @@
 -- Bits of a stream by their places, counted from 0.
-use Rattle.std.specs.Prelude.{ℕ, ◌-◌, Bool, false, not, if◌then◌else◌, nat_lt, List, slice_index_or}
-use Rattle.std.specs.Bool.{beq}
-
--- whether exactly one of two bits is set
-abbrev pub xor : Bool → Bool → Bool
-xor a b = not (beq a b)
+use Rattle.std.specs.Prelude.{ℕ, ◌-◌, Bool, false, if◌then◌else◌, nat_lt, List, slice_index_or}
 
 -- the bit at a place
 abbrev pub bit_at_place : List Bool → ℕ → Bool

@@ -2,8 +2,9 @@
 ghost use Rattle.std.specs.Prelude.{◌≤◌, length};
 ghost use Rattle.noise_script.specs.declared.limits.TheConstants.{SCRIPT_OCTETS};
 
-use lapm_frames::Role;
-use noise_script::{Cause, Offset, SCRIPT_OCTETS, ScriptFault, read_script};
+use roles::Role;
+use noise_script::{Offset, SCRIPT_OCTETS, ScriptFault, read_script};
+use script_causes::Cause;
 use std::alloc::Global;
 use std::process::Abort;
 use std::test::Fail;

@@ -1,5 +1,5 @@
 // Scripts, and the turns of a world over a folder in memory.
-use lapm_frames::Role;
+use roles::Role;
 use line_world::{Cause, Names, ScriptFault, Step, World, read_script};
 use outside_core::MemoryFolder;
 use std::test::Fail;

@@ -2,7 +2,7 @@
 ghost use Rattle.std.specs.Prelude.{◌≡◌, ◌≤◌, ◌+◌, ◌++◌, length, decimal, ◌<◌, ◌^◌};
 ghost use Rattle.xid_command.specs.OfferLine.{offer_line, flag_word};
 
-use decimal_text::put_decimal;
+use line_texts::put_decimal;
 use frame_check::Octets;
 use xid_params::Offer;
 

@@ -3,7 +3,7 @@ ghost use Rattle.std.specs.Prelude.{◌≡◌, ◌≤◌, length, IfSome};
 ghost use Rattle.xid_params.specs.Offers.{IsAllowed};
 ghost use Rattle.lapm_link.specs.Stands.{HasNumbers, IsNumbered};
 
-use detection::Seen;
+use slot_contents::Seen;
 use frame_check::Info;
 use lapm_frames::Frame;
 use lapm_link::{Arrived, Sent};

@@ -2,7 +2,7 @@
 ghost use Rattle.lapm_link.specs.Fits.{IsSetUp};
 
 use super::slot::{Kind, Says, Slot, Supervisory, offer};
-use lapm_frames::Role;
+use roles::Role;
 use lapm_link::Setup;
 
 /// A state of an end. Its file is one segment, where nothing else is said.

@@ -1,5 +1,5 @@
 use Rattle.std.proofs.Common.{◌≡◌, subst, sym, take, arith}
-use Rattle.frame_check.specs.Bits.{octet_bits}
+use Rattle.plain_lists.specs.Bits.{octet_bits}
 use Rattle.frame_check.specs.Division.{remainder_from}
 use Rattle.frame_check.specs.Register.{Holds}
 use Rattle.frame_check.proofs.Registers.{remainder_from-next_bit}

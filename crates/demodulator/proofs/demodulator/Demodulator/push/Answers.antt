@@ -1,6 +1,6 @@
 use Rattle.std.proofs.Common.{◌∙◌, ℕ, Bool, List, [], ◌∷◌, ◌++◌, sym, ap, subst, refl}
 use Rattle.std.specs.List.{flat_map}
-use Rattle.frame_check.specs.Bits.{low_bits}
+use Rattle.plain_lists.specs.Bits.{low_bits}
 use Rattle.scramblers.specs.Machines.{DescramblerStands}
 use Rattle.trellis_tables.specs.LabelReader.{LabelReaderStands, quads_of}
 use Rattle.modulator.proofs.Fours.{four-behind, fours-more, quad-bits}

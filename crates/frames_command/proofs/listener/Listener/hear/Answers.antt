@@ -1,7 +1,7 @@
 use Rattle.std.proofs.Common.{◌∙◌, ◌+◌, ◌<◌, Bool, List, ◌++◌, length, take, drop, get_or, ap, subst, arith}
 use Rattle.outside_core.specs.Folder.{FolderState}
-use Rattle.frame_check.specs.Bits.{octet_bits, bits_of}
-use Rattle.lapm_frames.specs.declared.frame.Role.{Role}
+use Rattle.plain_lists.specs.Bits.{octet_bits, bits_of}
+use Rattle.roles.specs.declared.role.Role.{Role}
 use Rattle.frames_command.specs.Heard.{PartlyHeard}
 use Rattle.frames_command.proofs.Hearing.{partly-longer, octet-more, octets-left}
 use Rattle.frames_command.proofs.listener.Listener.hear.Goals as goal

@@ -1,7 +1,7 @@
 use Rattle.std.proofs.Common.{◌∙◌, ◌+◌, ◌/◌, ◌^◌, Bool, List, [], ◌∷◌, ◌++◌, take, drop, nat_eq, bit_and, ap, subst, arith}
 use Rattle.outside_core.specs.Folder.{FolderState}
-use Rattle.frame_check.specs.Bits.{octet_bits}
-use Rattle.lapm_frames.specs.declared.frame.Role.{Role}
+use Rattle.plain_lists.specs.Bits.{octet_bits}
+use Rattle.roles.specs.declared.role.Role.{Role}
 use Rattle.frames_command.specs.Heard.{Heard, PartlyHeard}
 use Rattle.frames_command.proofs.Hearing.{partly-longer, bit-more, bits-left, says-trans}
 use Rattle.frames_command.proofs.listener.Listener.hear_octet.Goals as goal

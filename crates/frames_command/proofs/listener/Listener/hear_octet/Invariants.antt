@@ -1,6 +1,6 @@
 use Rattle.std.proofs.Common.{◌≡◌, ◌≤◌, ◌+◌, Bool, List, ◌++◌, take}
 use Rattle.outside_core.specs.Folder.{FolderState, OnlySays}
-use Rattle.frame_check.specs.Bits.{octet_bits}
+use Rattle.plain_lists.specs.Bits.{octet_bits}
 use Rattle.frames_command.specs.Heard.{Heard}
 use Rattle.frames_command.proofs.listener.Listener.hear_octet.Given as goal
 

@@ -1,7 +1,7 @@
 use Rattle.std.proofs.Common.{◌≡◌, Bool, false}
 use Rattle.std.proofs.lemmas.Result.{err_from_is_err_and}
 use Rattle.lapm_link.specs.declared.connected.Connected.{Connected}
-use Rattle.lapm_link.specs.declared.sent.Sent.{Sent}
+use Rattle.slot_contents.specs.declared.sent.Sent.{Sent}
 use Rattle.lapm_link.specs.Account.{Account}
 use Rattle.lapm_link.specs.Speak.{steps, on_timer}
 use Rattle.lapm_link.specs.Stands.{SaysLinked}

@@ -1,7 +1,7 @@
 use Rattle.std.proofs.Common.{◌≡◌, sym, ap, subst, ◌∙◌, true}
 use Rattle.lapm_link.specs.declared.phase.Phase.TheVariants as phases
 use Rattle.lapm_link.specs.declared.setup.Setup.{Setup}
-use Rattle.lapm_link.specs.Account.{is_originator}
+use Rattle.roles.specs.Role.{is_originator}
 use Rattle.lapm_link.specs.Hear.{trying}
 use Rattle.lapm_link.specs.Speak.{speak_in}
 use Rattle.lapm_link.specs.Stands.{Speaks}

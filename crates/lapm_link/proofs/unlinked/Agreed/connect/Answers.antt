@@ -5,8 +5,9 @@ use Rattle.lapm_sender.specs.Outgoing as outgoing
 use Rattle.lapm_receiver.specs.Taking.{Taking, StandsIn}
 use Rattle.lapm_receiver.specs.Incoming as incoming
 use Rattle.lapm_link.specs.declared.setup.Setup.{Setup}
-use Rattle.lapm_link.specs.Roles.{other}
-use Rattle.lapm_link.specs.Account.{is_originator, size_for, window_for}
+use Rattle.roles.specs.Role.{other}
+use Rattle.lapm_link.specs.Account.{size_for, window_for}
+use Rattle.roles.specs.Role.{is_originator}
 use Rattle.lapm_link.proofs.unlinked.Agreed.connect.Goals as goal
 
 -- a sender that has begun by these terms

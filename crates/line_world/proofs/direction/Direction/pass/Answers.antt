@@ -2,7 +2,7 @@ use Rattle.std.proofs.Common.{List, Bool, ap, subst, [], ◌++◌, ◌∙◌}
 use Rattle.bit_stuffing.specs.BitSlot.{line_bits}
 use Rattle.bit_stuffing.specs.SlotWriter.{WriterStands}
 use Rattle.bit_stuffing.specs.Slots.{Slot, AreSlots, sent_bits, phase_after}
-use Rattle.lapm_frames.specs.declared.frame.Role.{Role}
+use Rattle.roles.specs.declared.role.Role.{Role}
 use Rattle.line_world.specs.Slots.{bits_sent, slot_sent, slot_size}
 use Rattle.line_world.specs.Received.{Receives}
 use Rattle.line_world.specs.Receiver.{ReceiverStands, source_of}

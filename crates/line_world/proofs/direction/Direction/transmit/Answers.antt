@@ -1,6 +1,6 @@
 use Rattle.std.proofs.Common.{None, sym, ap, subst, ◌∙◌}
 use Rattle.lapm_frames.specs.declared.frame.Frame.{Frame}
-use Rattle.lapm_frames.specs.declared.frame.Role.{Role}
+use Rattle.roles.specs.declared.role.Role.{Role}
 use Rattle.thin_link.specs.Sent.{IsSendable}
 use Rattle.thin_link.specs.declared.sent.Sent.TheVariants as sent
 use Rattle.bit_stuffing.specs.BitSlot.{line_bits}

@@ -1,5 +1,5 @@
 use Rattle.std.proofs.Common.{Bool, List, [], ◌∷◌, ◌++◌, ◌/◌, ◌^◌, nat_eq, bit_and, take, ap, arith, subst, append_assoc, ◌∙◌}
-use Rattle.frame_check.specs.Bits.{low_bits}
+use Rattle.plain_lists.specs.Bits.{low_bits}
 use Rattle.line_world.specs.Receiver.{ReceiverStands}
 use Rattle.line_world.proofs.SlotBits.{quad-part}
 use Rattle.line_world.proofs.receiver.Receiver.quad.Goals as goal

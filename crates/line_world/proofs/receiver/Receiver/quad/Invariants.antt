@@ -1,5 +1,5 @@
 use Rattle.std.proofs.Common.{◌≡◌, ◌++◌, List, Bool, take}
-use Rattle.frame_check.specs.Bits.{low_bits}
+use Rattle.plain_lists.specs.Bits.{low_bits}
 use Rattle.line_world.specs.Receiver.{ReceiverStands, source_of}
 use Rattle.line_world.proofs.receiver.Receiver.quad.Given as goal
 

@@ -1,4 +1,4 @@
-use Rattle.lapm_frames.specs.declared.frame.Role.TheVariants.{Originator, Answerer}
+use Rattle.roles.specs.declared.role.Role.TheVariants.{Originator, Answerer}
 use Rattle.line_world.specs.Run.{last_sent}
 use Rattle.line_world.specs.Crossing.{slots_before}
 use Rattle.line_world.proofs.Turns.{arrival, both-carry, orig-arrived, answ-arrived}

@@ -1,5 +1,5 @@
 use Rattle.std.proofs.Common.{◌∙◌, ℕ, ap, sym, subst, Some, is_some}
-use Rattle.lapm_frames.specs.declared.frame.Role.TheVariants.{Originator, Answerer}
+use Rattle.roles.specs.declared.role.Role.TheVariants.{Originator, Answerer}
 use Rattle.thin_link.specs.Account.{speak}
 use Rattle.thin_link.specs.declared.sent.Sent.{Sent}
 use Rattle.line_world.specs.Direction.{Carries}

@@ -1,5 +1,5 @@
 use Rattle.std.proofs.Common.{◌∙◌, ℕ, Bool, List, [], ◌∷◌, ◌++◌, sym, ap, subst, arith}
-use Rattle.frame_check.specs.Bits.{bits_of}
+use Rattle.plain_lists.specs.Bits.{bits_of}
 use Rattle.modulator.specs.Modulates.{Kept, ModulatorStands}
 use Rattle.recordings.specs.Recording.{sample_octets, RecorderStands}
 use Rattle.recordings.proofs.Octets.{bits-more, samples-more, two-more}

@@ -2,7 +2,7 @@ use Rattle.std.proofs.Common.{◌≡◌, ◌∙◌, ◌+◌, ◌<◌, ◌++◌, 
 use Rattle.std.proofs.lemmas.List.{take_all}
 use Rattle.std.proofs.lemmas.Result.{err_from_is_err_and}
 use Rattle.bit_stuffing.specs.BitSlot.{line_bits}
-use Rattle.frame_check.specs.Bits.{low_bits}
+use Rattle.plain_lists.specs.Bits.{low_bits}
 use Rattle.exact_decoder.specs.declared.decoder.Lost.{Lost}
 use Rattle.sample_line.specs.declared.tally.Tally.{Tally}
 use Rattle.sample_line.specs.Path.{CarriesBetween, Arrives, PassesBits}

@@ -1,5 +1,5 @@
 use Rattle.std.proofs.Common.{◌++◌}
-use Rattle.frame_check.specs.Bits.{low_bits}
+use Rattle.plain_lists.specs.Bits.{low_bits}
 use Rattle.sample_line.proofs.receiver.Receiver.push.Goals as goal
 
 pub returns : goal.returns

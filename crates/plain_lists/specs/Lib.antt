@@ -1,0 +1,4 @@
+pub mod Prefix
+pub mod Octets
+pub mod Bits
+pub mod Xor
