@@ -103,6 +103,10 @@ pub record IsAllowed (o : Offer) : Type 0 where
 abbrev pub ReadsWritten : Type 0
 ReadsWritten = (o : Offer) → IsAllowed o → offer_in (written o) ≡ Some o
 
+-- What is written spells the offer.
+abbrev pub WrittenSpells : Type 0
+WrittenSpells = (o : Offer) → IsAllowed o → OfferSpelling (written o) o
+
 -- numbers that are octets
 abbrev pub AreOctets : List ℕ → Type 0
 AreOctets octets = (i : ℕ) → slice_index octets i < 256

@@ -2,7 +2,7 @@
 ghost use Rattle.std.specs.Prelude.{◌≡◌, ℕ, ◌⊎◌, List};
 ghost use Rattle.xid_params.specs.declared.offer.Offer.{Offer};
 ghost use Rattle.xid_params.specs.declared.fault.XidFault.{XidFault};
-ghost use Rattle.xid_params.specs.Offers.{OfferSpelling, DefaultIsRead, ReadsWritten, SpellingIsFound};
+ghost use Rattle.xid_params.specs.Offers.{OfferSpelling, DefaultIsRead, ReadsWritten, WrittenSpells, SpellingIsFound};
 ghost use Rattle.xid_params.specs.Faults.{Has, FirstFault};
 
 use crate::read_offer;
@@ -12,9 +12,10 @@ pub fn default_is_read()
     ensures { DefaultIsRead }
 {}
 
-/// Every offer that may be sent is read back from its spelling.
+/// Every offer that may be sent is what its spelling spells, and is read back from it.
 pub fn reads_written()
-    ensures { ReadsWritten }
+    ensures read { ReadsWritten }
+    ensures spells { WrittenSpells }
 {}
 
 /// The offer of octets as a function is the one that they spell.
