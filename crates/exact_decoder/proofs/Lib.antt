@@ -7,3 +7,4 @@ pub mod Least
 pub mod Started
 pub mod Measured
 pub mod Taken
+pub mod AnyCode

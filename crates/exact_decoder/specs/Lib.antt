@@ -3,9 +3,11 @@ pub use Rattle.trellis_tables.specs.Sequences
 pub use Rattle.survivors.specs.Trellises
 pub use Rattle.survivors.specs.Survivors
 pub use Rattle.survivors.specs.Steps
+pub use Rattle.survivors.specs.Laws as SurvivorLaws
 pub mod Choices
 pub mod Columns
 pub mod Tails
 pub mod Kept
 pub mod Decoder
+pub mod Laws
 pub mod Signs

@@ -10,6 +10,7 @@ mod choice;
 mod decoder;
 mod kept;
 mod labels;
+pub mod laws;
 mod release;
 mod room;
 mod step;

@@ -18,7 +18,8 @@ use Rattle.survivors.proofs.Fronts.{fronts-survive, lost-once}
 use Rattle.survivors.proofs.Existence.{ends-within}
 use Rattle.exact_decoder.specs.Decoder.{Decoding, DecoderStands, heard}
 use Rattle.noiseless_line.specs.Noiseless.{v32_from, IsNoiseless}
-use Rattle.noiseless_line.specs.Laws.{IsOnlyLeast, Follows}
+use Rattle.exact_decoder.specs.Laws.{IsOnlyLeast}
+use Rattle.noiseless_line.specs.Laws.{Follows}
 use Rattle.noiseless_line.proofs.Costs.{length-points, cost-append, cost-own, no-cost-own}
 use Rattle.noiseless_line.proofs.Meetings.{Parted, Meeting, meets, parted-now, behind-cost}
 use Rattle.noiseless_line.proofs.Detours.{other-end}
@@ -56,7 +57,7 @@ sent-survives start end labels l = record {
       | inr none_more ↦ let none : cost far_from other (map point_of labels) ≡ 0 = omega arith in absurd (some none)
     ]))
 
-pub only-least : (start end : ℕ) (labels : List ℕ) → Leads next_state start labels end → IsOnlyLeast start labels (map point_of labels)
+pub only-least : (start end : ℕ) (labels : List ℕ) → Leads next_state start labels end → IsOnlyLeast (v32_from start) (map point_of labels) labels
 only-least start end labels l = record {
   least = record { end = end; sequence = (sent-survives start end labels l).sequence; least = λ other other_end o. omega (arith, cost-own labels) };
   only = λ other h.

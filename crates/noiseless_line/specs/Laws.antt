@@ -5,8 +5,9 @@ use Rattle.symbol_map.specs.Points.{point_of}
 use Rattle.trellis_tables.specs.Table.{next_state}
 use Rattle.survivors.specs.Trellises.{HasLaws}
 use Rattle.survivors.specs.Orders.{IsPrefixOf}
-use Rattle.survivors.specs.Survivors.{IsReleased, IsLeast, LostIs}
+use Rattle.survivors.specs.Survivors.{IsReleased, LostIs}
 use Rattle.exact_decoder.specs.Decoder.{Decoding, DecoderStands}
+use Rattle.exact_decoder.specs.Laws.{IsOnlyLeast}
 use Rattle.noiseless_line.specs.Noiseless.{v32_from, IsNoiseless}
 
 -- the code from one of its states has the laws of a code
@@ -14,13 +15,9 @@ abbrev pub V32HasLaws : Type 0
 V32HasLaws = (start : ℕ) → start < 8 → HasLaws (v32_from start) 8 32 2
 
 -- the sent labels are least, and no others are
-pub record IsOnlyLeast (start : ℕ) (labels : List ℕ) (samples : List Sample) : Type 0 where
-  pub least : IsLeast (v32_from start) samples labels
-  pub only : (other : List ℕ) → IsLeast (v32_from start) samples other → other ≡ labels
-
 abbrev pub OnlySentIsLeast : Type 0
 OnlySentIsLeast = (start : ℕ) (labels : List ℕ) (samples : List Sample)
-    → IsNoiseless start labels samples → IsOnlyLeast start labels samples
+    → IsNoiseless start labels samples → IsOnlyLeast (v32_from start) samples labels
 
 -- what the first n samples release was sent
 abbrev pub ReleasesSent : Type 0

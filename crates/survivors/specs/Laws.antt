@@ -1,4 +1,4 @@
--- Laws of survivors, of what they release and of where a line is lost.
+-- Laws of survivors, of what they release and of where a line is lost, each as a fact about a trellis.
 use Rattle.std.specs.Prelude.{◌≡◌, ℕ, List, ◌++◌, length, take, Option, Some}
 use Rattle.symbol_map.specs.declared.sample.Sample.{Sample}
 use Rattle.survivors.specs.Trellises.{Trellis, IsSequence, HasLaws}
@@ -6,54 +6,54 @@ use Rattle.survivors.specs.Orders.{IsPrefixOf}
 use Rattle.survivors.specs.Survivors.{IsSurvivor, IsReleased, IsLeast, IsFirstLeast, LostIs}
 
 -- a state has one survivor
-abbrev pub SurvivesOnce : Type 0
-SurvivesOnce = (t : Trellis Sample) (samples : List Sample) (a b : List ℕ) (state : ℕ)
+abbrev pub SurvivesOnce : Trellis Sample → Type 0
+SurvivesOnce t = (samples : List Sample) (a b : List ℕ) (state : ℕ)
     → IsSurvivor t samples a state → IsSurvivor t samples b state → a ≡ b
 
 -- what a survivor begins with is a survivor of the samples at the same places
-abbrev pub FrontsSurvive : Type 0
-FrontsSurvive = (t : Trellis Sample) (samples more : List Sample) (labels : List ℕ) (end : ℕ)
+abbrev pub FrontsSurvive : Trellis Sample → Type 0
+FrontsSurvive t = (samples more : List Sample) (labels : List ℕ) (end : ℕ)
     → IsSurvivor t (samples ++ more) labels end → (mid : ℕ) × IsSurvivor t samples (take (length samples) labels) mid
 
 -- each state that a sequence leads to has a survivor, and there is such a state
-abbrev pub EachReachedSurvives : Type 0
-EachReachedSurvives = (t : Trellis Sample) (states labels steps : ℕ) (samples : List Sample) (sequence : List ℕ) (end : ℕ)
-    → HasLaws t states labels steps → IsSequence t samples sequence end → (survivor : List ℕ) × IsSurvivor t samples survivor end
+abbrev pub EachReachedSurvives : Trellis Sample → Type 0
+EachReachedSurvives t = (samples : List Sample) (sequence : List ℕ) (end : ℕ)
+    → IsSequence t samples sequence end → (survivor : List ℕ) × IsSurvivor t samples survivor end
 
-abbrev pub SomeSurvives : Type 0
-SomeSurvives = (t : Trellis Sample) (states labels steps : ℕ) (samples : List Sample)
-    → HasLaws t states labels steps → (survivor : List ℕ) × (end : ℕ) × IsSurvivor t samples survivor end
+abbrev pub SomeSurvives : Trellis Sample → Type 0
+SomeSurvives t = (samples : List Sample) → (survivor : List ℕ) × (end : ℕ) × IsSurvivor t samples survivor end
 
 -- a list is released
-abbrev pub SomeIsReleased : Type 0
-SomeIsReleased = (t : Trellis Sample) (states labels steps : ℕ) (samples : List Sample)
-    → HasLaws t states labels steps → (front : List ℕ) × IsReleased t samples front
+abbrev pub SomeIsReleased : Trellis Sample → Type 0
+SomeIsReleased t = (samples : List Sample) → (front : List ℕ) × IsReleased t samples front
 
 -- and one alone
-abbrev pub ReleasedOnce : Type 0
-ReleasedOnce = (t : Trellis Sample) (samples : List Sample) (a b : List ℕ)
-    → IsReleased t samples a → IsReleased t samples b → a ≡ b
+abbrev pub ReleasedOnce : Trellis Sample → Type 0
+ReleasedOnce t = (samples : List Sample) (a b : List ℕ) → IsReleased t samples a → IsReleased t samples b → a ≡ b
 
 -- what is released is a prefix of what is released later
-abbrev pub ReleasedStays : Type 0
-ReleasedStays = (t : Trellis Sample) (samples more : List Sample) (front later : List ℕ)
+abbrev pub ReleasedStays : Trellis Sample → Type 0
+ReleasedStays t = (samples more : List Sample) (front later : List ℕ)
     → IsReleased t samples front → IsReleased t (samples ++ more) later → IsPrefixOf front later
 
 -- what is released begins a least sequence
-abbrev pub ReleasedIsLeast : Type 0
-ReleasedIsLeast = (t : Trellis Sample) (states labels steps : ℕ) (samples : List Sample) (front : List ℕ)
-    → HasLaws t states labels steps → IsReleased t samples front → (rest : List ℕ) × IsLeast t samples (front ++ rest)
+abbrev pub ReleasedIsLeast : Trellis Sample → Type 0
+ReleasedIsLeast t = (samples : List Sample) (front : List ℕ)
+    → IsReleased t samples front → (rest : List ℕ) × IsLeast t samples (front ++ rest)
 
 -- of the least sequences that survive one has the smallest end state
-abbrev pub FirstLeastOnce : Type 0
-FirstLeastOnce = (t : Trellis Sample) (samples : List Sample) (a b : List ℕ)
-    → IsFirstLeast t samples a → IsFirstLeast t samples b → a ≡ b
+abbrev pub FirstLeastOnce : Trellis Sample → Type 0
+FirstLeastOnce t = (samples : List Sample) (a b : List ℕ) → IsFirstLeast t samples a → IsFirstLeast t samples b → a ≡ b
 
 -- a line is lost with one symbol or not at all, and stays lost with it
-abbrev pub LostOnce : Type 0
-LostOnce = (t : Trellis Sample) (depth : ℕ) (samples : List Sample) (a b : Option ℕ)
+abbrev pub LostOnce : Trellis Sample → Type 0
+LostOnce t = (depth : ℕ) (samples : List Sample) (a b : Option ℕ)
     → LostIs t depth samples a → LostIs t depth samples b → a ≡ b
 
-abbrev pub LostStays : Type 0
-LostStays = (t : Trellis Sample) (depth : ℕ) (samples more : List Sample) (symbol : ℕ)
+abbrev pub LostStays : Trellis Sample → Type 0
+LostStays t = (depth : ℕ) (samples more : List Sample) (symbol : ℕ)
     → LostIs t depth samples (Some symbol) → LostIs t depth (samples ++ more) (Some symbol)
+
+-- of a trellis with a code's laws
+abbrev pub OfEachCode : (Trellis Sample → Type 0) → Type 0
+OfEachCode law = (t : Trellis Sample) (states labels steps : ℕ) → HasLaws t states labels steps → law t
