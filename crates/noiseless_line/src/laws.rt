@@ -2,10 +2,15 @@
 //! a law.
 ghost use Rattle.noiseless_line.specs.Laws.{V32HasLaws, OnlySentIsLeast, ReleasesSent, FewUnreleased, NeverLost, DecodesNoiseless};
 
+use exact_decoder::laws::codes_have_laws;
+use trellis_tables::V32Code;
+
 /// The eight-state code from one state has the laws of a code.
 pub fn eight_state_code_has_the_laws()
     ensures { V32HasLaws }
-{}
+{
+    codes_have_laws::<8, 32, V32Code>();
+}
 
 /// The sent labels are the only sequence of least cost. So what a decoder has released and what it gives at its end
 /// are together the sent labels.
