@@ -16,6 +16,7 @@ use Rattle.exact_decoder.specs.declared.choice.Choice.{Choice}
 use Rattle.exact_decoder.specs.Columns.{choice_at, branch_of, sums_at, branches_at, new_sums_at, tail_at, longer}
 use Rattle.exact_decoder.specs.Tails.{IsParted}
 use Rattle.exact_decoder.specs.Kept.{Kept, KeepsSurvivors, Stepped, Released}
+use Rattle.exact_decoder.specs.Memory.{Memory, sealed, opened}
 use Rattle.exact_decoder.specs.Decoder.{Decoding, IsSound, DecoderStands, heard}
 use Rattle.exact_decoder.proofs.Advanced.{within_choices}
 
@@ -125,34 +126,34 @@ lost-some {X} c depth unreleased samples x front before r l many =
 -- what the parts of a push make together
 pub record Pushed (table : ℕ → ℕ → Option ℕ) (points : ℕ → Sample) (sample : Sample) (old new : Decoding) : Type 0 where
   pub between : Kept
-  pub stepped : Stepped table points sample old.survivors between
-  pub released : Released between old.pending new.survivors new.pending
+  pub stepped : Stepped table points sample (opened old.memory) between
+  pub released : Released between old.pending (opened new.memory) new.pending
   pub count : new.count ≡ old.count + 1
 
 pub stands-goes_on : (table : ℕ → ℕ → Option ℕ) (points : ℕ → Sample) (states labels depth : ℕ) (starts : ℕ → Bool) (sample : Sample) (old new : Decoding) (samples : List Sample) (taken : List ℕ) → IsBounded table states labels → EntersOnce table states labels
-    → old.lost ≡ None → new.lost ≡ None → new.survivors.unreleased ≤ depth → Pushed table points sample old new
+    → old.lost ≡ None → new.lost ≡ None → (opened new.memory).unreleased ≤ depth → Pushed table points sample old new
     → DecoderStands table points starts depth old samples taken → DecoderStands table points starts depth new (samples ++ sample ∷ []) taken
 stands-goes_on table points states labels depth starts sample old new samples taken bounded once e f few p h =
     let c = trellis_of table points starts in
-    let was = h.survivors e in
-    let k = keeps-released c p.between new.survivors (samples ++ sample ∷ []) taken old.pending new.pending p.released (keeps-stepped table points states labels starts sample old.survivors p.between samples (taken ++ old.pending) bounded once p.stepped was) in
+    let was = h.keeps e in
+    let k = keeps-released c p.between (opened new.memory) (samples ++ sample ∷ []) taken old.pending new.pending p.released (keeps-stepped table points states labels starts sample (opened old.memory) p.between samples (taken ++ old.pending) bounded once p.stepped was) in
     let n = length-append {A = Sample} samples (sample ∷ []) in
     let all : heard new.lost (samples ++ sample ∷ []) ≡ samples ++ sample ∷ [] = ap (λ o. heard o (samples ++ sample ∷ [])) f in
     let counted : old.count ≡ length samples = h.counted ∙ ap (λ o. length (heard o samples)) e in
     record {
       counted = omega (arith, p.count, counted, n, ap length all);
-      lost = subst (LostIs c depth (samples ++ sample ∷ [])) (sym f) (lost-none c depth new.survivors.unreleased samples sample (taken ++ new.pending) (subst (LostIs c depth samples) e h.lost) k.1 k.0.long few);
+      lost = subst (LostIs c depth (samples ++ sample ∷ [])) (sym f) (lost-none c depth (opened new.memory).unreleased samples sample (taken ++ new.pending) (subst (LostIs c depth samples) e h.lost) k.1 k.0.long few);
       released = subst (λ s. IsReleased c s (taken ++ new.pending)) (sym all) k.1;
-      survivors = λ _. k.0;
+      keeps = λ _. k.0;
     }
 
 pub stands-lost : (table : ℕ → ℕ → Option ℕ) (points : ℕ → Sample) (states labels depth : ℕ) (starts : ℕ → Bool) (sample : Sample) (old new : Decoding) (samples : List Sample) (taken : List ℕ) → IsBounded table states labels → EntersOnce table states labels
-    → old.lost ≡ None → new.lost ≡ Some old.count → depth < new.survivors.unreleased → Pushed table points sample old new
+    → old.lost ≡ None → new.lost ≡ Some old.count → depth < (opened new.memory).unreleased → Pushed table points sample old new
     → DecoderStands table points starts depth old samples taken → DecoderStands table points starts depth new (samples ++ sample ∷ []) taken
 stands-lost table points states labels depth starts sample old new samples taken bounded once e f many p h =
     let c = trellis_of table points starts in
-    let was = h.survivors e in
-    let k = keeps-released c p.between new.survivors (samples ++ sample ∷ []) taken old.pending new.pending p.released (keeps-stepped table points states labels starts sample old.survivors p.between samples (taken ++ old.pending) bounded once p.stepped was) in
+    let was = h.keeps e in
+    let k = keeps-released c p.between (opened new.memory) (samples ++ sample ∷ []) taken old.pending new.pending p.released (keeps-stepped table points states labels starts sample (opened old.memory) p.between samples (taken ++ old.pending) bounded once p.stepped was) in
     let n = length-append {A = Sample} samples (sample ∷ []) in
     let counted : old.count ≡ length samples = h.counted ∙ ap (λ o. length (heard o samples)) e in
     let here : new.lost ≡ Some (length samples) = f ∙ ap Some counted in
@@ -160,9 +161,9 @@ stands-lost table points states labels depth starts sample old new samples taken
     let all : heard new.lost (samples ++ sample ∷ []) ≡ samples ++ sample ∷ [] = ap (λ o. heard o (samples ++ sample ∷ [])) here ∙ whole in
     record {
       counted = omega (arith, p.count, counted, n, ap length all);
-      lost = subst (LostIs c depth (samples ++ sample ∷ [])) (sym here) (lost-some c depth new.survivors.unreleased samples sample (taken ++ new.pending) (subst (LostIs c depth samples) e h.lost) k.1 k.0.long many);
+      lost = subst (LostIs c depth (samples ++ sample ∷ [])) (sym here) (lost-some c depth (opened new.memory).unreleased samples sample (taken ++ new.pending) (subst (LostIs c depth samples) e h.lost) k.1 k.0.long many);
       released = subst (λ s. IsReleased c s (taken ++ new.pending)) (sym all) k.1;
-      survivors = λ g. not_lost (old.count) (sym f ∙ g);
+      keeps = λ g. not_lost (old.count) (sym f ∙ g);
     }
   where
     not_lost : {P : Type 0} (n : ℕ) → Some n ≡ None → P
@@ -175,7 +176,7 @@ stands-stays table points depth starts sample d samples taken symbol e h = recor
   counted = h.counted ∙ sym (ap length same);
   lost = subst (LostIs c depth (samples ++ sample ∷ [])) (sym e) (lost-stays c depth samples (sample ∷ []) symbol was);
   released = subst (λ s. IsReleased c s (taken ++ d.pending)) (sym same) h.released;
-  survivors = λ g. not_lost (sym e ∙ g);
+  keeps = λ g. not_lost (sym e ∙ g);
 }
   where
     c : Trellis Sample
@@ -191,15 +192,16 @@ stands-stays table points depth starts sample d samples taken symbol e h = recor
     same = ap (λ o. heard o (samples ++ sample ∷ [])) e ∙ take-append-le (symbol + 1) samples (sample ∷ []) (omega (arith, was.within)) ∙ sym (ap (λ o. heard o samples) e)
 
 -- what holds whatever was pushed
-pub sound-next : (labels depth : ℕ) (old new : Decoding) (between : Kept) → IsSound labels depth old → old.count < 2 ^ 56 → old.pending ≡ [] → old.lost ≡ None → new.count ≡ old.count + 1 → between.unreleased ≡ old.survivors.unreleased + 1
-    → ((bound : ℕ) → ((s m : ℕ) → sums_at old.survivors.sums s ≡ Some m → m ≤ bound) → (s m : ℕ) → sums_at between.sums s ≡ Some m → m ≤ bound + 2 ^ 34)
-    → Released between old.pending new.survivors new.pending → (All (λ label. label < labels) old.pending → All (λ label. label < labels) new.pending) → (new.lost ≡ None → new.survivors.unreleased ≤ depth) → IsSound labels depth new
+pub sound-next : (labels depth : ℕ) (old new : Decoding) (between : Kept) → IsSound labels depth old → old.count < 2 ^ 56 → old.pending ≡ [] → old.lost ≡ None → new.count ≡ old.count + 1 → between.unreleased ≡ (opened old.memory).unreleased + 1
+    → ((bound : ℕ) → ((s m : ℕ) → sums_at (opened old.memory).sums s ≡ Some m → m ≤ bound) → (s m : ℕ) → sums_at between.sums s ≡ Some m → m ≤ bound + 2 ^ 34)
+    → Released between old.pending (opened new.memory) new.pending → (All (λ label. label < labels) old.pending → All (λ label. label < labels) new.pending) → (new.lost ≡ None → (opened new.memory).unreleased ≤ depth) → IsSound labels depth new
 sound-next labels depth old new between h few none runs count more small r below room = record {
   low = h.low;
   high = h.high;
   few = omega arith;
   small = λ s m e. omega (arith, small (old.count * 2 ^ 34) h.small s m (subst (λ l. sums_at l s ≡ Some m) r.sums_stay e), count);
   room = room;
+  few_unreleased = omega (arith, r.count, more, h.room runs);
   few_pending = omega (arith, ap length r.pending_is, length-append {A = ℕ} old.pending r.labels, ap length none, r.count, more, h.room runs);
   pending_below = below h.pending_below;
 }

@@ -12,6 +12,7 @@ use Rattle.survivors.specs.Steps.{Keeps}
 use Rattle.survivors.proofs.Columns.{Keeps-start}
 use Rattle.exact_decoder.specs.Columns.{sums_at, tail_at}
 use Rattle.exact_decoder.specs.Kept.{Kept, IsShaped, KeepsSurvivors}
+use Rattle.exact_decoder.specs.Memory.{Memory, sealed, opened}
 use Rattle.exact_decoder.specs.Decoder.{Decoding, DecoderStands, heard}
 use Rattle.exact_decoder.proofs.Pushed.{released-of}
 
@@ -97,7 +98,7 @@ start-keeps {X} c states start h starts = (
     keeps = Keeps-start c (sums_at (set (replicate states None) start (Some 0))) (λ s. [] ++ tail_at (replicate states []) s) (λ s. empty-tails states s)
         (λ s. one_start states start h s ∙ ap (λ b. if b then Some 0 else None) (sym (starts s)))
 
-pub start-stands : (table : ℕ → ℕ → Option ℕ) (points : ℕ → Sample) (states depth start : ℕ) (d : Decoding) → start < states → d.survivors ≡ start_kept states start → d.count ≡ 0 → d.pending ≡ [] → d.lost ≡ None
+pub start-stands : (table : ℕ → ℕ → Option ℕ) (points : ℕ → Sample) (states depth start : ℕ) (d : Decoding) → start < states → (opened d.memory) ≡ start_kept states start → d.count ≡ 0 → d.pending ≡ [] → d.lost ≡ None
     → DecoderStands table points (λ state. nat_eq state start) depth d [] []
 start-stands table points states depth start d h kept count pending lost =
     let c = trellis_of table points (λ state. nat_eq state start) in
@@ -106,5 +107,5 @@ start-stands table points states depth start d h kept count pending lost =
       counted = count ∙ sym (ap (λ o. length (heard o [])) lost);
       lost = subst (LostIs c depth []) (sym lost) (λ n within o. let l = o.over in absurd (omega arith));
       released = subst (λ s. IsReleased c s ([] ++ d.pending)) (sym (ap (λ o. heard o []) lost)) (subst (IsReleased c []) (sym pending) k.1);
-      survivors = λ _. subst (λ p. KeepsSurvivors c d.survivors [] p) (sym pending) (subst (λ v. KeepsSurvivors c v [] []) (sym kept) k.0);
+      keeps = λ _. subst (λ p. KeepsSurvivors c (opened d.memory) [] p) (sym pending) (subst (λ v. KeepsSurvivors c v [] []) (sym kept) k.0);
     }

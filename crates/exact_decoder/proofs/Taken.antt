@@ -7,6 +7,7 @@ use Rattle.survivors.specs.Trellises.{trellis_of}
 use Rattle.survivors.specs.Survivors.{IsReleased, IsFirstLeast}
 use Rattle.exact_decoder.specs.Columns.{tail_at}
 use Rattle.exact_decoder.specs.Kept.{KeepsSurvivors, IsLeastSum}
+use Rattle.exact_decoder.specs.Memory.{Memory, sealed, opened}
 use Rattle.exact_decoder.specs.Decoder.{Decoding, IsSound, DecoderStands, heard}
 use Rattle.exact_decoder.proofs.Least.{final-of}
 
@@ -16,7 +17,7 @@ stands-taken table points depth starts d new samples taken label e f h = subst (
   counted = h.counted;
   lost = h.lost;
   released = subst (IsReleased (trellis_of table points starts) (heard d.lost samples)) same h.released;
-  survivors = λ g. subst (KeepsSurvivors (trellis_of table points starts) d.survivors samples) same (h.survivors g);
+  keeps = λ g. subst (KeepsSurvivors (trellis_of table points starts) (opened d.memory) samples) same (h.keeps g);
 })
   where
     same : taken ++ d.pending ≡ (taken ++ label ∷ []) ++ new.pending
@@ -32,13 +33,14 @@ sound-taken labels depth d label rest e h =
         few = h.few;
         small = h.small;
         room = h.room;
+        few_unreleased = h.few_unreleased;
         few_pending = omega (arith, h.few_pending, ap length e);
         pending_below = All-tail (λ x. x < labels) label rest below;
       },
     )
 
-pub stands-final : (table : ℕ → ℕ → Option ℕ) (points : ℕ → Sample) (depth : ℕ) (starts : ℕ → Bool) (d : Decoding) (samples : List Sample) (taken : List ℕ) (state : ℕ) → d.lost ≡ None → d.pending ≡ [] → IsLeastSum d.survivors.sums state
-    → DecoderStands table points starts depth d samples taken → IsFirstLeast (trellis_of table points starts) samples (taken ++ tail_at d.survivors.tails state)
+pub stands-final : (table : ℕ → ℕ → Option ℕ) (points : ℕ → Sample) (depth : ℕ) (starts : ℕ → Bool) (d : Decoding) (samples : List Sample) (taken : List ℕ) (state : ℕ) → d.lost ≡ None → d.pending ≡ [] → IsLeastSum (opened d.memory).sums state
+    → DecoderStands table points starts depth d samples taken → IsFirstLeast (trellis_of table points starts) samples (taken ++ tail_at (opened d.memory).tails state)
 stands-final table points depth starts d samples taken state e none l h =
     let front : taken ++ d.pending ≡ taken = ap (λ t. taken ++ t) none ∙ append-nil taken in
-    subst (λ t. IsFirstLeast (trellis_of table points starts) samples (t ++ tail_at d.survivors.tails state)) front (final-of (trellis_of table points starts) d.survivors samples (taken ++ d.pending) state (h.survivors e) l)
+    subst (λ t. IsFirstLeast (trellis_of table points starts) samples (t ++ tail_at (opened d.memory).tails state)) front (final-of (trellis_of table points starts) (opened d.memory) samples (taken ++ d.pending) state (h.keeps e) l)

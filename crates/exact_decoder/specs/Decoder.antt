@@ -1,26 +1,34 @@
 -- For which past a decoder stands: the samples that were pushed and the labels that were taken.
-use Rattle.std.specs.Prelude.{◌≡◌, ℕ, ◌+◌, ◌*◌, ◌^◌, ◌<◌, ◌≤◌, Bool, List, ◌++◌, length, take, All, Option, Some, None}
+use Rattle.std.specs.Prelude.{◌≡◌, ℕ, ◌+◌, ◌*◌, ◌^◌, ◌<◌, ◌≤◌, Bool, List, ◌++◌, length, take, All, Option, Some, None, refl}
+use Rattle.std.specs.Coded.{Coded, code_by, coded×, coded_list, coded_option, coded_ℕ}
 use Rattle.symbol_map.specs.declared.sample.Sample.{Sample}
 use Rattle.survivors.specs.Trellises.{trellis_of}
 use Rattle.survivors.specs.Survivors.{IsReleased, LostIs}
 use Rattle.exact_decoder.specs.Columns.{sums_at}
-use Rattle.exact_decoder.specs.Kept.{Kept, KeepsSurvivors}
+use Rattle.exact_decoder.specs.Kept.{KeepsSurvivors}
+use Rattle.exact_decoder.specs.Memory.{Memory, opened, memory_code}
 
--- What a decoder keeps: the survivors, how many samples were pushed before the line was lost, the labels that are released
--- and not taken, and with which symbol the line was lost.
+-- What is seen of a decoder: its sealed memory of the survivors, how many samples were pushed before the line was lost, the labels
+-- that are released and not taken, and with which symbol the line was lost.
 pub record Decoding : Type 0 where
-  pub survivors : Kept
+  pub memory : Memory
   pub count : ℕ
   pub pending : List ℕ
   pub lost : Option ℕ
+
+abbrev pub decoding_code : Coded Decoding
+decoding_code =
+    code_by (Memory × (ℕ × (List ℕ × Option ℕ))) (coded× memory_code (coded× coded_ℕ (coded× (coded_list coded_ℕ) (coded_option coded_ℕ))))
+    (λ d. (d.memory, (d.count, (d.pending, d.lost)))) (λ p. record { memory = p.0; count = p.1.0; pending = p.1.1.0; lost = p.1.1.1 }) (λ _. refl)
 
 -- what holds of it whatever was pushed
 pub record IsSound (labels depth : ℕ) (d : Decoding) : Type 0 where
   pub low : 1 ≤ depth
   pub high : depth ≤ 128
   pub few : d.count ≤ 2 ^ 56
-  pub small : (s m : ℕ) → sums_at d.survivors.sums s ≡ Some m → m ≤ d.count * 2 ^ 34
-  pub room : d.lost ≡ None → d.survivors.unreleased ≤ depth
+  pub small : (s m : ℕ) → sums_at (opened d.memory).sums s ≡ Some m → m ≤ d.count * 2 ^ 34
+  pub room : d.lost ≡ None → (opened d.memory).unreleased ≤ depth
+  pub few_unreleased : (opened d.memory).unreleased ≤ depth + 1
   pub few_pending : length d.pending ≤ depth + 1
   pub pending_below : All (λ label. label < labels) d.pending
 
@@ -35,4 +43,4 @@ pub record DecoderStands (table : ℕ → ℕ → Option ℕ) (points : ℕ → 
   pub counted : d.count ≡ length (heard d.lost samples)
   pub lost : LostIs (trellis_of table points starts) depth samples d.lost
   pub released : IsReleased (trellis_of table points starts) (heard d.lost samples) (taken ++ d.pending)
-  pub survivors : d.lost ≡ None → KeepsSurvivors (trellis_of table points starts) d.survivors samples (taken ++ d.pending)
+  pub keeps : d.lost ≡ None → KeepsSurvivors (trellis_of table points starts) (opened d.memory) samples (taken ++ d.pending)

@@ -8,6 +8,7 @@ pub mod Choices
 pub mod Columns
 pub mod Tails
 pub mod Kept
+pub mod Memory
 pub mod Decoder
 pub mod Laws
 pub mod Signs

@@ -42,13 +42,16 @@ impl<
     const LABELS: usize,
     const DEPTH: usize,
 > Model for Decoder<C, STATES, LABELS, DEPTH> {
-    ghost use Rattle.exact_decoder.specs.Decoder.{Decoding, IsSound};
+    ghost use Rattle.exact_decoder.specs.Memory.{sealed};
+    ghost use Rattle.exact_decoder.specs.Decoder.{Decoding, IsSound, decoding_code};
 
     ghost Value = { Decoding };
 
-    ghost view = { λ d. record { survivors = d.survivors; count = d.count; pending = d.pending; lost = d.lost } };
+    ghost coded = { decoding_code };
 
-    ghost invariant = { λ d. IsSound LABELS DEPTH (record { survivors = d.survivors; count = d.count; pending = d.pending; lost = d.lost }) };
+    ghost view = { λ d. record { memory = sealed d.survivors; count = d.count; pending = d.pending; lost = d.lost } };
+
+    ghost invariant = { λ d. IsSound LABELS DEPTH (record { memory = sealed d.survivors; count = d.count; pending = d.pending; lost = d.lost }) };
 }
 
 impl<
