@@ -1,7 +1,11 @@
 -- What a line stands for once a slot was coded, and once one has passed.
-use Rattle.std.proofs.Common.{◌≡◌, ◌∙◌, ◌+◌, ◌*◌, ℕ, Bool, List, [], ◌∷◌, ◌++◌, None, sym, ap, subst, arith, length-append}
+use Rattle.std.proofs.Common.{◌≡◌, ◌∙◌, ◌+◌, ◌*◌, ℕ, nat_eq, Bool, List, [], ◌∷◌, ◌++◌, None, sym, ap, subst, arith, length-append}
 use Rattle.std.proofs.lemmas.List.{append_assoc, map-append}
 use Rattle.frame_check.specs.declared.check.Check.{Check}
+use Rattle.symbol_map.specs.declared.sample.Sample.{Sample}
+use Rattle.symbol_map.specs.Points.{point_of}
+use Rattle.trellis_tables.specs.Table.{next_state}
+use Rattle.exact_decoder.specs.Decoder.{DecoderStands}
 use Rattle.bit_stuffing.specs.Slots.{Slot, slot_bits, sent_bits}
 use Rattle.bit_stuffing.specs.SlotWriter.{Writer, WriterStands}
 use Rattle.slot_contents.specs.declared.seen.Seen.{Seen}
@@ -15,11 +19,11 @@ use Rattle.slot_contents.specs.declared.heard.Heard.{Heard}
 use Rattle.sample_line.specs.declared.tally.Tally.{Tally}
 use Rattle.sample_line.specs.declared.path.Path.{Path}
 use Rattle.sample_line.specs.Recorded.{Records}
-use Rattle.sample_line.specs.Received.{Gives, FoundBetween}
+use Rattle.sample_line.specs.Received.{Gives, FoundBetween, line_depth}
 use Rattle.sample_line.specs.Outcomes.{IsOutcome}
 use Rattle.sample_line.specs.Tallies.{Tallies}
 use Rattle.sample_line.specs.Path.{Carries, CarriesBetween}
-use Rattle.sample_line.specs.Line.{Kept, LineStands, PassesSlot, bits_behind}
+use Rattle.sample_line.specs.Line.{Kept, LineStands, PassesSlot, bits_behind, size_of, sender_of, decoder_of}
 use Rattle.sample_line.proofs.Standing.{recorded, gives}
 
 abbrev pub kept : Writer → ℕ → Path → Kept
@@ -94,3 +98,15 @@ slot-passes script line path passed signal waiting check dlci loses s bits tally
         all_taken = taken;
       };
     }
+
+-- the decoder has heard the samples of the slots that passed, and nothing is pending
+pub line-heard : (script : ScriptValue) (line : Kept) (passed waiting : List Signal) → LineStands line script passed waiting
+    → (samples : List Sample) × (taken : List ℕ) × Records script (sender_of line) (signal_bits (size_of line) passed) samples
+    × DecoderStands next_state point_of (λ state. nat_eq state 0) line_depth (decoder_of line) samples taken × ((decoder_of line).pending ≡ [])
+line-heard script line passed waiting h = (
+  h.carries.samples,
+  h.carries.hears.labels,
+  recorded line.path.transmitter script (signal_bits (size_of line) passed) h.carries.samples h.carries.transmits,
+  h.carries.hears.decoder,
+  h.all_taken,
+)

@@ -83,6 +83,7 @@ impl Hearer {
             → HearsSample mode self.new (samples ++ sample ∷ []) slot.entry.check slot.entry.sender slot.entry.dlci slot.entry.sent.now earlier result }
         ensures pending { OnOk result (self.new.decoder.pending ≡ []) }
         ensures lost { OnOk result (self.new.decoder.lost ≡ None) }
+        ensures taken { self.new.decoder.lost ≡ None → self.new.decoder.pending ≡ [] }
         ensures count { self.new.decoder.count ≤ self.old.decoder.count + 1 }
     {
         self.decoder.push(sample)?;

@@ -1,12 +1,18 @@
 // One direction of the line.
-ghost use Rattle.std.specs.Prelude.{◌≡◌, ◌+◌, ◌-◌, ◌*◌, ◌^◌, ◌<◌, ◌≤◌, Bool, List, [], ◌∷◌, ◌++◌, length, IfOk, None, OnOk};
+ghost use Rattle.std.specs.Prelude.{◌≡◌, ℕ, ◌+◌, ◌-◌, ◌*◌, ◌^◌, ◌<◌, ◌≤◌, nat_eq, Bool, List, [], ◌∷◌, ◌++◌, length, IfOk, None, OnOk};
 ghost use Rattle.bit_stuffing.specs.BitSlot.{line_bits};
 ghost use Rattle.bit_stuffing.specs.Slots.{opening};
 ghost use Rattle.bit_stuffing.specs.declared.slot_writer.TheConstants.{HEAD, TAIL};
 ghost use Rattle.frame_check.specs.declared.sizes.TheConstants.{SLOT};
-ghost use Rattle.detection.specs.Slots.{Signal};
+ghost use Rattle.detection.specs.Slots.{Signal, signal_bits};
+ghost use Rattle.symbol_map.specs.declared.sample.Sample.{Sample};
+ghost use Rattle.symbol_map.specs.Points.{point_of};
+ghost use Rattle.trellis_tables.specs.Table.{next_state};
+ghost use Rattle.exact_decoder.specs.Decoder.{DecoderStands};
 ghost use Rattle.noise_script.specs.Script.{ScriptValue};
 ghost use Rattle.sample_line.specs.Signals.{signal_of, IsCodable};
+ghost use Rattle.sample_line.specs.Recorded.{Records};
+ghost use Rattle.sample_line.specs.Received.{line_depth};
 ghost use Rattle.sample_line.specs.Line.{LineStands, Passes, bits_behind, size_of, sender_of, decoder_of};
 
 use crate::Heard;
@@ -37,14 +43,20 @@ impl Model for Line {
     ghost use Rattle.std.specs.Prelude.{◌≡◌, ◌*◌, ◌<◌, ◌≤◌, ◌+◌};
     ghost use Rattle.frame_check.specs.declared.sizes.TheConstants.{SLOT};
     ghost use Rattle.bit_stuffing.specs.declared.slot_writer.TheConstants.{HEAD, TAIL};
+    ghost use Rattle.std.specs.Prelude.{None, []};
+    ghost use Rattle.std.specs.Coded.{codes};
+    ghost use Rattle.exact_decoder.specs.Decoder.{decoding_code};
     ghost use Rattle.sample_line.specs.Line.{Kept};
 
     ghost Value = { Kept };
 
+    ghost coded = { Prim.hlevel (codes, decoding_code) };
+
     ghost view = { λ l. record { writer = l.writer; passed = l.passed; path = l.path } };
 
     ghost invariant = { λ l. (l.symbols ≡ l.writer.symbols) × (HEAD + TAIL < l.symbols) × (l.symbols ≤ SLOT)
-        × (l.path.transmitter.symbol ≤ SLOT * l.passed) × (l.path.hearer.decoder.count ≤ SLOT * l.passed) };
+        × (l.path.transmitter.symbol ≤ SLOT * l.passed) × (l.path.hearer.decoder.count ≤ SLOT * l.passed)
+        × (l.path.hearer.decoder.lost ≡ None → l.path.hearer.decoder.pending ≡ []) };
 }
 
 impl Line {
@@ -106,7 +118,6 @@ impl Line {
         requires channel { dlci < 64 }
         requires few { self.old.passed < 2 ^ 40 }
         requires not_lost { (decoder_of self.old).lost ≡ None }
-        requires taken { (decoder_of self.old).pending ≡ [] }
         ensures passes { (passed waiting : List Signal) (signal : Signal) → LineStands self.old script.now passed (signal ∷ waiting)
             → line_bits slot.now ≡ bits_behind (size_of self.old) passed signal
             → Passes self.new script.now passed signal waiting check dlci loses sent.now result }
@@ -129,7 +140,11 @@ impl Line {
 
     /// The decoder of this direction.
     pub fn decoder(&self) -> &LineDecoder
-        ensures { result.now ≡ decoder_of self.now }
+        ensures value { result.now ≡ decoder_of self.now }
+        ensures heard { (script : ScriptValue) (passed waiting : List Signal) → LineStands self.now script passed waiting
+            → (samples : List Sample) × (taken : List ℕ) × Records script (sender_of self.now) (signal_bits (size_of self.now) passed) samples
+            × DecoderStands next_state point_of (λ state. nat_eq state 0) line_depth result.now samples taken × (result.now.pending ≡ []) }
+        ensures taken { result.now.lost ≡ None → result.now.pending ≡ [] }
     {
         &self.path.hearer.decoder
     }

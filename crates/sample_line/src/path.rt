@@ -61,6 +61,7 @@ impl Path {
         ensures count { self.new.hearer.decoder.count ≤ self.old.hearer.decoder.count + 1 }
         ensures pending { OnOk result (self.new.hearer.decoder.pending ≡ []) }
         ensures lost { OnOk result (self.new.hearer.decoder.lost ≡ None) }
+        ensures taken { self.new.hearer.decoder.lost ≡ None → self.new.hearer.decoder.pending ≡ [] }
     {
         let sample = self.transmitter.send(script, quad);
         self.hearer.hear(sample, slot, tally)
@@ -80,6 +81,7 @@ impl Path {
         ensures count { self.new.hearer.decoder.count ≤ self.old.hearer.decoder.count + SLOT }
         ensures pending { OnOk result (self.new.hearer.decoder.pending ≡ []) }
         ensures lost { OnOk result (self.new.hearer.decoder.lost ≡ None) }
+        ensures taken { self.new.hearer.decoder.lost ≡ None → self.new.hearer.decoder.pending ≡ [] }
     {
         let mut tally = Tally::Silent;
         for place in 0..bits.len() {

@@ -25,9 +25,6 @@ code-requires-clause-codable c =
 pub pass-requires-clause-not_lost : goal.pass-requires-clause-not_lost
 pass-requires-clause-not_lost c = (c.code.ensures.stands c.args.script.now c.requires.stands.0 [] c.requires.stands.1).not_lost
 
-pub pass-requires-clause-taken : goal.pass-requires-clause-taken
-pass-requires-clause-taken c = (c.code.ensures.stands c.args.script.now c.requires.stands.0 [] c.requires.stands.1).all_taken
-
 pub returns-clause-stands : goal.returns-clause-stands
 returns-clause-stands c =
     let passed : List Signal = c.requires.stands.0 in

@@ -1,0 +1,18 @@
+use Rattle.std.proofs.Common.{◌≡◌, ℕ, nat_eq, List, [], sym, ap, subst}
+use Rattle.symbol_map.specs.declared.sample.Sample.{Sample}
+use Rattle.symbol_map.specs.Points.{point_of}
+use Rattle.trellis_tables.specs.Table.{next_state}
+use Rattle.exact_decoder.specs.Decoder.{Decoding, DecoderStands}
+use Rattle.detection.specs.Slots.{signal_bits}
+use Rattle.sample_line.specs.Recorded.{Records}
+use Rattle.sample_line.specs.Received.{line_depth}
+use Rattle.sample_line.specs.Line.{Kept, size_of, sender_of, decoder_of}
+use Rattle.sample_line.proofs.Passing.{line-heard}
+use Rattle.sample_line.proofs.line.Line.decoder.Goals as goal
+
+pub returns-clause-heard : goal.returns-clause-heard
+returns-clause-heard c = λ script passed waiting h.
+    let line : Kept = c.args.self.now in
+    subst (λ (d : Decoding). (samples : List Sample) × (taken : List ℕ) × Records script (sender_of line) (signal_bits (size_of line) passed) samples
+        × DecoderStands next_state point_of (λ state. nat_eq state 0) line_depth d samples taken × (d.pending ≡ []))
+    (ap decoder_of (sym c.self.view_is)) (line-heard script line passed waiting h)
