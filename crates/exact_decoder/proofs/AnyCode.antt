@@ -17,14 +17,14 @@ use Rattle.exact_decoder.specs.Decoder.{Decoding, DecoderStands, heard}
 use Rattle.exact_decoder.specs.Laws.{AreStarts, AreSent, IsOnlyLeast, OnlySentIsLeast, ReleasesSent, released_by, DecoderReleasesLeast, DecoderReleasesStay, DecodersAgree, FewUnreleased}
 
 -- what a code's laws say of its table
-pub record IsCode (table : ℕ → ℕ → Option ℕ) (states labels steps : ℕ) : Type 0 where
+pub record IsCodeTable (table : ℕ → ℕ → Option ℕ) (states labels steps : ℕ) : Type 0 where
   pub bounded : IsBounded table states labels
   pub within : StaysWithin table states labels
   pub enters_once : EntersOnce table states labels
   pub some_steps : 1 ≤ steps
   pub reaches : Reaches table states labels steps
 
-pub has-laws : (table : ℕ → ℕ → Option ℕ) (points : ℕ → Sample) (states labels steps : ℕ) → IsCode table states labels steps → (starts : ℕ → Bool) → AreStarts states starts → HasLaws (trellis_of table points starts) states labels steps
+pub has-laws : (table : ℕ → ℕ → Option ℕ) (points : ℕ → Sample) (states labels steps : ℕ) → IsCodeTable table states labels steps → (starts : ℕ → Bool) → AreStarts states starts → HasLaws (trellis_of table points starts) states labels steps
 has-laws table points states labels steps code starts are = record {
   bounded = code.bounded;
   within = code.within;
@@ -132,7 +132,7 @@ starts-among table points states few starts samples labels end bounded some q = 
     first (x ∷ l) many (mid, e, leads) = (bounded q.code_sequence.from x mid e).0
 
 -- at most one label more than the depth is unreleased once the line is lost
-few-lost : (table : ℕ → ℕ → Option ℕ) (points : ℕ → Sample) (states labels steps depth : ℕ) (starts : ℕ → Bool) (samples : List Sample) (symbol : ℕ) (front : List ℕ) → IsCode table states labels steps
+few-lost : (table : ℕ → ℕ → Option ℕ) (points : ℕ → Sample) (states labels steps depth : ℕ) (starts : ℕ → Bool) (samples : List Sample) (symbol : ℕ) (front : List ℕ) → IsCodeTable table states labels steps
     → IsLost (trellis_of table points starts) depth samples symbol → IsReleased (trellis_of table points starts) (take (symbol + 1) samples) front → symbol + 1 ≤ length front + (depth + 1)
 few-lost table points states labels steps depth starts samples symbol front code lost r = elim (cases_eq symbol 0) [
   | inl none ↦ omega arith
@@ -185,7 +185,7 @@ few-lost table points states labels steps depth starts samples symbol front code
         let e : length front ≡ length ((0 ∷ front) ++ p.0) = ap length p.1 in
         omega (arith, e, length-append {A = ℕ} (0 ∷ front) p.0)
 
-pub few-unreleased : (table : ℕ → ℕ → Option ℕ) (points : ℕ → Sample) (states labels steps : ℕ) → IsCode table states labels steps → FewUnreleased table points
+pub few-unreleased : (table : ℕ → ℕ → Option ℕ) (points : ℕ → Sample) (states labels steps : ℕ) → IsCodeTable table states labels steps → FewUnreleased table points
 few-unreleased table points states labels steps code starts depth d samples taken h = each d.lost refl
   where
     each : (o : Option ℕ) → d.lost ≡ o → length (heard d.lost samples) ≤ length (taken ++ d.pending) + (depth + 1)
@@ -203,14 +203,13 @@ few-unreleased table points states labels steps code starts depth d samples take
         let few = few-lost table points states labels steps depth starts samples symbol (taken ++ d.pending) code lost (subst (λ k. IsReleased (trellis_of table points starts) k (taken ++ d.pending)) all h.released) in
         omega (arith, few, ap length all, length-take-le (symbol + 1) samples (omega (arith, lost.within)))
 
-pub releases-least : (table : ℕ → ℕ → Option ℕ) (points : ℕ → Sample) (states labels steps : ℕ) → IsCode table states labels steps → DecoderReleasesLeast table points states
+pub releases-least : (table : ℕ → ℕ → Option ℕ) (points : ℕ → Sample) (states labels steps : ℕ) → IsCodeTable table states labels steps → DecoderReleasesLeast table points states
 releases-least table points states labels steps code starts depth d samples taken are h =
     released-is_least (trellis_of table points starts) states labels steps (heard d.lost samples) (taken ++ d.pending) (has-laws table points states labels steps code starts are) h.released
 
 pub decoders-agree : (table : ℕ → ℕ → Option ℕ) (points : ℕ → Sample) → DecodersAgree table points
 decoders-agree table points starts depth d other samples taken other_taken h k =
-    let same : d.lost ≡ other.lost = lost-once (trellis_of table points starts) depth samples d.lost other.lost h.lost k.lost in
-    (
+    let same : d.lost ≡ other.lost = lost-once (trellis_of table points starts) depth samples d.lost other.lost h.lost k.lost in (
       released-once (trellis_of table points starts) (heard other.lost samples) (taken ++ d.pending) (other_taken ++ other.pending) (subst (λ o. IsReleased (trellis_of table points starts) (heard o samples) (taken ++ d.pending)) same h.released) k.released,
       same,
     )

@@ -1,10 +1,11 @@
-pub mod Lists
-pub mod Choosing
-pub mod ChosenAll
-pub mod Advanced
+pub mod Subsets
+pub mod Settling
+pub mod Walking
+pub mod Stepping
+pub mod Keeping
 pub mod Pushed
-pub mod Least
 pub mod Started
-pub mod Measured
+pub mod Least
 pub mod Taken
+pub mod Spreading
 pub mod AnyCode

@@ -1,5 +1,5 @@
 -- The decoder after one sample more.
-use Rattle.std.proofs.Common.{◌≡◌, ℕ, ◌+◌, ◌*◌, ◌^◌, ◌<◌, ◌≤◌, inl, inr, Bool, List, [], ◌∷◌, ◌++◌, length, take, All, Option, Some, None, option_map, arith, append_assoc, length-append, refl, sym, ◌∙◌, ap, subst}
+use Rattle.std.proofs.Common.{◌≡◌, ℕ, ◌+◌, ◌-◌, ◌*◌, ◌^◌, ◌<◌, ◌≤◌, inl, inr, Bool, List, [], ◌∷◌, ◌++◌, length, take, All, Option, Some, None, option_map, arith, append_assoc, length-append, refl, sym, ◌∙◌, ap, subst}
 use Rattle.std.proofs.lemmas.Bool.{cases_lt}
 use Rattle.std.proofs.lemmas.List.{append-nil, take-append-le, take_all}
 use Rattle.symbol_map.specs.declared.sample.Sample.{Sample}
@@ -12,13 +12,10 @@ use Rattle.survivors.specs.Steps.{KnowsState, Keeps, GoesOn}
 use Rattle.survivors.proofs.Columns.{Keeps-more, kept, known}
 use Rattle.survivors.proofs.Release.{survivor-one, prefix-parted}
 use Rattle.survivors.proofs.Fronts.{released-once, over-before, lost-stays}
-use Rattle.exact_decoder.specs.declared.choice.Choice.{Choice}
-use Rattle.exact_decoder.specs.Columns.{choice_at, branch_of, sums_at, branches_at, new_sums_at, tail_at, longer}
-use Rattle.exact_decoder.specs.Tails.{IsParted}
-use Rattle.exact_decoder.specs.Kept.{Kept, KeepsSurvivors, Stepped, Released}
+use Rattle.exact_decoder.specs.Columns.{Entry, entry_at, branch_of, sums_at, branches_at, new_sums_at, tail_at}
+use Rattle.exact_decoder.specs.Kept.{Kept, IsParted, KeepsSurvivors, Stepped, Released}
 use Rattle.exact_decoder.specs.Memory.{Memory, sealed, opened}
 use Rattle.exact_decoder.specs.Decoder.{Decoding, IsSound, DecoderStands, heard}
-use Rattle.exact_decoder.proofs.Advanced.{within_choices}
 
 -- the paths and sums may be written otherwise
 keeps-paths : {X : Type 0} (c : Trellis X) (samples : List X) (base : ℕ) (sums : ℕ → Option ℕ) (paths other : ℕ → List ℕ) → ((s m : ℕ) → sums s ≡ Some m → paths s ≡ other s) → Keeps c samples base sums paths → Keeps c samples base sums other
@@ -30,6 +27,14 @@ keeps-paths {X} c samples base sums paths other same k = record { knows = λ s. 
 
 keeps-sums : {X : Type 0} (c : Trellis X) (samples : List X) (base : ℕ) (sums other : ℕ → Option ℕ) (paths : ℕ → List ℕ) → ((s : ℕ) → other s ≡ sums s) → Keeps c samples base sums paths → Keeps c samples base other paths
 keeps-sums c samples base sums other paths same k = record { knows = λ s. subst (KnowsState c samples base paths s) (sym (same s)) (k.knows s) }
+
+-- sums that are lowered by one number are those of a base that is higher by it
+keeps-lowered : {X : Type 0} (c : Trellis X) (samples : List X) (base n : ℕ) (sums : ℕ → Option ℕ) (paths : ℕ → List ℕ) → ((s m : ℕ) → sums s ≡ Some m → n ≤ m) → Keeps c samples base sums paths → Keeps c samples (base + n) (λ s. option_map (λ m. m - n) (sums s)) paths
+keeps-lowered {X} c samples base n sums paths low k = record { knows = λ s. each s (sums s) refl (k.knows s) }
+  where
+    each : (s : ℕ) (o : Option ℕ) → sums s ≡ o → KnowsState c samples base paths s o → KnowsState c samples (base + n) paths s (option_map (λ m. m - n) o)
+    each s None e h = h
+    each s (Some m) e h = (h.0, omega (arith, h.1, low s m e))
 
 -- where no first label is common to all tails, the front is what is released
 pub released-of : {X : Type 0} (c : Trellis X) (samples : List X) (base : ℕ) (sums : List (Option ℕ)) (tails : List (List ℕ)) (front : List ℕ) → Keeps c samples base (sums_at sums) (λ s. front ++ tail_at tails s) → IsParted sums tails → IsReleased c samples front
@@ -54,9 +59,10 @@ released-of {X} c samples base sums tails front k parted = record {
 pub keeps-stepped : (table : ℕ → ℕ → Option ℕ) (points : ℕ → Sample) (states labels : ℕ) (starts : ℕ → Bool) (sample : Sample) (k new : Kept) (samples : List Sample) (front : List ℕ) → IsBounded table states labels → EntersOnce table states labels
     → Stepped table points sample k new → KeepsSurvivors (trellis_of table points starts) k samples front → KeepsSurvivors (trellis_of table points starts) new (samples ++ sample ∷ []) front
 keeps-stepped table points states labels starts sample k new samples front bounded once p h = record {
-  base = h.base;
-  keeps = keeps-sums c (samples ++ sample ∷ []) h.base (new_sums_at p.choices) (sums_at new.sums) (λ s. front ++ tail_at new.tails s) p.sums
-      (Keeps-more c samples sample h.base (sums_at k.sums) (new_sums_at p.choices) (λ s. front ++ tail_at k.tails s) (λ s. front ++ tail_at new.tails s) (branches_at p.choices) always h.keeps (p.chosen starts) goes);
+  base = h.base + p.lowered;
+  keeps = keeps-sums c (samples ++ sample ∷ []) (h.base + p.lowered) (λ s. option_map (λ n. n - p.lowered) (new_sums_at p.entries s)) (sums_at new.sums) (λ s. front ++ tail_at new.tails s) p.sums
+      (keeps-lowered c (samples ++ sample ∷ []) h.base p.lowered (new_sums_at p.entries) (λ s. front ++ tail_at new.tails s) p.least
+      (Keeps-more c samples sample h.base (sums_at k.sums) (new_sums_at p.entries) (λ s. front ++ tail_at k.tails s) (λ s. front ++ tail_at new.tails s) (branches_at p.entries) always h.keeps (p.chosen starts) goes));
   long = omega (arith, h.long, p.longer_by_one, length-append {A = Sample} samples (sample ∷ []));
 }
   where
@@ -66,34 +72,34 @@ keeps-stepped table points states labels starts sample k new samples front bound
     always : (s t label to : ℕ) → table s label ≡ Some to → table t label ≡ Some to → s ≡ t
     always s t label to e f = let a = bounded s label to e in let b = bounded t label to f in once s t label to a.0 b.0 a.1 e f
 
-    goes : GoesOn (λ s. front ++ tail_at k.tails s) (branches_at p.choices) (λ s. front ++ tail_at new.tails s)
-    goes to b e = each (choice_at p.choices to) refl e
+    goes : GoesOn (λ s. front ++ tail_at k.tails s) (branches_at p.entries) (λ s. front ++ tail_at new.tails s)
+    goes to b e = each (entry_at p.entries to) refl e
       where
-        each : (o : Option Choice) → choice_at p.choices to ≡ o → option_map branch_of o ≡ Some b → front ++ tail_at new.tails to ≡ (front ++ tail_at k.tails b.before) ++ b.label ∷ []
+        each : (o : Option Entry) → entry_at p.entries to ≡ o → option_map branch_of o ≡ Some b → front ++ tail_at new.tails to ≡ (front ++ tail_at k.tails b.before) ++ b.label ∷ []
         each None is f = absurd cc
         each (Some ch) is f =
             let same : branch_of ch ≡ b = cc in
-            let t : tail_at new.tails to ≡ tail_at k.tails ch.before ++ ch.label ∷ [] = p.follow to (within_choices p.choices to ch is) ∙ ap (longer k.tails) is in
+            let t : tail_at new.tails to ≡ tail_at k.tails ch.before ++ ch.label ∷ [] = p.follow to ch is in
             subst (λ x. front ++ tail_at new.tails to ≡ (front ++ tail_at k.tails x.before) ++ x.label ∷ []) same
             (ap (λ l. front ++ l) t ∙ sym (append_assoc front (tail_at k.tails ch.before) (ch.label ∷ [])))
 
 -- the same survivors, and what they release
-pub keeps-released : {X : Type 0} (c : Trellis X) (k new : Kept) (samples : List X) (taken pending more : List ℕ) → Released k pending new more → KeepsSurvivors c k samples (taken ++ pending)
+pub keeps-released : {X : Type 0} (c : Trellis X) (k new : Kept) (samples : List X) (taken pending more labels : List ℕ) → more ≡ pending ++ labels → Released k new labels → KeepsSurvivors c k samples (taken ++ pending)
     → KeepsSurvivors c new samples (taken ++ more) × IsReleased c samples (taken ++ more)
-keeps-released {X} c k new samples taken pending more r h = (
+keeps-released {X} c k new samples taken pending more labels pending_is r h = (
   record { base = h.base; keeps = keeps; long = omega (arith, h.long, r.count, l) },
   released-of c samples h.base new.sums new.tails (taken ++ more) keeps r.parted,
 )
   where
-    front : taken ++ more ≡ (taken ++ pending) ++ r.labels
-    front = ap (λ l. taken ++ l) r.pending_is ∙ sym (append_assoc taken pending r.labels)
+    front : taken ++ more ≡ (taken ++ pending) ++ labels
+    front = ap (λ l. taken ++ l) pending_is ∙ sym (append_assoc taken pending labels)
 
-    l : length (taken ++ more) ≡ length (taken ++ pending) + length r.labels
-    l = ap length front ∙ length-append {A = ℕ} (taken ++ pending) r.labels
+    l : length (taken ++ more) ≡ length (taken ++ pending) + length labels
+    l = ap length front ∙ length-append {A = ℕ} (taken ++ pending) labels
 
     keeps : Keeps c samples h.base (sums_at new.sums) (λ s. (taken ++ more) ++ tail_at new.tails s)
     keeps = keeps-paths c samples h.base (sums_at new.sums) (λ s. (taken ++ pending) ++ tail_at k.tails s) (λ s. (taken ++ more) ++ tail_at new.tails s)
-        (λ s m e. ap (λ l. (taken ++ pending) ++ l) (r.moved s m e) ∙ sym (append_assoc (taken ++ pending) r.labels (tail_at new.tails s)) ∙ ap (λ l. l ++ tail_at new.tails s) (sym front))
+        (λ s m e. ap (λ l. (taken ++ pending) ++ l) (r.moved s m e) ∙ sym (append_assoc (taken ++ pending) labels (tail_at new.tails s)) ∙ ap (λ l. l ++ tail_at new.tails s) (sym front))
         (keeps-sums c samples h.base (sums_at k.sums) (sums_at new.sums) (λ s. (taken ++ pending) ++ tail_at k.tails s) (λ s. ap (λ l. sums_at l s) r.sums_stay) h.keeps)
 
 -- the line is lost with the last sample where more labels than the depth are unreleased, and else not at all
@@ -127,7 +133,9 @@ lost-some {X} c depth unreleased samples x front before r l many =
 pub record Pushed (table : ℕ → ℕ → Option ℕ) (points : ℕ → Sample) (sample : Sample) (old new : Decoding) : Type 0 where
   pub between : Kept
   pub stepped : Stepped table points sample (opened old.memory) between
-  pub released : Released between old.pending (opened new.memory) new.pending
+  pub labels : List ℕ
+  pub released : Released between (opened new.memory) labels
+  pub pending_is : new.pending ≡ old.pending ++ labels
   pub count : new.count ≡ old.count + 1
 
 pub stands-goes_on : (table : ℕ → ℕ → Option ℕ) (points : ℕ → Sample) (states labels depth : ℕ) (starts : ℕ → Bool) (sample : Sample) (old new : Decoding) (samples : List Sample) (taken : List ℕ) → IsBounded table states labels → EntersOnce table states labels
@@ -136,7 +144,7 @@ pub stands-goes_on : (table : ℕ → ℕ → Option ℕ) (points : ℕ → Samp
 stands-goes_on table points states labels depth starts sample old new samples taken bounded once e f few p h =
     let c = trellis_of table points starts in
     let was = h.keeps e in
-    let k = keeps-released c p.between (opened new.memory) (samples ++ sample ∷ []) taken old.pending new.pending p.released (keeps-stepped table points states labels starts sample (opened old.memory) p.between samples (taken ++ old.pending) bounded once p.stepped was) in
+    let k = keeps-released c p.between (opened new.memory) (samples ++ sample ∷ []) taken old.pending new.pending p.labels p.pending_is p.released (keeps-stepped table points states labels starts sample (opened old.memory) p.between samples (taken ++ old.pending) bounded once p.stepped was) in
     let n = length-append {A = Sample} samples (sample ∷ []) in
     let all : heard new.lost (samples ++ sample ∷ []) ≡ samples ++ sample ∷ [] = ap (λ o. heard o (samples ++ sample ∷ [])) f in
     let counted : old.count ≡ length samples = h.counted ∙ ap (λ o. length (heard o samples)) e in
@@ -153,7 +161,7 @@ pub stands-lost : (table : ℕ → ℕ → Option ℕ) (points : ℕ → Sample)
 stands-lost table points states labels depth starts sample old new samples taken bounded once e f many p h =
     let c = trellis_of table points starts in
     let was = h.keeps e in
-    let k = keeps-released c p.between (opened new.memory) (samples ++ sample ∷ []) taken old.pending new.pending p.released (keeps-stepped table points states labels starts sample (opened old.memory) p.between samples (taken ++ old.pending) bounded once p.stepped was) in
+    let k = keeps-released c p.between (opened new.memory) (samples ++ sample ∷ []) taken old.pending new.pending p.labels p.pending_is p.released (keeps-stepped table points states labels starts sample (opened old.memory) p.between samples (taken ++ old.pending) bounded once p.stepped was) in
     let n = length-append {A = Sample} samples (sample ∷ []) in
     let counted : old.count ≡ length samples = h.counted ∙ ap (λ o. length (heard o samples)) e in
     let here : new.lost ≡ Some (length samples) = f ∙ ap Some counted in
@@ -190,18 +198,3 @@ stands-stays table points depth starts sample d samples taken symbol e h = recor
 
     same : heard d.lost (samples ++ sample ∷ []) ≡ heard d.lost samples
     same = ap (λ o. heard o (samples ++ sample ∷ [])) e ∙ take-append-le (symbol + 1) samples (sample ∷ []) (omega (arith, was.within)) ∙ sym (ap (λ o. heard o samples) e)
-
--- what holds whatever was pushed
-pub sound-next : (labels depth : ℕ) (old new : Decoding) (between : Kept) → IsSound labels depth old → old.count < 2 ^ 56 → old.pending ≡ [] → old.lost ≡ None → new.count ≡ old.count + 1 → between.unreleased ≡ (opened old.memory).unreleased + 1
-    → ((bound : ℕ) → ((s m : ℕ) → sums_at (opened old.memory).sums s ≡ Some m → m ≤ bound) → (s m : ℕ) → sums_at between.sums s ≡ Some m → m ≤ bound + 2 ^ 34)
-    → Released between old.pending (opened new.memory) new.pending → (All (λ label. label < labels) old.pending → All (λ label. label < labels) new.pending) → (new.lost ≡ None → (opened new.memory).unreleased ≤ depth) → IsSound labels depth new
-sound-next labels depth old new between h few none runs count more small r below room = record {
-  low = h.low;
-  high = h.high;
-  few = omega arith;
-  small = λ s m e. omega (arith, small (old.count * 2 ^ 34) h.small s m (subst (λ l. sums_at l s ≡ Some m) r.sums_stay e), count);
-  room = room;
-  few_unreleased = omega (arith, r.count, more, h.room runs);
-  few_pending = omega (arith, ap length r.pending_is, length-append {A = ℕ} old.pending r.labels, ap length none, r.count, more, h.room runs);
-  pending_below = below h.pending_below;
-}

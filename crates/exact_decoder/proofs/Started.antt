@@ -1,7 +1,7 @@
 -- A decoder before its first sample.
-use Rattle.std.proofs.Common.{◌≡◌, ◌≢◌, ℕ, zero, suc, add-one, ◌+◌, ◌<◌, ◌≤◌, nat_eq, inl, inr, Bool, true, false, if◌then◌else◌, List, [], ◌∷◌, ◌++◌, length, get_or, replicate, set, Option, Some, None, arith, refl, sym, ◌∙◌, ap, subst}
+use Rattle.std.proofs.Common.{◌≡◌, ◌≢◌, ℕ, zero, suc, add-one, ◌+◌, ◌<◌, ◌≤◌, nat_eq, nat_lt, inl, inr, Bool, true, false, if◌then◌else◌, List, [], ◌∷◌, ◌++◌, length, get_or, replicate, set, Option, Some, None, arith, refl, sym, ◌∙◌, ap, subst}
 use Rattle.std.proofs.lemmas.Grind.{common_steps}
-use Rattle.std.proofs.lemmas.Bool.{cases_lt}
+use Rattle.std.proofs.lemmas.Bool.{cases_lt, lt-ltb, le-ltb}
 use Rattle.std.proofs.lemmas.Bool.Decides.{nat_tests}
 use Rattle.std.proofs.lemmas.List.{length-replicate, length-set}
 use Rattle.std.proofs.lemmas.List.Elements.{All-nil, All-same}
@@ -11,7 +11,7 @@ use Rattle.survivors.specs.Survivors.{IsReleased, LostIs}
 use Rattle.survivors.specs.Steps.{Keeps}
 use Rattle.survivors.proofs.Columns.{Keeps-start}
 use Rattle.exact_decoder.specs.Columns.{sums_at, tail_at}
-use Rattle.exact_decoder.specs.Kept.{Kept, IsShaped, KeepsSurvivors}
+use Rattle.exact_decoder.specs.Kept.{Kept, KeepsSurvivors}
 use Rattle.exact_decoder.specs.Memory.{Memory, sealed, opened}
 use Rattle.exact_decoder.specs.Decoder.{Decoding, DecoderStands, heard}
 use Rattle.exact_decoder.proofs.Pushed.{released-of}
@@ -69,40 +69,40 @@ start_sum b = if b then Some 0 else None
 pub self_start : (s : ℕ) → start_sum (nat_eq s s) ≡ Some 0
 self_start s = let e : nat_eq s s ≡ true = grind (arith, nat_tests) in rw e refl
 
--- what is kept before the first sample
-abbrev pub start_kept : ℕ → ℕ → Kept
-start_kept states start = record { sums = set (replicate states None) start (Some 0); tails = replicate states []; unreleased = 0 }
-
 pub start-reached : (states start : ℕ) → start < states → sums_at (set (replicate states None) start (Some 0)) start ≡ Some 0
 start-reached states start h = one_start states start h start ∙ self_start start
-
-pub start-shaped : (states labels start : ℕ) → start < states → IsShaped states labels (start_kept states start)
-start-shaped states labels start h = record {
-  sums_long = length-set (replicate states None) start (Some 0) ∙ length-replicate states None;
-  tails_long = length-replicate states [];
-  each_long = λ s m e. ap length (empty-tails states s);
-  some_reached = (start, 0, start-reached states start h);
-  tails_below = λ s. All-same (λ label. label < labels) (tail_at (replicate states []) s) [] (empty-tails states s) (All-nil (λ label. label < labels));
-}
 
 pub start-small : (states start : ℕ) → start < states → (s m : ℕ) → sums_at (set (replicate states None) start (Some 0)) s ≡ Some m → m ≡ 0
 start-small states start h = start-zero (set (replicate states None) start (Some 0)) (λ s. nat_eq s start) (one_start states start h)
 
-pub start-keeps : {X : Type 0} (c : Trellis X) (states start : ℕ) → start < states → ((s : ℕ) → c.starts s ≡ nat_eq s start) → KeepsSurvivors c (start_kept states start) [] [] × IsReleased c [] []
-start-keeps {X} c states start h starts = (
+-- the sums of a decoder that starts in any state
+pub any_start : (states s : ℕ) → sums_at (replicate states (Some 0)) s ≡ (if nat_lt s states then Some 0 else None)
+any_start states s = elim (cases_lt s states) [
+  | inl l ↦ get_or-replicate states s (Some 0) None l ∙ sym (ap start_sum (lt-ltb s states l))
+  | inr l ↦ replicate-past states s (Some 0) None l ∙ sym (ap start_sum (le-ltb s states l))
+]
+
+pub any-small : (states s m : ℕ) → sums_at (replicate states (Some 0)) s ≡ Some m → m ≡ 0
+any-small states = start-zero (replicate states (Some 0)) (λ s. nat_lt s states) (any_start states)
+
+-- what is kept before the first sample
+abbrev pub start_kept : ℕ → List (Option ℕ) → Kept
+start_kept states sums = record { sums = sums; tails = replicate states []; unreleased = 0 }
+
+pub start-keeps : {X : Type 0} (c : Trellis X) (states first : ℕ) (sums : List (Option ℕ)) → c.starts first ≡ true → ((s : ℕ) → sums_at sums s ≡ (if c.starts s then Some 0 else None)) → KeepsSurvivors c (start_kept states sums) [] [] × IsReleased c [] []
+start-keeps {X} c states first sums there h = (
   record { base = 0; keeps = keeps; long = refl },
-  released-of c [] 0 (set (replicate states None) start (Some 0)) (replicate states []) [] keeps (inl (start, 0, start-reached states start h, empty-tails states start)),
+  released-of c [] 0 sums (replicate states []) [] keeps (inl (first, 0, h first ∙ ap start_sum there, empty-tails states first)),
 )
   where
-    keeps : Keeps c [] 0 (sums_at (set (replicate states None) start (Some 0))) (λ s. [] ++ tail_at (replicate states []) s)
-    keeps = Keeps-start c (sums_at (set (replicate states None) start (Some 0))) (λ s. [] ++ tail_at (replicate states []) s) (λ s. empty-tails states s)
-        (λ s. one_start states start h s ∙ ap (λ b. if b then Some 0 else None) (sym (starts s)))
+    keeps : Keeps c [] 0 (sums_at sums) (λ s. [] ++ tail_at (replicate states []) s)
+    keeps = Keeps-start c (sums_at sums) (λ s. [] ++ tail_at (replicate states []) s) (λ s. empty-tails states s) h
 
-pub start-stands : (table : ℕ → ℕ → Option ℕ) (points : ℕ → Sample) (states depth start : ℕ) (d : Decoding) → start < states → (opened d.memory) ≡ start_kept states start → d.count ≡ 0 → d.pending ≡ [] → d.lost ≡ None
-    → DecoderStands table points (λ state. nat_eq state start) depth d [] []
-start-stands table points states depth start d h kept count pending lost =
-    let c = trellis_of table points (λ state. nat_eq state start) in
-    let k = start-keeps c states start h (λ s. refl) in
+pub start-stands : (table : ℕ → ℕ → Option ℕ) (points : ℕ → Sample) (starts : ℕ → Bool) (states depth first : ℕ) (sums : List (Option ℕ)) (d : Decoding) → starts first ≡ true → ((s : ℕ) → sums_at sums s ≡ (if starts s then Some 0 else None))
+    → opened d.memory ≡ start_kept states sums → d.count ≡ 0 → d.pending ≡ [] → d.lost ≡ None → DecoderStands table points starts depth d [] []
+start-stands table points starts states depth first sums d there h kept count pending lost =
+    let c = trellis_of table points starts in
+    let k = start-keeps c states first sums there h in
     record {
       counted = count ∙ sym (ap (λ o. length (heard o [])) lost);
       lost = subst (LostIs c depth []) (sym lost) (λ n within o. let l = o.over in absurd (omega arith));

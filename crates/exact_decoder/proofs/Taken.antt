@@ -1,14 +1,14 @@
 -- The decoder after a label is taken, and at its end.
-use Rattle.std.proofs.Common.{◌≡◌, ℕ, ◌<◌, Bool, List, [], ◌∷◌, ◌++◌, length, All, Option, None, append_assoc, sym, ◌∙◌, ap, subst, arith}
-use Rattle.std.proofs.lemmas.List.{append-nil}
+use Rattle.std.proofs.Common.{◌≡◌, ℕ, ◌<◌, Bool, List, [], ◌∷◌, ◌++◌, length, reverse, All, Option, Some, None, IfSome, MatchOption, option_to_list, append_assoc, refl, sym, ◌∙◌, ap, subst, arith}
+use Rattle.std.proofs.lemmas.List.{append-nil, reverse-append}
 use Rattle.std.proofs.lemmas.List.Elements.{All-head, All-tail, All-same}
 use Rattle.symbol_map.specs.declared.sample.Sample.{Sample}
 use Rattle.survivors.specs.Trellises.{trellis_of}
 use Rattle.survivors.specs.Survivors.{IsReleased, IsFirstLeast}
 use Rattle.exact_decoder.specs.Columns.{tail_at}
-use Rattle.exact_decoder.specs.Kept.{KeepsSurvivors, IsLeastSum}
+use Rattle.exact_decoder.specs.Kept.{Kept, KeepsSurvivors, IsLeastSum}
 use Rattle.exact_decoder.specs.Memory.{Memory, sealed, opened}
-use Rattle.exact_decoder.specs.Decoder.{Decoding, IsSound, DecoderStands, heard}
+use Rattle.exact_decoder.specs.Decoder.{Decoding, decoding_of, IsSound, DecoderStands, heard}
 use Rattle.exact_decoder.proofs.Least.{final-of}
 
 pub stands-taken : (table : ℕ → ℕ → Option ℕ) (points : ℕ → Sample) (depth : ℕ) (starts : ℕ → Bool) (d new : Decoding) (samples : List Sample) (taken : List ℕ) (label : ℕ) → d.pending ≡ label ∷ new.pending → new ≡ record d { pending = new.pending }
@@ -23,15 +23,15 @@ stands-taken table points depth starts d new samples taken label e f h = subst (
     same : taken ++ d.pending ≡ (taken ++ label ∷ []) ++ new.pending
     same = ap (λ l. taken ++ l) e ∙ sym (append_assoc taken (label ∷ []) new.pending)
 
-pub sound-taken : (labels depth : ℕ) (d : Decoding) (label : ℕ) (rest : List ℕ) → d.pending ≡ label ∷ rest → IsSound labels depth d → (label < labels) × IsSound labels depth (record d { pending = rest })
-sound-taken labels depth d label rest e h =
+pub sound-taken : (table : ℕ → ℕ → Option ℕ) (states labels reach depth : ℕ) (d : Decoding) (label : ℕ) (rest : List ℕ) → d.pending ≡ label ∷ rest → IsSound table states labels reach depth d → (label < labels) × IsSound table states labels reach depth (record d { pending = rest })
+sound-taken table states labels reach depth d label rest e h =
     let below : All (λ x. x < labels) (label ∷ rest) = All-same (λ x. x < labels) (label ∷ rest) d.pending (sym e) h.pending_below in (
       All-head (λ x. x < labels) label rest below,
       record {
         low = h.low;
         high = h.high;
         few = h.few;
-        small = h.small;
+        spread = h.spread;
         room = h.room;
         few_unreleased = h.few_unreleased;
         few_pending = omega (arith, h.few_pending, ap length e);
@@ -44,3 +44,23 @@ pub stands-final : (table : ℕ → ℕ → Option ℕ) (points : ℕ → Sample
 stands-final table points depth starts d samples taken state e none l h =
     let front : taken ++ d.pending ≡ taken = ap (λ t. taken ++ t) none ∙ append-nil taken in
     subst (λ t. IsFirstLeast (trellis_of table points starts) samples (t ++ tail_at (opened d.memory).tails state)) front (final-of (trellis_of table points starts) (opened d.memory) samples (taken ++ d.pending) state (h.keeps e) l)
+
+-- what taking the last label of a list gives
+abbrev pub IsPopped : List ℕ → List ℕ → Option ℕ → Type 0
+IsPopped old new r = MatchOption r ((old ≡ []) × (new ≡ [])) (λ label. old ≡ new ++ label ∷ [])
+
+turned : (old new : List ℕ) (label : ℕ) → old ≡ new ++ label ∷ [] → reverse old ≡ label ∷ reverse new
+turned old new label e = ap reverse e ∙ reverse-append new (label ∷ [])
+
+pub sound-popped : (table : ℕ → ℕ → Option ℕ) (states labels reach depth : ℕ) (k : Kept) (count : ℕ) (old new : List ℕ) (lost : Option ℕ) (r : Option ℕ) → IsPopped old new r → IsSound table states labels reach depth (decoding_of k count old lost)
+    → IsSound table states labels reach depth (decoding_of k count new lost) × IfSome r (λ label. label < labels)
+sound-popped table states labels reach depth k count old new lost None p h = (subst (λ l. IsSound table states labels reach depth (decoding_of k count l lost)) (p.0 ∙ sym p.1) h, tt)
+sound-popped table states labels reach depth k count old new lost (Some label) p h =
+    let t = sound-taken table states labels reach depth (decoding_of k count old lost) label (reverse new) (turned old new label p) h in (t.1, t.0)
+
+pub stands-popped : (table : ℕ → ℕ → Option ℕ) (points : ℕ → Sample) (depth : ℕ) (starts : ℕ → Bool) (k : Kept) (count : ℕ) (old new : List ℕ) (lost : Option ℕ) (samples : List Sample) (taken : List ℕ) (r : Option ℕ) → IsPopped old new r
+    → DecoderStands table points starts depth (decoding_of k count old lost) samples taken → DecoderStands table points starts depth (decoding_of k count new lost) samples (taken ++ option_to_list r)
+stands-popped table points depth starts k count old new lost samples taken None p h =
+    subst (DecoderStands table points starts depth (decoding_of k count new lost) samples) (sym (append-nil taken)) (subst (λ l. DecoderStands table points starts depth (decoding_of k count l lost) samples taken) (p.0 ∙ sym p.1) h)
+stands-popped table points depth starts k count old new lost samples taken (Some label) p h =
+    stands-taken table points depth starts (decoding_of k count old lost) (decoding_of k count new lost) samples taken label (turned old new label p) refl h

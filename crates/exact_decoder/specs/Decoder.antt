@@ -1,12 +1,13 @@
 -- For which past a decoder stands: the samples that were pushed and the labels that were taken.
-use Rattle.std.specs.Prelude.{◌≡◌, ℕ, ◌+◌, ◌*◌, ◌^◌, ◌<◌, ◌≤◌, Bool, List, ◌++◌, length, take, All, Option, Some, None, refl}
+use Rattle.std.specs.Prelude.{◌≡◌, ℕ, ◌+◌, ◌*◌, ◌^◌, ◌<◌, ◌≤◌, Bool, List, ◌++◌, length, take, reverse, min, All, Option, Some, None, refl}
 use Rattle.std.specs.Coded.{Coded, code_by, coded×, coded_list, coded_option, coded_ℕ}
 use Rattle.symbol_map.specs.declared.sample.Sample.{Sample}
 use Rattle.survivors.specs.Trellises.{trellis_of}
 use Rattle.survivors.specs.Survivors.{IsReleased, LostIs}
 use Rattle.exact_decoder.specs.Columns.{sums_at}
-use Rattle.exact_decoder.specs.Kept.{KeepsSurvivors}
-use Rattle.exact_decoder.specs.Memory.{Memory, opened, memory_code}
+use Rattle.trellis_tables.specs.Sequences.{Leads}
+use Rattle.exact_decoder.specs.Kept.{Kept, KeepsSurvivors}
+use Rattle.exact_decoder.specs.Memory.{Memory, sealed, opened, memory_code}
 
 -- What is seen of a decoder: its sealed memory of the survivors, how many samples were pushed before the line was lost, the labels
 -- that are released and not taken, and with which symbol the line was lost.
@@ -21,12 +22,26 @@ decoding_code =
     code_by (Memory × (ℕ × (List ℕ × Option ℕ))) (coded× memory_code (coded× coded_ℕ (coded× (coded_list coded_ℕ) (coded_option coded_ℕ))))
     (λ d. (d.memory, (d.count, (d.pending, d.lost)))) (λ p. record { memory = p.0; count = p.1.0; pending = p.1.1.0; lost = p.1.1.1 }) (λ _. refl)
 
+-- the same of survivors, with the pending labels from the last
+abbrev pub decoding_of : Kept → ℕ → List ℕ → Option ℕ → Decoding
+decoding_of survivors count labels lost = record { memory = sealed survivors; count = count; pending = reverse labels; lost = lost }
+
+-- each state that this one leads to in so many steps has a sum of at most as many greatest distances
+abbrev pub IsNearAfter : (ℕ → ℕ → Option ℕ) → (ℕ → Option ℕ) → ℕ → ℕ → Type 0
+IsNearAfter table sums steps from = (path : List ℕ) (to : ℕ) → length path ≡ steps → Leads table from path to → (m : ℕ) × (sums to ≡ Some m) × (m ≤ steps * 2 ^ 33)
+
+-- How far sums are apart after so many samples, at most so many that each state leads to each: each is below as many greatest
+-- distances, and for each number of steps up to that there is a state from which all states that it leads to have small sums.
+pub record IsSpread (table : ℕ → ℕ → Option ℕ) (states samples : ℕ) (sums : ℕ → Option ℕ) : Type 0 where
+  pub small : (s m : ℕ) → sums s ≡ Some m → m ≤ samples * 2 ^ 33
+  pub near : (steps : ℕ) → steps ≤ samples → (from : ℕ) × (from < states) × IsNearAfter table sums steps from
+
 -- what holds of it whatever was pushed
-pub record IsSound (labels depth : ℕ) (d : Decoding) : Type 0 where
+pub record IsSound (table : ℕ → ℕ → Option ℕ) (states labels reach depth : ℕ) (d : Decoding) : Type 0 where
   pub low : 1 ≤ depth
   pub high : depth ≤ 128
   pub few : d.count ≤ 2 ^ 56
-  pub small : (s m : ℕ) → sums_at (opened d.memory).sums s ≡ Some m → m ≤ d.count * 2 ^ 34
+  pub spread : IsSpread table states (min d.count reach) (sums_at (opened d.memory).sums)
   pub room : d.lost ≡ None → (opened d.memory).unreleased ≤ depth
   pub few_unreleased : (opened d.memory).unreleased ≤ depth + 1
   pub few_pending : length d.pending ≤ depth + 1

@@ -4,9 +4,10 @@ pub use Rattle.survivors.specs.Trellises
 pub use Rattle.survivors.specs.Survivors
 pub use Rattle.survivors.specs.Steps
 pub use Rattle.survivors.specs.Laws as SurvivorLaws
-pub mod Choices
+pub mod Keys
+pub mod Settled
+pub mod Traced
 pub mod Columns
-pub mod Tails
 pub mod Kept
 pub mod Memory
 pub mod Decoder

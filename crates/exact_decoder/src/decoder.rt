@@ -1,5 +1,5 @@
 // The decoder: samples in, labels out.
-ghost use Rattle.std.specs.Prelude.{◌≡◌, ℕ, IfOk, IfSome, ◌↔◌, nat_eq, option_to_list, Bool, List, All, ◌+◌, ◌<◌, ◌≤◌, ◌^◌, length, drop, Some, None, [], ◌∷◌, ◌++◌, MatchResult, MatchOption};
+ghost use Rattle.std.specs.Prelude.{◌≡◌, ℕ, IfOk, IfSome, ◌↔◌, nat_eq, nat_lt, option_to_list, Bool, List, All, ◌+◌, ◌<◌, ◌≤◌, ◌^◌, length, drop, Some, None, [], ◌∷◌, ◌++◌, MatchResult, MatchOption};
 ghost use Rattle.symbol_map.specs.declared.sample.Sample.{Sample};
 ghost use Rattle.survivors.specs.Trellises.{trellis_of};
 ghost use Rattle.survivors.specs.Survivors.{IsFirstLeast};
@@ -20,7 +20,7 @@ pub struct Lost {
     pub symbol: u64,
 }
 
-/// The exact decoder of a code's sequences from one state. At most `DEPTH` labels of each survivor are unreleased
+/// The exact decoder of a code's sequences from one state, or from any. At most `DEPTH` labels of each survivor are unreleased
 /// while the line is not lost.
 #[derive(Drop)]
 pub struct Decoder<
@@ -30,8 +30,9 @@ pub struct Decoder<
     const DEPTH: usize,
 > {
     code: C,
-    survivors: Survivors<STATES, LABELS>,
+    survivors: Survivors<STATES, LABELS, DEPTH>,
     count: u64,
+    // The oldest is the last.
     pending: Labels,
     lost: Option<u64>,
 }
@@ -42,16 +43,15 @@ impl<
     const LABELS: usize,
     const DEPTH: usize,
 > Model for Decoder<C, STATES, LABELS, DEPTH> {
-    ghost use Rattle.exact_decoder.specs.Memory.{sealed};
-    ghost use Rattle.exact_decoder.specs.Decoder.{Decoding, IsSound, decoding_code};
+    ghost use Rattle.exact_decoder.specs.Decoder.{Decoding, IsSound, decoding_of, decoding_code};
 
     ghost Value = { Decoding };
 
     ghost coded = { decoding_code };
 
-    ghost view = { λ d. record { memory = sealed d.survivors; count = d.count; pending = d.pending; lost = d.lost } };
+    ghost view = { λ d. decoding_of d.survivors d.count d.pending d.lost };
 
-    ghost invariant = { λ d. IsSound LABELS DEPTH (record { memory = sealed d.survivors; count = d.count; pending = d.pending; lost = d.lost }) };
+    ghost invariant = { λ d. IsSound C.table STATES LABELS C.REACH DEPTH (decoding_of d.survivors d.count d.pending d.lost) };
 }
 
 impl<
@@ -77,6 +77,24 @@ impl<
         Ok(Decoder {
             code,
             survivors: Survivors::new(alloc, start)?,
+            count: 0,
+            pending: Labels::new(),
+            lost: None,
+        })
+    }
+
+    /// A decoder before its first sample, whose sequences start in any state. All its memory is taken here.
+    pub fn new_any(alloc: Global, code: C) -> Result<Decoder<C, STATES, LABELS, DEPTH>, NoMemory>
+        requires low { 1 ≤ DEPTH }
+        requires high { DEPTH ≤ 128 }
+        ensures stands { IfOk result (λ d. DecoderStands C.table C.points (λ state. nat_lt state STATES) DEPTH d [] []) }
+        ensures count { IfOk result (λ d. d.count ≡ 0) }
+        ensures pending { IfOk result (λ d. d.pending ≡ []) }
+        ensures lost { IfOk result (λ d. d.lost ≡ None) }
+    {
+        Ok(Decoder {
+            code,
+            survivors: Survivors::new_any(alloc)?,
             count: 0,
             pending: Labels::new(),
             lost: None,
@@ -116,9 +134,7 @@ impl<
         ensures rest { self.new ≡ record self.old { pending = drop 1 self.old.pending } }
         ensures bound { IfSome result (λ label. label < LABELS) }
     {
-        let label = self.pending.first()?;
-        self.pending.drop_first();
-        Some(label)
+        self.pending.pop()
     }
 
     /// How many labels are released and not taken.

@@ -1,62 +1,100 @@
 // What is kept of the survivors.
-ghost use Rattle.std.specs.Prelude.{◌≡◌, ℕ, All, IfOk, replicate, set, ◌+◌, ◌<◌, ◌≤◌, ◌^◌, length, Some, None, []};
-ghost use Rattle.exact_decoder.specs.Columns.{sums_at, tail_at};
-ghost use Rattle.exact_decoder.specs.Kept.{IsLeastSum, Stepped, Released};
+ghost use Rattle.std.specs.Prelude.{◌≡◌, ℕ, All, IfOk, replicate, set, map, reverse, ◌+◌, ◌<◌, ◌≤◌, ◌^◌, length, Some, None, []};
+ghost use Rattle.exact_decoder.specs.Columns.{sum_in, sums_at, tail_at};
+ghost use Rattle.exact_decoder.specs.Kept.{Kept, AreSums, IsLeastSum, Stepped, Released, Covered};
 ghost use Rattle.exact_decoder.specs.declared.labels.TheConstants.{ROOM};
 
-use crate::choice::Choice;
+use crate::advance::advance;
+use crate::back::{labels_back, release};
+use crate::choice::{Choice, least_of};
+use crate::entering::enter;
 use crate::labels::Labels;
-use crate::release::{least, release};
-use crate::room::{no_choices, no_labels, no_sums};
-use crate::step::step;
+use crate::nearest::find_nearest;
+use crate::room::{far_sums, no_sums, ring_of_columns};
+use circular_buffer::HeapCircularBuffer;
 use std::alloc::{AllocError, Global};
 use std::marker::Model;
 use symbol_map::Sample;
 use trellis_tables::TrellisCode;
 
-/// The survivor of each state: the sum of its squared distances, and those of its labels that are not released.
+/// The survivor of each state: the sum of its squared distances, less a number that all have in common, and the way back
+/// through columns of choices, the newest first. As many columns as labels are unreleased count.
 #[derive(Drop)]
-pub struct Survivors<const STATES: usize, const LABELS: usize> {
-    sums: Vec<Option<u128>>,
-    tails: Vec<Labels>,
+pub struct Survivors<const STATES: usize, const LABELS: usize, const DEPTH: usize> {
+    sums: Vec<u64>,
+    ring: HeapCircularBuffer<Vec<Choice>>,
     unreleased: usize,
     // These are filled anew with each sample.
-    distances: Vec<u64>,
-    choices: Vec<Option<Choice>>,
-    next: Vec<Labels>,
+    nearest: Vec<u64>,
+    entered: Vec<u64>,
+    ways: Vec<u8>,
 }
 
-impl<const STATES: usize, const LABELS: usize> Model for Survivors<STATES, LABELS> {
-    ghost use Rattle.std.specs.Prelude.{◌≡◌, length};
-    ghost use Rattle.exact_decoder.specs.Kept.{Kept, IsShaped};
+impl<const STATES: usize, const LABELS: usize, const DEPTH: usize> Model
+    for Survivors<STATES, LABELS, DEPTH> {
+    ghost use Rattle.std.specs.Prelude.{◌≡◌, ◌≤◌, ◌+◌, length};
+    ghost use Rattle.exact_decoder.specs.Traced.{columns_in};
+    ghost use Rattle.exact_decoder.specs.Kept.{Kept, kept_of, HoldsColumns};
 
     ghost Value = { Kept };
 
-    ghost view = { λ s. record { sums = s.sums.items; tails = s.tails.items; unreleased = s.unreleased } };
+    ghost view = { λ s. kept_of STATES s.sums.items (columns_in s.ring.items) s.unreleased };
 
-    ghost invariant = { λ s. (length s.distances.items ≡ LABELS) × (length s.choices.items ≡ STATES) × (length s.next.items ≡ STATES)
-        × IsShaped STATES LABELS (record { sums = s.sums.items; tails = s.tails.items; unreleased = s.unreleased }) };
+    ghost invariant = { λ s. (length s.nearest.items ≡ LABELS) × (length s.entered.items ≡ STATES) × (length s.ways.items ≡ STATES)
+        × (s.ring.capacity ≡ DEPTH + 1) × HoldsColumns STATES LABELS DEPTH s.sums.items (columns_in s.ring.items) s.unreleased };
 }
 
-impl<const STATES: usize, const LABELS: usize> Survivors<STATES, LABELS> {
+impl<const STATES: usize, const LABELS: usize, const DEPTH: usize> Survivors<
+    STATES,
+    LABELS,
+    DEPTH,
+> {
     /// Before the first sample: the empty sequence in its start. All memory is taken here.
-    pub fn new(alloc: Global, start: u8) -> Result<Survivors<STATES, LABELS>, AllocError>
-        requires { start < STATES }
+    pub fn new(alloc: Global, start: u8) -> Result<Survivors<STATES, LABELS, DEPTH>, AllocError>
+        requires start { start < STATES }
+        requires few { STATES ≤ 256 }
+        requires labels { 1 ≤ LABELS }
+        requires depth { DEPTH ≤ 128 }
         ensures { IfOk result (λ s. s ≡ record { sums = set (replicate STATES None) start (Some 0); tails = replicate STATES []; unreleased = 0 }) }
     {
-        let mut sums = no_sums(alloc, STATES)?;
-        sums[start as usize] = Some(0);
-        let tails = no_labels(alloc, STATES)?;
-        let distances = vec![in alloc; 0; LABELS]?;
-        let choices = no_choices(alloc, STATES)?;
-        let next = no_labels(alloc, STATES)?;
+        let mut sums = far_sums(alloc, STATES)?;
+        sums[start as usize] = u64::from(start);
+        Survivors::with_sums(alloc, sums)
+    }
+
+    /// Before the first sample: an empty sequence in each state. All memory is taken here.
+    pub fn new_any(alloc: Global) -> Result<Survivors<STATES, LABELS, DEPTH>, AllocError>
+        requires some { 1 ≤ STATES }
+        requires few { STATES ≤ 256 }
+        requires labels { 1 ≤ LABELS }
+        requires depth { DEPTH ≤ 128 }
+        ensures { IfOk result (λ s. s ≡ record { sums = replicate STATES (Some 0); tails = replicate STATES []; unreleased = 0 }) }
+    {
+        let sums = no_sums(alloc, STATES)?;
+        Survivors::with_sums(alloc, sums)
+    }
+
+    /// Before the first sample, with these sums. All memory but theirs is taken here.
+    fn with_sums(
+        alloc: Global,
+        sums: Vec<u64>,
+    ) -> Result<Survivors<STATES, LABELS, DEPTH>, AllocError>
+        requires sums { AreSums STATES sums.items }
+        requires labels { 1 ≤ LABELS }
+        requires depth { DEPTH ≤ 128 }
+        ensures { IfOk result (λ s. s ≡ record { sums = map sum_in sums.items; tails = replicate STATES []; unreleased = 0 }) }
+    {
+        let ring = ring_of_columns(alloc, DEPTH + 1, STATES)?;
+        let nearest = vec![in alloc; 0; LABELS]?;
+        let entered = vec![in alloc; 0; STATES]?;
+        let ways = vec![in alloc; 0; STATES]?;
         Ok(Survivors {
             sums,
-            tails,
+            ring,
             unreleased: 0,
-            distances,
-            choices,
-            next,
+            nearest,
+            entered,
+            ways,
         })
     }
 
@@ -69,39 +107,47 @@ impl<const STATES: usize, const LABELS: usize> Survivors<STATES, LABELS> {
 
     /// One sample more.
     pub fn push<C: TrellisCode<STATES, LABELS>>(&mut self, code: &C, sample: Sample)
-        requires room { self.old.unreleased < ROOM }
-        requires small { (s m : ℕ) → sums_at self.old.sums s ≡ Some m → m < 2 ^ 100 }
+        requires depth { DEPTH ≤ 128 }
+        requires room { self.old.unreleased ≤ DEPTH }
+        requires small { (s m : ℕ) → sums_at self.old.sums s ≡ Some m → m < 2 ^ 44 }
         ensures stepped { Stepped C.table C.points sample self.old self.new }
-        ensures small { (bound : ℕ) → ((s m : ℕ) → sums_at self.old.sums s ≡ Some m → m ≤ bound) → (s m : ℕ) → sums_at self.new.sums s ≡ Some m → m ≤ bound + 2 ^ 34 }
+        ensures covered { Covered STATES self.new }
     {
-        step(
-            code,
-            sample,
-            &mut self.distances,
-            &mut self.choices,
-            &mut self.sums,
-            &self.tails,
-            &mut self.next,
-        );
-        std::mem::swap(&mut self.tails, &mut self.next);
+        find_nearest(code, sample, &mut self.nearest);
+        enter(code, &self.sums, &self.nearest, &mut self.entered);
+        let least = least_of::<STATES>(&self.entered);
+        advance::<STATES, LABELS>(&self.entered, least, &mut self.sums, &mut self.ring);
         self.unreleased += 1;
     }
 
-    /// Moves the labels on which all survivors agree behind those that are pending.
-    pub fn release(&mut self, pending: &mut Labels)
-        requires { length pending.old + self.old.unreleased ≤ ROOM }
-        ensures released { Released self.old pending.old self.new pending.new }
-        ensures below { All (λ label. label < LABELS) pending.old → All (λ label. label < LABELS) pending.new }
+    /// Releases the labels on which all survivors agree: they are put into the list, the oldest last.
+    pub fn release(&mut self, labels: &mut Labels)
+        requires some { 1 ≤ STATES }
+        requires few { STATES ≤ 256 }
+        requires depth { DEPTH ≤ 128 }
+        requires empty { labels.old ≡ [] }
+        requires covered { Covered STATES self.old }
+        ensures released { Released self.old self.new (reverse labels.new) }
+        ensures below { All (λ label. label < LABELS) labels.new }
     {
-        self.unreleased = release(&self.sums, &mut self.tails, self.unreleased, pending);
+        self.unreleased = release::<STATES, LABELS>(
+            &self.ring,
+            self.unreleased,
+            &mut self.ways,
+            labels,
+        );
     }
 
-    /// The unreleased labels of the survivor of least cost: of equal ones that of the smallest state.
-    pub fn least(&self) -> &[u8]
-        ensures least { (state : ℕ) × IsLeastSum self.now.sums state × (result.now ≡ tail_at self.now.tails state) }
-        ensures long { length result.now ≡ self.now.unreleased }
-        ensures below { All (λ label. label < LABELS) result.now }
+    /// The unreleased labels of the survivor of least cost, the oldest last: of equal ones that of the smallest state.
+    pub fn least(&self) -> Labels
+        requires some { 1 ≤ STATES }
+        requires few { STATES ≤ 256 }
+        requires depth { DEPTH ≤ 128 }
+        ensures least { (state : ℕ) × IsLeastSum self.now.sums state × (reverse result ≡ tail_at self.now.tails state) }
+        ensures long { length result ≡ self.now.unreleased }
+        ensures below { All (λ label. label < LABELS) result }
     {
-        self.tails[least(&self.sums)].as_slice()
+        let from = (least_of::<STATES>(&self.sums) % 256) as u8;
+        labels_back::<STATES, LABELS>(&self.ring, self.unreleased, from)
     }
 }

@@ -8,11 +8,7 @@ ghost use Rattle.exact_decoder.specs.Laws.{AreStarts, FromAnyStarts, OnlySentIsL
 use trellis_tables::TrellisCode;
 
 /// Each code, from any of its states, has the laws that survivors rest on.
-pub fn codes_have_laws<
-    const STATES: usize,
-    const LABELS: usize,
-    C: TrellisCode<STATES, LABELS>,
->()
+pub fn codes_have_laws<const STATES: usize, const LABELS: usize, C: TrellisCode<STATES, LABELS>>()
     ensures { (starts : ℕ → Bool) → AreStarts STATES starts → HasLaws (trellis_of C.table C.points starts) STATES LABELS C.REACH }
 {}
 

@@ -2,18 +2,21 @@
 //! soon as all survivors agree on them, and tells with which symbol too many were left unreleased ([`Lost`]).
 //! No label is ever decided otherwise. It works for each [`trellis_tables::TrellisCode`].
 //!
-//! It is the Viterbi algorithm with squared distances. The survivor of each state is a sum and a list of labels,
-//! which goes from state to state with each sample (register exchange).
+//! It is the Viterbi algorithm with squared distances. The survivor of each state is a sum, and a way back through columns of
+//! choices.
 #![tactic(auto)]
 
+mod advance;
+mod back;
 mod choice;
 mod decoder;
+mod entering;
 mod kept;
+mod key;
 mod labels;
 pub mod laws;
-mod release;
+mod nearest;
 mod room;
-mod step;
 mod tail;
 
 pub use decoder::{Decoder, Lost};

@@ -1,39 +1,55 @@
 // The memory of a decoder, which is taken when it is made.
-ghost use Rattle.std.specs.Prelude.{◌≡◌, ℕ, length, IfOk, replicate, [], None};
+ghost use Rattle.std.specs.Prelude.{◌≡◌, ℕ, ◌+◌, ◌<◌, ◌≤◌, ◌^◌, length, slice_index, IfOk, All, []};
+ghost use Rattle.exact_decoder.specs.Settled.{far_key, choice_at};
+ghost use Rattle.exact_decoder.specs.Traced.{columns_in, IsColumn, AreColumns};
 
 use crate::choice::Choice;
-use crate::labels::Labels;
+use crate::key::{FAR, SUM};
+use circular_buffer::HeapCircularBuffer;
 use std::alloc::{AllocError, Global};
 
-/// Each state not reached.
-pub fn no_sums(alloc: Global, count: usize) -> Result<Vec<Option<u128>>, AllocError>
-    ensures { IfOk result (λ v. v.items ≡ replicate count None) }
+/// Sums of states to which no sequence leads, each with its state.
+pub fn far_sums(alloc: Global, count: usize) -> Result<Vec<u64>, AllocError>
+    requires { count ≤ 256 }
+    ensures { IfOk result (λ v. (length v.items ≡ count) × ((s : ℕ) → s < count → slice_index v.items s ≡ far_key + s)) }
 {
-    let mut sums = Vec::with_capacity(alloc, count)?;
+    let mut sums = vec![in alloc; 0; count]?;
     for state in 0..count {
-        sums.push(None)?;
+        sums[state] = FAR * SUM + state as u64;
     }
     Ok(sums)
 }
 
-/// No choice at any state.
-pub fn no_choices(alloc: Global, count: usize) -> Result<Vec<Option<Choice>>, AllocError>
-    ensures { IfOk result (λ v. length v.items ≡ count) }
+/// Sums of states in which a sequence starts, each with its state.
+pub fn no_sums(alloc: Global, count: usize) -> Result<Vec<u64>, AllocError>
+    requires { count ≤ 256 }
+    ensures { IfOk result (λ v. (length v.items ≡ count) × ((s : ℕ) → s < count → slice_index v.items s ≡ s)) }
 {
-    let mut choices = Vec::with_capacity(alloc, count)?;
+    let mut sums = vec![in alloc; 0; count]?;
     for state in 0..count {
-        choices.push(None)?;
+        sums[state] = state as u64;
     }
-    Ok(choices)
+    Ok(sums)
 }
 
-/// An empty list for each state, with its room.
-pub fn no_labels(alloc: Global, count: usize) -> Result<Vec<Labels>, AllocError>
-    ensures { IfOk result (λ v. v.items ≡ replicate count []) }
+/// A full ring of columns, in which each choice is that of state 0 and label 0.
+pub fn ring_of_columns(
+    alloc: Global,
+    columns: usize,
+    states: usize,
+) -> Result<HeapCircularBuffer<Vec<Choice>>, AllocError>
+    requires few { columns ≤ 129 }
+    ensures long { IfOk result (λ ring. length ring.items ≡ columns) }
+    ensures capacity { IfOk result (λ ring. ring.capacity ≡ columns) }
+    ensures columns { (labels : ℕ) → 1 ≤ labels → IfOk result (λ ring. AreColumns states labels (columns_in ring.items)) }
 {
-    let mut labels = Vec::with_capacity(alloc, count)?;
-    for state in 0..count {
-        labels.push(Labels::new())?;
+    let mut ring = HeapCircularBuffer::with_capacity(alloc, columns)?;
+    for count in 0..columns {
+        let first = Choice {
+            before: 0,
+            label: 0,
+        };
+        let _ = ring.push_front(vec![in alloc; first; states]?);
     }
-    Ok(labels)
+    Ok(ring)
 }

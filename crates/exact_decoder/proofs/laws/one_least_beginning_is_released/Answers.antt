@@ -2,12 +2,12 @@ use Rattle.survivors.specs.Trellises.{trellis_of}
 use Rattle.survivors.proofs.Release.{first-least-once}
 use Rattle.survivors.proofs.Fronts.{released-once, stays-prefix}
 use Rattle.survivors.proofs.Least.{some-released, released-is_least}
-use Rattle.exact_decoder.proofs.AnyCode.{IsCode, has-laws}
+use Rattle.exact_decoder.proofs.AnyCode.{IsCodeTable, has-laws}
 use Rattle.exact_decoder.proofs.laws.one_least_beginning_is_released.Goals as goal
 
 pub returns : goal.returns
 returns g c =
-    let code : IsCode g.C.TrellisCode.table g.row.STATES g.row.LABELS g.C.TrellisCode.REACH = record { bounded = g.met.C.TrellisCode.bounded; within = g.met.C.TrellisCode.within; enters_once = g.met.C.TrellisCode.enters_once; some_steps = g.met.C.TrellisCode.reach_some; reaches = g.met.C.TrellisCode.reaches } in
+    let code : IsCodeTable g.C.TrellisCode.table g.row.STATES g.row.LABELS g.C.TrellisCode.REACH = record { bounded = g.met.C.TrellisCode.bounded; within = g.met.C.TrellisCode.within; enters_once = g.met.C.TrellisCode.enters_once; some_steps = g.met.C.TrellisCode.reach_some; reaches = g.met.C.TrellisCode.reaches } in
     record {
       some = λ starts are samples. some-released (trellis_of g.C.TrellisCode.table g.C.TrellisCode.points starts) g.row.STATES g.row.LABELS g.C.TrellisCode.REACH samples (has-laws g.C.TrellisCode.table g.C.TrellisCode.points g.row.STATES g.row.LABELS g.C.TrellisCode.REACH code starts are);
       once = λ starts are samples a b h k. released-once (trellis_of g.C.TrellisCode.table g.C.TrellisCode.points starts) samples a b h k;

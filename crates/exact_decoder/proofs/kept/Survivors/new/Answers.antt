@@ -1,14 +1,22 @@
-use Rattle.std.proofs.Common.{replicate, set, Some, [], sym, ◌∙◌, ap, subst, length, arith}
-use Rattle.std.proofs.lemmas.List.{length-replicate}
-use Rattle.exact_decoder.specs.Kept.{IsShaped}
-use Rattle.exact_decoder.proofs.Started.{start-shaped}
+use Rattle.std.proofs.Common.{◌≡◌, ◌∙◌, Result, ℕ, List, Option, IfOk, map, lit<, replicate, set, None, Some, [], sym, ap, subst}
+use Rattle.exact_decoder.specs.Columns.{sum_in}
+use Rattle.exact_decoder.specs.Kept.{Kept, AreSums}
+use Rattle.exact_decoder.proofs.Started.{start_kept}
+use Rattle.exact_decoder.proofs.Keeping.{start-sums, start-are}
 use Rattle.exact_decoder.proofs.kept.Survivors.new.Goals as goal
 
-pub invariant_of-result : goal.invariant_of-result
-invariant_of-result g c = (
-  omega (arith, c.in_ok-distances.ensures.len),
-  c.in_ok-choices.ensures,
-  ap length c.in_ok-next.ensures ∙ length-replicate g.row.STATES [],
-  subst (λ t. IsShaped g.row.STATES g.row.LABELS (record { sums = set c.in_ok-sums.sums.items c.args.start (Some 0); tails = t; unreleased = 0 })) (sym c.in_ok-tails.ensures)
-      (subst (λ t. IsShaped g.row.STATES g.row.LABELS (record { sums = set t c.args.start (Some 0); tails = replicate g.row.STATES []; unreleased = 0 })) (sym c.in_ok-sums.ensures) (start-shaped g.row.STATES g.row.LABELS c.args.start c.requires)),
+pub with_sums-requires : goal.with_sums-requires
+with_sums-requires g c = (
+  lit< tt,
+  (
+    subst (λ n. AreSums g.row.STATES (set c.in_ok-sums.sums.items c.args.start n)) (sym c.from.ensures)
+        (start-are g.row.STATES c.args.start c.in_ok-sums.sums.items c.requires.few c.requires.start c.in_ok-sums.ensures.0 c.in_ok-sums.ensures.1),
+    (c.requires.labels, c.requires.depth),
+  ),
 )
+
+pub returns : goal.returns
+returns g c =
+    let sums : map sum_in (set c.in_ok-sums.sums.items c.args.start c.from.result) ≡ set (replicate g.row.STATES None) c.args.start (Some 0) =
+    ap (λ n. map sum_in (set c.in_ok-sums.sums.items c.args.start n)) c.from.ensures ∙ start-sums g.row.STATES c.args.start c.in_ok-sums.sums.items c.requires.few c.requires.start c.in_ok-sums.ensures.0 c.in_ok-sums.ensures.1 in
+    subst (λ (l : List (Option ℕ)). IfOk c.with_sums.result (λ s. let k : Kept = start_kept g.row.STATES l in s ≡ k)) sums c.with_sums.ensures
