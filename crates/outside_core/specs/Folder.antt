@@ -46,6 +46,17 @@ pub record GoesOn (old new : FolderState) : Type 0 where
   pub says : old.say_faults ≤ new.say_faults
   pub refused : old.refusals ≤ new.refusals
 
+-- No fault was counted, of any name or of what is said.
+pub record FaultsStand (old new : FolderState) : Type 0 where
+  pub reads : (name : List ℕ) → new.read_faults name ≡ old.read_faults name
+  pub writes : (name : List ℕ) → new.write_faults name ≡ old.write_faults name
+  pub says : new.say_faults ≡ old.say_faults
+
+-- Nothing was counted, neither a fault nor a memory refusal.
+pub record CountsStand (old new : FolderState) : Type 0 where
+  pub faults : FaultsStand old new
+  pub refusals : new.refusals ≡ old.refusals
+
 -- what is told of a name stays as it was
 abbrev pub KeepsName : FolderState → FolderState → List ℕ → Type 0
 KeepsName old new name = IsTrue (old.tells name) → held_at new name ≡ held_at old name
@@ -104,10 +115,6 @@ Said old new piece = new.said ≡ option_map (λ s. s ++ piece) old.said
 abbrev pub PartlySaid : FolderState → FolderState → List ℕ → Type 0
 PartlySaid old new piece = (part : List ℕ) × IsPrefixOf part piece × Said old new part
 
--- octets stand behind what a name held
-abbrev pub Puts : FolderState → FolderState → List ℕ → List ℕ → Type 0
-Puts old new name piece = IsTrue (old.tells name) → octets_at new name ≡ octets_at old name ++ piece
-
--- a prefix of the octets stands behind what a name held
-abbrev pub PutsPart : FolderState → FolderState → List ℕ → List ℕ → Type 0
-PutsPart old new name piece = IsTrue (old.tells name) → (part : List ℕ) × IsPrefixOf part piece × (octets_at new name ≡ octets_at old name ++ part)
+-- octets stand behind what a name held; where there are none it may be left as it was
+abbrev pub Adds : FolderState → FolderState → List ℕ → List ℕ → Type 0
+Adds old new name piece = ((piece ≡ []) × KeepsName old new name) ⊎ Appended old new name piece

@@ -1,7 +1,7 @@
 -- What follows from several calls of a folder in a row.
-use Rattle.std.specs.Prelude.{◌≡◌, ℕ, ◌≤◌, IsTrue, List, [], ◌++◌, unwrap_or, refl}
-use Rattle.std.proofs.Common.{sym, ◌∙◌, ap, subst, arith, append-nil}
-use Rattle.outside_core.specs.Folder.{FolderState, octets_at, GoesOn, KeepsName, OnlyReads, Puts, PutsPart, Rose}
+use Rattle.std.specs.Prelude.{◌≡◌, ℕ, ◌≤◌, IsTrue, List, [], ◌++◌, Some, unwrap_or, refl}
+use Rattle.std.proofs.Common.{sym, ◌∙◌, ap, subst, arith, append-nil, inl, inr}
+use Rattle.outside_core.specs.Folder.{FolderState, octets_at, GoesOn, KeepsName, OnlyReads, Adds, Appended, PartlyAppended, FaultsStand, CountsStand, Rose}
 
 -- nothing happened
 pub GoesOn-refl : (a : FolderState) → GoesOn a a
@@ -33,27 +33,34 @@ Rose-later a b c d p r q = omega arith
 pub octets-kept : (a b : FolderState) (n : List ℕ) → KeepsName a b n → IsTrue (a.tells n) → octets_at b n ≡ octets_at a n
 octets-kept a b n k told = ap (λ o. unwrap_or o []) (k told)
 
--- what was put stays, where the name is kept from then on
-pub Puts-kept : (a b c : FolderState) (n xs : List ℕ) → GoesOn a b → Puts a b n xs → KeepsName b c n → Puts a c n xs
-Puts-kept a b c n xs g p k told = octets-kept b c n k (told_later g n told) ∙ p told
+-- what was appended stays, where the name is kept from then on
+pub Appended-kept : (a b c : FolderState) (n xs : List ℕ) → GoesOn a b → Appended a b n xs → KeepsName b c n → Appended a c n xs
+Appended-kept a b c n xs g p k told = k (told_later g n told) ∙ p told
 
--- and what is put behind a name that was kept is put behind what it held before
-pub kept-Puts : (a b c : FolderState) (n xs : List ℕ) → GoesOn a b → KeepsName a b n → Puts b c n xs → Puts a c n xs
-kept-Puts a b c n xs g k p told = p (told_later g n told) ∙ ap (λ o. o ++ xs) (octets-kept a b n k told)
+-- likewise of what was added
+pub Adds-kept : (a b c : FolderState) (n xs : List ℕ) → GoesOn a b → Adds a b n xs → KeepsName b c n → Adds a c n xs
+Adds-kept a b c n xs g p k = elim p [
+  | inl none ↦ inl (none.0, KeepsName-trans a b c n g none.1 k)
+  | inr put ↦ inr (Appended-kept a b c n xs g put k)
+]
 
--- nothing of it was put
-pub PutsPart-none : (a b : FolderState) (n xs : List ℕ) → KeepsName a b n → PutsPart a b n xs
-PutsPart-none a b n xs k told = ([], (xs, refl), octets-kept a b n k told ∙ sym (append-nil _))
+-- a name that is kept has nothing of the piece behind it
+pub PartlyAppended-none : (a b : FolderState) (n xs : List ℕ) → KeepsName a b n → PartlyAppended a b n xs
+PartlyAppended-none a b n xs k told = inl (k told)
 
--- all of it was put
-pub PutsPart-all : (a b : FolderState) (n xs : List ℕ) → Puts a b n xs → PutsPart a b n xs
-PutsPart-all a b n xs p told = (xs, ([], append-nil xs), p told)
+-- what was added whole is a part of itself
+pub PartlyAppended-all : (a b : FolderState) (n xs : List ℕ) → Adds a b n xs → PartlyAppended a b n xs
+PartlyAppended-all a b n xs p told = elim p [
+  | inl none ↦ inl (none.1 told)
+  | inr put ↦ inr (xs, ([], append-nil xs), put told)
+]
 
--- likewise of a prefix
-pub kept-PutsPart : (a b c : FolderState) (n xs : List ℕ) → GoesOn a b → KeepsName a b n → PutsPart b c n xs → PutsPart a c n xs
-kept-PutsPart a b c n xs g k p told =
-    let q = p (told_later g n told) in
-    (q.0, q.1, q.2 ∙ ap (λ o. o ++ q.0) (octets-kept a b n k told))
+-- what is appended in part behind a name that was kept is appended in part to what it held before
+pub kept-PartlyAppended : (a b c : FolderState) (n xs : List ℕ) → GoesOn a b → KeepsName a b n → PartlyAppended b c n xs → PartlyAppended a c n xs
+kept-PartlyAppended a b c n xs g k p told = elim (p (told_later g n told)) [
+  | inl kept ↦ inl (kept ∙ k told)
+  | inr put ↦ inr (put.0, put.1, put.2 ∙ ap (λ o. Some (o ++ put.0)) (octets-kept a b n k told))
+]
 
 -- no call at all reads alone
 pub OnlyReads-refl : (a : FolderState) → OnlyReads a a
@@ -68,3 +75,23 @@ OnlyReads-trans {a} {b} {c} p q = record {
   write_faults = λ n. q.write_faults n ∙ p.write_faults n;
   say_faults = q.say_faults ∙ p.say_faults;
 }
+
+-- no call at all counts nothing
+pub FaultsStand-refl : (a : FolderState) → FaultsStand a a
+FaultsStand-refl a = record { reads = λ n. refl; writes = λ n. refl; says = refl }
+
+pub CountsStand-refl : (a : FolderState) → CountsStand a a
+CountsStand-refl a = record { faults = FaultsStand-refl a; refusals = refl }
+
+-- where neither of two steps counts anything, both together don't
+pub FaultsStand-trans : {a b c : FolderState} → FaultsStand a b → FaultsStand b c → FaultsStand a c
+FaultsStand-trans p q = record {
+  reads = λ n. q.reads n ∙ p.reads n;
+  writes = λ n. q.writes n ∙ p.writes n;
+  says = q.says ∙ p.says;
+}
+
+pub CountsStand-trans : {a b c : FolderState} → CountsStand a b → CountsStand b c → CountsStand a c
+CountsStand-trans p q = record { faults = FaultsStand-trans p.faults q.faults; refusals = q.refusals ∙ p.refusals }
+
+pub ruleset standing_counts = (FaultsStand-trans, CountsStand-trans)

@@ -1,6 +1,6 @@
 // A folder as a program sees it. What it holds may be told or not; its counts of faults are always known.
-ghost use Rattle.std.specs.Prelude.{◌⊎◌, ◌≤◌, length, IfOk, OnOk, OnErr};
-ghost use Rattle.outside_core.specs.Folder.{FolderState, OnlyReads, OnlyWrites, OnlySays, KeepsName, HasCause, ReadsFront, Appended, PartlyAppended, Created, Said, PartlySaid};
+ghost use Rattle.std.specs.Prelude.{◌⊎◌, ◌≤◌, length, IfOk, OnOk, OnErr, IsErrOf};
+ghost use Rattle.outside_core.specs.Folder.{FolderState, OnlyReads, OnlyWrites, OnlySays, KeepsName, HasCause, FaultsStand, CountsStand, ReadsFront, Appended, PartlyAppended, Created, Said, PartlySaid};
 
 use std::alloc::{AllocError, AllocFailed};
 use thiserror::Error;
@@ -37,6 +37,7 @@ impl<T: Drop> From<AllocFailed<T>> for NoMemory {
 ///
 /// What a folder holds is known of the names that it tells, and which these are never changes. Each call belongs to a
 /// count of faults, of the name or of what is said, and all calls to one count of memory refusals; no count ever falls.
+/// A call that answers `Ok` counts nothing, and one that finds no memory counts no fault.
 pub trait Folder {
     /// What it stands for.
     ghost state: { Self → FolderState };
@@ -47,26 +48,34 @@ pub trait Folder {
         ensures octets { IfOk result (ReadsFront (state self.old) name.now at buf.old buf.new) }
         ensures bound { IfOk result (λ count. count ≤ length buf.old) }
         ensures only { OnlyReads (state self.old) (state self.new) }
-        ensures cause { HasCause ((state self.old).read_faults name.now) ((state self.new).read_faults name.now) (state self.old).refusals (state self.new).refusals result };
+        ensures cause { HasCause ((state self.old).read_faults name.now) ((state self.new).read_faults name.now) (state self.old).refusals (state self.new).refusals result }
+        ensures stand { OnOk result (CountsStand (state self.old) (state self.new)) }
+        ensures spared { IsErrOf result FolderFault.NoMemory → FaultsStand (state self.old) (state self.new) };
 
     /// Makes the name hold no octets.
     fn create(&mut self, name: &str) -> Result<(), FolderFault>
         ensures ok { OnOk result (Created (state self.old) (state self.new) name.now) }
         ensures err { OnErr result (KeepsName (state self.old) (state self.new) name.now ⊎ Created (state self.old) (state self.new) name.now) }
         ensures only { OnlyWrites (state self.old) (state self.new) name.now }
-        ensures cause { HasCause ((state self.old).write_faults name.now) ((state self.new).write_faults name.now) (state self.old).refusals (state self.new).refusals result };
+        ensures cause { HasCause ((state self.old).write_faults name.now) ((state self.new).write_faults name.now) (state self.old).refusals (state self.new).refusals result }
+        ensures stand { OnOk result (CountsStand (state self.old) (state self.new)) }
+        ensures spared { IsErrOf result FolderFault.NoMemory → FaultsStand (state self.old) (state self.new) };
 
     /// Puts the piece behind what the name holds. A name that isn't held is made.
     fn append(&mut self, name: &str, piece: &[u8]) -> Result<(), FolderFault>
         ensures ok { OnOk result (Appended (state self.old) (state self.new) name.now piece.now) }
         ensures err { OnErr result (PartlyAppended (state self.old) (state self.new) name.now piece.now) }
         ensures only { OnlyWrites (state self.old) (state self.new) name.now }
-        ensures cause { HasCause ((state self.old).write_faults name.now) ((state self.new).write_faults name.now) (state self.old).refusals (state self.new).refusals result };
+        ensures cause { HasCause ((state self.old).write_faults name.now) ((state self.new).write_faults name.now) (state self.old).refusals (state self.new).refusals result }
+        ensures stand { OnOk result (CountsStand (state self.old) (state self.new)) }
+        ensures spared { IsErrOf result FolderFault.NoMemory → FaultsStand (state self.old) (state self.new) };
 
     /// Puts the piece behind what was said.
     fn say(&mut self, piece: &[u8]) -> Result<(), FolderFault>
         ensures ok { OnOk result (Said (state self.old) (state self.new) piece.now) }
         ensures err { OnErr result (PartlySaid (state self.old) (state self.new) piece.now) }
         ensures only { OnlySays (state self.old) (state self.new) }
-        ensures cause { HasCause (state self.old).say_faults (state self.new).say_faults (state self.old).refusals (state self.new).refusals result };
+        ensures cause { HasCause (state self.old).say_faults (state self.new).say_faults (state self.old).refusals (state self.new).refusals result }
+        ensures stand { OnOk result (CountsStand (state self.old) (state self.new)) }
+        ensures spared { IsErrOf result FolderFault.NoMemory → FaultsStand (state self.old) (state self.new) };
 }

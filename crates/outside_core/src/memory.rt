@@ -2,7 +2,7 @@
 ghost use Rattle.std.specs.Prelude.{◌≡◌, ◌≤◌, ◌⊎◌, ◌++◌, [], ◌↔◌, length, unwrap_or, OnOk, OnErr, IfOk, IsErrOf, IsNone};
 ghost use Rattle.std.specs.Option.{option_map};
 ghost use Rattle.std.specs.FinMap as finite;
-ghost use Rattle.outside_core.specs.Folder.{ReadsFront, OnlyReads, OnlyWrites, OnlySays, HasCause, KeepsName, Appended, PartlyAppended, Created, Said, PartlySaid};
+ghost use Rattle.outside_core.specs.Folder.{ReadsFront, OnlyReads, OnlyWrites, OnlySays, HasCause, FaultsStand, CountsStand, KeepsName, Appended, PartlyAppended, Created, Said, PartlySaid};
 ghost use Rattle.outside_core.specs.Memory.{memory_folder, FailsNext, AfterRead, AfterWrite};
 
 use crate::store::Store;
@@ -115,9 +115,12 @@ impl Folder for MemoryFolder {
         ensures bound { IfOk result (λ count. count ≤ length buf.old) }
         ensures only { OnlyReads (memory_folder self.old) (memory_folder self.new) }
         ensures cause { HasCause self.old.read_faults self.new.read_faults self.old.refusals self.new.refusals result }
+        ensures stand { OnOk result (CountsStand (memory_folder self.old) (memory_folder self.new)) }
+        ensures spared { IsErrOf result FolderFault.NoMemory → FaultsStand (memory_folder self.old) (memory_folder self.new) }
 
         ensures failed { IsErrOf result FolderFault.Failed ↔ (FailsNext self.old ⊎ IsNone (finite.get self.old.held name.now)) }
         ensures after { AfterRead self.old self.new result }
+        ensures buffer { OnErr result (buf.new ≡ buf.old) }
     {
         self.calls = self.calls.saturating_add(1);
         if self.fails.contains(&self.calls) {
@@ -139,6 +142,8 @@ impl Folder for MemoryFolder {
         ensures err { OnErr result (KeepsName (memory_folder self.old) (memory_folder self.new) name.now ⊎ Created (memory_folder self.old) (memory_folder self.new) name.now) }
         ensures only { OnlyWrites (memory_folder self.old) (memory_folder self.new) name.now }
         ensures cause { HasCause self.old.write_faults self.new.write_faults self.old.refusals self.new.refusals result }
+        ensures stand { OnOk result (CountsStand (memory_folder self.old) (memory_folder self.new)) }
+        ensures spared { IsErrOf result FolderFault.NoMemory → FaultsStand (memory_folder self.old) (memory_folder self.new) }
 
         ensures failed { IsErrOf result FolderFault.Failed ↔ FailsNext self.old }
         ensures after { AfterWrite self.old self.new (record self.old { held = finite.insert self.old.held name.now [] }) result }
@@ -163,6 +168,8 @@ impl Folder for MemoryFolder {
         ensures err { OnErr result (PartlyAppended (memory_folder self.old) (memory_folder self.new) name.now piece.now) }
         ensures only { OnlyWrites (memory_folder self.old) (memory_folder self.new) name.now }
         ensures cause { HasCause self.old.write_faults self.new.write_faults self.old.refusals self.new.refusals result }
+        ensures stand { OnOk result (CountsStand (memory_folder self.old) (memory_folder self.new)) }
+        ensures spared { IsErrOf result FolderFault.NoMemory → FaultsStand (memory_folder self.old) (memory_folder self.new) }
 
         ensures failed { IsErrOf result FolderFault.Failed ↔ FailsNext self.old }
         ensures after { AfterWrite self.old self.new (record self.old { held = finite.insert self.old.held name.now (unwrap_or (finite.get self.old.held name.now) [] ++ piece.now) }) result }
@@ -186,6 +193,8 @@ impl Folder for MemoryFolder {
         ensures err { OnErr result (PartlySaid (memory_folder self.old) (memory_folder self.new) piece.now) }
         ensures only { OnlySays (memory_folder self.old) (memory_folder self.new) }
         ensures cause { HasCause self.old.write_faults self.new.write_faults self.old.refusals self.new.refusals result }
+        ensures stand { OnOk result (CountsStand (memory_folder self.old) (memory_folder self.new)) }
+        ensures spared { IsErrOf result FolderFault.NoMemory → FaultsStand (memory_folder self.old) (memory_folder self.new) }
 
         ensures failed { IsErrOf result FolderFault.Failed ↔ FailsNext self.old }
         ensures after { AfterWrite self.old self.new (record self.old { said = self.old.said ++ piece.now }) result }

@@ -1,8 +1,8 @@
 // A folder in memory that never fails.
-ghost use Rattle.std.specs.Prelude.{◌≡◌, ◌≤◌, ◌⊎◌, ◌++◌, [], length, unwrap_or, OnOk, OnErr, IfOk, IsOk};
+ghost use Rattle.std.specs.Prelude.{◌≡◌, ◌≤◌, ◌⊎◌, ◌++◌, [], length, unwrap_or, OnOk, OnErr, IfOk, IsOk, IsErrOf};
 ghost use Rattle.std.specs.Option.{option_map};
 ghost use Rattle.std.specs.FinMap as finite;
-ghost use Rattle.outside_core.specs.Folder.{ReadsFront, OnlyReads, OnlyWrites, OnlySays, HasCause, KeepsName, Appended, PartlyAppended, Created, Said, PartlySaid};
+ghost use Rattle.outside_core.specs.Folder.{ReadsFront, OnlyReads, OnlyWrites, OnlySays, HasCause, FaultsStand, CountsStand, KeepsName, Appended, PartlyAppended, Created, Said, PartlySaid};
 ghost use Rattle.outside_core.specs.Sure.{sure_folder, counted, AfterSureWrite};
 
 use crate::store::Store;
@@ -82,6 +82,8 @@ impl Folder for SureFolder {
         ensures bound { IfOk result (λ count. count ≤ length buf.old) }
         ensures only { OnlyReads (sure_folder self.old) (sure_folder self.new) }
         ensures cause { HasCause 0 0 self.old.refusals self.new.refusals result }
+        ensures stand { OnOk result (CountsStand (sure_folder self.old) (sure_folder self.new)) }
+        ensures spared { IsErrOf result FolderFault.NoMemory → FaultsStand (sure_folder self.old) (sure_folder self.new) }
 
         ensures sure { IsOk result }
         ensures after { self.new ≡ counted self.old }
@@ -99,6 +101,8 @@ impl Folder for SureFolder {
         ensures err { OnErr result (KeepsName (sure_folder self.old) (sure_folder self.new) name.now ⊎ Created (sure_folder self.old) (sure_folder self.new) name.now) }
         ensures only { OnlyWrites (sure_folder self.old) (sure_folder self.new) name.now }
         ensures cause { HasCause 0 0 self.old.refusals self.new.refusals result }
+        ensures stand { OnOk result (CountsStand (sure_folder self.old) (sure_folder self.new)) }
+        ensures spared { IsErrOf result FolderFault.NoMemory → FaultsStand (sure_folder self.old) (sure_folder self.new) }
 
         ensures after { AfterSureWrite self.old self.new (record self.old { held = finite.insert self.old.held name.now [] }) result }
     {
@@ -118,6 +122,8 @@ impl Folder for SureFolder {
         ensures err { OnErr result (PartlyAppended (sure_folder self.old) (sure_folder self.new) name.now piece.now) }
         ensures only { OnlyWrites (sure_folder self.old) (sure_folder self.new) name.now }
         ensures cause { HasCause 0 0 self.old.refusals self.new.refusals result }
+        ensures stand { OnOk result (CountsStand (sure_folder self.old) (sure_folder self.new)) }
+        ensures spared { IsErrOf result FolderFault.NoMemory → FaultsStand (sure_folder self.old) (sure_folder self.new) }
 
         ensures after { AfterSureWrite self.old self.new (record self.old { held = finite.insert self.old.held name.now (unwrap_or (finite.get self.old.held name.now) [] ++ piece.now) }) result }
     {
@@ -136,6 +142,8 @@ impl Folder for SureFolder {
         ensures err { OnErr result (PartlySaid (sure_folder self.old) (sure_folder self.new) piece.now) }
         ensures only { OnlySays (sure_folder self.old) (sure_folder self.new) }
         ensures cause { HasCause 0 0 self.old.refusals self.new.refusals result }
+        ensures stand { OnOk result (CountsStand (sure_folder self.old) (sure_folder self.new)) }
+        ensures spared { IsErrOf result FolderFault.NoMemory → FaultsStand (sure_folder self.old) (sure_folder self.new) }
 
         ensures after { AfterSureWrite self.old self.new (record self.old { said = self.old.said ++ piece.now }) result }
     {
