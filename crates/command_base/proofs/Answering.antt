@@ -1,9 +1,10 @@
 -- What an answer tells of the line that was said last, and of what it belongs to.
 use Rattle.std.proofs.Common.{◌≡◌, ◌≢◌, ◌⊎◌, ◌∙◌, inl, inr, ℕ, List, sym, subst}
 use Rattle.outside_core.specs.Folder.{FolderState, Said, Rose}
+use Rattle.outside_core.specs.Steps.{CountsStand-trans}
 use Rattle.command_base.specs.declared.status.Status.{Status}
 use Rattle.command_base.specs.declared.status.Status.TheVariants.{Done, Usage, ReadFault, WriteFault, NoMemory}
-use Rattle.command_base.specs.Status.{IsRefusal}
+use Rattle.command_base.specs.Status.{IsRefusal, IsFolderFault, PassesNoneOver}
 use Rattle.command_base.specs.Tells.{Tells}
 
 -- an answer that isn't given where a line was not said whole
@@ -64,3 +65,13 @@ tells-refusal old new line answer s tells r = elim tells.said [
 -- how the program is used is told only where that is the answer
 pub tells-other : (old new : FolderState) (line : List ℕ) (answer s : Status) → Tells old new line answer s → answer ≢ Usage → s ≢ Usage
 tells-other old new line answer s tells other e = other (tells-plain old new line answer s Usage tells e usage-plain).0
+
+-- what was counted before the line was said, and then
+pub stand-later : (old before new : FolderState) (line : List ℕ) (answer s : Status) → PassesNoneOver old before answer → Tells before new line answer s → PassesNoneOver old new s
+stand-later old before new line answer s first tells = elim tells.stand [
+  | inl fault ↦ inl fault
+  | inr second ↦ elim tells.said [
+    | inl h ↦ elim first [ inl fault ↦ inl (subst IsFolderFault (sym h.0) fault) | inr stood ↦ inr (CountsStand-trans stood second) ]
+    | inr h ↦ elim h [ inl f ↦ inl (subst IsFolderFault (sym f.0) tt) | inr f ↦ inl (subst IsFolderFault (sym f.0) tt) ]
+  ]
+]

@@ -1,19 +1,20 @@
--- What a command leaves of its outputs. What is said of a name's octets holds where the folder tells that name.
-use Rattle.std.specs.Prelude.{◌≡◌, ◌≢◌, ◌⊎◌, ℕ, ◌++◌, IsTrue, List, []}
+-- What a command leaves of its outputs. What is said of a name holds where the folder tells it; a name that holds no octets
+-- is held.
+use Rattle.std.specs.Prelude.{◌≡◌, ◌≢◌, ◌⊎◌, ℕ, ◌++◌, IsTrue, List, [], Some}
 use Rattle.plain_lists.specs.Prefix.{IsPrefixOf}
-use Rattle.outside_core.specs.Folder.{FolderState, octets_at, GoesOn, KeepsName}
+use Rattle.outside_core.specs.Folder.{FolderState, held_at, GoesOn, KeepsName}
 
 -- a name holds these octets
 abbrev pub Holds : FolderState → List ℕ → List ℕ → Type 0
-Holds f name octets = IsTrue (f.tells name) → octets_at f name ≡ octets
+Holds f name octets = IsTrue (f.tells name) → held_at f name ≡ Some octets
 
 -- a name holds these octets, and behind them a part of the next piece
 abbrev pub HoldsPart : FolderState → List ℕ → List ℕ → List ℕ → Type 0
-HoldsPart f name octets piece = IsTrue (f.tells name) → (part : List ℕ) × IsPrefixOf part piece × (octets_at f name ≡ octets ++ part)
+HoldsPart f name octets piece = IsTrue (f.tells name) → (part : List ℕ) × IsPrefixOf part piece × (held_at f name ≡ Some (octets ++ part))
 
 -- a name holds the beginning of these octets
 abbrev pub HoldsFront : FolderState → List ℕ → List ℕ → Type 0
-HoldsFront f name octets = IsTrue (f.tells name) → IsPrefixOf (octets_at f name) octets
+HoldsFront f name octets = IsTrue (f.tells name) → (front : List ℕ) × IsPrefixOf front octets × (held_at f name ≡ Some front)
 
 -- an output that was to be created is as it was, or holds no octets
 abbrev pub KeptOrEmpty : FolderState → FolderState → List ℕ → Type 0

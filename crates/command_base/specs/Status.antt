@@ -1,5 +1,6 @@
 -- Exit statuses.
-use Rattle.std.specs.Prelude.{ℕ}
+use Rattle.std.specs.Prelude.{◌⊎◌, ℕ}
+use Rattle.outside_core.specs.Folder.{FolderState, CountsStand}
 use Rattle.command_base.specs.declared.status.Status.{Status}
 use Rattle.command_base.specs.declared.status.Status.TheVariants.{Done, Usage, BadScript, BadRecording, BadHex, BadXid, TooLong, ReadFault, WriteFault, LineLost, LinkLost, NoMemory}
 
@@ -25,3 +26,14 @@ IsRefusal (BadHex at) = Unit {0}
 IsRefusal (BadXid fault) = Unit {0}
 IsRefusal (TooLong word) = Unit {0}
 IsRefusal status = ⊥
+
+-- answers that a fault of the folder, or its want of memory, may have
+abbrev pub IsFolderFault : Status → Type 0
+IsFolderFault ReadFault = Unit {0}
+IsFolderFault WriteFault = Unit {0}
+IsFolderFault NoMemory = Unit {0}
+IsFolderFault status = ⊥
+
+-- a fault of the folder is the answer, or none was counted: none is passed over
+abbrev pub PassesNoneOver : FolderState → FolderState → Status → Type 0
+PassesNoneOver old new s = IsFolderFault s ⊎ CountsStand old new

@@ -3,6 +3,7 @@ use Rattle.std.specs.Prelude.{◌≡◌, ◌⊎◌, ℕ, List}
 use Rattle.outside_core.specs.Folder.{FolderState, OnlySays, Said, PartlySaid, Rose}
 use Rattle.command_base.specs.declared.status.Status.{Status}
 use Rattle.command_base.specs.declared.status.Status.TheVariants.{WriteFault, NoMemory}
+use Rattle.command_base.specs.Status.{PassesNoneOver}
 
 -- A line was said, and the answer is the one that it belongs to; or a part of it was said, and the answer is the fault.
 pub record Tells (old new : FolderState) (line : List ℕ) (answer s : Status) : Type 0 where
@@ -10,3 +11,4 @@ pub record Tells (old new : FolderState) (line : List ℕ) (answer s : Status) :
   pub said : ((s ≡ answer) × Said old new line)
       ⊎ ((s ≡ WriteFault) × Rose old.say_faults new.say_faults × PartlySaid old new line)
       ⊎ ((s ≡ NoMemory) × Rose old.refusals new.refusals × PartlySaid old new line)
+  pub stand : PassesNoneOver old new s

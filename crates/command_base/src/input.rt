@@ -1,6 +1,6 @@
 // Steps of an input.
-ghost use Rattle.std.specs.Prelude.{◌≡◌, ◌≤◌, ◌<◌, ◌+◌, ◌-◌, ◌++◌, [], IsTrue, IfOk, IfErr, min, nat_lt, length, take, drop, vec_len};
-ghost use Rattle.outside_core.specs.Folder.{OnlyReads, HasCause, octets_at};
+ghost use Rattle.std.specs.Prelude.{◌≡◌, ◌≤◌, ◌<◌, ◌+◌, ◌-◌, ◌++◌, [], IsTrue, IfOk, IfErr, OnOk, IsErrOf, min, nat_lt, length, take, drop, vec_len};
+ghost use Rattle.outside_core.specs.Folder.{OnlyReads, HasCause, FaultsStand, CountsStand, octets_at};
 ghost use Rattle.command_base.specs.Inputs.{FailsToHold};
 
 use outside_core::{Folder, FolderFault};
@@ -11,6 +11,8 @@ pub fn is_longer<F: Folder>(folder: &mut F, name: &str, limit: u64) -> Result<bo
     ensures longer { IfOk result (λ longer. IsTrue ((F.state folder.old).tells name.now) → longer ≡ nat_lt limit (length (octets_at (F.state folder.old) name.now))) }
     ensures reads { OnlyReads (F.state folder.old) (F.state folder.new) }
     ensures cause { HasCause ((F.state folder.old).read_faults name.now) ((F.state folder.new).read_faults name.now) (F.state folder.old).refusals (F.state folder.new).refusals result }
+    ensures stand { OnOk result (CountsStand (F.state folder.old) (F.state folder.new)) }
+    ensures spared { IsErrOf result FolderFault.NoMemory → FaultsStand (F.state folder.old) (F.state folder.new) }
 {
     let mut octet = [0u8; 1];
     match folder.read_at(name, limit, &mut octet) {
@@ -36,6 +38,8 @@ pub fn read_piece<F: Folder>(
     ensures kept { length piece.new ≡ length piece.old }
     ensures reads { OnlyReads (F.state folder.old) (F.state folder.new) }
     ensures cause { HasCause ((F.state folder.old).read_faults name.now) ((F.state folder.new).read_faults name.now) (F.state folder.old).refusals (F.state folder.new).refusals result }
+    ensures stand { OnOk result (CountsStand (F.state folder.old) (F.state folder.new)) }
+    ensures spared { IsErrOf result FolderFault.NoMemory → FaultsStand (F.state folder.old) (F.state folder.new) }
 {
     let room = limit - at;
     let want = if room < piece.len() as u64 {
@@ -61,6 +65,7 @@ fn read_more<F: Folder>(
         (file.new.items ≡ file.old.items ++ take count rest) × (count ≡ 0 → (rest ≡ []))) }
     ensures reads { OnlyReads (F.state folder.old) (F.state folder.new) }
     ensures fault { IfErr result (FailsToHold (F.state folder.old) (F.state folder.new) name.now) }
+    ensures stand { OnOk result (CountsStand (F.state folder.old) (F.state folder.new)) }
 {
     let mut piece = [0u8; 1024];
     let room = limit - file.len() as u64;
@@ -84,6 +89,7 @@ pub fn read_file<F: Folder>(
     ensures bound { IfOk result (λ file. vec_len file ≤ limit) }
     ensures reads { OnlyReads (F.state folder.old) (F.state folder.new) }
     ensures fault { IfErr result (FailsToHold (F.state folder.old) (F.state folder.new) name.now) }
+    ensures stand { OnOk result (CountsStand (F.state folder.old) (F.state folder.new)) }
 {
     let mut file = Vec::new(alloc);
     while (file.len() as u64) < limit {

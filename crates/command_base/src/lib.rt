@@ -4,6 +4,7 @@
 #![tactic(auto)]
 
 mod input;
+mod laws;
 mod limits;
 mod lines;
 mod output;
@@ -11,6 +12,7 @@ mod status;
 mod telling;
 
 pub use input::{is_longer, read_file, read_piece};
+pub use laws::limits_in_octets;
 pub use limits::{FILE_LIMIT, HEX_LIMIT, RECORDING_LIMIT, RUN_FILE_LIMIT, SCRIPT_LIMIT};
 pub use lines::{LINE, Line, write_count, write_done, write_octets, write_pieces, write_samples};
 pub use output::{append_output, create_output};

@@ -1,7 +1,7 @@
 -- What follows from several calls of a folder in a row.
 use Rattle.std.specs.Prelude.{◌≡◌, ℕ, ◌≤◌, IsTrue, List, [], ◌++◌, Some, unwrap_or, refl}
 use Rattle.std.proofs.Common.{sym, ◌∙◌, ap, subst, arith, append-nil, inl, inr}
-use Rattle.outside_core.specs.Folder.{FolderState, octets_at, GoesOn, KeepsName, OnlyReads, Adds, Appended, PartlyAppended, FaultsStand, CountsStand, Rose}
+use Rattle.outside_core.specs.Folder.{FolderState, held_at, octets_at, GoesOn, KeepsName, OnlyReads, Adds, Appended, PartlyAppended, FaultsStand, CountsStand, Rose}
 
 -- nothing happened
 pub GoesOn-refl : (a : FolderState) → GoesOn a a
@@ -32,6 +32,10 @@ Rose-later a b c d p r q = omega arith
 -- a name that is kept has the same octets
 pub octets-kept : (a b : FolderState) (n : List ℕ) → KeepsName a b n → IsTrue (a.tells n) → octets_at b n ≡ octets_at a n
 octets-kept a b n k told = ap (λ o. unwrap_or o []) (k told)
+
+-- what a name holds are its octets
+pub octets-held : (a : FolderState) (n xs : List ℕ) → held_at a n ≡ Some xs → octets_at a n ≡ xs
+octets-held a n xs h = ap (λ o. unwrap_or o []) h
 
 -- what was appended stays, where the name is kept from then on
 pub Appended-kept : (a b c : FolderState) (n xs : List ℕ) → GoesOn a b → Appended a b n xs → KeepsName b c n → Appended a c n xs

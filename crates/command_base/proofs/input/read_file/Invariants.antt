@@ -1,6 +1,6 @@
 use Rattle.std.proofs.Common.{◌≡◌, ◌≤◌, ◌-◌, vec_len, take, IsTrue}
 use Rattle.outside_core.specs.Folder.{octets_at}
-use Rattle.outside_core.specs.Folder.{OnlyReads}
+use Rattle.outside_core.specs.Folder.{OnlyReads, CountsStand}
 use Rattle.command_base.proofs.input.read_file.Given as goal
 
 abbrev pub invariant-loop-folder : goal.invariant-loop-folder
@@ -8,6 +8,7 @@ invariant-loop-folder g l = record {
   octets : IsTrue ((g.F.Folder.state l.fn.folder).tells l.name) → l.file.items ≡ take (vec_len l.file) (octets_at (g.F.Folder.state l.fn.folder) l.name);
   bound : vec_len l.file ≤ l.limit;
   reads : OnlyReads (g.F.Folder.state l.fn.folder) (g.F.Folder.state l.folder);
+  stand : CountsStand (g.F.Folder.state l.fn.folder) (g.F.Folder.state l.folder);
 }
 
 abbrev pub decreases-loop-folder : goal.decreases-loop-folder
