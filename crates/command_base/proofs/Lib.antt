@@ -1,3 +1,4 @@
 pub mod Saying
 pub mod OnlyOutputs
 pub mod Answering
+pub mod Holding

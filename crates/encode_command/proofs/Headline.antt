@@ -10,7 +10,9 @@ use Rattle.command_base.specs.declared.status.Status.TheVariants as status
 use Rattle.command_base.specs.Status.{IsRefusal}
 use Rattle.command_base.specs.Lines.{samples_line}
 use Rattle.command_base.specs.Outputs.{KeepsAll}
-use Rattle.command_base.proofs.Answering.{done-plain, read-plain, tells-plain, tells-fault, tells-refusal, tells-other}
+use Rattle.command_base.proofs.Answering.{done-plain, read-plain, tells-plain, tells-fault, tells-refusal, tells-other, stand-later}
+use Rattle.command_base.proofs.Holding.{Holds-kept, HoldsFront-all, HoldsFront-kept}
+use Rattle.command_base.specs.Status.{PassesNoneOver}
 use Rattle.encode_command.specs.declared.fault.EncodeFault.{EncodeFault}
 use Rattle.encode_command.specs.declared.fault.EncodeFault.TheVariants.{TooLong, ReadFault, WriteFault, NoMemory}
 use Rattle.encode_command.specs.Words.{EncodeNames}
@@ -24,10 +26,10 @@ Left old new n = KeepsName old new n.rec ⊎ HoldsBeginning old new n
 
 left-part : (old before : FolderState) (n : EncodeNames) → GoesOn old before → WritesPart old before n → Left old before n
 left-part old before n g w =
-    inr (λ file rec. (w.recording, w.samples, subst (λ (xs : List ℕ). IsRecordingOf n.mode xs w.recording w.samples) (w.records.read file) w.records.recorded, w.rec (told_later g n.rec rec)))
+    inr (λ file rec. (w.recording, w.samples, subst (λ (xs : List ℕ). IsRecordingOf n.mode xs w.recording w.samples) (w.records.read file) w.records.recorded, w.rec))
 
 left-all : (old before : FolderState) (n : EncodeNames) (samples : ℕ) → GoesOn old before → WritesAll old before n samples → Left old before n
-left-all old before n samples g w = left-part old before n g (record { recording = w.recording; samples = samples; records = w.records; rec = λ told. ([], append-nil _ ∙ w.rec told) })
+left-all old before n samples g w = left-part old before n g (record { recording = w.recording; samples = samples; records = w.records; rec = HoldsFront-all before n.rec w.recording w.rec })
 
 left-by : (old before : FolderState) (n : EncodeNames) (job : Result ℕ EncodeFault) → GoesOn old before → Ends old before n job → Left old before n
 left-by old before n (Ok samples) g w = left-all old before n samples g w
@@ -36,9 +38,9 @@ left-by old before n (Err ReadFault) g e = elim e.1 [ inl k ↦ inl k | inr w �
 left-by old before n (Err WriteFault) g e = elim e.2 [ inl k ↦ inl k | inr w ↦ left-part old before n g w ]
 left-by old before n (Err NoMemory) g e = elim e.1 [ inl k ↦ inl k | inr w ↦ left-part old before n g w ]
 
-left-later : (old before new : FolderState) (n : EncodeNames) → GoesOn old before → KeepsName before new n.rec → Left old before n → Left old new n
-left-later old before new n g k (inl h) = inl (KeepsName-trans old before new n.rec g h k)
-left-later old before new n g k (inr h) = inr (λ file rec. let p = h file rec in (p.0, p.1, p.2, subst (λ (xs : List ℕ). IsPrefixOf xs p.0) (sym (octets-kept before new n.rec k (told_later g n.rec rec))) p.3))
+left-later : (old before new : FolderState) (n : EncodeNames) → GoesOn old before → GoesOn before new → KeepsName before new n.rec → Left old before n → Left old new n
+left-later old before new n g later k (inl h) = inl (KeepsName-trans old before new n.rec g h k)
+left-later old before new n g later k (inr h) = inr (λ file rec. let p = h file rec in (p.0, p.1, p.2, HoldsFront-kept before new n.rec p.0 later p.3 k))
 
 whole-of : (words : List (List ℕ)) (old new : FolderState) (n : EncodeNames) (s : Status) → AnswersEncode words old new n s → s ≡ status.Done → HoldsWhole old new n
 whole-of words old new n s a e = by a.job refl told.0
@@ -52,8 +54,11 @@ whole-of words old new n s a e = by a.job refl told.0
         let said : Said a.before new (samples_line samples) = subst (λ (job : Result ℕ EncodeFault). Said a.before new (line_of words job)) j told.1 in (
           samples,
           said ∙ ap (option_map (λ x. x ++ samples_line samples)) a.only.said,
-          λ file rec. subst (λ (p : List ℕ × List ℕ). IsRecordingOf n.mode p.0 p.1 samples)
-              (λ i. (w.records.read file i, (sym (octets-kept a.before new n.rec (a.tells.only.names n.rec) (told_later a.only.goes_on n.rec rec) ∙ w.rec (told_later a.only.goes_on n.rec rec))) i)) w.records.recorded,
+          λ file rec. (
+            w.recording,
+            subst (λ (xs : List ℕ). IsRecordingOf n.mode xs w.recording samples) (w.records.read file) w.records.recorded,
+            Holds-kept a.before new n.rec w.recording a.tells.only.goes_on w.rec (a.tells.only.names n.rec)
+          ),
         )
     by (Err fault) j d = absurd (never fault (sym (ap status_of j) ∙ d))
       where
@@ -102,7 +107,7 @@ write-of words old new n s a e = elim (tells-fault a.before new (line_of words a
 -- what the command promises holds of every answer
 pub headline-of : (words : List (List ℕ)) (old new : FolderState) (n : EncodeNames) (s : Status) → AnswersEncode words old new n s → Headline old new n s
 headline-of words old new n s a = record {
-  rec = left-later old a.before new n a.only.goes_on (a.tells.only.names n.rec) (left-by old a.before n a.job a.only.goes_on a.ends);
+  rec = left-later old a.before new n a.only.goes_on a.tells.only.goes_on (a.tells.only.names n.rec) (left-by old a.before n a.job a.only.goes_on a.ends);
   whole = whole-of words old new n s a;
   names = λ other apart. KeepsName-trans old a.before new other a.only.goes_on (a.only.names other apart) (a.tells.only.names other);
   refused = refused-of words old new n s a;
@@ -120,3 +125,7 @@ not-usage words old new n s a = tells-other a.before new (line_of words a.job) (
     by (Err ReadFault) e = cc
     by (Err WriteFault) e = cc
     by (Err NoMemory) e = cc
+
+-- no fault of the folder is passed over
+pub stand-of : (words : List (List ℕ)) (old new : FolderState) (n : EncodeNames) (s : Status) → AnswersEncode words old new n s → PassesNoneOver old new s
+stand-of words old new n s a = stand-later old a.before new (line_of words a.job) (status_of a.job) s a.stand a.tells

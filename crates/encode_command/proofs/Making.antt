@@ -4,7 +4,7 @@ use Rattle.std.proofs.Math.Seq.{take-add}
 use Rattle.std.proofs.lemmas.Bool.Decides.{nat_tests}
 use Rattle.std.proofs.lemmas.List.{take-append-drop, take_all}
 use Rattle.plain_lists.specs.Prefix.{IsPrefixOf}
-use Rattle.outside_core.specs.Folder.{FolderState, octets_at, OnlyReads, OnlyWrites, HasCause, Rose, Puts, PutsPart}
+use Rattle.outside_core.specs.Folder.{FolderState, octets_at, OnlyReads, OnlyWrites, HasCause, Rose, Appended, PartlyAppended}
 use Rattle.outside_core.specs.Steps.{KeepsName-trans, told_later, octets-kept, Rose-later}
 use Rattle.outside_core.specs.declared.folder.FolderFault.{FolderFault}
 use Rattle.outside_core.specs.declared.folder.FolderFault.TheVariants as folder
@@ -15,7 +15,8 @@ use Rattle.recordings.specs.Recording.{header_of, IsRecordingOf, RecorderStands}
 use Rattle.command_base.specs.declared.limits.TheConstants.{FILE_LIMIT}
 use Rattle.command_base.specs.Inputs.{IsWithin}
 use Rattle.command_base.specs.Outputs.{Holds, HoldsFront, KeptOrEmpty, OnlyOutput}
-use Rattle.command_base.proofs.OnlyOutputs.{told_earlier, OnlyOutput-reads, OnlyOutput-writes, OnlyOutput-trans}
+use Rattle.command_base.proofs.Holding.{Holds-kept, Holds-more, HoldsFront-all, HoldsFront-more, HoldsFront-longer}
+use Rattle.command_base.proofs.OnlyOutputs.{OnlyOutput-reads, OnlyOutput-writes, OnlyOutput-trans}
 use Rattle.encode_command.specs.declared.fault.EncodeFault.{EncodeFault}
 use Rattle.encode_command.specs.declared.fault.EncodeFault.TheVariants.{ReadFault, WriteFault, NoMemory}
 use Rattle.encode_command.specs.Words.{EncodeNames, are_apart}
@@ -82,7 +83,7 @@ part-of start now n octets recording samples within front recorded holds = by (s
           recording = g.whole;
           samples = g.samples;
           records = record { octets = octets ++ f.0; within = within; read = λ told. f.1; recorded = g.recorded };
-          rec = λ told. prefix-trans _ recording g.whole (holds told) g.front;
+          rec = HoldsFront-longer now n.rec recording g.whole holds g.front;
         }
     by false e = record {
       recording = recording;
@@ -101,10 +102,7 @@ begins start old n kept at r told =
 
 -- the output after a read
 held-after : (old mid : FolderState) (name octets : List ℕ) → OnlyReads old mid → Holds old name octets → Holds mid name octets
-held-after old mid name octets r holds told = let before = told_earlier r.goes_on name told in octets-kept old mid name (r.names name) before ∙ holds before
-
-holds-front : (now : FolderState) (name octets : List ℕ) → Holds now name octets → HoldsFront now name octets
-holds-front now name octets holds told = ([], append-nil _ ∙ holds told)
+held-after old mid name octets r holds = Holds-kept old mid name octets r.goes_on holds (r.names name)
 
 -- a read failed
 pub read-failed : (start old mid : FolderState) (n : EncodeNames) (kept : Kept) (at : ℕ) (given : FolderFault) (fault : EncodeFault) →
@@ -114,7 +112,7 @@ read-failed start old mid n kept at given fault failed memory r reads cause = by
   where
     part : WritesPart start mid n
     part = part-of start mid n r.octets (header_of n.mode ++ r.recorded) (2 * length r.octets) r.within (begins start old n kept at r) (recorded-as n.mode kept r.octets r.recorded r.stands)
-        (holds-front mid n.rec (header_of n.mode ++ r.recorded) (held-after old mid n.rec _ reads r.rec))
+        (HoldsFront-all mid n.rec (header_of n.mode ++ r.recorded) (held-after old mid n.rec _ reads r.rec))
 
     by : (given : FolderFault) → (given ≡ folder.Failed → fault ≡ ReadFault) → (given ≡ folder.NoMemory → fault ≡ NoMemory) →
         HasCause {T = ℕ} (old.read_faults n.file) (mid.read_faults n.file) old.refusals mid.refusals (Err given) → EndsBy start mid n fault
@@ -126,15 +124,12 @@ read-failed start old mid n kept at given fault failed memory r reads cause = by
 -- a write failed, behind what the output held
 pub write-failed : (start mid new : FolderState) (n : EncodeNames) (octets held piece : List ℕ) (samples : ℕ) (given : FolderFault) (fault : EncodeFault) →
     (given ≡ folder.Failed → fault ≡ WriteFault) → (given ≡ folder.NoMemory → fault ≡ NoMemory) → IsWithin start n.file FILE_LIMIT → OnlyOutput start mid n.rec → OnlyWrites mid new n.rec →
-    (IsTrue (start.tells n.file) → IsPrefixOf octets (octets_at start n.file)) → IsRecordingOf n.mode octets (held ++ piece) samples → Holds mid n.rec held → PutsPart mid new n.rec piece →
+    (IsTrue (start.tells n.file) → IsPrefixOf octets (octets_at start n.file)) → IsRecordingOf n.mode octets (held ++ piece) samples → Holds mid n.rec held → PartlyAppended mid new n.rec piece →
     HasCause {T = Unit {0}} (mid.write_faults n.rec) (new.write_faults n.rec) mid.refusals new.refusals (Err given) → EndsBy start new n fault
 write-failed start mid new n octets held piece samples given fault failed memory within only writes front recorded holds puts cause = by given failed memory cause
   where
     front-held : HoldsFront new n.rec (held ++ piece)
-    front-held told =
-        let before = told_earlier writes.goes_on n.rec told in
-        let p = puts before in
-        (p.1.0, ap (λ xs. xs ++ p.1.0) (p.2 ∙ ap (λ xs. xs ++ p.0) (holds before)) ∙ append_assoc held p.0 p.1.0 ∙ ap (λ xs. held ++ xs) p.1.1)
+    front-held = HoldsFront-more mid new n.rec held piece writes.goes_on holds puts
 
     part : WritesPart start new n
     part = part-of start new n octets (held ++ piece) samples within front recorded front-held
@@ -155,7 +150,7 @@ create-failed old mid new n given fault failed memory within reads kept cause = 
     left : KeptOrEmpty mid new n.rec → LeavesPart old new n
     left (inl k) = inl (KeepsName-trans old mid new n.rec reads.goes_on (reads.names n.rec) k)
     left (inr empty) =
-        inr (part-of old new n [] (header_of n.mode ++ []) 0 within (λ told. (octets_at old n.file, refl)) (nothing-recorded n.mode) (λ told. (header_of n.mode ++ [], ap (λ xs. xs ++ (header_of n.mode ++ [])) (empty told))))
+        inr (part-of old new n [] (header_of n.mode ++ []) 0 within (λ told. (octets_at old n.file, refl)) (nothing-recorded n.mode) (λ told. ([], (header_of n.mode ++ [], refl), empty told)))
 
     by : (given : FolderFault) → (given ≡ folder.Failed → fault ≡ WriteFault) → (given ≡ folder.NoMemory → fault ≡ NoMemory) →
         HasCause {T = Unit {0}} (mid.write_faults n.rec) (new.write_faults n.rec) mid.refusals new.refusals (Err given) → EndsBy old new n fault
@@ -175,7 +170,7 @@ front-more start old n kept at count piece r apart read told =
 -- a piece more is recorded
 pub recorded-more : (start old mid new : FolderState) (n : EncodeNames) (kept next : Kept) (at count : ℕ) (piece made : List ℕ) (r : RecordedTo start old n kept at) → are_apart n ≡ true →
     (IsTrue (old.tells n.file) → piece ≡ take count (drop at (octets_at old n.file))) → length piece ≡ count → RecorderStands (tap_of n.mode) next (r.octets ++ piece) (r.recorded ++ made) →
-    OnlyReads old mid → OnlyWrites mid new n.rec → Puts mid new n.rec made → RecordedTo start new n next (at + count)
+    OnlyReads old mid → OnlyWrites mid new n.rec → Appended mid new n.rec made → RecordedTo start new n next (at + count)
 recorded-more start old mid new n kept next at count piece made r apart read long stands reads writes puts = record {
   octets = r.octets ++ piece;
   recorded = r.recorded ++ made;
@@ -184,14 +179,14 @@ recorded-more start old mid new n kept next at count piece made r apart read lon
   within = r.within;
   front = front-more start old n kept at count piece r apart read;
   only = OnlyOutput-trans n.rec r.only (OnlyOutput-trans n.rec (OnlyOutput-reads n.rec reads) (OnlyOutput-writes n.rec writes));
-  rec = λ told. let before = told_earlier writes.goes_on n.rec told in puts before ∙ ap (λ xs. xs ++ made) (held-after old mid n.rec _ reads r.rec before) ∙ append_assoc (header_of n.mode) r.recorded made;
+  rec = subst (Holds new n.rec) (append_assoc (header_of n.mode) r.recorded made) (Holds-more mid new n.rec (header_of n.mode ++ r.recorded) made writes.goes_on (held-after old mid n.rec _ reads r.rec) puts);
 }
 
 -- a piece more was not wholly written
 pub piece-failed : (start old mid new : FolderState) (n : EncodeNames) (kept next : Kept) (at count : ℕ) (piece made : List ℕ) (given : FolderFault) (fault : EncodeFault) →
     (given ≡ folder.Failed → fault ≡ WriteFault) → (given ≡ folder.NoMemory → fault ≡ NoMemory) → (r : RecordedTo start old n kept at) → are_apart n ≡ true →
     (IsTrue (old.tells n.file) → piece ≡ take count (drop at (octets_at old n.file))) → RecorderStands (tap_of n.mode) next (r.octets ++ piece) (r.recorded ++ made) →
-    OnlyReads old mid → OnlyWrites mid new n.rec → PutsPart mid new n.rec made → HasCause {T = Unit {0}} (mid.write_faults n.rec) (new.write_faults n.rec) mid.refusals new.refusals (Err given) → EndsBy start new n fault
+    OnlyReads old mid → OnlyWrites mid new n.rec → PartlyAppended mid new n.rec made → HasCause {T = Unit {0}} (mid.write_faults n.rec) (new.write_faults n.rec) mid.refusals new.refusals (Err given) → EndsBy start new n fault
 piece-failed start old mid new n kept next at count piece made given fault failed memory r apart read stands reads writes puts cause =
     write-failed start mid new n (r.octets ++ piece) (header_of n.mode ++ r.recorded) made (2 * length (r.octets ++ piece)) given fault failed memory r.within
     (OnlyOutput-trans n.rec r.only (OnlyOutput-reads n.rec reads)) writes
@@ -224,7 +219,7 @@ recorded-whole start old mid n kept at room some apart r reads end = record {
 
 -- the header alone is recorded
 pub header-recorded : (start old new : FolderState) (n : EncodeNames) (kept : Kept) → RecorderStands (tap_of n.mode) kept [] [] → Begun start old n → OnlyWrites old new n.rec →
-    Puts old new n.rec (header_of n.mode) → RecordedTo start new n kept 0
+    Appended old new n.rec (header_of n.mode) → RecordedTo start new n kept 0
 header-recorded start old new n kept stands b writes puts = record {
   octets = [];
   recorded = [];
@@ -233,12 +228,12 @@ header-recorded start old new n kept stands b writes puts = record {
   within = b.within;
   front = λ told. refl;
   only = OnlyOutput-trans n.rec b.only (OnlyOutput-writes n.rec writes);
-  rec = λ told. let before = told_earlier writes.goes_on n.rec told in puts before ∙ ap (λ xs. xs ++ header_of n.mode) (b.empty before) ∙ sym (append-nil (header_of n.mode));
+  rec = subst (Holds new n.rec) (sym (append-nil (header_of n.mode))) (Holds-more old new n.rec [] (header_of n.mode) writes.goes_on b.empty puts);
 }
 
 -- the header was not written
 pub header-failed : (start old new : FolderState) (n : EncodeNames) (given : FolderFault) (fault : EncodeFault) → (given ≡ folder.Failed → fault ≡ WriteFault) → (given ≡ folder.NoMemory → fault ≡ NoMemory) →
-    Begun start old n → OnlyWrites old new n.rec → PutsPart old new n.rec (header_of n.mode) →
+    Begun start old n → OnlyWrites old new n.rec → PartlyAppended old new n.rec (header_of n.mode) →
     HasCause {T = Unit {0}} (old.write_faults n.rec) (new.write_faults n.rec) old.refusals new.refusals (Err given) → EndsBy start new n fault
 header-failed start old new n given fault failed memory b writes puts cause =
     write-failed start old new n [] [] (header_of n.mode) 0 given fault failed memory b.within b.only writes (λ told. (octets_at start n.file, refl)) (nothing-recorded n.mode) b.empty puts cause

@@ -3,6 +3,7 @@ use Rattle.std.specs.Prelude.{ℕ, List, Result, Ok, Err}
 use Rattle.outside_core.specs.Folder.{FolderState}
 use Rattle.command_base.specs.declared.status.Status.{Status}
 use Rattle.command_base.specs.declared.status.Status.TheVariants as status
+use Rattle.command_base.specs.Status.{PassesNoneOver}
 use Rattle.command_base.specs.Lines.{samples_line, status_line}
 use Rattle.command_base.specs.Outputs.{OnlyOutput}
 use Rattle.command_base.specs.Tells.{Tells}
@@ -33,4 +34,5 @@ pub record AnswersEncode (words : List (List ℕ)) (old new : FolderState) (n : 
   pub before : FolderState
   pub ends : Ends old before n job
   pub only : OnlyOutput old before n.rec
+  pub stand : PassesNoneOver old before (status_of job)
   pub tells : Tells before new (line_of words job) (status_of job) s

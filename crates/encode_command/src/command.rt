@@ -1,5 +1,6 @@
 // The command: the recording is made, and its line is said.
 ghost use Rattle.std.specs.Prelude.{◌≡◌, ◌≢◌, true, map, string_bytes};
+ghost use Rattle.command_base.specs.Status.{PassesNoneOver};
 ghost use Rattle.encode_command.specs.Words.{named, are_apart};
 ghost use Rattle.encode_command.specs.Answers.{AnswersEncode};
 ghost use Rattle.encode_command.specs.Headline.{Headline};
@@ -29,6 +30,9 @@ pub fn encode<F: Folder>(folder: &mut F, words: &[String], names: &EncodeWords<'
     ensures headline { Headline (F.state folder.old) (F.state folder.new) (named names.now) result }
 
     ensures known { result ≢ Status.Usage }
+
+    // No fault of the folder is passed over.
+    ensures stand { PassesNoneOver (F.state folder.old) (F.state folder.new) result }
 
     // Each answer comes where it has to, with its line.
     ensures answer { AnswersEncode (map string_bytes words.now) (F.state folder.old) (F.state folder.new) (named names.now) result }

@@ -1,5 +1,6 @@
 // Why a recording is not made, or not whole.
 ghost use Rattle.std.specs.Prelude.{◌≡◌};
+ghost use Rattle.command_base.specs.Status.{IsFolderFault};
 ghost use Rattle.encode_command.specs.Answers.{fault_status};
 
 use command_base::Status;
@@ -22,6 +23,7 @@ const FILE: usize = 2;
 pub(crate) fn read_fault(fault: FolderFault) -> EncodeFault
     ensures failed { fault ≡ FolderFault.Failed → result ≡ EncodeFault.ReadFault }
     ensures memory { fault ≡ FolderFault.NoMemory → result ≡ EncodeFault.NoMemory }
+    ensures folder { IsFolderFault (fault_status result) }
 {
     match fault {
         FolderFault::Failed => EncodeFault::ReadFault,
@@ -33,6 +35,7 @@ pub(crate) fn read_fault(fault: FolderFault) -> EncodeFault
 pub(crate) fn write_fault(fault: FolderFault) -> EncodeFault
     ensures failed { fault ≡ FolderFault.Failed → result ≡ EncodeFault.WriteFault }
     ensures memory { fault ≡ FolderFault.NoMemory → result ≡ EncodeFault.NoMemory }
+    ensures folder { IsFolderFault (fault_status result) }
 {
     match fault {
         FolderFault::Failed => EncodeFault::WriteFault,

@@ -5,8 +5,10 @@ ghost use Rattle.scramblers.specs.Mode.{tap_of};
 ghost use Rattle.recordings.specs.Recording.{RecorderStands};
 ghost use Rattle.command_base.specs.declared.limits.TheConstants.{FILE_LIMIT};
 ghost use Rattle.command_base.specs.Outputs.{OnlyOutput};
+ghost use Rattle.command_base.specs.Status.{PassesNoneOver};
 ghost use Rattle.encode_command.specs.Words.{named, are_apart};
 ghost use Rattle.encode_command.specs.Ends.{WritesAll, EndsBy, Ends};
+ghost use Rattle.encode_command.specs.Answers.{status_of};
 ghost use Rattle.encode_command.specs.Recorded.{Begun, RecordedTo};
 
 use crate::EncodeFault;
@@ -58,6 +60,7 @@ fn record_next<F: Folder, const TAP: usize>(
         → IfErr result (EndsBy start (F.state folder.new) (named names.now)) }
     ensures bound { IfOk result (λ count. at + count ≤ FILE_LIMIT) }
     ensures only { OnlyOutput (F.state folder.old) (F.state folder.new) names.now.rec.now }
+    ensures stand { PassesNoneOver (F.state folder.old) (F.state folder.new) (status_of result) }
 {
     let mut piece = [0u8; PIECE];
     let count = match read_piece(folder, names.file, FILE_LIMIT, at, &mut piece) {
@@ -84,6 +87,7 @@ fn record_file<F: Folder, const TAP: usize>(
     ensures ends { (start : FolderState) → Begun start (F.state folder.old) (named names.now)
         → Ends start (F.state folder.new) (named names.now) result }
     ensures only { OnlyOutput (F.state folder.old) (F.state folder.new) names.now.rec.now }
+    ensures stand { PassesNoneOver (F.state folder.old) (F.state folder.new) (status_of result) }
 {
     let mut recorder = Recorder::<TAP>::new();
     match append_output(folder, names.rec, header_octets(names.mode).as_slice()) {
@@ -108,6 +112,7 @@ pub(crate) fn make_recording<F: Folder>(
     requires { are_apart (named names.now) ≡ true }
     ensures ends { Ends (F.state folder.old) (F.state folder.new) (named names.now) result }
     ensures only { OnlyOutput (F.state folder.old) (F.state folder.new) names.now.rec.now }
+    ensures stand { PassesNoneOver (F.state folder.old) (F.state folder.new) (status_of result) }
 {
     match is_longer(folder, names.file, FILE_LIMIT) {
         Ok(false) => {}

@@ -1,5 +1,5 @@
 use Rattle.std.proofs.Common.{◌≤◌, ◌-◌}
-use Rattle.outside_core.specs.Folder.{FolderState}
+use Rattle.outside_core.specs.Folder.{FolderState, CountsStand}
 use Rattle.command_base.specs.declared.limits.TheConstants.{FILE_LIMIT}
 use Rattle.command_base.specs.Outputs.{OnlyOutput}
 use Rattle.encode_command.specs.Words.{named}
@@ -11,6 +11,7 @@ invariant-loop-count g l = record {
   within : l.at ≤ FILE_LIMIT;
   recorded : (start : FolderState) → Begun start (g.F.Folder.state l.fn.folder) (named l.names) → RecordedTo start (g.F.Folder.state l.folder) (named l.names) l.recorder l.at;
   only : OnlyOutput (g.F.Folder.state l.fn.folder) (g.F.Folder.state l.folder) l.names.rec.now;
+  stand : CountsStand (g.F.Folder.state l.fn.folder) (g.F.Folder.state l.folder);
 }
 
 abbrev pub decreases-loop-count : goal.decreases-loop-count

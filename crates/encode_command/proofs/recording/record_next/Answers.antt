@@ -1,6 +1,6 @@
 use Rattle.std.proofs.Common.{◌≡◌, ℕ, List, ◌++◌, IsTrue, length, take, min, ◌-◌, sym, subst, arith}
 use Rattle.std.proofs.lemmas.List.{length-take-le}
-use Rattle.outside_core.specs.Folder.{FolderState, octets_at, Puts, PutsPart}
+use Rattle.outside_core.specs.Folder.{FolderState, octets_at, Appended, PartlyAppended}
 use Rattle.scramblers.specs.Mode.{tap_of}
 use Rattle.modulator.specs.Modulates.{Kept}
 use Rattle.recordings.specs.Recording.{RecorderStands}
@@ -31,7 +31,7 @@ returns-in-Ok-append_output-clause-ok g c = λ start r.
     (c.record_piece-recorded.ensures r.octets r.recorded (subst (λ (tap : ℕ). RecorderStands tap c.args.recorder.now r.octets r.recorded) c.requires.tap r.stands)) in
     recorded-more start old mid new n c.args.recorder.now next c.args.at c.in-Ok.count piece made r c.requires.apart c.in-Ok.ensures.front
     (length-take-le c.in-Ok.count c.read_piece.new.piece (omega (arith, c.in-Ok.ensures.bound, c.in-Ok.ensures.kept))) stands c.in-Ok.ensures.reads c.in-Ok-append_output.ensures.only
-    (subst (λ (xs : List ℕ). Puts mid new n.rec xs) c.as_slice.ensures.items c.in-Ok-append_output.ensures.ok)
+    (subst (λ (xs : List ℕ). Appended mid new n.rec xs) c.as_slice.ensures.items c.in-Ok-append_output.ensures.ok)
 
 pub returns-in-Err-append_output-clause-err : goal.returns-in-Err-append_output-clause-err
 returns-in-Err-append_output-clause-err g c = λ start r.
@@ -42,4 +42,4 @@ returns-in-Err-append_output-clause-err g c = λ start r.
     subst (λ (tap : ℕ). RecorderStands tap next (r.octets ++ piece) (r.recorded ++ made)) (sym c.requires.tap)
     (c.record_piece-recorded.ensures r.octets r.recorded (subst (λ (tap : ℕ). RecorderStands tap c.args.recorder.now r.octets r.recorded) c.requires.tap r.stands)) in
     piece-failed start old mid new n c.args.recorder.now next c.args.at c.in-Ok.count piece made c.in-Err-append_output.fault c.write_fault.result c.write_fault.ensures.failed c.write_fault.ensures.memory r c.requires.apart c.in-Ok.ensures.front
-    stands c.in-Ok.ensures.reads c.in-Err-append_output.ensures.only (subst (λ (xs : List ℕ). PutsPart mid new n.rec xs) c.as_slice.ensures.items c.in-Err-append_output.ensures.err) c.in-Err-append_output.ensures.cause
+    stands c.in-Ok.ensures.reads c.in-Err-append_output.ensures.only (subst (λ (xs : List ℕ). PartlyAppended mid new n.rec xs) c.as_slice.ensures.items c.in-Err-append_output.ensures.err) c.in-Err-append_output.ensures.cause
