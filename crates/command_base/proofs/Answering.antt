@@ -1,6 +1,6 @@
 -- What an answer tells of the line that was said last, and of what it belongs to.
 use Rattle.std.proofs.Common.{◌≡◌, ◌≢◌, ◌⊎◌, ◌∙◌, inl, inr, ℕ, List, sym, subst}
-use Rattle.outside_core.specs.Folder.{FolderState, Said, Rose}
+use Rattle.outside_core.specs.Folder.{FolderState, Said, Rose, CountsStand}
 use Rattle.outside_core.specs.Steps.{CountsStand-trans}
 use Rattle.command_base.specs.declared.status.Status.{Status}
 use Rattle.command_base.specs.declared.status.Status.TheVariants.{Done, Usage, ReadFault, WriteFault, NoMemory}
@@ -75,3 +75,11 @@ stand-later old before new line answer s first tells = elim tells.stand [
     | inr h ↦ elim h [ inl f ↦ inl (subst IsFolderFault (sym f.0) tt) | inr f ↦ inl (subst IsFolderFault (sym f.0) tt) ]
   ]
 ]
+
+-- steps that counted nothing come before others
+pub stand-earlier : (old mid new : FolderState) (s : Status) → CountsStand old mid → PassesNoneOver mid new s → PassesNoneOver old new s
+stand-earlier old mid new s first then = elim then [ inl fault ↦ inl fault | inr second ↦ inr (CountsStand-trans first second) ]
+
+-- nothing was counted by what is done
+pub stand-done : (old new : FolderState) → PassesNoneOver old new Done → CountsStand old new
+stand-done old new s = elim s [ inl never ↦ absurd never | inr stood ↦ stood ]

@@ -1,15 +1,17 @@
 // A recording played from the folder, and its octets written into it.
 ghost use Rattle.std.specs.Prelude.{◌≡◌, ◌≤◌, ◌<◌, ◌+◌, ◌*◌, ◌%◌, ◌^◌, ◌++◌, ℕ, None, List, [], true, IfOk, IfErr, OnOk, MatchResult, length, slice_index};
 ghost use Rattle.symbol_map.specs.declared.sample.Sample.{Sample};
-ghost use Rattle.outside_core.specs.Folder.{FolderState};
+ghost use Rattle.outside_core.specs.Folder.{FolderState, CountsStand};
 ghost use Rattle.scramblers.specs.Mode.{tap_of};
 ghost use Rattle.command_base.specs.declared.limits.TheConstants.{RECORDING_LIMIT};
 ghost use Rattle.command_base.specs.Outputs.{OnlyOutput};
+ghost use Rattle.command_base.specs.Status.{PassesNoneOver};
 ghost use Rattle.decode_command.specs.Words.{named, are_apart};
 ghost use Rattle.decode_command.specs.Recordings.{coordinate, sample_at};
 ghost use Rattle.decode_command.specs.Playing.{Hears, IsReady};
 ghost use Rattle.decode_command.specs.Played.{PlayedTo, PlaysPiece, IsAtEnd};
 ghost use Rattle.decode_command.specs.Ends.{hearer_of, EndsBy, Ends};
+ghost use Rattle.decode_command.specs.Answers.{status_of, fault_status};
 ghost use Rattle.recordings.specs.declared.header.TheConstants.{HEADER};
 
 use crate::DecodeFault;
@@ -114,6 +116,7 @@ pub(crate) fn play_next<F: Folder, const TAP: usize>(
     ensures bound { IfOk result (λ step. at + step.read ≤ RECORDING_LIMIT) }
     ensures given { IfOk result (λ step. step.given ≤ ROOM) }
     ensures only { OnlyOutput (F.state folder.old) (F.state folder.new) names.now.file.now }
+    ensures stand { MatchResult result (λ step. CountsStand (F.state folder.old) (F.state folder.new)) (λ fault. PassesNoneOver (F.state folder.old) (F.state folder.new) (fault_status fault)) }
 {
     let mut piece = [0u8; PIECE];
     let read = match read_piece(folder, names.rec, RECORDING_LIMIT, at, &mut piece) {
@@ -158,6 +161,7 @@ pub(crate) fn play_to_end<F: Folder, const TAP: usize>(
     ensures ready { IfOk result (λ written. IsReady playback.new RECORDING_LIMIT) }
     ensures bound { IfOk result (λ written. written ≤ 2 ^ 60) }
     ensures only { OnlyOutput (F.state folder.old) (F.state folder.new) names.now.file.now }
+    ensures stand { PassesNoneOver (F.state folder.old) (F.state folder.new) (status_of result) }
 {
     let mut at = HEADER as u64;
     let mut written: u64 = 0;
@@ -187,6 +191,7 @@ pub(crate) fn write_rest<F: Folder, const TAP: usize>(
     ensures ends { (start : FolderState) (mode : Mode) (at : ℕ) → tap_of mode ≡ TAP → PlayedTo start (F.state folder.old) (named names.now) mode playback.entry at written
         → IsAtEnd start (named names.now) at → Ends start (F.state folder.new) (named names.now) result }
     ensures only { OnlyOutput (F.state folder.old) (F.state folder.new) names.now.file.now }
+    ensures stand { PassesNoneOver (F.state folder.old) (F.state folder.new) (status_of result) }
 {
     let octets = playback.finish();
     match append_output(folder, names.file, octets.as_slice()) {
