@@ -7,14 +7,15 @@ use Rattle.command_base.specs.declared.status.Status.{Status}
 use Rattle.command_base.specs.declared.status.Status.TheVariants.{Done, Usage, TooLong, ReadFault, WriteFault, NoMemory}
 use Rattle.command_base.specs.Lines.{pieces_line}
 use Rattle.command_base.specs.Tells.{Tells}
-use Rattle.command_base.proofs.Answering.{done-plain, read-plain, tells-plain, tells-fault, tells-other}
+use Rattle.command_base.proofs.Answering.{done-plain, read-plain, tells-plain, tells-fault, tells-other, stand-later}
+use Rattle.command_base.specs.Status.{IsFolderFault, PassesNoneOver}
 use Rattle.command_base.proofs.Saying.{Said-Said}
 use Rattle.frames_command.specs.declared.fault.FramesFault.{FramesFault}
 use Rattle.frames_command.specs.declared.fault.FramesFault.TheVariants as faults
 use Rattle.frames_command.specs.Words.{FramesNames}
 use Rattle.frames_command.specs.Heard.{OnlyListens}
 use Rattle.frames_command.specs.Ends.{Ends}
-use Rattle.frames_command.specs.Answers.{Finishes, AnswersFrames}
+use Rattle.frames_command.specs.Answers.{Finishes, status_of, AnswersFrames}
 use Rattle.frames_command.specs.Headline.{ListsAll, Headline}
 use Rattle.frames_command.proofs.Listed.{listens-says, listens-trans, listens-refl}
 
@@ -124,3 +125,14 @@ headline-of words old new n s a =
       read = read-of words old a.before new n a.job s a.ends a.finishes;
       write = write-of words old a.before new n a.job s a.ends a.only a.finishes;
     }
+
+-- no fault of the folder is passed over
+pub stand-of : (words : List (List ℕ)) (old new : FolderState) (n : FramesNames) (s : Status) → AnswersFrames words old new n s → PassesNoneOver old new s
+stand-of words old new n s a = by a.job a.stand a.finishes
+  where
+    by : (job : Result ℕ FramesFault) → PassesNoneOver old a.before (status_of job) → Finishes words a.before new job s → PassesNoneOver old new s
+    by (Ok count) first t = stand-later old a.before new _ _ s first t
+    by (Err faults.TooLong) first t = stand-later old a.before new _ _ s first t
+    by (Err (faults.Unread fault)) first t = stand-later old a.before new _ _ s first t
+    by (Err (faults.Unsaid folder.Failed)) first t = inl (subst IsFolderFault (sym t.1) tt)
+    by (Err (faults.Unsaid folder.NoMemory)) first t = inl (subst IsFolderFault (sym t.1) tt)

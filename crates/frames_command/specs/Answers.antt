@@ -5,6 +5,7 @@ use Rattle.outside_core.specs.declared.folder.FolderFault.{FolderFault}
 use Rattle.outside_core.specs.declared.folder.FolderFault.TheVariants as folder
 use Rattle.command_base.specs.declared.status.Status.{Status}
 use Rattle.command_base.specs.declared.status.Status.TheVariants.{Done, TooLong, ReadFault, WriteFault, NoMemory}
+use Rattle.command_base.specs.Status.{PassesNoneOver}
 use Rattle.command_base.specs.Lines.{pieces_line, status_line}
 use Rattle.command_base.specs.Tells.{Tells}
 use Rattle.frames_command.specs.declared.fault.FramesFault.{FramesFault}
@@ -21,7 +22,14 @@ abbrev pub say_status : FolderFault → Status
 say_status folder.Failed = WriteFault
 say_status folder.NoMemory = NoMemory
 
--- What is said behind the lines of pieces, and the answer. Word 2 names the file. Where a line was not said nothing more is.
+-- word 2 names the file
+abbrev pub status_of : Result ℕ FramesFault → Status
+status_of (Ok count) = Done
+status_of (Err faults.TooLong) = TooLong 2
+status_of (Err (faults.Unread fault)) = read_status fault
+status_of (Err (faults.Unsaid fault)) = say_status fault
+
+-- What is said behind the lines of pieces, and the answer. Where a line was not said nothing more is.
 abbrev pub Finishes : List (List ℕ) → FolderState → FolderState → Result ℕ FramesFault → Status → Type 0
 Finishes words before new (Ok count) s = Tells before new (pieces_line count) Done s
 Finishes words before new (Err faults.TooLong) s = Tells before new (status_line words (TooLong 2)) (TooLong 2) s
@@ -34,4 +42,5 @@ pub record AnswersFrames (words : List (List ℕ)) (old new : FolderState) (n : 
   pub before : FolderState
   pub ends : Ends old before n job
   pub only : OnlyListens old before
+  pub stand : PassesNoneOver old before (status_of job)
   pub finishes : Finishes words before new job s

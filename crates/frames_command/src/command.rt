@@ -1,5 +1,6 @@
 // The command: the pieces are listed, and the last line is said.
 ghost use Rattle.std.specs.Prelude.{◌≡◌, ◌≢◌, Err, map, string_bytes};
+ghost use Rattle.command_base.specs.Status.{PassesNoneOver};
 ghost use Rattle.frames_command.specs.Words.{named};
 ghost use Rattle.frames_command.specs.Answers.{Finishes, AnswersFrames};
 ghost use Rattle.frames_command.specs.declared.fault.FramesFault.{FramesFault};
@@ -41,6 +42,9 @@ pub fn frames<F: Folder>(folder: &mut F, words: &[String], names: &FramesWords<'
     // A line is said for each piece of the file's bits, and then their number. No file changes.
     ensures headline { Headline (F.state folder.old) (F.state folder.new) (named names.now) result }
     ensures known { result ≢ Status.Usage }
+
+    // No fault of the folder is passed over.
+    ensures stand { PassesNoneOver (F.state folder.old) (F.state folder.new) result }
 
     // Each answer comes where it has to, with its line.
     ensures answer { AnswersFrames (map string_bytes words.now) (F.state folder.old) (F.state folder.new) (named names.now) result }

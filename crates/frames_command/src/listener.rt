@@ -1,6 +1,6 @@
 // A listener to a stream of bits, who says what each piece is.
 ghost use Rattle.std.specs.Prelude.{◌≡◌, ◌≤◌, ◌<◌, ◌+◌, ◌*◌, ◌^◌, ℕ, Bool, List, [], ◌∷◌, ◌++◌, OnOk, OnErr, length};
-ghost use Rattle.outside_core.specs.Folder.{FolderState, OnlySays, HasCause};
+ghost use Rattle.outside_core.specs.Folder.{FolderState, OnlySays, HasCause, CountsStand};
 ghost use Rattle.plain_lists.specs.Bits.{octet_bits, bits_of};
 ghost use Rattle.frames_command.specs.Heard.{Heard, PartlyHeard};
 
@@ -57,6 +57,7 @@ impl Listener {
             → OnErr result (PartlyHeard start (F.state folder.new) self.old.sender (bits ++ bit ∷ [])) }
         ensures only { OnlySays (F.state folder.old) (F.state folder.new) }
         ensures cause { HasCause (F.state folder.old).say_faults (F.state folder.new).say_faults (F.state folder.old).refusals (F.state folder.new).refusals result }
+        ensures stand { OnOk result (CountsStand (F.state folder.old) (F.state folder.new)) }
         ensures sender { self.new.sender ≡ self.old.sender }
         ensures pieces { self.new.pieces ≤ self.old.pieces + 1 }
     {
@@ -79,6 +80,7 @@ impl Listener {
             → OnErr result (PartlyHeard start (F.state folder.new) self.old.sender (bits ++ octet_bits octet)) }
         ensures only { OnlySays (F.state folder.old) (F.state folder.new) }
         ensures cause { HasCause (F.state folder.old).say_faults (F.state folder.new).say_faults (F.state folder.old).refusals (F.state folder.new).refusals result }
+        ensures stand { OnOk result (CountsStand (F.state folder.old) (F.state folder.new)) }
         ensures sender { self.new.sender ≡ self.old.sender }
         ensures pieces { self.new.pieces ≤ self.old.pieces + 8 }
     {
@@ -101,6 +103,7 @@ impl Listener {
             → OnErr result (PartlyHeard start (F.state folder.new) self.old.sender (bits ++ bits_of octets.now)) }
         ensures only { OnlySays (F.state folder.old) (F.state folder.new) }
         ensures cause { HasCause (F.state folder.old).say_faults (F.state folder.new).say_faults (F.state folder.old).refusals (F.state folder.new).refusals result }
+        ensures stand { OnOk result (CountsStand (F.state folder.old) (F.state folder.new)) }
         ensures sender { self.new.sender ≡ self.old.sender }
         ensures pieces { self.new.pieces ≤ self.old.pieces + 8 * length octets.now }
     {

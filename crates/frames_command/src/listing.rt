@@ -2,7 +2,9 @@
 ghost use Rattle.std.specs.Prelude.{◌≡◌, ◌≤◌, ◌+◌, ◌*◌, IfOk, IfErr};
 ghost use Rattle.outside_core.specs.Folder.{FolderState};
 ghost use Rattle.command_base.specs.declared.limits.TheConstants.{FILE_LIMIT};
+ghost use Rattle.command_base.specs.Status.{PassesNoneOver};
 ghost use Rattle.frames_command.specs.Words.{named};
+ghost use Rattle.frames_command.specs.Answers.{status_of};
 ghost use Rattle.frames_command.specs.Heard.{OnlyListens, Begun, HeardTo};
 ghost use Rattle.frames_command.specs.Ends.{SaysAll, EndsBy, Ends};
 ghost use Rattle.frames_command.specs.declared.fault.FramesFault.{FramesFault};
@@ -34,6 +36,7 @@ fn hear_next<F: Folder>(
     ensures bound { IfOk result (λ count. at + count ≤ FILE_LIMIT) }
     ensures pieces { IfOk result (λ count. listener.new.pieces ≤ 8 * (at + count)) }
     ensures only { OnlyListens (F.state folder.old) (F.state folder.new) }
+    ensures stand { PassesNoneOver (F.state folder.old) (F.state folder.new) (status_of result) }
 {
     let mut piece = [0u8; PIECE];
     let count = match read_piece(folder, names.bits, FILE_LIMIT, at, &mut piece) {
@@ -52,6 +55,7 @@ fn hear_file<F: Folder>(folder: &mut F, names: &FramesWords<'_>) -> Result<u64, 
     ensures ends { (start : FolderState) → Begun start (F.state folder.old) (named names.now)
         → Ends start (F.state folder.new) (named names.now) result }
     ensures only { OnlyListens (F.state folder.old) (F.state folder.new) }
+    ensures stand { PassesNoneOver (F.state folder.old) (F.state folder.new) (status_of result) }
 {
     let mut listener = Listener::new(names.sender);
     let mut at: u64 = 0;
@@ -71,6 +75,7 @@ pub(crate) fn list_pieces<F: Folder>(
 ) -> Result<u64, FramesFault>
     ensures ends { Ends (F.state folder.old) (F.state folder.new) (named names.now) result }
     ensures only { OnlyListens (F.state folder.old) (F.state folder.new) }
+    ensures stand { PassesNoneOver (F.state folder.old) (F.state folder.new) (status_of result) }
 {
     match is_longer(folder, names.bits, FILE_LIMIT) {
         Ok(false) => hear_file(folder, names),

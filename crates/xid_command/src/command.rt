@@ -1,6 +1,7 @@
 // The command: digits are read, the field is understood, and a line is said.
 ghost use Rattle.std.specs.Prelude.{◌≢◌, map, string_bytes, IfErr, IfOk};
 ghost use Rattle.command_base.specs.Outputs.{KeepsAll};
+ghost use Rattle.command_base.specs.Status.{PassesNoneOver};
 ghost use Rattle.xid_command.specs.Answers.{AnswersXid, Explains, Refuses};
 
 use crate::digits::read_digits;
@@ -27,6 +28,9 @@ pub fn xid<F: Folder>(folder: &mut F, words: &[String], digits: &str) -> Status
     // No name changes, and these words are never told how the program is used.
     ensures names { KeepsAll (F.state folder.old) (F.state folder.new) }
     ensures known { result ≢ Status.Usage }
+
+    // No fault of the folder is passed over.
+    ensures stand { PassesNoneOver (F.state folder.old) (F.state folder.new) result }
 
     // Each answer comes where it has to, with its line.
     ensures answer { AnswersXid (map string_bytes words.now) (F.state folder.old) (F.state folder.new) digits.now result }

@@ -12,6 +12,7 @@ returns-in-Ok g c =
       before = before;
       ends = c.in-Ok.ensures.ends;
       only = c.in-Ok.ensures.only;
+      stand = c.in-Ok.ensures.stand;
       finishes = subst (λ (line : List ℕ). Tells before new line Done c.tell.result) (c.as_slice.ensures.items ∙ c.write_pieces.ensures) c.tell.ensures;
     }
 
@@ -21,5 +22,6 @@ returns-in-Err g c = record {
   before = g.F.Folder.state c.list_pieces.new.folder;
   ends = c.in-Err.ensures.ends;
   only = c.in-Err.ensures.only;
+  stand = c.in-Err.ensures.stand;
   finishes = c.tell_fault.ensures;
 }

@@ -1,5 +1,6 @@
 use Rattle.std.proofs.Common.{arith}
 use Rattle.outside_core.specs.Folder.{FolderState}
+use Rattle.outside_core.specs.Steps.{CountsStand-refl}
 use Rattle.frames_command.specs.Words.{named}
 use Rattle.frames_command.proofs.Listed.{heard-none-yet, listens-refl}
 use Rattle.frames_command.proofs.listing.hear_file.Goals as goal
@@ -12,4 +13,5 @@ loop-listener-init g c =
       pieces = omega (arith, c.new-listener.ensures.pieces);
       heard = λ start b. heard-none-yet start old (named c.args.names.now) c.new-listener.result b c.new-listener.ensures.sender c.new-listener.ensures.heard;
       only = listens-refl old;
+      stand = CountsStand-refl old;
     }

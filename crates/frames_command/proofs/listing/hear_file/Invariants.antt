@@ -1,5 +1,5 @@
 use Rattle.std.proofs.Common.{◌≤◌, ◌-◌, ◌*◌}
-use Rattle.outside_core.specs.Folder.{FolderState}
+use Rattle.outside_core.specs.Folder.{FolderState, CountsStand}
 use Rattle.command_base.specs.declared.limits.TheConstants.{FILE_LIMIT}
 use Rattle.frames_command.specs.Words.{named}
 use Rattle.frames_command.specs.Heard.{OnlyListens, Begun, HeardTo}
@@ -11,6 +11,7 @@ invariant-loop-listener g l = record {
   pieces : l.listener.pieces ≤ 8 * l.at;
   heard : (start : FolderState) → Begun start (g.F.Folder.state l.fn.folder) (named l.names) → HeardTo start (g.F.Folder.state l.folder) (named l.names) l.listener l.at;
   only : OnlyListens (g.F.Folder.state l.fn.folder) (g.F.Folder.state l.folder);
+  stand : CountsStand (g.F.Folder.state l.fn.folder) (g.F.Folder.state l.folder);
 }
 
 abbrev pub decreases-loop-listener : goal.decreases-loop-listener

@@ -1,5 +1,6 @@
 use Rattle.std.proofs.Common.{◌∙◌, ◌+◌, ◌/◌, ◌^◌, Bool, List, [], ◌∷◌, ◌++◌, take, drop, nat_eq, bit_and, ap, subst, arith}
 use Rattle.outside_core.specs.Folder.{FolderState}
+use Rattle.outside_core.specs.Steps.{CountsStand-trans}
 use Rattle.plain_lists.specs.Bits.{octet_bits}
 use Rattle.roles.specs.declared.role.Role.{Role}
 use Rattle.frames_command.specs.Heard.{Heard, PartlyHeard}
@@ -24,6 +25,7 @@ loop-place-preserved g c =
       heard = λ start bits heard. subst (λ (bs : List Bool). Heard start new c.hear_bit.new.self bs) (bit-more bits c.args.octet place (omega (arith, c.loop-place-test.true)))
           (c.in-Ok.ensures.ok start (bits ++ take place all) (c.loop-place.invariant.heard start bits heard));
       only = says-trans old now new c.loop-place.invariant.only c.in-Ok.ensures.only;
+      stand = CountsStand-trans c.loop-place.invariant.stand c.in-Ok.ensures.stand;
       sender = c.in-Ok.ensures.sender ∙ c.loop-place.invariant.sender;
       pieces = omega (arith, c.in-Ok.ensures.pieces, c.loop-place.invariant.pieces);
     }

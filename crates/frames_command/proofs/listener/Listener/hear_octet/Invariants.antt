@@ -1,5 +1,5 @@
 use Rattle.std.proofs.Common.{◌≡◌, ◌≤◌, ◌+◌, Bool, List, ◌++◌, take}
-use Rattle.outside_core.specs.Folder.{FolderState, OnlySays}
+use Rattle.outside_core.specs.Folder.{FolderState, OnlySays, CountsStand}
 use Rattle.plain_lists.specs.Bits.{octet_bits}
 use Rattle.frames_command.specs.Heard.{Heard}
 use Rattle.frames_command.proofs.listener.Listener.hear_octet.Given as goal
@@ -8,6 +8,7 @@ abbrev pub invariant-loop-place : goal.invariant-loop-place
 invariant-loop-place g l = record {
   heard : (start : FolderState) (bits : List Bool) → Heard start (g.F.Folder.state l.fn.folder) l.fn.self bits → Heard start (g.F.Folder.state l.folder) l.self (bits ++ take l.place (octet_bits l.octet));
   only : OnlySays (g.F.Folder.state l.fn.folder) (g.F.Folder.state l.folder);
+  stand : CountsStand (g.F.Folder.state l.fn.folder) (g.F.Folder.state l.folder);
   sender : l.self.sender ≡ l.fn.self.sender;
   pieces : l.self.pieces ≤ l.fn.self.pieces + l.place;
 }
