@@ -1,7 +1,7 @@
 -- What an output holds after one step more.
-use Rattle.std.proofs.Common.{◌≡◌, ◌∙◌, inl, inr, ℕ, List, [], ◌++◌, IsTrue, Some, refl, sym, ap, append-nil, append_assoc}
+use Rattle.std.proofs.Common.{◌≡◌, ◌∙◌, inl, inr, ℕ, List, [], ◌++◌, IsTrue, Some, refl, sym, ap, subst, append-nil, append_assoc}
 use Rattle.outside_core.specs.Prefix.{IsPrefixOf}
-use Rattle.outside_core.specs.Folder.{FolderState, octets_at, GoesOn, KeepsName, Appended, PartlyAppended}
+use Rattle.outside_core.specs.Folder.{FolderState, octets_at, GoesOn, KeepsName, Adds, Appended, PartlyAppended}
 use Rattle.outside_core.specs.Steps.{octets-held}
 use Rattle.command_base.specs.Outputs.{Holds, HoldsFront, HoldsPart}
 use Rattle.command_base.proofs.OnlyOutputs.{told_earlier}
@@ -12,6 +12,12 @@ Holds-kept a b name octets g holds kept told = let was = told_earlier g name tol
 pub Holds-more : (a b : FolderState) (name octets piece : List ℕ) → GoesOn a b → Holds a name octets → Appended a b name piece → Holds b name (octets ++ piece)
 Holds-more a b name octets piece g holds put told =
     let was = told_earlier g name told in put was ∙ ap (λ xs. Some (xs ++ piece)) (octets-held a name octets (holds was))
+
+pub Holds-add : (a b : FolderState) (name octets piece : List ℕ) → GoesOn a b → Holds a name octets → Adds a b name piece → Holds b name (octets ++ piece)
+Holds-add a b name octets piece g holds adds = elim adds [
+  | inl none ↦ subst (Holds b name) (sym (append-nil octets) ∙ ap (λ xs. octets ++ xs) (sym none.0)) (Holds-kept a b name octets g holds none.1)
+  | inr put ↦ Holds-more a b name octets piece g holds put
+]
 
 -- a failed append leaves a part of the piece
 pub HoldsPart-more : (a b : FolderState) (name octets piece : List ℕ) → GoesOn a b → Holds a name octets → PartlyAppended a b name piece → HoldsPart b name octets piece

@@ -1,8 +1,6 @@
--- Pieces of a file, and what an append leaves.
-use Rattle.std.proofs.Common.{◌≡◌, inl, inr, ℕ, ◌-◌, ◌≤◌, min, List, [], length, take, drop, refl, ap, arith, unwrap_or, Result, Ok, Err, OnErr}
+-- Pieces of a file, and what follows from an append's clauses.
+use Rattle.std.proofs.Common.{◌≡◌, ℕ, ◌-◌, ◌≤◌, min, List, length, take, drop, refl, arith, Result, Ok, Err, OnOk, OnErr}
 use Rattle.std.proofs.lemmas.Grind.{common_steps}
-use Rattle.outside_core.specs.Folder.{FolderState, PartlyAppended, PutsPart}
-use Rattle.outside_core.specs.Steps.{PutsPart-none}
 
 take-min : (n : ℕ) (xs : List ℕ) → take (min (length xs) n) xs ≡ take n xs
 take-min n xs = grind (arith, common_steps)
@@ -19,9 +17,6 @@ pub OnErr-map : {T E P Q : Type 0} (r : Result T E) → (P → Q) → OnErr r P 
 OnErr-map (Ok x) f h = tt
 OnErr-map (Err e) f h = f h
 
--- a failed append put a part of the piece
-pub part-appended : (old new : FolderState) (name piece : List ℕ) → PartlyAppended old new name piece → PutsPart old new name piece
-part-appended old new name piece p told = elim (p told) [
-  | inl kept ↦ PutsPart-none old new name piece (λ _. kept) told
-  | inr part ↦ (part.0, part.1, ap (λ o. unwrap_or o []) part.2)
-]
+pub OnOk-map : {T E P Q : Type 0} (r : Result T E) → (P → Q) → OnOk r P → OnOk r Q
+OnOk-map (Ok x) f h = f h
+OnOk-map (Err e) f h = tt

@@ -3,7 +3,7 @@ use Rattle.std.specs.Prelude.{◌≡◌, ◌≢◌, ◌⊎◌, ℕ, ◌+◌, ◌
 use Rattle.roles.specs.declared.role.Role.{Role}
 use Rattle.roles.specs.declared.role.Role.TheVariants.{Originator, Answerer}
 use Rattle.thin_link.specs.Account.{Spoken, hear, undelivered, speak}
-use Rattle.outside_core.specs.Folder.{FolderState, GoesOn, KeepsName, Puts, PutsPart, Rose}
+use Rattle.outside_core.specs.Folder.{FolderState, GoesOn, KeepsName, Adds, PartlyAppended, CountsStand, Rose}
 use Rattle.line_world.specs.declared.script.Loss.{Loss}
 use Rattle.line_world.specs.declared.heard.Heard.{Heard}
 use Rattle.line_world.specs.declared.world.Step.{Step}
@@ -94,13 +94,13 @@ pub record OnlyGot (n : Written) (old new : FolderState) : Type 0 where
 
 -- What a turn that is made writes: what each end delivers, behind what its file held.
 pub record WritesTurn (old new : FolderState) (n : Written) (ends : Ends) (orig_heard answ_heard : Heard) : Type 0 where
-  pub got_o : Puts old new n.got_o (delivered ends.orig orig_heard)
-  pub got_a : Puts old new n.got_a (delivered ends.answ answ_heard)
+  pub got_o : Adds old new n.got_o (delivered ends.orig orig_heard)
+  pub got_a : Adds old new n.got_a (delivered ends.answ answ_heard)
 
 -- what a turn that fails leaves
 pub record WritesPart (old new : FolderState) (n : Written) (ends : Ends) (orig_heard answ_heard : Heard) : Type 0 where
-  pub got_o : PutsPart old new n.got_o (delivered ends.orig orig_heard)
-  pub got_a : PutsPart old new n.got_a (delivered ends.answ answ_heard)
+  pub got_o : PartlyAppended old new n.got_o (delivered ends.orig orig_heard)
+  pub got_a : PartlyAppended old new n.got_a (delivered ends.answ answ_heard)
 
 -- both ends' accounts once they heard these, delivered, and were offered what they want
 abbrev pub listened : Files → Ends → Heard → Heard → Ends
@@ -133,13 +133,13 @@ pub record AreIdle (w : World) : Type 0 where
 
 -- What both ends took stands behind what the received files held.
 pub record Wrote (old new : FolderState) (n : Written) (ends : Ends) : Type 0 where
-  pub got_o : Puts old new n.got_o (unwrap_or (undelivered ends.orig) [])
-  pub got_a : Puts old new n.got_a (unwrap_or (undelivered ends.answ) [])
+  pub got_o : Adds old new n.got_o (unwrap_or (undelivered ends.orig) [])
+  pub got_a : Adds old new n.got_a (unwrap_or (undelivered ends.answ) [])
 
 -- A part of what each end took stands behind what the received file held.
 pub record WrotePart (old new : FolderState) (n : Written) (ends : Ends) : Type 0 where
-  pub got_o : PutsPart old new n.got_o (unwrap_or (undelivered ends.orig) [])
-  pub got_a : PutsPart old new n.got_a (unwrap_or (undelivered ends.answ) [])
+  pub got_o : PartlyAppended old new n.got_o (unwrap_or (undelivered ends.orig) [])
+  pub got_a : PartlyAppended old new n.got_a (unwrap_or (undelivered ends.answ) [])
 
 -- how far the ends' numbers have come
 pub record CountsTo (w : World) (most : ℕ) : Type 0 where
@@ -228,6 +228,13 @@ abbrev pub HasRunCause : FolderState → FolderState → Written → RunFault �
 HasRunCause old new n WriteFault = IsFolderFault old new n WriteFault
 HasRunCause old new n NoMemory = IsFolderFault old new n NoMemory
 HasRunCause old new n (LinkLost role segment turn) = Unit {0}
+
+-- a fault of the folder is the answer, or none was counted
+abbrev pub PassesNoneOver : {T : Type 0} → FolderState → FolderState → Result T RunFault → Type 0
+PassesNoneOver old new (Ok value) = CountsStand old new
+PassesNoneOver old new (Err (LinkLost role segment turn)) = CountsStand old new
+PassesNoneOver old new (Err WriteFault) = Unit {0}
+PassesNoneOver old new (Err NoMemory) = Unit {0}
 
 -- how many turns were made, where one more may have been
 abbrev pub number_after : ℕ → Result Step RunFault → ℕ

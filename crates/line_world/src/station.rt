@@ -1,6 +1,6 @@
 // An end of the link together with the file that its user sends.
 ghost use Rattle.std.specs.Prelude.{◌≡◌, ℕ, List, ◌<◌, ◌≤◌, ◌+◌, ◌^◌, ◌≢◌, length, OnOk, OnErr, IfOk, unwrap_or, [], MatchResult};
-ghost use Rattle.outside_core.specs.Folder.{OnlyWrites, HasCause, Puts, PutsPart};
+ghost use Rattle.outside_core.specs.Folder.{OnlyWrites, HasCause, Adds, PartlyAppended, CountsStand};
 ghost use Rattle.thin_link.specs.Sent.{IsSendable};
 ghost use Rattle.thin_link.specs.Account.{Account, fresh, hear, undelivered, deliver, whole, speak};
 ghost use Rattle.line_world.specs.Heard.{frame_heard};
@@ -62,10 +62,11 @@ impl Station {
         ensures idle { IsIdle self.new }
         ensures counted { counted_of self.new ≡ counted_of self.old }
 
-        ensures ok { OnOk result ((file : List ℕ) (a : Account) → Holds self.old file a → Puts (F.state folder.old) (F.state folder.new) name.now (unwrap_or (undelivered a) [])) }
-        ensures err { OnErr result ((file : List ℕ) (a : Account) → Holds self.old file a → PutsPart (F.state folder.old) (F.state folder.new) name.now (unwrap_or (undelivered a) [])) }
+        ensures ok { OnOk result ((file : List ℕ) (a : Account) → Holds self.old file a → Adds (F.state folder.old) (F.state folder.new) name.now (unwrap_or (undelivered a) [])) }
+        ensures err { OnErr result ((file : List ℕ) (a : Account) → Holds self.old file a → PartlyAppended (F.state folder.old) (F.state folder.new) name.now (unwrap_or (undelivered a) [])) }
         ensures only { OnlyWrites (F.state folder.old) (F.state folder.new) name.now }
         ensures cause { HasCause ((F.state folder.old).write_faults name.now) ((F.state folder.new).write_faults name.now) (F.state folder.old).refusals (F.state folder.new).refusals result }
+        ensures stand { OnOk result (CountsStand (F.state folder.old) (F.state folder.new)) }
     {
         match self.end.deliver() {
             None => Ok(()),

@@ -1,10 +1,10 @@
 // Turns of the world.
 ghost use Rattle.std.specs.Prelude.{◌≡◌, ◌<◌, ◌+◌, ◌^◌, ◌≢◌, ◌&&◌, [], List, ℕ, OnOk, OnErr, IfErr, MatchResult};
-ghost use Rattle.outside_core.specs.Folder.{Rose};
+ghost use Rattle.outside_core.specs.Folder.{Rose, CountsStand};
 ghost use Rattle.line_world.specs.declared.script.Loss.{Loss};
 ghost use Rattle.thin_link.specs.Account.{Account, whole};
 ghost use Rattle.line_world.specs.Run.{Files, Turn, Ends, start, delivered_both, offered_both, both_whole};
-ghost use Rattle.line_world.specs.World.{During, WorldAfter, IsReady, files_of, script_of, turn_of, Written, written, AreApart, HeardBoth, HaveArrived, SameLine, KeepsLine, CountsTo, AreIdle, SpeaksAs, Wrote, WrotePart, IsFolderFault, IsTries, TurnIs, number_after, HasRunCause, OnlyGot};
+ghost use Rattle.line_world.specs.World.{During, WorldAfter, IsReady, files_of, script_of, turn_of, Written, written, AreApart, HeardBoth, HaveArrived, SameLine, KeepsLine, CountsTo, AreIdle, SpeaksAs, Wrote, WrotePart, IsFolderFault, IsTries, TurnIs, number_after, HasRunCause, OnlyGot, PassesNoneOver};
 
 use crate::direction::Direction;
 use crate::station::Station;
@@ -117,6 +117,7 @@ impl World {
         ensures err { OnErr result ((f : Files) (script : List Loss) (ts : List Turn) (ends : Ends) → During self.old f script ts ends → WrotePart (F.state folder.old) (F.state folder.new) (written names.now) ends) }
         ensures only { OnlyGot (written names.now) (F.state folder.old) (F.state folder.new) }
         ensures cause { IfErr result (IsFolderFault (F.state folder.old) (F.state folder.new) (written names.now)) }
+        ensures stand { OnOk result (CountsStand (F.state folder.old) (F.state folder.new)) }
     {
         match self.orig.hand_out(folder, names.got_o) {
             Ok(()) => {}
@@ -195,6 +196,7 @@ impl World {
         // It touches the received files alone, and a fault has its cause.
         ensures only { OnlyGot (written names.now) (F.state folder.old) (F.state folder.new) }
         ensures cause { IfErr result (HasRunCause (F.state folder.old) (F.state folder.new) (written names.now)) }
+        ensures stand { PassesNoneOver (F.state folder.old) (F.state folder.new) result }
     {
         self.hear();
         self.hand_out(folder, names)?;

@@ -1,9 +1,9 @@
 -- From how a run ends to the headline.
-use Rattle.std.proofs.Common.{◌≡◌, ◌≢◌, ◌⊎◌, inl, inr, ℕ, ◌+◌, ◌*◌, ◌<◌, List, ◌++◌, IsTrue, Result, Ok, Err, sym, ◌∙◌, ap, subst, arith, append_assoc}
+use Rattle.std.proofs.Common.{◌≡◌, ◌≢◌, ◌⊎◌, inl, inr, ℕ, ◌+◌, ◌*◌, ◌<◌, List, [], ◌++◌, IsTrue, Some, Result, Ok, Err, refl, sym, ◌∙◌, ap, subst, arith, append_assoc}
 use Rattle.std.specs.Option.{option_map}
 use Rattle.plain_lists.specs.Prefix.{IsPrefixOf}
 use Rattle.outside_core.specs.Folder.{FolderState, octets_at, GoesOn, KeepsName, Said, Rose}
-use Rattle.outside_core.specs.Steps.{KeepsName-trans, told_later, octets-kept}
+use Rattle.outside_core.specs.Steps.{KeepsName-trans, told_later}
 use Rattle.roles.specs.declared.role.Role.{Role}
 use Rattle.line_world.specs.Run.{segments}
 use Rattle.line_world.proofs.Order.{run-linked, run-whole, mid-order, mid-prefix, heard-prefix}
@@ -13,37 +13,37 @@ use Rattle.line_world.specs.declared.world.RunFault.{RunFault}
 use Rattle.line_world.specs.declared.world.RunFault.TheVariants as faults
 use Rattle.command_base.specs.declared.status.Status.{Status}
 use Rattle.command_base.specs.declared.status.Status.TheVariants.{Done, Usage, ReadFault, WriteFault}
-use Rattle.command_base.specs.Status.{IsRefusal}
+use Rattle.command_base.specs.Status.{IsRefusal, PassesNoneOver}
 use Rattle.command_base.specs.Lines.{done_line}
 use Rattle.command_base.specs.Outputs.{Holds, HoldsPart, KeptOrEmpty, KeepsAll}
 use Rattle.command_base.specs.Tells.{Tells}
-use Rattle.command_base.proofs.Answering.{done-plain, read-plain, tells-plain, tells-fault, tells-refusal, tells-other}
+use Rattle.command_base.proofs.Answering.{done-plain, read-plain, tells-plain, tells-fault, tells-refusal, tells-other, stand-later}
 use Rattle.run_command.specs.declared.ending.Refusal.TheVariants as refusals
 use Rattle.run_command.specs.declared.ending.Ending.{Ending}
 use Rattle.run_command.specs.declared.ending.Ending.TheVariants.{Refused, Stopped}
 use Rattle.run_command.specs.Words.{RunNames}
 use Rattle.run_command.specs.Inputs.{ReadRose}
-use Rattle.run_command.specs.Ends.{WriteRose, EndsDone, EndsLost, EndsInTurn, EndsCreating, EndsLate, EndsBy, Ends}
+use Rattle.run_command.specs.Ends.{WriteRose, CreatesPart, EndsDone, EndsLost, EndsInTurn, EndsCreating, EndsLate, EndsBy, Ends}
 use Rattle.run_command.specs.Answers.{line_of, status_of, ending_status, AnswersRun}
 use Rattle.run_command.specs.Headline.{KeptOrPrefix, HoldsWhole, SaysDone, Headline}
 
 -- what a received file holds begins the file that was read
 prefix-of : (old before : FolderState) (got sent file taken : List ℕ) → GoesOn old before → (IsTrue (old.tells sent) → file ≡ octets_at old sent) → Holds before got taken → IsPrefixOf taken file → KeptOrPrefix old before got sent
 prefix-of old before got sent file taken g reads holds p =
-    inr (λ ts tg. (p.0, ap (λ o. o ++ p.0) (holds (told_later g got tg)) ∙ p.1 ∙ reads ts))
+    inr (λ ts tg. (taken, holds (told_later g got tg), (p.0, p.1 ∙ reads ts)))
 
 -- and so it does with a part of the next piece behind it
 part-of : (old before : FolderState) (got sent file taken piece : List ℕ) → GoesOn old before → (IsTrue (old.tells sent) → file ≡ octets_at old sent) → HoldsPart before got taken piece → IsPrefixOf (taken ++ piece) file → KeptOrPrefix old before got sent
 part-of old before got sent file taken piece g reads holds p =
     inr (λ ts tg. let h = holds (told_later g got tg) in
-    (h.1.0 ++ p.0, ap (λ o. o ++ (h.1.0 ++ p.0)) h.2 ∙ regroup h.0 h.1.0 h.1.1 ∙ p.1 ∙ reads ts))
+    (taken ++ h.0, h.2, (h.1.0 ++ p.0, regroup h.0 h.1.0 h.1.1 ∙ p.1 ∙ reads ts)))
   where
     regroup : (part rest : List ℕ) → part ++ rest ≡ piece → (taken ++ part) ++ (rest ++ p.0) ≡ (taken ++ piece) ++ p.0
     regroup part rest e = sym (append_assoc (taken ++ part) rest p.0) ∙ ap (λ x. x ++ p.0) (append_assoc taken part rest ∙ ap (λ x. taken ++ x) e)
 
 empty-of : (old before : FolderState) (got sent : List ℕ) → GoesOn old before → KeptOrEmpty old before got → KeptOrPrefix old before got sent
 empty-of old before got sent g (inl k) = inl k
-empty-of old before got sent g (inr h) = inr (λ ts tg. (octets_at old sent, ap (λ o. o ++ octets_at old sent) (h (told_later g got tg))))
+empty-of old before got sent g (inr h) = inr (λ ts tg. ([], h (told_later g got tg), (octets_at old sent, refl)))
 
 -- both received files, whatever the run ended by
 pub record BothPrefix (old before : FolderState) (n : RunNames) : Type 0 where
@@ -69,7 +69,12 @@ both-stopped old before n g e =
     record { got_o = part-of old before n.got_o n.answ e.files.answ _ _ g e.opens.answ_read r.orig_got p.1; got_a = part-of old before n.got_a n.orig e.files.orig _ _ g e.opens.orig_read r.answ_got p.0 }
 
 both-creating : (old before : FolderState) (n : RunNames) → GoesOn old before → EndsCreating LIMITS old before n → BothPrefix old before n
-both-creating old before n g e = record { got_o = empty-of old before n.got_o n.answ g e.creates.got_o; got_a = empty-of old before n.got_a n.orig g e.creates.got_a }
+both-creating old before n g e = by e.creates
+  where
+    by : CreatesPart old before n → BothPrefix old before n
+    by (inl c) = record { got_o = empty-of old before n.got_o n.answ g c.0; got_a = inl c.1 }
+    by (inr (inl c)) = record { got_o = empty-of old before n.got_o n.answ g (inr c.0); got_a = empty-of old before n.got_a n.orig g c.1 }
+    by (inr (inr c)) = record { got_o = empty-of old before n.got_o n.answ g (inr c.0); got_a = empty-of old before n.got_a n.orig g (inr c.1) }
 
 both-by : (old before : FolderState) (n : RunNames) (ending : Ending) → GoesOn old before → EndsBy LIMITS old before n ending → BothPrefix old before n
 both-by old before n (Refused refusal) g e = record { got_o = inl (e.0 n.got_o); got_a = inl (e.0 n.got_a) }
@@ -108,14 +113,14 @@ pub record Last (words : List (List ℕ)) (old before new : FolderState) (n : Ru
 
 prefix-later : (old before new : FolderState) (got sent : List ℕ) → GoesOn old before → KeepsName before new got → KeptOrPrefix old before got sent → KeptOrPrefix old new got sent
 prefix-later old before new got sent g k (inl h) = inl (KeepsName-trans old before new got g h k)
-prefix-later old before new got sent g k (inr h) = inr (λ ts tg. let p = h ts tg in (p.0, ap (λ o. o ++ p.0) (octets-kept before new got k (told_later g got tg)) ∙ p.1))
+prefix-later old before new got sent g k (inr h) = inr (λ ts tg. let p = h ts tg in (p.0, k (told_later g got tg) ∙ p.1, p.2))
 
 -- a run that is done
 whole-of : (words : List (List ℕ)) (old before new : FolderState) (n : RunNames) (number : ℕ) (s : Status) → Last words old before new n (Ok number) s → HoldsWhole old new n.got_o n.answ × HoldsWhole old new n.got_a n.orig
 whole-of words old before new n number s l =
     let r = l.ends.runs in let w = run-whole l.ends.files l.ends.script r.turns r.ends r.turn r.mid r.run r.last in (
-      (λ ts tg. octets-kept before new n.got_o (l.kept n.got_o) (told_later l.earlier n.got_o tg) ∙ r.orig_got (told_later l.earlier n.got_o tg) ∙ w.1 ∙ l.ends.opens.answ_read ts),
-      (λ ts tg. octets-kept before new n.got_a (l.kept n.got_a) (told_later l.earlier n.got_a tg) ∙ r.answ_got (told_later l.earlier n.got_a tg) ∙ w.0 ∙ l.ends.opens.orig_read ts),
+      (λ ts tg. l.kept n.got_o (told_later l.earlier n.got_o tg) ∙ r.orig_got (told_later l.earlier n.got_o tg) ∙ ap Some (w.1 ∙ l.ends.opens.answ_read ts)),
+      (λ ts tg. l.kept n.got_a (told_later l.earlier n.got_a tg) ∙ r.answ_got (told_later l.earlier n.got_a tg) ∙ ap Some (w.0 ∙ l.ends.opens.orig_read ts)),
     )
 
 bound-of : (old before : FolderState) (n : RunNames) (number : ℕ) → EndsDone LIMITS old before n number → IsTrue (old.tells n.orig) → IsTrue (old.tells n.answ) →
@@ -227,3 +232,7 @@ not-usage words old new n s a = tells-other a.before new (line_of words a.job) (
     by (Err (Stopped faults.WriteFault)) e = cc
     by (Err (Stopped (faults.LinkLost role segment turn))) e = cc
     by (Err (Stopped faults.NoMemory)) e = cc
+
+-- no fault of the folder is passed over
+pub stand-of : (words : List (List ℕ)) (old new : FolderState) (n : RunNames) (s : Status) → AnswersRun words old new n s → PassesNoneOver old new s
+stand-of words old new n s a = stand-later old a.before new (line_of words a.job) (status_of a.job) s a.stand a.tells

@@ -1,7 +1,7 @@
 -- Where a run has come.
 use Rattle.std.proofs.Common.{◌≡◌, ℕ, ◌+◌, ◌-◌, ◌*◌, ◌≤◌, ◌<◌, ◌^◌, List, [], ◌∷◌, ◌++◌, length, IsTrue, refl, sym, ◌∙◌, ap, subst, arith}
 use Rattle.std.specs.List.{concat}
-use Rattle.outside_core.specs.Folder.{FolderState, GoesOn, Puts, PutsPart}
+use Rattle.outside_core.specs.Folder.{FolderState, GoesOn, Adds, PartlyAppended}
 use Rattle.outside_core.specs.Steps.{GoesOn-refl, GoesOn-trans, KeepsName-trans}
 use Rattle.roles.specs.declared.role.Role.{Role}
 use Rattle.thin_link.specs.Account.{Account, hear}
@@ -16,6 +16,7 @@ use Rattle.line_world.specs.World.{WorldAfter, turn_of, Written, OnlyGot, GoesOn
 use Rattle.line_world.proofs.Order.{run-given, heard-concat, turn-taken, listened-taken, AllGiven}
 use Rattle.line_world.proofs.Bound.{run-length}
 use Rattle.command_base.specs.Outputs.{Holds, HoldsPart}
+use Rattle.command_base.proofs.Holding.{Holds-add, HoldsPart-more}
 use Rattle.run_command.specs.Turns.{RunsToEnd, RunsToLoss, RunsToFault, FaultyRun}
 
 -- some turns were made over these files, and the received files hold what each end took
@@ -41,22 +42,16 @@ OnlyGot-trans n a b c p q = record {
 pub reached-start : (w : World) (f : Files) (script : List Loss) (n : Written) (s : FolderState) → WorldAfter w f script [] start → Holds s n.got_o [] → Holds s n.got_a [] → Reached w f script n s s
 reached-start w f script n s world o a = record { turns = []; ends = start; world = world; got_o = o; got_a = a; only = OnlyGot-refl n s }
 
-told_earlier : {a b : FolderState} → GoesOn a b → (n : List ℕ) → IsTrue (b.tells n) → IsTrue (a.tells n)
-told_earlier p n told = subst IsTrue (p.tells n) told
-
 -- what a file holds after its end has heard
 after-heard : (now next : FolderState) (name : List ℕ) (a : Account) (heard : Heard) (taken : List (List ℕ)) → AllGiven a → GoesOn now next →
-    Holds now name (concat a.taken) → Puts now next name (delivered a heard) → taken ≡ (hear a (frame_heard heard)).taken → Holds next name (concat taken)
-after-heard now next name a heard taken given on holds puts e told =
-    let told_now = told_earlier on name told in
-    puts told_now ∙ ap (λ o. o ++ delivered a heard) (holds told_now) ∙ sym (heard-concat a (frame_heard heard) given) ∙ ap concat (sym e)
+    Holds now name (concat a.taken) → Adds now next name (delivered a heard) → taken ≡ (hear a (frame_heard heard)).taken → Holds next name (concat taken)
+after-heard now next name a heard taken given on holds adds e =
+    subst (Holds next name) (sym (heard-concat a (frame_heard heard) given) ∙ ap concat (sym e)) (Holds-add now next name (concat a.taken) (delivered a heard) on holds adds)
 
 -- what it holds, where the append failed
 after-failed : (now next : FolderState) (name : List ℕ) (a : Account) (heard : Heard) → GoesOn now next →
-    Holds now name (concat a.taken) → PutsPart now next name (delivered a heard) → HoldsPart next name (concat a.taken) (delivered a heard)
-after-failed now next name a heard on holds puts told =
-    let told_now = told_earlier on name told in let p = puts told_now in
-    (p.0, p.1, p.2 ∙ ap (λ o. o ++ p.0) (holds told_now))
+    Holds now name (concat a.taken) → PartlyAppended now next name (delivered a heard) → HoldsPart next name (concat a.taken) (delivered a heard)
+after-failed now next name a heard on holds part = HoldsPart-more now next name (concat a.taken) (delivered a heard) on holds part
 
 -- the run goes on
 pub reached-going : (w w' : World) (f : Files) (script : List Loss) (n : Written) (old now next : FolderState) (r : Reached w f script n old now) →

@@ -3,7 +3,7 @@ use Rattle.std.proofs.Common.{◌≡◌, inl, inr, ℕ, List, [], IsTrue, sym, �
 use Rattle.outside_core.specs.Folder.{FolderState, GoesOn, KeepsName, OnlyReads}
 use Rattle.outside_core.specs.declared.folder.FolderFault.{FolderFault}
 use Rattle.outside_core.specs.declared.folder.FolderFault.TheVariants as folder
-use Rattle.outside_core.specs.Steps.{KeepsName-trans, octets-kept}
+use Rattle.outside_core.specs.Steps.{KeepsName-trans}
 use Rattle.line_world.specs.declared.script.Loss.{Loss}
 use Rattle.line_world.specs.declared.world.RunFault.{RunFault}
 use Rattle.line_world.specs.declared.world.RunFault.TheVariants.{WriteFault, LinkLost, NoMemory}
@@ -14,12 +14,21 @@ use Rattle.run_command.specs.declared.ending.Ending.TheVariants.{Stopped}
 use Rattle.run_command.specs.Words.{RunNames, are_apart, names_written}
 use Rattle.run_command.specs.Inputs.{Opens}
 use Rattle.command_base.specs.Outputs.{Holds, KeptOrEmpty}
+use Rattle.command_base.proofs.Holding.{Holds-kept}
 use Rattle.run_command.specs.Turns.{FaultyRun}
 use Rattle.run_command.specs.Ends.{OnlyOutputs, CreatesPart, Creates, WriteRose, FailsToWrite, EndsCreating, EndsLate, EndsBy}
 
+as-before : (old mid new : FolderState) (name : List ℕ) → OnlyReads old mid → KeepsName mid new name → KeepsName old new name
+as-before old mid new name r k = KeepsName-trans old mid new name r.goes_on (r.names name) k
+
 kept-before : (old mid new : FolderState) (name : List ℕ) → OnlyReads old mid → KeptOrEmpty mid new name → KeptOrEmpty old new name
-kept-before old mid new name r (inl k) = inl (KeepsName-trans old mid new name r.goes_on (r.names name) k)
+kept-before old mid new name r (inl k) = inl (as-before old mid new name r k)
 kept-before old mid new name r (inr h) = inr h
+
+creates-before : (old mid new : FolderState) (n : RunNames) → OnlyReads old mid → CreatesPart mid new n → CreatesPart old new n
+creates-before old mid new n r (inl c) = inl (kept-before old mid new n.got_o r c.0, as-before old mid new n.got_a r c.1, as-before old mid new n.trace r c.2)
+creates-before old mid new n r (inr (inl c)) = inr (inl (c.0, kept-before old mid new n.got_a r c.1, as-before old mid new n.trace r c.2))
+creates-before old mid new n r (inr (inr c)) = inr (inr (c.0, c.1, kept-before old mid new n.trace r c.2))
 
 rose-before : (old mid new : FolderState) (n : RunNames) → OnlyReads old mid → WriteRose mid new n → WriteRose old new n
 rose-before old mid new n r (inl h) = inl (omega (arith, r.write_faults n.got_o, h))
@@ -36,17 +45,12 @@ ends-creating l old mid new n files script given fault failed memory r opens c f
       files = files;
       script = script;
       opens = opens;
-      creates = record { got_o = kept-before old mid new n.got_o r c.got_o; got_a = kept-before old mid new n.got_a r c.got_a; trace = kept-before old mid new n.trace r c.trace };
+      creates = creates-before old mid new n r c;
     }
 
     by_fault : (given : FolderFault) → (given ≡ folder.Failed → fault ≡ WriteFault) → (given ≡ folder.NoMemory → fault ≡ NoMemory) → FailsToWrite mid new n given → EndsLate l old new n fault
     by_fault folder.Failed failed memory f = subst (EndsLate l old new n) (sym (failed refl)) (rose-before old mid new n r f, inl creating)
     by_fault folder.NoMemory failed memory f = subst (EndsLate l old new n) (sym (memory refl)) (omega (arith, r.goes_on.refused, f), inl creating)
-
-held-on : (now next : FolderState) (name : List ℕ) → GoesOn now next → KeepsName now next name → Holds now name [] → Holds next name []
-held-on now next name g k h told =
-    let told_now = subst IsTrue (g.tells name) told in
-    octets-kept now next name k told_now ∙ h told_now
 
 -- what a turn's fault leaves, over the names as they are written
 pub record TurnFault (files : Files) (script : List Loss) (now next : FolderState) (w : Written) (fault : RunFault) : Type 0 where
@@ -61,7 +65,7 @@ pub ends-in-turn : (l : Limits) (old mid now next : FolderState) (n : RunNames) 
 ends-in-turn l old mid now next n files script fault r o opens c t = by_fault fault t.run t.cause
   where
     trace : Holds next n.trace []
-    trace = held-on now next n.trace t.only.goes_on (t.only.names n.trace (λ e. t.apart.got_o_trace (sym e)) (λ e. t.apart.got_a_trace (sym e))) c.trace
+    trace = Holds-kept now next n.trace [] t.only.goes_on c.trace (t.only.names n.trace (λ e. t.apart.got_o_trace (sym e)) (λ e. t.apart.got_a_trace (sym e)))
 
     rose : HasRunCause now next (names_written n) WriteFault → WriteRose old next n
     rose (inl h) = inl (omega (arith, r.write_faults n.got_o, o.goes_on.writes n.got_o, h))

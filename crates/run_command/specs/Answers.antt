@@ -5,6 +5,7 @@ use Rattle.line_world.specs.declared.world.RunFault.{RunFault}
 use Rattle.line_world.specs.declared.world.RunFault.TheVariants as faults
 use Rattle.command_base.specs.declared.status.Status.{Status}
 use Rattle.command_base.specs.declared.status.Status.TheVariants as status
+use Rattle.command_base.specs.Status.{PassesNoneOver}
 use Rattle.command_base.specs.Lines.{done_line, status_line}
 use Rattle.command_base.specs.Tells.{Tells}
 use Rattle.run_command.specs.declared.limits.TheConstants.{LIMITS}
@@ -45,4 +46,5 @@ pub record AnswersRun (words : List (List ℕ)) (old new : FolderState) (n : Run
   pub before : FolderState
   pub ends : Ends LIMITS old before n job
   pub only : OnlyOutputs old before n
+  pub stand : PassesNoneOver old before (status_of job)
   pub tells : Tells before new (line_of words job) (status_of job) s

@@ -22,11 +22,12 @@ pub record OnlyOutputs (old new : FolderState) (n : RunNames) : Type 0 where
   pub names : (other : List ℕ) → other ≢ n.got_o → other ≢ n.got_a → other ≢ n.trace → KeepsName old new other
   pub said : new.said ≡ old.said
 
--- The outputs are not all created.
-pub record CreatesPart (old new : FolderState) (n : RunNames) : Type 0 where
-  pub got_o : KeptOrEmpty old new n.got_o
-  pub got_a : KeptOrEmpty old new n.got_a
-  pub trace : KeptOrEmpty old new n.trace
+-- an output is not created: those before it in the order of the words are, and those behind it are as they were
+abbrev pub CreatesPart : FolderState → FolderState → RunNames → Type 0
+CreatesPart old new n =
+    (KeptOrEmpty old new n.got_o × KeepsName old new n.got_a × KeepsName old new n.trace)
+    ⊎ (Holds new n.got_o [] × KeptOrEmpty old new n.got_a × KeepsName old new n.trace)
+    ⊎ (Holds new n.got_o [] × Holds new n.got_a [] × KeptOrEmpty old new n.trace)
 
 -- The outputs are created.
 pub record Creates (new : FolderState) (n : RunNames) : Type 0 where

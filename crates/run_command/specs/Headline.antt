@@ -1,8 +1,8 @@
 -- What a run promises, over the folder before and after it. What is said of a name's octets holds where the folder
 -- tells that name.
-use Rattle.std.specs.Prelude.{◌≡◌, ◌≢◌, ◌⊎◌, ℕ, ◌+◌, ◌*◌, ◌<◌, IsTrue, List}
+use Rattle.std.specs.Prelude.{◌≡◌, ◌≢◌, ◌⊎◌, ℕ, ◌+◌, ◌*◌, ◌<◌, IsTrue, List, Some}
 use Rattle.plain_lists.specs.Prefix.{IsPrefixOf}
-use Rattle.outside_core.specs.Folder.{FolderState, octets_at, KeepsName, Said, Rose}
+use Rattle.outside_core.specs.Folder.{FolderState, held_at, octets_at, KeepsName, Said, Rose}
 use Rattle.line_world.specs.Run.{segments}
 use Rattle.command_base.specs.declared.status.Status.{Status}
 use Rattle.command_base.specs.declared.status.Status.TheVariants.{Done, ReadFault, WriteFault}
@@ -15,11 +15,11 @@ use Rattle.run_command.specs.Ends.{WriteRose}
 
 -- a received file is as it was, or holds the beginning of the other end's file
 abbrev pub KeptOrPrefix : FolderState → FolderState → List ℕ → List ℕ → Type 0
-KeptOrPrefix old new got sent = KeepsName old new got ⊎ (IsTrue (old.tells sent) → IsTrue (old.tells got) → IsPrefixOf (octets_at new got) (octets_at old sent))
+KeptOrPrefix old new got sent = KeepsName old new got ⊎ (IsTrue (old.tells sent) → IsTrue (old.tells got) → (front : List ℕ) × (held_at new got ≡ Some front) × IsPrefixOf front (octets_at old sent))
 
 -- a received file holds the whole of the other end's file
 abbrev pub HoldsWhole : FolderState → FolderState → List ℕ → List ℕ → Type 0
-HoldsWhole old new got sent = IsTrue (old.tells sent) → IsTrue (old.tells got) → octets_at new got ≡ octets_at old sent
+HoldsWhole old new got sent = IsTrue (old.tells sent) → IsTrue (old.tells got) → held_at new got ≡ Some (octets_at old sent)
 
 -- the last turn was said, and is within the bound
 abbrev pub SaysDone : FolderState → FolderState → RunNames → Type 0

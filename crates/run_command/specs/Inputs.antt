@@ -1,6 +1,6 @@
 -- Which inputs a run takes, and why it refuses others. What is said of a file holds where the folder tells its name.
 use Rattle.std.specs.Prelude.{◌≡◌, ◌⊎◌, ℕ, IsTrue, List}
-use Rattle.outside_core.specs.Folder.{FolderState, octets_at, Rose}
+use Rattle.outside_core.specs.Folder.{FolderState, octets_at, Rose, FaultsStand}
 use Rattle.line_world.specs.Run.{Files}
 use Rattle.line_world.specs.Script.{Spells, FirstFault}
 use Rattle.line_world.specs.declared.script.Loss.{Loss}
@@ -57,9 +57,17 @@ ReadRose old new n =
     Rose (old.read_faults n.orig) (new.read_faults n.orig) ⊎ Rose (old.read_faults n.answ) (new.read_faults n.answ)
     ⊎ Rose (old.read_faults n.script) (new.read_faults n.script)
 
--- why the inputs are not taken, by the refusal
+-- why the inputs are not taken, by the refusal; where there was no memory, no fault was counted, and it is the folder that had none, or
+-- the script is within its limit
 abbrev pub Refuses : Limits → FolderState → FolderState → RunNames → Refusal → Type 0
 Refuses l old new n (TooLong word) = ScriptTooLong l old n word ⊎ OrigTooLong l old n word ⊎ AnswTooLong l old n word
 Refuses l old new n (BadScript line cause) = ScriptFaulty l old n line cause
 Refuses l old new n ReadFault = ReadRose old new n
-Refuses l old new n NoMemory = Unit {0}
+Refuses l old new n NoMemory = FaultsStand old new × (Rose old.refusals new.refusals ⊎ IsWithin old n.script l.script)
+
+-- why the two files are not taken once the script is read, by the refusal
+abbrev pub RefusesFiles : Limits → FolderState → FolderState → RunNames → Refusal → Type 0
+RefusesFiles l old new n (TooLong word) = ((word ≡ 1) × IsLonger old n.orig l.file) ⊎ ((word ≡ 2) × IsWithin old n.orig l.file × IsLonger old n.answ l.file)
+RefusesFiles l old new n (BadScript line cause) = ⊥
+RefusesFiles l old new n ReadFault = Rose (old.read_faults n.orig) (new.read_faults n.orig) ⊎ Rose (old.read_faults n.answ) (new.read_faults n.answ)
+RefusesFiles l old new n NoMemory = FaultsStand old new × (Rose old.refusals new.refusals ⊎ (IsWithin old n.orig l.file × IsWithin old n.answ l.file))

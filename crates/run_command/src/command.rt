@@ -1,8 +1,9 @@
 // The command: its inputs are opened, its outputs made, turns follow to its end, and its line is said.
 ghost use Rattle.std.specs.Prelude.{◌≡◌, ◌≢◌, true, map, string_bytes};
+ghost use Rattle.command_base.specs.Status.{PassesNoneOver};
 ghost use Rattle.run_command.specs.Words.{named, are_apart};
 ghost use Rattle.run_command.specs.Ends.{Ends, OnlyOutputs};
-ghost use Rattle.run_command.specs.Answers.{AnswersRun};
+ghost use Rattle.run_command.specs.Answers.{AnswersRun, status_of};
 ghost use Rattle.run_command.specs.Headline.{Headline};
 ghost use Rattle.run_command.specs.declared.ending.Ending.{Ending};
 
@@ -34,6 +35,7 @@ fn run_to_end<F: Folder>(alloc: Global, folder: &mut F, names: &RunWords<'_>) ->
     requires { are_apart (named names.now) ≡ true }
     ensures ends { Ends LIMITS (F.state folder.old) (F.state folder.new) (named names.now) result }
     ensures only { OnlyOutputs (F.state folder.old) (F.state folder.new) (named names.now) }
+    ensures stand { PassesNoneOver (F.state folder.old) (F.state folder.new) (status_of result) }
 {
     let inputs = match open_inputs(alloc, folder, names, LIMITS) {
         Ok(inputs) => inputs,
@@ -79,6 +81,9 @@ pub fn run<F: Folder>(
     ensures headline { Headline (F.state folder.old) (F.state folder.new) (named names.now) result }
 
     ensures known { result ≢ Status.Usage }
+
+    // No fault of the folder is passed over.
+    ensures stand { PassesNoneOver (F.state folder.old) (F.state folder.new) result }
 
     // Each answer comes where it has to, with its line.
     ensures answer { AnswersRun (map string_bytes words.now) (F.state folder.old) (F.state folder.new) (named names.now) result }

@@ -5,6 +5,7 @@
 mod command;
 mod ending;
 mod inputs;
+mod laws;
 mod limits;
 mod outputs;
 mod turns;

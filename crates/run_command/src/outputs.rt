@@ -1,5 +1,6 @@
 // A run's outputs, made before its first turn.
 ghost use Rattle.std.specs.Prelude.{◌≡◌, true, OnOk, OnErr, IfErr};
+ghost use Rattle.outside_core.specs.Folder.{CountsStand};
 ghost use Rattle.run_command.specs.Words.{named, are_apart};
 ghost use Rattle.run_command.specs.Ends.{OnlyOutputs, Creates, CreatesPart, FailsToWrite};
 
@@ -16,6 +17,7 @@ pub(crate) fn create_outputs<F: Folder>(
     ensures ok { OnOk result (Creates (F.state folder.new) (named words.now)) }
     ensures err { OnErr result (CreatesPart (F.state folder.old) (F.state folder.new) (named words.now)) }
     ensures only { OnlyOutputs (F.state folder.old) (F.state folder.new) (named words.now) }
+    ensures stand { OnOk result (CountsStand (F.state folder.old) (F.state folder.new)) }
     ensures fault { IfErr result (FailsToWrite (F.state folder.old) (F.state folder.new) (named words.now)) }
 {
     match create_output(folder, words.got_o) {

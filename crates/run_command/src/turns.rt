@@ -1,7 +1,7 @@
 // Turns, up to the end of a run.
 ghost use Rattle.std.specs.Prelude.{◌≡◌, ◌≤◌, ◌^◌, [], length, IfErr};
 ghost use Rattle.line_world.specs.Run.{start};
-ghost use Rattle.line_world.specs.World.{WorldAfter, IsReady, AreApart, OnlyGot, HasRunCause, files_of, script_of, turn_of, written};
+ghost use Rattle.line_world.specs.World.{WorldAfter, IsReady, AreApart, OnlyGot, HasRunCause, PassesNoneOver, files_of, script_of, turn_of, written};
 ghost use Rattle.command_base.specs.Outputs.{Holds};
 ghost use Rattle.run_command.specs.Turns.{RunEnds};
 
@@ -25,6 +25,7 @@ pub(crate) fn run_turns<F: Folder>(
 
     ensures run { RunEnds (files_of world) (script_of world) (F.state folder.new) names.now.got_o.now names.now.got_a.now result }
     ensures only { OnlyGot (written names.now) (F.state folder.old) (F.state folder.new) }
+    ensures stand { PassesNoneOver (F.state folder.old) (F.state folder.new) result }
     ensures cause { IfErr result (HasRunCause (F.state folder.old) (F.state folder.new) (written names.now)) }
 {
     loop {

@@ -14,6 +14,7 @@ returns-in-Ok g c =
       before = before;
       ends = c.in-Ok.ensures.ends;
       only = c.in-Ok.ensures.only;
+      stand = c.in-Ok.ensures.stand;
       tells = subst (λ (line : List ℕ). Tells before new line Done c.tell.result) (c.as_slice.ensures.items ∙ c.write_done.ensures) c.tell.ensures;
     }
 
@@ -26,5 +27,6 @@ returns-in-Err g c =
       before = before;
       ends = c.in-Err.ensures.ends;
       only = c.in-Err.ensures.only;
+      stand = c.in-Err.ensures.stand;
       tells = subst (λ (status : Status). Tells before new (status_line words status) status c.tell_status.result) c.status_of_ending.ensures c.tell_status.ensures;
     }

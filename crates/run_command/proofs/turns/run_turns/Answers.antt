@@ -1,5 +1,6 @@
 use Rattle.std.proofs.Common.{refl}
 use Rattle.outside_core.specs.Folder.{FolderState}
+use Rattle.outside_core.specs.Steps.{CountsStand-trans}
 use Rattle.line_world.specs.Run.{Files}
 use Rattle.line_world.specs.World.{Written, files_of, script_of, written}
 use Rattle.run_command.proofs.Reached.{reached-going, reached-done, reached-fault, reached-bound, reached-early, nearer}
@@ -19,6 +20,7 @@ loop-turn-preserved g c =
     record {
       reached = reached-going c.loop-turn.world c.turn.new.self f (script_of c.args.world) n old now next r ((rw c.in-Ok-Going.field-0-is at c.in-Ok-Going.ensures.turn) f (script_of c.args.world) r.turns r.ends r.world) c.in-Ok-Going.ensures.only;
       ready = (rw c.in-Ok-Going.field-0-is at c.in-Ok-Going.ensures.ready) refl;
+      stand = CountsStand-trans c.loop-turn.invariant.stand c.in-Ok-Going.ensures.stand;
     }
 
 pub returns-in-Ok-Done-clause-run : goal.returns-in-Ok-Done-clause-run

@@ -1,4 +1,5 @@
 use Rattle.std.proofs.Common.{◌-◌, ◌*◌, ◌+◌}
+use Rattle.outside_core.specs.Folder.{CountsStand}
 use Rattle.line_world.specs.Run.{segments}
 use Rattle.line_world.specs.World.{IsReady, files_of, script_of, turn_of, written}
 use Rattle.run_command.proofs.Reached.{Reached}
@@ -8,6 +9,7 @@ abbrev pub invariant-loop-turn : goal.invariant-loop-turn
 invariant-loop-turn g l = record {
   reached : Reached l.world (files_of l.fn.world) (script_of l.fn.world) (written l.names) (g.F.Folder.state l.fn.folder) (g.F.Folder.state l.folder);
   ready : IsReady l.world;
+  stand : CountsStand (g.F.Folder.state l.fn.folder) (g.F.Folder.state l.folder);
 }
 
 abbrev pub decreases-loop-turn : goal.decreases-loop-turn

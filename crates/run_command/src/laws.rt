@@ -1,0 +1,10 @@
+// The limits of a run as numbers.
+ghost use Rattle.std.specs.Prelude.{◌≡◌};
+ghost use Rattle.run_command.specs.declared.limits.TheConstants.{LIMITS};
+
+/// A script has at most 65,536 octets, and each file that is sent at most 1,048,576.
+pub fn limits_of_inputs()
+    ensures script { LIMITS.script ≡ 65536 }
+    ensures file { LIMITS.file ≡ 1048576 }
+{
+}
