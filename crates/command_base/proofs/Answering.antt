@@ -1,7 +1,7 @@
 -- What an answer tells of the line that was said last, and of what it belongs to.
-use Rattle.std.proofs.Common.{◌≡◌, ◌≢◌, ◌⊎◌, ◌∙◌, inl, inr, ℕ, List, sym, subst}
-use Rattle.outside_core.specs.Folder.{FolderState, Said, Rose, CountsStand}
-use Rattle.outside_core.specs.Steps.{CountsStand-trans}
+use Rattle.std.proofs.Common.{◌≡◌, ◌≢◌, ◌⊎◌, ◌∙◌, inl, inr, ℕ, List, sym, subst, arith}
+use Rattle.outside_core.specs.Folder.{FolderState, GoesOn, Said, Rose, CountsStand}
+use Rattle.outside_core.specs.Steps.{CountsStand-trans, Rose-later}
 use Rattle.command_base.specs.declared.status.Status.{Status}
 use Rattle.command_base.specs.declared.status.Status.TheVariants.{Done, Usage, ReadFault, WriteFault, NoMemory}
 use Rattle.command_base.specs.Status.{IsRefusal, IsFolderFault, PassesNoneOver}
@@ -83,3 +83,13 @@ stand-earlier old mid new s first then = elim then [ inl fault ↦ inl fault | i
 -- nothing was counted by what is done
 pub stand-done : (old new : FolderState) → PassesNoneOver old new Done → CountsStand old new
 stand-done old new s = elim s [ inl never ↦ absurd never | inr stood ↦ stood ]
+
+-- where saying doesn't fail the answer is the one whose line was to be said, or there was no memory
+pub told-or-memory : (old before new : FolderState) (line : List ℕ) (answer s : Status) → GoesOn old before → (Rose old.say_faults new.say_faults → ⊥) → Tells before new line answer s → (s ≡ answer) ⊎ (s ≡ NoMemory)
+told-or-memory old before new line answer s on still tells = elim tells.said [
+  | inl h ↦ inl h.0
+  | inr h ↦ elim h [
+    | inl f ↦ absurd (still (Rose-later old.say_faults before.say_faults new.say_faults new.say_faults on.says f.1 (omega arith)))
+    | inr f ↦ inr f.0
+  ]
+]

@@ -3,3 +3,4 @@ pub mod Inputs
 pub mod Outputs
 pub mod Lines
 pub mod Tells
+pub mod Sound

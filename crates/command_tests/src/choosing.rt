@@ -1,6 +1,7 @@
 // Each command over a folder in memory, and words that are no command's.
 use modem_cli::{Status, modem};
 use outside_core::MemoryFolder;
+use roles::Role;
 use std::alloc::Global;
 use std::process::Abort;
 use std::test::Fail;
@@ -44,6 +45,65 @@ fn each_command_is_done(rt: HostRuntime) -> Result<(), Fail> {
     answers(&rt, rt.alloc(), &frames, Status::Done, "pieces 0\n")?;
     let offer = "window tx=15 rx=15 length tx=128 rx=128 srej=0 check32=0\n";
     answers(&rt, rt.alloc(), &["xid", "82"], Status::Done, offer)?;
+    Ok(())
+}
+
+#[test]
+fn empty_files_are_done_at_once(rt: HostRuntime) -> Result<(), Fail> {
+    let alloc = rt.alloc();
+    let mut words = Vec::new(alloc);
+    for text in ["run", "e", "e", "e", "go", "ga", "t"] {
+        words.push(String::from_str(alloc, text)?)?;
+    }
+    let mut folder = MemoryFolder::new(alloc);
+    folder.put("e", b"")?;
+    assert!(&rt; modem(alloc, &words, &mut folder) == Status::Done);
+    assert!(&rt; folder.said() == b"done 0\n".as_slice());
+    for got in ["go", "ga", "t"] {
+        assert!(&rt; folder.get(got) == Some(b"".as_slice()));
+    }
+    Ok(())
+}
+
+/// Decodes a call recording of so many samples at the origin, and looks at the answer, its line and the file.
+fn decodes_zeros(
+    rt: &impl Abort,
+    alloc: Global,
+    samples: usize,
+    status: Status,
+    said: &str,
+    octets: &[u8],
+) -> Result<(), Fail> {
+    let mut words = Vec::new(alloc);
+    for text in ["decode", "r", "f"] {
+        words.push(String::from_str(alloc, text)?)?;
+    }
+    let mut recording = Vec::from_slice(alloc, &RECORDING[..8])?;
+    for _ in 0..samples {
+        recording.extend_from_slice(&[0; 4])?;
+    }
+    let mut folder = MemoryFolder::new(alloc);
+    folder.put("r", &recording)?;
+    assert!(rt; modem(alloc, &words, &mut folder) == status);
+    assert!(rt; folder.said() == said.as_bytes());
+    assert!(rt; folder.get("f") == Some(octets));
+    Ok(())
+}
+
+#[test]
+fn samples_at_the_origin_are_followed_as_far_as_the_depth(rt: HostRuntime) -> Result<(), Fail> {
+    let mut octets = [0x77; 64];
+    octets[0] = 0x44;
+    octets[1] = 0x44;
+    octets[2] = 0x54;
+    decodes_zeros(&rt, rt.alloc(), 128, Status::Done, "octets 64\n", &octets)?;
+    let lost = Status::LineLost {
+        role: Role::Answerer,
+        symbol: 128,
+    };
+    let said = "line lost: answ symbol 128\n";
+    decodes_zeros(&rt, rt.alloc(), 129, lost, said, b"")?;
+    assert!(&rt; lost.code() == 7);
     Ok(())
 }
 

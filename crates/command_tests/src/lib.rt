@@ -12,6 +12,8 @@ mod encoding;
 #[cfg(test)]
 mod explaining;
 #[cfg(test)]
+mod limits;
+#[cfg(test)]
 mod listing;
 #[cfg(test)]
 mod running;

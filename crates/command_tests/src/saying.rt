@@ -5,8 +5,10 @@ use command_base::{
 };
 use roles::Role;
 use script_causes::Cause;
-use outside_core::{FolderFault, MemoryFolder};
+use lapm_frames::FrameFault;
+use outside_core::{FolderFault, MemoryFolder, NoMemory};
 use std::alloc::Global;
+use std::fmt::{Debug, Display};
 use std::process::Abort;
 use std::test::Fail;
 use xid_params::XidFault;
@@ -123,4 +125,72 @@ fn ends_have_their_words(rt: HostRuntime) {
     assert!(&rt; Role::of_word(b"orig") == Some(Role::Originator));
     assert!(&rt; Role::of_word(b"answ") == Some(Role::Answerer));
     assert!(&rt; Role::of_word(b"origin") == None);
+}
+
+fn shows<T: Display + Debug>(
+    rt: &impl Abort,
+    alloc: Global,
+    fault: &T,
+    display: &str,
+    debug: &str,
+) -> Result<(), Fail> {
+    assert!(rt; format!(in alloc; "{fault}")? == display);
+    assert!(rt; format!(in alloc; "{fault:?}")? == debug);
+    Ok(())
+}
+
+#[test]
+fn faults_of_folders_have_their_texts(rt: HostRuntime) -> Result<(), Fail> {
+    let alloc = rt.alloc();
+    let failed = "the folder failed";
+    shows(&rt, alloc, &FolderFault::Failed, failed, "Failed")?;
+    let memory = "the folder found no memory";
+    shows(&rt, alloc, &FolderFault::NoMemory, memory, "NoMemory")?;
+    shows(&rt, alloc, &NoMemory, "no memory", "NoMemory")?;
+    Ok(())
+}
+
+#[test]
+fn faults_of_fields_have_their_texts(rt: HostRuntime) -> Result<(), Fail> {
+    let faults = [
+        (XidFault::Format, "format", "Format"),
+        (XidFault::Group { at: 3 }, "group at 3", "Group { at: 3 }"),
+        (
+            XidFault::Length { at: 4 },
+            "length at 4",
+            "Length { at: 4 }",
+        ),
+        (XidFault::Value { at: 5 }, "value at 5", "Value { at: 5 }"),
+        (
+            XidFault::Repeated { at: 16 },
+            "repeated at 16",
+            "Repeated { at: 16 }",
+        ),
+    ];
+    for (fault, display, debug) in faults {
+        shows(&rt, rt.alloc(), &fault, display, debug)?;
+    }
+    Ok(())
+}
+
+#[test]
+fn faults_of_frames_have_their_texts(rt: HostRuntime) -> Result<(), Fail> {
+    let faults = [
+        (
+            FrameFault::Address { octet: 0x0a },
+            "address 0a",
+            "Address { octet: 10 }",
+        ),
+        (
+            FrameFault::Control { octet: 0x7f },
+            "control 7f",
+            "Control { octet: 127 }",
+        ),
+        (FrameFault::Short, "short", "Short"),
+        (FrameFault::Long { len: 131 }, "long 131", "Long { len: 131 }"),
+    ];
+    for (fault, display, debug) in faults {
+        shows(&rt, rt.alloc(), &fault, display, debug)?;
+    }
+    Ok(())
 }

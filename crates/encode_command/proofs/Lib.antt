@@ -1,3 +1,4 @@
 pub mod Longer
 pub mod Making
 pub mod Headline
+pub mod Completes

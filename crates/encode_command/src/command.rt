@@ -2,6 +2,7 @@
 ghost use Rattle.std.specs.Prelude.{◌≡◌, ◌≢◌, true, map, string_bytes};
 ghost use Rattle.command_base.specs.Status.{PassesNoneOver};
 ghost use Rattle.encode_command.specs.Words.{named, are_apart};
+ghost use Rattle.encode_command.specs.Completes.{Completes};
 ghost use Rattle.encode_command.specs.Answers.{AnswersEncode};
 ghost use Rattle.encode_command.specs.Headline.{Headline};
 
@@ -30,6 +31,9 @@ pub fn encode<F: Folder>(folder: &mut F, words: &[String], names: &EncodeWords<'
     ensures headline { Headline (F.state folder.old) (F.state folder.new) (named names.now) result }
 
     ensures known { result ≢ Status.Usage }
+
+    // Where the input is right and the folder sound, nothing but want of memory keeps it from being done.
+    ensures completes { Completes (F.state folder.old) (F.state folder.new) (named names.now) result }
 
     // No fault of the folder is passed over.
     ensures stand { PassesNoneOver (F.state folder.old) (F.state folder.new) result }

@@ -2,3 +2,4 @@ pub mod PieceLines
 pub mod Hearing
 pub mod Listed
 pub mod Headline
+pub mod Completes

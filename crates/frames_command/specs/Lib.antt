@@ -3,4 +3,5 @@ pub mod Readings
 pub mod Heard
 pub mod Ends
 pub mod Answers
+pub mod Completes
 pub mod Headline

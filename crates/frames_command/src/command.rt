@@ -2,6 +2,7 @@
 ghost use Rattle.std.specs.Prelude.{◌≡◌, ◌≢◌, Err, map, string_bytes};
 ghost use Rattle.command_base.specs.Status.{PassesNoneOver};
 ghost use Rattle.frames_command.specs.Words.{named};
+ghost use Rattle.frames_command.specs.Completes.{Completes};
 ghost use Rattle.frames_command.specs.Answers.{Finishes, AnswersFrames};
 ghost use Rattle.frames_command.specs.declared.fault.FramesFault.{FramesFault};
 ghost use Rattle.frames_command.specs.Headline.{Headline};
@@ -42,6 +43,9 @@ pub fn frames<F: Folder>(folder: &mut F, words: &[String], names: &FramesWords<'
     // A line is said for each piece of the file's bits, and then their number. No file changes.
     ensures headline { Headline (F.state folder.old) (F.state folder.new) (named names.now) result }
     ensures known { result ≢ Status.Usage }
+
+    // Where the input is right and the folder sound, nothing but want of memory keeps it from being done.
+    ensures completes { Completes (F.state folder.old) (F.state folder.new) (named names.now) result }
 
     // No fault of the folder is passed over.
     ensures stand { PassesNoneOver (F.state folder.old) (F.state folder.new) result }

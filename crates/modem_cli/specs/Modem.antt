@@ -10,14 +10,18 @@ use Rattle.run_command.specs.Headline.{Headline as RunHeadline}
 use Rattle.run_command.specs.Answers.{AnswersRun}
 use Rattle.encode_command.specs.Words.{EncodeNames, names_of as encode_names}
 use Rattle.encode_command.specs.Headline.{Headline as EncodeHeadline}
+use Rattle.encode_command.specs.Completes.{Completes as EncodeCompletes}
 use Rattle.encode_command.specs.Answers.{AnswersEncode}
 use Rattle.decode_command.specs.Words.{DecodeNames, names_of as decode_names}
 use Rattle.decode_command.specs.Headline.{Headline as DecodeHeadline}
+use Rattle.decode_command.specs.Completes.{Completes as DecodeCompletes}
 use Rattle.decode_command.specs.Answers.{AnswersDecode}
 use Rattle.frames_command.specs.Words.{FramesNames, names_of as frames_names}
 use Rattle.frames_command.specs.Headline.{Headline as FramesHeadline}
+use Rattle.frames_command.specs.Completes.{Completes as FramesCompletes}
 use Rattle.frames_command.specs.Answers.{AnswersFrames}
 use Rattle.xid_command.specs.Words.{digits_named}
+use Rattle.xid_command.specs.Completes.{Completes as XidCompletes}
 use Rattle.xid_command.specs.Answers.{AnswersXid}
 
 -- the words are those of no command
@@ -46,3 +50,10 @@ pub record Answers (words : List (List ℕ)) (old new : FolderState) (s : Status
   pub frames : (n : FramesNames) → frames_names words ≡ Some n → AnswersFrames words old new n s
   pub xid : (digits : List ℕ) → digits_named words ≡ Some digits → AnswersXid words old new digits s
   pub other : IsNoCommand words → Tells old new usage_line Usage s
+
+-- When words of a command are done, but for want of memory. `run` is not among them.
+pub record Completes (words : List (List ℕ)) (old new : FolderState) (s : Status) : Type 0 where
+  pub encode : (n : EncodeNames) → encode_names words ≡ Some n → EncodeCompletes old new n s
+  pub decode : (n : DecodeNames) → decode_names words ≡ Some n → DecodeCompletes old new n s
+  pub frames : (n : FramesNames) → frames_names words ≡ Some n → FramesCompletes old new n s
+  pub xid : (digits : List ℕ) → digits_named words ≡ Some digits → XidCompletes old new digits s

@@ -1,6 +1,7 @@
 // The top call.
 ghost use Rattle.std.specs.Prelude.{◌≡◌, map, string_bytes};
-ghost use Rattle.modem_cli.specs.Modem.{IsNoCommand, Answers, Promises};
+ghost use Rattle.command_base.specs.Status.{PassesNoneOver};
+ghost use Rattle.modem_cli.specs.Modem.{IsNoCommand, Answers, Promises, Completes};
 
 use command_base::{Status, tell};
 use decode_command::{decode, decode_words};
@@ -20,6 +21,12 @@ pub fn modem<F: Folder>(alloc: Global, words: &[String], folder: &mut F) -> Stat
 
     // Each answer comes where it has to, with its line.
     ensures answer { Answers (map string_bytes words.now) (F.state folder.old) (F.state folder.new) result }
+
+    // Where a command's inputs are right and the folder is sound, nothing but want of memory keeps it from being done.
+    ensures completes { Completes (map string_bytes words.now) (F.state folder.old) (F.state folder.new) result }
+
+    // No fault of the folder is passed over.
+    ensures stand { PassesNoneOver (F.state folder.old) (F.state folder.new) result }
 
     // How the program is used is told for no other words.
     ensures usage { result ≡ Status.Usage → IsNoCommand (map string_bytes words.now) }

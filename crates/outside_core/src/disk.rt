@@ -3,10 +3,10 @@ ghost use Rattle.std.specs.Prelude.{◌≡◌, ◌≤◌, length, IfOk};
 ghost use Rattle.outside_core.specs.Folder.{HasCause};
 ghost use Rattle.outside_core.specs.Disk.{disk_folder, CountsFault};
 
-use crate::transfer::{fill, write_all};
+use crate::transfer::{fill_from, put_all};
 use crate::{Folder, FolderFault};
 use std::fs::OpenOptions;
-use std::io::{self, ErrorKind, Seek, SeekFrom};
+use std::io::{self, ErrorKind};
 use std::marker::Model;
 use std::rt::Files;
 
@@ -47,8 +47,7 @@ impl<R: Files + Print + Clone + Drop> DiskFolder<R> {
         ensures { IfOk result (λ count. count ≤ length buf.old) }
     {
         let mut file = OpenOptions::new().read(true).open(&self.rt, name)?;
-        file.seek(SeekFrom::Start(at))?;
-        Ok(fill(&mut file, buf)?)
+        fill_from(&mut file, at, buf)
     }
 
     fn make_empty(&self, name: &str) -> Result<(), FolderFault> {
@@ -65,11 +64,11 @@ impl<R: Files + Print + Clone + Drop> DiskFolder<R> {
             .append(true)
             .create(true)
             .open(&self.rt, name)?;
-        Ok(write_all(&mut file, piece)?)
+        put_all(&mut file, piece)
     }
 
     fn write_out(&self, piece: &[u8]) -> Result<(), FolderFault> {
-        Ok(write_all(&mut io::writer(&self.rt), piece)?)
+        put_all(&mut io::writer(&self.rt), piece)
     }
 }
 

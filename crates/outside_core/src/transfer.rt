@@ -3,7 +3,8 @@ ghost use Rattle.std.specs.Prelude.{◌≡◌, ◌≤◌, ◌-◌, ◌++◌, len
 ghost use Rattle.std.specs.Io.KnownBytes.{Appends, Consumes};
 ghost use Rattle.outside_core.specs.Transfer.{AppendsPart, ReadsUp};
 
-use std::io::{self, ErrorKind, Read, Write};
+use crate::FolderFault;
+use std::io::{self, ErrorKind, Read, Seek, SeekFrom, Write};
 
 /// Fills the front of `buf` with the octets from `at` on, and answers how many.
 pub fn copy_from(octets: &[u8], at: u64, buf: &mut [u8]) -> usize
@@ -33,6 +34,18 @@ pub fn fill<R: Read>(reader: &mut R, buf: &mut [u8]) -> io::Result<usize>
     Ok(filled)
 }
 
+/// Fills the buffer from a place on, as far as the reader goes, and answers how many octets.
+pub(crate) fn fill_from<R: Read + Seek>(
+    reader: &mut R,
+    at: u64,
+    buf: &mut [u8],
+) -> Result<usize, FolderFault>
+    ensures bound { IfOk result (λ count. count ≤ length buf.old) }
+{
+    reader.seek(SeekFrom::Start(at))?;
+    Ok(fill(reader, buf)?)
+}
+
 /// Writes the whole piece. A write that takes nothing of a piece that isn't empty is a fault.
 pub fn write_all<W: Write>(writer: &mut W, piece: &[u8]) -> io::Result<()>
     ensures ok { OnOk result (Appends (W.contents writer.old) (W.contents writer.new) piece.now) }
@@ -47,4 +60,15 @@ pub fn write_all<W: Write>(writer: &mut W, piece: &[u8]) -> io::Result<()>
         written += count;
     }
     Ok(())
+}
+
+/// Writes the whole piece, for a folder.
+pub(crate) fn put_all<W: Write>(writer: &mut W, piece: &[u8]) -> Result<(), FolderFault>
+    ensures ok { OnOk result (Appends (W.contents writer.old) (W.contents writer.new) piece.now) }
+    ensures err { OnErr result (AppendsPart (W.contents writer.old) (W.contents writer.new) piece.now) }
+{
+    match write_all(writer, piece) {
+        Ok(()) => Ok(()),
+        Err(error) => Err(FolderFault::from(error)),
+    }
 }

@@ -1,6 +1,8 @@
 // Folders in memory and on disk.
-use outside_core::{DiskFolder, Folder, FolderFault, MemoryFolder, SureFolder, write_all};
-use std::io::{self, Write};
+ghost use Rattle.std.specs.Prelude.{◌≤◌, IfOk};
+
+use outside_core::{DiskFolder, Folder, FolderFault, MemoryFolder, SureFolder, fill, write_all};
+use std::io::{self, ErrorKind, Read, Write};
 use std::process::Abort;
 use std::test::Fail;
 
@@ -73,23 +75,70 @@ fn the_disk_keeps_files_and_fails_at_bad_names(rt: HostRuntime) -> Result<(), Fa
     let mut folder = DiskFolder::new(rt);
     makes_a_file(&mut folder)?;
     reads_it_back(&rt, &mut folder)?;
-    assert!(rt; folder.read_at("missing", 0, &mut [0u8; 4]) == Err(FolderFault::Failed));
-    assert!(rt; folder.create("missing/f") == Err(FolderFault::Failed));
-    assert!(rt; folder.append("missing/f", b"piece") == Err(FolderFault::Failed));
+    let failed = Err(FolderFault::Failed);
+    assert!(rt; folder.create("missing/f") == failed);
+    for name in ["missing/f", "/dev/full", "."] {
+        assert!(rt; folder.append(name, b"piece") == failed, "{name}");
+    }
+    for name in ["missing", "."] {
+        let read = folder.read_at(name, 0, &mut [0u8; 4]);
+        assert!(rt; read == Err(FolderFault::Failed), "{name}");
+    }
     Ok(())
 }
 
-/// A writer that takes at most two octets at a time, while it has room.
+/// Octets that differ from their neighbours.
+fn long_piece() -> [u8; 1500] {
+    let mut piece = [0u8; 1500];
+    for (place, octet) in piece.iter_mut().enumerate() {
+        *octet = (place % 251) as u8;
+    }
+    piece
+}
+
+#[test]
+fn the_disk_keeps_long_pieces(rt: HostRuntime) -> Result<(), Fail> {
+    let mut folder = DiskFolder::new(rt);
+    let piece = long_piece();
+    folder.append("long", &piece)?;
+    let mut buf = [0u8; 1600];
+    assert!(rt; folder.read_at("long", 0, &mut buf)? == 1500);
+    assert!(rt; buf[..1500] == piece);
+    Ok(())
+}
+
+/// Reads and writes at most `step` octets at a time, while there are any left, and then gives `end`.
 #[derive(Drop)]
 struct Slow {
-    room: usize,
+    step: usize,
+    left: usize,
+    end: Option<ErrorKind>,
+}
+
+impl Slow {
+    fn count(&mut self, wanted: usize) -> io::Result<usize>
+        ensures { IfOk result (λ count. count ≤ wanted) }
+    {
+        let count = wanted.min(self.step).min(self.left);
+        self.left -= count;
+        match self.end {
+            Some(kind) if count == 0 => Err(io::Error::from(kind)),
+            _ => Ok(count),
+        }
+    }
+}
+
+impl Read for Slow {
+    fn read(&mut self, buf: &mut [u8]) -> io::Result<usize> {
+        let count = self.count(buf.len())?;
+        buf[..count].fill(b'r');
+        Ok(count)
+    }
 }
 
 impl Write for Slow {
     fn write(&mut self, buf: &[u8]) -> io::Result<usize> {
-        let count = buf.len().min(2).min(self.room);
-        self.room -= count;
-        Ok(count)
+        self.count(buf.len())
     }
 
     fn flush(&mut self) -> io::Result<()> {
@@ -97,11 +146,44 @@ impl Write for Slow {
     }
 }
 
+/// A transfer of 1,500 octets, 700 at a time, where so many are there and then this end comes.
+fn slow(left: usize, end: Option<ErrorKind>) -> Slow {
+    Slow {
+        step: 700,
+        left,
+        end,
+    }
+}
+
 #[test]
-fn a_writer_that_takes_nothing_is_a_fault(rt: HostRuntime) -> Result<(), Fail> {
-    let mut slow = Slow { room: 10 };
-    write_all(&mut slow, b"seven..")?;
-    assert!(rt; slow.room == 3);
-    assert!(rt; write_all(&mut slow, b"four").is_err());
+fn long_reads_end_with_the_reader_alone(rt: HostRuntime) -> Result<(), Fail> {
+    let fault = Some(ErrorKind::BrokenPipe);
+    let mut buf = [0u8; 1500];
+    for (left, end, count) in [(2000, None, 1500), (1500, fault, 1500), (1100, None, 1100)] {
+        assert!(rt; fill(&mut slow(left, end), &mut buf)? == count, "{left}");
+        assert!(rt; buf[..count].iter().all(|octet| *octet == b'r'), "{left}");
+    }
+    match fill(&mut slow(1100, fault), &mut buf) {
+        Ok(_) => panic!(rt; "read over a fault"),
+        Err(error) => assert!(rt; error.kind() == ErrorKind::BrokenPipe),
+    }
+    Ok(())
+}
+
+#[test]
+fn long_writes_end_with_the_writer_alone(rt: HostRuntime) -> Result<(), Fail> {
+    let piece = long_piece();
+    let fault = Some(ErrorKind::BrokenPipe);
+    for (left, end) in [(2000, None), (1500, fault)] {
+        let mut writer = slow(left, end);
+        write_all(&mut writer, &piece)?;
+        assert!(rt; writer.left + 1500 == left, "{left}");
+    }
+    for (end, kind) in [(fault, ErrorKind::BrokenPipe), (None, ErrorKind::WriteZero)] {
+        match write_all(&mut slow(1100, end), &piece) {
+            Ok(()) => panic!(rt; "wrote over a fault"),
+            Err(error) => assert!(rt; error.kind() == kind),
+        }
+    }
     Ok(())
 }

@@ -70,3 +70,45 @@ fn noise_on_two_symbols(rt: HostRuntime) -> Result<(), Fail> {
     assert_eq!(rt; script.offset(ANSWERER, 0), Offset { re: 0, im: 0 });
     Ok(())
 }
+
+/// A text of so many such lines.
+fn repeated(alloc: Global, line: &[u8], count: usize) -> Result<Vec<u8>, Fail> {
+    let mut text = Vec::new(alloc);
+    for _ in 0..count {
+        text.extend_from_slice(line)?;
+    }
+    Ok(text)
+}
+
+/// So many such lines are a script, and one more of them is a line too many.
+fn is_limit(rt: &impl Abort, alloc: Global, line: &[u8], count: usize) -> Result<(), Fail> {
+    let mut text = repeated(alloc, line, count)?;
+    assert!(rt; text.len() <= SCRIPT_OCTETS);
+    if text.len() <= SCRIPT_OCTETS {
+        read_script(alloc, &text)?;
+    }
+    text.extend_from_slice(line)?;
+    if text.len() <= SCRIPT_OCTETS {
+        refuses(rt, alloc, &text, count as u32 + 1, Cause::Limit);
+    }
+    Ok(())
+}
+
+#[test]
+fn lines_have_their_limits(rt: HostRuntime) -> Result<(), Fail> {
+    is_limit(&rt, rt.alloc(), b"lose answ 7 1\n", 1024)?;
+    is_limit(&rt, rt.alloc(), b"hit orig 7 1 2 3\n", 1024)?;
+    is_limit(&rt, rt.alloc(), b"noise answ 0 2 500 42\n", 64)?;
+    Ok(())
+}
+
+#[test]
+fn a_script_of_the_longest_text(rt: HostRuntime) -> Result<(), Fail> {
+    let text = repeated(rt.alloc(), b"# not \n", 8192)?;
+    assert_eq!(rt; text.len(), 65_536);
+    if text.len() <= SCRIPT_OCTETS {
+        let script = read_script(rt.alloc(), &text)?;
+        assert_eq!(rt; script.tries(), 5);
+    }
+    Ok(())
+}

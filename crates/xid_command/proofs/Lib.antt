@@ -1,2 +1,3 @@
 mod Decoding
 mod Known
+mod Completes

@@ -2,6 +2,7 @@
 ghost use Rattle.std.specs.Prelude.{◌≢◌, map, string_bytes, IfErr, IfOk};
 ghost use Rattle.command_base.specs.Outputs.{KeepsAll};
 ghost use Rattle.command_base.specs.Status.{PassesNoneOver};
+ghost use Rattle.xid_command.specs.Completes.{Completes};
 ghost use Rattle.xid_command.specs.Answers.{AnswersXid, Explains, Refuses};
 
 use crate::digits::read_digits;
@@ -28,6 +29,9 @@ pub fn xid<F: Folder>(folder: &mut F, words: &[String], digits: &str) -> Status
     // No name changes, and these words are never told how the program is used.
     ensures names { KeepsAll (F.state folder.old) (F.state folder.new) }
     ensures known { result ≢ Status.Usage }
+
+    // Where the digits spell an offer and saying doesn't fail, nothing but want of memory keeps it from being done.
+    ensures completes { Completes (F.state folder.old) (F.state folder.new) digits.now result }
 
     // No fault of the folder is passed over.
     ensures stand { PassesNoneOver (F.state folder.old) (F.state folder.new) result }
