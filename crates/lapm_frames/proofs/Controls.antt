@@ -1,10 +1,11 @@
 -- Which frames a control octet can belong to, and how long their tails are.
-use Rattle.std.proofs.Common.{◌≡◌, ℕ, ◌+◌, ◌/◌, ◌%◌, ◌<◌, ◌≤◌, Bool, true, false, not, ◌||◌, if◌then◌else◌, length, nat_eq, arith, refl}
+use Rattle.std.proofs.Common.{◌≡◌, ℕ, ◌+◌, ◌/◌, ◌%◌, ◌<◌, ◌≤◌, Bool, true, false, if◌then◌else◌, List, length, [], Option, Some, None, is_some, arith, refl, sym}
+use Rattle.std.specs.Prelude.{IfSome, unwrap_or}
 use Rattle.frame_check.specs.declared.sizes.TheConstants.{INFO}
 use Rattle.lapm_frames.specs.declared.frame.Frame.{Frame}
-use Rattle.lapm_frames.specs.declared.frame.Frame.TheVariants.{I, Rr, Rnr, Rej, Srej, Sabme, Disc, Ua, Dm, Frmr, Ui, Xid, Test}
-use Rattle.lapm_frames.specs.Frame.{marked, IsFrame}
-use Rattle.lapm_frames.proofs.Parts.{command_of, control_of, tail_of}
+use Rattle.lapm_frames.specs.Parts.{FrameParts, parts_of}
+use Rattle.lapm_frames.specs.Frame.{marked, control_octet, tail_octets, IsFrame}
+use Rattle.lapm_frames.proofs.Forms.{is_supervisory, allows, is_informed, by_form}
 
 -- P/F leaves the low bits of an octet alone
 pub three : (kind : ℕ) (pf : Bool) → kind % 4 ≡ 3 → marked kind pf % 4 ≡ 3
@@ -18,85 +19,58 @@ marked-one a b false false h k e = omega arith
 marked-one a b true false h k e = absurd (omega arith)
 marked-one a b false true h k e = absurd (omega arith)
 
+-- the limits of parts
+abbrev pub AreParts : FrameParts → Type 0
+AreParts parts = IfSome parts.ns (λ ns. ns < 128) × IfSome parts.nr (λ nr. nr < 128) × IfSome parts.info (λ info. length info ≤ INFO)
+
 -- I frames have even octets: they are commands, with numbers and information
-pub record IsInformation (frame : Frame) : Type 0 where
-  pub is_command : command_of frame ≡ true
-  pub some : 0 < length (tail_of frame)
-  pub longest : length (tail_of frame) ≤ 1 + INFO
+pub record IsInformation (parts : FrameParts) : Type 0 where
+  pub is_command : parts.command ≡ true
+  pub some : 0 < length (tail_octets parts)
+  pub longest : length (tail_octets parts) ≤ 1 + INFO
 
-pub information : (frame : Frame) → IsFrame frame → control_of frame % 2 ≡ 0 → IsInformation frame
-information (I ns nr pf info) f h = record { is_command = refl; some = omega arith; longest = omega (arith, f.2) }
-information (Rr command nr pf) f h = absurd (omega arith)
-information (Rnr command nr pf) f h = absurd (omega arith)
-information (Rej command nr pf) f h = absurd (omega arith)
-information (Srej command nr pf) f h = absurd (omega arith)
-information (Sabme pf) f h = absurd (omega (arith, three 0x6f pf (omega arith)))
-information (Disc pf) f h = absurd (omega (arith, three 0x43 pf (omega arith)))
-information (Ua pf) f h = absurd (omega (arith, three 0x63 pf (omega arith)))
-information (Dm pf) f h = absurd (omega (arith, three 0x0f pf (omega arith)))
-information (Frmr pf info) f h = absurd (omega (arith, three 0x87 pf (omega arith)))
-information (Ui command pf info) f h = absurd (omega (arith, three 0x03 pf (omega arith)))
-information (Xid command pf info) f h = absurd (omega (arith, three 0xaf pf (omega arith)))
-information (Test command pf info) f h = absurd (omega (arith, three 0xe3 pf (omega arith)))
-
--- whether the octet is that of an S frame
-abbrev pub is_supervisory : ℕ → Bool
-is_supervisory control = nat_eq control 0x01 || nat_eq control 0x05 || nat_eq control 0x09 || nat_eq control 0x0d
+pub information-at : (frame : Frame) → IsFrame frame → control_octet (parts_of frame) % 2 ≡ 0 → IsInformation (parts_of frame)
+information-at = by_form (λ parts. AreParts parts → control_octet parts % 2 ≡ 0 → IsInformation parts)
+    (λ ns nr pf info f h. record { is_command = refl; some = omega arith; longest = omega (arith, f.2) })
+    (λ name control command nr pf k f h. absurd (omega (arith, k.odd)))
+    (λ name control command pf info k f h. absurd (omega (arith, three control pf k.odd)))
 
 -- S frames have one octet behind the control octet
-pub record IsSupervisory (frame : Frame) : Type 0 where
-  pub known : is_supervisory (control_of frame) ≡ true
-  pub one : length (tail_of frame) ≡ 1
+pub record IsSupervisory (parts : FrameParts) : Type 0 where
+  pub known : is_supervisory (control_octet parts) ≡ true
+  pub one : length (tail_octets parts) ≡ 1
 
-pub supervisory : (frame : Frame) → control_of frame % 4 ≡ 1 → IsSupervisory frame
-supervisory (I ns nr pf info) h = absurd (omega arith)
-supervisory (Rr command nr pf) h = record { known = refl; one = refl }
-supervisory (Rnr command nr pf) h = record { known = refl; one = refl }
-supervisory (Rej command nr pf) h = record { known = refl; one = refl }
-supervisory (Srej command nr pf) h = record { known = refl; one = refl }
-supervisory (Sabme pf) h = absurd (omega (arith, three 0x6f pf (omega arith)))
-supervisory (Disc pf) h = absurd (omega (arith, three 0x43 pf (omega arith)))
-supervisory (Ua pf) h = absurd (omega (arith, three 0x63 pf (omega arith)))
-supervisory (Dm pf) h = absurd (omega (arith, three 0x0f pf (omega arith)))
-supervisory (Frmr pf info) h = absurd (omega (arith, three 0x87 pf (omega arith)))
-supervisory (Ui command pf info) h = absurd (omega (arith, three 0x03 pf (omega arith)))
-supervisory (Xid command pf info) h = absurd (omega (arith, three 0xaf pf (omega arith)))
-supervisory (Test command pf info) h = absurd (omega (arith, three 0xe3 pf (omega arith)))
+pub supervisory-at : (frame : Frame) → control_octet (parts_of frame) % 4 ≡ 1 → IsSupervisory (parts_of frame)
+supervisory-at = by_form (λ parts. control_octet parts % 4 ≡ 1 → IsSupervisory parts)
+    (λ ns nr pf info h. absurd (omega arith))
+    (λ name control command nr pf k h. record { known = k.known; one = refl })
+    (λ name control command pf info k h. absurd (omega (arith, three control pf k.odd)))
 
--- whether the kind of U frames with this octet, without P/F, may be a command, or a response
-abbrev pub allows : ℕ → Bool → Bool
-allows kind command =
-    if nat_eq kind 0x6f || nat_eq kind 0x43 then command
-    else (if nat_eq kind 0x63 || nat_eq kind 0x0f || nat_eq kind 0x87 then not command
-    else (nat_eq kind 0x03 || nat_eq kind 0xaf || nat_eq kind 0xe3))
-
--- whether it has information
-abbrev pub is_informed : ℕ → Bool
-is_informed kind = nat_eq kind 0x87 || nat_eq kind 0x03 || nat_eq kind 0xaf || nat_eq kind 0xe3
-
--- the most octets behind the control octet
+-- the most octets behind the control octet of a U frame
 abbrev pub longest_of : ℕ → ℕ
 longest_of kind = if is_informed kind then INFO else 0
 
-pub record IsUnnumbered (frame : Frame) : Type 0 where
+pub record IsUnnumbered (parts : FrameParts) : Type 0 where
   pub kind : ℕ
   pub pf : Bool
   pub unmarked : kind / 16 % 2 ≡ 0
-  pub control_is : control_of frame ≡ marked kind pf
-  pub allowed : allows kind (command_of frame) ≡ true
-  pub longest : length (tail_of frame) ≤ longest_of kind
+  pub control_is : control_octet parts ≡ marked kind pf
+  pub allowed : allows kind parts.command ≡ true
+  pub longest : length (tail_octets parts) ≤ longest_of kind
 
-pub unnumbered : (frame : Frame) → IsFrame frame → control_of frame % 4 ≡ 3 → IsUnnumbered frame
-unnumbered (I ns nr pf info) f h = absurd (omega arith)
-unnumbered (Rr command nr pf) f h = absurd (omega arith)
-unnumbered (Rnr command nr pf) f h = absurd (omega arith)
-unnumbered (Rej command nr pf) f h = absurd (omega arith)
-unnumbered (Srej command nr pf) f h = absurd (omega arith)
-unnumbered (Sabme pf) f h = record { kind = 0x6f; pf = pf; unmarked = refl; control_is = refl; allowed = refl; longest = omega arith }
-unnumbered (Disc pf) f h = record { kind = 0x43; pf = pf; unmarked = refl; control_is = refl; allowed = refl; longest = omega arith }
-unnumbered (Ua pf) f h = record { kind = 0x63; pf = pf; unmarked = refl; control_is = refl; allowed = refl; longest = omega arith }
-unnumbered (Dm pf) f h = record { kind = 0x0f; pf = pf; unmarked = refl; control_is = refl; allowed = refl; longest = omega arith }
-unnumbered (Frmr pf info) f h = record { kind = 0x87; pf = pf; unmarked = refl; control_is = refl; allowed = refl; longest = f }
-unnumbered (Ui command pf info) f h = record { kind = 0x03; pf = pf; unmarked = refl; control_is = refl; allowed = refl; longest = f }
-unnumbered (Xid command pf info) f h = record { kind = 0xaf; pf = pf; unmarked = refl; control_is = refl; allowed = refl; longest = f }
-unnumbered (Test command pf info) f h = record { kind = 0xe3; pf = pf; unmarked = refl; control_is = refl; allowed = refl; longest = f }
+pub unnumbered-at : (frame : Frame) → IsFrame frame → control_octet (parts_of frame) % 4 ≡ 3 → IsUnnumbered (parts_of frame)
+unnumbered-at = by_form (λ parts. AreParts parts → control_octet parts % 4 ≡ 3 → IsUnnumbered parts)
+    (λ ns nr pf info f h. absurd (omega arith))
+    (λ name control command nr pf k f h. absurd (omega (arith, k.odd)))
+    (λ name control command pf info k f h. record {
+      kind = control;
+      pf = pf;
+      unmarked = k.unmarked;
+      control_is = refl;
+      allowed = k.allowed;
+      longest = short info control k.informs f.2;
+    })
+  where
+    short : (info : Option (List ℕ)) (control : ℕ) → is_some info ≡ is_informed control → IfSome info (λ info. length info ≤ INFO) → length (unwrap_or info []) ≤ longest_of control
+    short None control e low = omega arith
+    short (Some info) control e low = rw (sym e) low

@@ -1,6 +1,8 @@
-pub mod Parts
+pub mod Forms
 mod Controls
+pub mod Beginnings
 mod Faults
 pub mod Spellings
 pub mod Exact
+pub mod Checking
 mod RowLemmas

@@ -1,3 +1,6 @@
+pub mod Parts
 pub mod Frame
 pub mod Fault
-pub mod Rows
+pub mod Controls
+pub mod Seen
+pub mod Checked

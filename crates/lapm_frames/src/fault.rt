@@ -18,3 +18,14 @@ pub enum FrameFault {
     #[error("long {len}")]
     Long { len: usize },
 }
+
+/// Why octets are no frame with its check.
+#[derive(Clone, Copy, Debug, PartialEq, Eq, Error)]
+pub enum CheckedFault {
+    /// The last octets aren't the check of those before.
+    #[error("bad check")]
+    BadCheck,
+    /// The check is right, and the octets before it are no frame.
+    #[error(transparent)]
+    Refused(FrameFault),
+}

@@ -1,6 +1,11 @@
 // Frames as values.
-ghost use Rattle.std.specs.Prelude.{◌≡◌};
+ghost use Rattle.std.specs.Prelude.{◌≡◌, ◌<◌, ◌≤◌, length};
+ghost use Rattle.lapm_frames.specs.Parts.{parts_of};
+ghost use Rattle.lapm_frames.specs.Seen.{seen};
 
+use crate::Parts;
+use crate::parts::{supervisory, unnumbered};
+use crate::control::{DISC, DM, FRMR, REJ, RNR, RR, SABME, SREJ, TEST, UA, UI, XID};
 use frame_check::Info;
 
 /// A frame of ITU-T V.42. `command` tells a command from a response where the kind has both, `ns` and `nr` are the numbers N(S) and
@@ -121,6 +126,39 @@ impl Frame {
                 pf: *pf,
                 info: info.copy(),
             },
+        }
+    }
+
+    /// What the frame consists of.
+    pub fn parts(&self) -> Parts<'_>
+        ensures parts { seen result ≡ parts_of self.now }
+        ensures name { length result.name.now ≤ 5 }
+        ensures control { result.control < 240 }
+    {
+        match self {
+            Frame::I { ns, nr, pf, info } => Parts {
+                name: b"i",
+                command: true,
+                control: 0,
+                ns: Some(*ns),
+                nr: Some(*nr),
+                pf: *pf,
+                info: Some(info),
+            },
+            Frame::Rr { command, nr, pf } => supervisory(b"rr", RR, *command, *nr, *pf),
+            Frame::Rnr { command, nr, pf } => supervisory(b"rnr", RNR, *command, *nr, *pf),
+            Frame::Rej { command, nr, pf } => supervisory(b"rej", REJ, *command, *nr, *pf),
+            Frame::Srej { command, nr, pf } => supervisory(b"srej", SREJ, *command, *nr, *pf),
+            Frame::Sabme { pf } => unnumbered(b"sabme", SABME, true, *pf, None),
+            Frame::Disc { pf } => unnumbered(b"disc", DISC, true, *pf, None),
+            Frame::Ua { pf } => unnumbered(b"ua", UA, false, *pf, None),
+            Frame::Dm { pf } => unnumbered(b"dm", DM, false, *pf, None),
+            Frame::Frmr { pf, info } => unnumbered(b"frmr", FRMR, false, *pf, Some(info)),
+            Frame::Ui { command, pf, info } => unnumbered(b"ui", UI, *command, *pf, Some(info)),
+            Frame::Xid { command, pf, info } => unnumbered(b"xid", XID, *command, *pf, Some(info)),
+            Frame::Test { command, pf, info } => {
+                unnumbered(b"test", TEST, *command, *pf, Some(info))
+            }
         }
     }
 }

@@ -1,11 +1,13 @@
 //! Laws over the definitions of frames and faults alone. The functions do nothing: each law is a contract.
-ghost use Rattle.std.specs.Prelude.{◌≡◌, ◌≢◌, ℕ, ◌+◌, ◌/◌, ◌%◌, ◌<◌, ◌⊎◌, Bool, IsTrue, List, [], ◌∷◌, length, take, not};
+ghost use Rattle.std.specs.Prelude.{◌≡◌, ◌≢◌, ℕ, ◌+◌, ◌/◌, ◌%◌, ◌<◌, ◌⊎◌, Bool, IsTrue, List, [], ◌∷◌, length, take};
+ghost use Rattle.frame_check.specs.declared.check.Check.{Check};
 ghost use Rattle.roles.specs.declared.role.Role.{Role};
 ghost use Rattle.lapm_frames.specs.declared.frame.Frame.{Frame};
 ghost use Rattle.lapm_frames.specs.declared.fault.FrameFault.{FrameFault};
-ghost use Rattle.lapm_frames.specs.Frame.{address_of, spelled, IsFrame, FrameSpelling};
+ghost use Rattle.lapm_frames.specs.Frame.{address_of, has_number, most_octets, spelled, IsFrame, FrameSpelling};
 ghost use Rattle.lapm_frames.specs.Fault.{FirstFault};
-ghost use Rattle.lapm_frames.specs.Rows.{is_control, has_number, most_octets};
+ghost use Rattle.lapm_frames.specs.Controls.{Has};
+ghost use Rattle.lapm_frames.specs.Checked.{checked, SpellsFrame};
 
 /// A frame has one spelling.
 pub fn one_spelling()
@@ -19,6 +21,16 @@ pub fn one_spelling()
 pub fn one_frame()
     ensures { (frame other : Frame) (sender : Role) (dlci : ℕ) (octets : List ℕ)
         → FrameSpelling frame sender dlci octets → FrameSpelling other sender dlci octets → frame ≡ other }
+{}
+
+/// A frame has one spelling with its check, and no other frame has that.
+pub fn one_checked()
+    ensures exists { (check : Check) (frame : Frame) (sender : Role) (dlci : ℕ) → IsFrame frame
+        → SpellsFrame check sender dlci (checked check sender dlci frame) frame }
+    ensures no_other { (check : Check) (frame : Frame) (sender : Role) (dlci : ℕ) (whole : List ℕ)
+        → SpellsFrame check sender dlci whole frame → whole ≡ checked check sender dlci frame }
+    ensures one_frame { (check : Check) (frame other : Frame) (sender : Role) (dlci : ℕ) (whole : List ℕ)
+        → SpellsFrame check sender dlci whole frame → SpellsFrame check sender dlci whole other → frame ≡ other }
 {}
 
 /// Octets have one first fault at most, and none where they are a frame.
@@ -39,7 +51,7 @@ pub fn faults_by_octets()
     ensures address_alone { (sender : Role) (dlci octet : ℕ) → octet % 2 ≡ 1 → octet / 4 ≡ dlci
         → FirstFault sender dlci (octet ∷ []) FrameFault.Short }
     ensures control { (sender : Role) (dlci octet : ℕ) (command : Bool) (rest : List ℕ)
-        → IsTrue (not (is_control command octet))
+        → ((frame : Frame) → Has command octet frame → ⊥)
         → FirstFault sender dlci (address_of command sender dlci ∷ octet ∷ rest) (FrameFault.Control octet) }
     ensures no_number { (frame : Frame) (sender : Role) (dlci : ℕ) → IsFrame frame → IsTrue (has_number frame)
         → FirstFault sender dlci (take 2 (spelled frame sender dlci)) FrameFault.Short }

@@ -1,16 +1,18 @@
 // Frames as octets: the address, then the control octet, then what its family has behind it.
-ghost use Rattle.std.specs.Prelude.{◌≡◌, ℕ, ◌<◌, [], ◌∷◌, ◌↔◌, IfOk, IfErr};
+ghost use Rattle.std.specs.Prelude.{◌≡◌, ℕ, ◌<◌, ◌≤◌, ◌+◌, [], ◌∷◌, ◌++◌, ◌↔◌, length, unwrap_or, IfSome, IfOk, IfErr};
+ghost use Rattle.std.specs.Option.{option_map};
+ghost use Rattle.frame_check.specs.declared.sizes.TheConstants.{INFO, WHOLE};
 ghost use Rattle.roles.specs.declared.role.Role.{Role};
 ghost use Rattle.lapm_frames.specs.declared.frame.Frame.{Frame};
 ghost use Rattle.lapm_frames.specs.declared.fault.FrameFault.{FrameFault};
-ghost use Rattle.lapm_frames.specs.Frame.{address_of, spelled, IsFrame, FrameSpelling};
+ghost use Rattle.lapm_frames.specs.Frame.{address_of, numbers_before, spelled, IsFrame, FrameSpelling};
 ghost use Rattle.lapm_frames.specs.Fault.{FirstFault};
 
 use crate::address::{address_octet, is_command};
-use crate::control::{DISC, DM, FRMR, REJ, RNR, RR, SABME, SREJ, TEST, UA, UI, XID, marked_octet};
 use crate::numbers::number_octet;
+use crate::parts::control_octet;
 use crate::{Frame, FrameFault, Role, information, supervisory, unnumbered};
-use frame_check::Whole;
+use frame_check::{Info, Whole};
 
 /// Reads what follows the address of a command or of a response.
 fn read_addressed(command: bool, rest: &[u8]) -> Result<Frame, FrameFault>
@@ -45,14 +47,25 @@ pub fn read(octets: &[u8], sender: Role, dlci: u8) -> Result<Frame, FrameFault>
     }
 }
 
-/// Writes the address and the control octet.
-fn begin(command: bool, control: u8, sender: Role, dlci: u8, out: &mut Whole)
-    requires channel { dlci < 64 }
-    requires empty { out.old ≡ [] }
-    ensures { out.new ≡ address_of command sender dlci ∷ control ∷ [] }
+/// Puts N(R) with P/F, where the frame has N(R).
+fn put_number(nr: Option<u8>, pf: bool, out: &mut Whole)
+    requires number { IfSome nr (λ nr. nr < 128) }
+    requires room { length out.old < WHOLE }
+    ensures { out.new ≡ out.old ++ numbers_before nr pf [] }
 {
-    out.push(address_octet(command, sender, dlci));
-    out.push(control);
+    if let Some(nr) = nr {
+        out.push(number_octet(nr, pf));
+    }
+}
+
+/// Puts the information, where the frame has some.
+fn put_information(info: Option<&Info>, out: &mut Whole)
+    requires room { length out.old + INFO ≤ WHOLE }
+    ensures { out.new ≡ out.old ++ unwrap_or (option_map (λ info. info.now) info.entry) [] }
+{
+    if let Some(info) = info {
+        out.extend(info.as_slice());
+    }
 }
 
 /// Writes the frame's octets, as this end sends it on this channel. The check isn't written.
@@ -62,47 +75,9 @@ pub fn write(frame: &Frame, sender: Role, dlci: u8, out: &mut Whole)
     requires frame { IsFrame frame.now }
     ensures { out.new ≡ spelled frame.now sender dlci }
 {
-    match frame {
-        Frame::I { ns, nr, pf, info } => {
-            begin(true, 2 * *ns, sender, dlci, out);
-            out.push(number_octet(*nr, *pf));
-            out.extend(info.as_slice());
-        }
-        Frame::Rr { command, nr, pf } => {
-            begin(*command, RR, sender, dlci, out);
-            out.push(number_octet(*nr, *pf));
-        }
-        Frame::Rnr { command, nr, pf } => {
-            begin(*command, RNR, sender, dlci, out);
-            out.push(number_octet(*nr, *pf));
-        }
-        Frame::Rej { command, nr, pf } => {
-            begin(*command, REJ, sender, dlci, out);
-            out.push(number_octet(*nr, *pf));
-        }
-        Frame::Srej { command, nr, pf } => {
-            begin(*command, SREJ, sender, dlci, out);
-            out.push(number_octet(*nr, *pf));
-        }
-        Frame::Sabme { pf } => begin(true, marked_octet(SABME, *pf), sender, dlci, out),
-        Frame::Disc { pf } => begin(true, marked_octet(DISC, *pf), sender, dlci, out),
-        Frame::Ua { pf } => begin(false, marked_octet(UA, *pf), sender, dlci, out),
-        Frame::Dm { pf } => begin(false, marked_octet(DM, *pf), sender, dlci, out),
-        Frame::Frmr { pf, info } => {
-            begin(false, marked_octet(FRMR, *pf), sender, dlci, out);
-            out.extend(info.as_slice());
-        }
-        Frame::Ui { command, pf, info } => {
-            begin(*command, marked_octet(UI, *pf), sender, dlci, out);
-            out.extend(info.as_slice());
-        }
-        Frame::Xid { command, pf, info } => {
-            begin(*command, marked_octet(XID, *pf), sender, dlci, out);
-            out.extend(info.as_slice());
-        }
-        Frame::Test { command, pf, info } => {
-            begin(*command, marked_octet(TEST, *pf), sender, dlci, out);
-            out.extend(info.as_slice());
-        }
-    }
+    let parts = frame.parts();
+    out.push(address_octet(parts.command, sender, dlci));
+    out.push(control_octet(parts.ns, parts.nr, parts.pf, parts.control));
+    put_number(parts.nr, parts.pf, out);
+    put_information(parts.info, out);
 }

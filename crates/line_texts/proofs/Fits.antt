@@ -1,64 +1,56 @@
 -- The text of a frame fits its list.
-use Rattle.std.proofs.Common.{ℕ, ◌<◌, ◌≤◌, Bool, true, false, List, ◌++◌, length, codes, decimal, arith, length-append}
+use Rattle.std.proofs.Common.{ℕ, ◌<◌, ◌≤◌, Bool, true, false, List, ◌++◌, length, codes, decimal, arith, length-append, Option, Some, None}
+use Rattle.std.specs.Prelude.{IfSome}
 use Rattle.std.proofs.lemmas.Fmt.{length-decimal-le}
+use Rattle.frame_check.specs.declared.sizes.TheConstants.{INFO}
 use Rattle.lapm_frames.specs.declared.frame.Frame.{Frame}
-use Rattle.lapm_frames.specs.declared.frame.Frame.TheVariants.{I, Rr, Rnr, Rej, Srej, Sabme, Disc, Ua, Dm, Frmr, Ui, Xid, Test}
-use Rattle.line_texts.specs.FrameText.{IsPrintable, number_word, count_word, sent_word, received_word, kind_word, poll_word, frame_text}
+use Rattle.lapm_frames.specs.Parts.{FrameParts, parts_of}
+use Rattle.lapm_frames.proofs.Forms.{short-name}
+use Rattle.line_texts.specs.FrameText.{IsPrintable, number_word, if_numbered, if_informed, direction_word, poll_word, frame_text, text_of}
 use Rattle.line_texts.specs.declared.words.TheConstants.{TEXT}
 
 -- a number below 1000 has three digits at the most
 short-number : (label : List ℕ) (n : ℕ) → length label ≤ 3 → n < 1000 → length (number_word label n) ≤ 6
 short-number label n short low = omega (arith, length-append {A = ℕ} label (decimal n), length-decimal-le 3 n (omega arith) low (omega arith))
 
-short-kind : (command : Bool) → length (kind_word command) ≤ 6
-short-kind true = omega arith
-short-kind false = omega arith
+short-numbered : (label : List ℕ) (n : Option ℕ) → length label ≤ 3 → IfSome n (λ n. n < 256) → length (if_numbered label n) ≤ 6
+short-numbered label None short low = omega arith
+short-numbered label (Some n) short low = short-number label n short (omega arith)
+
+short-informed : (info : Option (List ℕ)) → IfSome info (λ info. length info ≤ INFO) → length (if_informed info) ≤ 6
+short-informed None low = omega arith
+short-informed (Some info) low = short-number (codes " n=") (length info) (omega arith) (omega arith)
+
+short-direction : (ns : Option ℕ) (command : Bool) → length (direction_word ns command) ≤ 6
+short-direction None true = omega arith
+short-direction None false = omega arith
+short-direction (Some ns) command = omega arith
 
 short-poll : (pf : Bool) → length (poll_word pf) ≤ 6
 short-poll true = omega arith
 short-poll false = omega arith
 
--- the length of a few short words
-three : (a b c : List ℕ) → length a ≤ 6 → length b ≤ 6 → length c ≤ 6 → length (a ++ b ++ c) ≤ 18
-three a b c ha hb hc = omega (arith, length-append {A = ℕ} (a ++ b) c, length-append {A = ℕ} a b)
-
-four : (a b c d : List ℕ) → length a ≤ 6 → length b ≤ 6 → length c ≤ 6 → length d ≤ 6 → length (a ++ b ++ c ++ d) ≤ 24
-four a b c d ha hb hc hd = omega (arith, length-append {A = ℕ} (a ++ b ++ c) d, three a b c ha hb hc)
-
-five : (a b c d e : List ℕ) → length a ≤ 6 → length b ≤ 6 → length c ≤ 6 → length d ≤ 6 → length e ≤ 6 → length (a ++ b ++ c ++ d ++ e) ≤ 30
-five a b c d e ha hb hc hd he = omega (arith, length-append {A = ℕ} (a ++ b ++ c ++ d) e, four a b c d ha hb hc hd)
-
--- a frame that acknowledges, one with its poll bit alone, and one with information
-short-supervisory : (name : List ℕ) (command : Bool) (nr : ℕ) (pf : Bool) → length name ≤ 6 → nr < 256 → length (name ++ kind_word command ++ received_word nr ++ poll_word pf) ≤ TEXT
-short-supervisory name command nr pf short low = omega (arith, four name (kind_word command) (received_word nr) (poll_word pf) short (short-kind command) (short-number (codes " r=") nr (omega arith) (omega arith)) (short-poll pf))
-
-short-bare : (name : List ℕ) (command : Bool) (pf : Bool) → length name ≤ 6 → length (name ++ kind_word command ++ poll_word pf) ≤ TEXT
-short-bare name command pf short = omega (arith, three name (kind_word command) (poll_word pf) short (short-kind command) (short-poll pf))
-
-short-informing : (name : List ℕ) (command : Bool) (pf : Bool) (info : List ℕ) → length name ≤ 6 → length info ≤ 128 → length (name ++ kind_word command ++ poll_word pf ++ count_word info) ≤ TEXT
-short-informing name command pf info short low = omega (arith, four name (kind_word command) (poll_word pf) (count_word info) short (short-kind command) (short-poll pf) (short-number (codes " n=") (length info) (omega arith) (omega arith)))
-
-short-i : (ns nr : ℕ) (pf : Bool) (info : List ℕ) → ns < 256 → nr < 256 → length info ≤ 128 → length (frame_text (I ns nr pf info)) ≤ TEXT
-short-i ns nr pf info low_s low_r low = omega (
+-- the length of six short words
+six : (a b c d e f : List ℕ) → length a ≤ 6 → length b ≤ 6 → length c ≤ 6 → length d ≤ 6 → length e ≤ 6 → length f ≤ 6 → length (a ++ b ++ c ++ d ++ e ++ f) ≤ 36
+six a b c d e f ha hb hc hd he hf = omega (
   arith,
-  five (codes "i") (sent_word ns) (received_word nr) (poll_word pf) (count_word info) (omega arith)
-      (short-number (codes " s=") ns (omega arith) (omega arith))
-      (short-number (codes " r=") nr (omega arith) (omega arith))
-      (short-poll pf)
-      (short-number (codes " n=") (length info) (omega arith) (omega arith)),
+  length-append {A = ℕ} (a ++ b ++ c ++ d ++ e) f,
+  length-append {A = ℕ} (a ++ b ++ c ++ d) e,
+  length-append {A = ℕ} (a ++ b ++ c) d,
+  length-append {A = ℕ} (a ++ b) c,
+  length-append {A = ℕ} a b,
+)
+
+short-text : (parts : FrameParts) → length parts.name ≤ 5 → IfSome parts.ns (λ ns. ns < 256) → IfSome parts.nr (λ nr. nr < 256) → IfSome parts.info (λ info. length info ≤ INFO) → length (text_of parts) ≤ TEXT
+short-text parts name ns nr info = omega (
+  arith,
+  six parts.name (direction_word parts.ns parts.command) (if_numbered (codes " s=") parts.ns) (if_numbered (codes " r=") parts.nr) (poll_word parts.pf) (if_informed parts.info) (omega arith)
+      (short-direction parts.ns parts.command)
+      (short-numbered (codes " s=") parts.ns (omega arith) ns)
+      (short-numbered (codes " r=") parts.nr (omega arith) nr)
+      (short-poll parts.pf)
+      (short-informed parts.info info),
 )
 
 pub text-fits : (frame : Frame) → IsPrintable frame → length (frame_text frame) ≤ TEXT
-text-fits (I ns nr pf info) h = short-i ns nr pf info h.0 h.1 h.2
-text-fits (Rr command nr pf) h = short-supervisory (codes "rr") command nr pf (omega arith) h
-text-fits (Rnr command nr pf) h = short-supervisory (codes "rnr") command nr pf (omega arith) h
-text-fits (Rej command nr pf) h = short-supervisory (codes "rej") command nr pf (omega arith) h
-text-fits (Srej command nr pf) h = short-supervisory (codes "srej") command nr pf (omega arith) h
-text-fits (Sabme pf) h = short-bare (codes "sabme") true pf (omega arith)
-text-fits (Disc pf) h = short-bare (codes "disc") true pf (omega arith)
-text-fits (Ua pf) h = short-bare (codes "ua") false pf (omega arith)
-text-fits (Dm pf) h = short-bare (codes "dm") false pf (omega arith)
-text-fits (Frmr pf info) h = short-informing (codes "frmr") false pf info (omega arith) h
-text-fits (Ui command pf info) h = short-informing (codes "ui") command pf info (omega arith) h
-text-fits (Xid command pf info) h = short-informing (codes "xid") command pf info (omega arith) h
-text-fits (Test command pf info) h = short-informing (codes "test") command pf info (omega arith) h
+text-fits frame h = short-text (parts_of frame) (short-name frame) h.0 h.1 h.2

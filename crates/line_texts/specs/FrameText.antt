@@ -1,23 +1,12 @@
 -- The text of a frame, composed of words.
-use Rattle.std.specs.Prelude.{ℕ, ◌<◌, ◌≤◌, Bool, true, false, List, ◌++◌, length, codes, decimal}
+use Rattle.std.specs.Prelude.{ℕ, ◌<◌, ◌≤◌, Bool, true, false, List, [], ◌++◌, length, codes, decimal, Option, Some, None, IfSome}
 use Rattle.frame_check.specs.declared.sizes.TheConstants.{INFO}
 use Rattle.lapm_frames.specs.declared.frame.Frame.{Frame}
-use Rattle.lapm_frames.specs.declared.frame.Frame.TheVariants.{I, Rr, Rnr, Rej, Srej, Sabme, Disc, Ua, Dm, Frmr, Ui, Xid, Test}
+use Rattle.lapm_frames.specs.Parts.{FrameParts, parts_of}
 
 -- a number behind its label, in decimal digits
 abbrev pub number_word : List ℕ → ℕ → List ℕ
 number_word label n = label ++ decimal n
-
--- N(S) and N(R)
-abbrev pub sent_word : ℕ → List ℕ
-sent_word ns = number_word (codes " s=") ns
-
-abbrev pub received_word : ℕ → List ℕ
-received_word nr = number_word (codes " r=") nr
-
--- how many octets of information there are
-abbrev pub count_word : List ℕ → List ℕ
-count_word info = number_word (codes " n=") (length info)
 
 -- a command, or a response
 abbrev pub kind_word : Bool → List ℕ
@@ -29,34 +18,28 @@ abbrev pub poll_word : Bool → List ℕ
 poll_word true = codes " p=1"
 poll_word false = codes " p=0"
 
--- the text of each kind of frame
+-- a command, or a response; a frame with N(S) is always a command, and doesn't say so
+abbrev pub direction_word : Option ℕ → Bool → List ℕ
+direction_word None command = kind_word command
+direction_word (Some ns) command = []
+
+-- a number that the kind may have
+abbrev pub if_numbered : List ℕ → Option ℕ → List ℕ
+if_numbered label None = []
+if_numbered label (Some n) = number_word label n
+
+-- how many octets of information there are, if the kind has information
+abbrev pub if_informed : Option (List ℕ) → List ℕ
+if_informed None = []
+if_informed (Some info) = number_word (codes " n=") (length info)
+
+-- the text of a frame: its kind, whether it is a command, its numbers, its poll or final bit, and how many octets of information it has
+abbrev pub text_of : FrameParts → List ℕ
+text_of parts = parts.name ++ direction_word parts.ns parts.command ++ if_numbered (codes " s=") parts.ns ++ if_numbered (codes " r=") parts.nr ++ poll_word parts.pf ++ if_informed parts.info
+
 abbrev pub frame_text : Frame → List ℕ
-frame_text (I ns nr pf info) = codes "i" ++ sent_word ns ++ received_word nr ++ poll_word pf ++ count_word info
-frame_text (Rr command nr pf) = codes "rr" ++ kind_word command ++ received_word nr ++ poll_word pf
-frame_text (Rnr command nr pf) = codes "rnr" ++ kind_word command ++ received_word nr ++ poll_word pf
-frame_text (Rej command nr pf) = codes "rej" ++ kind_word command ++ received_word nr ++ poll_word pf
-frame_text (Srej command nr pf) = codes "srej" ++ kind_word command ++ received_word nr ++ poll_word pf
-frame_text (Sabme pf) = codes "sabme" ++ kind_word true ++ poll_word pf
-frame_text (Disc pf) = codes "disc" ++ kind_word true ++ poll_word pf
-frame_text (Ua pf) = codes "ua" ++ kind_word false ++ poll_word pf
-frame_text (Dm pf) = codes "dm" ++ kind_word false ++ poll_word pf
-frame_text (Frmr pf info) = codes "frmr" ++ kind_word false ++ poll_word pf ++ count_word info
-frame_text (Ui command pf info) = codes "ui" ++ kind_word command ++ poll_word pf ++ count_word info
-frame_text (Xid command pf info) = codes "xid" ++ kind_word command ++ poll_word pf ++ count_word info
-frame_text (Test command pf info) = codes "test" ++ kind_word command ++ poll_word pf ++ count_word info
+frame_text frame = text_of (parts_of frame)
 
 -- numbers are octets, and information has at most INFO of them
 abbrev pub IsPrintable : Frame → Type 0
-IsPrintable (I ns nr pf info) = (ns < 256) × (nr < 256) × (length info ≤ INFO)
-IsPrintable (Rr command nr pf) = nr < 256
-IsPrintable (Rnr command nr pf) = nr < 256
-IsPrintable (Rej command nr pf) = nr < 256
-IsPrintable (Srej command nr pf) = nr < 256
-IsPrintable (Sabme pf) = Unit {0}
-IsPrintable (Disc pf) = Unit {0}
-IsPrintable (Ua pf) = Unit {0}
-IsPrintable (Dm pf) = Unit {0}
-IsPrintable (Frmr pf info) = length info ≤ INFO
-IsPrintable (Ui command pf info) = length info ≤ INFO
-IsPrintable (Xid command pf info) = length info ≤ INFO
-IsPrintable (Test command pf info) = length info ≤ INFO
+IsPrintable frame = IfSome (parts_of frame).ns (λ ns. ns < 256) × IfSome (parts_of frame).nr (λ nr. nr < 256) × IfSome (parts_of frame).info (λ info. length info ≤ INFO)

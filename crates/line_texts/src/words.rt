@@ -1,6 +1,7 @@
 // The words of a frame's text.
-ghost use Rattle.std.specs.Prelude.{◌≡◌, ◌≤◌, ◌+◌, ◌++◌, length, decimal};
-ghost use Rattle.line_texts.specs.FrameText.{count_word, kind_word, number_word, poll_word};
+ghost use Rattle.std.specs.Prelude.{◌≡◌, ◌≤◌, ◌+◌, ◌++◌, length};
+ghost use Rattle.std.specs.Option.{option_map};
+ghost use Rattle.line_texts.specs.FrameText.{direction_word, if_informed, if_numbered, kind_word, number_word, poll_word};
 
 use crate::put_decimal;
 use frame_check::{Info, Octets};
@@ -11,19 +12,31 @@ pub const TEXT: usize = 160;
 /// The text of a frame, as ASCII characters.
 pub type FrameText = Octets<TEXT>;
 
-/// Puts a number behind its label.
-pub(crate) fn put_number(label: &[u8], number: usize, out: &mut FrameText)
+/// Puts a count behind its label.
+fn put_labelled(label: &[u8], count: usize, out: &mut FrameText)
     requires label { length label.now ≤ 3 }
     requires room { length out.old + 23 ≤ TEXT }
-    ensures text { out.new ≡ out.old ++ number_word label.now number }
+    ensures text { out.new ≡ out.old ++ number_word label.now count }
     ensures short { length out.new ≤ length out.old + 23 }
 {
     out.extend(label);
-    put_decimal(out, number as u64);
+    put_decimal(out, count as u64);
+}
+
+/// Puts a number behind its label, where the frame has it.
+pub(crate) fn put_number(label: &[u8], number: Option<u8>, out: &mut FrameText)
+    requires label { length label.now ≤ 3 }
+    requires room { length out.old + 23 ≤ TEXT }
+    ensures text { out.new ≡ out.old ++ if_numbered label.now number }
+    ensures short { length out.new ≤ length out.old + 23 }
+{
+    if let Some(number) = number {
+        put_labelled(label, usize::from(number), out);
+    }
 }
 
 /// Puts whether the frame is a command or a response.
-pub(crate) fn put_kind(command: bool, out: &mut FrameText)
+fn put_kind(command: bool, out: &mut FrameText)
     requires room { length out.old + 4 ≤ TEXT }
     ensures text { out.new ≡ out.old ++ kind_word command }
     ensures short { length out.new ≤ length out.old + 4 }
@@ -32,6 +45,17 @@ pub(crate) fn put_kind(command: bool, out: &mut FrameText)
         out.extend(b" cmd");
     } else {
         out.extend(b" rsp");
+    }
+}
+
+/// Puts whether the frame is a command or a response, where it has no N(S).
+pub(crate) fn put_direction(ns: Option<u8>, command: bool, out: &mut FrameText)
+    requires room { length out.old + 4 ≤ TEXT }
+    ensures text { out.new ≡ out.old ++ direction_word ns command }
+    ensures short { length out.new ≤ length out.old + 4 }
+{
+    if ns.is_none() {
+        put_kind(command, out);
     }
 }
 
@@ -48,11 +72,13 @@ pub(crate) fn put_poll(pf: bool, out: &mut FrameText)
     }
 }
 
-/// Puts how many octets of information the frame has.
-pub(crate) fn put_count(info: &Info, out: &mut FrameText)
+/// Puts how many octets of information the frame has, where its kind has information.
+pub(crate) fn put_count(info: Option<&Info>, out: &mut FrameText)
     requires room { length out.old + 23 ≤ TEXT }
-    ensures text { out.new ≡ out.old ++ count_word info.now }
+    ensures text { out.new ≡ out.old ++ if_informed (option_map (λ info. info.now) info.entry) }
     ensures short { length out.new ≤ length out.old + 23 }
 {
-    put_number(b" n=", info.len(), out);
+    if let Some(info) = info {
+        put_labelled(b" n=", info.len(), out);
+    }
 }

@@ -14,7 +14,8 @@ use Rattle.bit_stuffing.specs.declared.piece.Piece.TheVariants.{Whole}
 use Rattle.bit_stuffing.specs.Found.{Found, found_at, listed, pieces_of}
 use Rattle.bit_stuffing.specs.Sent.{wholes, octets_if_whole}
 use Rattle.bit_stuffing.proofs.Found.{pieces-more}
-use Rattle.sample_line.specs.Received.{SpellsFrame, AreFrames, FoundBetween}
+use Rattle.lapm_frames.specs.Checked.{SpellsFrame}
+use Rattle.sample_line.specs.Received.{AreFrames, FoundBetween}
 
 pub wholes-append : (a b : List Found) → wholes (a ++ b) ≡ wholes a ++ wholes b
 wholes-append [] b = refl

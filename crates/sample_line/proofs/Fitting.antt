@@ -8,26 +8,12 @@ use Rattle.frame_check.proofs.Checks.{length-check_of}
 use Rattle.bit_stuffing.proofs.Sizes.{length-opening}
 use Rattle.roles.specs.declared.role.Role.{Role}
 use Rattle.lapm_frames.specs.declared.frame.Frame.{Frame}
-use Rattle.lapm_frames.specs.declared.frame.Frame.TheVariants.{I, Rr, Rnr, Rej, Srej, Sabme, Disc, Ua, Dm, Frmr, Ui, Xid, Test}
 use Rattle.lapm_frames.specs.Frame.{spelled, IsFrame}
 use Rattle.slot_contents.specs.declared.sent.Sent.{Sent}
 use Rattle.slot_contents.specs.declared.sent.Sent.TheVariants as sent
-use Rattle.sample_line.specs.Signals.{check_for, checked, IsCodable, IsSendable}
-
-spelled-short : (frame : Frame) (sender : Role) (dlci : ℕ) → IsFrame frame → length (spelled frame sender dlci) ≤ 3 + INFO
-spelled-short (I ns nr pf info) sender dlci h = omega (arith, h.2)
-spelled-short (Rr command nr pf) sender dlci h = omega arith
-spelled-short (Rnr command nr pf) sender dlci h = omega arith
-spelled-short (Rej command nr pf) sender dlci h = omega arith
-spelled-short (Srej command nr pf) sender dlci h = omega arith
-spelled-short (Sabme pf) sender dlci h = omega arith
-spelled-short (Disc pf) sender dlci h = omega arith
-spelled-short (Ua pf) sender dlci h = omega arith
-spelled-short (Dm pf) sender dlci h = omega arith
-spelled-short (Frmr pf info) sender dlci h = omega arith
-spelled-short (Ui command pf info) sender dlci h = omega arith
-spelled-short (Xid command pf info) sender dlci h = omega arith
-spelled-short (Test command pf info) sender dlci h = omega arith
+use Rattle.lapm_frames.specs.Checked.{check_for, checked}
+use Rattle.lapm_frames.proofs.Checking.{length-spelled}
+use Rattle.sample_line.specs.Signals.{IsCodable, IsSendable}
 
 count-small : (check : Check) → count_of check ≤ 4
 count-small Sixteen = lit≤ tt
@@ -38,7 +24,7 @@ checked-short check sender dlci frame h =
     let used : Check = check_for check frame in
     omega (
       arith,
-      spelled-short frame sender dlci h,
+      length-spelled frame sender dlci h,
       length-append (spelled frame sender dlci) (check_of used (spelled frame sender dlci)),
       length-check_of used (spelled frame sender dlci),
       count-small used,

@@ -1,4 +1,3 @@
-pub mod Checking
 pub mod Tallying
 pub mod Finding
 pub mod Standing

@@ -33,10 +33,10 @@ use Rattle.noise_script.specs.Script.{ScriptValue, offset_of}
 use Rattle.slot_contents.specs.declared.heard.Heard.{Heard}
 use Rattle.slot_contents.specs.declared.heard.Heard.TheVariants as heard
 use Rattle.sample_line.specs.Outcomes.{IsSilent, IsWhatWasSent, IsOutcome}
-use Rattle.sample_line.specs.Recorded.{displaced, displaced_from, Records}
-use Rattle.roles.specs.Role.{mode_of}
-use Rattle.sample_line.specs.Received.{line_trellis, SpellsFrame, AreFrames, FoundBetween, Gives, Receives}
-use Rattle.sample_line.specs.Signals.{check_heard}
+use Rattle.sample_line.specs.Recorded.{mode_of, displaced, displaced_from, Records}
+use Rattle.lapm_frames.specs.Checked.{SpellsFrame}
+use Rattle.lapm_frames.proofs.Checking.{spells-one}
+use Rattle.sample_line.specs.Received.{line_trellis, AreFrames, FoundBetween, Gives, Receives}
 
 tap-some : (sender : Role) → 1 ≤ tap_of (mode_of sender)
 tap-some Originator = omega arith
@@ -156,10 +156,6 @@ given-stays sender samples more bits later h k =
 
 -- what is received in a slot
 
-spelled-once : (check : Check) (sender : Role) (dlci : ℕ) (whole : List ℕ) (frame other : Frame) → SpellsFrame check sender dlci whole frame → SpellsFrame check sender dlci whole other → frame ≡ other
-spelled-once check sender dlci whole frame other h k =
-    frames-one frame other sender dlci k.octets (subst (λ (xs : List ℕ). FrameSpelling frame sender dlci xs) (fronts-one (check_heard check whole) h.octets k.octets whole h.passes k.passes) h.spelling) k.spelling
-
 frames-once : (check : Check) (sender : Role) (dlci : ℕ) (wholes : List (List ℕ)) (frames others : List Frame)
     → AreFrames check sender dlci wholes frames → AreFrames check sender dlci wholes others → frames ≡ others
 frames-once check sender dlci [] frames others h k = h ∙ sym k
@@ -167,7 +163,7 @@ frames-once check sender dlci (whole ∷ wholes) frames others (inl h) (inl k) =
 frames-once check sender dlci (whole ∷ wholes) frames others (inl h) (inr k) = absurd (h.0 k.0 k.2)
 frames-once check sender dlci (whole ∷ wholes) frames others (inr h) (inl k) = absurd (k.0 h.0 h.2)
 frames-once check sender dlci (whole ∷ wholes) frames others (inr h) (inr k) =
-    let same : h.0 ≡ k.0 = spelled-once check sender dlci whole h.0 k.0 h.2 k.2 in
+    let same : h.0 ≡ k.0 = spells-one check sender dlci whole h.0 k.0 h.2 k.2 in
     let rest : h.1 ≡ k.1 = frames-once check sender dlci wholes h.1 k.1 h.4 k.4 in
     h.3 ∙ ap (λ f. f ∷ h.1) same ∙ ap (λ xs. k.0 ∷ xs) rest ∙ sym k.3
 

@@ -1,7 +1,6 @@
 -- What is received of samples: the frames and patterns in the bits of the labels that they release.
 use Rattle.std.specs.Prelude.{◌≡◌, ◌⊎◌, ℕ, Bool, nat_eq, List, [], ◌∷◌, ◌++◌, map}
 use Rattle.frame_check.specs.declared.check.Check.{Check}
-use Rattle.frame_check.specs.FrameCheck.{IsChecked}
 use Rattle.scramblers.specs.Mode.{tap_of}
 use Rattle.symbol_map.specs.declared.sample.Sample.{Sample}
 use Rattle.symbol_map.specs.Points.{point_of}
@@ -15,8 +14,7 @@ use Rattle.slot_contents.specs.declared.seen.Seen.{Seen}
 use Rattle.detection.specs.Sights.{Sight, sights_of}
 use Rattle.roles.specs.declared.role.Role.{Role}
 use Rattle.lapm_frames.specs.declared.frame.Frame.{Frame}
-use Rattle.lapm_frames.specs.Frame.{FrameSpelling}
-use Rattle.sample_line.specs.Signals.{check_heard}
+use Rattle.lapm_frames.specs.Checked.{SpellsFrame}
 use Rattle.roles.specs.Role.{mode_of}
 
 -- the code of the line, whose sequences start in state 0
@@ -33,13 +31,7 @@ pub record Gives (sender : Role) (samples : List Sample) (bits : List Bool) : Ty
   pub released : IsReleased line_trellis samples labels
   pub read : Demodulates (tap_of (mode_of sender)) labels bits
 
--- octets between two flags that pass the check and spell a frame of the sender on this channel
-pub record SpellsFrame (check : Check) (sender : Role) (dlci : ℕ) (whole : List ℕ) (frame : Frame) : Type 0 where
-  pub octets : List ℕ
-  pub passes : IsChecked (check_heard check whole) octets whole
-  pub spelling : FrameSpelling frame sender dlci octets
-
--- the frames among such octets, in order; what spells none is dropped
+-- the frames among the octets between two flags, in order; what spells none of the sender on this channel is dropped
 abbrev pub AreFrames : Check → Role → ℕ → List (List ℕ) → List Frame → Type 0
 AreFrames check sender dlci [] frames = frames ≡ []
 AreFrames check sender dlci (whole ∷ others) frames =

@@ -9,13 +9,12 @@ ghost use Rattle.detection.specs.Slots.{slot_of};
 ghost use Rattle.detection.specs.Slots.Signal.{MarkSlot, PatternSlot};
 ghost use Rattle.sample_line.specs.Signals.{signal_of, IsCodable};
 
-use crate::checks::checked_octets;
 use bit_stuffing::{BitSlot, SlotWriter};
 use detection::{mark_slot, pattern_slot};
-use slot_contents::Seen;
-use frame_check::Check;
+use frame_check::{Check, Whole};
+use lapm_frames::write_checked;
 use roles::Role;
-use slot_contents::Sent;
+use slot_contents::{Seen, Sent};
 
 /// Writes a slot of ones.
 fn write_mark(writer: &mut SlotWriter, symbols: u16, out: &mut BitSlot)
@@ -74,7 +73,8 @@ pub(crate) fn write_sent(
         Sent::Adp => write_patterns(writer, symbols, Seen::Adp, out),
         Sent::Flags => writer.slot(None, out),
         Sent::Frame(frame) => {
-            let octets = checked_octets(frame, check, sender, dlci);
+            let mut octets = Whole::new();
+            write_checked(frame, check, sender, dlci, &mut octets);
             writer.slot(Some(octets.as_slice()), out);
         }
     }

@@ -1,0 +1,64 @@
+// Frames as octets with their check.
+ghost use Rattle.std.specs.Prelude.{◌≡◌, ◌<◌, [], ◌↔◌, IfOk};
+ghost use Rattle.lapm_frames.specs.declared.frame.Frame.{Frame};
+ghost use Rattle.lapm_frames.specs.declared.fault.CheckedFault.{CheckedFault};
+ghost use Rattle.lapm_frames.specs.Frame.{IsFrame};
+ghost use Rattle.lapm_frames.specs.Checked.{check_for, check_heard, checked, IsCheckedFault, SpellsFrame};
+
+use crate::{CheckedFault, Frame, Role, read, write};
+use frame_check::{Check, Whole, append, passes};
+
+/// The check of a frame, where the ends agreed on this one: I frames and S frames have it, U frames that of 16 bits.
+fn check_for(frame: &Frame, check: Check) -> Check
+    ensures { result ≡ check_for check frame.now }
+{
+    if frame.parts().nr.is_some() {
+        check
+    } else {
+        Check::Sixteen
+    }
+}
+
+/// The check by which octets are judged, where the ends agreed on this one.
+fn check_heard(octets: &[u8], check: Check) -> Check
+    ensures { result ≡ check_heard check octets.now }
+{
+    match octets.get(1) {
+        Some(control) if *control % 4 == 3 => Check::Sixteen,
+        _ => check,
+    }
+}
+
+/// Writes the frame's octets with the check that it has where the ends agreed on this one.
+pub fn write_checked(frame: &Frame, check: Check, sender: Role, dlci: u8, out: &mut Whole)
+    requires channel { dlci < 64 }
+    requires empty { out.old ≡ [] }
+    requires frame { IsFrame frame.now }
+    ensures { out.new ≡ checked check sender dlci frame.now }
+{
+    write(frame, sender, dlci, out);
+    append(out, check_for(frame, check));
+}
+
+/// The frame that these octets with their check are, sent by this end on this channel, where the ends agreed on this check.
+pub fn read_checked(
+    octets: &[u8],
+    check: Check,
+    sender: Role,
+    dlci: u8,
+) -> Result<Frame, CheckedFault>
+    requires { dlci < 64 }
+    ensures ok { IfOk result (SpellsFrame check sender dlci octets.now) }
+    ensures all { (frame : Frame) → SpellsFrame check sender dlci octets.now frame → result ≡ Ok frame }
+    ensures fault { (fault : CheckedFault) → (result ≡ Err fault) ↔ IsCheckedFault check sender dlci octets.now fault }
+{
+    let used = check_heard(octets, check);
+    if !passes(octets, used) {
+        return Err(CheckedFault::BadCheck);
+    }
+    let (front, _) = octets.split_at(octets.len() - used.len());
+    match read(front, sender, dlci) {
+        Ok(frame) => Ok(frame),
+        Err(fault) => Err(CheckedFault::Refused(fault)),
+    }
+}
