@@ -1,6 +1,5 @@
 -- What the pieces of a stream are to a reader of frames, and the lines that say it.
 use Rattle.std.specs.Prelude.{◌≡◌, ℕ, ◌+◌, ◌/◌, ◌%◌, List, [], ◌∷◌, ◌++◌, length, codes, decimal, if◌then◌else◌, nat_lt}
-use Rattle.frame_check.specs.FrameCheck.{IsChecked, Passes}
 use Rattle.frame_check.specs.declared.check.Check.TheVariants.{Sixteen}
 use Rattle.bit_stuffing.specs.declared.piece.Piece.{Piece}
 use Rattle.bit_stuffing.specs.declared.piece.Piece.TheVariants as pieces
@@ -8,17 +7,17 @@ use Rattle.bit_stuffing.specs.Found.{Found}
 use Rattle.roles.specs.declared.role.Role.{Role}
 use Rattle.lapm_frames.specs.declared.fault.FrameFault.{FrameFault}
 use Rattle.lapm_frames.specs.declared.fault.FrameFault.TheVariants as faults
-use Rattle.lapm_frames.specs.Frame.{FrameSpelling}
-use Rattle.lapm_frames.specs.Fault.{FirstFault}
+use Rattle.lapm_frames.specs.declared.fault.CheckedFault.TheVariants as checks
+use Rattle.lapm_frames.specs.Checked.{IsCheckedFault, SpellsFrame}
 use Rattle.line_texts.specs.FrameText.{frame_text}
 use Rattle.frames_command.specs.declared.reading.Reading.{Reading}
 use Rattle.frames_command.specs.declared.reading.Reading.TheVariants as readings
 
 -- what a whole piece of these octets is, on channel 0: a frame or none, with the check of 16 bits behind it, or octets without it
 abbrev pub ReadsWhole : Role → List ℕ → Reading → Type 0
-ReadsWhole sender octets (readings.Frame frame) = (body : List ℕ) × IsChecked Sixteen body octets × FrameSpelling frame sender 0 body
-ReadsWhole sender octets (readings.Refused fault) = (body : List ℕ) × IsChecked Sixteen body octets × FirstFault sender 0 body fault
-ReadsWhole sender octets (readings.BadCheck count) = (Passes Sixteen octets → ⊥) × (count ≡ length octets)
+ReadsWhole sender octets (readings.Frame frame) = SpellsFrame Sixteen sender 0 octets frame
+ReadsWhole sender octets (readings.Refused fault) = IsCheckedFault Sixteen sender 0 octets (checks.Refused fault)
+ReadsWhole sender octets (readings.BadCheck count) = IsCheckedFault Sixteen sender 0 octets checks.BadCheck × (count ≡ length octets)
 ReadsWhole sender octets reading = ⊥
 
 -- what a piece of these octets is, by its kind

@@ -4,8 +4,8 @@ ghost use Rattle.bit_stuffing.specs.Found.{Found};
 ghost use Rattle.frames_command.specs.Readings.{ReadsWhole, Reads};
 
 use bit_stuffing::Piece;
-use frame_check::{Check, passes};
-use lapm_frames::{Frame, FrameFault, read};
+use frame_check::Check;
+use lapm_frames::{CheckedFault, Frame, FrameFault, read_checked};
 use roles::Role;
 
 /// What a piece of a stream is to a reader of frames, who knows the end that sent it.
@@ -22,21 +22,16 @@ pub enum Reading {
     TooShort,
 }
 
-/// How many octets the check has.
-const CHECK: usize = 2;
-
 /// What a whole piece of these octets is.
 fn read_whole(octets: &[u8], sender: Role) -> Reading
     ensures { ReadsWhole sender octets.now result }
 {
-    if !passes(octets, Check::Sixteen) {
-        return Reading::BadCheck {
-            octets: octets.len(),
-        };
-    }
-    match read(&octets[..octets.len() - CHECK], sender, 0) {
+    match read_checked(octets, Check::Sixteen, sender, 0) {
         Ok(frame) => Reading::Frame(frame),
-        Err(fault) => Reading::Refused(fault),
+        Err(CheckedFault::Refused(fault)) => Reading::Refused(fault),
+        Err(CheckedFault::BadCheck) => Reading::BadCheck {
+            octets: octets.len(),
+        },
     }
 }
 

@@ -1,11 +1,10 @@
 -- Frames with their check: the octets tell by which check they are judged, and are one frame or have one fault.
-use Rattle.std.proofs.Common.{◌≡◌, ℕ, ◌+◌, ◌-◌, ◌*◌, ◌%◌, ◌≤◌, nat_eq, false, if◌then◌else◌, is_some, Option, Some, None, List, [], length, take, Result, Ok, Err, refl, sym, ◌∙◌, ap, subst, arith}
-use Rattle.std.specs.Prelude.{IfSome, IfNone, IfOk, IfErr, ◌↔◌, unwrap_or}
+use Rattle.std.proofs.Common.{Bool, true, false, ◌≡◌, ℕ, ◌-◌, ◌*◌, ◌%◌, ◌≤◌, nat_eq, false, if◌then◌else◌, is_some, List, length, take, Result, Ok, Err, refl, sym, ◌∙◌, ap, subst, arith}
+use Rattle.std.specs.Prelude.{slice_index_or, IfSome, IfNone, IfOk, IfErr, ◌↔◌}
 use Rattle.std.specs.Result.{result_ok}
 use Rattle.std.proofs.lemmas.Bool.{ne_eqb}
 use Rattle.frame_check.specs.declared.check.Check.{Check}
 use Rattle.frame_check.specs.declared.check.Check.TheVariants.{Sixteen}
-use Rattle.frame_check.specs.declared.sizes.TheConstants.{INFO}
 use Rattle.frame_check.specs.FrameCheck.{IsChecked, Passes}
 use Rattle.frame_check.specs.Division.{with_check, count_of}
 use Rattle.frame_check.proofs.Checks.{front-checked, fronts-one, length-checked, with_check-is, with_check-one}
@@ -14,27 +13,13 @@ use Rattle.lapm_frames.specs.declared.frame.Frame.{Frame}
 use Rattle.lapm_frames.specs.declared.fault.CheckedFault.{CheckedFault}
 use Rattle.lapm_frames.specs.declared.fault.CheckedFault.TheVariants.{BadCheck, Refused}
 use Rattle.lapm_frames.specs.Parts.{parts_of}
-use Rattle.lapm_frames.specs.Frame.{FrameSpelling, IsFrame, control_octet, spelled, tail_octets}
+use Rattle.lapm_frames.specs.Frame.{FrameSpelling, IsFrame, control_octet, spelled}
 use Rattle.lapm_frames.specs.Fault.{FirstFault}
 use Rattle.lapm_frames.specs.Checked.{check_for, check_heard, checked, IsCheckedFault, SpellsFrame}
 use Rattle.lapm_frames.proofs.Forms.{by_form}
-use Rattle.lapm_frames.proofs.Controls.{AreParts, three}
+use Rattle.lapm_frames.proofs.Controls.{three}
 use Rattle.lapm_frames.proofs.Exact.{faults-one, never-both}
 use Rattle.lapm_frames.proofs.Spellings.{frames-one}
-
--- a spelling has two octets at least, and three more than its information at most
-pub length-spelled : (frame : Frame) (sender : Role) (dlci : ℕ) → IsFrame frame → length (spelled frame sender dlci) ≤ 3 + INFO
-length-spelled frame sender dlci f = let few = at_most frame f in omega (arith, few)
-  where
-    informed : (info : Option (List ℕ)) → IfSome info (λ info. length info ≤ INFO) → length (unwrap_or info []) ≤ INFO
-    informed None low = omega arith
-    informed (Some info) low = low
-
-    at_most : (frame : Frame) → IsFrame frame → length (tail_octets (parts_of frame)) ≤ 1 + INFO
-    at_most = by_form (λ parts. AreParts parts → length (tail_octets parts) ≤ 1 + INFO)
-        (λ ns nr pf info f. omega (arith, f.2))
-        (λ name control command nr pf k f. omega arith)
-        (λ name control command pf info k f. let few = informed info f.2 in omega (arith, few))
 
 -- the control octet of a frame tells its check
 heard-control : (check : Check) (frame : Frame) → (if nat_eq (control_octet (parts_of frame) % 4) 3 then Sixteen else check) ≡ check_for check frame
@@ -118,3 +103,11 @@ pub ok-none : (check : Check) (sender : Role) (dlci : ℕ) (whole : List ℕ) (r
     → IfNone (result_ok r) ((frame : Frame) → SpellsFrame check sender dlci whole frame → ⊥)
 ok-none check sender dlci whole (Ok frame) h = tt
 ok-none check sender dlci whole (Err fault) h = λ frame s. cc (h frame s)
+
+-- ends that agreed on the check of 16 bits judge all octets by it
+pub sixteen-heard : (whole : List ℕ) → check_heard Sixteen whole ≡ Sixteen
+sixteen-heard whole = either (nat_eq (slice_index_or whole 1 0 % 4) 3)
+  where
+    either : (b : Bool) → (if b then Sixteen else Sixteen) ≡ Sixteen
+    either true = refl
+    either false = refl

@@ -4,5 +4,6 @@ pub mod Beginnings
 mod Faults
 pub mod Spellings
 pub mod Exact
+pub mod Octets
 pub mod Checking
 mod RowLemmas

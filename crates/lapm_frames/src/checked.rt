@@ -1,5 +1,5 @@
 // Frames as octets with their check.
-ghost use Rattle.std.specs.Prelude.{◌≡◌, ◌<◌, [], ◌↔◌, IfOk};
+ghost use Rattle.std.specs.Prelude.{◌≡◌, ◌<◌, ◌↔◌, IfOk};
 ghost use Rattle.lapm_frames.specs.declared.frame.Frame.{Frame};
 ghost use Rattle.lapm_frames.specs.declared.fault.CheckedFault.{CheckedFault};
 ghost use Rattle.lapm_frames.specs.Frame.{IsFrame};
@@ -29,15 +29,16 @@ fn check_heard(octets: &[u8], check: Check) -> Check
     }
 }
 
-/// Writes the frame's octets with the check that it has where the ends agreed on this one.
-pub fn write_checked(frame: &Frame, check: Check, sender: Role, dlci: u8, out: &mut Whole)
+/// The frame's octets with the check that it has where the ends agreed on this one, as this end sends it on this channel.
+pub fn write_checked(frame: &Frame, check: Check, sender: Role, dlci: u8) -> Whole
     requires channel { dlci < 64 }
-    requires empty { out.old ≡ [] }
     requires frame { IsFrame frame.now }
-    ensures { out.new ≡ checked check sender dlci frame.now }
+    ensures { result ≡ checked check sender dlci frame.now }
 {
-    write(frame, sender, dlci, out);
-    append(out, check_for(frame, check));
+    let mut octets = Whole::new();
+    write(frame, sender, dlci, &mut octets);
+    append(&mut octets, check_for(frame, check));
+    octets
 }
 
 /// The frame that these octets with their check are, sent by this end on this channel, where the ends agreed on this check.

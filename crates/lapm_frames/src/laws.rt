@@ -7,7 +7,7 @@ ghost use Rattle.lapm_frames.specs.declared.fault.FrameFault.{FrameFault};
 ghost use Rattle.lapm_frames.specs.Frame.{address_of, has_number, most_octets, spelled, IsFrame, FrameSpelling};
 ghost use Rattle.lapm_frames.specs.Fault.{FirstFault};
 ghost use Rattle.lapm_frames.specs.Controls.{Has};
-ghost use Rattle.lapm_frames.specs.Checked.{checked, SpellsFrame};
+ghost use Rattle.lapm_frames.specs.Checked.{check_for, check_heard, checked, SpellsFrame};
 
 /// A frame has one spelling.
 pub fn one_spelling()
@@ -31,6 +31,14 @@ pub fn one_checked()
         → SpellsFrame check sender dlci whole frame → whole ≡ checked check sender dlci frame }
     ensures one_frame { (check : Check) (frame other : Frame) (sender : Role) (dlci : ℕ) (whole : List ℕ)
         → SpellsFrame check sender dlci whole frame → SpellsFrame check sender dlci whole other → frame ≡ other }
+{}
+
+/// By which check octets are judged: ends that agreed on that of 16 bits judge all octets by it, and others judge a frame's octets by the
+/// check that it has.
+pub fn judged()
+    ensures sixteen { (whole : List ℕ) → check_heard Check.Sixteen whole ≡ Check.Sixteen }
+    ensures of_frame { (check : Check) (frame : Frame) (sender : Role) (dlci : ℕ)
+        → check_heard check (checked check sender dlci frame) ≡ check_for check frame }
 {}
 
 /// Octets have one first fault at most, and none where they are a frame.

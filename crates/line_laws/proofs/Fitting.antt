@@ -1,10 +1,9 @@
 -- Slots that fit one another, and what fits a slot.
-use Rattle.std.proofs.Common.{◌≡◌, ◌∙◌, ℕ, ◌+◌, ◌-◌, ◌*◌, ◌/◌, ◌<◌, ◌≤◌, Bool, true, false, List, [], ◌∷◌, ◌++◌, length, All, Some, None, ap, arith, lit<, length-append}
+use Rattle.std.proofs.Common.{◌≡◌, ◌∙◌, ℕ, ◌+◌, ◌-◌, ◌*◌, ◌/◌, ◌<◌, ◌≤◌, Bool, List, [], ◌∷◌, ◌++◌, length, All, Some, None, ap, arith, length-append}
 use Rattle.std.proofs.Math.Nat.{mul-suc}
-use Rattle.std.proofs.lemmas.List.Elements.{All-nil, All-cons, All-append}
+use Rattle.std.proofs.lemmas.List.Elements.{All-append}
 use Rattle.frame_check.specs.declared.check.Check.{Check}
 use Rattle.frame_check.specs.declared.check.Check.TheVariants.{Sixteen, ThirtyTwo}
-use Rattle.frame_check.specs.declared.sizes.TheConstants.{INFO}
 use Rattle.frame_check.specs.Division.{check_of, count_of}
 use Rattle.frame_check.proofs.Checks.{check_of-is, length-check_of}
 use Rattle.bit_stuffing.specs.declared.slot_writer.TheConstants.{TAIL}
@@ -14,14 +13,14 @@ use Rattle.bit_stuffing.proofs.Sizes.{length-slot_bits, length-empty, length-ope
 use Rattle.detection.specs.Slots.{Signal, slot_of, slots_of}
 use Rattle.detection.specs.Slots.Signal.{PatternSlot, MarkSlot, FlagSlot}
 use Rattle.roles.specs.declared.role.Role.{Role}
-use Rattle.roles.specs.declared.role.Role.TheVariants.{Originator, Answerer}
 use Rattle.lapm_frames.specs.declared.frame.Frame.{Frame}
-use Rattle.lapm_frames.specs.declared.frame.Frame.TheVariants.{I, Rr, Rnr, Rej, Srej, Sabme, Disc, Ua, Dm, Frmr, Ui, Xid, Test}
-use Rattle.lapm_frames.specs.Frame.{IsFrame, address_of, numbered, marked, spelled}
+use Rattle.lapm_frames.specs.Frame.{IsFrame, information_of, spelled}
+use Rattle.lapm_frames.specs.Checked.{check_for, checked}
+use Rattle.lapm_frames.proofs.Octets.{length-information, length-spelled, spelled-small}
 use Rattle.slot_contents.specs.declared.sent.Sent.{Sent}
 use Rattle.slot_contents.specs.declared.sent.Sent.TheVariants as sent
-use Rattle.sample_line.specs.Signals.{check_for, checked, signal_of, IsCodable, IsSendable}
-use Rattle.line_laws.specs.Fitting.{Fits, AreFit, HasOctets, OfOctets, information_of}
+use Rattle.sample_line.specs.Signals.{signal_of, IsCodable, IsSendable}
+use Rattle.line_laws.specs.Fitting.{Fits, AreFit, HasOctets, OfOctets}
 use Rattle.line_laws.proofs.Patterns.{ArePlain}
 
 pub fit-slot : (plain : ArePlain) (size phase : ℕ) (signal : Signal) → 552 < size → phase < 8 → Fits size phase signal → IsSlot size phase (slot_of size signal)
@@ -58,36 +57,6 @@ length-fit plain size phase (signal ∷ signals) long low h =
 
 -- how many octets a frame has
 
-pub length-spelled : (frame : Frame) (sender : Role) (dlci : ℕ) → (2 ≤ length (spelled frame sender dlci)) × (length (spelled frame sender dlci) ≤ 3 + length (information_of frame))
-length-spelled (I ns nr pf info) sender dlci = (omega arith, omega arith)
-length-spelled (Rr command nr pf) sender dlci = (omega arith, omega arith)
-length-spelled (Rnr command nr pf) sender dlci = (omega arith, omega arith)
-length-spelled (Rej command nr pf) sender dlci = (omega arith, omega arith)
-length-spelled (Srej command nr pf) sender dlci = (omega arith, omega arith)
-length-spelled (Sabme pf) sender dlci = (omega arith, omega arith)
-length-spelled (Disc pf) sender dlci = (omega arith, omega arith)
-length-spelled (Ua pf) sender dlci = (omega arith, omega arith)
-length-spelled (Dm pf) sender dlci = (omega arith, omega arith)
-length-spelled (Frmr pf info) sender dlci = (omega arith, omega arith)
-length-spelled (Ui command pf info) sender dlci = (omega arith, omega arith)
-length-spelled (Xid command pf info) sender dlci = (omega arith, omega arith)
-length-spelled (Test command pf info) sender dlci = (omega arith, omega arith)
-
-length-information : (frame : Frame) → IsFrame frame → length (information_of frame) ≤ INFO
-length-information (I ns nr pf info) h = h.2
-length-information (Rr command nr pf) h = omega arith
-length-information (Rnr command nr pf) h = omega arith
-length-information (Rej command nr pf) h = omega arith
-length-information (Srej command nr pf) h = omega arith
-length-information (Sabme pf) h = omega arith
-length-information (Disc pf) h = omega arith
-length-information (Ua pf) h = omega arith
-length-information (Dm pf) h = omega arith
-length-information (Frmr pf info) h = h
-length-information (Ui command pf info) h = h
-length-information (Xid command pf info) h = h
-length-information (Test command pf info) h = h
-
 count-two : (check : Check) → (2 ≤ count_of check) × (count_of check ≤ 4)
 count-two Sixteen = (omega arith, omega arith)
 count-two ThirtyTwo = (omega arith, omega arith)
@@ -110,51 +79,6 @@ short-codable check sender dlci symbols phase most frame low is few room =
     (is, omega (arith, long, few, room))
 
 -- the octets of a frame
-
-address-small : (command : Bool) (sender : Role) (dlci : ℕ) → dlci < 64 → address_of command sender dlci < 256
-address-small true Originator dlci low = omega arith
-address-small false Originator dlci low = omega arith
-address-small true Answerer dlci low = omega arith
-address-small false Answerer dlci low = omega arith
-
-numbered-small : (nr : ℕ) (pf : Bool) → nr < 128 → numbered nr pf < 256
-numbered-small nr true low = omega arith
-numbered-small nr false low = omega arith
-
-marked-small : (control : ℕ) (pf : Bool) → control < 240 → marked control pf < 256
-marked-small control true low = omega arith
-marked-small control false low = omega arith
-
-two-small : (a b : ℕ) (rest : List ℕ) → a < 256 → b < 256 → All (λ octet. octet < 256) rest → All (λ octet. octet < 256) (a ∷ b ∷ rest)
-two-small a b rest low_a low_b h = All-cons (λ octet. octet < 256) a (b ∷ rest) low_a (All-cons (λ octet. octet < 256) b rest low_b h)
-
-short-small : (command : Bool) (sender : Role) (dlci control nr : ℕ) (pf : Bool) → dlci < 64 → control < 256 → nr < 128
-    → All (λ octet. octet < 256) (address_of command sender dlci ∷ control ∷ numbered nr pf ∷ [])
-short-small command sender dlci control nr pf channel low few =
-    two-small (address_of command sender dlci) control (numbered nr pf ∷ []) (address-small command sender dlci channel) low
-    (All-cons (λ octet. octet < 256) (numbered nr pf) [] (numbered-small nr pf few) (All-nil (λ octet. octet < 256)))
-
-marked-all : (command : Bool) (sender : Role) (dlci control : ℕ) (pf : Bool) (info : List ℕ) → dlci < 64 → control < 240 → All (λ octet. octet < 256) info
-    → All (λ octet. octet < 256) (address_of command sender dlci ∷ marked control pf ∷ info)
-marked-all command sender dlci control pf info channel low h =
-    two-small (address_of command sender dlci) (marked control pf) info (address-small command sender dlci channel) (marked-small control pf low) h
-
-spelled-small : (frame : Frame) (sender : Role) (dlci : ℕ) → dlci < 64 → IsFrame frame → All (λ octet. octet < 256) (information_of frame) → All (λ octet. octet < 256) (spelled frame sender dlci)
-spelled-small (I ns nr pf info) sender dlci low is h =
-    two-small (address_of true sender dlci) (2 * ns) (numbered nr pf ∷ info) (address-small true sender dlci low) (omega (arith, is.0))
-    (All-cons (λ octet. octet < 256) (numbered nr pf) info (numbered-small nr pf is.1) h)
-spelled-small (Rr command nr pf) sender dlci low is h = short-small command sender dlci 0x01 nr pf low (lit< tt) is
-spelled-small (Rnr command nr pf) sender dlci low is h = short-small command sender dlci 0x05 nr pf low (lit< tt) is
-spelled-small (Rej command nr pf) sender dlci low is h = short-small command sender dlci 0x09 nr pf low (lit< tt) is
-spelled-small (Srej command nr pf) sender dlci low is h = short-small command sender dlci 0x0d nr pf low (lit< tt) is
-spelled-small (Sabme pf) sender dlci low is h = marked-all true sender dlci 0x6f pf [] low (lit< tt) h
-spelled-small (Disc pf) sender dlci low is h = marked-all true sender dlci 0x43 pf [] low (lit< tt) h
-spelled-small (Ua pf) sender dlci low is h = marked-all false sender dlci 0x63 pf [] low (lit< tt) h
-spelled-small (Dm pf) sender dlci low is h = marked-all false sender dlci 0x0f pf [] low (lit< tt) h
-spelled-small (Frmr pf info) sender dlci low is h = marked-all false sender dlci 0x87 pf info low (lit< tt) h
-spelled-small (Ui command pf info) sender dlci low is h = marked-all command sender dlci 0x03 pf info low (lit< tt) h
-spelled-small (Xid command pf info) sender dlci low is h = marked-all command sender dlci 0xaf pf info low (lit< tt) h
-spelled-small (Test command pf info) sender dlci low is h = marked-all command sender dlci 0xe3 pf info low (lit< tt) h
 
 checked-small : (check : Check) (sender : Role) (dlci : ℕ) (frame : Frame) → dlci < 64 → IsFrame frame → All (λ octet. octet < 256) (information_of frame) → All (λ octet. octet < 256) (checked check sender dlci frame)
 checked-small check sender dlci frame low is h =

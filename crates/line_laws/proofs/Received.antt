@@ -1,13 +1,10 @@
 -- What is received in a slot is what was sent in it.
-use Rattle.std.proofs.Common.{◌≡◌, ◌∙◌, inr, ℕ, ◌+◌, ◌*◌, ◌%◌, ◌<◌, ◌≤◌, nat_eq, Bool, true, false, List, [], ◌∷◌, ◌++◌, length, take, drop, map, replicate, Ok, Err, Result, refl, sym, ap, subst, arith, length-append, append-nil, append_assoc}
+use Rattle.std.proofs.Common.{◌≡◌, ◌∙◌, inr, ℕ, ◌+◌, ◌*◌, ◌<◌, ◌≤◌, Bool, true, false, List, [], ◌∷◌, ◌++◌, length, take, drop, map, replicate, Ok, Err, Result, refl, sym, ap, subst, arith, length-append, append-nil, append_assoc}
 use Rattle.std.proofs.Math.Nat.{mul_assoc, mul-suc}
 use Rattle.std.proofs.Math.Seq.{take-append_seam, drop-append_seam}
-use Rattle.std.proofs.lemmas.Bool.{ne_eqb}
 use Rattle.std.proofs.lemmas.List.{map-append, take_all, take-append-drop, length-drop}
 use Rattle.std.proofs.lemmas.List.Elements.{All-replicate}
 use Rattle.frame_check.specs.declared.check.Check.{Check}
-use Rattle.frame_check.specs.FrameCheck.{IsChecked}
-use Rattle.frame_check.proofs.Checks.{with_check-is}
 use Rattle.scramblers.specs.Mode.{tap_of}
 use Rattle.scramblers.proofs.Readings.{Descrambles_once}
 use Rattle.symbol_map.specs.declared.sample.Sample.{Sample}
@@ -29,8 +26,7 @@ use Rattle.detection.specs.Sights.{Sight, seen_in, sights_of}
 use Rattle.detection.specs.Slots.{Signal, signal_bits, slot_of, slots_of}
 use Rattle.roles.specs.declared.role.Role.{Role}
 use Rattle.lapm_frames.specs.declared.frame.Frame.{Frame}
-use Rattle.lapm_frames.specs.declared.frame.Frame.TheVariants.{I, Rr, Rnr, Rej, Srej, Sabme, Disc, Ua, Dm, Frmr, Ui, Xid, Test}
-use Rattle.lapm_frames.specs.Frame.{IsFrame, spelled}
+use Rattle.lapm_frames.proofs.Checking.{spells}
 use Rattle.slot_contents.specs.declared.sent.Sent.{Sent}
 use Rattle.slot_contents.specs.declared.sent.Sent.TheVariants as sent
 use Rattle.noise_script.specs.Script.{ScriptValue}
@@ -39,8 +35,8 @@ use Rattle.slot_contents.specs.declared.heard.Heard.TheVariants.{Chance}
 use Rattle.sample_line.specs.Outcomes.{IsPattern, IsOutcome}
 use Rattle.sample_line.specs.Recorded.{Records}
 use Rattle.roles.specs.Role.{mode_of}
-use Rattle.sample_line.specs.Received.{line_trellis, AreFrames, FoundBetween, Gives, Receives, SpellsFrame}
-use Rattle.sample_line.specs.Signals.{check_for, check_heard, checked, signal_of, IsSendable}
+use Rattle.sample_line.specs.Received.{line_trellis, AreFrames, FoundBetween, Gives, Receives}
+use Rattle.sample_line.specs.Signals.{signal_of, IsSendable}
 use Rattle.sample_line.specs.Line.{bits_behind, Kept, Passes, PassesSlot, sender_of, size_of}
 use Rattle.sample_line.proofs.Finding.{wholes-append}
 use Rattle.sample_line.proofs.Once.{given-stays, outcome-once, received-once, recordings-grow}
@@ -79,44 +75,6 @@ lags script sender count bits read samples none within r g =
       goes_on = sym (take-append-drop (4 * n) bits) ∙ ap (λ xs. xs ++ drop (4 * n) bits) same;
       few = omega (arith, few, long, length-drop (4 * n) bits, four-each tap labels bits (carried script sender bits samples r));
     }
-
--- a frame comes back from its octets
-
-abbrev HasKind : Check → Role → ℕ → Frame → Type 0
-HasKind check sender dlci frame = check_heard check (checked check sender dlci frame) ≡ check_for check frame
-
-kind-heard : (check : Check) (sender : Role) (dlci : ℕ) (frame : Frame) → HasKind check sender dlci frame
-kind-heard check sender dlci (I ns nr pf info) =
-    let even : nat_eq (2 * ns % 4) 3 ≡ false = ne_eqb (2 * ns % 4) 3 (λ e. omega (arith, e)) in
-    rw even refl
-kind-heard check sender dlci (Rr command nr pf) = refl
-kind-heard check sender dlci (Rnr command nr pf) = refl
-kind-heard check sender dlci (Rej command nr pf) = refl
-kind-heard check sender dlci (Srej command nr pf) = refl
-kind-heard check sender dlci (Sabme true) = refl
-kind-heard check sender dlci (Sabme false) = refl
-kind-heard check sender dlci (Disc true) = refl
-kind-heard check sender dlci (Disc false) = refl
-kind-heard check sender dlci (Ua true) = refl
-kind-heard check sender dlci (Ua false) = refl
-kind-heard check sender dlci (Dm true) = refl
-kind-heard check sender dlci (Dm false) = refl
-kind-heard check sender dlci (Frmr true info) = refl
-kind-heard check sender dlci (Frmr false info) = refl
-kind-heard check sender dlci (Ui command true info) = refl
-kind-heard check sender dlci (Ui command false info) = refl
-kind-heard check sender dlci (Xid command true info) = refl
-kind-heard check sender dlci (Xid command false info) = refl
-kind-heard check sender dlci (Test command true info) = refl
-kind-heard check sender dlci (Test command false info) = refl
-
-spells : (check : Check) (sender : Role) (dlci : ℕ) (frame : Frame) → IsFrame frame → SpellsFrame check sender dlci (checked check sender dlci frame) frame
-spells check sender dlci frame is = record {
-  octets = spelled frame sender dlci;
-  passes = subst (λ (kind : Check). IsChecked kind (spelled frame sender dlci) (checked check sender dlci frame)) (sym (kind-heard check sender dlci frame))
-      (with_check-is (check_for check frame) (spelled frame sender dlci));
-  spelling = (is, refl);
-}
 
 -- what a slot adds
 

@@ -1,12 +1,11 @@
 -- Slots that leave those who hear them the time to decode their frames.
-use Rattle.std.specs.Prelude.{ℕ, ◌+◌, ◌*◌, ◌<◌, ◌≤◌, length, All, List, [], ◌∷◌, Some, None}
+use Rattle.std.specs.Prelude.{ℕ, ◌+◌, ◌*◌, ◌≤◌, length, List, [], ◌∷◌, Some, None}
 use Rattle.bit_stuffing.specs.declared.slot_writer.TheConstants.{TAIL}
 use Rattle.bit_stuffing.specs.Slots as slots
 use Rattle.bit_stuffing.specs.Slots.{opening, next_phase}
 use Rattle.detection.specs.Slots.{Signal, slot_of}
 use Rattle.detection.specs.Slots.Signal.{PatternSlot, MarkSlot, FlagSlot}
-use Rattle.lapm_frames.specs.declared.frame.Frame.{Frame}
-use Rattle.lapm_frames.specs.declared.frame.Frame.TheVariants.{I, Rr, Rnr, Rej, Srej, Sabme, Disc, Ua, Dm, Frmr, Ui, Xid, Test}
+use Rattle.lapm_frames.specs.Frame.{information_of}
 use Rattle.slot_contents.specs.declared.sent.Sent.{Sent}
 use Rattle.slot_contents.specs.declared.sent.Sent.TheVariants as sent
 use Rattle.plain_lists.specs.Octets.{AreOctets}
@@ -23,22 +22,6 @@ Fits size phase (FlagSlot (Some octets)) = slots.IsFrame octets × (length (open
 abbrev pub AreFit : ℕ → ℕ → List Signal → Type 0
 AreFit size phase [] = Unit {0}
 AreFit size phase (signal ∷ signals) = Fits size phase signal × AreFit size (next_phase size phase (slot_of size signal)) signals
-
--- the information that a frame carries
-abbrev pub information_of : Frame → List ℕ
-information_of (I ns nr pf info) = info
-information_of (Rr command nr pf) = []
-information_of (Rnr command nr pf) = []
-information_of (Rej command nr pf) = []
-information_of (Srej command nr pf) = []
-information_of (Sabme pf) = []
-information_of (Disc pf) = []
-information_of (Ua pf) = []
-information_of (Dm pf) = []
-information_of (Frmr pf info) = info
-information_of (Ui command pf info) = info
-information_of (Xid command pf info) = info
-information_of (Test command pf info) = info
 
 -- what a slot carries are octets, as the types of the code say
 abbrev pub OfOctets : Signal → Type 0

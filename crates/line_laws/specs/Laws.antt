@@ -10,7 +10,7 @@ use Rattle.slot_contents.specs.declared.seen.Seen.{Seen}
 use Rattle.detection.specs.Slots.{Signal, signal_bits, slots_of}
 use Rattle.roles.specs.declared.role.Role.{Role}
 use Rattle.lapm_frames.specs.declared.frame.Frame.{Frame}
-use Rattle.lapm_frames.specs.Frame.{IsFrame}
+use Rattle.lapm_frames.specs.Frame.{IsFrame, information_of}
 use Rattle.slot_contents.specs.declared.sent.Sent.{Sent}
 use Rattle.slot_contents.specs.declared.sent.Sent.TheVariants as sent
 use Rattle.noise_script.specs.declared.entry.Hit.{Hit}
@@ -19,12 +19,13 @@ use Rattle.roles.specs.Role.{same_role}
 use Rattle.noise_script.specs.Script.{ScriptValue}
 use Rattle.slot_contents.specs.declared.heard.Heard.{Heard}
 use Rattle.slot_contents.specs.declared.heard.Heard.TheVariants as heard
-use Rattle.sample_line.specs.Signals.{checked, signal_of, IsCodable, IsSendable}
+use Rattle.lapm_frames.specs.Checked.{checked}
+use Rattle.sample_line.specs.Signals.{signal_of, IsCodable, IsSendable}
 use Rattle.sample_line.specs.Recorded.{Records}
 use Rattle.sample_line.specs.Received.{Receives, line_trellis, line_depth}
 use Rattle.sample_line.specs.Path.{LosesAt, LosesWithin}
 use Rattle.sample_line.specs.Line.{Kept, Passes, PassesSlot, sender_of, size_of}
-use Rattle.line_laws.specs.Fitting.{Fits, AreFit, HasOctets, OfOctets, information_of}
+use Rattle.line_laws.specs.Fitting.{Fits, AreFit, HasOctets, OfOctets}
 use Rattle.line_laws.specs.Unhindered.{DisplacesNoneBefore, frames_in, patterns_in, unhindered}
 
 -- a script displaces no symbol before the first that its hit lines and noise lines for the role name

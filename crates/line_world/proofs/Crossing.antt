@@ -1,8 +1,9 @@
 -- The slots of a run bring what was sent in it.
 use Rattle.std.proofs.Common.{◌≡◌, ℕ, zero, suc, ◌+◌, ◌*◌, ◌%◌, ◌<◌, ◌≤◌, ◌==◌, ◌&&◌, Bool, true, false, List, [], ◌∷◌, ◌++◌, All, length, drop, get_or, slice_get, Option, Some, None, if◌then◌else◌, refl, sym, ◌∙◌, ap, subst, arith}
-use Rattle.std.proofs.lemmas.List.Elements.{All-nil, All-cons, All-push, All-append, All-get_or, All-take, All-drop}
+use Rattle.std.proofs.lemmas.List.Elements.{All-nil, All-push, All-append, All-get_or, All-take, All-drop}
 use Rattle.std.proofs.lemmas.Option.{get_or_from_slice_get, slice_get_within}
 use Rattle.frame_check.specs.declared.sizes.TheConstants.{INFO}
+use Rattle.frame_check.specs.declared.check.Check.{Check}
 use Rattle.frame_check.specs.declared.check.Check.TheVariants.{Sixteen}
 use Rattle.frame_check.specs.Division.{check_of}
 use Rattle.frame_check.proofs.Checks.{check_of-is}
@@ -14,7 +15,10 @@ use Rattle.bit_stuffing.proofs.Sent.{found-is-sent}
 use Rattle.lapm_frames.specs.declared.frame.Frame.{Frame}
 use Rattle.roles.specs.declared.role.Role.{Role}
 use Rattle.roles.specs.declared.role.Role.TheVariants.{Originator, Answerer}
-use Rattle.lapm_frames.specs.Frame.{IsFrame, address_of, numbered, spelled}
+use Rattle.lapm_frames.specs.Frame.{IsFrame, information_of, spelled}
+use Rattle.lapm_frames.proofs.Octets.{spelled-small}
+use Rattle.lapm_frames.specs.Checked.{check_for}
+use Rattle.lapm_frames.proofs.Checking.{spells}
 use Rattle.thin_link.specs.declared.sent.Sent.{Sent}
 use Rattle.thin_link.specs.declared.sent.Sent.TheVariants as sent
 use Rattle.thin_link.specs.Sent.{IsSendable, frame_of}
@@ -83,24 +87,14 @@ segments-listen file a heard small h = segments-offered file (deliver (hear a (f
 
 abbrev pub CanCross : Sent → Type 0
 CanCross sent.Flags = Unit {0}
-CanCross (sent.Frame frame) = IsFrame frame × ((sender : Role) → AreOctets (spelled frame sender 0))
-
-small-address : (command : Bool) (sender : Role) → address_of command sender 0 < 256
-small-address true Originator = omega arith
-small-address false Originator = omega arith
-small-address true Answerer = omega arith
-small-address false Answerer = omega arith
-
-small-three : (a b c : ℕ) (rest : List ℕ) → a < 256 → b < 256 → c < 256 → AreOctets rest → AreOctets (a ∷ b ∷ c ∷ rest)
-small-three a b c rest ha hb hc h = All-cons (λ o. o < 256) a (b ∷ c ∷ rest) ha (All-cons (λ o. o < 256) b (c ∷ rest) hb (All-cons (λ o. o < 256) c rest hc h))
+CanCross (sent.Frame frame) = IsFrame frame × AreOctets (information_of frame)
 
 cross-shortly : (a : Account) (b : Bool) → CanCross (shortly_if a b).sent
 cross-shortly a false = tt
-cross-shortly a true = (omega arith, λ sender. small-three (address_of false sender 0) 1 (numbered (length a.taken % 128) false) [] (small-address false sender) (omega arith) (omega arith) (All-nil (λ o. o < 256)))
+cross-shortly a true = (omega arith, All-nil (λ o. o < 256))
 
 cross-segment : (a : Account) (turn tries : ℕ) (info : List ℕ) → IsSegment info → CanCross (sends turn tries a info).sent
-cross-segment a turn tries info is =
-    ((omega arith, omega arith, is.short), λ sender. small-three (address_of true sender 0) (2 * (a.front % 128)) (numbered (length a.taken % 128) false) info (small-address true sender) (omega arith) (omega arith) is.small)
+cross-segment a turn tries info is = ((omega arith, omega arith, is.short), is.small)
 
 segments-spoken : (turn : ℕ) (a : Account) (s : Spoken) → HasSegments a → speak turn a ≡ Some s → HasSegments s.account × CanCross s.sent
 segments-spoken turn a s h e = speak-cases (λ s. HasSegments s.account × CanCross s.sent) turn a shortly segment s e
@@ -120,8 +114,8 @@ segments-spoken turn a s h e = speak-cases (λ s. HasSegments s.account × CanCr
 slot-fits : (sender : Role) (slots : List Slot) (s : Sent) → CanCross s → AreSlots slot_size 0 slots → AreSlots slot_size 0 (slots ++ slot_of sender s ∷ [])
 slot-fits sender slots sent.Flags c h = slots-more slot_size 0 slots (slot_of sender sent.Flags) h (flags-fit slots)
 slot-fits sender slots (sent.Frame frame) c h =
-    let check = check_of Sixteen (spelled frame sender 0) in
-    let small : AreOctets (frame_octets sender frame) = All-append (λ o. o < 256) (spelled frame sender 0) check (c.1 sender) (check_of-is Sixteen (spelled frame sender 0)).are_octets in
+    let used : Check = check_for Sixteen frame in
+    let small : AreOctets (frame_octets sender frame) = All-append (λ o. o < 256) (spelled frame sender 0) (check_of used (spelled frame sender 0)) (spelled-small frame sender 0 (omega arith) c.0 c.1) (check_of-is used (spelled frame sender 0)).are_octets in
     slots-more slot_size 0 slots (slot_of sender (sent.Frame frame)) h (frame-fits slots (frame_octets sender frame) (within (frame_octets sender frame) small) (frame-long frame sender) (frame-short frame sender c.0))
   where
     within : (xs : List ℕ) → AreOctets xs → (i : ℕ) → get_or xs i 0 < 256
@@ -185,7 +179,7 @@ last-found sender (sent.Frame frame) size start phase behind added is found = re
   piece = whole_at (start + length (opening phase (Some (frame_octets sender frame)))) (frame_octets sender frame);
   behind = [];
   pieces_are = found;
-  brings = record { whole = refl; carries = record { is_frame = is; octets_are = refl } };
+  brings = record { whole = refl; carries = spells Sixteen sender 0 frame is };
   last = All-nil (λ piece. (other : Frame) → BringsFrame sender piece other → ⊥);
 }
 

@@ -23,8 +23,10 @@ use Rattle.line_world.specs.declared.direction.Direction.{Direction}
 use Rattle.line_world.specs.Direction.{Carries}
 use Rattle.line_world.specs.Heard.{frame_sent}
 use Rattle.line_world.specs.Slots.{CanBeSent, bits_sent, frame_octets, slot_of, slot_sent, slot_size}
-use Rattle.line_world.specs.Received.{BringsFrame, CarriesFrame, IsLast, Receives}
-use Rattle.line_world.proofs.Frames.{one-carried}
+use Rattle.line_world.specs.Received.{BringsFrame, IsLast, Receives}
+use Rattle.frame_check.specs.declared.check.Check.TheVariants.{Sixteen}
+use Rattle.lapm_frames.specs.Checked.{SpellsFrame}
+use Rattle.lapm_frames.proofs.Checking.{spells, spells-one}
 
 -- one more slot fits behind others
 pub slots-more : (size phase : ℕ) (slots : List Slot) (slot : Slot) → AreSlots size phase slots → IsSlot size (phase_from size phase slots) slot → AreSlots size phase (slots ++ slot ∷ [])
@@ -69,7 +71,7 @@ last-of-one sender found expected None b h = absurd (All-head (λ piece. (frame 
 last-of-one sender found expected (Some frame) b h = go h.before h.pieces_are
   where
     go : (before : List Found) → found ∷ [] ≡ before ++ h.piece ∷ h.behind → Some frame ≡ Some expected
-    go [] e = ap Some (one-carried sender found.octets frame expected (subst (λ (f : Found). CarriesFrame sender f.octets frame) (sym (head-is e)) h.brings.carries) b.carries)
+    go [] e = ap Some (spells-one Sixteen sender 0 found.octets frame expected (subst (λ (f : Found). SpellsFrame Sixteen sender 0 f.octets frame) (sym (head-is e)) h.brings.carries) b.carries)
       where
         head-is : found ∷ [] ≡ h.piece ∷ h.behind → found ≡ h.piece
         head-is e = cc e
@@ -80,7 +82,7 @@ slot-brings : (sender : Role) (s : Sent) (size start phase : ℕ) (behind : Bool
 slot-brings sender sent.Flags size start phase behind added frame is found last = last-of-none sender frame (subst (λ l. IsLast sender l frame) found last)
 slot-brings sender (sent.Frame expected) size start phase behind added frame is found last =
     last-of-one sender (whole_at (start + length (opening phase (Some (frame_octets sender expected)))) (frame_octets sender expected)) expected frame
-    (record { whole = refl; carries = record { is_frame = is; octets_are = refl } })
+    (record { whole = refl; carries = spells Sixteen sender 0 expected is })
     (subst (λ l. IsLast sender l frame) found last)
 
 -- So what is received in a slot is what was sent in it.

@@ -9,7 +9,9 @@ use Rattle.bit_stuffing.specs.Found.{Found, found_at, listed, pieces_of}
 use Rattle.bit_stuffing.proofs.Found.{pieces-more}
 use Rattle.lapm_frames.specs.declared.frame.Frame.{Frame}
 use Rattle.roles.specs.declared.role.Role.{Role}
-use Rattle.line_world.specs.Received.{BringsFrame, CarriesFrame, IsLast, Receives}
+use Rattle.line_world.specs.Received.{BringsFrame, IsLast, Receives}
+use Rattle.frame_check.specs.declared.check.Check.TheVariants.{Sixteen}
+use Rattle.lapm_frames.specs.Checked.{SpellsFrame}
 
 -- the pieces of one more bit
 one-more : (past bits : List Bool) (bit : Bool) (added : List Found) → pieces_of (past ++ bits) ≡ pieces_of past ++ added →
@@ -74,11 +76,11 @@ quiet-other sender o answer e other found frame h b = other (e ∙ ap (option_ma
 lent-is : (o : Option Found) (found : Found) (octets : List ℕ) → o ≡ Some found → octets ≡ option_map_or (λ f. f.octets) o [] → octets ≡ found.octets
 lent-is o found octets h e = e ∙ ap (λ (p : Option Found). option_map_or (λ f. f.octets) p []) h
 
-pub quiet-octets : (sender : Role) (o : Option Found) (octets : List ℕ) → octets ≡ option_map_or (λ found. found.octets) o [] → ((frame : Frame) → CarriesFrame sender octets frame → ⊥) → IsQuiet sender o
-quiet-octets sender o octets e none found frame h b = none frame (subst (λ l. CarriesFrame sender l frame) (sym (lent-is o found octets h e)) b.carries)
+pub quiet-octets : (sender : Role) (o : Option Found) (octets : List ℕ) → octets ≡ option_map_or (λ found. found.octets) o [] → ((frame : Frame) → SpellsFrame Sixteen sender 0 octets frame → ⊥) → IsQuiet sender o
+quiet-octets sender o octets e none found frame h b = none frame (subst (λ l. SpellsFrame Sixteen sender 0 l frame) (sym (lent-is o found octets h e)) b.carries)
 
 -- a whole piece that carries a frame brings it
-pub found-brings : (sender : Role) (o : Option Found) (octets : List ℕ) (frame : Frame) → Some Whole ≡ option_map (λ found. found.piece) o → octets ≡ option_map_or (λ found. found.octets) o [] → CarriesFrame sender octets frame
+pub found-brings : (sender : Role) (o : Option Found) (octets : List ℕ) (frame : Frame) → Some Whole ≡ option_map (λ found. found.piece) o → octets ≡ option_map_or (λ found. found.octets) o [] → SpellsFrame Sixteen sender 0 octets frame
     → (found : Found) × (o ≡ Some found) × BringsFrame sender found frame
 found-brings sender None octets frame w e c = cc w
-found-brings sender (Some found) octets frame w e c = (found, refl, record { whole = cc w; carries = subst (λ l. CarriesFrame sender l frame) e c })
+found-brings sender (Some found) octets frame w e c = (found, refl, record { whole = cc w; carries = subst (λ l. SpellsFrame Sixteen sender 0 l frame) e c })

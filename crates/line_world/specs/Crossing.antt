@@ -1,5 +1,5 @@
 -- The slots that cross the line in a run.
-use Rattle.std.specs.Prelude.{ℕ, ◌<◌, List, [], ◌∷◌, ◌++◌, All, Option}
+use Rattle.std.specs.Prelude.{List, [], ◌∷◌, ◌++◌, Option}
 use Rattle.bit_stuffing.specs.Slots.{Slot, phase_after, sent_bits}
 use Rattle.lapm_frames.specs.declared.frame.Frame.{Frame}
 use Rattle.roles.specs.declared.role.Role.{Role}
@@ -8,7 +8,6 @@ use Rattle.thin_link.specs.declared.sent.Sent.{Sent}
 use Rattle.line_world.specs.Run.{Turn, last_sent}
 use Rattle.line_world.specs.Slots.{bits_sent, slot_sent, slot_size}
 use Rattle.line_world.specs.Received.{Receives}
-use Rattle.plain_lists.specs.Octets.{AreOctets}
 
 -- what a role sent in a turn
 abbrev pub sent_in : Role → Turn → Option Sent

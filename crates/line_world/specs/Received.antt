@@ -1,23 +1,18 @@
 -- What is received in bits.
-use Rattle.std.specs.Prelude.{◌≡◌, ℕ, Bool, List, ◌∷◌, ◌++◌, All, Option, Some, None}
+use Rattle.std.specs.Prelude.{◌≡◌, Bool, List, ◌∷◌, ◌++◌, All, Option, Some, None}
+use Rattle.frame_check.specs.declared.check.Check.TheVariants.{Sixteen}
 use Rattle.bit_stuffing.specs.declared.piece.Piece.TheVariants.{Whole}
 use Rattle.bit_stuffing.specs.Found.{Found, pieces_of}
 use Rattle.lapm_frames.specs.declared.frame.Frame.{Frame}
 use Rattle.roles.specs.declared.role.Role.{Role}
-use Rattle.lapm_frames.specs.Frame.{IsFrame}
+use Rattle.lapm_frames.specs.Checked.{SpellsFrame}
 use Rattle.line_world.specs.declared.heard.Heard.{Heard}
 use Rattle.line_world.specs.Heard.{crossed}
-use Rattle.line_world.specs.Slots.{frame_octets}
 
--- Octets carry a frame: they pass the check, and spell it.
-pub record CarriesFrame (sender : Role) (octets : List ℕ) (frame : Frame) : Type 0 where
-  pub is_frame : IsFrame frame
-  pub octets_are : octets ≡ frame_octets sender frame
-
--- A whole piece of such octets brings the frame.
+-- A whole piece brings a frame: its octets pass the check of 16 bits, and spell the frame on channel 0.
 pub record BringsFrame (sender : Role) (piece : Found) (frame : Frame) : Type 0 where
   pub whole : piece.piece ≡ Whole
-  pub carries : CarriesFrame sender piece.octets frame
+  pub carries : SpellsFrame Sixteen sender 0 piece.octets frame
 
 -- none of these pieces brings one
 abbrev pub BringNone : Role → List Found → Type 0

@@ -1,8 +1,7 @@
 -- Scripts of lost slots: what they mean, and how they are spelled.
-use Rattle.std.specs.Prelude.{◌≡◌, ◌≢◌, ◌⊎◌, ℕ, ◌+◌, ◌-◌, ◌*◌, ◌^◌, ◌<◌, ◌≤◌, ◌&&◌, nat_lt, nat_le, Bool, true, false, List, [], ◌∷◌, ◌++◌, length, codes}
+use Rattle.std.specs.Prelude.{◌≡◌, ◌≢◌, ◌⊎◌, ℕ, ◌+◌, ◌-◌, ◌*◌, ◌^◌, ◌<◌, ◌≤◌, ◌&&◌, nat_lt, nat_le, Bool, List, [], ◌∷◌, ◌++◌, length, codes}
 use Rattle.std.specs.List.{list_any, All}
 use Rattle.roles.specs.declared.role.Role.{Role}
-use Rattle.roles.specs.declared.role.Role.TheVariants.{Originator, Answerer}
 use Rattle.script_causes.specs.declared.cause.Cause.TheVariants.{Word}
 use Rattle.line_world.specs.declared.script.Loss.{Loss}
 use Rattle.line_world.specs.declared.script.ScriptFault.{ScriptFault}

@@ -1,14 +1,13 @@
 -- The slots that carry what is sent.
 use Rattle.std.specs.Prelude.{ℕ, ◌*◌, Bool, List, [], ◌∷◌, Option, Some, None}
 use Rattle.std.specs.Option.{option_map}
-use Rattle.frame_check.specs.Division.{with_check}
 use Rattle.frame_check.specs.declared.check.Check.TheVariants.{Sixteen}
 use Rattle.frame_check.specs.declared.sizes.TheConstants.{SLOT}
 use Rattle.bit_stuffing.specs.Slots.{Slot, slot_bits}
 use Rattle.bit_stuffing.specs.Slots.Slot.{Flags}
 use Rattle.lapm_frames.specs.declared.frame.Frame.{Frame}
 use Rattle.roles.specs.declared.role.Role.{Role}
-use Rattle.lapm_frames.specs.Frame.{spelled}
+use Rattle.lapm_frames.specs.Checked.{checked}
 use Rattle.thin_link.specs.Sent.{IsSendable, frame_of}
 use Rattle.thin_link.specs.declared.sent.Sent.{Sent}
 
@@ -16,9 +15,9 @@ use Rattle.thin_link.specs.declared.sent.Sent.{Sent}
 abbrev pub slot_size : ℕ
 slot_size = 4 * SLOT
 
--- a frame on the line: its octets with their check
+-- a frame on the line, on channel 0: its octets with the check of 16 bits
 abbrev pub frame_octets : Role → Frame → List ℕ
-frame_octets sender frame = with_check Sixteen (spelled frame sender 0)
+frame_octets sender frame = checked Sixteen sender 0 frame
 
 -- the slot in which something is sent: flags, and between them the frame, if there is one
 abbrev pub slot_of : Role → Sent → Slot

@@ -1,28 +1,14 @@
 // One direction of the line.
 ghost use Rattle.std.specs.Prelude.{◌≡◌, ◌≤◌, length};
 ghost use Rattle.frame_check.specs.declared.sizes.TheConstants.{SLOT, WHOLE};
-ghost use Rattle.lapm_frames.specs.Frame.{IsFrame};
-ghost use Rattle.line_world.specs.Slots.{frame_octets};
 
 use crate::receiver::Receiver;
 use crate::{Heard, Script};
 use bit_stuffing::{BitSlot, SlotWriter};
-use frame_check::{Check, SLOT, Whole, append};
-use lapm_frames::{Frame, write};
+use frame_check::{Check, SLOT};
+use lapm_frames::{Frame, write_checked};
 use roles::Role;
 use thin_link::Sent;
-
-/// A frame's octets with their check.
-fn whole_of(frame: &Frame, sender: Role) -> Whole
-    requires { IsFrame frame.now }
-    ensures octets { result ≡ frame_octets sender frame.now }
-    ensures short { length result ≤ WHOLE }
-{
-    let mut octets = Whole::new();
-    write(frame, sender, 0, &mut octets);
-    append(&mut octets, Check::Sixteen);
-    octets
-}
 
 /// The slots that one end sends, each of which arrives at the other in the next turn.
 #[derive(Drop)]
@@ -45,7 +31,9 @@ impl Direction {
     ghost use Rattle.line_world.specs.Heard.{crossed, frame_sent};
     ghost use Rattle.line_world.specs.Script.{loses};
     ghost use Rattle.line_world.specs.Slots.{slot_sent};
-    ghost use Rattle.line_world.specs.Received.{ArrivesIn, CarriesFrame, Receives};
+    ghost use Rattle.line_world.specs.Received.{ArrivesIn, Receives};
+    ghost use Rattle.frame_check.specs.declared.check.Check.TheVariants.{Sixteen};
+    ghost use Rattle.lapm_frames.specs.Checked.{SpellsFrame};
     ghost use Rattle.line_world.specs.Receiver.{ReceiverStands};
     ghost use Rattle.line_world.specs.Direction.{Carries, sender_of};
 
@@ -72,7 +60,7 @@ impl Direction {
         match sent.frame() {
             None => self.writer.slot(None, &mut self.slot),
             Some(frame) => {
-                let octets = whole_of(frame, self.receiver.sender());
+                let octets = write_checked(frame, Check::Sixteen, self.receiver.sender(), 0);
                 self.put(octets.as_slice());
             }
         }
@@ -84,7 +72,7 @@ impl Direction {
         requires short { length octets.now ≤ WHOLE }
         ensures sender { sender_of self.new ≡ sender_of self.old }
         ensures carries { (sender : Role) (slots : List Slot) (frame : Frame) → Carries self.old sender slots None
-            → CarriesFrame sender octets.now frame → Carries self.new sender slots (Some (Sent.Frame frame)) }
+            → SpellsFrame Sixteen sender 0 octets.now frame → Carries self.new sender slots (Some (Sent.Frame frame)) }
     {
         self.writer.slot(Some(octets), &mut self.slot);
     }

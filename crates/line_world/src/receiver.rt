@@ -4,30 +4,22 @@ ghost use Rattle.plain_lists.specs.Bits.{low_bits};
 ghost use Rattle.bit_stuffing.specs.BitSlot.{line_bits};
 ghost use Rattle.bit_stuffing.specs.declared.piece.Piece.TheVariants.{Whole};
 ghost use Rattle.lapm_frames.specs.declared.frame.Frame.{Frame};
-ghost use Rattle.line_world.specs.Received.{CarriesFrame, Receives};
+ghost use Rattle.lapm_frames.specs.Checked.{SpellsFrame};
+ghost use Rattle.frame_check.specs.declared.check.Check.TheVariants.{Sixteen};
+ghost use Rattle.line_world.specs.Received.{Receives};
 ghost use Rattle.line_world.specs.Receiver.{ReceiverStands, source_of};
 
 use bit_stuffing::{BitSlot, Deframer, Piece};
-use frame_check::{Check, passes};
-use lapm_frames::{Frame, read};
+use frame_check::Check;
+use lapm_frames::{Frame, read_checked};
 use roles::Role;
-
-/// How many octets the check of a frame has.
-const CHECK: usize = 2;
 
 /// The frame of a whole piece, where its octets pass the check and spell one.
 fn frame_of(octets: &[u8], sender: Role) -> Option<Frame>
-    ensures some { IfSome result (CarriesFrame sender octets.now) }
-    ensures none { IfNone result ((frame : Frame) → CarriesFrame sender octets.now frame → ⊥) }
+    ensures some { IfSome result (SpellsFrame Sixteen sender 0 octets.now) }
+    ensures none { IfNone result ((frame : Frame) → SpellsFrame Sixteen sender 0 octets.now frame → ⊥) }
 {
-    let Some(len) = octets.len().checked_sub(CHECK) else {
-        return None;
-    };
-    if !passes(octets, Check::Sixteen) {
-        return None;
-    }
-    let (front, _) = octets.split_at(len);
-    read(front, sender, 0).ok()
+    read_checked(octets, Check::Sixteen, sender, 0).ok()
 }
 
 fn is_whole(piece: Option<Piece>) -> bool

@@ -1,8 +1,8 @@
 -- What can be sent fits a slot of the most symbols.
-use Rattle.std.proofs.Common.{ℕ, ◌+◌, ◌<◌, ◌≤◌, length, lit≤, arith, length-append}
+use Rattle.std.proofs.Common.{ℕ, ◌<◌, ◌≤◌, length, lit≤, arith, length-append}
 use Rattle.frame_check.specs.declared.check.Check.{Check}
 use Rattle.frame_check.specs.declared.check.Check.TheVariants.{Sixteen, ThirtyTwo}
-use Rattle.frame_check.specs.declared.sizes.TheConstants.{INFO, WHOLE, SLOT}
+use Rattle.frame_check.specs.declared.sizes.TheConstants.{WHOLE, SLOT}
 use Rattle.frame_check.specs.Division.{check_of, count_of}
 use Rattle.frame_check.proofs.Checks.{length-check_of}
 use Rattle.bit_stuffing.proofs.Sizes.{length-opening}
@@ -12,7 +12,7 @@ use Rattle.lapm_frames.specs.Frame.{spelled, IsFrame}
 use Rattle.slot_contents.specs.declared.sent.Sent.{Sent}
 use Rattle.slot_contents.specs.declared.sent.Sent.TheVariants as sent
 use Rattle.lapm_frames.specs.Checked.{check_for, checked}
-use Rattle.lapm_frames.proofs.Checking.{length-spelled}
+use Rattle.lapm_frames.proofs.Octets.{spelled-short}
 use Rattle.sample_line.specs.Signals.{IsCodable, IsSendable}
 
 count-small : (check : Check) → count_of check ≤ 4
@@ -24,7 +24,7 @@ checked-short check sender dlci frame h =
     let used : Check = check_for check frame in
     omega (
       arith,
-      length-spelled frame sender dlci h,
+      spelled-short frame sender dlci h,
       length-append (spelled frame sender dlci) (check_of used (spelled frame sender dlci)),
       length-check_of used (spelled frame sender dlci),
       count-small used,

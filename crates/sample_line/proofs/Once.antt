@@ -7,7 +7,6 @@ use Rattle.std.proofs.lemmas.List.{take-append-drop, take-map}
 use Rattle.std.proofs.lemmas.List.Elements.{All-take}
 use Rattle.frame_check.specs.declared.check.Check.{Check}
 use Rattle.plain_lists.specs.Bits.{low_bits}
-use Rattle.frame_check.proofs.Checks.{fronts-one}
 use Rattle.scramblers.specs.Mode.{tap_of}
 use Rattle.scramblers.proofs.Readings.{Scrambles_once, Scrambles-take, Descrambles_once}
 use Rattle.symbol_map.specs.declared.sample.Sample.{Sample}
@@ -25,16 +24,14 @@ use Rattle.bit_stuffing.specs.Sent.{wholes}
 use Rattle.roles.specs.declared.role.Role.{Role}
 use Rattle.roles.specs.declared.role.Role.TheVariants.{Originator, Answerer}
 use Rattle.lapm_frames.specs.declared.frame.Frame.{Frame}
-use Rattle.lapm_frames.specs.Frame.{FrameSpelling}
-use Rattle.lapm_frames.proofs.Spellings.{frames-one}
 use Rattle.slot_contents.specs.declared.sent.Sent.{Sent}
 use Rattle.slot_contents.specs.declared.sent.Sent.TheVariants as sent
 use Rattle.noise_script.specs.Script.{ScriptValue, offset_of}
 use Rattle.slot_contents.specs.declared.heard.Heard.{Heard}
 use Rattle.slot_contents.specs.declared.heard.Heard.TheVariants as heard
 use Rattle.sample_line.specs.Outcomes.{IsSilent, IsWhatWasSent, IsOutcome}
-use Rattle.sample_line.specs.Recorded.{mode_of, displaced, displaced_from, Records}
-use Rattle.lapm_frames.specs.Checked.{SpellsFrame}
+use Rattle.sample_line.specs.Recorded.{displaced, displaced_from, Records}
+use Rattle.roles.specs.Role.{mode_of}
 use Rattle.lapm_frames.proofs.Checking.{spells-one}
 use Rattle.sample_line.specs.Received.{line_trellis, AreFrames, FoundBetween, Gives, Receives}
 

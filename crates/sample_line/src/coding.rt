@@ -11,7 +11,7 @@ ghost use Rattle.sample_line.specs.Signals.{signal_of, IsCodable};
 
 use bit_stuffing::{BitSlot, SlotWriter};
 use detection::{mark_slot, pattern_slot};
-use frame_check::{Check, Whole};
+use frame_check::Check;
 use lapm_frames::write_checked;
 use roles::Role;
 use slot_contents::{Seen, Sent};
@@ -73,8 +73,7 @@ pub(crate) fn write_sent(
         Sent::Adp => write_patterns(writer, symbols, Seen::Adp, out),
         Sent::Flags => writer.slot(None, out),
         Sent::Frame(frame) => {
-            let mut octets = Whole::new();
-            write_checked(frame, check, sender, dlci, &mut octets);
+            let octets = write_checked(frame, check, sender, dlci);
             writer.slot(Some(octets.as_slice()), out);
         }
     }

@@ -1,19 +1,11 @@
-use Rattle.std.proofs.Common.{◌-◌, ℕ, List, length, take, refl, subst}
-use Rattle.frame_check.specs.FrameCheck.{IsChecked, Passes}
+use Rattle.std.proofs.Common.{refl, subst}
 use Rattle.frame_check.specs.declared.check.Check.TheVariants.{Sixteen}
-use Rattle.frame_check.proofs.Checks.{front-checked}
+use Rattle.lapm_frames.specs.declared.fault.CheckedFault.{CheckedFault}
+use Rattle.lapm_frames.specs.Checked.{IsCheckedFault}
 use Rattle.frames_command.proofs.reading.read_whole.Goals as goal
 
--- the octets before the check
-checked-front : (whole : List ℕ) → Passes Sixteen whole → IsChecked Sixteen (take (length whole - 2) whole) whole
-checked-front whole p = subst (λ (xs : List ℕ). IsChecked Sixteen xs whole) (front-checked Sixteen p.octets whole p.checked) p.checked
+pub returns-in-Err-Refused : goal.returns-in-Err-Refused
+returns-in-Err-Refused c = subst (λ (f : CheckedFault). IsCheckedFault Sixteen c.args.sender 0 c.args.octets.now f) c.in-Err-Refused.field-0-is ((c.in-Err-Refused.ensures.fault c.in-Err-Refused.field-0).0 refl)
 
-pub returns-in-Ok : goal.returns-in-Ok
-returns-in-Ok c =
-    let whole = c.args.octets.now in
-    (take (length whole - 2) whole, checked-front whole (c.passes.ensures.0 c.if-not-passes.false), c.in-Ok.ensures.ok)
-
-pub returns-in-Err : goal.returns-in-Err
-returns-in-Err c =
-    let whole = c.args.octets.now in
-    (take (length whole - 2) whole, checked-front whole (c.passes.ensures.0 c.if-not-passes.false), (c.in-Err.ensures.fault c.in-Err.fault).0 refl)
+pub returns-in-Err-BadCheck : goal.returns-in-Err-BadCheck
+returns-in-Err-BadCheck c = (subst (λ (f : CheckedFault). IsCheckedFault Sixteen c.args.sender 0 c.args.octets.now f) c.in-Err-BadCheck.field-0-is ((c.in-Err-BadCheck.ensures.fault c.in-Err-BadCheck.field-0).0 refl), refl)

@@ -1,6 +1,9 @@
-use Rattle.std.proofs.Common.{None, sym, ap, subst, ◌∙◌}
+use Rattle.std.proofs.Common.{ℕ, List, None, sym, ap, subst, ◌∙◌}
 use Rattle.lapm_frames.specs.declared.frame.Frame.{Frame}
 use Rattle.roles.specs.declared.role.Role.{Role}
+use Rattle.frame_check.specs.declared.check.Check.TheVariants.{Sixteen}
+use Rattle.lapm_frames.specs.Checked.{SpellsFrame}
+use Rattle.lapm_frames.proofs.Checking.{spells}
 use Rattle.thin_link.specs.Sent.{IsSendable}
 use Rattle.thin_link.specs.declared.sent.Sent.TheVariants as sent
 use Rattle.bit_stuffing.specs.BitSlot.{line_bits}
@@ -30,7 +33,4 @@ returns-in-Some-clause-carries c sender slots h =
     let is = frame-is c.args.sent.now frame (sym c.in-Some.ensures) in
     as-sent _ sender slots c.args.sent.now (sent.Frame frame) is (c.put.ensures.carries sender slots frame
     (record { sender_is = h.sender_is; sendable = tt; fit = h.fit; coded = h.coded; passed = h.passed; bits = ap line_bits c.clear.ensures })
-    (record {
-      is_frame = subst IsSendable is c.requires;
-      octets_are = c.as_slice.ensures.items ∙ c.whole_of-octets.ensures.octets ∙ ap (λ (r : Role). frame_octets r frame) (c.sender.ensures ∙ h.sender_is);
-    }))
+    (subst (λ (xs : List ℕ). SpellsFrame Sixteen sender 0 xs frame) (sym (c.as_slice.ensures.items ∙ c.write_checked-octets.ensures ∙ ap (λ (r : Role). frame_octets r frame) (c.sender.ensures ∙ h.sender_is))) (spells Sixteen sender 0 frame (subst IsSendable is c.requires))))
