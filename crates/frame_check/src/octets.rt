@@ -1,6 +1,7 @@
 // Lists of octets of bounded length, which take no memory.
 ghost use Rattle.std.specs.Prelude.{◌≡◌, ◌≤◌, ◌<◌, ◌+◌, ◌==◌, [], ◌∷◌, ◌++◌, length, nat_eq};
 ghost use Rattle.std.specs.Cmp.{partial_equiv_from_equiv};
+ghost use Rattle.plain_lists.specs.Octets.{AreOctets};
 ghost use Rattle.std.specs.Cmp.Lexicographic.{pointwise, nat_list_eq_equiv};
 
 use crate::{INFO, WHOLE};
@@ -22,12 +23,13 @@ pub type Whole = Octets<WHOLE>;
 
 impl<const CAP: usize> Model for Octets<CAP> {
     ghost use Rattle.std.specs.Prelude.{List, ℕ, length, ◌≤◌};
+    ghost use Rattle.plain_lists.specs.Octets.{AreOctets};
 
     ghost Value = { List ℕ };
 
     ghost view = { λ o. o.items.items };
 
-    ghost invariant = { λ o. length o.items.items ≤ CAP };
+    ghost invariant = { λ o. (length o.items.items ≤ CAP) × AreOctets o.items.items };
 }
 
 impl<const CAP: usize> Octets<CAP> {
@@ -53,6 +55,7 @@ impl<const CAP: usize> Octets<CAP> {
     pub fn as_slice(&self) -> &[u8]
         ensures items { result.now ≡ self.now }
         ensures bound { length self.now ≤ CAP }
+        ensures octets { AreOctets self.now }
     {
         self.items.as_slice()
     }

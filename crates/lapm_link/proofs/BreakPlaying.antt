@@ -6,7 +6,7 @@ use Rattle.std.proofs.lemmas.List.{take-append-drop, append-nil, append_assoc}
 use Rattle.roles.specs.declared.role.Role.{Role}
 use Rattle.roles.specs.declared.role.Role.TheVariants.{Originator, Answerer}
 use Rattle.lapm_frames.specs.declared.frame.Frame.{Frame}
-use Rattle.lapm_frames.specs.declared.frame.Frame.TheVariants.{I, Rr, Rnr, Rej, Srej, Sabme, Disc, Ua, Dm, Frmr, Ui, Xid, Test}
+use Rattle.lapm_frames.specs.declared.frame.Frame.TheVariants.{I, Rr, Rnr, Rej, Srej, Sabme, Disc, Ua, Dm, Frmr, Ui, Xid}
 use Rattle.xid_params.specs.declared.offer.Offer.{Offer}
 use Rattle.xid_params.specs.Offers.{offer_in, written}
 use Rattle.lapm_sender.specs.Outgoing.{Outgoing, acknowledged, rejected, replied, selected, expired, after_next}
@@ -188,12 +188,10 @@ connected-both x y lx ly turn n (Rej command nr pf) h = leaves-both x y lx ly h 
 connected-both x y lx ly turn n (Srej command nr pf) h = leaves-both x y lx ly h (on_srej turn nr x) (number-leaves x turn nr (selected nr x.outgoing))
 connected-both x y lx ly turn n (Sabme pf) h = leaves-both x y lx ly h (on_sabme pf x) (sabme-leaves x pf (x.numbered || is_originator x.setup.role))
 connected-both x y lx ly turn n (Disc pf) h = leaves-both x y lx ly h (on_disc x.setup.role pf x) (disc-leaves x pf x.setup.role)
-connected-both x y lx ly turn n (Ua pf) h = h
 connected-both x y lx ly turn n (Dm pf) h = tt
 connected-both x y lx ly turn n (Frmr pf info) h = tt
 connected-both x y lx ly turn n (Ui command pf info) h = word-heard x y lx ly turn n (word_in info) h
-connected-both x y lx ly turn n (Xid command pf info) h = h
-connected-both x y lx ly turn n (Test command pf info) h = h
+connected-both x y lx ly turn n frame h = h
 
 frame-both : (x y : Account) (lx ly : List Slot) (turn n : ℕ) (frame : Frame) (p : Phase)
     → Both x.own_breaks y.own_breaks x.their_breaks y.their_breaks (brks_in lx) (brk_of (slots.Frame frame) n ++ brks_in ly) (acks_in lx) (ack_of (slots.Frame frame) n ++ acks_in ly)

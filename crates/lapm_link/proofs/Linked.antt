@@ -2,7 +2,7 @@
 use Rattle.std.proofs.Common.{◌≡◌, ℕ, ◌-◌, ◌%◌, ◌≤◌, ◌||◌, ◌&&◌, Bool, true, false, cond, List, [], ◌∷◌, ◌++◌, length, slice_index_or, refl, sym, ◌∙◌, ap, subst, Option, Some, None, Result, Ok, Err}
 use Rattle.std.specs.Option.{option_map}
 use Rattle.lapm_frames.specs.declared.frame.Frame.{Frame}
-use Rattle.lapm_frames.specs.declared.frame.Frame.TheVariants.{I, Rr, Rnr, Rej, Srej, Sabme, Disc, Ua, Dm, Frmr, Ui, Xid, Test}
+use Rattle.lapm_frames.specs.declared.frame.Frame.TheVariants.{I, Rr, Rnr, Rej, Srej, Ui}
 use Rattle.lapm_sender.specs.Meant.{meant}
 use Rattle.lapm_sender.specs.Outgoing.{Outgoing, acknowledged, rejected, replied, advanced, gone_back, wait_ended, next_number, sent_among}
 use Rattle.lapm_receiver.specs.Incoming.{Incoming, after_kind, kind_of, offset, next_expected, asks, after_asked, after_told}
@@ -180,13 +180,7 @@ hears-linked wo wi srej a po pi line rest turn n told (Rej command nr pf) h e = 
 hears-linked wo wi srej a po pi line rest turn n told (Srej command nr pf) h e = hears-srej wo wi srej a po pi line rest turn nr n told command pf h e
 hears-linked wo wi srej a po pi line rest turn n told (Ui command pf info) h e =
     hears-word wo wi srej a po pi line rest turn (word_in info) (passed wo wi srej a po pi line rest (record { sent = slots.Frame (Ui command pf info); number = n; told = told }) h)
-hears-linked wo wi srej a po pi line rest turn n told (Sabme pf) h e = absurd e
-hears-linked wo wi srej a po pi line rest turn n told (Disc pf) h e = absurd e
-hears-linked wo wi srej a po pi line rest turn n told (Ua pf) h e = absurd e
-hears-linked wo wi srej a po pi line rest turn n told (Dm pf) h e = absurd e
-hears-linked wo wi srej a po pi line rest turn n told (Frmr pf info) h e = absurd e
-hears-linked wo wi srej a po pi line rest turn n told (Xid command pf info) h e = absurd e
-hears-linked wo wi srej a po pi line rest turn n told (Test command pf info) h e = absurd e
+hears-linked wo wi srej a po pi line rest turn n told frame h e = absurd e
 
 -- Speaking
 

@@ -34,9 +34,9 @@ OnHeard (Err fault) = Unit {0}
 answer : (o : Option Answer) (a : Account) → AllSaid IsHeard (answering o a)
 answer None a = tt
 answer (Some answers.Adp) a = tt
-answer (Some answers.Xid) a = tt
-answer (Some (answers.Ua pf)) a = tt
-answer (Some (answers.Dm pf)) a = tt
+answer (Some answers.Xid) a = (tt, tt)
+answer (Some (answers.Ua pf)) a = (tt, tt)
+answer (Some (answers.Dm pf)) a = (tt, tt)
 
 segment : (turn : ℕ) (o : Option ℕ) (a : Account) → AllSaid IsHeard (says_segment turn o a)
 segment turn None a = tt
@@ -44,11 +44,11 @@ segment turn (Some n) a = (omega arith, omega arith)
 
 own : (o : Option BreakWord) (a : Account) → AllSaid IsHeard (says_own o a)
 own None a = tt
-own (Some word) a = tt
+own (Some word) a = (tt, tt)
 
 word : (o : Option BreakWord) (a : Account) → AllSaid IsHeard (says_break o a)
 word None a = own (own_due a.own_breaks) a
-word (Some w) a = tt
+word (Some w) a = (tt, tt)
 
 asking : (srej special : Bool) (o : Option ℕ) (a : Account) → AllSaid IsHeard (says_asking srej special o a)
 asking false special None a = tt
@@ -107,15 +107,15 @@ in_phase phases.Detecting turn release a = go a.setup.role
 in_phase phases.Negotiating turn release a = go a.setup.role
   where
     go : (r : Role) → OnHeard (speak_negotiating r turn a)
-    go Originator = tried turn (Xid true false (written a.setup.offer)) a tt
+    go Originator = tried turn (Xid true false (written a.setup.offer)) a (tt, tt)
     go Answerer = else-says IsHeard (answering a.owes.answer a) (says slots.Flags a) (answer a.owes.answer a) tt
-in_phase phases.Establishing turn release a = tried turn (Sabme true) a tt
+in_phase phases.Establishing turn release a = tried turn (Sabme true) a (tt, tt)
 in_phase phases.Connected turn release a = go (release && is_originator a.setup.role)
   where
     go : (b : Bool) → OnHeard (cond b (speak_releasing turn (trying phases.Releasing turn a)) (speak_linked turn a))
-    go true = tried turn (Disc true) (trying phases.Releasing turn a) tt
+    go true = tried turn (Disc true) (trying phases.Releasing turn a) (tt, tt)
     go false = linked turn a
-in_phase phases.Releasing turn release a = tried turn (Disc true) a tt
+in_phase phases.Releasing turn release a = tried turn (Disc true) a (tt, tt)
 in_phase phases.Closed turn release a = else-says IsHeard (answering a.owes.answer a) (says slots.Flags a) (answer a.owes.answer a) tt
 
 pub says_numbers : SaysNumbers

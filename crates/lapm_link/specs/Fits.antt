@@ -1,5 +1,6 @@
 -- How an end may be set up, and for which terms its parts have room.
 use Rattle.std.specs.Prelude.{◌≡◌, ◌≤◌, true}
+use Rattle.frame_check.specs.declared.sizes.TheConstants.{INFO}
 use Rattle.roles.specs.declared.role.Role.{Role}
 use Rattle.roles.specs.declared.role.Role.TheVariants.{Originator, Answerer}
 use Rattle.xid_params.specs.declared.offer.Offer.{Offer}
@@ -25,7 +26,7 @@ pub record Fits (setup : Setup) (terms : Terms) : Type 0 where
   pub other_low : 1 ≤ window_for (other setup.role) terms
   pub other_high : window_for (other setup.role) terms ≤ setup.offer.rx_window
   pub size_low : 1 ≤ size_for setup.role terms
-  pub size_high : size_for setup.role terms ≤ 128
+  pub size_high : size_for setup.role terms ≤ INFO
   pub selective : terms.srej ≡ true → window_for (other setup.role) terms ≤ 64
 
 -- what an end of this role agrees on where it offers the one and the other end the other: the originator's offer goes first

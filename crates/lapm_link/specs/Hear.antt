@@ -5,7 +5,7 @@ use Rattle.roles.specs.declared.role.Role.{Role}
 use Rattle.roles.specs.declared.role.Role.TheVariants.{Originator, Answerer}
 use Rattle.roles.specs.Role.{other}
 use Rattle.lapm_frames.specs.declared.frame.Frame.{Frame}
-use Rattle.lapm_frames.specs.declared.frame.Frame.TheVariants.{I, Rr, Rnr, Rej, Srej, Sabme, Disc, Ua, Dm, Frmr, Ui, Xid, Test}
+use Rattle.lapm_frames.specs.declared.frame.Frame.TheVariants.{I, Rr, Rnr, Rej, Srej, Sabme, Disc, Ua, Dm, Frmr, Ui, Xid}
 use Rattle.xid_params.specs.declared.offer.Offer.{Offer}
 use Rattle.xid_params.specs.Terms.{agree, default_offer}
 use Rattle.xid_params.specs.Offers.{offer_in}
@@ -185,7 +185,7 @@ on_word turn (Ok (Brk number length_octet)) a = record a { their_breaks = after_
 on_word turn (Ok (Ack number length_octet)) a = record a { own_breaks = after_answer turn number a.own_breaks }
 on_word turn (Err fault) a = a
 
--- Connected: one row a kind of frame
+-- Connected: one row a kind of frame; UA, XID and TEST change nothing
 abbrev pub on_connected : Frame → ℕ → Account → Result Account LinkFault
 on_connected (I ns nr pf info) turn a = on_i turn ns nr pf info a
 on_connected (Rr command nr pf) turn a = on_ready turn command nr pf a
@@ -194,12 +194,10 @@ on_connected (Rej command nr pf) turn a = on_rej turn command nr pf a
 on_connected (Srej command nr pf) turn a = on_srej turn nr a
 on_connected (Sabme pf) turn a = on_sabme pf a
 on_connected (Disc pf) turn a = on_disc a.setup.role pf a
-on_connected (Ua pf) turn a = Ok a
 on_connected (Dm pf) turn a = Err PeerRefused
 on_connected (Frmr pf info) turn a = Err (peer_reset a)
 on_connected (Ui command pf info) turn a = Ok (on_word turn (word_in info) a)
-on_connected (Xid command pf info) turn a = Ok a
-on_connected (Test command pf info) turn a = Ok a
+on_connected frame turn a = Ok a
 
 abbrev pub on_frame : Phase → Frame → ℕ → Account → Result Account LinkFault
 on_frame Detecting frame turn a = on_detecting a.setup.role frame turn a

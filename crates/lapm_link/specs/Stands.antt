@@ -1,8 +1,8 @@
 -- For which account an end stands, and what its calls then answer. An end keeps of its account what its state can still need.
-use Rattle.std.specs.Prelude.{◌≡◌, ℕ, ◌<◌, ◌≤◌, Bool, false, if◌then◌else◌, nat_lt, length, Option, Some, None, Result, Ok, Err, slice_index_or}
+use Rattle.std.specs.Prelude.{◌≡◌, ℕ, ◌<◌, ◌≤◌, Bool, false, if◌then◌else◌, nat_lt, length, Option, Some, None, IfSome, Result, Ok, Err, slice_index_or}
 use Rattle.roles.specs.declared.role.Role.TheVariants.{Originator, Answerer}
 use Rattle.lapm_frames.specs.declared.frame.Frame.{Frame}
-use Rattle.lapm_frames.specs.declared.frame.Frame.TheVariants.{I, Rr, Rnr, Rej, Srej, Sabme, Disc, Ua, Dm, Frmr, Ui, Xid, Test}
+use Rattle.lapm_frames.specs.Parts.{parts_of}
 use Rattle.xid_params.specs.declared.terms.Terms.{Terms}
 use Rattle.lapm_sender.specs.Outgoing as outgoing
 use Rattle.lapm_sender.specs.Sending.{StandsOut, wanted_by}
@@ -156,19 +156,7 @@ Speaks (Err fault) a before sent (Ok end) = ⊥
 
 -- the numbers of a heard frame are below 128
 abbrev pub HasNumbers : Frame → Type 0
-HasNumbers (I ns nr pf info) = (ns < 128) × (nr < 128)
-HasNumbers (Rr command nr pf) = nr < 128
-HasNumbers (Rnr command nr pf) = nr < 128
-HasNumbers (Rej command nr pf) = nr < 128
-HasNumbers (Srej command nr pf) = nr < 128
-HasNumbers (Sabme pf) = Unit {0}
-HasNumbers (Disc pf) = Unit {0}
-HasNumbers (Ua pf) = Unit {0}
-HasNumbers (Dm pf) = Unit {0}
-HasNumbers (Frmr pf info) = Unit {0}
-HasNumbers (Ui command pf info) = Unit {0}
-HasNumbers (Xid command pf info) = Unit {0}
-HasNumbers (Test command pf info) = Unit {0}
+HasNumbers frame = IfSome (parts_of frame).ns (λ ns. ns < 128) × IfSome (parts_of frame).nr (λ nr. nr < 128)
 
 abbrev pub IsNumbered : Arrived → Type 0
 IsNumbered arrivals.Nothing = Unit {0}

@@ -1,4 +1,5 @@
 // Answers that an end owes at once.
+ghost use Rattle.slot_contents.specs.Sendable.{IsSendable};
 ghost use Rattle.std.specs.Prelude.{◌≡◌};
 ghost use Rattle.xid_params.specs.Offers.{IsAllowed};
 ghost use Rattle.lapm_link.specs.Account.{Account};
@@ -32,7 +33,8 @@ pub(crate) fn without_adp(answer: Option<Answer>) -> Option<Answer>
 /// An answer as it is sent.
 pub(crate) fn slot_of(answer: Answer, setup: &Setup) -> Sent
     requires { IsAllowed setup.now.offer }
-    ensures { (a : Account) → setup.now ≡ a.setup → result ≡ frame_for answer a }
+    ensures frame { (a : Account) → setup.now ≡ a.setup → result ≡ frame_for answer a }
+    ensures sendable { IsSendable result }
 {
     match answer {
         Answer::Adp => Sent::Adp,

@@ -1,4 +1,5 @@
 // An answerer that has heard an offer.
+ghost use Rattle.slot_contents.specs.Sendable.{IsSendable};
 ghost use Rattle.std.specs.Prelude.{◌≡◌};
 ghost use Rattle.roles.specs.declared.role.Role.{Role};
 ghost use Rattle.xid_params.specs.Offers.{IsAllowed, offer_in};
@@ -105,6 +106,7 @@ impl Answering {
     pub(crate) fn speak(self, sent: &mut Sent) -> AnyEnd
         ensures speaks { (a : Account) → IsAnswering self a → Speaks (speak_answer a) a sent.old sent.new (Ok result) }
         ensures takes_nothing { TakesNothing (AnyEnd.Negotiating (record { talk = Talk.Answering self })) result }
+        ensures sendable { IsSendable sent.new }
     {
         let mut answering = self;
         *sent = answering.agreed.memory.say_answer(Sent::Flags);

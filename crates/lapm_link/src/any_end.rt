@@ -1,5 +1,6 @@
 // An end in any of its states.
-ghost use Rattle.std.specs.Prelude.{◌≡◌, ◌+◌, ◌≤◌, ◌<◌, ◌^◌, ℕ, List, length, Some, None, IfOk, IsSomeAnd, is_some};
+ghost use Rattle.slot_contents.specs.Sendable.{IsSendable};
+ghost use Rattle.std.specs.Prelude.{◌≡◌, ◌+◌, ◌≤◌, ◌<◌, ◌^◌, ℕ, List, length, Some, None, IfOk, IsSomeAnd, is_some, OnErr};
 ghost use Rattle.std.specs.Bool.{OnFalse};
 ghost use Rattle.lapm_link.specs.Account.{Account, wants, piece_size, after_offer, delivers, after_delivery, is_done, takes_own, after_break_asked, break_waits, given_break, after_given};
 ghost use Rattle.lapm_link.specs.Hear.{hear};
@@ -51,6 +52,8 @@ impl AnyEnd {
         requires { turn < 2 ^ 40 }
         ensures speaks { (a : Account) → StandsFor self a → Speaks (speak turn release a) a sent.old sent.new result }
         ensures takes_nothing { IfOk result (TakesNothing self) }
+        ensures sendable { IfOk result (λ _. IsSendable sent.new) }
+        ensures unchanged { OnErr result (sent.new ≡ sent.old) }
     {
         match self {
             AnyEnd::Detecting(end) => end.speak(turn, release, sent),

@@ -1,5 +1,6 @@
 // An originator that sends its offer.
-ghost use Rattle.std.specs.Prelude.{◌≡◌, IfOk};
+ghost use Rattle.slot_contents.specs.Sendable.{IsSendable};
+ghost use Rattle.std.specs.Prelude.{◌≡◌, IfOk, OnErr};
 ghost use Rattle.roles.specs.declared.role.Role.{Role};
 ghost use Rattle.xid_params.specs.Offers.{offer_in};
 
@@ -90,6 +91,8 @@ impl Asking {
     pub(crate) fn speak(self, turn: u64, sent: &mut Sent) -> Result<AnyEnd, Broken>
         ensures speaks { (a : Account) → IsAsking self a → Speaks (speak_negotiating Role.Originator turn a) a sent.old sent.new result }
         ensures takes_nothing { IfOk result (TakesNothing (AnyEnd.Negotiating (record { talk = Talk.Asking self }))) }
+        ensures sendable { IfOk result (λ _. IsSendable sent.new) }
+        ensures unchanged { OnErr result (sent.new ≡ sent.old) }
     {
         let mut asking = self;
         let setup = asking.memory.setup;

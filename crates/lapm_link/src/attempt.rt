@@ -1,5 +1,8 @@
 // A frame that goes until it is answered.
-ghost use Rattle.std.specs.Prelude.{◌≡◌, true};
+ghost use Rattle.lapm_frames.specs.declared.frame.Frame.{Frame};
+ghost use Rattle.slot_contents.specs.Sendable.{IsSendable};
+ghost use Rattle.slot_contents.specs.declared.sent.Sent.{Sent};
+ghost use Rattle.std.specs.Prelude.{◌≡◌, true, IfOk};
 
 use crate::timer::{is_expired, spent};
 use crate::{LinkFault, Sent, Setup};
@@ -34,7 +37,8 @@ impl Attempt {
 
     /// The frame, where it is to be sent.
     fn once(&mut self, frame: Frame) -> Sent
-        ensures { (a : Account) → Tries self.old a → TriesOnce (tries_frame frame a) a self.new result }
+        ensures tries { (a : Account) → Tries self.old a → TriesOnce (tries_frame frame a) a self.new result }
+        ensures sendable { IsSendable (Sent.Frame frame) → IsSendable result }
     {
         if !self.due {
             return Sent::Flags;
@@ -51,8 +55,9 @@ impl Attempt {
         front: u64,
         frame: Frame,
     ) -> Result<Sent, LinkFault>
-        ensures { (a : Account) → Tries self.old a → setup.now ≡ a.setup → front ≡ a.outgoing.front
+        ensures tries { (a : Account) → Tries self.old a → setup.now ≡ a.setup → front ≡ a.outgoing.front
             → TriesSo (u_try turn frame a) a self.new result }
+        ensures sendable { IsSendable (Sent.Frame frame) → IfOk result IsSendable }
     {
         if !is_expired(self.set, setup.period, turn) {
             return Ok(self.once(frame));

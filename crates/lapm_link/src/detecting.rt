@@ -1,5 +1,6 @@
 // An end that looks for the other one.
-ghost use Rattle.std.specs.Prelude.{◌≡◌, ◌<◌, ◌^◌, ◌+◌, ◌*◌, nat_le, IfOk};
+ghost use Rattle.slot_contents.specs.Sendable.{IsSendable};
+ghost use Rattle.std.specs.Prelude.{◌≡◌, ◌<◌, ◌^◌, ◌+◌, ◌*◌, nat_le, IfOk, OnErr};
 ghost use Rattle.roles.specs.declared.role.Role.{Role};
 ghost use Rattle.xid_params.specs.Offers.{offer_in};
 ghost use Rattle.lapm_link.specs.Fits.{IsSetUp};
@@ -112,6 +113,8 @@ impl Detecting {
         requires { turn < 2 ^ 40 }
         ensures speaks { (a : Account) → StandsFor (AnyEnd.Detecting self) a → Speaks (speak turn release a) a sent.old sent.new result }
         ensures takes_nothing { IfOk result (TakesNothing (AnyEnd.Detecting self)) }
+        ensures sendable { IfOk result (λ _. IsSendable sent.new) }
+        ensures unchanged { OnErr result (sent.new ≡ sent.old) }
     {
         let _ = release;
         let mut memory = self.memory;

@@ -1,5 +1,6 @@
 // An originator that sets the link up.
-ghost use Rattle.std.specs.Prelude.{◌≡◌, ◌<◌, ◌^◌, IfOk};
+ghost use Rattle.slot_contents.specs.Sendable.{IsSendable};
+ghost use Rattle.std.specs.Prelude.{◌≡◌, ◌<◌, ◌^◌, IfOk, OnErr};
 
 use crate::attempt::Attempt;
 use crate::unlinked::Agreed;
@@ -66,6 +67,8 @@ impl Establishing {
         requires { turn < 2 ^ 40 }
         ensures speaks { (a : Account) → StandsFor (AnyEnd.Establishing self) a → Speaks (speak turn release a) a sent.old sent.new result }
         ensures takes_nothing { IfOk result (TakesNothing (AnyEnd.Establishing self)) }
+        ensures sendable { IfOk result (λ _. IsSendable sent.new) }
+        ensures unchanged { OnErr result (sent.new ≡ sent.old) }
     {
         let _ = release;
         let mut end = self;

@@ -10,6 +10,7 @@ mod answering;
 mod any_end;
 mod asking;
 mod attempt;
+mod carried;
 mod closed;
 mod connected;
 mod detecting;

@@ -1,5 +1,6 @@
 // An end that negotiates.
-ghost use Rattle.std.specs.Prelude.{◌≡◌, ◌<◌, ◌^◌, IfOk};
+ghost use Rattle.slot_contents.specs.Sendable.{IsSendable};
+ghost use Rattle.std.specs.Prelude.{◌≡◌, ◌<◌, ◌^◌, IfOk, OnErr};
 
 use crate::answering::Answering;
 use crate::asking::Asking;
@@ -41,6 +42,8 @@ impl Negotiating {
         requires { turn < 2 ^ 40 }
         ensures speaks { (a : Account) → StandsFor (AnyEnd.Negotiating self) a → Speaks (speak turn release a) a sent.old sent.new result }
         ensures takes_nothing { IfOk result (TakesNothing (AnyEnd.Negotiating self)) }
+        ensures sendable { IfOk result (λ _. IsSendable sent.new) }
+        ensures unchanged { OnErr result (sent.new ≡ sent.old) }
     {
         let _ = release;
         match self.talk {

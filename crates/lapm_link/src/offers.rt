@@ -1,10 +1,13 @@
 // Offers in the information of XID frames.
-ghost use Rattle.std.specs.Prelude.{◌≡◌, IfSome};
+ghost use Rattle.std.specs.Prelude.{◌≡◌, ◌≤◌, length, IfSome};
+ghost use Rattle.plain_lists.specs.Octets.{AreOctets};
+ghost use Rattle.frame_check.specs.declared.sizes.TheConstants.{INFO};
 ghost use Rattle.roles.specs.declared.role.Role.{Role};
 ghost use Rattle.xid_params.specs.Terms.{agree};
 ghost use Rattle.xid_params.specs.Offers.{offer_in, written, IsAllowed};
 ghost use Rattle.lapm_link.specs.Fits.{agreed_by};
 
+use crate::carried::carried;
 use frame_check::Info;
 use roles::Role;
 use xid_params::{Offer, Terms, agree, read_offer, write_offer};
@@ -20,11 +23,13 @@ pub(crate) fn offer_of(info: &Info) -> Option<Offer>
 /// The information that spells this offer.
 pub(crate) fn spelled(offer: &Offer) -> Info
     requires { IsAllowed offer.now }
-    ensures { result ≡ written offer.now }
+    ensures value { result ≡ written offer.now }
+    ensures short { length result ≤ INFO }
+    ensures octets { AreOctets result }
 {
     let mut info = Info::new();
     write_offer(offer, &mut info);
-    info
+    carried(info)
 }
 
 /// What an end of this role agrees on, by its own offer and the other end's.

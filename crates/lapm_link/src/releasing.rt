@@ -1,5 +1,6 @@
 // An originator that takes the link down.
-ghost use Rattle.std.specs.Prelude.{◌≡◌, ◌<◌, ◌^◌, IfOk};
+ghost use Rattle.slot_contents.specs.Sendable.{IsSendable};
+ghost use Rattle.std.specs.Prelude.{◌≡◌, ◌<◌, ◌^◌, IfOk, OnErr};
 ghost use Rattle.lapm_link.specs.Fits.{IsSetUp};
 
 use crate::answer::{Answer, without_adp};
@@ -61,6 +62,8 @@ impl Releasing {
         requires { turn < 2 ^ 40 }
         ensures speaks { (a : Account) → StandsFor (AnyEnd.Releasing self) a → Speaks (speak turn release a) a sent.old sent.new result }
         ensures takes_nothing { IfOk result (TakesNothing (AnyEnd.Releasing self)) }
+        ensures sendable { IfOk result (λ _. IsSendable sent.new) }
+        ensures unchanged { OnErr result (sent.new ≡ sent.old) }
     {
         let _ = release;
         let mut end = self;

@@ -316,7 +316,7 @@ impl Connected {
                 end.on_word(turn, info);
                 Ok(AnyEnd::Connected(end))
             }
-            Frame::Ua { .. } | Frame::Xid { .. } | Frame::Test { .. } => Ok(AnyEnd::Connected(end)),
+            _ => Ok(AnyEnd::Connected(end)),
         }
     }
 

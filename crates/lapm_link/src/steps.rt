@@ -1,11 +1,13 @@
 // What a Connected end sends: the timers, and one function a step.
-ghost use Rattle.std.specs.Prelude.{◌≡◌, ◌<◌, ◌^◌, true, false, IfOk};
+ghost use Rattle.std.specs.Prelude.{◌≡◌, ◌<◌, ◌^◌, true, false, IfOk, IfSome, OnErr};
 ghost use Rattle.lapm_frames.specs.declared.frame.Frame.{Frame};
 ghost use Rattle.break_signals.specs.Words.{number_of, spelled};
+ghost use Rattle.slot_contents.specs.Sendable.{IsSendable};
 ghost use Rattle.slot_contents.specs.declared.sent.Sent.{Sent};
 
 use crate::answer::slot_of;
 use crate::attempt::Attempt;
+use crate::carried::carried;
 use crate::connected::Connected;
 use crate::releasing::Releasing;
 use crate::terms::is_originator;
@@ -18,14 +20,15 @@ use lapm_frames::Frame;
 /// A break's word as it is sent.
 fn word_slot(word: &BreakWord) -> Sent
     requires { number_of word.now < 2 }
-    ensures { result ≡ Sent.Frame (Frame.Ui true false (spelled word.now)) }
+    ensures sent { result ≡ Sent.Frame (Frame.Ui true false (spelled word.now)) }
+    ensures sendable { IsSendable result }
 {
     let mut info = Info::new();
     write_break(word, &mut info);
     Sent::Frame(Frame::Ui {
         command: true,
         pf: false,
-        info,
+        info: carried(info),
     })
 }
 
@@ -89,6 +92,7 @@ impl Connected {
     fn say_answer(&mut self) -> Option<Sent>
         ensures gives { (a : Account) → Links self.old a → Gives (step1 a) a self.new result }
         ensures same { SameTaken self.old self.new }
+        ensures sendable { IfSome result IsSendable }
     {
         match self.owes.answer {
             None => None,
@@ -104,6 +108,7 @@ impl Connected {
         ensures says { (a : Account) → Links self.old a
             → SaysLinked (says_frame (Frame.Rr command (nr_of a) pf) (telling a)) self.new result }
         ensures same { SameTaken self.old self.new }
+        ensures sendable { IsSendable result }
     {
         let nr = self.receiver.nr();
         self.receiver.told();
@@ -114,6 +119,7 @@ impl Connected {
     fn say_reply(&mut self) -> Option<Sent>
         ensures gives { (a : Account) → Links self.old a → Gives (step2 a) a self.new result }
         ensures same { SameTaken self.old self.new }
+        ensures sendable { IfSome result IsSendable }
     {
         if !self.owes.reply {
             return None;
@@ -126,6 +132,7 @@ impl Connected {
     fn say_poll(&mut self) -> Option<Sent>
         ensures gives { (a : Account) → Links self.old a → Gives (step3 a) a self.new result }
         ensures same { SameTaken self.old self.new }
+        ensures sendable { IfSome result IsSendable }
     {
         if !self.wait.poll {
             return None;
@@ -138,6 +145,7 @@ impl Connected {
     fn say_urgent(&mut self, turn: u64) -> Option<Sent>
         ensures gives { (a : Account) → Links self.old a → Gives (step4 turn a) a self.new result }
         ensures same { SameTaken self.old self.new }
+        ensures sendable { IfSome result IsSendable }
     {
         if !self.wait.urgent {
             return None;
@@ -149,6 +157,7 @@ impl Connected {
     fn say_break(&mut self, special: bool) -> Option<Sent>
         ensures gives { (a : Account) → Links self.old a → Gives (step5 special a) a self.new result }
         ensures same { SameTaken self.old self.new }
+        ensures sendable { IfSome result IsSendable }
     {
         if special {
             return None;
@@ -170,6 +179,7 @@ impl Connected {
     fn say_asking(&mut self, special: bool) -> Option<Sent>
         ensures gives { (a : Account) → Links self.old a → Gives (step6 special a) a self.new result }
         ensures same { SameTaken self.old self.new }
+        ensures sendable { IfSome result IsSendable }
     {
         let nr = self.receiver.ask()?;
         if !self.terms.srej {
@@ -197,6 +207,7 @@ impl Connected {
     fn say_segment(&mut self, turn: u64) -> Option<Sent>
         ensures gives { (a : Account) → Links self.old a → Gives (step7 turn a) a self.new result }
         ensures same { SameTaken self.old self.new }
+        ensures sendable { IfSome result IsSendable }
     {
         if !is_originator(self.setup.role) && !self.numbered {
             return None;
@@ -211,7 +222,7 @@ impl Connected {
             ns,
             nr,
             pf: false,
-            info,
+            info: carried(info),
         }))
     }
 
@@ -219,6 +230,7 @@ impl Connected {
     fn say_acknowledgement(&mut self) -> Option<Sent>
         ensures gives { (a : Account) → Links self.old a → Gives (step8 a) a self.new result }
         ensures same { SameTaken self.old self.new }
+        ensures sendable { IfSome result IsSendable }
     {
         if !self.receiver.owed() {
             return None;
@@ -230,6 +242,7 @@ impl Connected {
     fn first_step(&mut self, turn: u64, special: bool) -> Sent
         ensures says { (a : Account) → Links self.old a → SaysLinked (steps turn special a) self.new result }
         ensures same { SameTaken self.old self.new }
+        ensures sendable { IsSendable result }
     {
         if let Some(sent) = self.say_answer() {
             return sent;
@@ -272,6 +285,7 @@ impl Connected {
         requires { turn < 2 ^ 40 }
         ensures speaks { (a : Account) → Links self.old a → SpeaksLinked (speak_linked turn a) self.new result }
         ensures same { SameTaken self.old self.new }
+        ensures sendable { IfOk result IsSendable }
     {
         let special = self.special;
         self.on_timer(turn)?;
@@ -298,6 +312,8 @@ impl Connected {
         requires { turn < 2 ^ 40 }
         ensures speaks { (a : Account) → StandsFor (AnyEnd.Connected self) a → Speaks (speak turn release a) a sent.old sent.new result }
         ensures takes_nothing { IfOk result (TakesNothing (AnyEnd.Connected self)) }
+        ensures sendable { IfOk result (λ _. IsSendable sent.new) }
+        ensures unchanged { OnErr result (sent.new ≡ sent.old) }
     {
         if release && is_originator(self.setup.role) {
             return self.release(turn).speak(turn, release, sent);

@@ -1,4 +1,5 @@
 // What an end has before it is connected.
+ghost use Rattle.slot_contents.specs.Sendable.{IsSendable};
 ghost use Rattle.std.specs.Prelude.{◌≡◌, ℕ, ◌≤◌, ◌<◌, Some, None, IfOk};
 ghost use Rattle.xid_params.specs.Offers.{IsAllowed};
 ghost use Rattle.lapm_link.specs.Fits.{IsSetUp, Fits, agreed_by};
@@ -85,6 +86,7 @@ impl Unlinked {
         ensures account { (a : Account) → IsUnlinked self.old.setup self.old.answer a
             → SaysUnlinked (else_says (answering a.owes.answer a) (says otherwise a)) self.new.setup self.new.answer a result }
         ensures setup { self.new.setup ≡ self.old.setup }
+        ensures sendable { IsSendable otherwise → IsSendable result }
     {
         match self.answer {
             None => otherwise,

@@ -2,13 +2,17 @@
 ghost use Rattle.std.specs.Prelude.{◌≡◌, ◌<◌, ◌^◌, ◌%◌};
 ghost use Rattle.lapm_sender.specs.Meant.{meant};
 
-/// The number from `low` to `high` that `nr` stands for, modulo 128.
+/// The number from `low` to `high` that `nr` stands for, modulo 128. One of 128 or more stands for none.
 pub(crate) fn meant_by(low: u64, high: u64, nr: u8) -> Option<u64>
     requires { low < 2 ^ 60 }
     ensures { result ≡ meant low high nr }
 {
     let number = low + (u64::from(nr) + 128 - low % 128) % 128;
-    if number <= high { Some(number) } else { None }
+    if nr < 128 && number <= high {
+        Some(number)
+    } else {
+        None
+    }
 }
 
 /// The number as a frame carries it.

@@ -1,5 +1,5 @@
 // The window of an end's own segments.
-ghost use Rattle.std.specs.Prelude.{◌≡◌, ◌≤◌, ◌<◌, ◌^◌, length, IfOk, OnErr, IfNone, IsSomeAnd, MatchResult, MatchOption, is_some, [], ◌+◌, ◌-◌, ◌%◌, max, nat_lt, slice_index_or};
+ghost use Rattle.std.specs.Prelude.{◌≡◌, ◌≤◌, ◌<◌, ◌^◌, length, IfOk, OnErr, IfNone, IfSome, IsSomeAnd, MatchResult, MatchOption, is_some, [], ◌+◌, ◌-◌, ◌%◌, max, nat_lt, slice_index_or};
 ghost use Rattle.frame_check.specs.declared.sizes.TheConstants.{INFO};
 
 use crate::faults::{BadAck, Spent};
@@ -140,6 +140,7 @@ impl Sender {
             → MatchOption result (next_number o ≡ None) (GivesNext self.new out.new o) }
         ensures unchanged { IfNone result (self.new ≡ self.old) }
         ensures out_unchanged { IfNone result (out.new ≡ out.old) }
+        ensures seven_bits { IfSome result (λ ns. ns < 128) }
         ensures terms { SameTerms self.old self.new }
     {
         if self.awaited {
@@ -189,7 +190,6 @@ impl Sender {
 
     /// Takes the acknowledgement of all segments before number `nr` modulo 128. True where the front advanced.
     pub fn acked(&mut self, nr: u8) -> Result<bool, BadAck>
-        requires { nr < 128 }
         ensures answer { (o : Outgoing) → StandsOut self.old o
             → MatchResult result (Advances self.new o (acknowledged nr o)) (RefusesAck nr o (acknowledged nr o)) }
         ensures unchanged { OnErr result (self.new ≡ self.old) }
@@ -203,7 +203,6 @@ impl Sender {
 
     /// The same, and sending goes on from that number.
     pub fn rejected(&mut self, nr: u8) -> Result<bool, BadAck>
-        requires { nr < 128 }
         ensures answer { (o : Outgoing) → StandsOut self.old o
             → MatchResult result (Advances self.new o (rejected nr o)) (RefusesAck nr o (rejected nr o)) }
         ensures unchanged { OnErr result (self.new ≡ self.old) }
@@ -250,7 +249,6 @@ impl Sender {
 
     /// Takes the answer to a poll: as `rejected`, and no poll is awaited any more.
     pub fn replied(&mut self, nr: u8) -> Result<bool, BadAck>
-        requires { nr < 128 }
         ensures answer { (o : Outgoing) → StandsOut self.old o
             → MatchResult result (Advances self.new o (replied nr o)) (RefusesAck nr o (replied nr o)) }
         ensures unchanged { OnErr result (self.new ≡ self.old) }

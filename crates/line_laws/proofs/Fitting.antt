@@ -19,8 +19,9 @@ use Rattle.lapm_frames.specs.Checked.{check_for, checked}
 use Rattle.lapm_frames.proofs.Octets.{length-information, length-spelled, spelled-small}
 use Rattle.slot_contents.specs.declared.sent.Sent.{Sent}
 use Rattle.slot_contents.specs.declared.sent.Sent.TheVariants as sent
-use Rattle.sample_line.specs.Signals.{signal_of, IsCodable, IsSendable}
-use Rattle.line_laws.specs.Fitting.{Fits, AreFit, HasOctets, OfOctets}
+use Rattle.sample_line.specs.Signals.{signal_of, IsCodable}
+use Rattle.slot_contents.specs.Sendable.{IsSendable}
+use Rattle.line_laws.specs.Fitting.{Fits, AreFit, OfOctets}
 use Rattle.line_laws.proofs.Patterns.{ArePlain}
 
 pub fit-slot : (plain : ArePlain) (size phase : ℕ) (signal : Signal) → 552 < size → phase < 8 → Fits size phase signal → IsSlot size phase (slot_of size signal)
@@ -71,7 +72,7 @@ few-besides check sender dlci frame = omega (arith, length-whole check sender dl
 
 -- frames that can be coded
 
-pub short-codable : (check : Check) (sender : Role) (dlci symbols phase most : ℕ) (frame : Frame) → phase < 8 → IsFrame frame
+pub short-codable : (check : Check) (sender : Role) (dlci symbols phase most : ℕ) (frame : Frame) → phase < 8 → IsSendable (sent.Frame frame)
     → length (checked check sender dlci frame) ≤ most → 47 + 8 * most + 8 * most / 5 ≤ 4 * (symbols - TAIL)
     → IsCodable check sender dlci symbols phase (sent.Frame frame)
 short-codable check sender dlci symbols phase most frame low is few room =
@@ -86,12 +87,12 @@ checked-small check sender dlci frame low is h =
     let kind : Check = check_for check frame in
     All-append (λ octet. octet < 256) octets (check_of kind octets) (spelled-small frame sender dlci low is h) (check_of-is kind octets).are_octets
 
-pub spelled-octets : (check : Check) (sender : Role) (dlci : ℕ) (s : Sent) → dlci < 64 → IsSendable s → HasOctets s → OfOctets (signal_of check sender dlci s)
-spelled-octets check sender dlci sent.Mark low is h = tt
-spelled-octets check sender dlci sent.Odp low is h = tt
-spelled-octets check sender dlci sent.Adp low is h = tt
-spelled-octets check sender dlci sent.Flags low is h = tt
-spelled-octets check sender dlci (sent.Frame frame) low is h = checked-small check sender dlci frame low is h
+pub spelled-octets : (check : Check) (sender : Role) (dlci : ℕ) (s : Sent) → dlci < 64 → IsSendable s → OfOctets (signal_of check sender dlci s)
+spelled-octets check sender dlci sent.Mark low is = tt
+spelled-octets check sender dlci sent.Odp low is = tt
+spelled-octets check sender dlci sent.Adp low is = tt
+spelled-octets check sender dlci sent.Flags low is = tt
+spelled-octets check sender dlci (sent.Frame frame) low is = checked-small check sender dlci frame low is.0 is.1
 
 some-flags : (count : ℕ) (before behind : List Bool) → 8 * count ≤ length (before ++ flags count ++ behind)
 some-flags count before behind = omega (arith, length-append {A = Bool} (before ++ flags count) behind, length-append {A = Bool} before (flags count), length-flags count)
@@ -124,4 +125,4 @@ codable-fits check sender dlci symbols phase sent.Mark small k = tt
 codable-fits check sender dlci symbols phase sent.Odp small k = tt
 codable-fits check sender dlci symbols phase sent.Adp small k = tt
 codable-fits check sender dlci symbols phase sent.Flags small k = tt
-codable-fits check sender dlci symbols phase (sent.Frame frame) small k = frame-fits check sender dlci symbols phase frame small k.0 k.1
+codable-fits check sender dlci symbols phase (sent.Frame frame) small k = frame-fits check sender dlci symbols phase frame small k.0.0 k.1

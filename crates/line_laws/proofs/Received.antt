@@ -36,7 +36,8 @@ use Rattle.sample_line.specs.Outcomes.{IsPattern, IsOutcome}
 use Rattle.sample_line.specs.Recorded.{Records}
 use Rattle.roles.specs.Role.{mode_of}
 use Rattle.sample_line.specs.Received.{line_trellis, AreFrames, FoundBetween, Gives, Receives}
-use Rattle.sample_line.specs.Signals.{signal_of, IsSendable}
+use Rattle.sample_line.specs.Signals.{signal_of}
+use Rattle.slot_contents.specs.Sendable.{IsSendable}
 use Rattle.sample_line.specs.Line.{bits_behind, Kept, Passes, PassesSlot, sender_of, size_of}
 use Rattle.sample_line.proofs.Finding.{wholes-append}
 use Rattle.sample_line.proofs.Once.{given-stays, outcome-once, received-once, recordings-grow}
@@ -88,7 +89,7 @@ slot-frames size start phase true check sender dlci sent.Adp added is h = subst 
 slot-frames size start phase false check sender dlci sent.Adp added is h = subst (λ (xs : List Found). AreFrames check sender dlci (wholes xs) []) (sym h) refl
 slot-frames size start phase behind check sender dlci sent.Flags added is h = subst (λ (xs : List Found). AreFrames check sender dlci (wholes xs) []) (sym h) refl
 slot-frames size start phase behind check sender dlci (sent.Frame frame) added is h =
-    subst (λ (xs : List Found). AreFrames check sender dlci (wholes xs) (frame ∷ [])) (sym h) (inr (frame, [], spells check sender dlci frame is, refl, refl))
+    subst (λ (xs : List Found). AreFrames check sender dlci (wholes xs) (frame ∷ [])) (sym h) (inr (frame, [], spells check sender dlci frame is.0, refl, refl))
 
 slot-patterns : (check : Check) (sender : Role) (dlci start : ℕ) (s : Sent) → map (λ (sight : Sight). sight.seen) (seen_in start (signal_of check sender dlci s)) ≡ patterns_in s
 slot-patterns check sender dlci start sent.Mark = refl

@@ -5,7 +5,6 @@ use Rattle.bit_stuffing.specs.Slots as slots
 use Rattle.bit_stuffing.specs.Slots.{opening, next_phase}
 use Rattle.detection.specs.Slots.{Signal, slot_of}
 use Rattle.detection.specs.Slots.Signal.{PatternSlot, MarkSlot, FlagSlot}
-use Rattle.lapm_frames.specs.Frame.{information_of}
 use Rattle.slot_contents.specs.declared.sent.Sent.{Sent}
 use Rattle.slot_contents.specs.declared.sent.Sent.TheVariants as sent
 use Rattle.plain_lists.specs.Octets.{AreOctets}
@@ -29,11 +28,3 @@ OfOctets (PatternSlot seen) = Unit {0}
 OfOctets MarkSlot = Unit {0}
 OfOctets (FlagSlot None) = Unit {0}
 OfOctets (FlagSlot (Some octets)) = AreOctets octets
-
--- and so is the information of a frame that is sent
-abbrev pub HasOctets : Sent → Type 0
-HasOctets sent.Mark = Unit {0}
-HasOctets sent.Odp = Unit {0}
-HasOctets sent.Adp = Unit {0}
-HasOctets sent.Flags = Unit {0}
-HasOctets (sent.Frame frame) = AreOctets (information_of frame)

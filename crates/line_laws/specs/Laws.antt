@@ -20,12 +20,13 @@ use Rattle.noise_script.specs.Script.{ScriptValue}
 use Rattle.slot_contents.specs.declared.heard.Heard.{Heard}
 use Rattle.slot_contents.specs.declared.heard.Heard.TheVariants as heard
 use Rattle.lapm_frames.specs.Checked.{checked}
-use Rattle.sample_line.specs.Signals.{signal_of, IsCodable, IsSendable}
+use Rattle.sample_line.specs.Signals.{signal_of, IsCodable}
+use Rattle.slot_contents.specs.Sendable.{IsSendable}
 use Rattle.sample_line.specs.Recorded.{Records}
 use Rattle.sample_line.specs.Received.{Receives, line_trellis, line_depth}
 use Rattle.sample_line.specs.Path.{LosesAt, LosesWithin}
 use Rattle.sample_line.specs.Line.{Kept, Passes, PassesSlot, sender_of, size_of}
-use Rattle.line_laws.specs.Fitting.{Fits, AreFit, HasOctets, OfOctets}
+use Rattle.line_laws.specs.Fitting.{Fits, AreFit, OfOctets}
 use Rattle.line_laws.specs.Unhindered.{DisplacesNoneBefore, frames_in, patterns_in, unhindered}
 
 -- a script displaces no symbol before the first that its hit lines and noise lines for the role name
@@ -61,9 +62,9 @@ CodableFits = (check : Check) (sender : Role) (dlci symbols phase : ℕ) (s : Se
 abbrev pub CodableIsSendable : Type 0
 CodableIsSendable = (check : Check) (sender : Role) (dlci symbols phase : ℕ) (s : Sent) → IsCodable check sender dlci symbols phase s → IsSendable s
 
--- a frame is written in octets, if its information is
+-- what can be sent is written in octets
 abbrev pub SpelledInOctets : Type 0
-SpelledInOctets = (check : Check) (sender : Role) (dlci : ℕ) (s : Sent) → dlci < 64 → IsSendable s → HasOctets s → OfOctets (signal_of check sender dlci s)
+SpelledInOctets = (check : Check) (sender : Role) (dlci : ℕ) (s : Sent) → dlci < 64 → IsSendable s → OfOctets (signal_of check sender dlci s)
 
 -- a frame has at most seven octets besides its information: an address, two of control and four of check
 abbrev pub FewOctetsBesidesInformation : Type 0
@@ -72,7 +73,7 @@ FewOctetsBesidesInformation = (check : Check) (sender : Role) (dlci : ℕ) (fram
 
 -- a frame with its check of at most so many octets can be coded at each flag phase, if there is room for the longest stuffing of so many
 abbrev pub ShortIsCodable : Type 0
-ShortIsCodable = (check : Check) (sender : Role) (dlci symbols phase most : ℕ) (frame : Frame) → phase < 8 → IsFrame frame
+ShortIsCodable = (check : Check) (sender : Role) (dlci symbols phase most : ℕ) (frame : Frame) → phase < 8 → IsSendable (sent.Frame frame)
     → length (checked check sender dlci frame) ≤ most → 47 + 8 * most + 8 * most / 5 ≤ 4 * (symbols - TAIL)
     → IsCodable check sender dlci symbols phase (sent.Frame frame)
 

@@ -13,7 +13,8 @@ use Rattle.slot_contents.specs.declared.sent.Sent.{Sent}
 use Rattle.slot_contents.specs.declared.sent.Sent.TheVariants as sent
 use Rattle.lapm_frames.specs.Checked.{check_for, checked}
 use Rattle.lapm_frames.proofs.Octets.{spelled-short}
-use Rattle.sample_line.specs.Signals.{IsCodable, IsSendable}
+use Rattle.sample_line.specs.Signals.{IsCodable}
+use Rattle.slot_contents.specs.Sendable.{IsSendable}
 
 count-small : (check : Check) → count_of check ≤ 4
 count-small Sixteen = lit≤ tt
@@ -36,4 +37,4 @@ fits check sender dlci phase sent.Odp low h = tt
 fits check sender dlci phase sent.Adp low h = tt
 fits check sender dlci phase sent.Flags low h = tt
 fits check sender dlci phase (sent.Frame frame) low h =
-    (h, omega (arith, length-opening phase (checked check sender dlci frame) low, checked-short check sender dlci frame h))
+    (h, omega (arith, length-opening phase (checked check sender dlci frame) low, checked-short check sender dlci frame h.0))

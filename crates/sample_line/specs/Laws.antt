@@ -12,7 +12,8 @@ use Rattle.slot_contents.specs.declared.heard.Heard.{Heard}
 use Rattle.sample_line.specs.Recorded.{Records}
 use Rattle.sample_line.specs.Received.{Gives, Receives}
 use Rattle.sample_line.specs.Outcomes.{IsOutcome}
-use Rattle.sample_line.specs.Signals.{IsSendable, IsCodable}
+use Rattle.slot_contents.specs.Sendable.{IsSendable}
+use Rattle.sample_line.specs.Signals.{IsCodable}
 
 -- what is recorded of bits is one list
 abbrev pub RecordedOnce : Type 0

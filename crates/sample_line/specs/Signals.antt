@@ -2,13 +2,13 @@
 use Rattle.std.specs.Prelude.{ℕ, ◌-◌, ◌*◌, ◌≤◌, length, Some, None}
 use Rattle.frame_check.specs.declared.check.Check.{Check}
 use Rattle.roles.specs.declared.role.Role.{Role}
-use Rattle.lapm_frames.specs.Frame.{IsFrame}
 use Rattle.lapm_frames.specs.Checked.{checked}
 use Rattle.bit_stuffing.specs.declared.slot_writer.TheConstants.{TAIL}
 use Rattle.bit_stuffing.specs.Slots.{opening}
 use Rattle.slot_contents.specs.declared.seen.Seen.TheVariants as seen
 use Rattle.detection.specs.Slots.{Signal}
 use Rattle.detection.specs.Slots.Signal.{PatternSlot, MarkSlot, FlagSlot}
+use Rattle.slot_contents.specs.Sendable.{IsSendable}
 use Rattle.slot_contents.specs.declared.sent.Sent.{Sent}
 use Rattle.slot_contents.specs.declared.sent.Sent.TheVariants as sent
 
@@ -26,12 +26,4 @@ IsCodable check sender dlci symbols phase sent.Mark = Unit {0}
 IsCodable check sender dlci symbols phase sent.Odp = Unit {0}
 IsCodable check sender dlci symbols phase sent.Adp = Unit {0}
 IsCodable check sender dlci symbols phase sent.Flags = Unit {0}
-IsCodable check sender dlci symbols phase (sent.Frame frame) = IsFrame frame × (length (opening phase (Some (checked check sender dlci frame))) ≤ 4 * (symbols - TAIL))
-
--- what can be sent: a frame's numbers and information are in their limits
-abbrev pub IsSendable : Sent → Type 0
-IsSendable sent.Mark = Unit {0}
-IsSendable sent.Odp = Unit {0}
-IsSendable sent.Adp = Unit {0}
-IsSendable sent.Flags = Unit {0}
-IsSendable (sent.Frame frame) = IsFrame frame
+IsCodable check sender dlci symbols phase (sent.Frame frame) = IsSendable (sent.Frame frame) × (length (opening phase (Some (checked check sender dlci frame))) ≤ 4 * (symbols - TAIL))

@@ -17,12 +17,12 @@ again turn frame a attempt sent e f h = rw (e, f) (record { sent_is = h.sent_is;
 unspent : (left count tries : ℕ) → (left ≡ 0 → ⊥) → left + count ≡ tries → nat_eq count tries ≡ false
 unspent left count tries some e = grind (arith, nat_tests)
 
-pub returns : goal.returns
-returns c = λ a h s f.
+pub returns-clause-tries : goal.returns-clause-tries
+returns-clause-tries c = λ a h s f.
     again c.args.turn c.args.frame a _ _
     (rw (← h.set_is, ← s) (sym c.is_expired.ensures ∙ c.if-not-is_expired.false))
     (unspent c.args.self.now.left a.wait.try_count a.setup.tries c.if-self-eq0.false h.left_is)
-    (c.once-2.ensures (trying_again c.args.turn a) (record {
+    (c.once-2.ensures.tries (trying_again c.args.turn a) (record {
       due_is = refl;
       set_is = refl;
       left_is = omega (arith, h.left_is, c.if-self-eq0.false);
