@@ -13,8 +13,8 @@ use Rattle.survivors.specs.Trellises.{Trellis, trellis_of, IsSequence, HasLaws}
 use Rattle.survivors.specs.Survivors.{IsSurvivor, IsReleased, IsLost, LostIs}
 use Rattle.survivors.proofs.Fronts.{stays-prefix, released-once, lost-once, lost-stays, over-before}
 use Rattle.survivors.proofs.Least.{some-released, released-is_least}
-use Rattle.exact_decoder.specs.Decoder.{Decoding, DecoderStands, heard}
-use Rattle.exact_decoder.specs.Laws.{AreStarts, AreSent, IsOnlyLeast, OnlySentIsLeast, ReleasesSent, released_by, DecoderReleasesLeast, DecoderReleasesStay, DecodersAgree, FewUnreleased}
+use Rattle.exact_decoder.specs.Decoder.{heard}
+use Rattle.exact_decoder.specs.Laws.{AreStarts, IsOnlyLeast, OnlySentIsLeast, ReleasesSent, DecoderReleasesLeast, DecoderReleasesStay, DecodersAgree, FewUnreleased}
 
 -- what a code's laws say of its table
 pub record IsCodeTable (table : ℕ → ℕ → Option ℕ) (states labels steps : ℕ) : Type 0 where

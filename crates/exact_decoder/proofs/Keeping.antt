@@ -1,5 +1,5 @@
 -- What is kept of the survivors, over sums and columns.
-use Rattle.std.proofs.Common.{◌≡◌, ◌≢◌, ℕ, zero, suc, ◌+◌, ◌-◌, ◌*◌, ◌/◌, ◌%◌, ◌^◌, ◌<◌, ◌≤◌, ◌⊎◌, inl, inr, Bool, true, false, nat_lt, if◌then◌else◌, List, [], ◌∷◌, ◌++◌, length, map, take, drop, reverse, All, get_or, slice_index, slice_index_or, set, replicate, Option, Some, None, option_map, arith, add-one, length-append, refl, sym, ◌∙◌, ap, subst}
+use Rattle.std.proofs.Common.{◌≡◌, ◌≢◌, ℕ, zero, suc, ◌+◌, ◌-◌, ◌*◌, ◌/◌, ◌%◌, ◌^◌, ◌<◌, ◌≤◌, ◌⊎◌, inl, inr, Bool, true, false, nat_lt, List, [], ◌∷◌, ◌++◌, length, map, take, reverse, All, get_or, slice_index, set, replicate, Option, Some, None, option_map, arith, add-one, refl, sym, ◌∙◌, ap, subst}
 use Rattle.std.specs.List.{range_with_len}
 use Rattle.std.proofs.lemmas.Grind.{common_steps}
 use Rattle.std.proofs.lemmas.Bool.{cases_lt, cases_eq}
@@ -11,16 +11,16 @@ use Rattle.symbol_map.specs.declared.sample.Sample.{Sample}
 use Rattle.symbol_map.specs.Distance.{distance_of}
 use Rattle.trellis_tables.specs.Sequences.{Leads}
 use Rattle.trellis_tables.specs.Codes.{Reaches}
-use Rattle.survivors.specs.Trellises.{Trellis, trellis_of}
-use Rattle.survivors.specs.Steps.{Branch, Enters, Chooses}
+use Rattle.survivors.specs.Trellises.{trellis_of}
+use Rattle.survivors.specs.Steps.{Chooses}
 use Rattle.exact_decoder.specs.declared.choice.Choice.{Choice}
 use Rattle.exact_decoder.specs.Keys.{IsNearest, AreClose, IsLeastWay}
 use Rattle.exact_decoder.specs.Settled.{IsLeastKeyOf, far_key, leveled, settled, chosen, choice_in, choice_at}
-use Rattle.exact_decoder.specs.Columns.{Entry, branch_of, sum_of, sum_in, entry_in, sums_at, tail_at, entry_at, branches_at, new_sums_at}
-use Rattle.exact_decoder.specs.Traced.{traced, walked, IsColumn, AreColumns, Part, Splits}
-use Rattle.exact_decoder.specs.Kept.{Kept, kept_of, HoldsColumns, AreSums, AllChosen, Stepped, Covered, IsMoved, IsApart, IsParted, Released, IsLeastSum}
+use Rattle.exact_decoder.specs.Columns.{Entry, branch_of, sum_of, sum_in, entry_in, sums_at, tail_at, entry_at, new_sums_at}
+use Rattle.exact_decoder.specs.Traced.{traced, IsColumn, AreColumns, Part, Splits}
+use Rattle.exact_decoder.specs.Kept.{kept_of, HoldsColumns, AreSums, AllChosen, Stepped, Covered, IsParted, Released, IsLeastSum}
 use Rattle.exact_decoder.proofs.Subsets.{label-within}
-use Rattle.exact_decoder.proofs.Stepping.{IsCode, AreKeys, map-at, map-past, sum-known, sum-near, entry-near, entry-far, known-at, key-parts, chosen-all}
+use Rattle.exact_decoder.proofs.Stepping.{IsCode, AreKeys, map-at, map-past, sum-near, entry-near, entry-far, known-at, key-parts, chosen-all}
 use Rattle.exact_decoder.proofs.Walking.{length-traced, traced-below}
 
 -- the labels of a state

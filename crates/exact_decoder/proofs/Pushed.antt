@@ -1,5 +1,5 @@
 -- The decoder after one sample more.
-use Rattle.std.proofs.Common.{◌≡◌, ℕ, ◌+◌, ◌-◌, ◌*◌, ◌^◌, ◌<◌, ◌≤◌, inl, inr, Bool, List, [], ◌∷◌, ◌++◌, length, take, All, Option, Some, None, option_map, arith, append_assoc, length-append, refl, sym, ◌∙◌, ap, subst}
+use Rattle.std.proofs.Common.{◌≡◌, ℕ, ◌+◌, ◌-◌, ◌<◌, ◌≤◌, inl, inr, Bool, List, [], ◌∷◌, ◌++◌, length, take, Option, Some, None, option_map, arith, append_assoc, length-append, refl, sym, ◌∙◌, ap, subst}
 use Rattle.std.proofs.lemmas.Bool.{cases_lt}
 use Rattle.std.proofs.lemmas.List.{append-nil, take-append-le, take_all}
 use Rattle.symbol_map.specs.declared.sample.Sample.{Sample}
@@ -14,8 +14,8 @@ use Rattle.survivors.proofs.Release.{survivor-one, prefix-parted}
 use Rattle.survivors.proofs.Fronts.{released-once, over-before, lost-stays}
 use Rattle.exact_decoder.specs.Columns.{Entry, entry_at, branch_of, sums_at, branches_at, new_sums_at, tail_at}
 use Rattle.exact_decoder.specs.Kept.{Kept, IsParted, KeepsSurvivors, Stepped, Released}
-use Rattle.exact_decoder.specs.Memory.{Memory, sealed, opened}
-use Rattle.exact_decoder.specs.Decoder.{Decoding, IsSound, DecoderStands, heard}
+use Rattle.exact_decoder.specs.Memory.{opened}
+use Rattle.exact_decoder.specs.Decoder.{Decoding, DecoderStands, heard}
 
 -- the paths and sums may be written otherwise
 keeps-paths : {X : Type 0} (c : Trellis X) (samples : List X) (base : ℕ) (sums : ℕ → Option ℕ) (paths other : ℕ → List ℕ) → ((s m : ℕ) → sums s ≡ Some m → paths s ≡ other s) → Keeps c samples base sums paths → Keeps c samples base sums other

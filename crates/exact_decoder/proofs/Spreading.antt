@@ -1,19 +1,18 @@
 -- How far sums are apart.
-use Rattle.std.proofs.Common.{◌≡◌, ℕ, zero, suc, ◌+◌, ◌-◌, ◌*◌, ◌^◌, ◌<◌, ◌≤◌, min, inl, inr, Bool, true, List, [], ◌∷◌, ◌++◌, length, All, Option, Some, None, option_map, arith, length-append, refl, sym, ◌∙◌, ap, subst}
+use Rattle.std.proofs.Common.{◌≡◌, ℕ, zero, suc, ◌+◌, ◌-◌, ◌*◌, ◌^◌, ◌<◌, ◌≤◌, min, inl, inr, true, List, [], ◌∷◌, length, All, Option, Some, None, option_map, arith, length-append, refl, sym, ◌∙◌, ap, subst}
 use Rattle.std.proofs.lemmas.Bool.{cases_lt}
-use Rattle.std.proofs.lemmas.List.Elements.{All-same}
-use Rattle.std.proofs.Math.Nat.{min-le_left, min-le_right, min-eq_left, min-eq_right}
+use Rattle.std.proofs.Math.Nat.{min-le_left, min-eq_left, min-eq_right}
 use Rattle.symbol_map.specs.declared.sample.Sample.{Sample}
 use Rattle.symbol_map.specs.Distance.{distance_of}
 use Rattle.trellis_tables.specs.Sequences.{Leads}
 use Rattle.trellis_tables.specs.Codes.{IsBounded, StaysWithin, Reaches}
 use Rattle.trellis_tables.proofs.Sequences.{Leads-front}
 use Rattle.survivors.specs.Trellises.{Trellis, trellis_of}
-use Rattle.survivors.specs.Steps.{Branch, Enters, Chooses}
+use Rattle.survivors.specs.Steps.{Enters, Chooses}
 use Rattle.survivors.proofs.Snoc.{snoc_of}
-use Rattle.exact_decoder.specs.Columns.{Entry, branch_of, sum_of, sums_at, entry_at, branches_at, new_sums_at}
+use Rattle.exact_decoder.specs.Columns.{Entry, branch_of, sum_of, sums_at, entry_at, new_sums_at}
 use Rattle.exact_decoder.specs.Kept.{Kept, AllChosen, Stepped, Released}
-use Rattle.exact_decoder.specs.Memory.{Memory, sealed, opened}
+use Rattle.exact_decoder.specs.Memory.{opened}
 use Rattle.exact_decoder.specs.Decoder.{Decoding, IsNearAfter, IsSpread, IsSound}
 
 -- an entry with the sum that stands

@@ -7,7 +7,7 @@ use Rattle.survivors.specs.Trellises.{trellis_of}
 use Rattle.survivors.specs.Survivors.{IsReleased, IsFirstLeast}
 use Rattle.exact_decoder.specs.Columns.{tail_at}
 use Rattle.exact_decoder.specs.Kept.{Kept, KeepsSurvivors, IsLeastSum}
-use Rattle.exact_decoder.specs.Memory.{Memory, sealed, opened}
+use Rattle.exact_decoder.specs.Memory.{opened}
 use Rattle.exact_decoder.specs.Decoder.{Decoding, decoding_of, IsSound, DecoderStands, heard}
 use Rattle.exact_decoder.proofs.Least.{final-of}
 

@@ -13,3 +13,4 @@ pub mod Memory
 pub mod Decoder
 pub mod Laws
 pub mod Signs
+pub mod Flips

@@ -1,6 +1,6 @@
 -- What a decoder keeps of the survivors, sealed: how it is kept is this crate's own, and nothing that is said of a decoder elsewhere
 -- turns on it.
-use Rattle.std.specs.Prelude.{◌≡◌, ℕ, List, Option, refl}
+use Rattle.std.specs.Prelude.{ℕ, List, Option, refl}
 use Rattle.std.specs.Coded.{Coded, code_by, coded×, coded_list, coded_option, coded_ℕ}
 use Rattle.exact_decoder.specs.Kept.{Kept}
 

@@ -6,7 +6,7 @@ use outside_core::NoMemory;
 use std::alloc::Global;
 use std::process::Abort;
 use symbol_map::Sample;
-use trellis_tables::{LabelReader, TrellisCode, V32Code};
+use trellis_tables::{LabelReader, TrellisCode, V32Code, Way};
 
 const MIDDLE: Sample = Sample { re: 0, im: 0 };
 
@@ -86,12 +86,28 @@ fn lost_with_the_symbol_after_the_depth(rt: HostRuntime) -> Result<(), NoMemory>
 struct Signs;
 
 impl TrellisCode<1, 2> for Signs {
-    ghost use Rattle.std.proofs.Common.{lit≤};
-    ghost use Rattle.exact_decoder.specs.Signs.{signs_next, signs_point, signs_bounded, signs_within, signs_enters_once, signs_reaches, signs_differ};
+    ghost use Rattle.std.proofs.Common.{lit≤, refl};
+    ghost use Rattle.exact_decoder.specs.Signs.{signs_next, signs_point, signs_bounded, signs_within, signs_enters_once, signs_reaches, signs_before, signs_subset, signs_ways_within, signs_ways_lead, signs_ways_all, signs_differ};
 
     const REACH: usize = 1;
 
     ghost REACH = { 1 };
+
+    const PARALLEL: usize = 1;
+
+    ghost PARALLEL = { 1 };
+
+    const SUBSETS: usize = 2;
+
+    ghost SUBSETS = { 2 };
+
+    const WAYS: usize = 2;
+
+    ghost WAYS = { 2 };
+
+    ghost way_before = { signs_before };
+
+    ghost way_subset = { signs_subset };
 
     ghost table = { signs_next };
 
@@ -113,6 +129,13 @@ impl TrellisCode<1, 2> for Signs {
         }
     }
 
+    fn way(&self, _state: u8, place: u8) -> Way {
+        Way {
+            before: 0,
+            subset: place,
+        }
+    }
+
     ghost states_few = { (lit≤ tt, lit≤ tt) };
 
     ghost labels_few = { (lit≤ tt, lit≤ tt) };
@@ -130,6 +153,20 @@ impl TrellisCode<1, 2> for Signs {
     ghost reaches = { signs_reaches };
 
     ghost points_differ = { signs_differ };
+
+    ghost parallel_some = { lit≤ tt };
+
+    ghost ways_some = { lit≤ tt };
+
+    ghost ways_few = { lit≤ tt };
+
+    ghost subsets_fill = { refl };
+
+    ghost ways_within = { signs_ways_within };
+
+    ghost ways_lead = { signs_ways_lead };
+
+    ghost ways_all = { signs_ways_all };
 }
 
 #[test]
@@ -143,5 +180,110 @@ fn one_state_releases_each_label(rt: HostRuntime) -> Result<(), NoMemory> {
     assert_eq!(&rt; decoder.take(), Some(0));
     assert_eq!(&rt; decoder.pending(), 0);
     assert_eq!(&rt; decoder.finish().as_slice().len(), 0);
+    Ok(())
+}
+
+/// A code of two states, one of whose two labels changes the state.
+#[derive(Clone, Copy, Debug)]
+struct Flips;
+
+impl TrellisCode<2, 2> for Flips {
+    ghost use Rattle.std.proofs.Common.{lit≤, refl};
+    ghost use Rattle.exact_decoder.specs.Signs.{signs_point, signs_differ};
+    ghost use Rattle.exact_decoder.specs.Flips.{flips_next, flips_bounded, flips_within, flips_enters_once, flips_reaches, flips_before, flips_subset, flips_ways_within, flips_ways_lead, flips_ways_all};
+
+    const REACH: usize = 1;
+
+    ghost REACH = { 1 };
+
+    const PARALLEL: usize = 1;
+
+    ghost PARALLEL = { 1 };
+
+    const SUBSETS: usize = 2;
+
+    ghost SUBSETS = { 2 };
+
+    const WAYS: usize = 2;
+
+    ghost WAYS = { 2 };
+
+    ghost way_before = { flips_before };
+
+    ghost way_subset = { flips_subset };
+
+    ghost table = { flips_next };
+
+    ghost points = { signs_point };
+
+    fn next(&self, state: u8, label: u8) -> Option<u8> {
+        Some((state + label) % 2)
+    }
+
+    fn before(&self, state: u8, label: u8) -> Option<u8> {
+        Some((state + label) % 2)
+    }
+
+    fn point(&self, label: u8) -> Sample {
+        Signs.point(label)
+    }
+
+    fn way(&self, state: u8, place: u8) -> Way {
+        Way {
+            before: (state + place) % 2,
+            subset: place,
+        }
+    }
+
+    ghost states_few = { (lit≤ tt, lit≤ tt) };
+
+    ghost labels_few = { (lit≤ tt, lit≤ tt) };
+
+    ghost reach_some = { lit≤ tt };
+
+    ghost reach_few = { lit≤ tt };
+
+    ghost bounded = { flips_bounded };
+
+    ghost within = { flips_within };
+
+    ghost enters_once = { flips_enters_once };
+
+    ghost reaches = { flips_reaches };
+
+    ghost points_differ = { signs_differ };
+
+    ghost parallel_some = { lit≤ tt };
+
+    ghost ways_some = { lit≤ tt };
+
+    ghost ways_few = { lit≤ tt };
+
+    ghost subsets_fill = { refl };
+
+    ghost ways_within = { flips_ways_within };
+
+    ghost ways_lead = { flips_ways_lead };
+
+    ghost ways_all = { flips_ways_all };
+}
+
+// Survivors of both starts have the same labels and never meet in a state. Those of one start part with the first label.
+#[test]
+fn labels_of_two_starts_are_released(rt: HostRuntime) -> Result<(), NoMemory> {
+    let left = Sample { re: -900, im: 0 };
+    let right = Sample { re: 900, im: 0 };
+    let mut any: Decoder<Flips, 2, 2, 3> = Decoder::new_any(rt.alloc(), Flips)?;
+    assert!(&rt; any.push(left).is_ok());
+    assert_eq!(&rt; any.take(), Some(0));
+    assert_eq!(&rt; any.take(), None);
+    assert!(&rt; any.push(right).is_ok());
+    assert_eq!(&rt; any.take(), Some(1));
+    assert_eq!(&rt; any.pending(), 0);
+    let mut one: Decoder<Flips, 2, 2, 3> = Decoder::new(rt.alloc(), Flips, 1)?;
+    assert!(&rt; one.push(right).is_ok());
+    assert_eq!(&rt; one.pending(), 0);
+    let tail = one.finish();
+    assert_eq!(&rt; tail.as_slice(), [1].as_slice());
     Ok(())
 }

@@ -18,4 +18,6 @@ mod recorded;
 #[cfg(test)]
 mod scrambling;
 #[cfg(test)]
+mod survivor_lists;
+#[cfg(test)]
 mod trellis;

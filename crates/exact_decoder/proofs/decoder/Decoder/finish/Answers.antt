@@ -3,7 +3,7 @@ use Rattle.std.proofs.lemmas.List.Elements.{All-same}
 use Rattle.survivors.specs.Trellises.{trellis_of}
 use Rattle.survivors.specs.Survivors.{IsFirstLeast}
 use Rattle.exact_decoder.specs.Memory.{Memory, sealed, opened}
-use Rattle.exact_decoder.specs.Decoder.{Decoding, decoding_of, DecoderStands}
+use Rattle.exact_decoder.specs.Decoder.{decoding_of, DecoderStands}
 use Rattle.exact_decoder.proofs.Keeping.{All-turned}
 use Rattle.exact_decoder.proofs.Taken.{stands-final}
 use Rattle.exact_decoder.proofs.decoder.Decoder.finish.Goals as goal

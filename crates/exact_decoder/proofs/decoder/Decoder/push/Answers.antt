@@ -1,7 +1,7 @@
 use Rattle.std.proofs.Common.{◌≡◌, ◌+◌, ◌*◌, ◌<◌, ◌≤◌, ◌^◌, ◌++◌, min, lit<, Some, [], reverse, refl, sym, ◌∙◌, ap, subst, arith}
 use Rattle.std.proofs.Math.Nat.{min-le_right}
 use Rattle.exact_decoder.specs.Memory.{Memory, sealed, opened}
-use Rattle.exact_decoder.specs.Decoder.{Decoding, decoding_of, DecoderStands}
+use Rattle.exact_decoder.specs.Decoder.{decoding_of, DecoderStands}
 use Rattle.exact_decoder.proofs.Keeping.{All-turned}
 use Rattle.exact_decoder.proofs.Pushed.{Pushed, stands-goes_on, stands-lost, stands-stays}
 use Rattle.exact_decoder.proofs.Spreading.{sound-next}

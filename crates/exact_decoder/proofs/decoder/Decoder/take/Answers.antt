@@ -1,6 +1,6 @@
-use Rattle.std.proofs.Common.{◌≡◌, sym, subst}
+use Rattle.std.proofs.Common.{sym, subst}
 use Rattle.exact_decoder.specs.Memory.{Memory, sealed, opened}
-use Rattle.exact_decoder.specs.Decoder.{Decoding, decoding_of, IsSound, DecoderStands}
+use Rattle.exact_decoder.specs.Decoder.{DecoderStands}
 use Rattle.exact_decoder.proofs.Taken.{sound-popped, stands-popped}
 use Rattle.exact_decoder.proofs.decoder.Decoder.take.Goals as goal
 

@@ -1,4 +1,4 @@
-use Rattle.std.proofs.Common.{◌≡◌, ◌∙◌, Result, ℕ, List, Option, IfOk, map, lit<, replicate, set, None, Some, [], sym, ap, subst}
+use Rattle.std.proofs.Common.{◌≡◌, ◌∙◌, ℕ, List, Option, IfOk, map, lit<, replicate, set, None, Some, sym, ap, subst}
 use Rattle.exact_decoder.specs.Columns.{sum_in}
 use Rattle.exact_decoder.specs.Kept.{Kept, AreSums}
 use Rattle.exact_decoder.proofs.Started.{start_kept}

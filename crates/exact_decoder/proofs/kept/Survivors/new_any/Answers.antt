@@ -1,6 +1,5 @@
-use Rattle.std.proofs.Common.{◌≡◌, ◌∙◌, Result, ℕ, List, Option, IfOk, map, lit<, replicate, set, None, Some, [], sym, ap, subst}
-use Rattle.exact_decoder.specs.Columns.{sum_in}
-use Rattle.exact_decoder.specs.Kept.{Kept, AreSums}
+use Rattle.std.proofs.Common.{◌≡◌, ℕ, List, Option, IfOk, lit<, subst}
+use Rattle.exact_decoder.specs.Kept.{Kept}
 use Rattle.exact_decoder.proofs.Started.{start_kept}
 use Rattle.exact_decoder.proofs.Keeping.{any-sums, any-are}
 use Rattle.exact_decoder.proofs.kept.Survivors.new_any.Goals as goal

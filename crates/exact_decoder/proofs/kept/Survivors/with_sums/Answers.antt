@@ -1,4 +1,4 @@
-use Rattle.std.proofs.Common.{◌≡◌, ◌+◌, ◌<◌, map, ◌∙◌, ap, arith}
+use Rattle.std.proofs.Common.{map, ◌∙◌, ap, arith}
 use Rattle.std.proofs.lemmas.List.{length-map}
 use Rattle.exact_decoder.specs.Traced.{columns_in}
 use Rattle.exact_decoder.specs.Columns.{sum_in}

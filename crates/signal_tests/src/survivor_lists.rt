@@ -1,0 +1,195 @@
+// The decoder beside survivors as whole lists, which is the definition as plainly as can be.
+ghost use Rattle.std.specs.Prelude.{◌≡◌, ◌<◌, ◌≤◌, ◌^◌, [], OnOk};
+
+use exact_decoder::Decoder;
+use outside_core::NoMemory;
+use std::alloc::Global;
+use std::process::Abort;
+use symbol_map::{Sample, distance};
+use trellis_tables::{Encoder, TrellisCode, V32Code};
+
+type Line = Decoder<V32Code, 8, 32, 128>;
+
+/// The nearest sequence to a state, with its cost.
+#[derive(Drop)]
+struct Survivor {
+    cost: u64,
+    labels: Vec<u8>,
+}
+
+/// How many labels at the front of both lists are the same.
+fn shared(a: &[u8], b: &[u8]) -> usize {
+    a.iter().zip(b).take_while(|(x, y)| x == y).count()
+}
+
+/// The survivor of each state to which a sequence from state 0 leads.
+#[derive(Drop)]
+struct Survivors {
+    of_states: Vec<Option<Survivor>>,
+}
+
+impl Survivors {
+    fn new(alloc: Global) -> Result<Survivors, NoMemory> {
+        let mut of_states = Vec::new(alloc);
+        of_states.push(Some(Survivor {
+            cost: 0,
+            labels: Vec::new(alloc),
+        }))?;
+        Ok(Survivors { of_states })
+    }
+
+    fn of(&self, state: u8) -> Option<&Survivor> {
+        match self.of_states.get(state as usize) {
+            Some(Some(survivor)) => Some(survivor),
+            _ => None,
+        }
+    }
+
+    // The survivor of a state once one sample more was heard.
+    fn entered(&self, state: u8, sample: Sample) -> Result<Option<Survivor>, NoMemory>
+        requires { state < 8 }
+    {
+        let mut least: Option<(u64, u8, u8)> = None;
+        for label in 0..32u8 {
+            if let Some(before) = V32Code.before(state, label) {
+                if let Some(survivor) = self.of(before) {
+                    let cost = survivor
+                        .cost
+                        .saturating_add(distance(V32Code.point(label), sample));
+                    match least {
+                        Some((known, _, _)) if known <= cost => {}
+                        _ => least = Some((cost, label, before)),
+                    }
+                }
+            }
+        }
+        let Some((cost, label, before)) = least else {
+            return Ok(None);
+        };
+        let Some(survivor) = self.of(before) else {
+            return Ok(None);
+        };
+        let mut labels = survivor.labels.clone()?;
+        labels.push(label)?;
+        Ok(Some(Survivor { cost, labels }))
+    }
+
+    fn push(&mut self, alloc: Global, sample: Sample) -> Result<(), NoMemory> {
+        let mut of_states = Vec::new(alloc);
+        for state in 0..8u8 {
+            of_states.push(self.entered(state, sample)?)?;
+        }
+        self.of_states = of_states;
+        Ok(())
+    }
+
+    // The released labels, and those behind them in one survivor.
+    fn released(&self) -> (&[u8], &[u8]) {
+        let Some(Some(first)) = self.of_states.iter().find(|survivor| survivor.is_some()) else {
+            return (&[], &[]);
+        };
+        let labels = first.labels.as_slice();
+        let mut count = labels.len();
+        for survivor in &self.of_states {
+            if let Some(survivor) = survivor {
+                count = count.min(shared(labels, survivor.labels.as_slice()));
+            }
+        }
+        labels.split_at_checked(count).unwrap_or((labels, &[]))
+    }
+}
+
+/// The points of quads that are drawn by chance, with offsets of less than half the spread.
+#[derive(Drop)]
+struct Stream {
+    encoder: Encoder,
+    word: u32,
+}
+
+impl Stream {
+    fn draw(&mut self, below: u32) -> u32
+        requires { 1 ≤ below }
+        ensures { result < below }
+    {
+        self.word = self.word.wrapping_mul(1_664_525).wrapping_add(1_013_904_223);
+        (self.word >> 16) % below
+    }
+
+    fn displaced(&mut self, coordinate: i16, spread: u32) -> i16
+        requires low { 1 ≤ spread }
+        requires high { spread < 2 ^ 12 }
+    {
+        let offset = self.draw(spread) as i16;
+        coordinate
+            .saturating_add(offset)
+            .saturating_sub((spread / 2) as i16)
+    }
+
+    fn sample(&mut self, spread: u32) -> Sample
+        requires low { 1 ≤ spread }
+        requires high { spread < 2 ^ 12 }
+    {
+        let quad = self.draw(16) as u8;
+        let point = V32Code.point(self.encoder.push(quad));
+        Sample {
+            re: self.displaced(point.re, spread),
+            im: self.displaced(point.im, spread),
+        }
+    }
+}
+
+fn take_all(rt: &impl Abort, decoder: &mut Line, taken: &mut Vec<u8>) -> Result<(), NoMemory>
+    ensures pending { OnOk result (decoder.new.pending ≡ []) }
+    ensures count { decoder.new.count ≡ decoder.old.count }
+{
+    for _ in 0..decoder.pending() {
+        if let Some(label) = decoder.take() {
+            taken.push(label)?;
+        }
+    }
+    assert_eq!(rt; decoder.pending(), 0);
+    Ok(())
+}
+
+// With which symbol the line is lost, where from the symbol `middle` on all samples lie in the middle of the map. After each sample
+// the decoder has released what all survivors begin with.
+fn lost_with(
+    rt: &impl Abort,
+    alloc: Global,
+    spread: u32,
+    middle: u32,
+) -> Result<Option<u64>, NoMemory>
+    requires low { 1 ≤ spread }
+    requires high { spread < 2 ^ 12 }
+{
+    let mut decoder: Line = Decoder::new(alloc, V32Code, 0)?;
+    let mut survivors = Survivors::new(alloc)?;
+    let mut stream = Stream {
+        encoder: Encoder::new(),
+        word: 1,
+    };
+    let mut taken = Vec::new(alloc);
+    for symbol in 0..400u32 {
+        let sample = if symbol < middle { stream.sample(spread) } else { Sample { re: 0, im: 0 } };
+        survivors.push(alloc, sample)?;
+        let pushed = decoder.push(sample);
+        take_all(rt, &mut decoder, &mut taken)?;
+        let (released, unreleased) = survivors.released();
+        assert_eq!(rt; taken.as_slice(), released);
+        assert_eq!(rt; pushed.is_err(), unreleased.len() > 128);
+        if let Err(lost) = pushed {
+            assert_eq!(rt; lost.symbol, u64::from(symbol));
+            return Ok(Some(lost.symbol));
+        }
+    }
+    Ok(None)
+}
+
+#[test]
+fn both_release_the_same(rt: HostRuntime) -> Result<(), NoMemory> {
+    for spread in [1, 1001, 3001] {
+        assert_eq!(&rt; lost_with(&rt, rt.alloc(), spread, 400)?, None);
+    }
+    assert!(&rt; lost_with(&rt, rt.alloc(), 1001, 40)?.is_some());
+    Ok(())
+}
