@@ -14,9 +14,10 @@ use std::marker::Model;
 use symbol_map::Sample;
 use trellis_tables::TrellisCode;
 
-/// The line was lost with this symbol, counted from 0: more labels than the depth were unreleased after it.
+/// The line was lost with this symbol: more labels than the depth were unreleased after it.
 #[derive(Clone, Copy, Debug, PartialEq, Eq)]
 pub struct Lost {
+    /// The symbol's number, from 0.
     pub symbol: u64,
 }
 

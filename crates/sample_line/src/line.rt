@@ -23,10 +23,10 @@ use crate::receiver::Slot;
 use bit_stuffing::{BitSlot, SlotWriter};
 use exact_decoder::Lost;
 use frame_check::Check;
-use roles::Role;
-use slot_contents::Sent;
 use noise_script::Script;
 use outside_core::NoMemory;
+use roles::Role;
+use slot_contents::Sent;
 use std::alloc::Global;
 use std::marker::Model;
 

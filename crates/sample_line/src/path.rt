@@ -12,9 +12,9 @@ use crate::tally::Tally;
 use crate::transmitter::Transmitter;
 use bit_stuffing::BitSlot;
 use exact_decoder::Lost;
-use roles::Role;
 use noise_script::Script;
 use outside_core::NoMemory;
+use roles::Role;
 use std::alloc::Global;
 
 /// What makes samples of bits, and what hears them.

@@ -17,8 +17,8 @@ use detection::PatternReader;
 use frame_check::Check;
 use lapm_frames::Frame;
 use roles::Role;
-use slot_contents::Sent;
 use scramblers::Mode;
+use slot_contents::Sent;
 
 /// What is known of the slot that is received: what was sent in it, and how its receiver judges frames.
 #[derive(Clone, Copy)]

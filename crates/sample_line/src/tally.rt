@@ -7,9 +7,8 @@ ghost use Rattle.sample_line.specs.Outcomes.{is_message, IsLostAs, IsOutcome};
 ghost use Rattle.sample_line.specs.Tallies.{Tallies, carries, after_frame, after_pattern};
 
 use crate::Heard;
-use slot_contents::Seen;
 use lapm_frames::Frame;
-use slot_contents::Sent;
+use slot_contents::{Seen, Sent};
 
 /// What was received in a slot so far.
 #[derive(Clone, Copy, Debug)]

@@ -9,8 +9,8 @@ ghost use Rattle.sample_line.specs.Recorded.{saturated, displaced};
 ghost use Rattle.sample_line.specs.Transmits.{Transmits};
 
 use crate::modes::ModeModulator;
-use roles::Role;
 use noise_script::{Offset, Script};
+use roles::Role;
 use symbol_map::Sample;
 
 /// A coordinate, held at the ends of 16 bits.

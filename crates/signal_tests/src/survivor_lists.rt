@@ -111,7 +111,10 @@ impl Stream {
         requires { 1 ≤ below }
         ensures { result < below }
     {
-        self.word = self.word.wrapping_mul(1_664_525).wrapping_add(1_013_904_223);
+        self.word = self
+            .word
+            .wrapping_mul(1_664_525)
+            .wrapping_add(1_013_904_223);
         (self.word >> 16) % below
     }
 
@@ -170,7 +173,11 @@ fn lost_with(
     };
     let mut taken = Vec::new(alloc);
     for symbol in 0..400u32 {
-        let sample = if symbol < middle { stream.sample(spread) } else { Sample { re: 0, im: 0 } };
+        let sample = if symbol < middle {
+            stream.sample(spread)
+        } else {
+            Sample { re: 0, im: 0 }
+        };
         survivors.push(alloc, sample)?;
         let pushed = decoder.push(sample);
         take_all(rt, &mut decoder, &mut taken)?;
