@@ -134,8 +134,8 @@ fn shows<T: Display + Debug>(
     display: &str,
     debug: &str,
 ) -> Result<(), Fail> {
-    assert!(rt; format!(in alloc; "{fault}")? == display);
-    assert!(rt; format!(in alloc; "{fault:?}")? == debug);
+    assert!(rt; format!(in alloc; "{fault}")?.as_str() == display);
+    assert!(rt; format!(in alloc; "{fault:?}")?.as_str() == debug);
     Ok(())
 }
 

@@ -11,7 +11,7 @@ mod two_ends;
 
 use end::{Observed, Standing};
 use lapm_link::{LinkFault, Phase};
-use slot::{ARRIVALS, Slot};
+use slot::{ARRIVALS, Kind, Slot, Supervisory};
 use stage::{STAGES, Stage};
 
 /// What an end does in a turn by what it hears: the phase that it is then in and what it sends, or why it gives its link up.
@@ -96,6 +96,32 @@ fn compare_each(alloc: Global, stage: Stage) -> Result<(), Fail> {
 fn each_state_at_each_arrival(rt: HostRuntime) -> Result<(), Fail> {
     for stage in STAGES {
         compare_each(rt.alloc(), *stage)?;
+    }
+    Ok(())
+}
+
+#[test]
+fn an_acknowledgement_of_what_was_not_sent_ends_the_link(rt: HostRuntime) -> Result<(), Fail> {
+    let originator = Standing::at(rt.alloc(), Stage::PollSent)?;
+    let reply = Slot::S(Supervisory::Rr, Kind::Response, 5, false);
+    let broken = originator.broken_by(reply)?;
+    let bad = LinkFault::BadAck {
+        nr: 5,
+        va: 0,
+        high: 0,
+    };
+    assert!(&rt; broken.fault == bad);
+    Ok(())
+}
+
+/// The widest windows are set up where there is memory for them.
+#[test]
+fn ends_have_windows_of_127_segments(rt: HostRuntime) -> Result<(), Fail> {
+    for stage in [Stage::OriginatorDetecting, Stage::AnswererDetecting] {
+        let mut setup = stage.setup();
+        setup.offer.tx_window = 127;
+        setup.offer.rx_window = 127;
+        Standing::new(rt.alloc(), setup)?;
     }
     Ok(())
 }
