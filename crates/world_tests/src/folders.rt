@@ -103,7 +103,7 @@ fn the_disk_keeps_long_pieces(rt: HostRuntime) -> Result<(), Fail> {
     folder.append("long", &piece)?;
     let mut buf = [0u8; 1600];
     assert!(rt; folder.read_at("long", 0, &mut buf)? == 1500);
-    assert!(rt; buf[..1500] == piece);
+    assert!(rt; &buf[..1500] == piece.as_slice());
     Ok(())
 }
 
@@ -147,7 +147,7 @@ impl Write for Slow {
 }
 
 /// A transfer of 1,500 octets, 700 at a time, where so many are there and then this end comes.
-fn slow(left: usize, end: Option<ErrorKind>) -> Slow {
+fn transfer_of(left: usize, end: Option<ErrorKind>) -> Slow {
     Slow {
         step: 700,
         left,
@@ -160,10 +160,10 @@ fn long_reads_end_with_the_reader_alone(rt: HostRuntime) -> Result<(), Fail> {
     let fault = Some(ErrorKind::BrokenPipe);
     let mut buf = [0u8; 1500];
     for (left, end, count) in [(2000, None, 1500), (1500, fault, 1500), (1100, None, 1100)] {
-        assert!(rt; fill(&mut slow(left, end), &mut buf)? == count, "{left}");
+        assert!(rt; fill(&mut transfer_of(left, end), &mut buf)? == count, "{left}");
         assert!(rt; buf[..count].iter().all(|octet| *octet == b'r'), "{left}");
     }
-    match fill(&mut slow(1100, fault), &mut buf) {
+    match fill(&mut transfer_of(1100, fault), &mut buf) {
         Ok(_) => panic!(rt; "read over a fault"),
         Err(error) => assert!(rt; error.kind() == ErrorKind::BrokenPipe),
     }
@@ -175,12 +175,12 @@ fn long_writes_end_with_the_writer_alone(rt: HostRuntime) -> Result<(), Fail> {
     let piece = long_piece();
     let fault = Some(ErrorKind::BrokenPipe);
     for (left, end) in [(2000, None), (1500, fault)] {
-        let mut writer = slow(left, end);
+        let mut writer = transfer_of(left, end);
         write_all(&mut writer, &piece)?;
         assert!(rt; writer.left + 1500 == left, "{left}");
     }
     for (end, kind) in [(fault, ErrorKind::BrokenPipe), (None, ErrorKind::WriteZero)] {
-        match write_all(&mut slow(1100, end), &piece) {
+        match write_all(&mut transfer_of(1100, end), &piece) {
             Ok(()) => panic!(rt; "wrote over a fault"),
             Err(error) => assert!(rt; error.kind() == kind),
         }

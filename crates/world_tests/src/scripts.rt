@@ -104,7 +104,7 @@ fn lines_have_their_limits(rt: HostRuntime) -> Result<(), Fail> {
 
 #[test]
 fn a_script_of_the_longest_text(rt: HostRuntime) -> Result<(), Fail> {
-    let text = repeated(rt.alloc(), b"# not \n", 8192)?;
+    let text = repeated(rt.alloc(), b"# empty\n", 8192)?;
     assert_eq!(rt; text.len(), 65_536);
     if text.len() <= SCRIPT_OCTETS {
         let script = read_script(rt.alloc(), &text)?;
