@@ -1,12 +1,12 @@
 -- From every answer to when the command is done.
-use Rattle.std.proofs.Common.{◌≡◌, ◌⊎◌, ◌∙◌, inl, inr, ℕ, ◌≤◌, ◌<◌, List, [], ◌∷◌, IsTrue, length, Result, Ok, Err, sym, subst, arith}
+use Rattle.std.proofs.Common.{◌≡◌, ◌⊎◌, inl, inr, ℕ, ◌≤◌, ◌<◌, List, length, Result, Ok, Err, sym, subst, arith}
 use Rattle.outside_core.specs.Folder.{FolderState, octets_at, Rose}
 use Rattle.outside_core.specs.Steps.{Rose-later}
 use Rattle.outside_core.specs.declared.folder.FolderFault.TheVariants as folder
 use Rattle.command_base.specs.declared.limits.TheConstants.{FILE_LIMIT}
 use Rattle.command_base.specs.declared.status.Status.{Status}
-use Rattle.command_base.specs.declared.status.Status.TheVariants.{TooLong, ReadFault, NoMemory}
-use Rattle.command_base.specs.Sound.{IsSound, DoneUnlessMemory}
+use Rattle.command_base.specs.declared.status.Status.TheVariants.{NoMemory}
+use Rattle.command_base.specs.Sound.{DoneUnlessMemory}
 use Rattle.command_base.specs.Tells.{Tells}
 use Rattle.command_base.proofs.Answering.{told-or-memory}
 use Rattle.frames_command.specs.declared.fault.FramesFault.{FramesFault}

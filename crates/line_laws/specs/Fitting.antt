@@ -5,8 +5,6 @@ use Rattle.bit_stuffing.specs.Slots as slots
 use Rattle.bit_stuffing.specs.Slots.{opening, next_phase}
 use Rattle.detection.specs.Slots.{Signal, slot_of}
 use Rattle.detection.specs.Slots.Signal.{PatternSlot, MarkSlot, FlagSlot}
-use Rattle.slot_contents.specs.declared.sent.Sent.{Sent}
-use Rattle.slot_contents.specs.declared.sent.Sent.TheVariants as sent
 use Rattle.plain_lists.specs.Octets.{AreOctets}
 
 -- What fits a slot of this size, behind so many bits of an unfinished flag: a frame that a deframer takes, behind whose closing flag

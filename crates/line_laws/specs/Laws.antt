@@ -10,7 +10,7 @@ use Rattle.slot_contents.specs.declared.seen.Seen.{Seen}
 use Rattle.detection.specs.Slots.{Signal, signal_bits, slots_of}
 use Rattle.roles.specs.declared.role.Role.{Role}
 use Rattle.lapm_frames.specs.declared.frame.Frame.{Frame}
-use Rattle.lapm_frames.specs.Frame.{IsFrame, information_of}
+use Rattle.lapm_frames.specs.Frame.{information_of}
 use Rattle.slot_contents.specs.declared.sent.Sent.{Sent}
 use Rattle.slot_contents.specs.declared.sent.Sent.TheVariants as sent
 use Rattle.noise_script.specs.declared.entry.Hit.{Hit}

@@ -1,5 +1,5 @@
 // An end with one segment outstanding at a time.
-ghost use Rattle.std.specs.Prelude.{◌≡◌, slice_get, OnSome, ◌<◌, ◌+◌, ◌^◌, length, IfOk, ◌≤◌};
+ghost use Rattle.std.specs.Prelude.{◌≡◌, slice_get, OnSome, ◌<◌, ◌+◌, ◌^◌, length, IfOk, ◌≤◌, OnErr};
 ghost use Rattle.std.specs.Option.{option_copied};
 ghost use Rattle.thin_link.specs.Sent.{IsSendable};
 ghost use Rattle.thin_link.specs.Account.{Account, fresh, acknowledged, taken_with, hear, undelivered, wants, offer, whole, speak, speak_segment, speak_shortly, expired, deliver};
@@ -217,6 +217,7 @@ impl End {
         requires { turn < 2 ^ 40 }
         ensures account { (a : Account) → Stands self.old a → SpeaksAs (speak turn a) a self.new result }
         ensures frame { IfOk result IsSendable }
+        ensures unchanged { OnErr result (self.new ≡ self.old) }
         ensures counted { counted self.new ≡ counted self.old }
         ensures arrived { self.new.arrived ≡ self.old.arrived }
     {

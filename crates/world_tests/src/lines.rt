@@ -2,7 +2,7 @@
 ghost use Rattle.std.specs.Prelude.{◌≡◌, ◌+◌, ◌<◌, ◌^◌, List, [], OnOk};
 ghost use Rattle.frame_check.specs.declared.sizes.TheConstants.{SLOT};
 ghost use Rattle.detection.specs.Slots.{Signal};
-ghost use Rattle.sample_line.specs.Signals.{IsSendable};
+ghost use Rattle.slot_contents.specs.Sendable.{IsSendable};
 ghost use Rattle.sample_line.specs.Line.{LineStands};
 
 use bit_stuffing::BitSlot;

@@ -1,5 +1,5 @@
 // Offsets that turn one slot into another.
-ghost use Rattle.sample_line.specs.Signals.{IsSendable};
+ghost use Rattle.slot_contents.specs.Sendable.{IsSendable};
 
 use super::*;
 use lapm_frames::Frame;

@@ -1,5 +1,5 @@
 // Slots through noise.
-ghost use Rattle.sample_line.specs.Signals.{IsSendable};
+ghost use Rattle.slot_contents.specs.Sendable.{IsSendable};
 
 use super::*;
 use frame_check::Info;
