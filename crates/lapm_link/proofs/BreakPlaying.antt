@@ -1,5 +1,6 @@
 -- The breaks in a play of two ends of ours, whatever is lost.
 use Rattle.std.proofs.Common.{◌≡◌, ℕ, ◌+◌, ◌-◌, ◌*◌, ◌%◌, ◌<◌, ◌&&◌, ◌||◌, Bool, true, false, cond, nat_eq, nat_le, List, [], ◌∷◌, ◌++◌, length, drop, slice_index_or, arith, refl, sym, ◌∙◌, ap, subst, Option, Some, None, Result, Ok, Err}
+use Rattle.std.specs.Option.{option_map}
 use Rattle.std.specs.Prelude.{is_some}
 use Rattle.std.proofs.lemmas.Bool.{false≢true}
 use Rattle.std.proofs.lemmas.List.{take-append-drop, append-nil, append_assoc}
@@ -9,7 +10,7 @@ use Rattle.lapm_frames.specs.declared.frame.Frame.{Frame}
 use Rattle.lapm_frames.specs.declared.frame.Frame.TheVariants.{I, Rr, Rnr, Rej, Srej, Sabme, Disc, Ua, Dm, Frmr, Ui, Xid}
 use Rattle.xid_params.specs.declared.offer.Offer.{Offer}
 use Rattle.xid_params.specs.Offers.{offer_in, written}
-use Rattle.lapm_sender.specs.Outgoing.{Outgoing, acknowledged, rejected, replied, selected, expired, after_next}
+use Rattle.lapm_sender.specs.Outgoing.{Outgoing, paused_at, resumed, acknowledged, rejected, replied, selected, expired, after_next}
 use Rattle.lapm_receiver.specs.Incoming.{next_expected, asks, after_asked, after_delivered}
 use Rattle.break_signals.specs.declared.word.BreakWord.{BreakWord}
 use Rattle.break_signals.specs.declared.word.BreakWord.TheVariants.{Brk, Ack}
@@ -27,11 +28,11 @@ use Rattle.lapm_link.specs.declared.phase.Phase.{Phase}
 use Rattle.lapm_link.specs.declared.phase.Phase.TheVariants.{Detecting, Negotiating, Establishing, Connected, Releasing, Closed}
 use Rattle.lapm_link.specs.declared.answer.Answer.{Answer}
 use Rattle.lapm_link.specs.declared.answer.Answer.TheVariants as answers
-use Rattle.lapm_link.specs.Account.{Account, Wait, fresh, is_connected, after_offer, after_delivery, after_break_asked, wants, piece_size}
+use Rattle.lapm_link.specs.Account.{Account, Wait, fresh, is_connected, after_offer, after_delivery, after_break_asked, wants, piece_size, after_busy}
 use Rattle.roles.specs.Role.{is_originator}
-use Rattle.lapm_link.specs.Hear.{hear, on_frame, on_connected, on_detecting, on_negotiating, on_establishing, on_releasing, on_closed, on_xid_command, on_xid_response, on_i, on_ready, on_rej, on_srej, on_number, on_sabme, peer_reset, on_disc, on_word, on_seen, on_pattern, then_in, replying, hurrying, taking, ends_wait, owing, trying}
-use Rattle.lapm_link.specs.Speak.{Said, says, says_frame, says_own, says_break, says_asking, says_segment, else_says, where_says, steps, step1, step2, step3, step4, step5, step6, step7, step8, step9, may_send, nr_of, telling, running, speak, speak_in, speak_detecting, speak_negotiating, speak_releasing, speak_linked, u_try, tries_frame, trying_again, answering, on_timer, on_break_timer, then_tries, after_timers, polling, breaking, spent, timer_expires}
-use Rattle.lapm_link.specs.Play.{Slot, Side, Play, Pair, Event, Speaks, Passes, Is_lost, Hears_nothing, Is_offered, Is_asked, Delivers, Gives_break, arrives, seen_from, play_of, spoken, heard, passes, is_lost, is_offered, happens_at, role_of, goes_on, happens, play, start}
+use Rattle.lapm_link.specs.Hear.{hear, on_frame, on_connected, on_detecting, on_negotiating, on_establishing, on_releasing, on_closed, on_xid_command, on_xid_response, on_i, on_ready, on_rej, on_srej, on_number, on_sabme, peer_reset, on_disc, on_word, on_seen, on_pattern, then_in, replying, hurrying, taking, ends_wait, owing, trying, on_rnr, pausing}
+use Rattle.lapm_link.specs.Speak.{Said, says, says_frame, says_own, says_break, says_asking, says_segment, else_says, where_says, steps, step1, step2, step3, step4, step5, step6, step7, step8, step9, may_send, nr_of, telling, running, speak, speak_in, speak_detecting, speak_negotiating, speak_releasing, speak_linked, u_try, tries_frame, trying_again, answering, on_timer, on_break_timer, then_tries, after_timers, polling, breaking, spent, timer_expires, tells, ready_frame, differs, has_news}
+use Rattle.lapm_link.specs.Play.{Slot, Side, Play, Pair, Event, Speaks, Passes, Is_lost, Hears_nothing, Is_offered, Is_asked, Delivers, Gives_break, arrives, seen_from, play_of, spoken, heard, passes, is_lost, is_offered, happens_at, role_of, goes_on, happens, play, start, Is_busy}
 use Rattle.lapm_link.specs.Laws.{played, GivesBreaksInOrder}
 use Rattle.plain_lists.specs.Prefix.{IsPrefixOf}
 use Rattle.lapm_link.proofs.Linked.{AllSaid, else-says, where-says}
@@ -123,6 +124,10 @@ used-leaves : (a : Account) (turn nr : ℕ) (asked ended : Bool) (o : Option Out
 used-leaves a turn nr asked ended None = tt
 used-leaves a turn nr asked ended (Some o) = (refl, refl)
 
+pausing-leaves : (a : Account) (turn nr : ℕ) (asked : Bool) (o : Option Outgoing) → OnHeard (Leaves a) (then_in (λ b. pausing turn (replying asked b)) (on_number turn nr o a))
+pausing-leaves a turn nr asked None = tt
+pausing-leaves a turn nr asked (Some o) = (refl, refl)
+
 xid-leaves : (a : Account) (o : Option Offer) → Leaves a (on_xid_command o a)
 xid-leaves a None = (refl, refl)
 xid-leaves a (Some o) = (refl, refl)
@@ -182,9 +187,9 @@ connected-both : (x y : Account) (lx ly : List Slot) (turn n : ℕ) (frame : Fra
     → Both x.own_breaks y.own_breaks x.their_breaks y.their_breaks (brks_in lx) (brk_of (slots.Frame frame) n ++ brks_in ly) (acks_in lx) (ack_of (slots.Frame frame) n ++ acks_in ly)
     → OnHeard (λ b. BothGo b y lx ly) (on_connected frame turn x)
 connected-both x y lx ly turn n (I ns nr pf info) h = leaves-both x y lx ly h (on_i turn ns nr pf info x) (i-leaves x turn ns nr pf info)
-connected-both x y lx ly turn n (Rr command nr pf) h = leaves-both x y lx ly h (on_ready turn command nr pf x) (used-leaves x turn nr (command && pf) (ends_wait command pf x) (cond (ends_wait command pf x) (replied nr x.outgoing) (acknowledged nr x.outgoing)))
-connected-both x y lx ly turn n (Rnr command nr pf) h = leaves-both x y lx ly h (on_ready turn command nr pf x) (used-leaves x turn nr (command && pf) (ends_wait command pf x) (cond (ends_wait command pf x) (replied nr x.outgoing) (acknowledged nr x.outgoing)))
-connected-both x y lx ly turn n (Rej command nr pf) h = leaves-both x y lx ly h (on_rej turn command nr pf x) (used-leaves x turn nr (command && pf) (ends_wait command pf x) (cond (ends_wait command pf x) (replied nr x.outgoing) (rejected nr x.outgoing)))
+connected-both x y lx ly turn n (Rr command nr pf) h = leaves-both x y lx ly h (on_ready turn command nr pf x) (used-leaves x turn nr (command && pf) (ends_wait command pf x) (option_map resumed (cond (ends_wait command pf x) (replied nr x.outgoing) (acknowledged nr x.outgoing))))
+connected-both x y lx ly turn n (Rnr command nr pf) h = leaves-both x y lx ly h (on_rnr turn command nr pf x) (pausing-leaves x turn nr (command && pf) (option_map paused_at (cond (ends_wait command pf x) (replied nr x.outgoing) (acknowledged nr x.outgoing))))
+connected-both x y lx ly turn n (Rej command nr pf) h = leaves-both x y lx ly h (on_rej turn command nr pf x) (used-leaves x turn nr (command && pf) (ends_wait command pf x) (option_map resumed (cond (ends_wait command pf x) (replied nr x.outgoing) (rejected nr x.outgoing))))
 connected-both x y lx ly turn n (Srej command nr pf) h = leaves-both x y lx ly h (on_srej turn nr x) (number-leaves x turn nr (selected nr x.outgoing))
 connected-both x y lx ly turn n (Sabme pf) h = leaves-both x y lx ly h (on_sabme pf x) (sabme-leaves x pf (x.numbered || is_originator x.setup.role))
 connected-both x y lx ly turn n (Disc pf) h = leaves-both x y lx ly h (on_disc x.setup.role pf x) (disc-leaves x pf x.setup.role)
@@ -283,9 +288,16 @@ urgent-both : (x y : Account) (lx ly : List Slot) (told turn : ℕ) → BothGo x
 urgent-both x y lx ly told turn h true = segment-both x y lx ly told turn h (may_send x)
 urgent-both x y lx ly told turn h false = tt
 
+tells-both : (x y : Account) (lx ly : List Slot) (told : ℕ) → BothGo x y lx ly → (command pf : Bool) → SaysBoth y lx ly told (tells command pf x)
+tells-both x y lx ly told h command pf = go x.owes.busy
+  where
+    go : (busy : Bool) → SaysBoth y lx ly told (says_frame (ready_frame busy command (nr_of x) pf) (telling (record x { owes = record x.owes { busy_told = busy } })))
+    go false = plain (telling (record x { owes = record x.owes { busy_told = false } })) y lx ly told (slots.Frame (Rr command (nr_of x) pf)) 0 h refl refl
+    go true = plain (telling (record x { owes = record x.owes { busy_told = true } })) y lx ly told (slots.Frame (Rnr command (nr_of x) pf)) 0 h refl refl
+
 asking-both : (x y : Account) (lx ly : List Slot) (told : ℕ) → BothGo x y lx ly → (srej special : Bool) (m : Option ℕ) → AllSaid (SaysBoth y lx ly told) (says_asking srej special m x)
 asking-both x y lx ly told h srej special None = tt
-asking-both x y lx ly told h false special (Some n) = plain (telling (record x { incoming = after_asked n x.incoming })) y lx ly told (slots.Frame (Rej false (nr_of x) false)) 0 h refl refl
+asking-both x y lx ly told h false special (Some n) = plain (telling (record x { incoming = after_asked n x.incoming; owes = record x.owes { busy_told = false } })) y lx ly told (slots.Frame (Rej false (nr_of x) false)) 0 h refl refl
 asking-both x y lx ly told h true true (Some n) = tt
 asking-both x y lx ly told h true false (Some n) = plain (record x { incoming = after_asked n x.incoming; special = true }) y lx ly told (slots.Frame (Srej false (n % 128) false)) n h refl refl
 
@@ -321,20 +333,17 @@ special-both : (x y : Account) (lx ly : List Slot) (told : ℕ) → BothGo x y l
 special-both x y lx ly told h true = tt
 special-both x y lx ly told h false = word-both x y lx ly told h x.their_breaks.ack refl
 
+sixth-both : (x y : Account) (lx ly : List Slot) (told : ℕ) (special : Bool) → BothGo x y lx ly → AllSaid (SaysBoth y lx ly told) (step6 special x)
+sixth-both x y lx ly told special h = go (differs x.owes.busy x.owes.busy_told && (is_originator x.setup.role || x.numbered)) x.owes.busy
+  where
+    go : (b c : Bool) → AllSaid (SaysBoth y lx ly told) (cond b (Some (tells false false x)) (cond c None (says_asking x.incoming.srej special (asks x.incoming) x)))
+    go true c = tells-both x y lx ly told h false false
+    go false true = tt
+    go false false = asking-both x y lx ly told h x.incoming.srej special (asks x.incoming)
+
 steps-both : (x y : Account) (lx ly : List Slot) (told turn : ℕ) (special : Bool) → BothGo x y lx ly → SaysBoth y lx ly told (steps turn special x)
 steps-both x y lx ly told turn special h =
-    let P : Said → Type 0 = SaysBoth y lx ly told in
-    else-says P (step1 x) (else_says (step2 x) (else_says (step3 x) (else_says (step4 turn x) (else_says (step5 special x) (else_says (step6 special x) (else_says (step7 turn x) (else_says (step8 x) (step9 x)))))))) (answers-both x y lx ly told h x.owes.answer)
-    (else-says P (step2 x) (else_says (step3 x) (else_says (step4 turn x) (else_says (step5 special x) (else_says (step6 special x) (else_says (step7 turn x) (else_says (step8 x) (step9 x)))))))
-    (where-says P x.owes.reply (says_frame (Rr false (nr_of x) true) (telling (record x { owes = record x.owes { reply = false } }))) (plain (telling (record x { owes = record x.owes { reply = false } })) y lx ly told (slots.Frame (Rr false (nr_of x) true)) 0 h refl refl))
-    (else-says P (step3 x) (else_says (step4 turn x) (else_says (step5 special x) (else_says (step6 special x) (else_says (step7 turn x) (else_says (step8 x) (step9 x))))))
-    (where-says P x.wait.poll (says_frame (Rr true (nr_of x) true) (telling (record x { wait = record x.wait { poll = false } }))) (plain (telling (record x { wait = record x.wait { poll = false } })) y lx ly told (slots.Frame (Rr true (nr_of x) true)) 0 h refl refl))
-    (else-says P (step4 turn x) (else_says (step5 special x) (else_says (step6 special x) (else_says (step7 turn x) (else_says (step8 x) (step9 x))))) (urgent-both x y lx ly told turn h x.wait.urgent)
-    (else-says P (step5 special x) (else_says (step6 special x) (else_says (step7 turn x) (else_says (step8 x) (step9 x)))) (special-both x y lx ly told h special)
-    (else-says P (step6 special x) (else_says (step7 turn x) (else_says (step8 x) (step9 x))) (asking-both x y lx ly told h x.incoming.srej special (asks x.incoming))
-    (else-says P (step7 turn x) (else_says (step8 x) (step9 x)) (segment-both x y lx ly told turn h (may_send x))
-    (else-says P (step8 x) (step9 x) (where-says P x.incoming.owed (says_frame (Rr false (nr_of x) false) (telling x)) (plain (telling x) y lx ly told (slots.Frame (Rr false (nr_of x) false)) 0 h refl refl))
-    (plain x y lx ly told slots.Flags 0 h refl refl))))))))
+    let P : Said → Type 0 = SaysBoth y lx ly told in else-says P (step1 x) (else_says (step2 x) (else_says (step3 x) (else_says (step4 turn x) (else_says (step5 special x) (else_says (step6 special x) (else_says (step7 turn x) (else_says (step8 x) (step9 x)))))))) (answers-both x y lx ly told h x.owes.answer) (else-says P (step2 x) (else_says (step3 x) (else_says (step4 turn x) (else_says (step5 special x) (else_says (step6 special x) (else_says (step7 turn x) (else_says (step8 x) (step9 x))))))) (where-says P x.owes.reply (tells false true (record x { owes = record x.owes { reply = false } })) (tells-both (record x { owes = record x.owes { reply = false } }) y lx ly told h false true)) (else-says P (step3 x) (else_says (step4 turn x) (else_says (step5 special x) (else_says (step6 special x) (else_says (step7 turn x) (else_says (step8 x) (step9 x)))))) (where-says P x.wait.poll (tells true true (record x { wait = record x.wait { poll = false } })) (tells-both (record x { wait = record x.wait { poll = false } }) y lx ly told h true true)) (else-says P (step4 turn x) (else_says (step5 special x) (else_says (step6 special x) (else_says (step7 turn x) (else_says (step8 x) (step9 x))))) (urgent-both x y lx ly told turn h x.wait.urgent) (else-says P (step5 special x) (else_says (step6 special x) (else_says (step7 turn x) (else_says (step8 x) (step9 x)))) (special-both x y lx ly told h special) (else-says P (step6 special x) (else_says (step7 turn x) (else_says (step8 x) (step9 x))) (sixth-both x y lx ly told special h) (else-says P (step7 turn x) (else_says (step8 x) (step9 x)) (segment-both x y lx ly told turn h (may_send x)) (else-says P (step8 x) (step9 x) (where-says P x.incoming.owed (tells false false x) (tells-both x y lx ly told h false false)) (plain x y lx ly told slots.Flags 0 h refl refl))))))))
 
 timer-both : (x y : Account) (lx ly : List Slot) → BothGo x y lx ly → (turn : ℕ) → OnHeard (λ b. BothGo b y lx ly) (on_timer turn x)
 timer-both x y lx ly h turn = go (timer_expires turn x x.wait.timer) (expired x.outgoing)
@@ -451,6 +460,13 @@ delivered-pair q h = go (is_connected q.own.account.phase)
     go true = h
     go false = h
 
+busy-pair : (q : Pair) (busy : Bool) → PairGo q → PairGo (record { own = record q.own { account = after_busy busy q.own.account }; peer = q.peer })
+busy-pair q busy h = go (is_connected q.own.account.phase)
+  where
+    go : (b : Bool) → PairGo (record { own = record q.own { account = cond b (record q.own.account { owes = record q.own.account.owes { busy = busy } }) q.own.account }; peer = q.peer })
+    go true = h
+    go false = h
+
 happens-pair : (q : Pair) (e : Event) → PairGo q → PairGo (happens_at e q)
 happens-pair q (Speaks role turn release) h =
     spoken-pair q (speak turn release q.own.account) h (speak-both q.own.account q.peer.account q.own.line q.peer.line (next_expected q.own.account.incoming) turn release h)
@@ -460,6 +476,7 @@ happens-pair q (Hears_nothing role turn) h = h
 happens-pair q (Is_offered role piece) h = offered-pair q piece h
 happens-pair q (Is_asked role turn length_octet) h = asked-pair q turn length_octet h
 happens-pair q (Delivers role) h = delivered-pair q h
+happens-pair q (Is_busy role busy) h = busy-pair q busy h
 happens-pair q (Gives_break role) h = h
 
 abbrev pub PlayGo : Play → Type 0

@@ -1,5 +1,5 @@
 -- One direction of a link, seen from the parts of two accounts and the slots on their lines.
-use Rattle.std.proofs.Common.{◌≡◌, ℕ, zero, suc, ◌+◌, ◌-◌, ◌%◌, ◌<◌, ◌≤◌, ◌≢◌, ◌&&◌, max, Bool, true, false, cond, nat_eq, nat_lt, List, [], ◌∷◌, ◌++◌, length, slice_index_or, arith, refl, sym, ◌∙◌, ap, subst, Option, Some, None}
+use Rattle.std.proofs.Common.{◌≡◌, ℕ, zero, suc, ◌+◌, ◌-◌, ◌%◌, ◌<◌, ◌≤◌, ◌≢◌, ◌&&◌, max, Bool, true, false, cond, nat_eq, nat_lt, List, [], ◌∷◌, ◌++◌, length, slice_index_or, arith, refl, sym, ◌∙◌, ap, subst, Option, Some, None, ◌||◌}
 use Rattle.std.proofs.lemmas.Bool.Decides.{nat_tests}
 use Rattle.std.proofs.lemmas.List.{append-nil, append_assoc}
 use borrow.Author.Tests.{ltb-true, eqb-true}
@@ -214,7 +214,7 @@ pub line-sent : (w : ℕ) (srej : Bool) (o : Outgoing) (i : Incoming) (line back
     → Goes w srej (after_next o) i (line ++ (record { sent = slots.Frame (I ns nr pf (slice_index_or o.pieces n [])); number = n; told = told }) ∷ []) back
 line-sent w srej o i line back n ns nr told pf h window e =
     subst (λ l. Sound (record (flow w srej (after_next o) i line back) { segments = l })) (sym (segments_in-snoc line (record { sent = slots.Frame (I ns nr pf (slice_index_or o.pieces n [])); number = n; told = told })))
-    (awaits o.awaited o.chosen refl e)
+    (awaits (o.awaited || o.paused) o.chosen refl e)
   where
     p : Flow
     p = flow w srej o i line back

@@ -12,14 +12,13 @@ pub moved : {setup : Setup} {answer : Option Answer} {a : Account} (p : Phase) (
     → IsUnlinked setup answer (record a { phase = p; terms = t; wait = record a.wait { try = due; try_set = set; try_count = count } })
 moved p t due set count h = record {
   setup_is = h.setup_is;
-  answer_is = h.answer_is;
+  owes_is = h.owes_is;
   numbered_is = h.numbered_is;
   outgoing_is = h.outgoing_is;
   incoming_is = h.incoming_is;
   own_is = h.own_is;
   their_is = h.their_is;
   told_is = h.told_is;
-  reply_is = h.reply_is;
   poll_is = h.poll_is;
   urgent_is = h.urgent_is;
   timer_is = h.timer_is;

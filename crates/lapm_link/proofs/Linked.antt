@@ -4,7 +4,7 @@ use Rattle.std.specs.Option.{option_map}
 use Rattle.lapm_frames.specs.declared.frame.Frame.{Frame}
 use Rattle.lapm_frames.specs.declared.frame.Frame.TheVariants.{I, Rr, Rnr, Rej, Srej, Ui}
 use Rattle.lapm_sender.specs.Meant.{meant}
-use Rattle.lapm_sender.specs.Outgoing.{Outgoing, acknowledged, rejected, replied, advanced, gone_back, wait_ended, next_number, sent_among}
+use Rattle.lapm_sender.specs.Outgoing.{Outgoing, is_outstanding, paused_at, resumed, acknowledged, rejected, replied, advanced, gone_back, wait_ended, next_number, sent_among}
 use Rattle.lapm_receiver.specs.Incoming.{Incoming, after_kind, kind_of, offset, next_expected, asks, after_asked, after_told}
 use Rattle.lapm_receiver.specs.declared.took.Took.{Took}
 use Rattle.lapm_receiver.specs.declared.took.Took.TheVariants.{InOrder, Kept, Repeat, Gap}
@@ -18,8 +18,8 @@ use Rattle.slot_contents.specs.declared.sent.Sent.TheVariants as slots
 use Rattle.lapm_link.specs.declared.fault.LinkFault.{LinkFault}
 use Rattle.lapm_link.specs.Account.{Account}
 use Rattle.roles.specs.Role.{is_originator}
-use Rattle.lapm_link.specs.Hear.{on_connected, on_i, on_ready, on_rej, on_srej, on_number, on_word, then_in, replying, hurrying, taking, ends_wait}
-use Rattle.lapm_link.specs.Speak.{Said, says, says_frame, else_says, where_says, steps, step1, step2, step3, step4, step5, step6, step7, step8, step9, may_send, says_segment, says_asking, says_break, says_own, says_word, nr_of, telling}
+use Rattle.lapm_link.specs.Hear.{on_connected, on_i, on_ready, on_rej, on_srej, on_number, on_word, then_in, replying, hurrying, taking, ends_wait, timer_after, on_rnr, pausing}
+use Rattle.lapm_link.specs.Speak.{Said, says, says_frame, else_says, where_says, steps, step1, step2, step3, step4, step5, step6, step7, step8, step9, may_send, says_segment, says_asking, says_break, says_own, says_word, nr_of, telling, tells, ready_frame, differs, has_news}
 use Rattle.lapm_link.specs.Play.{Slot}
 use Rattle.lapm_link.proofs.Flow.{IsAskable}
 use Rattle.lapm_link.proofs.Ends.{segment_of, asked_of, Goes, back-forgotten, ack-found, back-advanced, back-rejected, back-replied, back-selected, line-passed, line-lost, line-taken, line-quiet, line-sent, back-told, asked-lies}
@@ -80,23 +80,34 @@ hears-i wo wi srej a po pi line rest turn ns nr n told pf info h en et =
       refl,
     )
 
+resumed-goes : (w : ℕ) (srej : Bool) (o : Outgoing) (i : Incoming) (line back : List Slot) (b : Bool) (count : ℕ) → Goes w srej o i line back → Goes w srej (cond b (record o { paused = false; count = count }) o) i line back
+resumed-goes w srej o i line back true count h = h
+resumed-goes w srej o i line back false count h = h
+
+resumed-window : (o : Outgoing) (b : Bool) (count : ℕ) → (cond b (record o { paused = false; count = count }) o).window ≡ o.window
+resumed-window o true count = refl
+resumed-window o false count = refl
+
 -- a frame with N(R) and no segment: whichever way it is used
-hears-number : (wo wi : ℕ) (srej : Bool) (a : Account) (po : Outgoing) (pi : Incoming) (line rest : List Slot) (turn nr : ℕ) (slot : Slot) (pf : Bool) (asks_reply ends : Bool) (made : ℕ → Outgoing)
+hears-number : (wo wi : ℕ) (srej : Bool) (a : Account) (po : Outgoing) (pi : Incoming) (line rest : List Slot) (turn nr : ℕ) (slot : Slot) (f : Account → Account) (g : Outgoing → Outgoing) (made : ℕ → Outgoing)
     → Linked wo wi srej a po pi line (slot ∷ rest) → segment_of slot.sent slot.number ≡ [] → nr ≡ slot.told % 128
-    → Goes wo srej (made slot.told) pi line rest → (made slot.told).window ≡ a.outgoing.window
-    → HearsWell wo wi srej a po pi line rest true (then_in (λ b. hurrying ends (replying asks_reply b)) (on_number turn nr (option_map made (meant a.outgoing.front a.outgoing.high nr)) a))
-hears-number wo wi srej a po pi line rest turn nr slot pf asks_reply ends made h none et goes window =
+    → Goes wo srej (g (made slot.told)) pi line rest → (g (made slot.told)).window ≡ a.outgoing.window
+    → ((b : Account) → ((f b).outgoing ≡ b.outgoing) × ((f b).incoming ≡ b.incoming) × ((f b).setup ≡ b.setup) × ((f b).phase ≡ b.phase) × ((f b).owes.answer ≡ b.owes.answer) × ((f b).numbered ≡ b.numbered))
+    → HearsWell wo wi srej a po pi line rest true (then_in f (on_number turn nr (option_map g (option_map made (meant a.outgoing.front a.outgoing.high nr))) a))
+hears-number wo wi srej a po pi line rest turn nr slot f g made h none et goes window same =
     let found = ack-is wo srej a.outgoing pi line slot rest nr h.own et in
-    subst (λ m. HearsWell wo wi srej a po pi line rest true (then_in (λ b. hurrying ends (replying asks_reply b)) (on_number turn nr (option_map made m) a))) (sym found) (
+    let b : Account = record a { numbered = true; outgoing = g (made slot.told); wait = record a.wait { timer = timer_after turn a.outgoing (g (made slot.told)) a.wait.timer } } in
+    let k = same b in
+    subst (λ m. HearsWell wo wi srej a po pi line rest true (then_in f (on_number turn nr (option_map g (option_map made m)) a))) (sym found) (
       record {
-        own = goes;
-        theirs = line-passed wi srej po a.incoming slot rest line none h.theirs;
-        own_window = window ∙ h.own_window;
-        their_window = h.their_window;
-        srej_is = h.srej_is;
+        own = subst (λ o. Goes wo srej o pi line rest) (sym k.0) goes;
+        theirs = subst (λ i. Goes wi srej po i rest line) (sym k.1) (line-passed wi srej po a.incoming slot rest line none h.theirs);
+        own_window = ap (λ o. o.window) k.0 ∙ (window ∙ h.own_window);
+        their_window = ap (λ i. i.window) k.1 ∙ h.their_window;
+        srej_is = ap (λ i. i.srej) k.1 ∙ h.srej_is;
       },
-      record { setup = refl; phase = refl; answer = refl },
-      refl,
+      record { setup = sym k.2; phase = sym k.3; answer = sym k.4 },
+      k.5,
     )
 
 hears-ready : (wo wi : ℕ) (srej : Bool) (a : Account) (po : Outgoing) (pi : Incoming) (line rest : List Slot) (turn nr : ℕ) (slot : Slot) (command pf : Bool)
@@ -104,18 +115,39 @@ hears-ready : (wo wi : ℕ) (srej : Bool) (a : Account) (po : Outgoing) (pi : In
     → HearsWell wo wi srej a po pi line rest true (on_ready turn command nr pf a)
 hears-ready wo wi srej a po pi line rest turn nr slot command pf h none et = go (ends_wait command pf a)
   where
-    go : (e : Bool) → HearsWell wo wi srej a po pi line rest true (then_in (λ b. hurrying e (replying (command && pf) b)) (on_number turn nr (cond e (replied nr a.outgoing) (acknowledged nr a.outgoing)) a))
-    go true = hears-number wo wi srej a po pi line rest turn nr slot pf (command && pf) true (λ n. wait_ended (advanced a.outgoing n)) h none et (back-replied wo srej a.outgoing pi line slot rest h.own) refl
-    go false = hears-number wo wi srej a po pi line rest turn nr slot pf (command && pf) false (advanced a.outgoing) h none et (back-advanced wo srej a.outgoing pi line slot rest h.own) refl
+    by : (made : ℕ → Outgoing) (e : Bool) → Goes wo srej (made slot.told) pi line rest → (made slot.told).window ≡ a.outgoing.window
+        → HearsWell wo wi srej a po pi line rest true (then_in (λ b. hurrying e (replying (command && pf) b)) (on_number turn nr (option_map resumed (option_map made (meant a.outgoing.front a.outgoing.high nr))) a))
+    by made e goes window = hears-number wo wi srej a po pi line rest turn nr slot (λ b. hurrying e (replying (command && pf) b)) resumed made h none et
+        (resumed-goes wo srej (made slot.told) pi line rest (made slot.told).paused (cond (is_outstanding (made slot.told) || (made slot.told).awaited) (made slot.told).count 0) goes)
+        (resumed-window (made slot.told) (made slot.told).paused (cond (is_outstanding (made slot.told) || (made slot.told).awaited) (made slot.told).count 0) ∙ window) (λ b. (refl, refl, refl, refl, refl, refl))
+
+    go : (e : Bool) → HearsWell wo wi srej a po pi line rest true (then_in (λ b. hurrying e (replying (command && pf) b)) (on_number turn nr (option_map resumed (cond e (replied nr a.outgoing) (acknowledged nr a.outgoing))) a))
+    go true = by (λ n. wait_ended (advanced a.outgoing n)) true (back-replied wo srej a.outgoing pi line slot rest h.own) refl
+    go false = by (advanced a.outgoing) false (back-advanced wo srej a.outgoing pi line slot rest h.own) refl
+
+hears-rnr : (wo wi : ℕ) (srej : Bool) (a : Account) (po : Outgoing) (pi : Incoming) (line rest : List Slot) (turn nr : ℕ) (slot : Slot) (command pf : Bool)
+    → Linked wo wi srej a po pi line (slot ∷ rest) → segment_of slot.sent slot.number ≡ [] → nr ≡ slot.told % 128
+    → HearsWell wo wi srej a po pi line rest true (on_rnr turn command nr pf a)
+hears-rnr wo wi srej a po pi line rest turn nr slot command pf h none et = go (ends_wait command pf a)
+  where
+    go : (e : Bool) → HearsWell wo wi srej a po pi line rest true (then_in (λ b. pausing turn (replying (command && pf) b)) (on_number turn nr (option_map paused_at (cond e (replied nr a.outgoing) (acknowledged nr a.outgoing))) a))
+    go true = hears-number wo wi srej a po pi line rest turn nr slot (λ b. pausing turn (replying (command && pf) b)) paused_at (λ n. wait_ended (advanced a.outgoing n)) h none et (back-replied wo srej a.outgoing pi line slot rest h.own) refl (λ b. (refl, refl, refl, refl, refl, refl))
+    go false = hears-number wo wi srej a po pi line rest turn nr slot (λ b. pausing turn (replying (command && pf) b)) paused_at (advanced a.outgoing) h none et (back-advanced wo srej a.outgoing pi line slot rest h.own) refl (λ b. (refl, refl, refl, refl, refl, refl))
 
 hears-rej : (wo wi : ℕ) (srej : Bool) (a : Account) (po : Outgoing) (pi : Incoming) (line rest : List Slot) (turn nr : ℕ) (slot : Slot) (command pf : Bool)
     → Linked wo wi srej a po pi line (slot ∷ rest) → segment_of slot.sent slot.number ≡ [] → nr ≡ slot.told % 128
     → HearsWell wo wi srej a po pi line rest true (on_rej turn command nr pf a)
 hears-rej wo wi srej a po pi line rest turn nr slot command pf h none et = go (ends_wait command pf a)
   where
-    go : (e : Bool) → HearsWell wo wi srej a po pi line rest true (then_in (λ b. hurrying e (replying (command && pf) b)) (on_number turn nr (cond e (replied nr a.outgoing) (rejected nr a.outgoing)) a))
-    go true = hears-number wo wi srej a po pi line rest turn nr slot pf (command && pf) true (λ n. wait_ended (advanced a.outgoing n)) h none et (back-replied wo srej a.outgoing pi line slot rest h.own) refl
-    go false = hears-number wo wi srej a po pi line rest turn nr slot pf (command && pf) false (λ n. gone_back (advanced a.outgoing n)) h none et (back-rejected wo srej a.outgoing pi line slot rest h.own) refl
+    by : (made : ℕ → Outgoing) (e : Bool) → Goes wo srej (made slot.told) pi line rest → (made slot.told).window ≡ a.outgoing.window
+        → HearsWell wo wi srej a po pi line rest true (then_in (λ b. hurrying e (replying (command && pf) b)) (on_number turn nr (option_map resumed (option_map made (meant a.outgoing.front a.outgoing.high nr))) a))
+    by made e goes window = hears-number wo wi srej a po pi line rest turn nr slot (λ b. hurrying e (replying (command && pf) b)) resumed made h none et
+        (resumed-goes wo srej (made slot.told) pi line rest (made slot.told).paused (cond (is_outstanding (made slot.told) || (made slot.told).awaited) (made slot.told).count 0) goes)
+        (resumed-window (made slot.told) (made slot.told).paused (cond (is_outstanding (made slot.told) || (made slot.told).awaited) (made slot.told).count 0) ∙ window) (λ b. (refl, refl, refl, refl, refl, refl))
+
+    go : (e : Bool) → HearsWell wo wi srej a po pi line rest true (then_in (λ b. hurrying e (replying (command && pf) b)) (on_number turn nr (option_map resumed (cond e (replied nr a.outgoing) (rejected nr a.outgoing))) a))
+    go true = by (λ n. wait_ended (advanced a.outgoing n)) true (back-replied wo srej a.outgoing pi line slot rest h.own) refl
+    go false = by (λ n. gone_back (advanced a.outgoing n)) false (back-rejected wo srej a.outgoing pi line slot rest h.own) refl
 
 hears-srej : (wo wi : ℕ) (srej : Bool) (a : Account) (po : Outgoing) (pi : Incoming) (line rest : List Slot) (turn nr n told : ℕ) (command pf : Bool)
     → Linked wo wi srej a po pi line ((record { sent = slots.Frame (Srej command nr pf); number = n; told = told }) ∷ rest) → nr ≡ n % 128
@@ -175,7 +207,7 @@ pub hears-linked : (wo wi : ℕ) (srej : Bool) (a : Account) (po : Outgoing) (pi
     → HearsWell wo wi srej a po pi line rest (counts_as_numbered frame a.numbered) (on_connected frame turn a)
 hears-linked wo wi srej a po pi line rest turn n told (I ns nr pf info) h e = hears-i wo wi srej a po pi line rest turn ns nr n told pf info h e.0 e.1
 hears-linked wo wi srej a po pi line rest turn n told (Rr command nr pf) h e = hears-ready wo wi srej a po pi line rest turn nr (record { sent = slots.Frame (Rr command nr pf); number = n; told = told }) command pf h refl e
-hears-linked wo wi srej a po pi line rest turn n told (Rnr command nr pf) h e = hears-ready wo wi srej a po pi line rest turn nr (record { sent = slots.Frame (Rnr command nr pf); number = n; told = told }) command pf h refl e
+hears-linked wo wi srej a po pi line rest turn n told (Rnr command nr pf) h e = hears-rnr wo wi srej a po pi line rest turn nr (record { sent = slots.Frame (Rnr command nr pf); number = n; told = told }) command pf h refl e
 hears-linked wo wi srej a po pi line rest turn n told (Rej command nr pf) h e = hears-rej wo wi srej a po pi line rest turn nr (record { sent = slots.Frame (Rej command nr pf); number = n; told = told }) command pf h refl e
 hears-linked wo wi srej a po pi line rest turn n told (Srej command nr pf) h e = hears-srej wo wi srej a po pi line rest turn nr n told command pf h e
 hears-linked wo wi srej a po pi line rest turn n told (Ui command pf info) h e =
@@ -223,23 +255,35 @@ relinked wo wi srej a po pi line back sent b h k none unasked spelled same numbe
   numbered = numbered;
 }
 
+told-ready : (wo wi : ℕ) (srej : Bool) (a : Account) (po : Outgoing) (pi : Incoming) (line back : List Slot) (b : Account) (command pf : Bool) → Linked wo wi srej a po pi line back
+    → Linked wo wi srej b po pi line back → b.incoming ≡ a.incoming → Same a b → b.numbered ≡ a.numbered → SaysWell wo wi srej a po pi line back (next_expected b.incoming) (tells command pf b)
+told-ready wo wi srej a po pi line back b command pf h k e same numbered = go b.owes.busy
+  where
+    c : Bool → Account
+    c busy = telling (record b { owes = record b.owes { busy_told = busy } })
+
+    go : (busy : Bool) → SaysWell wo wi srej a po pi line back (next_expected b.incoming) (says_frame (ready_frame busy command (nr_of b) pf) (telling (record b { owes = record b.owes { busy_told = busy } })))
+    go false = relinked wo wi srej a po pi line back (slots.Frame (Rr command (nr_of b) pf)) (telling (record b { owes = record b.owes { busy_told = false } })) h
+        (record { own = k.own; theirs = k.theirs; own_window = k.own_window; their_window = k.their_window; srej_is = k.srej_is }) refl refl refl (record { setup = same.setup; phase = same.phase; answer = same.answer }) numbered
+    go true = relinked wo wi srej a po pi line back (slots.Frame (Rnr command (nr_of b) pf)) (telling (record b { owes = record b.owes { busy_told = true } })) h
+        (record { own = k.own; theirs = k.theirs; own_window = k.own_window; their_window = k.their_window; srej_is = k.srej_is }) refl refl refl (record { setup = same.setup; phase = same.phase; answer = same.answer }) numbered
+
 steps-2 : (wo wi : ℕ) (srej : Bool) (a : Account) (po : Outgoing) (pi : Incoming) (line back : List Slot) → Linked wo wi srej a po pi line back → AllSaid (SaysWell wo wi srej a po pi line back (next_expected a.incoming)) (step2 a)
 steps-2 wo wi srej a po pi line back h =
-    where-says (SaysWell wo wi srej a po pi line back (next_expected a.incoming)) a.owes.reply (says_frame (Rr false (nr_of a) true) (telling (record a { owes = record a.owes { reply = false } })))
-    (relinked wo wi srej a po pi line back (slots.Frame (Rr false (nr_of a) true)) (telling (record a { owes = record a.owes { reply = false } })) h
-    (record { own = h.own; theirs = h.theirs; own_window = h.own_window; their_window = h.their_window; srej_is = h.srej_is }) refl refl refl (record { setup = refl; phase = refl; answer = refl }) refl)
+    where-says (SaysWell wo wi srej a po pi line back (next_expected a.incoming)) a.owes.reply (tells false true (record a { owes = record a.owes { reply = false } }))
+    (told-ready wo wi srej a po pi line back (record a { owes = record a.owes { reply = false } }) false true h
+    (record { own = h.own; theirs = h.theirs; own_window = h.own_window; their_window = h.their_window; srej_is = h.srej_is }) refl (record { setup = refl; phase = refl; answer = refl }) refl)
 
 steps-3 : (wo wi : ℕ) (srej : Bool) (a : Account) (po : Outgoing) (pi : Incoming) (line back : List Slot) → Linked wo wi srej a po pi line back → AllSaid (SaysWell wo wi srej a po pi line back (next_expected a.incoming)) (step3 a)
 steps-3 wo wi srej a po pi line back h =
-    where-says (SaysWell wo wi srej a po pi line back (next_expected a.incoming)) a.wait.poll (says_frame (Rr true (nr_of a) true) (telling (record a { wait = record a.wait { poll = false } })))
-    (relinked wo wi srej a po pi line back (slots.Frame (Rr true (nr_of a) true)) (telling (record a { wait = record a.wait { poll = false } })) h
-    (record { own = h.own; theirs = h.theirs; own_window = h.own_window; their_window = h.their_window; srej_is = h.srej_is }) refl refl refl (record { setup = refl; phase = refl; answer = refl }) refl)
+    where-says (SaysWell wo wi srej a po pi line back (next_expected a.incoming)) a.wait.poll (tells true true (record a { wait = record a.wait { poll = false } }))
+    (told-ready wo wi srej a po pi line back (record a { wait = record a.wait { poll = false } }) true true h
+    (record { own = h.own; theirs = h.theirs; own_window = h.own_window; their_window = h.their_window; srej_is = h.srej_is }) refl (record { setup = refl; phase = refl; answer = refl }) refl)
 
 steps-8 : (wo wi : ℕ) (srej : Bool) (a : Account) (po : Outgoing) (pi : Incoming) (line back : List Slot) → Linked wo wi srej a po pi line back → AllSaid (SaysWell wo wi srej a po pi line back (next_expected a.incoming)) (step8 a)
 steps-8 wo wi srej a po pi line back h =
-    where-says (SaysWell wo wi srej a po pi line back (next_expected a.incoming)) a.incoming.owed (says_frame (Rr false (nr_of a) false) (telling a))
-    (relinked wo wi srej a po pi line back (slots.Frame (Rr false (nr_of a) false)) (telling a) h
-    (record { own = h.own; theirs = h.theirs; own_window = h.own_window; their_window = h.their_window; srej_is = h.srej_is }) refl refl refl (record { setup = refl; phase = refl; answer = refl }) refl)
+    where-says (SaysWell wo wi srej a po pi line back (next_expected a.incoming)) a.incoming.owed (tells false false a)
+    (told-ready wo wi srej a po pi line back a false false h h refl (record { setup = refl; phase = refl; answer = refl }) refl)
 
 steps-9 : (wo wi : ℕ) (srej : Bool) (a : Account) (po : Outgoing) (pi : Incoming) (line back : List Slot) → Linked wo wi srej a po pi line back → SaysWell wo wi srej a po pi line back (next_expected a.incoming) (step9 a)
 steps-9 wo wi srej a po pi line back h = relinked wo wi srej a po pi line back slots.Flags a h h refl refl tt (record { setup = refl; phase = refl; answer = refl }) refl
@@ -319,8 +363,8 @@ asked-taken : (i : Incoming) (n : ℕ) (b : Bool) → (cond b (record i { asked 
 asked-taken i n true = refl
 asked-taken i n false = refl
 
-steps-6 : (wo wi : ℕ) (srej : Bool) (a : Account) (po : Outgoing) (pi : Incoming) (line back : List Slot) (special : Bool) → Linked wo wi srej a po pi line back → AllSaid (SaysWell wo wi srej a po pi line back (next_expected a.incoming)) (step6 special a)
-steps-6 wo wi srej a po pi line back special h = go a.incoming.srej refl special (asks a.incoming) refl
+asking-well : (wo wi : ℕ) (srej : Bool) (a : Account) (po : Outgoing) (pi : Incoming) (line back : List Slot) (special : Bool) → Linked wo wi srej a po pi line back → AllSaid (SaysWell wo wi srej a po pi line back (next_expected a.incoming)) (says_asking a.incoming.srej special (asks a.incoming) a)
+asking-well wo wi srej a po pi line back special h = go a.incoming.srej refl special (asks a.incoming) refl
   where
     same_length : (n : ℕ) → next_expected (after_asked n a.incoming) ≡ next_expected a.incoming
     same_length n = ap (λ l. length l) (asked-taken a.incoming n a.incoming.srej)
@@ -329,8 +373,8 @@ steps-6 wo wi srej a po pi line back special h = go a.incoming.srej refl special
     go b t c None e = tt
     go false t c (Some n) e =
         let k = asked-linked wo wi srej a po pi line back n a.incoming.srej h in
-        subst (λ m. SaysWell wo wi srej a po pi line back m (says_frame (Rej false (nr_of a) false) (telling (record a { incoming = after_asked n a.incoming })))) (same_length n)
-        (relinked wo wi srej a po pi line back (slots.Frame (Rej false (nr_of a) false)) (telling (record a { incoming = after_asked n a.incoming })) h
+        subst (λ m. SaysWell wo wi srej a po pi line back m (says_frame (Rej false (nr_of a) false) (telling (record a { incoming = after_asked n a.incoming; owes = record a.owes { busy_told = false } })))) (same_length n)
+        (relinked wo wi srej a po pi line back (slots.Frame (Rej false (nr_of a) false)) (telling (record a { incoming = after_asked n a.incoming; owes = record a.owes { busy_told = false } })) h
         (record { own = k.own; theirs = k.theirs; own_window = k.own_window; their_window = k.their_window; srej_is = k.srej_is }) refl refl (ap (λ m. m % 128) (sym (same_length n))) (record { setup = refl; phase = refl; answer = refl }) refl)
     go true t true (Some n) e = tt
     go true t false (Some n) e =
@@ -344,6 +388,14 @@ steps-6 wo wi srej a po pi line back special h = go a.incoming.srej refl special
           same = record { setup = refl; phase = refl; answer = refl };
           numbered = refl;
         }
+
+steps-6 : (wo wi : ℕ) (srej : Bool) (a : Account) (po : Outgoing) (pi : Incoming) (line back : List Slot) (special : Bool) → Linked wo wi srej a po pi line back → AllSaid (SaysWell wo wi srej a po pi line back (next_expected a.incoming)) (step6 special a)
+steps-6 wo wi srej a po pi line back special h = go (differs a.owes.busy a.owes.busy_told && (is_originator a.setup.role || a.numbered)) a.owes.busy
+  where
+    go : (b c : Bool) → AllSaid (SaysWell wo wi srej a po pi line back (next_expected a.incoming)) (cond b (Some (tells false false a)) (cond c None (says_asking a.incoming.srej special (asks a.incoming) a)))
+    go true c = told-ready wo wi srej a po pi line back a false false h h refl (record { setup = refl; phase = refl; answer = refl }) refl
+    go false true = tt
+    go false false = asking-well wo wi srej a po pi line back special h
 
 -- the nine steps
 pub steps-well : (wo wi : ℕ) (srej : Bool) (a : Account) (po : Outgoing) (pi : Incoming) (line back : List Slot) (turn : ℕ) (special : Bool) (P : Said → Type 0) → Linked wo wi srej a po pi line back

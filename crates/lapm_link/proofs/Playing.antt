@@ -18,10 +18,10 @@ use Rattle.lapm_link.specs.declared.fault.LinkFault.TheVariants.{NotDetected, Sp
 use Rattle.lapm_link.specs.declared.setup.Setup.{Setup}
 use Rattle.lapm_link.specs.declared.phase.Phase.{Phase}
 use Rattle.lapm_link.specs.declared.phase.Phase.TheVariants.{Detecting, Negotiating, Establishing, Connected, Releasing, Closed}
-use Rattle.lapm_link.specs.Account.{Account, fresh, wants, piece_size, after_offer, after_delivery, after_break_asked, after_given, is_connected}
+use Rattle.lapm_link.specs.Account.{Account, fresh, wants, piece_size, after_offer, after_delivery, after_break_asked, after_given, is_connected, after_busy}
 use Rattle.lapm_link.specs.Hear.{hear, on_nothing}
 use Rattle.lapm_link.specs.Speak.{Said, speak}
-use Rattle.lapm_link.specs.Play.{Slot, Play, Event, Speaks, Passes, Is_lost, Hears_nothing, Is_offered, Is_asked, Delivers, Gives_break, arrives, seen_from, play_of, spoken, heard, passes, is_lost, is_offered, happens_at, role_of, goes_on, happens, play, start}
+use Rattle.lapm_link.specs.Play.{Slot, Play, Event, Speaks, Passes, Is_lost, Hears_nothing, Is_offered, Is_asked, Delivers, Gives_break, arrives, seen_from, play_of, spoken, heard, passes, is_lost, is_offered, happens_at, role_of, goes_on, happens, play, start, Is_busy}
 use Rattle.lapm_link.specs.Laws.{MayPlay, played, TakesInOrder, WantsAnswers, BreaksForWantAlone, IsTakenBy, TakesByNumber}
 use Rattle.plain_lists.specs.Prefix.{IsPrefixOf}
 use Rattle.lapm_link.proofs.Flow.{keeps-offered}
@@ -215,6 +215,20 @@ asked-a so sa o a lo la g turn length_octet = go (is_connected a.phase)
     go true = like-a so sa o a lo la g (record a { own_breaks = after_ask turn length_octet a.own_breaks }) refl refl refl refl refl refl refl
     go false = g
 
+busy-o : (so sa : Setup) (o a : Account) (lo la : List Slot) → Good so sa o a lo la → (busy : Bool) → Good so sa (after_busy busy o) a lo la
+busy-o so sa o a lo la g busy = go (is_connected o.phase)
+  where
+    go : (b : Bool) → Good so sa (cond b (record o { owes = record o.owes { busy = busy } }) o) a lo la
+    go true = like-o so sa o a lo la g (record o { owes = record o.owes { busy = busy } }) refl refl refl refl refl refl
+    go false = g
+
+busy-a : (so sa : Setup) (o a : Account) (lo la : List Slot) → Good so sa o a lo la → (busy : Bool) → Good so sa o (after_busy busy a) lo la
+busy-a so sa o a lo la g busy = go (is_connected a.phase)
+  where
+    go : (b : Bool) → Good so sa o (cond b (record a { owes = record a.owes { busy = busy } }) a) lo la
+    go true = like-a so sa o a lo la g (record a { owes = record a.owes { busy = busy } }) refl refl refl refl refl refl refl
+    go false = g
+
 -- each event keeps it
 happens-well : (so sa : Setup) (p : Play) → GoodPlay so sa p → (e : Event) → GoodPlay so sa (play_of (role_of e) (happens_at e (seen_from (role_of e) p)))
 happens-well so sa p h (Speaks Originator turn release) = spoken-o so sa p h (speak turn release p.originator.account) (o-speaks so sa p.originator.account p.answerer.account p.originator.line p.answerer.line h.good turn release)
@@ -231,6 +245,8 @@ happens-well so sa p h (Is_asked Originator turn length_octet) = replaced-o so s
 happens-well so sa p h (Is_asked Answerer turn length_octet) = replaced-a so sa p h (after_break_asked turn length_octet p.answerer.account) (asked-a so sa p.originator.account p.answerer.account p.originator.line p.answerer.line h.good turn length_octet)
 happens-well so sa p h (Delivers Originator) = replaced-o so sa p h (after_delivery p.originator.account) (delivered-o so sa p.originator.account p.answerer.account p.originator.line p.answerer.line h.good)
 happens-well so sa p h (Delivers Answerer) = replaced-a so sa p h (after_delivery p.answerer.account) (delivered-a so sa p.originator.account p.answerer.account p.originator.line p.answerer.line h.good)
+happens-well so sa p h (Is_busy Originator busy) = replaced-o so sa p h (after_busy busy p.originator.account) (busy-o so sa p.originator.account p.answerer.account p.originator.line p.answerer.line h.good busy)
+happens-well so sa p h (Is_busy Answerer busy) = replaced-a so sa p h (after_busy busy p.answerer.account) (busy-a so sa p.originator.account p.answerer.account p.originator.line p.answerer.line h.good busy)
 happens-well so sa p h (Gives_break Originator) = replaced-o so sa p h (after_given p.originator.account) (like-o so sa p.originator.account p.answerer.account p.originator.line p.answerer.line h.good (after_given p.originator.account) refl refl refl refl refl refl)
 happens-well so sa p h (Gives_break Answerer) = replaced-a so sa p h (after_given p.answerer.account) (like-a so sa p.originator.account p.answerer.account p.originator.line p.answerer.line h.good (after_given p.answerer.account) refl refl refl refl refl refl refl)
 

@@ -18,7 +18,7 @@ use Rattle.lapm_link.specs.declared.answer.Answer.TheVariants as answers
 use Rattle.lapm_link.specs.Account.{Account}
 use Rattle.roles.specs.Role.{is_originator}
 use Rattle.lapm_link.specs.Hear.{trying}
-use Rattle.lapm_link.specs.Speak.{Said, says, says_frame, says_segment, says_own, says_break, says_asking, where_says, answering, may_send, step1, step2, step3, step4, step5, step6, step7, step8, step9, steps, speak_in, speak_detecting, speak_negotiating, speak_releasing, speak_linked, u_try, tries_frame, trying_again, spent, on_timer, then_tries, after_timers}
+use Rattle.lapm_link.specs.Speak.{Said, says, says_frame, says_segment, says_own, says_break, says_asking, where_says, answering, may_send, step1, step2, step3, step4, step5, step6, step7, step8, step9, steps, speak_in, speak_detecting, speak_negotiating, speak_releasing, speak_linked, u_try, tries_frame, trying_again, spent, on_timer, then_tries, after_timers, tells, ready_frame, has_news, nr_of}
 use Rattle.lapm_link.specs.Play.{arrives}
 use Rattle.lapm_link.specs.Stands.{HasNumbers, IsNumbered}
 use Rattle.lapm_link.specs.EndLaws.{SaysNumbers}
@@ -60,14 +60,23 @@ asking true false (Some n) a = omega arith
 all : (turn : ℕ) (special : Bool) (a : Account) → IsHeard (steps turn special a)
 all turn special a =
     else-says IsHeard (step1 a) _ (answer a.owes.answer a)
-    (else-says IsHeard (step2 a) _ (where-says IsHeard a.owes.reply _ (omega arith))
-    (else-says IsHeard (step3 a) _ (where-says IsHeard a.wait.poll _ (omega arith))
+    (else-says IsHeard (step2 a) _ (where-says IsHeard a.owes.reply _ (ready a.owes.busy false true (record a { owes = record a.owes { reply = false } })))
+    (else-says IsHeard (step3 a) _ (where-says IsHeard a.wait.poll _ (ready a.owes.busy true true (record a { wait = record a.wait { poll = false } })))
     (else-says IsHeard (step4 turn a) _ (urgent a.wait.urgent)
     (else-says IsHeard (step5 special a) _ (breaks special)
-    (else-says IsHeard (step6 special a) _ (asking a.incoming.srej special (asks a.incoming) a)
+    (else-says IsHeard (step6 special a) _ (sixth (has_news a) a.owes.busy)
     (else-says IsHeard (step7 turn a) _ (segment turn (may_send a) a)
-    (else-says IsHeard (step8 a) (step9 a) (where-says IsHeard a.incoming.owed _ (omega arith)) tt)))))))
+    (else-says IsHeard (step8 a) (step9 a) (where-says IsHeard a.incoming.owed _ (ready a.owes.busy false false a)) tt)))))))
   where
+    ready : (busy command pf : Bool) (b : Account) → HasNumbers (ready_frame busy command (nr_of b) pf)
+    ready false command pf b = omega arith
+    ready true command pf b = omega arith
+
+    sixth : (news busy : Bool) → AllSaid IsHeard (cond news (Some (tells false false a)) (cond busy None (says_asking a.incoming.srej special (asks a.incoming) a)))
+    sixth true busy = ready a.owes.busy false false a
+    sixth false true = tt
+    sixth false false = asking a.incoming.srej special (asks a.incoming) a
+
     urgent : (b : Bool) → AllSaid IsHeard (cond b (says_segment turn (may_send a) a) None)
     urgent true = segment turn (may_send a) a
     urgent false = tt

@@ -1,9 +1,9 @@
 -- What a step gives whose condition holds, and the end once it has been said.
-use Rattle.std.proofs.Common.{◌≡◌, ℕ, Bool, true, false, Option, Some, None, Result, Ok, Err, refl}
+use Rattle.std.proofs.Common.{◌≡◌, ℕ, Bool, true, false, Option, Some, None, Result, Ok, Err, refl, ap}
 use Rattle.lapm_receiver.specs.Taking.{Taking}
 use Rattle.lapm_link.specs.declared.setup.Setup.{Setup}
 use Rattle.lapm_link.specs.declared.connected.Breaks.{Breaks}
-use Rattle.lapm_link.specs.declared.connected.Owes.{Owes}
+use Rattle.lapm_link.specs.declared.owes.Owes.{Owes}
 use Rattle.lapm_link.specs.declared.connected.Wait.{Wait}
 use Rattle.lapm_link.specs.declared.connected.Connected.{Connected}
 use Rattle.slot_contents.specs.declared.sent.Sent.{Sent}
@@ -29,15 +29,9 @@ polled h = record {
   setup_is = h.setup_is;
   numbered_is = h.numbered_is;
   receiver_stands = h.receiver_stands;
-  own_stand = h.own_stand;
-  their_stand = h.their_stand;
-  told_within = h.told_within;
-  given_is = h.given_is;
-  answer_is = h.answer_is;
-  reply_is = h.reply_is;
-  poll_is = refl;
-  urgent_is = h.urgent_is;
-  timer_is = h.timer_is;
+  breaks_stand = record { own = h.breaks_stand.own; their = h.breaks_stand.their; told_within = h.breaks_stand.told_within; given_is = h.breaks_stand.given_is };
+  owes_is = h.owes_is;
+  waits = record { poll_is = refl; urgent_is = h.waits.urgent_is; timer_is = h.waits.timer_is };
   special_is = h.special_is;
 }
 
@@ -50,15 +44,9 @@ replied h = record {
   setup_is = h.setup_is;
   numbered_is = h.numbered_is;
   receiver_stands = h.receiver_stands;
-  own_stand = h.own_stand;
-  their_stand = h.their_stand;
-  told_within = h.told_within;
-  given_is = h.given_is;
-  answer_is = h.answer_is;
-  reply_is = refl;
-  poll_is = h.poll_is;
-  urgent_is = h.urgent_is;
-  timer_is = h.timer_is;
+  breaks_stand = record { own = h.breaks_stand.own; their = h.breaks_stand.their; told_within = h.breaks_stand.told_within; given_is = h.breaks_stand.given_is };
+  owes_is = ap (λ (owes : Owes). record owes { reply = false }) h.owes_is;
+  waits = record { poll_is = h.waits.poll_is; urgent_is = h.waits.urgent_is; timer_is = h.waits.timer_is };
   special_is = h.special_is;
 }
 
@@ -70,15 +58,9 @@ forgotten h = record {
   setup_is = h.setup_is;
   numbered_is = h.numbered_is;
   receiver_stands = h.receiver_stands;
-  own_stand = h.own_stand;
-  their_stand = h.their_stand;
-  told_within = h.told_within;
-  given_is = h.given_is;
-  answer_is = h.answer_is;
-  reply_is = h.reply_is;
-  poll_is = h.poll_is;
-  urgent_is = h.urgent_is;
-  timer_is = h.timer_is;
+  breaks_stand = record { own = h.breaks_stand.own; their = h.breaks_stand.their; told_within = h.breaks_stand.told_within; given_is = h.breaks_stand.given_is };
+  owes_is = h.owes_is;
+  waits = record { poll_is = h.waits.poll_is; urgent_is = h.waits.urgent_is; timer_is = h.waits.timer_is };
   special_is = refl;
 }
 

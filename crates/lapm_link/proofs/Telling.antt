@@ -20,7 +20,7 @@ account_tells (ends.Connected end) a h = record {
   phase = sym h.beside.phase_is;
   taken = omega (arith, h.beside.receiver_stands.taken_is);
   undelivered = omega (arith, ap length h.beside.receiver_stands.ready_is, length-drop a.incoming.given a.incoming.taken);
-  waiting = rw h.beside.phase_is h.beside.given_is;
+  waiting = rw h.beside.phase_is h.beside.breaks_stand.given_is;
 }
 account_tells (ends.Releasing end) a h = record { phase = sym h.0; taken = omega arith; undelivered = omega arith; waiting = rw h.0 refl }
 account_tells (ends.Closed end) a h = record { phase = sym h.0; taken = omega arith; undelivered = omega arith; waiting = rw h.0 refl }

@@ -11,14 +11,9 @@ use Rattle.lapm_receiver.specs.Incoming.{Incoming, next_delivered, after_deliver
 use Rattle.lapm_receiver.specs.Incoming as incoming
 use Rattle.break_signals.specs.Breaks.{OwnBreaks, TheirBreaks, no_breaks, none_heard, takes_break, after_ask, waits}
 use Rattle.lapm_link.specs.declared.setup.Setup.{Setup}
-use Rattle.lapm_link.specs.declared.answer.Answer.{Answer}
+use Rattle.lapm_link.specs.declared.owes.Owes.{Owes}
 use Rattle.lapm_link.specs.declared.phase.Phase.{Phase}
 use Rattle.lapm_link.specs.declared.phase.Phase.TheVariants.{Detecting, Negotiating, Establishing, Connected, Releasing, Closed}
-
--- what an end owes at once (what its receiver owes is of that part)
-pub record Owes : Type 0 where
-  pub answer : Option Answer
-  pub reply : Bool  -- an RR response with F = 1
 
 -- what an end waits for (the retry count and the awaited poll are of the sender's part)
 pub record Wait : Type 0 where
@@ -55,7 +50,7 @@ fresh setup = record {
   own_breaks = no_breaks;
   their_breaks = none_heard;
   breaks_told = 0;
-  owes = record { answer = None; reply = false };
+  owes = record { answer = None; reply = false; busy = false; busy_told = false };
   wait = record { try = false; try_set = 0; try_count = 0; poll = false; urgent = false; timer = None };
   special = false;
 }
@@ -112,3 +107,7 @@ given_break a =
 
 abbrev pub after_given : Account → Account
 after_given a = record a { breaks_told = length a.their_breaks.lengths }
+
+-- the end is told whether its user asks for a pause
+abbrev pub after_busy : Bool → Account → Account
+after_busy busy a = if is_connected a.phase then record a { owes = record a.owes { busy = busy } } else a

@@ -1,6 +1,7 @@
 -- What an end becomes by what it hears: one definition a rule, then one a phase, by the rules of ITU-T V.42 and of this link. A
 -- Connected end breaks where an acknowledgement is of no number that was sent, or where the other end begins anew or refuses.
 use Rattle.std.specs.Prelude.{ℕ, ◌%◌, Bool, true, false, not, if◌then◌else◌, ◌&&◌, ◌||◌, nat_lt, List, Option, Some, None, Result, Ok, Err}
+use Rattle.std.specs.Option.{option_map}
 use Rattle.roles.specs.declared.role.Role.{Role}
 use Rattle.roles.specs.declared.role.Role.TheVariants.{Originator, Answerer}
 use Rattle.roles.specs.Role.{other}
@@ -9,7 +10,7 @@ use Rattle.lapm_frames.specs.declared.frame.Frame.TheVariants.{I, Rr, Rnr, Rej, 
 use Rattle.xid_params.specs.declared.offer.Offer.{Offer}
 use Rattle.xid_params.specs.Terms.{agree, default_offer}
 use Rattle.xid_params.specs.Offers.{offer_in}
-use Rattle.lapm_sender.specs.Outgoing.{Outgoing, is_outstanding, acknowledged, rejected, replied, selected}
+use Rattle.lapm_sender.specs.Outgoing.{Outgoing, is_outstanding, acknowledged, rejected, replied, selected, paused_at, resumed}
 use Rattle.lapm_sender.specs.Outgoing as outgoing
 use Rattle.lapm_receiver.specs.Incoming.{Incoming, after_take, next_expected}
 use Rattle.lapm_receiver.specs.Incoming as incoming
@@ -110,12 +111,13 @@ abbrev pub on_closed : Frame → Account → Result Account LinkFault
 on_closed (Disc pf) a = Ok (owing (answers.Dm pf) a)
 on_closed frame a = Ok a
 
--- Connected: the sender's timer, by what an N(R) made of the sender's part. Where the wait for a poll ends with nothing outstanding it stops.
--- Where the front advances it is set anew while segments are outstanding or a poll is awaited, and else stops.
+-- Connected: the sender's timer, by what an N(R) made of the sender's part. Where the wait for a poll ends, or the other end counts as busy no
+-- more, with nothing outstanding, no poll awaited and the other end not busy, it stops. Where the front advances it is set anew while segments
+-- are outstanding, a poll is awaited or the other end counts as busy, and else stops.
 abbrev pub timer_after : ℕ → Outgoing → Outgoing → Option ℕ → Option ℕ
 timer_after turn old new timer =
-    if old.awaited && (not new.awaited && not (is_outstanding new)) then None
-    else if nat_lt old.front new.front then (if is_outstanding new || new.awaited then Some turn else None)
+    if ((old.awaited && not new.awaited) || (old.paused && not new.paused)) && not (is_outstanding new || (new.awaited || new.paused)) then None
+    else if nat_lt old.front new.front then (if is_outstanding new || (new.awaited || new.paused) then Some turn else None)
     else timer
 
 abbrev pub bad_ack : ℕ → Account → LinkFault
@@ -151,17 +153,26 @@ on_i turn ns nr pf info a = then_in (λ b. replying pf (taking ns info b)) (on_n
 abbrev pub ends_wait : Bool → Bool → Account → Bool
 ends_wait command pf a = a.outgoing.awaited && (pf && not command)
 
--- on RR or RNR
+-- on RNR: the other end counts as busy, and the timer is set
+abbrev pub pausing : ℕ → Account → Account
+pausing turn a = record a { wait = record a.wait { timer = Some turn } }
+
+abbrev pub on_rnr : ℕ → Bool → ℕ → Bool → Account → Result Account LinkFault
+on_rnr turn command nr pf a =
+    then_in (λ b. pausing turn (replying (command && pf) b))
+    (on_number turn nr (option_map paused_at (if ends_wait command pf a then replied nr a.outgoing else acknowledged nr a.outgoing)) a)
+
+-- on RR: the other end counts as busy no more
 abbrev pub on_ready : ℕ → Bool → ℕ → Bool → Account → Result Account LinkFault
 on_ready turn command nr pf a =
     then_in (λ b. hurrying (ends_wait command pf a) (replying (command && pf) b))
-    (on_number turn nr (if ends_wait command pf a then replied nr a.outgoing else acknowledged nr a.outgoing) a)
+    (on_number turn nr (option_map resumed (if ends_wait command pf a then replied nr a.outgoing else acknowledged nr a.outgoing)) a)
 
--- on REJ
+-- on REJ: the same, and sending goes on from its number
 abbrev pub on_rej : ℕ → Bool → ℕ → Bool → Account → Result Account LinkFault
 on_rej turn command nr pf a =
     then_in (λ b. hurrying (ends_wait command pf a) (replying (command && pf) b))
-    (on_number turn nr (if ends_wait command pf a then replied nr a.outgoing else rejected nr a.outgoing) a)
+    (on_number turn nr (option_map resumed (if ends_wait command pf a then replied nr a.outgoing else rejected nr a.outgoing)) a)
 
 -- on SREJ
 abbrev pub on_srej : ℕ → ℕ → Account → Result Account LinkFault
@@ -189,7 +200,7 @@ on_word turn (Err fault) a = a
 abbrev pub on_connected : Frame → ℕ → Account → Result Account LinkFault
 on_connected (I ns nr pf info) turn a = on_i turn ns nr pf info a
 on_connected (Rr command nr pf) turn a = on_ready turn command nr pf a
-on_connected (Rnr command nr pf) turn a = on_ready turn command nr pf a
+on_connected (Rnr command nr pf) turn a = on_rnr turn command nr pf a
 on_connected (Rej command nr pf) turn a = on_rej turn command nr pf a
 on_connected (Srej command nr pf) turn a = on_srej turn nr a
 on_connected (Sabme pf) turn a = on_sabme pf a

@@ -11,7 +11,7 @@ use Rattle.slot_contents.specs.declared.arrived.Arrived.TheVariants as arrivals
 use Rattle.slot_contents.specs.declared.sent.Sent.{Sent}
 use Rattle.slot_contents.specs.declared.sent.Sent.TheVariants as slots
 use Rattle.lapm_link.specs.declared.fault.LinkFault.{LinkFault}
-use Rattle.lapm_link.specs.Account.{Account, wants, piece_size, after_offer, after_delivery, after_break_asked, after_given}
+use Rattle.lapm_link.specs.Account.{Account, wants, piece_size, after_offer, after_delivery, after_break_asked, after_given, after_busy}
 use Rattle.lapm_link.specs.Hear.{hear}
 use Rattle.lapm_link.specs.Speak.{Said, speak}
 
@@ -61,6 +61,7 @@ pub data Event : Type 0 where
   Is_asked : (role : Role) (turn length : ℕ) → Event
   Delivers : (role : Role) → Event
   Gives_break : (role : Role) → Event
+  Is_busy : (role : Role) (busy : Bool) → Event  -- the end's user asks for a pause, or no longer
 
 -- a fault ends an end
 abbrev pub spoken : Result Said LinkFault → Side → Side
@@ -99,6 +100,7 @@ happens_at (Is_offered role piece) q = at_own (is_offered piece) q
 happens_at (Is_asked role turn length_octet) q = at_own (λ s. record s { account = after_break_asked turn length_octet s.account }) q
 happens_at (Delivers role) q = at_own (λ s. record s { account = after_delivery s.account }) q
 happens_at (Gives_break role) q = at_own (λ s. record s { account = after_given s.account }) q
+happens_at (Is_busy role busy) q = at_own (λ s. record s { account = after_busy busy s.account }) q
 
 abbrev pub role_of : Event → Role
 role_of (Speaks role turn release) = role
@@ -109,6 +111,7 @@ role_of (Is_offered role piece) = role
 role_of (Is_asked role turn length_octet) = role
 role_of (Delivers role) = role
 role_of (Gives_break role) = role
+role_of (Is_busy role busy) = role
 
 -- a fault at either end ends the play
 abbrev pub goes_on : Option LinkFault → Option LinkFault → Event → Play → Play

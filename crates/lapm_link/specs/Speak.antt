@@ -1,10 +1,10 @@
 -- What an end sends and then is: one definition a rule, then one a phase. A Connected end looks at its timers first, and then
 -- sends what the first of nine steps gives that applies. An end breaks once all its tries are spent.
-use Rattle.std.specs.Prelude.{ℕ, ◌+◌, ◌-◌, ◌*◌, ◌%◌, Bool, true, false, if◌then◌else◌, ◌&&◌, ◌||◌, nat_eq, nat_le, [], length, Option, Some, None, Result, Ok, Err, slice_index_or}
+use Rattle.std.specs.Prelude.{not, ℕ, ◌+◌, ◌-◌, ◌*◌, ◌%◌, Bool, true, false, if◌then◌else◌, ◌&&◌, ◌||◌, nat_eq, nat_le, [], length, Option, Some, None, Result, Ok, Err, slice_index_or}
 use Rattle.roles.specs.declared.role.Role.{Role}
 use Rattle.roles.specs.declared.role.Role.TheVariants.{Originator, Answerer}
 use Rattle.lapm_frames.specs.declared.frame.Frame.{Frame}
-use Rattle.lapm_frames.specs.declared.frame.Frame.TheVariants.{I, Rr, Rej, Srej, Sabme, Disc, Ua, Dm, Ui, Xid}
+use Rattle.lapm_frames.specs.declared.frame.Frame.TheVariants.{I, Rr, Rnr, Rej, Srej, Sabme, Disc, Ua, Dm, Ui, Xid}
 use Rattle.xid_params.specs.Offers.{written}
 use Rattle.lapm_sender.specs.Outgoing.{Outgoing, next_number, after_next, expired}
 use Rattle.lapm_receiver.specs.Incoming.{next_expected, asks, after_asked, after_told}
@@ -144,12 +144,28 @@ abbrev pub says_break : Option BreakWord → Account → Option Said
 says_break None a = says_own (own_due a.own_breaks) a
 says_break (Some word) a = Some (says_word (length a.their_breaks.lengths - 1) word (record a { their_breaks = after_ack a.their_breaks }))
 
--- REJ, which carries the next number expected, or SREJ of a number; SREJ not in the turn after a special frame
+-- REJ, which carries the next number expected and tells that the end isn't busy, or SREJ of a number; SREJ not in the turn after a special frame
 abbrev pub says_asking : Bool → Bool → Option ℕ → Account → Option Said
 says_asking srej special None a = None
-says_asking false special (Some n) a = Some (says_frame (Rej false (nr_of a) false) (telling (record a { incoming = after_asked n a.incoming })))
+says_asking false special (Some n) a = Some (says_frame (Rej false (nr_of a) false) (telling (record a { incoming = after_asked n a.incoming; owes = record a.owes { busy_told = false } })))
 says_asking true true (Some n) a = None
 says_asking true false (Some n) a = Some (record { sent = slots.Frame (Srej false (n % 128) false); number = n; account = record a { incoming = after_asked n a.incoming; special = true } })
+
+-- RR, or RNR where the end is busy, with the next number expected: it tells which
+abbrev pub ready_frame : Bool → Bool → ℕ → Bool → Frame
+ready_frame false command nr pf = Rr command nr pf
+ready_frame true command nr pf = Rnr command nr pf
+
+abbrev pub tells : Bool → Bool → Account → Said
+tells command pf a = says_frame (ready_frame a.owes.busy command (nr_of a) pf) (telling (record a { owes = record a.owes { busy_told = a.owes.busy } }))
+
+abbrev pub differs : Bool → Bool → Bool
+differs true b = not b
+differs false b = b
+
+-- whether the other end is to be told that the end has become busy, or isn't any more: an answerer tells once it has heard a number
+abbrev pub has_news : Account → Bool
+has_news a = differs a.owes.busy a.owes.busy_told && (is_originator a.setup.role || a.numbered)
 
 -- The steps, for an account whose timers are done. `special` says whether the last speaking was of a BRK, a BRKACK or an SREJ.
 
@@ -159,11 +175,11 @@ step1 a = answering a.owes.answer a
 
 -- an F reply
 abbrev pub step2 : Account → Option Said
-step2 a = where_says a.owes.reply (says_frame (Rr false (nr_of a) true) (telling (record a { owes = record a.owes { reply = false } })))
+step2 a = where_says a.owes.reply (tells false true (record a { owes = record a.owes { reply = false } }))
 
 -- a poll
 abbrev pub step3 : Account → Option Said
-step3 a = where_says a.wait.poll (says_frame (Rr true (nr_of a) true) (telling (record a { wait = record a.wait { poll = false } })))
+step3 a = where_says a.wait.poll (tells true true (record a { wait = record a.wait { poll = false } }))
 
 -- the urgent first I frame
 abbrev pub step4 : ℕ → Account → Option Said
@@ -173,9 +189,11 @@ step4 turn a = if a.wait.urgent then says_segment turn (may_send a) a else None
 abbrev pub step5 : Bool → Account → Option Said
 step5 special a = if special then None else says_break a.their_breaks.ack a
 
--- REJ or SREJ
+-- RR or RNR, where there is news; else, where the end isn't busy, REJ or SREJ
 abbrev pub step6 : Bool → Account → Option Said
-step6 special a = says_asking a.incoming.srej special (asks a.incoming) a
+step6 special a =
+    if has_news a then Some (tells false false a)
+    else if a.owes.busy then None else says_asking a.incoming.srej special (asks a.incoming) a
 
 -- an I frame
 abbrev pub step7 : ℕ → Account → Option Said
@@ -183,7 +201,7 @@ step7 turn a = says_segment turn (may_send a) a
 
 -- the acknowledgement that is owed
 abbrev pub step8 : Account → Option Said
-step8 a = where_says a.incoming.owed (says_frame (Rr false (nr_of a) false) (telling a))
+step8 a = where_says a.incoming.owed (tells false false a)
 
 -- flags
 abbrev pub step9 : Account → Said

@@ -5,6 +5,7 @@ use Rattle.lapm_frames.specs.declared.frame.Frame.{Frame}
 use Rattle.lapm_frames.specs.Parts.{parts_of}
 use Rattle.xid_params.specs.declared.terms.Terms.{Terms}
 use Rattle.lapm_sender.specs.Outgoing as outgoing
+use Rattle.lapm_sender.specs.Outgoing.{Outgoing}
 use Rattle.lapm_sender.specs.Sending.{StandsOut, wanted_by}
 use Rattle.lapm_receiver.specs.Incoming as incoming
 use Rattle.lapm_receiver.specs.Taking.{Taking, StandsIn}
@@ -24,8 +25,9 @@ use Rattle.lapm_link.specs.declared.answering.Answering.{Answering}
 use Rattle.lapm_link.specs.declared.negotiating.Talk.{Talk}
 use Rattle.lapm_link.specs.declared.negotiating.Talk.TheVariants as talks
 use Rattle.lapm_link.specs.declared.connected.Breaks.{Breaks}
-use Rattle.lapm_link.specs.declared.connected.Owes.{Owes}
+use Rattle.lapm_link.specs.declared.owes.Owes.{Owes}
 use Rattle.lapm_link.specs.declared.connected.Wait.{Wait}
+use Rattle.lapm_link.specs.declared.rules.Waits.{Waits}
 use Rattle.lapm_link.specs.declared.connected.Connected.{Connected}
 use Rattle.lapm_link.specs.declared.closed.Broken.{Broken}
 use Rattle.lapm_link.specs.declared.any_end.AnyEnd.{AnyEnd}
@@ -38,14 +40,13 @@ use Rattle.lapm_link.specs.Attempt.{Tries}
 -- is due.
 pub record IsUnlinked (setup : Setup) (answer : Option Answer) (a : Account) : Type 0 where
   pub setup_is : setup ≡ a.setup
-  pub answer_is : answer ≡ a.owes.answer
+  pub owes_is : a.owes ≡ record { answer = answer; reply = false; busy = false; busy_told = false }
   pub numbered_is : a.numbered ≡ false
   pub outgoing_is : a.outgoing ≡ outgoing.not_begun
   pub incoming_is : a.incoming ≡ incoming.not_begun
   pub own_is : a.own_breaks ≡ no_breaks
   pub their_is : a.their_breaks ≡ none_heard
   pub told_is : a.breaks_told ≡ 0
-  pub reply_is : a.owes.reply ≡ false
   pub poll_is : a.wait.poll ≡ false
   pub urgent_is : a.wait.urgent ≡ false
   pub timer_is : a.wait.timer ≡ None
@@ -80,21 +81,28 @@ abbrev pub first_untold : Account → Option ℕ
 first_untold a =
     if nat_lt a.breaks_told (length a.their_breaks.lengths) then Some (slice_index_or a.their_breaks.lengths a.breaks_told 0) else None
 
+-- the breaks of both ends, and what the user was given of them
+pub record BreaksStand (breaks : Breaks) (a : Account) : Type 0 where
+  pub own : StandsOwn breaks.own a.own_breaks
+  pub their : StandsTheirs breaks.their a.their_breaks
+  pub told_within : a.breaks_told ≤ length a.their_breaks.lengths
+  pub given_is : breaks.given ≡ first_untold a
+
+-- what the end waits for
+pub record WaitStands (wait : Wait) (a : Account) : Type 0 where
+  pub poll_is : wait.poll ≡ a.wait.poll
+  pub urgent_is : wait.urgent ≡ a.wait.urgent
+  pub timer_is : wait.timer ≡ a.wait.timer
+
 -- a link that is up, but for its sender
 pub record LinksBeside (setup : Setup) (receiver : Taking) (breaks : Breaks) (owes : Owes) (wait : Wait) (numbered special : Bool) (a : Account) : Type 0 where
   pub phase_is : a.phase ≡ phases.Connected
   pub setup_is : setup ≡ a.setup
   pub numbered_is : numbered ≡ a.numbered
   pub receiver_stands : StandsIn receiver a.incoming
-  pub own_stand : StandsOwn breaks.own a.own_breaks
-  pub their_stand : StandsTheirs breaks.their a.their_breaks
-  pub told_within : a.breaks_told ≤ length a.their_breaks.lengths
-  pub given_is : breaks.given ≡ first_untold a
-  pub answer_is : owes.answer ≡ a.owes.answer
-  pub reply_is : owes.reply ≡ a.owes.reply
-  pub poll_is : wait.poll ≡ a.wait.poll
-  pub urgent_is : wait.urgent ≡ a.wait.urgent
-  pub timer_is : wait.timer ≡ a.wait.timer
+  pub breaks_stand : BreaksStand breaks a
+  pub owes_is : owes ≡ a.owes
+  pub waits : WaitStands wait a
   pub special_is : special ≡ a.special
 
 -- a link that is up
@@ -188,6 +196,11 @@ waiting_of (ends.Establishing end) = None
 waiting_of (ends.Connected end) = end.breaks.given
 waiting_of (ends.Releasing end) = None
 waiting_of (ends.Closed end) = None
+
+-- what a sender waits for, by the part that it stands for
+pub record AreWaits (waits : Waits) (o : Outgoing) : Type 0 where
+  pub awaiting_is : waits.awaiting ≡ o.awaited
+  pub paused_is : waits.paused ≡ o.paused
 
 -- what a rule makes of a link that is up, where this is what it makes of the account
 abbrev pub Becomes : Result Account LinkFault → Connected → Result (Unit {0}) LinkFault → Type 0

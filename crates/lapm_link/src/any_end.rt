@@ -2,7 +2,7 @@
 ghost use Rattle.slot_contents.specs.Sendable.{IsSendable};
 ghost use Rattle.std.specs.Prelude.{◌≡◌, ◌+◌, ◌≤◌, ◌<◌, ◌^◌, ℕ, List, length, Some, None, IfOk, IsSomeAnd, is_some, OnErr};
 ghost use Rattle.std.specs.Bool.{OnFalse};
-ghost use Rattle.lapm_link.specs.Account.{Account, wants, piece_size, after_offer, delivers, after_delivery, is_done, takes_own, after_break_asked, break_waits, given_break, after_given};
+ghost use Rattle.lapm_link.specs.Account.{Account, wants, piece_size, after_offer, delivers, after_delivery, is_done, takes_own, after_break_asked, break_waits, given_break, after_given, after_busy};
 ghost use Rattle.lapm_link.specs.Hear.{hear};
 ghost use Rattle.lapm_link.specs.Speak.{speak};
 ghost use Rattle.lapm_link.specs.Stands.{StandsFor, Hears, Speaks, IsNumbered, TakesNothing, phase_of, taken_of, undelivered_of, waiting_of, wanted_of, piece_of};
@@ -173,6 +173,17 @@ impl AnyEnd {
         match self {
             AnyEnd::Connected(end) => end.breaks.given.take(),
             _ => None,
+        }
+    }
+
+    /// Whether the end's user asks for a pause from now on. It is told to the other end as soon as there is a place for it.
+    pub fn set_busy(&mut self, busy: bool)
+        ensures account { (a : Account) → StandsFor self.old a → StandsFor self.new (after_busy busy a) }
+        ensures takes_nothing { TakesNothing self.old self.new }
+        ensures given { waiting_of self.new ≡ waiting_of self.old }
+    {
+        if let AnyEnd::Connected(end) = self {
+            end.owes.busy = busy;
         }
     }
 }

@@ -5,6 +5,7 @@ ghost use Rattle.lapm_link.specs.Fits.{IsSetUp};
 
 use crate::Setup;
 use crate::answer::Answer;
+use crate::owes::Owes;
 use crate::terms::is_originator;
 use break_signals::{BreakReceiver, BreakSender};
 use lapm_receiver::Receiver;
@@ -39,14 +40,6 @@ pub(crate) struct Breaks {
     pub(crate) their: BreakReceiver,
     /// The length of a break that the user wasn't given yet, in units of 10 ms.
     pub(crate) given: Option<u8>,
-}
-
-/// What an end owes at once.
-#[derive(Clone, Copy)]
-pub(crate) struct Owes {
-    pub(crate) answer: Option<Answer>,
-    /// An RR response with F = 1.
-    pub(crate) reply: bool,
 }
 
 /// What an end waits for.
@@ -102,6 +95,8 @@ impl Connected {
             owes: Owes {
                 answer,
                 reply: false,
+                busy: false,
+                busy_told: false,
             },
             wait: Wait {
                 poll: originates,

@@ -19,6 +19,7 @@ mod fault;
 pub mod laws;
 mod negotiating;
 mod offers;
+mod owes;
 mod phase;
 mod releasing;
 mod rules;

@@ -1,7 +1,8 @@
 // What a Connected end becomes by what it hears: one function a rule.
 ghost use Rattle.std.specs.Prelude.{◌≡◌, ℕ, ◌+◌, ◌<◌, ◌≤◌, ◌^◌, length, IfOk, nat_lt, if◌then◌else◌, Option, None, Result, MatchResult};
-ghost use Rattle.lapm_sender.specs.Outgoing.{Outgoing, acknowledged, rejected, replied, selected};
-ghost use Rattle.lapm_sender.specs.Sending.{StandsOut, Advances, RefusesAck};
+ghost use Rattle.std.specs.Option.{option_map};
+ghost use Rattle.lapm_sender.specs.Outgoing.{Outgoing, acknowledged, rejected, replied, paused_at, resumed, selected};
+ghost use Rattle.lapm_sender.specs.Sending.{StandsOut, Advances, RefusesAck, SameTerms};
 ghost use Rattle.break_signals.specs.Words.{word_in};
 
 use crate::answer::{Answer, without_adp};
@@ -11,7 +12,7 @@ use crate::{AnyEnd, Arrived, Broken, Closed, LinkFault};
 use break_signals::{BreakWord, read_break};
 use frame_check::Info;
 use lapm_frames::Frame;
-use lapm_sender::BadAck;
+use lapm_sender::{BadAck, Sender};
 use roles::Role;
 
 /// What the end breaks by, where an acknowledgement is of no number that was sent.
@@ -25,49 +26,126 @@ fn bad_ack(bad: BadAck) -> LinkFault
     }
 }
 
+/// What a sender waits for.
+#[derive(Clone, Copy)]
+struct Waits {
+    /// The answer to a poll.
+    awaiting: bool,
+    /// That the other end is no longer busy.
+    paused: bool,
+}
+
+/// The sender takes an N(R) as the answer to a poll, or as an acknowledgement alone.
+fn answered_or_acked(sender: &mut Sender, nr: u8, ends: bool) -> Result<bool, BadAck>
+    requires { nr < 128 }
+    ensures answer { (o : Outgoing) → StandsOut sender.old o
+        → MatchResult result (Advances sender.new o (if ends then replied nr o else acknowledged nr o)) (RefusesAck nr o (if ends then replied nr o else acknowledged nr o)) }
+    ensures terms { SameTerms sender.old sender.new }
+{
+    if ends {
+        sender.replied(nr)
+    } else {
+        sender.acked(nr)
+    }
+}
+
+/// The sender takes an N(R) as the answer to a poll, or goes on from there.
+fn answered_or_rejected(sender: &mut Sender, nr: u8, ends: bool) -> Result<bool, BadAck>
+    requires { nr < 128 }
+    ensures answer { (o : Outgoing) → StandsOut sender.old o
+        → MatchResult result (Advances sender.new o (if ends then replied nr o else rejected nr o)) (RefusesAck nr o (if ends then replied nr o else rejected nr o)) }
+    ensures terms { SameTerms sender.old sender.new }
+{
+    if ends {
+        sender.replied(nr)
+    } else {
+        sender.rejected(nr)
+    }
+}
+
+/// A number that was taken tells besides that the other end is no longer busy.
+fn resuming(sender: &mut Sender, taken: Result<bool, BadAck>) -> Result<bool, BadAck>
+    ensures answer { (nr : ℕ) (o : Outgoing) (after : Option Outgoing)
+        → MatchResult taken (Advances sender.old o after) (RefusesAck nr o after)
+        → MatchResult result (Advances sender.new o (option_map resumed after)) (RefusesAck nr o (option_map resumed after)) }
+    ensures terms { SameTerms sender.old sender.new }
+{
+    match taken {
+        Ok(advanced) => {
+            sender.resumed();
+            Ok(advanced)
+        }
+        Err(bad) => Err(bad),
+    }
+}
+
+/// A number that was taken tells besides that the other end is busy.
+fn pausing(sender: &mut Sender, taken: Result<bool, BadAck>) -> Result<bool, BadAck>
+    ensures answer { (nr : ℕ) (o : Outgoing) (after : Option Outgoing)
+        → MatchResult taken (Advances sender.old o after) (RefusesAck nr o after)
+        → MatchResult result (Advances sender.new o (option_map paused_at after)) (RefusesAck nr o (option_map paused_at after)) }
+    ensures terms { SameTerms sender.old sender.new }
+{
+    match taken {
+        Ok(advanced) => {
+            sender.pause();
+            Ok(advanced)
+        }
+        Err(bad) => Err(bad),
+    }
+}
+
 // The number of a frame.
 impl Connected {
     ghost use Rattle.lapm_link.specs.Account.{Account};
     ghost use Rattle.lapm_link.specs.Hear.{timer_after, on_number};
-    ghost use Rattle.lapm_link.specs.Stands.{Links, LinksBeside, Becomes, SameTaken};
+    ghost use Rattle.lapm_link.specs.Stands.{AreWaits, Links, LinksBeside, Becomes, SameTaken};
 
-    /// The sender's timer behind an N(R), by whether a poll was awaited before and whether the front advanced.
-    fn timer_after(&self, turn: u64, awaited: bool, advanced: bool) -> Option<u64>
-        ensures { (old new : Outgoing) → StandsOut self.now.sender new → awaited ≡ old.awaited → advanced ≡ nat_lt old.front new.front
+    /// What the sender waits for.
+    fn waits(&self) -> Waits
+        ensures { (a : Account) → Links self.now a → AreWaits result a.outgoing }
+    {
+        Waits {
+            awaiting: self.sender.awaiting(),
+            paused: self.sender.is_paused(),
+        }
+    }
+
+    /// The sender's timer behind an N(R), by what it waited for before and whether the front advanced.
+    fn timer_after(&self, turn: u64, before: Waits, advanced: bool) -> Option<u64>
+        ensures { (old new : Outgoing) → StandsOut self.now.sender new → AreWaits before old → advanced ≡ nat_lt old.front new.front
             → result ≡ timer_after turn old new self.now.wait.timer }
     {
-        let outstanding = self.sender.outstanding();
         let awaiting = self.sender.awaiting();
-        if awaited && !awaiting && !outstanding {
+        let paused = self.sender.is_paused();
+        let waits = self.sender.outstanding() || (awaiting || paused);
+        let ended = (before.awaiting && !awaiting) || (before.paused && !paused);
+        if ended && !waits {
             return None;
         }
         if !advanced {
             return self.wait.timer;
         }
-        if outstanding || awaiting {
-            Some(turn)
-        } else {
-            None
-        }
+        if waits { Some(turn) } else { None }
     }
 
     /// The sender has taken the number of an I frame or of a supervisory frame, or refused it.
     fn count(
         &mut self,
         turn: u64,
-        awaited: bool,
+        before: Waits,
         taken: Result<bool, BadAck>,
     ) -> Result<(), LinkFault>
         ensures becomes { (a : Account) (after : Option Outgoing) (nr : ℕ)
             → LinksBeside self.old.setup self.old.receiver self.old.breaks self.old.owes self.old.wait self.old.numbered self.old.special a
-            → awaited ≡ a.outgoing.awaited
+            → AreWaits before a.outgoing
             → MatchResult taken (Advances self.old.sender a.outgoing after) (RefusesAck nr a.outgoing after)
             → Becomes (on_number turn nr after a) self.new result }
         ensures same { SameTaken self.old self.new }
     {
         match taken {
             Ok(advanced) => {
-                self.wait.timer = self.timer_after(turn, awaited, advanced);
+                self.wait.timer = self.timer_after(turn, before, advanced);
                 self.numbered = true;
                 Ok(())
             }
@@ -81,31 +159,9 @@ impl Connected {
         ensures becomes { (a : Account) → Links self.old a → Becomes (on_number turn nr (acknowledged nr a.outgoing) a) self.new result }
         ensures same { SameTaken self.old self.new }
     {
-        let awaited = self.sender.awaiting();
+        let before = self.waits();
         let taken = self.sender.acked(nr);
-        self.count(turn, awaited, taken)
-    }
-
-    /// The same, and sending goes on from it.
-    fn go_back(&mut self, turn: u64, nr: u8) -> Result<(), LinkFault>
-        requires { nr < 128 }
-        ensures becomes { (a : Account) → Links self.old a → Becomes (on_number turn nr (rejected nr a.outgoing) a) self.new result }
-        ensures same { SameTaken self.old self.new }
-    {
-        let awaited = self.sender.awaiting();
-        let taken = self.sender.rejected(nr);
-        self.count(turn, awaited, taken)
-    }
-
-    /// The same, and the poll that was awaited is answered.
-    fn end_wait(&mut self, turn: u64, nr: u8) -> Result<(), LinkFault>
-        requires { nr < 128 }
-        ensures becomes { (a : Account) → Links self.old a → Becomes (on_number turn nr (replied nr a.outgoing) a) self.new result }
-        ensures same { SameTaken self.old self.new }
-    {
-        let awaited = self.sender.awaiting();
-        let taken = self.sender.replied(nr);
-        self.count(turn, awaited, taken)
+        self.count(turn, before, taken)
     }
 
     /// This number alone is to be sent again.
@@ -113,12 +169,12 @@ impl Connected {
         ensures becomes { (a : Account) → Links self.old a → Becomes (on_number turn nr (selected nr a.outgoing) a) self.new result }
         ensures same { SameTaken self.old self.new }
     {
-        let awaited = self.sender.awaiting();
+        let before = self.waits();
         let taken = match self.sender.selected(nr) {
             Ok(()) => Ok(false),
             Err(bad) => Err(bad),
         };
-        self.count(turn, awaited, taken)
+        self.count(turn, before, taken)
     }
 }
 
@@ -126,7 +182,7 @@ impl Connected {
 impl Connected {
     ghost use Rattle.lapm_link.specs.declared.answer.Answer.{Answer};
     ghost use Rattle.lapm_link.specs.Account.{Account};
-    ghost use Rattle.lapm_link.specs.Hear.{on_number, ends_wait, on_i, on_ready, on_rej, on_srej, on_sabme, on_disc, on_word, peer_reset};
+    ghost use Rattle.lapm_link.specs.Hear.{on_number, ends_wait, on_i, on_ready, on_rnr, on_rej, on_srej, on_sabme, on_disc, on_word, peer_reset};
     ghost use Rattle.lapm_link.specs.Stands.{Links, StandsFor, Hears, Becomes, SameTaken, taken_of};
 
     fn on_i(&mut self, turn: u64, ns: u8, nr: u8, pf: bool, info: &Info) -> Result<(), LinkFault>
@@ -151,21 +207,44 @@ impl Connected {
         self.sender.awaiting() && pf && !command
     }
 
-    /// An RR or RNR ends the wait, or acknowledges alone.
+    /// An RR ends the wait, or acknowledges alone, and the other end is no longer busy.
     fn take_ready(&mut self, turn: u64, nr: u8, ends: bool) -> Result<(), LinkFault>
         requires { nr < 128 }
         ensures becomes { (a : Account) → Links self.old a
-            → Becomes (on_number turn nr (if ends then replied nr a.outgoing else acknowledged nr a.outgoing) a) self.new result }
+            → Becomes (on_number turn nr (option_map resumed (if ends then replied nr a.outgoing else acknowledged nr a.outgoing)) a) self.new result }
         ensures same { SameTaken self.old self.new }
     {
-        if ends {
-            self.end_wait(turn, nr)
-        } else {
-            self.acknowledge(turn, nr)
-        }
+        let before = self.waits();
+        let taken = answered_or_acked(&mut self.sender, nr, ends);
+        let taken = resuming(&mut self.sender, taken);
+        self.count(turn, before, taken)
     }
 
-    /// RR or RNR.
+    /// The same by an RNR, and the other end is busy.
+    fn take_pause(&mut self, turn: u64, nr: u8, ends: bool) -> Result<(), LinkFault>
+        requires { nr < 128 }
+        ensures becomes { (a : Account) → Links self.old a
+            → Becomes (on_number turn nr (option_map paused_at (if ends then replied nr a.outgoing else acknowledged nr a.outgoing)) a) self.new result }
+        ensures same { SameTaken self.old self.new }
+    {
+        let before = self.waits();
+        let taken = answered_or_acked(&mut self.sender, nr, ends);
+        let taken = pausing(&mut self.sender, taken);
+        self.count(turn, before, taken)
+    }
+
+    fn on_rnr(&mut self, turn: u64, command: bool, nr: u8, pf: bool) -> Result<(), LinkFault>
+        requires { nr < 128 }
+        ensures becomes { (a : Account) → Links self.old a → Becomes (on_rnr turn command nr pf a) self.new result }
+        ensures same { SameTaken self.old self.new }
+    {
+        let ends = self.ends_wait(command, pf);
+        self.take_pause(turn, nr, ends)?;
+        self.owes.reply = self.owes.reply || command && pf;
+        self.wait.timer = Some(turn);
+        Ok(())
+    }
+
     fn on_ready(&mut self, turn: u64, command: bool, nr: u8, pf: bool) -> Result<(), LinkFault>
         requires { nr < 128 }
         ensures becomes { (a : Account) → Links self.old a → Becomes (on_ready turn command nr pf a) self.new result }
@@ -178,18 +257,17 @@ impl Connected {
         Ok(())
     }
 
-    /// A REJ ends the wait, or makes sending go on from its number.
+    /// A REJ ends the wait, or makes sending go on from its number, and the other end is no longer busy.
     fn take_rej(&mut self, turn: u64, nr: u8, ends: bool) -> Result<(), LinkFault>
         requires { nr < 128 }
         ensures becomes { (a : Account) → Links self.old a
-            → Becomes (on_number turn nr (if ends then replied nr a.outgoing else rejected nr a.outgoing) a) self.new result }
+            → Becomes (on_number turn nr (option_map resumed (if ends then replied nr a.outgoing else rejected nr a.outgoing)) a) self.new result }
         ensures same { SameTaken self.old self.new }
     {
-        if ends {
-            self.end_wait(turn, nr)
-        } else {
-            self.go_back(turn, nr)
-        }
+        let before = self.waits();
+        let taken = answered_or_rejected(&mut self.sender, nr, ends);
+        let taken = resuming(&mut self.sender, taken);
+        self.count(turn, before, taken)
     }
 
     fn on_rej(&mut self, turn: u64, command: bool, nr: u8, pf: bool) -> Result<(), LinkFault>
@@ -290,8 +368,12 @@ impl Connected {
                 let heard = end.on_i(turn, *ns, *nr, *pf, info);
                 end.after(heard)
             }
-            Frame::Rr { command, nr, pf } | Frame::Rnr { command, nr, pf } => {
+            Frame::Rr { command, nr, pf } => {
                 let heard = end.on_ready(turn, *command, *nr, *pf);
+                end.after(heard)
+            }
+            Frame::Rnr { command, nr, pf } => {
+                let heard = end.on_rnr(turn, *command, *nr, *pf);
                 end.after(heard)
             }
             Frame::Rej { command, nr, pf } => {

@@ -4,6 +4,8 @@ ghost use Rattle.lapm_frames.specs.declared.frame.Frame.{Frame};
 ghost use Rattle.break_signals.specs.Words.{number_of, spelled};
 ghost use Rattle.slot_contents.specs.Sendable.{IsSendable};
 ghost use Rattle.slot_contents.specs.declared.sent.Sent.{Sent};
+ghost use Rattle.lapm_receiver.specs.Incoming.{asks};
+ghost use Rattle.lapm_link.specs.Speak.{ready_frame};
 
 use crate::answer::slot_of;
 use crate::attempt::Attempt;
@@ -30,6 +32,17 @@ fn word_slot(word: &BreakWord) -> Sent
         pf: false,
         info: carried(info),
     })
+}
+
+/// RR, or RNR where the end is busy.
+fn ready_frame(busy: bool, command: bool, nr: u8, pf: bool) -> Frame
+    ensures { result ≡ ready_frame busy command nr pf }
+{
+    if busy {
+        Frame::Rnr { command, nr, pf }
+    } else {
+        Frame::Rr { command, nr, pf }
+    }
 }
 
 // The timers.
@@ -85,7 +98,7 @@ impl Connected {
 // The steps.
 impl Connected {
     ghost use Rattle.lapm_link.specs.Account.{Account};
-    ghost use Rattle.lapm_link.specs.Speak.{says_frame, nr_of, telling, step1, step2, step3, step4, step5, step6, step7, step8, steps};
+    ghost use Rattle.lapm_link.specs.Speak.{tells, has_news, says_asking, step1, step2, step3, step4, step5, step6, step7, step8, steps};
     ghost use Rattle.lapm_link.specs.Stands.{Links, Gives, SaysLinked, SameTaken};
 
     /// An answer that is due.
@@ -103,16 +116,16 @@ impl Connected {
         }
     }
 
-    /// RR with the next number expected, which acknowledges all before it.
+    /// RR, or RNR where the end is busy, with the next number expected, which acknowledges all before it.
     fn say_ready(&mut self, command: bool, pf: bool) -> Sent
-        ensures says { (a : Account) → Links self.old a
-            → SaysLinked (says_frame (Frame.Rr command (nr_of a) pf) (telling a)) self.new result }
+        ensures says { (a : Account) → Links self.old a → SaysLinked (tells command pf a) self.new result }
         ensures same { SameTaken self.old self.new }
         ensures sendable { IsSendable result }
     {
         let nr = self.receiver.nr();
         self.receiver.told();
-        Sent::Frame(Frame::Rr { command, nr, pf })
+        self.owes.busy_told = self.owes.busy;
+        Sent::Frame(ready_frame(self.owes.busy, command, nr, pf))
     }
 
     /// The reply to a poll.
@@ -175,9 +188,30 @@ impl Connected {
         None
     }
 
+    /// Whether the other end is to be told that this one became busy, or no longer is. An answerer tells once it has heard a number.
+    fn has_news(&self) -> bool
+        ensures { (a : Account) → Links self.now a → result ≡ has_news a }
+    {
+        self.owes.busy != self.owes.busy_told && (is_originator(self.setup.role) || self.numbered)
+    }
+
+    /// What the other end is to be told, else a REJ or an SREJ where the end isn't busy.
+    fn say_news(&mut self, special: bool) -> Option<Sent>
+        ensures gives { (a : Account) → Links self.old a → Gives (step6 special a) a self.new result }
+        ensures same { SameTaken self.old self.new }
+    {
+        if self.has_news() {
+            return Some(self.say_ready(false, false));
+        }
+        if self.owes.busy {
+            return None;
+        }
+        self.say_asking(special)
+    }
+
     /// A REJ, or an SREJ.
     fn say_asking(&mut self, special: bool) -> Option<Sent>
-        ensures gives { (a : Account) → Links self.old a → Gives (step6 special a) a self.new result }
+        ensures gives { (a : Account) → Links self.old a → Gives (says_asking a.incoming.srej special (asks a.incoming) a) a self.new result }
         ensures same { SameTaken self.old self.new }
         ensures sendable { IfSome result IsSendable }
     {
@@ -185,6 +219,7 @@ impl Connected {
         if !self.terms.srej {
             self.receiver.asked();
             self.receiver.told();
+            self.owes.busy_told = false;
             return Some(Sent::Frame(Frame::Rej {
                 command: false,
                 nr,
@@ -259,7 +294,7 @@ impl Connected {
         if let Some(sent) = self.say_break(special) {
             return sent;
         }
-        if let Some(sent) = self.say_asking(special) {
+        if let Some(sent) = self.say_news(special) {
             return sent;
         }
         if let Some(sent) = self.say_segment(turn) {

@@ -19,6 +19,7 @@ pub record Sending : Type 0 where
   pub chosen : List ℕ
   pub count : ℕ
   pub awaited : Bool
+  pub paused : Bool
 
 -- what is true of each sender
 pub record IsSending (front kept room window size tries high from count : ℕ) : Type 0 where
@@ -47,6 +48,7 @@ pub record StandsOut (sender : Sending) (o : Outgoing) : Type 0 where
   pub chosen_is : sender.chosen ≡ o.chosen
   pub count_is : sender.count ≡ o.count
   pub awaited_is : sender.awaited ≡ o.awaited
+  pub paused_is : sender.paused ≡ o.paused
 
 -- what a sender began with
 pub record SameTerms (old new : Sending) : Type 0 where

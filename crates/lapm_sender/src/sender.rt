@@ -23,6 +23,8 @@ pub struct Sender {
     from: u64,
     count: u8,
     awaited: bool,
+    /// Whether the other end counts as busy: then nothing is sent.
+    paused: bool,
 }
 
 impl Model for Sender {
@@ -31,13 +33,14 @@ impl Model for Sender {
 
     ghost Value = { Sending };
 
-    ghost view = { λ s. record { room = s.segments.room; window = s.window; size = s.size; tries = s.tries; kept = s.segments.kept; ended = s.ended; front = s.segments.front; high = s.high; from = s.from; chosen = s.segments.chosen; count = s.count; awaited = s.awaited } };
+    ghost view = { λ s. record { room = s.segments.room; window = s.window; size = s.size; tries = s.tries; kept = s.segments.kept; ended = s.ended; front = s.segments.front; high = s.high; from = s.from; chosen = s.segments.chosen; count = s.count; awaited = s.awaited; paused = s.paused } };
 
     ghost invariant = { λ s. IsSending s.segments.front (length s.segments.kept) s.segments.room s.window s.size s.tries s.high s.from s.count };
 }
 
 impl Sender {
-    ghost use Rattle.lapm_sender.specs.Outgoing.{Outgoing, not_begun, begun, wanted, with_piece, next_number, advanced, acknowledged, rejected, replied, selected, expired, is_whole, is_outstanding};
+    ghost use Rattle.lapm_sender.specs.Outgoing.{Outgoing, not_begun, begun, wanted, with_piece, next_number, advanced, acknowledged, rejected, replied, paused_at, resumed, selected, expired, is_whole, is_outstanding};
+    ghost use Rattle.std.specs.Option.{option_map};
     ghost use Rattle.lapm_sender.specs.Sending.{StandsOut, wanted_by, GivesNext, Advances, Follows, RefusesAck, SpendsAll, SameTerms};
 
     /// A sender that isn't begun, with room for so many segments. It takes all its memory here.
@@ -58,6 +61,7 @@ impl Sender {
             from: 0,
             count: 0,
             awaited: false,
+            paused: false,
         })
     }
 
@@ -83,6 +87,7 @@ impl Sender {
         self.from = 0;
         self.count = 0;
         self.awaited = polled;
+        self.paused = false;
     }
 
     /// The number of the next segment to read, where there is room in the window and the file hasn't ended.
@@ -118,7 +123,9 @@ impl Sender {
     pub fn ready(&self) -> bool
         ensures { (o : Outgoing) → StandsOut self.now o → result ≡ is_some (next_number o) }
     {
-        !self.awaited && (self.segments.least_chosen().is_some() || self.from < self.segments.end())
+        !self.awaited
+            && !self.paused
+            && (self.segments.least_chosen().is_some() || self.from < self.segments.end())
     }
 
     /// Copies a segment into `out`, and gives its number modulo 128. It has then been sent.
@@ -143,7 +150,7 @@ impl Sender {
         ensures seven_bits { IfSome result (λ ns. ns < 128) }
         ensures terms { SameTerms self.old self.new }
     {
-        if self.awaited {
+        if self.awaited || self.paused {
             return None;
         }
         match self.segments.least_chosen() {
@@ -257,10 +264,52 @@ impl Sender {
         let advances = self.rejected(nr)?;
         self.segments.choose_none();
         self.awaited = false;
-        if !self.outstanding() {
+        if !self.outstanding() && !self.paused {
             self.count = 0;
         }
         Ok(advances)
+    }
+
+    /// The other end is busy: as `acked`, the retry count is 0, and nothing is sent until [`resumed`](Sender::resumed).
+    pub fn paused(&mut self, nr: u8) -> Result<bool, BadAck>
+        requires { nr < 128 }
+        ensures answer { (o : Outgoing) → StandsOut self.old o
+            → MatchResult result (Advances self.new o (option_map paused_at (acknowledged nr o))) (RefusesAck nr o (option_map paused_at (acknowledged nr o))) }
+        ensures unchanged { OnErr result (self.new ≡ self.old) }
+        ensures terms { SameTerms self.old self.new }
+    {
+        let advances = self.acked(nr)?;
+        self.pause();
+        Ok(advances)
+    }
+
+    /// The same without an acknowledgement, behind an answer to a poll that says so.
+    pub fn pause(&mut self)
+        ensures stands { (o : Outgoing) → StandsOut self.old o → StandsOut self.new (paused_at o) }
+        ensures terms { SameTerms self.old self.new }
+    {
+        self.paused = true;
+        self.count = 0;
+    }
+
+    /// The other end is no longer busy. Where it was, and neither a segment is outstanding nor a poll awaited, the retry count is 0.
+    pub fn resumed(&mut self)
+        ensures stands { (o : Outgoing) → StandsOut self.old o → StandsOut self.new (resumed o) }
+        ensures terms { SameTerms self.old self.new }
+    {
+        if self.paused {
+            self.paused = false;
+            if !self.outstanding() && !self.awaited {
+                self.count = 0;
+            }
+        }
+    }
+
+    /// Whether the other end counts as busy.
+    pub fn is_paused(&self) -> bool
+        ensures { (o : Outgoing) → StandsOut self.now o → result ≡ o.paused }
+    {
+        self.paused
     }
 
     /// The number of segments that are acknowledged.
