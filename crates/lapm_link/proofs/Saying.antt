@@ -1,5 +1,6 @@
 -- What a step gives whose condition holds, and the end once it has been said.
 use Rattle.std.proofs.Common.{◌≡◌, ℕ, Bool, true, false, Option, Some, None, Result, Ok, Err, refl, ap}
+use Rattle.xid_params.specs.declared.terms.Terms.{Terms}
 use Rattle.lapm_receiver.specs.Taking.{Taking}
 use Rattle.lapm_link.specs.declared.setup.Setup.{Setup}
 use Rattle.lapm_link.specs.declared.connected.Breaks.{Breaks}
@@ -21,12 +22,13 @@ pub gives_where : {end : Connected} {sent : Sent} (b : Bool) (said : Said) (a : 
 gives_where b said a e h = rw e h
 
 -- the poll is no longer due
-pub polled : {setup : Setup} {receiver : Taking} {breaks : Breaks} {owes : Owes} {wait : Wait} {numbered special : Bool} {a : Account}
-    → LinksBeside setup receiver breaks owes wait numbered special a
-    → LinksBeside setup receiver breaks owes (record wait { poll = false }) numbered special (record a { wait = record a.wait { poll = false } })
+pub polled : {setup : Setup} {terms : Terms} {receiver : Taking} {breaks : Breaks} {owes : Owes} {wait : Wait} {numbered special : Bool} {a : Account}
+    → LinksBeside setup terms receiver breaks owes wait numbered special a
+    → LinksBeside setup terms receiver breaks owes (record wait { poll = false }) numbered special (record a { wait = record a.wait { poll = false } })
 polled h = record {
   phase_is = h.phase_is;
   setup_is = h.setup_is;
+  terms_are = h.terms_are;
   numbered_is = h.numbered_is;
   receiver_stands = h.receiver_stands;
   breaks_stand = record { own = h.breaks_stand.own; their = h.breaks_stand.their; told_within = h.breaks_stand.told_within; given_is = h.breaks_stand.given_is };
@@ -36,12 +38,13 @@ polled h = record {
 }
 
 -- the reply is no longer due
-pub replied : {setup : Setup} {receiver : Taking} {breaks : Breaks} {owes : Owes} {wait : Wait} {numbered special : Bool} {a : Account}
-    → LinksBeside setup receiver breaks owes wait numbered special a
-    → LinksBeside setup receiver breaks (record owes { reply = false }) wait numbered special (record a { owes = record a.owes { reply = false } })
+pub replied : {setup : Setup} {terms : Terms} {receiver : Taking} {breaks : Breaks} {owes : Owes} {wait : Wait} {numbered special : Bool} {a : Account}
+    → LinksBeside setup terms receiver breaks owes wait numbered special a
+    → LinksBeside setup terms receiver breaks (record owes { reply = false }) wait numbered special (record a { owes = record a.owes { reply = false } })
 replied h = record {
   phase_is = h.phase_is;
   setup_is = h.setup_is;
+  terms_are = h.terms_are;
   numbered_is = h.numbered_is;
   receiver_stands = h.receiver_stands;
   breaks_stand = record { own = h.breaks_stand.own; their = h.breaks_stand.their; told_within = h.breaks_stand.told_within; given_is = h.breaks_stand.given_is };
@@ -51,11 +54,12 @@ replied h = record {
 }
 
 -- the last speaking is forgotten
-pub forgotten : {setup : Setup} {receiver : Taking} {breaks : Breaks} {owes : Owes} {wait : Wait} {numbered special : Bool} {a : Account}
-    → LinksBeside setup receiver breaks owes wait numbered special a → LinksBeside setup receiver breaks owes wait numbered false (record a { special = false })
+pub forgotten : {setup : Setup} {terms : Terms} {receiver : Taking} {breaks : Breaks} {owes : Owes} {wait : Wait} {numbered special : Bool} {a : Account}
+    → LinksBeside setup terms receiver breaks owes wait numbered special a → LinksBeside setup terms receiver breaks owes wait numbered false (record a { special = false })
 forgotten h = record {
   phase_is = h.phase_is;
   setup_is = h.setup_is;
+  terms_are = h.terms_are;
   numbered_is = h.numbered_is;
   receiver_stands = h.receiver_stands;
   breaks_stand = record { own = h.breaks_stand.own; their = h.breaks_stand.their; told_within = h.breaks_stand.told_within; given_is = h.breaks_stand.given_is };
@@ -100,7 +104,7 @@ timers_pass end1 end2 end3 sent turn special (Ok b) h k l = goes_on end2 end3 se
 as_before : (before sent : Sent) (r : Result Said LinkFault) (result : Result AnyEnd Broken) (turn : ℕ) (a : Account) → Speaks r (trying phases.Releasing turn a) before sent result
     → Speaks r a before sent result
 as_before before sent (Ok said) (Ok end) turn a h = h
-as_before before sent (Err fault) (Err broken) turn a h = (h.0, record { fault_is = h.1.fault_is; over = record { setup_is = h.1.over.setup_is; answer_is = h.1.over.answer_is } })
+as_before before sent (Err fault) (Err broken) turn a h = (h.0, record { fault_is = h.1.fault_is; over = record { setup_is = h.1.over.setup_is; answer_is = h.1.over.answer_is; terms_are = h.1.over.terms_are } })
 as_before before sent (Ok said) (Err broken) turn a h = absurd h
 as_before before sent (Err fault) (Ok end) turn a h = absurd h
 

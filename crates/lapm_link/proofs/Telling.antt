@@ -13,7 +13,7 @@ negotiating end (talks.Asking asking) a h = record { phase = sym h.phase_is; tak
 negotiating end (talks.Answering answering) a h = record { phase = sym h.phase_is; taken = omega arith; undelivered = omega arith; waiting = rw h.phase_is refl }
 
 pub account_tells : AccountTells
-account_tells (ends.Detecting end) a h = record { phase = sym h.0; taken = omega arith; undelivered = omega arith; waiting = rw h.0 refl }
+account_tells (ends.Detecting end) a h = record { phase = sym h.phase_is; taken = omega arith; undelivered = omega arith; waiting = rw h.phase_is refl }
 account_tells (ends.Negotiating end) a h = negotiating end end.talk a h
 account_tells (ends.Establishing end) a h = record { phase = sym h.0; taken = omega arith; undelivered = omega arith; waiting = rw h.0 refl }
 account_tells (ends.Connected end) a h = record {

@@ -1,6 +1,8 @@
 -- What an end of the link is, in plain values: all pieces offered and taken, what it owes and what it waits for. The parts of the
 -- sender, the receiver and the breaks are those of their own crates.
 use Rattle.std.specs.Prelude.{ℕ, Bool, true, false, if◌then◌else◌, nat_lt, List, length, Option, Some, None, slice_index_or}
+use Rattle.frame_check.specs.declared.check.Check.{Check}
+use Rattle.frame_check.specs.declared.check.Check.TheVariants.{Sixteen, ThirtyTwo}
 use Rattle.roles.specs.declared.role.Role.{Role}
 use Rattle.roles.specs.declared.role.Role.TheVariants.{Originator, Answerer}
 use Rattle.xid_params.specs.declared.terms.Terms.{Terms}
@@ -39,11 +41,15 @@ pub record Account : Type 0 where
   pub wait : Wait
   pub special : Bool  -- a BRK, a BRKACK or an SREJ was sent at the last speaking
 
+-- the terms before any are agreed: those of two ends that offer nothing
+abbrev pub first_terms : Terms
+first_terms = agree default_offer default_offer
+
 abbrev pub fresh : Setup → Account
 fresh setup = record {
   setup = setup;
   phase = Detecting;
-  terms = agree default_offer default_offer;
+  terms = first_terms;
   numbered = false;
   outgoing = outgoing.not_begun;
   incoming = incoming.not_begun;
@@ -111,3 +117,7 @@ after_given a = record a { breaks_told = length a.their_breaks.lengths }
 -- the end is told whether its user asks for a pause
 abbrev pub after_busy : Bool → Account → Account
 after_busy busy a = if is_connected a.phase then record a { owes = record a.owes { busy = busy } } else a
+
+-- the check of the frames with numbers that the end sends and hears
+abbrev pub check_of : Account → Check
+check_of a = if a.terms.check32 then ThirtyTwo else Sixteen

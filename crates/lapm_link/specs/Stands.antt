@@ -32,7 +32,7 @@ use Rattle.lapm_link.specs.declared.connected.Connected.{Connected}
 use Rattle.lapm_link.specs.declared.closed.Broken.{Broken}
 use Rattle.lapm_link.specs.declared.any_end.AnyEnd.{AnyEnd}
 use Rattle.lapm_link.specs.declared.any_end.AnyEnd.TheVariants as ends
-use Rattle.lapm_link.specs.Account.{Account}
+use Rattle.lapm_link.specs.Account.{Account, first_terms}
 use Rattle.lapm_link.specs.Speak.{Said}
 use Rattle.lapm_link.specs.Attempt.{Tries}
 
@@ -52,11 +52,18 @@ pub record IsUnlinked (setup : Setup) (answer : Option Answer) (a : Account) : T
   pub timer_is : a.wait.timer ≡ None
   pub special_is : a.special ≡ false
 
+-- an end that looks for the other one
+pub record Detects (setup : Setup) (answer : Option Answer) (a : Account) : Type 0 where
+  pub phase_is : a.phase ≡ phases.Detecting
+  pub unlinked : IsUnlinked setup answer a
+  pub terms_are : a.terms ≡ first_terms
+
 -- an originator that sends its offer
 pub record IsAsking (asking : Asking) (a : Account) : Type 0 where
   pub phase_is : a.phase ≡ phases.Negotiating
   pub originates : a.setup.role ≡ Originator
   pub unlinked : IsUnlinked asking.memory.setup asking.memory.answer a
+  pub terms_are : a.terms ≡ first_terms
   pub tries : Tries asking.attempt a
 
 -- an answerer that has heard one
@@ -95,9 +102,10 @@ pub record WaitStands (wait : Wait) (a : Account) : Type 0 where
   pub timer_is : wait.timer ≡ a.wait.timer
 
 -- a link that is up, but for its sender
-pub record LinksBeside (setup : Setup) (receiver : Taking) (breaks : Breaks) (owes : Owes) (wait : Wait) (numbered special : Bool) (a : Account) : Type 0 where
+pub record LinksBeside (setup : Setup) (terms : Terms) (receiver : Taking) (breaks : Breaks) (owes : Owes) (wait : Wait) (numbered special : Bool) (a : Account) : Type 0 where
   pub phase_is : a.phase ≡ phases.Connected
   pub setup_is : setup ≡ a.setup
+  pub terms_are : terms ≡ a.terms
   pub numbered_is : numbered ≡ a.numbered
   pub receiver_stands : StandsIn receiver a.incoming
   pub breaks_stand : BreaksStand breaks a
@@ -108,29 +116,31 @@ pub record LinksBeside (setup : Setup) (receiver : Taking) (breaks : Breaks) (ow
 -- a link that is up
 pub record Links (end : Connected) (a : Account) : Type 0 where
   pub sender_stands : StandsOut end.sender a.outgoing
-  pub beside : LinksBeside end.setup end.receiver end.breaks end.owes end.wait end.numbered end.special a
+  pub beside : LinksBeside end.setup end.terms end.receiver end.breaks end.owes end.wait end.numbered end.special a
 
 -- an originator that sends its DISC
-pub record Releases (setup : Setup) (answer : Option Answer) (front : ℕ) (attempt : Attempt) (a : Account) : Type 0 where
+pub record Releases (setup : Setup) (answer : Option Answer) (terms : Terms) (front : ℕ) (attempt : Attempt) (a : Account) : Type 0 where
   pub setup_is : setup ≡ a.setup
   pub answer_is : answer ≡ a.owes.answer
+  pub terms_are : terms ≡ a.terms
   pub front_is : front ≡ a.outgoing.front
   pub tries : Tries attempt a
 
 -- a link that is over: all that is left is an answer that is due
-pub record IsOver (setup : Setup) (answer : Option Answer) (a : Account) : Type 0 where
+pub record IsOver (setup : Setup) (answer : Option Answer) (terms : Terms) (a : Account) : Type 0 where
   pub setup_is : setup ≡ a.setup
   pub answer_is : answer ≡ a.owes.answer
+  pub terms_are : terms ≡ a.terms
 
 -- the account that an end stands for
 abbrev pub StandsFor : AnyEnd → Account → Type 0
-StandsFor (ends.Detecting end) a = (a.phase ≡ phases.Detecting) × IsUnlinked end.memory.setup end.memory.answer a
+StandsFor (ends.Detecting end) a = Detects end.memory.setup end.memory.answer a
 StandsFor (ends.Negotiating end) a = Negotiates end.talk a
 StandsFor (ends.Establishing end) a =
     (a.phase ≡ phases.Establishing) × Establishes end.agreed.memory.setup end.agreed.memory.answer end.agreed.terms end.attempt a
 StandsFor (ends.Connected end) a = Links end a
-StandsFor (ends.Releasing end) a = (a.phase ≡ phases.Releasing) × Releases end.setup end.answer end.front end.attempt a
-StandsFor (ends.Closed end) a = (a.phase ≡ phases.Closed) × IsOver end.setup end.answer a
+StandsFor (ends.Releasing end) a = (a.phase ≡ phases.Releasing) × Releases end.setup end.answer end.terms end.front end.attempt a
+StandsFor (ends.Closed end) a = (a.phase ≡ phases.Closed) × IsOver end.setup end.answer end.terms a
 
 -- what an end says that isn't connected yet, and has no frame of its own to send
 pub record SaysUnlinked (said : Said) (setup : Setup) (answer : Option Answer) (a : Account) (sent : Sent) : Type 0 where
@@ -146,7 +156,7 @@ given_up a = record a { phase = phases.Closed; owes = record a.owes { answer = N
 -- A break of the link: the fault, and an end that is closed and owes nothing.
 pub record BreaksOff (fault : LinkFault) (a : Account) (broken : Broken) : Type 0 where
   pub fault_is : broken.fault ≡ fault
-  pub over : IsOver broken.end.setup broken.end.answer (given_up a)
+  pub over : IsOver broken.end.setup broken.end.answer broken.end.terms (given_up a)
 
 -- what a call of hear answers, where this is what the account becomes
 abbrev pub Hears : Result Account LinkFault → Account → Result AnyEnd Broken → Type 0
@@ -231,6 +241,7 @@ SpeaksLinked (Err fault) end (Ok sent) = ⊥
 -- the same setup, and the same segments and breaks are taken
 pub record SameTaken (old new : Connected) : Type 0 where
   pub setup_is : new.setup ≡ old.setup
+  pub terms_is : new.terms ≡ old.terms
   pub taken_is : new.receiver.taken ≡ old.receiver.taken
   pub ready_is : new.receiver.ready ≡ old.receiver.ready
   pub given_is : new.breaks.given ≡ old.breaks.given

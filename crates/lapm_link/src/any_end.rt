@@ -2,7 +2,7 @@
 ghost use Rattle.slot_contents.specs.Sendable.{IsSendable};
 ghost use Rattle.std.specs.Prelude.{◌≡◌, ◌+◌, ◌≤◌, ◌<◌, ◌^◌, ℕ, List, length, Some, None, IfOk, IsSomeAnd, is_some, OnErr};
 ghost use Rattle.std.specs.Bool.{OnFalse};
-ghost use Rattle.lapm_link.specs.Account.{Account, wants, piece_size, after_offer, delivers, after_delivery, is_done, takes_own, after_break_asked, break_waits, given_break, after_given, after_busy};
+ghost use Rattle.lapm_link.specs.Account.{Account, wants, piece_size, after_offer, delivers, after_delivery, is_done, takes_own, after_break_asked, break_waits, given_break, after_given, after_busy, check_of};
 ghost use Rattle.lapm_link.specs.Hear.{hear};
 ghost use Rattle.lapm_link.specs.Speak.{speak};
 ghost use Rattle.lapm_link.specs.Stands.{StandsFor, Hears, Speaks, IsNumbered, TakesNothing, phase_of, taken_of, undelivered_of, waiting_of, wanted_of, piece_of};
@@ -12,7 +12,7 @@ use crate::{
     Arrived, Broken, Closed, Connected, Detecting, Establishing, Negotiating, Phase, Releasing,
     Sent,
 };
-use frame_check::Info;
+use frame_check::{Check, Info};
 
 /// An end in any of its states. The calls besides `hear` and `speak` read and change a Connected end alone.
 #[derive(Drop)]
@@ -77,6 +77,25 @@ impl AnyEnd {
             AnyEnd::Connected(_) => Phase::Connected,
             AnyEnd::Releasing(_) => Phase::Releasing,
             AnyEnd::Closed(_) => Phase::Closed,
+        }
+    }
+
+    /// The check of the frames with numbers that it sends and hears. It changes once terms are agreed, and then stays.
+    pub fn check(&self) -> Check
+        ensures { (a : Account) → StandsFor self.now a → result ≡ check_of a }
+    {
+        let has_long = match self {
+            AnyEnd::Detecting(_) => false,
+            AnyEnd::Negotiating(end) => end.has_long_check(),
+            AnyEnd::Establishing(end) => end.agreed.terms.check32,
+            AnyEnd::Connected(end) => end.terms.check32,
+            AnyEnd::Releasing(end) => end.terms.check32,
+            AnyEnd::Closed(end) => end.terms.check32,
+        };
+        if has_long {
+            Check::ThirtyTwo
+        } else {
+            Check::Sixteen
         }
     }
 

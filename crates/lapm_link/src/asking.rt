@@ -8,6 +8,7 @@ use crate::attempt::Attempt;
 use crate::establishing::Establishing;
 use crate::negotiating::{Negotiating, Talk};
 use crate::offers::{offer_of, spelled};
+use crate::terms::first_terms;
 use crate::unlinked::Unlinked;
 use crate::{AnyEnd, Arrived, Broken, LinkFault, Sent};
 use frame_check::Info;
@@ -24,14 +25,14 @@ impl Asking {
     ghost use Rattle.lapm_link.specs.declared.phase.Phase.{Phase};
     ghost use Rattle.lapm_link.specs.declared.any_end.AnyEnd.{AnyEnd};
     ghost use Rattle.lapm_link.specs.declared.negotiating.Talk.{Talk};
-    ghost use Rattle.lapm_link.specs.Account.{Account};
+    ghost use Rattle.lapm_link.specs.Account.{Account, first_terms};
     ghost use Rattle.lapm_link.specs.Hear.{on_xid_response, on_negotiating, hear, trying};
     ghost use Rattle.lapm_link.specs.Speak.{speak_negotiating};
     ghost use Rattle.lapm_link.specs.Stands.{IsUnlinked, IsAsking, StandsFor, Hears, Speaks, TakesNothing, taken_of};
 
     /// It begins in this turn.
     pub(crate) fn new(memory: Unlinked, turn: u64) -> Asking
-        ensures { (a : Account) → a.setup.role ≡ Role.Originator → IsUnlinked memory.setup memory.answer a
+        ensures { (a : Account) → a.setup.role ≡ Role.Originator → IsUnlinked memory.setup memory.answer a → a.terms ≡ first_terms
             → IsAsking result (trying Phase.Negotiating turn a) }
     {
         let attempt = Attempt::new(turn, &memory.setup);
@@ -68,7 +69,7 @@ impl Asking {
                 info,
                 ..
             } => Ok(self.on_offer(info, turn)),
-            Frame::Dm { .. } => Err(Broken::new(LinkFault::PeerRefused, self.memory.setup)),
+            Frame::Dm { .. } => Err(Broken::new(LinkFault::PeerRefused, self.memory.setup, first_terms())),
             _ => Ok(self.end()),
         }
     }
@@ -106,7 +107,7 @@ impl Asking {
                 *sent = said;
                 Ok(asking.end())
             }
-            Err(fault) => Err(Broken::new(fault, setup)),
+            Err(fault) => Err(Broken::new(fault, setup, first_terms())),
         }
     }
 }

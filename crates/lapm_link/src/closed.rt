@@ -6,12 +6,14 @@ ghost use Rattle.lapm_link.specs.Fits.{IsSetUp};
 use crate::answer::{Answer, slot_of, without_adp};
 use crate::{AnyEnd, Arrived, LinkFault, Sent, Setup};
 use lapm_frames::Frame;
+use xid_params::Terms;
 
 /// An end whose link is over. It answers a DISC.
 #[derive(Drop)]
 pub struct Closed {
     pub(crate) setup: Setup,
     pub(crate) answer: Option<Answer>,
+    pub(crate) terms: Terms,
     ghost set_up: { IsSetUp setup },
 }
 
@@ -23,17 +25,19 @@ pub struct Broken {
 }
 
 impl Broken {
-    pub(crate) fn new(fault: LinkFault, setup: Setup) -> Broken
+    pub(crate) fn new(fault: LinkFault, setup: Setup, terms: Terms) -> Broken
         requires { IsSetUp setup }
         ensures fault { result.fault ≡ fault }
         ensures setup { result.end.setup ≡ setup }
         ensures answer { result.end.answer ≡ None }
+        ensures terms { result.end.terms ≡ terms }
     {
         Broken {
             fault,
             end: Closed {
                 setup,
                 answer: None,
+                terms,
             },
         }
     }

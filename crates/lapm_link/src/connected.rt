@@ -6,7 +6,6 @@ ghost use Rattle.lapm_link.specs.Fits.{IsSetUp};
 use crate::Setup;
 use crate::answer::Answer;
 use crate::owes::Owes;
-use crate::terms::is_originator;
 use break_signals::{BreakReceiver, BreakSender};
 use lapm_receiver::Receiver;
 use lapm_sender::Sender;
@@ -77,11 +76,11 @@ impl Connected {
         requires receiver { 1 ≤ receiver.window }
         requires size { sender.size ≡ size_for setup.role terms }
         requires srej { receiver.srej ≡ terms.srej }
-        ensures links { (a : Account) (o : Outgoing) (i : Incoming) → IsUnlinked setup answer a → StandsOut sender o → StandsIn receiver i
+        ensures links { (a : Account) (o : Outgoing) (i : Incoming) → IsUnlinked setup answer a → terms ≡ a.terms → StandsOut sender o → StandsIn receiver i
             → Links result (record a { phase = Phase.Connected; outgoing = o; incoming = i; wait = first_wait a.setup.role turn a.wait }) }
         ensures receiver { result.receiver ≡ receiver }
     {
-        let originates = is_originator(setup.role);
+        let originates = setup.role.is_originator();
         Connected {
             setup,
             terms,

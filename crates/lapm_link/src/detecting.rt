@@ -9,6 +9,7 @@ use crate::answer::Answer;
 use crate::answering::Answering;
 use crate::asking::Asking;
 use crate::offers::offer_of;
+use crate::terms::first_terms;
 use crate::unlinked::Unlinked;
 use crate::{AnyEnd, Arrived, Broken, LinkFault, Sent, Setup};
 use frame_check::Info;
@@ -121,7 +122,7 @@ impl Detecting {
         match memory.setup.role {
             Role::Originator => {
                 if is_undetected(turn, &memory.setup) {
-                    return Err(Broken::new(LinkFault::NotDetected, memory.setup));
+                    return Err(Broken::new(LinkFault::NotDetected, memory.setup, first_terms()));
                 }
                 *sent = Sent::Odp;
             }

@@ -39,6 +39,7 @@ impl Establishing {
             Frame::Dm { pf: true } => Err(Broken::new(
                 LinkFault::PeerRefused,
                 self.agreed.memory.setup,
+                self.agreed.terms,
             )),
             _ => Ok(AnyEnd::Establishing(self)),
         }
@@ -73,13 +74,14 @@ impl Establishing {
         let _ = release;
         let mut end = self;
         let setup = end.agreed.memory.setup;
+        let terms = end.agreed.terms;
         let frame = Frame::Sabme { pf: true };
         match end.attempt.speak(turn, &setup, 0, frame) {
             Ok(said) => {
                 *sent = said;
                 Ok(AnyEnd::Establishing(end))
             }
-            Err(fault) => Err(Broken::new(fault, setup)),
+            Err(fault) => Err(Broken::new(fault, setup, terms)),
         }
     }
 }

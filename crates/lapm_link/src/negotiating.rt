@@ -20,6 +20,21 @@ pub(crate) enum Talk {
 
 impl Negotiating {
     ghost use Rattle.lapm_link.specs.Account.{Account};
+    ghost use Rattle.lapm_link.specs.Stands.{Negotiates};
+
+    /// Whether the check of 32 bits is agreed.
+    pub(crate) fn has_long_check(&self) -> bool
+        ensures { (a : Account) → Negotiates self.now.talk a → result ≡ a.terms.check32 }
+    {
+        match &self.talk {
+            Talk::Asking(_) => false,
+            Talk::Answering(answering) => answering.agreed.terms.check32,
+        }
+    }
+}
+
+impl Negotiating {
+    ghost use Rattle.lapm_link.specs.Account.{Account};
     ghost use Rattle.lapm_link.specs.Hear.{hear};
     ghost use Rattle.lapm_link.specs.Speak.{speak};
     ghost use Rattle.lapm_link.specs.Stands.{StandsFor, Hears, Speaks, IsNumbered, TakesNothing, taken_of};

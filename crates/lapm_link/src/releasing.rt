@@ -7,12 +7,14 @@ use crate::answer::{Answer, without_adp};
 use crate::attempt::Attempt;
 use crate::{AnyEnd, Arrived, Broken, Closed, Sent, Setup};
 use lapm_frames::Frame;
+use xid_params::Terms;
 
 /// An originator that sends its DISC until it is answered.
 #[derive(Drop)]
 pub struct Releasing {
     pub(crate) setup: Setup,
     pub(crate) answer: Option<Answer>,
+    pub(crate) terms: Terms,
     /// How many segments were acknowledged.
     pub(crate) front: u64,
     pub(crate) attempt: Attempt,
@@ -33,6 +35,7 @@ impl Releasing {
             Frame::Ua { pf: true } | Frame::Dm { pf: true } => AnyEnd::Closed(Closed {
                 setup: self.setup,
                 answer: self.answer,
+                terms: self.terms,
             }),
             _ => AnyEnd::Releasing(self),
         }
@@ -68,6 +71,7 @@ impl Releasing {
         let _ = release;
         let mut end = self;
         let setup = end.setup;
+        let terms = end.terms;
         let front = end.front;
         let frame = Frame::Disc { pf: true };
         match end.attempt.speak(turn, &setup, front, frame) {
@@ -75,7 +79,7 @@ impl Releasing {
                 *sent = said;
                 Ok(AnyEnd::Releasing(end))
             }
-            Err(fault) => Err(Broken::new(fault, setup)),
+            Err(fault) => Err(Broken::new(fault, setup, terms)),
         }
     }
 }

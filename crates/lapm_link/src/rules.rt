@@ -7,7 +7,6 @@ ghost use Rattle.break_signals.specs.Words.{word_in};
 
 use crate::answer::{Answer, without_adp};
 use crate::connected::Connected;
-use crate::terms::is_originator;
 use crate::{AnyEnd, Arrived, Broken, Closed, LinkFault};
 use break_signals::{BreakWord, read_break};
 use frame_check::Info;
@@ -137,7 +136,7 @@ impl Connected {
         taken: Result<bool, BadAck>,
     ) -> Result<(), LinkFault>
         ensures becomes { (a : Account) (after : Option Outgoing) (nr : ℕ)
-            → LinksBeside self.old.setup self.old.receiver self.old.breaks self.old.owes self.old.wait self.old.numbered self.old.special a
+            → LinksBeside self.old.setup self.old.terms self.old.receiver self.old.breaks self.old.owes self.old.wait self.old.numbered self.old.special a
             → AreWaits before a.outgoing
             → MatchResult taken (Advances self.old.sender a.outgoing after) (RefusesAck nr a.outgoing after)
             → Becomes (on_number turn nr after a) self.new result }
@@ -192,6 +191,7 @@ impl Connected {
         requires delivered { length self.old.receiver.ready ≡ 0 }
         ensures becomes { (a : Account) → Links self.old a → Becomes (on_i turn ns nr pf info.now a) self.new result }
         ensures setup { self.new.setup ≡ self.old.setup }
+        ensures terms { self.new.terms ≡ self.old.terms }
         ensures counted { self.new.receiver.taken ≤ self.old.receiver.taken + 128 }
     {
         self.acknowledge(turn, nr)?;
@@ -297,7 +297,7 @@ impl Connected {
         ensures becomes { (a : Account) → Links self.old a → Becomes (on_sabme pf a) self.new result }
         ensures same { SameTaken self.old self.new }
     {
-        if self.numbered || is_originator(self.setup.role) {
+        if self.numbered || self.setup.role.is_originator() {
             return Err(self.peer_reset());
         }
         self.owes.answer = Some(Answer::Ua { pf });
@@ -309,10 +309,11 @@ impl Connected {
         ensures counted { IfOk result (λ end. taken_of end ≡ 0) }
     {
         match self.setup.role {
-            Role::Originator => Err(Broken::new(LinkFault::PeerRefused, self.setup)),
+            Role::Originator => Err(Broken::new(LinkFault::PeerRefused, self.setup, self.terms)),
             Role::Answerer => Ok(AnyEnd::Closed(Closed {
                 setup: self.setup,
                 answer: Some(Answer::Ua { pf }),
+                terms: self.terms,
             })),
         }
     }
@@ -343,13 +344,13 @@ impl Connected {
 
     /// The end as a rule left it, or closed.
     fn after(self, heard: Result<(), LinkFault>) -> Result<AnyEnd, Broken>
-        ensures hears { (a : Account) (becomes : Result Account LinkFault) → Becomes becomes self heard → self.setup ≡ a.setup
+        ensures hears { (a : Account) (becomes : Result Account LinkFault) → Becomes becomes self heard → self.setup ≡ a.setup → self.terms ≡ a.terms
             → Hears becomes a result }
         ensures counted { IfOk result (λ end. taken_of end ≤ self.receiver.taken) }
     {
         match heard {
             Ok(()) => Ok(AnyEnd::Connected(self)),
-            Err(fault) => Err(Broken::new(fault, self.setup)),
+            Err(fault) => Err(Broken::new(fault, self.setup, self.terms)),
         }
     }
 
@@ -389,10 +390,10 @@ impl Connected {
                 end.after(heard)
             }
             Frame::Disc { pf } => end.on_disc(*pf),
-            Frame::Dm { .. } => Err(Broken::new(LinkFault::PeerRefused, end.setup)),
+            Frame::Dm { .. } => Err(Broken::new(LinkFault::PeerRefused, end.setup, end.terms)),
             Frame::Frmr { .. } => {
                 let fault = end.peer_reset();
-                Err(Broken::new(fault, end.setup))
+                Err(Broken::new(fault, end.setup, end.terms))
             }
             Frame::Ui { info, .. } => {
                 end.on_word(turn, info);

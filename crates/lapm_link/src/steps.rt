@@ -12,7 +12,6 @@ use crate::attempt::Attempt;
 use crate::carried::carried;
 use crate::connected::Connected;
 use crate::releasing::Releasing;
-use crate::terms::is_originator;
 use crate::timer::{is_expired, spent, started};
 use crate::{AnyEnd, Broken, LinkFault, Sent};
 use break_signals::{BreakWord, write_break};
@@ -192,7 +191,7 @@ impl Connected {
     fn has_news(&self) -> bool
         ensures { (a : Account) → Links self.now a → result ≡ has_news a }
     {
-        self.owes.busy != self.owes.busy_told && (is_originator(self.setup.role) || self.numbered)
+        self.owes.busy != self.owes.busy_told && (self.setup.role.is_originator() || self.numbered)
     }
 
     /// What the other end is to be told, else a REJ or an SREJ where the end isn't busy.
@@ -244,7 +243,7 @@ impl Connected {
         ensures same { SameTaken self.old self.new }
         ensures sendable { IfSome result IsSendable }
     {
-        if !is_originator(self.setup.role) && !self.numbered {
+        if !self.setup.role.is_originator() && !self.numbered {
             return None;
         }
         let mut info = Info::new();
@@ -336,6 +335,7 @@ impl Connected {
         Releasing {
             setup: self.setup,
             answer: self.owes.answer,
+            terms: self.terms,
             front: self.sender.front(),
             attempt: Attempt::new(turn, &self.setup),
         }
@@ -350,7 +350,7 @@ impl Connected {
         ensures sendable { IfOk result (λ _. IsSendable sent.new) }
         ensures unchanged { OnErr result (sent.new ≡ sent.old) }
     {
-        if release && is_originator(self.setup.role) {
+        if release && self.setup.role.is_originator() {
             return self.release(turn).speak(turn, release, sent);
         }
         let mut end = self;
@@ -359,7 +359,7 @@ impl Connected {
                 *sent = said;
                 Ok(AnyEnd::Connected(end))
             }
-            Err(fault) => Err(Broken::new(fault, end.setup)),
+            Err(fault) => Err(Broken::new(fault, end.setup, end.terms)),
         }
     }
 }

@@ -1,29 +1,15 @@
-// Roles, and the agreed terms by role.
+// The agreed terms, and what they say of each role.
 ghost use Rattle.std.specs.Prelude.{◌≡◌};
-ghost use Rattle.roles.specs.Role.{other};
-ghost use Rattle.lapm_link.specs.Account.{size_for, window_for};
-ghost use Rattle.roles.specs.Role.{is_originator};
+ghost use Rattle.lapm_link.specs.Account.{first_terms, size_for, window_for};
 
 use roles::Role;
-use xid_params::Terms;
+use xid_params::{Terms, agree, default_offer};
 
-/// The other end's role.
-pub(crate) fn other(role: Role) -> Role
-    ensures { result ≡ other role }
+/// The terms before any are agreed: those of two ends that offer nothing.
+pub(crate) fn first_terms() -> Terms
+    ensures { result ≡ first_terms }
 {
-    match role {
-        Role::Originator => Role::Answerer,
-        Role::Answerer => Role::Originator,
-    }
-}
-
-pub(crate) fn is_originator(role: Role) -> bool
-    ensures { result ≡ is_originator role }
-{
-    match role {
-        Role::Originator => true,
-        Role::Answerer => false,
-    }
+    agree(&default_offer(), &default_offer())
 }
 
 /// The longest segment of this role, in octets.

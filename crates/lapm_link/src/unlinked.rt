@@ -7,7 +7,7 @@ ghost use Rattle.lapm_link.specs.Fits.{IsSetUp, Fits, agreed_by};
 use crate::answer::{Answer, slot_of, without_adp};
 use crate::connected::Connected;
 use crate::offers::terms_of;
-use crate::terms::{is_originator, other, size_for, window_for};
+use crate::terms::{size_for, window_for};
 use crate::{Sent, Setup};
 use lapm_receiver::Receiver;
 use lapm_sender::Sender;
@@ -131,10 +131,10 @@ impl Agreed {
             mut receiver,
         } = self.memory;
         let terms = self.terms;
-        let originates = is_originator(setup.role);
+        let originates = setup.role.is_originator();
         let window = window_for(setup.role, &terms);
         let size = size_for(setup.role, &terms);
-        let their_window = window_for(other(setup.role), &terms);
+        let their_window = window_for(setup.role.other(), &terms);
         sender.begin(window, size, setup.tries, originates);
         receiver.begin(their_window, terms.srej);
         Connected::new(setup, answer, terms, sender, receiver, turn)

@@ -1,6 +1,6 @@
 // Which of the two ends an end is.
 ghost use Rattle.std.specs.Prelude.{◌≡◌, ◌≤◌, length, IfSome};
-ghost use Rattle.roles.specs.Role.{other, role_word, role_named, mode_of};
+ghost use Rattle.roles.specs.Role.{is_originator, other, role_word, role_named, mode_of};
 
 use scramblers::Mode;
 
@@ -13,6 +13,16 @@ pub enum Role {
 
 impl Role {
     ghost use Rattle.roles.specs.declared.role.Role.{Role};
+
+    /// Whether this is the end that called.
+    pub fn is_originator(self) -> bool
+        ensures { result ≡ is_originator self }
+    {
+        match self {
+            Role::Originator => true,
+            Role::Answerer => false,
+        }
+    }
 
     /// The end at the other side of the line.
     pub fn other(self) -> Role

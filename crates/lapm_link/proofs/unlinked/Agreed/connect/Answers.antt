@@ -24,6 +24,6 @@ takes r setup setup' terms terms' window w e f h = rw (← e, ← f, ← w) h
 
 pub returns-clause-links : goal.returns-clause-links
 returns-clause-links c = λ a h t.
-    c.new.ensures.links a _ _ h
+    c.new.ensures.links a _ _ h t
     (sends _ _ _ _ _ _ _ _ c.window_for-window.ensures c.size_for-size.ensures c.is_originator-originates.ensures h.setup_is t c.begin.ensures.stands)
     (takes _ _ _ _ _ _ (rw (← c.other.ensures) c.window_for-their_window.ensures) h.setup_is t c.begin-2.ensures.stands)
