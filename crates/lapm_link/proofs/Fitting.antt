@@ -6,7 +6,7 @@ use Rattle.roles.specs.declared.role.Role.TheVariants.{Originator, Answerer}
 use Rattle.xid_params.specs.declared.offer.Offer.{Offer}
 use Rattle.xid_params.specs.Offers.{IsAllowed}
 use Rattle.xid_params.specs.Terms.{lowered}
-use Rattle.lapm_link.specs.declared.setup.Setup.{Setup}
+use Rattle.link_account.specs.declared.setup.Setup.{Setup}
 use Rattle.lapm_link.specs.Fits.{Fits, agreed_by}
 
 -- a window is at least one segment, at most what either end has, and at most 64 with SREJ

@@ -1,10 +1,10 @@
 -- What an end that isn't connected keeps of its account as that goes on.
 use Rattle.std.proofs.Common.{◌≡◌, ℕ, Bool, Option}
 use Rattle.xid_params.specs.declared.terms.Terms.{Terms}
-use Rattle.lapm_link.specs.declared.setup.Setup.{Setup}
-use Rattle.lapm_link.specs.declared.answer.Answer.{Answer}
-use Rattle.lapm_link.specs.declared.phase.Phase.{Phase}
-use Rattle.lapm_link.specs.Account.{Account}
+use Rattle.link_account.specs.declared.setup.Setup.{Setup}
+use Rattle.link_account.specs.declared.answer.Answer.{Answer}
+use Rattle.link_account.specs.declared.phase.Phase.{Phase}
+use Rattle.link_account.specs.Account.{Account}
 use Rattle.lapm_link.specs.Stands.{IsUnlinked}
 
 -- phase, terms and tries may change

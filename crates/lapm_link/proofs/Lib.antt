@@ -1,14 +1,4 @@
-mod Flow
-mod Ends
-mod Linked
-mod Good
-mod Hearing
-mod Speaking
-mod Playing
-mod Breaking
-mod BreakPlaying
 mod Kept
 mod Saying
-mod SaidNumbers
 mod Telling
 mod Fitting

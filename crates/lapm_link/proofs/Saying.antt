@@ -2,20 +2,20 @@
 use Rattle.std.proofs.Common.{◌≡◌, ℕ, Bool, true, false, Option, Some, None, Result, Ok, Err, refl, ap}
 use Rattle.xid_params.specs.declared.terms.Terms.{Terms}
 use Rattle.lapm_receiver.specs.Taking.{Taking}
-use Rattle.lapm_link.specs.declared.setup.Setup.{Setup}
+use Rattle.link_account.specs.declared.setup.Setup.{Setup}
 use Rattle.lapm_link.specs.declared.connected.Breaks.{Breaks}
-use Rattle.lapm_link.specs.declared.owes.Owes.{Owes}
+use Rattle.link_account.specs.declared.owes.Owes.{Owes}
 use Rattle.lapm_link.specs.declared.connected.Wait.{Wait}
 use Rattle.lapm_link.specs.declared.connected.Connected.{Connected}
 use Rattle.slot_contents.specs.declared.sent.Sent.{Sent}
-use Rattle.lapm_link.specs.Account.{Account}
-use Rattle.lapm_link.specs.declared.fault.LinkFault.{LinkFault}
+use Rattle.link_account.specs.Account.{Account}
+use Rattle.link_account.specs.declared.fault.LinkFault.{LinkFault}
 use Rattle.lapm_link.specs.declared.closed.Broken.{Broken}
 use Rattle.lapm_link.specs.declared.any_end.AnyEnd.{AnyEnd}
-use Rattle.lapm_link.specs.declared.phase.Phase.TheVariants as phases
+use Rattle.link_account.specs.declared.phase.Phase.TheVariants as phases
 use Rattle.roles.specs.Role.{is_originator}
-use Rattle.lapm_link.specs.Hear.{trying}
-use Rattle.lapm_link.specs.Speak.{Said, where_says, else_says, steps, on_break_timer, then_tries, after_timers, speak_connected, speak_releasing}
+use Rattle.link_account.specs.Hear.{trying}
+use Rattle.link_account.specs.Speak.{Said, where_says, else_says, steps, on_break_timer, then_tries, after_timers, speak_connected, speak_releasing}
 use Rattle.lapm_link.specs.Stands.{Gives, SaysLinked, Links, LinksBeside, Becomes, SpeaksLinked, Speaks}
 
 pub gives_where : {end : Connected} {sent : Sent} (b : Bool) (said : Said) (a : Account) → b ≡ true → SaysLinked said end sent → Gives (where_says b said) a end (Some sent)

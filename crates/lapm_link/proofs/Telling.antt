@@ -4,7 +4,7 @@ use Rattle.lapm_link.specs.declared.any_end.AnyEnd.TheVariants as ends
 use Rattle.lapm_link.specs.declared.negotiating.Negotiating.{Negotiating}
 use Rattle.lapm_link.specs.declared.negotiating.Talk.{Talk}
 use Rattle.lapm_link.specs.declared.negotiating.Talk.TheVariants as talks
-use Rattle.lapm_link.specs.Account.{Account}
+use Rattle.link_account.specs.Account.{Account}
 use Rattle.lapm_link.specs.Stands.{Negotiates}
 use Rattle.lapm_link.specs.EndLaws.{Tells, AccountTells}
 

@@ -1,10 +1,10 @@
 -- A frame that goes until it is answered, and the account for which it stands.
 use Rattle.std.specs.Prelude.{◌≡◌, ◌+◌, Result, Ok, Err}
 use Rattle.slot_contents.specs.declared.sent.Sent.{Sent}
-use Rattle.lapm_link.specs.declared.fault.LinkFault.{LinkFault}
+use Rattle.link_account.specs.declared.fault.LinkFault.{LinkFault}
 use Rattle.lapm_link.specs.declared.attempt.Attempt.{Attempt}
-use Rattle.lapm_link.specs.Account.{Account}
-use Rattle.lapm_link.specs.Speak.{Said}
+use Rattle.link_account.specs.Account.{Account}
+use Rattle.link_account.specs.Speak.{Said}
 
 -- whether the frame is due, when its timer was set, and how many of the tries are left
 pub record Tries (attempt : Attempt) (a : Account) : Type 0 where

@@ -2,14 +2,11 @@
 use Rattle.std.specs.Prelude.{◌≡◌, ℕ, ◌≤◌, Bool, length, Ok}
 use Rattle.lapm_receiver.specs.Incoming.{undelivered}
 use Rattle.lapm_link.specs.declared.any_end.AnyEnd.{AnyEnd}
-use Rattle.lapm_link.specs.Account.{Account, given_break}
-use Rattle.lapm_link.specs.Speak.{Said, speak}
-use Rattle.lapm_link.specs.Play.{arrives}
-use Rattle.lapm_link.specs.Stands.{StandsFor, IsNumbered, phase_of, taken_of, undelivered_of, waiting_of}
-
--- Whatever an end says can be heard: its numbers are below 128.
-abbrev pub SaysNumbers : Type 0
-SaysNumbers = (turn : ℕ) (release : Bool) (a : Account) (said : Said) → speak turn release a ≡ Ok said → IsNumbered (arrives said.sent)
+use Rattle.link_account.specs.Account.{Account, given_break}
+use Rattle.link_account.specs.Speak.{Said, speak}
+use Rattle.link_account.specs.Play.{arrives}
+use Rattle.lapm_link.specs.Stands.{StandsFor, phase_of, taken_of, undelivered_of, waiting_of}
+use Rattle.link_account.specs.Numbers.{IsNumbered}
 
 -- what an account tells of an end that stands for it
 pub record Tells (end : AnyEnd) (a : Account) : Type 0 where

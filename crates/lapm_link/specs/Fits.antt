@@ -7,9 +7,9 @@ use Rattle.xid_params.specs.declared.offer.Offer.{Offer}
 use Rattle.xid_params.specs.declared.terms.Terms.{Terms}
 use Rattle.xid_params.specs.Offers.{IsAllowed}
 use Rattle.xid_params.specs.Terms.{agree}
-use Rattle.lapm_link.specs.declared.setup.Setup.{Setup}
+use Rattle.link_account.specs.declared.setup.Setup.{Setup}
 use Rattle.roles.specs.Role.{other}
-use Rattle.lapm_link.specs.Account.{size_for, window_for}
+use Rattle.link_account.specs.Account.{size_for, window_for}
 
 -- an end may be set up so
 pub record IsSetUp (setup : Setup) : Type 0 where

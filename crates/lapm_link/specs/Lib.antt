@@ -1,9 +1,4 @@
-pub mod Account
-pub mod Hear
-pub mod Speak
 pub mod Fits
 pub mod Attempt
 pub mod Stands
-pub mod Play
-pub mod Laws
 pub mod EndLaws

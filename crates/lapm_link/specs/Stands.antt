@@ -11,29 +11,29 @@ use Rattle.lapm_receiver.specs.Incoming as incoming
 use Rattle.lapm_receiver.specs.Taking.{Taking, StandsIn}
 use Rattle.break_signals.specs.Breaks.{no_breaks, none_heard}
 use Rattle.break_signals.specs.Keeping.{StandsOwn, StandsTheirs}
-use Rattle.lapm_link.specs.declared.setup.Setup.{Setup}
-use Rattle.lapm_link.specs.declared.answer.Answer.{Answer}
+use Rattle.link_account.specs.declared.setup.Setup.{Setup}
+use Rattle.link_account.specs.declared.answer.Answer.{Answer}
 use Rattle.slot_contents.specs.declared.arrived.Arrived.{Arrived}
 use Rattle.slot_contents.specs.declared.arrived.Arrived.TheVariants as arrivals
 use Rattle.slot_contents.specs.declared.sent.Sent.{Sent}
-use Rattle.lapm_link.specs.declared.fault.LinkFault.{LinkFault}
-use Rattle.lapm_link.specs.declared.phase.Phase.{Phase}
-use Rattle.lapm_link.specs.declared.phase.Phase.TheVariants as phases
+use Rattle.link_account.specs.declared.fault.LinkFault.{LinkFault}
+use Rattle.link_account.specs.declared.phase.Phase.{Phase}
+use Rattle.link_account.specs.declared.phase.Phase.TheVariants as phases
 use Rattle.lapm_link.specs.declared.attempt.Attempt.{Attempt}
 use Rattle.lapm_link.specs.declared.asking.Asking.{Asking}
 use Rattle.lapm_link.specs.declared.answering.Answering.{Answering}
 use Rattle.lapm_link.specs.declared.negotiating.Talk.{Talk}
 use Rattle.lapm_link.specs.declared.negotiating.Talk.TheVariants as talks
 use Rattle.lapm_link.specs.declared.connected.Breaks.{Breaks}
-use Rattle.lapm_link.specs.declared.owes.Owes.{Owes}
+use Rattle.link_account.specs.declared.owes.Owes.{Owes}
 use Rattle.lapm_link.specs.declared.connected.Wait.{Wait}
 use Rattle.lapm_link.specs.declared.rules.Waits.{Waits}
 use Rattle.lapm_link.specs.declared.connected.Connected.{Connected}
 use Rattle.lapm_link.specs.declared.closed.Broken.{Broken}
 use Rattle.lapm_link.specs.declared.any_end.AnyEnd.{AnyEnd}
 use Rattle.lapm_link.specs.declared.any_end.AnyEnd.TheVariants as ends
-use Rattle.lapm_link.specs.Account.{Account, first_terms}
-use Rattle.lapm_link.specs.Speak.{Said}
+use Rattle.link_account.specs.Account.{Account, first_terms}
+use Rattle.link_account.specs.Speak.{Said}
 use Rattle.lapm_link.specs.Attempt.{Tries}
 
 -- An end that isn't connected yet: of its account nothing has changed but the phase, the terms, the tries of its frames and the answer that
@@ -171,15 +171,6 @@ Speaks (Ok said) a before sent (Ok end) = (sent ≡ said.sent) × StandsFor end 
 Speaks (Err fault) a before sent (Err broken) = (sent ≡ before) × BreaksOff fault a broken
 Speaks (Ok said) a before sent (Err broken) = ⊥
 Speaks (Err fault) a before sent (Ok end) = ⊥
-
--- the numbers of a heard frame are below 128
-abbrev pub HasNumbers : Frame → Type 0
-HasNumbers frame = IfSome (parts_of frame).ns (λ ns. ns < 128) × IfSome (parts_of frame).nr (λ nr. nr < 128)
-
-abbrev pub IsNumbered : Arrived → Type 0
-IsNumbered arrivals.Nothing = Unit {0}
-IsNumbered (arrivals.Pattern seen) = Unit {0}
-IsNumbered (arrivals.Frame frame) = HasNumbers frame
 
 -- how many segments an end took so far, and how many of them aren't delivered
 abbrev pub taken_of : AnyEnd → ℕ

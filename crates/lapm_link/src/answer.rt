@@ -2,23 +2,14 @@
 ghost use Rattle.slot_contents.specs.Sendable.{IsSendable};
 ghost use Rattle.std.specs.Prelude.{◌≡◌};
 ghost use Rattle.xid_params.specs.Offers.{IsAllowed};
-ghost use Rattle.lapm_link.specs.Account.{Account};
-ghost use Rattle.lapm_link.specs.Hear.{without_adp};
-ghost use Rattle.lapm_link.specs.Speak.{frame_for};
+ghost use Rattle.link_account.specs.Account.{Account};
+ghost use Rattle.link_account.specs.Hear.{without_adp};
+ghost use Rattle.link_account.specs.Speak.{frame_for};
 
 use crate::offers::spelled;
 use crate::{Sent, Setup};
 use lapm_frames::Frame;
-
-/// An answer that is due: to a pattern, to an XID command, to a SABME or DISC, and to a DISC that finds no link. Each that becomes
-/// due takes the place of the one before. `pf` is that of the command that it answers.
-#[derive(Clone, Copy, Debug, PartialEq, Eq)]
-pub(crate) enum Answer {
-    Adp,
-    Xid,
-    Ua { pf: bool },
-    Dm { pf: bool },
-}
+use link_account::Answer;
 
 /// What is still due once nothing was heard.
 pub(crate) fn without_adp(answer: Option<Answer>) -> Option<Answer>

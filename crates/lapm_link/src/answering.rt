@@ -5,13 +5,13 @@ ghost use Rattle.roles.specs.declared.role.Role.{Role};
 ghost use Rattle.xid_params.specs.Offers.{IsAllowed, offer_in};
 ghost use Rattle.xid_params.specs.Terms.{agree};
 
-use crate::answer::Answer;
 use crate::negotiating::{Negotiating, Talk};
 use crate::offers::offer_of;
 use crate::unlinked::{Agreed, Unlinked};
 use crate::{AnyEnd, Arrived, Sent};
 use frame_check::Info;
 use lapm_frames::Frame;
+use link_account::Answer;
 use xid_params::Offer;
 
 /// An answerer that has heard an offer. Each further one takes its place.
@@ -21,13 +21,13 @@ pub(crate) struct Answering {
 }
 
 impl Answering {
-    ghost use Rattle.lapm_link.specs.declared.answer.Answer.{Answer};
-    ghost use Rattle.lapm_link.specs.declared.phase.Phase.{Phase};
+    ghost use Rattle.link_account.specs.declared.answer.Answer.{Answer};
+    ghost use Rattle.link_account.specs.declared.phase.Phase.{Phase};
     ghost use Rattle.lapm_link.specs.declared.any_end.AnyEnd.{AnyEnd};
     ghost use Rattle.lapm_link.specs.declared.negotiating.Talk.{Talk};
-    ghost use Rattle.lapm_link.specs.Account.{Account};
-    ghost use Rattle.lapm_link.specs.Hear.{on_xid_command, on_negotiating, hear, owing};
-    ghost use Rattle.lapm_link.specs.Speak.{speak_answer};
+    ghost use Rattle.link_account.specs.Account.{Account};
+    ghost use Rattle.link_account.specs.Hear.{on_xid_command, on_negotiating, hear, owing};
+    ghost use Rattle.link_account.specs.Speak.{speak_answer};
     ghost use Rattle.lapm_link.specs.Stands.{IsUnlinked, IsAnswering, StandsFor, Hears, Speaks, TakesNothing, taken_of};
 
     /// It has heard this offer, and owes its own.

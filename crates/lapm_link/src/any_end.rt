@@ -2,10 +2,11 @@
 ghost use Rattle.slot_contents.specs.Sendable.{IsSendable};
 ghost use Rattle.std.specs.Prelude.{◌≡◌, ◌+◌, ◌≤◌, ◌<◌, ◌^◌, ℕ, List, length, Some, None, IfOk, IsSomeAnd, is_some, OnErr};
 ghost use Rattle.std.specs.Bool.{OnFalse};
-ghost use Rattle.lapm_link.specs.Account.{Account, wants, piece_size, after_offer, delivers, after_delivery, is_done, takes_own, after_break_asked, break_waits, given_break, after_given, after_busy, check_of};
-ghost use Rattle.lapm_link.specs.Hear.{hear};
-ghost use Rattle.lapm_link.specs.Speak.{speak};
-ghost use Rattle.lapm_link.specs.Stands.{StandsFor, Hears, Speaks, IsNumbered, TakesNothing, phase_of, taken_of, undelivered_of, waiting_of, wanted_of, piece_of};
+ghost use Rattle.link_account.specs.Account.{Account, wants, piece_size, after_offer, delivers, after_delivery, is_done, takes_own, after_break_asked, break_waits, given_break, after_given, after_busy, check_of};
+ghost use Rattle.link_account.specs.Hear.{hear};
+ghost use Rattle.link_account.specs.Speak.{speak};
+ghost use Rattle.lapm_link.specs.Stands.{StandsFor, Hears, Speaks, TakesNothing, phase_of, taken_of, undelivered_of, waiting_of, wanted_of, piece_of};
+ghost use Rattle.link_account.specs.Numbers.{IsNumbered};
 
 use crate::terms::size_for;
 use crate::{

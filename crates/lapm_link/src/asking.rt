@@ -22,12 +22,12 @@ pub(crate) struct Asking {
 }
 
 impl Asking {
-    ghost use Rattle.lapm_link.specs.declared.phase.Phase.{Phase};
+    ghost use Rattle.link_account.specs.declared.phase.Phase.{Phase};
     ghost use Rattle.lapm_link.specs.declared.any_end.AnyEnd.{AnyEnd};
     ghost use Rattle.lapm_link.specs.declared.negotiating.Talk.{Talk};
-    ghost use Rattle.lapm_link.specs.Account.{Account, first_terms};
-    ghost use Rattle.lapm_link.specs.Hear.{on_xid_response, on_negotiating, hear, trying};
-    ghost use Rattle.lapm_link.specs.Speak.{speak_negotiating};
+    ghost use Rattle.link_account.specs.Account.{Account, first_terms};
+    ghost use Rattle.link_account.specs.Hear.{on_xid_response, on_negotiating, hear, trying};
+    ghost use Rattle.link_account.specs.Speak.{speak_negotiating};
     ghost use Rattle.lapm_link.specs.Stands.{IsUnlinked, IsAsking, StandsFor, Hears, Speaks, TakesNothing, taken_of};
 
     /// It begins in this turn.
@@ -69,7 +69,11 @@ impl Asking {
                 info,
                 ..
             } => Ok(self.on_offer(info, turn)),
-            Frame::Dm { .. } => Err(Broken::new(LinkFault::PeerRefused, self.memory.setup, first_terms())),
+            Frame::Dm { .. } => Err(Broken::new(
+                LinkFault::PeerRefused,
+                self.memory.setup,
+                first_terms(),
+            )),
             _ => Ok(self.end()),
         }
     }

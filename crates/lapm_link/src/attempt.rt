@@ -20,8 +20,8 @@ pub(crate) struct Attempt {
 }
 
 impl Attempt {
-    ghost use Rattle.lapm_link.specs.Account.{Account};
-    ghost use Rattle.lapm_link.specs.Speak.{tries_frame, u_try};
+    ghost use Rattle.link_account.specs.Account.{Account};
+    ghost use Rattle.link_account.specs.Speak.{tries_frame, u_try};
     ghost use Rattle.lapm_link.specs.Attempt.{Tries, TriesOnce, TriesSo};
 
     /// One that begins in this turn.

@@ -3,9 +3,10 @@ ghost use Rattle.slot_contents.specs.Sendable.{IsSendable};
 ghost use Rattle.std.specs.Prelude.{◌≡◌, ◌<◌, ◌^◌, None, IfOk, OnErr};
 ghost use Rattle.lapm_link.specs.Fits.{IsSetUp};
 
-use crate::answer::{Answer, slot_of, without_adp};
+use crate::answer::{slot_of, without_adp};
 use crate::{AnyEnd, Arrived, LinkFault, Sent, Setup};
 use lapm_frames::Frame;
+use link_account::Answer;
 use xid_params::Terms;
 
 /// An end whose link is over. It answers a DISC.
@@ -44,11 +45,12 @@ impl Broken {
 }
 
 impl Closed {
-    ghost use Rattle.lapm_link.specs.declared.answer.Answer.{Answer};
-    ghost use Rattle.lapm_link.specs.Account.{Account};
-    ghost use Rattle.lapm_link.specs.Hear.{on_closed, hear, owing};
-    ghost use Rattle.lapm_link.specs.Speak.{speak, Said, answering, else_says, says};
-    ghost use Rattle.lapm_link.specs.Stands.{StandsFor, Hears, Speaks, IsNumbered, TakesNothing, taken_of};
+    ghost use Rattle.link_account.specs.declared.answer.Answer.{Answer};
+    ghost use Rattle.link_account.specs.Account.{Account};
+    ghost use Rattle.link_account.specs.Hear.{on_closed, hear, owing};
+    ghost use Rattle.link_account.specs.Speak.{speak, Said, answering, else_says, says};
+    ghost use Rattle.lapm_link.specs.Stands.{StandsFor, Hears, Speaks, TakesNothing, taken_of};
+    ghost use Rattle.link_account.specs.Numbers.{IsNumbered};
 
     fn on_frame(self, frame: &Frame) -> AnyEnd
         ensures hears { (a : Account) → StandsFor (AnyEnd.Closed self) a → Hears (on_closed frame.now a) a (Ok result) }

@@ -1,14 +1,13 @@
 // An end whose link is up.
 ghost use Rattle.std.specs.Prelude.{◌≡◌, ◌≤◌};
-ghost use Rattle.lapm_link.specs.Account.{size_for};
+ghost use Rattle.link_account.specs.Account.{size_for};
 ghost use Rattle.lapm_link.specs.Fits.{IsSetUp};
 
 use crate::Setup;
-use crate::answer::Answer;
-use crate::owes::Owes;
 use break_signals::{BreakReceiver, BreakSender};
 use lapm_receiver::Receiver;
 use lapm_sender::Sender;
+use link_account::{Answer, Owes};
 use xid_params::Terms;
 
 /// An end whose link is up.
@@ -53,13 +52,13 @@ pub(crate) struct Wait {
 }
 
 impl Connected {
-    ghost use Rattle.lapm_link.specs.declared.phase.Phase.{Phase};
+    ghost use Rattle.link_account.specs.declared.phase.Phase.{Phase};
     ghost use Rattle.lapm_sender.specs.Outgoing.{Outgoing};
     ghost use Rattle.lapm_sender.specs.Sending.{StandsOut};
     ghost use Rattle.lapm_receiver.specs.Incoming.{Incoming};
     ghost use Rattle.lapm_receiver.specs.Taking.{StandsIn};
-    ghost use Rattle.lapm_link.specs.Account.{Account};
-    ghost use Rattle.lapm_link.specs.Hear.{first_wait};
+    ghost use Rattle.link_account.specs.Account.{Account};
+    ghost use Rattle.link_account.specs.Hear.{first_wait};
     ghost use Rattle.lapm_link.specs.Stands.{IsUnlinked, Links};
 
     /// A link that comes up in this turn: the originator polls at once. Both parts have begun.

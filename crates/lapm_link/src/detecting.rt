@@ -5,7 +5,6 @@ ghost use Rattle.roles.specs.declared.role.Role.{Role};
 ghost use Rattle.xid_params.specs.Offers.{offer_in};
 ghost use Rattle.lapm_link.specs.Fits.{IsSetUp};
 
-use crate::answer::Answer;
 use crate::answering::Answering;
 use crate::asking::Asking;
 use crate::offers::offer_of;
@@ -14,6 +13,7 @@ use crate::unlinked::Unlinked;
 use crate::{AnyEnd, Arrived, Broken, LinkFault, Sent, Setup};
 use frame_check::Info;
 use lapm_frames::Frame;
+use link_account::Answer;
 use outside_core::NoMemory;
 use roles::Role;
 use slot_contents::Seen;
@@ -27,10 +27,11 @@ pub struct Detecting {
 }
 
 impl Detecting {
-    ghost use Rattle.lapm_link.specs.Account.{Account, fresh};
-    ghost use Rattle.lapm_link.specs.Hear.{on_pattern, on_xid_command, on_detecting, hear};
-    ghost use Rattle.lapm_link.specs.Speak.{speak};
-    ghost use Rattle.lapm_link.specs.Stands.{StandsFor, Hears, Speaks, IsNumbered, TakesNothing, taken_of};
+    ghost use Rattle.link_account.specs.Account.{Account, fresh};
+    ghost use Rattle.link_account.specs.Hear.{on_pattern, on_xid_command, on_detecting, hear};
+    ghost use Rattle.link_account.specs.Speak.{speak};
+    ghost use Rattle.lapm_link.specs.Stands.{StandsFor, Hears, Speaks, TakesNothing, taken_of};
+    ghost use Rattle.link_account.specs.Numbers.{IsNumbered};
 
     /// An end that is set up so. It takes all the memory that the end will need.
     pub fn new(alloc: Global, setup: Setup) -> Result<Detecting, NoMemory>

@@ -15,11 +15,12 @@ pub struct Establishing {
 }
 
 impl Establishing {
-    ghost use Rattle.lapm_link.specs.declared.phase.Phase.{Phase};
-    ghost use Rattle.lapm_link.specs.Account.{Account};
-    ghost use Rattle.lapm_link.specs.Hear.{on_establishing, hear, trying};
-    ghost use Rattle.lapm_link.specs.Speak.{speak};
-    ghost use Rattle.lapm_link.specs.Stands.{IsUnlinked, StandsFor, Hears, Speaks, IsNumbered, TakesNothing, taken_of};
+    ghost use Rattle.link_account.specs.declared.phase.Phase.{Phase};
+    ghost use Rattle.link_account.specs.Account.{Account};
+    ghost use Rattle.link_account.specs.Hear.{on_establishing, hear, trying};
+    ghost use Rattle.link_account.specs.Speak.{speak};
+    ghost use Rattle.lapm_link.specs.Stands.{IsUnlinked, StandsFor, Hears, Speaks, TakesNothing, taken_of};
+    ghost use Rattle.link_account.specs.Numbers.{IsNumbered};
 
     /// It begins in this turn.
     pub(crate) fn new(agreed: Agreed, turn: u64) -> Establishing

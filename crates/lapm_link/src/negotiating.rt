@@ -19,7 +19,7 @@ pub(crate) enum Talk {
 }
 
 impl Negotiating {
-    ghost use Rattle.lapm_link.specs.Account.{Account};
+    ghost use Rattle.link_account.specs.Account.{Account};
     ghost use Rattle.lapm_link.specs.Stands.{Negotiates};
 
     /// Whether the check of 32 bits is agreed.
@@ -34,10 +34,11 @@ impl Negotiating {
 }
 
 impl Negotiating {
-    ghost use Rattle.lapm_link.specs.Account.{Account};
-    ghost use Rattle.lapm_link.specs.Hear.{hear};
-    ghost use Rattle.lapm_link.specs.Speak.{speak};
-    ghost use Rattle.lapm_link.specs.Stands.{StandsFor, Hears, Speaks, IsNumbered, TakesNothing, taken_of};
+    ghost use Rattle.link_account.specs.Account.{Account};
+    ghost use Rattle.link_account.specs.Hear.{hear};
+    ghost use Rattle.link_account.specs.Speak.{speak};
+    ghost use Rattle.lapm_link.specs.Stands.{StandsFor, Hears, Speaks, TakesNothing, taken_of};
+    ghost use Rattle.link_account.specs.Numbers.{IsNumbered};
 
     /// What the end becomes by what it hears in this turn.
     pub fn hear(self, turn: u64, arrived: &Arrived) -> Result<AnyEnd, Broken>

@@ -3,10 +3,11 @@ ghost use Rattle.slot_contents.specs.Sendable.{IsSendable};
 ghost use Rattle.std.specs.Prelude.{◌≡◌, ◌<◌, ◌^◌, IfOk, OnErr};
 ghost use Rattle.lapm_link.specs.Fits.{IsSetUp};
 
-use crate::answer::{Answer, without_adp};
+use crate::answer::without_adp;
 use crate::attempt::Attempt;
 use crate::{AnyEnd, Arrived, Broken, Closed, Sent, Setup};
 use lapm_frames::Frame;
+use link_account::Answer;
 use xid_params::Terms;
 
 /// An originator that sends its DISC until it is answered.
@@ -22,10 +23,11 @@ pub struct Releasing {
 }
 
 impl Releasing {
-    ghost use Rattle.lapm_link.specs.Account.{Account};
-    ghost use Rattle.lapm_link.specs.Hear.{on_releasing, hear};
-    ghost use Rattle.lapm_link.specs.Speak.{speak, speak_releasing};
-    ghost use Rattle.lapm_link.specs.Stands.{StandsFor, Hears, Speaks, IsNumbered, TakesNothing, taken_of};
+    ghost use Rattle.link_account.specs.Account.{Account};
+    ghost use Rattle.link_account.specs.Hear.{on_releasing, hear};
+    ghost use Rattle.link_account.specs.Speak.{speak, speak_releasing};
+    ghost use Rattle.lapm_link.specs.Stands.{StandsFor, Hears, Speaks, TakesNothing, taken_of};
+    ghost use Rattle.link_account.specs.Numbers.{IsNumbered};
 
     fn on_frame(self, frame: &Frame) -> AnyEnd
         ensures hears { (a : Account) → StandsFor (AnyEnd.Releasing self) a → Hears (on_releasing frame.now a) a (Ok result) }

@@ -5,13 +5,14 @@ ghost use Rattle.lapm_sender.specs.Outgoing.{Outgoing, acknowledged, rejected, r
 ghost use Rattle.lapm_sender.specs.Sending.{StandsOut, Advances, RefusesAck, SameTerms};
 ghost use Rattle.break_signals.specs.Words.{word_in};
 
-use crate::answer::{Answer, without_adp};
+use crate::answer::without_adp;
 use crate::connected::Connected;
 use crate::{AnyEnd, Arrived, Broken, Closed, LinkFault};
 use break_signals::{BreakWord, read_break};
 use frame_check::Info;
 use lapm_frames::Frame;
 use lapm_sender::{BadAck, Sender};
+use link_account::Answer;
 use roles::Role;
 
 /// What the end breaks by, where an acknowledgement is of no number that was sent.
@@ -96,8 +97,8 @@ fn pausing(sender: &mut Sender, taken: Result<bool, BadAck>) -> Result<bool, Bad
 
 // The number of a frame.
 impl Connected {
-    ghost use Rattle.lapm_link.specs.Account.{Account};
-    ghost use Rattle.lapm_link.specs.Hear.{timer_after, on_number};
+    ghost use Rattle.link_account.specs.Account.{Account};
+    ghost use Rattle.link_account.specs.Hear.{timer_after, on_number};
     ghost use Rattle.lapm_link.specs.Stands.{AreWaits, Links, LinksBeside, Becomes, SameTaken};
 
     /// What the sender waits for.
@@ -179,9 +180,9 @@ impl Connected {
 
 // The rules, one a kind of frame.
 impl Connected {
-    ghost use Rattle.lapm_link.specs.declared.answer.Answer.{Answer};
-    ghost use Rattle.lapm_link.specs.Account.{Account};
-    ghost use Rattle.lapm_link.specs.Hear.{on_number, ends_wait, on_i, on_ready, on_rnr, on_rej, on_srej, on_sabme, on_disc, on_word, peer_reset};
+    ghost use Rattle.link_account.specs.declared.answer.Answer.{Answer};
+    ghost use Rattle.link_account.specs.Account.{Account};
+    ghost use Rattle.link_account.specs.Hear.{on_number, ends_wait, on_i, on_ready, on_rnr, on_rej, on_srej, on_sabme, on_disc, on_word, peer_reset};
     ghost use Rattle.lapm_link.specs.Stands.{Links, StandsFor, Hears, Becomes, SameTaken, taken_of};
 
     fn on_i(&mut self, turn: u64, ns: u8, nr: u8, pf: bool, info: &Info) -> Result<(), LinkFault>
@@ -337,10 +338,11 @@ impl Connected {
 
 // What the end then is.
 impl Connected {
-    ghost use Rattle.lapm_link.specs.Account.{Account};
-    ghost use Rattle.lapm_link.specs.Hear.{on_connected, hear};
-    ghost use Rattle.lapm_link.specs.declared.fault.LinkFault.{LinkFault};
-    ghost use Rattle.lapm_link.specs.Stands.{Links, StandsFor, Hears, HasNumbers, IsNumbered, Becomes, taken_of, undelivered_of, waiting_of};
+    ghost use Rattle.link_account.specs.Account.{Account};
+    ghost use Rattle.link_account.specs.Hear.{on_connected, hear};
+    ghost use Rattle.link_account.specs.declared.fault.LinkFault.{LinkFault};
+    ghost use Rattle.lapm_link.specs.Stands.{Links, StandsFor, Hears, Becomes, taken_of, undelivered_of, waiting_of};
+    ghost use Rattle.link_account.specs.Numbers.{HasNumbers, IsNumbered};
 
     /// The end as a rule left it, or closed.
     fn after(self, heard: Result<(), LinkFault>) -> Result<AnyEnd, Broken>

@@ -5,7 +5,7 @@ ghost use Rattle.break_signals.specs.Words.{number_of, spelled};
 ghost use Rattle.slot_contents.specs.Sendable.{IsSendable};
 ghost use Rattle.slot_contents.specs.declared.sent.Sent.{Sent};
 ghost use Rattle.lapm_receiver.specs.Incoming.{asks};
-ghost use Rattle.lapm_link.specs.Speak.{ready_frame};
+ghost use Rattle.link_account.specs.Speak.{ready_frame};
 
 use crate::answer::slot_of;
 use crate::attempt::Attempt;
@@ -46,8 +46,8 @@ fn ready_frame(busy: bool, command: bool, nr: u8, pf: bool) -> Frame
 
 // The timers.
 impl Connected {
-    ghost use Rattle.lapm_link.specs.Account.{Account};
-    ghost use Rattle.lapm_link.specs.Speak.{timer_expires, on_timer, on_break_timer};
+    ghost use Rattle.link_account.specs.Account.{Account};
+    ghost use Rattle.link_account.specs.Speak.{timer_expires, on_timer, on_break_timer};
     ghost use Rattle.lapm_link.specs.Stands.{Links, Becomes, SameTaken};
 
     fn timer_expires(&self, turn: u64) -> bool
@@ -96,8 +96,8 @@ impl Connected {
 
 // The steps.
 impl Connected {
-    ghost use Rattle.lapm_link.specs.Account.{Account};
-    ghost use Rattle.lapm_link.specs.Speak.{tells, has_news, says_asking, step1, step2, step3, step4, step5, step6, step7, step8, steps};
+    ghost use Rattle.link_account.specs.Account.{Account};
+    ghost use Rattle.link_account.specs.Speak.{tells, has_news, says_asking, step1, step2, step3, step4, step5, step6, step7, step8, steps};
     ghost use Rattle.lapm_link.specs.Stands.{Links, Gives, SaysLinked, SameTaken};
 
     /// An answer that is due.
@@ -308,10 +308,10 @@ impl Connected {
 
 // The whole of a speaking.
 impl Connected {
-    ghost use Rattle.lapm_link.specs.declared.phase.Phase.{Phase};
-    ghost use Rattle.lapm_link.specs.Account.{Account};
-    ghost use Rattle.lapm_link.specs.Hear.{trying};
-    ghost use Rattle.lapm_link.specs.Speak.{speak_linked, speak};
+    ghost use Rattle.link_account.specs.declared.phase.Phase.{Phase};
+    ghost use Rattle.link_account.specs.Account.{Account};
+    ghost use Rattle.link_account.specs.Hear.{trying};
+    ghost use Rattle.link_account.specs.Speak.{speak_linked, speak};
     ghost use Rattle.lapm_link.specs.Stands.{Links, StandsFor, Speaks, SpeaksLinked, SameTaken, TakesNothing};
 
     /// The timers first, and then a step.

@@ -1,6 +1,6 @@
 // The agreed terms, and what they say of each role.
 ghost use Rattle.std.specs.Prelude.{◌≡◌};
-ghost use Rattle.lapm_link.specs.Account.{first_terms, size_for, window_for};
+ghost use Rattle.link_account.specs.Account.{first_terms, size_for, window_for};
 
 use roles::Role;
 use xid_params::{Terms, agree, default_offer};

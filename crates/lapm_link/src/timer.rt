@@ -1,6 +1,6 @@
 // Timers by turns.
 ghost use Rattle.std.specs.Prelude.{◌≡◌, ◌+◌, ◌-◌, ◌*◌, nat_eq};
-ghost use Rattle.lapm_link.specs.Speak.{running};
+ghost use Rattle.link_account.specs.Speak.{running};
 
 use crate::{LinkFault, Setup};
 

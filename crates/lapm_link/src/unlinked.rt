@@ -4,13 +4,14 @@ ghost use Rattle.std.specs.Prelude.{◌≡◌, ℕ, ◌≤◌, ◌<◌, Some, No
 ghost use Rattle.xid_params.specs.Offers.{IsAllowed};
 ghost use Rattle.lapm_link.specs.Fits.{IsSetUp, Fits, agreed_by};
 
-use crate::answer::{Answer, slot_of, without_adp};
+use crate::answer::{slot_of, without_adp};
 use crate::connected::Connected;
 use crate::offers::terms_of;
 use crate::terms::{size_for, window_for};
 use crate::{Sent, Setup};
 use lapm_receiver::Receiver;
 use lapm_sender::Sender;
+use link_account::Answer;
 use outside_core::NoMemory;
 use std::alloc::Global;
 use xid_params::{Offer, Terms};
@@ -38,8 +39,8 @@ pub(crate) struct Agreed {
 }
 
 impl Unlinked {
-    ghost use Rattle.lapm_link.specs.Account.{Account, fresh};
-    ghost use Rattle.lapm_link.specs.Hear.{on_nothing, owing};
+    ghost use Rattle.link_account.specs.Account.{Account, fresh};
+    ghost use Rattle.link_account.specs.Hear.{on_nothing, owing};
     ghost use Rattle.lapm_link.specs.Stands.{IsUnlinked};
 
     /// An end that is set up so. It takes all its memory here.
@@ -77,8 +78,8 @@ impl Unlinked {
 }
 
 impl Unlinked {
-    ghost use Rattle.lapm_link.specs.Account.{Account};
-    ghost use Rattle.lapm_link.specs.Speak.{Said, answering, else_says, says};
+    ghost use Rattle.link_account.specs.Account.{Account};
+    ghost use Rattle.link_account.specs.Speak.{Said, answering, else_says, says};
     ghost use Rattle.lapm_link.specs.Stands.{IsUnlinked, SaysUnlinked};
 
     /// The answer that is due, or else this.
@@ -113,9 +114,9 @@ impl Unlinked {
 }
 
 impl Agreed {
-    ghost use Rattle.lapm_link.specs.Account.{Account};
-    ghost use Rattle.lapm_link.specs.Hear.{connected, owing};
-    ghost use Rattle.lapm_link.specs.declared.answer.Answer.{Answer};
+    ghost use Rattle.link_account.specs.Account.{Account};
+    ghost use Rattle.link_account.specs.Hear.{connected, owing};
+    ghost use Rattle.link_account.specs.declared.answer.Answer.{Answer};
     ghost use Rattle.lapm_link.specs.Stands.{IsUnlinked, Links};
 
     /// The link is up.

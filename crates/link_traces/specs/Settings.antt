@@ -2,9 +2,9 @@
 use Rattle.std.specs.Prelude.{ℕ, Bool, true, false, List, [], ◌∷◌}
 use Rattle.roles.specs.declared.role.Role.{Role}
 use Rattle.roles.specs.declared.role.Role.TheVariants.{Originator, Answerer}
-use Rattle.lapm_link.specs.declared.setup.Setup.{Setup}
-use Rattle.lapm_link.specs.Account.{fresh}
-use Rattle.lapm_link.specs.Play.{start}
+use Rattle.link_account.specs.declared.setup.Setup.{Setup}
+use Rattle.link_account.specs.Account.{fresh}
+use Rattle.link_account.specs.Play.{start}
 use Rattle.link_traces.specs.Runs.{Break, Loss, User, World, Row, turns}
 
 -- an end that offers segments of this size both ways, a window of 15, and SREJ or not

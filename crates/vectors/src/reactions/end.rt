@@ -1,7 +1,8 @@
 // An end that is taken to a state, and what it then does.
 ghost use Rattle.std.specs.Prelude.{◌≡◌, ◌*◌, ◌≤◌, None, IfOk};
 ghost use Rattle.lapm_link.specs.Fits.{IsSetUp};
-ghost use Rattle.lapm_link.specs.Stands.{IsNumbered, TakesNothing, taken_of, undelivered_of, waiting_of};
+ghost use Rattle.lapm_link.specs.Stands.{TakesNothing, taken_of, undelivered_of, waiting_of};
+ghost use Rattle.link_account.specs.Numbers.{IsNumbered};
 ghost use Rattle.vectors.specs.declared.reactions.end.TheConstants.{LATEST};
 
 use super::Reaction;

@@ -1,7 +1,7 @@
 // What stands on the line in a turn.
 ghost use Rattle.std.specs.Prelude.{◌≡◌, ◌≤◌, length, IfSome};
 ghost use Rattle.xid_params.specs.Offers.{IsAllowed};
-ghost use Rattle.lapm_link.specs.Stands.{HasNumbers, IsNumbered};
+ghost use Rattle.link_account.specs.Numbers.{HasNumbers, IsNumbered};
 
 use slot_contents::Seen;
 use frame_check::Info;

@@ -1,7 +1,7 @@
 // Two ends over two lines of one turn's delay, and an end by itself.
 ghost use Rattle.std.specs.Prelude.{IsTrue};
 ghost use Rattle.lapm_link.specs.Fits.{IsSetUp};
-ghost use Rattle.lapm_link.specs.Stands.{HasNumbers, IsNumbered};
+ghost use Rattle.link_account.specs.Numbers.{HasNumbers, IsNumbered};
 
 use super::end::Standing;
 use super::slot::Kind::{Command, Response};

@@ -1,6 +1,6 @@
 use Rattle.std.proofs.Common.{refl}
 use Rattle.xid_params.specs.Terms.{agree}
-use Rattle.lapm_link.specs.declared.phase.Phase.TheVariants as phases
+use Rattle.link_account.specs.declared.phase.Phase.TheVariants as phases
 use Rattle.lapm_link.proofs.Kept.{moved, as_kept}
 use Rattle.lapm_link.proofs.answering.Answering.new.Goals as goal
 

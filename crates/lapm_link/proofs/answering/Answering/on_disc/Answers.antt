@@ -1,5 +1,5 @@
-use Rattle.lapm_link.specs.declared.answer.Answer.TheVariants as answers
-use Rattle.lapm_link.specs.Hear.{owing}
+use Rattle.link_account.specs.declared.answer.Answer.TheVariants as answers
+use Rattle.link_account.specs.Hear.{owing}
 use Rattle.lapm_link.proofs.answering.Answering.on_disc.Goals as goal
 
 pub returns-clause-becomes : goal.returns-clause-becomes

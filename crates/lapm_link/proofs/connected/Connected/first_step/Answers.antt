@@ -1,6 +1,6 @@
 use Rattle.std.proofs.Common.{refl}
 use Rattle.slot_contents.specs.declared.sent.Sent.TheVariants as slots
-use Rattle.lapm_link.specs.Speak.{else_says, step1, step2, step3, step4, step5, step6, step7, step8, step9}
+use Rattle.link_account.specs.Speak.{else_says, step1, step2, step3, step4, step5, step6, step7, step8, step9}
 use Rattle.lapm_link.proofs.Saying.{first, next}
 use Rattle.lapm_link.proofs.connected.Connected.first_step.Goals as goal
 

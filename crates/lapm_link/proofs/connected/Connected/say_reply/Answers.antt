@@ -1,5 +1,5 @@
 use Rattle.std.proofs.Common.{sym, ◌∙◌, ap, false}
-use Rattle.lapm_link.specs.declared.owes.Owes.{Owes}
+use Rattle.link_account.specs.declared.owes.Owes.{Owes}
 use Rattle.lapm_link.proofs.Saying.{gives_where, replied}
 use Rattle.lapm_link.proofs.connected.Connected.say_reply.Goals as goal
 

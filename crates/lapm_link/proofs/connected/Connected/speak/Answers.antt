@@ -1,9 +1,9 @@
 use Rattle.std.proofs.Common.{◌≡◌, sym, ap, subst, ◌∙◌, true}
-use Rattle.lapm_link.specs.declared.phase.Phase.TheVariants as phases
-use Rattle.lapm_link.specs.declared.setup.Setup.{Setup}
+use Rattle.link_account.specs.declared.phase.Phase.TheVariants as phases
+use Rattle.link_account.specs.declared.setup.Setup.{Setup}
 use Rattle.roles.specs.Role.{is_originator}
-use Rattle.lapm_link.specs.Hear.{trying}
-use Rattle.lapm_link.specs.Speak.{speak_in}
+use Rattle.link_account.specs.Hear.{trying}
+use Rattle.link_account.specs.Speak.{speak_in}
 use Rattle.lapm_link.specs.Stands.{Speaks}
 use Rattle.lapm_link.proofs.Saying.{releases}
 use Rattle.lapm_link.proofs.connected.Connected.speak.Goals as goal

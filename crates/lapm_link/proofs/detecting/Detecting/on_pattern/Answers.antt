@@ -2,11 +2,11 @@ use Rattle.std.proofs.Common.{◌≡◌, sym, ap, ◌∙◌}
 use Rattle.roles.specs.declared.role.Role.{Role}
 use Rattle.roles.specs.declared.role.Role.TheVariants.{Originator, Answerer}
 use Rattle.slot_contents.specs.declared.seen.Seen.{Seen}
-use Rattle.lapm_link.specs.declared.setup.Setup.{Setup}
+use Rattle.link_account.specs.declared.setup.Setup.{Setup}
 use Rattle.lapm_link.specs.declared.any_end.AnyEnd.{AnyEnd}
 use Rattle.lapm_link.specs.declared.any_end.AnyEnd.TheVariants as ends
-use Rattle.lapm_link.specs.Account.{Account}
-use Rattle.lapm_link.specs.Hear.{on_pattern}
+use Rattle.link_account.specs.Account.{Account}
+use Rattle.link_account.specs.Hear.{on_pattern}
 use Rattle.lapm_link.specs.Stands.{StandsFor}
 use Rattle.lapm_link.proofs.detecting.Detecting.on_pattern.Goals as goal
 

@@ -1,5 +1,5 @@
-use Rattle.lapm_link.specs.declared.answer.Answer.TheVariants as answers
-use Rattle.lapm_link.specs.Hear.{owing}
+use Rattle.link_account.specs.declared.answer.Answer.TheVariants as answers
+use Rattle.link_account.specs.Hear.{owing}
 use Rattle.lapm_link.proofs.unlinked.Agreed.accept.Goals as goal
 
 pub returns-clause-links : goal.returns-clause-links

@@ -4,9 +4,9 @@ use Rattle.lapm_sender.specs.Sending.{Sending, StandsOut}
 use Rattle.lapm_sender.specs.Outgoing as outgoing
 use Rattle.lapm_receiver.specs.Taking.{Taking, StandsIn}
 use Rattle.lapm_receiver.specs.Incoming as incoming
-use Rattle.lapm_link.specs.declared.setup.Setup.{Setup}
+use Rattle.link_account.specs.declared.setup.Setup.{Setup}
 use Rattle.roles.specs.Role.{other}
-use Rattle.lapm_link.specs.Account.{size_for, window_for}
+use Rattle.link_account.specs.Account.{size_for, window_for}
 use Rattle.roles.specs.Role.{is_originator}
 use Rattle.lapm_link.proofs.unlinked.Agreed.connect.Goals as goal
 

@@ -13,22 +13,22 @@ use Rattle.lapm_receiver.specs.Incoming as incoming
 use Rattle.break_signals.specs.Breaks.{after_ask}
 use Rattle.lapm_receiver.specs.Incoming.{Incoming, after_delivered, next_expected}
 use Rattle.slot_contents.specs.declared.sent.Sent.TheVariants as slots
-use Rattle.lapm_link.specs.declared.fault.LinkFault.{LinkFault}
-use Rattle.lapm_link.specs.declared.fault.LinkFault.TheVariants.{NotDetected, Spent, BadAck, PeerReset, PeerRefused}
-use Rattle.lapm_link.specs.declared.setup.Setup.{Setup}
-use Rattle.lapm_link.specs.declared.phase.Phase.{Phase}
-use Rattle.lapm_link.specs.declared.phase.Phase.TheVariants.{Detecting, Negotiating, Establishing, Connected, Releasing, Closed}
-use Rattle.lapm_link.specs.Account.{Account, fresh, wants, piece_size, after_offer, after_delivery, after_break_asked, after_given, is_connected, after_busy}
-use Rattle.lapm_link.specs.Hear.{hear, on_nothing}
-use Rattle.lapm_link.specs.Speak.{Said, speak}
-use Rattle.lapm_link.specs.Play.{Slot, Play, Event, Speaks, Passes, Is_lost, Hears_nothing, Is_offered, Is_asked, Delivers, Gives_break, arrives, seen_from, play_of, spoken, heard, passes, is_lost, is_offered, happens_at, role_of, goes_on, happens, play, start, Is_busy}
-use Rattle.lapm_link.specs.Laws.{MayPlay, played, TakesInOrder, WantsAnswers, BreaksForWantAlone, IsTakenBy, TakesByNumber}
+use Rattle.link_account.specs.declared.fault.LinkFault.{LinkFault}
+use Rattle.link_account.specs.declared.fault.LinkFault.TheVariants.{NotDetected, Spent, BadAck, PeerReset, PeerRefused}
+use Rattle.link_account.specs.declared.setup.Setup.{Setup}
+use Rattle.link_account.specs.declared.phase.Phase.{Phase}
+use Rattle.link_account.specs.declared.phase.Phase.TheVariants.{Detecting, Negotiating, Establishing, Connected, Releasing, Closed}
+use Rattle.link_account.specs.Account.{Account, fresh, wants, piece_size, after_offer, after_delivery, after_break_asked, after_given, is_connected, after_busy}
+use Rattle.link_account.specs.Hear.{hear, on_nothing}
+use Rattle.link_account.specs.Speak.{Said, speak}
+use Rattle.link_account.specs.Play.{Slot, Play, Event, Speaks, Passes, Is_lost, Hears_nothing, Is_offered, Is_asked, Delivers, Gives_break, arrives, seen_from, play_of, spoken, heard, passes, is_lost, is_offered, happens_at, role_of, goes_on, happens, play, start, Is_busy}
+use Rattle.link_account.specs.Laws.{MayPlay, played, TakesInOrder, WantsAnswers, BreaksForWantAlone, IsTakenBy, TakesByNumber}
 use Rattle.plain_lists.specs.Prefix.{IsPrefixOf}
-use Rattle.lapm_link.proofs.Flow.{keeps-offered}
-use Rattle.lapm_link.proofs.Ends.{Goes, flow, order-exact}
-use Rattle.lapm_link.proofs.Good.{rank, PlaceO, PlaceA, DueA, LineO, LineA, terms_of, Good, lost-o, lost-a, changed-o, changed-a}
-use Rattle.lapm_link.proofs.Hearing.{WellA, WellO, a-hears, o-hears, a-nothing, o-nothing}
-use Rattle.lapm_link.proofs.Speaking.{IsHarmless, OnSaid, SaidO, SaidA, o-speaks, a-speaks}
+use Rattle.link_account.proofs.Flow.{keeps-offered}
+use Rattle.link_account.proofs.Ends.{Goes, flow, order-exact}
+use Rattle.link_account.proofs.Good.{rank, PlaceO, PlaceA, DueA, LineO, LineA, terms_of, Good, lost-o, lost-a, changed-o, changed-a}
+use Rattle.link_account.proofs.Hearing.{WellA, WellO, a-hears, o-hears, a-nothing, o-nothing}
+use Rattle.link_account.proofs.Speaking.{IsHarmless, OnSaid, SaidO, SaidA, o-speaks, a-speaks}
 
 pub record GoodPlay (so sa : Setup) (p : Play) : Type 0 where
   pub good : Good so sa p.originator.account p.answerer.account p.originator.line p.answerer.line

@@ -9,22 +9,22 @@ use Rattle.lapm_receiver.specs.Incoming.{Incoming, next_expected}
 use Rattle.break_signals.specs.Breaks.{OwnBreaks, ticked}
 use Rattle.slot_contents.specs.declared.sent.Sent.{Sent}
 use Rattle.slot_contents.specs.declared.sent.Sent.TheVariants as slots
-use Rattle.lapm_link.specs.declared.fault.LinkFault.{LinkFault}
-use Rattle.lapm_link.specs.declared.fault.LinkFault.TheVariants.{NotDetected, Spent, BadAck, PeerReset, PeerRefused}
-use Rattle.lapm_link.specs.declared.setup.Setup.{Setup}
-use Rattle.lapm_link.specs.declared.phase.Phase.{Phase}
-use Rattle.lapm_link.specs.declared.phase.Phase.TheVariants.{Detecting, Negotiating, Establishing, Connected, Releasing, Closed}
-use Rattle.lapm_link.specs.declared.answer.Answer.{Answer}
-use Rattle.lapm_link.specs.declared.answer.Answer.TheVariants as answers
-use Rattle.lapm_link.specs.Account.{Account, Wait}
+use Rattle.link_account.specs.declared.fault.LinkFault.{LinkFault}
+use Rattle.link_account.specs.declared.fault.LinkFault.TheVariants.{NotDetected, Spent, BadAck, PeerReset, PeerRefused}
+use Rattle.link_account.specs.declared.setup.Setup.{Setup}
+use Rattle.link_account.specs.declared.phase.Phase.{Phase}
+use Rattle.link_account.specs.declared.phase.Phase.TheVariants.{Detecting, Negotiating, Establishing, Connected, Releasing, Closed}
+use Rattle.link_account.specs.declared.answer.Answer.{Answer}
+use Rattle.link_account.specs.declared.answer.Answer.TheVariants as answers
+use Rattle.link_account.specs.Account.{Account, Wait}
 use Rattle.roles.specs.Role.{is_originator}
-use Rattle.lapm_link.specs.Hear.{trying}
-use Rattle.lapm_link.specs.Speak.{Said, says, says_frame, else_says, where_says, step1, speak, speak_in, speak_detecting, speak_negotiating, speak_releasing, speak_linked, u_try, tries_frame, trying_again, answering, on_timer, on_break_timer, then_tries, after_timers, polling, breaking, spent, timer_expires}
-use Rattle.lapm_link.specs.Play.{Slot}
-use Rattle.lapm_link.proofs.Flow.{IsAskable, all_snoc}
-use Rattle.lapm_link.proofs.Ends.{segment_of, asked_of, Goes, line-quiet, back-told}
-use Rattle.lapm_link.proofs.Linked.{Linked, Same, IsNumbered, IsLinked, SaysWell, AllSaid, else-says, where-says, steps-well}
-use Rattle.lapm_link.proofs.Good.{rank, FromO, FromA, DueA, NotSabme, SabmeFirst, PlaceO, PlaceA, NoneNumbered, LineO, LineA, terms_of, Good, linked-o, linked-a, changed-o, changed-a}
+use Rattle.link_account.specs.Hear.{trying}
+use Rattle.link_account.specs.Speak.{Said, says, says_frame, else_says, where_says, step1, speak, speak_in, speak_detecting, speak_negotiating, speak_releasing, speak_linked, u_try, tries_frame, trying_again, answering, on_timer, on_break_timer, then_tries, after_timers, polling, breaking, spent, timer_expires}
+use Rattle.link_account.specs.Play.{Slot}
+use Rattle.link_account.proofs.Flow.{IsAskable, all_snoc}
+use Rattle.link_account.proofs.Ends.{segment_of, asked_of, Goes, line-quiet, back-told}
+use Rattle.link_account.proofs.Linked.{Linked, Same, IsNumbered, IsLinked, SaysWell, AllSaid, else-says, where-says, steps-well}
+use Rattle.link_account.proofs.Good.{rank, FromO, FromA, DueA, NotSabme, SabmeFirst, PlaceO, PlaceA, NoneNumbered, LineO, LineA, terms_of, Good, linked-o, linked-a, changed-o, changed-a}
 
 -- two ends of ours break for want of answers alone
 abbrev pub IsHarmless : LinkFault → Type 0

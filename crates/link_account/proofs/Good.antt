@@ -12,16 +12,16 @@ use Rattle.lapm_receiver.specs.Incoming.{Incoming, next_expected}
 use Rattle.lapm_receiver.specs.Incoming as incoming
 use Rattle.slot_contents.specs.declared.sent.Sent.{Sent}
 use Rattle.slot_contents.specs.declared.sent.Sent.TheVariants as slots
-use Rattle.lapm_link.specs.declared.setup.Setup.{Setup}
-use Rattle.lapm_link.specs.declared.phase.Phase.{Phase}
-use Rattle.lapm_link.specs.declared.phase.Phase.TheVariants.{Detecting, Negotiating, Establishing, Connected, Releasing, Closed}
-use Rattle.lapm_link.specs.declared.answer.Answer.{Answer}
-use Rattle.lapm_link.specs.declared.answer.Answer.TheVariants as answers
-use Rattle.lapm_link.specs.Account.{Account}
-use Rattle.lapm_link.specs.Play.{Slot}
-use Rattle.lapm_link.proofs.Flow.{all_weaker}
-use Rattle.lapm_link.proofs.Ends.{Goes, back-forgotten, line-lost}
-use Rattle.lapm_link.proofs.Linked.{Linked, IsNumbered, IsLinked}
+use Rattle.link_account.specs.declared.setup.Setup.{Setup}
+use Rattle.link_account.specs.declared.phase.Phase.{Phase}
+use Rattle.link_account.specs.declared.phase.Phase.TheVariants.{Detecting, Negotiating, Establishing, Connected, Releasing, Closed}
+use Rattle.link_account.specs.declared.answer.Answer.{Answer}
+use Rattle.link_account.specs.declared.answer.Answer.TheVariants as answers
+use Rattle.link_account.specs.Account.{Account}
+use Rattle.link_account.specs.Play.{Slot}
+use Rattle.link_account.proofs.Flow.{all_weaker}
+use Rattle.link_account.proofs.Ends.{Goes, back-forgotten, line-lost}
+use Rattle.link_account.proofs.Linked.{Linked, IsNumbered, IsLinked}
 
 abbrev pub rank : Phase → ℕ
 rank Detecting = 0

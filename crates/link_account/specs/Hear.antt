@@ -23,13 +23,13 @@ use Rattle.slot_contents.specs.declared.seen.Seen.{Seen}
 use Rattle.slot_contents.specs.declared.seen.Seen.TheVariants.{Odp, Adp}
 use Rattle.slot_contents.specs.declared.arrived.Arrived.{Arrived}
 use Rattle.slot_contents.specs.declared.arrived.Arrived.TheVariants as arrivals
-use Rattle.lapm_link.specs.declared.phase.Phase.{Phase}
-use Rattle.lapm_link.specs.declared.phase.Phase.TheVariants.{Detecting, Negotiating, Establishing, Connected, Releasing, Closed}
-use Rattle.lapm_link.specs.declared.fault.LinkFault.{LinkFault}
-use Rattle.lapm_link.specs.declared.fault.LinkFault.TheVariants.{BadAck, PeerReset, PeerRefused}
-use Rattle.lapm_link.specs.declared.answer.Answer.{Answer}
-use Rattle.lapm_link.specs.declared.answer.Answer.TheVariants as answers
-use Rattle.lapm_link.specs.Account.{Account, Wait, size_for, window_for}
+use Rattle.link_account.specs.declared.phase.Phase.{Phase}
+use Rattle.link_account.specs.declared.phase.Phase.TheVariants.{Detecting, Negotiating, Establishing, Connected, Releasing, Closed}
+use Rattle.link_account.specs.declared.fault.LinkFault.{LinkFault}
+use Rattle.link_account.specs.declared.fault.LinkFault.TheVariants.{BadAck, PeerReset, PeerRefused}
+use Rattle.link_account.specs.declared.answer.Answer.{Answer}
+use Rattle.link_account.specs.declared.answer.Answer.TheVariants as answers
+use Rattle.link_account.specs.Account.{Account, Wait, size_for, window_for}
 use Rattle.roles.specs.Role.{is_originator}
 
 -- an answer becomes due in the place of any that is

@@ -1,17 +1,19 @@
 -- The laws of plays from two fresh ends.
-use Rattle.std.specs.Prelude.{◌≡◌, ℕ, ◌+◌, ◌≤◌, Bool, List, ◌∷◌, Option, Some, None}
+use Rattle.std.specs.Prelude.{◌≡◌, ℕ, ◌+◌, ◌≤◌, Bool, List, ◌∷◌, ◌++◌, Option, Some, None, Ok}
 use Rattle.roles.specs.declared.role.Role.TheVariants.{Originator, Answerer}
 use Rattle.lapm_frames.specs.declared.frame.Frame.TheVariants.{I}
 use Rattle.lapm_receiver.specs.Incoming.{Incoming, kind_of, next_expected}
 use Rattle.lapm_receiver.specs.declared.took.Took.TheVariants.{InOrder, Kept}
 use Rattle.xid_params.specs.Offers.{IsAllowed}
 use Rattle.slot_contents.specs.declared.sent.Sent.TheVariants as slots
-use Rattle.lapm_link.specs.declared.setup.Setup.{Setup}
-use Rattle.lapm_link.specs.declared.phase.Phase.TheVariants.{Connected}
-use Rattle.lapm_link.specs.declared.fault.LinkFault.{LinkFault}
-use Rattle.lapm_link.specs.declared.fault.LinkFault.TheVariants.{NotDetected, Spent, BadAck, PeerReset, PeerRefused}
-use Rattle.lapm_link.specs.Account.{fresh}
-use Rattle.lapm_link.specs.Play.{Slot, Side, Play, Event, play, start}
+use Rattle.link_account.specs.declared.setup.Setup.{Setup}
+use Rattle.link_account.specs.declared.phase.Phase.TheVariants.{Connected}
+use Rattle.link_account.specs.declared.fault.LinkFault.{LinkFault}
+use Rattle.link_account.specs.declared.fault.LinkFault.TheVariants.{NotDetected, Spent, BadAck, PeerReset, PeerRefused}
+use Rattle.link_account.specs.Account.{Account, fresh}
+use Rattle.link_account.specs.Play.{arrives, Slot, Side, Play, Event, play, start}
+use Rattle.link_account.specs.Speak.{Said, speak}
+use Rattle.link_account.specs.Numbers.{IsNumbered}
 use Rattle.plain_lists.specs.Prefix.{IsPrefixOf}
 
 -- the setups of two ends that play
@@ -65,3 +67,7 @@ abbrev pub GivesBreaksInOrder : Type 0
 GivesBreaksInOrder = (so sa : Setup) (events : List Event) →
     IsPrefixOf (played so sa events).answerer.account.their_breaks.lengths (played so sa events).originator.account.own_breaks.lengths
     × IsPrefixOf (played so sa events).originator.account.their_breaks.lengths (played so sa events).answerer.account.own_breaks.lengths
+
+-- Whatever an end says can be heard: its numbers are below 128.
+abbrev pub SaysNumbers : Type 0
+SaysNumbers = (turn : ℕ) (release : Bool) (a : Account) (said : Said) → speak turn release a ≡ Ok said → IsNumbered (arrives said.sent)

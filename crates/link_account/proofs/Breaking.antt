@@ -8,7 +8,7 @@ use Rattle.std.specs.List.{AllByRecursion}
 use Rattle.break_signals.specs.declared.word.BreakWord.{BreakWord}
 use Rattle.break_signals.specs.declared.word.BreakWord.TheVariants.{Brk, Ack}
 use Rattle.break_signals.specs.Breaks.{OwnBreaks, TheirBreaks, after_ask, ticked, after_answer, with_given, after_break, after_brk, after_ack}
-use Rattle.lapm_link.proofs.Flow.{all_weaker, all_both, all_snoc}
+use Rattle.link_account.proofs.Flow.{all_weaker, all_both, all_snoc}
 
 -- a BRK and a BRKACK on the line, with the place of the break among those taken
 pub record BrkOn : Type 0 where

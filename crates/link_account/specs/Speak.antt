@@ -13,15 +13,15 @@ use Rattle.break_signals.specs.Words.{spelled}
 use Rattle.break_signals.specs.Breaks.{OwnBreaks, own_due, after_brk, after_ack, ticked}
 use Rattle.slot_contents.specs.declared.sent.Sent.{Sent}
 use Rattle.slot_contents.specs.declared.sent.Sent.TheVariants as slots
-use Rattle.lapm_link.specs.declared.phase.Phase.{Phase}
-use Rattle.lapm_link.specs.declared.phase.Phase.TheVariants.{Detecting, Negotiating, Establishing, Connected, Releasing, Closed}
-use Rattle.lapm_link.specs.declared.fault.LinkFault.{LinkFault}
-use Rattle.lapm_link.specs.declared.fault.LinkFault.TheVariants.{NotDetected, Spent}
-use Rattle.lapm_link.specs.declared.answer.Answer.{Answer}
-use Rattle.lapm_link.specs.declared.answer.Answer.TheVariants as answers
-use Rattle.lapm_link.specs.Account.{Account}
+use Rattle.link_account.specs.declared.phase.Phase.{Phase}
+use Rattle.link_account.specs.declared.phase.Phase.TheVariants.{Detecting, Negotiating, Establishing, Connected, Releasing, Closed}
+use Rattle.link_account.specs.declared.fault.LinkFault.{LinkFault}
+use Rattle.link_account.specs.declared.fault.LinkFault.TheVariants.{NotDetected, Spent}
+use Rattle.link_account.specs.declared.answer.Answer.{Answer}
+use Rattle.link_account.specs.declared.answer.Answer.TheVariants as answers
+use Rattle.link_account.specs.Account.{Account}
 use Rattle.roles.specs.Role.{is_originator}
-use Rattle.lapm_link.specs.Hear.{trying}
+use Rattle.link_account.specs.Hear.{trying}
 
 -- What is sent, its meant number, and the account after it. The meant number is, of an I frame, that of its segment, of an SREJ the one asked for,
 -- of a BRK its place among the breaks taken, of a BRKACK the place of the break that it answers, and else 0.

@@ -12,10 +12,10 @@ use Rattle.lapm_sender.specs.Outgoing as outgoing
 use Rattle.lapm_receiver.specs.Incoming.{Incoming, next_delivered, after_delivered}
 use Rattle.lapm_receiver.specs.Incoming as incoming
 use Rattle.break_signals.specs.Breaks.{OwnBreaks, TheirBreaks, no_breaks, none_heard, takes_break, after_ask, waits}
-use Rattle.lapm_link.specs.declared.setup.Setup.{Setup}
-use Rattle.lapm_link.specs.declared.owes.Owes.{Owes}
-use Rattle.lapm_link.specs.declared.phase.Phase.{Phase}
-use Rattle.lapm_link.specs.declared.phase.Phase.TheVariants.{Detecting, Negotiating, Establishing, Connected, Releasing, Closed}
+use Rattle.link_account.specs.declared.setup.Setup.{Setup}
+use Rattle.link_account.specs.declared.owes.Owes.{Owes}
+use Rattle.link_account.specs.declared.phase.Phase.{Phase}
+use Rattle.link_account.specs.declared.phase.Phase.TheVariants.{Detecting, Negotiating, Establishing, Connected, Releasing, Closed}
 
 -- what an end waits for (the retry count and the awaited poll are of the sender's part)
 pub record Wait : Type 0 where

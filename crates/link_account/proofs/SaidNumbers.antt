@@ -9,20 +9,20 @@ use Rattle.lapm_receiver.specs.Incoming.{asks}
 use Rattle.break_signals.specs.declared.word.BreakWord.{BreakWord}
 use Rattle.break_signals.specs.Breaks.{own_due}
 use Rattle.slot_contents.specs.declared.sent.Sent.TheVariants as slots
-use Rattle.lapm_link.specs.declared.fault.LinkFault.{LinkFault}
-use Rattle.lapm_link.specs.declared.fault.LinkFault.TheVariants.{NotDetected}
-use Rattle.lapm_link.specs.declared.phase.Phase.{Phase}
-use Rattle.lapm_link.specs.declared.phase.Phase.TheVariants as phases
-use Rattle.lapm_link.specs.declared.answer.Answer.{Answer}
-use Rattle.lapm_link.specs.declared.answer.Answer.TheVariants as answers
-use Rattle.lapm_link.specs.Account.{Account}
+use Rattle.link_account.specs.declared.fault.LinkFault.{LinkFault}
+use Rattle.link_account.specs.declared.fault.LinkFault.TheVariants.{NotDetected}
+use Rattle.link_account.specs.declared.phase.Phase.{Phase}
+use Rattle.link_account.specs.declared.phase.Phase.TheVariants as phases
+use Rattle.link_account.specs.declared.answer.Answer.{Answer}
+use Rattle.link_account.specs.declared.answer.Answer.TheVariants as answers
+use Rattle.link_account.specs.Account.{Account}
 use Rattle.roles.specs.Role.{is_originator}
-use Rattle.lapm_link.specs.Hear.{trying}
-use Rattle.lapm_link.specs.Speak.{Said, says, says_frame, says_segment, says_own, says_break, says_asking, where_says, answering, may_send, step1, step2, step3, step4, step5, step6, step7, step8, step9, steps, speak_in, speak_detecting, speak_negotiating, speak_releasing, speak_linked, u_try, tries_frame, trying_again, spent, on_timer, then_tries, after_timers, tells, ready_frame, has_news, nr_of}
-use Rattle.lapm_link.specs.Play.{arrives}
-use Rattle.lapm_link.specs.Stands.{HasNumbers, IsNumbered}
-use Rattle.lapm_link.specs.EndLaws.{SaysNumbers}
-use Rattle.lapm_link.proofs.Linked.{AllSaid, else-says, where-says}
+use Rattle.link_account.specs.Hear.{trying}
+use Rattle.link_account.specs.Speak.{Said, says, says_frame, says_segment, says_own, says_break, says_asking, where_says, answering, may_send, step1, step2, step3, step4, step5, step6, step7, step8, step9, steps, speak_in, speak_detecting, speak_negotiating, speak_releasing, speak_linked, u_try, tries_frame, trying_again, spent, on_timer, then_tries, after_timers, tells, ready_frame, has_news, nr_of}
+use Rattle.link_account.specs.Play.{arrives}
+use Rattle.link_account.specs.Numbers.{HasNumbers, IsNumbered}
+use Rattle.link_account.specs.Laws.{SaysNumbers}
+use Rattle.link_account.proofs.Linked.{AllSaid, else-says, where-says}
 
 abbrev IsHeard : Said → Type 0
 IsHeard said = IsNumbered (arrives said.sent)

@@ -10,19 +10,19 @@ use Rattle.xid_params.specs.Offers.{offer_in, written}
 use Rattle.slot_contents.specs.declared.sent.Sent.{Sent}
 use Rattle.slot_contents.specs.declared.sent.Sent.TheVariants as slots
 use Rattle.slot_contents.specs.declared.seen.Seen.TheVariants as seen
-use Rattle.lapm_link.specs.declared.fault.LinkFault.{LinkFault}
-use Rattle.lapm_link.specs.declared.setup.Setup.{Setup}
-use Rattle.lapm_link.specs.declared.phase.Phase.{Phase}
-use Rattle.lapm_link.specs.declared.phase.Phase.TheVariants.{Detecting, Negotiating, Establishing, Connected, Releasing, Closed}
-use Rattle.lapm_link.specs.declared.answer.Answer.{Answer}
-use Rattle.lapm_link.specs.declared.answer.Answer.TheVariants as answers
-use Rattle.lapm_link.specs.Account.{Account, window_for}
+use Rattle.link_account.specs.declared.fault.LinkFault.{LinkFault}
+use Rattle.link_account.specs.declared.setup.Setup.{Setup}
+use Rattle.link_account.specs.declared.phase.Phase.{Phase}
+use Rattle.link_account.specs.declared.phase.Phase.TheVariants.{Detecting, Negotiating, Establishing, Connected, Releasing, Closed}
+use Rattle.link_account.specs.declared.answer.Answer.{Answer}
+use Rattle.link_account.specs.declared.answer.Answer.TheVariants as answers
+use Rattle.link_account.specs.Account.{Account, window_for}
 use Rattle.roles.specs.Role.{is_originator}
-use Rattle.lapm_link.specs.Hear.{hear, on_frame, on_connected, on_detecting, on_negotiating, on_establishing, on_releasing, on_closed, on_xid_command, on_xid_response, on_sabme, peer_reset, on_disc, on_seen, on_pattern, owing, connected, trying, on_nothing, without_adp}
-use Rattle.lapm_link.specs.Play.{Slot, arrives}
-use Rattle.lapm_link.proofs.Ends.{Goes}
-use Rattle.lapm_link.proofs.Linked.{IsNumbered, IsLinked, HearsWell, hears-linked, counts_as_numbered}
-use Rattle.lapm_link.proofs.Good.{rank, DueA, IsFresh, PlaceO, PlaceA, NoSabme, terms_of, Good, linked-o, linked-a, lost-o, lost-a, changed-o, changed-a}
+use Rattle.link_account.specs.Hear.{hear, on_frame, on_connected, on_detecting, on_negotiating, on_establishing, on_releasing, on_closed, on_xid_command, on_xid_response, on_sabme, peer_reset, on_disc, on_seen, on_pattern, owing, connected, trying, on_nothing, without_adp}
+use Rattle.link_account.specs.Play.{Slot, arrives}
+use Rattle.link_account.proofs.Ends.{Goes}
+use Rattle.link_account.proofs.Linked.{IsNumbered, IsLinked, HearsWell, hears-linked, counts_as_numbered}
+use Rattle.link_account.proofs.Good.{rank, DueA, IsFresh, PlaceO, PlaceA, NoSabme, terms_of, Good, linked-o, linked-a, lost-o, lost-a, changed-o, changed-a}
 
 -- what an answerer hears leaves all well
 abbrev pub WellA : Setup → Setup → Account → List Slot → List Slot → Result Account LinkFault → Type 0

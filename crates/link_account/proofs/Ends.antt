@@ -14,8 +14,8 @@ use Rattle.lapm_receiver.specs.Incoming.{Incoming, after_take, after_kind, kind_
 use Rattle.lapm_receiver.specs.declared.took.Took.TheVariants.{InOrder, Kept, Repeat, Gap}
 use Rattle.slot_contents.specs.declared.sent.Sent.{Sent}
 use Rattle.slot_contents.specs.declared.sent.Sent.TheVariants as slots
-use Rattle.lapm_link.specs.Play.{Slot}
-use Rattle.lapm_link.proofs.Flow.{Segment, Reply, Flow, Sound, IsChoice, IsAskable, IsRising, IsHeldRight, keeps-sent, keeps-told, keeps-dropped, keeps-forgotten, keeps-acked, keeps-chosen, keeps-taken, keeps-kept, meant-found, with_number-all, from_number-choices, all_weaker, rising-lower}
+use Rattle.link_account.specs.Play.{Slot}
+use Rattle.link_account.proofs.Flow.{Segment, Reply, Flow, Sound, IsChoice, IsAskable, IsRising, IsHeldRight, keeps-sent, keeps-told, keeps-dropped, keeps-forgotten, keeps-acked, keeps-chosen, keeps-taken, keeps-kept, meant-found, with_number-all, from_number-choices, all_weaker, rising-lower}
 
 -- what a slot is in the two flows
 abbrev pub segment_of : Sent → ℕ → List Segment

@@ -1,0 +1,10 @@
+mod Flow
+mod Ends
+mod Linked
+mod Good
+mod Hearing
+mod Speaking
+mod Playing
+mod Breaking
+mod BreakPlaying
+mod SaidNumbers

@@ -1,0 +1,19 @@
+//! The account of a link: what an end is in plain values, what it becomes by what it hears, what it says, and plays of two ends,
+//! as definitions, with the laws of plays. No end runs here; [`laws`] says what holds of all plays.
+//!
+//! The plain types that the definitions speak of are an end's [`Setup`] and [`Phase`], what it [`Owes`] at once, and why it gives
+//! its link up ([`LinkFault`]).
+#![tactic(auto)]
+
+mod answer;
+mod fault;
+pub mod laws;
+mod owes;
+mod phase;
+mod setup;
+
+pub use answer::Answer;
+pub use fault::LinkFault;
+pub use owes::Owes;
+pub use phase::Phase;
+pub use setup::Setup;
