@@ -1,7 +1,7 @@
 -- Short words for the lines of a trace: what arrived at an end in a turn, and what it sent. I frames show the length of their
 -- information, which is one octet in all of these.
-use Rattle.std.specs.Prelude.{ℕ, zero, suc, true, false, List, [], ◌∷◌, Some, None}
-use Rattle.lapm_frames.specs.declared.frame.Frame.TheVariants.{I, Rr, Rej, Srej, Sabme, Disc, Ua, Ui, Xid}
+use Rattle.std.specs.Prelude.{ℕ, zero, suc, Bool, true, false, List, [], ◌∷◌, Option, Some, None}
+use Rattle.lapm_frames.specs.declared.frame.Frame.TheVariants.{I, Rr, Rnr, Rej, Srej, Sabme, Disc, Ua, Ui, Xid}
 use Rattle.slot_contents.specs.declared.sent.Sent.{Sent}
 use Rattle.slot_contents.specs.declared.sent.Sent.TheVariants as slots
 use Rattle.link_traces.specs.Runs.{Row}
@@ -46,6 +46,13 @@ reply nr = slots.Frame (Rr false nr true)
 
 abbrev pub rr : ℕ → Sent
 rr nr = slots.Frame (Rr false nr false)
+
+-- RNR as a response with F = 1, and as one with F = 0
+abbrev pub busy_reply : ℕ → Sent
+busy_reply nr = slots.Frame (Rnr false nr true)
+
+abbrev pub rnr : ℕ → Sent
+rnr nr = slots.Frame (Rnr false nr false)
 
 abbrev pub rej : ℕ → Sent
 rej nr = slots.Frame (Rej false nr false)

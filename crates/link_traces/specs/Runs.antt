@@ -12,22 +12,24 @@ use Rattle.link_account.specs.declared.phase.Phase.TheVariants.{Detecting, Negot
 use Rattle.slot_contents.specs.declared.sent.Sent.{Sent}
 use Rattle.slot_contents.specs.declared.sent.Sent.TheVariants as slots
 use Rattle.link_account.specs.Account.{wants, is_done, takes_own, break_waits, given_break}
-use Rattle.link_account.specs.Play.{Slot, Side, Play, Event, Speaks, Passes, Is_lost, Hears_nothing, Is_offered, Is_asked, Delivers, Gives_break, happens, play}
+use Rattle.link_account.specs.Play.{Slot, Side, Play, Event, Speaks, Passes, Is_lost, Hears_nothing, Is_offered, Is_asked, Delivers, Gives_break, Is_busy, happens, play}
 
 -- a break that is to be asked from this turn on
 pub record Break : Type 0 where
   pub turn : ℕ
   pub length_octet : ℕ
 
--- turns in which what is sent is lost
-pub record Loss : Type 0 where
+-- some turns: those in which what is sent is lost, or in which the user asks for a pause
+pub record Turns : Type 0 where
   pub from : ℕ
   pub count : ℕ
 
--- an end's part of a run's setting: the delay of what it sends, the turns in which that is lost, its file in pieces, its breaks
+-- an end's part of a run's setting: the delay of what it sends, the turns in which that is lost and in which it is busy, its file in pieces, its
+-- breaks
 pub record User : Type 0 where
   pub delay : ℕ
-  pub losses : List Loss
+  pub losses : List Turns
+  pub busy : List Turns
   pub pieces : List (List ℕ)
   pub breaks : List Break
 
@@ -72,12 +74,12 @@ abbrev pub with_user : Role → User → World → World
 with_user Originator u w = record w { originator = u }
 with_user Answerer u w = record w { answerer = u }
 
-abbrev pub is_among_losses : ℕ → List Loss → Bool
-is_among_losses turn [] = false
-is_among_losses turn (l ∷ ls) = (nat_le l.from turn && nat_lt turn (l.from + l.count)) || is_among_losses turn ls
+abbrev pub is_among : ℕ → List Turns → Bool
+is_among turn [] = false
+is_among turn (some ∷ others) = (nat_le some.from turn && nat_lt turn (some.from + some.count)) || is_among turn others
 
 abbrev pub loses : User → ℕ → Bool
-loses u turn = is_among_losses turn u.losses
+loses u turn = is_among turn u.losses
 
 -- what arrives at the other end of this role in this turn
 abbrev pub arrival : ℕ → Role → List Slot → User → List Event
@@ -119,6 +121,10 @@ offered_to role w =
     let o = offers role (user role w).pieces (record { play = w.play; left = [] }) in
     with_user role (record (user role w) { pieces = o.left }) (record w { play = o.play })
 
+-- both ends are told whether they are busy
+abbrev pub is_told_busy : ℕ → World → World
+is_told_busy turn w = record w { play = play (Is_busy Originator (is_among turn w.originator.busy) ∷ Is_busy Answerer (is_among turn w.answerer.busy) ∷ []) w.play }
+
 -- the first break that is ready is asked
 abbrev pub asks_break : ℕ → Role → List Break → World → World
 asks_break turn role [] w = w
@@ -158,7 +164,7 @@ spoken_in turn false w at_o lost_o at_a lost_a =
     let given_o = given_break w.play.originator.account in
     let given_a = given_break w.play.answerer.account in
     let w1 = record w { play = play (Delivers Originator ∷ Delivers Answerer ∷ Gives_break Originator ∷ Gives_break Answerer ∷ []) w.play } in
-    let w2 = offered_to Answerer (offered_to Originator w1) in
+    let w2 = is_told_busy turn (offered_to Answerer (offered_to Originator w1)) in
     let w3 = asks_break turn Answerer w2.answerer.breaks (asks_break turn Originator w2.originator.breaks w2) in
     let p = play (Speaks Originator turn (releases turn w3) ∷ Speaks Answerer turn false ∷ []) w3.play in
     record w3 {

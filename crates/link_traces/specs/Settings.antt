@@ -5,7 +5,7 @@ use Rattle.roles.specs.declared.role.Role.TheVariants.{Originator, Answerer}
 use Rattle.link_account.specs.declared.setup.Setup.{Setup}
 use Rattle.link_account.specs.Account.{fresh}
 use Rattle.link_account.specs.Play.{start}
-use Rattle.link_traces.specs.Runs.{Break, Loss, User, World, Row, turns}
+use Rattle.link_traces.specs.Runs.{Break, Turns, User, World, Row, turns}
 
 -- an end that offers segments of this size both ways, a window of 15, and SREJ or not
 abbrev pub setup : Role → ℕ → Bool → ℕ → Setup
@@ -17,8 +17,12 @@ setup role size srej period = record {
 }
 
 -- an end's file, and what becomes of what it sends
-abbrev pub user : ℕ → List (List ℕ) → List Loss → List Break → User
-user delay pieces losses breaks = record { delay = delay; losses = losses; pieces = pieces; breaks = breaks }
+abbrev pub user : ℕ → List (List ℕ) → List Turns → List Break → User
+user delay pieces losses breaks = record { delay = delay; losses = losses; busy = []; pieces = pieces; breaks = breaks }
+
+-- the same over a line of one turn that loses nothing, without breaks, in which it is busy in so many turns from that one on
+abbrev pub busy_user : List (List ℕ) → ℕ → ℕ → User
+busy_user pieces from count = record { delay = 1; losses = []; busy = (record { from = from; count = count }) ∷ []; pieces = pieces; breaks = [] }
 
 -- the run of two users, with segments of this size from the originator, SREJ at both ends or not, and this period
 abbrev pub run : ℕ → Bool → ℕ → User → User → World
@@ -35,11 +39,11 @@ abbrev pub lines : ℕ → World → List Row
 lines count w = (turns count 0 w).rows
 
 -- so many slots from that turn on are lost
-abbrev pub loses : ℕ → ℕ → List Loss
+abbrev pub loses : ℕ → ℕ → List Turns
 loses count turn = (record { from = turn; count = count }) ∷ []
 
 -- two files of one octet each, and a delay of one turn both ways: here with slots of the answerer that are lost, and breaks of the originator
-abbrev pub one_octet_each : List Loss → List Break → World
+abbrev pub one_octet_each : List Turns → List Break → World
 one_octet_each losses breaks = run 128 false 20 (user 1 ((97 ∷ []) ∷ []) [] breaks) (user 1 ((98 ∷ []) ∷ []) losses [])
 
 -- a break of 300 ms, asked from turn 5 on
@@ -63,3 +67,11 @@ near_rej = run 1 false 24 (user 2 fifteen (loses 1 19) []) (user 2 ([] ∷ []) [
 -- and with SREJ, two segments lost, and three segments the other way
 abbrev pub near_srej : World
 near_srej = run 1 true 24 (user 2 fifteen (loses 2 19) []) (user 2 ((7 ∷ []) ∷ (8 ∷ []) ∷ (9 ∷ []) ∷ [] ∷ []) [] [])
+
+-- fifteen segments to an end that is busy in five turns
+abbrev pub busy_for_a_while : World
+busy_for_a_while = run 1 false 20 (user 1 fifteen [] []) (busy_user ([] ∷ []) 10 5)
+
+-- one octet each way, and an answerer that is busy from the start, in 200 turns
+abbrev pub busy_for_long : World
+busy_for_long = run 128 false 20 (user 1 ((97 ∷ []) ∷ []) [] []) (busy_user ((98 ∷ []) ∷ []) 0 200)

@@ -1,8 +1,8 @@
 -- The traces of some runs: two lines a turn, the originator's first. They were worked out apart from the account.
-use Rattle.std.specs.Prelude.{◌≡◌, ℕ, ◌*◌, true, false, List, [], ◌∷◌, ◌++◌, take, drop}
+use Rattle.std.specs.Prelude.{zero, suc, ◌≡◌, ℕ, ◌*◌, Bool, true, false, List, [], ◌∷◌, ◌++◌, length, take, drop}
 use Rattle.link_traces.specs.Runs.{Row}
-use Rattle.link_traces.specs.Lines.{odp, adp, mark, flags, xid_cmd, xid_rsp, sabme, disc, ua, i, poll, reply, rr, rej, srej, brk, brkack, idle, heard, lost, giving, last, last_heard, quiet}
-use Rattle.link_traces.specs.Settings.{lines, loses, one_octet_each, one_break, far, near_rej, near_srej}
+use Rattle.link_traces.specs.Lines.{odp, adp, mark, flags, xid_cmd, xid_rsp, sabme, disc, ua, i, poll, reply, rr, rej, srej, brk, brkack, idle, heard, lost, giving, last, last_heard, quiet, busy_reply, rnr}
+use Rattle.link_traces.specs.Settings.{lines, loses, one_octet_each, one_break, far, near_rej, near_srej, busy_for_a_while, busy_for_long}
 
 -- the lines of so many turns from this one on
 abbrev pub lines_from : ℕ → ℕ → List Row → List Row
@@ -209,3 +209,75 @@ pub record FarSrej : Type 0 where
   pub asked : lines_from 184 1 (lines 285 (far true)) ≡ idle flags ∷ heard (i 4 0) (srej 3) ∷ []
   pub again : lines_from 204 12 (lines 285 (far true)) ≡ heard (srej 3) (i 3 0) ∷ idle flags ∷ quiet 11
   pub done : lines_from 284 5 (lines 289 (far true)) ≡ last_heard ua ∷ last ∷ []
+
+-- The answerer is busy in turns 10 to 14: it says so at once, takes what still arrives, and nothing is sent to it until it says that it is ready.
+abbrev pub BusyForAWhile : Type 0
+BusyForAWhile =
+    lines 32 busy_for_a_while ≡
+    idle odp ∷ idle mark ∷
+    idle odp ∷ heard odp adp ∷
+    heard adp xid_cmd ∷ heard odp adp ∷
+    heard adp flags ∷ heard xid_cmd xid_rsp ∷
+    heard xid_rsp sabme ∷ idle flags ∷
+    idle flags ∷ heard sabme ua ∷
+    heard ua (poll 0) ∷ idle flags ∷
+    idle flags ∷ heard (poll 0) (reply 0) ∷
+    heard (reply 0) (i 0 0) ∷ idle flags ∷
+    idle (i 1 0) ∷ heard (i 0 0) (rr 1) ∷
+    heard (rr 1) (i 2 0) ∷ heard (i 1 0) (rnr 2) ∷
+    heard (rnr 2) flags ∷ heard (i 2 0) (rnr 3) ∷
+    heard (rnr 3) flags ∷ idle flags ∷ []
+    ++ quiet 2 ++
+    idle flags ∷ idle (rr 3) ∷
+    heard (rr 3) (i 3 0) ∷ idle flags ∷
+    idle (i 4 0) ∷ heard (i 3 0) (rr 4) ∷
+    heard (rr 4) (i 5 0) ∷ heard (i 4 0) (rr 5) ∷
+    heard (rr 5) (i 6 0) ∷ heard (i 5 0) (rr 6) ∷
+    heard (rr 6) (i 7 0) ∷ heard (i 6 0) (rr 7) ∷
+    heard (rr 7) (i 8 0) ∷ heard (i 7 0) (rr 8) ∷
+    heard (rr 8) (i 9 0) ∷ heard (i 8 0) (rr 9) ∷
+    heard (rr 9) (i 10 0) ∷ heard (i 9 0) (rr 10) ∷
+    heard (rr 10) (i 11 0) ∷ heard (i 10 0) (rr 11) ∷
+    heard (rr 11) (i 12 0) ∷ heard (i 11 0) (rr 12) ∷
+    heard (rr 12) (i 13 0) ∷ heard (i 12 0) (rr 13) ∷
+    heard (rr 13) (i 14 0) ∷ heard (i 13 0) (rr 14) ∷
+    heard (rr 14) flags ∷ heard (i 14 0) (rr 15) ∷
+    heard (rr 15) disc ∷ idle flags ∷
+    idle flags ∷ heard disc ua ∷
+    last_heard ua ∷ last ∷ []
+
+-- an end that waits for a busy one polls once a period, and the answer says that it still is
+abbrev pub polled : ℕ → List Row
+polled zero = []
+polled (suc more) =
+    idle (poll 1) ∷ idle flags ∷
+    idle flags ∷ heard (poll 1) (busy_reply 0) ∷
+    heard (busy_reply 0) flags ∷ idle flags ∷ []
+    ++ quiet 19 ++ polled more
+
+-- The answerer is busy from the start to turn 199, much longer than all tries take: each answer clears the count of tries.
+abbrev pub BusyForLong : Type 0
+BusyForLong =
+    lines 206 busy_for_long ≡
+    idle odp ∷ idle mark ∷
+    idle odp ∷ heard odp adp ∷
+    heard adp xid_cmd ∷ heard odp adp ∷
+    heard adp flags ∷ heard xid_cmd xid_rsp ∷
+    heard xid_rsp sabme ∷ idle flags ∷
+    idle flags ∷ heard sabme ua ∷
+    heard ua (poll 0) ∷ idle flags ∷
+    idle flags ∷ heard (poll 0) (busy_reply 0) ∷
+    heard (busy_reply 0) flags ∷ idle (i 0 0) ∷
+    heard (i 0 0) (rr 1) ∷ idle flags ∷
+    idle flags ∷ heard (rr 1) flags ∷ []
+    ++ quiet 17 ++ polled 7 ++
+    idle (poll 1) ∷ idle flags ∷
+    idle flags ∷ heard (poll 1) (busy_reply 0) ∷
+    heard (busy_reply 0) flags ∷ idle flags ∷ []
+    ++ quiet 15 ++
+    idle flags ∷ idle (rr 0) ∷
+    heard (rr 0) (i 0 1) ∷ idle flags ∷
+    idle flags ∷ heard (i 0 1) (rr 1) ∷
+    heard (rr 1) disc ∷ idle flags ∷
+    idle flags ∷ heard disc ua ∷
+    last_heard ua ∷ last ∷ []

@@ -1,5 +1,5 @@
 //! The traces. The functions do nothing: each trace is a contract.
-ghost use Rattle.link_traces.specs.Traces.{TwoOneOctetFiles, UaIsLost, BreakIsGiven, BreakGoesAgain, RejAsksAgain, SrejAsksAgain, FarRej, FarSrej};
+ghost use Rattle.link_traces.specs.Traces.{TwoOneOctetFiles, UaIsLost, BreakIsGiven, BreakGoesAgain, RejAsksAgain, SrejAsksAgain, FarRej, FarSrej, BusyForAWhile, BusyForLong};
 
 /// Two files of one octet each.
 pub fn two_one_octet_files()
@@ -27,4 +27,10 @@ pub fn lost_segments()
 pub fn lost_far_away()
     ensures rej { FarRej }
     ensures srej { FarSrej }
+{}
+
+/// An end that is busy for a while, and one that is busy longer than all tries of the other take.
+pub fn busy_ends()
+    ensures short { BusyForAWhile }
+    ensures long { BusyForLong }
 {}
