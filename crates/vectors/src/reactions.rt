@@ -40,6 +40,7 @@ fn expected(stage: Stage, heard: Slot) -> Reaction {
         Stage::PollSentAgain => originator::poll_sent_again(heard),
         Stage::PollHeldBack => originator::poll_held_back(heard),
         Stage::SegmentAcknowledged => originator::segment_acknowledged(heard),
+        Stage::Paused => originator::paused(heard),
         Stage::DiscSent => originator::disc_sent(heard),
         Stage::AnswererDetecting => answerer::detecting(heard),
         Stage::OfferAnswered => answerer::offer_answered(heard),
@@ -49,6 +50,8 @@ fn expected(stage: Stage, heard: Slot) -> Reaction {
         Stage::RejHeldBack => answerer::rej_held_back(heard),
         Stage::SrejAgreed => answerer::srej_agreed(heard),
         Stage::SrejSent => answerer::srej_sent(heard),
+        Stage::Busy => answerer::busy(heard),
+        Stage::BusyUntold => answerer::busy_untold(heard),
         Stage::OriginatorClosed | Stage::AnswererClosed => closed(heard),
     }
 }
@@ -70,10 +73,15 @@ struct Differs {
     expected: Observed,
 }
 
+/// Whether the end's user asks for a pause once the end is taken to the state.
+fn is_busy(stage: Stage) -> bool {
+    stage.busy_from().is_some()
+}
+
 /// One pair of the table.
 fn compare(alloc: Global, stage: Stage, heard: Slot) -> Result<(), Fail> {
     let expected = Observed::of(expected(stage, heard));
-    let observed = Standing::at(alloc, stage)?.react(heard);
+    let observed = Standing::at(alloc, stage)?.react(heard, is_busy(stage));
     if observed != expected {
         return Err(Fail::from(Differs {
             stage,

@@ -3,7 +3,7 @@ use super::Reaction::{self, Breaks, Sends};
 use super::slot::Kind::{Command, Response};
 use super::slot::Says::{Brk, BrkAck, Offer};
 use super::slot::Slot::{self, *};
-use super::slot::Supervisory::{Rej, Rr, Srej};
+use super::slot::Supervisory::{Rej, Rnr, Rr, Srej};
 use super::{bad_ack, reset};
 use lapm_link::LinkFault::PeerRefused;
 use lapm_link::Phase::{Closed, Connected, Detecting, Negotiating};
@@ -41,6 +41,7 @@ pub(super) fn nothing_heard(heard: Slot) -> Reaction {
         I(127, _, _) => Sends(Connected, I(0, 0, false)),
         I(..) => Sends(Connected, S(Rej, Response, 0, false)),
         S(_, Command, _, true) => Sends(Connected, S(Rr, Response, 0, true)),
+        S(Rnr, ..) => Sends(Connected, Flags),
         S(..) => Sends(Connected, I(0, 0, false)),
 
         Ui(_, _, Brk(n, length)) => Sends(Connected, Ui(Command, false, BrkAck(n, length))),
@@ -148,5 +149,43 @@ pub(super) fn srej_sent(heard: Slot) -> Reaction {
         Dm(_) => Breaks(PeerRefused),
         Disc(pf) => Sends(Closed, Ua(pf)),
         _ => Sends(Connected, Flags),
+    }
+}
+
+/// Connected: V(A) = 0, V(S) = 0, V(R) = 0. There is no segment to send. The end is busy, and its answer to a poll said so. It still takes what
+/// comes, says RNR where it would say RR, and asks for nothing.
+pub(super) fn busy(heard: Slot) -> Reaction {
+    match heard {
+        I(_, 1, _) | S(_, _, 1, _) => bad_ack(1, 0, 0),
+        S(Srej, _, 0, _) => bad_ack(0, 0, 0),
+
+        I(0, _, pf) => Sends(Connected, S(Rnr, Response, 1, pf)),
+        I(1, _, true) => Sends(Connected, S(Rnr, Response, 0, true)),
+        I(127, _, _) => Sends(Connected, S(Rnr, Response, 0, false)),
+        S(_, Command, _, true) => Sends(Connected, S(Rnr, Response, 0, true)),
+
+        Ui(_, _, Brk(n, length)) => Sends(Connected, Ui(Command, false, BrkAck(n, length))),
+        Sabme(_) | Frmr(_) => reset(0, 0),
+        Dm(_) => Breaks(PeerRefused),
+        Disc(pf) => Sends(Closed, Ua(pf)),
+        _ => Sends(Connected, Flags),
+    }
+}
+
+/// Connected: the same, but the other end isn't told yet. Before all but a reply, a BRKACK and an answer goes an RNR that tells it.
+pub(super) fn busy_untold(heard: Slot) -> Reaction {
+    match heard {
+        I(_, 1, _) | S(_, _, 1, _) => bad_ack(1, 0, 0),
+        S(Srej, _, 0, _) => bad_ack(0, 0, 0),
+
+        I(0, _, pf) => Sends(Connected, S(Rnr, Response, 1, pf)),
+        I(1, _, true) => Sends(Connected, S(Rnr, Response, 0, true)),
+        S(_, Command, _, true) => Sends(Connected, S(Rnr, Response, 0, true)),
+
+        Ui(_, _, Brk(n, length)) => Sends(Connected, Ui(Command, false, BrkAck(n, length))),
+        Sabme(_) | Frmr(_) => reset(0, 0),
+        Dm(_) => Breaks(PeerRefused),
+        Disc(pf) => Sends(Closed, Ua(pf)),
+        _ => Sends(Connected, S(Rnr, Response, 0, false)),
     }
 }

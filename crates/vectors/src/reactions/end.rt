@@ -69,6 +69,14 @@ fn feed(end: &mut AnyEnd, file: &[u8])
     }
 }
 
+/// Whether a turn that may be none has come.
+fn is_reached(from: Option<usize>, turn: usize) -> bool {
+    match from {
+        Some(from) => from <= turn,
+        None => false,
+    }
+}
+
 impl Standing {
     pub(super) fn new(alloc: Global, setup: Setup) -> Result<Standing, NoMemory>
         requires { IsSetUp setup }
@@ -84,12 +92,13 @@ impl Standing {
         let mut standing = Standing::new(alloc, stage.setup())?;
         let mut got = Info::new();
         let mut sent = Sent::Mark;
-        for slot in stage.heard() {
+        for (turn, slot) in stage.heard().iter().enumerate() {
             let arrived = slot.arrived();
             standing = standing.turn(
                 &arrived,
                 stage.file(),
                 stage.releases(),
+                is_reached(stage.busy_from(), turn),
                 &mut got,
                 &mut sent,
             )?;
@@ -103,6 +112,7 @@ impl Standing {
         arrived: &Arrived,
         file: &[u8],
         release: bool,
+        busy: bool,
         got: &mut Info,
         sent: &mut Sent,
     ) -> Result<Standing, &'static str>
@@ -115,6 +125,7 @@ impl Standing {
         take(&mut end, got)?;
         let _ = end.given_break();
         feed(&mut end, file);
+        end.set_busy(busy);
         let Ok(end) = end.speak(turn, release, sent) else {
             return Err("the link broke at speaking");
         };
@@ -140,12 +151,13 @@ impl Standing {
     }
 
     /// What the end does in this turn.
-    pub(super) fn react(self, heard: Slot) -> Observed {
+    pub(super) fn react(self, heard: Slot, busy: bool) -> Observed {
         let Standing { end, turn } = self;
-        let end = match end.hear(turn, &heard.arrived()) {
+        let mut end = match end.hear(turn, &heard.arrived()) {
             Ok(end) => end,
             Err(broken) => return Observed::Broke(broken.fault),
         };
+        end.set_busy(busy);
         let mut sent = Sent::Mark;
         match end.speak(turn, false, &mut sent) {
             Ok(end) => Observed::Sent(end.phase(), sent),

@@ -3,7 +3,7 @@ use super::Reaction::{self, Breaks, Sends};
 use super::slot::Kind::{Command, Response};
 use super::slot::Says::{Brk, BrkAck, Offer};
 use super::slot::Slot::{self, *};
-use super::slot::Supervisory::{Rej, Rr, Srej};
+use super::slot::Supervisory::{Rej, Rnr, Rr, Srej};
 use super::{bad_ack, reset};
 use lapm_link::LinkFault::PeerRefused;
 use lapm_link::Phase::{Closed, Connected, Detecting, Establishing, Negotiating, Releasing};
@@ -46,6 +46,7 @@ pub(super) fn poll_sent(heard: Slot) -> Reaction {
         I(127, _, _) => Sends(Connected, S(Rr, Response, 0, false)),
         I(..) => Sends(Connected, S(Rej, Response, 0, false)),
         S(_, Command, _, true) => Sends(Connected, S(Rr, Response, 0, true)),
+        S(Rnr, Response, _, true) => Sends(Connected, Flags),
         S(_, Response, _, true) => Sends(Connected, I(0, 0, false)),
 
         Ui(_, _, Brk(n, length)) => Sends(Connected, Ui(Command, false, BrkAck(n, length))),
@@ -87,6 +88,7 @@ pub(super) fn poll_sent_again(heard: Slot) -> Reaction {
         I(..) => Sends(Connected, S(Rej, Response, 0, false)),
         S(Srej, _, 0, _) => Sends(Connected, Flags),
         S(_, Command, _, true) => Sends(Connected, S(Rr, Response, 0, true)),
+        S(Rnr, Response, 0, true) => Sends(Connected, Flags),
         S(_, Response, 0, true) => Sends(Connected, I(0, 0, false)),
 
         Ui(_, _, Brk(n, length)) => Sends(Connected, Ui(Command, false, BrkAck(n, length))),
@@ -126,6 +128,27 @@ pub(super) fn segment_acknowledged(heard: Slot) -> Reaction {
 
         Ui(_, _, Brk(n, length)) => Sends(Connected, Ui(Command, false, BrkAck(n, length))),
         Sabme(_) | Frmr(_) => reset(1, 1),
+        Dm(_) | Disc(_) => Breaks(PeerRefused),
+        _ => Sends(Connected, Flags),
+    }
+}
+
+/// Connected: V(A) = 0, V(S) = 0, V(R) = 0. The answer to the poll was that the other end is busy. The segment goes once it says by RR or
+/// REJ that it no longer is; an I frame doesn't say so. 0 is the only N(R) that is right, and no SREJ is.
+pub(super) fn paused(heard: Slot) -> Reaction {
+    match heard {
+        I(_, 1, _) | S(_, _, 1, _) => bad_ack(1, 0, 0),
+        S(Srej, _, 0, _) => bad_ack(0, 0, 0),
+
+        I(0, _, pf) => Sends(Connected, S(Rr, Response, 1, pf)),
+        I(1, _, true) => Sends(Connected, S(Rr, Response, 0, true)),
+        I(127, _, _) => Sends(Connected, S(Rr, Response, 0, false)),
+        I(..) => Sends(Connected, S(Rej, Response, 0, false)),
+        S(_, Command, _, true) => Sends(Connected, S(Rr, Response, 0, true)),
+        S(Rr | Rej, ..) => Sends(Connected, I(0, 0, false)),
+
+        Ui(_, _, Brk(n, length)) => Sends(Connected, Ui(Command, false, BrkAck(n, length))),
+        Sabme(_) | Frmr(_) => reset(0, 0),
         Dm(_) | Disc(_) => Breaks(PeerRefused),
         _ => Sends(Connected, Flags),
     }

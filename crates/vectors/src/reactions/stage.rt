@@ -23,6 +23,8 @@ pub(super) enum Stage {
     PollHeldBack,
     /// Connected: the segment is acknowledged, and one of the other end's is taken.
     SegmentAcknowledged,
+    /// Connected: the poll was answered by RNR, and no segment was sent.
+    Paused,
     /// Releasing: the DISC is out.
     DiscSent,
     OriginatorClosed,
@@ -41,6 +43,10 @@ pub(super) enum Stage {
     SrejAgreed,
     /// Connected with SREJ: the second segment is held, and the first one was asked for. The file is empty.
     SrejSent,
+    /// Connected and busy: a poll was answered. The file is empty.
+    Busy,
+    /// Connected: a poll was answered before the end became busy. The file is empty.
+    BusyUntold,
     AnswererClosed,
 }
 
@@ -53,6 +59,7 @@ pub(super) const STAGES: &[Stage] = &[
     Stage::PollSentAgain,
     Stage::PollHeldBack,
     Stage::SegmentAcknowledged,
+    Stage::Paused,
     Stage::DiscSent,
     Stage::OriginatorClosed,
     Stage::AnswererDetecting,
@@ -63,6 +70,8 @@ pub(super) const STAGES: &[Stage] = &[
     Stage::RejHeldBack,
     Stage::SrejAgreed,
     Stage::SrejSent,
+    Stage::Busy,
+    Stage::BusyUntold,
     Stage::AnswererClosed,
 ];
 
@@ -89,6 +98,8 @@ const POLL: Slot = Slot::S(Supervisory::Rr, Kind::Command, 0, true);
 
 const REPLY: Slot = Slot::S(Supervisory::Rr, Kind::Response, 0, true);
 
+const BUSY_REPLY: Slot = Slot::S(Supervisory::Rnr, Kind::Response, 0, true);
+
 const FIRST: Slot = Slot::I(0, 0, false);
 
 const SECOND: Slot = Slot::I(1, 0, false);
@@ -108,6 +119,8 @@ impl Stage {
             | Stage::RejHeldBack
             | Stage::SrejAgreed
             | Stage::SrejSent
+            | Stage::Busy
+            | Stage::BusyUntold
             | Stage::AnswererClosed => Role::Answerer,
             _ => Role::Originator,
         }
@@ -130,8 +143,19 @@ impl Stage {
             | Stage::RejSent
             | Stage::RejHeldBack
             | Stage::SrejAgreed
-            | Stage::SrejSent => b"",
+            | Stage::SrejSent
+            | Stage::Busy
+            | Stage::BusyUntold => b"",
             _ => b"f",
+        }
+    }
+
+    /// The turn from which on the end's user asks for a pause, where it does.
+    pub(super) fn busy_from(self) -> Option<usize> {
+        match self {
+            Stage::Busy => Some(0),
+            Stage::BusyUntold => Some(self.heard().len()),
+            _ => None,
         }
     }
 
@@ -152,6 +176,7 @@ impl Stage {
             Stage::PollSentAgain => &[NONE, ADP, ANSWER, UA, REPLY, NONE, NONE, NONE],
             Stage::PollHeldBack => &[NONE, ADP, ANSWER, UA, REPLY, NONE, NONE, POLL],
             Stage::SegmentAcknowledged => &[NONE, ADP, ANSWER, UA, REPLY, ACKNOWLEDGING],
+            Stage::Paused => &[NONE, ADP, ANSWER, UA, BUSY_REPLY],
             Stage::OfferAnswered => &[NONE, OFFER],
             Stage::NothingHeard => &[NONE, OFFER, SABME],
             Stage::SegmentTaken => &[NONE, OFFER, SABME, FIRST],
@@ -159,6 +184,7 @@ impl Stage {
             Stage::RejHeldBack => &[NONE, OFFER, SABME, SECOND_WITH_POLL],
             Stage::SrejAgreed => &[NONE, OFFER_WITH_SREJ, SABME, POLL],
             Stage::SrejSent => &[NONE, OFFER_WITH_SREJ, SABME, POLL, SECOND],
+            Stage::Busy | Stage::BusyUntold => &[NONE, OFFER, SABME, POLL],
             Stage::AnswererClosed => &[NONE, OFFER, SABME, DISC],
         }
     }

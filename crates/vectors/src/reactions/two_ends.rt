@@ -110,7 +110,7 @@ impl Station {
             mut got,
             mut sent,
         } = self;
-        let standing = standing.turn(arrived, &[file], release, &mut got, &mut sent)?;
+        let standing = standing.turn(arrived, &[file], release, false, &mut got, &mut sent)?;
         Ok(Station {
             standing,
             file,
