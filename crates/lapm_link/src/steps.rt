@@ -198,6 +198,7 @@ impl Connected {
     fn say_news(&mut self, special: bool) -> Option<Sent>
         ensures gives { (a : Account) → Links self.old a → Gives (step6 special a) a self.new result }
         ensures same { SameTaken self.old self.new }
+        ensures sendable { IfSome result IsSendable }
     {
         if self.has_news() {
             return Some(self.say_ready(false, false));

@@ -2,13 +2,13 @@ use Rattle.std.proofs.Common.{◌≡◌, List, ℕ, true, false, Result, Ok, Err
 use Rattle.lapm_frames.specs.declared.frame.Frame.TheVariants.{Xid}
 use Rattle.xid_params.specs.Offers.{written}
 use Rattle.slot_contents.specs.declared.sent.Sent.{Sent}
-use Rattle.lapm_link.specs.declared.fault.LinkFault.{LinkFault}
+use Rattle.link_account.specs.declared.fault.LinkFault.{LinkFault}
 use Rattle.lapm_link.specs.declared.attempt.Attempt.{Attempt}
 use Rattle.lapm_link.specs.declared.asking.Asking.{Asking}
 use Rattle.lapm_link.specs.declared.any_end.AnyEnd.{AnyEnd}
-use Rattle.lapm_link.specs.Account.{Account}
+use Rattle.link_account.specs.Account.{Account}
 use Rattle.lapm_link.specs.Attempt.{Tries, TriesSo, retried}
-use Rattle.lapm_link.specs.Speak.{Said, u_try}
+use Rattle.link_account.specs.Speak.{Said, u_try}
 use Rattle.lapm_link.specs.Stands.{IsAsking, IsUnlinked, Speaks, StandsFor}
 use Rattle.lapm_link.proofs.asking.Asking.speak.Goals as goal
 
@@ -18,20 +18,20 @@ asks asking attempt a b h tries e = subst (λ (x : Account). IsAsking (record as
   phase_is = h.phase_is;
   originates = h.originates;
   unlinked = unlinked;
+  terms_are = h.terms_are;
   tries = record { due_is = tries.due_is; set_is = tries.set_is; left_is = tries.left_is ∙ ap (λ (x : Account). x.setup.tries) e };
 })
   where
     unlinked : IsUnlinked asking.memory.setup asking.memory.answer (retried b a)
     unlinked = let u = h.unlinked in record {
       setup_is = u.setup_is;
-      answer_is = u.answer_is;
+      owes_is = u.owes_is;
       numbered_is = u.numbered_is;
       outgoing_is = u.outgoing_is;
       incoming_is = u.incoming_is;
       own_is = u.own_is;
       their_is = u.their_is;
       told_is = u.told_is;
-      reply_is = u.reply_is;
       poll_is = u.poll_is;
       urgent_is = u.urgent_is;
       timer_is = u.timer_is;
