@@ -2,8 +2,8 @@
 ghost use Rattle.lapm_link.specs.Fits.{IsSetUp};
 
 use super::slot::{Kind, Says, Slot, Supervisory, offer};
-use roles::Role;
 use lapm_link::Setup;
+use roles::Role;
 
 /// A state of an end. Its file is one segment, where nothing else is said.
 #[derive(Clone, Copy, Debug)]

@@ -10,12 +10,12 @@ use super::slot::Slot::{self, *};
 use super::slot::Supervisory::Rr;
 use super::slot::offer;
 use super::stage::Stage;
-use slot_contents::Seen;
 use frame_check::Info;
 use lapm_frames::Frame;
-use roles::Role;
 use lapm_link::{AnyEnd, Arrived, LinkFault, Phase, Sent, Setup};
 use outside_core::NoMemory;
+use roles::Role;
+use slot_contents::Seen;
 use std::alloc::Global;
 use std::test::Fail;
 
