@@ -8,7 +8,8 @@ use Rattle.symbol_map.proofs.Distances.{equal_from_no_distance, no_distance_from
 use Rattle.trellis_tables.specs.Sequences.{Leads, IsCodeSequence, cost}
 use Rattle.trellis_tables.specs.Codes.{IsBounded, StaysWithin, EntersOnce, Reaches, PointsDiffer}
 use Rattle.trellis_tables.proofs.Sequences.{Leads-take}
-use Rattle.survivors.specs.Orders.{IsPrefixOf, Beats}
+use Rattle.plain_lists.specs.Prefix.{IsPrefixOf}
+use Rattle.survivors.specs.Orders.{Beats}
 use Rattle.survivors.specs.Trellises.{Trellis, trellis_of, IsSequence, HasLaws}
 use Rattle.survivors.specs.Survivors.{IsSurvivor, IsReleased, IsLost, LostIs}
 use Rattle.survivors.proofs.Fronts.{stays-prefix, released-once, lost-once, lost-stays, over-before}
@@ -97,7 +98,7 @@ releases-sent table points states few bounded differ starts labels samples n fro
     let l = Leads-take table n h.code_sequence.from labels h.end h.code_sequence.leads in
     let first : IsCodeSequence table starts (take n labels) l.0 = record { from = h.code_sequence.from; starts_there = h.code_sequence.starts_there; leads = l.1 } in
     let p = (subst (λ k. IsReleased (trellis_of table points starts) k front) part r).common l.0 (take n labels) (sent-survives table points states few starts (take n labels) l.0 bounded differ first) in
-    (p.0 ++ drop n labels, sym (take-append-drop n labels) ∙ ap (λ k. k ++ drop n labels) p.1 ∙ append_assoc front p.0 (drop n labels))
+    (p.0 ++ drop n labels, sym (append_assoc front p.0 (drop n labels)) ∙ ap (λ k. k ++ drop n labels) p.1 ∙ take-append-drop n labels)
 
 -- the same survivors have the same prefix released
 released-along : (table : ℕ → ℕ → Option ℕ) (points : ℕ → Sample) (a b : ℕ → Bool) (samples : List Sample) (front : List ℕ)
@@ -171,7 +172,7 @@ few-lost table points states labels steps depth starts samples symbol front code
         let old = released-along table points (among states starts) starts xs one.0 (up xs) (down xs many) one.1 in
         let cut : take (symbol + 1) samples ≡ xs ++ drop symbol (take (symbol + 1) samples) = sym (ap (λ l. l ++ drop symbol (take (symbol + 1) samples)) (sym (take-take symbol (symbol + 1) samples (omega arith))) ∙ take-append-drop symbol (take (symbol + 1) samples)) in
         let p = stays-prefix (trellis_of table points starts) xs (drop symbol (take (symbol + 1) samples)) one.0 front old (subst (λ k. IsReleased (trellis_of table points starts) k front) cut r) in
-        let grown : length front ≡ length one.0 + length p.0 = ap length p.1 ∙ length-append {A = ℕ} one.0 p.0 in
+        let grown : length front ≡ length one.0 + length p.0 = ap length (sym p.1) ∙ length-append {A = ℕ} one.0 p.0 in
         elim (cases_lt (length one.0 + depth) symbol) [
           | inl over ↦ absurd (lost.first symbol (omega arith) (record { front = one.0; released = old; over = over }))
           | inr few ↦ omega arith
@@ -182,7 +183,7 @@ few-lost table points states labels steps depth starts samples symbol front code
     nothing never =
         let many : 1 ≤ length (take (symbol + 1) samples) = omega (arith, length-take-le (symbol + 1) samples (omega (arith, lost.within))) in
         let p = r.longest (0 ∷ front) (λ state l v. absurd (never v.sequence.code_sequence.from (starts-among table points states labels starts (take (symbol + 1) samples) l state code.bounded many v.sequence) v.sequence.code_sequence.starts_there)) in
-        let e : length front ≡ length ((0 ∷ front) ++ p.0) = ap length p.1 in
+        let e : length ((0 ∷ front) ++ p.0) ≡ length front = ap length p.1 in
         omega (arith, e, length-append {A = ℕ} (0 ∷ front) p.0)
 
 pub few-unreleased : (table : ℕ → ℕ → Option ℕ) (points : ℕ → Sample) (states labels steps : ℕ) → IsCodeTable table states labels steps → FewUnreleased table points

@@ -5,7 +5,7 @@ use Rattle.std.proofs.lemmas.List.{append-nil, take-append-le, take_all}
 use Rattle.symbol_map.specs.declared.sample.Sample.{Sample}
 use Rattle.trellis_tables.specs.Sequences.{cost}
 use Rattle.trellis_tables.specs.Codes.{IsBounded, EntersOnce}
-use Rattle.survivors.specs.Orders.{IsPrefixOf}
+use Rattle.plain_lists.specs.Prefix.{IsPrefixOf}
 use Rattle.survivors.specs.Trellises.{Trellis, trellis_of}
 use Rattle.survivors.specs.Survivors.{IsSurvivor, IsCommon, IsReleased, IsOver, IsLost, LostIs}
 use Rattle.survivors.specs.Steps.{KnowsState, Keeps, GoesOn}
@@ -39,7 +39,7 @@ keeps-lowered {X} c samples base n sums paths low k = record { knows = λ s. eac
 -- where no first label is common to all tails, the front is what is released
 pub released-of : {X : Type 0} (c : Trellis X) (samples : List X) (base : ℕ) (sums : List (Option ℕ)) (tails : List (List ℕ)) (front : List ℕ) → Keeps c samples base (sums_at sums) (λ s. front ++ tail_at tails s) → IsParted sums tails → IsReleased c samples front
 released-of {X} c samples base sums tails front k parted = record {
-  common = λ s labels v. (tail_at tails s, survivor-one c samples labels (front ++ tail_at tails s) s v (mine s labels (sums_at sums s) refl v));
+  common = λ s labels v. (tail_at tails s, survivor-one c samples (front ++ tail_at tails s) labels s (mine s labels (sums_at sums s) refl v) v);
   longest = λ other every. longest other every parted;
 }
   where

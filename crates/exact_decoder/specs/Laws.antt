@@ -1,8 +1,8 @@
 -- Laws of a code's decoders, over its table of next states, its points, and the states that sequences may start in.
 use Rattle.std.specs.Prelude.{◌≡◌, ℕ, ◌+◌, ◌<◌, ◌≤◌, Bool, true, List, ◌++◌, length, map, take, Option}
+use Rattle.plain_lists.specs.Prefix.{IsPrefixOf}
 use Rattle.symbol_map.specs.declared.sample.Sample.{Sample}
 use Rattle.trellis_tables.specs.Sequences.{IsCodeSequence}
-use Rattle.survivors.specs.Orders.{IsPrefixOf}
 use Rattle.survivors.specs.Trellises.{Trellis, trellis_of}
 use Rattle.survivors.specs.Survivors.{IsReleased, IsLeast}
 use Rattle.exact_decoder.specs.Decoder.{Decoding, DecoderStands, heard}

@@ -57,7 +57,7 @@ released-carry script sender count bits samples labels none few r released =
     let all : take (length samples) samples ≡ samples = take_all (length samples) samples (omega arith) in
     let sent = released-sent_at 0 r.modulated.labels samples (length samples) labels (recorded-noiseless script sender count bits samples none few r)
     (subst (λ (xs : List Sample). IsReleased line_trellis xs labels) (sym all) released) in
-    let first : take (length labels) r.modulated.labels ≡ labels = ap (take (length labels)) sent.1 ∙ take-append_seam labels sent.0 in
+    let first : take (length labels) r.modulated.labels ≡ labels = ap (take (length labels)) (sym sent.1) ∙ take-append_seam labels sent.0 in
     subst (λ (xs : List ℕ). Demodulates tap xs (take (4 * length labels) bits)) first (first-stay tap (length labels) r.modulated.labels bits (tap-some sender) (carried script sender bits samples r))
 
 -- all but the last 96 bits were read

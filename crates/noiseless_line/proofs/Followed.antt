@@ -10,7 +10,8 @@ use Rattle.trellis_tables.specs.V32Laws.{v32_bounded, v32_within, v32_enters_onc
 use Rattle.trellis_tables.specs.Laws.{far_from}
 use Rattle.trellis_tables.proofs.Sequences.{Leads-take, Leads_once}
 use Rattle.survivors.specs.Trellises.{IsSequence, HasLaws}
-use Rattle.survivors.specs.Orders.{IsPrefixOf, Beats}
+use Rattle.plain_lists.specs.Prefix.{IsPrefixOf}
+use Rattle.survivors.specs.Orders.{Beats}
 use Rattle.survivors.specs.Survivors.{IsSurvivor, IsReleased, LostIs}
 use Rattle.survivors.proofs.Release.{survivor-one}
 use Rattle.survivors.proofs.Bellman.{least_cost}
@@ -108,7 +109,7 @@ agrees start end to labels q low l many s =
         let part : take k labels ≡ take k own = ap (take k) m.own_joined ∙ take-append-le k own m.own_rest short in
         let q_is : q ≡ own ++ m.rest = m.joined ∙ ap (λ f. f ++ m.rest) (fronts-agree start end to labels q s m) in
         let cut : own ≡ take k own ++ drop k own = sym (take-append-drop k own) in
-        (drop k own ++ m.rest, q_is ∙ ap (λ f. f ++ m.rest) cut ∙ append_assoc (take k own) (drop k own) m.rest ∙ ap (λ f. f ++ (drop k own ++ m.rest)) (sym part))
+        (drop k own ++ m.rest, sym (q_is ∙ ap (λ f. f ++ m.rest) cut ∙ append_assoc (take k own) (drop k own) m.rest ∙ ap (λ f. f ++ (drop k own ++ m.rest)) (sym part)))
 
     met : Parted start q start labels ⊎ Meeting start q start labels → IsPrefixOf (take (length labels - 24) labels) q
     met (inl parted) = absurd (parted-now start start q labels parted refl)
@@ -123,7 +124,7 @@ few-unreleased start end labels front low l r = elim (cases_lt (length labels) 2
   | inl few ↦ omega arith
   | inr many ↦
       let p = r.longest (take (length labels - 24) labels) (λ to q s. agrees start end to labels q low l (omega arith) s) in
-      let whole : length front ≡ length (take (length labels - 24) labels) + length p.0 = ap length p.1 ∙ length-append {A = ℕ} (take (length labels - 24) labels) p.0 in
+      let whole : length front ≡ length (take (length labels - 24) labels) + length p.0 = ap length (sym p.1) ∙ length-append {A = ℕ} (take (length labels - 24) labels) p.0 in
       omega (arith, whole, length-take-le (length labels - 24) labels (omega arith))
 ]
 
@@ -133,7 +134,7 @@ released-sent_at start labels samples n front h r =
     let part : take n samples ≡ map point_of (take n labels) = ap (take n) h.exact ∙ take-map point_of n labels in
     let l = Leads-take next_state n start labels h.end h.leads in
     let p = released-sent start l.0 (take n labels) front l.1 (subst (λ k. IsReleased (v32_from start) k front) part r) in
-    (p.0 ++ drop n labels, sym (take-append-drop n labels) ∙ ap (λ k. k ++ drop n labels) p.1 ∙ append_assoc front p.0 (drop n labels))
+    (p.0 ++ drop n labels, sym (append_assoc front p.0 (drop n labels)) ∙ ap (λ k. k ++ drop n labels) p.1 ∙ take-append-drop n labels)
 
 pub few-unreleased_at : (start : ℕ) (labels : List ℕ) (samples : List Sample) (n : ℕ) (front : List ℕ) → n ≤ length samples → IsNoiseless start labels samples → IsReleased (v32_from start) (take n samples) front → n ≤ length front + 24
 few-unreleased_at start labels samples n front within h r =

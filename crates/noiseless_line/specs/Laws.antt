@@ -1,10 +1,10 @@
 -- Laws of lines without noise.
 use Rattle.std.specs.Prelude.{◌≡◌, ℕ, ◌+◌, ◌<◌, ◌≤◌, nat_eq, List, ◌++◌, length, take, None}
+use Rattle.plain_lists.specs.Prefix.{IsPrefixOf}
 use Rattle.symbol_map.specs.declared.sample.Sample.{Sample}
 use Rattle.symbol_map.specs.Points.{point_of}
 use Rattle.trellis_tables.specs.Table.{next_state}
 use Rattle.survivors.specs.Trellises.{HasLaws}
-use Rattle.survivors.specs.Orders.{IsPrefixOf}
 use Rattle.survivors.specs.Survivors.{IsReleased, LostIs}
 use Rattle.exact_decoder.specs.Decoder.{Decoding, DecoderStands}
 use Rattle.exact_decoder.specs.Laws.{IsOnlyLeast}

@@ -146,7 +146,7 @@ given-stays sender samples more bits later h k =
     let tap : ℕ = tap_of (mode_of sender) in
     let n : ℕ = length h.labels in
     let grown = stays-prefix line_trellis samples more h.labels k.labels h.released k.released in
-    let first : take n k.labels ≡ h.labels = ap (take n) grown.1 ∙ take-append_seam h.labels grown.0 in
+    let first : take n k.labels ≡ h.labels = ap (take n) (sym grown.1) ∙ take-append_seam h.labels grown.0 in
     let same : take (4 * n) later ≡ bits = Descrambles_once tap (line_of h.labels) (take (4 * n) later) bits
     (subst (λ (xs : List ℕ). Demodulates tap xs (take (4 * n) later)) first (first-stay tap n k.labels later (tap-some sender) k.read)) h.read in
     (drop (4 * n) later, sym (take-append-drop (4 * n) later) ∙ ap (λ xs. xs ++ drop (4 * n) later) same)

@@ -3,7 +3,7 @@ use Rattle.std.proofs.Common.{◌≡◌, ℕ, ◌+◌, ◌<◌, ◌≤◌, inl, 
 use Rattle.std.proofs.lemmas.List.{append-nil, take-append-drop, take_all, take-take, take_at, take-append-le}
 use Rattle.std.proofs.lemmas.Bool.{cases_lt, cases_eq}
 use Rattle.survivors.specs.Trellises.{Trellis}
-use Rattle.survivors.specs.Orders.{IsPrefixOf}
+use Rattle.plain_lists.specs.Prefix.{IsPrefixOf}
 use Rattle.survivors.specs.Survivors.{IsSurvivor, IsCommon, IsReleased, IsOver, IsLost, LostIs}
 use Rattle.survivors.proofs.Bellman.{length-snoc, survivor-cut}
 
@@ -28,7 +28,7 @@ stays-common c samples more front r = λ state labels s.
     let f = fronts-survive c samples more labels state s in
     let p = r.common f.0 (take (length samples) labels) f.1 in
     let rest = drop (length samples) labels in
-    (p.0 ++ rest, sym (take-append-drop (length samples) labels) ∙ ap (λ l. l ++ rest) p.1 ∙ append_assoc front p.0 rest)
+    (p.0 ++ rest, sym (append_assoc front p.0 rest) ∙ ap (λ l. l ++ rest) p.1 ∙ take-append-drop (length samples) labels)
 
 pub stays-prefix : {X : Type 0} (c : Trellis X) (samples more : List X) (front later : List ℕ) → IsReleased c samples front → IsReleased c (samples ++ more) later → IsPrefixOf front later
 stays-prefix c samples more front later r s = s.longest front (stays-common c samples more front r)
@@ -36,11 +36,11 @@ stays-prefix c samples more front later r s = s.longest front (stays-common c sa
 -- two lists that are each a prefix of the other are one
 both-prefixes : (a b : List ℕ) → IsPrefixOf a b → IsPrefixOf b a → a ≡ b
 both-prefixes a b p q = elim (cases_lt (length a) (length b)) [
-  | inl less ↦ let e : length a ≡ length (b ++ q.0) = ap length q.1 in absurd (omega (arith, e, length-append {A = ℕ} b q.0))
+  | inl less ↦ let e : length (b ++ q.0) ≡ length a = ap length q.1 in absurd (omega (arith, e, length-append {A = ℕ} b q.0))
   | inr more ↦
-      let e : length b ≡ length (a ++ p.0) = ap length p.1 in
+      let e : length (a ++ p.0) ≡ length b = ap length p.1 in
       let none : p.0 ≡ [] = nothing p.0 (omega (arith, e, length-append {A = ℕ} a p.0)) in
-      sym (p.1 ∙ ap (λ l. a ++ l) none ∙ append-nil a)
+      sym (append-nil a) ∙ ap (λ l. a ++ l) (sym none) ∙ p.1
 ]
   where
     nothing : (l : List ℕ) → length l ≡ 0 → l ≡ []

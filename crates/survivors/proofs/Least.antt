@@ -4,7 +4,7 @@ use Rattle.std.proofs.lemmas.Bool.{cases_lt, cases_eq}
 use Rattle.std.proofs.lemmas.List.{take_at, take-take, take-append-drop}
 use Rattle.trellis_tables.specs.Sequences.{cost}
 use Rattle.survivors.specs.Trellises.{Trellis, IsSequence, HasLaws}
-use Rattle.survivors.specs.Orders.{IsPrefixOf}
+use Rattle.plain_lists.specs.Prefix.{IsPrefixOf}
 use Rattle.survivors.specs.Survivors.{IsSurvivor, IsCommon, IsReleased, IsLeast}
 use Rattle.survivors.proofs.Release.{survivor-one}
 use Rattle.survivors.proofs.Bellman.{least_cost}
@@ -89,21 +89,21 @@ pub released-is_least : {X : Type 0} (c : Trellis X) (states labels steps : ℕ)
 released-is_least c states labels steps samples front laws r =
     let l = some-least c states labels steps samples laws in
     let p = r.common l.1 l.0 l.2 in
-    (p.0, subst (IsLeast c samples) p.1 l.3)
+    (p.0, subst (IsLeast c samples) (sym p.1) l.3)
 
 -- whether a list is a prefix of another
 prefix-decided : (a b : List ℕ) → IsPrefixOf a b ⊎ (IsPrefixOf a b → ⊥)
 prefix-decided [] b = inl (b, refl)
-prefix-decided (x ∷ a) [] = inr (λ p. not-cons x (a ++ p.0) p.1)
+prefix-decided (x ∷ a) [] = inr (λ p. not-cons x (a ++ p.0) (sym p.1))
   where
     not-cons : (x : ℕ) (l : List ℕ) → [] ≡ x ∷ l → ⊥
     not-cons x l q = cc
 prefix-decided (x ∷ a) (y ∷ b) = both (cases_eq x y) (prefix-decided a b)
   where
-    head : (r : List ℕ) → y ∷ b ≡ x ∷ (a ++ r) → x ≡ y
+    head : (r : List ℕ) → x ∷ (a ++ r) ≡ y ∷ b → x ≡ y
     head r q = cc
 
-    tail : (r : List ℕ) → y ∷ b ≡ x ∷ (a ++ r) → b ≡ a ++ r
+    tail : (r : List ℕ) → x ∷ (a ++ r) ≡ y ∷ b → a ++ r ≡ b
     tail r q = cc
 
     both : (x ≡ y) ⊎ (x ≡ y → ⊥) → IsPrefixOf a b ⊎ (IsPrefixOf a b → ⊥) → IsPrefixOf (x ∷ a) (y ∷ b) ⊎ (IsPrefixOf (x ∷ a) (y ∷ b) → ⊥)
@@ -159,8 +159,8 @@ some-released {X} c states labels steps samples laws = (take longest.0 one.0, re
     within : (other : List ℕ) → IsCommon c samples other → IsPrefixOf other one.0 → IsPrefixOf other (take longest.0 one.0)
     within other h (rest, e) =
         let n = length other in
-        let mine : take n one.0 ≡ other = ap (take n) e ∙ take_at other rest n refl in
-        let l : length one.0 ≡ length (other ++ rest) = ap length e in
+        let mine : take n one.0 ≡ other = ap (take n) (sym e) ∙ take_at other rest n refl in
+        let l : length (other ++ rest) ≡ length one.0 = ap length e in
         let low : n ≤ longest.0 = longest.2 n (omega (arith, l, length-append {A = ℕ} other rest)) (subst (IsCommon c samples) (sym mine) h) in
         let part : take n (take longest.0 one.0) ≡ other = take-take n longest.0 one.0 low ∙ mine in
-        (drop n (take longest.0 one.0), sym (take-append-drop n (take longest.0 one.0)) ∙ ap (λ l. l ++ drop n (take longest.0 one.0)) part)
+        (drop n (take longest.0 one.0), ap (λ l. l ++ drop n (take longest.0 one.0)) (sym part) ∙ take-append-drop n (take longest.0 one.0))

@@ -1,7 +1,8 @@
 -- A state has one survivor; a prefix of two lists that part is a prefix of what they share.
-use Rattle.std.proofs.Common.{◌≡◌, ◌≢◌, ℕ, ◌≤◌, ◌⊎◌, inl, inr, List, [], ◌∷◌, ◌++◌, arith, refl, sym, subst, Option, Some}
+use Rattle.std.proofs.Common.{◌≡◌, ◌≢◌, ℕ, ◌≤◌, ◌⊎◌, inl, inr, List, [], ◌∷◌, ◌++◌, arith, refl, sym, ◌∙◌, ap, subst, Option, Some}
 use Rattle.std.proofs.lemmas.List.{append-nil}
-use Rattle.survivors.specs.Orders.{LessFromLast, Beats, IsPrefixOf}
+use Rattle.plain_lists.specs.Prefix.{IsPrefixOf}
+use Rattle.survivors.specs.Orders.{LessFromLast, Beats}
 use Rattle.survivors.specs.Trellises.{Trellis}
 use Rattle.survivors.specs.Survivors.{IsSurvivor, IsReleased, IsFirstLeast}
 
@@ -42,11 +43,11 @@ pub prefix-parted : (other front a b : List ℕ) (x y : ℕ) → x ≢ y → IsP
 prefix-parted [] front a b x y apart (r, e) (s, f) = (front, refl)
 prefix-parted (z ∷ other) [] a b x y apart (r, e) (s, f) = absurd (apart cc)
 prefix-parted (z ∷ other) (w ∷ front) a b x y apart (r, e) (s, f) =
-    let tail_e : front ++ x ∷ a ≡ other ++ r = cc in
-    let tail_f : front ++ y ∷ b ≡ other ++ s = cc in
+    let tail_e : other ++ r ≡ front ++ x ∷ a = cc in
+    let tail_f : other ++ s ≡ front ++ y ∷ b = cc in
     let same : w ≡ z = cc in
     let p = prefix-parted other front a b x y apart (r, tail_e) (s, tail_f) in
-    (p.0, rw (same, ← p.1) refl)
+    (p.0, ap (λ l. l ∷ (other ++ p.0)) (sym same) ∙ ap (λ l. w ∷ l) p.1)
 
 -- the tails of the survivors behind what is released
 pub record KeepsTails {X : Type 0} (c : Trellis X) (samples : List X) (front : List ℕ) (kept : ℕ → Option (List ℕ)) : Type 0 where
@@ -60,7 +61,7 @@ pub data Parts (kept : ℕ → Option (List ℕ)) : Type 0 where
 
 pub released-exact : {X : Type 0} (c : Trellis X) (samples : List X) (front : List ℕ) (kept : ℕ → Option (List ℕ)) → KeepsTails c samples front kept → Parts kept → IsReleased c samples front
 released-exact c samples front kept h parts = record {
-  common = λ s labels v. let t = h.each s labels v in (t.0, survivor-one c samples labels (front ++ t.0) s v (h.stands s t.0 t.1));
+  common = λ s labels v. let t = h.each s labels v in (t.0, survivor-one c samples (front ++ t.0) labels s (h.stands s t.0 t.1) v);
   longest = λ other every. longest other every parts;
 }
   where

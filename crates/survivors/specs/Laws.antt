@@ -1,8 +1,8 @@
 -- Laws of survivors, of what they release and of where a line is lost, each as a fact about a trellis.
 use Rattle.std.specs.Prelude.{◌≡◌, ℕ, List, ◌++◌, length, take, Option, Some}
+use Rattle.plain_lists.specs.Prefix.{IsPrefixOf}
 use Rattle.symbol_map.specs.declared.sample.Sample.{Sample}
 use Rattle.survivors.specs.Trellises.{Trellis, IsSequence, HasLaws}
-use Rattle.survivors.specs.Orders.{IsPrefixOf}
 use Rattle.survivors.specs.Survivors.{IsSurvivor, IsReleased, IsLeast, IsFirstLeast, LostIs}
 
 -- a state has one survivor

@@ -1,5 +1,5 @@
 -- How lists of labels are compared.
-use Rattle.std.specs.Prelude.{◌≡◌, ℕ, ◌<◌, ◌⊎◌, List, [], ◌∷◌, ◌++◌}
+use Rattle.std.specs.Prelude.{◌≡◌, ℕ, ◌<◌, ◌⊎◌, List, [], ◌∷◌}
 use Rattle.trellis_tables.specs.Sequences.{cost}
 
 -- less, where labels are compared from the last to the first
@@ -12,6 +12,3 @@ LessFromLast (x ∷ a) (y ∷ b) = LessFromLast a b ⊎ ((a ≡ b) × (x < y))
 abbrev pub Beats : {X : Type 0} → (ℕ → X → ℕ) → List X → List ℕ → List ℕ → Type 0
 Beats distance samples a b =
     (cost distance a samples < cost distance b samples) ⊎ ((cost distance a samples ≡ cost distance b samples) × LessFromLast a b)
-
-abbrev pub IsPrefixOf : List ℕ → List ℕ → Type 0
-IsPrefixOf front whole = (rest : List ℕ) × (whole ≡ front ++ rest)

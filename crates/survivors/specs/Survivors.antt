@@ -1,8 +1,9 @@
 -- Survivors of a trellis against samples, what they release, and where a line is lost.
 use Rattle.std.specs.Prelude.{◌≡◌, ℕ, ◌+◌, ◌<◌, ◌≤◌, ◌⊎◌, List, length, take, Option, Some, None}
+use Rattle.plain_lists.specs.Prefix.{IsPrefixOf}
 use Rattle.trellis_tables.specs.Sequences.{cost}
 use Rattle.survivors.specs.Trellises.{Trellis, IsSequence}
-use Rattle.survivors.specs.Orders.{Beats, IsPrefixOf}
+use Rattle.survivors.specs.Orders.{Beats}
 
 -- the sequence that beats each other one to this state
 pub record IsSurvivor {X : Type 0} (t : Trellis X) (samples : List X) (labels : List ℕ) (state : ℕ) : Type 0 where
