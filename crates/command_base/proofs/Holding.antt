@@ -1,7 +1,7 @@
 -- What an output holds after one step more.
-use Rattle.std.proofs.Common.{◌≡◌, ◌∙◌, inl, inr, ℕ, List, [], ◌++◌, IsTrue, Some, refl, sym, ap, subst, append-nil, append_assoc}
+use Rattle.std.proofs.Common.{◌∙◌, inl, inr, ℕ, List, [], ◌++◌, Some, refl, sym, ap, subst, append-nil, append_assoc}
 use Rattle.plain_lists.specs.Prefix.{IsPrefixOf}
-use Rattle.outside_core.specs.Folder.{FolderState, octets_at, GoesOn, KeepsName, Adds, Appended, PartlyAppended}
+use Rattle.outside_core.specs.Folder.{FolderState, GoesOn, KeepsName, Adds, Appended, PartlyAppended}
 use Rattle.outside_core.specs.Steps.{octets-held}
 use Rattle.command_base.specs.Outputs.{Holds, HoldsFront, HoldsPart}
 use Rattle.command_base.proofs.OnlyOutputs.{told_earlier}

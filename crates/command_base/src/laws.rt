@@ -9,5 +9,4 @@ pub fn limits_in_octets()
     ensures script { SCRIPT_LIMIT ≡ 65536 }
     ensures recording { RECORDING_LIMIT ≡ 8388616 }
     ensures hex { HEX_LIMIT ≡ 512 }
-{
-}
+{}

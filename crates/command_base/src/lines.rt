@@ -5,8 +5,8 @@ ghost use Rattle.command_base.specs.Lines.{xid_words, count_line, done_line, sam
 ghost use Rattle.script_causes.specs.Cause.{cause_word};
 
 use crate::Status;
-use line_texts::put_decimal;
 use frame_check::Octets;
+use line_texts::put_decimal;
 use roles::Role;
 use script_causes::Cause;
 use xid_params::XidFault;

@@ -47,11 +47,12 @@ fn files_of_the_limit_are_recorded_and_decoded(rt: HostRuntime) -> Result<(), Fa
 fn bits_of_the_limit_are_listed(rt: HostRuntime) -> Result<(), Fail> {
     let alloc = rt.alloc();
     let mut folder = MemoryFolder::new(alloc);
-    let long = vec![in alloc; 0u8; 1_048_577]?;
+    let mut bits = vec![in alloc; 0u8; 1_048_576]?;
     let words = ["frames", "orig", "b"];
-    folder.put("b", &long[1..])?;
+    folder.put("b", &bits)?;
     answers(&rt, alloc, &mut folder, &words, Status::Done, "pieces 0\n")?;
-    folder.put("b", &long)?;
+    bits.push(0)?;
+    folder.put("b", &bits)?;
     let status = Status::TooLong { word: 2 };
     answers(&rt, alloc, &mut folder, &words, status, "too long: b\n")?;
     Ok(())
@@ -86,7 +87,14 @@ fn files_of_the_limit_cross(rt: HostRuntime) -> Result<(), Fail> {
     folder.put("a", &answ)?;
     folder.put("s", b"")?;
     let words = ["run", "o", "a", "s", "go", "ga", "t"];
-    answers(&rt, alloc, &mut folder, &words, Status::Done, "done 16384\n")?;
+    answers(
+        &rt,
+        alloc,
+        &mut folder,
+        &words,
+        Status::Done,
+        "done 16384\n",
+    )?;
     assert!(&rt; folder.get("go") == Some(answ.as_slice()));
     assert!(&rt; folder.get("ga") == Some(orig.as_slice()));
     Ok(())

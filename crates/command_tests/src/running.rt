@@ -1,9 +1,9 @@
 // Runs over a folder in memory, with what each says and leaves.
 use command_base::Status;
-use roles::Role;
-use script_causes::Cause;
 use outside_core::MemoryFolder;
+use roles::Role;
 use run_command::{run, run_words};
+use script_causes::Cause;
 use std::alloc::{AllocError, Global};
 use std::process::Abort;
 use std::test::Fail;

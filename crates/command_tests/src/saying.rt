@@ -3,10 +3,10 @@ use command_base::{
     Status, append_output, create_output, is_longer, read_file, read_piece, tell_status,
     write_done, write_octets, write_pieces, write_samples,
 };
-use roles::Role;
-use script_causes::Cause;
 use lapm_frames::FrameFault;
 use outside_core::{FolderFault, MemoryFolder, NoMemory};
+use roles::Role;
+use script_causes::Cause;
 use std::alloc::Global;
 use std::fmt::{Debug, Display};
 use std::process::Abort;
@@ -187,7 +187,11 @@ fn faults_of_frames_have_their_texts(rt: HostRuntime) -> Result<(), Fail> {
             "Control { octet: 127 }",
         ),
         (FrameFault::Short, "short", "Short"),
-        (FrameFault::Long { len: 131 }, "long 131", "Long { len: 131 }"),
+        (
+            FrameFault::Long { len: 131 },
+            "long 131",
+            "Long { len: 131 }",
+        ),
     ];
     for (fault, display, debug) in faults {
         shows(&rt, rt.alloc(), &fault, display, debug)?;

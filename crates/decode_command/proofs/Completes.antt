@@ -1,5 +1,5 @@
 -- From every answer to when the command is done.
-use Rattle.std.proofs.Common.{◌≡◌, ◌⊎◌, ◌∙◌, inl, inr, ℕ, zero, suc, ◌+◌, ◌%◌, ◌≤◌, ◌<◌, true, false, List, [], ◌∷◌, ◌++◌, IsTrue, length, take, drop, slice_index, Some, None, Result, Ok, Err, refl, sym, ap, subst, arith}
+use Rattle.std.proofs.Common.{◌≡◌, ◌⊎◌, ◌∙◌, inl, inr, ℕ, zero, suc, ◌+◌, ◌%◌, ◌≤◌, ◌<◌, true, List, ◌++◌, length, take, drop, slice_index, Some, Result, Ok, Err, refl, sym, ap, subst, arith}
 use Rattle.scramblers.specs.declared.mode.Mode.{Mode}
 use Rattle.scramblers.specs.declared.mode.Mode.TheVariants.{Call, Answer}
 use Rattle.recordings.specs.Recording.{header_of}
@@ -9,7 +9,7 @@ use Rattle.outside_core.specs.Steps.{Rose-later}
 use Rattle.command_base.specs.declared.limits.TheConstants.{RECORDING_LIMIT}
 use Rattle.command_base.specs.declared.status.Status.{Status}
 use Rattle.command_base.specs.declared.status.Status.TheVariants as status
-use Rattle.command_base.specs.Sound.{IsSound, DoneUnlessMemory}
+use Rattle.command_base.specs.Sound.{DoneUnlessMemory}
 use Rattle.command_base.proofs.Answering.{told-or-memory}
 use Rattle.decode_command.specs.declared.fault.DecodeFault.{DecodeFault}
 use Rattle.decode_command.specs.declared.fault.DecodeFault.TheVariants.{TooLong, BadRecording, LineLost, ReadFault, WriteFault, NoMemory}
@@ -19,7 +19,7 @@ use Rattle.decode_command.specs.Recordings.{samples_in}
 use Rattle.decode_command.specs.Playing.{line_trellis, line_depth}
 use Rattle.decode_command.specs.Ends.{IsFollowed, Ends}
 use Rattle.decode_command.specs.Answers.{status_of, line_of, AnswersDecode}
-use Rattle.decode_command.specs.Completes.{IsRecording, Completes}
+use Rattle.decode_command.specs.Completes.{Completes}
 
 never-longer : (count : ℕ) → count ≤ 8388616 → RECORDING_LIMIT < count → ⊥
 never-longer count within longer = omega (arith, within, longer)

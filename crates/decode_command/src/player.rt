@@ -22,9 +22,9 @@ use byteorder::{ByteOrder, LittleEndian};
 use command_base::{RECORDING_LIMIT, append_output, read_piece};
 use exact_decoder::Lost;
 use frame_check::Octets;
-use roles::Role;
 use outside_core::Folder;
 use recordings::HEADER;
+use roles::Role;
 use scramblers::Mode;
 use symbol_map::Sample;
 

@@ -1,11 +1,11 @@
 -- From every answer to when the command is done.
-use Rattle.std.proofs.Common.{◌≡◌, ◌⊎◌, inl, inr, ℕ, ◌≤◌, ◌<◌, List, [], ◌∷◌, IsTrue, length, Result, Ok, Err, arith}
+use Rattle.std.proofs.Common.{◌≡◌, ◌⊎◌, inl, inr, ℕ, ◌≤◌, ◌<◌, List, length, Result, Ok, Err, arith}
 use Rattle.outside_core.specs.Folder.{FolderState, octets_at}
 use Rattle.outside_core.specs.Steps.{Rose-later}
 use Rattle.command_base.specs.declared.limits.TheConstants.{FILE_LIMIT}
 use Rattle.command_base.specs.declared.status.Status.{Status}
 use Rattle.command_base.specs.declared.status.Status.TheVariants as status
-use Rattle.command_base.specs.Sound.{IsSound, DoneUnlessMemory}
+use Rattle.command_base.specs.Sound.{DoneUnlessMemory}
 use Rattle.command_base.proofs.Answering.{told-or-memory}
 use Rattle.encode_command.specs.declared.fault.EncodeFault.{EncodeFault}
 use Rattle.encode_command.specs.declared.fault.EncodeFault.TheVariants.{TooLong, ReadFault, WriteFault, NoMemory}

@@ -1,9 +1,8 @@
 -- From every answer to what the command promises.
-use Rattle.std.proofs.Common.{◌≡◌, ◌≢◌, ◌⊎◌, ◌∙◌, inl, inr, ℕ, List, [], ◌++◌, Result, Ok, Err, refl, sym, ap, subst, arith, append-nil}
+use Rattle.std.proofs.Common.{◌≡◌, ◌≢◌, ◌⊎◌, ◌∙◌, inl, inr, ℕ, List, ◌++◌, Result, Ok, Err, refl, sym, ap, subst, arith}
 use Rattle.std.specs.Option.{option_map}
-use Rattle.plain_lists.specs.Prefix.{IsPrefixOf}
 use Rattle.outside_core.specs.Folder.{FolderState, GoesOn, KeepsName, Said, Rose}
-use Rattle.outside_core.specs.Steps.{KeepsName-trans, told_later, octets-kept, Rose-later}
+use Rattle.outside_core.specs.Steps.{KeepsName-trans, Rose-later}
 use Rattle.recordings.specs.Recording.{IsRecordingOf}
 use Rattle.command_base.specs.declared.status.Status.{Status}
 use Rattle.command_base.specs.declared.status.Status.TheVariants as status
@@ -57,7 +56,7 @@ whole-of words old new n s a e = by a.job refl told.0
           λ file rec. (
             w.recording,
             subst (λ (xs : List ℕ). IsRecordingOf n.mode xs w.recording samples) (w.records.read file) w.records.recorded,
-            Holds-kept a.before new n.rec w.recording a.tells.only.goes_on w.rec (a.tells.only.names n.rec)
+            Holds-kept a.before new n.rec w.recording a.tells.only.goes_on w.rec (a.tells.only.names n.rec),
           ),
         )
     by (Err fault) j d = absurd (never fault (sym (ap status_of j) ∙ d))

@@ -22,7 +22,7 @@ use Rattle.encode_command.specs.declared.fault.EncodeFault.TheVariants.{ReadFaul
 use Rattle.encode_command.specs.Words.{EncodeNames, are_apart}
 use Rattle.encode_command.specs.Ends.{WritesAll, WritesPart, LeavesPart, EndsBy}
 use Rattle.encode_command.specs.Recorded.{Begun, RecordedTo}
-use Rattle.encode_command.proofs.Longer.{goes_on, prefix-trans}
+use Rattle.encode_command.proofs.Longer.{goes_on}
 
 file-apart : (n : EncodeNames) → are_apart n ≡ true → n.file ≢ n.rec
 file-apart n e = search rules

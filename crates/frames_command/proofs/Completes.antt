@@ -5,7 +5,7 @@ use Rattle.outside_core.specs.Steps.{Rose-later}
 use Rattle.outside_core.specs.declared.folder.FolderFault.TheVariants as folder
 use Rattle.command_base.specs.declared.limits.TheConstants.{FILE_LIMIT}
 use Rattle.command_base.specs.declared.status.Status.{Status}
-use Rattle.command_base.specs.declared.status.Status.TheVariants.{NoMemory}
+use Rattle.command_base.specs.declared.status.Status.TheVariants.{TooLong, NoMemory}
 use Rattle.command_base.specs.Sound.{DoneUnlessMemory}
 use Rattle.command_base.specs.Tells.{Tells}
 use Rattle.command_base.proofs.Answering.{told-or-memory}

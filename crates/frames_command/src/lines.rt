@@ -3,10 +3,9 @@ ghost use Rattle.std.specs.Prelude.{◌≡◌, ◌≤◌, ◌<◌, ◌+◌, ◌+
 ghost use Rattle.frames_command.specs.Readings.{hex_digit, hex_octet, fault_words, reading_line};
 
 use crate::reading::Reading;
-use line_texts::put_decimal;
 use frame_check::Octets;
-use line_texts::{FrameText, write_frame_text};
 use lapm_frames::FrameFault;
+use line_texts::{FrameText, put_decimal, write_frame_text};
 
 /// The most octets of a piece's line.
 const PIECE_LINE: usize = 176;

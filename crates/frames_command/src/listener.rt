@@ -7,8 +7,8 @@ ghost use Rattle.frames_command.specs.Heard.{Heard, PartlyHeard};
 use crate::lines::write_reading;
 use crate::reading::read_piece;
 use bit_stuffing::Deframer;
-use roles::Role;
 use outside_core::{Folder, FolderFault};
+use roles::Role;
 use std::marker::Model;
 
 /// Hears the stream of one end, bit by bit, and says a line for each piece.

@@ -12,7 +12,6 @@ use Rattle.roles.specs.Role.{role_word, same_role}
 abbrev pub loses : List Loss → Role → ℕ → Bool
 loses losses role turn = list_any (λ l. same_role l.role role && nat_le l.from turn && nat_lt turn (l.from + l.count)) losses
 
-
 abbrev pub IsDigit : ℕ → Type 0
 IsDigit octet = (48 ≤ octet) × (octet ≤ 57)
 

@@ -11,8 +11,8 @@ mod script;
 mod station;
 mod world;
 
-pub use line_texts::write_frame_text;
 pub use heard::Heard;
-pub use script_causes::Cause;
+pub use line_texts::write_frame_text;
 pub use script::{Loss, Script, ScriptFault, read_script};
+pub use script_causes::Cause;
 pub use world::{Names, RunFault, Step, World};

@@ -9,8 +9,8 @@ ghost use Rattle.line_world.specs.World.{During, WorldAfter, IsReady, files_of, 
 use crate::direction::Direction;
 use crate::station::Station;
 use crate::{Heard, Script};
-use roles::Role;
 use outside_core::{Folder, FolderFault};
+use roles::Role;
 use thin_link::Spent;
 
 /// The names of a run's files: what each end sends, what each end received, and the trace.

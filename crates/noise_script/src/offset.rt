@@ -5,9 +5,9 @@ ghost use Rattle.roles.specs.Role.{same_role};
 
 use crate::limits::{HIT_LINES, NOISE_LINES, OFFSET_MOST};
 use crate::{Hit, Noise};
-use roles::Role;
 use rand_core::utils::NextWord;
 use rand_pcg::Lcg64Xsh32;
+use roles::Role;
 
 /// What the line adds to a sample, in the units of samples.
 #[derive(Clone, Copy, Debug, PartialEq, Eq)]

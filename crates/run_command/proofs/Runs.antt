@@ -1,6 +1,6 @@
 -- From the phases of a run to how it ends.
-use Rattle.std.proofs.Common.{◌≡◌, inl, inr, ℕ, List, [], IsTrue, sym, ◌∙◌, subst, arith, rules, true, refl}
-use Rattle.outside_core.specs.Folder.{FolderState, GoesOn, KeepsName, OnlyReads}
+use Rattle.std.proofs.Common.{◌≡◌, inl, inr, ℕ, List, [], sym, subst, arith, rules, true, refl}
+use Rattle.outside_core.specs.Folder.{FolderState, KeepsName, OnlyReads}
 use Rattle.outside_core.specs.declared.folder.FolderFault.{FolderFault}
 use Rattle.outside_core.specs.declared.folder.FolderFault.TheVariants as folder
 use Rattle.outside_core.specs.Steps.{KeepsName-trans}

@@ -6,5 +6,4 @@ ghost use Rattle.run_command.specs.declared.limits.TheConstants.{LIMITS};
 pub fn limits_of_inputs()
     ensures script { LIMITS.script ≡ 65536 }
     ensures file { LIMITS.file ≡ 1048576 }
-{
-}
+{}

@@ -12,6 +12,6 @@ mod turns;
 mod words;
 
 pub use command::run;
-pub use laws::limits_of_inputs;
 pub use ending::{Ending, Refusal};
+pub use laws::limits_of_inputs;
 pub use words::{RunWords, run_words};

@@ -10,9 +10,10 @@ mod stage;
 mod two_ends;
 
 use end::{Observed, Standing};
-use lapm_link::{LinkFault, Phase};
-use slot::{ARRIVALS, Kind, Slot, Supervisory};
+use lapm_link::{LinkFault, Phase, Setup};
+use slot::{ARRIVALS, Slot};
 use stage::{STAGES, Stage};
+use xid_params::Offer;
 
 /// What an end does in a turn by what it hears: the phase that it is then in and what it sends, or why it gives its link up.
 #[derive(Clone, Copy)]
@@ -108,27 +109,23 @@ fn each_state_at_each_arrival(rt: HostRuntime) -> Result<(), Fail> {
     Ok(())
 }
 
-#[test]
-fn an_acknowledgement_of_what_was_not_sent_ends_the_link(rt: HostRuntime) -> Result<(), Fail> {
-    let originator = Standing::at(rt.alloc(), Stage::PollSent)?;
-    let reply = Slot::S(Supervisory::Rr, Kind::Response, 5, false);
-    let broken = originator.broken_by(reply)?;
-    let bad = LinkFault::BadAck {
-        nr: 5,
-        va: 0,
-        high: 0,
-    };
-    assert!(&rt; broken.fault == bad);
-    Ok(())
-}
-
 /// The widest windows are set up where there is memory for them.
 #[test]
 fn ends_have_windows_of_127_segments(rt: HostRuntime) -> Result<(), Fail> {
     for stage in [Stage::OriginatorDetecting, Stage::AnswererDetecting] {
-        let mut setup = stage.setup();
-        setup.offer.tx_window = 127;
-        setup.offer.rx_window = 127;
+        let setup = Setup {
+            role: stage.role(),
+            offer: Offer {
+                tx_window: 127,
+                rx_window: 127,
+                tx_len: 128,
+                rx_len: 128,
+                srej: false,
+                check32: false,
+            },
+            tries: 5,
+            period: 60,
+        };
         Standing::new(rt.alloc(), setup)?;
     }
     Ok(())

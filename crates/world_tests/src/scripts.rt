@@ -2,8 +2,8 @@
 ghost use Rattle.std.specs.Prelude.{◌≤◌, length};
 ghost use Rattle.noise_script.specs.declared.limits.TheConstants.{SCRIPT_OCTETS};
 
-use roles::Role;
 use noise_script::{Offset, SCRIPT_OCTETS, ScriptFault, read_script};
+use roles::Role;
 use script_causes::Cause;
 use std::alloc::Global;
 use std::process::Abort;
@@ -81,15 +81,15 @@ fn repeated(alloc: Global, line: &[u8], count: usize) -> Result<Vec<u8>, Fail> {
 }
 
 /// So many such lines are a script, and one more of them is a line too many.
-fn is_limit(rt: &impl Abort, alloc: Global, line: &[u8], count: usize) -> Result<(), Fail> {
-    let mut text = repeated(alloc, line, count)?;
+fn is_limit(rt: &impl Abort, alloc: Global, line: &[u8], count: u16) -> Result<(), Fail> {
+    let mut text = repeated(alloc, line, usize::from(count))?;
     assert!(rt; text.len() <= SCRIPT_OCTETS);
     if text.len() <= SCRIPT_OCTETS {
         read_script(alloc, &text)?;
     }
     text.extend_from_slice(line)?;
     if text.len() <= SCRIPT_OCTETS {
-        refuses(rt, alloc, &text, count as u32 + 1, Cause::Limit);
+        refuses(rt, alloc, &text, u32::from(count) + 1, Cause::Limit);
     }
     Ok(())
 }

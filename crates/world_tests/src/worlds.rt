@@ -1,7 +1,7 @@
 // Scripts, and the turns of a world over a folder in memory.
-use roles::Role;
 use line_world::{Cause, Names, ScriptFault, Step, World, read_script};
 use outside_core::MemoryFolder;
+use roles::Role;
 use std::test::Fail;
 
 #[test]

@@ -1,18 +1,17 @@
 -- From every answer to when the command is done.
-use Rattle.std.proofs.Common.{◌≡◌, ◌⊎◌, ◌∙◌, inl, inr, ℕ, ◌≤◌, ◌<◌, ◌%◌, true, false, List, [], length, slice_index, Result, Ok, Err, sym, ap, subst, arith}
-use Rattle.hex.specs.Hex.{decode_of, is_hex_digit}
+use Rattle.std.proofs.Common.{◌≡◌, ◌∙◌, inl, inr, ℕ, ◌≤◌, ◌<◌, List, length, Ok, sym, subst, arith}
+use Rattle.hex.specs.Hex.{decode_of}
 use Rattle.hex.proofs.HexLemmas.{decode_of-ok, decode_of-same}
-use Rattle.outside_core.specs.Folder.{FolderState, Rose}
+use Rattle.outside_core.specs.Folder.{FolderState}
 use Rattle.outside_core.specs.Steps.{GoesOn-refl}
 use Rattle.xid_params.specs.Offers.{OfferSpelling}
 use Rattle.xid_params.proofs.Exact.{never-both}
 use Rattle.command_base.specs.declared.limits.TheConstants.{HEX_LIMIT}
 use Rattle.command_base.specs.declared.status.Status.{Status}
 use Rattle.command_base.specs.declared.status.Status.TheVariants.{Done, Usage, BadScript, BadRecording, BadHex, BadXid, TooLong, ReadFault, WriteFault, LineLost, LinkLost, NoMemory}
-use Rattle.command_base.specs.Sound.{IsSound, DoneUnlessMemory}
 use Rattle.command_base.proofs.Answering.{told-or-memory}
-use Rattle.xid_command.specs.Digits.{IsBadHex, RefusesDigits}
-use Rattle.xid_command.specs.Answers.{Refuses, SaysOffer, SaysWhy, AnswersXid}
+use Rattle.xid_command.specs.Digits.{IsBadHex}
+use Rattle.xid_command.specs.Answers.{Refuses, AnswersXid}
 use Rattle.xid_command.specs.Completes.{SpellAnOffer, Completes}
 
 never-longer : (count : ℕ) → count ≤ 512 → HEX_LIMIT < count → ⊥

@@ -2,8 +2,8 @@
 ghost use Rattle.std.specs.Prelude.{◌≡◌, ◌≤◌, ◌+◌, ◌++◌, length, decimal, ◌<◌, ◌^◌};
 ghost use Rattle.xid_command.specs.OfferLine.{offer_line, flag_word};
 
-use line_texts::put_decimal;
 use frame_check::Octets;
+use line_texts::put_decimal;
 use xid_params::Offer;
 
 /// The most octets of the line of an offer.
