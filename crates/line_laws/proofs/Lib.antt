@@ -4,3 +4,4 @@ pub mod Recordings
 pub mod Fitting
 pub mod Settled
 pub mod Received
+mod OneSent

@@ -26,6 +26,9 @@ use Rattle.detection.specs.Sights.{Sight, seen_in, sights_of}
 use Rattle.detection.specs.Slots.{Signal, signal_bits, slot_of, slots_of}
 use Rattle.roles.specs.declared.role.Role.{Role}
 use Rattle.lapm_frames.specs.declared.frame.Frame.{Frame}
+use Rattle.frame_check.specs.Division.{with_check}
+use Rattle.lapm_frames.specs.Frame.{spelled}
+use Rattle.lapm_frames.specs.Checked.{check_for, checked, SpellsFrame}
 use Rattle.lapm_frames.proofs.Checking.{spells}
 use Rattle.slot_contents.specs.declared.sent.Sent.{Sent}
 use Rattle.slot_contents.specs.declared.sent.Sent.TheVariants as sent
@@ -42,7 +45,7 @@ use Rattle.sample_line.specs.Line.{bits_behind, Kept, Passes, PassesSlot, sender
 use Rattle.sample_line.proofs.Finding.{wholes-append}
 use Rattle.sample_line.proofs.Once.{given-stays, outcome-once, received-once, recordings-grow}
 use Rattle.line_laws.specs.Fitting.{AreFit}
-use Rattle.line_laws.specs.Unhindered.{DisplacesNoneBefore, frames_in, patterns_in, unhindered}
+use Rattle.line_laws.specs.Unhindered.{ChecksAgree, DisplacesNoneBefore, frames_in, patterns_in, unhindered}
 use Rattle.line_laws.proofs.Patterns.{AreSeen}
 use Rattle.line_laws.proofs.Fitting.{fit-front, length-fit}
 use Rattle.line_laws.proofs.Recordings.{tap-some}
@@ -77,19 +80,23 @@ lags script sender count bits read samples none within r g =
       few = omega (arith, few, long, length-drop (4 * n) bits, four-each tap labels bits (carried script sender bits samples r));
     }
 
+-- a frame has the same octets with either end's check, where these agree on it
+same-checked : (check hearing : Check) (sender : Role) (dlci : ℕ) (frame : Frame) → check_for check frame ≡ check_for hearing frame → checked hearing sender dlci frame ≡ checked check sender dlci frame
+same-checked check hearing sender dlci frame agree = ap (λ (kind : Check). with_check kind (spelled frame sender dlci)) (sym agree)
+
 -- what a slot adds
 
-slot-frames : (size start phase : ℕ) (behind : Bool) (check : Check) (sender : Role) (dlci : ℕ) (s : Sent) (added : List Found) → IsSendable s
-    → FoundIn size start phase behind (slot_of size (signal_of check sender dlci s)) added → AreFrames check sender dlci (wholes added) (frames_in s)
-slot-frames size start phase true check sender dlci sent.Mark added is h = subst (λ (xs : List Found). AreFrames check sender dlci (wholes xs) []) (sym h.3) refl
-slot-frames size start phase false check sender dlci sent.Mark added is h = subst (λ (xs : List Found). AreFrames check sender dlci (wholes xs) []) (sym h) refl
-slot-frames size start phase true check sender dlci sent.Odp added is h = subst (λ (xs : List Found). AreFrames check sender dlci (wholes xs) []) (sym h.3) refl
-slot-frames size start phase false check sender dlci sent.Odp added is h = subst (λ (xs : List Found). AreFrames check sender dlci (wholes xs) []) (sym h) refl
-slot-frames size start phase true check sender dlci sent.Adp added is h = subst (λ (xs : List Found). AreFrames check sender dlci (wholes xs) []) (sym h.3) refl
-slot-frames size start phase false check sender dlci sent.Adp added is h = subst (λ (xs : List Found). AreFrames check sender dlci (wholes xs) []) (sym h) refl
-slot-frames size start phase behind check sender dlci sent.Flags added is h = subst (λ (xs : List Found). AreFrames check sender dlci (wholes xs) []) (sym h) refl
-slot-frames size start phase behind check sender dlci (sent.Frame frame) added is h =
-    subst (λ (xs : List Found). AreFrames check sender dlci (wholes xs) (frame ∷ [])) (sym h) (inr (frame, [], spells check sender dlci frame is.0, refl, refl))
+slot-frames : (size start phase : ℕ) (behind : Bool) (check hearing : Check) (sender : Role) (dlci : ℕ) (s : Sent) (added : List Found) → IsSendable s → ChecksAgree check hearing s
+    → FoundIn size start phase behind (slot_of size (signal_of check sender dlci s)) added → AreFrames hearing sender dlci (wholes added) (frames_in s)
+slot-frames size start phase true check hearing sender dlci sent.Mark added is agree h = subst (λ (xs : List Found). AreFrames hearing sender dlci (wholes xs) []) (sym h.3) refl
+slot-frames size start phase false check hearing sender dlci sent.Mark added is agree h = subst (λ (xs : List Found). AreFrames hearing sender dlci (wholes xs) []) (sym h) refl
+slot-frames size start phase true check hearing sender dlci sent.Odp added is agree h = subst (λ (xs : List Found). AreFrames hearing sender dlci (wholes xs) []) (sym h.3) refl
+slot-frames size start phase false check hearing sender dlci sent.Odp added is agree h = subst (λ (xs : List Found). AreFrames hearing sender dlci (wholes xs) []) (sym h) refl
+slot-frames size start phase true check hearing sender dlci sent.Adp added is agree h = subst (λ (xs : List Found). AreFrames hearing sender dlci (wholes xs) []) (sym h.3) refl
+slot-frames size start phase false check hearing sender dlci sent.Adp added is agree h = subst (λ (xs : List Found). AreFrames hearing sender dlci (wholes xs) []) (sym h) refl
+slot-frames size start phase behind check hearing sender dlci sent.Flags added is agree h = subst (λ (xs : List Found). AreFrames hearing sender dlci (wholes xs) []) (sym h) refl
+slot-frames size start phase behind check hearing sender dlci (sent.Frame frame) added is agree h =
+    subst (λ (xs : List Found). AreFrames hearing sender dlci (wholes xs) (frame ∷ [])) (sym h) (inr (frame, [], subst (λ (whole : List ℕ). SpellsFrame hearing sender dlci whole frame) (same-checked check hearing sender dlci frame agree) (spells hearing sender dlci frame is.0), refl, refl))
 
 slot-patterns : (check : Check) (sender : Role) (dlci start : ℕ) (s : Sent) → map (λ (sight : Sight). sight.seen) (seen_in start (signal_of check sender dlci s)) ≡ patterns_in s
 slot-patterns check sender dlci start sent.Mark = refl
@@ -115,11 +122,11 @@ more-grows laws earlier more =
     record { pieces = pieces.0; pieces_are = pieces.1.all; sights = sights.0; sights_are = sights.1.all }
 
 -- what is found of a slot in the bits that were read up to its end and not before
-found-sent : (laws : AreSeen) (check : Check) (sender : Role) (dlci size : ℕ) (passed : List Signal) (s : Sent) (earlier later : List Bool)
-    → 552 < size → AreFit size 0 (passed ++ signal_of check sender dlci s ∷ []) → IsSendable s
+found-sent : (laws : AreSeen) (check hearing : Check) (sender : Role) (dlci size : ℕ) (passed : List Signal) (s : Sent) (earlier later : List Bool)
+    → 552 < size → AreFit size 0 (passed ++ signal_of check sender dlci s ∷ []) → IsSendable s → ChecksAgree check hearing s
     → Lags (signal_bits size passed) earlier → Lags (signal_bits size (passed ++ signal_of check sender dlci s ∷ [])) later
-    → Grows earlier later → FoundBetween check sender dlci earlier later (frames_in s) (patterns_in s)
-found-sent laws check sender dlci size passed s earlier later long fit is old new f =
+    → Grows earlier later → FoundBetween hearing sender dlci earlier later (frames_in s) (patterns_in s)
+found-sent laws check hearing sender dlci size passed s earlier later long fit is agree old new f =
     let signal : Signal = signal_of check sender dlci s in
     let a = slot-adds laws size passed signal long fit in
     let before = settled-finds laws (signal_bits size passed) earlier (settled-all laws size passed long (fit-front size 0 passed (signal ∷ []) fit)) old in
@@ -138,7 +145,7 @@ found-sent laws check sender dlci size passed s earlier later long fit is old ne
     record {
       pieces = f.pieces;
       pieces_are = f.pieces_are;
-      frames_are = subst (λ (xs : List (List ℕ)). AreFrames check sender dlci xs (frames_in s)) (sym octets) (slot-frames size start _ _ check sender dlci s a.added is a.found);
+      frames_are = subst (λ (xs : List (List ℕ)). AreFrames hearing sender dlci xs (frames_in s)) (sym octets) (slot-frames size start _ _ check hearing sender dlci s a.added is agree a.found);
       sights = f.sights;
       sights_are = f.sights_are;
       patterns_are = sym (slot-patterns check sender dlci start s) ∙ ap (map (λ (sight : Sight). sight.seen)) (sym sights);
@@ -159,21 +166,21 @@ bounds laws symbols passed signal long fit =
     by-size : (m n : ℕ) → 4 * m * n ≤ 4 * (m * (n + 1))
     by-size m n = subst (λ k. k ≤ 4 * (m * (n + 1))) (sym (mul_assoc 4 m n)) (let more = mul-suc m n in omega (arith, more))
 
-pub received-sent : (laws : AreSeen) (script : ScriptValue) (check : Check) (sender : Role) (dlci symbols : ℕ) (passed : List Signal) (s : Sent)
+pub received-sent : (laws : AreSeen) (script : ScriptValue) (check hearing : Check) (sender : Role) (dlci symbols : ℕ) (passed : List Signal) (s : Sent)
     (before upto : List Sample) (frames : List Frame) (patterns : List Seen)
-    → DisplacesNoneBefore script sender (symbols * (length passed + 1)) → 138 < symbols → AreFit (4 * symbols) 0 (passed ++ signal_of check sender dlci s ∷ []) → IsSendable s
+    → DisplacesNoneBefore script sender (symbols * (length passed + 1)) → 138 < symbols → AreFit (4 * symbols) 0 (passed ++ signal_of check sender dlci s ∷ []) → IsSendable s → ChecksAgree check hearing s
     → Records script sender (signal_bits (4 * symbols) passed) before
     → Records script sender (signal_bits (4 * symbols) (passed ++ signal_of check sender dlci s ∷ [])) upto
-    → Receives check sender dlci before upto frames patterns
+    → Receives hearing sender dlci before upto frames patterns
     → (frames ≡ frames_in s) × (patterns ≡ patterns_in s)
-received-sent laws script check sender dlci symbols passed s before upto frames patterns none long fit is old new r =
+received-sent laws script check hearing sender dlci symbols passed s before upto frames patterns none long fit is agree old new r =
     let b = bounds laws symbols passed (signal_of check sender dlci s) long fit in
-    received-once check sender dlci before upto frames (frames_in s) patterns (patterns_in s) r (record {
+    received-once hearing sender dlci before upto frames (frames_in s) patterns (patterns_in s) r (record {
       earlier = r.earlier;
       later = r.later;
       gave = r.gave;
       gives = r.gives;
-      found = found-sent laws check sender dlci (4 * symbols) passed s r.earlier r.later (omega arith) fit is
+      found = found-sent laws check hearing sender dlci (4 * symbols) passed s r.earlier r.later (omega arith) fit is agree
           (lags script sender (symbols * (length passed + 1)) (signal_bits (4 * symbols) passed) r.earlier before none b.0 old r.gave)
           (lags script sender (symbols * (length passed + 1)) (signal_bits (4 * symbols) (passed ++ signal_of check sender dlci s ∷ [])) r.later upto none b.1 new r.gives)
           (record { pieces = r.found.pieces; pieces_are = r.found.pieces_are; sights = r.found.sights; sights_are = r.found.sights_are });
@@ -194,13 +201,13 @@ given-grows laws script sender bits more earlier later before upto old new gave 
     let stays = given-stays sender before grown.0 earlier later gave (subst (λ (xs : List Sample). Gives sender xs later) grown.1 gives) in
     subst (λ (xs : List Bool). Grows earlier xs) (sym stays.1) (more-grows laws earlier stays.0)
 
-given-received : (laws : AreSeen) (script : ScriptValue) (check : Check) (sender : Role) (dlci size : ℕ) (passed : List Signal) (s : Sent)
+given-received : (laws : AreSeen) (script : ScriptValue) (check hearing : Check) (sender : Role) (dlci size : ℕ) (passed : List Signal) (s : Sent)
     (before upto : List Sample) (earlier later : List Bool)
-    → (count : ℕ) → DisplacesNoneBefore script sender count → length (signal_bits size passed) ≤ 4 * count → length (signal_bits size (passed ++ signal_of check sender dlci s ∷ [])) ≤ 4 * count → 552 < size → AreFit size 0 (passed ++ signal_of check sender dlci s ∷ []) → IsSendable s
+    → (count : ℕ) → DisplacesNoneBefore script sender count → length (signal_bits size passed) ≤ 4 * count → length (signal_bits size (passed ++ signal_of check sender dlci s ∷ [])) ≤ 4 * count → 552 < size → AreFit size 0 (passed ++ signal_of check sender dlci s ∷ []) → IsSendable s → ChecksAgree check hearing s
     → Records script sender (signal_bits size passed) before → Records script sender (signal_bits size (passed ++ signal_of check sender dlci s ∷ [])) upto
     → Gives sender before earlier → Gives sender upto later
-    → Receives check sender dlci before upto (frames_in s) (patterns_in s)
-given-received laws script check sender dlci size passed s before upto earlier later count none few_before few_upto long fit is old new gave gives =
+    → Receives hearing sender dlci before upto (frames_in s) (patterns_in s)
+given-received laws script check hearing sender dlci size passed s before upto earlier later count none few_before few_upto long fit is agree old new gave gives =
     let signal : Signal = signal_of check sender dlci s in
     let slot : List Bool = slot_bits size (phase_after size (slots_of size passed)) (slot_of size signal) in
     let joined : signal_bits size (passed ++ signal ∷ []) ≡ signal_bits size passed ++ slot
@@ -211,24 +218,24 @@ given-received laws script check sender dlci size passed s before upto earlier l
       later = later;
       gave = gave;
       gives = gives;
-      found = found-sent laws check sender dlci size passed s earlier later long fit is
+      found = found-sent laws check hearing sender dlci size passed s earlier later long fit is agree
           (lags script sender count (signal_bits size passed) earlier before none few_before old gave)
           (lags script sender count (signal_bits size (passed ++ signal ∷ [])) later upto none few_upto new gives)
           (given-grows laws script sender (signal_bits size passed) slot earlier later before upto old added gave gives);
     }
 
-pub sent-received : (laws : AreSeen) (script : ScriptValue) (check : Check) (sender : Role) (dlci symbols : ℕ) (passed : List Signal) (s : Sent)
+pub sent-received : (laws : AreSeen) (script : ScriptValue) (check hearing : Check) (sender : Role) (dlci symbols : ℕ) (passed : List Signal) (s : Sent)
     (before upto : List Sample)
-    → DisplacesNoneBefore script sender (symbols * (length passed + 1)) → 138 < symbols → AreFit (4 * symbols) 0 (passed ++ signal_of check sender dlci s ∷ []) → IsSendable s
+    → DisplacesNoneBefore script sender (symbols * (length passed + 1)) → 138 < symbols → AreFit (4 * symbols) 0 (passed ++ signal_of check sender dlci s ∷ []) → IsSendable s → ChecksAgree check hearing s
     → Records script sender (signal_bits (4 * symbols) passed) before
     → Records script sender (signal_bits (4 * symbols) (passed ++ signal_of check sender dlci s ∷ [])) upto
-    → Receives check sender dlci before upto (frames_in s) (patterns_in s)
-sent-received laws script check sender dlci symbols passed s before upto none long fit is old new =
+    → Receives hearing sender dlci before upto (frames_in s) (patterns_in s)
+sent-received laws script check hearing sender dlci symbols passed s before upto none long fit is agree old new =
     let count : ℕ = symbols * (length passed + 1) in
     let b = bounds laws symbols passed (signal_of check sender dlci s) long fit in
     let earlier = gives-some script sender count (signal_bits (4 * symbols) passed) before none b.0 old in
     let later = gives-some script sender count (signal_bits (4 * symbols) (passed ++ signal_of check sender dlci s ∷ [])) upto none b.1 new in
-    given-received laws script check sender dlci (4 * symbols) passed s before upto earlier.0 later.0 count none b.0 b.1 (omega arith) fit is old new earlier.1 later.1
+    given-received laws script check hearing sender dlci (4 * symbols) passed s before upto earlier.0 later.0 count none b.0 b.1 (omega arith) fit is agree old new earlier.1 later.1
 
 -- and has one outcome
 
@@ -247,16 +254,16 @@ as-expected false sent.Adp = (refl, all-nine seen.Adp)
 as-expected true (sent.Frame frame) = (refl, refl)
 as-expected false (sent.Frame frame) = (refl, (refl, refl))
 
-pub heard-sent : (laws : AreSeen) (line : Kept) (script : ScriptValue) (passed waiting : List Signal) (signal : Signal) (check : Check) (dlci : ℕ) (loses : Bool) (s : Sent) (heard : Heard)
+pub heard-sent : (laws : AreSeen) (line : Kept) (script : ScriptValue) (passed waiting : List Signal) (signal : Signal) (check hearing : Check) (dlci : ℕ) (loses : Bool) (s : Sent) (heard : Heard)
     → DisplacesNoneBefore script (sender_of line) (line.writer.symbols * (length passed + 1)) → 138 < line.writer.symbols → AreFit (size_of line) 0 (passed ++ signal ∷ [])
-    → signal ≡ signal_of check (sender_of line) dlci s → IsSendable s
-    → PassesSlot line script passed signal waiting check dlci loses s heard → heard ≡ unhindered loses s
-heard-sent laws line script passed waiting signal check dlci loses s heard none long fit e is p =
+    → signal ≡ signal_of check (sender_of line) dlci s → IsSendable s → ChecksAgree check hearing s
+    → PassesSlot line script passed signal waiting hearing dlci loses s heard → heard ≡ unhindered loses s
+heard-sent laws line script passed waiting signal check hearing dlci loses s heard none long fit e is agree p =
     let sender : Role = sender_of line in
     let fit_s : AreFit (size_of line) 0 (passed ++ signal_of check sender dlci s ∷ []) = subst (λ (x : Signal). AreFit (size_of line) 0 (passed ++ x ∷ [])) e fit in
     let recorded : Records script sender (signal_bits (size_of line) (passed ++ signal_of check sender dlci s ∷ [])) p.upto
     = subst (λ (x : Signal). Records script sender (signal_bits (size_of line) (passed ++ x ∷ [])) p.upto) e p.recorded in
-    let same = received-sent laws script check sender dlci line.writer.symbols passed s p.before p.upto p.frames p.patterns none long fit_s is p.recorded_before recorded p.received in
+    let same = received-sent laws script check hearing sender dlci line.writer.symbols passed s p.before p.upto p.frames p.patterns none long fit_s is agree p.recorded_before recorded p.received in
     outcome-once loses s (frames_in s) (patterns_in s) heard (unhindered loses s)
     (subst (λ (xs : List Seen). IsOutcome loses s (frames_in s) xs heard) same.1 (subst (λ (xs : List Frame). IsOutcome loses s xs p.patterns heard) same.0 p.outcome)) (as-expected loses s)
 
@@ -270,13 +277,13 @@ never-chance false sent.Adp e = absurd cc
 never-chance true (sent.Frame frame) e = absurd cc
 never-chance false (sent.Frame frame) e = absurd cc
 
-pub passes-sent : (laws : AreSeen) (line : Kept) (script : ScriptValue) (passed waiting : List Signal) (signal : Signal) (check : Check) (dlci : ℕ) (loses : Bool) (s : Sent) (result : Result Heard Lost)
+pub passes-sent : (laws : AreSeen) (line : Kept) (script : ScriptValue) (passed waiting : List Signal) (signal : Signal) (check hearing : Check) (dlci : ℕ) (loses : Bool) (s : Sent) (result : Result Heard Lost)
     → DisplacesNoneBefore script (sender_of line) (line.writer.symbols * (length passed + 1)) → 138 < line.writer.symbols → AreFit (size_of line) 0 (passed ++ signal ∷ [])
-    → signal ≡ signal_of check (sender_of line) dlci s → IsSendable s
-    → Passes line script passed signal waiting check dlci loses s result → result ≡ Ok (unhindered loses s)
-passes-sent laws line script passed waiting signal check dlci loses s (Ok heard) none long fit e is p =
-    ap (λ (h : Heard). let r : Result Heard Lost = Ok h in r) (heard-sent laws line script passed waiting signal check dlci loses s heard none long fit e is p)
-passes-sent laws line script passed waiting signal check dlci loses s (Err lost) none long fit e is p =
+    → signal ≡ signal_of check (sender_of line) dlci s → IsSendable s → ChecksAgree check hearing s
+    → Passes line script passed signal waiting hearing dlci loses s result → result ≡ Ok (unhindered loses s)
+passes-sent laws line script passed waiting signal check hearing dlci loses s (Ok heard) none long fit e is agree p =
+    ap (λ (h : Heard). let r : Result Heard Lost = Ok h in r) (heard-sent laws line script passed waiting signal check hearing dlci loses s heard none long fit e is agree p)
+passes-sent laws line script passed waiting signal check hearing dlci loses s (Err lost) none long fit e is agree p =
     let size : ℕ = size_of line in
     let joined : signal_bits size (passed ++ signal ∷ []) ≡ signal_bits size passed ++ bits_behind size passed signal
     = ap (sent_bits size) (map-append (slot_of size) passed (signal ∷ [])) ∙ bits-append size 0 (slots_of size passed) (slot_of size signal) in

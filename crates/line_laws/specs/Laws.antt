@@ -5,9 +5,9 @@ use Rattle.symbol_map.specs.declared.sample.Sample.{Sample}
 use Rattle.survivors.specs.Survivors.{LostIs}
 use Rattle.exact_decoder.specs.declared.decoder.Lost.{Lost}
 use Rattle.bit_stuffing.specs.declared.slot_writer.TheConstants.{HEAD, TAIL}
-use Rattle.bit_stuffing.specs.Slots.{AreSlots, phase_after}
+use Rattle.bit_stuffing.specs.Slots.{AreSlots, phase_after, slot_bits}
 use Rattle.slot_contents.specs.declared.seen.Seen.{Seen}
-use Rattle.detection.specs.Slots.{Signal, signal_bits, slots_of}
+use Rattle.detection.specs.Slots.{Signal, signal_bits, slots_of, slot_of}
 use Rattle.roles.specs.declared.role.Role.{Role}
 use Rattle.lapm_frames.specs.declared.frame.Frame.{Frame}
 use Rattle.lapm_frames.specs.Frame.{information_of}
@@ -27,7 +27,7 @@ use Rattle.sample_line.specs.Received.{Receives, line_trellis, line_depth}
 use Rattle.sample_line.specs.Path.{LosesAt, LosesWithin}
 use Rattle.sample_line.specs.Line.{Kept, Passes, PassesSlot, sender_of, size_of}
 use Rattle.line_laws.specs.Fitting.{Fits, AreFit, OfOctets}
-use Rattle.line_laws.specs.Unhindered.{DisplacesNoneBefore, frames_in, patterns_in, unhindered}
+use Rattle.line_laws.specs.Unhindered.{ChecksAgree, DisplacesNoneBefore, frames_in, patterns_in, unhindered}
 
 -- a script displaces no symbol before the first that its hit lines and noise lines for the role name
 abbrev pub LaterLinesDisplaceNone : Type 0
@@ -104,29 +104,30 @@ abbrev pub NeverLost : Type 0
 NeverLost = (sender : Role) (script : ScriptValue) (count : ℕ) (before bits : List Bool) (symbol : ℕ)
     → DisplacesNoneBefore script sender count → length (before ++ bits) ≤ 4 * count → LosesWithin sender script before bits symbol → ⊥
 
--- nothing but what was sent in a slot is received in it, and all of that is
+-- nothing but what was sent in a slot is received in it, and all of that is: the end that sends has one check, the end that hears another, which
+-- agree on what is sent
 abbrev pub ReceivedIsSent : Type 0
-ReceivedIsSent = (script : ScriptValue) (check : Check) (sender : Role) (dlci symbols : ℕ) (passed : List Signal) (s : Sent)
+ReceivedIsSent = (script : ScriptValue) (check hearing : Check) (sender : Role) (dlci symbols : ℕ) (passed : List Signal) (s : Sent)
     (before upto : List Sample) (frames : List Frame) (patterns : List Seen)
-    → DisplacesNoneBefore script sender (symbols * (length passed + 1)) → HEAD + TAIL < symbols → AreFit (4 * symbols) 0 (passed ++ signal_of check sender dlci s ∷ []) → IsSendable s
+    → DisplacesNoneBefore script sender (symbols * (length passed + 1)) → HEAD + TAIL < symbols → AreFit (4 * symbols) 0 (passed ++ signal_of check sender dlci s ∷ []) → IsSendable s → ChecksAgree check hearing s
     → Records script sender (signal_bits (4 * symbols) passed) before
     → Records script sender (signal_bits (4 * symbols) (passed ++ signal_of check sender dlci s ∷ [])) upto
-    → Receives check sender dlci before upto frames patterns
+    → Receives hearing sender dlci before upto frames patterns
     → (frames ≡ frames_in s) × (patterns ≡ patterns_in s)
 
 abbrev pub SentIsReceived : Type 0
-SentIsReceived = (script : ScriptValue) (check : Check) (sender : Role) (dlci symbols : ℕ) (passed : List Signal) (s : Sent) (before upto : List Sample)
-    → DisplacesNoneBefore script sender (symbols * (length passed + 1)) → HEAD + TAIL < symbols → AreFit (4 * symbols) 0 (passed ++ signal_of check sender dlci s ∷ []) → IsSendable s
+SentIsReceived = (script : ScriptValue) (check hearing : Check) (sender : Role) (dlci symbols : ℕ) (passed : List Signal) (s : Sent) (before upto : List Sample)
+    → DisplacesNoneBefore script sender (symbols * (length passed + 1)) → HEAD + TAIL < symbols → AreFit (4 * symbols) 0 (passed ++ signal_of check sender dlci s ∷ []) → IsSendable s → ChecksAgree check hearing s
     → Records script sender (signal_bits (4 * symbols) passed) before
     → Records script sender (signal_bits (4 * symbols) (passed ++ signal_of check sender dlci s ∷ [])) upto
-    → Receives check sender dlci before upto (frames_in s) (patterns_in s)
+    → Receives hearing sender dlci before upto (frames_in s) (patterns_in s)
 
 -- so it is what is heard
 abbrev pub HeardIsSent : Type 0
-HeardIsSent = (line : Kept) (script : ScriptValue) (passed waiting : List Signal) (signal : Signal) (check : Check) (dlci : ℕ) (loses : Bool) (s : Sent) (h : Heard)
+HeardIsSent = (line : Kept) (script : ScriptValue) (passed waiting : List Signal) (signal : Signal) (check hearing : Check) (dlci : ℕ) (loses : Bool) (s : Sent) (h : Heard)
     → DisplacesNoneBefore script (sender_of line) (line.writer.symbols * (length passed + 1)) → HEAD + TAIL < line.writer.symbols → AreFit (size_of line) 0 (passed ++ signal ∷ [])
-    → signal ≡ signal_of check (sender_of line) dlci s → IsSendable s
-    → PassesSlot line script passed signal waiting check dlci loses s h → h ≡ unhindered loses s
+    → signal ≡ signal_of check (sender_of line) dlci s → IsSendable s → ChecksAgree check hearing s
+    → PassesSlot line script passed signal waiting hearing dlci loses s h → h ≡ unhindered loses s
 
 -- which is never a chance match
 abbrev pub NeverChance : Type 0
@@ -134,7 +135,14 @@ NeverChance = (loses : Bool) (s : Sent) → unhindered loses s ≡ heard.Chance 
 
 -- and the slot does pass
 abbrev pub PassesUnhindered : Type 0
-PassesUnhindered = (line : Kept) (script : ScriptValue) (passed waiting : List Signal) (signal : Signal) (check : Check) (dlci : ℕ) (loses : Bool) (s : Sent) (result : Result Heard Lost)
+PassesUnhindered = (line : Kept) (script : ScriptValue) (passed waiting : List Signal) (signal : Signal) (check hearing : Check) (dlci : ℕ) (loses : Bool) (s : Sent) (result : Result Heard Lost)
     → DisplacesNoneBefore script (sender_of line) (line.writer.symbols * (length passed + 1)) → HEAD + TAIL < line.writer.symbols → AreFit (size_of line) 0 (passed ++ signal ∷ [])
-    → signal ≡ signal_of check (sender_of line) dlci s → IsSendable s
-    → Passes line script passed signal waiting check dlci loses s result → result ≡ Ok (unhindered loses s)
+    → signal ≡ signal_of check (sender_of line) dlci s → IsSendable s → ChecksAgree check hearing s
+    → Passes line script passed signal waiting hearing dlci loses s result → result ≡ Ok (unhindered loses s)
+
+-- The bits of a slot tell what was sent in it, among all that can be coded at its size and flag phase with this check, by this sender on this channel.
+abbrev pub SlotsTellWhatWasSent : Type 0
+SlotsTellWhatWasSent = (check : Check) (sender : Role) (dlci symbols phase : ℕ) (s other : Sent) → dlci < 64 → phase < 8 → HEAD + TAIL < symbols
+    → IsCodable check sender dlci symbols phase s → IsCodable check sender dlci symbols phase other
+    → slot_bits (4 * symbols) phase (slot_of (4 * symbols) (signal_of check sender dlci s)) ≡ slot_bits (4 * symbols) phase (slot_of (4 * symbols) (signal_of check sender dlci other))
+    → s ≡ other

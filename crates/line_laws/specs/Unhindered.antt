@@ -2,7 +2,9 @@
 use Rattle.std.specs.Prelude.{◌≡◌, ℕ, ◌<◌, Bool, if◌then◌else◌, List, [], ◌∷◌, replicate}
 use Rattle.slot_contents.specs.declared.seen.Seen.{Seen}
 use Rattle.slot_contents.specs.declared.seen.Seen.TheVariants as seen
+use Rattle.frame_check.specs.declared.check.Check.{Check}
 use Rattle.roles.specs.declared.role.Role.{Role}
+use Rattle.lapm_frames.specs.Checked.{check_for}
 use Rattle.lapm_frames.specs.declared.frame.Frame.{Frame}
 use Rattle.slot_contents.specs.declared.sent.Sent.{Sent}
 use Rattle.slot_contents.specs.declared.sent.Sent.TheVariants as sent
@@ -35,3 +37,11 @@ patterns_in (sent.Frame frame) = []
 -- What is to be heard: a message passes, unless a line of the script loses it, and an empty slot is nothing.
 abbrev pub unhindered : Bool → Sent → Heard
 unhindered loses s = if is_message s then (if loses then heard.Lost s else heard.Passed s) else heard.Nothing
+
+-- Two ends' checks agree on what is sent. They may differ, as they do while offers cross, unless it is a frame with numbers.
+abbrev pub ChecksAgree : Check → Check → Sent → Type 0
+ChecksAgree check hearing sent.Mark = Unit {0}
+ChecksAgree check hearing sent.Odp = Unit {0}
+ChecksAgree check hearing sent.Adp = Unit {0}
+ChecksAgree check hearing sent.Flags = Unit {0}
+ChecksAgree check hearing (sent.Frame frame) = check_for check frame ≡ check_for hearing frame

@@ -3,6 +3,7 @@ ghost use Rattle.line_laws.specs.Laws.{LaterLinesDisplaceNone, EmptyScriptDispla
 ghost use Rattle.line_laws.specs.Laws.{CodableFits, CodableIsSendable, SpelledInOctets, FewOctetsBesidesInformation, ShortIsCodable};
 ghost use Rattle.line_laws.specs.Laws.{EachIsRecorded, SlotsAreRecorded, LossStays, LossIsInEachRecording};
 ghost use Rattle.line_laws.specs.Laws.{NeverLost, ReceivedIsSent, SentIsReceived, HeardIsSent, NeverChance, PassesUnhindered};
+ghost use Rattle.line_laws.specs.Laws.{SlotsTellWhatWasSent};
 
 use detection::laws::{patterns_are_plain, seen_is_sent, sights_stay};
 
@@ -30,6 +31,13 @@ pub fn codable_slots_fit()
     ensures few { FewOctetsBesidesInformation }
     ensures short { ShortIsCodable }
 {}
+
+/// The bits of a slot tell what was sent in it: of all that can be coded there, one thing alone has these bits.
+pub fn slots_tell_what_was_sent()
+    ensures { SlotsTellWhatWasSent }
+{
+    patterns_are_plain();
+}
 
 /// Whatever the script, each list of bits in fours has a recording.
 pub fn each_list_of_fours_is_recorded()
