@@ -13,7 +13,7 @@ use Rattle.xid_params.specs.declared.offer.Offer.{Offer}
 use Rattle.xid_params.specs.declared.parameter.Parameter.TheVariants.{TxLength, RxLength, TxWindow, RxWindow}
 use Rattle.xid_params.specs.Parts.{Part, group_octets, named, number_of}
 use Rattle.xid_params.specs.Parameters.{identifier_of, accepts, is_low, octets_of_bits, segments_of, stands_well, said, offer_of, AreWell}
-use Rattle.xid_params.specs.Offers.{IsEnd, GroupsSpell, OfferSpelling, offer_in, AreOctets, IsAllowed}
+use Rattle.xid_params.specs.Offers.{IsEnd, GroupsSpell, OfferSpelling, offer_in, IsAllowed}
 use Rattle.xid_params.specs.Faults.{place_of, place_behind, IsGroupWrong, IsParameterWrong, GroupHas, InnerHas, IsNoXid, Has, FirstFault}
 use Rattle.xid_params.specs.Gathered.{Offers}
 use Rattle.xid_params.proofs.Lists.{group-free, compare}
@@ -21,6 +21,7 @@ use Rattle.xid_params.proofs.Tables.{and-right, well-none}
 use Rattle.xid_params.proofs.Parameters.{within}
 use Rattle.xid_params.proofs.Groups.{further, place-more, inner-from}
 use Rattle.xid_params.proofs.Found.{spelled-is-found, found-is-spelled}
+use Rattle.xid_params.proofs.Small.{AreSmall}
 
 -- what is gathered of the groups of a spelling
 gathered : (groups : List Part) (offer : Offer) → GroupsSpell (named 128 groups) offer → (o : Option Offer) × Offers o groups
@@ -145,7 +146,7 @@ is-fault octets (Err first) err fault e = (let same : first ≡ fault = cc in su
 pub all-faults : (octets : List ℕ) (result : Result Offer XidFault) → IfOk result (OfferSpelling octets) → IfErr result (FirstFault octets) → (fault : XidFault) → (result ≡ Err fault) ↔ FirstFault octets fault
 all-faults octets result ok err fault = (is-fault octets result err fault, fault-is octets result ok err fault)
 
-pub same-found : (octets : List ℕ) (result : Result Offer XidFault) → AreOctets octets → IfOk result (OfferSpelling octets) → IfErr result (FirstFault octets) → result_ok result ≡ offer_in octets
+pub same-found : (octets : List ℕ) (result : Result Offer XidFault) → AreSmall octets → IfOk result (OfferSpelling octets) → IfErr result (FirstFault octets) → result_ok result ≡ offer_in octets
 same-found octets (Ok found) are ok err = sym (spelled-is-found octets found ok)
 same-found octets (Err fault) are ok err = go (offer_in octets) refl where
   go : (found : Option Offer) → offer_in octets ≡ found → None ≡ offer_in octets

@@ -11,8 +11,9 @@ use Rattle.xid_params.specs.declared.parameter.Parameter.{Parameter}
 use Rattle.xid_params.specs.declared.parameter.Parameter.TheVariants.{Functions, TxLength, RxLength, TxWindow, RxWindow}
 use Rattle.xid_params.specs.Parts.{Part, group_octets, parameter_octets, named}
 use Rattle.xid_params.specs.Parameters.{identifier_of, stands_well, offer_of, AreWell, ParametersSpell}
-use Rattle.xid_params.specs.Offers.{IsEnd, GroupsSpell, OfferSpelling, before, groups_in, parameters_in, all_well, offer_with, offer_of_groups, offer_in, AreOctets, SpellingIsFound}
+use Rattle.xid_params.specs.Offers.{IsEnd, GroupsSpell, OfferSpelling, before, groups_in, parameters_in, all_well, offer_with, offer_of_groups, offer_in, SpellingIsFound}
 use Rattle.xid_params.proofs.Tables.{and-left, and-right, and-both}
+use Rattle.xid_params.proofs.Small.{AreSmall, small}
 
 -- from a spelling to what is found
 
@@ -126,7 +127,7 @@ one-before : (identifier : ℕ) (value : List ℕ) (found : Option (List Part)) 
 one-before identifier value None parts e = cc
 one-before identifier value (Some more) parts e = (more, refl, cc)
 
-octets-drop : (n : ℕ) (octets : List ℕ) → AreOctets octets → AreOctets (drop n octets)
+octets-drop : (n : ℕ) (octets : List ℕ) → AreSmall octets → AreSmall (drop n octets)
 octets-drop n octets are i = let here = are (n + i) in grind (arith, common_steps)
 
 begins-more : (identifier high low : ℕ) (tail : List ℕ) (groups more : List Part) → nat_eq identifier 255 ≡ false → 256 * high + low ≤ length tail → low < 256 → Begins (drop (256 * high + low) tail) more
@@ -160,7 +161,7 @@ one-group room identifier high low tail groups small others false other e = go (
       let p = one-before identifier (take (256 * high + low) tail) (groups_in room (drop (256 * high + low) tail)) groups h in
       begins-more identifier high low tail groups p.0 other fits small (others p.0 p.1) p.2
 
-groups-back : (room : ℕ) (octets : List ℕ) (groups : List Part) → AreOctets octets → length octets ≤ room → groups_in room octets ≡ Some groups → Begins octets groups
+groups-back : (room : ℕ) (octets : List ℕ) (groups : List Part) → AreSmall octets → length octets ≤ room → groups_in room octets ≡ Some groups → Begins octets groups
 groups-back zero [] groups are fits e = let empty : [] ≡ groups = cc in subst (Begins []) empty (record { rest = []; whole = refl; none_ends = refl; ends = tt })
 groups-back zero (x ∷ octets) groups are fits e = absurd (omega arith)
 groups-back (suc room) [] groups are fits e = let empty : [] ≡ groups = cc in subst (Begins []) empty (record { rest = []; whole = refl; none_ends = refl; ends = tt })
@@ -229,7 +230,7 @@ found-behind rest (Some groups) offer back e =
     let b = back groups refl in
     record { groups = groups; rest = b.rest; passes = record { whole = ap (λ o. 130 ∷ o) b.whole; none_ends = b.none_ends }; ends = b.ends; offers = found-groups (named 128 groups) offer e }
 
-pub found-is-spelled : (octets : List ℕ) (offer : Offer) → AreOctets octets → offer_in octets ≡ Some offer → OfferSpelling octets offer
+pub found-is-spelled : (octets : List ℕ) (offer : Offer) → AreSmall octets → offer_in octets ≡ Some offer → OfferSpelling octets offer
 found-is-spelled [] offer are e = cc
 found-is-spelled (first ∷ rest) offer are e = go (nat_eq first 130) refl e where
   go : (b : Bool) → nat_eq first 130 ≡ b → cond b (option_and_then (λ groups. offer_of_groups (named 128 groups)) (groups_in (length rest) rest)) None ≡ Some offer → OfferSpelling (first ∷ rest) offer
@@ -240,4 +241,4 @@ found-is-spelled (first ∷ rest) offer are e = go (nat_eq first 130) refl e whe
       (found-behind rest (groups_in (length rest) rest) offer (λ groups g. groups-back (length rest) rest groups (λ i. are (suc i)) (omega arith) g) h)
 
 pub spelling_is_found_always : SpellingIsFound
-spelling_is_found_always octets offer are = (found-is-spelled octets offer are, spelled-is-found octets offer)
+spelling_is_found_always octets offer are = (found-is-spelled octets offer (small octets are), spelled-is-found octets offer)

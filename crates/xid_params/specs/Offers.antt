@@ -8,6 +8,7 @@ use Rattle.xid_params.specs.declared.parameter.Parameter.TheVariants.{Functions,
 use Rattle.xid_params.specs.Parts.{Part, group_octets, named}
 use Rattle.xid_params.specs.Parameters.{identifier_of, stands_well, offer_of, ParametersSpell}
 use Rattle.xid_params.specs.Terms.{default_offer}
+use Rattle.plain_lists.specs.Octets.{AreOctets}
 
 -- The field begins with 82 and these groups, none of which is FF, and goes on so.
 pub record Passes (octets : List ℕ) (groups : List Part) (rest : List ℕ) : Type 0 where
@@ -106,10 +107,6 @@ ReadsWritten = (o : Offer) → IsAllowed o → offer_in (written o) ≡ Some o
 -- What is written spells the offer.
 abbrev pub WrittenSpells : Type 0
 WrittenSpells = (o : Offer) → IsAllowed o → OfferSpelling (written o) o
-
--- numbers that are octets
-abbrev pub AreOctets : List ℕ → Type 0
-AreOctets octets = (i : ℕ) → slice_index octets i < 256
 
 -- The function and the relation are one.
 abbrev pub SpellingIsFound : Type 0
