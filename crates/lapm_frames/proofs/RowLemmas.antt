@@ -72,8 +72,8 @@ most_too other f = by_form (λ parts. control_octet (parts_of other) ≡ control
     (λ ns nr pf info e. let most = (information-at other f (omega (arith, e))).longest in omega (arith, most))
     (λ name control command nr pf k e. let one = (supervisory-at other (rw e k.odd)).one in omega (arith, one))
     (λ name control command pf info k e.
-      let most = no_more control pf other k.odd k.unmarked f e in
-      rw k.informs (omega (arith, most)))
+    let most = no_more control pf other k.odd k.unmarked f e in
+    rw k.informs (omega (arith, most)))
 
 too_many : (frame : Frame) (sender : Role) (dlci : ℕ) (octets : List ℕ) → IsFrame frame → take 2 octets ≡ address_of (parts_of frame).command sender dlci ∷ control_octet (parts_of frame) ∷ [] → most_octets frame < length octets → IsLong sender dlci octets (length octets)
 too_many frame sender dlci [] f e over = cc

@@ -5,12 +5,12 @@ use Rattle.lapm_frames.specs.declared.frame.Frame.TheVariants.{I, Rr, Rnr, Rej, 
 
 -- The parts of a frame.
 pub record FrameParts : Type 0 where
-  pub name : List ℕ           -- what texts call its kind
-  pub command : Bool          -- a command, or a response
-  pub control : ℕ             -- the control octet of its kind, without N(S) and P/F
-  pub ns : Option ℕ           -- N(S)
-  pub nr : Option ℕ           -- N(R)
-  pub pf : Bool               -- the poll bit of a command, the final bit of a response
+  pub name : List ℕ  -- what texts call its kind
+  pub command : Bool  -- a command, or a response
+  pub control : ℕ  -- the control octet of its kind, without N(S) and P/F
+  pub ns : Option ℕ  -- N(S)
+  pub nr : Option ℕ  -- N(R)
+  pub pf : Bool  -- the poll bit of a command, the final bit of a response
   pub info : Option (List ℕ)  -- the information
 
 -- I frames have both numbers and information,

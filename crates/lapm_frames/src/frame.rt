@@ -4,8 +4,8 @@ ghost use Rattle.lapm_frames.specs.Parts.{parts_of};
 ghost use Rattle.lapm_frames.specs.Seen.{seen};
 
 use crate::Parts;
-use crate::parts::{supervisory, unnumbered};
 use crate::control::{DISC, DM, FRMR, REJ, RNR, RR, SABME, SREJ, TEST, UA, UI, XID};
+use crate::parts::{supervisory, unnumbered};
 use frame_check::Info;
 
 /// A frame of ITU-T V.42. `command` tells a command from a response where the kind has both, `ns` and `nr` are the numbers N(S) and

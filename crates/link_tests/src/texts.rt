@@ -1,8 +1,7 @@
 // The text of each kind of frame, and numbers as texts.
-use line_texts::put_decimal;
 use frame_check::Octets;
-use line_texts::{FrameText, write_frame_text};
 use lapm_frames::read;
+use line_texts::{FrameText, put_decimal, write_frame_text};
 use roles::Role;
 use std::test::Fail;
 
