@@ -1,13 +1,12 @@
 -- For which past a decoder stands: the samples that were pushed and the labels that were taken.
-use Rattle.std.specs.Prelude.{◌≡◌, ℕ, ◌+◌, ◌*◌, ◌^◌, ◌<◌, ◌≤◌, Bool, List, ◌++◌, length, take, reverse, min, All, Option, Some, None, refl}
-use Rattle.std.specs.Coded.{Coded, code_by, coded×, coded_list, coded_option, coded_ℕ}
+use Rattle.std.specs.Prelude.{◌≡◌, ℕ, ◌+◌, ◌*◌, ◌^◌, ◌<◌, ◌≤◌, Bool, List, ◌++◌, length, take, reverse, min, All, Option, Some, None}
 use Rattle.symbol_map.specs.declared.sample.Sample.{Sample}
 use Rattle.survivors.specs.Trellises.{trellis_of}
 use Rattle.survivors.specs.Survivors.{IsReleased, LostIs}
 use Rattle.exact_decoder.specs.Columns.{sums_at}
 use Rattle.trellis_tables.specs.Sequences.{Leads}
 use Rattle.exact_decoder.specs.Kept.{Kept, KeepsSurvivors}
-use Rattle.exact_decoder.specs.Memory.{Memory, sealed, opened, memory_code}
+use Rattle.exact_decoder.specs.Memory.{Memory, Sealed, opened}
 
 -- What is seen of a decoder: its sealed memory of the survivors, how many samples were pushed before the line was lost, the labels
 -- that are released and not taken, and with which symbol the line was lost.
@@ -17,14 +16,9 @@ pub record Decoding : Type 0 where
   pub pending : List ℕ
   pub lost : Option ℕ
 
-abbrev pub decoding_code : Coded Decoding
-decoding_code =
-    code_by (Memory × (ℕ × (List ℕ × Option ℕ))) (coded× memory_code (coded× coded_ℕ (coded× (coded_list coded_ℕ) (coded_option coded_ℕ))))
-    (λ d. (d.memory, (d.count, (d.pending, d.lost)))) (λ p. record { memory = p.0; count = p.1.0; pending = p.1.1.0; lost = p.1.1.1 }) (λ _. refl)
-
 -- the same of survivors, with the pending labels from the last
 abbrev pub decoding_of : Kept → ℕ → List ℕ → Option ℕ → Decoding
-decoding_of survivors count labels lost = record { memory = sealed survivors; count = count; pending = reverse labels; lost = lost }
+decoding_of survivors count labels lost = record { memory = Sealed survivors; count = count; pending = reverse labels; lost = lost }
 
 -- each state that this one leads to in so many steps has a sum of at most as many greatest distances
 abbrev pub IsNearAfter : (ℕ → ℕ → Option ℕ) → (ℕ → Option ℕ) → ℕ → ℕ → Type 0

@@ -44,11 +44,9 @@ impl<
     const LABELS: usize,
     const DEPTH: usize,
 > Model for Decoder<C, STATES, LABELS, DEPTH> {
-    ghost use Rattle.exact_decoder.specs.Decoder.{Decoding, IsSound, decoding_of, decoding_code};
+    ghost use Rattle.exact_decoder.specs.Decoder.{Decoding, IsSound, decoding_of};
 
     ghost Value = { Decoding };
-
-    ghost coded = { decoding_code };
 
     ghost view = { λ d. decoding_of d.survivors d.count d.pending d.lost };
 

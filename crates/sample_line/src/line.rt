@@ -44,13 +44,9 @@ impl Model for Line {
     ghost use Rattle.frame_check.specs.declared.sizes.TheConstants.{SLOT};
     ghost use Rattle.bit_stuffing.specs.declared.slot_writer.TheConstants.{HEAD, TAIL};
     ghost use Rattle.std.specs.Prelude.{None, []};
-    ghost use Rattle.std.specs.Coded.{codes};
-    ghost use Rattle.exact_decoder.specs.Decoder.{decoding_code};
     ghost use Rattle.sample_line.specs.Line.{Kept};
 
     ghost Value = { Kept };
-
-    ghost coded = { Prim.hlevel (codes, decoding_code) };
 
     ghost view = { λ l. record { writer = l.writer; passed = l.passed; path = l.path } };
 

@@ -2,14 +2,14 @@ use Rattle.std.proofs.Common.{◌≡◌, ◌<◌, ◌≤◌, ◌++◌, None, [],
 use Rattle.std.proofs.lemmas.List.Elements.{All-same}
 use Rattle.survivors.specs.Trellises.{trellis_of}
 use Rattle.survivors.specs.Survivors.{IsFirstLeast}
-use Rattle.exact_decoder.specs.Memory.{Memory, sealed, opened}
+use Rattle.exact_decoder.specs.Memory.{opened}
 use Rattle.exact_decoder.specs.Decoder.{decoding_of, DecoderStands}
 use Rattle.exact_decoder.proofs.Keeping.{All-turned}
 use Rattle.exact_decoder.proofs.Taken.{stands-final}
 use Rattle.exact_decoder.proofs.decoder.Decoder.finish.Goals as goal
 
 pub returns-clause-least : goal.returns-clause-least
-unfolding Memory sealed opened
+unfolding opened
 returns-clause-least g c = λ starts samples taken h.
     let t = g.C.TrellisCode in
     let old = decoding_of c.self.inside.survivors c.self.inside.count c.self.inside.pending c.self.inside.lost in
@@ -21,11 +21,11 @@ returns-clause-least g c = λ starts samples taken h.
     (stands-final t.table t.points g.row.DEPTH starts old samples taken l.0 runs none l.1 was)
 
 pub returns-clause-bound : goal.returns-clause-bound
-unfolding Memory sealed opened
+unfolding opened
 returns-clause-bound g c = All-same (λ x. x < g.row.LABELS) c.of.result (reverse c.least.result) c.of.ensures (All-turned (λ x. x < g.row.LABELS) c.least.result c.least.ensures.below)
 
 pub of-requires : goal.of-requires
-unfolding Memory sealed opened
+unfolding opened
 of-requires g c =
     let runs : c.self.inside.lost ≡ None = subst (λ v. v.lost ≡ None) (sym c.self.view_is) c.requires.lost in
     let few : c.self.inside.survivors.unreleased ≤ g.row.DEPTH = c.self.invariant.room runs in

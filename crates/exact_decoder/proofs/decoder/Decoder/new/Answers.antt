@@ -2,14 +2,14 @@ use Rattle.std.proofs.lemmas.Bool.{eq-eqb}
 use Rattle.std.proofs.Common.{◌≡◌, ◌<◌, nat_eq, set, replicate, Some, None, [], length, reverse, refl, ◌∙◌, ap, subst, arith}
 use Rattle.std.proofs.lemmas.List.Elements.{All-same, All-nil}
 use Rattle.exact_decoder.specs.Columns.{sums_at}
-use Rattle.exact_decoder.specs.Memory.{Memory, sealed, opened}
+use Rattle.exact_decoder.specs.Memory.{opened}
 use Rattle.exact_decoder.specs.Decoder.{decoding_of}
 use Rattle.exact_decoder.proofs.Spreading.{spread-start}
 use Rattle.exact_decoder.proofs.Started.{one_start, start-small, start-reached, start-stands}
 use Rattle.exact_decoder.proofs.decoder.Decoder.new.Goals as goal
 
 pub invariant_of-result : goal.invariant_of-result
-unfolding Memory sealed opened
+unfolding opened
 invariant_of-result g c =
     let t = g.C.TrellisCode in
     let sums = ap (λ v. v.sums) c.in_ok-new.ensures in
@@ -28,7 +28,7 @@ invariant_of-result g c =
     }
 
 pub returns-clause-stands : goal.returns-clause-stands
-unfolding Memory sealed opened
+unfolding opened
 returns-clause-stands g c =
     let t = g.C.TrellisCode in
     start-stands t.table t.points (λ state. nat_eq state c.args.start) g.row.STATES g.row.DEPTH c.args.start (set (replicate g.row.STATES None) c.args.start (Some 0)) (decoding_of c.in_ok-new.field-0 0 c.new-2.result None)

@@ -2,14 +2,14 @@ use Rattle.std.proofs.Common.{◌≡◌, ◌<◌, nat_lt, replicate, Some, None,
 use Rattle.std.proofs.lemmas.Bool.{lt-ltb}
 use Rattle.std.proofs.lemmas.List.Elements.{All-same, All-nil}
 use Rattle.exact_decoder.specs.Columns.{sums_at}
-use Rattle.exact_decoder.specs.Memory.{Memory, sealed, opened}
+use Rattle.exact_decoder.specs.Memory.{opened}
 use Rattle.exact_decoder.specs.Decoder.{decoding_of}
 use Rattle.exact_decoder.proofs.Spreading.{spread-start}
 use Rattle.exact_decoder.proofs.Started.{get_or-replicate, any_start, any-small, start-stands}
 use Rattle.exact_decoder.proofs.decoder.Decoder.new_any.Goals as goal
 
 pub invariant_of-result : goal.invariant_of-result
-unfolding Memory sealed opened
+unfolding opened
 invariant_of-result g c =
     let t = g.C.TrellisCode in
     let some : 0 < g.row.STATES = omega (arith, g.met.C.TrellisCode.states_few.0) in
@@ -29,7 +29,7 @@ invariant_of-result g c =
     }
 
 pub returns-clause-stands : goal.returns-clause-stands
-unfolding Memory sealed opened
+unfolding opened
 returns-clause-stands g c =
     let t = g.C.TrellisCode in
     let some : 0 < g.row.STATES = omega (arith, g.met.C.TrellisCode.states_few.0) in

@@ -1,6 +1,6 @@
 use Rattle.std.proofs.Common.{◌≡◌, ◌+◌, ◌*◌, ◌<◌, ◌≤◌, ◌^◌, ◌++◌, min, lit<, Some, [], reverse, refl, sym, ◌∙◌, ap, subst, arith}
 use Rattle.std.proofs.Math.Nat.{min-le_right}
-use Rattle.exact_decoder.specs.Memory.{Memory, sealed, opened}
+use Rattle.exact_decoder.specs.Memory.{opened}
 use Rattle.exact_decoder.specs.Decoder.{decoding_of, DecoderStands}
 use Rattle.exact_decoder.proofs.Keeping.{All-turned}
 use Rattle.exact_decoder.proofs.Pushed.{Pushed, stands-goes_on, stands-lost, stands-stays}
@@ -8,12 +8,12 @@ use Rattle.exact_decoder.proofs.Spreading.{sound-next}
 use Rattle.exact_decoder.proofs.decoder.Decoder.push.Goals as goal
 
 pub returns-in-Some-clause-stands : goal.returns-in-Some-clause-stands
-unfolding Memory sealed opened
+unfolding opened
 returns-in-Some-clause-stands g c = λ starts samples taken h.
     stands-stays g.C.TrellisCode.table g.C.TrellisCode.points g.row.DEPTH starts c.args.sample c.args.self.now samples taken c.in-Some.symbol (ap (λ v. v.lost) (sym c.self.view_is) ∙ c.in-Some.is) h
 
 pub invariant_of-self : goal.invariant_of-self
-unfolding Memory sealed opened
+unfolding opened
 invariant_of-self g c =
     let t = g.C.TrellisCode in
     let met = g.met.C.TrellisCode in
@@ -24,7 +24,7 @@ invariant_of-self g c =
     c.push.ensures.stepped c.release.ensures.released refl (All-turned (λ x. x < g.row.LABELS) c.release.new.labels c.release.ensures.below) (λ e. absurd cc)
 
 pub returns-then-unreleased-clause-stands : goal.returns-then-unreleased-clause-stands
-unfolding Memory sealed opened
+unfolding opened
 returns-then-unreleased-clause-stands g c = λ starts samples taken h.
     let t = g.C.TrellisCode in
     let met = g.met.C.TrellisCode in
@@ -36,7 +36,7 @@ returns-then-unreleased-clause-stands g c = λ starts samples taken h.
     stands-lost t.table t.points g.row.STATES g.row.LABELS g.row.DEPTH starts c.args.sample old new samples taken met.bounded met.enters_once c.in_default.is refl (omega (arith, c.if-unreleased.true, c.unreleased.ensures)) p was
 
 pub invariant_of-self-else-unreleased : goal.invariant_of-self-else-unreleased
-unfolding Memory sealed opened
+unfolding opened
 invariant_of-self-else-unreleased g c =
     let t = g.C.TrellisCode in
     let met = g.met.C.TrellisCode in
@@ -47,7 +47,7 @@ invariant_of-self-else-unreleased g c =
     c.push.ensures.stepped c.release.ensures.released refl (All-turned (λ x. x < g.row.LABELS) c.release.new.labels c.release.ensures.below) (λ e. omega (arith, c.if-unreleased.false, c.unreleased.ensures))
 
 pub returns-clause-stands : goal.returns-clause-stands
-unfolding Memory sealed opened
+unfolding opened
 returns-clause-stands g c = λ starts samples taken h.
     let t = g.C.TrellisCode in
     let met = g.met.C.TrellisCode in
@@ -59,7 +59,7 @@ returns-clause-stands g c = λ starts samples taken h.
     stands-goes_on t.table t.points g.row.STATES g.row.LABELS g.row.DEPTH starts c.args.sample old new samples taken met.bounded met.enters_once c.in_default.is c.in_default.is (omega (arith, c.if-unreleased.false, c.unreleased.ensures)) p was
 
 pub push-requires : goal.push-requires
-unfolding Memory sealed opened
+unfolding opened
 push-requires g c =
     let t = g.C.TrellisCode in (
       lit< tt,
