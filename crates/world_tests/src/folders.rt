@@ -102,8 +102,8 @@ fn the_disk_keeps_long_pieces(rt: HostRuntime) -> Result<(), Fail> {
     let piece = long_piece();
     folder.append("long", &piece)?;
     let mut buf = [0u8; 1600];
-    assert!(rt; folder.read_at("long", 0, &mut buf)? == 1500);
-    assert!(rt; &buf[..1500] == piece.as_slice());
+    let count = folder.read_at("long", 0, &mut buf)?;
+    assert!(rt; &buf[..count] == piece.as_slice());
     Ok(())
 }
 
@@ -175,10 +175,10 @@ fn long_reads_end_with_the_reader_alone(rt: HostRuntime) -> Result<(), Fail> {
 fn long_writes_end_with_the_writer_alone(rt: HostRuntime) -> Result<(), Fail> {
     let piece = long_piece();
     let fault = Some(ErrorKind::BrokenPipe);
-    for (left, end) in [(2000, None), (1500, fault)] {
+    for (left, end, rest) in [(2000, None, 500), (1500, fault, 0)] {
         let mut writer = transfer_of(left, end);
         write_all(&mut writer, &piece)?;
-        assert!(rt; writer.left + 1500 == left, "{left}");
+        assert!(rt; writer.left == rest, "{left}");
     }
     for (end, kind) in [(fault, ErrorKind::BrokenPipe), (None, ErrorKind::WriteZero)] {
         match write_all(&mut transfer_of(1100, end), &piece) {
