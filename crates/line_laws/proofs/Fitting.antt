@@ -77,7 +77,7 @@ pub short-codable : (check : Check) (sender : Role) (dlci symbols phase most : �
     → IsCodable check sender dlci symbols phase (sent.Frame frame)
 short-codable check sender dlci symbols phase most frame low is few room =
     let long = length-opening phase (checked check sender dlci frame) low in
-    (is, omega (arith, long, few, room))
+    record { sendable = is; room = omega (arith, long, few, room) }
 
 -- the octets of a frame
 
@@ -107,7 +107,7 @@ codable-sendable check sender dlci symbols phase sent.Mark k = tt
 codable-sendable check sender dlci symbols phase sent.Odp k = tt
 codable-sendable check sender dlci symbols phase sent.Adp k = tt
 codable-sendable check sender dlci symbols phase sent.Flags k = tt
-codable-sendable check sender dlci symbols phase (sent.Frame frame) k = k.0
+codable-sendable check sender dlci symbols phase (sent.Frame frame) k = k.sendable
 
 frame-fits : (check : Check) (sender : Role) (dlci symbols phase : ℕ) (frame : Frame) → All (λ octet. octet < 256) (checked check sender dlci frame) → IsFrame frame
     → length (opening phase (Some (checked check sender dlci frame))) ≤ 4 * (symbols - TAIL) → Fits (4 * symbols) phase (FlagSlot (Some (checked check sender dlci frame)))
@@ -125,4 +125,4 @@ codable-fits check sender dlci symbols phase sent.Mark small k = tt
 codable-fits check sender dlci symbols phase sent.Odp small k = tt
 codable-fits check sender dlci symbols phase sent.Adp small k = tt
 codable-fits check sender dlci symbols phase sent.Flags small k = tt
-codable-fits check sender dlci symbols phase (sent.Frame frame) small k = frame-fits check sender dlci symbols phase frame small k.0.0 k.1
+codable-fits check sender dlci symbols phase (sent.Frame frame) small k = frame-fits check sender dlci symbols phase frame small k.sendable.0 k.room

@@ -37,4 +37,4 @@ fits check sender dlci phase sent.Odp low h = tt
 fits check sender dlci phase sent.Adp low h = tt
 fits check sender dlci phase sent.Flags low h = tt
 fits check sender dlci phase (sent.Frame frame) low h =
-    (h, omega (arith, length-opening phase (checked check sender dlci frame) low, checked-short check sender dlci frame h.0))
+    record { sendable = h; room = omega (arith, length-opening phase (checked check sender dlci frame) low, checked-short check sender dlci frame h.0) }
