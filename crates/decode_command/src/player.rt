@@ -31,8 +31,8 @@ use symbol_map::Sample;
 /// How many octets a sample has.
 const SAMPLE: usize = 4;
 
-/// How many octets are read at a time: there is room for those that their samples give.
-const PIECE: usize = 512;
+/// How many octets are read at a time: there is room for those that their samples give. Each piece opens both files anew.
+const PIECE: usize = 4_096;
 
 /// The coordinate that two octets from a place on are, the low one first.
 fn coordinate_at(octets: &[u8], place: usize) -> i16
@@ -94,18 +94,23 @@ pub(crate) struct Step {
     pub given: usize,
 }
 
-/// Plays the next piece of the recording, and writes the octets that it gives. Nothing is read at the recording's end.
+/// Plays the next piece of the recording, and writes the octets that it gives. Nothing is read at the recording's end. What stood in
+/// the piece and in the list of octets is replaced.
 pub(crate) fn play_next<F: Folder, const TAP: usize>(
     folder: &mut F,
     names: &DecodeWords<'_>,
     mode: Mode,
     playback: &mut Playback<TAP>,
+    piece: &mut [u8],
+    octets: &mut Octets<ROOM>,
     at: u64,
 ) -> Result<Step, DecodeFault>
     requires tap { tap_of mode ≡ TAP }
     requires apart { are_apart (named names.now) ≡ true }
+    requires size { length piece.old ≡ PIECE }
     requires within { at ≤ RECORDING_LIMIT }
     requires ready { IsReady playback.old at }
+    ensures size { length piece.new ≡ PIECE }
     ensures ok { (start : FolderState) (written : ℕ) → PlayedTo start (F.state folder.old) (named names.now) mode playback.old at written
         → IfOk result (λ step. PlayedTo start (F.state folder.new) (named names.now) mode playback.new (at + step.read) (written + step.given)) }
     ensures end { (start : FolderState) (written : ℕ) → PlayedTo start (F.state folder.old) (named names.now) mode playback.old at written
@@ -118,13 +123,12 @@ pub(crate) fn play_next<F: Folder, const TAP: usize>(
     ensures only { OnlyOutput (F.state folder.old) (F.state folder.new) names.now.file.now }
     ensures stand { MatchResult result (λ step. CountsStand (F.state folder.old) (F.state folder.new)) (λ fault. PassesNoneOver (F.state folder.old) (F.state folder.new) (fault_status fault)) }
 {
-    let mut piece = [0u8; PIECE];
-    let read = match read_piece(folder, names.rec, RECORDING_LIMIT, at, &mut piece) {
+    let read = match read_piece(folder, names.rec, RECORDING_LIMIT, at, piece) {
         Ok(read) => read,
         Err(fault) => return Err(read_fault(fault)),
     };
-    let mut octets = Octets::new();
-    let played = play_piece(playback, &piece[..read], &mut octets);
+    octets.clear();
+    let played = play_piece(playback, &piece[..read], octets);
     match append_output(folder, names.file, octets.as_slice()) {
         Ok(()) => {}
         Err(fault) => return Err(write_fault(fault)),
@@ -163,10 +167,20 @@ pub(crate) fn play_to_end<F: Folder, const TAP: usize>(
     ensures only { OnlyOutput (F.state folder.old) (F.state folder.new) names.now.file.now }
     ensures stand { PassesNoneOver (F.state folder.old) (F.state folder.new) (status_of result) }
 {
+    let mut piece = [0u8; PIECE];
+    let mut octets = Octets::new();
     let mut at = HEADER as u64;
     let mut written: u64 = 0;
     loop {
-        match play_next(folder, names, mode, playback, at) {
+        match play_next(
+            folder,
+            names,
+            mode,
+            playback,
+            &mut piece,
+            &mut octets,
+            at,
+        ) {
             Ok(step) if step.read == 0 => return Ok(written + step.given as u64),
             Ok(step) => {
                 at += step.read as u64;
