@@ -172,15 +172,7 @@ pub(crate) fn play_to_end<F: Folder, const TAP: usize>(
     let mut at = HEADER as u64;
     let mut written: u64 = 0;
     loop {
-        match play_next(
-            folder,
-            names,
-            mode,
-            playback,
-            &mut piece,
-            &mut octets,
-            at,
-        ) {
+        match play_next(folder, names, mode, playback, &mut piece, &mut octets, at) {
             Ok(step) if step.read == 0 => return Ok(written + step.given as u64),
             Ok(step) => {
                 at += step.read as u64;
