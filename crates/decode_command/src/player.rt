@@ -32,7 +32,7 @@ use symbol_map::Sample;
 const SAMPLE: usize = 4;
 
 /// How many octets are read at a time: there is room for those that their samples give. Each piece opens both files anew.
-const PIECE: usize = 8_192;
+const PIECE: usize = 2_048;
 
 /// The coordinate that two octets from a place on are, the low one first.
 fn coordinate_at(octets: &[u8], place: usize) -> i16
