@@ -1,228 +1,312 @@
 -- What lines say, one line more at a time.
-use Rattle.std.proofs.Common.{◌≡◌, ℕ, ◌+◌, ◌<◌, ◌≤◌, Bool, true, false, cond, List, [], ◌∷◌, ◌++◌, length, Option, Some, None, is_some, refl, sym, ap, subst, ◌∙◌, arith, append-nil}
-use Rattle.std.specs.Global.{Vec}
+use Rattle.std.proofs.Common.{◌≡◌, ℕ, zero, suc, ◌+◌, ◌<◌, ◌≤◌, Bool, true, false, ◌&&◌, ◌||◌, cond, List, [], ◌∷◌, ◌++◌, length, filter_map, Option, Some, None, is_some, refl, sym, ap, subst, ◌∙◌, arith, append-nil, length-append}
+use Rattle.std.specs.List.{cons_option, list_any}
+use Rattle.std.proofs.lemmas.List.Elements.{filter_map-append}
 use mir.Val.{bool_byte}
 use Rattle.std.proofs.lemmas.Bool.{false≢true}
-use Rattle.noise_script.specs.declared.entry.Loss.{Loss}
-use Rattle.noise_script.specs.declared.entry.Hit.{Hit}
-use Rattle.noise_script.specs.declared.entry.Noise.{Noise}
-use Rattle.noise_script.specs.declared.entry.Delays.{Delays}
+use Rattle.roles.specs.declared.role.Role.{Role}
+use Rattle.roles.specs.declared.role.Role.TheVariants.{Originator, Answerer}
+use Rattle.roles.specs.Role.{same_role}
+use Rattle.noise_script.specs.declared.entry.Break.{Break}
 use Rattle.noise_script.specs.declared.entry.Entry.{Entry}
 use Rattle.noise_script.specs.declared.entry.Entry.TheVariants as entries
 use Rattle.noise_script.specs.declared.forms.Form.{Form}
 use Rattle.noise_script.specs.declared.forms.Form.TheVariants as forms
+use Rattle.noise_script.specs.declared.offered.Offered.{Offered}
 use Rattle.noise_script.specs.declared.draft.Draft.{Draft}
-use Rattle.noise_script.specs.Forms.{row, form_of, most}
-use Rattle.noise_script.specs.Grammar.{same_form, standing, AreAllowed, delays_in, tries_in, losses_in, hits_in, noises_in}
-use Rattle.noise_script.specs.Draft.{Holds}
+use Rattle.noise_script.specs.Forms.{Kind, row, kind_of, most}
+use Rattle.noise_script.specs.Breaks.{placed, placed_each, in_order}
+use Rattle.noise_script.specs.Grammar.{same_form, same_counted, same_kind, standing, AreAllowed, whole, each, stands, first, delays_said, tries_said, window_said, length_said, loss_said, hit_said, noise_said, break_said, pause_said, breaks_in, offered_in}
+use Rattle.noise_script.specs.Draft.{Holds, Adds, or_before, offered_of, offered_after, with_offered, placed_said}
 
-pub losses-append : (a b : List Entry) → losses_in (a ++ b) ≡ losses_in a ++ losses_in b
-losses-append [] b = refl
-losses-append (entries.Lose loss ∷ a) b = ap (λ ls. loss ∷ ls) (losses-append a b)
-losses-append (_ ∷ a) b = losses-append a b
-
-pub hits-append : (a b : List Entry) → hits_in (a ++ b) ≡ hits_in a ++ hits_in b
-hits-append [] b = refl
-hits-append (entries.Hit hit ∷ a) b = ap (λ ls. hit ∷ ls) (hits-append a b)
-hits-append (_ ∷ a) b = hits-append a b
-
-pub noises-append : (a b : List Entry) → noises_in (a ++ b) ≡ noises_in a ++ noises_in b
-noises-append [] b = refl
-noises-append (entries.Noise noise ∷ a) b = ap (λ ls. noise ∷ ls) (noises-append a b)
-noises-append (_ ∷ a) b = noises-append a b
-
--- the first delays are those of the front, where it says any
-pub delays-append : (a b : List Entry) → delays_in (a ++ b) ≡ cond (is_some (delays_in a)) (delays_in a) (delays_in b)
-delays-append [] b = refl
-delays-append (entries.Delay delays ∷ a) b = refl
-delays-append (_ ∷ a) b = delays-append a b
-
-pub tries-append : (a b : List Entry) → tries_in (a ++ b) ≡ cond (is_some (tries_in a)) (tries_in a) (tries_in b)
-tries-append [] b = refl
-tries-append (entries.Tries tries ∷ a) b = refl
-tries-append (_ ∷ a) b = tries-append a b
-
--- one line before others counts where it is of the form
-pub standing-cons : (form : Form) (entry : Entry) (said : List Entry) → standing form (entry ∷ said) ≡ cond (same_form form (form_of entry)) 1 0 + standing form said
-standing-cons form entry said = refl
-
-pub standing-append : (form : Form) (a b : List Entry) → standing form (a ++ b) ≡ standing form a + standing form b
-standing-append form [] b = let none : standing form [] ≡ 0 = refl in omega (arith, none)
-standing-append form (entry ∷ a) b =
-    let later = standing-append form a b in
-    omega (arith, later, standing-cons form entry a, standing-cons form entry (a ++ b))
-
-pub standing-one : (form : Form) (entry : Entry) → standing form (entry ∷ []) ≡ cond (same_form form (form_of entry)) 1 0
-standing-one form entry = let none : standing form [] ≡ 0 = refl in omega (arith, standing-cons form entry [], none)
-
--- how many lines of each form the lists show
-pub standing-lose : (said : List Entry) → standing forms.Lose said ≡ length (losses_in said)
-standing-lose [] = refl
-standing-lose (entries.Lose loss ∷ said) = let later = standing-lose said in omega (arith, later, standing-cons forms.Lose (entries.Lose loss) said)
-standing-lose (other ∷ said) = let later = standing-lose said in omega (arith, later, standing-cons forms.Lose other said)
-
-pub standing-hit : (said : List Entry) → standing forms.Hit said ≡ length (hits_in said)
-standing-hit [] = refl
-standing-hit (entries.Hit hit ∷ said) = let later = standing-hit said in omega (arith, later, standing-cons forms.Hit (entries.Hit hit) said)
-standing-hit (other ∷ said) = let later = standing-hit said in omega (arith, later, standing-cons forms.Hit other said)
-
-pub standing-noise : (said : List Entry) → standing forms.Noise said ≡ length (noises_in said)
-standing-noise [] = refl
-standing-noise (entries.Noise noise ∷ said) = let later = standing-noise said in omega (arith, later, standing-cons forms.Noise (entries.Noise noise) said)
-standing-noise (other ∷ said) = let later = standing-noise said in omega (arith, later, standing-cons forms.Noise other said)
-
-pub standing-delay : (said : List Entry) → standing forms.Delay said ≤ 1 → standing forms.Delay said ≡ cond (is_some (delays_in said)) 1 0
-standing-delay [] h = refl
-standing-delay (entries.Delay delays ∷ said) h = omega (arith, h, standing-cons forms.Delay (entries.Delay delays) said)
-standing-delay (other ∷ said) h = let now = standing-cons forms.Delay other said in let later = standing-delay said (omega (arith, h, now)) in omega (arith, now, later)
-
-pub standing-tries : (said : List Entry) → standing forms.Tries said ≤ 1 → standing forms.Tries said ≡ cond (is_some (tries_in said)) 1 0
-standing-tries [] h = refl
-standing-tries (entries.Tries tries ∷ said) h = omega (arith, h, standing-cons forms.Tries (entries.Tries tries) said)
-standing-tries (other ∷ said) h = let now = standing-cons forms.Tries other said in let later = standing-tries said (omega (arith, h, now)) in omega (arith, now, later)
+-- kinds
 
 same_form-is : (a b : Form) → same_form a b ≡ true → a ≡ b
 same_form-is forms.Delay forms.Delay e = refl
+same_form-is forms.Window forms.Window e = refl
+same_form-is forms.Length forms.Length e = refl
 same_form-is forms.Tries forms.Tries e = refl
+same_form-is forms.Srej forms.Srej e = refl
+same_form-is forms.Check32 forms.Check32 e = refl
 same_form-is forms.Lose forms.Lose e = refl
 same_form-is forms.Hit forms.Hit e = refl
 same_form-is forms.Noise forms.Noise e = refl
+same_form-is forms.Break forms.Break e = refl
+same_form-is forms.Busy forms.Busy e = refl
 same_form-is a b e = absurd (false≢true e)
 
-pub same_form-self : (a : Form) → same_form a a ≡ true
+same_form-self : (a : Form) → same_form a a ≡ true
 same_form-self forms.Delay = refl
+same_form-self forms.Window = refl
+same_form-self forms.Length = refl
 same_form-self forms.Tries = refl
+same_form-self forms.Srej = refl
+same_form-self forms.Check32 = refl
 same_form-self forms.Lose = refl
 same_form-self forms.Hit = refl
 same_form-self forms.Noise = refl
+same_form-self forms.Break = refl
+same_form-self forms.Busy = refl
+
+same_role-is : (a b : Role) → same_role a b ≡ true → a ≡ b
+same_role-is Originator Originator e = refl
+same_role-is Answerer Answerer e = refl
+same_role-is a b e = absurd (false≢true e)
+
+same_role-self : (a : Role) → same_role a a ≡ true
+same_role-self Originator = refl
+same_role-self Answerer = refl
+
+same_counted-is : (a b : Option Role) → same_counted a b ≡ true → a ≡ b
+same_counted-is None None e = refl
+same_counted-is (Some a) (Some b) e = ap Some (same_role-is a b e)
+same_counted-is None (Some b) e = absurd (false≢true e)
+same_counted-is (Some a) None e = absurd (false≢true e)
+
+same_counted-self : (a : Option Role) → same_counted a a ≡ true
+same_counted-self None = refl
+same_counted-self (Some a) = same_role-self a
+
+both-true : (a b : Bool) → (a && b) ≡ true → (a ≡ true) × (b ≡ true)
+both-true true b e = (refl, e)
+both-true false b e = absurd (false≢true e)
+
+same_kind-is : (a b : Kind) → same_kind a b ≡ true → a ≡ b
+same_kind-is a b e =
+    let parts = both-true (same_form a.form b.form) (same_counted a.role b.role) e in
+    alike (same_form-is a.form b.form parts.0) (same_counted-is a.role b.role parts.1)
+  where
+    alike : a.form ≡ b.form → a.role ≡ b.role → a ≡ b
+    alike f r i = record { form = f i; role = r i }
+
+same_kind-self : (a : Kind) → same_kind a a ≡ true
+same_kind-self a = rw (same_form-self a.form, same_counted-self a.role) refl
+
+-- how many lines of a kind there are
+
+standing-cons : (kind : Kind) (entry : Entry) (said : List Entry) → standing kind (entry ∷ said) ≡ cond (same_kind kind (kind_of entry)) 1 0 + standing kind said
+standing-cons kind entry said = refl
+
+standing-append : (kind : Kind) (a b : List Entry) → standing kind (a ++ b) ≡ standing kind a + standing kind b
+standing-append kind [] b = let none : standing kind [] ≡ 0 = refl in omega (arith, none)
+standing-append kind (entry ∷ a) b =
+    let later = standing-append kind a b in
+    omega (arith, later, standing-cons kind entry a, standing-cons kind entry (a ++ b))
+
+standing-one : (kind : Kind) (entry : Entry) → standing kind (entry ∷ []) ≡ cond (same_kind kind (kind_of entry)) 1 0
+standing-one kind entry = let none : standing kind [] ≡ 0 = refl in omega (arith, standing-cons kind entry [], none)
 
 pub allowed-none : AreAllowed []
-allowed-none form = omega (arith, none form)
+allowed-none kind = omega (arith, none kind)
   where
-    none : (form : Form) → standing form [] ≡ 0
-    none form = refl
+    none : (kind : Kind) → standing kind [] ≡ 0
+    none kind = refl
 
--- one line more, where its form isn't full
-pub allowed-more : (said : List Entry) (entry : Entry) → AreAllowed said → standing (form_of entry) said < most (row (form_of entry)).bound → AreAllowed (said ++ entry ∷ [])
-allowed-more said entry a h form =
-    let sum = standing-append form said (entry ∷ []) in
-    let one = standing-one form entry in
-    by-cases (same_form form (form_of entry)) refl sum one
+-- one line more, where its kind isn't full
+pub allowed-more : (said : List Entry) (entry : Entry) → AreAllowed said → standing (kind_of entry) said < most (row (kind_of entry).form).bound → AreAllowed (said ++ entry ∷ [])
+allowed-more said entry a h kind =
+    let sum = standing-append kind said (entry ∷ []) in
+    let one = standing-one kind entry in
+    by-cases (same_kind kind (kind_of entry)) refl sum one
   where
-    by-cases : (b : Bool) → same_form form (form_of entry) ≡ b → standing form (said ++ entry ∷ []) ≡ standing form said + standing form (entry ∷ []) → standing form (entry ∷ []) ≡ cond (same_form form (form_of entry)) 1 0 → standing form (said ++ entry ∷ []) ≤ most (row form).bound
+    by-cases : (b : Bool) → same_kind kind (kind_of entry) ≡ b → standing kind (said ++ entry ∷ []) ≡ standing kind said + standing kind (entry ∷ []) → standing kind (entry ∷ []) ≡ cond (same_kind kind (kind_of entry)) 1 0 → standing kind (said ++ entry ∷ []) ≤ most (row kind.form).bound
     by-cases true e sum one =
-        let same : form ≡ form_of entry = same_form-is form (form_of entry) e in
-        let here : standing form said < most (row form).bound = subst (λ f. standing f said < most (row f).bound) (sym same) h in
-        let counted : standing form (entry ∷ []) ≡ 1 = one ∙ ap (λ b. cond b 1 0) e in
+        let same : kind ≡ kind_of entry = same_kind-is kind (kind_of entry) e in
+        let here : standing kind said < most (row kind.form).bound = subst (λ (k : Kind). standing k said < most (row k.form).bound) (sym same) h in
+        let counted : standing kind (entry ∷ []) ≡ 1 = one ∙ ap (λ b. cond b 1 0) e in
         omega (arith, here, sum, counted)
     by-cases false e sum one =
-        let counted : standing form (entry ∷ []) ≡ 0 = one ∙ ap (λ b. cond b 1 0) e in
-        let before : standing form said ≤ most (row form).bound = a form in
+        let counted : standing kind (entry ∷ []) ≡ 0 = one ∙ ap (λ b. cond b 1 0) e in
+        let before : standing kind said ≤ most (row kind.form).bound = a kind in
         omega (arith, before, sum, counted)
 
 -- lines that say one thing more than is allowed
-pub allowed-full : (said : List Entry) (entry : Entry) (more : List Entry) → AreAllowed (said ++ entry ∷ more) → most (row (form_of entry)).bound ≤ standing (form_of entry) said → ⊥
+pub allowed-full : (said : List Entry) (entry : Entry) (more : List Entry) → AreAllowed (said ++ entry ∷ more) → most (row (kind_of entry).form).bound ≤ standing (kind_of entry) said → ⊥
 allowed-full said entry more a h =
-    let all = a (form_of entry) in
-    let sum = standing-append (form_of entry) said (entry ∷ more) in
-    let counted : standing (form_of entry) (entry ∷ more) ≡ 1 + standing (form_of entry) more = standing-cons (form_of entry) entry more ∙ ap (λ b. cond b 1 0 + standing (form_of entry) more) (same_form-self (form_of entry)) in
+    let all = a (kind_of entry) in
+    let sum = standing-append (kind_of entry) said (entry ∷ more) in
+    let counted : standing (kind_of entry) (entry ∷ more) ≡ 1 + standing (kind_of entry) more = standing-cons (kind_of entry) entry more ∙ ap (λ b. cond b 1 0 + standing (kind_of entry) more) (same_kind-self (kind_of entry)) in
     omega (arith, all, sum, counted, h)
 
-pub allowed-front : (said more : List Entry) → AreAllowed (said ++ more) → AreAllowed said
-allowed-front said more a form = let all = a form in let sum = standing-append form said more in omega (arith, all, sum)
+-- The lines of a kind are those that say a certain thing.
+abbrev pub Counts : {X : Type 0} → Kind → (Entry → Option X) → Type 0
+Counts kind say = (entry : Entry) → length (cons_option (say entry) []) ≡ cond (same_kind kind (kind_of entry)) 1 0
 
-same-delays : (o : Option Delays) → cond (is_some o) o None ≡ o
-same-delays None = refl
-same-delays (Some n) = refl
+pub counts-delay : Counts (whole forms.Delay) delays_said
+counts-delay (entries.Delay delays) = refl
+counts-delay _ = refl
 
-same-tries : (o : Option ℕ) → cond (is_some o) o None ≡ o
-same-tries None = refl
-same-tries (Some n) = refl
+pub counts-tries : Counts (whole forms.Tries) tries_said
+counts-tries (entries.Tries tries) = refl
+counts-tries _ = refl
+
+pub counts-lose : Counts (whole forms.Lose) loss_said
+counts-lose (entries.Lose loss) = refl
+counts-lose _ = refl
+
+pub counts-hit : Counts (whole forms.Hit) hit_said
+counts-hit (entries.Hit hit) = refl
+counts-hit _ = refl
+
+pub counts-noise : Counts (whole forms.Noise) noise_said
+counts-noise (entries.Noise noise) = refl
+counts-noise _ = refl
+
+pub counts-break : Counts (whole forms.Break) break_said
+counts-break (entries.Break line) = refl
+counts-break _ = refl
+
+pub counts-busy : Counts (whole forms.Busy) pause_said
+counts-busy (entries.Busy pause) = refl
+counts-busy _ = refl
+
+pub one-said : {X : Type 0} (b : Bool) (x : X) → length (cons_option (cond b (Some x) None) []) ≡ cond b 1 0
+one-said true x = refl
+one-said false x = refl
+
+pub counts-window : (role : Role) → Counts (each forms.Window role) (window_said role)
+counts-window role (entries.Window window) = one-said (same_role role window.role) window.segments
+counts-window role _ = refl
+
+pub counts-length : (role : Role) → Counts (each forms.Length role) (length_said role)
+counts-length role (entries.Length l) = one-said (same_role role l.role) l.octets
+counts-length role _ = refl
+
+length-said : {X : Type 0} (said : Option X) (xs : List X) → length (cons_option said xs) ≡ length (cons_option said []) + length xs
+length-said {X = X} None xs = let none : length (cons_option {X = X} None []) ≡ 0 = refl in omega (arith, none)
+length-said (Some x) xs = omega arith
+
+pub standing-said : {X : Type 0} (kind : Kind) (say : Entry → Option X) → Counts kind say → (said : List Entry) → standing kind said ≡ length (filter_map say said)
+standing-said kind say counts [] = refl
+standing-said kind say counts (entry ∷ said) =
+    let later = standing-said kind say counts said in
+    let one = counts entry in
+    let sum = length-said (say entry) (filter_map say said) in
+    let here = standing-cons kind entry said in
+    omega (arith, later, one, sum, here)
+
+abbrev pub number_of : Bool → ℕ
+number_of b = cond b 1 0
+
+byte : (b : Bool) → bool_byte b ≡ number_of b
+byte true = refl
+byte false = refl
+
+-- a line of a kind that may stand once
+first-length : {X : Type 0} (xs : List X) → length xs ≤ 1 → length xs ≡ cond (is_some (first xs)) 1 0
+first-length [] h = refl
+first-length (x ∷ []) h = refl
+first-length (x ∷ y ∷ xs) h = absurd (omega (arith, h))
+
+pub standing-once : {X : Type 0} (kind : Kind) (say : Entry → Option X) → Counts kind say → (said : List Entry) → standing kind said ≤ 1 → standing kind said ≡ cond (is_some (first (filter_map say said))) 1 0
+standing-once kind say counts said h =
+    let e = standing-said kind say counts said in
+    e ∙ first-length (filter_map say said) (omega (arith, e, h))
+
+pub standing-flag : (kind : Kind) (said : List Entry) → standing kind said ≤ 1 → standing kind said ≡ cond (stands kind said) 1 0
+standing-flag kind [] h = refl
+standing-flag kind (entry ∷ said) h = by (same_kind kind (kind_of entry)) refl (standing-flag kind said)
+  where
+    by : (b : Bool) → same_kind kind (kind_of entry) ≡ b → (standing kind said ≤ 1 → standing kind said ≡ cond (stands kind said) 1 0) → standing kind (entry ∷ said) ≡ cond (stands kind (entry ∷ said)) 1 0
+    by true e later =
+        let here : standing kind (entry ∷ said) ≡ 1 + standing kind said = ap (λ b. cond b 1 0 + standing kind said) e in
+        let flag : number_of (stands kind (entry ∷ said)) ≡ 1 = ap (λ b. number_of (b || stands kind said)) e in
+        omega (arith, h, here, flag)
+    by false e later =
+        let here : standing kind (entry ∷ said) ≡ 0 + standing kind said = ap (λ b. cond b 1 0 + standing kind said) e in
+        let flag : number_of (stands kind (entry ∷ said)) ≡ number_of (stands kind said) = ap (λ b. number_of (b || stands kind said)) e in
+        let rest = later (omega (arith, h, here)) in
+        omega (arith, here, flag, rest)
+
+-- what a draft shows of a kind that may stand once
+pub counted-once : {X : Type 0} (kind : Kind) (say : Entry → Option X) → Counts kind say → most (row kind.form).bound ≡ 1 → (said : List Entry) → AreAllowed said → (entry : Entry) → kind_of entry ≡ kind → (held : Option X) → held ≡ first (filter_map say said)
+    → (some : Bool) (count : ℕ) → some ≡ is_some held → count ≡ bool_byte some → count ≡ standing (kind_of entry) said
+counted-once kind say counts one said a entry k held h some count s c =
+    let once = standing-once kind say counts said (omega (arith, a kind, one)) in
+    c ∙ rw (s, h) (byte (is_some (first (filter_map say said)))) ∙ sym once ∙ ap (λ (k : Kind). standing k said) (sym k)
+
+pub counted-flag : (kind : Kind) → most (row kind.form).bound ≡ 1 → (said : List Entry) → AreAllowed said → (entry : Entry) → kind_of entry ≡ kind → (held : Bool) → held ≡ stands kind said → (count : ℕ) → count ≡ bool_byte held → count ≡ standing (kind_of entry) said
+counted-flag kind one said a entry k held h count c =
+    let once = standing-flag kind said (omega (arith, a kind, one)) in
+    c ∙ rw h (byte (stands kind said)) ∙ sym once ∙ ap (λ (k : Kind). standing k said) (sym k)
+
+pub offered-held : (draft : Draft) (said : List Entry) → Holds draft said → (role : Role) → offered_of draft role ≡ offered_in role said
+offered-held draft said h Originator = h.orig
+offered-held draft said h Answerer = h.answ
+
+-- one line more
+
+pub lists-more : {X : Type 0} (say : Entry → Option X) (said : List Entry) (entry : Entry) → filter_map say (said ++ entry ∷ []) ≡ filter_map say said ++ cons_option (say entry) []
+lists-more say said entry = filter_map-append say said (entry ∷ [])
+
+flag-more : (kind : Kind) (said : List Entry) (entry : Entry) → stands kind (said ++ entry ∷ []) ≡ (stands kind said || same_kind kind (kind_of entry))
+flag-more kind [] entry = or-false (same_kind kind (kind_of entry))
+  where
+    or-false : (b : Bool) → (b || false) ≡ b
+    or-false true = refl
+    or-false false = refl
+flag-more kind (other ∷ said) entry = by (same_kind kind (kind_of other)) (flag-more kind said entry)
+  where
+    by : (b : Bool) → stands kind (said ++ entry ∷ []) ≡ (stands kind said || same_kind kind (kind_of entry)) → (b || stands kind (said ++ entry ∷ [])) ≡ ((b || stands kind said) || same_kind kind (kind_of entry))
+    by true e = refl
+    by false e = e
+
+first-more : {X : Type 0} (say : Entry → Option X) (kind : Kind) → Counts kind say → most (row kind.form).bound ≡ 1 → (said : List Entry) (entry : Entry) → standing (kind_of entry) said < most (row (kind_of entry).form).bound
+    → or_before (say entry) (first (filter_map say said)) ≡ first (filter_map say (said ++ entry ∷ []))
+first-more {X = X} say kind counts one said entry few = by (say entry) refl ∙ ap first (sym (lists-more say said entry))
+  where
+    empty : same_kind kind (kind_of entry) ≡ true → filter_map say said ≡ []
+    empty e =
+        let same : kind ≡ kind_of entry = same_kind-is kind (kind_of entry) e in
+        let here : standing kind said < most (row kind.form).bound = subst (λ (k : Kind). standing k said < most (row k.form).bound) (sym same) few in
+        nothing (filter_map say said) (omega (arith, here, one, standing-said kind say counts said))
+      where
+        nothing : (xs : List X) → length xs < 1 → xs ≡ []
+        nothing [] h = refl
+        nothing (x ∷ xs) h = absurd (omega (arith, h))
+
+    counted : (b : Bool) → number_of b ≡ 1 → b ≡ true
+    counted true e = refl
+    counted false e = absurd (omega (arith, e))
+
+    by : (o : Option X) → say entry ≡ o → or_before o (first (filter_map say said)) ≡ first (filter_map say said ++ cons_option o [])
+    by None e = ap first (sym (append-nil (filter_map say said)))
+    by (Some x) e =
+        let none = empty (counted (same_kind kind (kind_of entry)) (sym (counts entry) ∙ ap (λ o. length (cons_option o [])) e)) in
+        ap (λ xs. first (xs ++ x ∷ [])) (sym none)
+
+offered-more : (role : Role) (said : List Entry) (entry : Entry) → standing (kind_of entry) said < most (row (kind_of entry).form).bound → offered_after role entry (offered_in role said) ≡ offered_in role (said ++ entry ∷ [])
+offered-more role said entry few = alike
+    (first-more (window_said role) (each forms.Window role) (counts-window role) refl said entry few)
+    (first-more (length_said role) (each forms.Length role) (counts-length role) refl said entry few)
+    (sym (flag-more (each forms.Srej role) said entry))
+    (sym (flag-more (each forms.Check32 role) said entry))
+  where
+    alike : {a b : Offered} → a.window ≡ b.window → a.length ≡ b.length → a.srej ≡ b.srej → a.check32 ≡ b.check32 → a ≡ b
+    alike w l s k i = record { window = w i; length = l i; srej = s i; check32 = k i }
+
+placed-more : (sorted lines : List Break) (line : Break) → placed_each sorted (lines ++ line ∷ []) ≡ placed line (placed_each sorted lines)
+placed-more sorted [] line = refl
+placed-more sorted (next ∷ lines) line = placed-more (placed next sorted) lines line
+
+breaks-more : (said : List Entry) (entry : Entry) → placed_said (break_said entry) (in_order (breaks_in said)) ≡ in_order (breaks_in (said ++ entry ∷ []))
+breaks-more said entry = by (break_said entry) ∙ ap in_order (sym (lists-more break_said said entry))
+  where
+    by : (o : Option Break) → placed_said o (in_order (breaks_in said)) ≡ in_order (breaks_in said ++ cons_option o [])
+    by None = ap in_order (sym (append-nil (breaks_in said)))
+    by (Some line) = sym (placed-more [] (breaks_in said) line)
 
 -- a draft of one line more
-holds-delays-said : (draft : Draft) (said : List Entry) (delays : Delays) → Holds draft said → AreAllowed said → standing forms.Delay said < 1 → Holds (record draft { delays = Some delays }) (said ++ entries.Delay delays ∷ [])
-holds-delays-said draft said delays h a few = record {
-  delays = sym (delays-append said (entries.Delay delays ∷ []) ∙ unset (delays_in said) (standing-delay said (a forms.Delay)));
-  tries = h.tries ∙ sym (tries-append said (entries.Delay delays ∷ []) ∙ same-tries (tries_in said));
-  losses = h.losses ∙ sym (losses-append said (entries.Delay delays ∷ []) ∙ append-nil _);
-  hits = h.hits ∙ sym (hits-append said (entries.Delay delays ∷ []) ∙ append-nil _);
-  noises = h.noises ∙ sym (noises-append said (entries.Delay delays ∷ []) ∙ append-nil _);
-}
-  where
-    unset : (o : Option Delays) → standing forms.Delay said ≡ cond (is_some o) 1 0 → cond (is_some o) o (Some delays) ≡ Some delays
-    unset None e = refl
-    unset (Some d) e = absurd (omega (arith, e, few))
-
-pub holds-delays : (draft : Draft) (said : List Entry) (entry : Entry) (delays : Delays) → entry ≡ entries.Delay delays → Holds draft said → AreAllowed said → standing (form_of entry) said < most (row (form_of entry)).bound → Holds (record draft { delays = Some delays }) (said ++ entry ∷ [])
-holds-delays draft said entry delays is h a few =
-    let room : standing forms.Delay said < 1 = subst (λ (e : Entry). standing (form_of e) said < most (row (form_of e)).bound) is few in
-    subst (λ (e : Entry). Holds (record draft { delays = Some delays }) (said ++ e ∷ [])) (sym is) (holds-delays-said draft said delays h a room)
-
-holds-tries-said : (draft : Draft) (said : List Entry) (tries : ℕ) → Holds draft said → AreAllowed said → standing forms.Tries said < 1 → Holds (record draft { tries = Some tries }) (said ++ entries.Tries tries ∷ [])
-holds-tries-said draft said tries h a few = record {
-  delays = h.delays ∙ sym (delays-append said (entries.Tries tries ∷ []) ∙ same-delays (delays_in said));
-  tries = sym (tries-append said (entries.Tries tries ∷ []) ∙ unset (tries_in said) (standing-tries said (a forms.Tries)));
-  losses = h.losses ∙ sym (losses-append said (entries.Tries tries ∷ []) ∙ append-nil _);
-  hits = h.hits ∙ sym (hits-append said (entries.Tries tries ∷ []) ∙ append-nil _);
-  noises = h.noises ∙ sym (noises-append said (entries.Tries tries ∷ []) ∙ append-nil _);
-}
-  where
-    unset : (o : Option ℕ) → standing forms.Tries said ≡ cond (is_some o) 1 0 → cond (is_some o) o (Some tries) ≡ Some tries
-    unset None e = refl
-    unset (Some d) e = absurd (omega (arith, e, few))
-
-pub holds-tries : (draft : Draft) (said : List Entry) (entry : Entry) (tries : ℕ) → entry ≡ entries.Tries tries → Holds draft said → AreAllowed said → standing (form_of entry) said < most (row (form_of entry)).bound → Holds (record draft { tries = Some tries }) (said ++ entry ∷ [])
-holds-tries draft said entry tries is h a few =
-    let room : standing forms.Tries said < 1 = subst (λ (e : Entry). standing (form_of e) said < most (row (form_of e)).bound) is few in
-    subst (λ (e : Entry). Holds (record draft { tries = Some tries }) (said ++ e ∷ [])) (sym is) (holds-tries-said draft said tries h a room)
-
-holds-loss-said : (draft : Draft) (said : List Entry) (loss : Loss) (losses : Vec Loss) → Holds draft said → losses.items ≡ draft.losses.items ++ loss ∷ [] → Holds (record draft { losses = losses }) (said ++ entries.Lose loss ∷ [])
-holds-loss-said draft said loss losses h pushed = record {
-  delays = h.delays ∙ sym (delays-append said (entries.Lose loss ∷ []) ∙ same-delays (delays_in said));
-  tries = h.tries ∙ sym (tries-append said (entries.Lose loss ∷ []) ∙ same-tries (tries_in said));
-  losses = pushed ∙ ap (λ xs. xs ++ loss ∷ []) h.losses ∙ sym (losses-append said (entries.Lose loss ∷ []));
-  hits = h.hits ∙ sym (hits-append said (entries.Lose loss ∷ []) ∙ append-nil _);
-  noises = h.noises ∙ sym (noises-append said (entries.Lose loss ∷ []) ∙ append-nil _);
+pub holds-more : (draft after : Draft) (said : List Entry) (entry : Entry) → Holds draft said → Adds draft entry after → standing (kind_of entry) said < most (row (kind_of entry).form).bound → Holds after (said ++ entry ∷ [])
+holds-more draft after said entry h a few = record {
+  delays = a.delays ∙ ap (or_before (delays_said entry)) h.delays ∙ first-more delays_said (whole forms.Delay) counts-delay refl said entry few;
+  tries = a.tries ∙ ap (or_before (tries_said entry)) h.tries ∙ first-more tries_said (whole forms.Tries) counts-tries refl said entry few;
+  orig = a.orig ∙ ap (offered_after Originator entry) h.orig ∙ offered-more Originator said entry few;
+  answ = a.answ ∙ ap (offered_after Answerer entry) h.answ ∙ offered-more Answerer said entry few;
+  losses = a.losses ∙ ap (λ xs. xs ++ cons_option (loss_said entry) []) h.losses ∙ sym (lists-more loss_said said entry);
+  hits = a.hits ∙ ap (λ xs. xs ++ cons_option (hit_said entry) []) h.hits ∙ sym (lists-more hit_said said entry);
+  noises = a.noises ∙ ap (λ xs. xs ++ cons_option (noise_said entry) []) h.noises ∙ sym (lists-more noise_said said entry);
+  breaks = a.breaks ∙ ap (placed_said (break_said entry)) h.breaks ∙ breaks-more said entry;
+  pauses = a.pauses ∙ ap (λ xs. xs ++ cons_option (pause_said entry) []) h.pauses ∙ sym (lists-more pause_said said entry);
 }
 
-pub holds-loss : (draft : Draft) (said : List Entry) (entry : Entry) (loss : Loss) (losses : Vec Loss) → entry ≡ entries.Lose loss → Holds draft said → losses.items ≡ draft.losses.items ++ loss ∷ [] → Holds (record draft { losses = losses }) (said ++ entry ∷ [])
-holds-loss draft said entry loss losses is h pushed = subst (λ (e : Entry). Holds (record draft { losses = losses }) (said ++ e ∷ [])) (sym is) (holds-loss-said draft said loss losses h pushed)
-
-holds-hit-said : (draft : Draft) (said : List Entry) (hit : Hit) (hits : Vec Hit) → Holds draft said → hits.items ≡ draft.hits.items ++ hit ∷ [] → Holds (record draft { hits = hits }) (said ++ entries.Hit hit ∷ [])
-holds-hit-said draft said hit hits h pushed = record {
-  delays = h.delays ∙ sym (delays-append said (entries.Hit hit ∷ []) ∙ same-delays (delays_in said));
-  tries = h.tries ∙ sym (tries-append said (entries.Hit hit ∷ []) ∙ same-tries (tries_in said));
-  losses = h.losses ∙ sym (losses-append said (entries.Hit hit ∷ []) ∙ append-nil _);
-  hits = pushed ∙ ap (λ xs. xs ++ hit ∷ []) h.hits ∙ sym (hits-append said (entries.Hit hit ∷ []));
-  noises = h.noises ∙ sym (noises-append said (entries.Hit hit ∷ []) ∙ append-nil _);
-}
-
-pub holds-hit : (draft : Draft) (said : List Entry) (entry : Entry) (hit : Hit) (hits : Vec Hit) → entry ≡ entries.Hit hit → Holds draft said → hits.items ≡ draft.hits.items ++ hit ∷ [] → Holds (record draft { hits = hits }) (said ++ entry ∷ [])
-holds-hit draft said entry hit hits is h pushed = subst (λ (e : Entry). Holds (record draft { hits = hits }) (said ++ e ∷ [])) (sym is) (holds-hit-said draft said hit hits h pushed)
-
-holds-noise-said : (draft : Draft) (said : List Entry) (noise : Noise) (noises : Vec Noise) → Holds draft said → noises.items ≡ draft.noises.items ++ noise ∷ [] → Holds (record draft { noises = noises }) (said ++ entries.Noise noise ∷ [])
-holds-noise-said draft said noise noises h pushed = record {
-  delays = h.delays ∙ sym (delays-append said (entries.Noise noise ∷ []) ∙ same-delays (delays_in said));
-  tries = h.tries ∙ sym (tries-append said (entries.Noise noise ∷ []) ∙ same-tries (tries_in said));
-  losses = h.losses ∙ sym (losses-append said (entries.Noise noise ∷ []) ∙ append-nil _);
-  hits = h.hits ∙ sym (hits-append said (entries.Noise noise ∷ []) ∙ append-nil _);
-  noises = pushed ∙ ap (λ xs. xs ++ noise ∷ []) h.noises ∙ sym (noises-append said (entries.Noise noise ∷ []));
-}
-
-pub holds-noise : (draft : Draft) (said : List Entry) (entry : Entry) (noise : Noise) (noises : Vec Noise) → entry ≡ entries.Noise noise → Holds draft said → noises.items ≡ draft.noises.items ++ noise ∷ [] → Holds (record draft { noises = noises }) (said ++ entry ∷ [])
-holds-noise draft said entry noise noises is h pushed = subst (λ (e : Entry). Holds (record draft { noises = noises }) (said ++ e ∷ [])) (sym is) (holds-noise-said draft said noise noises h pushed)
-
--- a line of each form more is a line too many where the draft shows it full
-pub counted-delay : (form : Form) (said : List Entry) (delays : Option Delays) (some : Bool) (count : ℕ) → form ≡ forms.Delay → delays ≡ delays_in said → AreAllowed said → some ≡ is_some delays → count ≡ bool_byte some → count ≡ standing form said
-counted-delay form said delays some count is d a s c = c ∙ rw (is, s, d) (sym (standing-delay said (a forms.Delay) ∙ byte (is_some (delays_in said))))
-  where
-    byte : (b : Bool) → cond b 1 0 ≡ bool_byte b
-    byte true = refl
-    byte false = refl
-
-pub counted-tries : (form : Form) (said : List Entry) (tries : Option ℕ) (some : Bool) (count : ℕ) → form ≡ forms.Tries → tries ≡ tries_in said → AreAllowed said → some ≡ is_some tries → count ≡ bool_byte some → count ≡ standing form said
-counted-tries form said tries some count is d a s c = c ∙ rw (is, s, d) (sym (standing-tries said (a forms.Tries) ∙ byte (is_some (tries_in said))))
-  where
-    byte : (b : Bool) → cond b 1 0 ≡ bool_byte b
-    byte true = refl
-    byte false = refl

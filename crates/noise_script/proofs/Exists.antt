@@ -2,6 +2,7 @@
 use Rattle.std.proofs.Common.{◌≡◌, ◌≢◌, ◌⊎◌, inl, inr, ℕ, ◌+◌, ◌<◌, ◌≤◌, true, false, ℤ, pos, neg_ℤ, ◌<ℤ◌, ◌≤ℤ◌, List, [], ◌∷◌, ◌++◌, length, refl, sym, ap, subst, ◌∙◌, arith, append-nil}
 use Rattle.std.proofs.lemmas.Bool.{cases_eq, cases_lt, cases_Bool}
 use Rattle.std.proofs.lemmas.Int.{by_lt_z}
+use Rattle.frame_check.specs.declared.sizes.TheConstants.{INFO}
 use Rattle.roles.specs.declared.role.Role.{Role}
 use Rattle.roles.specs.declared.role.Role.TheVariants.{Originator, Answerer}
 use Rattle.script_causes.specs.declared.cause.Cause.{Cause}
@@ -11,7 +12,7 @@ use Rattle.noise_script.specs.declared.forms.Form.{Form}
 use Rattle.noise_script.specs.declared.forms.Form.TheVariants as forms
 use Rattle.noise_script.specs.Lines.{begins_with, lines_of, words_of, is_passed_over}
 use Rattle.noise_script.specs.Numbers.{is_number, value_of, is_signed, signed_value_of}
-use Rattle.noise_script.specs.Forms.{Argument, ARole, Number, Signed, Value, RoleIs, NumberIs, SignedIs, row, word_of, arguments_of, form_of, values_of, most, too_many, Spells, Fails, SpellsEach, FirstFails, turn, count, symbol, coordinate, SpellsLine, Misspells}
+use Rattle.noise_script.specs.Forms.{Argument, ARole, Number, Signed, Value, RoleIs, NumberIs, SignedIs, row, word_of, arguments_of, form_of, kind_of, values_of, most, too_many, Spells, Fails, SpellsEach, FirstFails, turn, count, symbol, coordinate, SpellsLine, Misspells}
 use Rattle.roles.specs.Role.{role_word}
 use Rattle.noise_script.specs.Grammar.{Says, nothing, standing, AreAllowed, IsFaulty, script_of}
 use Rattle.noise_script.specs.Laws.{SomeAnswer}
@@ -32,24 +33,41 @@ same-word (x ∷ a) (y ∷ b) = by (cases_eq x y) (same-word a b)
     by (inr n) _ = inr (λ e. n (cc))
     by (inl e) (inr n) = inr (λ f. n (cc))
 
-is-form : (word : List ℕ) → ((form : Form) × (word ≡ word_of form)) ⊎ ((form : Form) → word ≢ word_of form)
-is-form word = by (same-word word (word_of forms.Delay)) (same-word word (word_of forms.Tries)) (same-word word (word_of forms.Lose)) (same-word word (word_of forms.Hit)) (same-word word (word_of forms.Noise))
-  where
-    none : word ≢ word_of forms.Delay → word ≢ word_of forms.Tries → word ≢ word_of forms.Lose → word ≢ word_of forms.Hit → word ≢ word_of forms.Noise → (form : Form) → word ≢ word_of form
-    none a b c d e forms.Delay = a
-    none a b c d e forms.Tries = b
-    none a b c d e forms.Lose = c
-    none a b c d e forms.Hit = d
-    none a b c d e forms.Noise = e
+abbrev NamesNone : List Form → List ℕ → Type 0
+NamesNone [] word = Unit {0}
+NamesNone (form ∷ forms) word = (word ≢ word_of form) × NamesNone forms word
 
-    by : (word ≡ word_of forms.Delay) ⊎ (word ≢ word_of forms.Delay) → (word ≡ word_of forms.Tries) ⊎ (word ≢ word_of forms.Tries) → (word ≡ word_of forms.Lose) ⊎ (word ≢ word_of forms.Lose)
-        → (word ≡ word_of forms.Hit) ⊎ (word ≢ word_of forms.Hit) → (word ≡ word_of forms.Noise) ⊎ (word ≢ word_of forms.Noise) → ((form : Form) × (word ≡ word_of form)) ⊎ ((form : Form) → word ≢ word_of form)
-    by (inl a) _ _ _ _ = inl (forms.Delay, a)
-    by _ (inl b) _ _ _ = inl (forms.Tries, b)
-    by _ _ (inl c) _ _ = inl (forms.Lose, c)
-    by _ _ _ (inl d) _ = inl (forms.Hit, d)
-    by _ _ _ _ (inl e) = inl (forms.Noise, e)
-    by (inr a) (inr b) (inr c) (inr d) (inr e) = inr (none a b c d e)
+is-named : (list : List Form) (word : List ℕ) → ((form : Form) × (word ≡ word_of form)) ⊎ NamesNone list word
+is-named [] word = inr tt
+is-named (form ∷ list) word = by (same-word word (word_of form)) (is-named list word)
+  where
+    by : (word ≡ word_of form) ⊎ (word ≢ word_of form) → ((form : Form) × (word ≡ word_of form)) ⊎ NamesNone list word → ((form : Form) × (word ≡ word_of form)) ⊎ NamesNone (form ∷ list) word
+    by (inl e) _ = inl (form, e)
+    by (inr n) (inl found) = inl found
+    by (inr n) (inr none) = inr (n, none)
+
+abbrev all_forms : List Form
+all_forms = forms.Delay ∷ forms.Window ∷ forms.Length ∷ forms.Tries ∷ forms.Srej ∷ forms.Check32 ∷ forms.Lose ∷ forms.Hit ∷ forms.Noise ∷ forms.Break ∷ forms.Busy ∷ []
+
+names-none : (word : List ℕ) → NamesNone all_forms word → (form : Form) → word ≢ word_of form
+names-none word n forms.Delay = n.0
+names-none word n forms.Window = n.1.0
+names-none word n forms.Length = n.1.1.0
+names-none word n forms.Tries = n.1.1.1.0
+names-none word n forms.Srej = n.1.1.1.1.0
+names-none word n forms.Check32 = n.1.1.1.1.1.0
+names-none word n forms.Lose = n.1.1.1.1.1.1.0
+names-none word n forms.Hit = n.1.1.1.1.1.1.1.0
+names-none word n forms.Noise = n.1.1.1.1.1.1.1.1.0
+names-none word n forms.Break = n.1.1.1.1.1.1.1.1.1.0
+names-none word n forms.Busy = n.1.1.1.1.1.1.1.1.1.1.0
+
+is-form : (word : List ℕ) → ((form : Form) × (word ≡ word_of form)) ⊎ ((form : Form) → word ≢ word_of form)
+is-form word = by (is-named all_forms word)
+  where
+    by : ((form : Form) × (word ≡ word_of form)) ⊎ NamesNone all_forms word → ((form : Form) × (word ≡ word_of form)) ⊎ ((form : Form) → word ≢ word_of form)
+    by (inl found) = inl found
+    by (inr none) = inr (names-none word none)
 
 abbrev Read : Argument → List ℕ → Type 0
 Read argument word = ((value : Value) × Spells argument word value) ⊎ ((cause : Cause) × Fails argument word cause)
@@ -137,10 +155,28 @@ values-again forms.Delay words values s =
     let b = peel (Number 1 60) [] a.rest a.others a.each in
     let all : values ≡ a.value ∷ b.value ∷ [] = onto a.value a.values_are (onto b.value b.values_are (b.each.1)) in
     rests forms.Delay values (a.value ∷ b.value ∷ []) all (both (number-is 1 60 a.word a.value a.spells) (both (number-is 1 60 b.word b.value b.spells) (refl)))
+values-again forms.Window words values s =
+    let a = peel ARole ((Number 1 127) ∷ []) words values s in
+    let b = peel (Number 1 127) [] a.rest a.others a.each in
+    let all : values ≡ a.value ∷ b.value ∷ [] = onto a.value a.values_are (onto b.value b.values_are (b.each.1)) in
+    rests forms.Window values (a.value ∷ b.value ∷ []) all (both (role-is a.word a.value a.spells) (both (number-is 1 127 b.word b.value b.spells) (refl)))
+values-again forms.Length words values s =
+    let a = peel ARole ((Number 1 INFO) ∷ []) words values s in
+    let b = peel (Number 1 INFO) [] a.rest a.others a.each in
+    let all : values ≡ a.value ∷ b.value ∷ [] = onto a.value a.values_are (onto b.value b.values_are (b.each.1)) in
+    rests forms.Length values (a.value ∷ b.value ∷ []) all (both (role-is a.word a.value a.spells) (both (number-is 1 INFO b.word b.value b.spells) (refl)))
 values-again forms.Tries words values s =
     let a = peel (Number 1 20) [] words values s in
     let all : values ≡ a.value ∷ [] = onto a.value a.values_are (a.each.1) in
     rests forms.Tries values (a.value ∷ []) all (both (number-is 1 20 a.word a.value a.spells) (refl))
+values-again forms.Srej words values s =
+    let a = peel ARole [] words values s in
+    let all : values ≡ a.value ∷ [] = onto a.value a.values_are (a.each.1) in
+    rests forms.Srej values (a.value ∷ []) all (both (role-is a.word a.value a.spells) (refl))
+values-again forms.Check32 words values s =
+    let a = peel ARole [] words values s in
+    let all : values ≡ a.value ∷ [] = onto a.value a.values_are (a.each.1) in
+    rests forms.Check32 values (a.value ∷ []) all (both (role-is a.word a.value a.spells) (refl))
 values-again forms.Lose words values s =
     let a = peel ARole (turn ∷ count ∷ []) words values s in
     let b = peel turn (count ∷ []) a.rest a.others a.each in
@@ -163,13 +199,31 @@ values-again forms.Noise words values s =
     let e = peel (Number 0 18446744073709551615) [] d.rest d.others d.each in
     let all : values ≡ a.value ∷ b.value ∷ c.value ∷ d.value ∷ e.value ∷ [] = onto a.value a.values_are (onto b.value b.values_are (onto c.value c.values_are (onto d.value d.values_are (onto e.value e.values_are (e.each.1))))) in
     rests forms.Noise values (a.value ∷ b.value ∷ c.value ∷ d.value ∷ e.value ∷ []) all (both (role-is a.word a.value a.spells) (both (number-is 0 1099511627775 b.word b.value b.spells) (both (number-is 1 4294967295 c.word c.value c.spells) (both (number-is 0 32767 d.word d.value d.spells) (both (number-is 0 18446744073709551615 e.word e.value e.spells) (refl))))))
+values-again forms.Break words values s =
+    let a = peel ARole (turn ∷ (Number 1 255) ∷ []) words values s in
+    let b = peel turn ((Number 1 255) ∷ []) a.rest a.others a.each in
+    let c = peel (Number 1 255) [] b.rest b.others b.each in
+    let all : values ≡ a.value ∷ b.value ∷ c.value ∷ [] = onto a.value a.values_are (onto b.value b.values_are (onto c.value c.values_are (c.each.1))) in
+    rests forms.Break values (a.value ∷ b.value ∷ c.value ∷ []) all (both (role-is a.word a.value a.spells) (both (number-is 0 4294967295 b.word b.value b.spells) (both (number-is 1 255 c.word c.value c.spells) (refl))))
+values-again forms.Busy words values s =
+    let a = peel ARole (turn ∷ (Number 1 10000) ∷ []) words values s in
+    let b = peel turn ((Number 1 10000) ∷ []) a.rest a.others a.each in
+    let c = peel (Number 1 10000) [] b.rest b.others b.each in
+    let all : values ≡ a.value ∷ b.value ∷ c.value ∷ [] = onto a.value a.values_are (onto b.value b.values_are (onto c.value c.values_are (c.each.1))) in
+    rests forms.Busy values (a.value ∷ b.value ∷ c.value ∷ []) all (both (role-is a.word a.value a.spells) (both (number-is 0 4294967295 b.word b.value b.spells) (both (number-is 1 10000 c.word c.value c.spells) (refl))))
 
 form-again : (form : Form) (values : List Value) → form_of (entry_of form values) ≡ form
 form-again forms.Delay values = refl
+form-again forms.Window values = refl
+form-again forms.Length values = refl
 form-again forms.Tries values = refl
+form-again forms.Srej values = refl
+form-again forms.Check32 values = refl
 form-again forms.Lose values = refl
 form-again forms.Hit values = refl
 form-again forms.Noise values = refl
+form-again forms.Break values = refl
+form-again forms.Busy values = refl
 
 -- one line
 
@@ -218,13 +272,13 @@ lines-read text [] before said e s a = inl (script_of said, record { said = said
 lines-read text (line ∷ lines) before said e s a = by (read-line (words_of line)) (λ said s a. lines-read text lines (before ++ line ∷ []) said (e ∙ regrouped before line lines) s a)
   where
     full : (entry : Entry) → SpellsLine (words_of line) entry → ((said : List Entry) → Says (before ++ line ∷ []) said → AreAllowed said → SomeAnswer text)
-        → (standing (form_of entry) said < most (row (form_of entry)).bound) ⊎ (most (row (form_of entry)).bound ≤ standing (form_of entry) said) → SomeAnswer text
+        → (standing (kind_of entry) said < most (row (form_of entry)).bound) ⊎ (most (row (form_of entry)).bound ≤ standing (kind_of entry) said) → SomeAnswer text
     full entry p go (inl few) = go (said ++ entry ∷ []) (says-more line entry s p) (allowed-more said entry a few)
     full entry p go (inr many) = fault-at text before line lines said (too_many (row (form_of entry)).bound) e s a (inr (record { entry = entry; spelled_line = p; full = many; cause_is = refl }))
 
     by : LineRead (words_of line) → ((said : List Entry) → Says (before ++ line ∷ []) said → AreAllowed said → SomeAnswer text) → SomeAnswer text
     by (Passed p) go = go said (says-passed line s p) a
-    by (Spelled entry p) go = full entry p go (cases_lt (standing (form_of entry) said) (most (row (form_of entry)).bound))
+    by (Spelled entry p) go = full entry p go (cases_lt (standing (kind_of entry) said) (most (row (form_of entry)).bound))
     by (Misspelled cause m) go = fault-at text before line lines said cause e s a (inl m)
 
 pub some-answer : (text : List ℕ) → SomeAnswer text

@@ -2,6 +2,7 @@ pub mod Sums
 pub mod Cuts
 pub mod Digits
 pub mod Words
+pub mod Order
 pub mod Entries
 pub mod Progress
 pub mod Ranges

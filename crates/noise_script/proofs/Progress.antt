@@ -9,21 +9,21 @@ use Rattle.noise_script.specs.declared.draft.Draft.{Draft}
 use Rattle.noise_script.specs.declared.fault.ScriptFault.{ScriptFault}
 use Rattle.noise_script.specs.declared.fault.ScriptFault.TheVariants as faults
 use Rattle.noise_script.specs.Lines.{lines_of, words_of, is_passed_over}
-use Rattle.noise_script.specs.Forms.{row, form_of, most, too_many, SpellsLine}
+use Rattle.noise_script.specs.Forms.{row, form_of, kind_of, most, too_many, SpellsLine}
 use Rattle.noise_script.specs.Grammar.{Says, nothing, passed_over, spelled, standing, IsTooMany, IsFaultOf}
 use Rattle.noise_script.specs.Draft.{Holds, HoldsLine, IsLineFault, HoldsUpTo}
 use Rattle.noise_script.proofs.Entries.{allowed-none, allowed-more}
 
-pub too-many : (said : List Entry) (words : List (List ℕ)) (entry : Entry) (form : Form) (bound : Bound) (cause : Cause) (full : Bool) → SpellsLine words entry → form ≡ form_of entry → full ≡ true → full ≡ nat_le (most (row form).bound) (standing form said) → bound ≡ (row form).bound → cause ≡ too_many bound → IsTooMany said words cause
+pub too-many : (said : List Entry) (words : List (List ℕ)) (entry : Entry) (form : Form) (bound : Bound) (cause : Cause) (full : Bool) → SpellsLine words entry → form ≡ form_of entry → full ≡ true → full ≡ nat_le (most (row (form_of entry)).bound) (standing (kind_of entry) said) → bound ≡ (row form).bound → cause ≡ too_many bound → IsTooMany said words cause
 too-many said words entry form bound cause full s f t e b c = record {
   entry = entry;
   spelled_line = s;
-  full = subst (λ (x : Form). most (row x).bound ≤ standing x said) f (leb-true _ _ (sym e ∙ t));
+  full = leb-true _ _ (sym e ∙ t);
   cause_is = c ∙ ap too_many b ∙ ap (λ (x : Form). too_many (row x).bound) f;
 }
 
-pub not-full : (said : List Entry) (entry : Entry) (form : Form) (full : Bool) → form ≡ form_of entry → full ≡ false → full ≡ nat_le (most (row form).bound) (standing form said) → standing (form_of entry) said < most (row (form_of entry)).bound
-not-full said entry form full f t e = subst (λ (x : Form). standing x said < most (row x).bound) f (leb-false _ _ (sym e ∙ t))
+pub not-full : (said : List Entry) (entry : Entry) (full : Bool) → full ≡ false → full ≡ nat_le (most (row (form_of entry)).bound) (standing (kind_of entry) said) → standing (kind_of entry) said < most (row (form_of entry)).bound
+not-full said entry full t e = leb-false _ _ (sym e ∙ t)
 
 pub says-passed : {lines : List (List ℕ)} {said : List Entry} (line : List ℕ) → Says lines said → is_passed_over (words_of line) ≡ true → Says (lines ++ line ∷ []) said
 says-passed line nothing p = passed_over p nothing

@@ -1,25 +1,38 @@
 -- What a script's lines say is in its range.
-use Rattle.std.proofs.Common.{◌≡◌, ℕ, ◌≤◌, List, [], ◌∷◌, refl, sym, subst, ◌∙◌, arith, append-nil}
+use Rattle.std.proofs.Common.{◌≡◌, ℕ, ◌+◌, ◌≤◌, Bool, true, false, cond, List, [], ◌∷◌, length, filter_map, Option, Some, None, refl, sym, subst, ◌∙◌, arith, append-nil}
+use Rattle.std.specs.List.{cons_option}
+use Rattle.frame_check.specs.declared.sizes.TheConstants.{INFO}
+use Rattle.roles.specs.declared.role.Role.{Role}
+use Rattle.roles.specs.declared.role.Role.TheVariants.{Originator, Answerer}
+use Rattle.roles.specs.Role.{same_role}
+use Rattle.xid_params.specs.Offers.{IsAllowed}
 use Rattle.noise_script.specs.declared.entry.Entry.{Entry}
 use Rattle.noise_script.specs.declared.entry.Entry.TheVariants as entries
 use Rattle.noise_script.specs.declared.forms.Form.TheVariants as forms
 use Rattle.noise_script.specs.declared.draft.Draft.{Draft}
-use Rattle.noise_script.specs.Forms.{SpellsEach, arguments_of, values_of, form_of}
+use Rattle.noise_script.specs.Forms.{Kind, row, most, SpellsEach, arguments_of, values_of, form_of}
 use Rattle.noise_script.specs.Offsets.{IsQuiet, AreQuiet}
 use Rattle.noise_script.specs.Script.{ScriptValue, IsInLimits}
-use Rattle.noise_script.specs.Grammar.{Says, nothing, passed_over, spelled, AreAllowed, delays_in, tries_in, noises_in, delays_or_one, tries_or_five, script_of, ScriptSpelling}
+use Rattle.noise_script.specs.Grammar.{Says, nothing, passed_over, spelled, AreAllowed, whole, first, window_said, length_said, loss_said, hit_said, noise_said, break_said, pause_said, delays_in, tries_in, offered_in, noises_in, breaks_in, delays_or_one, tries_or_five, window_or_15, length_or_128, offer_by, script_of, ScriptSpelling}
 use Rattle.noise_script.specs.Draft.{Holds, HoldsUpTo, draft_script}
-use Rattle.noise_script.proofs.Entries.{standing-lose, standing-hit, standing-noise}
+use Rattle.noise_script.proofs.Entries.{Counts, standing-said, counts-lose, counts-hit, counts-noise, counts-break, counts-busy}
+use Rattle.noise_script.proofs.Order.{in_order-length}
 
-IsDelay : ℕ → Type 0
-IsDelay turns = (1 ≤ turns) × (turns ≤ 60)
+record IsWindow (segments : ℕ) : Type 0 where
+  some : 1 ≤ segments
+  few : segments ≤ 127
+
+record IsLength (octets : ℕ) : Type 0 where
+  some : 1 ≤ octets
+  few : octets ≤ INFO
 
 abbrev IsInRange : Entry → Type 0
 IsInRange (entries.Delay delays) = (1 ≤ delays.orig) × (delays.orig ≤ 60) × (1 ≤ delays.answ) × (delays.answ ≤ 60)
+IsInRange (entries.Window window) = IsWindow window.segments
+IsInRange (entries.Length l) = IsLength l.octets
 IsInRange (entries.Tries tries) = (1 ≤ tries) × (tries ≤ 20)
-IsInRange (entries.Lose loss) = Unit {0}
-IsInRange (entries.Hit hit) = Unit {0}
 IsInRange (entries.Noise noise) = IsQuiet noise
+IsInRange _ = Unit {0}
 
 abbrev AreInRange : List Entry → Type 0
 AreInRange [] = Unit {0}
@@ -31,8 +44,18 @@ each-in-range (entries.Delay delays) (a ∷ []) s = absurd s.1
 each-in-range (entries.Delay delays) [] s = absurd s
 each-in-range (entries.Tries tries) (a ∷ words) s = (s.0.not_below, s.0.not_above)
 each-in-range (entries.Tries tries) [] s = absurd s
+each-in-range (entries.Window window) (a ∷ b ∷ words) s = record { some = s.1.0.not_below; few = s.1.0.not_above }
+each-in-range (entries.Window window) (a ∷ []) s = absurd s.1
+each-in-range (entries.Window window) [] s = absurd s
+each-in-range (entries.Length l) (a ∷ b ∷ words) s = record { some = s.1.0.not_below; few = s.1.0.not_above }
+each-in-range (entries.Length l) (a ∷ []) s = absurd s.1
+each-in-range (entries.Length l) [] s = absurd s
+each-in-range (entries.Srej role) words s = tt
+each-in-range (entries.Check32 role) words s = tt
 each-in-range (entries.Lose loss) words s = tt
 each-in-range (entries.Hit hit) words s = tt
+each-in-range (entries.Break line) words s = tt
+each-in-range (entries.Busy pause) words s = tt
 each-in-range (entries.Noise noise) (a ∷ b ∷ c ∷ d ∷ words) s = s.1.1.1.0.not_above
 each-in-range (entries.Noise noise) (a ∷ b ∷ c ∷ []) s = absurd s.1.1.1
 each-in-range (entries.Noise noise) (a ∷ b ∷ []) s = absurd s.1.1
@@ -54,6 +77,39 @@ tries-in-range [] r = (omega arith, omega arith)
 tries-in-range (entries.Tries tries ∷ said) r = r.0
 tries-in-range (_ ∷ said) r = tries-in-range said r.1
 
+window-in-range : (role : Role) (said : List Entry) → AreInRange said → IsWindow (window_or_15 (first (filter_map (window_said role) said)))
+window-in-range role [] r = record { some = omega arith; few = omega arith }
+window-in-range role (entries.Window window ∷ said) r = by (same_role role window.role) (window-in-range role said r.1)
+  where
+    by : (b : Bool) → IsWindow (window_or_15 (first (filter_map (window_said role) said))) → IsWindow (window_or_15 (first (cons_option (cond b (Some window.segments) None) (filter_map (window_said role) said))))
+    by true later = r.0
+    by false later = later
+window-in-range role (_ ∷ said) r = window-in-range role said r.1
+
+length-in-range : (role : Role) (said : List Entry) → AreInRange said → IsLength (length_or_128 (first (filter_map (length_said role) said)))
+length-in-range role [] r = record { some = omega arith; few = omega arith }
+length-in-range role (entries.Length l ∷ said) r = by (same_role role l.role) (length-in-range role said r.1)
+  where
+    by : (b : Bool) → IsLength (length_or_128 (first (filter_map (length_said role) said))) → IsLength (length_or_128 (first (cons_option (cond b (Some l.octets) None) (filter_map (length_said role) said))))
+    by true later = r.0
+    by false later = later
+length-in-range role (_ ∷ said) r = length-in-range role said r.1
+
+offer-allowed : (role : Role) (said : List Entry) → AreInRange said → IsAllowed (offer_by (offered_in role said))
+offer-allowed role said r =
+    let window = window-in-range role said r in
+    let long = length-in-range role said r in
+    record {
+      tx_len_low = long.some;
+      tx_len_high = long.few;
+      rx_len_low = long.some;
+      rx_len_high = long.few;
+      tx_window_low = window.some;
+      tx_window_high = window.few;
+      rx_window_low = window.some;
+      rx_window_high = window.few;
+    }
+
 noises-quiet : (said : List Entry) → AreInRange said → AreQuiet (noises_in said)
 noises-quiet [] r = tt
 noises-quiet (entries.Noise noise ∷ said) r = (r.0, noises-quiet said r.1)
@@ -70,15 +126,22 @@ in-limits said r a =
       delay_answ_few = delays.3;
       tries_some = tries.0;
       tries_few = tries.1;
-      losses_few = subst (λ n. n ≤ 1024) (standing-lose said) (a forms.Lose);
-      hits_few = subst (λ n. n ≤ 1024) (standing-hit said) (a forms.Hit);
-      noises_few = subst (λ n. n ≤ 64) (standing-noise said) (a forms.Noise);
+      offer_orig_allowed = offer-allowed Originator said r;
+      offer_answ_allowed = offer-allowed Answerer said r;
+      losses_few = few (whole forms.Lose) loss_said counts-lose;
+      hits_few = few (whole forms.Hit) hit_said counts-hit;
+      noises_few = few (whole forms.Noise) noise_said counts-noise;
+      breaks_few = omega (arith, few (whole forms.Break) break_said counts-break, in_order-length (breaks_in said));
+      pauses_few = few (whole forms.Busy) pause_said counts-busy;
       quiet = noises-quiet said r;
     }
+  where
+    few : {X : Type 0} (kind : Kind) (say : Entry → Option X) → Counts kind say → length (filter_map say said) ≤ most (row kind.form).bound
+    few kind say counts = omega (arith, standing-said kind say counts said, a kind)
 
 -- the draft of all lines makes their script
 pub draft-script-is : (draft : Draft) (said : List Entry) → Holds draft said → draft_script draft ≡ script_of said
-draft-script-is draft said h = rw (h.delays, h.tries, h.losses, h.hits, h.noises) refl
+draft-script-is draft said h = rw (h.delays, h.tries, h.orig, h.answ, h.losses, h.hits, h.noises, h.breaks, h.pauses) refl
 
 pub draft-in-limits : (text : List ℕ) (number : ℕ) (draft : Draft) → HoldsUpTo text [] number draft → IsInLimits (draft_script draft)
 draft-in-limits text number draft h = subst IsInLimits (sym (draft-script-is draft h.said h.holds)) (in-limits h.said (says-in-range h.says) h.allowed)

@@ -1,5 +1,5 @@
 -- A text spells one script at most, or has one first fault, and never both.
-use Rattle.std.proofs.Common.{◌≡◌, ◌⊎◌, inl, inr, ℕ, suc, ◌+◌, ◌<◌, true, false, ℤ, pos, ◌<ℤ◌, List, [], ◌∷◌, ◌++◌, length, get_or, refl, sym, ap, subst, ◌∙◌, arith}
+use Rattle.std.proofs.Common.{◌≡◌, ◌⊎◌, inl, inr, ℕ, suc, ◌+◌, ◌<◌, true, false, nat_eq, if◌then◌else◌, ℤ, pos, ◌<ℤ◌, List, [], ◌∷◌, ◌++◌, length, get_or, refl, sym, ap, subst, ◌∙◌, arith}
 use Rattle.std.proofs.lemmas.Bool.{false≢true}
 use Rattle.std.proofs.lemmas.Int.{ints}
 use Rattle.roles.specs.declared.role.Role.{Role}
@@ -32,20 +32,52 @@ role-once Answerer Answerer e = refl
 role-once Originator Answerer e = absurd (omega (arith, ap (λ w. get_or w 0 0) e))
 role-once Answerer Originator e = absurd (omega (arith, ap (λ w. get_or w 0 0) e))
 
+-- a sum of letters tells the forms apart
+abbrev letters : List ℕ → ℕ
+letters word = get_or word 0 0 + (get_or word 1 0 + (get_or word 1 0 + get_or word 3 0))
+
+abbrev form_by : ℕ → Form
+form_by n =
+    if nat_eq n 399 then forms.Delay
+    else if nat_eq n 107 then forms.Window
+    else if nat_eq n 263 then forms.Length
+    else if nat_eq n 262 then forms.Tries
+    else if nat_eq n 449 then forms.Srej
+    else if nat_eq n 406 then forms.Check32
+    else if nat_eq n 431 then forms.Lose
+    else if nat_eq n 314 then forms.Hit
+    else if nat_eq n 447 then forms.Noise
+    else if nat_eq n 423 then forms.Break
+    else forms.Busy
+
+form-again : (form : Form) → form_by (letters (word_of form)) ≡ form
+form-again forms.Delay = refl
+form-again forms.Window = refl
+form-again forms.Length = refl
+form-again forms.Tries = refl
+form-again forms.Srej = refl
+form-again forms.Check32 = refl
+form-again forms.Lose = refl
+form-again forms.Hit = refl
+form-again forms.Noise = refl
+form-again forms.Break = refl
+form-again forms.Busy = refl
+
 form-once : (a b : Form) → word_of a ≡ word_of b → a ≡ b
-form-once forms.Delay forms.Delay e = refl
-form-once forms.Tries forms.Tries e = refl
-form-once forms.Lose forms.Lose e = refl
-form-once forms.Hit forms.Hit e = refl
-form-once forms.Noise forms.Noise e = refl
-form-once a b e = let first = ap (λ (w : List ℕ). get_or w 0 0) e in let second = ap (λ (w : List ℕ). get_or w 1 0) e in absurd (omega (arith, first, second))
+form-once a b e = sym (form-again a) ∙ ap (λ (w : List ℕ). form_by (letters w)) e ∙ form-again b
 
 no-comment : (form : Form) → begins_with 35 (word_of form) ≡ false
 no-comment forms.Delay = refl
+no-comment forms.Window = refl
+no-comment forms.Length = refl
 no-comment forms.Tries = refl
+no-comment forms.Srej = refl
+no-comment forms.Check32 = refl
 no-comment forms.Lose = refl
 no-comment forms.Hit = refl
 no-comment forms.Noise = refl
+no-comment forms.Break = refl
+no-comment forms.Busy = refl
 
 -- values
 
@@ -154,17 +186,29 @@ at values i = get_or values i (NumberIs 0)
 
 abbrev pub entry_of : Form → List Value → Entry
 entry_of forms.Delay v = entries.Delay (record { orig = number_of (at v 0); answ = number_of (at v 1) })
+entry_of forms.Window v = entries.Window (record { role = role_of (at v 0); segments = number_of (at v 1) })
+entry_of forms.Length v = entries.Length (record { role = role_of (at v 0); octets = number_of (at v 1) })
 entry_of forms.Tries v = entries.Tries (number_of (at v 0))
+entry_of forms.Srej v = entries.Srej (role_of (at v 0))
+entry_of forms.Check32 v = entries.Check32 (role_of (at v 0))
 entry_of forms.Lose v = entries.Lose (record { role = role_of (at v 0); from = number_of (at v 1); count = number_of (at v 2) })
 entry_of forms.Hit v = entries.Hit (record { role = role_of (at v 0); from = number_of (at v 1); count = number_of (at v 2); re = signed_of (at v 3); im = signed_of (at v 4) })
 entry_of forms.Noise v = entries.Noise (record { role = role_of (at v 0); from = number_of (at v 1); count = number_of (at v 2); amplitude = number_of (at v 3); seed = number_of (at v 4) })
+entry_of forms.Break v = entries.Break (record { role = role_of (at v 0); turn = number_of (at v 1); length = number_of (at v 2) })
+entry_of forms.Busy v = entries.Busy (record { role = role_of (at v 0); from = number_of (at v 1); count = number_of (at v 2) })
 
 entry-again : (entry : Entry) → entry_of (form_of entry) (values_of entry) ≡ entry
-entry-again (entries.Delay delays) = refl
-entry-again (entries.Tries tries) = refl
-entry-again (entries.Lose loss) = refl
-entry-again (entries.Hit hit) = refl
-entry-again (entries.Noise noise) = refl
+entry-again (entries.Delay x) = refl
+entry-again (entries.Window x) = refl
+entry-again (entries.Length x) = refl
+entry-again (entries.Tries x) = refl
+entry-again (entries.Srej x) = refl
+entry-again (entries.Check32 x) = refl
+entry-again (entries.Lose x) = refl
+entry-again (entries.Hit x) = refl
+entry-again (entries.Noise x) = refl
+entry-again (entries.Break x) = refl
+entry-again (entries.Busy x) = refl
 
 line-once : (words : List (List ℕ)) (a b : Entry) → SpellsLine words a → SpellsLine words b → a ≡ b
 line-once words a b s t =

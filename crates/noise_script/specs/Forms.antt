@@ -4,13 +4,13 @@ use Rattle.roles.specs.declared.role.Role.{Role}
 use Rattle.roles.specs.declared.role.Role.TheVariants.{Originator, Answerer}
 use Rattle.script_causes.specs.declared.cause.Cause.{Cause}
 use Rattle.script_causes.specs.declared.cause.Cause.TheVariants as causes
-use Rattle.noise_script.specs.declared.limits.TheConstants.{LOSE_LINES, HIT_LINES, NOISE_LINES}
+use Rattle.frame_check.specs.declared.sizes.TheConstants.{INFO}
 use Rattle.noise_script.specs.declared.entry.Entry.{Entry}
 use Rattle.noise_script.specs.declared.entry.Entry.TheVariants as entries
 use Rattle.noise_script.specs.declared.forms.Form.{Form}
 use Rattle.noise_script.specs.declared.forms.Form.TheVariants as forms
 use Rattle.noise_script.specs.declared.forms.Bound.{Bound}
-use Rattle.noise_script.specs.declared.forms.Bound.TheVariants.{Once, AtMost}
+use Rattle.noise_script.specs.declared.forms.Bound.TheVariants.{Once, OnceEach, AtMost}
 use Rattle.noise_script.specs.Lines.{begins_with, is_passed_over}
 use Rattle.noise_script.specs.Numbers.{is_number, value_of, is_signed, signed_value_of}
 use Rattle.roles.specs.Role.{role_word}
@@ -41,10 +41,16 @@ coordinate = Signed (neg_ℤ (pos 32768)) (pos 32767)
 
 abbrev pub row : Form → Row
 row forms.Delay = record { word = codes "delay"; arguments = Number 1 60 ∷ Number 1 60 ∷ []; bound = Once }
+row forms.Window = record { word = codes "k"; arguments = ARole ∷ Number 1 127 ∷ []; bound = OnceEach }
+row forms.Length = record { word = codes "n401"; arguments = ARole ∷ Number 1 INFO ∷ []; bound = OnceEach }
 row forms.Tries = record { word = codes "n400"; arguments = Number 1 20 ∷ []; bound = Once }
-row forms.Lose = record { word = codes "lose"; arguments = ARole ∷ turn ∷ count ∷ []; bound = AtMost LOSE_LINES }
-row forms.Hit = record { word = codes "hit"; arguments = ARole ∷ symbol ∷ count ∷ coordinate ∷ coordinate ∷ []; bound = AtMost HIT_LINES }
-row forms.Noise = record { word = codes "noise"; arguments = ARole ∷ symbol ∷ count ∷ Number 0 32767 ∷ Number 0 18446744073709551615 ∷ []; bound = AtMost NOISE_LINES }
+row forms.Srej = record { word = codes "srej"; arguments = ARole ∷ []; bound = OnceEach }
+row forms.Check32 = record { word = codes "check32"; arguments = ARole ∷ []; bound = OnceEach }
+row forms.Lose = record { word = codes "lose"; arguments = ARole ∷ turn ∷ count ∷ []; bound = AtMost 1024 }
+row forms.Hit = record { word = codes "hit"; arguments = ARole ∷ symbol ∷ count ∷ coordinate ∷ coordinate ∷ []; bound = AtMost 1024 }
+row forms.Noise = record { word = codes "noise"; arguments = ARole ∷ symbol ∷ count ∷ Number 0 32767 ∷ Number 0 18446744073709551615 ∷ []; bound = AtMost 64 }
+row forms.Break = record { word = codes "break"; arguments = ARole ∷ turn ∷ Number 1 255 ∷ []; bound = AtMost 64 }
+row forms.Busy = record { word = codes "busy"; arguments = ARole ∷ turn ∷ Number 1 10000 ∷ []; bound = AtMost 64 }
 
 abbrev pub word_of : Form → List ℕ
 word_of form = (row form).word
@@ -55,10 +61,12 @@ arguments_of form = (row form).arguments
 -- how many lines there may be, and the cause of one more
 abbrev pub most : Bound → ℕ
 most Once = 1
+most OnceEach = 1
 most (AtMost lines) = lines
 
 abbrev pub too_many : Bound → Cause
 too_many Once = causes.Repeated
+too_many OnceEach = causes.Repeated
 too_many (AtMost lines) = causes.Limit
 
 -- what a word behind the first stands for
@@ -70,17 +78,41 @@ pub data Value : Type 0 where
 -- a line's form, and the values of its words behind the first
 abbrev pub form_of : Entry → Form
 form_of (entries.Delay delays) = forms.Delay
+form_of (entries.Window window) = forms.Window
+form_of (entries.Length length) = forms.Length
 form_of (entries.Tries tries) = forms.Tries
+form_of (entries.Srej role) = forms.Srej
+form_of (entries.Check32 role) = forms.Check32
 form_of (entries.Lose loss) = forms.Lose
 form_of (entries.Hit hit) = forms.Hit
 form_of (entries.Noise noise) = forms.Noise
+form_of (entries.Break line) = forms.Break
+form_of (entries.Busy pause) = forms.Busy
 
 abbrev pub values_of : Entry → List Value
 values_of (entries.Delay delays) = NumberIs delays.orig ∷ NumberIs delays.answ ∷ []
+values_of (entries.Window window) = RoleIs window.role ∷ NumberIs window.segments ∷ []
+values_of (entries.Length length) = RoleIs length.role ∷ NumberIs length.octets ∷ []
 values_of (entries.Tries tries) = NumberIs tries ∷ []
+values_of (entries.Srej role) = RoleIs role ∷ []
+values_of (entries.Check32 role) = RoleIs role ∷ []
 values_of (entries.Lose loss) = RoleIs loss.role ∷ NumberIs loss.from ∷ NumberIs loss.count ∷ []
 values_of (entries.Hit hit) = RoleIs hit.role ∷ NumberIs hit.from ∷ NumberIs hit.count ∷ SignedIs hit.re ∷ SignedIs hit.im ∷ []
 values_of (entries.Noise noise) = RoleIs noise.role ∷ NumberIs noise.from ∷ NumberIs noise.count ∷ NumberIs noise.amplitude ∷ NumberIs noise.seed ∷ []
+values_of (entries.Break line) = RoleIs line.role ∷ NumberIs line.turn ∷ NumberIs line.length ∷ []
+values_of (entries.Busy pause) = RoleIs pause.role ∷ NumberIs pause.from ∷ NumberIs pause.count ∷ []
+
+-- The lines that are counted together: those of a form, and of one role where they may stand once for each.
+pub record Kind : Type 0 where
+  pub form : Form
+  pub role : Option Role
+
+abbrev pub role_counted : Bound → List Value → Option Role
+role_counted OnceEach (RoleIs role ∷ _) = Some role
+role_counted _ _ = None
+
+abbrev pub kind_of : Entry → Kind
+kind_of entry = record { form = form_of entry; role = role_counted (row (form_of entry)).bound (values_of entry) }
 
 -- numbers are in their range, ends included
 pub record IsNumber (low high : ℕ) (word : List ℕ) (value : ℕ) : Type 0 where

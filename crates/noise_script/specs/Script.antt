@@ -1,41 +1,43 @@
--- What a script says, as plain numbers and lists, and what the line does by it.
-use Rattle.std.specs.Prelude.{ℕ, ◌≤◌, ◌&&◌, Bool, List, length, map}
+-- What a script says, as plain numbers and lists, and what the line and the ends do by it.
+use Rattle.std.specs.Prelude.{ℕ, ◌≤◌, ◌&&◌, Bool, List, Option, length, map, filter, slice_get}
 use Rattle.std.specs.List.{list_any}
-use Rattle.noise_script.specs.declared.limits.TheConstants.{LOSE_LINES, HIT_LINES, NOISE_LINES}
 use Rattle.roles.specs.declared.role.Role.{Role}
 use Rattle.roles.specs.declared.role.Role.TheVariants.{Originator, Answerer}
-use Rattle.noise_script.specs.declared.entry.Delays.{Delays}
 use Rattle.noise_script.specs.declared.entry.Loss.{Loss}
 use Rattle.noise_script.specs.declared.entry.Hit.{Hit}
 use Rattle.noise_script.specs.declared.entry.Noise.{Noise}
+use Rattle.noise_script.specs.declared.entry.Break.{Break}
+use Rattle.noise_script.specs.declared.entry.Pause.{Pause}
 use Rattle.noise_script.specs.declared.offset.Offset.{Offset}
 use Rattle.noise_script.specs.Offsets.{covers, plus, sum_of, hit_offset, noise_offset, AreQuiet}
 use Rattle.roles.specs.Role.{same_role}
+use Rattle.xid_params.specs.declared.offer.Offer.{Offer}
+use Rattle.xid_params.specs.Offers.{IsAllowed}
 
 pub record ScriptValue : Type 0 where
   -- turns from the originator to the answerer, and back
   pub delay_orig : ℕ
   pub delay_answ : ℕ
   pub tries : ℕ
+  pub offer_orig : Offer
+  pub offer_answ : Offer
   -- the lines of each kind, in order
   pub losses : List Loss
   pub hits : List Hit
   pub noises : List Noise
-
-abbrev pub script_with : Delays → ℕ → List Loss → List Hit → List Noise → ScriptValue
-script_with delays tries losses hits noises = record {
-  delay_orig = delays.orig;
-  delay_answ = delays.answ;
-  tries = tries;
-  losses = losses;
-  hits = hits;
-  noises = noises;
-}
+  -- those that ask for breaks in rising order of turn
+  pub breaks : List Break
+  pub pauses : List Pause
 
 -- turns that a slot of this sender is on the line
 abbrev pub delay_of : ScriptValue → Role → ℕ
 delay_of script Originator = script.delay_orig
 delay_of script Answerer = script.delay_answ
+
+-- what an end offers
+abbrev pub offer_of : ScriptValue → Role → Offer
+offer_of script Originator = script.offer_orig
+offer_of script Answerer = script.offer_answ
 
 -- the slot that a role sends in a turn is lost: a line names it
 abbrev pub loses : ScriptValue → Role → ℕ → Bool
@@ -46,6 +48,14 @@ abbrev pub offset_of : ScriptValue → Role → ℕ → Offset
 offset_of script role symbol =
     plus (sum_of (map (hit_offset role symbol) script.hits)) (sum_of (map (noise_offset role symbol) script.noises))
 
+-- the turn and the length of the break of a role that has that index
+abbrev pub break_of : ScriptValue → Role → ℕ → Option (ℕ × ℕ)
+break_of script role index = slice_get (map (λ line. (line.turn, line.length)) (filter (λ line. same_role line.role role) script.breaks)) index
+
+-- a role's user asks for a pause in a turn: a line covers it
+abbrev pub is_busy : ScriptValue → Role → ℕ → Bool
+is_busy script role turn = list_any (λ pause. same_role pause.role role && covers pause.from pause.count turn) script.pauses
+
 -- the ranges of the numbers, and how many lines there may be
 pub record IsInLimits (script : ScriptValue) : Type 0 where
   pub delay_orig_some : 1 ≤ script.delay_orig
@@ -54,7 +64,11 @@ pub record IsInLimits (script : ScriptValue) : Type 0 where
   pub delay_answ_few : script.delay_answ ≤ 60
   pub tries_some : 1 ≤ script.tries
   pub tries_few : script.tries ≤ 20
-  pub losses_few : length script.losses ≤ LOSE_LINES
-  pub hits_few : length script.hits ≤ HIT_LINES
-  pub noises_few : length script.noises ≤ NOISE_LINES
+  pub offer_orig_allowed : IsAllowed script.offer_orig
+  pub offer_answ_allowed : IsAllowed script.offer_answ
+  pub losses_few : length script.losses ≤ 1024
+  pub hits_few : length script.hits ≤ 1024
+  pub noises_few : length script.noises ≤ 64
+  pub breaks_few : length script.breaks ≤ 64
+  pub pauses_few : length script.pauses ≤ 64
   pub quiet : AreQuiet script.noises

@@ -1,28 +1,48 @@
 // A script while it is read: what the lines so far say.
-ghost use Rattle.std.specs.Prelude.{◌≡◌, ◌<◌, ◌++◌, ◌∷◌, [], List, OnOk, nat_le};
-ghost use Rattle.noise_script.specs.Forms.{row, form_of, most};
+ghost use Rattle.std.specs.Prelude.{◌≡◌, ◌<◌, ◌++◌, ◌∷◌, [], List, OnOk, nat_le, take, drop, length, ◌≤◌};
+ghost use Rattle.noise_script.specs.Forms.{row, form_of, kind_of, most};
 ghost use Rattle.noise_script.specs.Grammar.{standing, AreAllowed};
-ghost use Rattle.noise_script.specs.Draft.{Holds, draft_script};
+ghost use Rattle.noise_script.specs.Breaks.{placed};
+ghost use Rattle.noise_script.specs.Draft.{Holds, Adds, offered_of, with_offered, draft_script};
 ghost use Rattle.noise_script.specs.Script.{IsInLimits};
 
 use crate::entry::{Delays, Entry};
-use crate::forms::Form;
-use crate::{Hit, Loss, Noise, Script};
+use crate::offered::{NOTHING_OFFERED, Offered};
+use crate::{Break, Hit, Loss, Noise, Pause, Script};
 use outside_core::NoMemory;
+use roles::Role;
 use std::alloc::Global;
 
 #[derive(Drop)]
 pub(crate) struct Draft {
     delays: Option<Delays>,
     tries: Option<u8>,
+    orig: Offered,
+    answ: Offered,
     losses: Vec<Loss>,
     hits: Vec<Hit>,
     noises: Vec<Noise>,
+    /// In rising order of turn.
+    breaks: Vec<Break>,
+    pauses: Vec<Pause>,
 }
 
 const DEFAULT_DELAYS: Delays = Delays { orig: 1, answ: 1 };
 
 const DEFAULT_TRIES: u8 = 5;
+
+/// How many breaks stand before one more of that turn, where they stand in rising order of turn.
+fn place_of(breaks: &[Break], line: Break) -> usize
+    ensures within { result ≤ length breaks.now }
+    ensures place { placed line breaks.now ≡ take result breaks.now ++ line ∷ drop result breaks.now }
+{
+    for (at, next) in breaks.iter().enumerate() {
+        if line.turn < next.turn {
+            return at;
+        }
+    }
+    breaks.len()
+}
 
 impl Draft {
     pub(crate) fn new(alloc: Global) -> Self
@@ -31,42 +51,94 @@ impl Draft {
         Draft {
             delays: None,
             tries: None,
+            orig: NOTHING_OFFERED,
+            answ: NOTHING_OFFERED,
             losses: Vec::new(alloc),
             hits: Vec::new(alloc),
             noises: Vec::new(alloc),
+            breaks: Vec::new(alloc),
+            pauses: Vec::new(alloc),
         }
     }
 
-    /// How many lines of a form there are.
-    fn standing(&self, form: Form) -> usize
-        ensures { (said : List Entry) → Holds self.now said → AreAllowed said → result ≡ standing form said }
+    /// What the lines so far say of a role's offer.
+    fn offered(&self, role: Role) -> Offered
+        ensures { result ≡ offered_of self.now role }
     {
-        match form {
-            Form::Delay => usize::from(self.delays.is_some()),
-            Form::Tries => usize::from(self.tries.is_some()),
-            Form::Lose => self.losses.len(),
-            Form::Hit => self.hits.len(),
-            Form::Noise => self.noises.len(),
+        match role {
+            Role::Originator => self.orig,
+            Role::Answerer => self.answ,
         }
     }
 
-    /// Whether a line more of a form is too many.
-    pub(crate) fn is_full(&self, form: Form) -> bool
-        ensures { (said : List Entry) → Holds self.now said → AreAllowed said → (result ≡ nat_le (most (row form).bound) (standing form said)) }
+    fn set_offered(&mut self, role: Role, offered: Offered)
+        ensures { self.new ≡ with_offered self.old role offered }
     {
-        form.bound().most() <= self.standing(form)
+        match role {
+            Role::Originator => self.orig = offered,
+            Role::Answerer => self.answ = offered,
+        }
+    }
+
+    /// How many lines there are that are counted together with one that says this.
+    fn standing(&self, entry: Entry) -> usize
+        ensures { (said : List Entry) → Holds self.now said → AreAllowed said → result ≡ standing (kind_of entry) said }
+    {
+        match entry {
+            Entry::Delay(_) => usize::from(self.delays.is_some()),
+            Entry::Window(window) => usize::from(self.offered(window.role).window.is_some()),
+            Entry::Length(length) => usize::from(self.offered(length.role).length.is_some()),
+            Entry::Tries(_) => usize::from(self.tries.is_some()),
+            Entry::Srej(role) => usize::from(self.offered(role).srej),
+            Entry::Check32(role) => usize::from(self.offered(role).check32),
+            Entry::Lose(_) => self.losses.len(),
+            Entry::Hit(_) => self.hits.len(),
+            Entry::Noise(_) => self.noises.len(),
+            Entry::Break(_) => self.breaks.len(),
+            Entry::Busy(_) => self.pauses.len(),
+        }
+    }
+
+    /// Whether a line more that says this is too many.
+    pub(crate) fn is_full(&self, entry: Entry) -> bool
+        ensures { (said : List Entry) → Holds self.now said → AreAllowed said → (result ≡ nat_le (most (row (form_of entry)).bound) (standing (kind_of entry) said)) }
+    {
+        entry.form().bound().most() <= self.standing(entry)
     }
 
     /// Adds what one line more says.
     pub(crate) fn add(&mut self, entry: Entry) -> Result<(), NoMemory>
-        ensures { (said : List Entry) → Holds self.old said → AreAllowed said → standing (form_of entry) said < most (row (form_of entry)).bound → OnOk result (Holds self.new (said ++ entry ∷ [])) }
+        ensures { OnOk result (Adds self.old entry self.new) }
     {
         match entry {
             Entry::Delay(delays) => self.delays = Some(delays),
+            Entry::Window(window) => {
+                let offered = self.offered(window.role);
+                let segments = Some(window.segments);
+                self.set_offered(window.role, Offered { window: segments, ..offered });
+            }
+            Entry::Length(length) => {
+                let offered = self.offered(length.role);
+                let octets = Some(length.octets);
+                self.set_offered(length.role, Offered { length: octets, ..offered });
+            }
             Entry::Tries(tries) => self.tries = Some(tries),
+            Entry::Srej(role) => {
+                let offered = self.offered(role);
+                self.set_offered(role, Offered { srej: true, ..offered });
+            }
+            Entry::Check32(role) => {
+                let offered = self.offered(role);
+                self.set_offered(role, Offered { check32: true, ..offered });
+            }
             Entry::Lose(loss) => self.losses.push(loss)?,
             Entry::Hit(hit) => self.hits.push(hit)?,
             Entry::Noise(noise) => self.noises.push(noise)?,
+            Entry::Break(line) => {
+                let place = place_of(&self.breaks, line);
+                self.breaks.insert(place, line)?;
+            }
+            Entry::Busy(pause) => self.pauses.push(pause)?,
         }
         Ok(())
     }
@@ -77,12 +149,17 @@ impl Draft {
         ensures { result ≡ draft_script self }
     {
         let delays = self.delays.unwrap_or(DEFAULT_DELAYS);
-        Script::new(
-            delays,
-            self.tries.unwrap_or(DEFAULT_TRIES),
-            self.losses,
-            self.hits,
-            self.noises,
-        )
+        Script {
+            delay_orig: delays.orig,
+            delay_answ: delays.answ,
+            tries: self.tries.unwrap_or(DEFAULT_TRIES),
+            offer_orig: self.orig.offer(),
+            offer_answ: self.answ.offer(),
+            losses: self.losses,
+            hits: self.hits,
+            noises: self.noises,
+            breaks: self.breaks,
+            pauses: self.pauses,
+        }
     }
 }

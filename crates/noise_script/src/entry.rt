@@ -31,6 +31,36 @@ pub struct Noise {
     pub seed: u64,
 }
 
+/// A break of a length in tens of milliseconds, which a role's user asks for from a turn on.
+#[derive(Clone, Copy, Debug, PartialEq, Eq)]
+pub struct Break {
+    pub role: Role,
+    pub turn: u32,
+    pub length: u8,
+}
+
+/// The `count` turns from `from` on in which a role's user asks for a pause.
+#[derive(Clone, Copy, Debug, PartialEq, Eq)]
+pub struct Pause {
+    pub role: Role,
+    pub from: u32,
+    pub count: u16,
+}
+
+/// The window that a role offers both ways.
+#[derive(Clone, Copy, Debug, PartialEq, Eq)]
+pub(crate) struct Window {
+    pub(crate) role: Role,
+    pub(crate) segments: u8,
+}
+
+/// The longest information field that a role offers both ways.
+#[derive(Clone, Copy, Debug, PartialEq, Eq)]
+pub(crate) struct Length {
+    pub(crate) role: Role,
+    pub(crate) octets: u16,
+}
+
 /// How many turns a slot is on the line: from the originator to the answerer, and back.
 #[derive(Clone, Copy, Debug, PartialEq, Eq)]
 pub(crate) struct Delays {
@@ -42,10 +72,16 @@ pub(crate) struct Delays {
 #[derive(Clone, Copy, Debug, PartialEq, Eq)]
 pub(crate) enum Entry {
     Delay(Delays),
+    Window(Window),
+    Length(Length),
     Tries(u8),
+    Srej(Role),
+    Check32(Role),
     Lose(Loss),
     Hit(Hit),
     Noise(Noise),
+    Break(Break),
+    Busy(Pause),
 }
 
 impl Entry {
@@ -58,10 +94,16 @@ impl Entry {
     {
         match self {
             Entry::Delay(_) => Form::Delay,
+            Entry::Window(_) => Form::Window,
+            Entry::Length(_) => Form::Length,
             Entry::Tries(_) => Form::Tries,
+            Entry::Srej(_) => Form::Srej,
+            Entry::Check32(_) => Form::Check32,
             Entry::Lose(_) => Form::Lose,
             Entry::Hit(_) => Form::Hit,
             Entry::Noise(_) => Form::Noise,
+            Entry::Break(_) => Form::Break,
+            Entry::Busy(_) => Form::Busy,
         }
     }
 }

@@ -4,22 +4,31 @@ ghost use Rattle.std.specs.Prelude.{◌≡◌, ◌≢◌, IfSome, IfNone, length
 ghost use Rattle.noise_script.specs.Forms.{row, word_of, arguments_of, most, too_many};
 
 use crate::Cause;
-use crate::limits::{HIT_LINES, LOSE_LINES, NOISE_LINES};
+use crate::limits::{BREAK_LINES, BUSY_LINES, HIT_LINES, LOSE_LINES, NOISE_LINES};
+use frame_check::INFO;
 
 /// A line's form, by its first word.
 #[derive(Clone, Copy, Debug, PartialEq, Eq)]
 pub(crate) enum Form {
     Delay,
+    Window,
+    Length,
     Tries,
+    Srej,
+    Check32,
     Lose,
     Hit,
     Noise,
+    Break,
+    Busy,
 }
 
 /// How many lines of a form there may be.
 #[derive(Clone, Copy, Debug, PartialEq, Eq)]
 pub(crate) enum Bound {
     Once,
+    /// Once for each role.
+    OnceEach,
     AtMost(usize),
 }
 
@@ -31,6 +40,13 @@ pub(crate) struct Range {
 }
 
 pub(crate) const DELAY: Range = Range { low: 1, high: 60 };
+
+pub(crate) const WINDOW: Range = Range { low: 1, high: 127 };
+
+pub(crate) const LENGTH: Range = Range {
+    low: 1,
+    high: INFO as u64,
+};
 
 pub(crate) const TRIES: Range = Range { low: 1, high: 20 };
 
@@ -59,6 +75,13 @@ pub(crate) const SEED: Range = Range {
     high: u64::MAX,
 };
 
+pub(crate) const BREAK: Range = Range { low: 1, high: 255 };
+
+pub(crate) const PAUSE: Range = Range {
+    low: 1,
+    high: 10000,
+};
+
 impl Form {
     /// The form of the lines that begin with a word.
     pub(crate) fn of_word(word: &[u8]) -> Option<Form>
@@ -68,8 +91,20 @@ impl Form {
         if word == b"delay".as_slice() {
             return Some(Form::Delay);
         }
+        if word == b"k".as_slice() {
+            return Some(Form::Window);
+        }
+        if word == b"n401".as_slice() {
+            return Some(Form::Length);
+        }
         if word == b"n400".as_slice() {
             return Some(Form::Tries);
+        }
+        if word == b"srej".as_slice() {
+            return Some(Form::Srej);
+        }
+        if word == b"check32".as_slice() {
+            return Some(Form::Check32);
         }
         if word == b"lose".as_slice() {
             return Some(Form::Lose);
@@ -80,6 +115,12 @@ impl Form {
         if word == b"noise".as_slice() {
             return Some(Form::Noise);
         }
+        if word == b"break".as_slice() {
+            return Some(Form::Break);
+        }
+        if word == b"busy".as_slice() {
+            return Some(Form::Busy);
+        }
         None
     }
 
@@ -89,10 +130,16 @@ impl Form {
     {
         match self {
             Form::Delay => 2,
+            Form::Window => 2,
+            Form::Length => 2,
             Form::Tries => 1,
+            Form::Srej => 1,
+            Form::Check32 => 1,
             Form::Lose => 3,
             Form::Hit => 5,
             Form::Noise => 5,
+            Form::Break => 3,
+            Form::Busy => 3,
         }
     }
 
@@ -102,10 +149,16 @@ impl Form {
     {
         match self {
             Form::Delay => Bound::Once,
+            Form::Window => Bound::OnceEach,
+            Form::Length => Bound::OnceEach,
             Form::Tries => Bound::Once,
+            Form::Srej => Bound::OnceEach,
+            Form::Check32 => Bound::OnceEach,
             Form::Lose => Bound::AtMost(LOSE_LINES),
             Form::Hit => Bound::AtMost(HIT_LINES),
             Form::Noise => Bound::AtMost(NOISE_LINES),
+            Form::Break => Bound::AtMost(BREAK_LINES),
+            Form::Busy => Bound::AtMost(BUSY_LINES),
         }
     }
 }
@@ -115,7 +168,7 @@ impl Bound {
         ensures { result ≡ most self }
     {
         match self {
-            Bound::Once => 1,
+            Bound::Once | Bound::OnceEach => 1,
             Bound::AtMost(lines) => lines,
         }
     }
@@ -125,7 +178,7 @@ impl Bound {
         ensures { result ≡ too_many self }
     {
         match self {
-            Bound::Once => Cause::Repeated,
+            Bound::Once | Bound::OnceEach => Cause::Repeated,
             Bound::AtMost(_) => Cause::Limit,
         }
     }

@@ -1,6 +1,6 @@
 //! Laws of scripts' texts.
 ghost use Rattle.std.specs.Prelude.{◌≡◌};
-ghost use Rattle.noise_script.specs.declared.limits.TheConstants.{SCRIPT_OCTETS, LOSE_LINES, HIT_LINES, NOISE_LINES};
+ghost use Rattle.noise_script.specs.declared.limits.TheConstants.{SCRIPT_OCTETS, LOSE_LINES, HIT_LINES, NOISE_LINES, BREAK_LINES, BUSY_LINES};
 ghost use Rattle.noise_script.specs.Laws.{EachHasAnswer, ScriptsAreOne, FaultsAreOne, NoFaultInScripts, LinesFromFront, WordsFromFront};
 
 /// Each text spells one script, or has one first fault with one cause, and never both.
@@ -17,10 +17,13 @@ pub fn cuts()
     ensures words { WordsFromFront }
 {}
 
-/// How much a script may hold: 65,536 octets, 1,024 lines `lose`, as many lines `hit`, and 64 lines `noise`.
+/// How much a script may hold: 65,536 octets, 1,024 lines `lose`, as many lines `hit`, and 64 lines each of `noise`,
+/// `break` and `busy`.
 pub fn limits_of_scripts()
     ensures octets { SCRIPT_OCTETS ≡ 65536 }
     ensures lose { LOSE_LINES ≡ 1024 }
     ensures hit { HIT_LINES ≡ 1024 }
     ensures noise { NOISE_LINES ≡ 64 }
+    ensures breaks { BREAK_LINES ≡ 64 }
+    ensures busy { BUSY_LINES ≡ 64 }
 {}

@@ -4,8 +4,10 @@ ghost use Rattle.noise_script.specs.Lines.{words_of};
 ghost use Rattle.noise_script.specs.Forms.{ARole, Number, Signed, RoleIs, NumberIs, SignedIs, Reads, FailsToRead, SpellsForm, FirstFails, arguments_of, LineSays, Misspells};
 
 use crate::Cause;
-use crate::entry::{Delays, Entry, Hit, Loss, Noise};
-use crate::forms::{AMPLITUDE, COUNT, DELAY, Form, Range, SEED, SYMBOL, TRIES, TURN};
+use crate::entry::{Break, Delays, Entry, Hit, Length, Loss, Noise, Pause, Window};
+use crate::forms::{
+    AMPLITUDE, BREAK, COUNT, DELAY, Form, LENGTH, PAUSE, Range, SEED, SYMBOL, TRIES, TURN, WINDOW,
+};
 use crate::lines::{count_words, next_word};
 use crate::numbers::{read_number, read_role, read_signed};
 use roles::Role;
@@ -49,12 +51,52 @@ fn read_delays(words: &[u8]) -> Result<Delays, Cause>
     })
 }
 
+fn read_window(words: &[u8]) -> Result<Window, Cause>
+    requires { length (words_of words.now) ≡ 2 }
+    ensures { MatchResult result (λ window. SpellsForm Form.Window (words_of words.now) (Entry.Window window)) (FirstFails (arguments_of Form.Window) (words_of words.now)) }
+{
+    let (role, words) = role(words)?;
+    let (segments, _) = number(words, WINDOW)?;
+    Ok(Window {
+        role,
+        segments: segments as u8,
+    })
+}
+
+fn read_length(words: &[u8]) -> Result<Length, Cause>
+    requires { length (words_of words.now) ≡ 2 }
+    ensures { MatchResult result (λ octets. SpellsForm Form.Length (words_of words.now) (Entry.Length octets)) (FirstFails (arguments_of Form.Length) (words_of words.now)) }
+{
+    let (role, words) = role(words)?;
+    let (octets, _) = number(words, LENGTH)?;
+    Ok(Length {
+        role,
+        octets: octets as u16,
+    })
+}
+
 fn read_tries(words: &[u8]) -> Result<u8, Cause>
     requires { length (words_of words.now) ≡ 1 }
     ensures { MatchResult result (λ tries. SpellsForm Form.Tries (words_of words.now) (Entry.Tries tries)) (FirstFails (arguments_of Form.Tries) (words_of words.now)) }
 {
     let (tries, _) = number(words, TRIES)?;
     Ok(tries as u8)
+}
+
+fn read_srej(words: &[u8]) -> Result<Role, Cause>
+    requires { length (words_of words.now) ≡ 1 }
+    ensures { MatchResult result (λ role. SpellsForm Form.Srej (words_of words.now) (Entry.Srej role)) (FirstFails (arguments_of Form.Srej) (words_of words.now)) }
+{
+    let (role, _) = role(words)?;
+    Ok(role)
+}
+
+fn read_check32(words: &[u8]) -> Result<Role, Cause>
+    requires { length (words_of words.now) ≡ 1 }
+    ensures { MatchResult result (λ role. SpellsForm Form.Check32 (words_of words.now) (Entry.Check32 role)) (FirstFails (arguments_of Form.Check32) (words_of words.now)) }
+{
+    let (role, _) = role(words)?;
+    Ok(role)
 }
 
 fn read_loss(words: &[u8]) -> Result<Loss, Cause>
@@ -107,6 +149,34 @@ fn read_noise(words: &[u8]) -> Result<Noise, Cause>
     })
 }
 
+fn read_break(words: &[u8]) -> Result<Break, Cause>
+    requires { length (words_of words.now) ≡ 3 }
+    ensures { MatchResult result (λ line. SpellsForm Form.Break (words_of words.now) (Entry.Break line)) (FirstFails (arguments_of Form.Break) (words_of words.now)) }
+{
+    let (role, words) = role(words)?;
+    let (turn, words) = number(words, TURN)?;
+    let (length, _) = number(words, BREAK)?;
+    Ok(Break {
+        role,
+        turn: turn as u32,
+        length: length as u8,
+    })
+}
+
+fn read_pause(words: &[u8]) -> Result<Pause, Cause>
+    requires { length (words_of words.now) ≡ 3 }
+    ensures { MatchResult result (λ pause. SpellsForm Form.Busy (words_of words.now) (Entry.Busy pause)) (FirstFails (arguments_of Form.Busy) (words_of words.now)) }
+{
+    let (role, words) = role(words)?;
+    let (from, words) = number(words, TURN)?;
+    let (count, _) = number(words, PAUSE)?;
+    Ok(Pause {
+        role,
+        from: from as u32,
+        count: count as u16,
+    })
+}
+
 /// What the words behind a form's first word say.
 fn read_entry(form: Form, words: &[u8]) -> Result<Entry, Cause>
     requires { length (words_of words.now) ≡ length (arguments_of form) }
@@ -114,10 +184,16 @@ fn read_entry(form: Form, words: &[u8]) -> Result<Entry, Cause>
 {
     Ok(match form {
         Form::Delay => Entry::Delay(read_delays(words)?),
+        Form::Window => Entry::Window(read_window(words)?),
+        Form::Length => Entry::Length(read_length(words)?),
         Form::Tries => Entry::Tries(read_tries(words)?),
+        Form::Srej => Entry::Srej(read_srej(words)?),
+        Form::Check32 => Entry::Check32(read_check32(words)?),
         Form::Lose => Entry::Lose(read_loss(words)?),
         Form::Hit => Entry::Hit(read_hit(words)?),
         Form::Noise => Entry::Noise(read_noise(words)?),
+        Form::Break => Entry::Break(read_break(words)?),
+        Form::Busy => Entry::Busy(read_pause(words)?),
     })
 }
 

@@ -1,23 +1,30 @@
-// What the line does to slots and samples, by a script.
+// What the line and the ends' users do, by a script.
 ghost use Rattle.std.specs.Prelude.{◌≡◌, ◌≤◌};
-ghost use Rattle.noise_script.specs.Script.{IsInLimits, script_with, delay_of, loses, offset_of};
+ghost use Rattle.noise_script.specs.Script.{delay_of, offer_of, loses, offset_of, break_of, is_busy};
 ghost use Rattle.noise_script.specs.Offsets.{IsWithin};
+ghost use Rattle.xid_params.specs.Offers.{IsAllowed};
 
-use crate::entry::Delays;
 use crate::offset::{covers, offset_of_hits, offset_of_noises, total};
-use crate::{Hit, Loss, Noise, OFFSET_MOST, Offset};
+use crate::{Break, Hit, Loss, Noise, OFFSET_MOST, Offset, Pause};
 use roles::Role;
 use std::marker::Model;
+use xid_params::Offer;
 
-/// What the line does to the slots and samples that cross it, and how often an end tries.
+/// What the line does to the slots and samples that cross it, what the ends offer and how often they try, and when their users
+/// ask for breaks and pauses.
 #[derive(Drop)]
 pub struct Script {
-    delay_orig: u8,
-    delay_answ: u8,
-    tries: u8,
-    losses: Vec<Loss>,
-    hits: Vec<Hit>,
-    noises: Vec<Noise>,
+    pub(crate) delay_orig: u8,
+    pub(crate) delay_answ: u8,
+    pub(crate) tries: u8,
+    pub(crate) offer_orig: Offer,
+    pub(crate) offer_answ: Offer,
+    pub(crate) losses: Vec<Loss>,
+    pub(crate) hits: Vec<Hit>,
+    pub(crate) noises: Vec<Noise>,
+    /// In rising order of turn, equal turns in the order of the text.
+    pub(crate) breaks: Vec<Break>,
+    pub(crate) pauses: Vec<Pause>,
 }
 
 impl Model for Script {
@@ -25,32 +32,12 @@ impl Model for Script {
 
     ghost Value = { ScriptValue };
 
-    ghost view = { λ s. record { delay_orig = s.delay_orig; delay_answ = s.delay_answ; tries = s.tries; losses = s.losses.items; hits = s.hits.items; noises = s.noises.items } };
+    ghost view = { λ s. record { delay_orig = s.delay_orig; delay_answ = s.delay_answ; tries = s.tries; offer_orig = s.offer_orig; offer_answ = s.offer_answ; losses = s.losses.items; hits = s.hits.items; noises = s.noises.items; breaks = s.breaks.items; pauses = s.pauses.items } };
 
-    ghost invariant = { λ s. IsInLimits (record { delay_orig = s.delay_orig; delay_answ = s.delay_answ; tries = s.tries; losses = s.losses.items; hits = s.hits.items; noises = s.noises.items }) };
+    ghost invariant = { λ s. IsInLimits (record { delay_orig = s.delay_orig; delay_answ = s.delay_answ; tries = s.tries; offer_orig = s.offer_orig; offer_answ = s.offer_answ; losses = s.losses.items; hits = s.hits.items; noises = s.noises.items; breaks = s.breaks.items; pauses = s.pauses.items }) };
 }
 
 impl Script {
-    pub(crate) fn new(
-        delays: Delays,
-        tries: u8,
-        losses: Vec<Loss>,
-        hits: Vec<Hit>,
-        noises: Vec<Noise>,
-    ) -> Self
-        requires { IsInLimits (script_with delays tries losses.items hits.items noises.items) }
-        ensures { result ≡ script_with delays tries losses.items hits.items noises.items }
-    {
-        Script {
-            delay_orig: delays.orig,
-            delay_answ: delays.answ,
-            tries,
-            losses,
-            hits,
-            noises,
-        }
-    }
-
     /// How many turns a slot of this sender is on the line.
     pub fn delay(&self, sender: Role) -> u8
         ensures value { result ≡ delay_of self.now sender }
@@ -72,6 +59,17 @@ impl Script {
         self.tries
     }
 
+    /// What an end offers.
+    pub fn offer(&self, role: Role) -> Offer
+        ensures value { result ≡ offer_of self.now role }
+        ensures allowed { IsAllowed result }
+    {
+        match role {
+            Role::Originator => self.offer_orig,
+            Role::Answerer => self.offer_answ,
+        }
+    }
+
     /// Whether the slot that a role sends in a turn is lost.
     pub fn loses(&self, sender: Role, turn: u64) -> bool
         ensures { result ≡ loses self.now sender turn }
@@ -89,5 +87,25 @@ impl Script {
             offset_of_hits(&self.hits, sender, symbol),
             offset_of_noises(&self.noises, sender, symbol),
         )
+    }
+
+    /// The turn and the length, in tens of milliseconds, of a role's break, where the role has one of that index: breaks are
+    /// counted from 0 in rising order of turn, those of one turn in the order of the text.
+    pub fn break_line(&self, role: Role, index: usize) -> Option<(u64, u8)>
+        ensures { result ≡ break_of self.now role index }
+    {
+        self.breaks
+            .iter()
+            .filter(|line| line.role == role)
+            .map(|line| (u64::from(line.turn), line.length))
+            .nth(index)
+    }
+
+    /// Whether a role's user asks for a pause in a turn.
+    pub fn busy(&self, role: Role, turn: u64) -> bool
+        ensures { result ≡ is_busy self.now role turn }
+    {
+        self.pauses.iter().any(|pause| pause.role == role
+            && covers(u64::from(pause.from), u32::from(pause.count), turn))
     }
 }
