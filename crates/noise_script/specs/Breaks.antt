@@ -1,5 +1,7 @@
 -- Break lines in the order in which they are asked for.
-use Rattle.std.specs.Prelude.{◌≡◌, ℕ, ◌≤◌, nat_eq, nat_lt, if◌then◌else◌, List, [], ◌∷◌, filter}
+use Rattle.std.specs.Prelude.{◌≡◌, ℕ, ◌≤◌, nat_eq, nat_lt, if◌then◌else◌, List, [], ◌∷◌, Option, filter, map, slice_get}
+use Rattle.roles.specs.declared.role.Role.{Role}
+use Rattle.roles.specs.Role.{same_role}
 use Rattle.noise_script.specs.declared.entry.Break.{Break}
 
 -- a line behind all whose turn isn't later
@@ -33,3 +35,7 @@ of_turn turn lines = filter (λ line. nat_eq line.turn turn) lines
 pub record IsOrder (lines ordered : List Break) : Type 0 where
   pub rising : AreRising ordered
   pub same : (turn : ℕ) → of_turn turn ordered ≡ of_turn turn lines
+
+-- the turn and the length of the break of a role that has that index, counted from 0
+abbrev pub break_in : List Break → Role → ℕ → Option (ℕ × ℕ)
+break_in lines role index = slice_get (map (λ line. (line.turn, line.length)) (filter (λ line. same_role line.role role) lines)) index

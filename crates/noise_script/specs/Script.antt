@@ -1,5 +1,5 @@
 -- What a script says, as plain numbers and lists, and what the line and the ends do by it.
-use Rattle.std.specs.Prelude.{ℕ, ◌≤◌, ◌&&◌, Bool, List, Option, length, map, filter, slice_get}
+use Rattle.std.specs.Prelude.{ℕ, ◌≤◌, ◌&&◌, Bool, List, Option, length, map}
 use Rattle.std.specs.List.{list_any}
 use Rattle.roles.specs.declared.role.Role.{Role}
 use Rattle.roles.specs.declared.role.Role.TheVariants.{Originator, Answerer}
@@ -9,6 +9,7 @@ use Rattle.noise_script.specs.declared.entry.Noise.{Noise}
 use Rattle.noise_script.specs.declared.entry.Break.{Break}
 use Rattle.noise_script.specs.declared.entry.Pause.{Pause}
 use Rattle.noise_script.specs.declared.offset.Offset.{Offset}
+use Rattle.noise_script.specs.Breaks.{break_in}
 use Rattle.noise_script.specs.Offsets.{covers, plus, sum_of, hit_offset, noise_offset, AreQuiet}
 use Rattle.roles.specs.Role.{same_role}
 use Rattle.xid_params.specs.declared.offer.Offer.{Offer}
@@ -50,7 +51,7 @@ offset_of script role symbol =
 
 -- the turn and the length of the break of a role that has that index
 abbrev pub break_of : ScriptValue → Role → ℕ → Option (ℕ × ℕ)
-break_of script role index = slice_get (map (λ line. (line.turn, line.length)) (filter (λ line. same_role line.role role) script.breaks)) index
+break_of script role index = break_in script.breaks role index
 
 -- a role's user asks for a pause in a turn: a line covers it
 abbrev pub is_busy : ScriptValue → Role → ℕ → Bool

@@ -1,6 +1,7 @@
 // What the line and the ends' users do, by a script.
 ghost use Rattle.std.specs.Prelude.{◌≡◌, ◌≤◌};
 ghost use Rattle.noise_script.specs.Script.{delay_of, offer_of, loses, offset_of, break_of, is_busy};
+ghost use Rattle.noise_script.specs.Breaks.{break_in};
 ghost use Rattle.noise_script.specs.Offsets.{IsWithin};
 ghost use Rattle.xid_params.specs.Offers.{IsAllowed};
 
@@ -35,6 +36,22 @@ impl Model for Script {
     ghost view = { λ s. record { delay_orig = s.delay_orig; delay_answ = s.delay_answ; tries = s.tries; offer_orig = s.offer_orig; offer_answ = s.offer_answ; losses = s.losses.items; hits = s.hits.items; noises = s.noises.items; breaks = s.breaks.items; pauses = s.pauses.items } };
 
     ghost invariant = { λ s. IsInLimits (record { delay_orig = s.delay_orig; delay_answ = s.delay_answ; tries = s.tries; offer_orig = s.offer_orig; offer_answ = s.offer_answ; losses = s.losses.items; hits = s.hits.items; noises = s.noises.items; breaks = s.breaks.items; pauses = s.pauses.items }) };
+}
+
+/// The turn and the length of the break of a role that has that index.
+fn break_at(lines: &[Break], role: Role, index: usize) -> Option<(u64, u8)>
+    ensures { result ≡ break_in lines.now role index }
+{
+    let mut ahead = index;
+    for line in lines {
+        if line.role == role {
+            if ahead == 0 {
+                return Some((u64::from(line.turn), line.length));
+            }
+            ahead -= 1;
+        }
+    }
+    None
 }
 
 impl Script {
@@ -94,11 +111,7 @@ impl Script {
     pub fn break_line(&self, role: Role, index: usize) -> Option<(u64, u8)>
         ensures { result ≡ break_of self.now role index }
     {
-        self.breaks
-            .iter()
-            .filter(|line| line.role == role)
-            .map(|line| (u64::from(line.turn), line.length))
-            .nth(index)
+        break_at(&self.breaks, role, index)
     }
 
     /// Whether a role's user asks for a pause in a turn.
