@@ -1,10 +1,9 @@
 -- Break lines in rising order of turn.
-use Rattle.std.proofs.Common.{◌≡◌, ℕ, suc, ◌+◌, ◌<◌, ◌≤◌, Bool, true, false, cond, nat_lt, nat_eq, filter, map, slice_get, List, [], ◌∷◌, ◌++◌, Some, length, get_or, take, drop, refl, sym, ap, ◌∙◌, arith, add-one, drop-cons}
-use Rattle.std.proofs.lemmas.Bool.{cases_Bool, ltb-true, ltb-false}
+use Rattle.std.proofs.Common.{◌≡◌, ℕ, suc, ◌+◌, ◌<◌, ◌≤◌, Bool, true, false, cond, nat_lt, nat_eq, List, [], ◌∷◌, ◌++◌, length, refl, sym, ap, ◌∙◌, arith, append-nil, append_assoc}
+use Rattle.std.proofs.lemmas.Bool.{ltb-true, ltb-false, eqb-true}
 use Rattle.noise_script.specs.declared.entry.Break.{Break}
-use Rattle.roles.specs.declared.role.Role.{Role}
-use Rattle.roles.specs.Role.{same_role}
-use Rattle.noise_script.specs.Breaks.{placed, placed_each, in_order, break_in, AreFrom, AreRising, of_turn, IsOrder}
+use Rattle.noise_script.specs.Breaks.{placed, placed_each, in_order, AreFrom, AreRising, of_turn}
+use Rattle.noise_script.specs.Laws.{BreaksInOrder}
 
 placed-length : (line : Break) (lines : List Break) → length (placed line lines) ≡ suc (length lines)
 placed-length line [] = refl
@@ -21,46 +20,76 @@ placed_each-length sorted (line ∷ lines) = let later = placed_each-length (pla
 pub in_order-length : (lines : List Break) → length (in_order lines) ≡ length lines
 in_order-length lines = let e = placed_each-length [] lines in omega (arith, e)
 
--- the place of a line behind those that were passed
-pub placed-next : (line next : Break) (lines : List Break) → next.turn ≤ line.turn → placed line (next ∷ lines) ≡ next ∷ placed line lines
-placed-next line next lines h = by (nat_lt line.turn next.turn) refl
+-- lines put in order rise, and those of a turn stay in their order
+
+later-from : (turn next : ℕ) (lines : List Break) → turn ≤ next → AreFrom next lines → AreFrom turn lines
+later-from turn next [] h f = tt
+later-from turn next (line ∷ lines) h f = (omega (arith, h, f.0), later-from turn next lines h f.1)
+
+placed-from : (turn : ℕ) (line : Break) (lines : List Break) → turn ≤ line.turn → AreFrom turn lines → AreFrom turn (placed line lines)
+placed-from turn line [] h f = (h, tt)
+placed-from turn line (next ∷ lines) h f = by (nat_lt line.turn next.turn) (placed-from turn line lines h f.1)
   where
-    by : (b : Bool) → nat_lt line.turn next.turn ≡ b → cond b (line ∷ next ∷ lines) (next ∷ placed line lines) ≡ next ∷ placed line lines
-    by true e = absurd (omega (arith, h, ltb-true _ _ e))
-    by false e = refl
+    by : (b : Bool) → AreFrom turn (placed line lines) → AreFrom turn (cond b (line ∷ next ∷ lines) (next ∷ placed line lines))
+    by true later = (h, f)
+    by false later = (f.0, later)
 
-pub placed-here : (line next : Break) (lines : List Break) → line.turn < next.turn → placed line (next ∷ lines) ≡ line ∷ next ∷ lines
-placed-here line next lines h = by (nat_lt line.turn next.turn) refl
+placed-rising : (line : Break) (lines : List Break) → AreRising lines → AreRising (placed line lines)
+placed-rising line [] r = (tt, tt)
+placed-rising line (next ∷ lines) r = by (nat_lt line.turn next.turn) refl (placed-rising line lines r.1)
   where
-    by : (b : Bool) → nat_lt line.turn next.turn ≡ b → cond b (line ∷ next ∷ lines) (next ∷ placed line lines) ≡ line ∷ next ∷ lines
-    by true e = refl
-    by false e = absurd (omega (arith, h, ltb-false _ _ e))
+    by : (b : Bool) → nat_lt line.turn next.turn ≡ b → AreRising (placed line lines) → AreRising (cond b (line ∷ next ∷ lines) (next ∷ placed line lines))
+    by true e later =
+        let before : line.turn ≤ next.turn = omega (arith, ltb-true _ _ e) in
+        ((before, later-from line.turn next.turn lines before r.0), r)
+    by false e later = (placed-from next.turn line lines (ltb-false _ _ e) r.0, later)
 
--- the break of an index, line by line
+none-of : (turn next : ℕ) (lines : List Break) → turn < next → AreFrom next lines → of_turn turn lines ≡ []
+none-of turn next [] h f = refl
+none-of turn next (line ∷ lines) h f = by (nat_eq line.turn turn) refl (none-of turn next lines h f.1)
+  where
+    by : (b : Bool) → nat_eq line.turn turn ≡ b → of_turn turn lines ≡ [] → cond b (line ∷ of_turn turn lines) (of_turn turn lines) ≡ []
+    by true e later = absurd (omega (arith, h, f.0, eqb-true _ _ e))
+    by false e later = later
 
-abbrev told : Break → ℕ × ℕ
-told line = (line.turn, line.length)
+-- a line counts among those of its turn, behind the others
+placed-of : (turn : ℕ) (line : Break) (lines : List Break) → AreRising lines → of_turn turn (placed line lines) ≡ of_turn turn lines ++ of_turn turn (line ∷ [])
+placed-of turn line [] r = refl
+placed-of turn line (next ∷ lines) r = by (nat_lt line.turn next.turn) refl (placed-of turn line lines r.1)
+  where
+    first : (b : Bool) → nat_eq line.turn turn ≡ b → line.turn < next.turn → cond b (line ∷ of_turn turn (next ∷ lines)) (of_turn turn (next ∷ lines)) ≡ of_turn turn (next ∷ lines) ++ cond b (line ∷ []) []
+    first true e l =
+        let before : turn < next.turn = omega (arith, l, eqb-true _ _ e) in
+        let none : of_turn turn (next ∷ lines) ≡ [] = none-of turn next.turn (next ∷ lines) before (omega arith, r.0) in
+        rw none refl
+    first false e l = sym (append-nil (of_turn turn (next ∷ lines)))
 
-abbrev of_role : Role → List Break → List Break
-of_role role lines = filter (λ line. same_role line.role role) lines
+    behind : (b : Bool) → of_turn turn (placed line lines) ≡ of_turn turn lines ++ of_turn turn (line ∷ []) → cond b (next ∷ of_turn turn (placed line lines)) (of_turn turn (placed line lines)) ≡ cond b (next ∷ of_turn turn lines) (of_turn turn lines) ++ of_turn turn (line ∷ [])
+    behind true later = ap (λ ls. next ∷ ls) later
+    behind false later = later
 
-cut : (lines : List Break) (i : ℕ) (d : Break) → i < length lines → drop i lines ≡ get_or lines i d ∷ drop (i + 1) lines
-cut lines i d h = rw (add-one, drop-cons lines i d) refl
+    by : (b : Bool) → nat_lt line.turn next.turn ≡ b → of_turn turn (placed line lines) ≡ of_turn turn lines ++ of_turn turn (line ∷ []) → of_turn turn (cond b (line ∷ next ∷ lines) (next ∷ placed line lines)) ≡ of_turn turn (next ∷ lines) ++ of_turn turn (line ∷ [])
+    by true e later = first (nat_eq line.turn turn) refl (ltb-true _ _ e)
+    by false e later = behind (nat_eq next.turn turn) later
 
-break-other : (role : Role) (left : ℕ) (line : Break) (lines : List Break) → same_role line.role role ≡ false → break_in (line ∷ lines) role left ≡ break_in lines role left
-break-other role left line lines e = ap (λ (b : Bool). slice_get (map told (cond b (line ∷ of_role role lines) (of_role role lines))) left) e
+one-before : (turn : ℕ) (line : Break) (lines : List Break) → of_turn turn (line ∷ []) ++ of_turn turn lines ≡ of_turn turn (line ∷ lines)
+one-before turn line lines = by (nat_eq line.turn turn)
+  where
+    by : (b : Bool) → cond b (line ∷ []) [] ++ of_turn turn lines ≡ cond b (line ∷ of_turn turn lines) (of_turn turn lines)
+    by true = refl
+    by false = refl
 
-break-here : (role : Role) (left : ℕ) (line : Break) (lines : List Break) → same_role line.role role ≡ true → left ≡ 0 → break_in (line ∷ lines) role left ≡ Some (line.turn, line.length)
-break-here role left line lines e z = ap (λ (b : Bool). slice_get (map told (cond b (line ∷ of_role role lines) (of_role role lines))) left) e ∙ ap (λ n. slice_get (told line ∷ map told (of_role role lines)) n) z
+placed_each-rising : (sorted lines : List Break) → AreRising sorted → AreRising (placed_each sorted lines)
+placed_each-rising sorted [] r = r
+placed_each-rising sorted (line ∷ lines) r = placed_each-rising (placed line sorted) lines (placed-rising line sorted r)
 
-break-next : (role : Role) (left less : ℕ) (line : Break) (lines : List Break) → same_role line.role role ≡ true → left ≡ suc less → break_in (line ∷ lines) role left ≡ break_in lines role less
-break-next role left less line lines e z = ap (λ (b : Bool). slice_get (map told (cond b (line ∷ of_role role lines) (of_role role lines))) left) e ∙ ap (λ n. slice_get (told line ∷ map told (of_role role lines)) n) z
+placed_each-of : (turn : ℕ) (sorted lines : List Break) → AreRising sorted → of_turn turn (placed_each sorted lines) ≡ of_turn turn sorted ++ of_turn turn lines
+placed_each-of turn sorted [] r = sym (append-nil (of_turn turn sorted))
+placed_each-of turn sorted (line ∷ lines) r =
+    placed_each-of turn (placed line sorted) lines (placed-rising line sorted r)
+    ∙ ap (λ ls. ls ++ of_turn turn lines) (placed-of turn line sorted r)
+    ∙ append_assoc (of_turn turn sorted) (of_turn turn (line ∷ [])) (of_turn turn lines)
+    ∙ ap (λ ls. of_turn turn sorted ++ ls) (one-before turn line lines)
 
-pub passed-other : (lines : List Break) (i : ℕ) (d : Break) (role : Role) (left : ℕ) → i < length lines → same_role (get_or lines i d).role role ≡ false → break_in (drop i lines) role left ≡ break_in (drop (i + 1) lines) role left
-passed-other lines i d role left h e = ap (λ ls. break_in ls role left) (cut lines i d h) ∙ break-other role left (get_or lines i d) (drop (i + 1) lines) e
-
-pub found : (lines : List Break) (i : ℕ) (d : Break) (role : Role) (left : ℕ) → i < length lines → same_role (get_or lines i d).role role ≡ true → left ≡ 0 → break_in (drop i lines) role left ≡ Some ((get_or lines i d).turn, (get_or lines i d).length)
-found lines i d role left h e z = ap (λ ls. break_in ls role left) (cut lines i d h) ∙ break-here role left (get_or lines i d) (drop (i + 1) lines) e z
-
-pub passed-one : (lines : List Break) (i : ℕ) (d : Break) (role : Role) (left less : ℕ) → i < length lines → same_role (get_or lines i d).role role ≡ true → left ≡ less + 1 → break_in (drop i lines) role left ≡ break_in (drop (i + 1) lines) role less
-passed-one lines i d role left less h e z = ap (λ ls. break_in ls role left) (cut lines i d h) ∙ break-next role left less (get_or lines i d) (drop (i + 1) lines) e (omega (arith, z))
+pub in_order-is : BreaksInOrder
+in_order-is lines = record { rising = placed_each-rising [] lines tt; same = λ turn. placed_each-of turn [] lines tt }

@@ -3,6 +3,8 @@ use Rattle.std.specs.Prelude.{◌≡◌, ◌≢◌, ◌⊎◌, ℕ, Bool, true, 
 use Rattle.std.specs.List.{list_all}
 use Rattle.noise_script.specs.Lines.{lines_of, without_return, words_of, is_blank}
 use Rattle.script_causes.specs.declared.cause.Cause.{Cause}
+use Rattle.noise_script.specs.declared.entry.Break.{Break}
+use Rattle.noise_script.specs.Breaks.{in_order, IsOrder}
 use Rattle.noise_script.specs.Script.{ScriptValue}
 use Rattle.noise_script.specs.Grammar.{ScriptSpelling, FirstFault}
 
@@ -44,3 +46,7 @@ pub record WordsFromFront : Type 0 where
   pub blank : (octet : ℕ) (line : List ℕ) → is_blank octet ≡ true → words_of (octet ∷ line) ≡ words_of line
   pub ended : (word : List ℕ) (octet : ℕ) (line : List ℕ) → word ≢ [] → has_no_blank word ≡ true → is_blank octet ≡ true → words_of (word ++ octet ∷ line) ≡ word ∷ words_of line
   pub last : (word : List ℕ) → word ≢ [] → has_no_blank word ≡ true → words_of word ≡ word ∷ []
+
+-- a script's breaks rise in turn, and those of one turn stand as in the text
+abbrev pub BreaksInOrder : Type 0
+BreaksInOrder = (lines : List Break) → IsOrder lines (in_order lines)

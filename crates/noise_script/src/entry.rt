@@ -31,7 +31,7 @@ pub struct Noise {
     pub seed: u64,
 }
 
-/// A break of a length in tens of milliseconds, which a role's user asks for from a turn on.
+/// A break that a role's user asks for from a turn on. Its length is in units of 10 ms.
 #[derive(Clone, Copy, Debug, PartialEq, Eq)]
 pub struct Break {
     pub role: Role,

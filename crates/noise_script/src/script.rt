@@ -106,8 +106,8 @@ impl Script {
         )
     }
 
-    /// The turn and the length, in tens of milliseconds, of a role's break, where the role has one of that index: breaks are
-    /// counted from 0 in rising order of turn, those of one turn in the order of the text.
+    /// The turn of a role's break and its length in units of 10 ms. It is None where the role has no break of that index: they
+    /// are counted from 0 in rising order of turn, those of one turn in the order of the text.
     pub fn break_line(&self, role: Role, index: usize) -> Option<(u64, u8)>
         ensures { result ≡ break_of self.now role index }
     {
