@@ -1,6 +1,6 @@
 -- What lines say, one line more at a time.
-use Rattle.std.proofs.Common.{◌≡◌, ℕ, zero, suc, ◌+◌, ◌<◌, ◌≤◌, Bool, true, false, ◌&&◌, ◌||◌, cond, List, [], ◌∷◌, ◌++◌, length, filter_map, Option, Some, None, is_some, refl, sym, ap, subst, ◌∙◌, arith, append-nil, length-append}
-use Rattle.std.specs.List.{cons_option, list_any}
+use Rattle.std.proofs.Common.{◌≡◌, ℕ, ◌+◌, ◌<◌, ◌≤◌, Bool, true, false, ◌&&◌, ◌||◌, cond, List, [], ◌∷◌, ◌++◌, length, filter_map, Option, Some, None, is_some, refl, sym, ap, subst, ◌∙◌, arith, append-nil}
+use Rattle.std.specs.List.{cons_option}
 use Rattle.std.proofs.lemmas.List.Elements.{filter_map-append}
 use mir.Val.{bool_byte}
 use Rattle.std.proofs.lemmas.Bool.{false≢true}
@@ -17,7 +17,7 @@ use Rattle.noise_script.specs.declared.draft.Draft.{Draft}
 use Rattle.noise_script.specs.Forms.{Kind, row, kind_of, most}
 use Rattle.noise_script.specs.Breaks.{placed, placed_each, in_order}
 use Rattle.noise_script.specs.Grammar.{same_form, same_counted, same_kind, standing, AreAllowed, whole, each, stands, first, delays_said, tries_said, window_said, length_said, loss_said, hit_said, noise_said, break_said, pause_said, breaks_in, offered_in}
-use Rattle.noise_script.specs.Draft.{Holds, Adds, or_before, offered_of, offered_after, with_offered, placed_said}
+use Rattle.noise_script.specs.Draft.{Holds, Adds, or_before, offered_of, offered_after, placed_said}
 
 -- kinds
 
@@ -309,4 +309,3 @@ holds-more draft after said entry h a few = record {
   breaks = a.breaks ∙ ap (placed_said (break_said entry)) h.breaks ∙ breaks-more said entry;
   pauses = a.pauses ∙ ap (λ xs. xs ++ cons_option (pause_said entry) []) h.pauses ∙ sym (lists-more pause_said said entry);
 }
-

@@ -113,23 +113,25 @@ impl Draft {
         match entry {
             Entry::Delay(delays) => self.delays = Some(delays),
             Entry::Window(window) => {
-                let offered = self.offered(window.role);
-                let segments = Some(window.segments);
-                self.set_offered(window.role, Offered { window: segments, ..offered });
+                let mut offered = self.offered(window.role);
+                offered.window = Some(window.segments);
+                self.set_offered(window.role, offered);
             }
             Entry::Length(length) => {
-                let offered = self.offered(length.role);
-                let octets = Some(length.octets);
-                self.set_offered(length.role, Offered { length: octets, ..offered });
+                let mut offered = self.offered(length.role);
+                offered.length = Some(length.octets);
+                self.set_offered(length.role, offered);
             }
             Entry::Tries(tries) => self.tries = Some(tries),
             Entry::Srej(role) => {
-                let offered = self.offered(role);
-                self.set_offered(role, Offered { srej: true, ..offered });
+                let mut offered = self.offered(role);
+                offered.srej = true;
+                self.set_offered(role, offered);
             }
             Entry::Check32(role) => {
-                let offered = self.offered(role);
-                self.set_offered(role, Offered { check32: true, ..offered });
+                let mut offered = self.offered(role);
+                offered.check32 = true;
+                self.set_offered(role, offered);
             }
             Entry::Lose(loss) => self.losses.push(loss)?,
             Entry::Hit(hit) => self.hits.push(hit)?,
