@@ -6,7 +6,7 @@ use command_base::{FILE_LIMIT, HEX_LIMIT, RECORDING_LIMIT, RUN_FILE_LIMIT, SCRIP
 use frame_check::{Check, INFO, Octets, SLOT, WHOLE, append, passes};
 use lapm_frames::{FrameFault, read};
 use line_texts::{FrameText, write_frame_text};
-use noise_script::{HIT_LINES, LOSE_LINES, NOISE_LINES, SCRIPT_OCTETS};
+use noise_script::{BREAK_LINES, BUSY_LINES, HIT_LINES, LOSE_LINES, NOISE_LINES, SCRIPT_OCTETS};
 use recordings::{Recorder, header_octets};
 use roles::Role;
 use scramblers::{ANSWER_TAP, CALL_TAP, Mode, Scrambler};
@@ -14,7 +14,7 @@ use std::process::Abort;
 use std::test::Fail;
 
 /// The sizes and limits by their numbers: contracts name them, and would follow another number.
-const SIZES: [(u64, u64); 15] = [
+const SIZES: [(u64, u64); 17] = [
     (INFO as u64, 128),
     (WHOLE as u64, 135),
     (SLOT as u64, 464),
@@ -30,6 +30,8 @@ const SIZES: [(u64, u64); 15] = [
     (LOSE_LINES as u64, 1_024),
     (HIT_LINES as u64, 1_024),
     (NOISE_LINES as u64, 64),
+    (BREAK_LINES as u64, 64),
+    (BUSY_LINES as u64, 64),
 ];
 
 #[test]

@@ -1,4 +1,4 @@
-// Scripts, their faults and their offsets.
+// Scripts: their faults, offers, offsets, breaks and pauses.
 ghost use Rattle.std.specs.Prelude.{◌≤◌, length};
 ghost use Rattle.noise_script.specs.declared.limits.TheConstants.{SCRIPT_OCTETS};
 
@@ -8,6 +8,7 @@ use script_causes::Cause;
 use std::alloc::Global;
 use std::process::Abort;
 use std::test::Fail;
+use xid_params::Offer;
 
 const ORIGINATOR: Role = Role::Originator;
 
@@ -23,13 +24,30 @@ fn refuses(rt: &impl Abort, alloc: Global, text: &[u8], line: u32, cause: Cause)
     }
 }
 
+/// An offer of one length and one window for both ways.
+fn offer(srej: bool, check32: bool, length: u16, window: u8) -> Offer {
+    Offer {
+        srej,
+        check32,
+        tx_len: length,
+        rx_len: length,
+        tx_window: window,
+        rx_window: window,
+    }
+}
+
 #[test]
 fn first_faults(rt: HostRuntime) {
     refuses(&rt, rt.alloc(), b"# a comment\nspeed 3\n", 2, Cause::Word);
     refuses(&rt, rt.alloc(), b"delay 1", 1, Cause::Count);
     refuses(&rt, rt.alloc(), b"n400 x", 1, Cause::Number);
     refuses(&rt, rt.alloc(), b"n400 5\nn400 5\n", 2, Cause::Repeated);
-    refuses(&rt, rt.alloc(), b"k orig 0", 1, Cause::Word);
+    refuses(&rt, rt.alloc(), b"k orig 0", 1, Cause::Range);
+    refuses(&rt, rt.alloc(), b"k call 0", 1, Cause::Word);
+    refuses(&rt, rt.alloc(), b"n401 answ 129", 1, Cause::Range);
+    refuses(&rt, rt.alloc(), b"srej answ\nsrej orig\nsrej orig", 3, Cause::Repeated);
+    refuses(&rt, rt.alloc(), b"break orig 5 0", 1, Cause::Range);
+    refuses(&rt, rt.alloc(), b"busy answ 10 10001", 1, Cause::Range);
     refuses(&rt, rt.alloc(), b"n400 5\r", 1, Cause::Number);
     refuses(&rt, rt.alloc(), b"\n\ndelay 61 x\n", 3, Cause::Range);
 }
@@ -42,6 +60,38 @@ fn an_empty_script_has_defaults(rt: HostRuntime) -> Result<(), Fail> {
     assert_eq!(rt; script.tries(), 5);
     assert!(rt; !script.loses(ORIGINATOR, 0));
     assert_eq!(rt; script.offset(ORIGINATOR, 0), Offset { re: 0, im: 0 });
+    assert_eq!(rt; script.offer(ORIGINATOR), offer(false, false, 128, 15));
+    assert_eq!(rt; script.break_line(ORIGINATOR, 0), None);
+    assert!(rt; !script.busy(ORIGINATOR, 0));
+    Ok(())
+}
+
+#[test]
+fn each_end_offers_what_its_lines_say(rt: HostRuntime) -> Result<(), Fail> {
+    let text = b"k answ 127\nn401 answ 128\nsrej orig\nsrej answ\nk orig 1\ncheck32 answ";
+    let script = read_script(rt.alloc(), text)?;
+    assert_eq!(rt; script.offer(ORIGINATOR), offer(true, false, 128, 1));
+    assert_eq!(rt; script.offer(ANSWERER), offer(true, true, 128, 127));
+    let shorter = read_script(rt.alloc(), b"n401 orig 5")?;
+    assert_eq!(rt; shorter.offer(ORIGINATOR), offer(false, false, 5, 15));
+    assert_eq!(rt; shorter.offer(ANSWERER), offer(false, false, 128, 15));
+    Ok(())
+}
+
+#[test]
+fn breaks_and_pauses_of_each_end(rt: HostRuntime) -> Result<(), Fail> {
+    let text =
+        b"break orig 9 1\nbreak answ 5 2\nbreak orig 4 3\nbreak orig 9 4\nbusy answ 10 5";
+    let script = read_script(rt.alloc(), text)?;
+    assert_eq!(rt; script.break_line(ORIGINATOR, 0), Some((4, 3)));
+    assert_eq!(rt; script.break_line(ORIGINATOR, 1), Some((9, 1)));
+    assert_eq!(rt; script.break_line(ORIGINATOR, 2), Some((9, 4)));
+    assert_eq!(rt; script.break_line(ORIGINATOR, 3), None);
+    assert_eq!(rt; script.break_line(ANSWERER, 0), Some((5, 2)));
+    for (turn, busy) in [(9, false), (10, true), (14, true), (15, false)] {
+        assert_eq!(rt; script.busy(ANSWERER, turn), busy);
+        assert!(rt; !script.busy(ORIGINATOR, turn));
+    }
     Ok(())
 }
 
@@ -99,6 +149,8 @@ fn lines_have_their_limits(rt: HostRuntime) -> Result<(), Fail> {
     is_limit(&rt, rt.alloc(), b"lose answ 7 1\n", 1024)?;
     is_limit(&rt, rt.alloc(), b"hit orig 7 1 2 3\n", 1024)?;
     is_limit(&rt, rt.alloc(), b"noise answ 0 2 500 42\n", 64)?;
+    is_limit(&rt, rt.alloc(), b"break orig 1 1\n", 64)?;
+    is_limit(&rt, rt.alloc(), b"busy answ 1 1\n", 64)?;
     Ok(())
 }
 
