@@ -45,7 +45,13 @@ fn first_faults(rt: HostRuntime) {
     refuses(&rt, rt.alloc(), b"k orig 0", 1, Cause::Range);
     refuses(&rt, rt.alloc(), b"k call 0", 1, Cause::Word);
     refuses(&rt, rt.alloc(), b"n401 answ 129", 1, Cause::Range);
-    refuses(&rt, rt.alloc(), b"srej answ\nsrej orig\nsrej orig", 3, Cause::Repeated);
+    refuses(
+        &rt,
+        rt.alloc(),
+        b"srej answ\nsrej orig\nsrej orig",
+        3,
+        Cause::Repeated,
+    );
     refuses(&rt, rt.alloc(), b"break orig 5 0", 1, Cause::Range);
     refuses(&rt, rt.alloc(), b"busy answ 10 10001", 1, Cause::Range);
     refuses(&rt, rt.alloc(), b"n400 5\r", 1, Cause::Number);
@@ -80,8 +86,7 @@ fn each_end_offers_what_its_lines_say(rt: HostRuntime) -> Result<(), Fail> {
 
 #[test]
 fn breaks_and_pauses_of_each_end(rt: HostRuntime) -> Result<(), Fail> {
-    let text =
-        b"break orig 9 1\nbreak answ 5 2\nbreak orig 4 3\nbreak orig 9 4\nbusy answ 10 5";
+    let text = b"break orig 9 1\nbreak answ 5 2\nbreak orig 4 3\nbreak orig 9 4\nbusy answ 10 5";
     let script = read_script(rt.alloc(), text)?;
     assert_eq!(rt; script.break_line(ORIGINATOR, 0), Some((4, 3)));
     assert_eq!(rt; script.break_line(ORIGINATOR, 1), Some((9, 1)));
