@@ -1,5 +1,6 @@
 -- The breaks of one end and of the other, as accounts.
 use Rattle.std.specs.Prelude.{◌≡◌, ℕ, ◌+◌, ◌%◌, Bool, true, false, not, if◌then◌else◌, ◌&&◌, nat_eq, nat_lt, nat_le, List, [], ◌∷◌, ◌++◌, length, Option, Some, None, slice_index_or}
+use Rattle.turn_timers.specs.Timer.{expires}
 use Rattle.break_signals.specs.declared.word.BreakWord.{BreakWord}
 use Rattle.break_signals.specs.declared.word.BreakWord.TheVariants.{Brk, Ack}
 
@@ -31,7 +32,7 @@ after_ask turn length_octet b =
 -- tick; none is Spent0
 abbrev pub ticked : ℕ → ℕ → ℕ → OwnBreaks → Option OwnBreaks
 ticked turn period tries b =
-    if waits b && nat_eq turn (b.set + period)
+    if waits b && expires b.set period turn
     then (if nat_eq b.count tries then None else Some (record b { brk = true; set = turn; count = b.count + 1 }))
     else Some b
 

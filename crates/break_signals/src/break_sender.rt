@@ -3,6 +3,7 @@ ghost use Rattle.std.specs.Prelude.{◌≡◌, ◌<◌, ◌^◌, ◌+◌, min, t
 ghost use Rattle.break_signals.specs.Words.{number_of};
 
 use crate::word::BreakWord;
+use turn_timers::is_expired;
 use std::marker::Model;
 
 /// After a break was answered no other one is taken for so many turns.
@@ -98,7 +99,7 @@ impl BreakSender {
         ensures unchanged { OnErr result (self.new ≡ self.old) }
     {
         match self.waiting {
-            Some(waiting) if turn == waiting.set + u64::from(period) => {
+            Some(waiting) if is_expired(waiting.set, period, turn) => {
                 if waiting.count == u16::from(tries) {
                     return Err(Spent0);
                 }

@@ -29,6 +29,14 @@ fn fields_are_explained(rt: HostRuntime) -> Result<(), Fail> {
     assert!(&rt;
         said(
             alloc,
+            "8280000405024000",
+            b"window tx=15 rx=15 length tx=1024 rx=128 srej=0 check32=0\n",
+            Status::Done
+        )
+    );
+    assert!(&rt;
+        said(
+            alloc,
             "8280000607010F07010F",
             b"bad xid: repeated at 7\n",
             Status::BadXid(XidFault::Repeated { at: 7 })

@@ -78,7 +78,7 @@ fn digits_of_the_limit_are_explained(rt: HostRuntime) -> Result<(), Fail> {
 }
 
 #[test]
-fn files_of_the_limit_cross(rt: HostRuntime) -> Result<(), Fail> {
+fn files_of_a_mebibyte_cross(rt: HostRuntime) -> Result<(), Fail> {
     let alloc = rt.alloc();
     let mut folder = MemoryFolder::new(alloc);
     let orig = vec![in alloc; 7u8; 1_048_576]?;

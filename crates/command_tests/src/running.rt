@@ -72,7 +72,7 @@ fn a_line_that_loses_all_ends_the_link(rt: HostRuntime) -> Result<(), Fail> {
 #[test]
 fn long_inputs_are_named(rt: HostRuntime) -> Result<(), Fail> {
     let alloc = rt.alloc();
-    let long = vec![in alloc; 7u8; 1_048_577]?;
+    let long = vec![in alloc; 7u8; 16_777_217]?;
     let mut folder = folder_of(alloc, &long, b"", b"")?;
     let orig = Status::TooLong { word: 1 };
     answers(&rt, alloc, &mut folder, orig, "too long: o\n")?;

@@ -4,7 +4,8 @@ ghost use Rattle.slot_contents.specs.Sendable.{IsSendable};
 ghost use Rattle.slot_contents.specs.declared.sent.Sent.{Sent};
 ghost use Rattle.std.specs.Prelude.{◌≡◌, true, IfOk};
 
-use crate::timer::{is_expired, spent};
+use crate::timer::spent;
+use turn_timers::is_expired;
 use crate::{LinkFault, Sent, Setup};
 use lapm_frames::Frame;
 

@@ -1,8 +1,9 @@
 // An end that looks for the other one.
 ghost use Rattle.slot_contents.specs.Sendable.{IsSendable};
-ghost use Rattle.std.specs.Prelude.{◌≡◌, ◌<◌, ◌^◌, ◌+◌, ◌*◌, nat_le, IfOk, OnErr};
+ghost use Rattle.std.specs.Prelude.{◌≡◌, ◌<◌, ◌^◌, nat_le, IfOk, OnErr};
 ghost use Rattle.roles.specs.declared.role.Role.{Role};
 ghost use Rattle.xid_params.specs.Offers.{offer_in};
+ghost use Rattle.turn_timers.specs.Timer.{wait};
 ghost use Rattle.lapm_link.specs.Fits.{IsSetUp};
 
 use crate::answering::Answering;
@@ -18,6 +19,7 @@ use outside_core::NoMemory;
 use roles::Role;
 use slot_contents::Seen;
 use std::alloc::Global;
+use turn_timers::wait;
 use xid_params::default_offer;
 
 /// An end that looks for the other one: the originator sends its pattern, and the answerer waits for it.
@@ -135,7 +137,7 @@ impl Detecting {
 
 /// All tries have passed without an answer.
 fn is_undetected(turn: u64, setup: &Setup) -> bool
-    ensures { result ≡ nat_le ((setup.now.tries + 1) * setup.now.period) turn }
+    ensures { result ≡ nat_le (wait setup.now.tries setup.now.period) turn }
 {
-    (u64::from(setup.tries) + 1) * u64::from(setup.period) <= turn
+    wait(setup.tries, setup.period) <= turn
 }

@@ -12,11 +12,12 @@ use crate::attempt::Attempt;
 use crate::carried::carried;
 use crate::connected::Connected;
 use crate::releasing::Releasing;
-use crate::timer::{is_expired, spent, started};
+use crate::timer::{spent, started};
 use crate::{AnyEnd, Broken, LinkFault, Sent};
 use break_signals::{BreakWord, write_break};
 use frame_check::Info;
 use lapm_frames::Frame;
+use turn_timers::is_expired;
 
 /// A break's word as it is sent.
 fn word_slot(word: &BreakWord) -> Sent

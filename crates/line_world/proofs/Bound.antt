@@ -2,7 +2,7 @@
 use Rattle.std.proofs.Common.{◌≡◌, ◌⊎◌, inl, inr, ℕ, zero, suc, ◌+◌, ◌-◌, ◌*◌, ◌/◌, ◌%◌, ◌<◌, ◌≤◌, ◌==◌, ◌&&◌, nat_lt, nat_le, not, Bool, true, false, List, [], ◌∷◌, length, slice_get, Option, Some, None, if◌then◌else◌, refl, sym, ◌∙◌, ap, subst, arith, eq-eqb, add-one, length-append}
 use Rattle.std.proofs.lemmas.Bool.Decides.{nat_tests}
 use Rattle.std.proofs.lemmas.Option.{slice_get_within, same_Some}
-use Rattle.frame_check.specs.declared.sizes.TheConstants.{INFO}
+use Rattle.thin_link.specs.declared.end.TheConstants.{SEGMENT}
 use Rattle.lapm_frames.specs.declared.frame.Frame.{Frame}
 use Rattle.thin_link.specs.declared.end.TheConstants.{TRIES}
 use Rattle.thin_link.specs.Account.{Account, fresh, acknowledging, bringing, acknowledged_by, taken_by, hear, deliver, wants, offer, whole, Spoken, expired, speak, speak_by, speak_segment}
@@ -11,7 +11,7 @@ use Rattle.line_world.specs.Heard.{frame_heard}
 use Rattle.line_world.specs.Run.{Files, Turn, Ends, segments, piece_at, offered_at, offered, RunOf, both_whole}
 use Rattle.line_world.proofs.Order.{both-true, test-eq, test-ge, shortly_if, speak-cases, run-linked}
 
-enough : (n f L : ℕ) → f + 1 ≤ n → INFO * n ≤ L + (INFO - 1) → f + 1 ≤ (L + (INFO - 1)) / INFO
+enough : (n f L : ℕ) → f + 1 ≤ n → SEGMENT * n ≤ L + (SEGMENT - 1) → f + 1 ≤ (L + (SEGMENT - 1)) / SEGMENT
 enough n f L h k = omega arith
 
 not-both : (b : Bool) → b ≡ true → b ≡ false → ⊥
@@ -231,7 +231,7 @@ spoke-whole turn m s e = speak-cases (λ s. whole s.account ≡ whole m) turn m 
     shortly true = refl
     shortly false = refl
 
-clock-bound : (file : List ℕ) (s : Account) (set turn : ℕ) → Clock s set turn → turn < set + 20 → INFO * length s.pieces ≤ length file + (INFO - 1) → turn + 1 ≤ 120 * segments file
+clock-bound : (file : List ℕ) (s : Account) (set turn : ℕ) → Clock s set turn → turn < set + 20 → SEGMENT * length s.pieces ≤ length file + (SEGMENT - 1) → turn + 1 ≤ 120 * segments file
 clock-bound file s set turn c late short =
     let few : s.front + 1 ≤ segments file = enough (length s.pieces) s.front (length file) (omega (arith, c.more)) short in
     omega (arith, late, c.early, c.tries, few)

@@ -2,7 +2,7 @@
 use Rattle.std.proofs.Common.{◌≡◌, ℕ, zero, suc, ◌+◌, ◌*◌, ◌%◌, ◌<◌, ◌≤◌, ◌==◌, ◌&&◌, Bool, true, false, List, [], ◌∷◌, ◌++◌, All, length, drop, get_or, slice_get, Option, Some, None, if◌then◌else◌, refl, sym, ◌∙◌, ap, subst, arith}
 use Rattle.std.proofs.lemmas.List.Elements.{All-nil, All-push, All-append, All-get_or, All-take, All-drop}
 use Rattle.std.proofs.lemmas.Option.{get_or_from_slice_get, slice_get_within}
-use Rattle.frame_check.specs.declared.sizes.TheConstants.{INFO}
+use Rattle.thin_link.specs.declared.end.TheConstants.{SEGMENT}
 use Rattle.frame_check.specs.declared.check.Check.{Check}
 use Rattle.frame_check.specs.declared.check.Check.TheVariants.{Sixteen}
 use Rattle.frame_check.specs.Division.{check_of}
@@ -36,9 +36,9 @@ use Rattle.line_world.proofs.Received.{received-none}
 use Rattle.line_world.proofs.Directions.{flags-fit, frame-fits, slots-more, slot-received}
 use Rattle.line_world.proofs.Order.{length-piece_at, shortly_if, speak-cases, taken_by-sending}
 
--- a segment has at most INFO octets
+-- a segment is no longer than one may be
 pub record IsSegment (piece : List ℕ) : Type 0 where
-  pub short : length piece ≤ INFO
+  pub short : length piece ≤ SEGMENT
   pub small : AreOctets piece
 
 abbrev pub HasSegments : Account → Type 0
@@ -47,7 +47,7 @@ HasSegments a = All IsSegment a.pieces
 segment-at : (file : List ℕ) (n : ℕ) → AreOctets file → IsSegment (piece_at file n)
 segment-at file n h = record {
   short = omega (arith, length-piece_at file n);
-  small = All-take (λ octet. octet < 256) INFO (drop (INFO * n) file) (All-drop (λ octet. octet < 256) (INFO * n) file h);
+  small = All-take (λ octet. octet < 256) SEGMENT (drop (SEGMENT * n) file) (All-drop (λ octet. octet < 256) (SEGMENT * n) file h);
 }
 
 -- hearing leaves what was offered
@@ -87,14 +87,14 @@ segments-listen file a heard small h = segments-offered file (deliver (hear a (f
 
 abbrev pub CanCross : Sent → Type 0
 CanCross sent.Flags = Unit {0}
-CanCross (sent.Frame frame) = IsFrame frame × AreOctets (information_of frame)
+CanCross (sent.Frame frame) = IsSendable (sent.Frame frame) × AreOctets (information_of frame)
 
 cross-shortly : (a : Account) (b : Bool) → CanCross (shortly_if a b).sent
 cross-shortly a false = tt
-cross-shortly a true = (omega arith, All-nil (λ o. o < 256))
+cross-shortly a true = ((omega arith, tt), All-nil (λ o. o < 256))
 
 cross-segment : (a : Account) (turn tries : ℕ) (info : List ℕ) → IsSegment info → CanCross (sends turn tries a info).sent
-cross-segment a turn tries info is = ((omega arith, omega arith, is.short), is.small)
+cross-segment a turn tries info is = (((omega arith, omega arith, omega (arith, is.short)), is.short), is.small)
 
 segments-spoken : (turn : ℕ) (a : Account) (s : Spoken) → HasSegments a → speak turn a ≡ Some s → HasSegments s.account × CanCross s.sent
 segments-spoken turn a s h e = speak-cases (λ s. HasSegments s.account × CanCross s.sent) turn a shortly segment s e
@@ -115,8 +115,8 @@ slot-fits : (sender : Role) (slots : List Slot) (s : Sent) → CanCross s → Ar
 slot-fits sender slots sent.Flags c h = slots-more slot_size 0 slots (slot_of sender sent.Flags) h (flags-fit slots)
 slot-fits sender slots (sent.Frame frame) c h =
     let used : Check = check_for Sixteen frame in
-    let small : AreOctets (frame_octets sender frame) = All-append (λ o. o < 256) (spelled frame sender 0) (check_of used (spelled frame sender 0)) (spelled-small frame sender 0 (omega arith) c.0 c.1) (check_of-is used (spelled frame sender 0)).are_octets in
-    slots-more slot_size 0 slots (slot_of sender (sent.Frame frame)) h (frame-fits slots (frame_octets sender frame) (within (frame_octets sender frame) small) (frame-long frame sender) (frame-short frame sender c.0))
+    let small : AreOctets (frame_octets sender frame) = All-append (λ o. o < 256) (spelled frame sender 0) (check_of used (spelled frame sender 0)) (spelled-small frame sender 0 (omega arith) c.0.0 c.1) (check_of-is used (spelled frame sender 0)).are_octets in
+    slots-more slot_size 0 slots (slot_of sender (sent.Frame frame)) h (frame-fits slots (frame_octets sender frame) (within (frame_octets sender frame) small) (frame-long frame sender) (frame-short frame sender c.0.1))
   where
     within : (xs : List ℕ) → AreOctets xs → (i : ℕ) → get_or xs i 0 < 256
     within [] small i = omega arith
@@ -179,7 +179,7 @@ last-found sender (sent.Frame frame) size start phase behind added is found = re
   piece = whole_at (start + length (opening phase (Some (frame_octets sender frame)))) (frame_octets sender frame);
   behind = [];
   pieces_are = found;
-  brings = record { whole = refl; carries = spells Sixteen sender 0 frame is };
+  brings = record { whole = refl; carries = spells Sixteen sender 0 frame is.0 };
   last = All-nil (λ piece. (other : Frame) → BringsFrame sender piece other → ⊥);
 }
 

@@ -3,7 +3,8 @@ use Rattle.std.proofs.Common.{◌≡◌, ℕ, zero, suc, ◌+◌, ◌-◌, ◌*�
 use Rattle.std.proofs.lemmas.List.{append-nil, append_cancel_left, drop_all, get_or_default}
 use Rattle.std.proofs.lemmas.Bool.{cases_lt}
 use Rattle.std.proofs.lemmas.List.Elements.{All-head}
-use Rattle.frame_check.specs.declared.sizes.TheConstants.{WHOLE, SLOT}
+use Rattle.thin_link.specs.declared.end.TheConstants.{SEGMENT}
+use Rattle.line_world.specs.declared.direction.TheConstants.{SYMBOLS}
 use Rattle.bit_stuffing.specs.declared.slot_writer.TheConstants.{TAIL}
 use Rattle.bit_stuffing.specs.Flags.{flag}
 use Rattle.bit_stuffing.specs.Found.{Found, pieces_of}
@@ -34,14 +35,14 @@ slots-more size phase [] slot h is = (is, tt)
 slots-more size phase (x ∷ slots) slot h is = (h.0, slots-more size (next_phase size phase x) slots slot h.1 is)
 
 -- a frame leaves the symbols free that stand behind it
-low-room : (phase : ℕ) (octets : List ℕ) → phase < 8 → length octets ≤ WHOLE → length (opening phase (Some octets)) ≤ 4 * (SLOT - TAIL)
+low-room : (phase : ℕ) (octets : List ℕ) → phase < 8 → length octets ≤ SEGMENT + 7 → length (opening phase (Some octets)) ≤ 4 * (SYMBOLS - TAIL)
 low-room phase octets low short = omega (arith, length-opening phase octets low, short)
 
 no-rest : (phase : ℕ) → 8 ≤ phase → rest_of_flag phase ≡ []
 no-rest zero h = absurd (omega arith)
 no-rest (suc phase) h = drop_all (suc phase) flag h
 
-pub room-frame : (phase : ℕ) (octets : List ℕ) → length octets ≤ WHOLE → length (opening phase (Some octets)) ≤ 4 * (SLOT - TAIL)
+pub room-frame : (phase : ℕ) (octets : List ℕ) → length octets ≤ SEGMENT + 7 → length (opening phase (Some octets)) ≤ 4 * (SYMBOLS - TAIL)
 room-frame phase octets short = elim (cases_lt phase 8) [
   | inl low ↦ low-room phase octets low short
   | inr high ↦ rw (no-rest phase high) (low-room 0 octets (lit< tt) short)
@@ -53,7 +54,7 @@ low-phase slots = phase-low slot_size 0 slots (lit< tt)
 pub flags-fit : (slots : List Slot) → IsSlot slot_size (phase_after slot_size slots) (Flags None)
 flags-fit slots = omega (arith, length-empty (phase_after slot_size slots) (low-phase slots))
 
-pub frame-fits : (slots : List Slot) (octets : List ℕ) → ((i : ℕ) → get_or octets i 0 < 256) → 4 ≤ length octets → length octets ≤ WHOLE → IsSlot slot_size (phase_after slot_size slots) (Flags (Some octets))
+pub frame-fits : (slots : List Slot) (octets : List ℕ) → ((i : ℕ) → get_or octets i 0 < 256) → 4 ≤ length octets → length octets ≤ SEGMENT + 7 → IsSlot slot_size (phase_after slot_size slots) (Flags (Some octets))
 frame-fits slots octets small long short =
     (record { small = λ k d h. small-at k d h; low = long; high = short }, omega (arith, room-frame (phase_after slot_size slots) octets short))
   where
@@ -82,7 +83,7 @@ slot-brings : (sender : Role) (s : Sent) (size start phase : ℕ) (behind : Bool
 slot-brings sender sent.Flags size start phase behind added frame is found last = last-of-none sender frame (subst (λ l. IsLast sender l frame) found last)
 slot-brings sender (sent.Frame expected) size start phase behind added frame is found last =
     last-of-one sender (whole_at (start + length (opening phase (Some (frame_octets sender expected)))) (frame_octets sender expected)) expected frame
-    (record { whole = refl; carries = spells Sixteen sender 0 expected is })
+    (record { whole = refl; carries = spells Sixteen sender 0 expected is.0 })
     (subst (λ l. IsLast sender l frame) found last)
 
 -- So what is received in a slot is what was sent in it.

@@ -8,7 +8,7 @@ use Rattle.std.proofs.lemmas.Option.{slice_get_past, slice_get_within, same_Some
 use Rattle.std.proofs.lemmas.List.{take-append-le, take-append-drop}
 use Rattle.std.proofs.lemmas.List.Folds.{concat-append}
 use Rattle.plain_lists.specs.Prefix.{IsPrefixOf}
-use Rattle.frame_check.specs.declared.sizes.TheConstants.{INFO}
+use Rattle.thin_link.specs.declared.end.TheConstants.{SEGMENT}
 use Rattle.lapm_frames.specs.declared.frame.Frame.{Frame}
 use Rattle.lapm_frames.specs.declared.frame.Frame.TheVariants.{Rr}
 use Rattle.roles.specs.declared.role.Role.{Role}
@@ -39,15 +39,15 @@ bit b = if b then 1 else 0
 
 -- what was taken at one end is the beginning of what was offered at the other, which is the beginning of the file
 pub record InOrder (file : List ℕ) (s : Sending) (taken : List (List ℕ)) : Type 0 where
-  pub pieces : concat s.pieces ≡ take (INFO * length s.pieces) file
-  pub full : s.ended ≡ false → INFO * length s.pieces ≤ length file
-  pub ended : s.ended ≡ true → length file ≤ INFO * length s.pieces
+  pub pieces : concat s.pieces ≡ take (SEGMENT * length s.pieces) file
+  pub full : s.ended ≡ false → SEGMENT * length s.pieces ≤ length file
+  pub ended : s.ended ≡ true → length file ≤ SEGMENT * length s.pieces
   pub offered : taken ≡ take (length taken) s.pieces
   pub low : s.front ≤ length taken
   pub high : length taken ≤ s.front + bit s.outstanding
   pub reach : s.front + bit s.outstanding ≤ length s.pieces
   pub room : length s.pieces ≤ s.front + 1
-  pub short : INFO * length s.pieces ≤ length file + (INFO - 1)
+  pub short : SEGMENT * length s.pieces ≤ length file + (SEGMENT - 1)
 
 -- the frame that was sent last has the segment that is outstanding, if it has one
 abbrev pub BroughtIs : Sending → Option (ℕ × List ℕ) → Type 0
@@ -131,8 +131,8 @@ slice_take : {X : Type 0} (xs : List X) (n : ℕ) (x : X) → slice_get xs n ≡
 slice_take xs n x e = ap (λ m. take m xs) (add-one n) ∙ slice_take-suc xs n x e
 
 -- how long a piece is
-pub length-piece_at : (file : List ℕ) (n : ℕ) → length (piece_at file n) ≡ min INFO (length file - INFO * n)
-length-piece_at file n = length-take INFO (drop (INFO * n) file) ∙ ap (λ m. min INFO m) (length-drop (INFO * n) file)
+pub length-piece_at : (file : List ℕ) (n : ℕ) → length (piece_at file n) ≡ min SEGMENT (length file - SEGMENT * n)
+length-piece_at file n = length-take SEGMENT (drop (SEGMENT * n) file) ∙ ap (λ m. min SEGMENT m) (length-drop (SEGMENT * n) file)
 
 length-cons : {X : Type 0} (x : X) (xs : List X) → 1 ≤ length (x ∷ xs)
 length-cons x xs = omega arith
@@ -175,7 +175,7 @@ InOrder-offered file a taken o = by_test (not a.ended && nat_lt (length a.pieces
       where
         by_piece : length a.pieces < a.front + 1 → (xs : List ℕ) → piece_at file (length a.pieces) ≡ xs → InOrder file (sending (offer a xs)) taken
         by_piece below [] p =
-            let short : 0 ≡ min INFO (length file - INFO * length a.pieces) = sym (ap length p) ∙ length-piece_at file (length a.pieces) in
+            let short : 0 ≡ min SEGMENT (length file - SEGMENT * length a.pieces) = sym (ap length p) ∙ length-piece_at file (length a.pieces) in
             record {
               pieces = o.pieces;
               full = λ h. cc;
@@ -188,11 +188,11 @@ InOrder-offered file a taken o = by_test (not a.ended && nat_lt (length a.pieces
               short = o.short;
             }
         by_piece below (x ∷ xs) p =
-            let len : length (x ∷ xs) ≡ min INFO (length file - INFO * length a.pieces) = sym (ap length p) ∙ length-piece_at file (length a.pieces) in
+            let len : length (x ∷ xs) ≡ min SEGMENT (length file - SEGMENT * length a.pieces) = sym (ap length p) ∙ length-piece_at file (length a.pieces) in
             let longer : length (a.pieces ++ (x ∷ xs) ∷ []) ≡ length a.pieces + 1 = length-append a.pieces ((x ∷ xs) ∷ []) in
             let within : length taken ≤ length a.pieces = omega (arith, o.high, o.reach) in
             record {
-              pieces = concat-push a.pieces (x ∷ xs) ∙ ap (λ t. t ++ x ∷ xs) o.pieces ∙ ap (λ t. take (INFO * length a.pieces) file ++ t) (sym p) ∙ sym (take-add (INFO * length a.pieces) INFO file) ∙ ap (λ n. take n file) (omega (arith, longer));
+              pieces = concat-push a.pieces (x ∷ xs) ∙ ap (λ t. t ++ x ∷ xs) o.pieces ∙ ap (λ t. take (SEGMENT * length a.pieces) file ++ t) (sym p) ∙ sym (take-add (SEGMENT * length a.pieces) SEGMENT file) ∙ ap (λ n. take n file) (omega (arith, longer));
               full = λ h. omega (arith, longer, len, test-ge _ _ h);
               ended = λ h. omega (arith, longer, len, test-lt _ _ h);
               offered = o.offered ∙ sym (take-append-le (length taken) a.pieces ((x ∷ xs) ∷ []) within);
@@ -418,13 +418,13 @@ run-linked f script (t ∷ ts) ends r =
 
 InOrder-prefix : (file : List ℕ) (s : Sending) (taken : List (List ℕ)) → InOrder file s taken → IsPrefixOf (concat taken) file
 InOrder-prefix file s taken o = (
-  concat (drop (length taken) s.pieces) ++ drop (INFO * length s.pieces) file,
-  sym (append_assoc (concat taken) (concat (drop (length taken) s.pieces)) (drop (INFO * length s.pieces) file))
-      ∙ ap (λ xs. xs ++ drop (INFO * length s.pieces) file)
+  concat (drop (length taken) s.pieces) ++ drop (SEGMENT * length s.pieces) file,
+  sym (append_assoc (concat taken) (concat (drop (length taken) s.pieces)) (drop (SEGMENT * length s.pieces) file))
+      ∙ ap (λ xs. xs ++ drop (SEGMENT * length s.pieces) file)
       (ap (λ xs. concat xs ++ concat (drop (length taken) s.pieces)) o.offered
       ∙ sym (concat-append (take (length taken) s.pieces) (drop (length taken) s.pieces))
       ∙ ap concat (take-append-drop (length taken) s.pieces) ∙ o.pieces)
-      ∙ take-append-drop (INFO * length s.pieces) file,
+      ∙ take-append-drop (SEGMENT * length s.pieces) file,
 )
 
 -- what each end has taken is the beginning of the other's file
@@ -443,7 +443,7 @@ InOrder-whole file a taken o w =
     let parts = both-true a.ended (a.front == length a.pieces) w in
     let all : a.front ≡ length a.pieces = test-eq _ _ parts.1 in
     let len : length a.pieces ≤ length taken = omega (arith, o.low) in
-    ap concat (o.offered ∙ take-whole (length taken) a.pieces len) ∙ o.pieces ∙ take-whole (INFO * length a.pieces) file (o.ended parts.0)
+    ap concat (o.offered ∙ take-whole (length taken) a.pieces len) ∙ o.pieces ∙ take-whole (SEGMENT * length a.pieces) file (o.ended parts.0)
 
 -- when the run is done, each end has taken the other's file
 pub run-whole : (f : Files) (script : List Loss) (ts : List Turn) (ends : Ends) (t : Turn) (mid : Ends) → RunOf f script ts ends → LastTurn f script ts ends t mid → (concat mid.answ.taken ≡ f.orig) × (concat mid.orig.taken ≡ f.answ)

@@ -1,6 +1,6 @@
 -- Runs of two ends in turns, over two files and a script.
 use Rattle.std.specs.Prelude.{◌≡◌, ℕ, ◌+◌, ◌-◌, ◌*◌, ◌/◌, ◌&&◌, is_some, Bool, true, false, List, [], ◌∷◌, length, take, drop, unwrap_or, Option, Some, None}
-use Rattle.frame_check.specs.declared.sizes.TheConstants.{INFO}
+use Rattle.thin_link.specs.declared.end.TheConstants.{SEGMENT}
 use Rattle.roles.specs.declared.role.Role.{Role}
 use Rattle.roles.specs.declared.role.Role.TheVariants.{Originator, Answerer}
 use Rattle.thin_link.specs.declared.sent.Sent.{Sent}
@@ -34,11 +34,11 @@ start = record { orig = fresh; answ = fresh }
 
 -- a file's segment of that number
 abbrev pub piece_at : List ℕ → ℕ → List ℕ
-piece_at file n = take INFO (drop (INFO * n) file)
+piece_at file n = take SEGMENT (drop (SEGMENT * n) file)
 
 -- how many segments a file has
 abbrev pub segments : List ℕ → ℕ
-segments file = (length file + (INFO - 1)) / INFO
+segments file = (length file + (SEGMENT - 1)) / SEGMENT
 
 abbrev pub offered_at : List ℕ → Account → Option ℕ → Account
 offered_at file a None = a

@@ -2,7 +2,6 @@
 use Rattle.std.specs.Prelude.{ℕ, ◌*◌, Bool, List, [], ◌∷◌, Option, Some, None}
 use Rattle.std.specs.Option.{option_map}
 use Rattle.frame_check.specs.declared.check.Check.TheVariants.{Sixteen}
-use Rattle.frame_check.specs.declared.sizes.TheConstants.{SLOT}
 use Rattle.bit_stuffing.specs.Slots.{Slot, slot_bits}
 use Rattle.bit_stuffing.specs.Slots.Slot.{Flags}
 use Rattle.lapm_frames.specs.declared.frame.Frame.{Frame}
@@ -10,10 +9,11 @@ use Rattle.roles.specs.declared.role.Role.{Role}
 use Rattle.lapm_frames.specs.Checked.{checked}
 use Rattle.thin_link.specs.Sent.{IsSendable, frame_of}
 use Rattle.thin_link.specs.declared.sent.Sent.{Sent}
+use Rattle.line_world.specs.declared.direction.TheConstants.{SYMBOLS}
 
 -- how many bits a slot has
 abbrev pub slot_size : ℕ
-slot_size = 4 * SLOT
+slot_size = 4 * SYMBOLS
 
 -- a frame on the line, on channel 0: its octets with the check of 16 bits
 abbrev pub frame_octets : Role → Frame → List ℕ

@@ -1,14 +1,17 @@
 // One direction of the line.
-ghost use Rattle.std.specs.Prelude.{◌≡◌, ◌≤◌, length};
-ghost use Rattle.frame_check.specs.declared.sizes.TheConstants.{SLOT, WHOLE};
+ghost use Rattle.std.specs.Prelude.{◌≡◌, ◌≤◌, ◌+◌, length};
+ghost use Rattle.thin_link.specs.declared.end.TheConstants.{SEGMENT};
 
 use crate::receiver::Receiver;
 use crate::{Heard, Script};
 use bit_stuffing::{BitSlot, SlotWriter};
-use frame_check::{Check, SLOT};
+use frame_check::Check;
 use lapm_frames::{Frame, write_checked};
 use roles::Role;
 use thin_link::Sent;
+
+/// The symbols of a slot, each of which carries four bits: the longest frame leaves 128 symbols behind its closing flag.
+pub(crate) const SYMBOLS: u16 = 464;
 
 /// The slots that one end sends, each of which arrives at the other in the next turn.
 #[derive(Drop)]
@@ -17,7 +20,7 @@ pub(crate) struct Direction {
     /// The slot that is on the line.
     slot: BitSlot,
     receiver: Receiver,
-    ghost sized: { writer.symbols ≡ SLOT },
+    ghost sized: { writer.symbols ≡ SYMBOLS },
 }
 
 impl Direction {
@@ -43,7 +46,7 @@ impl Direction {
         ensures carries { Carries result sender [] None }
     {
         Direction {
-            writer: SlotWriter::new(SLOT as u16),
+            writer: SlotWriter::new(SYMBOLS),
             slot: BitSlot::new(),
             receiver: Receiver::new(sender),
         }
@@ -69,7 +72,7 @@ impl Direction {
     /// Writes a slot with the octets of a frame and its check.
     fn put(&mut self, octets: &[u8])
         requires empty { self.old.slot ≡ [] }
-        requires short { length octets.now ≤ WHOLE }
+        requires short { length octets.now ≤ SEGMENT + 7 }
         ensures sender { sender_of self.new ≡ sender_of self.old }
         ensures carries { (sender : Role) (slots : List Slot) (frame : Frame) → Carries self.old sender slots None
             → SpellsFrame Sixteen sender 0 octets.now frame → Carries self.new sender slots (Some (Sent.Frame frame)) }

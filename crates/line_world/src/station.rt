@@ -8,9 +8,8 @@ ghost use Rattle.line_world.specs.Run.{piece_at, offered};
 ghost use Rattle.line_world.specs.Station.{Holds, IsIdle, counted_of, SpeaksFor};
 
 use crate::Heard;
-use frame_check::INFO;
 use outside_core::{Folder, FolderFault};
-use thin_link::{End, Sent, Spent};
+use thin_link::{End, SEGMENT, Sent, Spent};
 
 #[derive(Drop)]
 pub(crate) struct Station {
@@ -21,16 +20,16 @@ pub(crate) struct Station {
 /// A segment of the file.
 fn piece(file: &[u8], number: u64) -> &[u8]
     ensures piece { result.now ≡ piece_at file.now number }
-    ensures short { length result.now ≤ INFO }
+    ensures short { length result.now ≤ SEGMENT }
 {
     let len = file.len() as u64;
-    let from = if number <= len / INFO as u64 {
-        INFO as u64 * number
+    let from = if number <= len / SEGMENT as u64 {
+        SEGMENT as u64 * number
     } else {
         len
     };
     let rest = &file[from as usize..];
-    &rest[..rest.len().min(INFO)]
+    &rest[..rest.len().min(SEGMENT)]
 }
 
 impl Station {

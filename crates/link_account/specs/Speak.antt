@@ -6,6 +6,7 @@ use Rattle.roles.specs.declared.role.Role.TheVariants.{Originator, Answerer}
 use Rattle.lapm_frames.specs.declared.frame.Frame.{Frame}
 use Rattle.lapm_frames.specs.declared.frame.Frame.TheVariants.{I, Rr, Rnr, Rej, Srej, Sabme, Disc, Ua, Dm, Ui, Xid}
 use Rattle.xid_params.specs.Offers.{written}
+use Rattle.turn_timers.specs.Timer.{expires, wait, waited_since}
 use Rattle.lapm_sender.specs.Outgoing.{Outgoing, next_number, after_next, expired}
 use Rattle.lapm_receiver.specs.Incoming.{next_expected, asks, after_asked, after_told}
 use Rattle.break_signals.specs.declared.word.BreakWord.{BreakWord}
@@ -48,7 +49,7 @@ where_says false said = None
 
 -- the retries of a timer are spent
 abbrev pub spent : ℕ → Account → LinkFault
-spent turn a = Spent a.outgoing.front (turn - (a.setup.tries + 1) * a.setup.period)
+spent turn a = Spent a.outgoing.front (waited_since a.setup.tries a.setup.period turn)
 
 -- an answer that is due
 abbrev pub frame_for : Answer → Account → Sent
@@ -70,13 +71,13 @@ tries_frame frame a = else_says (where_says a.wait.try (says_frame frame (record
 
 abbrev pub u_try : ℕ → Frame → Account → Result Said LinkFault
 u_try turn frame a =
-    if nat_eq turn (a.wait.try_set + a.setup.period)
+    if expires a.wait.try_set a.setup.period turn
     then (if nat_eq a.wait.try_count a.setup.tries then Err (spent turn a) else Ok (tries_frame frame (trying_again turn a)))
     else Ok (tries_frame frame a)
 
 -- Detecting
 abbrev pub speak_detecting : Role → ℕ → Account → Result Said LinkFault
-speak_detecting Originator turn a = if nat_le ((a.setup.tries + 1) * a.setup.period) turn then Err NotDetected else Ok (says slots.Odp a)
+speak_detecting Originator turn a = if nat_le (wait a.setup.tries a.setup.period) turn then Err NotDetected else Ok (says slots.Odp a)
 speak_detecting Answerer turn a = Ok (else_says (answering a.owes.answer a) (says slots.Mark a))
 
 -- an answerer that negotiates, and an end that is closed
@@ -94,7 +95,7 @@ polling turn (Some o) a = Ok (record a { outgoing = o; wait = record a.wait { po
 
 abbrev pub timer_expires : ℕ → Account → Option ℕ → Bool
 timer_expires turn a None = false
-timer_expires turn a (Some set) = nat_eq turn (set + a.setup.period)
+timer_expires turn a (Some set) = expires set a.setup.period turn
 
 abbrev pub on_timer : ℕ → Account → Result Account LinkFault
 on_timer turn a = if timer_expires turn a a.wait.timer then polling turn (expired a.outgoing) a else Ok a

@@ -2,8 +2,8 @@
 ghost use Rattle.std.specs.Prelude.{◌≡◌};
 ghost use Rattle.run_command.specs.declared.limits.TheConstants.{LIMITS};
 
-/// A script has at most 65,536 octets, and each file that is sent at most 1,048,576.
+/// A script has at most 65,536 octets, and each file that is sent at most 16,777,216.
 pub fn limits_of_inputs()
     ensures script { LIMITS.script ≡ 65536 }
-    ensures file { LIMITS.file ≡ 1048576 }
+    ensures file { LIMITS.file ≡ 16777216 }
 {}

@@ -1,11 +1,10 @@
 -- What an end with one outstanding segment is, in plain values, and what it does: one definition a rule.
 use Rattle.std.specs.Prelude.{ℕ, ◌+◌, ◌%◌, ◌==◌, nat_lt, nat_le, Bool, true, false, not, ◌&&◌, List, [], ◌∷◌, ◌++◌, length, slice_get, Option, Some, None, if◌then◌else◌}
-use Rattle.frame_check.specs.declared.sizes.TheConstants.{INFO}
 use Rattle.lapm_frames.specs.declared.frame.Frame.{Frame}
 use Rattle.lapm_frames.specs.declared.frame.Frame.TheVariants.{I, Rr}
 use Rattle.thin_link.specs.declared.sent.Sent.{Sent}
 use Rattle.thin_link.specs.declared.sent.Sent.TheVariants as sent
-use Rattle.thin_link.specs.declared.end.TheConstants.{PERIOD, TRIES}
+use Rattle.thin_link.specs.declared.end.TheConstants.{PERIOD, SEGMENT, TRIES}
 
 pub record Account : Type 0 where
   -- the segments offered so far, and whether the file has ended
@@ -76,7 +75,7 @@ wants a = if not a.ended && nat_lt (length a.pieces) (a.front + 1) then Some (le
 -- a piece shorter than a segment ends the file, and an empty one ends it without a segment
 abbrev pub offer : Account → List ℕ → Account
 offer a [] = record a { ended = true }
-offer a (x ∷ xs) = record a { pieces = a.pieces ++ (x ∷ xs) ∷ []; ended = nat_lt (length (x ∷ xs)) INFO }
+offer a (x ∷ xs) = record a { pieces = a.pieces ++ (x ∷ xs) ∷ []; ended = nat_lt (length (x ∷ xs)) SEGMENT }
 
 -- the file has ended, and every segment is acknowledged
 abbrev pub whole : Account → Bool

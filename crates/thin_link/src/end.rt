@@ -1,12 +1,10 @@
 // An end with one segment outstanding at a time.
 ghost use Rattle.std.specs.Prelude.{◌≡◌, slice_get, OnSome, ◌<◌, ◌+◌, ◌^◌, length, IfOk, ◌≤◌, OnErr};
-ghost use Rattle.std.specs.Option.{option_copied};
-ghost use Rattle.thin_link.specs.Sent.{IsSendable};
-ghost use Rattle.thin_link.specs.Account.{Account, fresh, acknowledged, taken_with, hear, undelivered, wants, offer, whole, speak, speak_segment, speak_shortly, expired, deliver};
-ghost use Rattle.thin_link.specs.End.{Stands, IsDelivered, IsWanting, SpeaksAs, counted};
+ghost use Rattle.std.specs.Option.{ForSome};
+ghost use Rattle.thin_link.specs.declared.end.TheConstants.{SEGMENT};
 
 use crate::Sent;
-use frame_check::{INFO, Info};
+use frame_check::Info;
 use lapm_frames::Frame;
 
 /// The turns from a segment's sending to its going again.
@@ -15,7 +13,10 @@ pub const PERIOD: u64 = 20;
 /// How often a segment goes again at the most.
 pub const TRIES: u8 = 5;
 
-/// One end of the link. Segments have at most `INFO` octets.
+/// The most octets of a segment.
+pub const SEGMENT: usize = 128;
+
+/// One end of the link.
 #[derive(Drop)]
 pub struct End {
     /// How many segments are acknowledged.
@@ -36,6 +37,7 @@ pub struct End {
     tries: u8,
     /// The turn in which it went last; none where none is outstanding.
     timer: Option<u64>,
+    ghost short: { ForSome segment (λ s. length s ≤ SEGMENT) },
 }
 
 /// A segment went as often as it may, and was never acknowledged.
@@ -47,7 +49,7 @@ pub struct Spent {
 
 /// A copy of some octets.
 fn info_of(octets: &[u8]) -> Info
-    requires { length octets.now ≤ INFO }
+    requires { length octets.now ≤ SEGMENT }
     ensures { result ≡ octets.now }
 {
     let mut info = Info::new();
@@ -56,6 +58,11 @@ fn info_of(octets: &[u8]) -> Info
 }
 
 impl End {
+    ghost use Rattle.std.specs.Option.{option_copied};
+    ghost use Rattle.thin_link.specs.Sent.{IsSendable};
+    ghost use Rattle.thin_link.specs.Account.{Account, fresh, acknowledged, taken_with, hear, undelivered, wants, offer, whole, speak, speak_segment, speak_shortly, expired, deliver};
+    ghost use Rattle.thin_link.specs.End.{Stands, IsDelivered, IsWanting, SpeaksAs, counted};
+
     /// An end before its first turn.
     pub fn new() -> End
         ensures account { Stands result fresh }
@@ -138,12 +145,12 @@ impl End {
     /// The next piece of the file. A shorter one ends it, and an empty one ends it without a segment.
     pub fn offer(&mut self, piece: &[u8])
         requires wanted { IsWanting self.old }
-        requires short { length piece.now ≤ INFO }
+        requires short { length piece.now ≤ SEGMENT }
         ensures account { (a : Account) → Stands self.old a → Stands self.new (offer a piece.now) }
         ensures counted { counted self.new ≡ counted self.old }
         ensures arrived { self.new.arrived ≡ self.old.arrived }
     {
-        self.ended = piece.len() < INFO;
+        self.ended = piece.len() < SEGMENT;
         if !piece.is_empty() {
             self.segment = Some(info_of(piece));
         }

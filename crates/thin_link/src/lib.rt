@@ -6,5 +6,5 @@
 mod end;
 mod sent;
 
-pub use end::{End, PERIOD, Spent, TRIES};
+pub use end::{End, PERIOD, SEGMENT, Spent, TRIES};
 pub use sent::Sent;

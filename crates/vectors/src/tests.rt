@@ -15,13 +15,13 @@ use std::test::Fail;
 
 /// The sizes and limits by their numbers: contracts name them, and would follow another number.
 const SIZES: [(u64, u64); 17] = [
-    (INFO as u64, 128),
-    (WHOLE as u64, 135),
-    (SLOT as u64, 464),
+    (INFO as u64, 1024),
+    (WHOLE as u64, 1031),
+    (SLOT as u64, 2615),
     (SHORTEST as u64, 4),
     (HEAD as u64, 10),
     (TAIL as u64, 128),
-    (RUN_FILE_LIMIT, 1_048_576),
+    (RUN_FILE_LIMIT, 16_777_216),
     (FILE_LIMIT, 1_048_576),
     (SCRIPT_LIMIT, 65_536),
     (RECORDING_LIMIT, 8_388_616),

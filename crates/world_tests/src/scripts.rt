@@ -44,7 +44,7 @@ fn first_faults(rt: HostRuntime) {
     refuses(&rt, rt.alloc(), b"n400 5\nn400 5\n", 2, Cause::Repeated);
     refuses(&rt, rt.alloc(), b"k orig 0", 1, Cause::Range);
     refuses(&rt, rt.alloc(), b"k call 0", 1, Cause::Word);
-    refuses(&rt, rt.alloc(), b"n401 answ 129", 1, Cause::Range);
+    refuses(&rt, rt.alloc(), b"n401 answ 1025", 1, Cause::Range);
     refuses(
         &rt,
         rt.alloc(),

@@ -33,4 +33,4 @@ returns-in-Some-clause-carries c sender slots h =
     let is = frame-is c.args.sent.now frame (sym c.in-Some.ensures) in
     as-sent _ sender slots c.args.sent.now (sent.Frame frame) is (c.put.ensures.carries sender slots frame
     (record { sender_is = h.sender_is; sendable = tt; fit = h.fit; coded = h.coded; passed = h.passed; bits = ap line_bits c.clear.ensures })
-    (subst (λ (xs : List ℕ). SpellsFrame Sixteen sender 0 xs frame) (sym (c.as_slice.ensures.items ∙ c.write_checked-octets.ensures ∙ ap (λ (r : Role). frame_octets r frame) (c.sender.ensures ∙ h.sender_is))) (spells Sixteen sender 0 frame (subst IsSendable is c.requires))))
+    (subst (λ (xs : List ℕ). SpellsFrame Sixteen sender 0 xs frame) (sym (c.as_slice.ensures.items ∙ c.write_checked-octets.ensures ∙ ap (λ (r : Role). frame_octets r frame) (c.sender.ensures ∙ h.sender_is))) (spells Sixteen sender 0 frame (subst IsSendable is c.requires).0)))
