@@ -1,12 +1,9 @@
 -- Laws on ends and their accounts.
-use Rattle.std.specs.Prelude.{◌≡◌, ℕ, ◌≤◌, Bool, length, Ok}
+use Rattle.std.specs.Prelude.{◌≡◌, ◌≤◌, length}
 use Rattle.lapm_receiver.specs.Incoming.{undelivered}
 use Rattle.lapm_link.specs.declared.any_end.AnyEnd.{AnyEnd}
 use Rattle.link_account.specs.Account.{Account, given_break}
-use Rattle.link_account.specs.Speak.{Said, speak}
-use Rattle.link_account.specs.Play.{arrives}
 use Rattle.lapm_link.specs.Stands.{StandsFor, phase_of, taken_of, undelivered_of, waiting_of}
-use Rattle.link_account.specs.Numbers.{IsNumbered}
 
 -- what an account tells of an end that stands for it
 pub record Tells (end : AnyEnd) (a : Account) : Type 0 where

@@ -1,8 +1,6 @@
 -- For which account an end stands, and what its calls then answer. An end keeps of its account what its state can still need.
-use Rattle.std.specs.Prelude.{◌≡◌, ℕ, ◌<◌, ◌≤◌, Bool, false, if◌then◌else◌, nat_lt, length, Option, Some, None, IfSome, Result, Ok, Err, slice_index_or}
+use Rattle.std.specs.Prelude.{◌≡◌, ℕ, ◌≤◌, Bool, false, if◌then◌else◌, nat_lt, length, Option, Some, None, Result, Ok, Err, slice_index_or}
 use Rattle.roles.specs.declared.role.Role.TheVariants.{Originator, Answerer}
-use Rattle.lapm_frames.specs.declared.frame.Frame.{Frame}
-use Rattle.lapm_frames.specs.Parts.{parts_of}
 use Rattle.xid_params.specs.declared.terms.Terms.{Terms}
 use Rattle.lapm_sender.specs.Outgoing as outgoing
 use Rattle.lapm_sender.specs.Outgoing.{Outgoing}
@@ -13,8 +11,6 @@ use Rattle.break_signals.specs.Breaks.{no_breaks, none_heard}
 use Rattle.break_signals.specs.Keeping.{StandsOwn, StandsTheirs}
 use Rattle.link_account.specs.declared.setup.Setup.{Setup}
 use Rattle.link_account.specs.declared.answer.Answer.{Answer}
-use Rattle.slot_contents.specs.declared.arrived.Arrived.{Arrived}
-use Rattle.slot_contents.specs.declared.arrived.Arrived.TheVariants as arrivals
 use Rattle.slot_contents.specs.declared.sent.Sent.{Sent}
 use Rattle.link_account.specs.declared.fault.LinkFault.{LinkFault}
 use Rattle.link_account.specs.declared.phase.Phase.{Phase}

@@ -5,9 +5,9 @@ ghost use Rattle.slot_contents.specs.declared.sent.Sent.{Sent};
 ghost use Rattle.std.specs.Prelude.{◌≡◌, true, IfOk};
 
 use crate::timer::spent;
-use turn_timers::is_expired;
 use crate::{LinkFault, Sent, Setup};
 use lapm_frames::Frame;
+use turn_timers::is_expired;
 
 /// A frame that goes until it is answered: an originator's XID command, SABME or DISC.
 #[derive(Clone, Copy)]

@@ -17,6 +17,7 @@ mod detecting;
 mod establishing;
 pub mod laws;
 mod negotiating;
+mod number;
 mod offers;
 mod releasing;
 mod rules;

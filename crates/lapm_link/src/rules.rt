@@ -1,17 +1,19 @@
 // What a Connected end becomes by what it hears: one function a rule.
 ghost use Rattle.std.specs.Prelude.{◌≡◌, ℕ, ◌+◌, ◌<◌, ◌≤◌, ◌^◌, length, IfOk, nat_lt, if◌then◌else◌, Option, None, Result, MatchResult};
 ghost use Rattle.std.specs.Option.{option_map};
-ghost use Rattle.lapm_sender.specs.Outgoing.{Outgoing, acknowledged, rejected, replied, paused_at, resumed, selected};
-ghost use Rattle.lapm_sender.specs.Sending.{StandsOut, Advances, RefusesAck, SameTerms};
+ghost use Rattle.lapm_sender.specs.Outgoing.{Outgoing};
+ghost use Rattle.lapm_sender.specs.Sending.{StandsOut, Advances, RefusesAck};
+ghost use Rattle.lapm_link.specs.Taking.{taken_as, readied};
 ghost use Rattle.break_signals.specs.Words.{word_in};
 
 use crate::answer::without_adp;
 use crate::connected::Connected;
+use crate::number::{Meaning, Readiness, heard};
 use crate::{AnyEnd, Arrived, Broken, Closed, LinkFault};
 use break_signals::{BreakWord, read_break};
 use frame_check::Info;
 use lapm_frames::Frame;
-use lapm_sender::{BadAck, Sender};
+use lapm_sender::BadAck;
 use link_account::Answer;
 use roles::Role;
 
@@ -33,66 +35,6 @@ struct Waits {
     awaiting: bool,
     /// That the other end is no longer busy.
     paused: bool,
-}
-
-/// The sender takes an N(R) as the answer to a poll, or as an acknowledgement alone.
-fn answered_or_acked(sender: &mut Sender, nr: u8, ends: bool) -> Result<bool, BadAck>
-    requires { nr < 128 }
-    ensures answer { (o : Outgoing) → StandsOut sender.old o
-        → MatchResult result (Advances sender.new o (if ends then replied nr o else acknowledged nr o)) (RefusesAck nr o (if ends then replied nr o else acknowledged nr o)) }
-    ensures terms { SameTerms sender.old sender.new }
-{
-    if ends {
-        sender.replied(nr)
-    } else {
-        sender.acked(nr)
-    }
-}
-
-/// The sender takes an N(R) as the answer to a poll, or goes on from there.
-fn answered_or_rejected(sender: &mut Sender, nr: u8, ends: bool) -> Result<bool, BadAck>
-    requires { nr < 128 }
-    ensures answer { (o : Outgoing) → StandsOut sender.old o
-        → MatchResult result (Advances sender.new o (if ends then replied nr o else rejected nr o)) (RefusesAck nr o (if ends then replied nr o else rejected nr o)) }
-    ensures terms { SameTerms sender.old sender.new }
-{
-    if ends {
-        sender.replied(nr)
-    } else {
-        sender.rejected(nr)
-    }
-}
-
-/// A number that was taken tells besides that the other end is no longer busy.
-fn resuming(sender: &mut Sender, taken: Result<bool, BadAck>) -> Result<bool, BadAck>
-    ensures answer { (nr : ℕ) (o : Outgoing) (after : Option Outgoing)
-        → MatchResult taken (Advances sender.old o after) (RefusesAck nr o after)
-        → MatchResult result (Advances sender.new o (option_map resumed after)) (RefusesAck nr o (option_map resumed after)) }
-    ensures terms { SameTerms sender.old sender.new }
-{
-    match taken {
-        Ok(advanced) => {
-            sender.resumed();
-            Ok(advanced)
-        }
-        Err(bad) => Err(bad),
-    }
-}
-
-/// A number that was taken tells besides that the other end is busy.
-fn pausing(sender: &mut Sender, taken: Result<bool, BadAck>) -> Result<bool, BadAck>
-    ensures answer { (nr : ℕ) (o : Outgoing) (after : Option Outgoing)
-        → MatchResult taken (Advances sender.old o after) (RefusesAck nr o after)
-        → MatchResult result (Advances sender.new o (option_map paused_at after)) (RefusesAck nr o (option_map paused_at after)) }
-    ensures terms { SameTerms sender.old sender.new }
-{
-    match taken {
-        Ok(advanced) => {
-            sender.pause();
-            Ok(advanced)
-        }
-        Err(bad) => Err(bad),
-    }
 }
 
 // The number of a frame.
@@ -153,27 +95,21 @@ impl Connected {
         }
     }
 
-    /// N(R) acknowledges all before it.
-    fn acknowledge(&mut self, turn: u64, nr: u8) -> Result<(), LinkFault>
+    /// The number of a frame, by what it means, and what the frame says of the other end.
+    fn on_number(
+        &mut self,
+        turn: u64,
+        nr: u8,
+        meaning: Meaning,
+        readiness: Readiness,
+    ) -> Result<(), LinkFault>
         requires { nr < 128 }
-        ensures becomes { (a : Account) → Links self.old a → Becomes (on_number turn nr (acknowledged nr a.outgoing) a) self.new result }
+        ensures becomes { (a : Account) → Links self.old a
+            → Becomes (on_number turn nr (readied readiness (taken_as meaning nr a.outgoing)) a) self.new result }
         ensures same { SameTaken self.old self.new }
     {
         let before = self.waits();
-        let taken = self.sender.acked(nr);
-        self.count(turn, before, taken)
-    }
-
-    /// This number alone is to be sent again.
-    fn select(&mut self, turn: u64, nr: u8) -> Result<(), LinkFault>
-        ensures becomes { (a : Account) → Links self.old a → Becomes (on_number turn nr (selected nr a.outgoing) a) self.new result }
-        ensures same { SameTaken self.old self.new }
-    {
-        let before = self.waits();
-        let taken = match self.sender.selected(nr) {
-            Ok(()) => Ok(false),
-            Err(bad) => Err(bad),
-        };
+        let taken = heard(&mut self.sender, nr, meaning, readiness);
         self.count(turn, before, taken)
     }
 }
@@ -195,7 +131,7 @@ impl Connected {
         ensures terms { self.new.terms ≡ self.old.terms }
         ensures counted { self.new.receiver.taken ≤ self.old.receiver.taken + 128 }
     {
-        self.acknowledge(turn, nr)?;
+        self.on_number(turn, nr, Meaning::Acknowledges, Readiness::Unsaid)?;
         let _ = self.receiver.take(ns, info);
         self.owes.reply = self.owes.reply || pf;
         Ok(())
@@ -208,39 +144,18 @@ impl Connected {
         self.sender.awaiting() && pf && !command
     }
 
-    /// An RR ends the wait, or acknowledges alone, and the other end is no longer busy.
-    fn take_ready(&mut self, turn: u64, nr: u8, ends: bool) -> Result<(), LinkFault>
-        requires { nr < 128 }
-        ensures becomes { (a : Account) → Links self.old a
-            → Becomes (on_number turn nr (option_map resumed (if ends then replied nr a.outgoing else acknowledged nr a.outgoing)) a) self.new result }
-        ensures same { SameTaken self.old self.new }
-    {
-        let before = self.waits();
-        let taken = answered_or_acked(&mut self.sender, nr, ends);
-        let taken = resuming(&mut self.sender, taken);
-        self.count(turn, before, taken)
-    }
-
-    /// The same by an RNR, and the other end is busy.
-    fn take_pause(&mut self, turn: u64, nr: u8, ends: bool) -> Result<(), LinkFault>
-        requires { nr < 128 }
-        ensures becomes { (a : Account) → Links self.old a
-            → Becomes (on_number turn nr (option_map paused_at (if ends then replied nr a.outgoing else acknowledged nr a.outgoing)) a) self.new result }
-        ensures same { SameTaken self.old self.new }
-    {
-        let before = self.waits();
-        let taken = answered_or_acked(&mut self.sender, nr, ends);
-        let taken = pausing(&mut self.sender, taken);
-        self.count(turn, before, taken)
-    }
-
     fn on_rnr(&mut self, turn: u64, command: bool, nr: u8, pf: bool) -> Result<(), LinkFault>
         requires { nr < 128 }
         ensures becomes { (a : Account) → Links self.old a → Becomes (on_rnr turn command nr pf a) self.new result }
         ensures same { SameTaken self.old self.new }
     {
         let ends = self.ends_wait(command, pf);
-        self.take_pause(turn, nr, ends)?;
+        let meaning = if ends {
+            Meaning::Replies
+        } else {
+            Meaning::Acknowledges
+        };
+        self.on_number(turn, nr, meaning, Readiness::Busy)?;
         self.owes.reply = self.owes.reply || command && pf;
         self.wait.timer = Some(turn);
         Ok(())
@@ -252,23 +167,15 @@ impl Connected {
         ensures same { SameTaken self.old self.new }
     {
         let ends = self.ends_wait(command, pf);
-        self.take_ready(turn, nr, ends)?;
+        let meaning = if ends {
+            Meaning::Replies
+        } else {
+            Meaning::Acknowledges
+        };
+        self.on_number(turn, nr, meaning, Readiness::Ready)?;
         self.owes.reply = self.owes.reply || command && pf;
         self.wait.urgent = self.wait.urgent || ends;
         Ok(())
-    }
-
-    /// A REJ ends the wait, or makes sending go on from its number, and the other end is no longer busy.
-    fn take_rej(&mut self, turn: u64, nr: u8, ends: bool) -> Result<(), LinkFault>
-        requires { nr < 128 }
-        ensures becomes { (a : Account) → Links self.old a
-            → Becomes (on_number turn nr (option_map resumed (if ends then replied nr a.outgoing else rejected nr a.outgoing)) a) self.new result }
-        ensures same { SameTaken self.old self.new }
-    {
-        let before = self.waits();
-        let taken = answered_or_rejected(&mut self.sender, nr, ends);
-        let taken = resuming(&mut self.sender, taken);
-        self.count(turn, before, taken)
     }
 
     fn on_rej(&mut self, turn: u64, command: bool, nr: u8, pf: bool) -> Result<(), LinkFault>
@@ -277,7 +184,12 @@ impl Connected {
         ensures same { SameTaken self.old self.new }
     {
         let ends = self.ends_wait(command, pf);
-        self.take_rej(turn, nr, ends)?;
+        let meaning = if ends {
+            Meaning::Replies
+        } else {
+            Meaning::Rejects
+        };
+        self.on_number(turn, nr, meaning, Readiness::Ready)?;
         self.owes.reply = self.owes.reply || command && pf;
         self.wait.urgent = self.wait.urgent || ends;
         Ok(())
@@ -384,7 +296,7 @@ impl Connected {
                 end.after(heard)
             }
             Frame::Srej { nr, .. } => {
-                let heard = end.select(turn, *nr);
+                let heard = end.on_number(turn, *nr, Meaning::Selects, Readiness::Unsaid);
                 end.after(heard)
             }
             Frame::Sabme { pf } => {

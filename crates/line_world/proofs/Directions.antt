@@ -4,7 +4,7 @@ use Rattle.std.proofs.lemmas.List.{append-nil, append_cancel_left, drop_all, get
 use Rattle.std.proofs.lemmas.Bool.{cases_lt}
 use Rattle.std.proofs.lemmas.List.Elements.{All-head}
 use Rattle.thin_link.specs.declared.end.TheConstants.{SEGMENT}
-use Rattle.line_world.specs.declared.direction.TheConstants.{SYMBOLS}
+use Rattle.line_world.specs.declared.sizes.TheConstants.{SYMBOLS}
 use Rattle.bit_stuffing.specs.declared.slot_writer.TheConstants.{TAIL}
 use Rattle.bit_stuffing.specs.Flags.{flag}
 use Rattle.bit_stuffing.specs.Found.{Found, pieces_of}
@@ -56,7 +56,7 @@ flags-fit slots = omega (arith, length-empty (phase_after slot_size slots) (low-
 
 pub frame-fits : (slots : List Slot) (octets : List ℕ) → ((i : ℕ) → get_or octets i 0 < 256) → 4 ≤ length octets → length octets ≤ SEGMENT + 7 → IsSlot slot_size (phase_after slot_size slots) (Flags (Some octets))
 frame-fits slots octets small long short =
-    (record { small = λ k d h. small-at k d h; low = long; high = short }, omega (arith, room-frame (phase_after slot_size slots) octets short))
+    (record { small = λ k d h. small-at k d h; low = long; high = omega (arith, short) }, omega (arith, room-frame (phase_after slot_size slots) octets short))
   where
     small-at : (k d : ℕ) → k < length octets → get_or octets k d < 256
     small-at k d h = rw (get_or_default octets k d 0 h) (small k)

@@ -1,5 +1,5 @@
 -- How many octets a frame on the line has.
-use Rattle.std.proofs.Common.{◌≡◌, ◌+◌, ◌≤◌, length, List, Option, Some, None, IfSome, unwrap_or, lit≤, ap, ◌∙◌, arith, length-append}
+use Rattle.std.proofs.Common.{◌≡◌, ℕ, ◌+◌, ◌≤◌, length, List, Option, Some, None, IfSome, unwrap_or, lit≤, ap, ◌∙◌, arith, length-append}
 use Rattle.frame_check.specs.declared.check.Check.{Check}
 use Rattle.frame_check.specs.declared.check.Check.TheVariants.{Sixteen, ThirtyTwo}
 use Rattle.thin_link.specs.declared.end.TheConstants.{SEGMENT}

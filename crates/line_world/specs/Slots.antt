@@ -9,7 +9,7 @@ use Rattle.roles.specs.declared.role.Role.{Role}
 use Rattle.lapm_frames.specs.Checked.{checked}
 use Rattle.thin_link.specs.Sent.{IsSendable, frame_of}
 use Rattle.thin_link.specs.declared.sent.Sent.{Sent}
-use Rattle.line_world.specs.declared.direction.TheConstants.{SYMBOLS}
+use Rattle.line_world.specs.declared.sizes.TheConstants.{SYMBOLS}
 
 -- how many bits a slot has
 abbrev pub slot_size : ℕ

@@ -1,17 +1,16 @@
 // One direction of the line.
 ghost use Rattle.std.specs.Prelude.{◌≡◌, ◌≤◌, ◌+◌, length};
 ghost use Rattle.thin_link.specs.declared.end.TheConstants.{SEGMENT};
+ghost use Rattle.line_world.specs.declared.sizes.TheConstants.{SYMBOLS};
 
 use crate::receiver::Receiver;
+use crate::sizes::SYMBOLS;
 use crate::{Heard, Script};
 use bit_stuffing::{BitSlot, SlotWriter};
 use frame_check::Check;
 use lapm_frames::{Frame, write_checked};
 use roles::Role;
 use thin_link::Sent;
-
-/// The symbols of a slot, each of which carries four bits: the longest frame leaves 128 symbols behind its closing flag.
-pub(crate) const SYMBOLS: u16 = 464;
 
 /// The slots that one end sends, each of which arrives at the other in the next turn.
 #[derive(Drop)]

@@ -8,6 +8,7 @@ mod heard;
 pub mod laws;
 mod receiver;
 mod script;
+mod sizes;
 mod station;
 mod world;
 
