@@ -15,7 +15,7 @@ use Rattle.bit_stuffing.proofs.Sent.{found-is-sent}
 use Rattle.lapm_frames.specs.declared.frame.Frame.{Frame}
 use Rattle.roles.specs.declared.role.Role.{Role}
 use Rattle.roles.specs.declared.role.Role.TheVariants.{Originator, Answerer}
-use Rattle.lapm_frames.specs.Frame.{IsFrame, information_of, spelled}
+use Rattle.lapm_frames.specs.Frame.{information_of, spelled}
 use Rattle.lapm_frames.proofs.Octets.{spelled-small}
 use Rattle.lapm_frames.specs.Checked.{check_for}
 use Rattle.lapm_frames.proofs.Checking.{spells}

@@ -104,7 +104,7 @@ sent-more sender before None = append-nil (sent_bits slot_size before) ∙ ap (s
 sent-more sender before (Some s) = sym (bits-append slot_size 0 before (slot_of sender s))
 
 -- the bits that a writer of full slots puts on the line
-pub writer-bits : (w : Writer) (slots : List Slot) (slot : Slot) (line : List Bool) → w.symbols ≡ SLOT → WriterStands w slots → line ≡ slot_bits (4 * w.symbols) w.phase slot → line ≡ slot_bits slot_size (phase_after slot_size slots) slot
+pub writer-bits : (w : Writer) (slots : List Slot) (slot : Slot) (line : List Bool) → w.symbols ≡ SYMBOLS → WriterStands w slots → line ≡ slot_bits (4 * w.symbols) w.phase slot → line ≡ slot_bits slot_size (phase_after slot_size slots) slot
 writer-bits w slots slot line sized h e =
     e ∙ ap (λ p. slot_bits (4 * w.symbols) p slot) h.phase_is ∙ ap (λ n. slot_bits (4 * n) (phase_after (4 * n) slots) slot) sized
 

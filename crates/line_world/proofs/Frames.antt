@@ -1,5 +1,5 @@
 -- How many octets a frame on the line has.
-use Rattle.std.proofs.Common.{◌≡◌, ℕ, ◌+◌, ◌≤◌, length, List, Option, Some, None, IfSome, unwrap_or, lit≤, ap, ◌∙◌, arith, length-append}
+use Rattle.std.proofs.Common.{◌≡◌, ℕ, ◌+◌, ◌≤◌, length, List, [], Option, Some, None, IfSome, unwrap_or, lit≤, ap, ◌∙◌, arith, length-append}
 use Rattle.frame_check.specs.declared.check.Check.{Check}
 use Rattle.frame_check.specs.declared.check.Check.TheVariants.{Sixteen, ThirtyTwo}
 use Rattle.thin_link.specs.declared.end.TheConstants.{SEGMENT}
@@ -7,7 +7,7 @@ use Rattle.frame_check.specs.Division.{check_of, count_of}
 use Rattle.frame_check.proofs.Checks.{length-check_of}
 use Rattle.roles.specs.declared.role.Role.{Role}
 use Rattle.lapm_frames.specs.declared.frame.Frame.{Frame}
-use Rattle.lapm_frames.specs.Frame.{IsFrame, spelled}
+use Rattle.lapm_frames.specs.Frame.{spelled}
 use Rattle.lapm_frames.specs.Parts.{parts_of}
 use Rattle.lapm_frames.specs.Checked.{check_for}
 use Rattle.lapm_frames.proofs.Octets.{length-spelled}

@@ -74,7 +74,7 @@ impl Direction {
         requires short { length octets.now ≤ SEGMENT + 7 }
         ensures sender { sender_of self.new ≡ sender_of self.old }
         ensures carries { (sender : Role) (slots : List Slot) (frame : Frame) → Carries self.old sender slots None
-            → SpellsFrame Sixteen sender 0 octets.now frame → Carries self.new sender slots (Some (Sent.Frame frame)) }
+            → SpellsFrame Sixteen sender 0 octets.now frame → IsSendable (Sent.Frame frame) → Carries self.new sender slots (Some (Sent.Frame frame)) }
     {
         self.writer.slot(Some(octets), &mut self.slot);
     }

@@ -14,7 +14,7 @@ pub slot-requires-clause-room : goal.slot-requires-clause-room
 slot-requires-clause-room c = rw c.args.self.now.sized (room-frame c.args.self.now.writer.phase c.args.octets.now c.requires.short)
 
 pub returns-clause-carries : goal.returns-clause-carries
-returns-clause-carries c sender slots frame h is =
+returns-clause-carries c sender slots frame h is sendable =
     let slot : Slot = Flags (Some c.args.octets.now) in
     let coded = nothing-more (λ s. WriterStands c.args.self.now.writer s) slots h.coded in
     let octets_are : c.args.octets.now ≡ frame_octets sender frame = spelled-checked Sixteen sender 0 c.args.octets.now frame is in
@@ -23,7 +23,7 @@ returns-clause-carries c sender slots frame h is =
     let same = ap (λ (l : List ℕ). Flags (Some l)) octets_are in
     record {
       sender_is = h.sender_is;
-      sendable = is.spelling.0;
+      sendable = sendable;
       fit = subst (λ (s : Slot). AreSlots slot_size 0 (slots ++ s ∷ [])) same (slots-more slot_size 0 slots slot (nothing-more (AreSlots slot_size 0) slots h.fit) fits);
       coded = subst (λ (s : Slot). WriterStands c.slot.new.self (slots ++ s ∷ [])) same (c.slot.ensures.stands slots coded);
       passed = h.passed;
