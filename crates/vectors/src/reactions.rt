@@ -3,6 +3,7 @@ use std::alloc::Global;
 use std::test::Fail;
 
 mod answerer;
+mod checks;
 mod end;
 mod originator;
 mod slot;

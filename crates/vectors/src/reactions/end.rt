@@ -8,7 +8,7 @@ ghost use Rattle.vectors.specs.declared.reactions.end.TheConstants.{LATEST};
 use super::Reaction;
 use super::slot::Slot;
 use super::stage::Stage;
-use frame_check::Info;
+use frame_check::{Check, Info};
 use lapm_link::{AnyEnd, Arrived, Broken, Detecting, LinkFault, Phase, Sent, Setup};
 use outside_core::NoMemory;
 use std::alloc::Global;
@@ -136,6 +136,11 @@ impl Standing {
             end,
             turn: turn + 1,
         })
+    }
+
+    /// The check of the end's frames with numbers.
+    pub(super) fn check(&self) -> Check {
+        self.end.check()
     }
 
     pub(super) fn end(self) -> AnyEnd {

@@ -58,6 +58,8 @@ pub(super) enum Says {
     Offer,
     /// The default offer, and SREJ.
     OfferWithSrej,
+    /// The default offer, and the check of 32 bits.
+    OfferWithCheck,
 }
 
 /// What is heard in the table. Flags alone are nothing.
@@ -131,19 +133,20 @@ pub(super) const ARRIVALS: &[Slot] = &[
     Slot::Test(Kind::Response),
 ];
 
-/// The offer of an end that names nothing but SREJ, where it has that.
-pub(super) fn offer(srej: bool) -> Offer
+/// The offer of an end that names nothing but these functions, where it has them.
+pub(super) fn offer(srej: bool, check32: bool) -> Offer
     ensures { IsAllowed result }
 {
     Offer {
         srej,
+        check32,
         ..default_offer()
     }
 }
 
-fn spelled(srej: bool) -> Info {
+fn spelled(srej: bool, check32: bool) -> Info {
     let mut info = Info::new();
-    write_offer(&offer(srej), &mut info);
+    write_offer(&offer(srej, check32), &mut info);
     info
 }
 
@@ -161,8 +164,9 @@ impl Says {
             Says::Nothing => Info::new(),
             Says::Brk(number, length) => info(&[0x40, number, length]),
             Says::BrkAck(number, length) => info(&[0x60, number, length]),
-            Says::Offer => spelled(false),
-            Says::OfferWithSrej => spelled(true),
+            Says::Offer => spelled(false, false),
+            Says::OfferWithSrej => spelled(true, false),
+            Says::OfferWithCheck => spelled(false, true),
         }
     }
 }

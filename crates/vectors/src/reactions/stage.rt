@@ -131,7 +131,7 @@ impl Stage {
     {
         Setup {
             role: self.role(),
-            offer: offer(matches!(self, Stage::SrejAgreed | Stage::SrejSent)),
+            offer: offer(matches!(self, Stage::SrejAgreed | Stage::SrejSent), false),
             tries: 5,
             period: PERIOD,
         }

@@ -44,7 +44,7 @@ fn setup(role: Role) -> Setup
 {
     Setup {
         role,
-        offer: offer(false),
+        offer: offer(false, false),
         tries: 5,
         period: 20,
     }

@@ -1,0 +1,147 @@
+// The check that an end's frames with numbers have, turn by turn.
+use super::end::Standing;
+use super::slot::{Kind, Says, Slot, Supervisory, offer};
+use frame_check::{Check, Info};
+use lapm_link::{Sent, Setup};
+use roles::Role;
+use std::alloc::Global;
+use std::test::Fail;
+
+/// An end that offers the check of 32 bits or not, and in each turn what it hears and the check that it then has.
+struct Agreement {
+    role: Role,
+    offers: bool,
+    turns: &'static [(Slot, Check)],
+}
+
+const NONE: Slot = Slot::Flags;
+
+const UA: Slot = Slot::Ua(true);
+
+const SABME: Slot = Slot::Sabme(true);
+
+const DISC: Slot = Slot::Disc(true);
+
+const POLL: Slot = Slot::S(Supervisory::Rr, Kind::Command, 0, true);
+
+const REPLY: Slot = Slot::S(Supervisory::Rr, Kind::Response, 0, true);
+
+/// What the rules ask for: the check changes as the end hears on what it agrees, and then stays.
+const AGREEMENTS: &[Agreement] = &[
+    // The originator agrees as it hears the XID response.
+    Agreement {
+        role: Role::Originator,
+        offers: true,
+        turns: &[
+            (NONE, Check::Sixteen),
+            (Slot::Adp, Check::Sixteen),
+            (
+                Slot::Xid(Kind::Response, Says::OfferWithCheck),
+                Check::ThirtyTwo,
+            ),
+            (UA, Check::ThirtyTwo),
+            (REPLY, Check::ThirtyTwo),
+        ],
+    },
+    // The other end offers no such check.
+    Agreement {
+        role: Role::Originator,
+        offers: true,
+        turns: &[
+            (NONE, Check::Sixteen),
+            (Slot::Adp, Check::Sixteen),
+            (Slot::Xid(Kind::Response, Says::Offer), Check::Sixteen),
+            (UA, Check::Sixteen),
+            (REPLY, Check::Sixteen),
+        ],
+    },
+    // This one offers none.
+    Agreement {
+        role: Role::Originator,
+        offers: false,
+        turns: &[
+            (NONE, Check::Sixteen),
+            (Slot::Adp, Check::Sixteen),
+            (
+                Slot::Xid(Kind::Response, Says::OfferWithCheck),
+                Check::Sixteen,
+            ),
+            (UA, Check::Sixteen),
+        ],
+    },
+    // The answerer agrees as it hears an XID command, and keeps its check when the link is over.
+    Agreement {
+        role: Role::Answerer,
+        offers: true,
+        turns: &[
+            (NONE, Check::Sixteen),
+            (
+                Slot::Xid(Kind::Command, Says::OfferWithCheck),
+                Check::ThirtyTwo,
+            ),
+            (SABME, Check::ThirtyTwo),
+            (POLL, Check::ThirtyTwo),
+            (DISC, Check::ThirtyTwo),
+        ],
+    },
+    // The last offer that isn't refused counts.
+    Agreement {
+        role: Role::Answerer,
+        offers: true,
+        turns: &[
+            (Slot::Xid(Kind::Command, Says::Nothing), Check::Sixteen),
+            (
+                Slot::Xid(Kind::Command, Says::OfferWithCheck),
+                Check::ThirtyTwo,
+            ),
+            (Slot::Xid(Kind::Command, Says::Nothing), Check::ThirtyTwo),
+            (Slot::Xid(Kind::Command, Says::Offer), Check::Sixteen),
+            (SABME, Check::Sixteen),
+        ],
+    },
+    // A SABME that comes without an offer counts as the default one.
+    Agreement {
+        role: Role::Answerer,
+        offers: true,
+        turns: &[(SABME, Check::Sixteen), (POLL, Check::Sixteen)],
+    },
+    Agreement {
+        role: Role::Answerer,
+        offers: false,
+        turns: &[
+            (
+                Slot::Xid(Kind::Command, Says::OfferWithCheck),
+                Check::Sixteen,
+            ),
+            (SABME, Check::Sixteen),
+        ],
+    },
+];
+
+fn compare(alloc: Global, agreement: &Agreement) -> Result<(), Fail> {
+    let setup = Setup {
+        role: agreement.role,
+        offer: offer(false, agreement.offers),
+        tries: 5,
+        period: 60,
+    };
+    let mut standing = Standing::new(alloc, setup)?;
+    let mut got = Info::new();
+    let mut sent = Sent::Mark;
+    for (heard, check) in agreement.turns {
+        let arrived = heard.arrived();
+        standing = standing.turn(&arrived, b"", false, false, &mut got, &mut sent)?;
+        if standing.check() != *check {
+            return Err(Fail::from("another check"));
+        }
+    }
+    Ok(())
+}
+
+#[test]
+fn the_check_changes_with_the_agreement(rt: HostRuntime) -> Result<(), Fail> {
+    for agreement in AGREEMENTS {
+        compare(rt.alloc(), agreement)?;
+    }
+    Ok(())
+}
