@@ -1,3 +1,4 @@
 pub mod Streams
-mod Registers
+pub mod Registers
+pub mod Turning
 pub mod Readings

@@ -1,5 +1,5 @@
 -- What one more bit changes in the equations of scrambling.
-use Rattle.std.proofs.Common.{◌≡◌, ℕ, ◌+◌, ◌<◌, ◌≤◌, ◌⊎◌, inl, inr, Bool, List, [], ◌∷◌, ◌++◌, length, arith, refl, length-append}
+use Rattle.std.proofs.Common.{◌≡◌, ◌∙◌, ℕ, ◌+◌, ◌-◌, ◌<◌, ◌≤◌, ◌⊎◌, inl, inr, Bool, List, [], ◌∷◌, ◌++◌, length, arith, refl, sym, ap, subst, length-append}
 use Rattle.std.proofs.lemmas.Grind.{common_steps}
 use Rattle.std.proofs.lemmas.Bool.Decides.{nat_tests}
 use Rattle.std.proofs.lemmas.Bool.{cases_lt}
@@ -13,6 +13,17 @@ earlier-last line bit = grind (arith, common_steps, nat_tests)
 
 pub earlier-more : (line : List Bool) (bit : Bool) (k : ℕ) → 1 ≤ k → earlier (line ++ bit ∷ []) (length (line ++ bit ∷ [])) (k + 1) ≡ earlier line (length line) k
 earlier-more line bit k low = grind (arith, common_steps, nat_tests)
+
+-- the same, seen from the place behind one more bit
+pub earlier-less : (line : List Bool) (bit : Bool) (k : ℕ) → 2 ≤ k → earlier (line ++ bit ∷ []) (length (line ++ bit ∷ [])) k ≡ earlier line (length line) (k - 1)
+earlier-less line bit k far =
+    let back : k ≡ k - 1 + 1 = omega arith in
+    ap (earlier (line ++ bit ∷ []) (length (line ++ bit ∷ []))) back ∙ earlier-more line bit (k - 1) (omega arith)
+
+-- four elements behind a list, put there one by one
+pub four-behind : {X : Type 0} (xs : List X) (a b c d : X) → (((xs ++ a ∷ []) ++ b ∷ []) ++ c ∷ []) ++ d ∷ [] ≡ xs ++ a ∷ b ∷ c ∷ d ∷ []
+four-behind [] a b c d = refl
+four-behind (x ∷ xs) a b c d = ap (λ ys. x ∷ ys) (four-behind xs a b c d)
 
 -- a bit more changes nothing of what stands before an earlier place
 pub earlier-append : (line : List Bool) (bit : Bool) (i k : ℕ) → i ≤ length line → 1 ≤ k → earlier (line ++ bit ∷ []) i k ≡ earlier line i k
@@ -61,3 +72,56 @@ Descrambles-more tap line output bit read low h e = record {
     at i within (inr last) =
         let place : i ≡ length line = omega (arith, length-append {A = Bool}) in
         rw (end output read i (omega (arith, h.lengths)), end line bit i place, turned-append tap bit line bit i low (omega arith), place) e
+
+-- what is written in four places, the bits of which are these: the taps lie before the first of them
+pub record AreTurned (tap : ℕ) (line : List Bool) (b0 b1 b2 b3 t0 t1 t2 t3 : Bool) : Type 0 where
+  pub far : 4 ≤ tap
+  pub first : t0 ≡ xor (xor b0 (earlier line (length line) tap)) (earlier line (length line) 23)
+  pub second : t1 ≡ xor (xor b1 (earlier line (length line) (tap - 1))) (earlier line (length line) 22)
+  pub third : t2 ≡ xor (xor b2 (earlier line (length line) (tap - 2))) (earlier line (length line) 21)
+  pub fourth : t3 ≡ xor (xor b3 (earlier line (length line) (tap - 3))) (earlier line (length line) 20)
+
+-- the same places, seen from behind one, two and three more bits
+behind-one : (tap : ℕ) (bit : Bool) (line : List Bool) (x : Bool) → 2 ≤ tap
+    → turned_at tap bit (line ++ x ∷ []) (length (line ++ x ∷ [])) ≡ xor (xor bit (earlier line (length line) (tap - 1))) (earlier line (length line) 22)
+behind-one tap bit line x far = rw (earlier-less line x tap far, earlier-less line x 23 (omega arith)) refl
+
+behind-two : (tap : ℕ) (bit : Bool) (line : List Bool) (x y : Bool) → 3 ≤ tap
+    → turned_at tap bit ((line ++ x ∷ []) ++ y ∷ []) (length ((line ++ x ∷ []) ++ y ∷ [])) ≡ xor (xor bit (earlier line (length line) (tap - 2))) (earlier line (length line) 21)
+behind-two tap bit line x y far =
+    let less : tap - 1 - 1 ≡ tap - 2 = omega arith in
+    behind-one tap bit (line ++ x ∷ []) y (omega arith)
+    ∙ ap (λ e. xor (xor bit e) (earlier (line ++ x ∷ []) (length (line ++ x ∷ [])) 22)) (earlier-less line x (tap - 1) (omega arith) ∙ ap (earlier line (length line)) less)
+    ∙ ap (λ e. xor (xor bit (earlier line (length line) (tap - 2))) e) (earlier-less line x 22 (omega arith))
+
+behind-three : (tap : ℕ) (bit : Bool) (line : List Bool) (x y z : Bool) → 4 ≤ tap
+    → turned_at tap bit (((line ++ x ∷ []) ++ y ∷ []) ++ z ∷ []) (length (((line ++ x ∷ []) ++ y ∷ []) ++ z ∷ [])) ≡ xor (xor bit (earlier line (length line) (tap - 3))) (earlier line (length line) 20)
+behind-three tap bit line x y z far =
+    let less : tap - 2 - 1 ≡ tap - 3 = omega arith in
+    behind-two tap bit (line ++ x ∷ []) y z (omega arith)
+    ∙ ap (λ e. xor (xor bit e) (earlier (line ++ x ∷ []) (length (line ++ x ∷ [])) 21)) (earlier-less line x (tap - 2) (omega arith) ∙ ap (earlier line (length line)) less)
+    ∙ ap (λ e. xor (xor bit (earlier line (length line) (tap - 3))) e) (earlier-less line x 21 (omega arith))
+
+-- the line goes on by four bits
+pub Scrambles-four : (tap : ℕ) (input line : List Bool) (b0 b1 b2 b3 t0 t1 t2 t3 : Bool) → Scrambles tap input line → AreTurned tap line b0 b1 b2 b3 t0 t1 t2 t3
+    → Scrambles tap (input ++ b0 ∷ b1 ∷ b2 ∷ b3 ∷ []) (line ++ t0 ∷ t1 ∷ t2 ∷ t3 ∷ [])
+Scrambles-four tap input line b0 b1 b2 b3 t0 t1 t2 t3 h t =
+    let low : 1 ≤ tap = omega (arith, t.far) in
+    let one = Scrambles-more tap input line b0 t0 low h t.first in
+    let two = Scrambles-more tap _ _ b1 t1 low one (t.second ∙ sym (behind-one tap b1 line t0 (omega (arith, t.far)))) in
+    let three = Scrambles-more tap _ _ b2 t2 low two (t.third ∙ sym (behind-two tap b2 line t0 t1 (omega (arith, t.far)))) in
+    let four = Scrambles-more tap _ _ b3 t3 low three (t.fourth ∙ sym (behind-three tap b3 line t0 t1 t2 t.far)) in
+    subst (Scrambles tap (input ++ b0 ∷ b1 ∷ b2 ∷ b3 ∷ [])) (four-behind line t0 t1 t2 t3)
+    (subst (λ (i : List Bool). Scrambles tap i ((((line ++ t0 ∷ []) ++ t1 ∷ []) ++ t2 ∷ []) ++ t3 ∷ [])) (four-behind input b0 b1 b2 b3) four)
+
+-- the output goes on by four bits
+pub Descrambles-four : (tap : ℕ) (line output : List Bool) (b0 b1 b2 b3 t0 t1 t2 t3 : Bool) → Descrambles tap line output → AreTurned tap line b0 b1 b2 b3 t0 t1 t2 t3
+    → Descrambles tap (line ++ b0 ∷ b1 ∷ b2 ∷ b3 ∷ []) (output ++ t0 ∷ t1 ∷ t2 ∷ t3 ∷ [])
+Descrambles-four tap line output b0 b1 b2 b3 t0 t1 t2 t3 h t =
+    let low : 1 ≤ tap = omega (arith, t.far) in
+    let one = Descrambles-more tap line output b0 t0 low h t.first in
+    let two = Descrambles-more tap _ _ b1 t1 low one (t.second ∙ sym (behind-one tap b1 line b0 (omega (arith, t.far)))) in
+    let three = Descrambles-more tap _ _ b2 t2 low two (t.third ∙ sym (behind-two tap b2 line b0 b1 (omega (arith, t.far)))) in
+    let four = Descrambles-more tap _ _ b3 t3 low three (t.fourth ∙ sym (behind-three tap b3 line b0 b1 b2 t.far)) in
+    subst (Descrambles tap (line ++ b0 ∷ b1 ∷ b2 ∷ b3 ∷ [])) (four-behind output t0 t1 t2 t3)
+    (subst (λ (l : List Bool). Descrambles tap l ((((output ++ t0 ∷ []) ++ t1 ∷ []) ++ t2 ∷ []) ++ t3 ∷ [])) (four-behind line b0 b1 b2 b3) four)

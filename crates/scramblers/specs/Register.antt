@@ -8,7 +8,7 @@ abbrev pub number : Bool → ℕ
 number true = 1
 number false = 0
 
--- the register's low 23 bits are the line's latest ones, the last one lowest
+-- the register's high 23 bits are the line's latest ones, the last one highest
 pub record Holds (register : ℕ) (line : List Bool) : Type 0 where
   pub recent : (places : ℕ) → 1 ≤ places → places ≤ 23 →
-      bit_at register (places - 1) ≡ number (earlier line (length line) places)
+      bit_at register (32 - places) ≡ number (earlier line (length line) places)

@@ -1,8 +1,9 @@
 // The descrambler.
-ghost use Rattle.std.specs.Prelude.{◌≡◌, ◌≤◌, List, Bool, [], ◌∷◌, ◌++◌};
+ghost use Rattle.std.specs.Prelude.{◌≡◌, ◌<◌, ◌≤◌, List, Bool, [], ◌∷◌, ◌++◌};
+ghost use Rattle.plain_lists.specs.Bits.{low_bits};
 ghost use Rattle.scramblers.specs.Machines.{DescramblerStands};
 
-use crate::register::{DEGREE, bit_before, shifted};
+use crate::register::{DEGREE, bit_before, four_before, shifted, shifted_by_four};
 use std::marker::Model;
 
 /// The inverse of the [`Scrambler`](crate::Scrambler) with the same TAP. It keeps the latest bits of the line,
@@ -39,6 +40,19 @@ impl<const TAP: usize> Descrambler<TAP> {
     {
         let read = bit ^ bit_before(self.register, TAP) ^ bit_before(self.register, DEGREE);
         self.register = shifted(self.register, bit);
+        read
+    }
+
+    /// The output's next four bits, for the line's next four: the first one is lowest.
+    pub fn push_four(&mut self, four: u8) -> u8
+        requires far { 4 ≤ TAP }
+        requires four { four < 16 }
+        ensures stands { (line output : List Bool) → DescramblerStands TAP self.old line output
+            → DescramblerStands TAP self.new (line ++ low_bits 4 four) (output ++ low_bits 4 result) }
+        ensures bound { result < 16 }
+    {
+        let read = four ^ four_before(self.register, TAP) ^ four_before(self.register, DEGREE);
+        self.register = shifted_by_four(self.register, four);
         read
     }
 }

@@ -1,7 +1,9 @@
-// The latest bits of a line, as a number: the last one lowest.
-ghost use Rattle.std.specs.Prelude.{◌≡◌, ℕ, ◌≤◌, List, Bool, [], ◌∷◌, ◌++◌, length};
+// The latest bits of a line, as a number: the last one highest.
+ghost use Rattle.std.specs.Prelude.{◌≡◌, ℕ, ◌-◌, ◌<◌, ◌≤◌, List, Bool, [], ◌∷◌, ◌++◌, length};
+ghost use Rattle.std.specs.Int.{bit_at};
+ghost use Rattle.plain_lists.specs.Bits.{low_bits};
 ghost use Rattle.scramblers.specs.Stream.{earlier};
-ghost use Rattle.scramblers.specs.Register.{Holds};
+ghost use Rattle.scramblers.specs.Register.{number, Holds};
 
 /// How far back the older tap of every scrambler lies: the degree of the generating polynomials.
 pub const DEGREE: usize = 23;
@@ -12,12 +14,30 @@ pub fn bit_before(register: u32, places: usize) -> bool
     requires high { places ≤ DEGREE }
     ensures { (line : List Bool) → Holds register line → result ≡ earlier line (length line) places }
 {
-    (register >> (places - 1)) & 1 == 1
+    (register >> (32 - places)) & 1 == 1
+}
+
+/// The four bits this many places before each of the next four, the first one lowest.
+pub fn four_before(register: u32, places: usize) -> u8
+    requires low { 4 ≤ places }
+    requires high { places ≤ DEGREE }
+    ensures bits { (line : List Bool) (i : ℕ) → Holds register line → i < 4 → bit_at result i ≡ number (earlier line (length line) (places - i)) }
+    ensures bound { result < 16 }
+{
+    ((register >> (32 - places)) % 16) as u8
 }
 
 /// The register after one more bit.
 pub fn shifted(register: u32, bit: bool) -> u32
     ensures { (line : List Bool) → Holds register line → Holds result (line ++ bit ∷ []) }
 {
-    (register << 1) | u32::from(bit)
+    register / 2 + u32::from(bit) * 0x8000_0000
+}
+
+/// The register after four more bits, the first one lowest.
+pub fn shifted_by_four(register: u32, four: u8) -> u32
+    requires { four < 16 }
+    ensures { (line : List Bool) → Holds register line → Holds result (line ++ low_bits 4 four) }
+{
+    register / 16 + u32::from(four) * 0x1000_0000
 }

@@ -1,8 +1,9 @@
 // The scrambler.
-ghost use Rattle.std.specs.Prelude.{◌≡◌, ◌≤◌, List, Bool, [], ◌∷◌, ◌++◌};
+ghost use Rattle.std.specs.Prelude.{◌≡◌, ◌<◌, ◌≤◌, List, Bool, [], ◌∷◌, ◌++◌};
+ghost use Rattle.plain_lists.specs.Bits.{low_bits};
 ghost use Rattle.scramblers.specs.Machines.{ScramblerStands};
 
-use crate::register::{DEGREE, bit_before, shifted};
+use crate::register::{DEGREE, bit_before, four_before, shifted, shifted_by_four};
 use std::marker::Model;
 
 /// A scrambler with the generating polynomial 1 + x^-TAP + x^-23. It keeps the latest bits of the line.
@@ -38,6 +39,19 @@ impl<const TAP: usize> Scrambler<TAP> {
     {
         let sent = bit ^ bit_before(self.register, TAP) ^ bit_before(self.register, DEGREE);
         self.register = shifted(self.register, sent);
+        sent
+    }
+
+    /// The line's next four bits, for the input's next four: the first one is lowest.
+    pub fn push_four(&mut self, four: u8) -> u8
+        requires far { 4 ≤ TAP }
+        requires four { four < 16 }
+        ensures stands { (input line : List Bool) → ScramblerStands TAP self.old input line
+            → ScramblerStands TAP self.new (input ++ low_bits 4 four) (line ++ low_bits 4 result) }
+        ensures bound { result < 16 }
+    {
+        let sent = four ^ four_before(self.register, TAP) ^ four_before(self.register, DEGREE);
+        self.register = shifted_by_four(self.register, sent);
         sent
     }
 }

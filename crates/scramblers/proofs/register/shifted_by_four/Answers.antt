@@ -1,0 +1,8 @@
+use Rattle.std.proofs.Common.{rules, ◌≡◌}
+use Rattle.scramblers.proofs.Registers.{Holds-four}
+use Rattle.scramblers.proofs.register.shifted_by_four.Goals as goal
+
+pub returns : goal.returns
+returns c = λ line h.
+    let same : c.from.result ≡ c.args.four = search rules in
+    rw same (Holds-four c.args.register c.args.four line (search rules) c.requires h)
