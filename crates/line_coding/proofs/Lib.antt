@@ -1,0 +1,3 @@
+pub mod Fours
+pub mod Standing
+pub mod Readings

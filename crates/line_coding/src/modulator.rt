@@ -1,0 +1,41 @@
+// Bits become samples.
+ghost use Rattle.std.specs.Prelude.{◌≡◌, ◌<◌, Bool, List, [], ◌∷◌, ◌++◌};
+ghost use Rattle.plain_lists.specs.Bits.{low_bits};
+ghost use Rattle.scramblers.specs.declared.mode.Mode.{Mode};
+ghost use Rattle.symbol_map.specs.declared.sample.Sample.{Sample};
+ghost use Rattle.line_coding.specs.Modulates.{ModulatorStands};
+
+use crate::scrambling::ModeScrambler;
+use scramblers::Mode;
+use symbol_map::{Sample, point};
+use trellis_tables::Encoder;
+
+/// A modulator of a mode. The register of its scrambler is zero and its code in state 0 before the first bit.
+#[derive(Drop)]
+pub struct Modulator {
+    scrambler: ModeScrambler,
+    encoder: Encoder,
+}
+
+impl Modulator {
+    /// A modulator before its first bit.
+    pub fn new(mode: Mode) -> Modulator
+        ensures { ModulatorStands mode result [] [] }
+    {
+        Modulator {
+            scrambler: ModeScrambler::new(mode),
+            encoder: Encoder::new(),
+        }
+    }
+
+    /// The next sample, for the next four bits: a quad has the first one lowest.
+    pub fn push(&mut self, quad: u8) -> Sample
+        requires { quad < 16 }
+        ensures { (mode : Mode) (bits : List Bool) (samples : List Sample) → ModulatorStands mode self.old bits samples
+            → ModulatorStands mode self.new (bits ++ low_bits 4 quad) (samples ++ result ∷ []) }
+    {
+        let scrambled = self.scrambler.push_four(quad);
+        let label = self.encoder.push(scrambled);
+        point(label)
+    }
+}

@@ -1,0 +1,71 @@
+// The scrambler and the descrambler of either mode.
+ghost use Rattle.std.specs.Prelude.{◌≡◌, ◌<◌, Bool, List, [], ◌++◌};
+ghost use Rattle.plain_lists.specs.Bits.{low_bits};
+ghost use Rattle.scramblers.specs.declared.mode.Mode.{Mode};
+ghost use Rattle.line_coding.specs.Modes.{ScramblesAs, DescramblesAs};
+
+use scramblers::{ANSWER_TAP, CALL_TAP, Descrambler, Mode, Scrambler};
+
+/// A scrambler with the tap of a mode.
+#[derive(Drop)]
+pub(crate) enum ModeScrambler {
+    Call(Scrambler<CALL_TAP>),
+    Answer(Scrambler<ANSWER_TAP>),
+}
+
+impl ModeScrambler {
+    /// A scrambler before its first bit.
+    pub fn new(mode: Mode) -> ModeScrambler
+        ensures { ScramblesAs mode result [] [] }
+    {
+        match mode {
+            Mode::Call => ModeScrambler::Call(Scrambler::new()),
+            Mode::Answer => ModeScrambler::Answer(Scrambler::new()),
+        }
+    }
+
+    /// The line's next four bits, for the input's next four.
+    pub fn push_four(&mut self, four: u8) -> u8
+        requires { four < 16 }
+        ensures stands { (mode : Mode) (input line : List Bool) → ScramblesAs mode self.old input line
+            → ScramblesAs mode self.new (input ++ low_bits 4 four) (line ++ low_bits 4 result) }
+        ensures bound { result < 16 }
+    {
+        match self {
+            ModeScrambler::Call(scrambler) => scrambler.push_four(four),
+            ModeScrambler::Answer(scrambler) => scrambler.push_four(four),
+        }
+    }
+}
+
+/// A descrambler with the tap of a mode.
+#[derive(Drop)]
+pub(crate) enum ModeDescrambler {
+    Call(Descrambler<CALL_TAP>),
+    Answer(Descrambler<ANSWER_TAP>),
+}
+
+impl ModeDescrambler {
+    /// A descrambler before the line's first bit.
+    pub fn new(mode: Mode) -> ModeDescrambler
+        ensures { DescramblesAs mode result [] [] }
+    {
+        match mode {
+            Mode::Call => ModeDescrambler::Call(Descrambler::new()),
+            Mode::Answer => ModeDescrambler::Answer(Descrambler::new()),
+        }
+    }
+
+    /// The output's next four bits, for the line's next four.
+    pub fn push_four(&mut self, four: u8) -> u8
+        requires { four < 16 }
+        ensures stands { (mode : Mode) (line output : List Bool) → DescramblesAs mode self.old line output
+            → DescramblesAs mode self.new (line ++ low_bits 4 four) (output ++ low_bits 4 result) }
+        ensures bound { result < 16 }
+    {
+        match self {
+            ModeDescrambler::Call(descrambler) => descrambler.push_four(four),
+            ModeDescrambler::Answer(descrambler) => descrambler.push_four(four),
+        }
+    }
+}
