@@ -36,7 +36,7 @@ usage-write e = cc
 usage-memory : Usage ≢ NoMemory
 usage-memory e = cc
 
-usage-plain : IsPlain Usage
+pub usage-plain : IsPlain Usage
 usage-plain = record { write = usage-write; memory = usage-memory }
 
 -- a plain answer is the one whose line was to be said, and it was said

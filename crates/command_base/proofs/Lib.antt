@@ -1,4 +1,6 @@
 pub mod Saying
 pub mod OnlyOutputs
+pub mod Reading
 pub mod Answering
 pub mod Holding
+pub mod Jobs

@@ -3,4 +3,6 @@ pub mod Inputs
 pub mod Outputs
 pub mod Lines
 pub mod Tells
+pub mod Stops
+pub mod Job
 pub mod Sound

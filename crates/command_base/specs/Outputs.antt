@@ -1,6 +1,6 @@
 -- What a command leaves of its outputs. What is said of a name holds where the folder tells it; a name that holds no octets
 -- is held.
-use Rattle.std.specs.Prelude.{◌≡◌, ◌≢◌, ◌⊎◌, ℕ, ◌++◌, IsTrue, List, [], Some}
+use Rattle.std.specs.Prelude.{◌≡◌, ◌≢◌, ◌⊎◌, ℕ, ◌++◌, IsTrue, List, [], ◌∷◌, Some}
 use Rattle.plain_lists.specs.Prefix.{IsPrefixOf}
 use Rattle.outside_core.specs.Folder.{FolderState, held_at, GoesOn, KeepsName}
 
@@ -24,8 +24,39 @@ KeptOrEmpty old new name = KeepsName old new name ⊎ Holds new name []
 abbrev pub KeepsAll : FolderState → FolderState → Type 0
 KeepsAll old new = (name : List ℕ) → KeepsName old new name
 
+-- no line was said
+abbrev pub SaysNothing : FolderState → FolderState → Type 0
+SaysNothing old new = new.said ≡ old.said
+
 -- Of all names this one alone was touched, and nothing was said.
 pub record OnlyOutput (old new : FolderState) (output : List ℕ) : Type 0 where
   pub goes_on : GoesOn old new
   pub names : (other : List ℕ) → other ≢ output → KeepsName old new other
   pub said : new.said ≡ old.said
+
+-- ---- several outputs, in the order of the words
+
+-- the name is none of these
+abbrev pub IsNoneOf : List ℕ → List (List ℕ) → Type 0
+IsNoneOf other [] = Unit {0}
+IsNoneOf other (name ∷ names) = (other ≢ name) × IsNoneOf other names
+
+-- Of all names these alone were touched. Lines may have been said.
+pub record OnlyOutputs (old new : FolderState) (outputs : List (List ℕ)) : Type 0 where
+  pub goes_on : GoesOn old new
+  pub names : (other : List ℕ) → IsNoneOf other outputs → KeepsName old new other
+
+-- each of these is as it was
+abbrev pub KeepsEach : FolderState → FolderState → List (List ℕ) → Type 0
+KeepsEach old new [] = Unit {0}
+KeepsEach old new (name ∷ names) = KeepsName old new name × KeepsEach old new names
+
+-- the outputs are created
+abbrev pub Creates : FolderState → List (List ℕ) → Type 0
+Creates new [] = Unit {0}
+Creates new (name ∷ names) = Holds new name [] × Creates new names
+
+-- an output is not created: those before it are, and those behind it are as they were
+abbrev pub CreatesPart : FolderState → FolderState → List (List ℕ) → Type 0
+CreatesPart old new [] = ⊥
+CreatesPart old new (name ∷ names) = (KeptOrEmpty old new name × KeepsEach old new names) ⊎ (Holds new name [] × CreatesPart old new names)

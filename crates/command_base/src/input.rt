@@ -1,29 +1,55 @@
 // Steps of an input.
-ghost use Rattle.std.specs.Prelude.{◌≡◌, ◌≤◌, ◌<◌, ◌+◌, ◌-◌, ◌++◌, [], IsTrue, IfOk, IfErr, OnOk, IsErrOf, min, nat_lt, length, take, drop, vec_len};
-ghost use Rattle.outside_core.specs.Folder.{OnlyReads, HasCause, FaultsStand, CountsStand, octets_at};
-ghost use Rattle.command_base.specs.Inputs.{FailsToHold};
+ghost use Rattle.std.specs.Prelude.{◌≡◌, ◌≤◌, ◌<◌, ◌+◌, ◌-◌, ◌++◌, ℕ, List, [], ◌∷◌, IsTrue, IfOk, IfErr, OnOk, min, length, take, drop, vec_len};
+ghost use Rattle.outside_core.specs.Folder.{FolderState, OnlyReads, ReadsFront, CountsStand, octets_at};
+ghost use Rattle.command_base.specs.Inputs.{IsWithin, IsNotWithin, FailsToHold, ReadTo};
+ghost use Rattle.command_base.specs.Stops.{ReadFails};
 
+use crate::{Status, Stop};
 use outside_core::{Folder, FolderFault};
 use std::alloc::Global;
 
-/// Whether an input is longer than its limit: one octet is read there.
-pub fn is_longer<F: Folder>(folder: &mut F, name: &str, limit: u64) -> Result<bool, FolderFault>
-    ensures longer { IfOk result (λ longer. IsTrue ((F.state folder.old).tells name.now) → longer ≡ nat_lt limit (length (octets_at (F.state folder.old) name.now))) }
+/// Looks whether an input is within its limit: one octet is read there. Where it is longer, the answer names this word.
+pub fn within_limit<F: Folder>(
+    folder: &mut F,
+    name: &str,
+    limit: u64,
+    word: usize,
+) -> Result<(), Stop>
+    ensures within { OnOk result (IsWithin (F.state folder.old) name.now limit) }
+    ensures refused { IfErr result (IsNotWithin (F.state folder.old) (F.state folder.new) name.now limit word) }
     ensures reads { OnlyReads (F.state folder.old) (F.state folder.new) }
-    ensures cause { HasCause ((F.state folder.old).read_faults name.now) ((F.state folder.new).read_faults name.now) (F.state folder.old).refusals (F.state folder.new).refusals result }
     ensures stand { OnOk result (CountsStand (F.state folder.old) (F.state folder.new)) }
-    ensures spared { IsErrOf result FolderFault.NoMemory → FaultsStand (F.state folder.old) (F.state folder.new) }
 {
     let mut octet = [0u8; 1];
     match folder.read_at(name, limit, &mut octet) {
-        Ok(count) => Ok(count > 0),
+        Ok(0) => Ok(()),
+        Ok(_) => Err(Stop::Own(Status::TooLong { word })),
+        Err(fault) => Err(Stop::Read(fault)),
+    }
+}
+
+/// Fills the front of `piece` with the input's octets from `at` on, and answers how many.
+fn read_front<F: Folder>(
+    folder: &mut F,
+    name: &str,
+    at: u64,
+    piece: &mut [u8],
+) -> Result<usize, FolderFault>
+    ensures octets { IfOk result (ReadsFront (F.state folder.old) name.now at piece.old piece.new) }
+    ensures bound { IfOk result (λ count. count ≤ length piece.old) }
+    ensures kept { length piece.new ≡ length piece.old }
+    ensures reads { OnlyReads (F.state folder.old) (F.state folder.new) }
+    ensures fails { IfErr result (ReadFails (F.state folder.old) (F.state folder.new) (name.now ∷ [])) }
+    ensures stand { OnOk result (CountsStand (F.state folder.old) (F.state folder.new)) }
+{
+    match folder.read_at(name, at, piece) {
+        Ok(count) => Ok(count),
         Err(fault) => Err(fault),
     }
 }
 
-/// Fills the front of `piece` with the input's octets from `at` on, and answers how many. None at or past the limit is
-/// read. 0 for a piece that isn't empty means the input's end, or its limit.
-pub fn read_piece<F: Folder>(
+/// Fills the front of `piece` with the input's octets from `at` on, up to its limit, and answers how many.
+fn read_part<F: Folder>(
     folder: &mut F,
     name: &str,
     limit: u64,
@@ -37,9 +63,8 @@ pub fn read_piece<F: Folder>(
     ensures within { IfOk result (λ count. at + count ≤ limit) }
     ensures kept { length piece.new ≡ length piece.old }
     ensures reads { OnlyReads (F.state folder.old) (F.state folder.new) }
-    ensures cause { HasCause ((F.state folder.old).read_faults name.now) ((F.state folder.new).read_faults name.now) (F.state folder.old).refusals (F.state folder.new).refusals result }
+    ensures fails { IfErr result (ReadFails (F.state folder.old) (F.state folder.new) (name.now ∷ [])) }
     ensures stand { OnOk result (CountsStand (F.state folder.old) (F.state folder.new)) }
-    ensures spared { IsErrOf result FolderFault.NoMemory → FaultsStand (F.state folder.old) (F.state folder.new) }
 {
     let room = limit - at;
     let want = if room < piece.len() as u64 {
@@ -47,7 +72,34 @@ pub fn read_piece<F: Folder>(
     } else {
         piece.len()
     };
-    folder.read_at(name, at, &mut piece[..want])
+    read_front(folder, name, at, &mut piece[..want])
+}
+
+/// Reads on: fills the front of `piece` with the input's octets from `at` on, and answers how many. None at or past the limit is
+/// read. Fewer than `piece` has room for mean the input's end, or its limit.
+pub fn read_piece<F: Folder>(
+    folder: &mut F,
+    name: &str,
+    limit: u64,
+    at: u64,
+    piece: &mut [u8],
+) -> Result<usize, FolderFault>
+    requires { at ≤ limit }
+    ensures more { (start : FolderState) (octets : List ℕ) → ReadTo start (F.state folder.old) name.now limit at octets
+        → IfOk result (λ count. ReadTo start (F.state folder.new) name.now limit (at + count) (octets ++ take count piece.new)) }
+    ensures end { (start : FolderState) (octets : List ℕ) → ReadTo start (F.state folder.old) name.now limit at octets
+        → IfOk result (λ count. count < length piece.old → IsTrue (start.tells name.now) → octets ++ take count piece.new ≡ octets_at start name.now) }
+    ensures bound { IfOk result (λ count. count ≤ length piece.old) }
+    ensures within { IfOk result (λ count. at + count ≤ limit) }
+    ensures kept { length piece.new ≡ length piece.old }
+    ensures reads { OnlyReads (F.state folder.old) (F.state folder.new) }
+    ensures fails { IfErr result (ReadFails (F.state folder.old) (F.state folder.new) (name.now ∷ [])) }
+    ensures stand { OnOk result (CountsStand (F.state folder.old) (F.state folder.new)) }
+{
+    match read_part(folder, name, limit, at, piece) {
+        Ok(count) => Ok(count),
+        Err(fault) => Err(fault),
+    }
 }
 
 /// The next piece of an input is put behind what was read of it.
@@ -56,7 +108,7 @@ fn read_more<F: Folder>(
     name: &str,
     limit: u64,
     file: &mut Vec<u8>,
-) -> Result<usize, FolderFault>
+) -> Result<usize, Stop>
     requires { vec_len file.old < limit }
     ensures more { IfOk result (λ count. vec_len file.new ≡ vec_len file.old + count) }
     ensures bound { IfOk result (λ count. vec_len file.old + count ≤ limit) }
@@ -70,10 +122,13 @@ fn read_more<F: Folder>(
     let mut piece = [0u8; 1024];
     let room = limit - file.len() as u64;
     let want = if room < 1024 { room as usize } else { 1024 };
-    let count = folder.read_at(name, file.len() as u64, &mut piece[..want])?;
+    let count = match read_front(folder, name, file.len() as u64, &mut piece[..want]) {
+        Ok(count) => count,
+        Err(fault) => return Err(Stop::Read(fault)),
+    };
     match file.extend_from_slice(&piece[..count]) {
         Ok(()) => Ok(count),
-        Err(_) => Err(FolderFault::NoMemory),
+        Err(_) => Err(Stop::NoMemory),
     }
 }
 
@@ -83,7 +138,7 @@ pub fn read_file<F: Folder>(
     folder: &mut F,
     name: &str,
     limit: u64,
-) -> Result<Vec<u8>, FolderFault>
+) -> Result<Vec<u8>, Stop>
     ensures octets { IfOk result (λ file. IsTrue ((F.state folder.old).tells name.now) → file.items ≡ take limit (octets_at (F.state folder.old) name.now)) }
     ensures whole { IfOk result (λ file. IsTrue ((F.state folder.old).tells name.now) → length (octets_at (F.state folder.old) name.now) ≤ limit → file.items ≡ octets_at (F.state folder.old) name.now) }
     ensures bound { IfOk result (λ file. vec_len file ≤ limit) }

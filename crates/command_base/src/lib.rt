@@ -1,5 +1,5 @@
-//! What every command of the modem has in common: how it ends ([`Status`]), the line that it then says ([`tell`],
-//! [`tell_status`]), the limits of inputs, and single steps over a folder's inputs and outputs. A pure function of the
+//! What every command of the modem has in common: how it ends ([`Status`], [`Stop`]), the line that it then says ([`tell`],
+//! [`tell_stop`]), the limits of inputs, and single steps over a folder's inputs and outputs. A pure function of the
 //! values and of the folder that are handed in.
 #![tactic(auto)]
 
@@ -9,12 +9,14 @@ mod limits;
 mod lines;
 mod output;
 mod status;
+mod stop;
 mod telling;
 
-pub use input::{is_longer, read_file, read_piece};
+pub use input::{read_file, read_piece, within_limit};
 pub use laws::limits_in_octets;
 pub use limits::{FILE_LIMIT, HEX_LIMIT, RECORDING_LIMIT, RUN_FILE_LIMIT, SCRIPT_LIMIT};
 pub use lines::{LINE, Line, write_count, write_done, write_octets, write_pieces, write_samples};
 pub use output::{append_output, create_output};
 pub use status::Status;
-pub use telling::{tell, tell_status};
+pub use stop::Stop;
+pub use telling::{tell, tell_stop};

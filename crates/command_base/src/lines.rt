@@ -12,7 +12,7 @@ use script_causes::Cause;
 use xid_params::XidFault;
 
 /// The most octets of a line that says no word of the command line.
-pub const LINE: usize = 96;
+pub const LINE: usize = 160;
 
 /// A line that is to be said, with the line feed at its end.
 pub type Line = Octets<LINE>;

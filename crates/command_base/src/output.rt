@@ -1,7 +1,8 @@
 // Steps of an output.
-ghost use Rattle.std.specs.Prelude.{[], OnOk, OnErr, IsErrOf};
-ghost use Rattle.outside_core.specs.Folder.{OnlyWrites, HasCause, Appended, PartlyAppended, FaultsStand, CountsStand};
+ghost use Rattle.std.specs.Prelude.{[], ◌∷◌, OnOk, OnErr, IfErr, IsErrOf};
+ghost use Rattle.outside_core.specs.Folder.{OnlyWrites, Appended, PartlyAppended, FaultsStand, CountsStand};
 ghost use Rattle.command_base.specs.Outputs.{Holds, KeptOrEmpty};
+ghost use Rattle.command_base.specs.Stops.{WriteFails};
 
 use outside_core::{Folder, FolderFault};
 
@@ -10,11 +11,14 @@ pub fn create_output<F: Folder>(folder: &mut F, name: &str) -> Result<(), Folder
     ensures ok { OnOk result (Holds (F.state folder.new) name.now []) }
     ensures err { OnErr result (KeptOrEmpty (F.state folder.old) (F.state folder.new) name.now) }
     ensures only { OnlyWrites (F.state folder.old) (F.state folder.new) name.now }
-    ensures cause { HasCause ((F.state folder.old).write_faults name.now) ((F.state folder.new).write_faults name.now) (F.state folder.old).refusals (F.state folder.new).refusals result }
+    ensures fails { IfErr result (WriteFails (F.state folder.old) (F.state folder.new) (name.now ∷ [])) }
     ensures stand { OnOk result (CountsStand (F.state folder.old) (F.state folder.new)) }
     ensures spared { IsErrOf result FolderFault.NoMemory → FaultsStand (F.state folder.old) (F.state folder.new) }
 {
-    folder.create(name)
+    match folder.create(name) {
+        Ok(()) => Ok(()),
+        Err(fault) => Err(fault),
+    }
 }
 
 /// Octets are put behind what the output holds.
@@ -22,9 +26,12 @@ pub fn append_output<F: Folder>(folder: &mut F, name: &str, piece: &[u8]) -> Res
     ensures ok { OnOk result (Appended (F.state folder.old) (F.state folder.new) name.now piece.now) }
     ensures err { OnErr result (PartlyAppended (F.state folder.old) (F.state folder.new) name.now piece.now) }
     ensures only { OnlyWrites (F.state folder.old) (F.state folder.new) name.now }
-    ensures cause { HasCause ((F.state folder.old).write_faults name.now) ((F.state folder.new).write_faults name.now) (F.state folder.old).refusals (F.state folder.new).refusals result }
+    ensures fails { IfErr result (WriteFails (F.state folder.old) (F.state folder.new) (name.now ∷ [])) }
     ensures stand { OnOk result (CountsStand (F.state folder.old) (F.state folder.new)) }
     ensures spared { IsErrOf result FolderFault.NoMemory → FaultsStand (F.state folder.old) (F.state folder.new) }
 {
-    folder.append(name, piece)
+    match folder.append(name, piece) {
+        Ok(()) => Ok(()),
+        Err(fault) => Err(fault),
+    }
 }

@@ -2,10 +2,12 @@
 ghost use Rattle.std.specs.Prelude.{map, string_bytes, OnOk, OnErr};
 ghost use Rattle.outside_core.specs.Folder.{OnlySays, HasCause, CountsStand, Said, PartlySaid};
 ghost use Rattle.command_base.specs.Lines.{status_line, too_long_line};
+ghost use Rattle.command_base.specs.Job.{SaysStop};
 ghost use Rattle.command_base.specs.Tells.{Tells};
 
-use crate::Status;
+use crate::{Status, Stop};
 use crate::lines::write_short;
+use crate::stop::fault_status;
 use outside_core::{Folder, FolderFault};
 
 /// Says the line of an answer. A fault then takes the place of the answer.
@@ -14,8 +16,7 @@ pub fn tell<F: Folder>(folder: &mut F, line: &[u8], answer: Status) -> Status
 {
     match folder.say(line) {
         Ok(()) => answer,
-        Err(FolderFault::Failed) => Status::WriteFault,
-        Err(FolderFault::NoMemory) => Status::NoMemory,
+        Err(fault) => fault_status(Status::WriteFault, fault),
     }
 }
 
@@ -33,7 +34,7 @@ fn say_too_long<F: Folder>(folder: &mut F, name: &str) -> Result<(), FolderFault
 }
 
 /// Says the line of an answer that is neither `Done` nor `Usage`.
-pub fn tell_status<F: Folder>(folder: &mut F, words: &[String], status: Status) -> Status
+fn tell_status<F: Folder>(folder: &mut F, words: &[String], status: Status) -> Status
     ensures { Tells (F.state folder.old) (F.state folder.new) (status_line (map string_bytes words.now) status) status result }
 {
     match status {
@@ -44,10 +45,19 @@ pub fn tell_status<F: Folder>(folder: &mut F, words: &[String], status: Status) 
             };
             match say_too_long(folder, name) {
                 Ok(()) => status,
-                Err(FolderFault::Failed) => Status::WriteFault,
-                Err(FolderFault::NoMemory) => Status::NoMemory,
+                Err(fault) => fault_status(Status::WriteFault, fault),
             }
         }
         _ => tell(folder, write_short(status).as_slice(), status),
+    }
+}
+
+/// Says why a job stopped, in the line of its status, and answers that. Where a line was not said nothing more is.
+pub fn tell_stop<F: Folder>(folder: &mut F, words: &[String], stop: Stop) -> Status
+    ensures { SaysStop (map string_bytes words.now) (F.state folder.old) (F.state folder.new) stop result }
+{
+    match stop {
+        Stop::Say(_) => stop.status(),
+        _ => tell_status(folder, words, stop.status()),
     }
 }

@@ -1,4 +1,3 @@
 pub mod Longer
 pub mod Making
 pub mod Headline
-pub mod Completes

@@ -1,13 +1,16 @@
 -- How the making of a recording ends, before its line is said. What is said of a name's octets holds where the folder
 -- tells that name.
-use Rattle.std.specs.Prelude.{◌≡◌, ◌⊎◌, ℕ, IsTrue, List, Result, Ok, Err}
-use Rattle.outside_core.specs.Folder.{FolderState, octets_at, KeepsName, Rose}
+use Rattle.std.specs.Prelude.{◌≡◌, ◌⊎◌, ℕ, IsTrue, List, [], ◌∷◌, Result, Ok, Err}
+use Rattle.outside_core.specs.Folder.{FolderState, octets_at, KeepsName}
 use Rattle.recordings.specs.Recording.{IsRecordingOf}
 use Rattle.command_base.specs.declared.limits.TheConstants.{FILE_LIMIT}
 use Rattle.command_base.specs.Inputs.{IsWithin, IsLonger}
-use Rattle.command_base.specs.Outputs.{Holds, HoldsFront, KeepsAll}
-use Rattle.encode_command.specs.declared.fault.EncodeFault.{EncodeFault}
-use Rattle.encode_command.specs.declared.fault.EncodeFault.TheVariants.{TooLong, ReadFault, WriteFault, NoMemory}
+use Rattle.command_base.specs.Outputs.{Holds, HoldsFront, KeepsAll, SaysNothing}
+use Rattle.command_base.specs.Job.{Job}
+use Rattle.command_base.specs.Lines.{samples_line}
+use Rattle.command_base.specs.declared.status.Status.TheVariants.{TooLong}
+use Rattle.command_base.specs.declared.stop.Stop.{Stop}
+use Rattle.command_base.specs.declared.stop.Stop.TheVariants.{Own, Read, Write, Say, NoMemory}
 use Rattle.encode_command.specs.Words.{EncodeNames}
 
 -- The file is within its limit, and this is its recording.
@@ -34,14 +37,24 @@ pub record WritesPart (old new : FolderState) (n : EncodeNames) : Type 0 where
 abbrev pub LeavesPart : FolderState → FolderState → EncodeNames → Type 0
 LeavesPart old new n = KeepsName old new n.rec ⊎ WritesPart old new n
 
--- why there is no recording, or no whole one
-abbrev pub EndsBy : FolderState → FolderState → EncodeNames → EncodeFault → Type 0
-EndsBy old new n TooLong = KeepsAll old new × IsLonger old n.file FILE_LIMIT
-EndsBy old new n ReadFault = Rose (old.read_faults n.file) (new.read_faults n.file) × LeavesPart old new n
-EndsBy old new n WriteFault = Rose (old.write_faults n.rec) (new.write_faults n.rec) × IsWithin old n.file FILE_LIMIT × LeavesPart old new n
-EndsBy old new n NoMemory = Rose old.refusals new.refusals × LeavesPart old new n
+-- why there is no recording, or no whole one; word 2 names the file
+abbrev pub EndsBy : FolderState → FolderState → EncodeNames → Stop → Type 0
+EndsBy old new n (Own answer) = (answer ≡ TooLong 2) × KeepsAll old new × IsLonger old n.file FILE_LIMIT
+EndsBy old new n (Read fault) = LeavesPart old new n
+EndsBy old new n (Write fault) = IsWithin old n.file FILE_LIMIT × LeavesPart old new n
+EndsBy old new n (Say fault) = ⊥
+EndsBy old new n NoMemory = ⊥
 
--- how the making of a recording ends: with so many samples, or by a fault
-abbrev pub Ends : FolderState → FolderState → EncodeNames → Result ℕ EncodeFault → Type 0
+-- how the making of a recording ends: with so many samples, or before
+abbrev pub Ends : FolderState → FolderState → EncodeNames → Result ℕ Stop → Type 0
 Ends old new n (Ok samples) = WritesAll old new n samples
-Ends old new n (Err fault) = EndsBy old new n fault
+Ends old new n (Err stop) = EndsBy old new n stop
+
+-- The job of the command: done, its line says the number of samples.
+abbrev pub encode_job : EncodeNames → Job ℕ
+encode_job n = record {
+  inputs = n.file ∷ [];
+  outputs = n.rec ∷ [];
+  Ends = λ old new end. Ends old new n end × SaysNothing old new;
+  line_of = samples_line;
+}

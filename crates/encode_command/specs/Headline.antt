@@ -1,13 +1,13 @@
 -- What the command promises, over the folder before and after it. What is said of a name's octets holds where the
 -- folder tells that name.
-use Rattle.std.specs.Prelude.{◌≡◌, ◌≢◌, ◌⊎◌, ℕ, IsTrue, List}
-use Rattle.outside_core.specs.Folder.{FolderState, octets_at, KeepsName, Said, Rose}
+use Rattle.std.specs.Prelude.{◌≡◌, ◌⊎◌, ℕ, IsTrue, List, [], ◌∷◌}
+use Rattle.outside_core.specs.Folder.{FolderState, octets_at, KeepsName, Said}
 use Rattle.recordings.specs.Recording.{IsRecordingOf}
 use Rattle.command_base.specs.declared.status.Status.{Status}
-use Rattle.command_base.specs.declared.status.Status.TheVariants.{Done, ReadFault, WriteFault}
-use Rattle.command_base.specs.Status.{IsRefusal}
+use Rattle.command_base.specs.declared.status.Status.TheVariants.{Done}
+use Rattle.command_base.specs.Job.{Shared}
 use Rattle.command_base.specs.Lines.{samples_line}
-use Rattle.command_base.specs.Outputs.{KeepsAll, Holds, HoldsFront}
+use Rattle.command_base.specs.Outputs.{Holds, HoldsFront}
 use Rattle.encode_command.specs.Words.{EncodeNames}
 
 -- the file's octets have a recording, and the output holds the beginning of it
@@ -22,9 +22,6 @@ HoldsWhole old new n = (samples : ℕ) × Said old new (samples_line samples)
 
 -- The output becomes the file's recording, or the beginning of it where the command ends by a fault.
 pub record Headline (old new : FolderState) (n : EncodeNames) (s : Status) : Type 0 where
+  pub shared : Shared (n.file ∷ []) (n.rec ∷ []) old new s
   pub rec : KeepsName old new n.rec ⊎ HoldsBeginning old new n
   pub whole : s ≡ Done → HoldsWhole old new n
-  pub names : (other : List ℕ) → other ≢ n.rec → KeepsName old new other
-  pub refused : IsRefusal s → KeepsAll old new
-  pub read : s ≡ ReadFault → Rose (old.read_faults n.file) (new.read_faults n.file)
-  pub write : s ≡ WriteFault → Rose (old.write_faults n.rec) (new.write_faults n.rec) ⊎ Rose old.say_faults new.say_faults

@@ -1,11 +1,11 @@
 -- How far a file is recorded.
-use Rattle.std.specs.Prelude.{◌≡◌, ℕ, IsTrue, List, [], ◌++◌, length, take}
-use Rattle.outside_core.specs.Folder.{FolderState, octets_at}
+use Rattle.std.specs.Prelude.{ℕ, List, [], ◌++◌}
+use Rattle.outside_core.specs.Folder.{FolderState}
 use Rattle.scramblers.specs.Mode.{tap_of}
 use Rattle.modulator.specs.Modulates.{Kept}
 use Rattle.recordings.specs.Recording.{header_of, RecorderStands}
 use Rattle.command_base.specs.declared.limits.TheConstants.{FILE_LIMIT}
-use Rattle.command_base.specs.Inputs.{IsWithin}
+use Rattle.command_base.specs.Inputs.{IsWithin, ReadTo}
 use Rattle.command_base.specs.Outputs.{Holds, OnlyOutput}
 use Rattle.encode_command.specs.Words.{EncodeNames}
 
@@ -20,8 +20,6 @@ pub record RecordedTo (old now : FolderState) (n : EncodeNames) (kept : Kept) (a
   pub octets : List ℕ
   pub recorded : List ℕ
   pub stands : RecorderStands (tap_of n.mode) kept octets recorded
-  pub count : at ≡ length octets
-  pub within : IsWithin old n.file FILE_LIMIT
-  pub front : IsTrue (old.tells n.file) → octets ≡ take at (octets_at old n.file)
+  pub read : ReadTo old now n.file FILE_LIMIT at octets
   pub only : OnlyOutput old now n.rec
   pub rec : Holds now n.rec (header_of n.mode ++ recorded)

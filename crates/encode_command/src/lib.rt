@@ -3,10 +3,8 @@
 #![tactic(auto)]
 
 mod command;
-mod fault;
 mod recording;
 mod words;
 
 pub use command::encode;
-pub use fault::EncodeFault;
 pub use words::{EncodeWords, encode_words};

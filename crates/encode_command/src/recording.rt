@@ -1,24 +1,24 @@
 // A file's octets, recorded piece by piece.
-ghost use Rattle.std.specs.Prelude.{◌≡◌, ◌≤◌, ◌+◌, ◌*◌, ◌++◌, ℕ, List, IfOk, IfErr, length, true};
+ghost use Rattle.std.specs.Prelude.{◌≡◌, ◌≤◌, ◌+◌, ◌*◌, ◌++◌, ℕ, List, [], ◌∷◌, IfOk, IfErr, length, true};
 ghost use Rattle.outside_core.specs.Folder.{FolderState};
 ghost use Rattle.scramblers.specs.Mode.{tap_of};
 ghost use Rattle.recordings.specs.Recording.{RecorderStands};
 ghost use Rattle.command_base.specs.declared.limits.TheConstants.{FILE_LIMIT};
 ghost use Rattle.command_base.specs.Outputs.{OnlyOutput};
-ghost use Rattle.command_base.specs.Status.{PassesNoneOver};
+ghost use Rattle.command_base.specs.Stops.{EndCounts};
 ghost use Rattle.encode_command.specs.Words.{named, are_apart};
 ghost use Rattle.encode_command.specs.Ends.{WritesAll, EndsBy, Ends};
-ghost use Rattle.encode_command.specs.Answers.{status_of};
 ghost use Rattle.encode_command.specs.Recorded.{Begun, RecordedTo};
 
-use crate::EncodeFault;
-use crate::fault::{read_fault, write_fault};
 use crate::words::EncodeWords;
-use command_base::{FILE_LIMIT, append_output, create_output, is_longer, read_piece};
+use command_base::{FILE_LIMIT, Stop, append_output, create_output, read_piece, within_limit};
 use frame_check::Octets;
 use outside_core::Folder;
 use recordings::{Recorder, header_octets};
 use scramblers::{ANSWER_TAP, CALL_TAP, Mode};
+
+/// The place of the file's name among the words.
+const FILE: usize = 2;
 
 /// How many octets are read at a time.
 const PIECE: usize = 128;
@@ -48,7 +48,7 @@ fn record_next<F: Folder, const TAP: usize>(
     names: &EncodeWords<'_>,
     recorder: &mut Recorder<TAP>,
     at: u64,
-) -> Result<usize, EncodeFault>
+) -> Result<usize, Stop>
     requires tap { tap_of names.now.mode ≡ TAP }
     requires apart { are_apart (named names.now) ≡ true }
     requires within { at ≤ FILE_LIMIT }
@@ -60,18 +60,18 @@ fn record_next<F: Folder, const TAP: usize>(
         → IfErr result (EndsBy start (F.state folder.new) (named names.now)) }
     ensures bound { IfOk result (λ count. at + count ≤ FILE_LIMIT) }
     ensures only { OnlyOutput (F.state folder.old) (F.state folder.new) names.now.rec.now }
-    ensures stand { PassesNoneOver (F.state folder.old) (F.state folder.new) (status_of result) }
+    ensures counts { EndCounts (F.state folder.old) (F.state folder.new) (names.now.file.now ∷ []) (names.now.rec.now ∷ []) result }
 {
     let mut piece = [0u8; PIECE];
     let count = match read_piece(folder, names.file, FILE_LIMIT, at, &mut piece) {
         Ok(0) => return Ok(0),
         Ok(count) => count,
-        Err(fault) => return Err(read_fault(fault)),
+        Err(fault) => return Err(Stop::Read(fault)),
     };
     let recorded = record_piece(recorder, &piece[..count]);
     match append_output(folder, names.rec, recorded.as_slice()) {
         Ok(()) => Ok(count),
-        Err(fault) => Err(write_fault(fault)),
+        Err(fault) => Err(Stop::Write(fault)),
     }
 }
 
@@ -79,7 +79,7 @@ fn record_next<F: Folder, const TAP: usize>(
 fn record_file<F: Folder, const TAP: usize>(
     folder: &mut F,
     names: &EncodeWords<'_>,
-) -> Result<u64, EncodeFault>
+) -> Result<u64, Stop>
     requires tap { tap_of names.now.mode ≡ TAP }
     requires low { 1 ≤ TAP }
     requires high { TAP ≤ 22 }
@@ -87,12 +87,12 @@ fn record_file<F: Folder, const TAP: usize>(
     ensures ends { (start : FolderState) → Begun start (F.state folder.old) (named names.now)
         → Ends start (F.state folder.new) (named names.now) result }
     ensures only { OnlyOutput (F.state folder.old) (F.state folder.new) names.now.rec.now }
-    ensures stand { PassesNoneOver (F.state folder.old) (F.state folder.new) (status_of result) }
+    ensures counts { EndCounts (F.state folder.old) (F.state folder.new) (names.now.file.now ∷ []) (names.now.rec.now ∷ []) result }
 {
     let mut recorder = Recorder::<TAP>::new();
     match append_output(folder, names.rec, header_octets(names.mode).as_slice()) {
         Ok(()) => {}
-        Err(fault) => return Err(write_fault(fault)),
+        Err(fault) => return Err(Stop::Write(fault)),
     }
     let mut at: u64 = 0;
     loop {
@@ -108,20 +108,19 @@ fn record_file<F: Folder, const TAP: usize>(
 pub(crate) fn make_recording<F: Folder>(
     folder: &mut F,
     names: &EncodeWords<'_>,
-) -> Result<u64, EncodeFault>
+) -> Result<u64, Stop>
     requires { are_apart (named names.now) ≡ true }
     ensures ends { Ends (F.state folder.old) (F.state folder.new) (named names.now) result }
     ensures only { OnlyOutput (F.state folder.old) (F.state folder.new) names.now.rec.now }
-    ensures stand { PassesNoneOver (F.state folder.old) (F.state folder.new) (status_of result) }
+    ensures counts { EndCounts (F.state folder.old) (F.state folder.new) (names.now.file.now ∷ []) (names.now.rec.now ∷ []) result }
 {
-    match is_longer(folder, names.file, FILE_LIMIT) {
-        Ok(false) => {}
-        Ok(true) => return Err(EncodeFault::TooLong),
-        Err(fault) => return Err(read_fault(fault)),
+    match within_limit(folder, names.file, FILE_LIMIT, FILE) {
+        Ok(()) => {}
+        Err(stop) => return Err(stop),
     }
     match create_output(folder, names.rec) {
         Ok(()) => {}
-        Err(fault) => return Err(write_fault(fault)),
+        Err(fault) => return Err(Stop::Write(fault)),
     }
     match names.mode {
         Mode::Call => record_file::<F, CALL_TAP>(folder, names),

@@ -1,32 +1,34 @@
-use Rattle.std.proofs.Common.{◌∙◌, List, ℕ, Ok, Err, map, string_bytes, subst}
+use Rattle.std.proofs.Common.{◌∙◌, ℕ, List, Ok, Err, subst}
 use Rattle.outside_core.specs.Folder.{FolderState}
-use Rattle.command_base.specs.declared.status.Status.{Status}
 use Rattle.command_base.specs.declared.status.Status.TheVariants.{Done}
-use Rattle.command_base.specs.Lines.{status_line}
 use Rattle.command_base.specs.Tells.{Tells}
+use Rattle.command_base.proofs.Jobs.{only-one}
+use Rattle.encode_command.specs.Words.{EncodeNames, named}
+use Rattle.encode_command.proofs.Headline.{refused-by}
 use Rattle.encode_command.proofs.command.encode_and_tell.Goals as goal
 
 pub returns-in-Ok : goal.returns-in-Ok
 returns-in-Ok g c =
-    let before : FolderState = g.F.Folder.state c.make_recording.new.folder in let new : FolderState = g.F.Folder.state c.tell.new.folder in
+    let before : FolderState = g.F.Folder.state c.make_recording.new.folder in let new : FolderState = g.F.Folder.state c.tell.new.folder in let n : EncodeNames = named c.args.names.now in
     record {
-      job = Ok c.in-Ok.samples;
+      end = Ok c.in-Ok.samples;
       before = before;
-      ends = c.in-Ok.ensures.ends;
-      only = c.in-Ok.ensures.only;
-      stand = c.in-Ok.ensures.stand;
-      tells = subst (λ (line : List ℕ). Tells before new line Done c.tell.result) (c.as_slice.ensures.items ∙ c.write_samples.ensures) c.tell.ensures;
+      ends = (c.in-Ok.ensures.ends, c.in-Ok.ensures.only.said);
+      only = only-one (g.F.Folder.state c.args.folder.now) before n.rec c.in-Ok.ensures.only;
+      refused = λ never. absurd never;
+      counts = c.in-Ok.ensures.counts;
+      says = subst (λ (line : List ℕ). Tells before new line Done c.tell.result) (c.as_slice.ensures.items ∙ c.write_samples.ensures) c.tell.ensures;
     }
 
 pub returns-in-Err : goal.returns-in-Err
 returns-in-Err g c =
-    let before : FolderState = g.F.Folder.state c.make_recording.new.folder in let new : FolderState = g.F.Folder.state c.tell_status.new.folder in
-    let words : List (List ℕ) = map string_bytes c.args.words.now in
+    let before : FolderState = g.F.Folder.state c.make_recording.new.folder in let n : EncodeNames = named c.args.names.now in
     record {
-      job = Err c.in-Err.fault;
+      end = Err c.in-Err.stop;
       before = before;
-      ends = c.in-Err.ensures.ends;
-      only = c.in-Err.ensures.only;
-      stand = c.in-Err.ensures.stand;
-      tells = subst (λ (status : Status). Tells before new (status_line words status) status c.tell_status.result) c.status_of_fault.ensures c.tell_status.ensures;
+      ends = (c.in-Err.ensures.ends, c.in-Err.ensures.only.said);
+      only = only-one (g.F.Folder.state c.args.folder.now) before n.rec c.in-Err.ensures.only;
+      refused = refused-by (g.F.Folder.state c.args.folder.now) before n (Err c.in-Err.stop) c.in-Err.ensures.ends;
+      counts = c.in-Err.ensures.counts;
+      says = c.tell_stop.ensures;
     }

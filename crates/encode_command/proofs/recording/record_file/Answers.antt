@@ -1,11 +1,10 @@
 use Rattle.std.proofs.Common.{◌∙◌, ℕ, List, subst}
 use Rattle.outside_core.specs.Folder.{FolderState, PartlyAppended}
 use Rattle.encode_command.specs.Words.{EncodeNames, named}
-use Rattle.encode_command.proofs.Making.{header-failed}
+use Rattle.encode_command.proofs.Making.{header-part}
 use Rattle.encode_command.proofs.recording.record_file.Goals as goal
 
 pub returns-in-Err-clause-ends : goal.returns-in-Err-clause-ends
 returns-in-Err-clause-ends g c = λ start b.
     let old : FolderState = g.F.Folder.state c.args.folder.now in let new : FolderState = g.F.Folder.state c.append_output.new.folder in let n : EncodeNames = named c.args.names.now in
-    header-failed start old new n c.in-Err.fault c.write_fault.result c.write_fault.ensures.failed c.write_fault.ensures.memory b c.in-Err.ensures.only
-    (subst (λ (xs : List ℕ). PartlyAppended old new n.rec xs) (c.as_slice.ensures.items ∙ c.header_octets.ensures) c.in-Err.ensures.err) c.in-Err.ensures.cause
+    (b.within, header-part start old new n b c.in-Err.ensures.only (subst (λ (xs : List ℕ). PartlyAppended old new n.rec xs) (c.as_slice.ensures.items ∙ c.header_octets.ensures) c.in-Err.ensures.err))

@@ -1,0 +1,276 @@
+-- From how a command answers to what every command promises.
+use Rattle.std.proofs.Common.{◌≡◌, ◌≢◌, ◌⊎◌, ◌∙◌, ◌≤◌, inl, inr, ℕ, List, [], ◌∷◌, Result, Ok, Err, refl, sym, ap, subst, arith}
+use Rattle.outside_core.specs.Folder.{FolderState, GoesOn, KeepsName, Said, Rose, FaultsStand, CountsStand}
+use Rattle.outside_core.specs.Steps.{GoesOn-refl, GoesOn-trans, KeepsName-trans, Rose-later, FaultsStand-trans, CountsStand-trans}
+use Rattle.outside_core.specs.declared.folder.FolderFault.{FolderFault}
+use Rattle.outside_core.specs.declared.folder.FolderFault.TheVariants as folder
+use Rattle.command_base.specs.declared.status.Status.{Status}
+use Rattle.command_base.specs.declared.status.Status.TheVariants as status
+use Rattle.command_base.specs.declared.stop.Stop.{Stop}
+use Rattle.command_base.specs.declared.stop.Stop.TheVariants.{Own, Read, Write, Say, NoMemory}
+use Rattle.command_base.specs.Status.{IsRefusal, IsFolderFault, PassesNoneOver}
+use Rattle.command_base.specs.Inputs.{IsNotWithin}
+use Rattle.command_base.specs.Outputs.{KeepsAll, IsNoneOf, OnlyOutput, OnlyOutputs}
+use Rattle.command_base.specs.Stops.{SomeRose, IsOwn, ReadFails, WriteFails, SayFails, StopCounts, EndCounts, fault_status, stop_status, end_status}
+use Rattle.command_base.specs.Job.{Job, SaysStop, SaysLast, Answers, Shared}
+use Rattle.command_base.specs.Sound.{NoneRose, IsSound, DoneUnlessMemory}
+use Rattle.command_base.specs.Tells.{Tells}
+use Rattle.command_base.proofs.Answering.{IsPlain, done-plain, read-plain, usage-plain, tells-plain, tells-fault, tells-refusal, told-or-memory, stand-later}
+
+-- ---- counts over several steps
+
+-- one output alone
+pub only-one : (old new : FolderState) (name : List ℕ) → OnlyOutput old new name → OnlyOutputs old new (name ∷ [])
+only-one old new name o = record { goes_on = o.goes_on; names = λ other apart. o.names other apart.0 }
+
+SomeRose-later : (before mid now : List ℕ → ℕ) (names : List (List ℕ)) → ((name : List ℕ) → mid name ≤ now name) → SomeRose before mid names → SomeRose before now names
+SomeRose-later before mid now [] on rose = rose
+SomeRose-later before mid now (name ∷ names) on (inl rose) = inl (Rose-later _ _ (mid name) (now name) (omega arith) rose (on name))
+SomeRose-later before mid now (name ∷ names) on (inr rose) = inr (SomeRose-later before mid now names on rose)
+
+SomeRose-earlier : (before mid now : List ℕ → ℕ) (names : List (List ℕ)) → ((name : List ℕ) → mid name ≡ before name) → SomeRose mid now names → SomeRose before now names
+SomeRose-earlier before mid now [] same rose = rose
+SomeRose-earlier before mid now (name ∷ names) same (inl rose) = inl (subst (λ (count : ℕ). Rose count (now name)) (same name) rose)
+SomeRose-earlier before mid now (name ∷ names) same (inr rose) = inr (SomeRose-earlier before mid now names same rose)
+
+read-earlier : (old mid new : FolderState) (inputs : List (List ℕ)) (fault : FolderFault) → CountsStand old mid → ReadFails mid new inputs fault → ReadFails old new inputs fault
+read-earlier old mid new inputs folder.Failed stand fails = SomeRose-earlier _ _ _ inputs stand.faults.reads fails
+read-earlier old mid new inputs folder.NoMemory stand fails = (FaultsStand-trans stand.faults fails.0, subst (λ (count : ℕ). Rose count new.refusals) stand.refusals fails.1)
+
+write-earlier : (old mid new : FolderState) (outputs : List (List ℕ)) (fault : FolderFault) → CountsStand old mid → WriteFails mid new outputs fault → WriteFails old new outputs fault
+write-earlier old mid new outputs folder.Failed stand fails = SomeRose-earlier _ _ _ outputs stand.faults.writes fails
+write-earlier old mid new outputs folder.NoMemory stand fails = subst (λ (count : ℕ). Rose count new.refusals) stand.refusals fails
+
+say-earlier : (old mid new : FolderState) (fault : FolderFault) → CountsStand old mid → SayFails mid new fault → SayFails old new fault
+say-earlier old mid new folder.Failed stand fails = subst (λ (count : ℕ). Rose count new.say_faults) stand.faults.says fails
+say-earlier old mid new folder.NoMemory stand fails = subst (λ (count : ℕ). Rose count new.refusals) stand.refusals fails
+
+-- steps that counted nothing come before the one that stops the job
+pub stop-earlier : (old mid new : FolderState) (inputs outputs : List (List ℕ)) (stop : Stop) → CountsStand old mid → StopCounts mid new inputs outputs stop → StopCounts old new inputs outputs stop
+stop-earlier old mid new inputs outputs (Own answer) stand counts = (counts.0, CountsStand-trans stand counts.1)
+stop-earlier old mid new inputs outputs (Read fault) stand counts = read-earlier old mid new inputs fault stand counts
+stop-earlier old mid new inputs outputs (Write fault) stand counts = write-earlier old mid new outputs fault stand counts
+stop-earlier old mid new inputs outputs (Say fault) stand counts = say-earlier old mid new fault stand counts
+stop-earlier old mid new inputs outputs NoMemory stand counts = FaultsStand-trans stand.faults counts
+
+-- or before all that is left of it
+pub end-earlier : {D : Type 0} (old mid new : FolderState) (inputs outputs : List (List ℕ)) (end : Result D Stop) → CountsStand old mid → EndCounts mid new inputs outputs end → EndCounts old new inputs outputs end
+end-earlier old mid new inputs outputs (Ok done) stand counts = CountsStand-trans stand counts
+end-earlier old mid new inputs outputs (Err stop) stand counts = stop-earlier old mid new inputs outputs stop stand counts
+
+-- an input whose length is looked at first
+pub not-within-counts : (old new : FolderState) (name : List ℕ) (limit word : ℕ) (outputs : List (List ℕ)) (stop : Stop) → IsNotWithin old new name limit word stop → StopCounts old new (name ∷ []) outputs stop
+not-within-counts old new name limit word outputs (Own answer) n = (subst IsOwn (sym n.0) tt, n.2)
+not-within-counts old new name limit word outputs (Read fault) n = n
+not-within-counts old new name limit word outputs (Write fault) n = absurd n
+not-within-counts old new name limit word outputs (Say fault) n = absurd n
+not-within-counts old new name limit word outputs NoMemory n = absurd n
+
+-- ---- what is said last
+
+says-only : (before new : FolderState) (line : List ℕ) (answer s : Status) → Tells before new line answer s → OnlyOutputs before new []
+says-only before new line answer s t = record { goes_on = t.only.goes_on; names = λ other apart. t.only.names other }
+
+-- it changes no name
+pub last-only : {D : Type 0} (line_of : D → List ℕ) (words : List (List ℕ)) (before new : FolderState) (end : Result D Stop) (s : Status) → SaysLast line_of words before new end s → OnlyOutputs before new []
+last-only line_of words before new (Ok done) s t = says-only before new _ _ s t
+last-only line_of words before new (Err (Own answer)) s t = says-only before new _ _ s t
+last-only line_of words before new (Err (Read fault)) s t = says-only before new _ _ s t
+last-only line_of words before new (Err (Write fault)) s t = says-only before new _ _ s t
+last-only line_of words before new (Err (Say fault)) s t = subst (λ (f : FolderState). OnlyOutputs before f []) (sym t.0) (record { goes_on = GoesOn-refl before; names = λ other apart told. refl })
+last-only line_of words before new (Err NoMemory) s t = says-only before new _ _ s t
+
+-- an answer that no fault in saying gives is that of the job's end
+last-plain : {D : Type 0} (line_of : D → List ℕ) (words : List (List ℕ)) (before new : FolderState) (end : Result D Stop) (s t : Status) → SaysLast line_of words before new end s → s ≡ t → IsPlain t → end_status end ≡ t
+last-plain line_of words before new (Ok done) s t l e p = (tells-plain before new _ _ s t l e p).0
+last-plain line_of words before new (Err (Own answer)) s t l e p = (tells-plain before new _ _ s t l e p).0
+last-plain line_of words before new (Err (Read fault)) s t l e p = (tells-plain before new _ _ s t l e p).0
+last-plain line_of words before new (Err (Write fault)) s t l e p = (tells-plain before new _ _ s t l e p).0
+last-plain line_of words before new (Err (Say fault)) s t l e p = sym l.1 ∙ e
+last-plain line_of words before new (Err NoMemory) s t l e p = (tells-plain before new _ _ s t l e p).0
+
+-- a write fault is the job's, or comes of saying
+last-fault : {D : Type 0} (line_of : D → List ℕ) (words : List (List ℕ)) (before new : FolderState) (end : Result D Stop) (s : Status) → SaysLast line_of words before new end s → s ≡ status.WriteFault →
+    (end_status end ≡ status.WriteFault) ⊎ Rose before.say_faults new.say_faults
+last-fault line_of words before new (Ok done) s l e = tells-fault before new _ _ s l e
+last-fault line_of words before new (Err (Own answer)) s l e = tells-fault before new _ _ s l e
+last-fault line_of words before new (Err (Read fault)) s l e = tells-fault before new _ _ s l e
+last-fault line_of words before new (Err (Write fault)) s l e = tells-fault before new _ _ s l e
+last-fault line_of words before new (Err (Say fault)) s l e = inl (sym l.1 ∙ e)
+last-fault line_of words before new (Err NoMemory) s l e = tells-fault before new _ _ s l e
+
+last-refusal : {D : Type 0} (line_of : D → List ℕ) (words : List (List ℕ)) (before new : FolderState) (end : Result D Stop) (s : Status) → SaysLast line_of words before new end s → IsRefusal s → IsRefusal (end_status end)
+last-refusal line_of words before new (Ok done) s l r = tells-refusal before new _ _ s l r
+last-refusal line_of words before new (Err (Own answer)) s l r = tells-refusal before new _ _ s l r
+last-refusal line_of words before new (Err (Read fault)) s l r = tells-refusal before new _ _ s l r
+last-refusal line_of words before new (Err (Write fault)) s l r = tells-refusal before new _ _ s l r
+last-refusal line_of words before new (Err (Say fault)) s l r = subst IsRefusal l.1 r
+last-refusal line_of words before new (Err NoMemory) s l r = tells-refusal before new _ _ s l r
+
+-- where saying doesn't fail the answer is that of the job's end, or there was no memory
+last-or-memory : {D : Type 0} (line_of : D → List ℕ) (words : List (List ℕ)) (old before new : FolderState) (end : Result D Stop) (s : Status) → GoesOn old before → (Rose old.say_faults new.say_faults → ⊥) →
+    SaysLast line_of words before new end s → (s ≡ end_status end) ⊎ (s ≡ status.NoMemory)
+last-or-memory line_of words old before new (Ok done) s on still l = told-or-memory old before new _ _ s on still l
+last-or-memory line_of words old before new (Err (Own answer)) s on still l = told-or-memory old before new _ _ s on still l
+last-or-memory line_of words old before new (Err (Read fault)) s on still l = told-or-memory old before new _ _ s on still l
+last-or-memory line_of words old before new (Err (Write fault)) s on still l = told-or-memory old before new _ _ s on still l
+last-or-memory line_of words old before new (Err (Say fault)) s on still l = inl l.1
+last-or-memory line_of words old before new (Err NoMemory) s on still l = told-or-memory old before new _ _ s on still l
+
+-- ---- what the counts say of an answer
+
+fault-fault : (failed : Status) (fault : FolderFault) → IsFolderFault failed → IsFolderFault (fault_status failed fault)
+fault-fault failed folder.Failed f = f
+fault-fault failed folder.NoMemory f = tt
+
+end-stand : {D : Type 0} (old new : FolderState) (inputs outputs : List (List ℕ)) (end : Result D Stop) → EndCounts old new inputs outputs end → PassesNoneOver old new (end_status end)
+end-stand old new inputs outputs (Ok done) counts = inr counts
+end-stand old new inputs outputs (Err (Own answer)) counts = inr counts.1
+end-stand old new inputs outputs (Err (Read fault)) counts = inl (fault-fault status.ReadFault fault tt)
+end-stand old new inputs outputs (Err (Write fault)) counts = inl (fault-fault status.WriteFault fault tt)
+end-stand old new inputs outputs (Err (Say fault)) counts = inl (fault-fault status.WriteFault fault tt)
+end-stand old new inputs outputs (Err NoMemory) counts = inl tt
+
+last-stand : {D : Type 0} (line_of : D → List ℕ) (words : List (List ℕ)) (old before new : FolderState) (end : Result D Stop) (s : Status) → PassesNoneOver old before (end_status end) → SaysLast line_of words before new end s →
+    PassesNoneOver old new s
+last-stand line_of words old before new (Ok done) s first l = stand-later old before new _ _ s first l
+last-stand line_of words old before new (Err (Own answer)) s first l = stand-later old before new _ _ s first l
+last-stand line_of words old before new (Err (Read fault)) s first l = stand-later old before new _ _ s first l
+last-stand line_of words old before new (Err (Write fault)) s first l = stand-later old before new _ _ s first l
+last-stand line_of words old before new (Err (Say fault)) s first l = inl (subst IsFolderFault (sym l.1) (fault-fault status.WriteFault fault tt))
+last-stand line_of words old before new (Err NoMemory) s first l = stand-later old before new _ _ s first l
+
+own-read : (answer : Status) → IsOwn answer → answer ≡ status.ReadFault → ⊥
+own-read answer own e = subst IsOwn e own
+
+own-write : (answer : Status) → IsOwn answer → answer ≡ status.WriteFault → ⊥
+own-write answer own e = subst IsOwn e own
+
+own-usage : (answer : Status) → IsOwn answer → answer ≡ status.Usage → ⊥
+own-usage answer own e = subst IsOwn e own
+
+own-done : (answer : Status) → IsOwn answer → answer ≡ status.Done → ⊥
+own-done answer own e = subst IsOwn e own
+
+-- a read fault is one of the inputs'
+end-read : {D : Type 0} (old new : FolderState) (inputs outputs : List (List ℕ)) (end : Result D Stop) → EndCounts old new inputs outputs end → end_status end ≡ status.ReadFault → SomeRose old.read_faults new.read_faults inputs
+end-read old new inputs outputs (Err (Read folder.Failed)) counts e = counts
+end-read old new inputs outputs (Err (Own answer)) counts e = absurd (own-read answer counts.0 e)
+end-read old new inputs outputs (Ok done) counts e = absurd cc
+end-read old new inputs outputs (Err (Read folder.NoMemory)) counts e = absurd cc
+end-read old new inputs outputs (Err (Write folder.Failed)) counts e = absurd cc
+end-read old new inputs outputs (Err (Write folder.NoMemory)) counts e = absurd cc
+end-read old new inputs outputs (Err (Say folder.Failed)) counts e = absurd cc
+end-read old new inputs outputs (Err (Say folder.NoMemory)) counts e = absurd cc
+end-read old new inputs outputs (Err NoMemory) counts e = absurd cc
+
+-- a write fault is one of the outputs', or comes of saying
+end-write : {D : Type 0} (old new : FolderState) (inputs outputs : List (List ℕ)) (end : Result D Stop) → EndCounts old new inputs outputs end → end_status end ≡ status.WriteFault →
+    SomeRose old.write_faults new.write_faults outputs ⊎ Rose old.say_faults new.say_faults
+end-write old new inputs outputs (Err (Write folder.Failed)) counts e = inl counts
+end-write old new inputs outputs (Err (Say folder.Failed)) counts e = inr counts
+end-write old new inputs outputs (Err (Own answer)) counts e = absurd (own-write answer counts.0 e)
+end-write old new inputs outputs (Ok done) counts e = absurd cc
+end-write old new inputs outputs (Err (Read folder.Failed)) counts e = absurd cc
+end-write old new inputs outputs (Err (Read folder.NoMemory)) counts e = absurd cc
+end-write old new inputs outputs (Err (Write folder.NoMemory)) counts e = absurd cc
+end-write old new inputs outputs (Err (Say folder.NoMemory)) counts e = absurd cc
+end-write old new inputs outputs (Err NoMemory) counts e = absurd cc
+
+-- a job doesn't tell how the program is used
+end-usage : {D : Type 0} (old new : FolderState) (inputs outputs : List (List ℕ)) (end : Result D Stop) → EndCounts old new inputs outputs end → end_status end ≢ status.Usage
+end-usage old new inputs outputs (Err (Own answer)) counts e = own-usage answer counts.0 e
+end-usage old new inputs outputs (Ok done) counts e = cc
+end-usage old new inputs outputs (Err (Read folder.Failed)) counts e = cc
+end-usage old new inputs outputs (Err (Read folder.NoMemory)) counts e = cc
+end-usage old new inputs outputs (Err (Write folder.Failed)) counts e = cc
+end-usage old new inputs outputs (Err (Write folder.NoMemory)) counts e = cc
+end-usage old new inputs outputs (Err (Say folder.Failed)) counts e = cc
+end-usage old new inputs outputs (Err (Say folder.NoMemory)) counts e = cc
+end-usage old new inputs outputs (Err NoMemory) counts e = cc
+
+fault-refusal : (failed : Status) (fault : FolderFault) → (IsRefusal failed → ⊥) → IsRefusal (fault_status failed fault) → ⊥
+fault-refusal failed folder.Failed never r = never r
+fault-refusal failed folder.NoMemory never r = r
+
+-- an answer that is a refusal is the command's own
+pub refusal-own : {D : Type 0} (end : Result D Stop) (P : Type 0) → ((answer : Status) → end ≡ Err (Own answer) → IsRefusal answer → P) → IsRefusal (end_status end) → P
+refusal-own (Err (Own answer)) P by r = by answer refl r
+refusal-own (Ok done) P by r = absurd r
+refusal-own (Err (Read fault)) P by r = absurd (fault-refusal status.ReadFault fault (λ x. x) r)
+refusal-own (Err (Write fault)) P by r = absurd (fault-refusal status.WriteFault fault (λ x. x) r)
+refusal-own (Err (Say fault)) P by r = absurd (fault-refusal status.WriteFault fault (λ x. x) r)
+refusal-own (Err NoMemory) P by r = absurd r
+
+-- Where the answer is Done the job is, and its line was said.
+pub record IsDone {D : Type 0} (j : Job D) (old before new : FolderState) : Type 0 where
+  pub done : D
+  pub ends : j.Ends old before (Ok done)
+  pub said : Said before new (j.line_of done)
+
+done-by : {D : Type 0} (j : Job D) (words : List (List ℕ)) (old before new : FolderState) (end : Result D Stop) (s : Status) → j.Ends old before end → EndCounts old before j.inputs j.outputs end →
+    SaysLast j.line_of words before new end s → s ≡ status.Done → IsDone j old before new
+done-by j words old before new (Ok done) s ends counts l e = record { done = done; ends = ends; said = (tells-plain before new _ _ s status.Done l e done-plain).1 }
+done-by j words old before new (Err stop) s ends counts l e = absurd (never stop counts (last-plain j.line_of words before new (Err stop) s status.Done l e done-plain))
+  where
+    never : (stop : Stop) → StopCounts old before j.inputs j.outputs stop → stop_status stop ≡ status.Done → ⊥
+    never (Own answer) counts e = own-done answer counts.0 e
+    never (Read folder.Failed) counts e = cc
+    never (Read folder.NoMemory) counts e = cc
+    never (Write folder.Failed) counts e = cc
+    never (Write folder.NoMemory) counts e = cc
+    never (Say folder.Failed) counts e = cc
+    never (Say folder.NoMemory) counts e = cc
+    never NoMemory counts e = cc
+
+pub done-of : {D : Type 0} (j : Job D) (words : List (List ℕ)) (old new : FolderState) (s : Status) (a : Answers j words old new s) → s ≡ status.Done → IsDone j old a.before new
+done-of j words old new s a e = done-by j words old a.before new a.end s a.ends a.counts a.says e
+
+pub shared-of : {D : Type 0} (j : Job D) (words : List (List ℕ)) (old new : FolderState) (s : Status) → Answers j words old new s → Shared j.inputs j.outputs old new s
+shared-of j words old new s a = record {
+  names = λ other apart. KeepsName-trans old a.before new other a.only.goes_on (a.only.names other apart) (last.names other tt);
+  refused = λ r name. KeepsName-trans old a.before new name a.only.goes_on (a.refused (last-refusal j.line_of words a.before new a.end s a.says r) name) (last.names name tt);
+  read = λ e.
+      SomeRose-later _ _ _ j.inputs last.goes_on.reads (end-read old a.before j.inputs j.outputs a.end a.counts (last-plain j.line_of words a.before new a.end s status.ReadFault a.says e read-plain));
+  write = λ e. elim (last-fault j.line_of words a.before new a.end s a.says e) [
+    | inl own ↦ elim (end-write old a.before j.inputs j.outputs a.end a.counts own) [
+      | inl rose ↦ inl (SomeRose-later _ _ _ j.outputs last.goes_on.writes rose)
+      | inr rose ↦ inr (Rose-later _ _ a.before.say_faults new.say_faults (omega arith) rose last.goes_on.says)
+    ]
+    | inr rose ↦ inr (Rose-later old.say_faults a.before.say_faults new.say_faults new.say_faults a.only.goes_on.says rose (omega arith))
+  ];
+  known = λ e. end-usage old a.before j.inputs j.outputs a.end a.counts (last-plain j.line_of words a.before new a.end s status.Usage a.says e usage-plain);
+  stand = last-stand j.line_of words old a.before new a.end s (end-stand old a.before j.inputs j.outputs a.end a.counts) a.says;
+}
+  where
+    last : OnlyOutputs a.before new []
+    last = last-only j.line_of words a.before new a.end s a.says
+
+-- ---- when a command is done
+
+NoneRose-some : (before mid now : List ℕ → ℕ) (names : List (List ℕ)) → NoneRose before now names → ((name : List ℕ) → mid name ≤ now name) → SomeRose before mid names → ⊥
+NoneRose-some before mid now [] none on rose = rose
+NoneRose-some before mid now (name ∷ names) none on (inl rose) = none.0 (Rose-later _ _ (mid name) (now name) (omega arith) rose (on name))
+NoneRose-some before mid now (name ∷ names) none on (inr rose) = NoneRose-some before mid now names none.1 on rose
+
+-- Where the folder is sound and the command has no answer of its own to these inputs, it is done, or there was no memory.
+pub done-unless-memory : {D : Type 0} (j : Job D) (words : List (List ℕ)) (old new : FolderState) (s : Status) (a : Answers j words old new s) → IsSound old new j.inputs j.outputs →
+    ((answer : Status) → j.Ends old a.before (Err (Own answer)) → ⊥) → DoneUnlessMemory s
+done-unless-memory {D} j words old new s a sound never = elim (last-or-memory j.line_of words old a.before new a.end s a.only.goes_on sound.says a.says) [
+  | inl e ↦ by a.end a.ends a.counts e
+  | inr memory ↦ inr memory
+]
+  where
+    on : GoesOn a.before new
+    on = (last-only j.line_of words a.before new a.end s a.says).goes_on
+
+    by : (end : Result D Stop) → j.Ends old a.before end → EndCounts old a.before j.inputs j.outputs end → s ≡ end_status end → DoneUnlessMemory s
+    by (Ok done) ends counts e = inl e
+    by (Err (Own answer)) ends counts e = absurd (never answer ends)
+    by (Err (Read folder.Failed)) ends counts e = absurd (NoneRose-some _ _ _ j.inputs sound.reads on.reads counts)
+    by (Err (Read folder.NoMemory)) ends counts e = inr e
+    by (Err (Write folder.Failed)) ends counts e = absurd (NoneRose-some _ _ _ j.outputs sound.writes on.writes counts)
+    by (Err (Write folder.NoMemory)) ends counts e = inr e
+    by (Err (Say folder.Failed)) ends counts e = absurd (sound.says (Rose-later _ _ a.before.say_faults new.say_faults (omega arith) counts on.says))
+    by (Err (Say folder.NoMemory)) ends counts e = inr e
+    by (Err NoMemory) ends counts e = inr e

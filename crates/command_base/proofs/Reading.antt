@@ -1,0 +1,56 @@
+-- An input that is read on, piece by piece.
+use Rattle.std.proofs.Common.{◌≡◌, ◌∙◌, ℕ, ◌+◌, ◌-◌, ◌≤◌, ◌<◌, min, List, [], ◌++◌, IsTrue, length, take, take-add, drop, refl, sym, ap, arith, length-append, append_assoc}
+use Rattle.std.proofs.lemmas.List.{take-append-drop, take_all}
+use Rattle.plain_lists.specs.Prefix.{IsPrefixOf}
+use Rattle.outside_core.specs.Folder.{FolderState, octets_at, GoesOn, KeepsName, OnlyReads}
+use Rattle.outside_core.specs.Steps.{GoesOn-trans, KeepsName-trans, told_later, octets-kept}
+use Rattle.command_base.specs.Inputs.{IsWithin, ReadTo}
+
+-- nothing was read yet
+pub ReadTo-none : (start now : FolderState) (name : List ℕ) (limit : ℕ) → IsWithin start name limit → GoesOn start now → KeepsName start now name → ReadTo start now name limit 0 []
+ReadTo-none start now name limit within on kept = record { within = within; count = refl; front = λ told. refl; goes_on = on; kept = kept }
+
+-- what was read stays read, as long as the input is as it was
+pub ReadTo-kept : (start now later : FolderState) (name : List ℕ) (limit at : ℕ) (octets : List ℕ) → ReadTo start now name limit at octets → GoesOn now later → KeepsName now later name → ReadTo start later name limit at octets
+ReadTo-kept start now later name limit at octets r on kept = record {
+  within = r.within;
+  count = r.count;
+  front = r.front;
+  goes_on = GoesOn-trans r.goes_on on;
+  kept = KeepsName-trans start now later name r.goes_on r.kept kept;
+}
+
+-- what was read begins the input
+pub ReadTo-begins : (start now : FolderState) (name : List ℕ) (limit at : ℕ) (octets : List ℕ) → ReadTo start now name limit at octets → IsTrue (start.tells name) → IsPrefixOf octets (octets_at start name)
+ReadTo-begins start now name limit at octets r told =
+    (drop at (octets_at start name), ap (λ xs. xs ++ drop at (octets_at start name)) (r.front told) ∙ take-append-drop at (octets_at start name))
+
+-- a piece more
+pub ReadTo-more : (start old new : FolderState) (name : List ℕ) (limit at count : ℕ) (octets piece : List ℕ) → ReadTo start old name limit at octets → OnlyReads old new → length piece ≡ count →
+    (IsTrue (old.tells name) → piece ≡ take count (drop at (octets_at old name))) → ReadTo start new name limit (at + count) (octets ++ piece)
+ReadTo-more start old new name limit at count octets piece r reads long is = record {
+  within = r.within;
+  count = omega (arith, r.count, long, length-append octets piece);
+  front = λ told.
+      let file : List ℕ = octets_at start name in
+      let next : piece ≡ take count (drop at file) = is (told_later r.goes_on name told) ∙ ap (λ (xs : List ℕ). take count (drop at xs)) (octets-kept start old name r.kept told) in
+      (λ i. r.front told i ++ next i) ∙ sym (take-add at count file);
+  goes_on = GoesOn-trans r.goes_on reads.goes_on;
+  kept = KeepsName-trans start old new name r.goes_on r.kept (reads.names name);
+}
+
+-- fewer octets than there was room for: the input is at its end
+pub ReadTo-end : (start old new : FolderState) (name : List ℕ) (limit at count room : ℕ) (octets piece : List ℕ) → ReadTo start old name limit at octets → OnlyReads old new → length piece ≡ count →
+    (IsTrue (old.tells name) → piece ≡ take count (drop at (octets_at old name))) → (IsTrue (old.tells name) → count ≡ min (min room (limit - at)) (length (octets_at old name) - at)) → count < room →
+    IsTrue (start.tells name) → octets ++ piece ≡ octets_at start name
+ReadTo-end start old new name limit at count room octets piece r reads long is counts few told =
+    (ReadTo-more start old new name limit at count octets piece r reads long is).front told ∙ take_all (at + count) (octets_at start name) at_end
+  where
+    least : (a b limit at count : ℕ) → b ≤ limit → count ≡ min (min a (limit - at)) (b - at) → count < a → b ≤ at + count
+    least a b limit at count k e few = omega arith
+
+    same : length (octets_at old name) ≡ length (octets_at start name)
+    same = ap (λ (xs : List ℕ). length xs) (octets-kept start old name r.kept told)
+
+    at_end : length (octets_at start name) ≤ at + count
+    at_end = least room (length (octets_at start name)) limit at count (r.within told) (counts (told_later r.goes_on name told) ∙ ap (λ (m : ℕ). min (min room (limit - at)) (m - at)) same) few
