@@ -1,7 +1,7 @@
 -- From how a command answers to what every command promises.
 use Rattle.std.proofs.Common.{◌≡◌, ◌≢◌, ◌⊎◌, ◌∙◌, ◌≤◌, inl, inr, ℕ, List, [], ◌∷◌, Result, Ok, Err, refl, sym, ap, subst, arith}
 use Rattle.outside_core.specs.Folder.{FolderState, GoesOn, KeepsName, Said, Rose, FaultsStand, CountsStand}
-use Rattle.outside_core.specs.Steps.{GoesOn-refl, GoesOn-trans, KeepsName-trans, Rose-later, FaultsStand-trans, CountsStand-trans}
+use Rattle.outside_core.specs.Steps.{KeepsName-trans, Rose-later, FaultsStand-trans, CountsStand-trans}
 use Rattle.outside_core.specs.declared.folder.FolderFault.{FolderFault}
 use Rattle.outside_core.specs.declared.folder.FolderFault.TheVariants as folder
 use Rattle.command_base.specs.declared.status.Status.{Status}
@@ -10,18 +10,15 @@ use Rattle.command_base.specs.declared.stop.Stop.{Stop}
 use Rattle.command_base.specs.declared.stop.Stop.TheVariants.{Own, Read, Write, Say, NoMemory}
 use Rattle.command_base.specs.Status.{IsRefusal, IsFolderFault, PassesNoneOver}
 use Rattle.command_base.specs.Inputs.{IsNotWithin}
-use Rattle.command_base.specs.Outputs.{KeepsAll, IsNoneOf, OnlyOutput, OnlyOutputs}
+use Rattle.command_base.specs.Outputs.{KeepsAll, OnlyOutputs}
 use Rattle.command_base.specs.Stops.{SomeRose, IsOwn, ReadFails, WriteFails, SayFails, StopCounts, EndCounts, fault_status, stop_status, end_status}
 use Rattle.command_base.specs.Job.{Job, SaysStop, SaysLast, Answers, Shared}
 use Rattle.command_base.specs.Sound.{NoneRose, IsSound, DoneUnlessMemory}
 use Rattle.command_base.specs.Tells.{Tells}
+use Rattle.command_base.proofs.OnlyOutputs.{OnlyOutputs-refl, OnlyOutputs-says}
 use Rattle.command_base.proofs.Answering.{IsPlain, done-plain, read-plain, usage-plain, tells-plain, tells-fault, tells-refusal, told-or-memory, stand-later}
 
 -- ---- counts over several steps
-
--- one output alone
-pub only-one : (old new : FolderState) (name : List ℕ) → OnlyOutput old new name → OnlyOutputs old new (name ∷ [])
-only-one old new name o = record { goes_on = o.goes_on; names = λ other apart. o.names other apart.0 }
 
 SomeRose-later : (before mid now : List ℕ → ℕ) (names : List (List ℕ)) → ((name : List ℕ) → mid name ≤ now name) → SomeRose before mid names → SomeRose before now names
 SomeRose-later before mid now [] on rose = rose
@@ -69,7 +66,7 @@ not-within-counts old new name limit word outputs NoMemory n = absurd n
 -- ---- what is said last
 
 says-only : (before new : FolderState) (line : List ℕ) (answer s : Status) → Tells before new line answer s → OnlyOutputs before new []
-says-only before new line answer s t = record { goes_on = t.only.goes_on; names = λ other apart. t.only.names other }
+says-only before new line answer s t = OnlyOutputs-says [] t.only
 
 -- it changes no name
 pub last-only : {D : Type 0} (line_of : D → List ℕ) (words : List (List ℕ)) (before new : FolderState) (end : Result D Stop) (s : Status) → SaysLast line_of words before new end s → OnlyOutputs before new []
@@ -77,7 +74,7 @@ last-only line_of words before new (Ok done) s t = says-only before new _ _ s t
 last-only line_of words before new (Err (Own answer)) s t = says-only before new _ _ s t
 last-only line_of words before new (Err (Read fault)) s t = says-only before new _ _ s t
 last-only line_of words before new (Err (Write fault)) s t = says-only before new _ _ s t
-last-only line_of words before new (Err (Say fault)) s t = subst (λ (f : FolderState). OnlyOutputs before f []) (sym t.0) (record { goes_on = GoesOn-refl before; names = λ other apart told. refl })
+last-only line_of words before new (Err (Say fault)) s t = subst (λ (f : FolderState). OnlyOutputs before f []) (sym t.0) (OnlyOutputs-refl before [])
 last-only line_of words before new (Err NoMemory) s t = says-only before new _ _ s t
 
 -- an answer that no fault in saying gives is that of the job's end

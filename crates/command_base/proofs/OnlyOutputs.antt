@@ -1,8 +1,8 @@
--- What follows from several steps over one output.
-use Rattle.std.proofs.Common.{◌∙◌, ℕ, List, IsTrue, refl, subst}
-use Rattle.outside_core.specs.Folder.{FolderState, GoesOn, OnlyReads, OnlyWrites}
+-- What follows from several steps over one output, and over several.
+use Rattle.std.proofs.Common.{◌∙◌, ℕ, List, [], ◌∷◌, IsTrue, refl, subst}
+use Rattle.outside_core.specs.Folder.{FolderState, GoesOn, OnlyReads, OnlyWrites, OnlySays}
 use Rattle.outside_core.specs.Steps.{GoesOn-refl, GoesOn-trans, KeepsName-trans}
-use Rattle.command_base.specs.Outputs.{OnlyOutput}
+use Rattle.command_base.specs.Outputs.{OnlyOutput, OnlyOutputs}
 
 -- a name that is told was told before
 pub told_earlier : {a b : FolderState} → GoesOn a b → (n : List ℕ) → IsTrue (b.tells n) → IsTrue (a.tells n)
@@ -22,4 +22,24 @@ OnlyOutput-trans {a} {b} {c} n p q = record {
   goes_on = GoesOn-trans p.goes_on q.goes_on;
   names = λ other apart. KeepsName-trans a b c other p.goes_on (p.names other apart) (q.names other apart);
   said = q.said ∙ p.said;
+}
+
+-- ---- several outputs
+
+pub OnlyOutputs-refl : (a : FolderState) (outputs : List (List ℕ)) → OnlyOutputs a a outputs
+OnlyOutputs-refl a outputs = record { goes_on = GoesOn-refl a; names = λ other apart told. refl }
+
+pub OnlyOutputs-reads : {a b : FolderState} (outputs : List (List ℕ)) → OnlyReads a b → OnlyOutputs a b outputs
+OnlyOutputs-reads outputs r = record { goes_on = r.goes_on; names = λ other apart. r.names other }
+
+pub OnlyOutputs-says : {a b : FolderState} (outputs : List (List ℕ)) → OnlySays a b → OnlyOutputs a b outputs
+OnlyOutputs-says outputs s = record { goes_on = s.goes_on; names = λ other apart. s.names other }
+
+pub OnlyOutputs-one : {a b : FolderState} (name : List ℕ) → OnlyOutput a b name → OnlyOutputs a b (name ∷ [])
+OnlyOutputs-one name o = record { goes_on = o.goes_on; names = λ other apart. o.names other apart.0 }
+
+pub OnlyOutputs-trans : {a b c : FolderState} (outputs : List (List ℕ)) → OnlyOutputs a b outputs → OnlyOutputs b c outputs → OnlyOutputs a c outputs
+OnlyOutputs-trans {a} {b} {c} outputs p q = record {
+  goes_on = GoesOn-trans p.goes_on q.goes_on;
+  names = λ other apart. KeepsName-trans a b c other p.goes_on (p.names other apart) (q.names other apart);
 }

@@ -1,8 +1,8 @@
-// Steps of an output.
+// Steps of an output, and of what is said.
 ghost use Rattle.std.specs.Prelude.{[], ◌∷◌, OnOk, OnErr, IfErr, IsErrOf};
-ghost use Rattle.outside_core.specs.Folder.{OnlyWrites, Appended, PartlyAppended, FaultsStand, CountsStand};
+ghost use Rattle.outside_core.specs.Folder.{OnlyWrites, OnlySays, Appended, PartlyAppended, Said, PartlySaid, FaultsStand, CountsStand};
 ghost use Rattle.command_base.specs.Outputs.{Holds, KeptOrEmpty};
-ghost use Rattle.command_base.specs.Stops.{WriteFails};
+ghost use Rattle.command_base.specs.Stops.{WriteFails, SayFails};
 
 use outside_core::{Folder, FolderFault};
 
@@ -31,6 +31,21 @@ pub fn append_output<F: Folder>(folder: &mut F, name: &str, piece: &[u8]) -> Res
     ensures spared { IsErrOf result FolderFault.NoMemory → FaultsStand (F.state folder.old) (F.state folder.new) }
 {
     match folder.append(name, piece) {
+        Ok(()) => Ok(()),
+        Err(fault) => Err(fault),
+    }
+}
+
+/// A line is said that stands before the last one.
+pub fn say_line<F: Folder>(folder: &mut F, line: &[u8]) -> Result<(), FolderFault>
+    ensures ok { OnOk result (Said (F.state folder.old) (F.state folder.new) line.now) }
+    ensures err { OnErr result (PartlySaid (F.state folder.old) (F.state folder.new) line.now) }
+    ensures only { OnlySays (F.state folder.old) (F.state folder.new) }
+    ensures fails { IfErr result (SayFails (F.state folder.old) (F.state folder.new)) }
+    ensures stand { OnOk result (CountsStand (F.state folder.old) (F.state folder.new)) }
+    ensures spared { IsErrOf result FolderFault.NoMemory → FaultsStand (F.state folder.old) (F.state folder.new) }
+{
+    match folder.say(line) {
         Ok(()) => Ok(()),
         Err(fault) => Err(fault),
     }

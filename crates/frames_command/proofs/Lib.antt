@@ -2,4 +2,3 @@ pub mod PieceLines
 pub mod Hearing
 pub mod Listed
 pub mod Headline
-pub mod Completes

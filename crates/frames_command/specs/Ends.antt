@@ -1,13 +1,15 @@
 -- How a listing ends, before its last line is said. What is said of a name's octets holds where the folder tells that name.
-use Rattle.std.specs.Prelude.{◌≡◌, ℕ, IsTrue, List, [], ◌++◌, length, Result, Ok, Err}
-use Rattle.outside_core.specs.Folder.{FolderState, octets_at, Said, PartlySaid, Rose}
-use Rattle.outside_core.specs.declared.folder.FolderFault.TheVariants.{Failed, NoMemory}
+use Rattle.std.specs.Prelude.{◌≡◌, ℕ, IsTrue, List, [], ◌∷◌, ◌++◌, length, Result, Ok, Err}
+use Rattle.outside_core.specs.Folder.{FolderState, octets_at, Said, PartlySaid}
 use Rattle.plain_lists.specs.Bits.{bits_of}
 use Rattle.bit_stuffing.specs.Found.{Found, pieces_of}
 use Rattle.command_base.specs.declared.limits.TheConstants.{FILE_LIMIT}
 use Rattle.command_base.specs.Inputs.{IsWithin, IsLonger}
-use Rattle.frames_command.specs.declared.fault.FramesFault.{FramesFault}
-use Rattle.frames_command.specs.declared.fault.FramesFault.TheVariants.{TooLong, Unread, Unsaid}
+use Rattle.command_base.specs.Job.{Job}
+use Rattle.command_base.specs.Lines.{pieces_line}
+use Rattle.command_base.specs.declared.status.Status.TheVariants.{TooLong}
+use Rattle.command_base.specs.declared.stop.Stop.{Stop}
+use Rattle.command_base.specs.declared.stop.Stop.TheVariants.{Own, Read, Write, Say, NoMemory}
 use Rattle.frames_command.specs.Words.{FramesNames}
 use Rattle.frames_command.specs.Readings.{AreLines}
 
@@ -38,15 +40,19 @@ SaysFirst old new n = (lines : List ℕ) × AreFirst old n lines × Said old new
 abbrev pub SaysPart : FolderState → FolderState → FramesNames → Type 0
 SaysPart old new n = (lines : List ℕ) × AreFirst old n lines × PartlySaid old new lines
 
--- why not all pieces are listed
-abbrev pub EndsBy : FolderState → FolderState → FramesNames → FramesFault → Type 0
-EndsBy old new n TooLong = IsLonger old n.bits FILE_LIMIT × Said old new []
-EndsBy old new n (Unread Failed) = Rose (old.read_faults n.bits) (new.read_faults n.bits) × SaysFirst old new n
-EndsBy old new n (Unread NoMemory) = Rose old.refusals new.refusals × SaysFirst old new n
-EndsBy old new n (Unsaid Failed) = Rose old.say_faults new.say_faults × IsWithin old n.bits FILE_LIMIT × SaysPart old new n
-EndsBy old new n (Unsaid NoMemory) = Rose old.refusals new.refusals × IsWithin old n.bits FILE_LIMIT × SaysPart old new n
+-- why not all pieces are listed; word 2 names the file
+abbrev pub EndsBy : FolderState → FolderState → FramesNames → Stop → Type 0
+EndsBy old new n (Own answer) = (answer ≡ TooLong 2) × Said old new [] × IsLonger old n.bits FILE_LIMIT
+EndsBy old new n (Read fault) = SaysFirst old new n
+EndsBy old new n (Say fault) = IsWithin old n.bits FILE_LIMIT × SaysPart old new n
+EndsBy old new n (Write fault) = ⊥
+EndsBy old new n NoMemory = ⊥
 
--- how a listing ends: with so many pieces, or by a fault
-abbrev pub Ends : FolderState → FolderState → FramesNames → Result ℕ FramesFault → Type 0
+-- how a listing ends: with so many pieces, or before
+abbrev pub Ends : FolderState → FolderState → FramesNames → Result ℕ Stop → Type 0
 Ends old new n (Ok count) = SaysAll old new n count
-Ends old new n (Err fault) = EndsBy old new n fault
+Ends old new n (Err stop) = EndsBy old new n stop
+
+-- The job of the command: it writes no file, and once it is done its last line says the number of pieces.
+abbrev pub frames_job : FramesNames → Job ℕ
+frames_job n = record { inputs = n.bits ∷ []; outputs = []; Ends = λ old new end. Ends old new n end; line_of = pieces_line }

@@ -1,13 +1,13 @@
 -- What the command promises, over the folder before and after it. What is said of a name's octets holds where the folder
 -- tells that name.
-use Rattle.std.specs.Prelude.{◌≡◌, ℕ, IsTrue, List, ◌++◌, length}
-use Rattle.outside_core.specs.Folder.{FolderState, octets_at, Said, Rose}
+use Rattle.std.specs.Prelude.{◌≡◌, ℕ, IsTrue, List, [], ◌∷◌, ◌++◌, length}
+use Rattle.outside_core.specs.Folder.{FolderState, octets_at, Said}
 use Rattle.plain_lists.specs.Bits.{bits_of}
 use Rattle.bit_stuffing.specs.Found.{pieces_of}
 use Rattle.command_base.specs.declared.status.Status.{Status}
-use Rattle.command_base.specs.declared.status.Status.TheVariants.{Done, ReadFault, WriteFault}
+use Rattle.command_base.specs.declared.status.Status.TheVariants.{Done}
+use Rattle.command_base.specs.Job.{Shared}
 use Rattle.command_base.specs.Lines.{pieces_line}
-use Rattle.command_base.specs.Outputs.{KeepsAll}
 use Rattle.frames_command.specs.Words.{FramesNames}
 use Rattle.frames_command.specs.Readings.{AreLines}
 
@@ -21,7 +21,5 @@ pub record ListsAll (old new : FolderState) (n : FramesNames) : Type 0 where
 
 -- The pieces are listed, and no file changes.
 pub record Headline (old new : FolderState) (n : FramesNames) (s : Status) : Type 0 where
-  pub names : KeepsAll old new
+  pub shared : Shared (n.bits ∷ []) [] old new s
   pub lists : s ≡ Done → ListsAll old new n
-  pub read : s ≡ ReadFault → Rose (old.read_faults n.bits) (new.read_faults n.bits)
-  pub write : s ≡ WriteFault → Rose old.say_faults new.say_faults

@@ -1,13 +1,13 @@
 -- How far a stream of bits was heard, and what was said of it.
-use Rattle.std.specs.Prelude.{◌≡◌, ℕ, Bool, IsTrue, List, ◌++◌, length, take}
-use Rattle.outside_core.specs.Folder.{FolderState, octets_at, GoesOn, OnlyReads, Said, PartlySaid}
+use Rattle.std.specs.Prelude.{◌≡◌, ℕ, Bool, List, [], ◌++◌, length}
+use Rattle.outside_core.specs.Folder.{FolderState, OnlyReads, Said, PartlySaid}
 use Rattle.plain_lists.specs.Bits.{bits_of}
 use Rattle.bit_stuffing.specs.Deframer.{Kept, DeframerStands}
 use Rattle.bit_stuffing.specs.Found.{pieces_of}
 use Rattle.roles.specs.declared.role.Role.{Role}
 use Rattle.command_base.specs.declared.limits.TheConstants.{FILE_LIMIT}
-use Rattle.command_base.specs.Inputs.{IsWithin}
-use Rattle.command_base.specs.Outputs.{KeepsAll}
+use Rattle.command_base.specs.Inputs.{IsWithin, ReadTo}
+use Rattle.command_base.specs.Outputs.{OnlyOutputs}
 use Rattle.frames_command.specs.Words.{FramesNames}
 use Rattle.frames_command.specs.Readings.{AreLines}
 
@@ -16,11 +16,6 @@ pub record Listening : Type 0 where
   pub deframer : Kept
   pub sender : Role
   pub pieces : ℕ
-
--- No name has changed. Lines may have been said.
-pub record OnlyListens (old new : FolderState) : Type 0 where
-  pub goes_on : GoesOn old new
-  pub names : KeepsAll old new
 
 -- The listener heard these bits, and the lines of their pieces were said.
 pub record Heard (start now : FolderState) (listener : Listening) (bits : List Bool) : Type 0 where
@@ -42,12 +37,10 @@ pub record PartlyHeard (start now : FolderState) (sender : Role) (bits : List Bo
 -- The first octets of the file, so many, were heard.
 pub record HeardTo (start now : FolderState) (n : FramesNames) (listener : Listening) (at : ℕ) : Type 0 where
   pub octets : List ℕ
-  pub count : at ≡ length octets
-  pub within : IsWithin start n.bits FILE_LIMIT
-  pub front : IsTrue (start.tells n.bits) → octets ≡ take at (octets_at start n.bits)
+  pub read : ReadTo start now n.bits FILE_LIMIT at octets
   pub sender_is : listener.sender ≡ n.sender
   pub heard : Heard start now listener (bits_of octets)
-  pub only : OnlyListens start now
+  pub only : OnlyOutputs start now []
 
 -- The file is within its limit, and nothing was said.
 pub record Begun (start now : FolderState) (n : FramesNames) : Type 0 where

@@ -2,6 +2,5 @@ pub mod Words
 pub mod Readings
 pub mod Heard
 pub mod Ends
-pub mod Answers
 pub mod Completes
 pub mod Headline

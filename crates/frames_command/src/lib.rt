@@ -3,7 +3,6 @@
 #![tactic(auto)]
 
 mod command;
-mod fault;
 mod lines;
 mod listener;
 mod listing;
@@ -11,6 +10,5 @@ mod reading;
 mod words;
 
 pub use command::frames;
-pub use fault::FramesFault;
 pub use reading::Reading;
 pub use words::{FramesWords, frames_words};

@@ -1,12 +1,14 @@
 // A listener to a stream of bits, who says what each piece is.
-ghost use Rattle.std.specs.Prelude.{◌≡◌, ◌≤◌, ◌<◌, ◌+◌, ◌*◌, ◌^◌, ℕ, Bool, List, [], ◌∷◌, ◌++◌, OnOk, OnErr, length};
-ghost use Rattle.outside_core.specs.Folder.{FolderState, OnlySays, HasCause, CountsStand};
+ghost use Rattle.std.specs.Prelude.{◌≡◌, ◌≤◌, ◌<◌, ◌+◌, ◌*◌, ◌^◌, ℕ, Bool, List, [], ◌∷◌, ◌++◌, OnOk, OnErr, IfErr, length};
+ghost use Rattle.outside_core.specs.Folder.{FolderState, OnlySays, CountsStand};
 ghost use Rattle.plain_lists.specs.Bits.{octet_bits, bits_of};
+ghost use Rattle.command_base.specs.Stops.{SayFails};
 ghost use Rattle.frames_command.specs.Heard.{Heard, PartlyHeard};
 
 use crate::lines::write_reading;
 use crate::reading::read_piece;
 use bit_stuffing::Deframer;
+use command_base::say_line;
 use outside_core::{Folder, FolderFault};
 use roles::Role;
 use std::marker::Model;
@@ -56,7 +58,7 @@ impl Listener {
         ensures err { (start : FolderState) (bits : List Bool) → Heard start (F.state folder.old) self.old bits
             → OnErr result (PartlyHeard start (F.state folder.new) self.old.sender (bits ++ bit ∷ [])) }
         ensures only { OnlySays (F.state folder.old) (F.state folder.new) }
-        ensures cause { HasCause (F.state folder.old).say_faults (F.state folder.new).say_faults (F.state folder.old).refusals (F.state folder.new).refusals result }
+        ensures fails { IfErr result (SayFails (F.state folder.old) (F.state folder.new)) }
         ensures stand { OnOk result (CountsStand (F.state folder.old) (F.state folder.new)) }
         ensures sender { self.new.sender ≡ self.old.sender }
         ensures pieces { self.new.pieces ≤ self.old.pieces + 1 }
@@ -66,7 +68,7 @@ impl Listener {
             Some(piece) => {
                 self.pieces += 1;
                 let reading = read_piece(piece, self.deframer.whole(), self.sender);
-                folder.say(write_reading(&reading).as_slice())
+                say_line(folder, write_reading(&reading).as_slice())
             }
         }
     }
@@ -79,7 +81,7 @@ impl Listener {
         ensures err { (start : FolderState) (bits : List Bool) → Heard start (F.state folder.old) self.old bits
             → OnErr result (PartlyHeard start (F.state folder.new) self.old.sender (bits ++ octet_bits octet)) }
         ensures only { OnlySays (F.state folder.old) (F.state folder.new) }
-        ensures cause { HasCause (F.state folder.old).say_faults (F.state folder.new).say_faults (F.state folder.old).refusals (F.state folder.new).refusals result }
+        ensures fails { IfErr result (SayFails (F.state folder.old) (F.state folder.new)) }
         ensures stand { OnOk result (CountsStand (F.state folder.old) (F.state folder.new)) }
         ensures sender { self.new.sender ≡ self.old.sender }
         ensures pieces { self.new.pieces ≤ self.old.pieces + 8 }
@@ -102,7 +104,7 @@ impl Listener {
         ensures err { (start : FolderState) (bits : List Bool) → Heard start (F.state folder.old) self.old bits
             → OnErr result (PartlyHeard start (F.state folder.new) self.old.sender (bits ++ bits_of octets.now)) }
         ensures only { OnlySays (F.state folder.old) (F.state folder.new) }
-        ensures cause { HasCause (F.state folder.old).say_faults (F.state folder.new).say_faults (F.state folder.old).refusals (F.state folder.new).refusals result }
+        ensures fails { IfErr result (SayFails (F.state folder.old) (F.state folder.new)) }
         ensures stand { OnOk result (CountsStand (F.state folder.old) (F.state folder.new)) }
         ensures sender { self.new.sender ≡ self.old.sender }
         ensures pieces { self.new.pieces ≤ self.old.pieces + 8 * length octets.now }

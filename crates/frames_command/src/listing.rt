@@ -1,19 +1,20 @@
 // A file's bits, listed piece by piece.
-ghost use Rattle.std.specs.Prelude.{◌≡◌, ◌≤◌, ◌+◌, ◌*◌, IfOk, IfErr};
+ghost use Rattle.std.specs.Prelude.{◌≡◌, ◌≤◌, ◌+◌, ◌*◌, [], ◌∷◌, IfOk, IfErr};
 ghost use Rattle.outside_core.specs.Folder.{FolderState};
 ghost use Rattle.command_base.specs.declared.limits.TheConstants.{FILE_LIMIT};
-ghost use Rattle.command_base.specs.Status.{PassesNoneOver};
+ghost use Rattle.command_base.specs.Outputs.{OnlyOutputs};
+ghost use Rattle.command_base.specs.Stops.{EndCounts};
 ghost use Rattle.frames_command.specs.Words.{named};
-ghost use Rattle.frames_command.specs.Answers.{status_of};
-ghost use Rattle.frames_command.specs.Heard.{OnlyListens, Begun, HeardTo};
+ghost use Rattle.frames_command.specs.Heard.{Begun, HeardTo};
 ghost use Rattle.frames_command.specs.Ends.{SaysAll, EndsBy, Ends};
-ghost use Rattle.frames_command.specs.declared.fault.FramesFault.{FramesFault};
 
-use crate::FramesFault;
 use crate::listener::Listener;
 use crate::words::FramesWords;
-use command_base::{FILE_LIMIT, is_longer, read_piece};
+use command_base::{FILE_LIMIT, Stop, read_piece, within_limit};
 use outside_core::Folder;
+
+/// The place of the stream's name among the words.
+const BITS: usize = 2;
 
 /// How many octets are read at a time.
 const PIECE: usize = 1024;
@@ -24,7 +25,7 @@ fn hear_next<F: Folder>(
     names: &FramesWords<'_>,
     listener: &mut Listener,
     at: u64,
-) -> Result<usize, FramesFault>
+) -> Result<usize, Stop>
     requires within { at ≤ FILE_LIMIT }
     requires pieces { listener.old.pieces ≤ 8 * at }
     ensures ok { (start : FolderState) → HeardTo start (F.state folder.old) (named names.now) listener.old at
@@ -35,27 +36,27 @@ fn hear_next<F: Folder>(
         → IfErr result (EndsBy start (F.state folder.new) (named names.now)) }
     ensures bound { IfOk result (λ count. at + count ≤ FILE_LIMIT) }
     ensures pieces { IfOk result (λ count. listener.new.pieces ≤ 8 * (at + count)) }
-    ensures only { OnlyListens (F.state folder.old) (F.state folder.new) }
-    ensures stand { PassesNoneOver (F.state folder.old) (F.state folder.new) (status_of result) }
+    ensures only { OnlyOutputs (F.state folder.old) (F.state folder.new) [] }
+    ensures counts { EndCounts (F.state folder.old) (F.state folder.new) (names.now.bits.now ∷ []) [] result }
 {
     let mut piece = [0u8; PIECE];
     let count = match read_piece(folder, names.bits, FILE_LIMIT, at, &mut piece) {
         Ok(0) => return Ok(0),
         Ok(count) => count,
-        Err(fault) => return Err(FramesFault::Unread(fault)),
+        Err(fault) => return Err(Stop::Read(fault)),
     };
     match listener.hear(folder, &piece[..count]) {
         Ok(()) => Ok(count),
-        Err(fault) => Err(FramesFault::Unsaid(fault)),
+        Err(fault) => Err(Stop::Say(fault)),
     }
 }
 
 /// Hears the file to its end: the number of pieces.
-fn hear_file<F: Folder>(folder: &mut F, names: &FramesWords<'_>) -> Result<u64, FramesFault>
+fn hear_file<F: Folder>(folder: &mut F, names: &FramesWords<'_>) -> Result<u64, Stop>
     ensures ends { (start : FolderState) → Begun start (F.state folder.old) (named names.now)
         → Ends start (F.state folder.new) (named names.now) result }
-    ensures only { OnlyListens (F.state folder.old) (F.state folder.new) }
-    ensures stand { PassesNoneOver (F.state folder.old) (F.state folder.new) (status_of result) }
+    ensures only { OnlyOutputs (F.state folder.old) (F.state folder.new) [] }
+    ensures counts { EndCounts (F.state folder.old) (F.state folder.new) (names.now.bits.now ∷ []) [] result }
 {
     let mut listener = Listener::new(names.sender);
     let mut at: u64 = 0;
@@ -72,14 +73,13 @@ fn hear_file<F: Folder>(folder: &mut F, names: &FramesWords<'_>) -> Result<u64, 
 pub(crate) fn list_pieces<F: Folder>(
     folder: &mut F,
     names: &FramesWords<'_>,
-) -> Result<u64, FramesFault>
+) -> Result<u64, Stop>
     ensures ends { Ends (F.state folder.old) (F.state folder.new) (named names.now) result }
-    ensures only { OnlyListens (F.state folder.old) (F.state folder.new) }
-    ensures stand { PassesNoneOver (F.state folder.old) (F.state folder.new) (status_of result) }
+    ensures only { OnlyOutputs (F.state folder.old) (F.state folder.new) [] }
+    ensures counts { EndCounts (F.state folder.old) (F.state folder.new) (names.now.bits.now ∷ []) [] result }
 {
-    match is_longer(folder, names.bits, FILE_LIMIT) {
-        Ok(false) => hear_file(folder, names),
-        Ok(true) => Err(FramesFault::TooLong),
-        Err(fault) => Err(FramesFault::Unread(fault)),
+    match within_limit(folder, names.bits, FILE_LIMIT, BITS) {
+        Ok(()) => hear_file(folder, names),
+        Err(stop) => Err(stop),
     }
 }

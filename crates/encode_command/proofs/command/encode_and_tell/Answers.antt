@@ -2,7 +2,7 @@ use Rattle.std.proofs.Common.{◌∙◌, ℕ, List, Ok, Err, subst}
 use Rattle.outside_core.specs.Folder.{FolderState}
 use Rattle.command_base.specs.declared.status.Status.TheVariants.{Done}
 use Rattle.command_base.specs.Tells.{Tells}
-use Rattle.command_base.proofs.Jobs.{only-one}
+use Rattle.command_base.proofs.OnlyOutputs.{OnlyOutputs-one}
 use Rattle.encode_command.specs.Words.{EncodeNames, named}
 use Rattle.encode_command.proofs.Headline.{refused-by}
 use Rattle.encode_command.proofs.command.encode_and_tell.Goals as goal
@@ -14,7 +14,7 @@ returns-in-Ok g c =
       end = Ok c.in-Ok.samples;
       before = before;
       ends = (c.in-Ok.ensures.ends, c.in-Ok.ensures.only.said);
-      only = only-one (g.F.Folder.state c.args.folder.now) before n.rec c.in-Ok.ensures.only;
+      only = OnlyOutputs-one n.rec c.in-Ok.ensures.only;
       refused = λ never. absurd never;
       counts = c.in-Ok.ensures.counts;
       says = subst (λ (line : List ℕ). Tells before new line Done c.tell.result) (c.as_slice.ensures.items ∙ c.write_samples.ensures) c.tell.ensures;
@@ -27,7 +27,7 @@ returns-in-Err g c =
       end = Err c.in-Err.stop;
       before = before;
       ends = (c.in-Err.ensures.ends, c.in-Err.ensures.only.said);
-      only = only-one (g.F.Folder.state c.args.folder.now) before n.rec c.in-Err.ensures.only;
+      only = OnlyOutputs-one n.rec c.in-Err.ensures.only;
       refused = refused-by (g.F.Folder.state c.args.folder.now) before n (Err c.in-Err.stop) c.in-Err.ensures.ends;
       counts = c.in-Err.ensures.counts;
       says = c.tell_stop.ensures;

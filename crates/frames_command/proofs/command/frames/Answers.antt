@@ -1,20 +1,11 @@
 use Rattle.std.proofs.Common.{map, string_bytes}
 use Rattle.frames_command.specs.Words.{named}
-use Rattle.frames_command.proofs.Completes.{completes-of}
-use Rattle.frames_command.proofs.Headline.{headline-of, not-usage, stand-of}
+use Rattle.frames_command.proofs.Headline.{headline-of, completes-of}
 use Rattle.frames_command.proofs.command.frames.Goals as goal
 
 pub returns-clause-headline : goal.returns-clause-headline
 returns-clause-headline g c =
     headline-of (map string_bytes c.args.words.now) (g.F.Folder.state c.args.folder.now) (g.F.Folder.state c.list_and_tell.new.folder) (named c.args.names.now) c.list_and_tell.result c.list_and_tell.ensures
-
-pub returns-clause-known : goal.returns-clause-known
-returns-clause-known g c =
-    not-usage (map string_bytes c.args.words.now) (g.F.Folder.state c.args.folder.now) (g.F.Folder.state c.list_and_tell.new.folder) (named c.args.names.now) c.list_and_tell.result c.list_and_tell.ensures
-
-pub returns-clause-stand : goal.returns-clause-stand
-returns-clause-stand g c =
-    stand-of (map string_bytes c.args.words.now) (g.F.Folder.state c.args.folder.now) (g.F.Folder.state c.list_and_tell.new.folder) (named c.args.names.now) c.list_and_tell.result c.list_and_tell.ensures
 
 pub returns-clause-completes : goal.returns-clause-completes
 returns-clause-completes g c =

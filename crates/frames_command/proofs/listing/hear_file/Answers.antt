@@ -1,8 +1,9 @@
-use Rattle.std.proofs.Common.{arith}
+use Rattle.std.proofs.Common.{[], arith}
 use Rattle.outside_core.specs.Folder.{FolderState}
 use Rattle.outside_core.specs.Steps.{CountsStand-refl}
+use Rattle.command_base.proofs.OnlyOutputs.{OnlyOutputs-refl}
 use Rattle.frames_command.specs.Words.{named}
-use Rattle.frames_command.proofs.Listed.{heard-none-yet, listens-refl}
+use Rattle.frames_command.proofs.Listed.{heard-none-yet}
 use Rattle.frames_command.proofs.listing.hear_file.Goals as goal
 
 pub loop-listener-init : goal.loop-listener-init
@@ -12,6 +13,6 @@ loop-listener-init g c =
       within = omega arith;
       pieces = omega (arith, c.new-listener.ensures.pieces);
       heard = λ start b. heard-none-yet start old (named c.args.names.now) c.new-listener.result b c.new-listener.ensures.sender c.new-listener.ensures.heard;
-      only = listens-refl old;
+      only = OnlyOutputs-refl old [];
       stand = CountsStand-refl old;
     }

@@ -1,8 +1,9 @@
-use Rattle.std.proofs.Common.{◌≤◌, ◌-◌, ◌*◌}
+use Rattle.std.proofs.Common.{◌≤◌, ◌-◌, ◌*◌, []}
 use Rattle.outside_core.specs.Folder.{FolderState, CountsStand}
 use Rattle.command_base.specs.declared.limits.TheConstants.{FILE_LIMIT}
+use Rattle.command_base.specs.Outputs.{OnlyOutputs}
 use Rattle.frames_command.specs.Words.{named}
-use Rattle.frames_command.specs.Heard.{OnlyListens, Begun, HeardTo}
+use Rattle.frames_command.specs.Heard.{Begun, HeardTo}
 use Rattle.frames_command.proofs.listing.hear_file.Given as goal
 
 abbrev pub invariant-loop-listener : goal.invariant-loop-listener
@@ -10,7 +11,7 @@ invariant-loop-listener g l = record {
   within : l.at ≤ FILE_LIMIT;
   pieces : l.listener.pieces ≤ 8 * l.at;
   heard : (start : FolderState) → Begun start (g.F.Folder.state l.fn.folder) (named l.names) → HeardTo start (g.F.Folder.state l.folder) (named l.names) l.listener l.at;
-  only : OnlyListens (g.F.Folder.state l.fn.folder) (g.F.Folder.state l.folder);
+  only : OnlyOutputs (g.F.Folder.state l.fn.folder) (g.F.Folder.state l.folder) [];
   stand : CountsStand (g.F.Folder.state l.fn.folder) (g.F.Folder.state l.folder);
 }
 
