@@ -1,25 +1,22 @@
 // A recording played from the folder, and its octets written into it.
-ghost use Rattle.std.specs.Prelude.{◌≡◌, ◌≤◌, ◌<◌, ◌+◌, ◌*◌, ◌%◌, ◌^◌, ◌++◌, ℕ, None, List, [], true, IfOk, IfErr, OnOk, MatchResult, length, slice_index};
+ghost use Rattle.std.specs.Prelude.{◌≡◌, ◌≤◌, ◌<◌, ◌+◌, ◌*◌, ◌%◌, ◌^◌, ◌++◌, ◌∷◌, ℕ, None, List, [], true, IfOk, IfErr, OnOk, length, slice_index};
 ghost use Rattle.symbol_map.specs.declared.sample.Sample.{Sample};
-ghost use Rattle.outside_core.specs.Folder.{FolderState, CountsStand};
+ghost use Rattle.outside_core.specs.Folder.{FolderState};
 ghost use Rattle.scramblers.specs.Mode.{tap_of};
 ghost use Rattle.command_base.specs.declared.limits.TheConstants.{RECORDING_LIMIT};
 ghost use Rattle.command_base.specs.Outputs.{OnlyOutput};
-ghost use Rattle.command_base.specs.Status.{PassesNoneOver};
+ghost use Rattle.command_base.specs.Stops.{EndCounts};
 ghost use Rattle.decode_command.specs.Words.{named, are_apart};
 ghost use Rattle.decode_command.specs.Recordings.{coordinate, sample_at};
 ghost use Rattle.decode_command.specs.Playing.{Hears, IsReady};
 ghost use Rattle.decode_command.specs.Played.{PlayedTo, PlaysPiece, IsAtEnd};
 ghost use Rattle.decode_command.specs.Ends.{hearer_of, EndsBy, Ends};
-ghost use Rattle.decode_command.specs.Answers.{status_of, fault_status};
 ghost use Rattle.recordings.specs.declared.header.TheConstants.{HEADER};
 
-use crate::DecodeFault;
-use crate::fault::{read_fault, write_fault};
 use crate::playback::{Playback, ROOM};
 use crate::words::DecodeWords;
 use byteorder::{ByteOrder, LittleEndian};
-use command_base::{RECORDING_LIMIT, append_output, read_piece};
+use command_base::{RECORDING_LIMIT, Status, Stop, append_output, read_piece};
 use exact_decoder::Lost;
 use frame_check::Octets;
 use outside_core::Folder;
@@ -104,7 +101,7 @@ pub(crate) fn play_next<F: Folder, const TAP: usize>(
     piece: &mut [u8],
     octets: &mut Octets<ROOM>,
     at: u64,
-) -> Result<Step, DecodeFault>
+) -> Result<Step, Stop>
     requires tap { tap_of mode ≡ TAP }
     requires apart { are_apart (named names.now) ≡ true }
     requires size { length piece.old ≡ PIECE }
@@ -121,30 +118,30 @@ pub(crate) fn play_next<F: Folder, const TAP: usize>(
     ensures bound { IfOk result (λ step. at + step.read ≤ RECORDING_LIMIT) }
     ensures given { IfOk result (λ step. step.given ≤ ROOM) }
     ensures only { OnlyOutput (F.state folder.old) (F.state folder.new) names.now.file.now }
-    ensures stand { MatchResult result (λ step. CountsStand (F.state folder.old) (F.state folder.new)) (λ fault. PassesNoneOver (F.state folder.old) (F.state folder.new) (fault_status fault)) }
+    ensures counts { EndCounts (F.state folder.old) (F.state folder.new) (names.now.rec.now ∷ []) (names.now.file.now ∷ []) result }
 {
     let read = match read_piece(folder, names.rec, RECORDING_LIMIT, at, piece) {
         Ok(read) => read,
-        Err(fault) => return Err(read_fault(fault)),
+        Err(fault) => return Err(Stop::Read(fault)),
     };
     octets.clear();
     let played = play_piece(playback, &piece[..read], octets);
     match append_output(folder, names.file, octets.as_slice()) {
         Ok(()) => {}
-        Err(fault) => return Err(write_fault(fault)),
+        Err(fault) => return Err(Stop::Write(fault)),
     }
     match played {
         Ok(()) if read % SAMPLE == 0 => Ok(Step {
             read,
             given: octets.len(),
         }),
-        Ok(()) => Err(DecodeFault::BadRecording {
+        Ok(()) => Err(Stop::Own(Status::BadRecording {
             at: at + (read - read % SAMPLE) as u64,
-        }),
-        Err(lost) => Err(DecodeFault::LineLost {
+        })),
+        Err(lost) => Err(Stop::Own(Status::LineLost {
             role: hearer_of(mode),
             symbol: lost.symbol,
-        }),
+        })),
     }
 }
 
@@ -154,7 +151,7 @@ pub(crate) fn play_to_end<F: Folder, const TAP: usize>(
     names: &DecodeWords<'_>,
     mode: Mode,
     playback: &mut Playback<TAP>,
-) -> Result<u64, DecodeFault>
+) -> Result<u64, Stop>
     requires tap { tap_of mode ≡ TAP }
     requires apart { are_apart (named names.now) ≡ true }
     requires ready { IsReady playback.old 0 }
@@ -165,7 +162,7 @@ pub(crate) fn play_to_end<F: Folder, const TAP: usize>(
     ensures ready { IfOk result (λ written. IsReady playback.new RECORDING_LIMIT) }
     ensures bound { IfOk result (λ written. written ≤ 2 ^ 60) }
     ensures only { OnlyOutput (F.state folder.old) (F.state folder.new) names.now.file.now }
-    ensures stand { PassesNoneOver (F.state folder.old) (F.state folder.new) (status_of result) }
+    ensures counts { EndCounts (F.state folder.old) (F.state folder.new) (names.now.rec.now ∷ []) (names.now.file.now ∷ []) result }
 {
     let mut piece = [0u8; PIECE];
     let mut octets = Octets::new();
@@ -178,7 +175,7 @@ pub(crate) fn play_to_end<F: Folder, const TAP: usize>(
                 at += step.read as u64;
                 written += step.given as u64;
             }
-            Err(fault) => return Err(fault),
+            Err(stop) => return Err(stop),
         }
     }
 }
@@ -189,7 +186,7 @@ pub(crate) fn write_rest<F: Folder, const TAP: usize>(
     names: &DecodeWords<'_>,
     playback: Playback<TAP>,
     written: u64,
-) -> Result<u64, DecodeFault>
+) -> Result<u64, Stop>
     requires apart { are_apart (named names.now) ≡ true }
     requires taken { playback.decoder.pending ≡ [] }
     requires not_lost { playback.decoder.lost ≡ None }
@@ -197,11 +194,11 @@ pub(crate) fn write_rest<F: Folder, const TAP: usize>(
     ensures ends { (start : FolderState) (mode : Mode) (at : ℕ) → tap_of mode ≡ TAP → PlayedTo start (F.state folder.old) (named names.now) mode playback.entry at written
         → IsAtEnd start (named names.now) at → Ends start (F.state folder.new) (named names.now) result }
     ensures only { OnlyOutput (F.state folder.old) (F.state folder.new) names.now.file.now }
-    ensures stand { PassesNoneOver (F.state folder.old) (F.state folder.new) (status_of result) }
+    ensures counts { EndCounts (F.state folder.old) (F.state folder.new) (names.now.rec.now ∷ []) (names.now.file.now ∷ []) result }
 {
     let octets = playback.finish();
     match append_output(folder, names.file, octets.as_slice()) {
         Ok(()) => Ok(written + octets.len() as u64),
-        Err(fault) => Err(write_fault(fault)),
+        Err(fault) => Err(Stop::Write(fault)),
     }
 }
