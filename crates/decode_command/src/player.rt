@@ -2,12 +2,11 @@
 ghost use Rattle.std.specs.Prelude.{◌≡◌, ◌≤◌, ◌<◌, ◌+◌, ◌*◌, ◌%◌, ◌^◌, ◌++◌, ◌∷◌, ℕ, None, List, [], true, IfOk, IfErr, OnOk, length, slice_index};
 ghost use Rattle.symbol_map.specs.declared.sample.Sample.{Sample};
 ghost use Rattle.outside_core.specs.Folder.{FolderState};
-ghost use Rattle.scramblers.specs.Mode.{tap_of};
+ghost use Rattle.scramblers.specs.declared.mode.Mode.{Mode};
 ghost use Rattle.command_base.specs.declared.limits.TheConstants.{RECORDING_LIMIT};
 ghost use Rattle.command_base.specs.Outputs.{OnlyOutput};
 ghost use Rattle.command_base.specs.Stops.{EndCounts};
 ghost use Rattle.decode_command.specs.Words.{named, are_apart};
-ghost use Rattle.decode_command.specs.Recordings.{coordinate, sample_at};
 ghost use Rattle.decode_command.specs.Playing.{Hears, IsReady};
 ghost use Rattle.decode_command.specs.Played.{PlayedTo, PlaysPiece, IsAtEnd};
 ghost use Rattle.decode_command.specs.Ends.{hearer_of, EndsBy, Ends};
@@ -15,53 +14,24 @@ ghost use Rattle.recordings.specs.declared.header.TheConstants.{HEADER};
 
 use crate::playback::{Playback, ROOM};
 use crate::words::DecodeWords;
-use byteorder::{ByteOrder, LittleEndian};
 use command_base::{RECORDING_LIMIT, Status, Stop, append_output, read_piece};
 use exact_decoder::Lost;
 use frame_check::Octets;
 use outside_core::Folder;
-use recordings::HEADER;
+use recordings::{HEADER, SAMPLE, sample_at};
 use roles::Role;
 use scramblers::Mode;
-use symbol_map::Sample;
-
-/// How many octets a sample has.
-const SAMPLE: usize = 4;
 
 /// How many octets are read at a time: there is room for those that their samples give. Each piece opens both files anew.
 const PIECE: usize = 2_048;
 
-/// The coordinate that two octets from a place on are, the low one first.
-fn coordinate_at(octets: &[u8], place: usize) -> i16
-    requires { place + 2 ≤ length octets.now }
-    ensures { result ≡ coordinate (slice_index octets.now place) (slice_index octets.now (place + 1)) }
-{
-    LittleEndian::read_i16(&[octets[place], octets[place + 1]])
-}
-
-/// The sample at a place, counted in samples.
-fn sample_at(octets: &[u8], place: usize) -> Sample
-    requires { 4 * place + 4 ≤ length octets.now }
-    ensures { result ≡ sample_at octets.now place }
-{
-    let from = SAMPLE * place;
-    Sample {
-        re: coordinate_at(octets, from),
-        im: coordinate_at(octets, from + 2),
-    }
-}
-
 /// Plays the whole samples of a piece, up to the one that loses the line.
-fn play_piece<const TAP: usize>(
-    playback: &mut Playback<TAP>,
-    piece: &[u8],
-    octets: &mut Octets<ROOM>,
-) -> Result<(), Lost>
+fn play_piece(playback: &mut Playback, piece: &[u8], octets: &mut Octets<ROOM>) -> Result<(), Lost>
     requires few { length piece.now ≤ PIECE }
     requires empty { octets.old ≡ [] }
     requires ready { IsReady playback.old RECORDING_LIMIT }
-    ensures plays { (samples : List Sample) (before : List ℕ) → Hears TAP playback.old samples before
-        → PlaysPiece TAP playback.new samples piece.now (before ++ octets.new) result }
+    ensures plays { (mode : Mode) (samples : List Sample) (before : List ℕ) → Hears mode playback.old samples before
+        → PlaysPiece mode playback.new samples piece.now (before ++ octets.new) result }
     ensures taken { playback.new.decoder.pending ≡ [] }
     ensures ready { (most : ℕ) → IsReady playback.old most → OnOk result (IsReady playback.new (most + length piece.now)) }
 {
@@ -93,16 +63,15 @@ pub(crate) struct Step {
 
 /// Plays the next piece of the recording, and writes the octets that it gives. Nothing is read at the recording's end. What stood in
 /// the piece and in the list of octets is replaced.
-pub(crate) fn play_next<F: Folder, const TAP: usize>(
+pub(crate) fn play_next<F: Folder>(
     folder: &mut F,
     names: &DecodeWords<'_>,
     mode: Mode,
-    playback: &mut Playback<TAP>,
+    playback: &mut Playback,
     piece: &mut [u8],
     octets: &mut Octets<ROOM>,
     at: u64,
 ) -> Result<Step, Stop>
-    requires tap { tap_of mode ≡ TAP }
     requires apart { are_apart (named names.now) ≡ true }
     requires size { length piece.old ≡ PIECE }
     requires within { at ≤ RECORDING_LIMIT }
@@ -146,13 +115,12 @@ pub(crate) fn play_next<F: Folder, const TAP: usize>(
 }
 
 /// Plays the recording from behind its header to its end: how many octets were written.
-pub(crate) fn play_to_end<F: Folder, const TAP: usize>(
+pub(crate) fn play_to_end<F: Folder>(
     folder: &mut F,
     names: &DecodeWords<'_>,
     mode: Mode,
-    playback: &mut Playback<TAP>,
+    playback: &mut Playback,
 ) -> Result<u64, Stop>
-    requires tap { tap_of mode ≡ TAP }
     requires apart { are_apart (named names.now) ≡ true }
     requires ready { IsReady playback.old 0 }
     ensures ok { (start : FolderState) → PlayedTo start (F.state folder.old) (named names.now) mode playback.old HEADER 0
@@ -181,17 +149,17 @@ pub(crate) fn play_to_end<F: Folder, const TAP: usize>(
 }
 
 /// Writes the octets of the labels that follow the released ones: how many octets were written in all.
-pub(crate) fn write_rest<F: Folder, const TAP: usize>(
+pub(crate) fn write_rest<F: Folder>(
     folder: &mut F,
     names: &DecodeWords<'_>,
-    playback: Playback<TAP>,
+    playback: Playback,
     written: u64,
 ) -> Result<u64, Stop>
     requires apart { are_apart (named names.now) ≡ true }
     requires taken { playback.decoder.pending ≡ [] }
     requires not_lost { playback.decoder.lost ≡ None }
     requires room { written ≤ 2 ^ 60 }
-    ensures ends { (start : FolderState) (mode : Mode) (at : ℕ) → tap_of mode ≡ TAP → PlayedTo start (F.state folder.old) (named names.now) mode playback.entry at written
+    ensures ends { (start : FolderState) (mode : Mode) (at : ℕ) → PlayedTo start (F.state folder.old) (named names.now) mode playback at written
         → IsAtEnd start (named names.now) at → Ends start (F.state folder.new) (named names.now) result }
     ensures only { OnlyOutput (F.state folder.old) (F.state folder.new) names.now.file.now }
     ensures counts { EndCounts (F.state folder.old) (F.state folder.new) (names.now.rec.now ∷ []) (names.now.file.now ∷ []) result }

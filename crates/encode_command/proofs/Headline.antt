@@ -1,12 +1,11 @@
 -- From every answer to what the command promises.
-use Rattle.std.proofs.Common.{◌≡◌, ◌⊎◌, ◌∙◌, inl, inr, ℕ, List, [], ◌++◌, length, ◌≤◌, ◌<◌, Result, Ok, Err, refl, ap, subst, arith}
+use Rattle.std.proofs.Common.{◌⊎◌, ◌∙◌, inl, inr, ℕ, List, [], ◌++◌, length, ◌≤◌, ◌<◌, Result, Ok, Err, ap, subst, arith}
 use Rattle.std.specs.Option.{option_map}
 use Rattle.outside_core.specs.Folder.{FolderState, octets_at, GoesOn, KeepsName}
 use Rattle.outside_core.specs.Steps.{KeepsName-trans}
 use Rattle.recordings.specs.Recording.{IsRecordingOf}
 use Rattle.command_base.specs.declared.limits.TheConstants.{FILE_LIMIT}
 use Rattle.command_base.specs.declared.status.Status.{Status}
-use Rattle.command_base.specs.declared.status.Status.TheVariants.{Done}
 use Rattle.command_base.specs.declared.stop.Stop.{Stop}
 use Rattle.command_base.specs.declared.stop.Stop.TheVariants.{Own, Read, Write, Say, NoMemory}
 use Rattle.command_base.specs.Job.{Answers}
@@ -17,7 +16,7 @@ use Rattle.command_base.specs.Outputs.{KeepsAll, OnlyOutputs}
 use Rattle.command_base.proofs.Holding.{Holds-kept, HoldsFront-all, HoldsFront-kept}
 use Rattle.command_base.proofs.Jobs.{IsDone, refusal-own, last-only, done-of, shared-of, done-unless-memory}
 use Rattle.encode_command.specs.Words.{EncodeNames}
-use Rattle.encode_command.specs.Ends.{WritesAll, WritesPart, LeavesPart, Ends, encode_job}
+use Rattle.encode_command.specs.Ends.{WritesAll, LeavesPart, Ends, encode_job}
 use Rattle.encode_command.specs.Completes.{Completes}
 use Rattle.encode_command.specs.Headline.{HoldsBeginning, HoldsWhole, Headline}
 

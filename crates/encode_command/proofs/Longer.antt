@@ -22,8 +22,9 @@ use Rattle.trellis_tables.specs.Table.{next_by_y, next_state}
 use Rattle.trellis_tables.specs.Quads.{turn_of, uncoded_of}
 use Rattle.trellis_tables.proofs.Tables.{branch_of, next_by_y-lt, y_of-lt}
 use Rattle.trellis_tables.proofs.Codings.{Encodes-more}
-use Rattle.modulator.specs.Modulates.{Modulates}
-use Rattle.modulator.proofs.Fours.{four-behind, fours-more}
+use Rattle.line_coding.specs.Modulates.{Modulates}
+use Rattle.scramblers.proofs.Streams.{four-behind}
+use Rattle.line_coding.proofs.Fours.{fours-more}
 use Rattle.recordings.specs.Recording.{header_of, sample_octets, recording_octets, IsRecordingOf}
 
 -- a code sequence stays among the states

@@ -1,11 +1,12 @@
 -- From single steps to how the making of a recording ends.
-use Rattle.std.proofs.Common.{◌≡◌, ◌≢◌, ◌∙◌, inl, inr, ℕ, ◌+◌, ◌*◌, Bool, true, false, IsTrue, List, [], ◌++◌, length, take, refl, sym, ap, subst, arith, rules, append-nil, append_assoc}
+use Rattle.std.proofs.Common.{◌≡◌, ◌≢◌, ◌∙◌, inl, inr, ℕ, ◌+◌, ◌*◌, Bool, true, false, IsTrue, List, [], ◌++◌, length, refl, sym, ap, subst, arith, rules, append-nil, append_assoc}
 use Rattle.plain_lists.specs.Prefix.{IsPrefixOf}
 use Rattle.outside_core.specs.Folder.{FolderState, octets_at, OnlyReads, OnlyWrites, Appended, PartlyAppended}
 use Rattle.outside_core.specs.Steps.{KeepsName-trans}
 use Rattle.scramblers.specs.declared.mode.Mode.{Mode}
-use Rattle.scramblers.specs.Mode.{tap_of}
-use Rattle.modulator.specs.Modulates.{Kept}
+use Rattle.plain_lists.specs.Bits.{bits_of}
+use Rattle.line_coding.proofs.Standing.{modulated}
+use Rattle.recordings.specs.declared.recorder.Recorder.{Recorder}
 use Rattle.recordings.specs.Recording.{header_of, IsRecordingOf, RecorderStands}
 use Rattle.command_base.specs.declared.limits.TheConstants.{FILE_LIMIT}
 use Rattle.command_base.specs.declared.stop.Stop.{Stop}
@@ -24,20 +25,10 @@ file-apart : (n : EncodeNames) → are_apart n ≡ true → n.file ≢ n.rec
 file-apart n e = search rules
 
 -- what a recorder made stands behind the header
-recorded-as : (mode : Mode) (kept : Kept) (octets recorded : List ℕ) → RecorderStands (tap_of mode) kept octets recorded → IsRecordingOf mode octets (header_of mode ++ recorded) (2 * length octets)
+recorded-as : (mode : Mode) (kept : Recorder) (octets recorded : List ℕ) → RecorderStands mode kept octets recorded → IsRecordingOf mode octets (header_of mode ++ recorded) (2 * length octets)
 recorded-as mode kept octets recorded s = record {
   samples = s.samples;
-  modulated = record {
-    line = s.modulator.line;
-    quads = s.modulator.quads;
-    labels = s.modulator.labels;
-    end = kept.coder.state;
-    scrambled = s.modulator.scrambler.scrambled;
-    in_fours = s.modulator.in_fours;
-    are_quads = s.modulator.are_quads;
-    encoded = s.modulator.encoder.encodes;
-    points = s.modulator.points;
-  };
+  modulated = modulated mode kept.modulator (bits_of octets) s.samples s.modulator;
   count_is = sym s.count;
   recording_is = ap (λ xs. header_of mode ++ xs) s.recorded_is;
 }
@@ -92,7 +83,7 @@ held-after : (old mid : FolderState) (name octets : List ℕ) → OnlyReads old 
 held-after old mid name octets r holds = Holds-kept old mid name octets r.goes_on holds (r.names name)
 
 -- what was recorded so far is left, also after a read
-pub recorded-part : (start old mid : FolderState) (n : EncodeNames) (kept : Kept) (at : ℕ) → RecordedTo start old n kept at → OnlyReads old mid → LeavesPart start mid n
+pub recorded-part : (start old mid : FolderState) (n : EncodeNames) (kept : Recorder) (at : ℕ) → RecordedTo start old n kept at → OnlyReads old mid → LeavesPart start mid n
 recorded-part start old mid n kept at r reads =
     inr (part-of start mid n r.octets (header_of n.mode ++ r.recorded) (2 * length r.octets) r.read.within (ReadTo-begins start old n.file FILE_LIMIT at r.octets r.read) (recorded-as n.mode kept r.octets r.recorded r.stands)
     (HoldsFront-all mid n.rec (header_of n.mode ++ r.recorded) (held-after old mid n.rec _ reads r.rec)))
@@ -110,8 +101,8 @@ create-part old mid new n within reads (inr empty) =
     inr (part-of old new n [] (header_of n.mode ++ []) 0 within (λ told. (octets_at old n.file, refl)) (nothing-recorded n.mode) (λ told. ([], (header_of n.mode ++ [], refl), empty told)))
 
 -- a piece more is recorded
-pub recorded-more : (start old mid new : FolderState) (n : EncodeNames) (kept next : Kept) (at count : ℕ) (piece made : List ℕ) (r : RecordedTo start old n kept at) → are_apart n ≡ true →
-    ReadTo start mid n.file FILE_LIMIT (at + count) (r.octets ++ piece) → RecorderStands (tap_of n.mode) next (r.octets ++ piece) (r.recorded ++ made) →
+pub recorded-more : (start old mid new : FolderState) (n : EncodeNames) (kept next : Recorder) (at count : ℕ) (piece made : List ℕ) (r : RecordedTo start old n kept at) → are_apart n ≡ true →
+    ReadTo start mid n.file FILE_LIMIT (at + count) (r.octets ++ piece) → RecorderStands n.mode next (r.octets ++ piece) (r.recorded ++ made) →
     OnlyReads old mid → OnlyWrites mid new n.rec → Appended mid new n.rec made → RecordedTo start new n next (at + count)
 recorded-more start old mid new n kept next at count piece made r apart read stands reads writes puts = record {
   octets = r.octets ++ piece;
@@ -123,8 +114,8 @@ recorded-more start old mid new n kept next at count piece made r apart read sta
 }
 
 -- a piece more was not wholly written
-pub piece-part : (start old mid new : FolderState) (n : EncodeNames) (kept next : Kept) (at count : ℕ) (piece made : List ℕ) (r : RecordedTo start old n kept at) →
-    ReadTo start mid n.file FILE_LIMIT (at + count) (r.octets ++ piece) → RecorderStands (tap_of n.mode) next (r.octets ++ piece) (r.recorded ++ made) →
+pub piece-part : (start old mid new : FolderState) (n : EncodeNames) (kept next : Recorder) (at count : ℕ) (piece made : List ℕ) (r : RecordedTo start old n kept at) →
+    ReadTo start mid n.file FILE_LIMIT (at + count) (r.octets ++ piece) → RecorderStands n.mode next (r.octets ++ piece) (r.recorded ++ made) →
     OnlyReads old mid → OnlyWrites mid new n.rec → PartlyAppended mid new n.rec made → LeavesPart start new n
 piece-part start old mid new n kept next at count piece made r read stands reads writes puts =
     write-part start mid new n (r.octets ++ piece) (header_of n.mode ++ r.recorded) made (2 * length (r.octets ++ piece)) r.read.within writes
@@ -133,7 +124,7 @@ piece-part start old mid new n kept next at count piece made r read stands reads
     (held-after old mid n.rec (header_of n.mode ++ r.recorded) reads r.rec) puts
 
 -- the file is at its end
-pub recorded-whole : (start old mid : FolderState) (n : EncodeNames) (kept : Kept) (at : ℕ) (r : RecordedTo start old n kept at) → OnlyReads old mid → (IsTrue (start.tells n.file) → r.octets ++ [] ≡ octets_at start n.file) →
+pub recorded-whole : (start old mid : FolderState) (n : EncodeNames) (kept : Recorder) (at : ℕ) (r : RecordedTo start old n kept at) → OnlyReads old mid → (IsTrue (start.tells n.file) → r.octets ++ [] ≡ octets_at start n.file) →
     WritesAll start mid n (2 * at)
 recorded-whole start old mid n kept at r reads end = record {
   recording = header_of n.mode ++ r.recorded;
@@ -147,7 +138,7 @@ recorded-whole start old mid n kept at r reads end = record {
 }
 
 -- a read changes nothing of it
-pub recorded-after : (start old mid : FolderState) (n : EncodeNames) (kept : Kept) (at : ℕ) → RecordedTo start old n kept at → OnlyReads old mid → RecordedTo start mid n kept at
+pub recorded-after : (start old mid : FolderState) (n : EncodeNames) (kept : Recorder) (at : ℕ) → RecordedTo start old n kept at → OnlyReads old mid → RecordedTo start mid n kept at
 recorded-after start old mid n kept at r reads = record {
   octets = r.octets;
   recorded = r.recorded;
@@ -158,7 +149,7 @@ recorded-after start old mid n kept at r reads = record {
 }
 
 -- the header alone is recorded
-pub header-recorded : (start old new : FolderState) (n : EncodeNames) (kept : Kept) → are_apart n ≡ true → RecorderStands (tap_of n.mode) kept [] [] → Begun start old n → OnlyWrites old new n.rec →
+pub header-recorded : (start old new : FolderState) (n : EncodeNames) (kept : Recorder) → are_apart n ≡ true → RecorderStands n.mode kept [] [] → Begun start old n → OnlyWrites old new n.rec →
     Appended old new n.rec (header_of n.mode) → RecordedTo start new n kept 0
 header-recorded start old new n kept apart stands b writes puts =
     let only : OnlyOutput start new n.rec = OnlyOutput-trans n.rec b.only (OnlyOutput-writes n.rec writes) in

@@ -1,8 +1,7 @@
 -- How far a file is recorded.
 use Rattle.std.specs.Prelude.{ℕ, List, [], ◌++◌}
 use Rattle.outside_core.specs.Folder.{FolderState}
-use Rattle.scramblers.specs.Mode.{tap_of}
-use Rattle.modulator.specs.Modulates.{Kept}
+use Rattle.recordings.specs.declared.recorder.Recorder.{Recorder}
 use Rattle.recordings.specs.Recording.{header_of, RecorderStands}
 use Rattle.command_base.specs.declared.limits.TheConstants.{FILE_LIMIT}
 use Rattle.command_base.specs.Inputs.{IsWithin, ReadTo}
@@ -16,10 +15,10 @@ pub record Begun (old now : FolderState) (n : EncodeNames) : Type 0 where
   pub empty : Holds now n.rec []
 
 -- The first octets of the file, so many, are recorded behind the header, and the output holds that.
-pub record RecordedTo (old now : FolderState) (n : EncodeNames) (kept : Kept) (at : ℕ) : Type 0 where
+pub record RecordedTo (old now : FolderState) (n : EncodeNames) (recorder : Recorder) (at : ℕ) : Type 0 where
   pub octets : List ℕ
   pub recorded : List ℕ
-  pub stands : RecorderStands (tap_of n.mode) kept octets recorded
+  pub stands : RecorderStands n.mode recorder octets recorded
   pub read : ReadTo old now n.file FILE_LIMIT at octets
   pub only : OnlyOutput old now n.rec
   pub rec : Holds now n.rec (header_of n.mode ++ recorded)

@@ -1,7 +1,7 @@
 // A file's octets, recorded piece by piece.
 ghost use Rattle.std.specs.Prelude.{◌≡◌, ◌≤◌, ◌+◌, ◌*◌, ◌++◌, ℕ, List, [], ◌∷◌, IfOk, IfErr, length, true};
 ghost use Rattle.outside_core.specs.Folder.{FolderState};
-ghost use Rattle.scramblers.specs.Mode.{tap_of};
+ghost use Rattle.scramblers.specs.declared.mode.Mode.{Mode};
 ghost use Rattle.recordings.specs.Recording.{RecorderStands};
 ghost use Rattle.command_base.specs.declared.limits.TheConstants.{FILE_LIMIT};
 ghost use Rattle.command_base.specs.Outputs.{OnlyOutput};
@@ -15,7 +15,6 @@ use command_base::{FILE_LIMIT, Stop, append_output, create_output, read_piece, w
 use frame_check::Octets;
 use outside_core::Folder;
 use recordings::{Recorder, header_octets};
-use scramblers::{ANSWER_TAP, CALL_TAP, Mode};
 
 /// The place of the file's name among the words.
 const FILE: usize = 2;
@@ -27,13 +26,10 @@ const PIECE: usize = 128;
 const RECORDED_PIECE: usize = 1024;
 
 /// The octets of the samples of a piece.
-fn record_piece<const TAP: usize>(
-    recorder: &mut Recorder<TAP>,
-    piece: &[u8],
-) -> Octets<RECORDED_PIECE>
+fn record_piece(recorder: &mut Recorder, piece: &[u8]) -> Octets<RECORDED_PIECE>
     requires { length piece.now ≤ PIECE }
-    ensures { (octets recorded : List ℕ) → RecorderStands TAP recorder.old octets recorded
-        → RecorderStands TAP recorder.new (octets ++ piece.now) (recorded ++ result) }
+    ensures { (mode : Mode) (octets recorded : List ℕ) → RecorderStands mode recorder.old octets recorded
+        → RecorderStands mode recorder.new (octets ++ piece.now) (recorded ++ result) }
 {
     let mut recorded = Octets::new();
     for octet in piece {
@@ -43,13 +39,12 @@ fn record_piece<const TAP: usize>(
 }
 
 /// Records the next piece of the file, and answers how many octets it has: none at the file's end.
-fn record_next<F: Folder, const TAP: usize>(
+fn record_next<F: Folder>(
     folder: &mut F,
     names: &EncodeWords<'_>,
-    recorder: &mut Recorder<TAP>,
+    recorder: &mut Recorder,
     at: u64,
 ) -> Result<usize, Stop>
-    requires tap { tap_of names.now.mode ≡ TAP }
     requires apart { are_apart (named names.now) ≡ true }
     requires within { at ≤ FILE_LIMIT }
     ensures ok { (start : FolderState) → RecordedTo start (F.state folder.old) (named names.now) recorder.old at
@@ -76,20 +71,14 @@ fn record_next<F: Folder, const TAP: usize>(
 }
 
 /// Records the whole file behind the header: the number of samples.
-fn record_file<F: Folder, const TAP: usize>(
-    folder: &mut F,
-    names: &EncodeWords<'_>,
-) -> Result<u64, Stop>
-    requires tap { tap_of names.now.mode ≡ TAP }
-    requires low { 1 ≤ TAP }
-    requires high { TAP ≤ 22 }
+fn record_file<F: Folder>(folder: &mut F, names: &EncodeWords<'_>) -> Result<u64, Stop>
     requires apart { are_apart (named names.now) ≡ true }
     ensures ends { (start : FolderState) → Begun start (F.state folder.old) (named names.now)
         → Ends start (F.state folder.new) (named names.now) result }
     ensures only { OnlyOutput (F.state folder.old) (F.state folder.new) names.now.rec.now }
     ensures counts { EndCounts (F.state folder.old) (F.state folder.new) (names.now.file.now ∷ []) (names.now.rec.now ∷ []) result }
 {
-    let mut recorder = Recorder::<TAP>::new();
+    let mut recorder = Recorder::new(names.mode);
     match append_output(folder, names.rec, header_octets(names.mode).as_slice()) {
         Ok(()) => {}
         Err(fault) => return Err(Stop::Write(fault)),
@@ -122,8 +111,5 @@ pub(crate) fn make_recording<F: Folder>(
         Ok(()) => {}
         Err(fault) => return Err(Stop::Write(fault)),
     }
-    match names.mode {
-        Mode::Call => record_file::<F, CALL_TAP>(folder, names),
-        Mode::Answer => record_file::<F, ANSWER_TAP>(folder, names),
-    }
+    record_file(folder, names)
 }

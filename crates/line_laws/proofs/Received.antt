@@ -13,8 +13,8 @@ use Rattle.survivors.proofs.Least.{some-released}
 use Rattle.exact_decoder.specs.declared.decoder.Lost.{Lost}
 use Rattle.noiseless_line.proofs.Costs.{length-points}
 use Rattle.noiseless_line.proofs.Followed.{few-unreleased_at, released-sent_at, v32_has_laws}
-use Rattle.demodulator.specs.Demodulates.{Demodulates, line_of}
-use Rattle.demodulator.proofs.Readings.{first-stay, four-each}
+use Rattle.line_coding.specs.Demodulates.{Demodulates, line_of}
+use Rattle.line_coding.proofs.Readings.{first-stay, four-each}
 use Rattle.bit_stuffing.specs.Found.{Found, pieces_of}
 use Rattle.bit_stuffing.specs.Sent.{FoundIn, wholes}
 use Rattle.bit_stuffing.specs.Slots.{phase_after, sent_bits, slot_bits}

@@ -10,8 +10,8 @@ use Rattle.scramblers.specs.Mode.{tap_of}
 use Rattle.survivors.proofs.Fronts.{lost-once}
 use Rattle.noiseless_line.specs.Noiseless.{IsNoiseless}
 use Rattle.noiseless_line.proofs.Followed.{never-lost}
-use Rattle.demodulator.specs.Demodulates.{Demodulates}
-use Rattle.demodulator.proofs.Readings.{comes-back, four-each}
+use Rattle.line_coding.specs.Demodulates.{Demodulates}
+use Rattle.line_coding.proofs.Readings.{comes-back, four-each}
 use Rattle.roles.specs.declared.role.Role.{Role}
 use Rattle.noise_script.specs.declared.entry.Hit.{Hit}
 use Rattle.noise_script.specs.declared.entry.Noise.{Noise}

@@ -8,7 +8,8 @@ use Rattle.scramblers.specs.declared.mode.Mode.{Mode}
 use Rattle.scramblers.specs.declared.mode.Mode.TheVariants.{Call, Answer}
 use Rattle.scramblers.specs.Mode.{tap_of}
 use Rattle.symbol_map.specs.declared.sample.Sample.{Sample}
-use Rattle.modulator.specs.Modulates.{Modulates, Kept, ModulatorStands}
+use Rattle.line_coding.specs.Modulates.{Modulates, ModulatorStands}
+use Rattle.recordings.specs.declared.recorder.Recorder.{Recorder}
 
 abbrev pub mode_number : Mode → ℕ
 mode_number Call = 0
@@ -33,9 +34,9 @@ pub record IsRecordingOf (mode : Mode) (octets recording : List ℕ) (count : �
   pub count_is : count ≡ length samples
   pub recording_is : recording ≡ recording_octets mode samples
 
--- a recorder that keeps this has made these octets of samples from those octets
-pub record RecorderStands (tap : ℕ) (kept : Kept) (octets recorded : List ℕ) : Type 0 where
+-- a recorder of this mode has made these octets of samples from those octets
+pub record RecorderStands (mode : Mode) (recorder : Recorder) (octets recorded : List ℕ) : Type 0 where
   pub samples : List Sample
-  pub modulator : ModulatorStands tap kept (bits_of octets) samples
+  pub modulator : ModulatorStands mode recorder.modulator (bits_of octets) samples
   pub recorded_is : recorded ≡ flat_map sample_octets samples
   pub count : length samples ≡ 2 * length octets

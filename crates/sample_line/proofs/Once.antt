@@ -14,9 +14,9 @@ use Rattle.symbol_map.specs.Points.{point_of}
 use Rattle.trellis_tables.specs.Encoder.{Encodes}
 use Rattle.trellis_tables.proofs.Codings.{Encodes_once, Encodes-take}
 use Rattle.survivors.proofs.Fronts.{released-once, stays-prefix}
-use Rattle.modulator.specs.Modulates.{Modulates}
-use Rattle.demodulator.specs.Demodulates.{line_of, Demodulates}
-use Rattle.demodulator.proofs.Readings.{length-fours, first-stay}
+use Rattle.line_coding.specs.Modulates.{Modulates}
+use Rattle.line_coding.specs.Demodulates.{line_of, Demodulates}
+use Rattle.line_coding.proofs.Readings.{length-fours, first-stay}
 use Rattle.slot_contents.specs.declared.seen.Seen.{Seen}
 use Rattle.detection.specs.Sights.{Sight, sights_of}
 use Rattle.bit_stuffing.specs.Found.{Found, pieces_of}

@@ -4,23 +4,14 @@ use Rattle.std.proofs.lemmas.List.{append-nil, take_more, append_assoc}
 use Rattle.std.proofs.lemmas.Grind.{flat_map-append}
 use Rattle.plain_lists.specs.Bits.{low_bits}
 use Rattle.bit_stuffing.specs.BitSlot.{line_bits}
-use Rattle.scramblers.specs.declared.mode.Mode.{Mode}
-use Rattle.scramblers.specs.declared.mode.Mode.TheVariants.{Call, Answer}
-use Rattle.scramblers.specs.Mode.{tap_of}
 use Rattle.symbol_map.specs.declared.sample.Sample.{Sample}
 use Rattle.survivors.specs.Survivors.{IsReleased}
 use Rattle.exact_decoder.specs.Decoder.{heard}
-use Rattle.modulator.specs.Modulates.{Modulates}
-use Rattle.demodulator.specs.Demodulates.{Demodulates}
 use Rattle.roles.specs.declared.role.Role.{Role}
 use Rattle.noise_script.specs.Script.{ScriptValue, offset_of}
-use Rattle.sample_line.specs.declared.modes.ModeModulator.{ModeModulator}
-use Rattle.sample_line.specs.declared.modes.ModeModulator.TheVariants as modulators
-use Rattle.sample_line.specs.declared.modes.ModeDemodulator.{ModeDemodulator}
-use Rattle.sample_line.specs.declared.modes.ModeDemodulator.TheVariants as demodulators
 use Rattle.sample_line.specs.declared.transmitter.Transmitter.{Transmitter}
 use Rattle.sample_line.specs.declared.hearer.Hearer.{Hearer}
-use Rattle.sample_line.specs.Modes.{ModulatesAs, DemodulatesAs}
+use Rattle.line_coding.proofs.Standing.{modulated, demodulated}
 use Rattle.sample_line.specs.Recorded.{saturated, displaced, displaced_from, Records}
 use Rattle.roles.specs.Role.{mode_of}
 use Rattle.sample_line.specs.Received.{line_trellis, Gives}
@@ -49,23 +40,11 @@ same-saturated result a b e same = e ∙ ap saturated same
 pub same-sample : (a b : Sample) → a.re ≡ b.re → a.im ≡ b.im → a ≡ b
 same-sample a b r i = rw (r, i) refl
 
-pub modulates-as : (mode : Mode) (m : ModeModulator) (bits : List Bool) (points : List Sample) → ModulatesAs mode m bits points → Modulates (tap_of mode) bits points
-modulates-as Call (modulators.Call m) bits points h = record { line = h.line; quads = h.quads; labels = h.labels; end = m.coder.state; scrambled = h.scrambler.scrambled; in_fours = h.in_fours; are_quads = h.are_quads; encoded = h.encoder.encodes; points = h.points }
-modulates-as Answer (modulators.Answer m) bits points h = record { line = h.line; quads = h.quads; labels = h.labels; end = m.coder.state; scrambled = h.scrambler.scrambled; in_fours = h.in_fours; are_quads = h.are_quads; encoded = h.encoder.encodes; points = h.points }
-modulates-as Call (modulators.Answer m) bits points h = absurd h
-modulates-as Answer (modulators.Call m) bits points h = absurd h
-
-pub demodulates-as : (mode : Mode) (d : ModeDemodulator) (labels : List ℕ) (bits : List Bool) → DemodulatesAs mode d labels bits → Demodulates (tap_of mode) labels bits
-demodulates-as Call (demodulators.Call d) labels bits h = h.descrambler.descrambled
-demodulates-as Answer (demodulators.Answer d) labels bits h = h.descrambler.descrambled
-demodulates-as Call (demodulators.Answer d) labels bits h = absurd h
-demodulates-as Answer (demodulators.Call d) labels bits h = absurd h
-
 -- a transmitter's samples are what is recorded of its bits
 pub recorded : (transmitter : Transmitter) (script : ScriptValue) (bits : List Bool) (samples : List Sample) → Transmits transmitter script bits samples → Records script transmitter.sender bits samples
 recorded transmitter script bits samples h = record {
   points = h.points;
-  modulated = modulates-as (mode_of transmitter.sender) transmitter.modulator bits h.points h.modulator;
+  modulated = modulated (mode_of transmitter.sender) transmitter.modulator bits h.points h.modulator;
   samples_are = h.samples_are;
 }
 
@@ -76,7 +55,7 @@ gives sender hearer samples read h not_lost taken = record {
   labels = h.labels;
   released = subst (λ (xs : List Sample). IsReleased line_trellis xs h.labels) (ap (λ l. heard l samples) not_lost)
       (subst (λ (xs : List ℕ). IsReleased line_trellis (heard hearer.decoder.lost samples) xs) (ap (λ p. h.labels ++ p) taken ∙ append-nil h.labels) h.decoder.released);
-  read = demodulates-as (mode_of sender) hearer.receiver.demodulator h.labels read h.receiver.demodulator;
+  read = demodulated (mode_of sender) hearer.receiver.demodulator h.labels read h.receiver.demodulator;
 }
 
 -- one more quad of a slot

@@ -3,7 +3,6 @@ pub mod Recorded
 pub mod Received
 pub mod Outcomes
 pub mod Tallies
-pub mod Modes
 pub mod Receiver
 pub mod Transmits
 pub mod Hears

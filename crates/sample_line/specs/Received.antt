@@ -7,7 +7,7 @@ use Rattle.symbol_map.specs.Points.{point_of}
 use Rattle.trellis_tables.specs.Table.{next_state}
 use Rattle.survivors.specs.Trellises.{Trellis, trellis_of}
 use Rattle.survivors.specs.Survivors.{IsReleased}
-use Rattle.demodulator.specs.Demodulates.{Demodulates}
+use Rattle.line_coding.specs.Demodulates.{Demodulates}
 use Rattle.bit_stuffing.specs.Found.{Found, pieces_of}
 use Rattle.bit_stuffing.specs.Sent.{wholes}
 use Rattle.slot_contents.specs.declared.seen.Seen.{Seen}

@@ -9,7 +9,7 @@ use Rattle.slot_contents.specs.declared.sent.Sent.{Sent}
 use Rattle.sample_line.specs.declared.receiver.Finder.{Finder}
 use Rattle.sample_line.specs.declared.receiver.Receiver.{Receiver}
 use Rattle.sample_line.specs.declared.tally.Tally.{Tally}
-use Rattle.sample_line.specs.Modes.{DemodulatesAs}
+use Rattle.line_coding.specs.Demodulates.{DemodulatorStands}
 use Rattle.sample_line.specs.Tallies.{TalliesBetween}
 
 -- both readers stand for these bits
@@ -19,7 +19,7 @@ pub record HasRead (finder : Finder) (bits : List Bool) : Type 0 where
 
 -- the labels were read as these bits
 pub record ReceiverStands (mode : Mode) (receiver : Receiver) (labels : List ℕ) (bits : List Bool) : Type 0 where
-  pub demodulator : DemodulatesAs mode receiver.demodulator labels bits
+  pub demodulator : DemodulatorStands mode receiver.demodulator labels bits
   pub finder : HasRead receiver.finder bits
 
 -- the labels were read, and what was found behind the earlier bits is tallied

@@ -2,7 +2,7 @@
 use Rattle.std.specs.Prelude.{◌≡◌, ℕ, ◌+◌, ℤ, pos, neg_ℤ, ◌+ℤ◌, int_lt, if◌then◌else◌, Bool, List, [], ◌∷◌}
 use Rattle.scramblers.specs.Mode.{tap_of}
 use Rattle.symbol_map.specs.declared.sample.Sample.{Sample}
-use Rattle.modulator.specs.Modulates.{Modulates}
+use Rattle.line_coding.specs.Modulates.{Modulates}
 use Rattle.roles.specs.declared.role.Role.{Role}
 use Rattle.noise_script.specs.declared.offset.Offset.{Offset}
 use Rattle.noise_script.specs.Script.{ScriptValue, offset_of}

@@ -7,7 +7,6 @@ mod coding;
 mod hearer;
 pub mod laws;
 mod line;
-mod modes;
 mod path;
 mod receiver;
 mod tally;

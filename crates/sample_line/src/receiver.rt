@@ -10,12 +10,12 @@ ghost use Rattle.sample_line.specs.Tallies.{TalliesBetween};
 ghost use Rattle.sample_line.specs.Receiver.{HasRead, ReceiverStands, ReadsLabel};
 
 use crate::checks::frame_in;
-use crate::modes::ModeDemodulator;
 use crate::tally::Tally;
 use bit_stuffing::{Deframer, Piece};
 use detection::PatternReader;
 use frame_check::Check;
 use lapm_frames::Frame;
+use line_coding::Demodulator;
 use roles::Role;
 use scramblers::Mode;
 use slot_contents::Sent;
@@ -94,7 +94,7 @@ impl Finder {
 /// What reads the labels that the decoder releases.
 #[derive(Drop)]
 pub(crate) struct Receiver {
-    demodulator: ModeDemodulator,
+    demodulator: Demodulator,
     finder: Finder,
 }
 
@@ -104,7 +104,7 @@ impl Receiver {
         ensures { ReceiverStands mode result [] [] }
     {
         Receiver {
-            demodulator: ModeDemodulator::new(mode),
+            demodulator: Demodulator::new(mode),
             finder: Finder::new(),
         }
     }

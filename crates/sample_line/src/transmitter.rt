@@ -8,7 +8,7 @@ ghost use Rattle.noise_script.specs.declared.limits.TheConstants.{OFFSET_MOST};
 ghost use Rattle.sample_line.specs.Recorded.{saturated, displaced};
 ghost use Rattle.sample_line.specs.Transmits.{Transmits};
 
-use crate::modes::ModeModulator;
+use line_coding::Modulator;
 use noise_script::{Offset, Script};
 use roles::Role;
 use symbol_map::Sample;
@@ -41,7 +41,7 @@ fn displaced(offset: Offset, point: Sample) -> Sample
 #[derive(Drop)]
 pub(crate) struct Transmitter {
     pub sender: Role,
-    modulator: ModeModulator,
+    modulator: Modulator,
     pub symbol: u64,
 }
 
@@ -54,7 +54,7 @@ impl Transmitter {
     {
         Transmitter {
             sender,
-            modulator: ModeModulator::new(sender.mode()),
+            modulator: Modulator::new(sender.mode()),
             symbol: 0,
         }
     }

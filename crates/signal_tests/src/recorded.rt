@@ -1,6 +1,6 @@
 // Recordings of an octet in both modes.
 use recordings::{Recorder, header_octets};
-use scramblers::{ANSWER_TAP, CALL_TAP, Mode};
+use scramblers::Mode;
 
 #[test]
 fn headers_name_the_mode(rt: HostRuntime) {
@@ -12,13 +12,13 @@ fn headers_name_the_mode(rt: HostRuntime) {
 
 #[test]
 fn an_octet_becomes_two_samples(rt: HostRuntime) {
-    let mut call = Recorder::<CALL_TAP>::new();
+    let mut call = Recorder::new(Mode::Call);
     let zero = call.push(0x00);
     assert!(&rt; zero.as_slice() == [0x00, 0xe0, 0x00, 0x08, 0x00, 0xe0, 0x00, 0x08].as_slice());
-    let mut call = Recorder::<CALL_TAP>::new();
+    let mut call = Recorder::new(Mode::Call);
     let one = call.push(0x01);
     assert!(&rt; one.as_slice() == [0x00, 0xf0, 0x00, 0x18, 0x00, 0xf0, 0x00, 0x18].as_slice());
-    let mut answer = Recorder::<ANSWER_TAP>::new();
+    let mut answer = Recorder::new(Mode::Answer);
     let one = answer.push(0x01);
     assert!(&rt; one.as_slice() == [0x00, 0xf0, 0x00, 0x18, 0x00, 0x10, 0x00, 0xe8].as_slice());
 }

@@ -3,13 +3,13 @@ ghost use Rattle.slot_contents.specs.Sendable.{IsSendable};
 
 use super::*;
 use lapm_frames::Frame;
-use modulator::Modulator;
+use line_coding::Modulator;
 use noise_script::SCRIPT_OCTETS;
-use scramblers::CALL_TAP;
+use scramblers::Mode;
 use symbol_map::Sample;
 
 fn points(alloc: Global, slot: &BitSlot) -> Result<Vec<Sample>, Fail> {
-    let mut modulator = Modulator::<CALL_TAP>::new();
+    let mut modulator = Modulator::new(Mode::Call);
     let mut points = Vec::new(alloc);
     for place in 0..slot.len() {
         points.push(modulator.push(slot.quad(place)))?;

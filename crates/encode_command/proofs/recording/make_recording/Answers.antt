@@ -1,8 +1,6 @@
 use Rattle.outside_core.specs.Folder.{FolderState}
-use Rattle.command_base.specs.declared.limits.TheConstants.{FILE_LIMIT}
-use Rattle.command_base.specs.Inputs.{IsWithin}
-use Rattle.encode_command.specs.Words.{EncodeNames, named}
-use Rattle.encode_command.proofs.Making.{create-part, not-begun, begun}
+use Rattle.encode_command.specs.Words.{named}
+use Rattle.encode_command.proofs.Making.{create-part, not-begun}
 use Rattle.encode_command.proofs.recording.make_recording.Goals as goal
 
 pub returns-in-Err-clause-ends : goal.returns-in-Err-clause-ends

@@ -1,4 +1,4 @@
-use Rattle.std.proofs.Common.{◌∙◌, ℕ, ◌<◌, [], ◌∷◌, ◌++◌, sym, ap, map}
+use Rattle.std.proofs.Common.{◌∙◌, ℕ, ◌<◌, [], ◌∷◌, ◌++◌, refl, sym, ap, map}
 use Rattle.std.proofs.lemmas.List.Elements.{All-push}
 use Rattle.std.proofs.lemmas.List.{map-append}
 use Rattle.plain_lists.specs.Bits.{low_bits}
@@ -14,7 +14,7 @@ returns c mode bits samples s =
       quads = s.quads ++ quad ∷ [];
       labels = s.labels ++ c.push-label.result ∷ [];
       scrambler = c.push_four-scrambled.ensures.stands mode bits s.line s.scrambler;
-      in_fours = fours-more s.line s.quads quad s.in_fours;
+      in_fours = fours-more s.line s.quads quad _ s.in_fours refl;
       are_quads = All-push (λ quad. quad < 16) s.quads quad s.are_quads c.push_four-scrambled.ensures.bound;
       encoder = c.push-label.ensures.stands s.quads s.labels s.encoder;
       points = ap (λ xs. xs ++ c.point.result ∷ []) s.points ∙ ap (λ p. map point_of s.labels ++ p ∷ []) c.point.ensures ∙ sym (map-append point_of s.labels (c.push-label.result ∷ []));

@@ -1,5 +1,6 @@
 use Rattle.std.proofs.Common.{◌∙◌, List, Bool, ◌++◌, ap, subst}
-use Rattle.modulator.proofs.Fours.{four-behind, quad-bits}
+use Rattle.scramblers.proofs.Streams.{four-behind}
+use Rattle.line_coding.proofs.Fours.{quad-bits}
 use Rattle.sample_line.specs.Receiver.{HasRead}
 use Rattle.sample_line.specs.Tallies.{TalliesBetween}
 use Rattle.sample_line.proofs.receiver.Finder.push_four.Goals as goal
