@@ -62,10 +62,6 @@ tells-refusal old new line answer s tells r = elim tells.said [
   | inr h ↦ elim h [ inl f ↦ absurd (subst IsRefusal f.0 r) | inr f ↦ absurd (subst IsRefusal f.0 r) ]
 ]
 
--- how the program is used is told only where that is the answer
-pub tells-other : (old new : FolderState) (line : List ℕ) (answer s : Status) → Tells old new line answer s → answer ≢ Usage → s ≢ Usage
-tells-other old new line answer s tells other e = other (tells-plain old new line answer s Usage tells e usage-plain).0
-
 -- what was counted before the line was said, and then
 pub stand-later : (old before new : FolderState) (line : List ℕ) (answer s : Status) → PassesNoneOver old before answer → Tells before new line answer s → PassesNoneOver old new s
 stand-later old before new line answer s first tells = elim tells.stand [
@@ -75,14 +71,6 @@ stand-later old before new line answer s first tells = elim tells.stand [
     | inr h ↦ elim h [ inl f ↦ inl (subst IsFolderFault (sym f.0) tt) | inr f ↦ inl (subst IsFolderFault (sym f.0) tt) ]
   ]
 ]
-
--- steps that counted nothing come before others
-pub stand-earlier : (old mid new : FolderState) (s : Status) → CountsStand old mid → PassesNoneOver mid new s → PassesNoneOver old new s
-stand-earlier old mid new s first then = elim then [ inl fault ↦ inl fault | inr second ↦ inr (CountsStand-trans first second) ]
-
--- nothing was counted by what is done
-pub stand-done : (old new : FolderState) → PassesNoneOver old new Done → CountsStand old new
-stand-done old new s = elim s [ inl never ↦ absurd never | inr stood ↦ stood ]
 
 -- where saying doesn't fail the answer is the one whose line was to be said, or there was no memory
 pub told-or-memory : (old before new : FolderState) (line : List ℕ) (answer s : Status) → GoesOn old before → (Rose old.say_faults new.say_faults → ⊥) → Tells before new line answer s → (s ≡ answer) ⊎ (s ≡ NoMemory)

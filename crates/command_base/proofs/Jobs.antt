@@ -1,5 +1,5 @@
 -- From how a command answers to what every command promises.
-use Rattle.std.proofs.Common.{◌≡◌, ◌≢◌, ◌⊎◌, ◌∙◌, ◌≤◌, inl, inr, ℕ, List, [], ◌∷◌, Result, Ok, Err, refl, sym, ap, subst, arith}
+use Rattle.std.proofs.Common.{◌≡◌, ◌≢◌, ◌⊎◌, ◌∙◌, ◌≤◌, inl, inr, ℕ, List, [], ◌∷◌, ◌++◌, Result, Ok, Err, refl, sym, ap, subst, arith}
 use Rattle.outside_core.specs.Folder.{FolderState, GoesOn, KeepsName, Said, Rose, FaultsStand, CountsStand}
 use Rattle.outside_core.specs.Steps.{KeepsName-trans, Rose-later, FaultsStand-trans, CountsStand-trans}
 use Rattle.outside_core.specs.declared.folder.FolderFault.{FolderFault}
@@ -9,7 +9,6 @@ use Rattle.command_base.specs.declared.status.Status.TheVariants as status
 use Rattle.command_base.specs.declared.stop.Stop.{Stop}
 use Rattle.command_base.specs.declared.stop.Stop.TheVariants.{Own, Read, Write, Say, NoMemory}
 use Rattle.command_base.specs.Status.{IsRefusal, IsFolderFault, PassesNoneOver}
-use Rattle.command_base.specs.Inputs.{IsNotWithin}
 use Rattle.command_base.specs.Outputs.{KeepsAll, OnlyOutputs}
 use Rattle.command_base.specs.Stops.{SomeRose, IsOwn, ReadFails, WriteFails, SayFails, StopCounts, EndCounts, fault_status, stop_status, end_status}
 use Rattle.command_base.specs.Job.{Job, SaysStop, SaysLast, Answers, Shared}
@@ -34,7 +33,7 @@ read-earlier : (old mid new : FolderState) (inputs : List (List ℕ)) (fault : F
 read-earlier old mid new inputs folder.Failed stand fails = SomeRose-earlier _ _ _ inputs stand.faults.reads fails
 read-earlier old mid new inputs folder.NoMemory stand fails = (FaultsStand-trans stand.faults fails.0, subst (λ (count : ℕ). Rose count new.refusals) stand.refusals fails.1)
 
-write-earlier : (old mid new : FolderState) (outputs : List (List ℕ)) (fault : FolderFault) → CountsStand old mid → WriteFails mid new outputs fault → WriteFails old new outputs fault
+pub write-earlier : (old mid new : FolderState) (outputs : List (List ℕ)) (fault : FolderFault) → CountsStand old mid → WriteFails mid new outputs fault → WriteFails old new outputs fault
 write-earlier old mid new outputs folder.Failed stand fails = SomeRose-earlier _ _ _ outputs stand.faults.writes fails
 write-earlier old mid new outputs folder.NoMemory stand fails = subst (λ (count : ℕ). Rose count new.refusals) stand.refusals fails
 
@@ -54,14 +53,6 @@ stop-earlier old mid new inputs outputs NoMemory stand counts = FaultsStand-tran
 pub end-earlier : {D : Type 0} (old mid new : FolderState) (inputs outputs : List (List ℕ)) (end : Result D Stop) → CountsStand old mid → EndCounts mid new inputs outputs end → EndCounts old new inputs outputs end
 end-earlier old mid new inputs outputs (Ok done) stand counts = CountsStand-trans stand counts
 end-earlier old mid new inputs outputs (Err stop) stand counts = stop-earlier old mid new inputs outputs stop stand counts
-
--- an input whose length is looked at first
-pub not-within-counts : (old new : FolderState) (name : List ℕ) (limit word : ℕ) (outputs : List (List ℕ)) (stop : Stop) → IsNotWithin old new name limit word stop → StopCounts old new (name ∷ []) outputs stop
-not-within-counts old new name limit word outputs (Own answer) n = (subst IsOwn (sym n.0) tt, n.2)
-not-within-counts old new name limit word outputs (Read fault) n = n
-not-within-counts old new name limit word outputs (Write fault) n = absurd n
-not-within-counts old new name limit word outputs (Say fault) n = absurd n
-not-within-counts old new name limit word outputs NoMemory n = absurd n
 
 -- ---- what is said last
 

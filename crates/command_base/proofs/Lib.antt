@@ -4,3 +4,4 @@ pub mod Reading
 pub mod Answering
 pub mod Holding
 pub mod Jobs
+pub mod Creating

@@ -1,5 +1,5 @@
 -- Saying one thing behind another.
-use Rattle.std.proofs.Common.{◌≡◌, ◌∙◌, ℕ, List, ◌++◌, Option, Some, None, Result, Ok, Err, OnErr, refl, sym, ap, append_assoc}
+use Rattle.std.proofs.Common.{◌≡◌, ◌∙◌, ℕ, List, ◌++◌, Option, Some, None, Result, Ok, Err, OnErr, IfErr, refl, sym, ap, append_assoc}
 use Rattle.std.specs.Option.{option_map}
 use Rattle.outside_core.specs.Folder.{FolderState, Said, PartlySaid}
 
@@ -25,3 +25,7 @@ on-err (Err fault) p = p
 pub on-err-map : {T E : Type 0} {P Q : Type 0} (r : Result T E) → (P → Q) → OnErr r P → OnErr r Q
 on-err-map (Ok value) f p = tt
 on-err-map (Err fault) f p = f p
+
+pub if-err-map : {T E : Type 0} {P Q : E → Type 0} (r : Result T E) → ((e : E) → P e → Q e) → IfErr r P → IfErr r Q
+if-err-map (Ok value) f p = tt
+if-err-map (Err fault) f p = f fault p

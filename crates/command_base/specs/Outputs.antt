@@ -41,6 +41,11 @@ abbrev pub IsNoneOf : List ℕ → List (List ℕ) → Type 0
 IsNoneOf other [] = Unit {0}
 IsNoneOf other (name ∷ names) = (other ≢ name) × IsNoneOf other names
 
+-- no two of these are one name
+abbrev pub AreApart : List (List ℕ) → Type 0
+AreApart [] = Unit {0}
+AreApart (name ∷ names) = IsNoneOf name names × AreApart names
+
 -- Of all names these alone were touched. Lines may have been said.
 pub record OnlyOutputs (old new : FolderState) (outputs : List (List ℕ)) : Type 0 where
   pub goes_on : GoesOn old new

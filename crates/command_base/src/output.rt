@@ -1,7 +1,7 @@
 // Steps of an output, and of what is said.
-ghost use Rattle.std.specs.Prelude.{[], ◌∷◌, OnOk, OnErr, IfErr, IsErrOf};
+ghost use Rattle.std.specs.Prelude.{[], ◌∷◌, map, OnOk, OnErr, IfErr, IsErrOf};
 ghost use Rattle.outside_core.specs.Folder.{OnlyWrites, OnlySays, Appended, PartlyAppended, Said, PartlySaid, FaultsStand, CountsStand};
-ghost use Rattle.command_base.specs.Outputs.{Holds, KeptOrEmpty};
+ghost use Rattle.command_base.specs.Outputs.{Holds, KeptOrEmpty, AreApart, Creates, CreatesPart, OnlyOutputs, SaysNothing};
 ghost use Rattle.command_base.specs.Stops.{WriteFails, SayFails};
 
 use outside_core::{Folder, FolderFault};
@@ -18,6 +18,25 @@ pub fn create_output<F: Folder>(folder: &mut F, name: &str) -> Result<(), Folder
     match folder.create(name) {
         Ok(()) => Ok(()),
         Err(fault) => Err(fault),
+    }
+}
+
+/// Files with no octets are made, in this order, up to the first that can't be.
+pub fn create_outputs<F: Folder>(folder: &mut F, names: &[&str]) -> Result<(), FolderFault>
+    requires { AreApart (map (λ name. name.now) names.now) }
+    ensures ok { OnOk result (Creates (F.state folder.new) (map (λ name. name.now) names.now)) }
+    ensures err { OnErr result (CreatesPart (F.state folder.old) (F.state folder.new) (map (λ name. name.now) names.now)) }
+    ensures only { OnlyOutputs (F.state folder.old) (F.state folder.new) (map (λ name. name.now) names.now) }
+    ensures said { SaysNothing (F.state folder.old) (F.state folder.new) }
+    ensures fails { IfErr result (WriteFails (F.state folder.old) (F.state folder.new) (map (λ name. name.now) names.now)) }
+    ensures stand { OnOk result (CountsStand (F.state folder.old) (F.state folder.new)) }
+{
+    match names.split_first() {
+        None => Ok(()),
+        Some((name, others)) => match create_output(folder, name) {
+            Ok(()) => create_outputs(folder, others),
+            Err(fault) => Err(fault),
+        },
     }
 }
 

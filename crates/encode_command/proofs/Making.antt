@@ -137,31 +137,6 @@ recorded-whole start old mid n kept at r reads end = record {
   rec = held-after old mid n.rec (header_of n.mode ++ r.recorded) reads r.rec;
 }
 
--- a read changes nothing of it
-pub recorded-after : (start old mid : FolderState) (n : EncodeNames) (kept : Recorder) (at : ℕ) → RecordedTo start old n kept at → OnlyReads old mid → RecordedTo start mid n kept at
-recorded-after start old mid n kept at r reads = record {
-  octets = r.octets;
-  recorded = r.recorded;
-  stands = r.stands;
-  read = ReadTo-kept start old mid n.file FILE_LIMIT at r.octets r.read reads.goes_on (reads.names n.file);
-  only = OnlyOutput-trans n.rec r.only (OnlyOutput-reads n.rec reads);
-  rec = held-after old mid n.rec _ reads r.rec;
-}
-
--- the header alone is recorded
-pub header-recorded : (start old new : FolderState) (n : EncodeNames) (kept : Recorder) → are_apart n ≡ true → RecorderStands n.mode kept [] [] → Begun start old n → OnlyWrites old new n.rec →
-    Appended old new n.rec (header_of n.mode) → RecordedTo start new n kept 0
-header-recorded start old new n kept apart stands b writes puts =
-    let only : OnlyOutput start new n.rec = OnlyOutput-trans n.rec b.only (OnlyOutput-writes n.rec writes) in
-    record {
-      octets = [];
-      recorded = [];
-      stands = stands;
-      read = ReadTo-none start new n.file FILE_LIMIT b.within only.goes_on (only.names n.file (file-apart n apart));
-      only = only;
-      rec = subst (Holds new n.rec) (sym (append-nil (header_of n.mode))) (Holds-more old new n.rec [] (header_of n.mode) writes.goes_on b.empty puts);
-    }
-
 -- the header was not written
 pub header-part : (start old new : FolderState) (n : EncodeNames) → Begun start old n → OnlyWrites old new n.rec → PartlyAppended old new n.rec (header_of n.mode) → LeavesPart start new n
 header-part start old new n b writes puts =
@@ -174,10 +149,3 @@ not-begun old new n (Read fault) reads fails = inl (reads.names n.rec)
 not-begun old new n (Write fault) reads never = absurd never
 not-begun old new n (Say fault) reads never = never
 not-begun old new n NoMemory reads never = never
-
-pub begun : (old mid new : FolderState) (n : EncodeNames) → IsWithin old n.file FILE_LIMIT → OnlyReads old mid → OnlyWrites mid new n.rec → Holds new n.rec [] → Begun old new n
-begun old mid new n within reads writes empty = record {
-  within = within;
-  only = OnlyOutput-trans n.rec (OnlyOutput-reads n.rec reads) (OnlyOutput-writes n.rec writes);
-  empty = empty;
-}

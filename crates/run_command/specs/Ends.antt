@@ -1,50 +1,25 @@
 -- How a run ends, before its line is said: by its answer, what the folder then holds, and why.
-use Rattle.std.specs.Prelude.{◌≡◌, ◌≢◌, ◌⊎◌, ℕ, List, [], Result, Ok, Err}
-use Rattle.outside_core.specs.Folder.{FolderState, GoesOn, KeepsName, Rose}
-use Rattle.outside_core.specs.declared.folder.FolderFault.{FolderFault}
+use Rattle.std.specs.Prelude.{◌≡◌, ◌⊎◌, ℕ, List, [], Result, Ok, Err}
+use Rattle.outside_core.specs.Folder.{FolderState}
 use Rattle.outside_core.specs.declared.folder.FolderFault.TheVariants as folder
 use Rattle.roles.specs.declared.role.Role.{Role}
 use Rattle.line_world.specs.declared.script.Loss.{Loss}
 use Rattle.line_world.specs.declared.world.RunFault.{RunFault}
-use Rattle.line_world.specs.declared.world.RunFault.TheVariants.{WriteFault, LinkLost, NoMemory}
+use Rattle.line_world.specs.declared.world.RunFault.TheVariants as faults
 use Rattle.line_world.specs.Run.{Files}
+use Rattle.command_base.specs.declared.status.Status.{Status}
+use Rattle.command_base.specs.declared.status.Status.TheVariants.{LinkLost}
+use Rattle.command_base.specs.declared.stop.Stop.{Stop}
+use Rattle.command_base.specs.declared.stop.Stop.TheVariants.{Own, Read, Write, Say, NoMemory}
+use Rattle.command_base.specs.Inputs.{IsWithin}
+use Rattle.command_base.specs.Job.{Job}
+use Rattle.command_base.specs.Lines.{done_line}
+use Rattle.command_base.specs.Outputs.{Holds, KeepsAll, SaysNothing, CreatesPart}
 use Rattle.run_command.specs.declared.limits.Limits.{Limits}
-use Rattle.run_command.specs.declared.ending.Ending.{Ending}
-use Rattle.run_command.specs.declared.ending.Ending.TheVariants.{Refused, Stopped}
-use Rattle.run_command.specs.Words.{RunNames}
-use Rattle.run_command.specs.Inputs.{Opens, Refuses}
-use Rattle.command_base.specs.Outputs.{Holds, KeptOrEmpty, KeepsAll}
+use Rattle.run_command.specs.declared.limits.TheConstants.{LIMITS}
+use Rattle.run_command.specs.Words.{RunNames, inputs_of, outputs_of}
+use Rattle.run_command.specs.Inputs.{Opens, RefusesOwn}
 use Rattle.run_command.specs.Turns.{RunsToEnd, RunsToLoss, RunsToFault}
-
--- The three outputs alone were touched, and nothing was said.
-pub record OnlyOutputs (old new : FolderState) (n : RunNames) : Type 0 where
-  pub goes_on : GoesOn old new
-  pub names : (other : List ℕ) → other ≢ n.got_o → other ≢ n.got_a → other ≢ n.trace → KeepsName old new other
-  pub said : new.said ≡ old.said
-
--- an output is not created: those before it in the order of the words are, and those behind it are as they were
-abbrev pub CreatesPart : FolderState → FolderState → RunNames → Type 0
-CreatesPart old new n =
-    (KeptOrEmpty old new n.got_o × KeepsName old new n.got_a × KeepsName old new n.trace)
-    ⊎ (Holds new n.got_o [] × KeptOrEmpty old new n.got_a × KeepsName old new n.trace)
-    ⊎ (Holds new n.got_o [] × Holds new n.got_a [] × KeptOrEmpty old new n.trace)
-
--- The outputs are created.
-pub record Creates (new : FolderState) (n : RunNames) : Type 0 where
-  pub got_o : Holds new n.got_o []
-  pub got_a : Holds new n.got_a []
-  pub trace : Holds new n.trace []
-
--- the write faults of an output rose, or stand at their last value
-abbrev pub WriteRose : FolderState → FolderState → RunNames → Type 0
-WriteRose old new n =
-    Rose (old.write_faults n.got_o) (new.write_faults n.got_o) ⊎ Rose (old.write_faults n.got_a) (new.write_faults n.got_a)
-    ⊎ Rose (old.write_faults n.trace) (new.write_faults n.trace)
-
--- why an output is not created, by the fault
-abbrev pub FailsToWrite : FolderState → FolderState → RunNames → FolderFault → Type 0
-FailsToWrite old new n folder.Failed = WriteRose old new n
-FailsToWrite old new n folder.NoMemory = Rose old.refusals new.refusals
 
 -- Both files have crossed, in the turn of that number; the trace is empty.
 pub record EndsDone (l : Limits) (old new : FolderState) (n : RunNames) (number : ℕ) : Type 0 where
@@ -75,24 +50,44 @@ pub record EndsCreating (l : Limits) (old new : FolderState) (n : RunNames) : Ty
   pub files : Files
   pub script : List Loss
   pub opens : Opens l old n files script
-  pub creates : CreatesPart old new n
+  pub creates : CreatesPart old new (outputs_of n)
 
 -- the folder didn't write, once the inputs were read
 abbrev pub EndsWriting : Limits → FolderState → FolderState → RunNames → Type 0
 EndsWriting l old new n = EndsCreating l old new n ⊎ EndsInTurn l old new n
 
--- the run ended once its inputs were read, by the fault
-abbrev pub EndsLate : Limits → FolderState → FolderState → RunNames → RunFault → Type 0
-EndsLate l old new n WriteFault = WriteRose old new n × EndsWriting l old new n
-EndsLate l old new n NoMemory = Rose old.refusals new.refusals × EndsWriting l old new n
-EndsLate l old new n (LinkLost role segment turn) = EndsLost l old new n role segment turn
+-- That end's tries were spent, and the answer says so.
+pub record LosesLink (l : Limits) (old new : FolderState) (n : RunNames) (answer : Status) : Type 0 where
+  pub role : Role
+  pub segment : ℕ
+  pub turn : ℕ
+  pub answer_is : answer ≡ LinkLost role segment turn
+  pub lost : EndsLost l old new n role segment turn
 
--- the run ended before any output was created, for its inputs; or later
-abbrev pub EndsBy : Limits → FolderState → FolderState → RunNames → Ending → Type 0
-EndsBy l old new n (Refused refusal) = KeepsAll old new × Refuses l old new n refusal
-EndsBy l old new n (Stopped fault) = EndsLate l old new n fault
+-- why a run stops: for its inputs, before any output is created, or later
+abbrev pub EndsBy : Limits → FolderState → FolderState → RunNames → Stop → Type 0
+EndsBy l old new n (Own answer) = (KeepsAll old new × RefusesOwn l old n answer) ⊎ LosesLink l old new n answer
+EndsBy l old new n (Read fault) = KeepsAll old new
+EndsBy l old new n (Write fault) = EndsWriting l old new n
+EndsBy l old new n (Say fault) = ⊥
+EndsBy l old new n NoMemory = KeepsAll old new × IsWithin old n.script l.script
 
 -- how a run ends: done in the turn of that number, or before
-abbrev pub Ends : Limits → FolderState → FolderState → RunNames → Result ℕ Ending → Type 0
+abbrev pub Ends : Limits → FolderState → FolderState → RunNames → Result ℕ Stop → Type 0
 Ends l old new n (Ok number) = EndsDone l old new n number
-Ends l old new n (Err ending) = EndsBy l old new n ending
+Ends l old new n (Err stop) = EndsBy l old new n stop
+
+-- why a run stops whose turns end by this fault
+abbrev pub fault_stop : RunFault → Stop
+fault_stop faults.WriteFault = Write folder.Failed
+fault_stop (faults.LinkLost role segment turn) = Own (LinkLost role segment turn)
+fault_stop faults.NoMemory = Write folder.NoMemory
+
+-- The job of the command: done, its line says the last turn.
+abbrev pub run_job : RunNames → Job ℕ
+run_job n = record {
+  inputs = inputs_of n;
+  outputs = outputs_of n;
+  Ends = λ old new end. Ends LIMITS old new n end × SaysNothing old new;
+  line_of = done_line;
+}

@@ -1,17 +1,14 @@
 -- What a run promises, over the folder before and after it. What is said of a name's octets holds where the folder
 -- tells that name.
-use Rattle.std.specs.Prelude.{◌≡◌, ◌≢◌, ◌⊎◌, ℕ, ◌+◌, ◌*◌, ◌<◌, IsTrue, List, Some}
+use Rattle.std.specs.Prelude.{◌≡◌, ◌⊎◌, ℕ, ◌+◌, ◌*◌, ◌<◌, IsTrue, List, Some}
 use Rattle.plain_lists.specs.Prefix.{IsPrefixOf}
-use Rattle.outside_core.specs.Folder.{FolderState, held_at, octets_at, KeepsName, Said, Rose}
+use Rattle.outside_core.specs.Folder.{FolderState, held_at, octets_at, KeepsName, Said}
 use Rattle.line_world.specs.Run.{segments}
 use Rattle.command_base.specs.declared.status.Status.{Status}
-use Rattle.command_base.specs.declared.status.Status.TheVariants.{Done, ReadFault, WriteFault}
-use Rattle.command_base.specs.Status.{IsRefusal}
+use Rattle.command_base.specs.declared.status.Status.TheVariants.{Done}
+use Rattle.command_base.specs.Job.{Shared}
 use Rattle.command_base.specs.Lines.{done_line}
-use Rattle.command_base.specs.Outputs.{KeepsAll}
-use Rattle.run_command.specs.Words.{RunNames}
-use Rattle.run_command.specs.Inputs.{ReadRose}
-use Rattle.run_command.specs.Ends.{WriteRose}
+use Rattle.run_command.specs.Words.{RunNames, inputs_of, outputs_of}
 
 -- a received file is as it was, or holds the beginning of the other end's file
 abbrev pub KeptOrPrefix : FolderState → FolderState → List ℕ → List ℕ → Type 0
@@ -28,12 +25,9 @@ SaysDone old new n = (turn : ℕ) × Said old new (done_line turn)
 
 -- Whatever the line loses, each end receives a prefix of the other's file; done means both whole; a fault has its cause.
 pub record Headline (old new : FolderState) (n : RunNames) (s : Status) : Type 0 where
+  pub shared : Shared (inputs_of n) (outputs_of n) old new s
   pub got_o : KeptOrPrefix old new n.got_o n.answ
   pub got_a : KeptOrPrefix old new n.got_a n.orig
   pub whole_o : s ≡ Done → HoldsWhole old new n.got_o n.answ
   pub whole_a : s ≡ Done → HoldsWhole old new n.got_a n.orig
   pub said : s ≡ Done → SaysDone old new n
-  pub names : (other : List ℕ) → other ≢ n.got_o → other ≢ n.got_a → other ≢ n.trace → KeepsName old new other
-  pub refused : IsRefusal s → KeepsAll old new
-  pub read : s ≡ ReadFault → ReadRose old new n
-  pub write : s ≡ WriteFault → WriteRose old new n ⊎ Rose old.say_faults new.say_faults

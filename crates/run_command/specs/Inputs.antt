@@ -1,6 +1,6 @@
 -- Which inputs a run takes, and why it refuses others. What is said of a file holds where the folder tells its name.
 use Rattle.std.specs.Prelude.{◌≡◌, ◌⊎◌, ℕ, IsTrue, List}
-use Rattle.outside_core.specs.Folder.{FolderState, octets_at, Rose, FaultsStand}
+use Rattle.outside_core.specs.Folder.{FolderState, octets_at}
 use Rattle.line_world.specs.Run.{Files}
 use Rattle.line_world.specs.Script.{Spells, FirstFault}
 use Rattle.line_world.specs.declared.script.Loss.{Loss}
@@ -9,8 +9,10 @@ use Rattle.script_causes.specs.declared.cause.Cause.TheVariants.{Word}
 use Rattle.command_base.specs.Inputs.{IsWithin, IsLonger}
 use Rattle.run_command.specs.Words.{RunNames}
 use Rattle.run_command.specs.declared.limits.Limits.{Limits}
-use Rattle.run_command.specs.declared.ending.Refusal.{Refusal}
-use Rattle.run_command.specs.declared.ending.Refusal.TheVariants.{BadScript, TooLong, ReadFault, NoMemory}
+use Rattle.command_base.specs.declared.status.Status.{Status}
+use Rattle.command_base.specs.declared.status.Status.TheVariants.{BadScript, TooLong}
+use Rattle.command_base.specs.declared.stop.Stop.{Stop}
+use Rattle.command_base.specs.declared.stop.Stop.TheVariants.{Own, Read, NoMemory}
 
 -- A script within its limit that spells these losses.
 pub record ReadsScript (l : Limits) (f : FolderState) (n : RunNames) (script : List Loss) : Type 0 where
@@ -51,23 +53,22 @@ pub record ScriptFaulty (l : Limits) (f : FolderState) (n : RunNames) (line : �
   pub first : IsTrue (f.tells n.script) → FirstFault (octets_at f n.script) line
   pub cause_is : cause ≡ Word
 
--- the read faults of an input rose, or stand at their last value
-abbrev pub ReadRose : FolderState → FolderState → RunNames → Type 0
-ReadRose old new n =
-    Rose (old.read_faults n.orig) (new.read_faults n.orig) ⊎ Rose (old.read_faults n.answ) (new.read_faults n.answ)
-    ⊎ Rose (old.read_faults n.script) (new.read_faults n.script)
+-- what is refused of the inputs, by the answer
+abbrev pub RefusesOwn : Limits → FolderState → RunNames → Status → Type 0
+RefusesOwn l f n (TooLong word) = ScriptTooLong l f n word ⊎ OrigTooLong l f n word ⊎ AnswTooLong l f n word
+RefusesOwn l f n (BadScript line cause) = ScriptFaulty l f n line cause
+RefusesOwn l f n answer = ⊥
 
--- why the inputs are not taken, by the refusal; where there was no memory, no fault was counted, and it is the folder that had none, or
--- the script is within its limit
-abbrev pub Refuses : Limits → FolderState → FolderState → RunNames → Refusal → Type 0
-Refuses l old new n (TooLong word) = ScriptTooLong l old n word ⊎ OrigTooLong l old n word ⊎ AnswTooLong l old n word
-Refuses l old new n (BadScript line cause) = ScriptFaulty l old n line cause
-Refuses l old new n ReadFault = ReadRose old new n
-Refuses l old new n NoMemory = FaultsStand old new × (Rose old.refusals new.refusals ⊎ IsWithin old n.script l.script)
+-- why the inputs are not taken; where there was no memory but by the folder, the script is within its limit
+abbrev pub Refuses : Limits → FolderState → RunNames → Stop → Type 0
+Refuses l f n (Own answer) = RefusesOwn l f n answer
+Refuses l f n (Read fault) = Unit {0}
+Refuses l f n NoMemory = IsWithin f n.script l.script
+Refuses l f n stop = ⊥
 
--- why the two files are not taken once the script is read, by the refusal
-abbrev pub RefusesFiles : Limits → FolderState → FolderState → RunNames → Refusal → Type 0
-RefusesFiles l old new n (TooLong word) = ((word ≡ 1) × IsLonger old n.orig l.file) ⊎ ((word ≡ 2) × IsWithin old n.orig l.file × IsLonger old n.answ l.file)
-RefusesFiles l old new n (BadScript line cause) = ⊥
-RefusesFiles l old new n ReadFault = Rose (old.read_faults n.orig) (new.read_faults n.orig) ⊎ Rose (old.read_faults n.answ) (new.read_faults n.answ)
-RefusesFiles l old new n NoMemory = FaultsStand old new × (Rose old.refusals new.refusals ⊎ (IsWithin old n.orig l.file × IsWithin old n.answ l.file))
+-- why the two files are not taken once the script is read
+abbrev pub RefusesFiles : Limits → FolderState → RunNames → Stop → Type 0
+RefusesFiles l f n (Own answer) = ((answer ≡ TooLong 1) × IsLonger f n.orig l.file) ⊎ ((answer ≡ TooLong 2) × IsWithin f n.orig l.file × IsLonger f n.answ l.file)
+RefusesFiles l f n (Read fault) = Unit {0}
+RefusesFiles l f n NoMemory = IsWithin f n.orig l.file × IsWithin f n.answ l.file
+RefusesFiles l f n stop = ⊥

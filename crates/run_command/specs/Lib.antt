@@ -2,5 +2,4 @@ pub mod Words
 pub mod Inputs
 pub mod Turns
 pub mod Ends
-pub mod Answers
 pub mod Headline

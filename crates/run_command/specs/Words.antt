@@ -33,6 +33,13 @@ names_of words = None
 abbrev pub named : RunWords → RunNames
 named w = record { orig = w.orig.now; answ = w.answ.now; script = w.script.now; got_o = w.got_o.now; got_a = w.got_a.now; trace = w.trace.now }
 
+-- the names that are read, and those that are written, in the order of the words
+abbrev pub inputs_of : RunNames → List (List ℕ)
+inputs_of n = n.orig ∷ n.answ ∷ n.script ∷ []
+
+abbrev pub outputs_of : RunNames → List (List ℕ)
+outputs_of n = n.got_o ∷ n.got_a ∷ n.trace ∷ []
+
 -- the names that turns use
 abbrev pub names_written : RunNames → Written
 names_written n = record { orig = n.orig; answ = n.answ; got_o = n.got_o; got_a = n.got_a; trace = n.trace }

@@ -1,18 +1,16 @@
 // A run's inputs, looked at in order.
-ghost use Rattle.std.specs.Prelude.{◌≡◌, ◌≤◌, ◌<◌, ◌^◌, IfOk, IfErr, MatchResult, IsTrue, vec_len};
-ghost use Rattle.outside_core.specs.Folder.{OnlyReads, Rose, CountsStand, octets_at};
-ghost use Rattle.run_command.specs.Inputs.{ReadsScript, Opens, Refuses, RefusesFiles};
-ghost use Rattle.run_command.specs.Answers.{refusal_status};
+ghost use Rattle.std.specs.Prelude.{◌≡◌, ◌≤◌, ◌<◌, ◌^◌, IfOk, IfErr, IsTrue, vec_len};
+ghost use Rattle.outside_core.specs.Folder.{OnlyReads, octets_at};
 ghost use Rattle.command_base.specs.Inputs.{IsWithin};
-ghost use Rattle.command_base.specs.Status.{IsFolderFault, PassesNoneOver};
-ghost use Rattle.run_command.specs.Words.{named};
+ghost use Rattle.command_base.specs.Stops.{EndCounts};
+ghost use Rattle.run_command.specs.Inputs.{ReadsScript, Opens, Refuses, RefusesFiles};
+ghost use Rattle.run_command.specs.Words.{named, inputs_of, outputs_of};
 
-use crate::Refusal;
 use crate::limits::Limits;
 use crate::words::RunWords;
-use command_base::{is_longer, read_file};
+use command_base::{Status, Stop, read_file, within_limit};
 use line_world::{Script, ScriptFault, read_script};
-use outside_core::{Folder, FolderFault};
+use outside_core::Folder;
 use std::alloc::Global;
 
 /// What a run is made from.
@@ -30,44 +28,33 @@ const ANSW: usize = 2;
 
 const SCRIPT: usize = 3;
 
-/// The answer to a read that failed.
-fn read_fault(fault: FolderFault) -> Refusal
-    ensures failed { fault ≡ FolderFault.Failed → result ≡ Refusal.ReadFault }
-    ensures memory { fault ≡ FolderFault.NoMemory → result ≡ Refusal.NoMemory }
-    ensures folder { IsFolderFault (refusal_status result) }
-{
-    match fault {
-        FolderFault::Failed => Refusal::ReadFault,
-        FolderFault::NoMemory => Refusal::NoMemory,
-    }
-}
-
 /// The script, read and understood.
 fn open_script<F: Folder>(
     alloc: Global,
     folder: &mut F,
     words: &RunWords<'_>,
     limits: Limits,
-) -> Result<Script, Refusal>
+) -> Result<Script, Stop>
     requires { limits.script < 2 ^ 32 }
     ensures opened { IfOk result (λ script. ReadsScript limits (F.state folder.old) (named words.now) script) }
     ensures reads { OnlyReads (F.state folder.old) (F.state folder.new) }
-    ensures stand { MatchResult result (λ script. CountsStand (F.state folder.old) (F.state folder.new)) (λ refusal. PassesNoneOver (F.state folder.old) (F.state folder.new) (refusal_status refusal)) }
-    ensures refused { IfErr result (Refuses limits (F.state folder.old) (F.state folder.new) (named words.now)) }
+    ensures counts { EndCounts (F.state folder.old) (F.state folder.new) (inputs_of (named words.now)) (outputs_of (named words.now)) result }
+    ensures refused { IfErr result (Refuses limits (F.state folder.old) (named words.now)) }
 {
-    match is_longer(folder, words.script, limits.script) {
-        Ok(false) => {}
-        Ok(true) => return Err(Refusal::TooLong { word: SCRIPT }),
-        Err(fault) => return Err(read_fault(fault)),
+    match within_limit(folder, words.script, limits.script, SCRIPT) {
+        Ok(()) => {}
+        Err(stop) => return Err(stop),
     }
     let text = match read_file(alloc, folder, words.script, limits.script) {
         Ok(text) => text,
-        Err(fault) => return Err(read_fault(fault)),
+        Err(stop) => return Err(stop),
     };
     match read_script(alloc, &text) {
         Ok(script) => Ok(script),
-        Err(ScriptFault::Line { line, cause }) => Err(Refusal::BadScript { line, cause }),
-        Err(ScriptFault::NoMemory) => Err(Refusal::NoMemory),
+        Err(ScriptFault::Line { line, cause }) => {
+            Err(Stop::Own(Status::BadScript { line, cause }))
+        }
+        Err(ScriptFault::NoMemory) => Err(Stop::NoMemory),
     }
 }
 
@@ -84,7 +71,7 @@ fn open_files<F: Folder>(
     folder: &mut F,
     words: &RunWords<'_>,
     limits: Limits,
-) -> Result<SentFiles, Refusal>
+) -> Result<SentFiles, Stop>
     ensures orig_within { IfOk result (λ files. IsWithin (F.state folder.old) words.now.orig.now limits.file) }
     ensures answ_within { IfOk result (λ files. IsWithin (F.state folder.old) words.now.answ.now limits.file) }
     ensures orig { IfOk result (λ files. IsTrue ((F.state folder.old).tells words.now.orig.now) → files.orig.items ≡ octets_at (F.state folder.old) words.now.orig.now) }
@@ -92,26 +79,24 @@ fn open_files<F: Folder>(
     ensures orig_bound { IfOk result (λ files. vec_len files.orig ≤ limits.file) }
     ensures answ_bound { IfOk result (λ files. vec_len files.answ ≤ limits.file) }
     ensures reads { OnlyReads (F.state folder.old) (F.state folder.new) }
-    ensures stand { MatchResult result (λ files. CountsStand (F.state folder.old) (F.state folder.new)) (λ refusal. PassesNoneOver (F.state folder.old) (F.state folder.new) (refusal_status refusal)) }
-    ensures refused { IfErr result (RefusesFiles limits (F.state folder.old) (F.state folder.new) (named words.now)) }
+    ensures counts { EndCounts (F.state folder.old) (F.state folder.new) (inputs_of (named words.now)) (outputs_of (named words.now)) result }
+    ensures refused { IfErr result (RefusesFiles limits (F.state folder.old) (named words.now)) }
 {
-    match is_longer(folder, words.orig, limits.file) {
-        Ok(false) => {}
-        Ok(true) => return Err(Refusal::TooLong { word: ORIG }),
-        Err(fault) => return Err(read_fault(fault)),
+    match within_limit(folder, words.orig, limits.file, ORIG) {
+        Ok(()) => {}
+        Err(stop) => return Err(stop),
     }
-    match is_longer(folder, words.answ, limits.file) {
-        Ok(false) => {}
-        Ok(true) => return Err(Refusal::TooLong { word: ANSW }),
-        Err(fault) => return Err(read_fault(fault)),
+    match within_limit(folder, words.answ, limits.file, ANSW) {
+        Ok(()) => {}
+        Err(stop) => return Err(stop),
     }
     let orig = match read_file(alloc, folder, words.orig, limits.file) {
         Ok(orig) => orig,
-        Err(fault) => return Err(read_fault(fault)),
+        Err(stop) => return Err(stop),
     };
     match read_file(alloc, folder, words.answ, limits.file) {
         Ok(answ) => Ok(SentFiles { orig, answ }),
-        Err(fault) => Err(read_fault(fault)),
+        Err(stop) => Err(stop),
     }
 }
 
@@ -121,18 +106,18 @@ pub(crate) fn open_inputs<F: Folder>(
     folder: &mut F,
     words: &RunWords<'_>,
     limits: Limits,
-) -> Result<Inputs, Refusal>
+) -> Result<Inputs, Stop>
     requires { limits.script < 2 ^ 32 }
     ensures opened { IfOk result (λ i. Opens limits (F.state folder.old) (named words.now) (record { orig = i.orig.items; answ = i.answ.items }) i.script) }
     ensures orig_bound { IfOk result (λ i. vec_len i.orig ≤ limits.file) }
     ensures answ_bound { IfOk result (λ i. vec_len i.answ ≤ limits.file) }
     ensures reads { OnlyReads (F.state folder.old) (F.state folder.new) }
-    ensures stand { MatchResult result (λ inputs. CountsStand (F.state folder.old) (F.state folder.new)) (λ refusal. PassesNoneOver (F.state folder.old) (F.state folder.new) (refusal_status refusal)) }
-    ensures refused { IfErr result (Refuses limits (F.state folder.old) (F.state folder.new) (named words.now)) }
+    ensures counts { EndCounts (F.state folder.old) (F.state folder.new) (inputs_of (named words.now)) (outputs_of (named words.now)) result }
+    ensures refused { IfErr result (Refuses limits (F.state folder.old) (named words.now)) }
 {
     let script = match open_script(alloc, folder, words, limits) {
         Ok(script) => script,
-        Err(refusal) => return Err(refusal),
+        Err(stop) => return Err(stop),
     };
     match open_files(alloc, folder, words, limits) {
         Ok(files) => Ok(Inputs {
@@ -140,6 +125,6 @@ pub(crate) fn open_inputs<F: Folder>(
             answ: files.answ,
             script,
         }),
-        Err(refusal) => Err(refusal),
+        Err(stop) => Err(stop),
     }
 }

@@ -3,7 +3,6 @@
 #![tactic(auto)]
 
 mod command;
-mod ending;
 mod inputs;
 mod laws;
 mod limits;
@@ -12,6 +11,5 @@ mod turns;
 mod words;
 
 pub use command::run;
-pub use ending::{Ending, Refusal};
 pub use laws::limits_of_inputs;
 pub use words::{RunWords, run_words};

@@ -1,17 +1,24 @@
--- From every answer to when the command is done.
-use Rattle.std.proofs.Common.{◌≡◌, ◌∙◌, inl, inr, ℕ, ◌≤◌, ◌<◌, List, length, Ok, sym, subst, arith}
+-- Every answer of the command, and when it is done.
+use Rattle.std.proofs.Common.{◌≡◌, ◌∙◌, inl, inr, ℕ, ◌≤◌, ◌<◌, List, [], length, Ok, Err, refl, sym, subst, arith}
 use Rattle.hex.specs.Hex.{decode_of}
 use Rattle.hex.proofs.HexLemmas.{decode_of-ok, decode_of-same}
 use Rattle.outside_core.specs.Folder.{FolderState}
-use Rattle.outside_core.specs.Steps.{GoesOn-refl}
+use Rattle.outside_core.specs.Steps.{CountsStand-refl}
+use Rattle.xid_params.specs.declared.offer.Offer.{Offer}
 use Rattle.xid_params.specs.Offers.{OfferSpelling}
 use Rattle.xid_params.proofs.Exact.{never-both}
 use Rattle.command_base.specs.declared.limits.TheConstants.{HEX_LIMIT}
 use Rattle.command_base.specs.declared.status.Status.{Status}
 use Rattle.command_base.specs.declared.status.Status.TheVariants.{Done, Usage, BadScript, BadRecording, BadHex, BadXid, TooLong, ReadFault, WriteFault, LineLost, LinkLost, NoMemory}
-use Rattle.command_base.proofs.Answering.{told-or-memory}
+use Rattle.command_base.specs.declared.stop.Stop.TheVariants.{Own}
+use Rattle.command_base.specs.Stops.{IsOwn}
+use Rattle.command_base.specs.Job.{SaysStop, Answers}
+use Rattle.command_base.specs.Tells.{Tells}
+use Rattle.command_base.proofs.OnlyOutputs.{OnlyOutputs-refl}
+use Rattle.command_base.proofs.Jobs.{done-unless-memory}
 use Rattle.xid_command.specs.Digits.{IsBadHex}
-use Rattle.xid_command.specs.Answers.{Refuses, AnswersXid}
+use Rattle.xid_command.specs.Ends.{Explains, Refuses, xid_job}
+use Rattle.xid_command.specs.OfferLine.{offer_line}
 use Rattle.xid_command.specs.Completes.{SpellAnOffer, Completes}
 
 never-longer : (count : ℕ) → count ≤ 512 → HEX_LIMIT < count → ⊥
@@ -38,6 +45,44 @@ never-refused digits (LineLost role symbol) r why = why
 never-refused digits (LinkLost role segment turn) r why = why
 never-refused digits NoMemory r why = why
 
-pub completes-of : (words : List (List ℕ)) (old new : FolderState) (digits : List ℕ) (s : Status) → AnswersXid words old new digits s → Completes old new digits s
-completes-of words old new digits s (inl a) sound r = told-or-memory old old new _ Done s (GoesOn-refl old) sound.says a.tells
-completes-of words old new digits s (inr a) sound r = absurd (never-refused digits a.status r a.refuses)
+-- what digits are refused for is the command's own answer
+refuses-own : (digits : List ℕ) (answer : Status) → Refuses digits answer → IsOwn answer
+refuses-own digits (BadXid fault) why = tt
+refuses-own digits (TooLong word) why = tt
+refuses-own digits (BadHex at) why = tt
+refuses-own digits Done why = why
+refuses-own digits Usage why = why
+refuses-own digits (BadScript line cause) why = tt
+refuses-own digits (BadRecording at) why = tt
+refuses-own digits ReadFault why = why
+refuses-own digits WriteFault why = why
+refuses-own digits (LineLost role symbol) why = tt
+refuses-own digits (LinkLost role segment turn) why = tt
+refuses-own digits NoMemory why = why
+
+-- the offer was explained
+pub explained : (words : List (List ℕ)) (old new : FolderState) (digits : List ℕ) (offer : Offer) (s : Status) → Explains digits offer → Tells old new (offer_line offer) Done s → Answers (xid_job digits) words old new s
+explained words old new digits offer s explains tells = record {
+  end = Ok offer;
+  before = old;
+  ends = (explains, refl);
+  only = OnlyOutputs-refl old [];
+  refused = λ never. absurd never;
+  counts = CountsStand-refl old;
+  says = tells;
+}
+
+-- the digits were refused
+pub not-explained : (words : List (List ℕ)) (old new : FolderState) (digits : List ℕ) (answer s : Status) → Refuses digits answer → SaysStop words old new (Own answer) s → Answers (xid_job digits) words old new s
+not-explained words old new digits answer s refuses says = record {
+  end = Err (Own answer);
+  before = old;
+  ends = (refuses, refl);
+  only = OnlyOutputs-refl old [];
+  refused = λ r name told. refl;
+  counts = (refuses-own digits answer refuses, CountsStand-refl old);
+  says = says;
+}
+
+pub completes-of : (words : List (List ℕ)) (old new : FolderState) (digits : List ℕ) (s : Status) → Answers (xid_job digits) words old new s → Completes old new digits s
+completes-of words old new digits s a sound r = done-unless-memory (xid_job digits) words old new s a sound (λ answer ends. never-refused digits answer r ends.0)

@@ -1,3 +1,2 @@
 mod Decoding
-mod Known
 mod Completes

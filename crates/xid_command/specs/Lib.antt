@@ -1,5 +1,5 @@
 pub mod Words
 pub mod Digits
 pub mod OfferLine
-pub mod Answers
+pub mod Ends
 pub mod Completes

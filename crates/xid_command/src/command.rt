@@ -1,13 +1,12 @@
 // The command: digits are read, the field is understood, and a line is said.
-ghost use Rattle.std.specs.Prelude.{◌≢◌, map, string_bytes, IfErr, IfOk};
-ghost use Rattle.command_base.specs.Outputs.{KeepsAll};
-ghost use Rattle.command_base.specs.Status.{PassesNoneOver};
+ghost use Rattle.std.specs.Prelude.{[], map, string_bytes, IfErr, IfOk};
+ghost use Rattle.command_base.specs.Job.{Answers, Shared};
 ghost use Rattle.xid_command.specs.Completes.{Completes};
-ghost use Rattle.xid_command.specs.Answers.{AnswersXid, Explains, Refuses};
+ghost use Rattle.xid_command.specs.Ends.{Explains, Refuses, xid_job};
 
 use crate::digits::read_digits;
 use crate::offer_line::write_offer_line;
-use command_base::{Status, tell, tell_status};
+use command_base::{Status, Stop, tell, tell_stop};
 use outside_core::Folder;
 use xid_params::{Offer, read_offer};
 
@@ -23,31 +22,27 @@ fn explain(digits: &str) -> Result<Offer, Status>
     }
 }
 
+/// Says the offer, or why the digits spell none.
+fn explain_and_tell<F: Folder>(folder: &mut F, words: &[String], digits: &str) -> Status
+    ensures { Answers (xid_job digits.now) (map string_bytes words.now) (F.state folder.old) (F.state folder.new) result }
+{
+    match explain(digits) {
+        Ok(offer) => tell(folder, write_offer_line(&offer).as_slice(), Status::Done),
+        Err(answer) => tell_stop(folder, words, Stop::Own(answer)),
+    }
+}
+
 /// Says the offer of an information field, given in hexadecimal digits, or why it spells none. No memory is taken, and no name
 /// of the folder is touched.
 pub fn xid<F: Folder>(folder: &mut F, words: &[String], digits: &str) -> Status
-    // No name changes, and these words are never told how the program is used.
-    ensures names { KeepsAll (F.state folder.old) (F.state folder.new) }
-    ensures known { result ≢ Status.Usage }
+    // No name changes.
+    ensures headline { Shared [] [] (F.state folder.old) (F.state folder.new) result }
 
     // Where the digits spell an offer and saying doesn't fail, nothing but want of memory keeps it from being done.
     ensures completes { Completes (F.state folder.old) (F.state folder.new) digits.now result }
 
-    // No fault of the folder is passed over.
-    ensures stand { PassesNoneOver (F.state folder.old) (F.state folder.new) result }
-
     // Each answer comes where it has to, with its line.
-    ensures answer { AnswersXid (map string_bytes words.now) (F.state folder.old) (F.state folder.new) digits.now result }
+    ensures answer { Answers (xid_job digits.now) (map string_bytes words.now) (F.state folder.old) (F.state folder.new) result }
 {
     explain_and_tell(folder, words, digits)
-}
-
-/// Says the offer, or why the digits spell none.
-fn explain_and_tell<F: Folder>(folder: &mut F, words: &[String], digits: &str) -> Status
-    ensures { AnswersXid (map string_bytes words.now) (F.state folder.old) (F.state folder.new) digits.now result }
-{
-    match explain(digits) {
-        Ok(offer) => tell(folder, write_offer_line(&offer).as_slice(), Status::Done),
-        Err(status) => tell_status(folder, words, status),
-    }
 }

@@ -2,17 +2,12 @@
 ghost use Rattle.std.specs.Prelude.{◌≡◌, ◌≤◌, ◌+◌, ◌++◌, length, decimal, ◌<◌, ◌^◌};
 ghost use Rattle.xid_command.specs.OfferLine.{offer_line, flag_word};
 
-use frame_check::Octets;
+use command_base::{LINE, Line};
 use line_texts::put_decimal;
 use xid_params::Offer;
 
-/// The most octets of the line of an offer.
-const LINE: usize = 160;
-
-pub(crate) type OfferLine = Octets<LINE>;
-
 /// Puts a word behind the line, and a number in decimal digits behind the word.
-fn put(line: &mut OfferLine, word: &[u8], number: u64)
+fn put(line: &mut Line, word: &[u8], number: u64)
     requires { length line.old + length word.now + 20 ≤ LINE }
     ensures text { line.new ≡ line.old ++ word.now ++ decimal number }
     ensures room { length line.new ≤ length line.old + length word.now + 20 }
@@ -22,7 +17,7 @@ fn put(line: &mut OfferLine, word: &[u8], number: u64)
 }
 
 /// Puts a word behind the line, and behind it 1 where the function is offered and 0 where it isn't.
-fn put_flag(line: &mut OfferLine, word: &[u8], flag: bool)
+fn put_flag(line: &mut Line, word: &[u8], flag: bool)
     requires { length line.old + length word.now + 1 ≤ LINE }
     ensures text { line.new ≡ line.old ++ word.now ++ flag_word flag }
     ensures room { length line.new ≤ length line.old + length word.now + 1 }
@@ -32,10 +27,10 @@ fn put_flag(line: &mut OfferLine, word: &[u8], flag: bool)
 }
 
 /// The line of an offer: windows in segments, lengths in octets, and the functions that are offered.
-pub(crate) fn write_offer_line(offer: &Offer) -> OfferLine
+pub(crate) fn write_offer_line(offer: &Offer) -> Line
     ensures { result ≡ offer_line offer.now }
 {
-    let mut line = OfferLine::new();
+    let mut line = Line::new();
     put(&mut line, b"window tx=", u64::from(offer.tx_window));
     put(&mut line, b" rx=", u64::from(offer.rx_window));
     put(&mut line, b" length tx=", u64::from(offer.tx_len));

@@ -1,32 +1,33 @@
-use Rattle.std.proofs.Common.{◌∙◌, List, ℕ, Ok, Err, map, string_bytes, subst}
+use Rattle.std.proofs.Common.{◌∙◌, ℕ, List, Ok, Err, subst}
 use Rattle.outside_core.specs.Folder.{FolderState}
-use Rattle.command_base.specs.declared.status.Status.{Status}
 use Rattle.command_base.specs.declared.status.Status.TheVariants.{Done}
-use Rattle.command_base.specs.Lines.{status_line}
 use Rattle.command_base.specs.Tells.{Tells}
+use Rattle.run_command.specs.Words.{RunNames, named}
+use Rattle.run_command.proofs.Headline.{refused-by}
 use Rattle.run_command.proofs.command.run_and_tell.Goals as goal
 
 pub returns-in-Ok : goal.returns-in-Ok
 returns-in-Ok g c =
-    let before : FolderState = g.F.Folder.state c.run_to_end.new.folder in let new : FolderState = g.F.Folder.state c.tell.new.folder in
+    let before : FolderState = g.F.Folder.state c.run_to_end.new.folder in let new : FolderState = g.F.Folder.state c.tell.new.folder in let n : RunNames = named c.args.names.now in
     record {
-      job = Ok c.in-Ok.turn;
+      end = Ok c.in-Ok.turn;
       before = before;
-      ends = c.in-Ok.ensures.ends;
+      ends = (c.in-Ok.ensures.ends, c.in-Ok.ensures.said);
       only = c.in-Ok.ensures.only;
-      stand = c.in-Ok.ensures.stand;
-      tells = subst (λ (line : List ℕ). Tells before new line Done c.tell.result) (c.as_slice.ensures.items ∙ c.write_done.ensures) c.tell.ensures;
+      refused = λ never. absurd never;
+      counts = c.in-Ok.ensures.counts;
+      says = subst (λ (line : List ℕ). Tells before new line Done c.tell.result) (c.as_slice.ensures.items ∙ c.write_done.ensures) c.tell.ensures;
     }
 
 pub returns-in-Err : goal.returns-in-Err
 returns-in-Err g c =
-    let before : FolderState = g.F.Folder.state c.run_to_end.new.folder in let new : FolderState = g.F.Folder.state c.tell_status.new.folder in
-    let words : List (List ℕ) = map string_bytes c.args.words.now in
+    let before : FolderState = g.F.Folder.state c.run_to_end.new.folder in let n : RunNames = named c.args.names.now in
     record {
-      job = Err c.in-Err.ending;
+      end = Err c.in-Err.stop;
       before = before;
-      ends = c.in-Err.ensures.ends;
+      ends = (c.in-Err.ensures.ends, c.in-Err.ensures.said);
       only = c.in-Err.ensures.only;
-      stand = c.in-Err.ensures.stand;
-      tells = subst (λ (status : Status). Tells before new (status_line words status) status c.tell_status.result) c.status_of_ending.ensures c.tell_status.ensures;
+      refused = refused-by (g.F.Folder.state c.args.folder.now) before n (Err c.in-Err.stop) c.in-Err.ensures.ends;
+      counts = c.in-Err.ensures.counts;
+      says = c.tell_stop.ensures;
     }

@@ -1,16 +1,16 @@
--- What the command answers, and what it says.
-use Rattle.std.specs.Prelude.{◌≡◌, ◌⊎◌, ℕ, ◌≤◌, List, length, Ok}
+-- How the command ends, before its line is said.
+use Rattle.std.specs.Prelude.{◌≡◌, ℕ, ◌≤◌, List, [], length, Result, Ok, Err}
 use Rattle.hex.specs.Hex.{decode_of}
-use Rattle.outside_core.specs.Folder.{FolderState}
 use Rattle.xid_params.specs.declared.offer.Offer.{Offer}
 use Rattle.xid_params.specs.declared.fault.XidFault.{XidFault}
 use Rattle.xid_params.specs.Offers.{OfferSpelling}
 use Rattle.xid_params.specs.Faults.{FirstFault}
 use Rattle.command_base.specs.declared.limits.TheConstants.{HEX_LIMIT}
 use Rattle.command_base.specs.declared.status.Status.{Status}
-use Rattle.command_base.specs.declared.status.Status.TheVariants.{Done, BadXid}
-use Rattle.command_base.specs.Lines.{status_line}
-use Rattle.command_base.specs.Tells.{Tells}
+use Rattle.command_base.specs.declared.status.Status.TheVariants.{BadXid}
+use Rattle.command_base.specs.declared.stop.Stop.{Stop}
+use Rattle.command_base.specs.declared.stop.Stop.TheVariants.{Own}
+use Rattle.command_base.specs.Job.{Job}
 use Rattle.xid_command.specs.Digits.{RefusesDigits}
 use Rattle.xid_command.specs.OfferLine.{offer_line}
 
@@ -33,17 +33,12 @@ abbrev pub Refuses : List ℕ → Status → Type 0
 Refuses digits (BadXid fault) = SpellsNone digits fault
 Refuses digits status = RefusesDigits digits status
 
--- The offer was explained.
-pub record SaysOffer (old new : FolderState) (digits : List ℕ) (s : Status) : Type 0 where
-  pub offer : Offer
-  pub explains : Explains digits offer
-  pub tells : Tells old new (offer_line offer) Done s
+-- how it ends: with the offer that the digits spell, or for what they are; no folder is used
+abbrev pub Ends : List ℕ → Result Offer Stop → Type 0
+Ends digits (Ok offer) = Explains digits offer
+Ends digits (Err (Own answer)) = Refuses digits answer
+Ends digits (Err stop) = ⊥
 
--- The digits were refused.
-pub record SaysWhy (words : List (List ℕ)) (old new : FolderState) (digits : List ℕ) (s : Status) : Type 0 where
-  pub status : Status
-  pub refuses : Refuses digits status
-  pub tells : Tells old new (status_line words status) status s
-
-abbrev pub AnswersXid : List (List ℕ) → FolderState → FolderState → List ℕ → Status → Type 0
-AnswersXid words old new digits s = SaysOffer old new digits s ⊎ SaysWhy words old new digits s
+-- The job of the command: it reads and writes no name, and its line is that of the offer.
+abbrev pub xid_job : List ℕ → Job Offer
+xid_job digits = record { inputs = []; outputs = []; Ends = λ old new end. Ends digits end × (new ≡ old); line_of = offer_line }
