@@ -1,5 +1,5 @@
 -- The line that each answer says.
-use Rattle.std.specs.Prelude.{ℕ, List, [], ◌++◌, codes, decimal, slice_index_or}
+use Rattle.std.specs.Prelude.{ℕ, ◌≤◌, List, [], ◌∷◌, ◌++◌, length, codes, decimal, slice_index_or}
 use Rattle.xid_params.specs.declared.fault.XidFault.{XidFault}
 use Rattle.xid_params.specs.declared.fault.XidFault.TheVariants as xid
 use Rattle.command_base.specs.declared.status.Status.{Status}
@@ -31,6 +31,25 @@ octets_line octets = count_line (codes "octets") octets
 
 abbrev pub pieces_line : ℕ → List ℕ
 pieces_line pieces = count_line (codes "pieces") pieces
+
+-- ---- how the program is used
+
+-- words behind the first one
+abbrev pub listed_behind : List (List ℕ) → List ℕ
+listed_behind [] = []
+listed_behind (word ∷ words) = codes ", " ++ word ++ listed_behind words
+
+abbrev pub listed : List (List ℕ) → List ℕ
+listed [] = []
+listed (word ∷ words) = word ++ listed_behind words
+
+abbrev pub usage_line : List (List ℕ) → List ℕ
+usage_line commands = codes "usage: modem " ++ listed commands ++ codes "\n"
+
+-- each of these words has at most eight octets
+abbrev pub AreShort : List (List ℕ) → Type 0
+AreShort [] = Unit {0}
+AreShort (word ∷ words) = (length word ≤ 8) × AreShort words
 
 -- ---- other answers
 

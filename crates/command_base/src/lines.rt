@@ -1,7 +1,7 @@
 // The lines that answers say.
-ghost use Rattle.std.specs.Prelude.{◌≡◌, ◌≤◌, ◌+◌, ◌++◌, length, decimal, codes};
+ghost use Rattle.std.specs.Prelude.{◌≡◌, ◌<◌, ◌≤◌, ◌+◌, ◌*◌, ◌++◌, map, length, decimal, codes};
 ghost use Rattle.roles.specs.Role.{role_word};
-ghost use Rattle.command_base.specs.Lines.{xid_words, count_line, done_line, samples_line, octets_line, pieces_line, short_line};
+ghost use Rattle.command_base.specs.Lines.{xid_words, count_line, done_line, samples_line, octets_line, pieces_line, listed_behind, usage_line, AreShort, short_line};
 ghost use Rattle.script_causes.specs.Cause.{cause_word};
 
 use crate::Status;
@@ -82,6 +82,42 @@ pub fn write_pieces(pieces: u64) -> Line
     ensures { result ≡ pieces_line pieces }
 {
     write_count("pieces", pieces)
+}
+
+/// Puts words behind the first one, each behind a comma.
+fn put_behind(line: &mut Line, words: &[&str])
+    requires room { length line.old + 10 * length words.now < LINE }
+    requires short { AreShort (map (λ word. word.now) words.now) }
+    ensures text { line.new ≡ line.old ++ listed_behind (map (λ word. word.now) words.now) }
+    ensures room { length line.new ≤ length line.old + 10 * length words.now }
+{
+    match words.split_first() {
+        None => {}
+        Some((word, others)) => {
+            line.extend(b", ");
+            line.extend(word.as_bytes());
+            put_behind(line, others);
+        }
+    }
+}
+
+/// The line that tells how the program is used: the words of its commands, in this order.
+pub fn write_usage(commands: &[&str]) -> Line
+    requires few { length commands.now ≤ 14 }
+    requires short { AreShort (map (λ word. word.now) commands.now) }
+    ensures { result ≡ usage_line (map (λ word. word.now) commands.now) }
+{
+    let mut line = Line::new();
+    line.extend(b"usage: modem ");
+    match commands.split_first() {
+        None => {}
+        Some((word, others)) => {
+            line.extend(word.as_bytes());
+            put_behind(&mut line, others);
+        }
+    }
+    line.extend(b"\n");
+    line
 }
 
 /// The line of a status that says no word of the command line.

@@ -1,9 +1,9 @@
 // The top call.
 ghost use Rattle.std.specs.Prelude.{◌≡◌, map, string_bytes};
 ghost use Rattle.command_base.specs.Status.{PassesNoneOver};
-ghost use Rattle.modem_cli.specs.Modem.{IsNoCommand, Answers, Promises, Completes};
+ghost use Rattle.modem_cli.specs.Modem.{IsNoCommand, Answers, Promises, Completes, usage};
 
-use command_base::{Status, tell};
+use command_base::{Line, Status, tell, write_usage};
 use decode_command::{decode, decode_words};
 use encode_command::{encode, encode_words};
 use frames_command::{frames, frames_words};
@@ -11,6 +11,13 @@ use outside_core::Folder;
 use run_command::{run, run_words};
 use std::alloc::Global;
 use xid_command::{xid, xid_words};
+
+/// How the program is used.
+fn usage() -> Line
+    ensures { result ≡ usage }
+{
+    write_usage(&["run", "encode", "decode", "frames", "xid"])
+}
 
 /// Does what the words of a command line say, and answers how it ended. Each answer's line is said last.
 pub fn modem<F: Folder>(alloc: Global, words: &[String], folder: &mut F) -> Status
@@ -46,9 +53,5 @@ pub fn modem<F: Folder>(alloc: Global, words: &[String], folder: &mut F) -> Stat
     if let Some(digits) = xid_words(words) {
         return xid(folder, words, digits);
     }
-    tell(
-        folder,
-        b"usage: modem run, encode, decode, frames, xid\n",
-        Status::Usage,
-    )
+    tell(folder, usage().as_slice(), Status::Usage)
 }

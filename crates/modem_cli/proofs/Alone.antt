@@ -1,0 +1,82 @@
+-- Words of `run` are no other command's.
+use Rattle.std.proofs.Common.{◌≡◌, ◌∙◌, true, ℕ, List, [], ◌∷◌, Option, Some, None, refl, sym, ap, subst}
+use Rattle.outside_core.specs.Folder.{FolderState}
+use Rattle.command_base.specs.declared.status.Status.{Status}
+use Rattle.command_base.specs.Job.{Answers as AnswersOf}
+use Rattle.run_command.specs.Words.{RunNames, names_of as run_names}
+use Rattle.run_command.specs.Ends.{run_job}
+use Rattle.run_command.specs.Headline.{Headline as RunHeadline}
+use Rattle.encode_command.specs.Words.{names_of as encode_names}
+use Rattle.decode_command.specs.Words.{names_of as decode_names}
+use Rattle.frames_command.specs.Words.{names_of as frames_names}
+use Rattle.xid_command.specs.Words.{digits_named}
+use Rattle.modem_cli.specs.Modem.{is_none, Promises, Answers, Completes}
+
+pub record OthersNone (words : List (List ℕ)) : Type 0 where
+  pub encode : encode_names words ≡ None
+  pub decode : decode_names words ≡ None
+  pub frames : frames_names words ≡ None
+  pub xid : digits_named words ≡ None
+
+run-alone : (words : List (List ℕ)) (n : RunNames) → run_names words ≡ Some n → OthersNone words
+run-alone [] n e = absurd cc
+run-alone (a ∷ []) n e = absurd cc
+run-alone (a ∷ b ∷ []) n e = absurd cc
+run-alone (a ∷ b ∷ d ∷ []) n e = absurd cc
+run-alone (a ∷ b ∷ d ∷ f ∷ []) n e = absurd cc
+run-alone (a ∷ b ∷ d ∷ f ∷ h ∷ []) n e = absurd cc
+run-alone (a ∷ b ∷ d ∷ f ∷ h ∷ i ∷ []) n e = absurd cc
+run-alone (a ∷ b ∷ d ∷ f ∷ h ∷ i ∷ j ∷ []) n e = record { encode = refl; decode = refl; frames = refl; xid = refl }
+run-alone (a ∷ b ∷ d ∷ f ∷ h ∷ i ∷ j ∷ k ∷ more) n e = absurd cc
+
+never : {A : Type 0} (o : Option A) (a : A) → o ≡ None → o ≡ Some a → ⊥
+never o a none some = cc (sym none ∙ some)
+
+never-none : {A : Type 0} (o : Option A) (a : A) → o ≡ Some a → is_none o ≡ true → ⊥
+never-none (Some found) a some none = cc none
+never-none None a some none = cc some
+
+same : (o : Option RunNames) (n m : RunNames) → o ≡ Some n → o ≡ Some m → n ≡ m
+same (Some found) n m e f = or-else (sym e ∙ f)
+  where
+    value : Option RunNames → RunNames
+    value (Some x) = x
+    value None = n
+
+    or-else : Some n ≡ Some m → n ≡ m
+    or-else g = ap value g
+same None n m e f = absurd cc
+
+pub run-promises : (words : List (List ℕ)) (old new : FolderState) (n : RunNames) (s : Status) → run_names words ≡ Some n → RunHeadline old new n s → Promises words old new s
+run-promises words old new n s e h =
+    let o : OthersNone words = run-alone words n e in
+    record {
+      run = λ m f. subst (λ (x : RunNames). RunHeadline old new x s) (same (run_names words) n m e f) h;
+      encode = λ m f. absurd (never (encode_names words) m o.encode f);
+      decode = λ m f. absurd (never (decode_names words) m o.decode f);
+      frames = λ m f. absurd (never (frames_names words) m o.frames f);
+      xid = λ m f. absurd (never (digits_named words) m o.xid f);
+      other = λ none. absurd (never-none (run_names words) n e none.0);
+    }
+
+pub run-answers : (words : List (List ℕ)) (old new : FolderState) (n : RunNames) (s : Status) → run_names words ≡ Some n → AnswersOf (run_job n) words old new s → Answers words old new s
+run-answers words old new n s e a =
+    let o : OthersNone words = run-alone words n e in
+    record {
+      run = λ m f. subst (λ (x : RunNames). AnswersOf (run_job x) words old new s) (same (run_names words) n m e f) a;
+      encode = λ m f. absurd (never (encode_names words) m o.encode f);
+      decode = λ m f. absurd (never (decode_names words) m o.decode f);
+      frames = λ m f. absurd (never (frames_names words) m o.frames f);
+      xid = λ m f. absurd (never (digits_named words) m o.xid f);
+      other = λ none. absurd (never-none (run_names words) n e none.0);
+    }
+
+pub run-completes : (words : List (List ℕ)) (old new : FolderState) (n : RunNames) (s : Status) → run_names words ≡ Some n → Completes words old new s
+run-completes words old new n s e =
+    let o : OthersNone words = run-alone words n e in
+    record {
+      encode = λ m f. absurd (never (encode_names words) m o.encode f);
+      decode = λ m f. absurd (never (decode_names words) m o.decode f);
+      frames = λ m f. absurd (never (frames_names words) m o.frames f);
+      xid = λ m f. absurd (never (digits_named words) m o.xid f);
+    }

@@ -1,0 +1,18 @@
+use Rattle.std.proofs.Common.{◌≡◌, ◌∙◌, ℕ, List, Some, map, string_bytes, sym, ap}
+use Rattle.std.specs.Option.{option_map}
+use Rattle.outside_core.specs.Folder.{FolderState}
+use Rattle.run_command.specs.Words.{RunNames, names_of as run_names, named}
+use Rattle.modem_cli.proofs.Alone.{run-promises, run-answers, run-completes}
+use Rattle.modem_cli.proofs.top.modem.Goals as goal
+
+pub returns-in-Some-clause-promises : goal.returns-in-Some-clause-promises
+returns-in-Some-clause-promises g c =
+    run-promises (map string_bytes c.args.words.now) (g.F.Folder.state c.args.folder.now) (g.F.Folder.state c.run.new.folder) (named c.in-Some.names) c.run.result (sym c.in-Some.ensures.names) c.run.ensures.headline
+
+pub returns-in-Some-clause-answer : goal.returns-in-Some-clause-answer
+returns-in-Some-clause-answer g c =
+    run-answers (map string_bytes c.args.words.now) (g.F.Folder.state c.args.folder.now) (g.F.Folder.state c.run.new.folder) (named c.in-Some.names) c.run.result (sym c.in-Some.ensures.names) c.run.ensures.answer
+
+pub returns-in-Some-clause-completes : goal.returns-in-Some-clause-completes
+returns-in-Some-clause-completes g c =
+    run-completes (map string_bytes c.args.words.now) (g.F.Folder.state c.args.folder.now) (g.F.Folder.state c.run.new.folder) (named c.in-Some.names) c.run.result (sym c.in-Some.ensures.names)
