@@ -1,0 +1,4 @@
+pub mod End
+pub mod Run
+pub mod Carried
+pub mod Outcomes

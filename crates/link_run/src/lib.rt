@@ -1,0 +1,2 @@
+//! Whole runs of two ends over a line, as definitions and laws; nothing runs here.
+#![tactic(auto)]
