@@ -175,7 +175,7 @@ window-allowed (part ∷ []) w =
     (omega arith, omega arith)
 window-allowed (part ∷ again ∷ parts) w = absurd (false≢true w)
 
-offer-allowed : (parts : List Part) → AreWell parts → IsAllowed (offer_of parts)
+pub offer-allowed : (parts : List Part) → AreWell parts → IsAllowed (offer_of parts)
 offer-allowed parts w =
     let tx_len = length-allowed (named (identifier_of TxLength) parts) (w.each TxLength) in
     let rx_len = length-allowed (named (identifier_of RxLength) parts) (w.each RxLength) in

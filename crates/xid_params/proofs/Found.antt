@@ -192,7 +192,7 @@ parameters-back (suc room) (p ∷ count ∷ tail) parts fits e =
     let left : length (drop count tail) ≤ room = omega (arith, length-drop count tail) in
     one-parameter room p count tail parts (λ more. parameters-back room (drop count tail) more left) (nat_le count (length tail)) refl e
 
-all-each : (parts : List Part) → all_well parts ≡ true → AreWell parts
+pub all-each : (parts : List Part) → all_well parts ≡ true → AreWell parts
 all-each parts h =
     let functions = and-right (stands_well Functions (named 3 parts)) (stands_well TxLength (named 5 parts) && (stands_well RxLength (named 6 parts) && (stands_well TxWindow (named 7 parts) && stands_well RxWindow (named 8 parts)))) h in
     let tx_length = and-right (stands_well TxLength (named 5 parts)) (stands_well RxLength (named 6 parts) && (stands_well TxWindow (named 7 parts) && stands_well RxWindow (named 8 parts))) functions in

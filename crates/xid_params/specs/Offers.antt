@@ -111,3 +111,7 @@ WrittenSpells = (o : Offer) → IsAllowed o → OfferSpelling (written o) o
 -- The function and the relation are one.
 abbrev pub SpellingIsFound : Type 0
 SpellingIsFound = (octets : List ℕ) (offer : Offer) → AreOctets octets → (offer_in octets ≡ Some offer) ↔ OfferSpelling octets offer
+
+-- An offer that is read is one that may be sent.
+abbrev pub ReadsAllowed : Type 0
+ReadsAllowed = (octets : List ℕ) (offer : Offer) → offer_in octets ≡ Some offer → IsAllowed offer

@@ -2,7 +2,7 @@
 ghost use Rattle.std.specs.Prelude.{◌≡◌, ℕ, ◌⊎◌, List};
 ghost use Rattle.xid_params.specs.declared.offer.Offer.{Offer};
 ghost use Rattle.xid_params.specs.declared.fault.XidFault.{XidFault};
-ghost use Rattle.xid_params.specs.Offers.{OfferSpelling, DefaultIsRead, ReadsWritten, WrittenSpells, SpellingIsFound};
+ghost use Rattle.xid_params.specs.Offers.{OfferSpelling, DefaultIsRead, ReadsWritten, WrittenSpells, SpellingIsFound, ReadsAllowed};
 ghost use Rattle.xid_params.specs.Faults.{Has, FirstFault};
 
 use crate::read_offer;
@@ -21,6 +21,11 @@ pub fn reads_written()
 /// The offer of octets as a function is the one that they spell.
 pub fn spelling_is_found()
     ensures { SpellingIsFound }
+{}
+
+/// An offer that is read is one that may be sent.
+pub fn reads_allowed()
+    ensures { ReadsAllowed }
 {}
 
 /// A field spells one offer at most.
