@@ -31,9 +31,9 @@ use Rattle.link_account.specs.declared.answer.Answer.TheVariants as answers
 use Rattle.link_account.specs.Account.{Account, Wait, fresh, is_connected, after_offer, after_delivery, after_break_asked, wants, piece_size, after_busy}
 use Rattle.roles.specs.Role.{is_originator}
 use Rattle.link_account.specs.Hear.{hear, on_frame, on_connected, on_detecting, on_negotiating, on_establishing, on_releasing, on_closed, on_xid_command, on_xid_response, on_i, on_ready, on_rej, on_srej, on_number, on_sabme, peer_reset, on_disc, on_word, on_seen, on_pattern, then_in, replying, hurrying, taking, ends_wait, owing, trying, on_rnr, pausing}
-use Rattle.link_account.specs.Speak.{Said, says, says_frame, says_own, says_break, says_asking, says_segment, else_says, where_says, steps, step1, step2, step3, step4, step5, step6, step7, step8, step9, may_send, nr_of, telling, running, speak, speak_in, speak_detecting, speak_negotiating, speak_releasing, speak_linked, u_try, tries_frame, trying_again, answering, on_timer, on_break_timer, then_tries, after_timers, polling, breaking, spent, timer_expires, tells, ready_frame, differs, has_news}
+use Rattle.link_account.specs.Speak.{Said, says, says_frame, says_own, says_break, says_asking, says_segment, else_says, where_says, steps, step1, step2, step3, step4, step5, step6, step7, step8, step9, may_send, nr_of, telling, running, speak, speak_in, speak_detecting, speak_negotiating, speak_releasing, speak_linked, u_try, tries_frame, trying_again, answering, on_timer, on_break_timer, then_tries, after_timers, polling, breaking, spent, timer_expires, tells, ready_frame, differs}
 use Rattle.link_account.specs.Play.{Slot, Side, Play, Pair, Event, Speaks, Passes, Is_lost, Hears_nothing, Is_offered, Is_asked, Delivers, Gives_break, arrives, seen_from, play_of, spoken, heard, passes, is_lost, is_offered, happens_at, role_of, goes_on, happens, play, start, Is_busy}
-use Rattle.link_account.specs.Laws.{played, GivesBreaksInOrder}
+use Rattle.link_account.specs.Laws.{played, GivesBreaksInOrder, AnswersGiven}
 use Rattle.plain_lists.specs.Prefix.{IsPrefixOf}
 use Rattle.link_account.proofs.Linked.{AllSaid, else-says, where-says}
 use Rattle.link_account.proofs.Breaking.{BrkOn, AckOn, BreaksGo, Go, OnTicked, go-asked, go-ticked, go-brk, go-ack, go-brk-lost, go-ack-lost, go-brk-heard, go-ack-heard, IsPending}
@@ -518,3 +518,7 @@ gives_breaks_always so sa events =
       prefix p.originator.account.own_breaks p.answerer.account.their_breaks (brks_in p.originator.line) (acks_in p.answerer.line) h.out,
       prefix p.answerer.account.own_breaks p.originator.account.their_breaks (brks_in p.answerer.line) (acks_in p.originator.line) h.back,
     )
+
+pub answers_given_always : AnswersGiven
+answers_given_always so sa events =
+    let h = plays-go events (start (fresh so) (fresh sa)) (record { out = no-breaks; back = no-breaks }) in (h.out.given_are.low, h.back.given_are.low)

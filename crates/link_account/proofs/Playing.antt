@@ -1,5 +1,5 @@
 -- Each step of a play keeps it good.
-use Rattle.std.proofs.Common.{◌≡◌, ℕ, ◌+◌, ◌%◌, ◌≤◌, ◌&&◌, min, Bool, true, false, cond, nat_le, nat_lt, List, [], ◌∷◌, ◌++◌, length, drop, arith, refl, sym, ◌∙◌, ap, subst, Option, Some, None, Result, Ok, Err}
+use Rattle.std.proofs.Common.{◌≡◌, ℕ, ◌+◌, ◌%◌, ◌<◌, ◌≤◌, ◌&&◌, min, Bool, true, false, cond, nat_le, nat_lt, List, [], ◌∷◌, ◌++◌, length, drop, slice_index_or, arith, refl, sym, ◌∙◌, ap, subst, Option, Some, None, Result, Ok, Err}
 use Rattle.std.specs.Prelude.{is_some}
 use Rattle.std.proofs.lemmas.Bool.{false≢true}
 use Rattle.std.proofs.lemmas.List.{take-append-drop}
@@ -22,7 +22,7 @@ use Rattle.link_account.specs.Account.{Account, fresh, wants, piece_size, after_
 use Rattle.link_account.specs.Hear.{hear, on_nothing}
 use Rattle.link_account.specs.Speak.{Said, speak}
 use Rattle.link_account.specs.Play.{Slot, Play, Event, Speaks, Passes, Is_lost, Hears_nothing, Is_offered, Is_asked, Delivers, Gives_break, arrives, seen_from, play_of, spoken, heard, passes, is_lost, is_offered, happens_at, role_of, goes_on, happens, play, start, Is_busy}
-use Rattle.link_account.specs.Laws.{MayPlay, played, TakesInOrder, WantsAnswers, BreaksForWantAlone, IsTakenBy, TakesByNumber}
+use Rattle.link_account.specs.Laws.{MayPlay, played, TakesInOrder, WantsAnswers, BreaksForWantAlone, IsTakenBy, TakesByNumber, AcknowledgesTaken, SendsWhatWasOffered, AgreesOnSrej}
 use Rattle.plain_lists.specs.Prefix.{IsPrefixOf}
 use Rattle.link_account.proofs.Flow.{keeps-offered}
 use Rattle.link_account.proofs.Ends.{Goes, flow, order-exact}
@@ -313,6 +313,9 @@ takes_in_order_always so sa events m =
       prefix (terms_of so sa).window_a (terms_of so sa).srej p.answerer.account.outgoing p.originator.account.incoming p.answerer.line p.originator.line h.flow_ao,
     )
 
+pub acknowledges_taken_always : AcknowledgesTaken
+acknowledges_taken_always so sa events m = let h = (played-well so sa events m).good in (h.flow_oa.range.fronts, h.flow_ao.range.fronts)
+
 pub breaks_for_want_always : BreaksForWantAlone
 breaks_for_want_always so sa events m = let h = played-well so sa events m in (h.fault_o, h.fault_a)
 
@@ -337,4 +340,46 @@ takes_by_number_always so sa events m =
           let line = subst (λ l. LineA sa (rank p.originator.account.phase) (rank p.answerer.account.phase) l) e h.line_a in
           by-number (terms_of so sa).window_a (terms_of so sa).srej p.answerer.account.outgoing p.originator.account.incoming ns nr pf info n told rest p.originator.line
           (subst (λ l. Goes (terms_of so sa).window_a (terms_of so sa).srej p.answerer.account.outgoing p.originator.account.incoming l p.originator.line) e h.flow_ao) place.1 place.2 line.0.0,
+    )
+
+offered-next : (w : ℕ) (srej : Bool) (o : Outgoing) (i : Incoming) (ns nr : ℕ) (pf : Bool) (info : List ℕ) (n told : ℕ) (rest back : List Slot)
+    → Goes w srej o i ((record { sent = slots.Frame (I ns nr pf info); number = n; told = told }) ∷ rest) back
+    → (n < length o.pieces) × (info ≡ slice_index_or o.pieces n []) × (n < next_expected i + w) × (w ≤ 127)
+offered-next w srej o i ns nr pf info n told rest back h =
+    let l = h.line.each.0 in (omega (arith, l.below, h.range.offers), l.info, omega (arith, l.below, h.range.highs, h.range.fronts), h.width.high)
+
+pub sends_what_was_offered_always : SendsWhatWasOffered
+sends_what_was_offered_always so sa events m =
+    let p = played so sa events in
+    let h = (played-well so sa events m).good in (
+      λ ns nr pf info n told rest e.
+          let line = subst (λ l. LineO so (rank p.originator.account.phase) l) e h.line_o in
+          let k = offered-next (terms_of so sa).window_o (terms_of so sa).srej p.originator.account.outgoing p.answerer.account.incoming ns nr pf info n told rest p.answerer.line
+          (subst (λ l. Goes (terms_of so sa).window_o (terms_of so sa).srej p.originator.account.outgoing p.answerer.account.incoming l p.answerer.line) e h.flow_oa) in (
+            line.0.0,
+            k.0,
+            k.1,
+            λ linked.
+                let place : PlaceA (terms_of so sa) Connected p.answerer.account = subst (λ q. PlaceA (terms_of so sa) q p.answerer.account) linked h.place_a in
+                (omega (arith, k.2, place.1), omega (arith, k.3, place.1)),
+          ),
+      λ ns nr pf info n told rest e.
+          let line = subst (λ l. LineA sa (rank p.originator.account.phase) (rank p.answerer.account.phase) l) e h.line_a in
+          let k = offered-next (terms_of so sa).window_a (terms_of so sa).srej p.answerer.account.outgoing p.originator.account.incoming ns nr pf info n told rest p.originator.line
+          (subst (λ l. Goes (terms_of so sa).window_a (terms_of so sa).srej p.answerer.account.outgoing p.originator.account.incoming l p.originator.line) e h.flow_ao) in (
+            line.0.0,
+            k.0,
+            k.1,
+            λ linked.
+                let place : PlaceO (terms_of so sa) Connected p.originator.account = subst (λ q. PlaceO (terms_of so sa) q p.originator.account) linked h.place_o in
+                (omega (arith, k.2, place.1), omega (arith, k.3, place.1)),
+          ),
+    )
+
+pub agrees_on_srej_always : AgreesOnSrej
+agrees_on_srej_always so sa events m =
+    let p = played so sa events in
+    let h = (played-well so sa events m).good in (
+      λ linked. (let place : PlaceO (terms_of so sa) Connected p.originator.account = subst (λ q. PlaceO (terms_of so sa) q p.originator.account) linked h.place_o in place.2),
+      λ linked. (let place : PlaceA (terms_of so sa) Connected p.answerer.account = subst (λ q. PlaceA (terms_of so sa) q p.answerer.account) linked h.place_a in place.2),
     )

@@ -1,10 +1,11 @@
 -- The laws of plays from two fresh ends.
-use Rattle.std.specs.Prelude.{◌≡◌, ℕ, ◌+◌, ◌≤◌, Bool, List, ◌∷◌, ◌++◌, Option, Some, None, Ok}
+use Rattle.std.specs.Prelude.{◌≡◌, ℕ, ◌+◌, ◌%◌, ◌<◌, ◌≤◌, Bool, List, [], ◌∷◌, length, slice_index_or, Option, Some, None, Ok}
 use Rattle.roles.specs.declared.role.Role.TheVariants.{Originator, Answerer}
 use Rattle.lapm_frames.specs.declared.frame.Frame.TheVariants.{I}
 use Rattle.lapm_receiver.specs.Incoming.{Incoming, kind_of, next_expected}
 use Rattle.lapm_receiver.specs.declared.took.Took.TheVariants.{InOrder, Kept}
 use Rattle.xid_params.specs.Offers.{IsAllowed}
+use Rattle.xid_params.specs.Terms.{agree}
 use Rattle.slot_contents.specs.declared.sent.Sent.TheVariants as slots
 use Rattle.link_account.specs.declared.setup.Setup.{Setup}
 use Rattle.link_account.specs.declared.phase.Phase.TheVariants.{Connected}
@@ -71,3 +72,33 @@ GivesBreaksInOrder = (so sa : Setup) (events : List Event) →
 -- Whatever an end says can be heard: its numbers are below 128.
 abbrev pub SaysNumbers : Type 0
 SaysNumbers = (turn : ℕ) (release : Bool) (a : Account) (said : Said) → speak turn release a ≡ Ok said → IsNumbered (arrives said.sent)
+
+-- What is acknowledged at an end was taken at the other.
+abbrev pub AcknowledgesTaken : Type 0
+AcknowledgesTaken = (so sa : Setup) (events : List Event) → MayPlay so sa →
+    ((played so sa events).originator.account.outgoing.front ≤ next_expected (played so sa events).answerer.account.incoming)
+    × ((played so sa events).answerer.account.outgoing.front ≤ next_expected (played so sa events).originator.account.incoming)
+
+-- A break that is answered was given at the other end.
+abbrev pub AnswersGiven : Type 0
+AnswersGiven = (so sa : Setup) (events : List Event) →
+    ((played so sa events).originator.account.own_breaks.answered ≤ length (played so sa events).answerer.account.their_breaks.lengths)
+    × ((played so sa events).answerer.account.own_breaks.answered ≤ length (played so sa events).originator.account.their_breaks.lengths)
+
+-- what is next to be heard, where it is an I frame: its segment was offered under its meant number, and lies less than a window ahead of what is expected
+abbrev pub NextWasOffered : Side → Side → Type 0
+NextWasOffered from to =
+    (ns nr : ℕ) (pf : Bool) (info : List ℕ) (n told : ℕ) (rest : List Slot) → from.line ≡ (record { sent = slots.Frame (I ns nr pf info); number = n; told = told }) ∷ rest
+    → (ns ≡ n % 128) × (n < length from.account.outgoing.pieces) × (info ≡ slice_index_or from.account.outgoing.pieces n [])
+    × (to.account.phase ≡ Connected → (n < next_expected to.account.incoming + to.account.incoming.window) × (to.account.incoming.window ≤ 127))
+
+-- Each I frame on the line carries what was offered under its meant number.
+abbrev pub SendsWhatWasOffered : Type 0
+SendsWhatWasOffered = (so sa : Setup) (events : List Event) → MayPlay so sa →
+    NextWasOffered (played so sa events).originator (played so sa events).answerer × NextWasOffered (played so sa events).answerer (played so sa events).originator
+
+-- An end that is Connected asks by SREJ where both ends offer it.
+abbrev pub AgreesOnSrej : Type 0
+AgreesOnSrej = (so sa : Setup) (events : List Event) → MayPlay so sa →
+    ((played so sa events).originator.account.phase ≡ Connected → (played so sa events).originator.account.incoming.srej ≡ (agree so.offer sa.offer).srej)
+    × ((played so sa events).answerer.account.phase ≡ Connected → (played so sa events).answerer.account.incoming.srej ≡ (agree so.offer sa.offer).srej)

@@ -1,5 +1,5 @@
 //! What two ends do, over all plays. The functions do nothing: each law is a contract.
-ghost use Rattle.link_account.specs.Laws.{TakesInOrder, TakesByNumber, BreaksForWantAlone, GivesBreaksInOrder, SaysNumbers};
+ghost use Rattle.link_account.specs.Laws.{TakesInOrder, TakesByNumber, BreaksForWantAlone, GivesBreaksInOrder, SaysNumbers, AcknowledgesTaken, AnswersGiven, SendsWhatWasOffered, AgreesOnSrej};
 
 /// Whatever is lost and whenever timers expire, what an end takes is a prefix of what was offered at the other, each
 /// segment is taken by its meant number, an end breaks for want of answers alone, and breaks are given in order.
@@ -8,6 +8,18 @@ pub fn plays()
     ensures by_number { TakesByNumber }
     ensures faults { BreaksForWantAlone }
     ensures breaks { GivesBreaksInOrder }
+{}
+
+/// What is acknowledged at an end was taken at the other, and a break that is answered was given there.
+pub fn acknowledgements()
+    ensures taken { AcknowledgesTaken }
+    ensures breaks { AnswersGiven }
+{}
+
+/// Each I frame on the line carries what was offered under its number, less than a window ahead; SREJ is used where both ends offer it.
+pub fn frames_on_the_line()
+    ensures offered { SendsWhatWasOffered }
+    ensures srej { AgreesOnSrej }
 {}
 
 /// What an end says can be heard.
