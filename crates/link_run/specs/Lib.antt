@@ -2,3 +2,9 @@ pub mod End
 pub mod Run
 pub mod Carried
 pub mod Outcomes
+pub mod Taken
+pub mod Trace
+pub mod Starved
+pub mod Counts
+pub mod Alone
+pub mod Laws

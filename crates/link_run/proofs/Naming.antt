@@ -1,0 +1,202 @@
+-- Which end breaks with which fault, and that each turn is made.
+use Rattle.std.proofs.Common.{◌≡◌, ℕ, ◌+◌, ◌*◌, ◌&&◌, Bool, true, false, cond, nat_eq, nat_le, List, length, refl, sym, ◌∙◌, ap, subst, Option, Some, None, Result, Ok, Err}
+use Rattle.std.specs.Prelude.{is_ok}
+use Rattle.std.proofs.lemmas.Bool.{false≢true}
+use Rattle.roles.specs.declared.role.Role.{Role}
+use Rattle.roles.specs.declared.role.Role.TheVariants.{Originator, Answerer}
+use Rattle.lapm_frames.specs.declared.frame.Frame.{Frame}
+use Rattle.lapm_frames.specs.declared.frame.Frame.TheVariants.{Sabme, Disc, Xid}
+use Rattle.xid_params.specs.Offers.{ReadsAllowed, written}
+use Rattle.lapm_sender.specs.Outgoing.{Outgoing, expired}
+use Rattle.lapm_receiver.specs.Incoming.{KeepsTaken}
+use Rattle.break_signals.specs.Breaks.{OwnBreaks, ticked}
+use Rattle.link_account.specs.declared.setup.Setup.{Setup}
+use Rattle.link_account.specs.declared.phase.Phase.{Phase}
+use Rattle.link_account.specs.declared.phase.Phase.TheVariants.{Detecting, Negotiating, Establishing, Connected, Releasing, Closed}
+use Rattle.link_account.specs.declared.fault.LinkFault.{LinkFault}
+use Rattle.link_account.specs.declared.fault.LinkFault.TheVariants.{NotDetected, Spent, BadAck, PeerReset, PeerRefused}
+use Rattle.link_account.specs.Account.{Account, given_break, check_of}
+use Rattle.link_account.specs.Hear.{hear, trying}
+use Rattle.link_account.specs.Speak.{Said, says, tries_frame, trying_again, spent, speak, speak_in, speak_detecting, speak_negotiating, speak_releasing, speak_linked, u_try, on_timer, timer_expires, polling, breaking, then_tries, after_timers}
+use Rattle.slot_contents.specs.declared.sent.Sent.TheVariants as slots
+use Rattle.slot_contents.specs.declared.heard.Heard.{Heard}
+use Rattle.link_run.specs.End.{is_closed, is_released}
+use Rattle.link_run.specs.Run.{Link, Ends, Turn, Spoken, spoken, arrival, served_at, said_at, Hears, Speaks}
+use Rattle.link_run.specs.Outcomes.{Going, Done, Broken}
+use Rattle.link_run.specs.Laws.{HearingsAreWell, BrokenForWant, EachEndIsNamed, MakesTurn, EachTurnIsMade}
+use Rattle.link_run.proofs.Ending.{HasSetup, setups-kept, kept-run, kept-heard}
+use Rattle.link_run.proofs.Joining.{serving}
+use Rattle.roles.specs.Role.{is_originator, other}
+use Rattle.roles.specs.Both.{of}
+use Rattle.link_run.specs.Carried.{sent_ago, Crosses}
+
+abbrev is_undetected : LinkFault → Bool
+is_undetected NotDetected = true
+is_undetected fault = false
+
+-- whoever breaks so is an originator
+abbrev IfErr : {A : Type 0} → Account → Result A LinkFault → Type 0
+IfErr a (Ok x) = Unit {0}
+IfErr a (Err fault) = is_undetected fault ≡ true → a.setup.role ≡ Originator
+
+u : (turn : ℕ) (frame : Frame) (a b : Account) → IfErr a (u_try turn frame b)
+u turn frame a b = go (nat_eq turn (b.wait.try_set + b.setup.period)) (nat_eq b.wait.try_count b.setup.tries)
+  where
+    go : (x y : Bool) → IfErr a (cond x (cond y (Err (spent turn b)) (Ok (tries_frame frame (trying_again turn b)))) (Ok (tries_frame frame b)))
+    go true true = λ z. absurd (false≢true z)
+    go true false = tt
+    go false y = tt
+
+detects : (role : Role) (turn : ℕ) (a : Account) → a.setup.role ≡ role → IfErr a (speak_detecting role turn a)
+detects Originator turn a e = go (nat_le ((a.setup.tries + 1) * a.setup.period) turn)
+  where
+    go : (b : Bool) → IfErr a (cond b (Err NotDetected) (Ok (says slots.Odp a)))
+    go true = λ z. e
+    go false = tt
+detects Answerer turn a e = tt
+
+negotiates : (role : Role) (turn : ℕ) (a : Account) → IfErr a (speak_negotiating role turn a)
+negotiates Originator turn a = u turn (Xid true false (written a.setup.offer)) a a
+negotiates Answerer turn a = tt
+
+polled : (turn : ℕ) (o : Option Outgoing) (a b : Account) → IfErr a (polling turn o b)
+polled turn None a b = λ z. absurd (false≢true z)
+polled turn (Some o) a b = tt
+
+timed : (turn : ℕ) (a : Account) → IfErr a (on_timer turn a)
+timed turn a = go (timer_expires turn a a.wait.timer)
+  where
+    go : (b : Bool) → IfErr a (cond b (polling turn (expired a.outgoing) a) (Ok a))
+    go true = polled turn (expired a.outgoing) a a
+    go false = tt
+
+broken : (turn : ℕ) (o : Option OwnBreaks) (a b : Account) → IfErr a (breaking turn o b)
+broken turn None a b = λ z. absurd (false≢true z)
+broken turn (Some o) a b = tt
+
+both-timed : (turn : ℕ) (a : Account) (r : Result Account LinkFault) → IfErr a r → IfErr a (then_tries turn r)
+both-timed turn a (Err fault) h = h
+both-timed turn a (Ok b) h = broken turn (ticked turn b.setup.period b.setup.tries b.own_breaks) a b
+
+links : (turn : ℕ) (a : Account) → IfErr a (speak_linked turn a)
+links turn a = go (then_tries turn (on_timer turn a)) (both-timed turn a (on_timer turn a) (timed turn a))
+  where
+    go : (r : Result Account LinkFault) → IfErr a r → IfErr a (after_timers turn a.special r)
+    go (Ok b) h = tt
+    go (Err fault) h = h
+
+connects : (turn : ℕ) (b : Bool) (a : Account) → IfErr a (cond b (speak_releasing turn (trying Releasing turn a)) (speak_linked turn a))
+connects turn true a = u turn (Disc true) a (trying Releasing turn a)
+connects turn false a = links turn a
+
+in-phase : (p : Phase) (turn : ℕ) (release : Bool) (a : Account) → IfErr a (speak_in p turn release a)
+in-phase Detecting turn release a = detects a.setup.role turn a refl
+in-phase Negotiating turn release a = negotiates a.setup.role turn a
+in-phase Establishing turn release a = u turn (Sabme true) a a
+in-phase Connected turn release a = connects turn (release && is_originator a.setup.role) a
+in-phase Releasing turn release a = u turn (Disc true) a a
+in-phase Closed turn release a = tt
+
+undetected : (turn : ℕ) (release : Bool) (a : Account) → speak turn release a ≡ Err NotDetected → a.setup.role ≡ Originator
+undetected turn release a e = subst (IfErr a) e (in-phase a.phase turn release a) refl
+
+pub each_end_is_named : ReadsAllowed → KeepsTaken → BrokenForWant → EachEndIsNamed
+each_end_is_named reads keeps want link ts before t mid role (Spent segment since) m h b = tt
+each_end_is_named reads keeps want link ts before t mid Originator NotDetected m h b = refl
+each_end_is_named reads keeps want link ts before t mid Answerer NotDetected m h b =
+    let turn = length ts in
+    let kept = kept-heard reads keeps (HasSetup link) link (setups-kept link) turn before t mid (kept-run reads keeps (HasSetup link) link (setups-kept link) ts before h) b.hearing in
+    let role = ap (λ (x : Setup). x.role) ((serving link.answ.user turn (is_released mid.orig.phase) mid.answ).setup ∙ kept Answerer) ∙ m.answers in
+    absurd (false≢true (ap is_originator (sym role ∙ undetected turn false (served_at link turn mid Answerer).account b.broken.1)))
+each_end_is_named reads keeps want link ts before t mid role (BadAck nr va high) m h b = absurd (want link ts before t mid role (BadAck nr va high) b)
+each_end_is_named reads keeps want link ts before t mid role (PeerReset va vr) m h b = absurd (want link ts before t mid role (PeerReset va vr) b)
+each_end_is_named reads keeps want link ts before t mid role PeerRefused m h b = absurd (want link ts before t mid role PeerRefused b)
+
+-- a turn by what is heard and sent
+abbrev turn_with : Ends → Ends → (Role → Heard) → (Role → Option Spoken) → Turn
+turn_with before mid heard sent = record {
+  orig = record { heard = heard Originator; check = check_of before.orig; sent = sent Originator; given = given_break mid.orig };
+  answ = record { heard = heard Answerer; check = check_of before.answ; sent = sent Answerer; given = given_break mid.answ };
+}
+
+abbrev Hear : ℕ → Ends → (Role → Heard) → Ends → Type 0
+Hear turn before heard mid = (role : Role) → hear turn (arrival (heard role)) (of role before) ≡ Ok (of role mid)
+
+turn-hears : (turn : ℕ) (before mid : Ends) (heard : Role → Heard) (sent : Role → Option Spoken) → Hear turn before heard mid → Hears turn before (turn_with before mid heard sent) mid
+turn-hears turn before mid heard sent h Originator = record { hears = h Originator; check_is = refl; given_is = refl }
+turn-hears turn before mid heard sent h Answerer = record { hears = h Answerer; check_is = refl; given_is = refl }
+
+turn-heard : (before mid : Ends) (heard : Role → Heard) (sent : Role → Option Spoken) (role : Role) → (of role (turn_with before mid heard sent)).heard ≡ heard role
+turn-heard before mid heard sent Originator = refl
+turn-heard before mid heard sent Answerer = refl
+
+turn-sent : (before mid : Ends) (heard : Role → Heard) (sent : Role → Option Spoken) (role : Role) → (of role (turn_with before mid heard sent)).sent ≡ sent role
+turn-sent before mid heard sent Originator = refl
+turn-sent before mid heard sent Answerer = refl
+
+-- a turn in which nothing is sent
+abbrev none : Role → Option Spoken
+none role = None
+
+speaking : (link : Link) (ts : List Turn) (ends mid : Ends) (heard : Role → Heard) → Hear (length ts) ends heard mid
+    → (b : Bool) → is_closed mid.orig.phase ≡ b → (o a : Result Said LinkFault) → said_at link (length ts) mid Originator ≡ o → said_at link (length ts) mid Answerer ≡ a
+    → MakesTurn link ts ends heard
+speaking link ts ends mid heard h true e o a p q = record {
+  turn = turn_with ends mid heard none;
+  mid = mid;
+  outcome = Done;
+  is = record { hearing = turn-hears (length ts) ends mid heard none h; done = e; silent = turn-sent ends mid heard none };
+  heard_is = turn-heard ends mid heard none;
+}
+speaking link ts ends mid heard h false e (Err fault) a p q = record {
+  turn = turn_with ends mid heard none;
+  mid = mid;
+  outcome = Broken Originator fault;
+  is = record { hearing = turn-hears (length ts) ends mid heard none h; going = e; broken = p; silent = turn-sent ends mid heard none };
+  heard_is = turn-heard ends mid heard none;
+}
+speaking link ts ends mid heard h false e (Ok o) (Err fault) p q = record {
+  turn = turn_with ends mid heard none;
+  mid = mid;
+  outcome = Broken Answerer fault;
+  is = record { hearing = turn-hears (length ts) ends mid heard none h; going = e; broken = (ap is_ok p, q); silent = turn-sent ends mid heard none };
+  heard_is = turn-heard ends mid heard none;
+}
+speaking link ts ends mid heard h false e (Ok o) (Ok a) p q = record {
+  turn = turn_with ends mid heard said;
+  mid = mid;
+  outcome = Going;
+  is = (after, record { mid = mid; hearing = turn-hears (length ts) ends mid heard said h; going = e; speaking = both }, refl);
+  heard_is = turn-heard ends mid heard said;
+}
+  where
+    said : Role → Option Spoken
+    said Originator = Some (spoken o)
+    said Answerer = Some (spoken a)
+
+    after : Ends
+    after = record { orig = o.account; answ = a.account }
+
+    both : Speaks link (length ts) mid (turn_with ends mid heard said) after
+    both Originator = record { said = o; says = p; sent_is = refl; after_is = refl }
+    both Answerer = record { said = a; says = q; sent_is = refl; after_is = refl }
+
+hearing : (link : Link) (ts : List Turn) (ends : Ends) (heard : Role → Heard) (o a : Result Account LinkFault) → hear (length ts) (arrival (heard Originator)) ends.orig ≡ o
+    → hear (length ts) (arrival (heard Answerer)) ends.answ ≡ a → is_ok o ≡ true → is_ok a ≡ true → MakesTurn link ts ends heard
+hearing link ts ends heard (Ok o) (Ok a) h k x y =
+    speaking link ts ends mid heard both (is_closed o.phase) refl (said_at link (length ts) mid Originator) (said_at link (length ts) mid Answerer) refl refl
+  where
+    mid : Ends
+    mid = record { orig = o; answ = a }
+
+    both : Hear (length ts) ends heard mid
+    both Originator = h
+    both Answerer = k
+hearing link ts ends heard (Ok o) (Err fault) h k x y = absurd (false≢true y)
+hearing link ts ends heard (Err fault) a h k x y = absurd (false≢true x)
+
+pub each_turn_is_made : HearingsAreWell → EachTurnIsMade
+each_turn_is_made well link delay ts ends heard v c =
+    let t = turn_with ends ends heard none in
+    let w = well link delay ts ends t v (λ role. subst (Crosses (sent_ago (delay (other role)) (other role) ts)) (sym (turn-heard ends ends heard none role)) (c role)) in
+    hearing link ts ends heard (hear (length ts) (arrival (heard Originator)) ends.orig) (hear (length ts) (arrival (heard Answerer)) ends.answ) refl refl (w Originator) (w Answerer)

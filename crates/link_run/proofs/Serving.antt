@@ -1,0 +1,121 @@
+-- What an end has handed to its user, between turns and once it has heard.
+use Rattle.std.proofs.Common.{◌≡◌, ◌≢◌, inl, inr, ℕ, zero, suc, ◌+◌, ◌≤◌, Bool, true, false, cond, nat_le, List, length, arith, length-append, refl, sym, ◌∙◌, ap, subst, Option, Some, None}
+use Rattle.std.proofs.lemmas.Bool.{false≢true}
+use Rattle.break_signals.specs.Breaks.{after_ask}
+use Rattle.link_account.specs.declared.phase.Phase.{Phase}
+use Rattle.link_account.specs.declared.phase.Phase.TheVariants.{Detecting, Negotiating, Establishing, Connected, Releasing, Closed}
+use Rattle.link_account.specs.Account.{Account, is_connected, wants, after_given, after_busy}
+use Rattle.link_run.specs.End.{User, BreakLine, delivered, offered_at, offered_times, room_for, offered, is_busy, next_break, asked_at, asked, served}
+use Rattle.link_run.proofs.Keeping.{Books, stage, GoesOn}
+use Rattle.link_run.proofs.Speaking.{Ledger, Speaks, Keeps_on, Releases}
+
+-- all was handed over
+pub record Handed (a : Account) : Type 0 where
+  pub given : a.incoming.given ≡ length a.incoming.taken
+  pub told : a.breaks_told ≡ length a.their_breaks.lengths
+
+-- what was heard last may wait, where the end is Connected
+pub record Waiting (a : Account) : Type 0 where
+  pub given : a.incoming.given ≤ length a.incoming.taken
+  pub told : a.breaks_told ≤ length a.their_breaks.lengths
+  pub few : length a.their_breaks.lengths ≤ a.breaks_told + 1
+  pub idle : stage a.phase ≢ 1 → Handed a
+
+pub heard-waits : (a b : Account) → Handed a → GoesOn a b → Waiting b
+heard-waits a b h (inl s) = record {
+  given = omega (arith, h.given, ap (λ (k : Books). k.given) s.books_are, ap length s.taken_are, length-append a.incoming.taken s.taken);
+  told = omega (arith, h.told, ap (λ (k : Books). k.told) s.books_are, ap length s.theirs_are, length-append a.their_breaks.lengths s.theirs);
+  few = omega (arith, h.told, s.few, ap (λ (k : Books). k.told) s.books_are, ap length s.theirs_are, length-append a.their_breaks.lengths s.theirs);
+  idle = λ z. let n = s.idle z in record {
+    given = omega (arith, h.given, ap (λ (k : Books). k.given) s.books_are, ap length s.taken_are, length-append a.incoming.taken s.taken, ap length n.0);
+    told = omega (arith, h.told, ap (λ (k : Books). k.told) s.books_are, ap length s.theirs_are, length-append a.their_breaks.lengths s.theirs, ap length n.1);
+  };
+}
+heard-waits a b h (inr e) = record {
+  given = omega (arith, ap (λ i. i.given) e.incoming_is);
+  told = omega (arith, h.told, e.told, ap (λ t. length t.lengths) e.their);
+  few = omega (arith, h.told, e.told, ap (λ t. length t.lengths) e.their);
+  idle = λ z. absurd (z (ap stage e.is));
+}
+
+-- serving
+pub offers-alone : (n : ℕ) (file : List ℕ) (a : Account) → offered_times n file a ≡ record a { outgoing = (offered_times n file a).outgoing }
+offers-alone zero file a = refl
+offers-alone (suc n) file a = offers-alone n file (offered_at file a (wants a)) ∙ go (wants a)
+  where
+    go : (w : Option ℕ) → record (offered_at file a w) { outgoing = (offered_times n file (offered_at file a w)).outgoing } ≡ record a { outgoing = (offered_times n file (offered_at file a w)).outgoing }
+    go None = refl
+    go (Some m) = refl
+
+pub asks-alone : (turn : ℕ) (released : Bool) (breaks : List BreakLine) (a : Account) → asked turn released breaks a ≡ record a { own_breaks = (asked turn released breaks a).own_breaks }
+asks-alone turn true breaks a = refl
+asks-alone turn false breaks a = go (next_break breaks a)
+  where
+    ask : (b : BreakLine) (c d : Bool) → cond c (cond d (record a { own_breaks = after_ask turn b.length_octet a.own_breaks }) a) a ≡ record a { own_breaks = (cond c (cond d (record a { own_breaks = after_ask turn b.length_octet a.own_breaks }) a) a).own_breaks }
+    ask b true true = refl
+    ask b true false = refl
+    ask b false d = refl
+
+    go : (n : Option BreakLine) → asked_at turn n a ≡ record a { own_breaks = (asked_at turn n a).own_breaks }
+    go None = refl
+    go (Some b) = ask b (nat_le b.turn turn) (is_connected a.phase)
+
+pub busy-alone : (busy : Bool) (a : Account) → after_busy busy a ≡ record a { owes = (after_busy busy a).owes }
+busy-alone busy a = go (is_connected a.phase)
+  where
+    go : (c : Bool) → cond c (record a { owes = record a.owes { busy = busy } }) a ≡ record a { owes = (cond c (record a { owes = record a.owes { busy = busy } }) a).owes }
+    go true = refl
+    go false = refl
+
+-- what serving changes
+pub served-alone : (u : User) (turn : ℕ) (released : Bool) (a : Account)
+    → (served u turn released a).account ≡ record (delivered a) {
+      breaks_told = length (delivered a).their_breaks.lengths;
+      outgoing = (offered u.file (after_given (delivered a))).outgoing;
+      owes = (after_busy (is_busy turn u.busy) (offered u.file (after_given (delivered a)))).owes;
+      own_breaks = (served u turn released a).account.own_breaks;
+    }
+served-alone u turn released a =
+    let b = after_given (delivered a) in
+    let c = offered u.file b in
+    let e = after_busy (is_busy turn u.busy) c in
+    asks-alone turn released u.breaks e ∙ ap (λ (d : Account). record d { own_breaks = (asked turn released u.breaks e).own_breaks })
+    (busy-alone (is_busy turn u.busy) c ∙ ap (λ (d : Account). record d { owes = e.owes }) (offers-alone (room_for b) u.file b))
+
+-- delivering
+pub record Delivers (a b : Account) : Type 0 where
+  pub rest : b ≡ record a { incoming = record a.incoming { given = b.incoming.given } }
+  pub given : b.incoming.given ≡ length a.incoming.taken
+
+linked-at : (p : Phase) → is_connected p ≡ false → stage p ≢ 1
+linked-at Detecting e = λ z. omega (arith, z)
+linked-at Negotiating e = λ z. omega (arith, z)
+linked-at Establishing e = λ z. omega (arith, z)
+linked-at Connected e = absurd (false≢true (sym e))
+linked-at Releasing e = λ z. omega (arith, z)
+linked-at Closed e = λ z. omega (arith, z)
+
+pub delivers : (a : Account) → Waiting a → Delivers a (delivered a)
+delivers a w = go (is_connected a.phase) refl
+  where
+    go : (c : Bool) → is_connected a.phase ≡ c → Delivers a (cond c (record a { incoming = record a.incoming { given = length a.incoming.taken } }) a)
+    go true e = record { rest = refl; given = refl }
+    go false e = record { rest = refl; given = (w.idle (linked-at a.phase e)).given }
+
+pub served-handed : (u : User) (turn : ℕ) (released : Bool) (a : Account) → Waiting a → Handed (served u turn released a).account
+served-handed u turn released a w =
+    let d = delivers a w in
+    subst Handed (sym (served-alone u turn released a)) (record {
+      given = d.given ∙ sym (ap (λ (b : Account). length b.incoming.taken) d.rest);
+      told = refl;
+    })
+
+pub spoken-handed : (release : Bool) (a b : Account) → Handed a → Speaks release a b → Handed b
+spoken-handed release a b h (Keeps_on e) = record {
+  given = ap (λ (l : Ledger). l.books.given) e ∙ h.given ∙ sym (ap (λ (l : Ledger). length l.taken) e);
+  told = ap (λ (l : Ledger). l.books.told) e ∙ h.told ∙ sym (ap (λ (l : Ledger). length l.theirs) e);
+}
+spoken-handed release a b h (Releases on role linked e k) = record {
+  given = ap (λ (l : Ledger). l.books.given) e ∙ h.given ∙ sym (ap (λ (l : Ledger). length l.taken) e);
+  told = ap (λ (l : Ledger). l.books.told) e ∙ h.told ∙ sym (ap (λ (l : Ledger). length l.theirs) e);
+}

@@ -1,0 +1,61 @@
+-- Runs of one end against recorded bits of any peer: what the end hears in each turn is said apart.
+use Rattle.std.specs.Prelude.{◌≡◌, ℕ, Bool, true, false, ◌&&◌, List, [], ◌∷◌, length, map, Option, Some, None, Ok, Err}
+use Rattle.roles.specs.Role.{is_originator}
+use Rattle.slot_contents.specs.declared.arrived.Arrived.{Arrived}
+use Rattle.link_account.specs.declared.fault.LinkFault.{LinkFault}
+use Rattle.link_account.specs.Account.{Account, fresh}
+use Rattle.link_account.specs.Hear.{hear}
+use Rattle.link_account.specs.Speak.{Said}
+use Rattle.link_run.specs.End.{Served, served, is_closed, speaks_alone}
+use Rattle.link_run.specs.Run.{Party, Spoken, spoken}
+
+-- the end in a turn
+pub record LoneTurn : Type 0 where
+  pub arrived : Arrived
+  pub sent : Option Spoken  -- none in the last turn of a run
+
+-- an originator that is closed has nothing left to do
+abbrev pub hangs_up : Account → Bool
+hangs_up a = is_originator a.setup.role && is_closed a.phase
+
+-- the end, served once it has heard
+abbrev pub lone_served : Party → ℕ → Account → Served
+lone_served party turn mid = served party.user turn false mid
+
+-- A turn after which the run goes on.
+pub record LoneGoing (party : Party) (ts : List LoneTurn) (before : Account) (t : LoneTurn) (after : Account) : Type 0 where
+  pub mid : Account
+  pub hears : hear (length ts) t.arrived before ≡ Ok mid
+  pub going : hangs_up mid ≡ false
+  pub said : Said
+  pub says : speaks_alone party.user (length ts) (lone_served party (length ts) mid) ≡ Ok said
+  pub sent : t.sent ≡ Some (spoken said)
+  pub after_is : after ≡ said.account
+
+-- A turn in which an originator is closed. Nothing is sent.
+pub record LoneLast (ts : List LoneTurn) (before : Account) (t : LoneTurn) (mid : Account) : Type 0 where
+  pub hears : hear (length ts) t.arrived before ≡ Ok mid
+  pub closed : hangs_up mid ≡ true
+  pub sent : t.sent ≡ None
+
+-- A turn in which the end breaks as it hears: nothing more is taken in it, and nothing is sent.
+pub record LoneFaulty (ts : List LoneTurn) (before : Account) (t : LoneTurn) (fault : LinkFault) : Type 0 where
+  pub hears : hear (length ts) t.arrived before ≡ Err fault
+  pub sent : t.sent ≡ None
+
+-- Or as it speaks.
+pub record LoneBroken (party : Party) (ts : List LoneTurn) (before : Account) (t : LoneTurn) (mid : Account) (fault : LinkFault) : Type 0 where
+  pub hears : hear (length ts) t.arrived before ≡ Ok mid
+  pub going : hangs_up mid ≡ false
+  pub says : speaks_alone party.user (length ts) (lone_served party (length ts) mid) ≡ Err fault
+  pub sent : t.sent ≡ None
+
+-- turns after which the run goes on, the newest first, and the end after them
+abbrev pub LoneRun : Party → List LoneTurn → Account → Type 0
+LoneRun party [] a = a ≡ fresh party.setup
+LoneRun party (t ∷ ts) a = (before : Account) × LoneRun party ts before × LoneGoing party ts before t a
+
+-- What arrives determines the run.
+abbrev pub OneLoneRun : Type 0
+OneLoneRun = (party : Party) (ts us : List LoneTurn) (a b : Account) → LoneRun party ts a → LoneRun party us b
+    → map (λ (t : LoneTurn). t.arrived) ts ≡ map (λ (t : LoneTurn). t.arrived) us → (ts ≡ us) × (a ≡ b)

@@ -1,0 +1,97 @@
+//! What holds of all runs. The functions do nothing but name the laws that they rest on: each law is a contract.
+ghost use Rattle.link_run.specs.Alone.{OneLoneRun};
+ghost use Rattle.link_run.specs.Laws.{RunsArePlays, HearingsArePlays, TakesPrefixes, HearsPrefixes, DoneIsWhole, HearingsAreWell, BrokenForWant};
+ghost use Rattle.link_run.specs.Laws.{OneRun, OneOutcome, HearingsDeliver, SpeakingTakesNothing, GivesAllBreaks, TakesWhatPassed, HearsWhatPassed};
+ghost use Rattle.link_run.specs.Laws.{EachEndIsNamed, EachTurnIsMade, OffersUntilNoneIsWanted};
+
+use lapm_receiver::laws::keeps_taken;
+use link_account::laws::{acknowledgements, frames_on_the_line, plays};
+use xid_params::laws::reads_allowed;
+
+/// Each run over a line, as it goes on and once both ends have heard, is a play of the link.
+pub fn runs_are_plays()
+    ensures runs { RunsArePlays }
+    ensures hearings { HearingsArePlays }
+{
+    reads_allowed();
+    keeps_taken();
+}
+
+/// Whatever is lost, what each end took begins the other's file.
+pub fn prefixes()
+    ensures takes { TakesPrefixes }
+    ensures hears { HearsPrefixes }
+{
+    reads_allowed();
+    keeps_taken();
+    plays();
+    acknowledgements();
+}
+
+/// Done means whole: both files have crossed, and each break that was taken at an end was given at the other.
+pub fn done_is_whole()
+    ensures { DoneIsWhole }
+{
+    reads_allowed();
+    keeps_taken();
+    plays();
+    acknowledgements();
+}
+
+/// No end breaks as it hears, and as it speaks it breaks for want of answers alone: neither meets a bad acknowledgement, a reset or a refusal.
+pub fn ends_break_for_want_alone()
+    ensures hearing { HearingsAreWell }
+    ensures speaking { BrokenForWant }
+{
+    reads_allowed();
+    keeps_taken();
+    plays();
+}
+
+/// What is heard determines a run, and what becomes of each turn.
+pub fn one_run()
+    ensures run { OneRun }
+    ensures outcome { OneOutcome }
+{}
+
+/// What is handed over in each turn is what came in it: segments go behind all that were taken, and every break is given once.
+pub fn turns_deliver_what_came()
+    ensures hearing { HearingsDeliver }
+    ensures speaking { SpeakingTakesNothing }
+    ensures breaks { GivesAllBreaks }
+{
+    reads_allowed();
+    keeps_taken();
+}
+
+/// The segments that passed, by the numbers that were meant and by nothing else, give what the accounts took.
+pub fn what_passed_is_taken()
+    ensures takes { TakesWhatPassed }
+    ensures hears { HearsWhatPassed }
+{
+    reads_allowed();
+    keeps_taken();
+    plays();
+    acknowledgements();
+    frames_on_the_line();
+}
+
+/// Whatever a line makes of what was sent, there is a next turn, and an end that breaks has spent its tries, or is the originator and saw no pattern.
+pub fn each_turn_is_made()
+    ensures made { EachTurnIsMade }
+    ensures named { EachEndIsNamed }
+{
+    reads_allowed();
+    keeps_taken();
+    ends_break_for_want_alone();
+}
+
+/// What arrives at one end alone determines its run.
+pub fn one_lone_run()
+    ensures { OneLoneRun }
+{}
+
+/// Pieces are offered until none is wanted: a loop that offers the next one while one is wanted comes to the same.
+pub fn pieces_are_offered_until_none_is_wanted()
+    ensures { OffersUntilNoneIsWanted }
+{}
