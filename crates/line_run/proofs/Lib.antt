@@ -1,0 +1,4 @@
+mod Sampling
+mod Leaving
+mod Resulting
+mod Scripting

@@ -1,0 +1,103 @@
+-- How a run over the line of samples ends, and what it then leaves: the octets of both users and the trace.
+use Rattle.std.specs.Prelude.{◌≡◌, ℕ, List, ◌++◌, ◌∷◌, length}
+use Rattle.std.specs.List.{concat}
+use Rattle.roles.specs.declared.role.Role.{Role}
+use Rattle.roles.specs.declared.role.Role.TheVariants.{Originator}
+use Rattle.roles.specs.Role.{other}
+use Rattle.roles.specs.Both.{Both, of}
+use Rattle.plain_lists.specs.Prefix.{IsPrefixOf}
+use Rattle.noise_script.specs.Script.{ScriptValue, delay_of}
+use Rattle.link_account.specs.declared.fault.LinkFault.TheVariants as faults
+use Rattle.link_account.specs.Laws.{MayPlay}
+use Rattle.link_run.specs.Run.{Link, Ends, Turn}
+use Rattle.link_run.specs.Carried.{HasDelays}
+use Rattle.link_run.specs.Outcomes.{Outcome, Done, Broken, TurnIs}
+use Rattle.link_run.specs.Starved.{IsStarved}
+use Rattle.link_run.specs.Taken.{taken_octets}
+use Rattle.link_run.specs.Trace.{trace_text, chance_line}
+use Rattle.link_run.specs.Laws.{agreed_srej}
+use Rattle.line_run.specs.Sampled.{Channel, HeardIn, LineRun, LineEnd, EndsLine}
+use Rattle.line_run.specs.Sampled as lines
+use Rattle.line_run.specs.Scripted.{period_of}
+
+pub data RunEnd : Type 0 where
+  IsDone : (turn : ℕ) → RunEnd
+  LinkLost : (role : Role) (segment turn : ℕ) → RunEnd  -- the role of the end whose tries are spent, and its front
+  NotDetected : (turn : ℕ) → RunEnd
+  LineLost : (role : Role) (symbol : ℕ) → RunEnd  -- the role of the end that hears
+  ChanceMatch : (role : Role) (turn : ℕ) → RunEnd  -- likewise
+
+-- What a run leaves.
+pub record Left : Type 0 where
+  pub got : Both (List ℕ)  -- the octets that each end's user was given
+  pub trace : List ℕ  -- as text
+
+-- What is left of turns, and of the ends after them.
+pub record Leaves (ends : Ends) (text : List ℕ) (left : Left) : Type 0 where
+  pub got_is : (role : Role) → of role left.got ≡ concat (of role ends).incoming.taken
+  pub trace_is : left.trace ≡ text
+
+-- A last turn is made after these, with this outcome.
+pub record EndsInTurn (c : Channel) (link : Link) (ts : List Turn) (ends : Ends) (outcome : Outcome) (turn : ℕ) (left : Left) : Type 0 where
+  pub number : turn ≡ length ts
+  pub last : Turn
+  pub mid : Ends
+  pub heard : HeardIn c ts last
+  pub is : TurnIs link ts ends last mid outcome
+  pub leaves : Leaves mid (trace_text (last ∷ ts)) left
+
+-- The line ends the run as the turn after these begins.
+pub record EndsOnLine (c : Channel) (ts : List Turn) (ends : Ends) (end : LineEnd) (text : List ℕ) (left : Left) : Type 0 where
+  pub is : EndsLine c ts ends end
+  pub leaves : Leaves ends text left
+
+-- The ends by their causes. A link is lost where an end's tries are spent, at its front's segment.
+abbrev pub EndsBy : Channel → Link → List Turn → Ends → RunEnd → Left → Type 0
+EndsBy c link ts ends (IsDone turn) left = EndsInTurn c link ts ends Done turn left
+EndsBy c link ts ends (LinkLost role segment turn) left = (since : ℕ) × EndsInTurn c link ts ends (Broken role (faults.Spent segment since)) turn left
+EndsBy c link ts ends (NotDetected turn) left = EndsInTurn c link ts ends (Broken Originator faults.NotDetected) turn left
+EndsBy c link ts ends (LineLost role symbol) left = EndsOnLine c ts ends (lines.LineLost role symbol) (trace_text ts) left
+EndsBy c link ts ends (ChanceMatch role turn) left = (turn ≡ length ts) × EndsOnLine c ts ends (lines.ChanceMatch role) (trace_text ts ++ chance_line (length ts) role) left
+
+-- A run goes on for some turns, and ends.
+pub record RunsTo (c : Channel) (link : Link) (end : RunEnd) (left : Left) : Type 0 where
+  pub turns : List Turn
+  pub ends : Ends
+  pub run : LineRun c link turns ends
+  pub ended : EndsBy c link turns ends end left
+
+-- two ends that may play, over a line with delays
+pub record MayRun (c : Channel) (link : Link) : Type 0 where
+  pub may_play : MayPlay link.orig.setup link.answ.setup
+  pub delays : HasDelays (delay_of c.script)
+
+-- However a run ends, what was given begins the other's file;
+abbrev pub RunsLeavePrefixes : Type 0
+RunsLeavePrefixes = (c : Channel) (link : Link) (end : RunEnd) (left : Left) → MayRun c link → RunsTo c link end left
+    → (role : Role) → IsPrefixOf (of role left.got) (of (other role) link).user.file
+
+-- done means whole.
+abbrev pub DoneLeavesWhole : Type 0
+DoneLeavesWhole = (c : Channel) (link : Link) (turn : ℕ) (left : Left) → MayRun c link → RunsTo c link (IsDone turn) left
+    → (role : Role) → of role left.got ≡ (of (other role) link).user.file
+
+-- the turns in which something was heard: the last one too, where one was made
+abbrev pub turns_heard : (c : Channel) (link : Link) (ts : List Turn) (ends : Ends) (end : RunEnd) (left : Left) → EndsBy c link ts ends end left → List Turn
+turns_heard c link ts ends (IsDone turn) left e = e.last ∷ ts
+turns_heard c link ts ends (LinkLost role segment turn) left e = e.1.last ∷ ts
+turns_heard c link ts ends (NotDetected turn) left e = e.last ∷ ts
+turns_heard c link ts ends (LineLost role symbol) left e = ts
+turns_heard c link ts ends (ChanceMatch role turn) left e = ts
+
+-- What was given is what passed, by the numbers that were meant.
+abbrev pub RunsLeaveWhatPassed : Type 0
+RunsLeaveWhatPassed = (c : Channel) (link : Link) (end : RunEnd) (left : Left) → MayRun c link → (r : RunsTo c link end left)
+    → (role : Role) → of role left.got ≡ taken_octets (agreed_srej link) (delay_of c.script) role (turns_heard c link r.turns r.ends end left r.ended)
+
+-- A script and two users have one result at most: one end, and what it leaves.
+abbrev pub OneResult : Type 0
+OneResult = (c : Channel) (link : Link) (a b : RunEnd) (left others : Left) → RunsTo c link a left → RunsTo c link b others → (a ≡ b) × (left ≡ others)
+
+-- losses of a script's line that went on for so long that an end may give up
+abbrev pub StarvedBy : ScriptValue → List Turn → Type 0
+StarvedBy script ts = IsStarved script.tries (period_of script) (delay_of script) ts

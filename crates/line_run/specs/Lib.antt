@@ -1,0 +1,4 @@
+pub mod Sampled
+pub mod Scripted
+pub mod Ends
+pub mod LineLaws

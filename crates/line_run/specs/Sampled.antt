@@ -1,0 +1,108 @@
+-- What the line of samples makes of the slots of a run: what is recorded of all slots of a direction, what is received of that in each
+-- slot, and how the line may end a run.
+use Rattle.std.specs.Prelude.{◌≡◌, ◌≢◌, ℕ, ◌-◌, ◌*◌, is_some, Bool, true, List, [], ◌∷◌, ◌++◌, length, drop, Option, Some, None}
+use Rattle.frame_check.specs.declared.check.Check.{Check}
+use Rattle.symbol_map.specs.declared.sample.Sample.{Sample}
+use Rattle.survivors.specs.Survivors.{LostIs}
+use Rattle.roles.specs.declared.role.Role.{Role}
+use Rattle.roles.specs.declared.role.Role.TheVariants.{Originator, Answerer}
+use Rattle.roles.specs.Role.{other}
+use Rattle.roles.specs.Both.{of}
+use Rattle.detection.specs.Slots.{Signal, signal_bits}
+use Rattle.lapm_frames.specs.declared.frame.Frame.{Frame}
+use Rattle.slot_contents.specs.declared.seen.Seen.{Seen}
+use Rattle.slot_contents.specs.declared.heard.Heard.{Heard}
+use Rattle.slot_contents.specs.declared.heard.Heard.TheVariants.{Nothing, Chance}
+use Rattle.noise_script.specs.Script.{ScriptValue, delay_of, loses}
+use Rattle.sample_line.specs.Signals.{signal_of}
+use Rattle.sample_line.specs.Recorded.{Records}
+use Rattle.sample_line.specs.Received.{line_trellis, line_depth, Receives}
+use Rattle.sample_line.specs.Outcomes.{IsOutcome}
+use Rattle.sample_line.specs.Path.{LosesAt}
+use Rattle.link_account.specs.Account.{check_of}
+use Rattle.link_run.specs.Run.{Link, Ends, Spoken, Side, Turn, RunOf}
+use Rattle.link_run.specs.Carried.{sent_ago}
+
+-- How the slots of a link go over the line.
+pub record Channel : Type 0 where
+  pub script : ScriptValue
+  pub symbols : ℕ  -- of a slot
+  pub dlci : ℕ
+
+-- a slot that was sent, as a signal: its frame has the check of its sender
+abbrev pub signal_in : Channel → Role → Option Spoken → List Signal
+signal_in c role None = []
+signal_in c role (Some slot) = signal_of slot.check role c.dlci slot.sent ∷ []
+
+-- the slots that a role sent in these turns, in order
+abbrev pub signals : Channel → Role → List Turn → List Signal
+signals c role [] = []
+signals c role (t ∷ ts) = signals c role ts ++ signal_in c role (of role t).sent
+
+-- and their bits
+abbrev pub bits_of : Channel → Role → List Turn → List Bool
+bits_of c role ts = signal_bits (4 * c.symbols) (signals c role ts)
+
+-- The last slot that this sender sent in these turns has arrived: the line isn't lost by then, what is received in the slot is what its
+-- samples give beside those of all slots before, judged by the hearer's check, and this is its outcome.
+pub record Arrives (c : Channel) (sender : Role) (earlier upto : List Turn) (hearing : Check) (slot : Spoken) (heard : Heard) : Type 0 where
+  pub before : List Sample
+  pub samples : List Sample
+  pub recorded_before : Records c.script sender (bits_of c sender earlier) before
+  pub recorded : Records c.script sender (bits_of c sender upto) samples
+  pub not_lost : LostIs line_trellis line_depth samples None
+  pub frames : List Frame
+  pub patterns : List Seen
+  pub received : Receives hearing sender c.dlci before samples frames patterns
+  pub outcome : IsOutcome (loses c.script sender (length earlier)) slot.sent frames patterns heard
+
+-- a slot that has arrived, or none
+abbrev pub ArrivesAs : Channel → Role → List Turn → List Turn → Check → Option Spoken → Heard → Type 0
+ArrivesAs c sender earlier upto hearing None heard = heard ≡ Nothing
+ArrivesAs c sender earlier upto hearing (Some slot) heard = Arrives c sender earlier upto hearing slot heard
+
+-- what a hearer with this check hears of this sender in the turn after these
+abbrev pub IsHeardOf : Channel → Role → List Turn → Check → Heard → Type 0
+IsHeardOf c sender ts hearing heard =
+    ArrivesAs c sender (drop (delay_of c.script sender) ts) (drop (delay_of c.script sender - 1) ts) hearing (sent_ago (delay_of c.script sender) sender ts) heard
+
+-- and it doesn't end the run
+pub record HeardAt (c : Channel) (sender : Role) (ts : List Turn) (s : Side) : Type 0 where
+  pub heard_of : IsHeardOf c sender ts s.check s.heard
+  pub well : s.heard ≢ Chance
+
+-- what both ends hear in a turn that goes on or ends as the ends speak
+abbrev pub HeardIn : Channel → List Turn → Turn → Type 0
+HeardIn c ts t = (role : Role) → HeardAt c (other role) ts (of role t)
+
+abbrev pub IsHeardOver : Channel → List Turn → Type 0
+IsHeardOver c [] = Unit {0}
+IsHeardOver c (t ∷ ts) = HeardIn c ts t × IsHeardOver c ts
+
+-- Turns after which a run over the line goes on, and the ends after them.
+pub record LineRun (c : Channel) (link : Link) (ts : List Turn) (ends : Ends) : Type 0 where
+  pub run : RunOf link ts ends
+  pub heard : IsHeardOver c ts
+
+-- How the line ends a run as a turn begins.
+pub data LineEnd : Type 0 where
+  LineLost : (role : Role) (symbol : ℕ) → LineEnd  -- the role of the end that hears, and the symbol of all that it hears in the run
+  ChanceMatch : (role : Role) → LineEnd
+
+-- the line is lost with this symbol of all that arrive in the turn after these
+pub record LosesLine (c : Channel) (sender : Role) (ts : List Turn) (symbol : ℕ) : Type 0 where
+  pub arrives : is_some (sent_ago (delay_of c.script sender) sender ts) ≡ true
+  pub loses : LosesAt sender c.script (bits_of c sender (drop (delay_of c.script sender - 1) ts)) symbol
+
+-- what arrives of this sender doesn't end the run
+pub record IsHeardWell (c : Channel) (sender : Role) (ts : List Turn) (hearing : Check) : Type 0 where
+  pub heard : Heard
+  pub is : IsHeardOf c sender ts hearing heard
+  pub well : heard ≢ Chance
+
+-- The line ends the run in the turn after these, with these ends. The originator's slot counts first, and a lost line before a chance match.
+abbrev pub EndsLine : Channel → List Turn → Ends → LineEnd → Type 0
+EndsLine c ts ends (LineLost Originator symbol) = LosesLine c Answerer ts symbol
+EndsLine c ts ends (ChanceMatch Originator) = IsHeardOf c Answerer ts (check_of ends.orig) Chance
+EndsLine c ts ends (LineLost Answerer symbol) = IsHeardWell c Answerer ts (check_of ends.orig) × LosesLine c Originator ts symbol
+EndsLine c ts ends (ChanceMatch Answerer) = IsHeardWell c Answerer ts (check_of ends.orig) × IsHeardOf c Originator ts (check_of ends.answ) Chance

@@ -1,0 +1,4 @@
+//! Whole runs of two ends over the line of samples, as definitions and laws; nothing runs here. [`laws`] says what holds of all of them.
+#![tactic(auto)]
+
+pub mod laws;
