@@ -1,0 +1,100 @@
+-- The texts of some traces, how the runs end, and the octets that are taken. They were worked out apart from the definitions.
+use Rattle.std.specs.Prelude.{◌≡◌, ℕ, ◌-◌, Bool, true, false, List, [], ◌∷◌, ◌++◌, length, drop, Some, codes}
+use Rattle.std.specs.List.{concat}
+use Rattle.roles.specs.declared.role.Role.TheVariants.{Originator, Answerer}
+use Rattle.link_run.specs.Outcomes.{Done}
+use Rattle.link_run.specs.Run.{Turn}
+use Rattle.link_run.specs.Taken.{taken_octets}
+use Rattle.link_run.specs.Counts.{lost_slots, sent_again}
+use Rattle.link_run.specs.Trace.{trace_text, turn_text}
+use Rattle.run_traces.specs.Made.{Way, Made, runs, all_turns}
+use Rattle.run_traces.specs.Settings.{way, loses, one_break, one_octet_each, fifteen, far, busy_for_a_while, busy_for_long}
+
+-- The run is done in the turn of that number, with these octets at both ends by the frames that passed and by the accounts.
+pub record DoneIn (srej : Bool) (w : Way) (m : Made) (turn : ℕ) (got_o got_a : List ℕ) : Type 0 where
+  pub done : m.outcome ≡ Some Done
+  pub last : length m.turns ≡ turn
+  pub orig : taken_octets srej w.delay Originator (all_turns m) ≡ got_o
+  pub answ : taken_octets srej w.delay Answerer (all_turns m) ≡ got_a
+  pub orig_account : concat m.mid.orig.incoming.taken ≡ got_o
+  pub answ_account : concat m.mid.answ.incoming.taken ≡ got_a
+
+-- the lines of a turn
+abbrev pub lines_of : ℕ → List Turn → List ℕ
+lines_of turn [] = []
+lines_of turn (t ∷ ts) = turn_text turn t
+
+abbrev pub lines_in : ℕ → Made → List ℕ
+lines_in turn m = lines_of turn (drop (length m.turns - turn) (all_turns m))
+
+-- Two files of one octet each: the whole trace.
+abbrev pub plain_run : Made
+plain_run = runs 100 (one_octet_each []) (way 1 [] [])
+
+abbrev pub PlainTrace : Type 0
+PlainTrace =
+    trace_text (all_turns plain_run) ≡
+    codes "0 orig - > odp\n0 answ - > mark\n1 orig - > odp\n1 answ odp > adp\n2 orig adp > xid cmd p=0 n=23\n2 answ odp > adp\n"
+    ++ codes "3 orig adp > flags\n3 answ xid cmd p=0 n=23 > xid rsp p=0 n=23\n4 orig xid rsp p=0 n=23 > sabme cmd p=1\n4 answ - > flags\n"
+    ++ codes "5 orig - > flags\n5 answ sabme cmd p=1 > ua rsp p=1\n6 orig ua rsp p=1 > rr cmd r=0 p=1\n6 answ - > flags\n"
+    ++ codes "7 orig - > flags\n7 answ rr cmd r=0 p=1 > rr rsp r=0 p=1\n8 orig rr rsp r=0 p=1 > i s=0 r=0 p=0 n=1\n8 answ - > i s=0 r=0 p=0 n=1\n"
+    ++ codes "9 orig i s=0 r=0 p=0 n=1 > rr rsp r=1 p=0\n9 answ i s=0 r=0 p=0 n=1 > rr rsp r=1 p=0\n10 orig rr rsp r=1 p=0 > disc cmd p=1\n"
+    ++ codes "10 answ rr rsp r=1 p=0 > flags\n11 orig - > flags\n11 answ disc cmd p=1 > ua rsp p=1\n12 orig ua rsp p=1 > none\n12 answ - > none\n"
+
+abbrev pub PlainEnds : Type 0
+PlainEnds = DoneIn false (way 1 [] []) plain_run 12 (98 ∷ []) (97 ∷ [])
+
+-- The UA of turn 5 is lost.
+abbrev pub ua_lost : Made
+ua_lost = runs 100 (one_octet_each []) (way 1 [] (loses 1 5))
+
+abbrev pub UaLostEnds : Type 0
+UaLostEnds = DoneIn false (way 1 [] (loses 1 5)) ua_lost 32 (98 ∷ []) (97 ∷ [])
+
+-- A break is given; and, where its answer is lost, given once.
+abbrev pub broken : Made
+broken = runs 100 (one_octet_each one_break) (way 1 [] [])
+
+abbrev pub BreakLine8 : Type 0
+BreakLine8 = lines_in 8 broken ≡ codes "8 orig rr rsp r=0 p=1 > i s=0 r=0 p=0 n=1\n8 answ ui cmd p=0 n=3 > ui cmd p=0 n=3 break=30\n"
+
+abbrev pub BreakEnds : Type 0
+BreakEnds = DoneIn false (way 1 [] []) broken 13 (98 ∷ []) (97 ∷ [])
+
+abbrev pub BreakAgainEnds : Type 0
+BreakAgainEnds = DoneIn false (way 1 [] (loses 1 8)) (runs 100 (one_octet_each one_break) (way 1 [] (loses 1 8))) 30 (98 ∷ []) (97 ∷ [])
+
+-- Fifteen segments over a long delay, segment 3 lost: by REJ, and by SREJ.
+abbrev pub far_run : Bool → Made
+far_run srej = runs 400 (far srej) (way 20 (loses 1 163) [])
+
+abbrev pub FarRejEnds : Type 0
+FarRejEnds = DoneIn false (way 20 (loses 1 163) []) (far_run false) 295 [] fifteen
+
+abbrev pub FarSrejEnds : Type 0
+FarSrejEnds = DoneIn true (way 20 (loses 1 163) []) (far_run true) 284 [] fifteen
+
+-- One slot is lost; twelve segments go again by REJ, and one by SREJ.
+pub record Counts (m : Made) (lost again : ℕ) : Type 0 where
+  pub lost_is : lost_slots (all_turns m) ≡ lost
+  pub again_is : sent_again (all_turns m) ≡ again
+
+abbrev pub FarRejCounts : Type 0
+FarRejCounts = Counts (far_run false) 1 12
+
+abbrev pub FarSrejCounts : Type 0
+FarSrejCounts = Counts (far_run true) 1 1
+
+-- The answerer is busy in turns 10 to 14, and says so at once.
+abbrev pub busy_run : Made
+busy_run = runs 100 busy_for_a_while (way 1 [] [])
+
+abbrev pub BusyLine10 : Type 0
+BusyLine10 = lines_in 10 busy_run ≡ codes "10 orig rr rsp r=1 p=0 > i s=2 r=0 p=0 n=1\n10 answ i s=1 r=0 p=0 n=1 > rnr rsp r=2 p=0\n"
+
+abbrev pub BusyEnds : Type 0
+BusyEnds = DoneIn false (way 1 [] []) busy_run 31 [] fifteen
+
+-- The answerer is busy in the first 200 turns, much longer than all tries take.
+abbrev pub BusyForLongEnds : Type 0
+BusyForLongEnds = DoneIn false (way 1 [] []) (runs 300 busy_for_long (way 1 [] [])) 205 (98 ∷ []) (97 ∷ [])
