@@ -33,7 +33,7 @@ use Rattle.roles.specs.Role.{is_originator}
 use Rattle.link_account.specs.Hear.{hear, on_frame, on_connected, on_detecting, on_negotiating, on_establishing, on_releasing, on_closed, on_xid_command, on_xid_response, on_i, on_ready, on_rej, on_srej, on_number, on_sabme, peer_reset, on_disc, on_word, on_seen, on_pattern, then_in, replying, hurrying, taking, ends_wait, owing, trying, on_rnr, pausing}
 use Rattle.link_account.specs.Speak.{Said, says, says_frame, says_own, says_break, says_asking, says_segment, else_says, where_says, steps, step1, step2, step3, step4, step5, step6, step7, step8, step9, may_send, nr_of, telling, running, speak, speak_in, speak_detecting, speak_negotiating, speak_releasing, speak_linked, u_try, tries_frame, trying_again, answering, on_timer, on_break_timer, then_tries, after_timers, polling, breaking, spent, timer_expires, tells, ready_frame, differs}
 use Rattle.link_account.specs.Play.{Slot, Side, Play, Pair, Event, Speaks, Passes, Is_lost, Hears_nothing, Is_offered, Is_asked, Delivers, Gives_break, arrives, seen_from, play_of, spoken, heard, passes, is_lost, is_offered, happens_at, role_of, goes_on, happens, play, start, Is_busy}
-use Rattle.link_account.specs.Laws.{played, GivesBreaksInOrder, AnswersGiven}
+use Rattle.link_account.specs.Laws.{played, GivesBreaksInOrder, AnswersGiven, IsBreakOf, SendsBreaksTaken}
 use Rattle.plain_lists.specs.Prefix.{IsPrefixOf}
 use Rattle.link_account.proofs.Linked.{AllSaid, else-says, where-says}
 use Rattle.link_account.proofs.Breaking.{BrkOn, AckOn, BreaksGo, Go, OnTicked, go-asked, go-ticked, go-brk, go-ack, go-brk-lost, go-ack-lost, go-brk-heard, go-ack-heard, IsPending}
@@ -522,3 +522,19 @@ gives_breaks_always so sa events =
 pub answers_given_always : AnswersGiven
 answers_given_always so sa events =
     let h = plays-go events (start (fresh so) (fresh sa)) (record { out = no-breaks; back = no-breaks }) in (h.out.given_are.low, h.back.given_are.low)
+
+-- the BRK that stands first on a line
+first-break : (b : OwnBreaks) (t : TheirBreaks) (command pf : Bool) (info : List ℕ) (number length_octet n told : ℕ) (rest line : List Slot) (acks : List AckOn) → line ≡ (record { sent = slots.Frame (Ui command pf info); number = n; told = told }) ∷ rest
+    → word_in info ≡ Ok (Brk number length_octet) → Go b t (brks_in line) acks → IsBreakOf b t number length_octet n
+first-break b t command pf info number length_octet n told rest line acks e w h =
+    let s : brks_in line ≡ (record { place = n; number = number; length_octet = length_octet }) ∷ brks_in rest = ap brks_in e ∙ ap (λ x. brk_of_word x n ++ brks_in rest) w in
+    let k = (subst (λ x. Go b t x acks) s h).brks.each.0 in
+    record { taken = k.within; number_is = k.number; length_is = k.is; given = k.low }
+
+pub sends_breaks_taken_always : SendsBreaksTaken
+sends_breaks_taken_always so sa events =
+    let p = played so sa events in
+    let h = plays-go events (start (fresh so) (fresh sa)) (record { out = no-breaks; back = no-breaks }) in (
+      λ command pf info number length_octet n told rest e w. first-break p.originator.account.own_breaks p.answerer.account.their_breaks command pf info number length_octet n told rest p.originator.line _ e w h.out,
+      λ command pf info number length_octet n told rest e w. first-break p.answerer.account.own_breaks p.originator.account.their_breaks command pf info number length_octet n told rest p.answerer.line _ e w h.back,
+    )

@@ -5,6 +5,7 @@ use Rattle.std.proofs.lemmas.Bool.{false≢true}
 use Rattle.std.proofs.lemmas.List.{take-append-drop}
 use Rattle.roles.specs.declared.role.Role.TheVariants.{Originator, Answerer}
 use Rattle.lapm_frames.specs.declared.frame.Frame.TheVariants.{I}
+use Rattle.xid_params.specs.declared.terms.Terms.{Terms}
 use Rattle.xid_params.specs.Terms.{lowered}
 use Rattle.xid_params.proofs.Reading.{reads_written_always}
 use Rattle.lapm_sender.specs.Outgoing.{Outgoing, with_piece, wanted}
@@ -22,11 +23,11 @@ use Rattle.link_account.specs.Account.{Account, fresh, wants, piece_size, after_
 use Rattle.link_account.specs.Hear.{hear, on_nothing}
 use Rattle.link_account.specs.Speak.{Said, speak}
 use Rattle.link_account.specs.Play.{Slot, Play, Event, Speaks, Passes, Is_lost, Hears_nothing, Is_offered, Is_asked, Delivers, Gives_break, arrives, seen_from, play_of, spoken, heard, passes, is_lost, is_offered, happens_at, role_of, goes_on, happens, play, start, Is_busy}
-use Rattle.link_account.specs.Laws.{MayPlay, played, TakesInOrder, WantsAnswers, BreaksForWantAlone, IsTakenBy, TakesByNumber, AcknowledgesTaken, SendsWhatWasOffered, AgreesOnSrej}
+use Rattle.link_account.specs.Laws.{MayPlay, played, TakesInOrder, WantsAnswers, BreaksForWantAlone, IsTakenBy, TakesByNumber, AcknowledgesTaken, SendsWhatWasOffered, AgreesOnSrej, has_begun, KnownByNumber}
 use Rattle.plain_lists.specs.Prefix.{IsPrefixOf}
 use Rattle.link_account.proofs.Flow.{keeps-offered}
 use Rattle.link_account.proofs.Ends.{Goes, flow, order-exact}
-use Rattle.link_account.proofs.Good.{rank, PlaceO, PlaceA, DueA, LineO, LineA, terms_of, Good, lost-o, lost-a, changed-o, changed-a}
+use Rattle.link_account.proofs.Good.{rank, IsBegun, PlaceO, PlaceA, DueA, LineO, LineA, terms_of, Good, lost-o, lost-a, changed-o, changed-a}
 use Rattle.link_account.proofs.Hearing.{WellA, WellO, a-hears, o-hears, a-nothing, o-nothing}
 use Rattle.link_account.proofs.Speaking.{IsHarmless, OnSaid, SaidO, SaidA, o-speaks, a-speaks}
 
@@ -382,4 +383,37 @@ agrees_on_srej_always so sa events m =
     let h = (played-well so sa events m).good in (
       λ linked. (let place : PlaceO (terms_of so sa) Connected p.originator.account = subst (λ q. PlaceO (terms_of so sa) q p.originator.account) linked h.place_o in place.2),
       λ linked. (let place : PlaceA (terms_of so sa) Connected p.answerer.account = subst (λ q. PlaceA (terms_of so sa) q p.answerer.account) linked h.place_a in place.2),
+    )
+
+-- an end that has begun
+begun-o : (t : Terms) (p : Phase) (a : Account) → has_begun p ≡ true → PlaceO t p a → IsBegun t.window_o t.window_a t.srej a
+begun-o t Detecting a e h = absurd (false≢true e)
+begun-o t Negotiating a e h = absurd (false≢true e)
+begun-o t Establishing a e h = absurd (false≢true e)
+begun-o t Connected a e h = h
+begun-o t Releasing a e h = h
+begun-o t Closed a e h = h
+
+begun-a : (t : Terms) (p : Phase) (a : Account) → has_begun p ≡ true → PlaceA t p a → IsBegun t.window_a t.window_o t.srej a
+begun-a t Detecting a e h = absurd (false≢true e)
+begun-a t Negotiating a e h = absurd (false≢true e)
+begun-a t Establishing a e h = absurd (false≢true e)
+begun-a t Connected a e h = h
+begun-a t Releasing a e h = absurd h
+begun-a t Closed a e h = h
+
+pub known_by_number_always : KnownByNumber
+known_by_number_always so sa events m =
+    let p = played so sa events in
+    let h = (played-well so sa events m).good in (
+      λ ns nr pf info n told rest e begun.
+          let place = begun-a (terms_of so sa) p.answerer.account.phase p.answerer.account begun h.place_a in
+          let line = subst (λ l. LineO so (rank p.originator.account.phase) l) e h.line_o in
+          by-number (terms_of so sa).window_o (terms_of so sa).srej p.originator.account.outgoing p.answerer.account.incoming ns nr pf info n told rest p.answerer.line
+          (subst (λ l. Goes (terms_of so sa).window_o (terms_of so sa).srej p.originator.account.outgoing p.answerer.account.incoming l p.answerer.line) e h.flow_oa) place.1 place.2 line.0.0,
+      λ ns nr pf info n told rest e begun.
+          let place = begun-o (terms_of so sa) p.originator.account.phase p.originator.account begun h.place_o in
+          let line = subst (λ l. LineA sa (rank p.originator.account.phase) (rank p.answerer.account.phase) l) e h.line_a in
+          by-number (terms_of so sa).window_a (terms_of so sa).srej p.answerer.account.outgoing p.originator.account.incoming ns nr pf info n told rest p.originator.line
+          (subst (λ l. Goes (terms_of so sa).window_a (terms_of so sa).srej p.answerer.account.outgoing p.originator.account.incoming l p.originator.line) e h.flow_ao) place.1 place.2 line.0.0,
     )

@@ -1,14 +1,18 @@
 -- The laws of plays from two fresh ends.
-use Rattle.std.specs.Prelude.{◌≡◌, ℕ, ◌+◌, ◌%◌, ◌<◌, ◌≤◌, Bool, List, [], ◌∷◌, length, slice_index_or, Option, Some, None, Ok}
+use Rattle.std.specs.Prelude.{◌≡◌, ℕ, ◌+◌, ◌%◌, ◌<◌, ◌≤◌, Bool, true, false, List, [], ◌∷◌, length, slice_index_or, Option, Some, None, Ok}
 use Rattle.roles.specs.declared.role.Role.TheVariants.{Originator, Answerer}
-use Rattle.lapm_frames.specs.declared.frame.Frame.TheVariants.{I}
+use Rattle.lapm_frames.specs.declared.frame.Frame.TheVariants.{I, Ui}
 use Rattle.lapm_receiver.specs.Incoming.{Incoming, kind_of, next_expected}
 use Rattle.lapm_receiver.specs.declared.took.Took.TheVariants.{InOrder, Kept}
 use Rattle.xid_params.specs.Offers.{IsAllowed}
 use Rattle.xid_params.specs.Terms.{agree}
+use Rattle.break_signals.specs.declared.word.BreakWord.TheVariants.{Brk}
+use Rattle.break_signals.specs.Words.{word_in}
+use Rattle.break_signals.specs.Breaks.{OwnBreaks, TheirBreaks}
 use Rattle.slot_contents.specs.declared.sent.Sent.TheVariants as slots
 use Rattle.link_account.specs.declared.setup.Setup.{Setup}
-use Rattle.link_account.specs.declared.phase.Phase.TheVariants.{Connected}
+use Rattle.link_account.specs.declared.phase.Phase.{Phase}
+use Rattle.link_account.specs.declared.phase.Phase.TheVariants.{Detecting, Negotiating, Establishing, Connected, Releasing, Closed}
 use Rattle.link_account.specs.declared.fault.LinkFault.{LinkFault}
 use Rattle.link_account.specs.declared.fault.LinkFault.TheVariants.{NotDetected, Spent, BadAck, PeerReset, PeerRefused}
 use Rattle.link_account.specs.Account.{Account, fresh}
@@ -102,3 +106,41 @@ abbrev pub AgreesOnSrej : Type 0
 AgreesOnSrej = (so sa : Setup) (events : List Event) → MayPlay so sa →
     ((played so sa events).originator.account.phase ≡ Connected → (played so sa events).originator.account.incoming.srej ≡ (agree so.offer sa.offer).srej)
     × ((played so sa events).answerer.account.phase ≡ Connected → (played so sa events).answerer.account.incoming.srej ≡ (agree so.offer sa.offer).srej)
+
+-- an end is Connected, or was
+abbrev pub has_begun : Phase → Bool
+has_begun Detecting = false
+has_begun Negotiating = false
+has_begun Establishing = false
+has_begun Connected = true
+has_begun Releasing = true
+has_begun Closed = true
+
+-- what is next to be heard at an end that has begun, where it is an I frame, is known by its number: also where the end takes nothing any more
+abbrev pub NextIsKnown : Side → Side → Type 0
+NextIsKnown from to =
+    (ns nr : ℕ) (pf : Bool) (info : List ℕ) (n told : ℕ) (rest : List Slot) → from.line ≡ (record { sent = slots.Frame (I ns nr pf info); number = n; told = told }) ∷ rest
+    → has_begun to.account.phase ≡ true → IsTakenBy to.account.incoming ns n
+
+-- An I frame that an end hears once it has begun is InOrder exactly where its meant number is the next one expected.
+abbrev pub KnownByNumber : Type 0
+KnownByNumber = (so sa : Setup) (events : List Event) → MayPlay so sa →
+    NextIsKnown (played so sa events).originator (played so sa events).answerer × NextIsKnown (played so sa events).answerer (played so sa events).originator
+
+-- a BRK by its meant number: it is of the last break that was given at the other end, or of the next
+pub record IsBreakOf (own : OwnBreaks) (their : TheirBreaks) (number length_octet n : ℕ) : Type 0 where
+  pub taken : n < length own.lengths
+  pub number_is : number ≡ n % 2
+  pub length_is : length_octet ≡ slice_index_or own.lengths n 0
+  pub given : length their.lengths ≤ n + 1
+
+-- what is next to be heard, where it is a BRK
+abbrev pub NextIsBreak : Side → Side → Type 0
+NextIsBreak from to =
+    (command pf : Bool) (info : List ℕ) (number length_octet n told : ℕ) (rest : List Slot) → from.line ≡ (record { sent = slots.Frame (Ui command pf info); number = n; told = told }) ∷ rest
+    → word_in info ≡ Ok (Brk number length_octet) → IsBreakOf from.account.own_breaks to.account.their_breaks number length_octet n
+
+-- Each BRK on the line is of a break that was taken, and of none before the last one that was given.
+abbrev pub SendsBreaksTaken : Type 0
+SendsBreaksTaken = (so sa : Setup) (events : List Event) →
+    NextIsBreak (played so sa events).originator (played so sa events).answerer × NextIsBreak (played so sa events).answerer (played so sa events).originator

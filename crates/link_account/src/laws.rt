@@ -1,5 +1,6 @@
 //! What two ends do, over all plays. The functions do nothing: each law is a contract.
-ghost use Rattle.link_account.specs.Laws.{TakesInOrder, TakesByNumber, BreaksForWantAlone, GivesBreaksInOrder, SaysNumbers, AcknowledgesTaken, AnswersGiven, SendsWhatWasOffered, AgreesOnSrej};
+ghost use Rattle.link_account.specs.Laws.{TakesInOrder, TakesByNumber, BreaksForWantAlone, GivesBreaksInOrder, SaysNumbers};
+ghost use Rattle.link_account.specs.Laws.{AcknowledgesTaken, AnswersGiven, SendsWhatWasOffered, AgreesOnSrej, KnownByNumber, SendsBreaksTaken};
 
 /// Whatever is lost and whenever timers expire, what an end takes is a prefix of what was offered at the other, each
 /// segment is taken by its meant number, an end breaks for want of answers alone, and breaks are given in order.
@@ -20,6 +21,13 @@ pub fn acknowledgements()
 pub fn frames_on_the_line()
     ensures offered { SendsWhatWasOffered }
     ensures srej { AgreesOnSrej }
+{}
+
+/// What is on the line is known by its meant number, also at an end that takes nothing any more: an I frame by what was taken, a BRK by the
+/// breaks that were taken and given.
+pub fn numbers_on_the_line()
+    ensures segments { KnownByNumber }
+    ensures breaks { SendsBreaksTaken }
 {}
 
 /// What an end says can be heard.
