@@ -17,3 +17,8 @@ mod Counting
 mod Joining
 mod Taking
 mod Naming
+mod Coursing
+mod Declaring
+mod Knowing
+mod Following
+mod Overhearing

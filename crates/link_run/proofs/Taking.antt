@@ -116,7 +116,7 @@ keeping-right pieces srej ss s h k = go (is_among s.number ss) (srej || nat_eq s
     go false false = h
 
 -- an I frame came
-abbrev side_with : Account → List Slot → Side
+abbrev pub side_with : Account → List Slot → Side
 side_with x line = record { account = x; line = line; fault = None }
 
 segment-came : (srej : Bool) (ss : List Segment) (from a b : Account) (line tl rest : List Slot) (turn ns nr : ℕ) (pf : Bool) (info : List ℕ) (n told : ℕ)
@@ -339,7 +339,7 @@ counts (arrivals.Pattern s) e = e
 counts (arrivals.Frame (I ns nr pf info)) e = refl
 counts (arrivals.Frame frame) e = absurd (false≢true e)
 
-all-taken : (e : Ends) → Over e.orig e.answ → Facts e.orig e.answ → length e.orig.outgoing.pieces ≤ length e.answ.incoming.taken
+pub all-taken : (e : Ends) → Over e.orig e.answ → Facts e.orig e.answ → length e.orig.outgoing.pieces ≤ length e.answ.incoming.taken
 all-taken e h f = omega (arith, h.o_front, f.acked_o)
 
 -- both directions

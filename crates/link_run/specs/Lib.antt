@@ -8,3 +8,4 @@ pub mod Starved
 pub mod Counts
 pub mod Alone
 pub mod Laws
+pub mod Overheard

@@ -3,10 +3,11 @@ ghost use Rattle.link_run.specs.Alone.{OneLoneRun};
 ghost use Rattle.link_run.specs.Laws.{RunsArePlays, HearingsArePlays, TakesPrefixes, HearsPrefixes, DoneIsWhole, HearingsAreWell, BrokenForWant};
 ghost use Rattle.link_run.specs.Laws.{OneRun, OneOutcome, HearingsDeliver, SpeakingTakesNothing, GivesAllBreaks, TakesWhatPassed, HearsWhatPassed};
 ghost use Rattle.link_run.specs.Laws.{EachEndIsNamed, EachTurnIsMade, OffersUntilNoneIsWanted};
+ghost use Rattle.link_run.specs.Overheard.{OpensByFrames, AgreesByXid, SendsAgreedCheck, HearsAgreedCheck, ReleasesLast, EarlyBreaksAreIgnored};
 
 use lapm_receiver::laws::keeps_taken;
-use link_account::laws::{acknowledgements, frames_on_the_line, plays};
-use xid_params::laws::reads_allowed;
+use link_account::laws::{acknowledgements, frames_on_the_line, numbers_on_the_line, plays};
+use xid_params::laws::{reads_allowed, reads_written};
 
 /// Each run over a line, as it goes on and once both ends have heard, is a play of the link.
 pub fn runs_are_plays()
@@ -95,3 +96,46 @@ pub fn one_lone_run()
 pub fn pieces_are_offered_until_none_is_wanted()
     ensures { OffersUntilNoneIsWanted }
 {}
+
+/// The frames that passed to an end tell how far it is: a UA or a SABME that it is Connected, an XID frame that its terms are agreed, once and
+/// for all.
+pub fn frames_tell_how_far_ends_are()
+    ensures opens { OpensByFrames }
+    ensures agrees { AgreesByXid }
+{
+    reads_allowed();
+    reads_written();
+    keeps_taken();
+}
+
+/// Each frame with numbers is sent with the check that both ends agreed on, and where it passes, its hearer has that check.
+pub fn numbers_have_the_agreed_check()
+    ensures sends { SendsAgreedCheck }
+    ensures hears { HearsAgreedCheck }
+{
+    reads_allowed();
+    reads_written();
+    keeps_taken();
+}
+
+/// Once the originator was told to release, nothing new passes to either end, and nothing more is taken or given.
+pub fn releases_last()
+    ensures { ReleasesLast }
+{
+    reads_allowed();
+    reads_written();
+    keeps_taken();
+    plays();
+    acknowledgements();
+    frames_on_the_line();
+    numbers_on_the_line();
+}
+
+/// A break's word that passes before its hearer is Connected is ignored: nothing of the end changes.
+pub fn early_breaks_are_ignored()
+    ensures { EarlyBreaksAreIgnored }
+{
+    reads_allowed();
+    reads_written();
+    keeps_taken();
+}
