@@ -55,7 +55,7 @@ serving-leaves u turn released a =
 empty-more : (xs ys : List (List ℕ)) → xs ≡ [] → ys ≡ [] → xs ++ ys ≡ []
 empty-more xs ys p q = rw (p, q) refl
 
-heard-blank : (a b : Account) → Blank a → GoesOn a b → Blank b
+pub heard-blank : (a b : Account) → Blank a → GoesOn a b → Blank b
 heard-blank a b h (inl s) = record {
   taken = λ z.
       let was : stage a.phase ≡ 0 = omega (arith, z, s.later) in
@@ -63,7 +63,7 @@ heard-blank a b h (inl s) = record {
 }
 heard-blank a b h (inr e) = record { taken = λ z. absurd (omega (arith, z, ap stage e.is)) }
 
-spoken-blank : (release : Bool) (a b : Account) → Blank a → Speaks release a b → Blank b
+pub spoken-blank : (release : Bool) (a b : Account) → Blank a → Speaks release a b → Blank b
 spoken-blank release a b h (Keeps_on e) = record { taken = λ z. ap (λ (l : Ledger). l.taken) e ∙ h.taken (sym (ap (λ (l : Ledger). stage l.phase) e) ∙ z) }
 spoken-blank release a b h (Releases on role linked e k) = record { taken = λ z. absurd (omega (arith, z, ap (λ (l : Ledger). stage l.phase) e)) }
 
@@ -87,7 +87,7 @@ unlinked-stage Closed e = λ z. omega (arith, z)
 drop-front : (xs ys zs : List (List ℕ)) (n : ℕ) → zs ≡ xs ++ ys → n ≡ length xs → drop n zs ≡ ys
 drop-front xs ys zs n p q = rw (p, q) (drop-append_seam xs ys)
 
-delivers-came : (a b : Account) → Handed a → Blank a → GoesOn a b → b.incoming.taken ≡ a.incoming.taken ++ deliveries b
+pub delivers-came : (a b : Account) → Handed a → Blank a → GoesOn a b → b.incoming.taken ≡ a.incoming.taken ++ deliveries b
 delivers-came a b h k (inl s) = go (is_connected b.phase) refl
   where
     go : (c : Bool) → is_connected b.phase ≡ c → b.incoming.taken ≡ a.incoming.taken ++ cond c (drop b.incoming.given b.incoming.taken) []
@@ -114,7 +114,7 @@ hearings_deliver reads keeps link ts before t mid h k r =
     delivers-came (of r before) (of r mid) (run-handed reads keeps link ts before h r) (kept-run reads keeps IsBlank link (blank-kept link) ts before h r)
     (hears reads keeps (length ts) (arrival (of r t).heard) (of r before) (of r mid) (k r).hears)
 
-spoken-taken : (release : Bool) (a b : Account) → Speaks release a b → b.incoming.taken ≡ a.incoming.taken
+pub spoken-taken : (release : Bool) (a b : Account) → Speaks release a b → b.incoming.taken ≡ a.incoming.taken
 spoken-taken release a b (Keeps_on e) = ap (λ (l : Ledger). l.taken) e
 spoken-taken release a b (Releases on role linked e k) = ap (λ (l : Ledger). l.taken) e
 

@@ -75,7 +75,7 @@ pub all-weaker : (P Q : Frame → Type 0) → ((frame : Frame) → P frame → Q
 all-weaker P Q f role [] h = tt
 all-weaker P Q f role (t ∷ ts) h = (sent-weaker P Q f (of role t).sent h.0, all-weaker P Q f role ts h.1)
 
-ago-all : (P : Frame → Type 0) (role : Role) (k : ℕ) (ts : List Turn) → AllSent P role ts → IfSent P (sent_in role (slice_get ts k))
+pub ago-all : (P : Frame → Type 0) (role : Role) (k : ℕ) (ts : List Turn) → AllSent P role ts → IfSent P (sent_in role (slice_get ts k))
 ago-all P role k [] h = tt
 ago-all P role zero (t ∷ ts) h = h.0
 ago-all P role (suc k) (t ∷ ts) h = ago-all P role k ts h.1

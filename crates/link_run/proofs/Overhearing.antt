@@ -1,5 +1,5 @@
 -- What the frames that pass tell.
-use Rattle.std.proofs.Common.{◌≡◌, ◌≢◌, inl, inr, ℕ, ◌+◌, ◌-◌, ◌%◌, ◌≤◌, Bool, true, false, cond, nat_eq, nat_le, List, [], ◌∷◌, ◌++◌, length, map, arith, length-append, refl, sym, ◌∙◌, ap, subst, Option, Some, None, Result, Ok, slice_get}
+use Rattle.std.proofs.Common.{zero, suc, ◌≡◌, ◌≢◌, inl, inr, ℕ, ◌+◌, ◌-◌, ◌%◌, ◌≤◌, Bool, true, false, cond, nat_eq, nat_le, List, [], ◌∷◌, ◌++◌, length, map, arith, length-append, refl, sym, ◌∙◌, ap, subst, Option, Some, None, Result, Ok, slice_get}
 use Rattle.std.proofs.lemmas.Bool.{false≢true}
 use Rattle.std.proofs.lemmas.Bool.Decides.{nat_tests}
 use Rattle.std.proofs.lemmas.List.{append-nil}
@@ -8,7 +8,9 @@ use Rattle.frame_check.specs.declared.check.Check.{Check}
 use Rattle.frame_check.specs.declared.check.Check.TheVariants.{Sixteen, ThirtyTwo}
 use Rattle.roles.specs.declared.role.Role.{Role}
 use Rattle.roles.specs.declared.role.Role.TheVariants.{Originator, Answerer}
+use Rattle.roles.specs.Role.{other}
 use Rattle.roles.specs.Both.{of}
+use Rattle.std.specs.Prelude.{is_some}
 use Rattle.lapm_frames.specs.declared.frame.Frame.{Frame}
 use Rattle.lapm_frames.specs.declared.frame.Frame.TheVariants.{I, Rr, Rnr, Rej, Srej, Sabme, Disc, Ua, Dm, Frmr, Ui, Xid, Test}
 use Rattle.lapm_frames.specs.Frame.{has_number}
@@ -32,17 +34,17 @@ use Rattle.link_account.specs.Hear.{hear, on_frame, on_detecting, on_negotiating
 use Rattle.link_account.specs.Play.{Slot, Play}
 use Rattle.link_account.specs.Laws.{MayPlay, has_begun, NextIsKnown, KnownByNumber, NextWasOffered, SendsWhatWasOffered, NextIsBreak, SendsBreaksTaken}
 use Rattle.link_run.specs.End.{is_released}
-use Rattle.link_run.specs.Run.{Link, Ends, Spoken, Turn, spoken, arrival}
-use Rattle.link_run.specs.Carried.{sent_in, sent_ago, Crosses}
+use Rattle.link_run.specs.Run.{RunOf, Link, Ends, Spoken, Turn, spoken, arrival}
+use Rattle.link_run.specs.Carried.{sent_in, sent_ago, Crosses, HasDelays, IsCarried}
 use Rattle.link_run.specs.Laws.{RunsOver, told_by_play, told_by_turn}
-use Rattle.link_run.specs.Overheard.{has_passed, is_xid, opens, OpensByFrames, agreed_terms, AgreesByXid, agreed_check, SendsAgreedCheck, HearsAgreedCheck, IsOld, NothingNew, ReleasesLast, EarlyBreaksAreIgnored}
+use Rattle.link_run.specs.Overheard.{has_passed, is_xid, opens, OpensByFrames, agreed_terms, AgreesByXid, agreed_check, SendsAgreedCheck, HearsAgreedCheck, JudgesByItsCheck, IsOld, NothingNew, ReleasesLast, EarlyBreaksAreIgnored}
 use Rattle.link_run.proofs.Keeping.{stage, GoesOn, hears, Standing, standing, stands-heard}
 use Rattle.link_run.proofs.Playing.{made, next-first, head-of, none-is-some}
 use Rattle.link_run.proofs.Running.{Reaches, lines, run-reaches, hearing-reaches}
 use Rattle.link_run.proofs.Ending.{Facts, PlayLaws, facts}
 use Rattle.link_run.proofs.Finishing.{Over, over-run}
 use Rattle.link_run.proofs.Taking.{side_with, all-taken}
-use Rattle.link_run.proofs.Knowing.{rank, OnSent, IfSent, OnArrived, came-all, SentO, SentA}
+use Rattle.link_run.proofs.Knowing.{rank, OnSent, IfSent, OnArrived, ago-all, came-all, SentO, SentA}
 use Rattle.link_run.proofs.Following.{KnownOf, known-run}
 
 pub record KnowingLaws : Type 0 where
@@ -163,6 +165,42 @@ hears_agreed_check laws link delay ts ends t mid v c h role frame = at-role role
         let P = SentO link.orig.setup (rank ends.orig.phase) in
         let s : P frame = subst (λ x. OnArrived P (arrival x)) e (came-all P delay Originator ts t.answ.heard k.sent_o (c Answerer)) in
         (h Answerer).check_is ∙ answ-agreed link ts ts ends k (numbered-o link.orig.setup (rank ends.orig.phase) frame n s)
+
+-- all slots with numbers that a role sent in these turns have that check
+abbrev HasCheck : Check → Option Spoken → Type 0
+HasCheck check o = (slot : Spoken) (frame : Frame) → o ≡ Some slot → slot.sent ≡ slots.Frame frame → has_number frame ≡ true → slot.check ≡ check
+
+abbrev AllChecked : Check → Role → List Turn → Type 0
+AllChecked check role [] = Unit {0}
+AllChecked check role (t ∷ ts) = HasCheck check (of role t).sent × AllChecked check role ts
+
+all-checked : KnowingLaws → (link : Link) (delay : Role → ℕ) → MayPlay link.orig.setup link.answ.setup → HasDelays delay → (role : Role) (ts : List Turn) (ends : Ends) → IsCarried delay ts → RunOf link ts ends → AllChecked (agreed_check link) role ts
+all-checked laws link delay m d role [] ends c h = tt
+all-checked laws link delay m d role (t ∷ ts) ends c h =
+    (sends_agreed_check laws link delay ts h.0 t ends (record { may_play = m; delays = d; carried = c.1; run = h.1 }) c.0 h.2 role, all-checked laws link delay m d role ts h.0 c.1 h.1)
+
+ago-checked : (check : Check) (role : Role) (k : ℕ) (ts : List Turn) → AllChecked check role ts → HasCheck check (sent_in role (slice_get ts k))
+ago-checked check role k [] h = λ slot frame e. absurd (false≢true (ap is_some e))
+ago-checked check role zero (t ∷ ts) h = h.0
+ago-checked check role (suc k) (t ∷ ts) h = ago-checked check role k ts h.1
+
+pub judges_by_its_check : KnowingLaws → JudgesByItsCheck
+judges_by_its_check laws link delay ts ends v role slot frame e f = go (has_number frame) refl
+  where
+    k : KnownOf link ts ts ends
+    k = known laws link delay ts ends v
+
+    at-role : (role : Role) → has_number frame ≡ true → sent_ago (delay (other role)) (other role) ts ≡ Some slot → check_of (of role ends) ≡ agreed_check link
+    at-role Originator n q =
+        let P = SentA link.answ.setup (rank ends.orig.phase) (rank ends.answ.phase) in
+        orig-agreed link ts ts ends k (numbered-a link.answ.setup (rank ends.orig.phase) (rank ends.answ.phase) frame n (of-slot P (sent_ago (delay Answerer) Answerer ts) slot frame q f (ago-all P Answerer (delay Answerer - 1) ts k.sent_a)))
+    at-role Answerer n q =
+        let P = SentO link.orig.setup (rank ends.orig.phase) in
+        answ-agreed link ts ts ends k (numbered-o link.orig.setup (rank ends.orig.phase) frame n (of-slot P (sent_ago (delay Originator) Originator ts) slot frame q f (ago-all P Originator (delay Originator - 1) ts k.sent_o)))
+
+    go : (b : Bool) → has_number frame ≡ b → cond b slot.check Sixteen ≡ cond b (check_of (of role ends)) Sixteen
+    go false n = refl
+    go true n = ago-checked (agreed_check link) (other role) (delay (other role) - 1) ts (all-checked laws link delay v.may_play v.delays (other role) ts ends v.carried v.run) slot frame e f n ∙ sym (at-role role n e)
 
 -- the slot that passes stands first on its line
 pub record First (line : List Slot) (s : Sent) : Type 0 where

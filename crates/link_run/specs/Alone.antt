@@ -1,12 +1,12 @@
 -- Runs of one end against recorded bits of any peer: what the end hears in each turn is said apart.
-use Rattle.std.specs.Prelude.{◌≡◌, ℕ, Bool, true, false, ◌&&◌, List, [], ◌∷◌, length, map, Option, Some, None, Ok, Err}
+use Rattle.std.specs.Prelude.{◌≡◌, ℕ, Bool, true, false, ◌&&◌, List, [], ◌∷◌, ◌++◌, length, map, Option, Some, None, Ok, Err}
 use Rattle.roles.specs.Role.{is_originator}
 use Rattle.slot_contents.specs.declared.arrived.Arrived.{Arrived}
 use Rattle.link_account.specs.declared.fault.LinkFault.{LinkFault}
 use Rattle.link_account.specs.Account.{Account, fresh}
 use Rattle.link_account.specs.Hear.{hear}
 use Rattle.link_account.specs.Speak.{Said}
-use Rattle.link_run.specs.End.{Served, served, is_closed, speaks_alone}
+use Rattle.link_run.specs.End.{Served, served, deliveries, is_closed, speaks_alone}
 use Rattle.link_run.specs.Run.{Party, Spoken, spoken}
 
 -- the end in a turn
@@ -59,3 +59,23 @@ LoneRun party (t ∷ ts) a = (before : Account) × LoneRun party ts before × Lo
 abbrev pub OneLoneRun : Type 0
 OneLoneRun = (party : Party) (ts us : List LoneTurn) (a b : Account) → LoneRun party ts a → LoneRun party us b
     → map (λ (t : LoneTurn). t.arrived) ts ≡ map (λ (t : LoneTurn). t.arrived) us → (ts ≡ us) × (a ≡ b)
+
+-- What the end delivers once it has heard is what it took since: it goes behind all that it had taken.
+abbrev pub LoneHearingsDeliver : Type 0
+LoneHearingsDeliver = (party : Party) (ts : List LoneTurn) (before : Account) (t : LoneTurn) (mid : Account) → LoneRun party ts before → hear (length ts) t.arrived before ≡ Ok mid
+    → mid.incoming.taken ≡ before.incoming.taken ++ deliveries mid
+
+-- And as it is served and speaks it takes nothing.
+abbrev pub LoneSpeakingTakesNothing : Type 0
+LoneSpeakingTakesNothing = (party : Party) (ts : List LoneTurn) (before : Account) (t : LoneTurn) (after : Account) (g : LoneGoing party ts before t after)
+    → after.incoming.taken ≡ g.mid.incoming.taken
+
+-- Whatever arrives, the run goes on, ends as an originator is closed, or ends by a fault of hearing or of speaking.
+pub data LoneNext (party : Party) (ts : List LoneTurn) (a : Account) (arrived : Arrived) : Type 0 where
+  Goes_on : (sent : Option Spoken) (after : Account) → LoneGoing party ts a (record { arrived = arrived; sent = sent }) after → LoneNext party ts a arrived
+  Is_last : (mid : Account) → LoneLast ts a (record { arrived = arrived; sent = None }) mid → LoneNext party ts a arrived
+  Is_faulty : (fault : LinkFault) → LoneFaulty ts a (record { arrived = arrived; sent = None }) fault → LoneNext party ts a arrived
+  Is_broken : (mid : Account) (fault : LinkFault) → LoneBroken party ts a (record { arrived = arrived; sent = None }) mid fault → LoneNext party ts a arrived
+
+abbrev pub EachLoneTurnIsMade : Type 0
+EachLoneTurnIsMade = (party : Party) (ts : List LoneTurn) (a : Account) (arrived : Arrived) → LoneNext party ts a arrived

@@ -4,7 +4,9 @@ use Rattle.frame_check.specs.declared.check.Check.{Check}
 use Rattle.frame_check.specs.declared.check.Check.TheVariants.{Sixteen, ThirtyTwo}
 use Rattle.roles.specs.declared.role.Role.{Role}
 use Rattle.roles.specs.declared.role.Role.TheVariants.{Originator, Answerer}
+use Rattle.roles.specs.Role.{other}
 use Rattle.roles.specs.Both.{of}
+use Rattle.lapm_frames.specs.Checked.{check_for}
 use Rattle.lapm_frames.specs.declared.frame.Frame.{Frame}
 use Rattle.lapm_frames.specs.declared.frame.Frame.TheVariants.{I, Sabme, Ua, Ui, Xid}
 use Rattle.lapm_frames.specs.Frame.{has_number}
@@ -18,11 +20,11 @@ use Rattle.break_signals.specs.Breaks.{gives}
 use Rattle.slot_contents.specs.declared.sent.Sent.TheVariants as slots
 use Rattle.slot_contents.specs.declared.heard.Heard.{Heard}
 use Rattle.slot_contents.specs.declared.heard.Heard.TheVariants.{Passed}
-use Rattle.link_account.specs.Account.{Account, first_terms}
+use Rattle.link_account.specs.Account.{Account, first_terms, check_of}
 use Rattle.link_account.specs.Laws.{has_begun}
 use Rattle.link_run.specs.End.{is_released}
 use Rattle.link_run.specs.Run.{Link, Ends, Spoken, Turn, Hears, GoingTurn}
-use Rattle.link_run.specs.Carried.{Carries}
+use Rattle.link_run.specs.Carried.{sent_ago, Carries}
 use Rattle.link_run.specs.Laws.{RunsOver}
 
 -- a frame of this kind passes to an end in a turn
@@ -74,6 +76,12 @@ abbrev pub HearsAgreedCheck : Type 0
 HearsAgreedCheck = (link : Link) (delay : Role → ℕ) (ts : List Turn) (ends : Ends) (t : Turn) (mid : Ends) → RunsOver link delay ts ends
     → Carries delay ts t → Hears (length ts) ends t mid
     → (role : Role) (frame : Frame) → (of role t).heard ≡ Passed (slots.Frame frame) → has_number frame ≡ true → (of role t).check ≡ agreed_check link
+
+-- So whatever becomes of a frame on the line, its hearer judges it by the check that it was sent with.
+abbrev pub JudgesByItsCheck : Type 0
+JudgesByItsCheck = (link : Link) (delay : Role → ℕ) (ts : List Turn) (ends : Ends) → RunsOver link delay ts ends
+    → (role : Role) (slot : Spoken) (frame : Frame) → sent_ago (delay (other role)) (other role) ts ≡ Some slot → slot.sent ≡ slots.Frame frame
+    → check_for slot.check frame ≡ check_for (check_of (of role ends)) frame
 
 -- nothing of a frame is new to an end: an I frame is neither the next one expected nor one to be held, and a BRK isn't the next one expected
 abbrev pub IsOld : Account → Frame → Type 0

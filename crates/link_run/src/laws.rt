@@ -1,9 +1,9 @@
 //! What holds of all runs. The functions do nothing but name the laws that they rest on: each law is a contract.
-ghost use Rattle.link_run.specs.Alone.{OneLoneRun};
+ghost use Rattle.link_run.specs.Alone.{OneLoneRun, LoneHearingsDeliver, LoneSpeakingTakesNothing, EachLoneTurnIsMade};
 ghost use Rattle.link_run.specs.Laws.{RunsArePlays, HearingsArePlays, TakesPrefixes, HearsPrefixes, DoneIsWhole, HearingsAreWell, BrokenForWant};
 ghost use Rattle.link_run.specs.Laws.{OneRun, OneOutcome, HearingsDeliver, SpeakingTakesNothing, GivesAllBreaks, TakesWhatPassed, HearsWhatPassed};
 ghost use Rattle.link_run.specs.Laws.{EachEndIsNamed, EachTurnIsMade, OffersUntilNoneIsWanted};
-ghost use Rattle.link_run.specs.Overheard.{OpensByFrames, AgreesByXid, SendsAgreedCheck, HearsAgreedCheck, ReleasesLast, EarlyBreaksAreIgnored};
+ghost use Rattle.link_run.specs.Overheard.{OpensByFrames, AgreesByXid, SendsAgreedCheck, HearsAgreedCheck, JudgesByItsCheck, ReleasesLast, EarlyBreaksAreIgnored};
 
 use lapm_receiver::laws::keeps_taken;
 use link_account::laws::{acknowledgements, frames_on_the_line, numbers_on_the_line, plays};
@@ -87,10 +87,20 @@ pub fn each_turn_is_made()
     ends_break_for_want_alone();
 }
 
-/// What arrives at one end alone determines its run.
+/// What arrives at one end alone determines its run, and whatever arrives, there is a next turn.
 pub fn one_lone_run()
-    ensures { OneLoneRun }
+    ensures run { OneLoneRun }
+    ensures made { EachLoneTurnIsMade }
 {}
+
+/// What one end alone hands over in each turn is what came in it, behind all that it had taken.
+pub fn lone_turns_deliver_what_came()
+    ensures hearing { LoneHearingsDeliver }
+    ensures speaking { LoneSpeakingTakesNothing }
+{
+    reads_allowed();
+    keeps_taken();
+}
 
 /// Pieces are offered until none is wanted: a loop that offers the next one while one is wanted comes to the same.
 pub fn pieces_are_offered_until_none_is_wanted()
@@ -108,10 +118,11 @@ pub fn frames_tell_how_far_ends_are()
     keeps_taken();
 }
 
-/// Each frame with numbers is sent with the check that both ends agreed on, and where it passes, its hearer has that check.
+/// Each frame with numbers is sent with the check that both ends agreed on, and its hearer has that check when it arrives.
 pub fn numbers_have_the_agreed_check()
     ensures sends { SendsAgreedCheck }
     ensures hears { HearsAgreedCheck }
+    ensures judges { JudgesByItsCheck }
 {
     reads_allowed();
     reads_written();
