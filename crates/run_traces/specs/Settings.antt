@@ -1,5 +1,5 @@
 -- The settings of the runs.
-use Rattle.std.specs.Prelude.{ℕ, ◌+◌, Bool, false, ◌&&◌, ◌||◌, nat_le, nat_lt, List, [], ◌∷◌}
+use Rattle.std.specs.Prelude.{ℕ, ◌+◌, Bool, true, false, ◌&&◌, ◌||◌, nat_le, nat_lt, List, [], ◌∷◌}
 use Rattle.roles.specs.declared.role.Role.{Role}
 use Rattle.roles.specs.declared.role.Role.TheVariants.{Originator, Answerer}
 use Rattle.roles.specs.Both.{of}
@@ -8,11 +8,11 @@ use Rattle.link_run.specs.End.{BreakLine, User}
 use Rattle.link_run.specs.Run.{Link}
 use Rattle.run_traces.specs.Made.{Way}
 
--- an end that offers segments of this size, a window of 15, and SREJ or not
-abbrev pub setup : Role → ℕ → Bool → ℕ → Setup
-setup role size srej period = record {
+-- an end that offers segments of this size, a window of 15, and SREJ and the 32-bit check or not
+abbrev pub setup : Role → ℕ → Bool → Bool → ℕ → Setup
+setup role size srej check32 period = record {
   role = role;
-  offer = record { srej = srej; check32 = false; tx_len = size; rx_len = size; tx_window = 15; rx_window = 15 };
+  offer = record { srej = srej; check32 = check32; tx_len = size; rx_len = size; tx_window = 15; rx_window = 15 };
   tries = 5;
   period = period;
 }
@@ -24,8 +24,15 @@ plain file = record { file = file; breaks = []; busy = [] }
 -- a link whose originator offers segments of this size
 abbrev pub link_of : ℕ → Bool → ℕ → User → User → Link
 link_of size srej period orig answ = record {
-  orig = record { setup = setup Originator size srej period; user = orig };
-  answ = record { setup = setup Answerer 128 srej period; user = answ };
+  orig = record { setup = setup Originator size srej false period; user = orig };
+  answ = record { setup = setup Answerer 128 srej false period; user = answ };
+}
+
+-- two files of one octet each, at ends that both offer the 32-bit check
+abbrev pub checked32 : Link
+checked32 = record {
+  orig = record { setup = setup Originator 128 false true 20; user = plain (97 ∷ []) };
+  answ = record { setup = setup Answerer 128 false true 20; user = plain (98 ∷ []) };
 }
 
 -- so many slots of a role from that turn on are lost

@@ -1,14 +1,21 @@
 -- The texts of some traces, how the runs end, and the octets that are taken. They were worked out apart from the definitions.
-use Rattle.std.specs.Prelude.{◌≡◌, ℕ, ◌-◌, Bool, true, false, List, [], ◌∷◌, ◌++◌, length, drop, Some, codes}
+use Rattle.std.specs.Prelude.{◌≡◌, ℕ, ◌-◌, if◌then◌else◌, Bool, true, false, List, [], ◌∷◌, ◌++◌, length, drop, replicate, Option, Some, None, codes}
 use Rattle.std.specs.List.{concat}
+use Rattle.roles.specs.declared.role.Role.{Role}
 use Rattle.roles.specs.declared.role.Role.TheVariants.{Originator, Answerer}
 use Rattle.link_run.specs.Outcomes.{Done}
-use Rattle.link_run.specs.Run.{Turn}
+use Rattle.frame_check.specs.declared.check.Check.{Check}
+use Rattle.frame_check.specs.declared.check.Check.TheVariants.{Sixteen, ThirtyTwo}
+use Rattle.roles.specs.Both.{of}
+use Rattle.lapm_frames.specs.Frame.{has_number}
+use Rattle.slot_contents.specs.declared.sent.Sent.{Sent}
+use Rattle.slot_contents.specs.declared.sent.Sent.TheVariants as slots
+use Rattle.link_run.specs.Run.{Spoken, Turn}
 use Rattle.link_run.specs.Taken.{taken_octets}
 use Rattle.link_run.specs.Counts.{lost_slots, sent_again}
 use Rattle.link_run.specs.Trace.{trace_text, turn_text}
 use Rattle.run_traces.specs.Made.{Way, Made, runs, all_turns}
-use Rattle.run_traces.specs.Settings.{way, loses, one_break, one_octet_each, fifteen, far, busy_for_a_while, busy_for_long}
+use Rattle.run_traces.specs.Settings.{way, checked32, loses, one_break, one_octet_each, fifteen, far, busy_for_a_while, busy_for_long}
 
 -- The run is done in the turn of that number, with these octets at both ends by the frames that passed and by the accounts.
 pub record DoneIn (srej : Bool) (w : Way) (m : Made) (turn : ℕ) (got_o got_a : List ℕ) : Type 0 where
@@ -98,3 +105,37 @@ BusyEnds = DoneIn false (way 1 [] []) busy_run 31 [] fifteen
 -- The answerer is busy in the first 200 turns, much longer than all tries take.
 abbrev pub BusyForLongEnds : Type 0
 BusyForLongEnds = DoneIn false (way 1 [] []) (runs 300 busy_for_long (way 1 [] [])) 205 (98 ∷ []) (97 ∷ [])
+
+-- Both ends offer the 32-bit check: the frames are those of the run without, each end judges by the 16-bit check up to the turn in which it hears
+-- the other's offer, and from then on by the 32-bit one, with which each frame with numbers is sent.
+abbrev pub checked_run : Made
+checked_run = runs 100 checked32 (way 1 [] [])
+
+abbrev pub CheckedEnds : Type 0
+CheckedEnds = DoneIn false (way 1 [] []) checked_run 12 (98 ∷ []) (97 ∷ [])
+
+abbrev pub checks_of : Role → List Turn → List Check
+checks_of role [] = []
+checks_of role (t ∷ ts) = checks_of role ts ++ (of role t).check ∷ []
+
+abbrev pub is_numbered : Sent → Bool
+is_numbered slots.Mark = false
+is_numbered slots.Odp = false
+is_numbered slots.Adp = false
+is_numbered slots.Flags = false
+is_numbered (slots.Frame frame) = has_number frame
+
+-- the check of a slot with a frame with numbers
+abbrev pub check_in : Option Spoken → List Check
+check_in None = []
+check_in (Some slot) = if is_numbered slot.sent then slot.check ∷ [] else []
+
+abbrev pub numbered_checks : Role → List Turn → List Check
+numbered_checks role [] = []
+numbered_checks role (t ∷ ts) = numbered_checks role ts ++ check_in (of role t).sent
+
+pub record ChecksAre : Type 0 where
+  pub orig : checks_of Originator (all_turns checked_run) ≡ replicate 5 Sixteen ++ replicate 8 ThirtyTwo
+  pub answ : checks_of Answerer (all_turns checked_run) ≡ replicate 4 Sixteen ++ replicate 9 ThirtyTwo
+  pub orig_sent : numbered_checks Originator (all_turns checked_run) ≡ replicate 3 ThirtyTwo
+  pub answ_sent : numbered_checks Answerer (all_turns checked_run) ≡ replicate 3 ThirtyTwo
