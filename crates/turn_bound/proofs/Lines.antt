@@ -1,0 +1,114 @@
+use Rattle.std.proofs.Common.{◌≡◌, ℕ, ◌+◌, ◌-◌, ◌*◌, ◌<◌, ◌≤◌, ◌&&◌, ◌||◌, max, Bool, true, false, cond, nat_lt, nat_le, not, List, [], ◌∷◌, ◌++◌, length, arith, refl}
+use Rattle.std.specs.Prelude.{is_some}
+use Rattle.std.specs.List.{AllByRecursion}
+use Rattle.std.proofs.lemmas.Bool.Decides.{nat_tests}
+use Rattle.slot_contents.specs.declared.sent.Sent.{Sent}
+use Rattle.slot_contents.specs.declared.sent.Sent.TheVariants as slots
+use Rattle.slot_contents.specs.declared.arrived.Arrived.{Arrived}
+use Rattle.slot_contents.specs.declared.arrived.Arrived.TheVariants as arrivals
+use Rattle.link_account.specs.Account.{Account}
+use Rattle.link_account.specs.Play.{Slot, arrives}
+use Rattle.turn_bound.proofs.Clock.{one_if, is_free}
+use Rattle.turn_bound.proofs.Value.{weight, rnrs, arrived_weight, arrived_rnrs, dues, two_if, four_if}
+use Rattle.link_run.specs.End.{BusyLine, is_busy, busy_left, busy_turns}
+use Rattle.turn_bound.proofs.Run.{arrival, left_on}
+use Rattle.turn_bound.proofs.Potential.{weights, rnrs_on}
+
+abbrev pub IsLight : Slot → Type 0
+IsLight slot = weight slot.sent ≤ 2
+
+abbrev pub AllLight : List Slot → Type 0
+AllLight line = AllByRecursion {X = Slot} IsLight line
+
+arrives-weight : (sent : Sent) → arrived_weight (arrives sent) ≡ weight sent
+arrives-weight slots.Mark = refl
+arrives-weight slots.Odp = refl
+arrives-weight slots.Adp = refl
+arrives-weight slots.Flags = refl
+arrives-weight (slots.Frame frame) = refl
+
+arrives-rnrs : (sent : Sent) → arrived_rnrs (arrives sent) ≡ rnrs sent
+arrives-rnrs slots.Mark = refl
+arrives-rnrs slots.Odp = refl
+arrives-rnrs slots.Adp = refl
+arrives-rnrs slots.Flags = refl
+arrives-rnrs (slots.Frame frame) = refl
+
+-- what arrives of a line leaves it
+pub record Arrives (delay : ℕ) (line rest : List Slot) (arrived : Arrived) : Type 0 where
+  pub weighs : weights rest + arrived_weight arrived ≤ weights line
+  pub rnrs : rnrs_on rest + arrived_rnrs arrived ≤ rnrs_on line
+  pub fits : length line ≤ delay → 1 ≤ delay → length rest + 1 ≤ delay
+  pub light : AllLight line → AllLight rest
+
+pub arrived-well : (delay : ℕ) (loses : Bool) (line : List Slot) → Arrives delay line (left_on delay line) (arrival delay loses line)
+arrived-well delay loses [] = record { weighs = omega arith; rnrs = omega arith; fits = λ h k. omega (arith, k); light = λ h. h }
+arrived-well delay loses (slot ∷ rest) = go (nat_lt (length (slot ∷ rest)) delay) refl loses
+  where
+    go : (short : Bool) → nat_lt (length (slot ∷ rest)) delay ≡ short → (lost : Bool)
+        → Arrives delay (slot ∷ rest) (cond short (slot ∷ rest) rest) (cond short arrivals.Nothing (cond lost arrivals.Nothing (arrives slot.sent)))
+    go true e lost = record { weighs = omega arith; rnrs = omega arith; fits = λ h k. let less : length (slot ∷ rest) < delay = grind (arith, nat_tests) in omega (arith, less); light = λ h. h }
+    go false e true = record { weighs = omega arith; rnrs = omega arith; fits = λ h k. omega (arith, h); light = λ h. h.1 }
+    go false e false = record { weighs = omega (arith, arrives-weight slot.sent); rnrs = omega (arith, arrives-rnrs slot.sent); fits = λ h k. omega (arith, h); light = λ h. h.1 }
+
+pub weights-snoc : (line : List Slot) (slot : Slot) → weights (line ++ slot ∷ []) ≡ weights line + weight slot.sent
+weights-snoc [] slot = omega arith
+weights-snoc (s ∷ line) slot = omega (arith, weights-snoc line slot)
+
+pub rnrs-snoc : (line : List Slot) (slot : Slot) → rnrs_on (line ++ slot ∷ []) ≡ rnrs_on line + rnrs slot.sent
+rnrs-snoc [] slot = omega arith
+rnrs-snoc (s ∷ line) slot = omega (arith, rnrs-snoc line slot)
+
+pub light-snoc : (line : List Slot) (slot : Slot) → AllLight line → IsLight slot → AllLight (line ++ slot ∷ [])
+light-snoc [] slot h k = (k, tt)
+light-snoc (s ∷ line) slot h k = (h.0, light-snoc line slot h.1 k)
+
+pub weights-most : (line : List Slot) → AllLight line → weights line ≤ 2 * length line
+weights-most [] h = omega arith
+weights-most (s ∷ line) h = omega (arith, h.0, weights-most line h.1)
+
+two-most : (b : Bool) → two_if b ≤ 2
+two-most true = omega arith
+two-most false = omega arith
+
+four-most : (b : Bool) → four_if b ≤ 4
+four-most true = omega arith
+four-most false = omega arith
+
+one-most : (b : Bool) → one_if b ≤ 1
+one-most true = omega arith
+one-most false = omega arith
+
+pub dues-most : (total : ℕ) (a : Account) → dues total a ≤ 15
+dues-most total a =
+    omega (
+      arith,
+      two-most (is_some a.owes.answer),
+      two-most a.owes.reply,
+      two-most (is_some a.their_breaks.ack),
+      two-most a.incoming.rej,
+      four-most a.wait.poll,
+      two-most a.owes.busy_told,
+      one-most (is_free total a.outgoing && not a.special),
+    )
+
+-- a busy turn is one fewer to come
+pub busy-falls : (turn : ℕ) (lines : List BusyLine) → busy_left (turn + 1) lines + one_if (is_busy turn lines) ≤ busy_left turn lines
+busy-falls turn [] = omega arith
+busy-falls turn (l ∷ ls) = go (nat_le l.turn turn) refl (nat_lt turn (l.turn + l.count)) refl (busy-falls turn ls)
+  where
+    or-most : (b : Bool) → one_if (true || b) ≤ 1
+    or-most b = omega arith
+
+    go : (x : Bool) → nat_le l.turn turn ≡ x → (y : Bool) → nat_lt turn (l.turn + l.count) ≡ y → busy_left (turn + 1) ls + one_if (is_busy turn ls) ≤ busy_left turn ls
+        → (l.turn + l.count - max l.turn (turn + 1)) + busy_left (turn + 1) ls + one_if ((x && y) || is_busy turn ls) ≤ (l.turn + l.count - max l.turn turn) + busy_left turn ls
+    go true e true f h =
+        let low : l.turn ≤ turn = grind (arith, nat_tests) in
+        let high : turn < l.turn + l.count = grind (arith, nat_tests) in
+        omega (arith, low, high, h)
+    go true e false f h = omega (arith, h)
+    go false e y f h = omega (arith, h)
+
+pub busy-start : (lines : List BusyLine) → busy_left 0 lines ≡ busy_turns lines
+busy-start [] = refl
+busy-start (l ∷ ls) = omega (arith, busy-start ls)

@@ -1,0 +1,177 @@
+use Rattle.std.proofs.Common.{◌≡◌, ℕ, ◌||◌, Bool, true, false, cond, nat_lt, List, [], ◌∷◌, ◌++◌, length, refl, sym, ◌∙◌, ap, subst, Result, Ok, Err}
+use Rattle.std.specs.List.{AllByRecursion}
+use Rattle.roles.specs.declared.role.Role.TheVariants.{Answerer}
+use Rattle.lapm_frames.specs.declared.frame.Frame.{Frame}
+use Rattle.slot_contents.specs.declared.sent.Sent.{Sent}
+use Rattle.slot_contents.specs.declared.sent.Sent.TheVariants as slots
+use Rattle.slot_contents.specs.declared.arrived.Arrived.TheVariants as arrivals
+use Rattle.link_account.specs.declared.phase.Phase.{Phase}
+use Rattle.link_account.specs.declared.phase.Phase.TheVariants.{Detecting, Negotiating, Establishing, Connected, Releasing, Closed}
+use Rattle.link_account.specs.declared.fault.LinkFault.{LinkFault}
+use Rattle.link_account.specs.Account.{Account}
+use Rattle.link_account.specs.Hear.{hear}
+use Rattle.link_account.specs.Speak.{Said, speak}
+use Rattle.link_account.specs.Play.{Slot, arrives}
+use Rattle.turn_bound.proofs.Clock.{Rates}
+use Rattle.turn_bound.proofs.Value.{Stands}
+use Rattle.link_run.specs.End.{is_closed, is_released}
+use Rattle.turn_bound.proofs.Run.{served_account, Link, State, Turn, GoingTurn, RunOf, start, arrival, left_on, slot_of}
+use Rattle.turn_bound.proofs.Potential.{AreTogether}
+use Rattle.turn_bound.proofs.Arithmetic.{all_weaker}
+use Rattle.turn_bound.proofs.Serving.{serves-all}
+use Rattle.turn_bound.proofs.Falls.{Sound, Fits, state_after, after-is}
+use Rattle.turn_bound.proofs.Ending.{sound-run}
+use Rattle.turn_bound.proofs.MeetHear.{is_begun, is_ua_due, frame_ua, frame_disc, frame_final, of_frame, of_arrived, OHeard, OHears, o-hears, AHeard, AHears, a-hears}
+use Rattle.turn_bound.proofs.MeetSpeak.{SaysSo, Says, speaks-so}
+
+-- each slot of that kind on a line says so
+abbrev pub Tells : (Frame → Bool) → Type 0 → List Slot → Type 0
+Tells f P line = AllByRecursion {X = Slot} (λ slot. of_frame f slot.sent ≡ true → P) line
+
+arrives-flag : (f : Frame → Bool) (sent : Sent) → of_arrived f (arrives sent) ≡ of_frame f sent
+arrives-flag f slots.Mark = refl
+arrives-flag f slots.Odp = refl
+arrives-flag f slots.Adp = refl
+arrives-flag f slots.Flags = refl
+arrives-flag f (slots.Frame frame) = refl
+
+arrival-tells : (f : Frame → Bool) (P : Type 0) (delay : ℕ) (loses : Bool) (line : List Slot) → Tells f P line → of_arrived f (arrival delay loses line) ≡ true → P
+arrival-tells f P delay loses [] h e = cc
+arrival-tells f P delay loses (slot ∷ rest) h e = go (nat_lt (length (slot ∷ rest)) delay) loses e
+  where
+    go : (short lost : Bool) → of_arrived f (cond short arrivals.Nothing (cond lost arrivals.Nothing (arrives slot.sent))) ≡ true → P
+    go true lost e = cc
+    go false true e = cc
+    go false false e = h.0 (sym (arrives-flag f slot.sent) ∙ e)
+
+left-tells : (f : Frame → Bool) (P Q : Type 0) (delay : ℕ) (line : List Slot) → (P → Q) → Tells f P line → Tells f Q (left_on delay line)
+left-tells f P Q delay [] k h = tt
+left-tells f P Q delay (slot ∷ rest) k h = go (nat_lt (length (slot ∷ rest)) delay)
+  where
+    weaker : (line : List Slot) → Tells f P line → Tells f Q line
+    weaker line t = all_weaker (λ s. of_frame f s.sent ≡ true → P) (λ s. of_frame f s.sent ≡ true → Q) line (λ s g e. k (g e)) t
+
+    go : (short : Bool) → Tells f Q (cond short (slot ∷ rest) rest)
+    go true = weaker (slot ∷ rest) h
+    go false = weaker rest h.1
+
+tells-snoc : (f : Frame → Bool) (P : Type 0) (line : List Slot) (slot : Slot) → Tells f P line → (of_frame f slot.sent ≡ true → P) → Tells f P (line ++ slot ∷ [])
+tells-snoc f P [] slot h k = (k, tt)
+tells-snoc f P (s ∷ line) slot h k = (h.0, tells-snoc f P line slot h.1 k)
+
+-- How two ends meet, and part.
+pub record Meets (s : State) : Type 0 where
+  pub closed : is_closed s.answ.phase ≡ true → is_released s.orig.phase ≡ true
+  pub begun : is_begun s.orig.phase ≡ true → is_begun s.answ.phase ≡ true
+  pub due : is_ua_due s.answ.owes.answer ≡ true → is_begun s.answ.phase ≡ true
+  pub reply : s.answ.owes.reply ≡ true → s.answ.numbered ≡ true
+  pub discs : Tells frame_disc (is_released s.orig.phase ≡ true) s.forward
+  pub uas : Tells frame_ua (is_begun s.answ.phase ≡ true) s.back
+  pub finals : Tells frame_final (s.answ.numbered ≡ true) s.back
+  pub awaits : s.orig.phase ≡ Connected → s.answ.numbered ≡ false → s.orig.outgoing.awaited ≡ true
+
+-- an answerer that is told to release is closed
+released-closed : (z : Rates) (before turn : ℕ) (p : Phase) (a : Account) → Stands z before turn Answerer p a → is_released p ≡ true → is_closed p ≡ true
+released-closed z before turn Detecting a h e = cc
+released-closed z before turn Negotiating a h e = cc
+released-closed z before turn Establishing a h e = cc
+released-closed z before turn Connected a h e = cc
+released-closed z before turn Releasing a h e = absurd h
+released-closed z before turn Closed a h e = refl
+
+only-linked : (p : Phase) → is_begun p ≡ true → is_released p ≡ false → p ≡ Connected
+only-linked Detecting e f = cc
+only-linked Negotiating e f = cc
+only-linked Establishing e f = cc
+only-linked Connected e f = refl
+only-linked Releasing e f = cc
+only-linked Closed e f = cc
+
+only-answ : (z : Rates) (before turn : ℕ) (p : Phase) (a : Account) → Stands z before turn Answerer p a → is_begun p ≡ true → is_closed p ≡ false → p ≡ Connected
+only-answ z before turn Detecting a h e f = cc
+only-answ z before turn Negotiating a h e f = cc
+only-answ z before turn Establishing a h e f = cc
+only-answ z before turn Connected a h e f = refl
+only-answ z before turn Releasing a h e f = absurd h
+only-answ z before turn Closed a h e f = cc
+
+or-either : (a b : Bool) (P : Type 0) → a || b ≡ true → (a ≡ true → P) → (b ≡ true → P) → P
+or-either true b P e f g = f refl
+or-either false b P e f g = g e
+
+not-true : (b : Bool) → (b ≡ true → ⊥) → b ≡ false
+not-true true f = absurd (f refl)
+not-true false f = refl
+
+o-ok : (ua final : Bool) (a mid : Account) (r : Result Account LinkFault) → r ≡ Ok mid → OHears ua final a r → OHeard ua final a mid
+o-ok ua final a mid (Err fault) e h = cc
+o-ok ua final a mid (Ok b) e h = let same : b ≡ mid = cc in subst (OHeard ua final a) same h
+
+a-ok : (disc : Bool) (a mid : Account) (r : Result Account LinkFault) → r ≡ Ok mid → AHears disc a r → AHeard disc a mid
+a-ok disc a mid (Err fault) e h = cc
+a-ok disc a mid (Ok b) e h = let same : b ≡ mid = cc in subst (AHeard disc a) same h
+
+s-ok : (a : Account) (said : Said) (r : Result Said LinkFault) → r ≡ Ok said → Says a r → SaysSo a said
+s-ok a said (Err fault) e h = cc
+s-ok a said (Ok other) e h = let same : other ≡ said = cc in subst (SaysSo a) same h
+
+meets-start : (link : Link) → Meets (start link)
+meets-start link = record { closed = λ e. cc; begun = λ e. cc; due = λ e. cc; reply = λ e. cc; discs = tt; uas = tt; finals = tt; awaits = λ e. cc }
+
+meets-turn : (z : Rates) (link : Link) (turn : ℕ) (s : State) (t : Turn) (u : State) → Fits z link → Sound z link turn s → Meets s → (g : GoingTurn link turn s t u) → Meets (state_after link turn s g.orig_mid g.answ_mid g.orig_said g.answ_said)
+meets-turn z link turn s t u f h m g =
+    let back = arrival link.answ.delay t.orig_loses s.back in
+    let forward = arrival link.orig.delay t.answ_loses s.forward in
+    let released = is_released g.orig_mid.phase in
+    let bo = served_account link.orig.user turn released g.orig_mid in
+    let ba = served_account link.answ.user turn released g.answ_mid in
+    let ro = ap (λ x. x.role) h.orig_setup ∙ f.originates in
+    let ra = ap (λ x. x.role) h.answ_setup ∙ f.answers in
+    let ho = o-ok (of_arrived frame_ua back) (of_arrived frame_final back) s.orig g.orig_mid (hear turn back s.orig) g.orig_hears (o-hears back turn s.orig ro) in
+    let ha = a-ok (of_arrived frame_disc forward) s.answ g.answ_mid (hear turn forward s.answ) g.answ_hears (a-hears forward turn s.answ ra) in
+    let vo = serves-all link.orig.user turn released g.orig_mid in
+    let va = serves-all link.answ.user turn released g.answ_mid in
+    let so = s-ok bo g.orig_said (speak turn _ bo) g.orig_says (speaks-so turn _ bo) in
+    let sa = s-ok ba g.answ_said (speak turn false ba) g.answ_says (speaks-so turn false ba) in
+    -- each thing from before the turn to after it
+    let keeps-begun : is_begun s.answ.phase ≡ true → is_begun g.answ_said.account.phase ≡ true = λ e. sa.begun ∙ (ap is_begun va.phase ∙ ha.begun e) in
+    let keeps-released : is_released s.orig.phase ≡ true → is_released g.orig_said.account.phase ≡ true = λ e. so.released (ap is_released vo.phase ∙ ho.released e) in
+    let keeps-numbered : s.answ.numbered ≡ true → g.answ_said.account.numbered ≡ true = λ e. sa.numbered ∙ (va.numbered ∙ ha.numbered e) in
+    let due : is_ua_due ba.owes.answer ≡ true → is_begun g.answ_said.account.phase ≡ true = λ e. sa.begun ∙ (ap is_begun va.phase ∙ ha.due m.due (ap is_ua_due (sym va.answer) ∙ e)) in
+    let reply : ba.owes.reply ≡ true → g.answ_said.account.numbered ≡ true = λ e. sa.numbered ∙ (va.numbered ∙ ha.reply m.reply (sym va.reply ∙ e)) in
+    let final : of_arrived frame_final back ≡ true → s.answ.numbered ≡ true = arrival-tells frame_final (s.answ.numbered ≡ true) link.answ.delay t.orig_loses s.back m.finals in
+    record {
+      closed = λ e. keeps-released (or-either (is_released s.answ.phase) (of_arrived frame_disc forward) (is_released s.orig.phase ≡ true) (ha.closes (ap is_closed (sym va.phase) ∙ (sym sa.closed ∙ e)))
+          (λ r. m.closed (released-closed z turn turn s.answ.phase s.answ h.answ r))
+          (arrival-tells frame_disc (is_released s.orig.phase ≡ true) link.orig.delay t.answ_loses s.forward m.discs));
+      begun = λ e. keeps-begun (or-either (is_begun s.orig.phase) (of_arrived frame_ua back) (is_begun s.answ.phase ≡ true) (ho.begins (ap is_begun (sym vo.phase) ∙ (sym so.begun ∙ e))) m.begun
+          (arrival-tells frame_ua (is_begun s.answ.phase ≡ true) link.answ.delay t.orig_loses s.back m.uas));
+      due = λ e. due (sa.due e);
+      reply = λ e. reply (sa.reply e);
+      discs = tells-snoc frame_disc (is_released g.orig_said.account.phase ≡ true) (left_on link.orig.delay s.forward) (slot_of g.orig_said bo)
+          (left-tells frame_disc (is_released s.orig.phase ≡ true) (is_released g.orig_said.account.phase ≡ true) link.orig.delay s.forward keeps-released m.discs) so.disc;
+      uas = tells-snoc frame_ua (is_begun g.answ_said.account.phase ≡ true) (left_on link.answ.delay s.back) (slot_of g.answ_said ba)
+          (left-tells frame_ua (is_begun s.answ.phase ≡ true) (is_begun g.answ_said.account.phase ≡ true) link.answ.delay s.back keeps-begun m.uas) (λ e. due (sa.ua e));
+      finals = tells-snoc frame_final (g.answ_said.account.numbered ≡ true) (left_on link.answ.delay s.back) (slot_of g.answ_said ba)
+          (left-tells frame_final (s.answ.numbered ≡ true) (g.answ_said.account.numbered ≡ true) link.answ.delay s.back keeps-numbered m.finals) (λ e. reply (sa.final e));
+      awaits = λ e n.
+          let unheard : s.answ.numbered ≡ false = not-true s.answ.numbered (λ k. let wrong : true ≡ false = sym (keeps-numbered k) ∙ n in cc) in
+          let none : of_arrived frame_final back ≡ false = not-true (of_arrived frame_final back) (λ k. let wrong : true ≡ false = sym (final k) ∙ unheard in cc) in
+          let linked : bo.phase ≡ Connected = only-linked bo.phase (sym so.begun ∙ ap is_begun e)
+          (not-true (is_released bo.phase) (λ k. let wrong : true ≡ false = sym (so.released k) ∙ ap is_released e in cc)) in
+          so.awaits (ap (λ o. o.awaited) vo.longer.outgoing ∙ ho.awaits (λ k. m.awaits k unheard) none (sym vo.phase ∙ linked));
+    }
+
+pub meets-run : (z : Rates) (link : Link) (ts : List Turn) (s : State) → Fits z link → RunOf link ts s → Meets s
+meets-run z link [] s f run = subst Meets (sym run) (meets-start link)
+meets-run z link (t ∷ ts) s f (before, run, g) =
+    subst Meets (sym (after-is link (length ts) before t s g)) (meets-turn z link (length ts) before t s f (sound-run z link ts before f run) (meets-run z link ts before f run) g)
+
+pub together-run : (z : Rates) (link : Link) (ts : List Turn) (s : State) → Fits z link → RunOf link ts s → AreTogether s
+together-run z link ts s f run =
+    let m = meets-run z link ts s f run in
+    let h = sound-run z link ts s f run in
+    record {
+      answ = λ e. only-answ z (length ts) (length ts) s.answ.phase s.answ h.answ (m.begun (ap is_begun e)) (not-true (is_closed s.answ.phase) (λ c. let wrong : true ≡ false = sym (m.closed c) ∙ ap is_released e in cc));
+      polls = m.awaits;
+    }

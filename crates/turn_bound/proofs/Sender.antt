@@ -1,0 +1,315 @@
+use Rattle.std.proofs.Common.{◌≡◌, ℕ, ◌+◌, ◌-◌, ◌*◌, ◌%◌, ◌<◌, ◌≤◌, ◌&&◌, ◌||◌, not, Bool, true, false, cond, nat_eq, nat_lt, nat_le, List, [], ◌∷◌, length, arith, refl, sym, ◌∙◌, ap, subst, Option, Some, None}
+use Rattle.std.specs.Prelude.{is_some}
+use Rattle.std.specs.List.{AllByRecursion}
+use Rattle.std.proofs.lemmas.Bool.Decides.{nat_tests}
+use Rattle.lapm_sender.specs.Meant.{meant}
+use Rattle.lapm_sender.specs.Numbers.{with_number, from_number}
+use Rattle.lapm_sender.specs.Outgoing.{Outgoing, is_outstanding, advanced, gone_back, wait_ended, resumed, paused_at}
+use Rattle.link_account.specs.Hear.{timer_after}
+use Rattle.turn_bound.proofs.Clock.{Rates, AreRates, Ticks, left, is_waiting, IsChosen, Sends, is_free, ends, sender_value}
+use Rattle.turn_bound.proofs.Arithmetic.{paid, cond-le, stopped, left-some, ticks-later, ticks-now}
+
+-- whether hearing ended what the clock ran for
+abbrev pub ended : Outgoing → Outgoing → Bool
+ended o new = ((o.awaited && not new.awaited) || (o.paused && not new.paused)) && not (is_waiting new)
+
+-- what a number that was heard may make of the sender's part
+pub record Heard (o new : Outgoing) : Type 0 where
+  pub high : new.high ≡ o.high
+  pub pieces : new.pieces ≡ o.pieces
+  pub window : new.window ≡ o.window
+  pub tries : new.tries ≡ o.tries
+  pub front_low : o.front ≤ new.front
+  pub front_from : new.front ≤ new.from
+  pub from_high : new.from ≤ new.high
+  pub chosen : AllByRecursion (IsChosen new.front new.high) new.chosen
+  pub awaited : new.awaited ≡ true → o.awaited ≡ true
+  pub paused : new.paused ≡ true → o.paused ≡ true
+  pub count : new.count ≡ cond (nat_lt o.front new.front) 0 (cond (ended o new) 0 o.count)
+
+-- the clock after it, by whether the front advances and whether there is anything to wait for
+clock-after : (turn : ℕ) (out out' awaited awaited' paused paused' advances : Bool) (timer : Option ℕ)
+    → (advances ≡ false → out ≡ out') → (awaited' ≡ true → awaited ≡ true) → (paused' ≡ true → paused ≡ true) → is_some timer ≡ (out || (awaited || paused))
+    → cond (((awaited && not awaited') || (paused && not paused')) && not (out' || (awaited' || paused'))) None (cond advances (cond (out' || (awaited' || paused')) (Some turn) None) timer)
+    ≡ cond (out' || (awaited' || paused')) (cond advances (Some turn) timer) None
+clock-after turn out out' awaited awaited' paused paused' advances timer h1 h2 h3 h4 = grind (arith)
+
+-- and its count
+count-after : (count : ℕ) (out out' awaited awaited' paused paused' advances : Bool) (timer : Option ℕ)
+    → (advances ≡ false → out ≡ out') → (awaited' ≡ true → awaited ≡ true) → (paused' ≡ true → paused ≡ true) → is_some timer ≡ (out || (awaited || paused)) → (timer ≡ None → count ≡ 0)
+    → cond advances 0 (cond (((awaited && not awaited') || (paused && not paused')) && not (out' || (awaited' || paused'))) 0 count)
+    ≡ cond (out' || (awaited' || paused')) (cond advances 0 count) 0
+count-after count out out' awaited awaited' paused paused' advances timer h1 h2 h3 h4 h5 = grind (arith)
+
+pub record HeardWell (z : Rates) (total turn : ℕ) (o : Outgoing) (timer : Option ℕ) (new : Outgoing) (timer' : Option ℕ) (more : ℕ) : Type 0 where
+  pub sends : Sends z (turn + 1) turn new timer'
+  pub falls : sender_value z total turn new timer' + ends z.room (is_waiting o) (is_waiting new) ≤ sender_value z total turn o timer + more
+
+outstanding-same : (o new : Outgoing) → Heard o new → nat_lt o.front new.front ≡ false → (is_outstanding o ≡ is_outstanding new) × (o.front ≡ new.front)
+outstanding-same o new h e = let same : o.front ≡ new.front = grind (arith, nat_tests, h.front_low) in (rw (same, h.high) refl, same)
+
+waiting-less : (out awaited paused awaited' paused' : Bool) → (awaited' ≡ true → awaited ≡ true) → (paused' ≡ true → paused ≡ true) → (out || (awaited' || paused')) ≡ true → (out || (awaited || paused)) ≡ true
+waiting-less out awaited paused awaited' paused' h1 h2 e = grind (arith)
+
+heard-clock : (z : Rates) (turn : ℕ) (o new : Outgoing) (timer : Option ℕ) → Sends z turn turn o timer → Heard o new
+    → (timer_after turn o new timer ≡ cond (is_waiting new) (cond (nat_lt o.front new.front) (Some turn) timer) None)
+    × (new.count ≡ cond (is_waiting new) (cond (nat_lt o.front new.front) 0 o.count) 0)
+heard-clock z turn o new timer s h = (
+  clock-after turn (is_outstanding o) (is_outstanding new) o.awaited new.awaited o.paused new.paused (nat_lt o.front new.front) timer (λ e. (outstanding-same o new h e).0) h.awaited h.paused s.cause,
+  h.count ∙ count-after o.count (is_outstanding o) (is_outstanding new) o.awaited new.awaited o.paused new.paused (nat_lt o.front new.front) timer (λ e. (outstanding-same o new h e).0) h.awaited h.paused s.cause
+      (stopped z turn turn o.count timer s.ticks),
+)
+
+waits-before : (o : Outgoing) (n : ℕ) → o.front < n → n ≤ o.high → is_waiting o ≡ true
+waits-before o n less within = let t : nat_lt o.front o.high ≡ true = grind (arith, nat_tests) in rw t refl
+
+pieces-same : (o new : Outgoing) → Heard o new → length new.pieces ≡ length o.pieces
+pieces-same o new h = ap (λ l. length l) h.pieces
+
+heard-sends : (z : Rates) (turn : ℕ) (o new : Outgoing) (timer timer' : Option ℕ) → Sends z turn turn o timer → Heard o new → is_some timer' ≡ is_waiting new → Ticks z (turn + 1) turn new.count timer'
+    → Sends z (turn + 1) turn new timer'
+heard-sends z turn o new timer timer' s h cause ticks = record {
+  front_from = h.front_from;
+  from_high = h.from_high;
+  high_pieces = omega (arith, pieces-same o new h, s.high_pieces, h.high);
+  high_window = omega (arith, h.front_low, h.high, h.window, s.high_window);
+  window = omega (arith, h.window, s.window);
+  chosen = h.chosen;
+  tries_are = h.tries ∙ s.tries_are;
+  cause = cause;
+  ticks = ticks;
+}
+
+pub ends-is : (k : ℕ) (a b a' b' : Bool) → a ≡ a' → b ≡ b' → ends k a b ≡ ends k a' b'
+ends-is k a b a' b' e f = rw (e, f) refl
+
+worth-same : (z : Rates) (total : ℕ) (o new : Outgoing) → Heard o new → nat_lt o.front new.front ≡ false → z.quota * (total - new.front) + cond (is_free total new) z.first 0 ≡ z.quota * (total - o.front) + cond (is_free total o) z.first 0
+worth-same z total o new h e = by new.front new.high (sym (outstanding-same o new h e).1) h.high
+  where
+    by : (front high : ℕ) → front ≡ o.front → high ≡ o.high → z.quota * (total - front) + cond (not (nat_lt front high) && nat_lt front total) z.first 0 ≡ z.quota * (total - o.front) + cond (is_free total o) z.first 0
+    by front high e f = rw (e, f) refl
+
+-- an advance pays for all
+falls-more : (q g w first rest rest' free free' old k : ℕ) (waits' : Bool) → rest' + q ≤ rest → free' ≤ g → q ≡ g + w + 1 → rest' + free' + cond waits' (w + 1) 0 + ends k true waits' ≤ rest + free + old + 0
+falls-more q g w first rest rest' free free' old k true h f e = omega arith
+falls-more q g w first rest rest' free free' old k false h f e = omega arith
+
+-- what is heard never makes a stopped clock run
+pub heard-well : (z : Rates) (total turn : ℕ) (o new : Outgoing) (timer : Option ℕ) → AreRates z → Sends z turn turn o timer → Heard o new → length o.pieces ≤ total
+    → HeardWell z total turn o timer new (timer_after turn o new timer) 0
+heard-well z total turn o new timer y s h all =
+    let clock = heard-clock z turn o new timer s h in
+    go (nat_lt o.front new.front) refl (is_waiting new) refl (timer_after turn o new timer) clock.0 clock.1
+  where
+    within : new.front ≤ o.high
+    within = omega (arith, h.front_from, h.from_high, h.high)
+
+    below : o.high ≤ total
+    below = omega (arith, s.high_pieces, all)
+
+    now : left z turn 0 (Some turn) ≡ z.whole + 1
+    now = omega arith
+
+    advanced-on : (waiting : Bool) → is_waiting new ≡ waiting → nat_lt o.front new.front ≡ true → (timer' : Option ℕ) → left z turn new.count timer' ≡ cond waiting (z.whole + 1) 0
+        → sender_value z total turn new timer' + ends z.room (is_waiting o) (is_waiting new) ≤ sender_value z total turn o timer + 0
+    advanced-on waiting w e timer' l =
+        let less : o.front < new.front = grind (arith, nat_tests) in
+        let waits : is_waiting o ≡ true = waits-before o new.front less within in
+        let fewer : total - new.front < total - o.front = omega (arith, less, within, below) in
+        rw (w, waits, l) (falls-more z.quota z.first z.whole 0 (z.quota * (total - o.front)) (z.quota * (total - new.front)) (cond (is_free total o) z.first 0) (cond (is_free total new) z.first 0)
+        (left z turn o.count timer) z.room waiting (paid z.quota (total - new.front) (total - o.front) fewer) (cond-le (is_free total new) z.first) y.quota)
+
+    go : (advances : Bool) → nat_lt o.front new.front ≡ advances → (waiting : Bool) → is_waiting new ≡ waiting → (timer' : Option ℕ)
+        → timer' ≡ cond waiting (cond advances (Some turn) timer) None → new.count ≡ cond waiting (cond advances 0 o.count) 0
+        → HeardWell z total turn o timer new timer' 0
+    go true e true w timer' t c = record {
+      sends = heard-sends z turn o new timer timer' s h (rw (t, w) refl) (rw (t, c) (ticks-now z turn));
+      falls = advanced-on true w e timer' (ap (λ r. left z turn new.count r) t ∙ ap (λ n. left z turn n (Some turn)) c ∙ now);
+    }
+    go true e false w timer' t c = record {
+      sends = heard-sends z turn o new timer timer' s h (rw (t, w) refl) (rw (t, c) refl);
+      falls = advanced-on false w e timer' (ap (λ r. left z turn new.count r) t);
+    }
+    go false e true w timer' t c =
+        let same = outstanding-same o new h e in
+        let waits : is_waiting o ≡ true = waiting-less (is_outstanding o) o.awaited o.paused new.awaited new.paused h.awaited h.paused (ap (λ b. b || (new.awaited || new.paused)) same.0 ∙ w) in record {
+          sends = heard-sends z turn o new timer timer' s h (rw (t, w) (s.cause ∙ waits)) (rw (t, c) (ticks-later z turn turn o.count timer s.ticks));
+          falls = stays waits (ap (λ r. left z turn new.count r) t ∙ ap (λ n. left z turn n timer) c) same.1;
+        }
+      where
+        stays : is_waiting o ≡ true → left z turn new.count timer' ≡ left z turn o.count timer → o.front ≡ new.front
+            → sender_value z total turn new timer' + ends z.room (is_waiting o) (is_waiting new) ≤ sender_value z total turn o timer + 0
+        stays e' l front = omega (arith, worth-same z total o new h e, l, ends-is z.room (is_waiting o) (is_waiting new) true true e' w)
+    go false e false w timer' t c =
+        let same = outstanding-same o new h e in record {
+          sends = heard-sends z turn o new timer timer' s h (rw (t, w) refl) (rw (t, c) refl);
+          falls = stops (is_waiting o) refl (ap (λ r. left z turn new.count r) t) same.1;
+        }
+      where
+        stops : (waited : Bool) → is_waiting o ≡ waited → left z turn new.count timer' ≡ 0 → o.front ≡ new.front
+            → sender_value z total turn new timer' + ends z.room (is_waiting o) (is_waiting new) ≤ sender_value z total turn o timer + 0
+        stops true e' l front = omega (arith, left-some z turn turn o.count timer y s.ticks (s.cause ∙ e'), worth-same z total o new h e, l, ends-is z.room (is_waiting o) (is_waiting new) true false e' w)
+        stops false e' l front = omega (arith, worth-same z total o new h e, l, ends-is z.room (is_waiting o) (is_waiting new) false false e' w)
+
+-- RNR: the other end counts as busy, and the clock begins
+pub heard-busy : (z : Rates) (total turn : ℕ) (o new : Outgoing) (timer : Option ℕ) → AreRates z → Sends z turn turn o timer → Heard o new → length o.pieces ≤ total
+    → HeardWell z total turn o timer (paused_at new) (Some turn) z.quota
+heard-busy z total turn o new timer y s h all = record {
+  sends = record {
+    front_from = h.front_from;
+    from_high = h.from_high;
+    high_pieces = omega (arith, pieces-same o new h, s.high_pieces, h.high);
+    high_window = omega (arith, h.front_low, h.high, h.window, s.high_window);
+    window = omega (arith, h.window, s.window);
+    chosen = h.chosen;
+    tries_are = h.tries ∙ s.tries_are;
+    cause = busy-waits (is_outstanding new) new.awaited;
+    ticks = ticks-now z turn;
+  };
+  falls = go (nat_lt o.front new.front) refl (is_waiting o) refl;
+}
+  where
+    busy-waits : (out awaited : Bool) → true ≡ (out || (awaited || true))
+    busy-waits out awaited = grind (arith)
+
+    waits' : is_waiting (paused_at new) ≡ true
+    waits' = sym (busy-waits (is_outstanding new) new.awaited)
+
+    go : (advances : Bool) → nat_lt o.front new.front ≡ advances → (waited : Bool) → is_waiting o ≡ waited
+        → sender_value z total turn (paused_at new) (Some turn) + ends z.room (is_waiting o) (is_waiting (paused_at new)) ≤ sender_value z total turn o timer + z.quota
+    go true e waited w =
+        let less : o.front < new.front = grind (arith, nat_tests) in
+        let within : new.front ≤ o.high = omega (arith, h.front_from, h.from_high, h.high) in
+        let fewer : total - new.front < total - o.front = omega (arith, less, within, s.high_pieces, all) in
+        omega (
+          arith,
+          paid z.quota (total - new.front) (total - o.front) fewer,
+          cond-le (is_free total new) z.first,
+          y.quota,
+          ends-is z.room (is_waiting o) (is_waiting (paused_at new)) true true (waits-before o new.front less within) waits',
+        )
+    go false e true w = omega (arith, worth-same z total o new h e, y.quota, y.first, ends-is z.room (is_waiting o) (is_waiting (paused_at new)) true true w waits')
+    go false e false w = omega (arith, worth-same z total o new h e, y.quota, y.first, ends-is z.room (is_waiting o) (is_waiting (paused_at new)) false true w waits')
+
+-- What each rule makes of the sender's part.
+
+pub meant-range : (low high nr n : ℕ) → meant low high nr ≡ Some n → (low ≤ n) × (n ≤ high)
+meant-range low high nr n e = go (nat_lt nr 128) (low + (nr + 128 - low % 128) % 128) (omega arith) e
+  where
+    go : (few : Bool) (m : ℕ) → low ≤ m → cond (few && nat_le m high) (Some m) None ≡ Some n → (low ≤ n) × (n ≤ high)
+    go false m less e = cc
+    go true m less e = by (nat_le m high) refl e
+      where
+        by : (b : Bool) → nat_le m high ≡ b → cond b (Some m) None ≡ Some n → (low ≤ n) × (n ≤ high)
+        by true t e = let same : m ≡ n = cc in (omega (arith, less, same), grind (arith, nat_tests))
+        by false t e = cc
+
+from_number-choices : (front high n : ℕ) (ns : List ℕ) → AllByRecursion (IsChosen front high) ns → AllByRecursion (IsChosen n high) (from_number n ns)
+from_number-choices front high n [] all = tt
+from_number-choices front high n (m ∷ ms) all = go (nat_le n m) refl (from_number-choices front high n ms all.1)
+  where
+    go : (b : Bool) → nat_le n m ≡ b → AllByRecursion (IsChosen n high) (from_number n ms) → AllByRecursion (IsChosen n high) (cond b (m ∷ from_number n ms) (from_number n ms))
+    go true e rest = ((grind (arith, nat_tests), all.0.1), rest)
+    go false e rest = rest
+
+with_number-all : (P : ℕ → Type 0) (n : ℕ) (ns : List ℕ) → P n → AllByRecursion P ns → AllByRecursion P (with_number n ns)
+with_number-all P n [] h all = (h, tt)
+with_number-all P n (m ∷ ms) h all = go (nat_lt n m) (nat_eq n m) (with_number-all P n ms h all.1)
+  where
+    go : (a b : Bool) → AllByRecursion P (with_number n ms) → AllByRecursion P (cond a (n ∷ m ∷ ms) (cond b (m ∷ ms) (m ∷ with_number n ms)))
+    go true b rest = (h, all)
+    go false true rest = all
+    go false false rest = (all.0, rest)
+
+same-bool : (a b : Bool) (out : Bool) (c : ℕ) → c ≡ cond (((a && not a) || (b && not b)) && out) 0 c
+same-bool a b out c = grind (arith)
+
+pub heard-advanced : (z : Rates) (before turn : ℕ) (o : Outgoing) (timer : Option ℕ) (n : ℕ) → Sends z before turn o timer → o.front ≤ n → n ≤ o.high → Heard o (advanced o n)
+heard-advanced z before turn o timer n s low within = record {
+  high = refl;
+  pieces = refl;
+  window = refl;
+  tries = refl;
+  front_low = low;
+  front_from = omega arith;
+  from_high = omega (arith, s.from_high, within);
+  chosen = from_number-choices o.front o.high n o.chosen s.chosen;
+  awaited = λ e. e;
+  paused = λ e. e;
+  count = ap (cond (nat_lt o.front n) 0) (same-bool o.awaited o.paused (not (is_waiting (advanced o n))) o.count);
+}
+
+pub heard-gone_back : (o new : Outgoing) → Heard o new → Heard o (gone_back new)
+heard-gone_back o new h = record {
+  high = h.high;
+  pieces = h.pieces;
+  window = h.window;
+  tries = h.tries;
+  front_low = h.front_low;
+  front_from = omega arith;
+  from_high = omega (arith, h.front_from, h.from_high);
+  chosen = h.chosen;
+  awaited = h.awaited;
+  paused = h.paused;
+  count = h.count;
+}
+
+-- the wait ends, of an end that awaits a poll
+pub heard-wait_ended : (z : Rates) (before turn : ℕ) (o : Outgoing) (timer : Option ℕ) (n : ℕ) → Sends z before turn o timer → o.front ≤ n → n ≤ o.high → o.awaited ≡ true → Heard o (wait_ended (advanced o n))
+heard-wait_ended z before turn o timer n s low within polled = record {
+  high = refl;
+  pieces = refl;
+  window = refl;
+  tries = refl;
+  front_low = low;
+  front_from = omega arith;
+  from_high = within;
+  chosen = tt;
+  awaited = λ e. polled;
+  paused = λ e. e;
+  count = go (nat_lt o.front n) (nat_lt n o.high) o.paused o.awaited polled;
+}
+  where
+    go : (advances out paused awaited : Bool) → awaited ≡ true → cond (out || paused) (cond advances 0 o.count) 0 ≡ cond advances 0 (cond (((awaited && true) || (paused && not paused)) && not (out || paused)) 0 o.count)
+    go advances out paused awaited e = grind (arith)
+
+pub heard-resumed : (o new : Outgoing) → Heard o new → Heard o (resumed new)
+heard-resumed o new h = go new.paused refl
+  where
+    counts : (advances out out' awaited awaited' paused : Bool) (c : ℕ) → paused ≡ true → c ≡ cond advances 0 (cond (((awaited && not awaited') || (paused && false)) && not (out' || (awaited' || true))) 0 o.count)
+        → cond (out' || awaited') c 0 ≡ cond advances 0 (cond (((awaited && not awaited') || (paused && true)) && not (out' || (awaited' || false))) 0 o.count)
+    counts advances out out' awaited awaited' paused c e k = grind (arith)
+
+    go : (b : Bool) → new.paused ≡ b → Heard o (cond b (record new { paused = false; count = cond (is_outstanding new || new.awaited) new.count 0 }) new)
+    go false e = h
+    go true e = record {
+      high = h.high;
+      pieces = h.pieces;
+      window = h.window;
+      tries = h.tries;
+      front_low = h.front_low;
+      front_from = h.front_from;
+      from_high = h.from_high;
+      chosen = h.chosen;
+      awaited = h.awaited;
+      paused = λ f. h.paused e;
+      count = counts (nat_lt o.front new.front) (is_outstanding o) (is_outstanding new) o.awaited new.awaited o.paused new.count (h.paused e) (subst (λ b. new.count ≡ cond (nat_lt o.front new.front) 0 (cond (((o.awaited && not new.awaited) || (o.paused && not b)) && not (is_outstanding new || (new.awaited || b))) 0 o.count)) e h.count);
+    }
+
+pub heard-selected : (z : Rates) (before turn : ℕ) (o : Outgoing) (timer : Option ℕ) (n : ℕ) → Sends z before turn o timer → o.front ≤ n → n < o.high → Heard o (record o { chosen = with_number n o.chosen })
+heard-selected z before turn o timer n s low within = record {
+  high = refl;
+  pieces = refl;
+  window = refl;
+  tries = refl;
+  front_low = omega arith;
+  front_from = s.front_from;
+  from_high = s.from_high;
+  chosen = with_number-all (IsChosen o.front o.high) n o.chosen (low, within) s.chosen;
+  awaited = λ e. e;
+  paused = λ e. e;
+  count = same-bool o.awaited o.paused (not (is_waiting o)) o.count ∙ none (nat_lt o.front o.front) (grind (arith, nat_tests)) (cond ((o.awaited && not o.awaited || o.paused && not o.paused) && not (is_waiting o)) 0 o.count);
+}
+  where
+    none : (b : Bool) → b ≡ false → (c : ℕ) → c ≡ cond b 0 c
+    none b e c = rw e refl

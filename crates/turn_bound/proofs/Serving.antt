@@ -1,0 +1,237 @@
+use Rattle.std.proofs.Common.{◌≡◌, ℕ, zero, suc, ◌+◌, ◌<◌, ◌≤◌, ◌&&◌, ◌⊎◌, not, Bool, true, false, cond, nat_lt, nat_le, List, [], ◌∷◌, length, length-append, inl, inr, arith, refl, sym, ◌∙◌, ap, subst, Option, Some, None}
+use Rattle.std.specs.Prelude.{slice_get}
+use Rattle.std.proofs.lemmas.Bool.Decides.{nat_tests}
+use Rattle.lapm_sender.specs.Outgoing.{Outgoing, wanted, with_piece}
+use Rattle.break_signals.specs.Breaks.{after_ask}
+use Rattle.link_account.specs.Account.{Account, is_connected, wants, piece_size, after_offer, after_given, after_busy, after_break_asked}
+use Rattle.turn_bound.proofs.Run.{served_account}
+use Rattle.link_run.specs.End.{User, BreakLine, delivered, piece_at, offered_at, offered_times, room_for, offered, is_busy, next_break, asked_at}
+
+-- what a user's file may change in a sender's part
+pub record Longer (connected : Bool) (o new : Outgoing) : Type 0 where
+  pub outgoing : new ≡ record o { pieces = new.pieces; ended = new.ended }
+  pub longer : length o.pieces ≤ length new.pieces
+  pub ended : o.ended ≡ true → (new.pieces ≡ o.pieces) × (new.ended ≡ true)
+  pub unlinked : connected ≡ false → new ≡ o
+
+same-longer : (connected : Bool) (o : Outgoing) → Longer connected o o
+same-longer connected o = record { outgoing = refl; longer = omega arith; ended = λ e. (refl, e); unlinked = λ e. refl }
+
+piece-longer : (o : Outgoing) (piece : List ℕ) → o.ended ≡ false → Longer true o (with_piece piece o)
+piece-longer o [] e = record { outgoing = refl; longer = omega arith; ended = λ f. cc; unlinked = λ f. cc }
+piece-longer o (octet ∷ octets) e = record { outgoing = refl; longer = omega (arith, length-append {A = List ℕ}); ended = λ f. cc; unlinked = λ f. cc }
+
+abbrev pub with_pieces : List (List ℕ) → Bool → Outgoing → Outgoing
+with_pieces pieces ended o = record o { pieces = pieces; ended = ended }
+
+more-longer : (connected : Bool) (o n m : Outgoing) → Longer connected o n → Longer connected n m → Longer connected o m
+more-longer connected o n m h k = record {
+  outgoing = k.outgoing ∙ ap (with_pieces m.pieces m.ended) h.outgoing;
+  longer = omega (arith, h.longer, k.longer);
+  ended = λ e. let a = h.ended e in let b = k.ended a.1 in (b.0 ∙ a.0, b.1);
+  unlinked = λ e. k.unlinked e ∙ h.unlinked e;
+}
+
+-- offers: the account with another sender's part
+abbrev pub with_outgoing : Outgoing → Account → Account
+with_outgoing o a = record a { outgoing = o }
+
+pub record Offers (a b : Account) : Type 0 where
+  pub only : b ≡ record a { outgoing = b.outgoing }
+  pub longer : Longer (is_connected a.phase) a.outgoing b.outgoing
+
+-- one offer, where a piece is wanted: there is less room, or the file has ended
+offer-one : (file : List ℕ) (a : Account) → Offers a (offered_at file a (wants a))
+offer-one file a = go (is_connected a.phase) refl (a.outgoing.ended) refl (nat_lt (length a.outgoing.pieces) (a.outgoing.front + a.outgoing.window))
+  where
+    go : (c : Bool) → is_connected a.phase ≡ c → (e : Bool) → a.outgoing.ended ≡ e → (l : Bool) → Offers a (offered_at file a (cond c (cond (not e && l) (Some (length a.outgoing.pieces)) None) None))
+    go false f e g l = record { only = refl; longer = same-longer (is_connected a.phase) a.outgoing }
+    go true f true g l = record { only = refl; longer = same-longer (is_connected a.phase) a.outgoing }
+    go true f false g false = record { only = refl; longer = same-longer (is_connected a.phase) a.outgoing }
+    go true f false g true = record { only = refl; longer = subst (λ c. Longer c a.outgoing (with_piece (piece_at (piece_size a) file (length a.outgoing.pieces)) a.outgoing)) (sym f) (piece-longer a.outgoing (piece_at (piece_size a) file (length a.outgoing.pieces)) g) }
+
+offer-times : (n : ℕ) (file : List ℕ) (a : Account) → Offers a (offered_times n file a)
+offer-times zero file a = record { only = refl; longer = same-longer (is_connected a.phase) a.outgoing }
+offer-times (suc n) file a =
+    let b : Account = offered_at file a (wants a) in
+    let h = offer-one file a in
+    let k = offer-times n file b in
+    let c : Account = offered_times n file b in
+    record {
+      only = k.only ∙ ap (with_outgoing c.outgoing) h.only;
+      longer = more-longer (is_connected a.phase) a.outgoing b.outgoing c.outgoing h.longer (subst (λ p. Longer (is_connected p) b.outgoing c.outgoing) (ap (λ x. x.phase) h.only) k.longer);
+    }
+
+-- after them none is wanted
+none-stays : (n : ℕ) (file : List ℕ) (a : Account) → wants a ≡ None → offered_times n file a ≡ a
+none-stays zero file a e = refl
+none-stays (suc n) file a e = subst (λ m. offered_times n file (offered_at file a m) ≡ a) (sym e) (none-stays n file a e)
+
+none-more : (n : ℕ) (file : List ℕ) (a : Account) → ((b : Account) → b.outgoing.front + b.outgoing.window ≤ length b.outgoing.pieces + n → wants (offered_times n file b) ≡ None)
+    → a.outgoing.front + a.outgoing.window ≤ length a.outgoing.pieces + suc n → wants (offered_times (suc n) file a) ≡ None
+none-more n file a again h = go (is_connected a.phase) refl a.outgoing.ended refl (nat_lt (length a.outgoing.pieces) (a.outgoing.front + a.outgoing.window)) refl
+  where
+    stays : wants a ≡ None → wants (offered_times n file a) ≡ None
+    stays e = ap wants (none-stays n file a e) ∙ e
+
+    takes : (piece : List ℕ) → wants (offered_times n file (after_offer piece a)) ≡ None
+    takes [] = ap wants (none-stays n file (after_offer [] a) (none (is_connected a.phase))) ∙ none (is_connected a.phase)
+      where
+        none : (c : Bool) → cond {A = Option ℕ} c None None ≡ None
+        none true = refl
+        none false = refl
+    takes (octet ∷ octets) = again (after_offer (octet ∷ octets) a) (omega (arith, h, length-append {A = List ℕ}))
+
+    go : (c : Bool) → is_connected a.phase ≡ c → (e : Bool) → a.outgoing.ended ≡ e → (l : Bool) → nat_lt (length a.outgoing.pieces) (a.outgoing.front + a.outgoing.window) ≡ l
+        → wants (offered_times n file (offered_at file a (cond c (cond (not e && l) (Some (length a.outgoing.pieces)) None) None))) ≡ None
+    go false f e g l t = stays (rw f refl)
+    go true f true g l t = stays (rw (f, g) refl)
+    go true f false g false t = stays (rw (f, g, t) refl)
+    go true f false g true t = takes (piece_at (piece_size a) file (length a.outgoing.pieces))
+
+none-wanted : (n : ℕ) (file : List ℕ) (a : Account) → a.outgoing.front + a.outgoing.window ≤ length a.outgoing.pieces + n → wants (offered_times n file a) ≡ None
+none-wanted zero file a h = go (is_connected a.phase) a.outgoing.ended
+  where
+    go : (c e : Bool) → cond c (cond (not e && nat_lt (length a.outgoing.pieces) (a.outgoing.front + a.outgoing.window)) (Some (length a.outgoing.pieces)) None) None ≡ None
+    go false e = refl
+    go true true = refl
+    go true false = let full : nat_lt (length a.outgoing.pieces) (a.outgoing.front + a.outgoing.window) ≡ false = grind (arith, nat_tests) in rw full refl
+none-wanted (suc n) file a h = none-more n file a (λ b k. none-wanted n file b k) h
+
+pub offers-well : (file : List ℕ) (a : Account) → Offers a (offered file a) × (wants (offered file a) ≡ None)
+offers-well file a = (offer-times (room_for a) file a, none-wanted (room_for a) file a (omega arith))
+
+-- What happens to an end between hearing and speaking.
+pub record Served (turn breaks : ℕ) (busy : Bool) (a b : Account) : Type 0 where
+  pub setup : b.setup ≡ a.setup
+  pub phase : b.phase ≡ a.phase
+  pub terms : b.terms ≡ a.terms
+  pub numbered : b.numbered ≡ a.numbered
+  pub wait : b.wait ≡ a.wait
+  pub ack : b.their_breaks ≡ a.their_breaks
+  pub special : b.special ≡ a.special
+  pub answer : b.owes.answer ≡ a.owes.answer
+  pub reply : b.owes.reply ≡ a.owes.reply
+  pub busy_told : b.owes.busy_told ≡ a.owes.busy_told
+  pub busy_now : is_connected a.phase ≡ true → b.owes.busy ≡ busy
+  pub rej : b.incoming.rej ≡ a.incoming.rej
+  pub longer : Longer (is_connected a.phase) a.outgoing b.outgoing
+  pub wants_none : wants b ≡ None
+  pub own : (b.own_breaks ≡ a.own_breaks) ⊎ ((l : ℕ) × (b.own_breaks ≡ after_ask turn l a.own_breaks) × (length a.own_breaks.lengths < breaks) × (is_connected a.phase ≡ true))
+
+-- everything but the breaks
+abbrev pub before_asking : User → ℕ → Account → Account
+before_asking user turn a = after_busy (is_busy turn user.busy) (offered user.file (after_given (delivered a)))
+
+pub serves-first : (user : User) (turn breaks : ℕ) (a : Account) → Served turn breaks (is_busy turn user.busy) a (before_asking user turn a)
+serves-first user turn breaks a = go (is_connected a.phase) refl
+  where
+    by : (b : Account) → b.phase ≡ a.phase → b.setup ≡ a.setup → b.terms ≡ a.terms → b.numbered ≡ a.numbered → b.wait ≡ a.wait → b.their_breaks ≡ a.their_breaks → b.special ≡ a.special → b.owes ≡ a.owes
+        → b.incoming.rej ≡ a.incoming.rej → b.outgoing ≡ a.outgoing → b.own_breaks ≡ a.own_breaks → (c : Account) → Offers b c → wants c ≡ None
+        → Served turn breaks (is_busy turn user.busy) a (after_busy (is_busy turn user.busy) c)
+    by b phase setup terms numbered wait ack special owes rej outgoing own c k none =
+        subst (λ d. wants d ≡ None → Served turn breaks (is_busy turn user.busy) a (after_busy (is_busy turn user.busy) d)) (sym k.only) (λ w. final (is_connected b.phase) refl w) none
+      where
+        longer : Longer (is_connected a.phase) a.outgoing c.outgoing
+        longer = subst (λ o. Longer (is_connected a.phase) o c.outgoing) outgoing (subst (λ p. Longer (is_connected p) b.outgoing c.outgoing) phase k.longer)
+
+        final : (x : Bool) → is_connected b.phase ≡ x → cond x (wanted c.outgoing) None ≡ None
+            → Served turn breaks (is_busy turn user.busy) a (cond x (record b { outgoing = c.outgoing; owes = record b.owes { busy = is_busy turn user.busy } }) (record b { outgoing = c.outgoing }))
+        final true e w = record {
+          setup = setup;
+          phase = phase;
+          terms = terms;
+          numbered = numbered;
+          wait = wait;
+          ack = ack;
+          special = special;
+          answer = ap (λ o. o.answer) owes;
+          reply = ap (λ o. o.reply) owes;
+          busy_told = ap (λ o. o.busy_told) owes;
+          busy_now = λ f. refl;
+          rej = rej;
+          longer = longer;
+          wants_none = ap (λ x. cond x (wanted c.outgoing) None) e ∙ w;
+          own = inl own;
+        }
+        final false e w = record {
+          setup = setup;
+          phase = phase;
+          terms = terms;
+          numbered = numbered;
+          wait = wait;
+          ack = ack;
+          special = special;
+          answer = ap (λ o. o.answer) owes;
+          reply = ap (λ o. o.reply) owes;
+          busy_told = ap (λ o. o.busy_told) owes;
+          busy_now = λ f. let wrong : true ≡ false = sym f ∙ (ap is_connected (sym phase) ∙ e) in cc;
+          rej = rej;
+          longer = longer;
+          wants_none = ap (λ x. cond x (wanted c.outgoing) None) e ∙ w;
+          own = inl own;
+        }
+
+    go : (c : Bool) → is_connected a.phase ≡ c → Served turn breaks (is_busy turn user.busy) a (after_busy (is_busy turn user.busy) (offered user.file (after_given (cond c (record a { incoming = record a.incoming { given = length a.incoming.taken } }) a))))
+    go true e = let b : Account = after_given (record a { incoming = record a.incoming { given = length a.incoming.taken } }) in let k = offers-well user.file b in
+        by b refl refl refl refl refl refl refl refl refl refl refl (offered user.file b) k.0 k.1
+    go false e = let b : Account = after_given a in let k = offers-well user.file b in by b refl refl refl refl refl refl refl refl refl refl refl (offered user.file b) k.0 k.1
+
+slice-some : (breaks : List BreakLine) (n : ℕ) (b : BreakLine) → slice_get breaks n ≡ Some b → n < length breaks
+slice-some [] n b e = cc
+slice-some (x ∷ xs) zero b e = omega arith
+slice-some (x ∷ xs) (suc n) b e = let k = slice-some xs n b e in omega (arith, k)
+
+pub serves-own : (user : User) (turn : ℕ) (a : Account) → (before_asking user turn a).own_breaks ≡ a.own_breaks
+serves-own user turn a =
+    busy (offered user.file (after_given (delivered a))) (is_connected (offered user.file (after_given (delivered a))).phase)
+    ∙ ap (λ b. b.own_breaks) (offers-well user.file (after_given (delivered a))).0.only ∙ given (is_connected a.phase)
+  where
+    busy : (b : Account) (c : Bool) → (cond c (record b { owes = record b.owes { busy = is_busy turn user.busy } }) b).own_breaks ≡ b.own_breaks
+    busy b true = refl
+    busy b false = refl
+
+    given : (c : Bool) → (after_given (cond c (record a { incoming = record a.incoming { given = length a.incoming.taken } }) a)).own_breaks ≡ a.own_breaks
+    given true = refl
+    given false = refl
+
+pub serves-all : (user : User) (turn : ℕ) (released : Bool) (a : Account) → Served turn (length user.breaks) (is_busy turn user.busy) a (served_account user turn released a)
+serves-all user turn released a = go released
+  where
+    m : Account
+    m = before_asking user turn a
+
+    h : Served turn (length user.breaks) (is_busy turn user.busy) a m
+    h = serves-first user turn (length user.breaks) a
+
+    asks : (l : ℕ) → length a.own_breaks.lengths < length user.breaks → (x : Bool) → is_connected m.phase ≡ x → Served turn (length user.breaks) (is_busy turn user.busy) a (cond x (record m { own_breaks = after_ask turn l m.own_breaks }) m)
+    asks l less false e = h
+    asks l less true e = record {
+      setup = h.setup;
+      phase = h.phase;
+      terms = h.terms;
+      numbered = h.numbered;
+      wait = h.wait;
+      ack = h.ack;
+      special = h.special;
+      answer = h.answer;
+      reply = h.reply;
+      busy_told = h.busy_told;
+      busy_now = h.busy_now;
+      rej = h.rej;
+      longer = h.longer;
+      wants_none = h.wants_none;
+      own = inr (l, ap (after_ask turn l) (serves-own user turn a), less, ap is_connected (sym h.phase) ∙ e);
+    }
+
+    by : (n : Option BreakLine) → next_break user.breaks m ≡ n → Served turn (length user.breaks) (is_busy turn user.busy) a (asked_at turn n m)
+    by None e = h
+    by (Some b) e = on (nat_le b.turn turn)
+      where
+        on : (x : Bool) → Served turn (length user.breaks) (is_busy turn user.busy) a (cond x (after_break_asked turn b.length_octet m) m)
+        on false = h
+        on true = asks b.length_octet (slice-some user.breaks (length a.own_breaks.lengths) b (ap (λ o. slice_get user.breaks (length o.lengths)) (sym (serves-own user turn a)) ∙ e)) (is_connected m.phase) refl
+
+    go : (r : Bool) → Served turn (length user.breaks) (is_busy turn user.busy) a (cond r m (asked_at turn (next_break user.breaks m) m))
+    go true = h
+    go false = by (next_break user.breaks m) refl

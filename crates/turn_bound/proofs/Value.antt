@@ -1,0 +1,172 @@
+use Rattle.std.specs.Prelude.{◌≡◌, ℕ, ◌+◌, ◌-◌, ◌*◌, ◌≤◌, Bool, true, false, not, cond, ◌&&◌, ◌||◌, length, Option, Some, None, is_some, Result, Ok, Err}
+use Rattle.roles.specs.declared.role.Role.{Role}
+use Rattle.roles.specs.declared.role.Role.TheVariants.{Originator, Answerer}
+use Rattle.lapm_frames.specs.declared.frame.Frame.{Frame}
+use Rattle.lapm_frames.specs.declared.frame.Frame.TheVariants.{I, Rr, Rnr, Rej, Sabme, Ui}
+use Rattle.break_signals.specs.declared.word.BreakWord.{BreakWord}
+use Rattle.break_signals.specs.declared.word.BreakWord.TheVariants.{Brk, Ack}
+use Rattle.break_signals.specs.declared.fault.BreakFault.{BreakFault}
+use Rattle.break_signals.specs.Words.{word_in}
+use Rattle.break_signals.specs.Breaks.{no_breaks}
+use Rattle.lapm_sender.specs.Outgoing as outgoing
+use Rattle.slot_contents.specs.declared.sent.Sent.{Sent}
+use Rattle.slot_contents.specs.declared.sent.Sent.TheVariants as slots
+use Rattle.slot_contents.specs.declared.arrived.Arrived.{Arrived}
+use Rattle.slot_contents.specs.declared.arrived.Arrived.TheVariants as arrivals
+use Rattle.link_account.specs.declared.setup.Setup.{Setup}
+use Rattle.link_account.specs.declared.phase.Phase.{Phase}
+use Rattle.link_account.specs.declared.phase.Phase.TheVariants.{Detecting, Negotiating, Establishing, Connected, Releasing, Closed}
+use Rattle.link_account.specs.Account.{Account}
+use Rattle.turn_bound.proofs.Clock.{Rates, Runs, left, is_waiting, Sends, is_free, worth, Breaks, is_breaking, break_left, one_if}
+
+-- the phases that an originator has before it, until it releases
+abbrev pub phases_left : Role → Phase → ℕ
+phases_left Answerer phase = 0
+phases_left Originator Detecting = 4
+phases_left Originator Negotiating = 3
+phases_left Originator Establishing = 2
+phases_left Originator Connected = 1
+phases_left Originator Releasing = 0
+phases_left Originator Closed = 0
+
+-- what the clock of a U try counts
+abbrev pub try_left : Rates → ℕ → Account → ℕ
+try_left z turn a = left z turn a.wait.try_count (Some a.wait.try_set)
+
+abbrev pub linked_left : Rates → ℕ → Account → ℕ
+linked_left z turn a = left z turn a.outgoing.count a.wait.timer + break_left z turn a.own_breaks
+
+abbrev pub time_left : Rates → ℕ → Role → Phase → Account → ℕ
+time_left z turn Originator Detecting a = z.whole - turn
+time_left z turn Originator Negotiating a = try_left z turn a
+time_left z turn Originator Establishing a = try_left z turn a
+time_left z turn Originator Connected a = linked_left z turn a
+time_left z turn Originator Releasing a = try_left z turn a
+time_left z turn Originator Closed a = 0
+time_left z turn Answerer Detecting a = 0
+time_left z turn Answerer Negotiating a = 0
+time_left z turn Answerer Establishing a = 0
+time_left z turn Answerer Connected a = linked_left z turn a
+time_left z turn Answerer Releasing a = 0
+time_left z turn Answerer Closed a = 0
+
+-- what an end is worth, of so many segments and breaks in all
+abbrev pub value : Rates → ℕ → ℕ → ℕ → Role → Phase → Account → ℕ
+value z total breaks turn role phase a =
+    worth z total a.outgoing + z.quota * (breaks - length a.own_breaks.lengths) + z.quota * phases_left role phase + time_left z turn role phase a
+
+-- an end lives while a clock runs or it rests from a break
+abbrev pub linked_lives : ℕ → Account → Bool
+linked_lives turn a = is_waiting a.outgoing || is_breaking turn a.own_breaks
+
+abbrev pub lives : ℕ → Role → Phase → Account → Bool
+lives turn Originator Detecting a = true
+lives turn Originator Negotiating a = true
+lives turn Originator Establishing a = true
+lives turn Originator Connected a = linked_lives turn a
+lives turn Originator Releasing a = true
+lives turn Originator Closed a = false
+lives turn Answerer Detecting a = false
+lives turn Answerer Negotiating a = false
+lives turn Answerer Establishing a = false
+lives turn Answerer Connected a = linked_lives turn a
+lives turn Answerer Releasing a = false
+lives turn Answerer Closed a = false
+
+-- the rates are those of a setup, whose windows aren't 0
+pub record IsOf (z : Rates) (setup : Setup) : Type 0 where
+  pub tries : setup.tries ≡ z.tries
+  pub period : setup.period ≡ z.period
+  pub tx_window : 1 ≤ setup.offer.tx_window
+  pub rx_window : 1 ≤ setup.offer.rx_window
+
+-- what holds of one end, whatever the other does
+pub record Unlinked (a : Account) : Type 0 where
+  pub outgoing : a.outgoing ≡ outgoing.not_begun
+  pub timer : a.wait.timer ≡ None
+  pub breaks : a.own_breaks ≡ no_breaks
+  pub ack : a.their_breaks.ack ≡ None
+  pub window_o : 1 ≤ a.terms.window_o
+  pub window_a : 1 ≤ a.terms.window_a
+
+-- a BRKACK alone is due as an answer
+abbrev pub IsAck : Option BreakWord → Type 0
+IsAck None = Unit {0}
+IsAck (Some (Ack number length_octet)) = Unit {0}
+IsAck (Some (Brk number length_octet)) = ⊥
+
+-- an answerer that heard no I frame and no supervisory frame has sent none
+abbrev pub IsSilent : Role → Account → Type 0
+IsSilent Originator a = Unit {0}
+IsSilent Answerer a = a.numbered ≡ false → (a.outgoing.high ≡ 0) × (a.wait.timer ≡ None)
+
+pub record Linked (z : Rates) (before turn : ℕ) (role : Role) (a : Account) : Type 0 where
+  pub sends : Sends z before turn a.outgoing a.wait.timer
+  pub breaks : Breaks z before turn a.own_breaks
+  pub ack : IsAck a.their_breaks.ack
+  pub silent : IsSilent role a
+
+abbrev pub Tries : Rates → ℕ → ℕ → Account → Type 0
+Tries z before turn a = Runs z before turn a.wait.try_count a.wait.try_set
+
+abbrev pub Stands : Rates → ℕ → ℕ → Role → Phase → Account → Type 0
+Stands z before turn Originator Detecting a = Unlinked a
+Stands z before turn Originator Negotiating a = Unlinked a × Tries z before turn a
+Stands z before turn Originator Establishing a = Unlinked a × Tries z before turn a
+Stands z before turn Originator Connected a = Linked z before turn Originator a
+Stands z before turn Originator Releasing a = Tries z before turn a
+Stands z before turn Originator Closed a = Unit {0}
+Stands z before turn Answerer Detecting a = Unlinked a
+Stands z before turn Answerer Negotiating a = Unlinked a
+Stands z before turn Answerer Establishing a = ⊥
+Stands z before turn Answerer Connected a = Linked z before turn Answerer a
+Stands z before turn Answerer Releasing a = ⊥
+Stands z before turn Answerer Closed a = Unit {0}
+
+-- what is due, where nothing lives: the least is 2 for what makes nothing due at the other end
+abbrev pub two_if : Bool → ℕ
+two_if b = cond b 2 0
+
+abbrev pub four_if : Bool → ℕ
+four_if b = cond b 4 0
+
+abbrev pub dues : ℕ → Account → ℕ
+dues total a =
+    two_if (is_some a.owes.answer) + two_if a.owes.reply + two_if (is_some a.their_breaks.ack) + two_if a.incoming.rej + four_if a.wait.poll + two_if a.owes.busy_told
+    + one_if (is_free total a.outgoing && not a.special)
+
+-- what a slot on the line makes due
+abbrev pub word_weight : Result BreakWord BreakFault → ℕ
+word_weight (Ok (Brk number length_octet)) = 2
+word_weight (Ok (Ack number length_octet)) = 0
+word_weight (Err fault) = 0
+
+abbrev pub frame_weight : Frame → ℕ
+frame_weight (I ns nr pf info) = 2 + two_if pf
+frame_weight (Rr command nr pf) = two_if (command && pf)
+frame_weight (Rnr command nr pf) = two_if (command && pf)
+frame_weight (Rej command nr pf) = two_if (command && pf)
+frame_weight (Sabme pf) = 2
+frame_weight (Ui command pf info) = word_weight (word_in info)
+frame_weight frame = 0
+
+abbrev pub weight : Sent → ℕ
+weight (slots.Frame frame) = frame_weight frame
+weight sent = 0
+
+abbrev pub arrived_weight : Arrived → ℕ
+arrived_weight (arrivals.Frame frame) = frame_weight frame
+arrived_weight arrived = 0
+
+-- the RNR frames
+abbrev pub frame_rnrs : Frame → ℕ
+frame_rnrs (Rnr command nr pf) = 1
+frame_rnrs frame = 0
+
+abbrev pub rnrs : Sent → ℕ
+rnrs (slots.Frame frame) = frame_rnrs frame
+rnrs sent = 0
+
+abbrev pub arrived_rnrs : Arrived → ℕ
+arrived_rnrs (arrivals.Frame frame) = frame_rnrs frame
+arrived_rnrs arrived = 0

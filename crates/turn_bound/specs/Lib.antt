@@ -1,0 +1,7 @@
+pub mod Time
+pub mod Bound
+pub mod Offered
+pub mod Together
+pub mod Spent
+pub mod Due
+pub mod Limits

@@ -1,0 +1,39 @@
+-- When the tries of a clock are spent.
+use Rattle.std.specs.Prelude.{◌≡◌, ℕ, ◌+◌, ◌-◌, ◌*◌, ◌≤◌, ◌⊎◌, true, false, List, length, Some}
+use Rattle.roles.specs.declared.role.Role.{Role}
+use Rattle.break_signals.specs.Breaks.{waits}
+use Rattle.link_account.specs.declared.fault.LinkFault.{LinkFault}
+use Rattle.link_account.specs.declared.fault.LinkFault.TheVariants.{NotDetected, Spent, BadAck, PeerReset, PeerRefused}
+use Rattle.link_account.specs.Account.{Account, is_connected}
+use Rattle.link_run.specs.Run.{Link, Ends, Turn, RunOf, BrokenTurn, served_at}
+use Rattle.link_run.specs.Carried.{IsCarried}
+use Rattle.turn_bound.specs.Time.{KeepsTime}
+
+-- the turn in which a clock began: it was set then, and at each expiry since
+abbrev pub since : ℕ → ℕ → ℕ → ℕ
+since period count set = set - count * period
+
+-- a clock of the end began then: of a Connected end that of the segments or that of the break that waits, and of any other that of its U try
+abbrev pub BeganThen : ℕ → Account → ℕ → Type 0
+BeganThen period a then_ =
+    ((set : ℕ) × (a.wait.timer ≡ Some set) × (since period a.outgoing.count set ≡ then_))
+    ⊎ ((waits a.own_breaks ≡ true) × (since period a.own_breaks.count a.own_breaks.set ≡ then_))
+    ⊎ ((is_connected a.phase ≡ false) × (since period a.wait.try_count a.wait.try_set ≡ then_))
+
+-- The tries of a clock are spent a whole set of tries after it began, and in no other turn.
+pub record SpentOnTime (period whole turn : ℕ) (a : Account) (then_ : ℕ) : Type 0 where
+  pub on_time : then_ + whole ≡ turn
+  pub began : BeganThen period a then_
+
+-- an end breaks for want of answers alone, once a whole set of tries is over
+abbrev pub IsTimely : ℕ → ℕ → ℕ → Account → LinkFault → Type 0
+IsTimely period whole turn a (Spent segment then_) = SpentOnTime period whole turn a then_
+IsTimely period whole turn a NotDetected = whole ≤ turn
+IsTimely period whole turn a (BadAck nr va high) = ⊥
+IsTimely period whole turn a (PeerReset va vr) = ⊥
+IsTimely period whole turn a PeerRefused = ⊥
+
+abbrev pub SpendsOnTime : Type 0
+SpendsOnTime = (tries period : ℕ) (delay : Role → ℕ) (link : Link) (ts : List Turn) (before : Ends) (t : Turn) (mid : Ends) (role : Role) (fault : LinkFault)
+    → KeepsTime tries period delay link → RunOf link ts before → IsCarried delay ts → BrokenTurn link ts before t mid role fault
+    → IsTimely period ((tries + 1) * period) (length ts) (served_at link (length ts) mid role).account fault
