@@ -42,7 +42,7 @@ light-ok busy said (Err fault) e h = cc
 light-ok busy said (Ok other) e h = let same : other ≡ said = cc in subst (Light busy) same h
 
 -- where none is wanted the file has ended, or the window is full
-full-or-ended : (total : ℕ) (o : Outgoing) → wanted o ≡ None → 1 ≤ o.window → (o.ended ≡ true → length o.pieces ≡ total) → o.front < total → o.front < length o.pieces
+pub full-or-ended : (total : ℕ) (o : Outgoing) → wanted o ≡ None → 1 ≤ o.window → (o.ended ≡ true → length o.pieces ≡ total) → o.front < total → o.front < length o.pieces
 full-or-ended total o none window whole less = go o.ended refl (nat_lt (length o.pieces) (o.front + o.window)) refl none
   where
     go : (e : Bool) → o.ended ≡ e → (l : Bool) → nat_lt (length o.pieces) (o.front + o.window) ≡ l → cond (not e && l) (Some (length o.pieces)) None ≡ None → o.front < length o.pieces

@@ -29,5 +29,15 @@ mod Spending
 mod AtMostOne
 mod Sizes
 mod Tied
+mod Credits
+mod Taking
+mod Asking
+mod Polling
+mod Pausing
+mod Holding
+mod HeldTurn
+mod Polled
+mod CalmRuns
+mod Advancing
 mod Counted
 mod Bounding

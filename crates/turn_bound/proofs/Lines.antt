@@ -20,14 +20,14 @@ IsLight slot = weight slot.sent ≤ 2
 abbrev pub AllLight : List Slot → Type 0
 AllLight line = AllByRecursion {X = Slot} IsLight line
 
-arrives-weight : (sent : Sent) → arrived_weight (arrives sent) ≡ weight sent
+pub arrives-weight : (sent : Sent) → arrived_weight (arrives sent) ≡ weight sent
 arrives-weight slots.Mark = refl
 arrives-weight slots.Odp = refl
 arrives-weight slots.Adp = refl
 arrives-weight slots.Flags = refl
 arrives-weight (slots.Frame frame) = refl
 
-arrives-rnrs : (sent : Sent) → arrived_rnrs (arrives sent) ≡ rnrs sent
+pub arrives-rnrs : (sent : Sent) → arrived_rnrs (arrives sent) ≡ rnrs sent
 arrives-rnrs slots.Mark = refl
 arrives-rnrs slots.Odp = refl
 arrives-rnrs slots.Adp = refl

@@ -28,7 +28,7 @@ use Rattle.turn_bound.proofs.MeetSpeak.{SaysSo, Says, speaks-so}
 abbrev pub Tells : (Frame → Bool) → Type 0 → List Slot → Type 0
 Tells f P line = AllByRecursion {X = Slot} (λ slot. of_frame f slot.sent ≡ true → P) line
 
-arrives-flag : (f : Frame → Bool) (sent : Sent) → of_arrived f (arrives sent) ≡ of_frame f sent
+pub arrives-flag : (f : Frame → Bool) (sent : Sent) → of_arrived f (arrives sent) ≡ of_frame f sent
 arrives-flag f slots.Mark = refl
 arrives-flag f slots.Odp = refl
 arrives-flag f slots.Adp = refl
@@ -79,7 +79,7 @@ released-closed z before turn Connected a h e = cc
 released-closed z before turn Releasing a h e = absurd h
 released-closed z before turn Closed a h e = refl
 
-only-linked : (p : Phase) → is_begun p ≡ true → is_released p ≡ false → p ≡ Connected
+pub only-linked : (p : Phase) → is_begun p ≡ true → is_released p ≡ false → p ≡ Connected
 only-linked Detecting e f = cc
 only-linked Negotiating e f = cc
 only-linked Establishing e f = cc
@@ -111,7 +111,7 @@ a-ok : (disc : Bool) (a mid : Account) (r : Result Account LinkFault) → r ≡ 
 a-ok disc a mid (Err fault) e h = cc
 a-ok disc a mid (Ok b) e h = let same : b ≡ mid = cc in subst (AHeard disc a) same h
 
-s-ok : (a : Account) (said : Said) (r : Result Said LinkFault) → r ≡ Ok said → Says a r → SaysSo a said
+pub s-ok : (a : Account) (said : Said) (r : Result Said LinkFault) → r ≡ Ok said → Says a r → SaysSo a said
 s-ok a said (Err fault) e h = cc
 s-ok a said (Ok other) e h = let same : other ≡ said = cc in subst (SaysSo a) same h
 

@@ -115,6 +115,8 @@ pub record Served (turn breaks : ℕ) (busy : Bool) (a b : Account) : Type 0 whe
   pub busy_told : b.owes.busy_told ≡ a.owes.busy_told
   pub busy_now : is_connected a.phase ≡ true → b.owes.busy ≡ busy
   pub rej : b.incoming.rej ≡ a.incoming.rej
+  pub gapped : b.incoming.gapped ≡ a.incoming.gapped
+  pub srej : b.incoming.srej ≡ a.incoming.srej
   pub longer : Longer (is_connected a.phase) a.outgoing b.outgoing
   pub wants_none : wants b ≡ None
   pub own : (b.own_breaks ≡ a.own_breaks) ⊎ ((l : ℕ) × (b.own_breaks ≡ after_ask turn l a.own_breaks) × (length a.own_breaks.lengths < breaks) × (is_connected a.phase ≡ true))
@@ -127,9 +129,9 @@ pub serves-first : (user : User) (turn breaks : ℕ) (a : Account) → Served tu
 serves-first user turn breaks a = go (is_connected a.phase) refl
   where
     by : (b : Account) → b.phase ≡ a.phase → b.setup ≡ a.setup → b.terms ≡ a.terms → b.numbered ≡ a.numbered → b.wait ≡ a.wait → b.their_breaks ≡ a.their_breaks → b.special ≡ a.special → b.owes ≡ a.owes
-        → b.incoming.rej ≡ a.incoming.rej → b.outgoing ≡ a.outgoing → b.own_breaks ≡ a.own_breaks → (c : Account) → Offers b c → wants c ≡ None
+        → b.incoming.rej ≡ a.incoming.rej → b.incoming.gapped ≡ a.incoming.gapped → b.incoming.srej ≡ a.incoming.srej → b.outgoing ≡ a.outgoing → b.own_breaks ≡ a.own_breaks → (c : Account) → Offers b c → wants c ≡ None
         → Served turn breaks (is_busy turn user.busy) a (after_busy (is_busy turn user.busy) c)
-    by b phase setup terms numbered wait ack special owes rej outgoing own c k none =
+    by b phase setup terms numbered wait ack special owes rej gapped srej outgoing own c k none =
         subst (λ d. wants d ≡ None → Served turn breaks (is_busy turn user.busy) a (after_busy (is_busy turn user.busy) d)) (sym k.only) (λ w. final (is_connected b.phase) refl w) none
       where
         longer : Longer (is_connected a.phase) a.outgoing c.outgoing
@@ -150,6 +152,8 @@ serves-first user turn breaks a = go (is_connected a.phase) refl
           busy_told = ap (λ o. o.busy_told) owes;
           busy_now = λ f. refl;
           rej = rej;
+          gapped = gapped;
+          srej = srej;
           longer = longer;
           wants_none = ap (λ x. cond x (wanted c.outgoing) None) e ∙ w;
           own = inl own;
@@ -167,6 +171,8 @@ serves-first user turn breaks a = go (is_connected a.phase) refl
           busy_told = ap (λ o. o.busy_told) owes;
           busy_now = λ f. let wrong : true ≡ false = sym f ∙ (ap is_connected (sym phase) ∙ e) in cc;
           rej = rej;
+          gapped = gapped;
+          srej = srej;
           longer = longer;
           wants_none = ap (λ x. cond x (wanted c.outgoing) None) e ∙ w;
           own = inl own;
@@ -174,8 +180,8 @@ serves-first user turn breaks a = go (is_connected a.phase) refl
 
     go : (c : Bool) → is_connected a.phase ≡ c → Served turn breaks (is_busy turn user.busy) a (after_busy (is_busy turn user.busy) (offered user.file (after_given (cond c (record a { incoming = record a.incoming { given = length a.incoming.taken } }) a))))
     go true e = let b : Account = after_given (record a { incoming = record a.incoming { given = length a.incoming.taken } }) in let k = offers-well user.file b in
-        by b refl refl refl refl refl refl refl refl refl refl refl (offered user.file b) k.0 k.1
-    go false e = let b : Account = after_given a in let k = offers-well user.file b in by b refl refl refl refl refl refl refl refl refl refl refl (offered user.file b) k.0 k.1
+        by b refl refl refl refl refl refl refl refl refl refl refl refl refl (offered user.file b) k.0 k.1
+    go false e = let b : Account = after_given a in let k = offers-well user.file b in by b refl refl refl refl refl refl refl refl refl refl refl refl refl (offered user.file b) k.0 k.1
 
 slice-some : (breaks : List BreakLine) (n : ℕ) (b : BreakLine) → slice_get breaks n ≡ Some b → n < length breaks
 slice-some [] n b e = cc
@@ -219,6 +225,8 @@ serves-all user turn released a = go released
       busy_told = h.busy_told;
       busy_now = h.busy_now;
       rej = h.rej;
+      gapped = h.gapped;
+      srej = h.srej;
       longer = h.longer;
       wants_none = h.wants_none;
       own = inr (l, ap (after_ask turn l) (serves-own user turn a), less, ap is_connected (sym h.phase) ∙ e);

@@ -21,11 +21,11 @@ use Rattle.turn_bound.proofs.Value.{two_if, four_if, dues, weight, frame_weight,
 use Rattle.turn_bound.proofs.Sending.{sent-well}
 use Rattle.turn_bound.proofs.Speaking.{AllSaid}
 
-else-by : (P : Said → Type 0) (first : Option Said) (said : Said) → AllSaid P first → (first ≡ None → P said) → P (else_says first said)
+pub else-by : (P : Said → Type 0) (first : Option Said) (said : Said) → AllSaid P first → (first ≡ None → P said) → P (else_says first said)
 else-by P None said h k = k refl
 else-by P (Some first) said h k = h
 
-where-by : (P : Said → Type 0) (b : Bool) (said : Said) → (b ≡ true → P said) → AllSaid P (where_says b said)
+pub where-by : (P : Said → Type 0) (b : Bool) (said : Said) → (b ≡ true → P said) → AllSaid P (where_says b said)
 where-by P true said h = h refl
 where-by P false said h = tt
 
@@ -216,7 +216,7 @@ pays-8 total a special s f free = where-by (Pays total a special) a.incoming.owe
 pays-9 : (total : ℕ) (a : Account) (special : Bool) → is_free total a.outgoing ≡ false → Pays total a special (step9 a)
 pays-9 total a special free = λ w. omega (arith, ap one_if free, one-less (is_free total a.outgoing) (not a.special))
 
-none-said : (turn : ℕ) (m : Option ℕ) (a : Account) → says_segment turn m a ≡ None → m ≡ None
+pub none-said : (turn : ℕ) (m : Option ℕ) (a : Account) → says_segment turn m a ≡ None → m ≡ None
 none-said turn None a e = refl
 none-said turn (Some n) a e = cc
 

@@ -27,16 +27,16 @@ use Rattle.turn_bound.proofs.OneTurn.{heard-ok, said-ok}
 use Rattle.turn_bound.proofs.Still.{StaysStill, HeardStill, still-hears}
 use Rattle.turn_bound.proofs.SpeakStill.{steps-pay}
 
-or-false-both : (b c : Bool) → b || c ≡ false → (b ≡ false) × (c ≡ false)
+pub or-false-both : (b c : Bool) → b || c ≡ false → (b ≡ false) × (c ≡ false)
 or-false-both true c e = cc
 or-false-both false c e = (refl, e)
 
-not-true : (b : Bool) → (b ≡ true → ⊥) → b ≡ false
+pub not-true : (b : Bool) → (b ≡ true → ⊥) → b ≡ false
 not-true true f = absurd (f refl)
 not-true false f = refl
 
 -- an end that stays Connected isn't told to release
-linked-of : (z : Rates) (turn : ℕ) (release : Bool) (b : Account) (said : Said) → AreRates z → IsOf z b.setup → b.phase ≡ Connected → speak turn release b ≡ Ok said → said.account.phase ≡ Connected
+pub linked-of : (z : Rates) (turn : ℕ) (release : Bool) (b : Account) (said : Said) → AreRates z → IsOf z b.setup → b.phase ≡ Connected → speak turn release b ≡ Ok said → said.account.phase ≡ Connected
     → (speak_linked turn b ≡ Ok said) × (release && is_originator b.setup.role ≡ false)
 linked-of z turn release b said y k e speaks after = go (release && is_originator b.setup.role) (subst (λ p. speak_in p turn release b ≡ Ok said) e speaks)
   where
@@ -56,7 +56,7 @@ pub record Spoke (z : Rates) (total breaks turn : ℕ) (role : Role) (b : Accoun
   pub said_is : steps turn b.special (record timed { special = false }) ≡ said
   pub stepped : Stepped z total breaks turn role (record timed { special = false }) said.account
 
-spoke : (z : Rates) (total breaks turn : ℕ) (role : Role) (b : Account) (said : Said) → AreRates z → IsOf z b.setup → Linked z (turn + 1) turn role b → b.setup.role ≡ role → length b.outgoing.pieces ≤ total → speak_linked turn b ≡ Ok said
+pub spoke : (z : Rates) (total breaks turn : ℕ) (role : Role) (b : Account) (said : Said) → AreRates z → IsOf z b.setup → Linked z (turn + 1) turn role b → b.setup.role ≡ role → length b.outgoing.pieces ≤ total → speak_linked turn b ≡ Ok said
     → Spoke z total breaks turn role b said
 spoke z total breaks turn role b said y k h er all e = go (then_tries turn (on_timer turn b)) refl (timers-well z total breaks turn role b y k h) e
   where
@@ -121,7 +121,7 @@ heard-still-ok : (total more : ℕ) (a mid : Account) (r : Result Account LinkFa
 heard-still-ok total more a mid (Err fault) e h w p = cc
 heard-still-ok total more a mid (Ok b) e h w p = let same : b ≡ mid = cc in subst (StaysStill total more a) (ap Ok same) h w p
 
-only-connected : (p : Phase) → is_connected p ≡ true → p ≡ Connected
+pub only-connected : (p : Phase) → is_connected p ≡ true → p ≡ Connected
 only-connected Connected e = refl
 only-connected Detecting e = cc
 only-connected Negotiating e = cc
@@ -139,7 +139,7 @@ pub record Stays (z : Rates) (total turn : ℕ) (user : User) (role : Role) (a m
   pub unreleased : release && is_originator b.setup.role ≡ false
   pub serves : Served turn (length user.breaks) (is_busy turn user.busy) mid b
 
-stand-linked : (z : Rates) (before turn : ℕ) (role : Role) (a : Account) → Linked z before turn role a → Stands z before turn role Connected a
+pub stand-linked : (z : Rates) (before turn : ℕ) (role : Role) (a : Account) → Linked z before turn role a → Stands z before turn role Connected a
 stand-linked z before turn Originator a h = h
 stand-linked z before turn Answerer a h = h
 

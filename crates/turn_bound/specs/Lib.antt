@@ -5,3 +5,4 @@ pub mod Together
 pub mod Spent
 pub mod Due
 pub mod Limits
+pub mod Advance

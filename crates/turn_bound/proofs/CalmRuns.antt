@@ -1,0 +1,281 @@
+-- What holds all through a run where no user is busy.
+use Rattle.std.proofs.Common.{◌≡◌, ℕ, zero, suc, ◌+◌, ◌-◌, ◌*◌, ◌≤◌, ◌&&◌, ◌⊎◌, Bool, true, false, cond, List, [], ◌∷◌, ◌++◌, drop, map, length, inl, inr, arith, refl, sym, ◌∙◌, ap, subst, Option, Some, None, Result, Ok, Err}
+use Rattle.std.specs.Prelude.{slice_get}
+use Rattle.std.specs.List.{AllByRecursion}
+use Rattle.roles.specs.declared.role.Role.{Role}
+use Rattle.roles.specs.declared.role.Role.TheVariants.{Originator, Answerer}
+use Rattle.roles.specs.Role.{other}
+use Rattle.roles.specs.Both.{of}
+use Rattle.slot_contents.specs.declared.sent.Sent.{Sent}
+use Rattle.slot_contents.specs.declared.heard.Heard.{Heard}
+use Rattle.slot_contents.specs.declared.heard.Heard.TheVariants.{Nothing, Passed, Lost, Chance}
+use Rattle.link_account.specs.declared.fault.LinkFault.{LinkFault}
+use Rattle.link_account.specs.Account.{Account, is_connected}
+use Rattle.link_account.specs.Hear.{hear}
+use Rattle.link_account.specs.Speak.{Said, speak}
+use Rattle.link_account.specs.Play.{arrives}
+use Rattle.link_run.specs.End.{User, BusyLine, is_busy, is_released}
+use Rattle.link_run.specs.Run.{Link, Ends, Spoken, Turn, GoingTurn, RunOf, said_at, served_at, releases, arrival}
+use Rattle.link_run.specs.Run as runs
+use Rattle.link_run.specs.Carried.{Crosses, Carries, IsCarried, sent_in, sent_ago}
+use Rattle.turn_bound.specs.Time.{KeepsTime}
+use Rattle.turn_bound.specs.Advance.{NeverBusy}
+use Rattle.turn_bound.proofs.Clock.{Rates, rates, AreRates, one_if}
+use Rattle.turn_bound.proofs.Value.{IsOf, Stands, weight, rnrs, arrived_weight, arrived_rnrs}
+use Rattle.turn_bound.proofs.Run.{served_account}
+use Rattle.turn_bound.proofs.Serving.{Served, serves-all}
+use Rattle.turn_bound.proofs.Falls.{Fits, Sound}
+use Rattle.turn_bound.proofs.Ending.{fits, sound-run}
+use Rattle.turn_bound.proofs.Tied.{Tied, tied, keeps, link_of, turn_of, state_of, turns-length}
+use Rattle.turn_bound.proofs.Light.{Light, LightSaid, speaks-light}
+use Rattle.turn_bound.proofs.Lines.{arrives-weight, arrives-rnrs}
+use Rattle.turn_bound.proofs.MeetHear.{is_begun, of_frame, of_arrived}
+use Rattle.turn_bound.proofs.MeetSpeak.{speaks-so}
+use Rattle.turn_bound.proofs.Meeting.{arrives-flag, s-ok}
+use Rattle.turn_bound.proofs.Credits.{frame_poll, poll_value, poll-most}
+use Rattle.turn_bound.proofs.Polling.{nineteen_if, polls}
+use Rattle.turn_bound.proofs.Pausing.{Goes, goes-on, Calm, says-calm}
+use Rattle.turn_bound.proofs.Polled.{poll-turn}
+
+-- an end speaks, told to release or not
+pub said-speaks : (link : Link) (turn : ℕ) (mid : Ends) (role : Role) (said : Said) → said_at link turn mid role ≡ Ok said
+    → (release : Bool) × (speak turn release (served_account (of role link).user turn (is_released mid.orig.phase) (of role mid)) ≡ Ok said)
+said-speaks link turn mid Originator said e = (releases link turn mid, e)
+said-speaks link turn mid Answerer said e = (false, e)
+
+-- what holds of each end between turns
+pub record EndAt (z : Rates) (turn : ℕ) (role : Role) (a : Account) : Type 0 where
+  pub rates : AreRates z
+  pub stands : Stands z turn turn role a.phase a
+  pub is_of : IsOf z a.setup
+  pub role_is : a.setup.role ≡ role
+
+pub end-at : (tries period : ℕ) (delay : Role → ℕ) (link : Link) (ts : List Turn) (ends : Ends) (role : Role) → KeepsTime tries period delay link → RunOf link ts ends → IsCarried delay ts
+    → EndAt (rates tries period) (length ts) role (of role ends)
+end-at tries period delay link ts ends role k run c = by role
+  where
+    z : Rates
+    z = rates tries period
+
+    i : Tied delay link ts ends
+    i = tied delay link ts ends k.delays run c
+
+    f : Fits z (link_of delay link)
+    f = fits tries period (link_of delay link) (keeps tries period delay link k)
+
+    h : Sound z (link_of delay link) (length ts) (state_of ends i.forward i.back)
+    h = subst (λ n. Sound z (link_of delay link) n (state_of ends i.forward i.back)) (turns-length ts) (sound-run z (link_of delay link) (map turn_of ts) (state_of ends i.forward i.back) f i.run)
+
+    by : (r : Role) → EndAt z (length ts) r (of r ends)
+    by Originator = record { rates = f.rates; stands = h.orig; is_of = subst (IsOf z) (sym h.orig_setup) f.orig; role_is = ap (λ x. x.role) h.orig_setup ∙ f.originates }
+    by Answerer = record { rates = f.rates; stands = h.answ; is_of = subst (IsOf z) (sym h.answ_setup) f.answ; role_is = ap (λ x. x.role) h.answ_setup ∙ f.answers }
+
+never-busy : (turn : ℕ) (lines : List BusyLine) → lines ≡ [] → is_busy turn lines ≡ false
+never-busy turn lines e = ap (is_busy turn) e
+
+pub never-at : (link : Link) (turn : ℕ) (role : Role) → NeverBusy link → is_busy turn (of role link).user.busy ≡ false
+never-at link turn role n = never-busy turn (of role link).user.busy (n role)
+
+-- The slots of a run: none weighs more than two, and none is an RNR.
+abbrev pub LightSlot : Option Spoken → Type 0
+LightSlot None = Unit {0}
+LightSlot (Some slot) = (weight slot.sent ≤ 2) × (rnrs slot.sent ≡ 0)
+
+abbrev pub LightTurn : Turn → Type 0
+LightTurn t = (role : Role) → LightSlot (of role t).sent
+
+light-ok : (said : Said) (m : Option Spoken) (busy : Bool) → busy ≡ false → Light busy said → m ≡ Some (runs.spoken said) → LightSlot m
+light-ok said m busy e l f = subst LightSlot (sym f) (l.0, omega (arith, l.1, ap one_if e))
+
+said-light : (busy : Bool) (said : Said) (turn : ℕ) (release : Bool) (b : Account) → speak turn release b ≡ Ok said → LightSaid busy (speak turn release b) → Light busy said
+said-light busy said turn release b e h = by (speak turn release b) e h
+  where
+    by : (r : Result Said LinkFault) → r ≡ Ok said → LightSaid busy r → Light busy said
+    by (Err fault) e h = cc
+    by (Ok other) e h = let same : other ≡ said = cc in subst (Light busy) same h
+
+light-turn : (link : Link) (ts : List Turn) (before : Ends) (t : Turn) (after : Ends) → NeverBusy link → GoingTurn link ts before t after → LightTurn t
+light-turn link ts before t after n g role =
+    let o = g.speaking role in
+    let turn : ℕ = length ts in
+    let user : User = (of role link).user in
+    let released : Bool = is_released g.mid.orig.phase in
+    let s = serves-all user turn released (of role g.mid) in
+    let sp = said-speaks link turn g.mid role o.said o.says in
+    light-ok o.said (of role t).sent (is_busy turn user.busy) (never-at link turn role n)
+    (said-light (is_busy turn user.busy) o.said turn sp.0 (served_account user turn released (of role g.mid)) sp.1
+    (speaks-light (is_busy turn user.busy) turn sp.0 (served_account user turn released (of role g.mid)) (λ c. s.busy_now (ap is_connected (sym s.phase) ∙ c))))
+    o.sent_is
+
+pub light-run : (link : Link) (ts : List Turn) (ends : Ends) → NeverBusy link → RunOf link ts ends → AllByRecursion LightTurn ts
+light-run link [] ends n run = tt
+light-run link (t ∷ ts) ends n (before, run, g) = (light-turn link ts before t ends n g, light-run link ts before n run)
+
+all-get : (ts : List Turn) (n : ℕ) → AllByRecursion LightTurn ts → (role : Role) → LightSlot (sent_in role (slice_get ts n))
+all-get [] n h role = tt
+all-get (t ∷ ts) zero h role = h.0 role
+all-get (t ∷ ts) (suc n) h role = all-get ts n h.1 role
+
+-- so is what arrives
+pub light-heard : (m : Option Spoken) (heard : Heard) → Crosses m heard → LightSlot m → (arrived_weight (arrival heard) ≤ 2) × (arrived_rnrs (arrival heard) ≡ 0)
+light-heard m Nothing c l = (omega arith, refl)
+light-heard m (Lost s) c l = (omega arith, refl)
+light-heard None (Passed s) c l = absurd c
+light-heard (Some slot) (Passed s) c l = (omega (arith, l.0, ap weight c.0, arrives-weight s), arrives-rnrs s ∙ (ap rnrs c.0 ∙ l.1))
+light-heard m Chance c l = (omega arith, refl)
+
+pub light-arrival : (delay : Role → ℕ) (link : Link) (ts : List Turn) (ends : Ends) (t : Turn) (role : Role) → NeverBusy link → RunOf link ts ends → Carries delay ts t
+    → (arrived_weight (arrival (of role t).heard) ≤ 2) × (arrived_rnrs (arrival (of role t).heard) ≡ 0)
+light-arrival delay link ts ends t role n run c = light-heard (sent_ago (delay (other role)) (other role) ts) (of role t).heard (c role) (all-get ts (delay (other role) - 1) (light-run link ts ends n run) (other role))
+
+-- No end counts the other as busy, and none told that it is.
+pub record Unpaused (a : Account) : Type 0 where
+  pub paused : a.outgoing.paused ≡ false
+  pub told : a.owes.busy_told ≡ false
+
+pub calm-run : (delay : Role → ℕ) (link : Link) (ts : List Turn) (ends : Ends) (role : Role) → NeverBusy link → RunOf link ts ends → IsCarried delay ts → Unpaused (of role ends)
+calm-run delay link [] ends role n run c = subst (λ e. Unpaused (of role e)) (sym run) (by role)
+  where
+    by : (r : Role) → Unpaused (of r (runs.start link))
+    by Originator = record { paused = refl; told = refl }
+    by Answerer = record { paused = refl; told = refl }
+calm-run delay link (t ∷ ts) ends role n (before, run, g) c =
+    let turn : ℕ = length ts in
+    let user : User = (of role link).user in
+    let released : Bool = is_released g.mid.orig.phase in
+    let b : Account = served_account user turn released (of role g.mid) in
+    let o = g.speaking role in
+    let u = calm-run delay link ts before role n run c.1 in
+    let light = light-arrival delay link ts before t role n run c.0 in
+    let h = goes-on turn (arrival (of role t).heard) (of role before) (of role g.mid) light.1 (g.hearing role).hears in
+    let s = serves-all user turn released (of role g.mid) in
+    let sp = said-speaks link turn g.mid role o.said o.says in
+    let k = says-calm turn sp.0 b o.said (λ x. s.busy_now (ap is_connected (sym s.phase) ∙ x) ∙ never-at link turn role n) sp.1 in
+    subst Unpaused (sym o.after_is) (record {
+      paused = ap (λ m. m.0) k.0 ∙ (ap (λ x. x.paused) s.longer.outgoing ∙ h.paused u.paused);
+      told = k.1 (s.busy_told ∙ (h.told ∙ u.told));
+    })
+
+-- phases don't go back
+pub going-run : (delay : Role → ℕ) (link : Link) (ts : List Turn) (before : Ends) (t : Turn) (after : Ends) (role : Role) → NeverBusy link → RunOf link ts before → Carries delay ts t → GoingTurn link ts before t after
+    → (is_begun (of role before).phase ≡ true → is_begun (of role after).phase ≡ true) × (is_released (of role before).phase ≡ true → is_released (of role after).phase ≡ true)
+going-run delay link ts before t after role n run c g =
+    let turn : ℕ = length ts in
+    let user : User = (of role link).user in
+    let released : Bool = is_released g.mid.orig.phase in
+    let b : Account = served_account user turn released (of role g.mid) in
+    let o = g.speaking role in
+    let light = light-arrival delay link ts before t role n run c in
+    let h = goes-on turn (arrival (of role t).heard) (of role before) (of role g.mid) light.1 (g.hearing role).hears in
+    let s = serves-all user turn released (of role g.mid) in
+    let sp = said-speaks link turn g.mid role o.said o.says in
+    let so = s-ok b o.said (speak turn sp.0 b) sp.1 (speaks-so turn sp.0 b) in (
+      λ e. ap (λ x. is_begun x.phase) o.after_is ∙ (so.begun ∙ (ap is_begun s.phase ∙ h.begun e)),
+      λ e. ap (λ x. is_released x.phase) o.after_is ∙ so.released (ap is_released s.phase ∙ h.released e),
+    )
+
+-- Polls: how many were sent in the last turns, and heard.
+abbrev pub poll_in : Option Spoken → ℕ
+poll_in None = 0
+poll_in (Some slot) = one_if (of_frame frame_poll slot.sent)
+
+abbrev pub polls_sent : ℕ → Role → List Turn → ℕ
+polls_sent zero role ts = 0
+polls_sent (suc n) role [] = 0
+polls_sent (suc n) role (t ∷ ts) = poll_in (of role t).sent + polls_sent n role ts
+
+abbrev pub polls_heard : ℕ → Role → List Turn → ℕ
+polls_heard zero role ts = 0
+polls_heard (suc n) role [] = 0
+polls_heard (suc n) role (t ∷ ts) = one_if (of_arrived frame_poll (arrival (of role t).heard)) + polls_heard n role ts
+
+nineteen : (b : Bool) → nineteen_if b ≡ 19 * one_if b
+nineteen true = omega arith
+nineteen false = omega arith
+
+pub few-sent : (tries period : ℕ) (delay : Role → ℕ) (link : Link) (n : ℕ) (ts : List Turn) (ends : Ends) (role : Role) → KeepsTime tries period delay link → NeverBusy link → RunOf link ts ends → IsCarried delay ts
+    → 19 * polls_sent n role ts + poll_value (length ts) (of role ends).phase (of role ends) ≤ n + 38
+few-sent tries period delay link zero ts ends role k nb run c = omega (arith, poll-most (length ts) (of role ends).phase (of role ends))
+few-sent tries period delay link (suc n) [] ends role k nb run c = omega (arith, poll-most 0 (of role ends).phase (of role ends))
+few-sent tries period delay link (suc n) (t ∷ ts) ends role k nb (before, run, g) c =
+    let turn : ℕ = length ts in
+    let user : User = (of role link).user in
+    let o = g.speaking role in
+    let e = end-at tries period delay link ts before role k run c.1 in
+    let light = light-arrival delay link ts before t role nb run c.0 in
+    let sp = said-speaks link turn g.mid role o.said o.says in
+    let one = poll-turn (rates tries period) user turn role (arrival (of role t).heard) (of role before) (of role g.mid) (is_released g.mid.orig.phase) sp.0 o.said e.rates e.is_of e.stands e.role_is light.0 light.1 (g.hearing role).hears sp.1 in
+    let rest = few-sent tries period delay link n ts before role k nb run c.1 in
+    let now : poll_value (turn + 1) (of role ends).phase (of role ends) ≡ poll_value (turn + 1) o.said.account.phase o.said.account = ap (λ a. poll_value (turn + 1) a.phase a) o.after_is in
+    let later : poll_value (suc turn) (of role ends).phase (of role ends) ≡ poll_value (turn + 1) (of role ends).phase (of role ends) = ap (λ m. poll_value m (of role ends).phase (of role ends)) (omega arith) in
+    omega (arith, one, rest, now, later, nineteen (of_frame frame_poll o.said.sent), ap poll_in o.sent_is)
+
+-- what was heard was sent before
+data Split (k : ℕ) (ts : List Turn) : Type 0 where
+  Over : drop k ts ≡ [] → drop (suc k) ts ≡ [] → Split k ts
+  Within : (t : Turn) (rest : List Turn) → drop k ts ≡ t ∷ rest → slice_get ts k ≡ Some t → drop (suc k) ts ≡ rest → Split k ts
+
+split : (k : ℕ) (ts : List Turn) → Split k ts
+split zero [] = Over refl refl
+split zero (t ∷ ts) = Within t ts refl refl refl
+split (suc k) [] = Over refl refl
+split (suc k) (t ∷ ts) = go (split k ts)
+  where
+    go : Split k ts → Split (suc k) (t ∷ ts)
+    go (Over e f) = Over e f
+    go (Within x rest e f g) = Within x rest e f g
+
+crossed-polls : (m : Option Spoken) (heard : Heard) → Crosses m heard → one_if (of_arrived frame_poll (arrival heard)) ≤ poll_in m
+crossed-polls m Nothing c = omega arith
+crossed-polls m (Lost s) c = omega arith
+crossed-polls None (Passed s) c = absurd c
+crossed-polls (Some slot) (Passed s) c = omega (arith, ap one_if (arrives-flag frame_poll s ∙ ap (of_frame frame_poll) c.0))
+crossed-polls m Chance c = omega arith
+
+pub heard-sent : (delay : Role → ℕ) (d n : ℕ) (ts : List Turn) (role : Role) → delay (other role) ≡ d → 1 ≤ d → IsCarried delay ts → polls_heard n role ts ≤ polls_sent n (other role) (drop d ts)
+heard-sent delay zero n ts role e some c = absurd (omega (arith, some))
+heard-sent delay (suc d) zero ts role e some c = omega arith
+heard-sent delay (suc d) (suc n) [] role e some c = omega arith
+heard-sent delay (suc d) (suc n) (t ∷ ts) role e some c = go (split d ts) (heard-sent delay (suc d) n ts role e some c.1)
+  where
+    now : one_if (of_arrived frame_poll (arrival (of role t).heard)) ≤ poll_in (sent_in (other role) (slice_get ts d))
+    now = subst (λ k. one_if (of_arrived frame_poll (arrival (of role t).heard)) ≤ poll_in (sent_in (other role) (slice_get ts k))) less (crossed-polls (sent_ago (delay (other role)) (other role) ts) (of role t).heard (c.0 role))
+      where
+        less : delay (other role) - 1 ≡ d
+        less = omega (arith, e)
+
+    go : Split d ts → polls_heard n role ts ≤ polls_sent n (other role) (drop (suc d) ts) → one_if (of_arrived frame_poll (arrival (of role t).heard)) + polls_heard n role ts ≤ polls_sent (suc n) (other role) (drop d ts)
+    go (Within x rest f g h) less =
+        omega (arith, now, less, ap (λ m. poll_in (sent_in (other role) m)) g, ap (polls_sent (suc n) (other role)) f, ap (polls_sent n (other role)) h)
+    go (Over f g) less = omega (arith, now, less, gone d ts f, ap (polls_sent n (other role)) g, none-sent n)
+      where
+        none-sent : (m : ℕ) → polls_sent m (other role) [] ≡ 0
+        none-sent zero = refl
+        none-sent (suc m) = refl
+
+        gone : (k : ℕ) (m : List Turn) → drop k m ≡ [] → poll_in (sent_in (other role) (slice_get m k)) ≡ 0
+        gone zero [] p = refl
+        gone zero (x ∷ m) p = cc
+        gone (suc k) [] p = refl
+        gone (suc k) (x ∷ m) p = gone k m p
+
+-- a run's beginning is a run
+pub before-run : (n : ℕ) (link : Link) (ts : List Turn) (ends : Ends) → RunOf link ts ends → (first : Ends) × RunOf link (drop n ts) first
+before-run zero link ts ends run = (ends, run)
+before-run (suc n) link [] ends run = (ends, run)
+before-run (suc n) link (t ∷ ts) ends (before, run, g) = before-run n link ts before run
+
+pub before-carried : (n : ℕ) (delay : Role → ℕ) (ts : List Turn) → IsCarried delay ts → IsCarried delay (drop n ts)
+before-carried zero delay ts c = c
+before-carried (suc n) delay [] c = c
+before-carried (suc n) delay (t ∷ ts) c = before-carried n delay ts c.1
+
+-- So few polls are heard in so many turns.
+pub few-heard : (tries period : ℕ) (delay : Role → ℕ) (link : Link) (n : ℕ) (ts : List Turn) (ends : Ends) (role : Role) → KeepsTime tries period delay link → NeverBusy link → RunOf link ts ends → IsCarried delay ts
+    → 19 * polls_heard n role ts ≤ n + 38
+few-heard tries period delay link n ts ends role k nb run c =
+    let d : ℕ = delay (other role) in
+    let first = before-run d link ts ends run in
+    let sent = few-sent tries period delay link n (drop d ts) first.0 (other role) k nb first.1 (before-carried d delay ts c) in
+    let heard = heard-sent delay d n ts role refl (k.delays (other role)) c in
+    omega (arith, sent, heard)
