@@ -1,24 +1,21 @@
 -- The front of an end that isn't whole advances within the turns of one segment, or the run ends.
-use Rattle.std.proofs.Common.{◌≡◌, ℕ, suc, ◌+◌, ◌-◌, ◌*◌, ◌<◌, ◌≤◌, ◌&&◌, ◌||◌, ◌⊎◌, not, Bool, true, false, cond, nat_lt, List, [], ◌∷◌, ◌++◌, length, inl, inr, arith, refl, sym, ◌∙◌, ap, subst, Option, Some, None}
+use Rattle.std.proofs.Common.{◌≡◌, ℕ, suc, ◌+◌, ◌-◌, ◌*◌, ◌<◌, ◌≤◌, ◌||◌, ◌⊎◌, Bool, true, false, cond, nat_lt, List, [], ◌∷◌, ◌++◌, length, inl, inr, arith, refl, sym, ◌∙◌, ap, subst, Option, Some, None}
 use Rattle.std.proofs.lemmas.Bool.Decides.{nat_tests}
 use Rattle.roles.specs.declared.role.Role.{Role}
 use Rattle.roles.specs.declared.role.Role.TheVariants.{Originator, Answerer}
 use Rattle.roles.specs.Role.{is_originator}
 use Rattle.roles.specs.Both.{of}
-use Rattle.lapm_sender.specs.Outgoing.{Outgoing, is_outstanding, is_whole}
-use Rattle.link_account.specs.declared.phase.Phase.{Phase}
+use Rattle.lapm_sender.specs.Outgoing.{Outgoing, is_whole}
 use Rattle.link_account.specs.declared.phase.Phase.TheVariants.{Connected}
 use Rattle.link_account.specs.Account.{Account}
-use Rattle.link_account.specs.Speak.{Said}
 use Rattle.link_run.specs.End.{User, is_released}
 use Rattle.link_run.specs.Run.{Link, Ends, Turn, GoingTurn, RunOf, arrival}
 use Rattle.link_run.specs.Carried.{IsCarried}
 use Rattle.turn_bound.specs.Time.{KeepsTime}
 use Rattle.turn_bound.specs.Due.{NoneDue}
 use Rattle.turn_bound.specs.Advance.{NeverBusy, MaySend, GoesOn, AdvancesSoon}
-use Rattle.turn_bound.proofs.Clock.{Rates, rates, AreRates, Ticks, left, is_waiting, Sends, is_free, lasts, one_if, worth, sender_value}
+use Rattle.turn_bound.proofs.Clock.{Rates, rates, AreRates, Ticks, left, is_waiting, Sends, is_free, lasts, one_if, sender_value}
 use Rattle.turn_bound.proofs.Arithmetic.{cond-le}
-use Rattle.turn_bound.proofs.Run.{served_account}
 use Rattle.turn_bound.proofs.Value.{Stands}
 use Rattle.turn_bound.proofs.Falls.{Offered, end-turn}
 use Rattle.turn_bound.proofs.Ending.{own-offered}
@@ -29,6 +26,7 @@ use Rattle.turn_bound.proofs.Bounding.{at-once-always}
 use Rattle.turn_bound.proofs.Credits.{held_value, held-most, frame_poll}
 use Rattle.turn_bound.proofs.Taking.{may_send_at}
 use Rattle.turn_bound.proofs.HeldTurn.{Linking, Linger, lingers}
+use Rattle.turn_bound.proofs.Wholeness.{late-whole}
 use Rattle.turn_bound.proofs.CalmRuns.{said-speaks, EndAt, end-at, never-at, light-arrival, Unpaused, calm-run, going-run, polls_heard, few-heard}
 
 -- the run behind later turns is one run
@@ -240,3 +238,15 @@ advances-linked tries period delay link ts (t ∷ us) before after role k n run 
         let l = linking tries period delay link ts us before ends role k n run m goes c.1 linked in
         let x = lingers-in tries period delay link (us ++ ts) ends t after role (length (of role after).outgoing.pieces) k n so-far c g l phase (own-offered (of role after)) in
         x.0.unwhole unwhole
+
+pub advances-soon-always : AdvancesSoon
+advances-soon-always tries period delay link ts us before after role k n run m goes c unwhole same = go (is_released (of role after).phase) refl
+  where
+    all : RunOf link (us ++ ts) after
+    all = joins link ts us before after run goes
+
+    go : (r : Bool) → is_released (of role after).phase ≡ r → length us < 2 * (tries + 2) * period
+    go true e = let wrong : true ≡ false = sym (late-whole tries period delay link (us ++ ts) after role k n all c e) ∙ unwhole in cc
+    go false e =
+        advances-linked tries period delay link ts us before after role k n run m goes c
+        (only-linked (of role after).phase (begun-on delay link ts us before after role n run goes c (ap is_begun m.connected)) e) unwhole same

@@ -1,19 +1,16 @@
 -- What holds all through a run where no user is busy.
-use Rattle.std.proofs.Common.{◌≡◌, ℕ, zero, suc, ◌+◌, ◌-◌, ◌*◌, ◌≤◌, ◌&&◌, ◌⊎◌, Bool, true, false, cond, List, [], ◌∷◌, ◌++◌, drop, map, length, inl, inr, arith, refl, sym, ◌∙◌, ap, subst, Option, Some, None, Result, Ok, Err}
+use Rattle.std.proofs.Common.{◌≡◌, ℕ, zero, suc, ◌+◌, ◌-◌, ◌*◌, ◌≤◌, Bool, true, false, List, [], ◌∷◌, drop, map, length, arith, refl, sym, ◌∙◌, ap, subst, Option, Some, None, Result, Ok, Err}
 use Rattle.std.specs.Prelude.{slice_get}
 use Rattle.std.specs.List.{AllByRecursion}
 use Rattle.roles.specs.declared.role.Role.{Role}
 use Rattle.roles.specs.declared.role.Role.TheVariants.{Originator, Answerer}
 use Rattle.roles.specs.Role.{other}
 use Rattle.roles.specs.Both.{of}
-use Rattle.slot_contents.specs.declared.sent.Sent.{Sent}
 use Rattle.slot_contents.specs.declared.heard.Heard.{Heard}
 use Rattle.slot_contents.specs.declared.heard.Heard.TheVariants.{Nothing, Passed, Lost, Chance}
 use Rattle.link_account.specs.declared.fault.LinkFault.{LinkFault}
 use Rattle.link_account.specs.Account.{Account, is_connected}
-use Rattle.link_account.specs.Hear.{hear}
 use Rattle.link_account.specs.Speak.{Said, speak}
-use Rattle.link_account.specs.Play.{arrives}
 use Rattle.link_run.specs.End.{User, BusyLine, is_busy, is_released}
 use Rattle.link_run.specs.Run.{Link, Ends, Spoken, Turn, GoingTurn, RunOf, said_at, served_at, releases, arrival}
 use Rattle.link_run.specs.Run as runs
@@ -23,7 +20,7 @@ use Rattle.turn_bound.specs.Advance.{NeverBusy}
 use Rattle.turn_bound.proofs.Clock.{Rates, rates, AreRates, one_if}
 use Rattle.turn_bound.proofs.Value.{IsOf, Stands, weight, rnrs, arrived_weight, arrived_rnrs}
 use Rattle.turn_bound.proofs.Run.{served_account}
-use Rattle.turn_bound.proofs.Serving.{Served, serves-all}
+use Rattle.turn_bound.proofs.Serving.{serves-all}
 use Rattle.turn_bound.proofs.Falls.{Fits, Sound}
 use Rattle.turn_bound.proofs.Ending.{fits, sound-run}
 use Rattle.turn_bound.proofs.Tied.{Tied, tied, keeps, link_of, turn_of, state_of, turns-length}
@@ -33,8 +30,8 @@ use Rattle.turn_bound.proofs.MeetHear.{is_begun, of_frame, of_arrived}
 use Rattle.turn_bound.proofs.MeetSpeak.{speaks-so}
 use Rattle.turn_bound.proofs.Meeting.{arrives-flag, s-ok}
 use Rattle.turn_bound.proofs.Credits.{frame_poll, poll_value, poll-most}
-use Rattle.turn_bound.proofs.Polling.{nineteen_if, polls}
-use Rattle.turn_bound.proofs.Pausing.{Goes, goes-on, Calm, says-calm}
+use Rattle.turn_bound.proofs.Polling.{nineteen_if}
+use Rattle.turn_bound.proofs.Pausing.{goes-on, says-calm}
 use Rattle.turn_bound.proofs.Polled.{poll-turn}
 
 -- an end speaks, told to release or not

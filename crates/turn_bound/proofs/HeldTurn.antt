@@ -1,10 +1,10 @@
 -- A turn of an end that stays Connected, where no user is busy.
-use Rattle.std.proofs.Common.{◌≡◌, ℕ, ◌+◌, ◌*◌, ◌<◌, ◌≤◌, ◌&&◌, ◌||◌, ◌⊎◌, not, nat_eq, nat_lt, Bool, true, false, cond, length, inl, inr, arith, refl, sym, ◌∙◌, ap, subst, Option, Some, None, Result, Ok, Err}
+use Rattle.std.proofs.Common.{◌≡◌, ℕ, ◌+◌, ◌*◌, ◌<◌, ◌≤◌, ◌&&◌, ◌||◌, ◌⊎◌, not, nat_eq, nat_lt, Bool, true, false, cond, length, inl, inr, arith, refl, sym, ◌∙◌, ap, subst, Option, Some, None, Ok}
 use Rattle.std.specs.Prelude.{is_some}
 use Rattle.std.proofs.lemmas.Bool.Decides.{nat_tests}
 use Rattle.roles.specs.declared.role.Role.{Role}
 use Rattle.roles.specs.Role.{is_originator}
-use Rattle.lapm_sender.specs.Outgoing.{Outgoing, wanted, is_whole}
+use Rattle.lapm_sender.specs.Outgoing.{wanted, is_whole}
 use Rattle.slot_contents.specs.declared.arrived.Arrived.{Arrived}
 use Rattle.link_account.specs.declared.phase.Phase.TheVariants.{Connected, Closed}
 use Rattle.link_account.specs.Account.{Account, is_connected}
@@ -24,10 +24,10 @@ use Rattle.turn_bound.proofs.OneTurn.{heard-ok}
 use Rattle.turn_bound.proofs.StillTurn.{Stays, stays, Spoke, spoke, stand-linked, linked-stand}
 use Rattle.turn_bound.proofs.MeetHear.{of_arrived}
 use Rattle.turn_bound.proofs.Credits.{own_value, held_value, frame_poll}
-use Rattle.turn_bound.proofs.Taking.{owed_by, may_send_at, TakesNumber, Takes, takes, takes-ok}
+use Rattle.turn_bound.proofs.Taking.{owed_by, may_send_at, TakesNumber, Takes, Closes, takes, takes-ok}
 use Rattle.turn_bound.proofs.Asking.{served-own, served-owes}
 use Rattle.turn_bound.proofs.Pausing.{Calm, says-calm}
-use Rattle.turn_bound.proofs.Holding.{TicksOnly, ticks-only, Ready, base_value, Pays, Replies, Much, Srejs, Held, Goes, steps-go}
+use Rattle.turn_bound.proofs.Holding.{TicksOnly, ticks-only, Ready, base_value, Pays, Replies, Much, Srejs, Goes, steps-go}
 
 -- an end between turns that is Connected and may send
 pub record Linking (z : Rates) (turn : ℕ) (role : Role) (a : Account) : Type 0 where
@@ -62,12 +62,12 @@ heard-value z total turn a b y s all (inl n) =
     (omega (arith, h.falls, ap (sender_value z total turn b.outgoing) n.1), n.0.front_low)
 heard-value z total turn a b y s all (inr n) = (
   omega (
-      arith,
-      ap (sender_value z total turn b.outgoing) n.1,
-      ap (λ o. sender_value z total turn o a.wait.timer) n.0,
-      ap (λ o. ends z.room (is_waiting a.outgoing) (is_waiting o)) n.0,
-      ends-same z.room (is_waiting a.outgoing),
-    ),
+    arith,
+    ap (sender_value z total turn b.outgoing) n.1,
+    ap (λ o. sender_value z total turn o a.wait.timer) n.0,
+    ap (λ o. ends z.room (is_waiting a.outgoing) (is_waiting o)) n.0,
+    ends-same z.room (is_waiting a.outgoing),
+  ),
   omega (arith, ap (λ o. o.front) n.0),
 )
 
@@ -118,8 +118,8 @@ lingers z total user turn role arrived a mid released release said y l calm ligh
     front-said : said.account.outgoing.front ≡ b.outgoing.front
     front-said = ap (λ m. m.1) c.0
 
-    closed : mid.phase ≡ Closed → ⊥
-    closed e = let wrong : Closed ≡ Connected = sym e ∙ s.mid_phase in cc
+    closed : Closes a mid → ⊥
+    closed e = let wrong : Closed ≡ Connected = sym e.phase ∙ s.mid_phase in cc
 
     may-said : Takes turn polled a mid → may_send_at said.account ≡ true
     may-said t = or-numbered (is_originator a.setup.role) (is_originator said.account.setup.role) a.numbered said.account.numbered
@@ -263,6 +263,6 @@ lingers z total user turn role arrived a mid released release said y l calm ligh
         on false e t idle less = holds t e less
         on true e t idle less = inl (p.stepped.waits (timed-waits ∙ (sym same-waits ∙ e)))
 
-    result : (mid.phase ≡ Closed) ⊎ ((mid.phase ≡ Connected) × Takes turn polled a mid) → Linger z total turn polled a said.account
+    result : Closes a mid ⊎ ((mid.phase ≡ Connected) × Takes turn polled a mid) → Linger z total turn polled a said.account
     result (inl e) = absurd (closed e)
     result (inr t) = linger t.1

@@ -1,21 +1,19 @@
 -- A Connected end with a segment to send and nothing outstanding sends it, or something else goes first that it pays for.
-use Rattle.std.proofs.Common.{◌≡◌, ℕ, ◌+◌, ◌-◌, ◌%◌, ◌<◌, ◌≤◌, ◌&&◌, ◌||◌, ◌⊎◌, not, min, Bool, true, false, cond, nat_eq, nat_lt, List, [], ◌∷◌, ◌++◌, length, slice_index_or, inl, inr, arith, refl, sym, ◌∙◌, ap, subst, Option, Some, None, Result, Ok, Err}
+use Rattle.std.proofs.Common.{◌≡◌, ℕ, ◌+◌, ◌-◌, ◌%◌, ◌<◌, ◌≤◌, ◌&&◌, ◌||◌, ◌⊎◌, min, Bool, true, false, cond, nat_eq, nat_lt, List, [], ◌∷◌, ◌++◌, length, slice_index_or, inl, inr, arith, refl, sym, ◌∙◌, ap, Option, Some, None, Ok}
 use Rattle.std.specs.Prelude.{is_some}
 use Rattle.std.specs.List.{AllByRecursion}
 use Rattle.std.proofs.lemmas.Bool.Decides.{nat_tests}
-use Rattle.roles.specs.declared.role.Role.{Role}
 use Rattle.roles.specs.Role.{is_originator}
 use Rattle.lapm_sender.specs.Outgoing.{Outgoing, is_outstanding, next_number, next_among, expired}
 use Rattle.lapm_receiver.specs.Held.{first_outside, missing_from}
 use Rattle.lapm_receiver.specs.Incoming.{Incoming, asks}
 use Rattle.break_signals.specs.declared.word.BreakWord.{BreakWord}
 use Rattle.break_signals.specs.declared.word.BreakWord.TheVariants.{Brk}
-use Rattle.break_signals.specs.Breaks.{OwnBreaks, own_due, waits, ticked}
-use Rattle.link_account.specs.declared.fault.LinkFault.{LinkFault}
+use Rattle.break_signals.specs.Breaks.{OwnBreaks, waits, ticked}
 use Rattle.link_account.specs.Account.{Account}
 use Rattle.link_account.specs.declared.answer.Answer.{Answer}
-use Rattle.link_account.specs.Speak.{Said, else_says, where_says, answering, polling, timer_expires, on_timer, breaking, on_break_timer, may_send, says_segment, says_own, says_break, says_asking, step1, step2, step3, step4, step5, step6, step7, step8, step9, steps, tells, differs, then_tries}
-use Rattle.turn_bound.proofs.Clock.{Rates, AreRates, is_waiting, IsChosen, Sends, Breaks}
+use Rattle.link_account.specs.Speak.{Said, answering, polling, timer_expires, on_timer, breaking, may_send, says_segment, says_own, says_break, says_asking, step1, step2, step3, step4, step5, step6, step7, steps, tells, differs, then_tries}
+use Rattle.turn_bound.proofs.Clock.{Rates, AreRates, is_waiting, IsChosen, Sends}
 use Rattle.turn_bound.proofs.Value.{IsOf}
 use Rattle.turn_bound.proofs.Sending.{sent-well}
 use Rattle.turn_bound.proofs.Speaking.{AllSaid}

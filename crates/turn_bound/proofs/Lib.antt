@@ -38,6 +38,7 @@ mod Holding
 mod HeldTurn
 mod Polled
 mod CalmRuns
+mod Wholeness
 mod Advancing
 mod Counted
 mod Bounding

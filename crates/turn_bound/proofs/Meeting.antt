@@ -71,7 +71,7 @@ pub record Meets (s : State) : Type 0 where
   pub awaits : s.orig.phase ≡ Connected → s.answ.numbered ≡ false → s.orig.outgoing.awaited ≡ true
 
 -- an answerer that is told to release is closed
-released-closed : (z : Rates) (before turn : ℕ) (p : Phase) (a : Account) → Stands z before turn Answerer p a → is_released p ≡ true → is_closed p ≡ true
+pub released-closed : (z : Rates) (before turn : ℕ) (p : Phase) (a : Account) → Stands z before turn Answerer p a → is_released p ≡ true → is_closed p ≡ true
 released-closed z before turn Detecting a h e = cc
 released-closed z before turn Negotiating a h e = cc
 released-closed z before turn Establishing a h e = cc

@@ -1,5 +1,5 @@
 -- Where no user is busy no end tells that it is, and none counts the other as busy.
-use Rattle.std.proofs.Common.{◌≡◌, ℕ, ◌+◌, ◌-◌, ◌*◌, ◌≤◌, ◌&&◌, ◌||◌, not, Bool, true, false, cond, nat_eq, nat_le, List, [], ◌∷◌, arith, refl, sym, ◌∙◌, ap, subst, Option, Some, None, Result, Ok, Err}
+use Rattle.std.proofs.Common.{◌≡◌, ℕ, ◌+◌, ◌-◌, ◌*◌, ◌&&◌, ◌||◌, Bool, true, false, cond, nat_eq, nat_le, List, [], ◌∷◌, arith, refl, sym, ◌∙◌, ap, subst, Option, Some, None, Result, Ok, Err}
 use Rattle.std.specs.Option.{option_map}
 use Rattle.roles.specs.declared.role.Role.{Role}
 use Rattle.roles.specs.declared.role.Role.TheVariants.{Originator, Answerer}
@@ -10,7 +10,7 @@ use Rattle.xid_params.specs.declared.offer.Offer.{Offer}
 use Rattle.xid_params.specs.Offers.{offer_in, written}
 use Rattle.lapm_sender.specs.Meant.{meant}
 use Rattle.lapm_sender.specs.Numbers.{with_number}
-use Rattle.lapm_sender.specs.Outgoing.{Outgoing, is_outstanding, acknowledged, rejected, replied, advanced, resumed, sent_among, expired}
+use Rattle.lapm_sender.specs.Outgoing.{Outgoing, is_outstanding, acknowledged, rejected, replied, advanced, resumed, sent_among}
 use Rattle.lapm_receiver.specs.Incoming.{asks}
 use Rattle.break_signals.specs.declared.word.BreakWord.{BreakWord}
 use Rattle.break_signals.specs.declared.word.BreakWord.TheVariants.{Brk, Ack}
@@ -42,6 +42,8 @@ use Rattle.turn_bound.proofs.Credits.{frame_poll}
 pub record Goes (a b : Account) : Type 0 where
   pub begun : is_begun a.phase ≡ true → is_begun b.phase ≡ true
   pub released : is_released a.phase ≡ true → is_released b.phase ≡ true
+  pub early : is_begun a.phase ≡ false → is_released b.phase ≡ false
+  pub late : is_released a.phase ≡ true → b.outgoing ≡ a.outgoing
   pub paused : a.outgoing.paused ≡ false → b.outgoing.paused ≡ false
   pub told : b.owes.busy_told ≡ a.owes.busy_told
 
@@ -49,14 +51,29 @@ abbrev pub HearsOn : Account → Result Account LinkFault → Type 0
 HearsOn a (Err fault) = Unit {0}
 HearsOn a (Ok b) = Goes a b
 
+unbegun : (p : Phase) → is_begun p ≡ false → is_released p ≡ false
+unbegun Detecting e = refl
+unbegun Negotiating e = refl
+unbegun Establishing e = refl
+unbegun Connected e = cc
+unbegun Releasing e = cc
+unbegun Closed e = cc
+
+-- from Connected
+linked-begun : (a : Account) → a.phase ≡ Connected → is_begun a.phase ≡ false → ⊥
+linked-begun a e h = let wrong : true ≡ false = sym (ap is_begun e) ∙ h in cc
+
+linked-open : (a : Account) → a.phase ≡ Connected → is_released a.phase ≡ true → ⊥
+linked-open a e h = let wrong : false ≡ true = sym (ap is_released e) ∙ h in cc
+
 -- a number is heard at a Connected end
 goes-number : (turn nr : ℕ) (a : Account) (f : Account → Account) (m : Option Outgoing) → ((b : Account) → ((f b).phase ≡ b.phase) × ((f b).owes.busy_told ≡ b.owes.busy_told) × ((f b).outgoing ≡ b.outgoing))
-    → ((o : Outgoing) → m ≡ Some o → a.outgoing.paused ≡ false → o.paused ≡ false) → HearsOn a (then_in f (on_number turn nr m a))
-goes-number turn nr a f None same k = tt
-goes-number turn nr a f (Some o) same k =
+    → ((o : Outgoing) → m ≡ Some o → a.outgoing.paused ≡ false → o.paused ≡ false) → a.phase ≡ Connected → HearsOn a (then_in f (on_number turn nr m a))
+goes-number turn nr a f None same k e = tt
+goes-number turn nr a f (Some o) same k e =
     let b : Account = record a { numbered = true; outgoing = o; wait = record a.wait { timer = timer_after turn a.outgoing o a.wait.timer } } in
     let s = same b in
-    record { begun = λ h. ap is_begun s.0 ∙ h; released = λ h. ap is_released s.0 ∙ h; paused = λ h. ap (λ x. x.paused) s.2 ∙ k o refl h; told = s.1 }
+    record { begun = λ h. ap is_begun s.0 ∙ h; released = λ h. ap is_released s.0 ∙ h; early = λ h. absurd (linked-begun a e h); late = λ h. absurd (linked-open a e h); paused = λ h. ap (λ x. x.paused) s.2 ∙ k o refl h; told = s.1 }
 
 made-paused : (p : Outgoing) (made : ℕ → Outgoing) (m : Option ℕ) (o : Outgoing) → option_map made m ≡ Some o → ((n : ℕ) → (made n).paused ≡ p.paused) → p.paused ≡ false → o.paused ≡ false
 made-paused p made None o e h f = cc
@@ -71,18 +88,18 @@ resumed-paused (Some p) o e = let same : resumed p ≡ o = cc in ap (λ x. x.pau
     by false f = f
 
 same-goes : (a b : Account) → b.phase ≡ a.phase → b.owes.busy_told ≡ a.owes.busy_told → b.outgoing ≡ a.outgoing → Goes a b
-same-goes a b p t o = record { begun = λ h. ap is_begun p ∙ h; released = λ h. ap is_released p ∙ h; paused = λ h. ap (λ x. x.paused) o ∙ h; told = t }
+same-goes a b p t o = record { begun = λ h. ap is_begun p ∙ h; released = λ h. ap is_released p ∙ h; early = λ h. ap is_released p ∙ unbegun a.phase h; late = λ h. o; paused = λ h. ap (λ x. x.paused) o ∙ h; told = t }
 
 goes-connected : (frame : Frame) (turn : ℕ) (a : Account) → a.phase ≡ Connected → frame_rnrs frame ≡ 0 → HearsOn a (on_connected frame turn a)
-goes-connected (I ns nr pf info) turn a e n = goes-number turn nr a (λ b. replying pf (taking ns info b)) (acknowledged nr a.outgoing) (λ b. (refl, refl, refl)) (λ o f. made-paused a.outgoing (advanced a.outgoing) (meant a.outgoing.front a.outgoing.high nr) o f (λ k. refl))
-goes-connected (Rr command nr pf) turn a e n = goes-number turn nr a (λ b. hurrying (ends_wait command pf a) (replying (command && pf) b)) _ (λ b. (refl, refl, refl)) (λ o f h. resumed-paused (cond (ends_wait command pf a) (replied nr a.outgoing) (acknowledged nr a.outgoing)) o f)
+goes-connected (I ns nr pf info) turn a e n = goes-number turn nr a (λ b. replying pf (taking ns info b)) (acknowledged nr a.outgoing) (λ b. (refl, refl, refl)) (λ o f. made-paused a.outgoing (advanced a.outgoing) (meant a.outgoing.front a.outgoing.high nr) o f (λ k. refl)) e
+goes-connected (Rr command nr pf) turn a e n = goes-number turn nr a (λ b. hurrying (ends_wait command pf a) (replying (command && pf) b)) _ (λ b. (refl, refl, refl)) (λ o f h. resumed-paused (cond (ends_wait command pf a) (replied nr a.outgoing) (acknowledged nr a.outgoing)) o f) e
 goes-connected (Rnr command nr pf) turn a e n = absurd (omega (arith, n))
-goes-connected (Rej command nr pf) turn a e n = goes-number turn nr a (λ b. hurrying (ends_wait command pf a) (replying (command && pf) b)) _ (λ b. (refl, refl, refl)) (λ o f h. resumed-paused (cond (ends_wait command pf a) (replied nr a.outgoing) (rejected nr a.outgoing)) o f)
+goes-connected (Rej command nr pf) turn a e n = goes-number turn nr a (λ b. hurrying (ends_wait command pf a) (replying (command && pf) b)) _ (λ b. (refl, refl, refl)) (λ o f h. resumed-paused (cond (ends_wait command pf a) (replied nr a.outgoing) (rejected nr a.outgoing)) o f) e
 goes-connected (Srej command nr pf) turn a e n = go (is_outstanding a.outgoing) (meant a.outgoing.front (a.outgoing.high - 1) nr)
   where
     go : (b : Bool) (m : Option ℕ) → HearsOn a (on_number turn nr (cond b (option_map (λ k. record a.outgoing { chosen = with_number k a.outgoing.chosen }) m) None) a)
     go true None = tt
-    go true (Some k) = record { begun = λ h. h; released = λ h. h; paused = λ h. h; told = refl }
+    go true (Some k) = record { begun = λ h. h; released = λ h. h; early = λ h. absurd (linked-begun a e h); late = λ h. absurd (linked-open a e h); paused = λ h. h; told = refl }
     go false m = tt
 goes-connected (Sabme pf) turn a e n = go (a.numbered || is_originator a.setup.role)
   where
@@ -93,22 +110,22 @@ goes-connected (Disc pf) turn a e n = go a.setup.role
   where
     go : (r : Role) → HearsOn a (on_disc r pf a)
     go Originator = tt
-    go Answerer = record { begun = λ h. refl; released = λ h. refl; paused = λ h. h; told = refl }
+    go Answerer = record { begun = λ h. refl; released = λ h. refl; early = λ h. absurd (linked-begun a e h); late = λ h. absurd (linked-open a e h); paused = λ h. h; told = refl }
 goes-connected (Ua pf) turn a e n = same-goes a a refl refl refl
 goes-connected (Dm pf) turn a e n = tt
 goes-connected (Frmr pf info) turn a e n = tt
 goes-connected (Ui command pf info) turn a e n = go (word_in info)
   where
     go : (w : Result BreakWord BreakFault) → HearsOn a (Ok (on_word turn w a))
-    go (Ok (Brk number length_octet)) = record { begun = λ h. h; released = λ h. h; paused = λ h. h; told = refl }
-    go (Ok (Ack number length_octet)) = record { begun = λ h. h; released = λ h. h; paused = λ h. h; told = refl }
+    go (Ok (Brk number length_octet)) = same-goes a _ refl refl refl
+    go (Ok (Ack number length_octet)) = same-goes a _ refl refl refl
     go (Err fault) = same-goes a a refl refl refl
 goes-connected (Xid command pf info) turn a e n = same-goes a a refl refl refl
 goes-connected (Test command pf info) turn a e n = same-goes a a refl refl refl
 
 -- what only goes on from a phase before Connected
-early-goes : (a b : Account) → is_begun a.phase ≡ false → (a.outgoing.paused ≡ false → b.outgoing.paused ≡ false) → b.owes.busy_told ≡ a.owes.busy_told → Goes a b
-early-goes a b e p t = record { begun = λ h. let wrong : true ≡ false = sym h ∙ e in cc; released = λ h. absurd (none a.phase e h); paused = p; told = t }
+early-goes : (a b : Account) → is_begun a.phase ≡ false → is_released b.phase ≡ false → (a.outgoing.paused ≡ false → b.outgoing.paused ≡ false) → b.owes.busy_told ≡ a.owes.busy_told → Goes a b
+early-goes a b e r p t = record { begun = λ h. let wrong : true ≡ false = sym h ∙ e in cc; released = λ h. absurd (none a.phase e h); early = λ h. r; late = λ h. absurd (none a.phase e h); paused = p; told = t }
   where
     none : (q : Phase) → is_begun q ≡ false → is_released q ≡ true → ⊥
     none Detecting f h = cc
@@ -120,11 +137,11 @@ early-goes a b e p t = record { begun = λ h. let wrong : true ≡ false = sym h
 
 goes-command : (m : Option Offer) (a : Account) → is_begun a.phase ≡ false → Goes a (on_xid_command m a)
 goes-command None a e = same-goes a a refl refl refl
-goes-command (Some offer) a e = early-goes a _ e (λ h. h) refl
+goes-command (Some offer) a e = early-goes a _ e refl (λ h. h) refl
 
 goes-response : (m : Option Offer) (turn : ℕ) (a : Account) → is_begun a.phase ≡ false → Goes a (on_xid_response m turn a)
 goes-response None turn a e = same-goes a a refl refl refl
-goes-response (Some offer) turn a e = early-goes a _ e (λ h. h) refl
+goes-response (Some offer) turn a e = early-goes a _ e refl (λ h. h) refl
 
 goes-frame : (p : Phase) (frame : Frame) (turn : ℕ) (a : Account) → a.phase ≡ p → frame_rnrs frame ≡ 0 → HearsOn a (on_frame p frame turn a)
 goes-frame Detecting frame turn a e n = go a.setup.role frame
@@ -134,7 +151,7 @@ goes-frame Detecting frame turn a e n = go a.setup.role frame
 
     go : (r : Role) (f : Frame) → HearsOn a (on_detecting r f turn a)
     go Answerer (Xid true pf info) = goes-command (offer_in info) a b
-    go Answerer (Sabme pf) = early-goes a _ b (λ h. refl) refl
+    go Answerer (Sabme pf) = early-goes a _ b refl (λ h. refl) refl
     go r f = same-goes a a refl refl refl
 goes-frame Negotiating frame turn a e n = go a.setup.role frame
   where
@@ -145,21 +162,21 @@ goes-frame Negotiating frame turn a e n = go a.setup.role frame
     go Originator (Xid false pf info) = goes-response (offer_in info) turn a b
     go Originator (Dm pf) = tt
     go Answerer (Xid true pf info) = goes-command (offer_in info) a b
-    go Answerer (Sabme pf) = early-goes a _ b (λ h. refl) refl
+    go Answerer (Sabme pf) = early-goes a _ b refl (λ h. refl) refl
     go Answerer (Disc pf) = same-goes a _ refl refl refl
     go r f = same-goes a a refl refl refl
 goes-frame Establishing frame turn a e n = go frame
   where
     go : (f : Frame) → HearsOn a (on_establishing f turn a)
-    go (Ua true) = early-goes a _ (ap is_begun e) (λ h. refl) refl
+    go (Ua true) = early-goes a _ (ap is_begun e) refl (λ h. refl) refl
     go (Dm true) = tt
     go f = same-goes a a refl refl refl
 goes-frame Connected frame turn a e n = goes-connected frame turn a e n
 goes-frame Releasing frame turn a e n = go frame
   where
     go : (f : Frame) → HearsOn a (on_releasing f a)
-    go (Ua true) = record { begun = λ h. refl; released = λ h. refl; paused = λ h. h; told = refl }
-    go (Dm true) = record { begun = λ h. refl; released = λ h. refl; paused = λ h. h; told = refl }
+    go (Ua true) = record { begun = λ h. refl; released = λ h. refl; early = λ h. let wrong : true ≡ false = sym (ap is_begun e) ∙ h in cc; late = λ h. refl; paused = λ h. h; told = refl }
+    go (Dm true) = record { begun = λ h. refl; released = λ h. refl; early = λ h. let wrong : true ≡ false = sym (ap is_begun e) ∙ h in cc; late = λ h. refl; paused = λ h. h; told = refl }
     go f = same-goes a a refl refl refl
 goes-frame Closed frame turn a e n = go frame
   where
@@ -175,7 +192,7 @@ goes-hears (arrivals.Pattern seen) turn a n = go a.phase refl
     go Detecting e = on a.setup.role seen
       where
         on : (r : Role) (s : Seen) → HearsOn a (Ok (on_pattern r s turn a))
-        on Originator Adp = early-goes a _ (ap is_begun e) (λ h. h) refl
+        on Originator Adp = early-goes a _ (ap is_begun e) refl (λ h. h) refl
         on Originator Odp = same-goes a a refl refl refl
         on Answerer Odp = same-goes a _ refl refl refl
         on Answerer Adp = same-goes a a refl refl refl

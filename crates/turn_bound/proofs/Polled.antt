@@ -21,12 +21,12 @@ use Rattle.turn_bound.proofs.Serves.{serves-well}
 use Rattle.turn_bound.proofs.Hearing.{HeardAs}
 use Rattle.turn_bound.proofs.Phases.{hears-well}
 use Rattle.turn_bound.proofs.OneTurn.{heard-ok}
-use Rattle.turn_bound.proofs.StillTurn.{stand-linked, linked-stand}
-use Rattle.turn_bound.proofs.MeetHear.{is_begun, of_frame, of_arrived}
+use Rattle.turn_bound.proofs.StillTurn.{linked-stand}
+use Rattle.turn_bound.proofs.MeetHear.{is_begun, of_arrived}
 use Rattle.turn_bound.proofs.MeetSpeak.{SaysSo, speaks-so}
 use Rattle.turn_bound.proofs.Meeting.{s-ok}
 use Rattle.turn_bound.proofs.Credits.{frame_poll, poll_value, poll-most, timer_value}
-use Rattle.turn_bound.proofs.Taking.{Takes, takes, takes-ok}
+use Rattle.turn_bound.proofs.Taking.{Takes, Closes, takes, takes-ok}
 use Rattle.turn_bound.proofs.Polling.{nineteen_if, polls, heard-polls, SaysRated, linked-rated}
 use Rattle.turn_bound.proofs.Pausing.{Goes, goes-on, says-unpolled, releases-unpolled}
 
@@ -99,8 +99,8 @@ poll-turn z user turn role arrived a mid released release said y k h er light qu
         by (takes-ok turn (of_arrived frame_poll arrived) a mid (hear turn arrived a) hears
         (takes z turn role arrived a (linked-stand z turn turn role a (subst (λ q. Stands z turn turn role q a) e h)) e light quiet))
       where
-        by : (mid.phase ≡ Closed) ⊎ ((mid.phase ≡ Connected) × Takes turn (of_arrived frame_poll arrived) a mid) → poll_value turn mid.phase mid ≤ poll_value turn Connected a
-        by (inl c) = omega (arith, late-none turn mid.phase mid (ap is_released c))
+        by : Closes a mid ⊎ ((mid.phase ≡ Connected) × Takes turn (of_arrived frame_poll arrived) a mid) → poll_value turn mid.phase mid ≤ poll_value turn Connected a
+        by (inl c) = omega (arith, late-none turn mid.phase mid (ap is_released c.phase))
         by (inr t) = omega (arith, heard-polls turn (of_arrived frame_poll arrived) a mid t.1, ap (λ q. poll_value turn q mid) t.0)
     hearing Releasing e = omega (arith, late-none turn mid.phase mid (g.released (ap is_released e)))
     hearing Closed e = omega (arith, late-none turn mid.phase mid (g.released (ap is_released e)))

@@ -1,32 +1,25 @@
 -- An end's polls become due once in a whole period, and so once in nineteen turns.
-use Rattle.std.proofs.Common.{◌≡◌, ℕ, ◌+◌, ◌-◌, ◌*◌, ◌<◌, ◌≤◌, ◌&&◌, ◌||◌, ◌⊎◌, not, min, Bool, true, false, cond, nat_eq, nat_lt, nat_le, List, [], ◌∷◌, length, inl, inr, arith, refl, sym, ◌∙◌, ap, subst, Option, Some, None, Result, Ok, Err}
+use Rattle.std.proofs.Common.{◌≡◌, ℕ, ◌+◌, ◌-◌, ◌≤◌, ◌&&◌, ◌||◌, min, Bool, true, false, cond, nat_eq, nat_lt, inl, inr, arith, refl, ap, Option, Some, None, Result, Ok, Err}
 use Rattle.std.proofs.lemmas.Bool.Decides.{nat_tests}
 use Rattle.roles.specs.declared.role.Role.{Role}
-use Rattle.roles.specs.declared.role.Role.TheVariants.{Originator, Answerer}
 use Rattle.roles.specs.Role.{is_originator}
-use Rattle.lapm_frames.specs.declared.frame.Frame.{Frame}
-use Rattle.lapm_frames.specs.declared.frame.Frame.TheVariants.{Sabme, Disc, Xid}
-use Rattle.xid_params.specs.Offers.{written}
 use Rattle.lapm_sender.specs.Outgoing.{Outgoing, expired}
 use Rattle.lapm_receiver.specs.Incoming.{asks}
 use Rattle.break_signals.specs.declared.word.BreakWord.{BreakWord}
 use Rattle.break_signals.specs.Breaks.{OwnBreaks, own_due, ticked}
 use Rattle.slot_contents.specs.declared.sent.Sent.{Sent}
-use Rattle.slot_contents.specs.declared.sent.Sent.TheVariants as slots
-use Rattle.link_account.specs.declared.phase.Phase.{Phase}
-use Rattle.link_account.specs.declared.phase.Phase.TheVariants.{Detecting, Negotiating, Establishing, Connected, Releasing, Closed}
+use Rattle.link_account.specs.declared.phase.Phase.TheVariants.{Connected}
 use Rattle.link_account.specs.declared.fault.LinkFault.{LinkFault}
-use Rattle.link_account.specs.declared.fault.LinkFault.TheVariants.{NotDetected}
 use Rattle.link_account.specs.Account.{Account}
 use Rattle.link_account.specs.declared.answer.Answer.{Answer}
 use Rattle.link_account.specs.declared.answer.Answer.TheVariants as answers
-use Rattle.link_account.specs.Hear.{trying, timer_after}
-use Rattle.link_account.specs.Speak.{Said, says, says_frame, else_says, where_says, spent, answering, trying_again, tries_frame, u_try, polling, timer_expires, on_timer, breaking, running, nr_of, may_send, says_segment, says_own, says_break, says_asking, step1, step2, step3, step4, step5, step6, step7, step8, step9, steps, tells, ready_frame, differs, after_timers, then_tries, speak_linked, speak, speak_in, speak_detecting, speak_negotiating, speak_releasing}
+use Rattle.link_account.specs.Hear.{timer_after}
+use Rattle.link_account.specs.Speak.{Said, where_says, answering, polling, timer_expires, on_timer, breaking, running, nr_of, may_send, says_segment, says_own, says_break, says_asking, step1, step2, step3, step4, step5, step6, step7, step8, step9, steps, tells, ready_frame, differs, after_timers, then_tries, speak_linked}
 use Rattle.turn_bound.proofs.Clock.{Rates, AreRates, Ticks}
 use Rattle.turn_bound.proofs.Value.{IsOf, Linked}
 use Rattle.turn_bound.proofs.Speaking.{AllSaid, OnOk, else-says, where-says}
 use Rattle.turn_bound.proofs.MeetHear.{of_frame}
-use Rattle.turn_bound.proofs.Credits.{frame_poll, timer_value, poll_value, poll-most}
+use Rattle.turn_bound.proofs.Credits.{frame_poll, timer_value, poll_value}
 use Rattle.turn_bound.proofs.Taking.{TakesNumber, Takes}
 
 abbrev pub nineteen_if : Bool → ℕ

@@ -10,7 +10,7 @@ use Rattle.lapm_frames.specs.declared.frame.Frame.{Frame}
 use Rattle.lapm_frames.specs.declared.frame.Frame.TheVariants.{I, Rr, Rnr, Rej, Srej, Sabme, Disc, Ua, Dm, Frmr, Ui, Xid, Test}
 use Rattle.lapm_sender.specs.Meant.{meant}
 use Rattle.lapm_sender.specs.Numbers.{with_number}
-use Rattle.lapm_sender.specs.Outgoing.{Outgoing, is_outstanding, acknowledged, rejected, replied, advanced, gone_back, wait_ended, resumed, paused_at}
+use Rattle.lapm_sender.specs.Outgoing.{Outgoing, is_outstanding, acknowledged, rejected, replied, advanced, gone_back, wait_ended, resumed}
 use Rattle.lapm_receiver.specs.Incoming.{Incoming, after_kind, kind_of, offset}
 use Rattle.lapm_receiver.specs.declared.took.Took.{Took}
 use Rattle.lapm_receiver.specs.declared.took.Took.TheVariants.{InOrder, Kept, Repeat, Gap}
@@ -24,11 +24,10 @@ use Rattle.slot_contents.specs.declared.arrived.Arrived.TheVariants as arrivals
 use Rattle.link_account.specs.declared.phase.Phase.TheVariants.{Connected, Closed}
 use Rattle.link_account.specs.declared.fault.LinkFault.{LinkFault}
 use Rattle.link_account.specs.Account.{Account}
-use Rattle.link_account.specs.declared.answer.Answer.{Answer}
 use Rattle.link_account.specs.declared.answer.Answer.TheVariants as answers
-use Rattle.link_account.specs.Hear.{hear, on_frame, on_seen, on_connected, on_i, on_ready, on_rnr, on_rej, on_srej, on_sabme, on_disc, on_word, on_number, timer_after, then_in, replying, taking, hurrying, pausing, ends_wait, peer_reset, owing, without_adp}
-use Rattle.turn_bound.proofs.Clock.{Rates, Sends, Breaks}
-use Rattle.turn_bound.proofs.Value.{Linked, two_if, frame_weight, frame_rnrs, arrived_weight, arrived_rnrs}
+use Rattle.link_account.specs.Hear.{hear, on_frame, on_seen, on_connected, on_i, on_ready, on_rej, on_srej, on_sabme, on_disc, on_word, on_number, timer_after, then_in, replying, taking, hurrying, ends_wait, peer_reset, owing, without_adp}
+use Rattle.turn_bound.proofs.Clock.{Rates, Breaks}
+use Rattle.turn_bound.proofs.Value.{Linked, frame_weight, frame_rnrs, arrived_weight, arrived_rnrs}
 use Rattle.turn_bound.proofs.Sender.{Heard, meant-range, heard-advanced, heard-gone_back, heard-wait_ended, heard-resumed, heard-selected}
 use Rattle.turn_bound.proofs.Hearing.{and-true}
 use Rattle.turn_bound.proofs.MeetHear.{of_arrived}
@@ -60,10 +59,16 @@ pub record Takes (turn : ℕ) (polls : Bool) (a b : Account) : Type 0 where
   pub calm : b.incoming.srej ≡ true → is_some b.their_breaks.ack ≡ false → owed_by b ≤ owed_by a
   pub asked : a.owes.reply ≡ false → b.owes.reply ≡ true → (polls ≡ true) × (owed_by b ≤ owed_by a)
 
+-- an answerer is closed
+pub record Closes (a b : Account) : Type 0 where
+  pub phase : b.phase ≡ Closed
+  pub answers : a.setup.role ≡ Answerer
+  pub outgoing : b.outgoing ≡ a.outgoing
+
 -- where the end stays Connected, and else it is closed
 abbrev pub TakesSo : ℕ → Bool → Account → Result Account LinkFault → Type 0
 TakesSo turn polls a (Err fault) = Unit {0}
-TakesSo turn polls a (Ok b) = (b.phase ≡ Closed) ⊎ ((b.phase ≡ Connected) × Takes turn polls a b)
+TakesSo turn polls a (Ok b) = Closes a b ⊎ ((b.phase ≡ Connected) × Takes turn polls a b)
 
 take-owes : (k : Took) (n : ℕ) (info : List ℕ) (i : Incoming) (ack : Option BreakWord)
     → ((after_kind k n info i).srej ≡ i.srej) × (credits.owing (after_kind k n info i) ack ≤ credits.owing i ack + 8) × (i.srej ≡ true → credits.owing (after_kind k n info i) ack ≤ credits.owing i ack)
@@ -297,9 +302,9 @@ takes-sabme turn pf a e = go a.numbered (is_originator a.setup.role) refl refl
           },
         )
 
-takes-disc : (turn : ℕ) (pf : Bool) (a : Account) (r : Role) → TakesSo turn false a (on_disc r pf a)
-takes-disc turn pf a Originator = tt
-takes-disc turn pf a Answerer = inl refl
+takes-disc : (turn : ℕ) (pf : Bool) (a : Account) (r : Role) → a.setup.role ≡ r → TakesSo turn false a (on_disc r pf a)
+takes-disc turn pf a Originator e = tt
+takes-disc turn pf a Answerer e = inl (record { phase = refl; answers = e; outgoing = refl })
 
 -- An own frame is heard: of no weight above two, and no RNR.
 takes-frame : (z : Rates) (turn : ℕ) (role : Role) (frame : Frame) (a : Account) → Linked z turn turn role a → a.phase ≡ Connected → frame_weight frame ≤ 2 → frame_rnrs frame ≡ 0 → TakesSo turn (frame_poll frame) a (on_connected frame turn a)
@@ -310,7 +315,7 @@ takes-frame z turn role (Rnr command nr pf) a h e w n = absurd (omega (arith, n)
 takes-frame z turn role (Rej command nr pf) a h e w n = takes-rej z turn role a command nr pf h e
 takes-frame z turn role (Srej command nr pf) a h e w n = takes-srej z turn role a nr h e
 takes-frame z turn role (Sabme pf) a h e w n = takes-sabme turn pf a e
-takes-frame z turn role (Disc pf) a h e w n = takes-disc turn pf a a.setup.role
+takes-frame z turn role (Disc pf) a h e w n = takes-disc turn pf a a.setup.role refl
 takes-frame z turn role (Ua pf) a h e w n = same-takes turn a e a refl refl refl refl refl refl refl refl refl refl
 takes-frame z turn role (Dm pf) a h e w n = tt
 takes-frame z turn role (Frmr pf info) a h e w n = tt
@@ -341,6 +346,6 @@ takes z turn role arrivals.Nothing a h e w n =
 takes z turn role (arrivals.Pattern seen) a h e w n = subst (λ p. TakesSo turn false a (Ok (on_seen p seen turn a))) (sym e) (same-takes turn a e a refl refl refl refl refl refl refl refl refl refl)
 takes z turn role (arrivals.Frame frame) a h e w n = subst (λ p. TakesSo turn (frame_poll frame) a (on_frame p frame turn a)) (sym e) (takes-frame z turn role frame a h e w n)
 
-pub takes-ok : (turn : ℕ) (polls : Bool) (a mid : Account) (r : Result Account LinkFault) → r ≡ Ok mid → TakesSo turn polls a r → (mid.phase ≡ Closed) ⊎ ((mid.phase ≡ Connected) × Takes turn polls a mid)
+pub takes-ok : (turn : ℕ) (polls : Bool) (a mid : Account) (r : Result Account LinkFault) → r ≡ Ok mid → TakesSo turn polls a r → Closes a mid ⊎ ((mid.phase ≡ Connected) × Takes turn polls a mid)
 takes-ok turn polls a mid (Err fault) e h = cc
-takes-ok turn polls a mid (Ok b) e h = let same : b ≡ mid = cc in subst (λ c. (c.phase ≡ Closed) ⊎ ((c.phase ≡ Connected) × Takes turn polls a c)) same h
+takes-ok turn polls a mid (Ok b) e h = let same : b ≡ mid = cc in subst (λ c. Closes a c ⊎ ((c.phase ≡ Connected) × Takes turn polls a c)) same h

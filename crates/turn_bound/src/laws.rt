@@ -5,6 +5,7 @@ ghost use Rattle.turn_bound.specs.Limits.{NoRunIsLong};
 ghost use Rattle.turn_bound.specs.Together.{StandTogether};
 ghost use Rattle.turn_bound.specs.Spent.{SpendsOnTime};
 ghost use Rattle.turn_bound.specs.Due.{AnswersAtOnce};
+ghost use Rattle.turn_bound.specs.Advance.{AdvancesSoon};
 
 /// A run has at most so many turns: two whole sets of tries and two periods for each segment, each break, each phase, and twice
 /// that for each turn in which a user is busy. Within the limits of scripts and files these are fewer than the turns that an end
@@ -33,4 +34,10 @@ pub fn tries_are_spent_on_time()
 /// Between turns no answer is due, and no F reply until the end is told to release.
 pub fn ends_answer_at_once()
     ensures { AnswersAtOnce }
+{}
+
+/// Where no user is busy, the front of an end that isn't whole advances within the turns of one segment, from where the end may send
+/// or from its last advance, or the run ends.
+pub fn fronts_advance_soon()
+    ensures { AdvancesSoon }
 {}
