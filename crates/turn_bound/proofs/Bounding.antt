@@ -6,7 +6,7 @@ use Rattle.roles.specs.Both.{of}
 use Rattle.link_run.specs.End.{is_released}
 use Rattle.link_run.specs.Run.{Link, Ends, Turn, RunOf, BrokenTurn, IsBroken, served_at, releases}
 use Rattle.link_run.specs.Run as runs
-use Rattle.turn_bound.specs.Bound.{of_both, weight, most_turns, offered_to, EndsSoon, EndsSoonByFiles}
+use Rattle.turn_bound.specs.Bound.{of_both, weight, most_turns, offered_to, EndsSoon, EndsSoonByFiles, EndsSoonByOctets}
 use Rattle.turn_bound.specs.Offered.{HoldsFile, IsWithin, OffersWithin}
 use Rattle.turn_bound.specs.Together.{StandTogether}
 use Rattle.turn_bound.specs.Spent.{IsTimely, SpendsOnTime}
@@ -84,17 +84,20 @@ by-files-always tries period delay link ts ends segments k run c holds =
     let most : most_turns tries period link (offered_to ends) ≤ most_turns tries period link segments = product-most (2 * (tries + 2) * period) (weight link (offered_to ends)) (2 * (tries + 2) * period) (weight link segments) (omega arith) lighter in
     omega (arith, ends-soon-always tries period delay link ts ends k run c, most)
 
-pub no-run-is-long-always : NoRunIsLong
-no-run-is-long-always tries period delay link ts ends k l run c =
-    let w = within-always tries period delay link ts ends k run c in
-    let octets : Role → ℕ = λ role. length (of role link).user.file in
-    let soon = by-files-always tries period delay link ts ends octets k run c (holds w) in
-    let short : period ≤ 256 = omega (arith, k.period_is, l.delays_few Originator, l.delays_few Answerer) in
-    let quota : 2 * (tries + 2) * period ≤ 44 * 256 = product-most (2 * (tries + 2)) period 44 256 (omega (arith, l.tries_few)) short in
-    let heavy : weight link octets ≤ 34834502
-    = omega (arith, l.files_short Originator, l.files_short Answerer, l.breaks_few, l.busy_few, busy-few link.orig.user.busy (l.busy_short Originator), busy-few link.answ.user.busy (l.busy_short Answerer)) in
-    let most : most_turns tries period link octets ≤ 44 * 256 * 34834502 = product-most (2 * (tries + 2) * period) (weight link octets) (44 * 256) 34834502 quota heavy in
-    omega (arith, soon, most)
+pub by-octets-always : EndsSoonByOctets
+by-octets-always tries period delay link ts ends k run c =
+    by-files-always tries period delay link ts ends (λ role. length (of role link).user.file) k run c (holds (within-always tries period delay link ts ends k run c))
   where
     holds : ((role : Role) → IsWithin (of role link).user.file (of role ends).outgoing) → (role : Role) → HoldsFile (of role link).user.file (of role ends).outgoing (length (of role link).user.file)
     holds w role = octets-hold (of role link).user.file (of role ends).outgoing (w role)
+
+pub no-run-is-long-always : NoRunIsLong
+no-run-is-long-always tries period delay link ts ends k l run c =
+    let octets : Role → ℕ = λ role. length (of role link).user.file in
+    let soon = by-octets-always tries period delay link ts ends k run c in
+    let short : period ≤ 256 = omega (arith, k.period_is, l.delays_few Originator, l.delays_few Answerer) in
+    let often : 2 * (tries + 2) * period ≤ 44 * 256 = product-most (2 * (tries + 2)) period 44 256 (omega (arith, l.tries_few)) short in
+    let heavy : weight link octets ≤ 34834502
+    = omega (arith, l.files_short Originator, l.files_short Answerer, l.breaks_few, l.busy_few, busy-few link.orig.user.busy (l.busy_short Originator), busy-few link.answ.user.busy (l.busy_short Answerer)) in
+    let most : most_turns tries period link octets ≤ 44 * 256 * 34834502 = product-most (2 * (tries + 2) * period) (weight link octets) (44 * 256) 34834502 often heavy in
+    omega (arith, soon, most)

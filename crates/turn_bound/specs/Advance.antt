@@ -1,5 +1,5 @@
 -- How soon the front of an end advances.
-use Rattle.std.specs.Prelude.{◌≡◌, ℕ, ◌+◌, ◌*◌, ◌<◌, true, false, List, [], ◌∷◌, ◌++◌, length}
+use Rattle.std.specs.Prelude.{◌≡◌, ℕ, ◌<◌, true, false, List, [], ◌∷◌, ◌++◌, length}
 use Rattle.roles.specs.declared.role.Role.{Role}
 use Rattle.roles.specs.declared.role.Role.TheVariants.{Answerer}
 use Rattle.roles.specs.Both.{of}
@@ -9,6 +9,7 @@ use Rattle.link_account.specs.Account.{Account}
 use Rattle.link_run.specs.Run.{Link, Ends, Turn, GoingTurn, RunOf}
 use Rattle.link_run.specs.Carried.{IsCarried}
 use Rattle.turn_bound.specs.Time.{KeepsTime}
+use Rattle.turn_bound.specs.Bound.{quota}
 
 -- no user asks for a pause
 abbrev pub NeverBusy : Link → Type 0
@@ -24,9 +25,11 @@ abbrev pub GoesOn : Link → List Turn → Ends → List Turn → Ends → Type 
 GoesOn link ts before [] after = after ≡ before
 GoesOn link ts before (t ∷ us) after = (ends : Ends) × GoesOn link ts before us ends × GoingTurn link (us ++ ts) ends t after
 
--- The front of an end that isn't whole advances within the turns of one segment, from where it may send or from its last advance, or the run
--- ends: while it stands where it stood, fewer turns pass.
+-- From where an end may send or from its last advance, its front advances within the turns of one segment, or it is whole, or the run ends:
+-- while the front stands where it stood fewer turns pass.
 abbrev pub AdvancesSoon : Type 0
 AdvancesSoon = (tries period : ℕ) (delay : Role → ℕ) (link : Link) (ts us : List Turn) (before after : Ends) (role : Role)
-    → KeepsTime tries period delay link → NeverBusy link → RunOf link ts before → MaySend (of role before) → GoesOn link ts before us after → IsCarried delay (us ++ ts)
-    → is_whole (of role after).outgoing ≡ false → (of role after).outgoing.front ≡ (of role before).outgoing.front → length us < 2 * (tries + 2) * period
+    → KeepsTime tries period delay link → NeverBusy link → RunOf link ts before → MaySend (of role before)
+    → GoesOn link ts before us after → IsCarried delay (us ++ ts)
+    → is_whole (of role after).outgoing ≡ false → (of role after).outgoing.front ≡ (of role before).outgoing.front
+    → length us < quota tries period

@@ -18,21 +18,32 @@ abbrev pub weight : Link → (Role → ℕ) → ℕ
 weight link segments =
     of_both segments + of_both (λ role. length (of role link).user.breaks) + 2 * of_both (λ role. busy_turns (of role link).user.busy) + 6
 
--- each takes two whole sets of tries and two periods at most
+-- the turns that one of them may take: two whole sets of tries, and a period for each
+abbrev pub quota : ℕ → ℕ → ℕ
+quota tries period = 2 * (tries + 2) * period
+
 abbrev pub most_turns : ℕ → ℕ → Link → (Role → ℕ) → ℕ
-most_turns tries period link segments = 2 * (tries + 2) * period * weight link segments
+most_turns tries period link segments = quota tries period * weight link segments
 
 -- the segments that an end was offered of its user's file
 abbrev pub offered_to : Ends → Role → ℕ
 offered_to ends role = length (of role ends).outgoing.pieces
 
--- A run ends soon: there are fewer turns after which it goes on, by the segments that were offered. So with its last turn it has at most so many.
+-- A run ends soon: there are fewer turns after which it goes on, by the segments that were offered. With its last turn it has so many at most.
 abbrev pub EndsSoon : Type 0
 EndsSoon = (tries period : ℕ) (delay : Role → ℕ) (link : Link) (ts : List Turn) (ends : Ends)
-    → KeepsTime tries period delay link → RunOf link ts ends → IsCarried delay ts → length ts < most_turns tries period link (offered_to ends)
+    → KeepsTime tries period delay link → RunOf link ts ends → IsCarried delay ts
+    → length ts < most_turns tries period link (offered_to ends)
 
--- And by the segments of both files.
+-- By the segments of both files, where these are told.
 abbrev pub EndsSoonByFiles : Type 0
 EndsSoonByFiles = (tries period : ℕ) (delay : Role → ℕ) (link : Link) (ts : List Turn) (ends : Ends) (segments : Role → ℕ)
     → KeepsTime tries period delay link → RunOf link ts ends → IsCarried delay ts
-    → ((role : Role) → HoldsFile (of role link).user.file (of role ends).outgoing (segments role)) → length ts < most_turns tries period link segments
+    → ((role : Role) → HoldsFile (of role link).user.file (of role ends).outgoing (segments role))
+    → length ts < most_turns tries period link segments
+
+-- And by the octets of both files, before any size is agreed: a segment has one at least.
+abbrev pub EndsSoonByOctets : Type 0
+EndsSoonByOctets = (tries period : ℕ) (delay : Role → ℕ) (link : Link) (ts : List Turn) (ends : Ends)
+    → KeepsTime tries period delay link → RunOf link ts ends → IsCarried delay ts
+    → length ts < most_turns tries period link (λ role. length (of role link).user.file)

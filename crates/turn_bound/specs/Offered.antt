@@ -18,4 +18,5 @@ pub record IsWithin (file : List ℕ) (o : Outgoing) : Type 0 where
 
 abbrev pub OffersWithin : Type 0
 OffersWithin = (tries period : ℕ) (delay : Role → ℕ) (link : Link) (ts : List Turn) (ends : Ends)
-    → KeepsTime tries period delay link → RunOf link ts ends → IsCarried delay ts → (role : Role) → IsWithin (of role link).user.file (of role ends).outgoing
+    → KeepsTime tries period delay link → RunOf link ts ends → IsCarried delay ts
+    → (role : Role) → IsWithin (of role link).user.file (of role ends).outgoing

@@ -1,5 +1,5 @@
 //! What holds of each run over a line that carries what is sent, whatever it loses. The functions do nothing: each law is a contract.
-ghost use Rattle.turn_bound.specs.Bound.{EndsSoon, EndsSoonByFiles};
+ghost use Rattle.turn_bound.specs.Bound.{EndsSoon, EndsSoonByFiles, EndsSoonByOctets};
 ghost use Rattle.turn_bound.specs.Offered.{OffersWithin};
 ghost use Rattle.turn_bound.specs.Limits.{NoRunIsLong};
 ghost use Rattle.turn_bound.specs.Together.{StandTogether};
@@ -13,6 +13,7 @@ ghost use Rattle.turn_bound.specs.Advance.{AdvancesSoon};
 pub fn runs_end_soon()
     ensures soon { EndsSoon }
     ensures by_files { EndsSoonByFiles }
+    ensures by_octets { EndsSoonByOctets }
     ensures within_limits { NoRunIsLong }
 {}
 
