@@ -53,7 +53,7 @@ try-spends z turn frame a y k h other = go (nat_eq turn (a.wait.try_set + a.setu
         → BreaksWell z turn a (cond due (cond spent' (Err (spent turn a)) (Ok (tries_frame frame (trying_again turn a)))) (Ok (tries_frame frame a)))
     go false d n e = tt
     go true d false e = tt
-    go true d true e = let o = on-time z (turn + 1) turn a.wait.try_count a.wait.try_set a.setup.tries a.setup.period y h k.tries k.period d e in record { on_time = o.0; began = inr (inr (other, o.1)) }
+    go true d true e = let o = on-time z (turn + 1) turn a.wait.try_count a.wait.try_set a.setup.tries a.setup.period y h k.tries k.period d e in record { segment_is = refl; on_time = o.0; began = inr (inr (other, o.1)) }
 
 linked-spends : (z : Rates) (turn : ℕ) (role : Role) (a : Account) → AreRates z → IsOf z a.setup → Linked z (turn + 1) turn role a → BreaksWell z turn a (speak_linked turn a)
 linked-spends z turn role a y k h = all (then_tries turn (on_timer turn a)) (timers a.wait.timer refl h.sends.ticks)
@@ -62,8 +62,8 @@ linked-spends z turn role a y k h = all (then_tries turn (on_timer turn a)) (tim
     all (Err fault) b = b
     all (Ok c) b = tt
 
-    broke : (c : Account) → c.own_breaks ≡ a.own_breaks → c.setup ≡ a.setup → BreaksWell z turn a (on_break_timer turn c)
-    broke c own setup =
+    broke : (c : Account) → c.own_breaks ≡ a.own_breaks → c.setup ≡ a.setup → c.outgoing.front ≡ a.outgoing.front → BreaksWell z turn a (on_break_timer turn c)
+    broke c own setup front =
         subst (λ m. BreaksWell z turn a (breaking turn m c)) (sym (ap (λ p. ticked turn p c.setup.tries c.own_breaks) (ap (λ s. s.period) setup) ∙ ap (λ n. ticked turn a.setup.period n c.own_breaks) (ap (λ s. s.tries) setup) ∙ ap (ticked turn a.setup.period a.setup.tries) own))
         (by (waits a.own_breaks) refl (nat_eq turn (a.own_breaks.set + a.setup.period)) refl (nat_eq a.own_breaks.count a.setup.tries) refl)
       where
@@ -74,21 +74,21 @@ linked-spends z turn role a y k h = all (then_tries turn (on_timer turn a)) (tim
         by true w true d false e = tt
         by true w true d true e =
             let o = on-time z (turn + 1) turn a.own_breaks.count a.own_breaks.set a.setup.tries a.setup.period y (h.breaks.clock w) k.tries k.period d e in
-            subst (λ s. SpentOnTime z.period z.whole turn a (turn - (s.tries + 1) * s.period)) (sym setup) (record { on_time = o.0; began = inr (inl (w, o.1)) })
+            subst (λ s. SpentOnTime z.period z.whole turn a c.outgoing.front (turn - (s.tries + 1) * s.period)) (sym setup) (record { segment_is = front; on_time = o.0; began = inr (inl (w, o.1)) })
 
     timers : (timer : Option ℕ) → a.wait.timer ≡ timer → Ticks z (turn + 1) turn a.outgoing.count a.wait.timer → BreaksWell z turn a (then_tries turn (cond (timer_expires turn a timer) (polling turn (expired a.outgoing) a) (Ok a)))
-    timers None e t = broke a refl refl
+    timers None e t = broke a refl refl refl
     timers (Some set) e t = by (nat_eq turn (set + a.setup.period)) refl (nat_eq a.outgoing.count a.outgoing.tries) refl
       where
         by : (due : Bool) → nat_eq turn (set + a.setup.period) ≡ due → (spent' : Bool) → nat_eq a.outgoing.count a.outgoing.tries ≡ spent'
             → BreaksWell z turn a (then_tries turn (cond due (polling turn (cond spent' None (Some (record a.outgoing { count = a.outgoing.count + 1; awaited = true }))) a) (Ok a)))
-        by false d s f = broke a refl refl
-        by true d false f = broke _ refl refl
+        by false d s f = broke a refl refl refl
+        by true d false f = broke _ refl refl refl
         by true d true f =
             let runs : Runs z (turn + 1) turn a.outgoing.count set = subst (Ticks z (turn + 1) turn a.outgoing.count) e t in
             let same : nat_eq a.outgoing.count a.setup.tries ≡ true = ap (λ n. nat_eq a.outgoing.count n) (k.tries ∙ sym h.sends.tries_are) ∙ f in
             let o = on-time z (turn + 1) turn a.outgoing.count set a.setup.tries a.setup.period y runs k.tries k.period d same in
-            record { on_time = o.0; began = inl (set, e, o.1) }
+            record { segment_is = refl; on_time = o.0; began = inl (set, e, o.1) }
 
 -- Speaking: whatever the role and the phase.
 pub speaks-spend : (z : Rates) (turn : ℕ) (role : Role) (p : Phase) (release : Bool) (a : Account) → AreRates z → IsOf z a.setup → Stands z (turn + 1) turn role p a → a.phase ≡ p → a.setup.role ≡ role → BreaksWell z turn a (speak turn release a)

@@ -29,7 +29,8 @@ most_turns tries period link segments = quota tries period * weight link segment
 abbrev pub offered_to : Ends → Role → ℕ
 offered_to ends role = length (of role ends).outgoing.pieces
 
--- A run ends soon: there are fewer turns after which it goes on, by the segments that were offered. With its last turn it has so many at most.
+-- A run ends soon: there are fewer turns after which it goes on, by the segments that were offered. With its last turn it has so many at
+-- most.
 abbrev pub EndsSoon : Type 0
 EndsSoon = (tries period : ℕ) (delay : Role → ℕ) (link : Link) (ts : List Turn) (ends : Ends)
     → KeepsTime tries period delay link → RunOf link ts ends → IsCarried delay ts
