@@ -1,7 +1,7 @@
 -- Outputs that are created in order.
-use Rattle.std.proofs.Common.{◌≢◌, ◌∙◌, inl, inr, ℕ, List, [], ◌∷◌, sym}
+use Rattle.std.proofs.Common.{inl, inr, ℕ, List, [], ◌∷◌, sym}
 use Rattle.outside_core.specs.Folder.{FolderState, GoesOn, KeepsName, OnlyWrites, CountsStand}
-use Rattle.outside_core.specs.Steps.{GoesOn-trans, KeepsName-trans}
+use Rattle.outside_core.specs.Steps.{KeepsName-trans}
 use Rattle.outside_core.specs.declared.folder.FolderFault.{FolderFault}
 use Rattle.outside_core.specs.declared.folder.FolderFault.TheVariants as folder
 use Rattle.command_base.specs.Outputs.{Holds, KeptOrEmpty, KeepsEach, IsNoneOf, CreatesPart, OnlyOutputs}

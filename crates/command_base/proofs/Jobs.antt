@@ -1,6 +1,6 @@
 -- From how a command answers to what every command promises.
-use Rattle.std.proofs.Common.{◌≡◌, ◌≢◌, ◌⊎◌, ◌∙◌, ◌≤◌, inl, inr, ℕ, List, [], ◌∷◌, ◌++◌, Result, Ok, Err, refl, sym, ap, subst, arith}
-use Rattle.outside_core.specs.Folder.{FolderState, GoesOn, KeepsName, Said, Rose, FaultsStand, CountsStand}
+use Rattle.std.proofs.Common.{◌≡◌, ◌≢◌, ◌⊎◌, ◌∙◌, ◌≤◌, inl, inr, ℕ, List, [], ◌∷◌, Result, Ok, Err, refl, sym, subst, arith}
+use Rattle.outside_core.specs.Folder.{FolderState, GoesOn, Said, Rose, CountsStand}
 use Rattle.outside_core.specs.Steps.{KeepsName-trans, Rose-later, FaultsStand-trans, CountsStand-trans}
 use Rattle.outside_core.specs.declared.folder.FolderFault.{FolderFault}
 use Rattle.outside_core.specs.declared.folder.FolderFault.TheVariants as folder
@@ -9,9 +9,9 @@ use Rattle.command_base.specs.declared.status.Status.TheVariants as status
 use Rattle.command_base.specs.declared.stop.Stop.{Stop}
 use Rattle.command_base.specs.declared.stop.Stop.TheVariants.{Own, Read, Write, Say, NoMemory}
 use Rattle.command_base.specs.Status.{IsRefusal, IsFolderFault, PassesNoneOver}
-use Rattle.command_base.specs.Outputs.{KeepsAll, OnlyOutputs}
+use Rattle.command_base.specs.Outputs.{OnlyOutputs}
 use Rattle.command_base.specs.Stops.{SomeRose, IsOwn, ReadFails, WriteFails, SayFails, StopCounts, EndCounts, fault_status, stop_status, end_status}
-use Rattle.command_base.specs.Job.{Job, SaysStop, SaysLast, Answers, Shared}
+use Rattle.command_base.specs.Job.{Job, SaysLast, Answers, Shared}
 use Rattle.command_base.specs.Sound.{NoneRose, IsSound, DoneUnlessMemory}
 use Rattle.command_base.specs.Tells.{Tells}
 use Rattle.command_base.proofs.OnlyOutputs.{OnlyOutputs-refl, OnlyOutputs-says}

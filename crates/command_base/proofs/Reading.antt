@@ -1,5 +1,5 @@
 -- An input that is read on, piece by piece.
-use Rattle.std.proofs.Common.{◌≡◌, ◌∙◌, ℕ, ◌+◌, ◌-◌, ◌≤◌, ◌<◌, min, List, [], ◌++◌, IsTrue, length, take, take-add, drop, refl, sym, ap, subst, arith, length-append, append_assoc}
+use Rattle.std.proofs.Common.{◌≡◌, ◌∙◌, ℕ, ◌+◌, ◌-◌, ◌≤◌, ◌<◌, min, List, [], ◌++◌, IsTrue, length, take, take-add, drop, refl, sym, ap, arith, length-append}
 use Rattle.std.proofs.lemmas.List.{take-append-drop, take_all}
 use Rattle.plain_lists.specs.Prefix.{IsPrefixOf}
 use Rattle.outside_core.specs.Folder.{FolderState, octets_at, GoesOn, KeepsName, OnlyReads}

@@ -5,9 +5,9 @@ ghost use Rattle.command_base.specs.Lines.{status_line, too_long_line};
 ghost use Rattle.command_base.specs.Job.{SaysStop};
 ghost use Rattle.command_base.specs.Tells.{Tells};
 
-use crate::{Status, Stop};
 use crate::lines::write_short;
 use crate::stop::fault_status;
+use crate::{Status, Stop};
 use outside_core::{Folder, FolderFault};
 
 /// Says the line of an answer. A fault then takes the place of the answer.

@@ -1,7 +1,7 @@
 // The lines that answers say, and single steps over a folder in memory.
 use command_base::{
-    Status, append_output, create_output, is_longer, read_file, read_piece, tell_status,
-    write_done, write_octets, write_pieces, write_samples,
+    Status, Stop, append_output, create_output, create_outputs, read_file, read_piece, say_line,
+    tell_stop, within_limit, write_done, write_octets, write_pieces, write_samples, write_usage,
 };
 use lapm_frames::FrameFault;
 use outside_core::{FolderFault, MemoryFolder, NoMemory};
@@ -13,13 +13,20 @@ use std::process::Abort;
 use std::test::Fail;
 use xid_params::XidFault;
 
-fn says(rt: &impl Abort, alloc: Global, status: Status, code: u8, said: &str) -> Result<(), Fail> {
+fn says(
+    rt: &impl Abort,
+    alloc: Global,
+    stop: Stop,
+    status: Status,
+    code: u8,
+    said: &str,
+) -> Result<(), Fail> {
     let words = vec![in alloc;
         String::from_str(alloc, "run")?,
         String::from_str(alloc, "o")?,
     ]?;
     let mut folder = MemoryFolder::new(alloc);
-    assert!(rt; tell_status(&mut folder, &words, status) == status);
+    assert!(rt; tell_stop(&mut folder, &words, stop) == status);
     assert!(rt; status.code() == code);
     assert!(rt; folder.said() == said.as_bytes());
     Ok(())
@@ -45,8 +52,6 @@ fn each_status_says_its_line(rt: HostRuntime) -> Result<(), Fail> {
             "bad xid: repeated at 7\n",
         ),
         (Status::TooLong { word: 1 }, 4, "too long: o\n"),
-        (Status::ReadFault, 5, "read fault\n"),
-        (Status::WriteFault, 6, "write fault\n"),
         (
             Status::LineLost {
                 role: Role::Answerer,
@@ -64,13 +69,49 @@ fn each_status_says_its_line(rt: HostRuntime) -> Result<(), Fail> {
             9,
             "link lost: orig segment 0 turn 120\n",
         ),
-        (Status::NoMemory, 11, "no memory\n"),
     ];
     for (status, code, said) in lines {
-        says(&rt, rt.alloc(), status, code, said)?;
+        says(&rt, rt.alloc(), Stop::Own(status), status, code, said)?;
     }
     assert!(&rt; Status::Done.code() == 0);
     assert!(&rt; Status::Usage.code() == 2);
+    Ok(())
+}
+
+#[test]
+fn each_fault_of_the_folder_says_its_line(rt: HostRuntime) -> Result<(), Fail> {
+    let stops = [
+        (
+            Stop::Read(FolderFault::Failed),
+            Status::ReadFault,
+            5,
+            "read fault\n",
+        ),
+        (
+            Stop::Write(FolderFault::Failed),
+            Status::WriteFault,
+            6,
+            "write fault\n",
+        ),
+        (Stop::Say(FolderFault::Failed), Status::WriteFault, 6, ""),
+        (
+            Stop::Read(FolderFault::NoMemory),
+            Status::NoMemory,
+            11,
+            "no memory\n",
+        ),
+        (
+            Stop::Write(FolderFault::NoMemory),
+            Status::NoMemory,
+            11,
+            "no memory\n",
+        ),
+        (Stop::Say(FolderFault::NoMemory), Status::NoMemory, 11, ""),
+        (Stop::NoMemory, Status::NoMemory, 11, "no memory\n"),
+    ];
+    for (stop, status, code, said) in stops {
+        says(&rt, rt.alloc(), stop, status, code, said)?;
+    }
     Ok(())
 }
 
@@ -80,6 +121,7 @@ fn done_lines_have_their_numbers(rt: HostRuntime) {
     assert!(&rt; write_samples(0).as_slice() == b"samples 0\n".as_slice());
     assert!(&rt; write_octets(64).as_slice() == b"octets 64\n".as_slice());
     assert!(&rt; write_pieces(1).as_slice() == b"pieces 1\n".as_slice());
+    assert!(&rt; write_usage(&["run", "xid"]).as_slice() == b"usage: modem run, xid\n".as_slice());
 }
 
 #[test]
@@ -87,7 +129,7 @@ fn a_fault_in_the_middle_of_a_line_is_the_answer(rt: HostRuntime) -> Result<(), 
     let words = vec![in rt.alloc(); String::from_str(rt.alloc(), "o")?]?;
     let mut folder = MemoryFolder::new(rt.alloc());
     folder.fail_at(&[3])?;
-    let told = tell_status(&mut folder, &words, Status::TooLong { word: 0 });
+    let told = tell_stop(&mut folder, &words, Stop::Own(Status::TooLong { word: 0 }));
     assert!(&rt; told == Status::WriteFault);
     assert!(&rt; folder.said() == b"too long: o".as_slice());
     Ok(())
@@ -97,8 +139,9 @@ fn a_fault_in_the_middle_of_a_line_is_the_answer(rt: HostRuntime) -> Result<(), 
 fn inputs_end_at_their_limit(rt: HostRuntime) -> Result<(), Fail> {
     let mut folder = MemoryFolder::new(rt.alloc());
     folder.put("f", b"abcde")?;
-    assert!(&rt; is_longer(&mut folder, "f", 5) == Ok(false));
-    assert!(&rt; is_longer(&mut folder, "f", 4) == Ok(true));
+    assert!(&rt; within_limit(&mut folder, "f", 5, 1) == Ok(()));
+    let long = Stop::Own(Status::TooLong { word: 1 });
+    assert!(&rt; within_limit(&mut folder, "f", 4, 1) == Err(long));
     let mut piece = [0u8; 3];
     assert!(&rt; read_piece(&mut folder, "f", 4, 2, &mut piece) == Ok(2));
     assert!(&rt; piece == [b'c', b'd', 0]);
@@ -117,6 +160,20 @@ fn outputs_are_made_empty_and_grow(rt: HostRuntime) -> Result<(), Fail> {
     assert!(&rt; create_output(&mut folder, "f") == Ok(()));
     assert!(&rt; append_output(&mut folder, "f", b"xy") == Ok(()));
     assert!(&rt; folder.get("f") == Some(b"xy".as_slice()));
+    assert!(&rt; say_line(&mut folder, b"xy") == Ok(()));
+    assert!(&rt; folder.said() == b"xy".as_slice());
+    Ok(())
+}
+
+#[test]
+fn outputs_are_made_up_to_the_first_that_fails(rt: HostRuntime) -> Result<(), Fail> {
+    let mut folder = MemoryFolder::new(rt.alloc());
+    folder.fail_at(&[2])?;
+    let made = create_outputs(&mut folder, &["a", "b", "c"]);
+    assert!(&rt; made == Err(FolderFault::Failed));
+    assert!(&rt; folder.get("a") == Some(b"".as_slice()));
+    assert!(&rt; folder.get("b").is_none());
+    assert!(&rt; folder.get("c").is_none());
     Ok(())
 }
 

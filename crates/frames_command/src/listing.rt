@@ -70,10 +70,7 @@ fn hear_file<F: Folder>(folder: &mut F, names: &FramesWords<'_>) -> Result<u64, 
 }
 
 /// The file's length is looked at, and its pieces are listed: their number.
-pub(crate) fn list_pieces<F: Folder>(
-    folder: &mut F,
-    names: &FramesWords<'_>,
-) -> Result<u64, Stop>
+pub(crate) fn list_pieces<F: Folder>(folder: &mut F, names: &FramesWords<'_>) -> Result<u64, Stop>
     ensures ends { Ends (F.state folder.old) (F.state folder.new) (named names.now) result }
     ensures only { OnlyOutputs (F.state folder.old) (F.state folder.new) [] }
     ensures counts { EndCounts (F.state folder.old) (F.state folder.new) (names.now.bits.now ∷ []) [] result }

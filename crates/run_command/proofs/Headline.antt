@@ -1,5 +1,5 @@
 -- From how a run ends to the headline.
-use Rattle.std.proofs.Common.{◌≡◌, ◌⊎◌, inl, inr, ℕ, ◌+◌, ◌*◌, ◌<◌, List, [], ◌++◌, IsTrue, Some, Result, Ok, Err, refl, sym, ◌∙◌, ap, subst, arith, append_assoc}
+use Rattle.std.proofs.Common.{◌≡◌, inl, inr, ℕ, ◌+◌, ◌*◌, ◌<◌, List, [], ◌++◌, IsTrue, Some, Result, Ok, Err, refl, sym, ◌∙◌, ap, subst, arith, append_assoc}
 use Rattle.std.specs.Option.{option_map}
 use Rattle.plain_lists.specs.Prefix.{IsPrefixOf}
 use Rattle.outside_core.specs.Folder.{FolderState, octets_at, GoesOn, KeepsName}
@@ -21,7 +21,7 @@ use Rattle.command_base.proofs.Jobs.{IsDone, refusal-own, last-only, done-of, sh
 use Rattle.run_command.specs.declared.limits.TheConstants.{LIMITS}
 use Rattle.run_command.specs.Words.{RunNames, outputs_of}
 use Rattle.run_command.specs.Ends.{EndsDone, EndsLost, EndsInTurn, EndsCreating, EndsBy, Ends, run_job}
-use Rattle.run_command.specs.Headline.{KeptOrPrefix, HoldsWhole, SaysDone, Headline}
+use Rattle.run_command.specs.Headline.{KeptOrPrefix, HoldsWhole, Headline}
 
 -- what a received file holds begins the file that was read
 prefix-of : (old before : FolderState) (got sent file taken : List ℕ) → GoesOn old before → (IsTrue (old.tells sent) → file ≡ octets_at old sent) → Holds before got taken → IsPrefixOf taken file → KeptOrPrefix old before got sent

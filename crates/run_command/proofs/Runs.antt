@@ -1,6 +1,6 @@
 -- From the phases of a run to how it ends.
-use Rattle.std.proofs.Common.{◌≡◌, inl, inr, ◌⊎◌, ℕ, List, [], ◌∷◌, Err, sym, subst, rules, true, refl}
-use Rattle.outside_core.specs.Folder.{FolderState, KeepsName, OnlyReads, CountsStand}
+use Rattle.std.proofs.Common.{◌≡◌, inl, inr, ℕ, List, [], ◌∷◌, Err, sym, rules, true, refl}
+use Rattle.outside_core.specs.Folder.{FolderState, OnlyReads}
 use Rattle.line_world.specs.declared.script.Loss.{Loss}
 use Rattle.line_world.specs.declared.world.RunFault.{RunFault}
 use Rattle.line_world.specs.declared.world.RunFault.TheVariants.{WriteFault, LinkLost, NoMemory}

@@ -10,10 +10,7 @@ use command_base::create_outputs;
 use outside_core::{Folder, FolderFault};
 
 /// The outputs are made, in the order of the words.
-pub(crate) fn create_all<F: Folder>(
-    folder: &mut F,
-    words: &RunWords<'_>,
-) -> Result<(), FolderFault>
+pub(crate) fn create_all<F: Folder>(folder: &mut F, words: &RunWords<'_>) -> Result<(), FolderFault>
     requires { are_apart (named words.now) ≡ true }
     ensures ok { OnOk result (Creates (F.state folder.new) (outputs_of (named words.now))) }
     ensures err { OnErr result (CreatesPart (F.state folder.old) (F.state folder.new) (outputs_of (named words.now))) }

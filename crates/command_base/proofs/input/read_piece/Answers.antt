@@ -1,6 +1,5 @@
 use Rattle.std.proofs.Common.{arith}
 use Rattle.std.proofs.lemmas.List.{length-take-le}
-use Rattle.outside_core.specs.Folder.{FolderState}
 use Rattle.command_base.proofs.Reading.{ReadTo-more, ReadTo-end}
 use Rattle.command_base.proofs.input.read_piece.Goals as goal
 

@@ -1,4 +1,4 @@
-use Rattle.std.proofs.Common.{◌≡◌, ◌∷◌, map, ℕ, List, Bor, IfErr, OnErr, ap, subst, sym}
+use Rattle.std.proofs.Common.{◌≡◌, ◌∷◌, map, ℕ, List, Bor, ap, subst, sym}
 use Rattle.outside_core.specs.Folder.{FolderState}
 use Rattle.outside_core.specs.declared.folder.FolderFault.{FolderFault}
 use Rattle.command_base.specs.Outputs.{AreApart, CreatesPart}

@@ -1,7 +1,5 @@
-use Rattle.std.proofs.Common.{◌≡◌, ◌∙◌, ℕ, List, Some, map, string_bytes, sym, ap}
-use Rattle.std.specs.Option.{option_map}
-use Rattle.outside_core.specs.Folder.{FolderState}
-use Rattle.run_command.specs.Words.{RunNames, names_of as run_names, named}
+use Rattle.std.proofs.Common.{map, string_bytes, sym}
+use Rattle.run_command.specs.Words.{named}
 use Rattle.modem_cli.proofs.Alone.{run-promises, run-answers, run-completes}
 use Rattle.modem_cli.proofs.top.modem.Goals as goal
 

@@ -4,7 +4,6 @@ use Rattle.outside_core.specs.Steps.{CountsStand-trans}
 use Rattle.line_world.specs.declared.script.Loss.{Loss}
 use Rattle.line_world.specs.Run.{Files}
 use Rattle.line_world.specs.World.{Written, AreApart, written, files_of, script_of, HasRunCause}
-use Rattle.command_base.specs.declared.stop.Stop.{Stop}
 use Rattle.command_base.specs.Stops.{StopCounts}
 use Rattle.command_base.proofs.Jobs.{stop-earlier}
 use Rattle.run_command.specs.declared.limits.TheConstants.{LIMITS}
