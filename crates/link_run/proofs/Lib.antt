@@ -22,3 +22,5 @@ mod Declaring
 mod Knowing
 mod Following
 mod Overhearing
+mod Lengths
+mod Sizing

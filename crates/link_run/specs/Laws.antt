@@ -1,5 +1,5 @@
 -- The laws of runs over any line.
-use Rattle.std.specs.Prelude.{◌≡◌, ℕ, ◌-◌, Bool, true, List, [], ◌∷◌, ◌++◌, length, map, is_ok, Option, Some, None}
+use Rattle.std.specs.Prelude.{◌≡◌, ◌≤◌, max, ℕ, ◌-◌, Bool, true, List, [], ◌∷◌, ◌++◌, length, map, is_ok, Option, Some, None}
 use Rattle.std.specs.List.{concat}
 use Rattle.roles.specs.declared.role.Role.{Role}
 use Rattle.roles.specs.declared.role.Role.TheVariants.{Originator}
@@ -7,7 +7,10 @@ use Rattle.roles.specs.Role.{other}
 use Rattle.roles.specs.Both.{Both, of}
 use Rattle.plain_lists.specs.Prefix.{IsPrefixOf}
 use Rattle.xid_params.specs.Terms.{agree}
+use Rattle.lapm_frames.specs.declared.frame.Frame.{Frame}
+use Rattle.lapm_frames.specs.Frame.{information_of}
 use Rattle.slot_contents.specs.declared.sent.Sent.{Sent}
+use Rattle.slot_contents.specs.declared.sent.Sent.TheVariants as slots
 use Rattle.slot_contents.specs.declared.heard.Heard.{Heard}
 use Rattle.link_account.specs.declared.fault.LinkFault.{LinkFault}
 use Rattle.link_account.specs.declared.fault.LinkFault.TheVariants.{NotDetected, Spent, BadAck, PeerReset, PeerRefused}
@@ -144,6 +147,13 @@ TakesWhatPassed = (link : Link) (delay : Role → ℕ) (ts : List Turn) (ends : 
 abbrev pub HearsWhatPassed : Type 0
 HearsWhatPassed = (link : Link) (delay : Role → ℕ) (ts : List Turn) (ends : Ends) (t : Turn) (mid : Ends) → RunsOver link delay ts ends
     → Carries delay ts t → Hears (length ts) ends t mid → (role : Role) → taken_octets (agreed_srej link) delay role (t ∷ ts) ≡ concat (of role mid).incoming.taken
+
+-- The frames that an end sends are short: a segment has at most the octets that the end offers, and every other information at most the 23 octets
+-- of an offer.
+abbrev pub SendsShort : Type 0
+SendsShort = (link : Link) (delay : Role → ℕ) (ts : List Turn) (ends : Ends) (t : Turn) (after : Ends) → RunsOver link delay ts ends
+    → Carries delay ts t → GoingTurn link ts ends t after
+    → (role : Role) (slot : Spoken) (frame : Frame) → (of role t).sent ≡ Some slot → slot.sent ≡ slots.Frame frame → length (information_of frame) ≤ max 23 (of role link).setup.offer.tx_len
 
 -- An end that breaks is the originator, for want of a pattern, or has spent its tries.
 abbrev pub IsNamed : Role → LinkFault → Type 0

@@ -2,7 +2,7 @@
 ghost use Rattle.link_run.specs.Alone.{OneLoneRun, LoneHearingsDeliver, LoneSpeakingTakesNothing, EachLoneTurnIsMade};
 ghost use Rattle.link_run.specs.Laws.{RunsArePlays, HearingsArePlays, TakesPrefixes, HearsPrefixes, DoneIsWhole, HearingsAreWell, BrokenForWant};
 ghost use Rattle.link_run.specs.Laws.{OneRun, OneOutcome, HearingsDeliver, SpeakingTakesNothing, GivesAllBreaks, TakesWhatPassed, HearsWhatPassed};
-ghost use Rattle.link_run.specs.Laws.{EachEndIsNamed, EachTurnIsMade, OffersUntilNoneIsWanted};
+ghost use Rattle.link_run.specs.Laws.{SendsShort, EachEndIsNamed, EachTurnIsMade, OffersUntilNoneIsWanted};
 ghost use Rattle.link_run.specs.Overheard.{OpensByFrames, AgreesByXid, SendsAgreedCheck, HearsAgreedCheck, JudgesByItsCheck, ReleasesLast, EarlyBreaksAreIgnored};
 
 use lapm_receiver::laws::keeps_taken;
@@ -75,6 +75,15 @@ pub fn what_passed_is_taken()
     plays();
     acknowledgements();
     frames_on_the_line();
+}
+
+/// What an end sends has no more information than it offers, or than an offer has.
+pub fn frames_are_short()
+    ensures { SendsShort }
+{
+    reads_allowed();
+    reads_written();
+    keeps_taken();
 }
 
 /// Whatever a line makes of what was sent, there is a next turn, and an end that breaks has spent its tries, or is the originator and saw no pattern.

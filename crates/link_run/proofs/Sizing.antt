@@ -1,0 +1,211 @@
+-- Segments have at most the agreed length, and that is at most what their sender offers.
+use Rattle.std.proofs.Common.{◌≡◌, ◌≤◌, max, inl, inr, ℕ, zero, suc, ◌*◌, Bool, true, false, cond, nat_le, List, [], ◌∷◌, ◌++◌, length, drop, arith, refl, sym, ◌∙◌, ap, subst, Option, Some, None, Ok}
+use Rattle.std.proofs.lemmas.List.{length-take}
+use Rattle.roles.specs.declared.role.Role.{Role}
+use Rattle.roles.specs.declared.role.Role.TheVariants.{Originator, Answerer}
+use Rattle.roles.specs.Both.{of}
+use Rattle.xid_params.specs.declared.terms.Terms.{Terms}
+use Rattle.xid_params.specs.Offers.{ReadsAllowed, ReadsWritten}
+use Rattle.lapm_sender.specs.Outgoing.{Outgoing, with_piece}
+use Rattle.lapm_receiver.specs.Incoming.{KeepsTaken}
+use Rattle.slot_contents.specs.declared.sent.Sent.{Sent}
+use Rattle.link_account.specs.declared.setup.Setup.{Setup}
+use Rattle.link_account.specs.declared.phase.Phase.TheVariants.{Connected}
+use Rattle.link_account.specs.Account.{Account, is_connected, wants, piece_size, after_given, after_busy, size_for, first_terms}
+use Rattle.link_account.specs.Speak.{Said}
+use Rattle.link_account.specs.Laws.{MayPlay}
+use Rattle.link_run.specs.End.{User, delivered, piece_at, offered_at, offered_times, room_for, offered, is_busy, served, is_released}
+use Rattle.link_run.specs.Run.{Link, Ends, Turn, start, Spoken, arrival, Hears, RunOf, served_at, releases, said_at}
+use Rattle.link_run.specs.Carried.{Carries, IsCarried}
+use Rattle.link_run.specs.Laws.{SendsShort}
+use Rattle.link_run.proofs.Keeping.{Books, GoesOn, hears}
+use Rattle.link_run.proofs.Speaking.{Ledger, Speaks, Keeps_on, Releases}
+use Rattle.link_run.proofs.Serving.{asks-alone, busy-alone}
+use Rattle.link_run.proofs.Running.{told, speaks-at}
+use Rattle.link_run.proofs.Ending.{IsKept, AtBoth, kept-heard, kept-run, HasSetup, setups-kept}
+use Rattle.link_run.proofs.Knowing.{rank, OnSent, terms_of}
+use Rattle.link_run.proofs.Following.{KnownOf, known-run, known-mid}
+use Rattle.link_run.proofs.Lengths.{AllShort, ShortFrame, said-short}
+
+-- all segments have at most the agreed length
+pub record Fit (a : Account) : Type 0 where
+  pub each : AllShort a.outgoing.size a.outgoing.pieces
+
+abbrev pub IsFit : Role → Account → Type 0
+IsFit r a = Fit a
+
+one-more : (n : ℕ) (ps : List (List ℕ)) (p : List ℕ) → AllShort n ps → length p ≤ n → AllShort n (ps ++ p ∷ [])
+one-more n [] p h l = (l, tt)
+one-more n (x ∷ ps) p h l = (h.0, one-more n ps p h.1 l)
+
+fit-piece : (p : List ℕ) (o : Outgoing) → AllShort o.size o.pieces → length p ≤ o.size → AllShort (with_piece p o).size (with_piece p o).pieces
+fit-piece [] o h l = h
+fit-piece (x ∷ xs) o h l = one-more o.size o.pieces (x ∷ xs) h l
+
+size-piece : (a : Account) → piece_size a ≤ a.outgoing.size
+size-piece a = go (is_connected a.phase)
+  where
+    go : (b : Bool) → cond b a.outgoing.size 0 ≤ a.outgoing.size
+    go true = omega arith
+    go false = omega arith
+
+fit-offered-at : (file : List ℕ) (a : Account) (w : Option ℕ) → Fit a → Fit (offered_at file a w)
+fit-offered-at file a None h = h
+fit-offered-at file a (Some n) h =
+    let p = piece_at (piece_size a) file n in
+    record { each = fit-piece p a.outgoing h.each (omega (arith, length-take (piece_size a) (drop (piece_size a * n) file), size-piece a)) }
+
+fit-offered : (n : ℕ) (file : List ℕ) (a : Account) → Fit a → Fit (offered_times n file a)
+fit-offered zero file a h = h
+fit-offered (suc n) file a h = fit-offered n file (offered_at file a (wants a)) (fit-offered-at file a (wants a) h)
+
+fit-delivered : (a : Account) → Fit a → Fit (delivered a)
+fit-delivered a h = go (is_connected a.phase)
+  where
+    go : (b : Bool) → Fit (cond b (record a { incoming = record a.incoming { given = length a.incoming.taken } }) a)
+    go true = record { each = h.each }
+    go false = h
+
+fit-served : (u : User) (turn : ℕ) (released : Bool) (a : Account) → Fit a → Fit (served u turn released a).account
+fit-served u turn released a h =
+    let g : Fit (after_given (delivered a)) = record { each = (fit-delivered a h).each } in
+    let c = offered u.file (after_given (delivered a)) in
+    let o = fit-offered (room_for (after_given (delivered a))) u.file (after_given (delivered a)) g in
+    let busy = is_busy turn u.busy in
+    let b : Fit (after_busy busy c) = subst Fit (sym (busy-alone busy c)) (record { each = o.each }) in
+    subst Fit (sym (asks-alone turn released u.breaks (after_busy busy c))) (record { each = b.each })
+
+fit-heard : (a b : Account) → Fit a → GoesOn a b → Fit b
+fit-heard a b h (inl s) = record { each = subst (λ n. AllShort n b.outgoing.pieces) (sym s.size) (subst (AllShort a.outgoing.size) (sym (ap (λ (k : Books). k.pieces) s.books_are)) h.each) }
+fit-heard a b h (inr e) = record { each = subst (λ (o : Outgoing). AllShort o.size o.pieces) (sym e.outgoing_is) tt }
+
+fit-spoken : (release : Bool) (a b : Account) → Fit a → Speaks release a b → Fit b
+fit-spoken release a b h (Keeps_on e) = record { each = subst (λ (l : Ledger). AllShort l.size l.books.pieces) (sym e) h.each }
+fit-spoken release a b h (Releases on role linked e k) = record { each = subst (λ (l : Ledger). AllShort l.size l.books.pieces) (sym e) h.each }
+
+fits-kept : (link : Link) → IsKept IsFit link
+fits-kept link = record {
+  begins = λ r. record { each = tt };
+  hears = λ r a b h g. fit-heard a b h g;
+  serves = λ r turn released a h. fit-served (of r link).user turn released a h;
+  speaks = λ r release a b h g. fit-spoken release a b h g;
+}
+
+-- what an end that has begun has agreed for its segments; before, it has none
+pub record Sized (most : ℕ) (a : Account) : Type 0 where
+  pub size : a.outgoing.size ≤ most
+
+sized-heard : (most : ℕ) (a b : Account) → Sized most a → GoesOn a b → (b.phase ≡ Connected → size_for b.setup.role b.terms ≤ most) → Sized most b
+sized-heard most a b h (inl s) f = record { size = omega (arith, h.size, s.size) }
+sized-heard most a b h (inr e) f = record { size = omega (arith, ap (λ (o : Outgoing). o.size) e.outgoing_is, f e.is) }
+
+served-size : (u : User) (turn : ℕ) (released : Bool) (a : Account) → (served u turn released a).account.outgoing.size ≡ a.outgoing.size
+served-size u turn released a =
+    let g = after_given (delivered a) in
+    let c = offered u.file g in
+    let b = after_busy (is_busy turn u.busy) c in
+    ap (λ (x : Account). x.outgoing.size) (asks-alone turn released u.breaks b) ∙ ap (λ (x : Account). x.outgoing.size) (busy-alone (is_busy turn u.busy) c) ∙ sizes (room_for g) u.file g ∙ given (is_connected a.phase)
+  where
+    one : (p : List ℕ) (o : Outgoing) → (with_piece p o).size ≡ o.size
+    one [] o = refl
+    one (x ∷ xs) o = refl
+
+    at : (file : List ℕ) (x : Account) (w : Option ℕ) → (offered_at file x w).outgoing.size ≡ x.outgoing.size
+    at file x None = refl
+    at file x (Some n) = one (piece_at (piece_size x) file n) x.outgoing
+
+    sizes : (n : ℕ) (file : List ℕ) (x : Account) → (offered_times n file x).outgoing.size ≡ x.outgoing.size
+    sizes zero file x = refl
+    sizes (suc n) file x = sizes n file (offered_at file x (wants x)) ∙ at file x (wants x)
+
+    given : (b : Bool) → (after_given (cond b (record a { incoming = record a.incoming { given = length a.incoming.taken } }) a)).outgoing.size ≡ a.outgoing.size
+    given true = refl
+    given false = refl
+
+spoken-size : (release : Bool) (a b : Account) → Speaks release a b → b.outgoing.size ≡ a.outgoing.size
+spoken-size release a b (Keeps_on e) = ap (λ (l : Ledger). l.size) e
+spoken-size release a b (Releases on role linked e k) = ap (λ (l : Ledger). l.size) e
+
+-- what an end offers
+abbrev most_of : Link → Role → ℕ
+most_of link role = (of role link).setup.offer.tx_len
+
+-- the agreed length is at most that
+orig-most : (link : Link) (sent heard : List Turn) (mid : Ends) → KnownOf link sent heard mid → link.orig.setup.role ≡ Originator → mid.orig.setup ≡ link.orig.setup → mid.orig.phase ≡ Connected → size_for mid.orig.setup.role mid.orig.terms ≤ most_of link Originator
+orig-most link sent heard mid k r s e =
+    let terms : mid.orig.terms ≡ terms_of link.orig.setup link.answ.setup = k.terms_o ∙ ap (λ p. cond (nat_le 2 (rank p)) (terms_of link.orig.setup link.answ.setup) first_terms) e in
+    let role : mid.orig.setup.role ≡ Originator = ap (λ (x : Setup). x.role) s ∙ r in
+    subst (λ x. size_for x mid.orig.terms ≤ most_of link Originator) (sym role) (subst (λ (x : Terms). x.len_o ≤ most_of link Originator) (sym terms) (omega arith))
+
+answ-most : (link : Link) (sent heard : List Turn) (mid : Ends) → KnownOf link sent heard mid → link.answ.setup.role ≡ Answerer → mid.answ.setup ≡ link.answ.setup → mid.answ.phase ≡ Connected → size_for mid.answ.setup.role mid.answ.terms ≤ most_of link Answerer
+answ-most link sent heard mid k r s e =
+    let terms : mid.answ.terms ≡ terms_of link.orig.setup link.answ.setup = k.terms_a ∙ ap (λ p. cond (nat_le 1 (rank p)) (terms_of link.orig.setup link.answ.setup) first_terms) e in
+    let role : mid.answ.setup.role ≡ Answerer = ap (λ (x : Setup). x.role) s ∙ r in
+    subst (λ x. size_for x mid.answ.terms ≤ most_of link Answerer) (sym role) (subst (λ (x : Terms). x.len_a ≤ most_of link Answerer) (sym terms) (omega arith))
+
+-- all through a run
+sized-mid : (reads : ReadsAllowed) (keeps : KeepsTaken) (written : ReadsWritten) (link : Link) (delay : Role → ℕ) (ts : List Turn) (before : Ends) (t : Turn) (mid : Ends) → MayPlay link.orig.setup link.answ.setup → IsCarried delay ts → RunOf link ts before → Carries delay ts t → Hears (length ts) before t mid
+    → ((r : Role) → Sized (most_of link r) (of r before)) → (r : Role) → Sized (most_of link r) (of r mid)
+sized-mid reads keeps written link delay ts before t mid m cs h c k s role = at-role role
+  where
+    known : KnownOf link ts (t ∷ ts) mid
+    known = known-mid reads keeps written link delay ts before t mid m h (known-run reads keeps written link delay m ts before cs h) c k
+
+    setups : AtBoth (HasSetup link) mid
+    setups = kept-heard reads keeps (HasSetup link) link (setups-kept link) (length ts) before t mid (kept-run reads keeps (HasSetup link) link (setups-kept link) ts before h) k
+
+    at-role : (r : Role) → Sized (most_of link r) (of r mid)
+    at-role Originator =
+        sized-heard (most_of link Originator) before.orig mid.orig (s Originator) (hears reads keeps (length ts) (arrival t.orig.heard) before.orig mid.orig (k Originator).hears)
+        (orig-most link ts (t ∷ ts) mid known m.originates (setups Originator))
+    at-role Answerer =
+        sized-heard (most_of link Answerer) before.answ mid.answ (s Answerer) (hears reads keeps (length ts) (arrival t.answ.heard) before.answ mid.answ (k Answerer).hears)
+        (answ-most link ts (t ∷ ts) mid known m.answers (setups Answerer))
+
+sized-run : (reads : ReadsAllowed) (keeps : KeepsTaken) (written : ReadsWritten) (link : Link) (delay : Role → ℕ) → MayPlay link.orig.setup link.answ.setup → (ts : List Turn) (ends : Ends) → IsCarried delay ts → RunOf link ts ends → (r : Role) → Sized (most_of link r) (of r ends)
+sized-run reads keeps written link delay m [] ends c h r = subst (λ (e : Ends). Sized (most_of link r) (of r e)) (sym h) (starts r)
+  where
+    starts : (r : Role) → Sized (most_of link r) (of r (start link))
+    starts Originator = record { size = omega arith }
+    starts Answerer = record { size = omega arith }
+sized-run reads keeps written link delay m (t ∷ ts) ends c h r =
+    let g = h.2 in
+    let turn = length ts in
+    let mid = sized-mid reads keeps written link delay ts h.0 t g.mid m c.1 h.1 c.0 g.hearing (sized-run reads keeps written link delay m ts h.0 c.1 h.1) r in
+    let s = g.speaking r in
+    record { size = omega (arith, mid.size, ap (λ (x : Account). x.outgoing.size) s.after_is, spoken-size (told link turn g.mid r) (served_at link turn g.mid r).account s.said.account (speaks-at link turn g.mid r s.said s.says), served-size (of r link).user turn (is_released g.mid.orig.phase) (of r g.mid)) }
+
+-- longer lists are allowed
+weaker : (m n : ℕ) (ps : List (List ℕ)) → m ≤ n → AllShort m ps → AllShort n ps
+weaker m n [] l h = tt
+weaker m n (p ∷ ps) l h = (omega (arith, l, h.0), weaker m n ps l h.1)
+
+pub sends_short : ReadsAllowed → KeepsTaken → ReadsWritten → SendsShort
+sends_short reads keeps written link delay ts ends t after v c g role slot frame e f =
+    subst (OnSent (ShortFrame n)) (same ∙ f) (said role (g.speaking role).said (g.speaking role).says short)
+  where
+    n : ℕ
+    n = max 23 (most_of link role)
+
+    a : Account
+    a = (served_at link (length ts) g.mid role).account
+
+    mid : Sized (most_of link role) (of role g.mid)
+    mid = sized-mid reads keeps written link delay ts ends t g.mid v.may_play v.carried v.run c g.hearing (sized-run reads keeps written link delay v.may_play ts ends v.carried v.run) role
+
+    fit : Fit (of role g.mid)
+    fit = kept-heard reads keeps IsFit link (fits-kept link) (length ts) ends t g.mid (kept-run reads keeps IsFit link (fits-kept link) ts ends v.run) g.hearing role
+
+    short : AllShort n a.outgoing.pieces
+    short = weaker a.outgoing.size n a.outgoing.pieces (omega (arith, mid.size, served-size (of role link).user (length ts) (is_released g.mid.orig.phase) (of role g.mid))) (fit-served (of role link).user (length ts) (is_released g.mid.orig.phase) (of role g.mid) fit).each
+
+    said : (r : Role) (s : Said) → said_at link (length ts) g.mid r ≡ Ok s → AllShort (max 23 (most_of link r)) (served_at link (length ts) g.mid r).account.outgoing.pieces → OnSent (ShortFrame (max 23 (most_of link r))) s.sent
+    said Originator s q h = said-short (max 23 (most_of link Originator)) (omega arith) (length ts) (releases link (length ts) g.mid) (served_at link (length ts) g.mid Originator).account s h q
+    said Answerer s q h = said-short (max 23 (most_of link Answerer)) (omega arith) (length ts) false (served_at link (length ts) g.mid Answerer).account s h q
+
+    same : (g.speaking role).said.sent ≡ slot.sent
+    same = ap sent-of (sym (g.speaking role).sent_is ∙ e)
+      where
+        sent-of : Option Spoken → Sent
+        sent-of None = slot.sent
+        sent-of (Some z) = z.sent
