@@ -2,3 +2,4 @@ mod Sampling
 mod Leaving
 mod Resulting
 mod Scripting
+mod Fitting

@@ -1,6 +1,8 @@
 -- The link and the line that a script and two files make.
-use Rattle.std.specs.Prelude.{◌≡◌, ℕ, ◌+◌, ◌*◌, ◌/◌, max, List, map, filter, slice_get}
+use Rattle.std.specs.Prelude.{◌≡◌, ℕ, ◌+◌, ◌*◌, ◌/◌, ◌<◌, ◌≤◌, max, List, map, filter, Some, slice_get}
 use Rattle.std.specs.Option.{option_map}
+use Rattle.frame_check.specs.declared.sizes.TheConstants.{SLOT}
+use Rattle.bit_stuffing.specs.declared.slot_writer.TheConstants.{HEAD, TAIL}
 use Rattle.roles.specs.declared.role.Role.{Role}
 use Rattle.roles.specs.declared.role.Role.TheVariants.{Originator, Answerer}
 use Rattle.roles.specs.Role.{same_role}
@@ -14,8 +16,10 @@ use Rattle.link_account.specs.declared.setup.Setup.{Setup}
 use Rattle.link_account.specs.Laws.{MayPlay}
 use Rattle.link_run.specs.Carried.{HasDelays}
 use Rattle.link_run.specs.End.{BreakLine, BusyLine, is_busy}
-use Rattle.link_run.specs.Run.{Party, Link}
-use Rattle.line_run.specs.Sampled.{Channel}
+use Rattle.slot_contents.specs.Sendable.{IsSendable}
+use Rattle.sample_line.specs.Signals.{IsCodable}
+use Rattle.link_run.specs.Run.{Party, Link, Ends, Spoken, Turn, GoingTurn}
+use Rattle.line_run.specs.Sampled.{Channel, HeardIn, LineRun}
 
 -- a period: two ways there and back, and what an answer may wait
 abbrev pub period_of : ScriptValue → ℕ
@@ -76,3 +80,18 @@ BreaksAreTheScripts = (script : ScriptValue) (role : Role) (index : ℕ)
 
 abbrev pub PausesAreTheScripts : Type 0
 PausesAreTheScripts = (value : ScriptValue) (role : Role) (turn : ℕ) → is_busy turn (busy_of value role) ≡ script.is_busy value role turn
+
+-- two sizes that are known: a slot has 464 symbols for frames of 128 octets, and 2615 for frames of 1024
+abbrev pub SlotSizesAreKnown : Type 0
+SlotSizesAreKnown = (slot_symbols 128 ≡ 464) × (slot_symbols 1024 ≡ 2615)
+
+-- The slots of a script within its limits have a size that a line may have,
+abbrev pub SlotsHaveRoom : Type 0
+SlotsHaveRoom = (script : ScriptValue) → IsInLimits script → (HEAD + TAIL < slot_symbols (longest_of script)) × (slot_symbols (longest_of script) ≤ SLOT)
+
+-- and whatever its ends send fits a slot, behind any unfinished flag.
+abbrev pub SlotsAreCodable : Type 0
+SlotsAreCodable = (script : ScriptValue) (files : Both (List ℕ)) (ts : List Turn) (ends : Ends) (t : Turn) (after : Ends) → IsInLimits script
+    → LineRun (channel_of script) (link_of script files) ts ends → HeardIn (channel_of script) ts t → GoingTurn (link_of script files) ts ends t after
+    → (role : Role) (slot : Spoken) (phase : ℕ) → phase < 8 → (of role t).sent ≡ Some slot → IsSendable slot.sent
+    → IsCodable slot.check role 0 (slot_symbols (longest_of script)) phase slot.sent

@@ -1,9 +1,10 @@
 //! What holds of all runs over the line of samples. The functions do nothing but name the laws that they rest on: each law is a contract.
 ghost use Rattle.line_run.specs.Ends.{RunsLeavePrefixes, DoneLeavesWhole, RunsLeaveWhatPassed, OneResult};
 ghost use Rattle.line_run.specs.LineLaws.{SamplesAreCarried, OneIsCarried, HeardOnce, OneLineRun, OneLineEnd, EndsOrGoesOn};
-ghost use Rattle.line_run.specs.Scripted.{ScriptsMayPlay, ScriptsHaveDelays, BreaksAreTheScripts, PausesAreTheScripts};
+ghost use Rattle.line_run.specs.Scripted.{ScriptsMayPlay, ScriptsHaveDelays, BreaksAreTheScripts, PausesAreTheScripts, SlotSizesAreKnown, SlotsHaveRoom, SlotsAreCodable};
 
-use link_run::laws::{done_is_whole, one_run, prefixes, what_passed_is_taken};
+use line_laws::laws::codable_slots_fit;
+use link_run::laws::{done_is_whole, frames_are_short, one_run, prefixes, what_passed_is_taken};
 use sample_line::laws::{one_outcome, recordings_grow};
 use survivors::laws::lines_are_lost_once;
 
@@ -14,6 +15,16 @@ pub fn scripts_make_links()
     ensures breaks { BreaksAreTheScripts }
     ensures pauses { PausesAreTheScripts }
 {}
+
+/// The slots of a script's line have room for whatever its ends send.
+pub fn slots_have_room()
+    ensures sizes { SlotSizesAreKnown }
+    ensures room { SlotsHaveRoom }
+    ensures codable { SlotsAreCodable }
+{
+    codable_slots_fit();
+    frames_are_short();
+}
 
 /// The line of samples is a line: what is heard of a slot is nothing but what was sent in it, and arrives after its delay.
 pub fn samples_are_carried()
