@@ -20,6 +20,7 @@ use Rattle.line_run.specs.Sampled.{Channel, HeardIn, LineRun, LineEnd, EndsLine}
 use Rattle.line_run.specs.Sampled as lines
 use Rattle.line_run.specs.Scripted.{period_of}
 
+-- How a run ends, and in which turn.
 pub data RunEnd : Type 0 where
   IsDone : (turn : ℕ) → RunEnd
   LinkLost : (role : Role) (segment turn : ℕ) → RunEnd  -- the role of the end whose tries are spent, and its front
@@ -54,10 +55,12 @@ pub record EndsOnLine (c : Channel) (ts : List Turn) (ends : Ends) (end : LineEn
 -- The ends by their causes. A link is lost where an end's tries are spent, at its front's segment.
 abbrev pub EndsBy : Channel → Link → List Turn → Ends → RunEnd → Left → Type 0
 EndsBy c link ts ends (IsDone turn) left = EndsInTurn c link ts ends Done turn left
-EndsBy c link ts ends (LinkLost role segment turn) left = (since : ℕ) × EndsInTurn c link ts ends (Broken role (faults.Spent segment since)) turn left
+EndsBy c link ts ends (LinkLost role segment turn) left =
+    (since : ℕ) × EndsInTurn c link ts ends (Broken role (faults.Spent segment since)) turn left
 EndsBy c link ts ends (NotDetected turn) left = EndsInTurn c link ts ends (Broken Originator faults.NotDetected) turn left
 EndsBy c link ts ends (LineLost role symbol) left = EndsOnLine c ts ends (lines.LineLost role symbol) (trace_text ts) left
-EndsBy c link ts ends (ChanceMatch role turn) left = (turn ≡ length ts) × EndsOnLine c ts ends (lines.ChanceMatch role) (trace_text ts ++ chance_line (length ts) role) left
+EndsBy c link ts ends (ChanceMatch role turn) left =
+    (turn ≡ length ts) × EndsOnLine c ts ends (lines.ChanceMatch role) (trace_text ts ++ chance_line (length ts) role) left
 
 -- A run goes on for some turns, and ends.
 pub record RunsTo (c : Channel) (link : Link) (end : RunEnd) (left : Left) : Type 0 where
@@ -82,7 +85,8 @@ DoneLeavesWhole = (c : Channel) (link : Link) (turn : ℕ) (left : Left) → May
     → (role : Role) → of role left.got ≡ (of (other role) link).user.file
 
 -- the turns in which something was heard: the last one too, where one was made
-abbrev pub turns_heard : (c : Channel) (link : Link) (ts : List Turn) (ends : Ends) (end : RunEnd) (left : Left) → EndsBy c link ts ends end left → List Turn
+abbrev pub turns_heard : (c : Channel) (link : Link) (ts : List Turn) (ends : Ends) (end : RunEnd) (left : Left)
+    → EndsBy c link ts ends end left → List Turn
 turns_heard c link ts ends (IsDone turn) left e = e.last ∷ ts
 turns_heard c link ts ends (LinkLost role segment turn) left e = e.1.last ∷ ts
 turns_heard c link ts ends (NotDetected turn) left e = e.last ∷ ts
@@ -92,11 +96,13 @@ turns_heard c link ts ends (ChanceMatch role turn) left e = ts
 -- What was given is what passed, by the numbers that were meant.
 abbrev pub RunsLeaveWhatPassed : Type 0
 RunsLeaveWhatPassed = (c : Channel) (link : Link) (end : RunEnd) (left : Left) → MayRun c link → (r : RunsTo c link end left)
-    → (role : Role) → of role left.got ≡ taken_octets (agreed_srej link) (delay_of c.script) role (turns_heard c link r.turns r.ends end left r.ended)
+    → (role : Role)
+    → of role left.got ≡ taken_octets (agreed_srej link) (delay_of c.script) role (turns_heard c link r.turns r.ends end left r.ended)
 
 -- A script and two users have one result at most: one end, and what it leaves.
 abbrev pub OneResult : Type 0
-OneResult = (c : Channel) (link : Link) (a b : RunEnd) (left others : Left) → RunsTo c link a left → RunsTo c link b others → (a ≡ b) × (left ≡ others)
+OneResult = (c : Channel) (link : Link) (a b : RunEnd) (left others : Left) → RunsTo c link a left → RunsTo c link b others
+    → (a ≡ b) × (left ≡ others)
 
 -- losses of a script's line that went on for so long that an end may give up
 abbrev pub StarvedBy : ScriptValue → List Turn → Type 0

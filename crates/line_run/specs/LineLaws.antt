@@ -12,22 +12,27 @@ use Rattle.line_run.specs.Sampled.{Channel, IsHeardOf, HeardIn, IsHeardOver, Lin
 abbrev pub SamplesAreCarried : Type 0
 SamplesAreCarried = (c : Channel) (ts : List Turn) → IsHeardOver c ts → IsCarried (delay_of c.script) ts
 
+-- and so in one turn
 abbrev pub OneIsCarried : Type 0
 OneIsCarried = (c : Channel) (ts : List Turn) (t : Turn) → HeardIn c ts t → Carries (delay_of c.script) ts t
 
 -- One thing is heard of a sender in a turn.
 abbrev pub HeardOnce : Type 0
-HeardOnce = (c : Channel) (sender : Role) (ts : List Turn) (hearing : Check) (heard others : Heard) → IsHeardOf c sender ts hearing heard → IsHeardOf c sender ts hearing others
+HeardOnce = (c : Channel) (sender : Role) (ts : List Turn) (hearing : Check) (heard others : Heard)
+    → IsHeardOf c sender ts hearing heard → IsHeardOf c sender ts hearing others
     → heard ≡ others
 
 -- The users, the script and the number of turns determine a run.
 abbrev pub OneLineRun : Type 0
-OneLineRun = (c : Channel) (link : Link) (ts us : List Turn) (ends others : Ends) → length ts ≡ length us → LineRun c link ts ends → LineRun c link us others
+OneLineRun = (c : Channel) (link : Link) (ts us : List Turn) (ends others : Ends) → length ts ≡ length us → LineRun c link ts ends
+    → LineRun c link us others
     → (ts ≡ us) × (ends ≡ others)
 
 -- The line ends a run in one way at most, and not where the turn's slots are heard.
 abbrev pub OneLineEnd : Type 0
 OneLineEnd = (c : Channel) (ts : List Turn) (ends : Ends) (a b : LineEnd) → EndsLine c ts ends a → EndsLine c ts ends b → a ≡ b
 
+-- a run that the line ends doesn't go on
 abbrev pub EndsOrGoesOn : Type 0
-EndsOrGoesOn = (c : Channel) (ts : List Turn) (ends : Ends) (a : LineEnd) (t : Turn) (mid : Ends) → EndsLine c ts ends a → Hears (length ts) ends t mid → HeardIn c ts t → ⊥
+EndsOrGoesOn = (c : Channel) (ts : List Turn) (ends : Ends) (a : LineEnd) (t : Turn) (mid : Ends) → EndsLine c ts ends a
+    → Hears (length ts) ends t mid → HeardIn c ts t → ⊥

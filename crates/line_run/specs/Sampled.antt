@@ -64,7 +64,8 @@ ArrivesAs c sender earlier upto hearing (Some slot) heard = Arrives c sender ear
 -- what a hearer with this check hears of this sender in the turn after these
 abbrev pub IsHeardOf : Channel → Role → List Turn → Check → Heard → Type 0
 IsHeardOf c sender ts hearing heard =
-    ArrivesAs c sender (drop (delay_of c.script sender) ts) (drop (delay_of c.script sender - 1) ts) hearing (sent_ago (delay_of c.script sender) sender ts) heard
+    ArrivesAs c sender (drop (delay_of c.script sender) ts) (drop (delay_of c.script sender - 1) ts) hearing
+    (sent_ago (delay_of c.script sender) sender ts) heard
 
 -- and it doesn't end the run
 pub record HeardAt (c : Channel) (sender : Role) (ts : List Turn) (s : Side) : Type 0 where
@@ -75,6 +76,7 @@ pub record HeardAt (c : Channel) (sender : Role) (ts : List Turn) (s : Side) : T
 abbrev pub HeardIn : Channel → List Turn → Turn → Type 0
 HeardIn c ts t = (role : Role) → HeardAt c (other role) ts (of role t)
 
+-- and so in each of these turns
 abbrev pub IsHeardOver : Channel → List Turn → Type 0
 IsHeardOver c [] = Unit {0}
 IsHeardOver c (t ∷ ts) = HeardIn c ts t × IsHeardOver c ts
@@ -100,9 +102,11 @@ pub record IsHeardWell (c : Channel) (sender : Role) (ts : List Turn) (hearing :
   pub is : IsHeardOf c sender ts hearing heard
   pub well : heard ≢ Chance
 
--- The line ends the run in the turn after these, with these ends. The originator's slot counts first, and a lost line before a chance match.
+-- The line ends the run in the turn after these, with these ends. The originator's slot counts first, and a lost line before a chance
+-- match.
 abbrev pub EndsLine : Channel → List Turn → Ends → LineEnd → Type 0
 EndsLine c ts ends (LineLost Originator symbol) = LosesLine c Answerer ts symbol
 EndsLine c ts ends (ChanceMatch Originator) = IsHeardOf c Answerer ts (check_of ends.orig) Chance
 EndsLine c ts ends (LineLost Answerer symbol) = IsHeardWell c Answerer ts (check_of ends.orig) × LosesLine c Originator ts symbol
-EndsLine c ts ends (ChanceMatch Answerer) = IsHeardWell c Answerer ts (check_of ends.orig) × IsHeardOf c Originator ts (check_of ends.answ) Chance
+EndsLine c ts ends (ChanceMatch Answerer) =
+    IsHeardWell c Answerer ts (check_of ends.orig) × IsHeardOf c Originator ts (check_of ends.answ) Chance

@@ -29,6 +29,7 @@ period_of script = 2 * (script.delay_orig + script.delay_answ) + 16
 abbrev pub setup_of : ScriptValue → Role → Setup
 setup_of script role = record { role = role; offer = offer_of script role; tries = script.tries; period = period_of script }
 
+-- a line of a script as a user's break
 abbrev pub break_line : Break → BreakLine
 break_line b = record { turn = b.turn; length_octet = b.length }
 
@@ -36,6 +37,7 @@ break_line b = record { turn = b.turn; length_octet = b.length }
 abbrev pub breaks_of : ScriptValue → Role → List BreakLine
 breaks_of script role = map break_line (filter (λ (b : Break). same_role b.role role) script.breaks)
 
+-- and as a user's pause
 abbrev pub busy_line : Pause → BusyLine
 busy_line p = record { turn = p.from; count = p.count }
 
@@ -43,18 +45,23 @@ busy_line p = record { turn = p.from; count = p.count }
 abbrev pub busy_of : ScriptValue → Role → List BusyLine
 busy_of script role = map busy_line (filter (λ (p : Pause). same_role p.role role) script.pauses)
 
+-- an end with its user
 abbrev pub party_of : ScriptValue → Both (List ℕ) → Role → Party
-party_of script files role = record { setup = setup_of script role; user = record { file = of role files; breaks = breaks_of script role; busy = busy_of script role } }
+party_of script files role = record {
+  setup = setup_of script role;
+  user = record { file = of role files; breaks = breaks_of script role; busy = busy_of script role };
+}
 
 -- the link: the two ends and their users
 abbrev pub link_of : ScriptValue → Both (List ℕ) → Link
 link_of script files = record { orig = party_of script files Originator; answ = party_of script files Answerer }
 
--- the symbols of a slot that has room for a frame with so many octets of information and 128 symbols behind it: ten symbols for the rest of a
--- flag and four more, then the longest stuffing of the frame with its seven other octets and of a closing flag
+-- the symbols of a slot that has room for a frame with so many octets of information and 128 symbols behind it: ten symbols for the rest
+-- of a flag and four more, then the longest stuffing of the frame with its seven other octets and of a closing flag
 abbrev pub slot_symbols : ℕ → ℕ
 slot_symbols octets = 10 + (8 * (octets + 7) + 8 * (octets + 7) / 5 + 8 + 3) / 4 + 128
 
+-- the longest information field that an end offers, to send or to hear
 abbrev pub offered_octets : Offer → ℕ
 offered_octets offer = max offer.tx_len offer.rx_len
 
@@ -68,16 +75,20 @@ channel_of script = record { script = script; symbols = slot_symbols (longest_of
 
 -- A script within its limits makes two ends that may play, over a line with delays.
 abbrev pub ScriptsMayPlay : Type 0
-ScriptsMayPlay = (script : ScriptValue) (files : Both (List ℕ)) → IsInLimits script → MayPlay (link_of script files).orig.setup (link_of script files).answ.setup
+ScriptsMayPlay = (script : ScriptValue) (files : Both (List ℕ)) → IsInLimits script
+    → MayPlay (link_of script files).orig.setup (link_of script files).answ.setup
 
+-- its delays
 abbrev pub ScriptsHaveDelays : Type 0
 ScriptsHaveDelays = (script : ScriptValue) → IsInLimits script → HasDelays (delay_of script)
 
 -- A user's breaks are those that the script has for its role, index by index; and it is busy where the script says so.
 abbrev pub BreaksAreTheScripts : Type 0
 BreaksAreTheScripts = (script : ScriptValue) (role : Role) (index : ℕ)
-    → slice_get (breaks_of script role) index ≡ option_map (λ (b : ℕ × ℕ). record { turn = b.0; length_octet = b.1 }) (break_of script role index)
+    → slice_get (breaks_of script role) index
+    ≡ option_map (λ (b : ℕ × ℕ). record { turn = b.0; length_octet = b.1 }) (break_of script role index)
 
+-- its pauses
 abbrev pub PausesAreTheScripts : Type 0
 PausesAreTheScripts = (value : ScriptValue) (role : Role) (turn : ℕ) → is_busy turn (busy_of value role) ≡ script.is_busy value role turn
 
@@ -87,11 +98,14 @@ SlotSizesAreKnown = (slot_symbols 128 ≡ 464) × (slot_symbols 1024 ≡ 2615)
 
 -- The slots of a script within its limits have a size that a line may have,
 abbrev pub SlotsHaveRoom : Type 0
-SlotsHaveRoom = (script : ScriptValue) → IsInLimits script → (HEAD + TAIL < slot_symbols (longest_of script)) × (slot_symbols (longest_of script) ≤ SLOT)
+SlotsHaveRoom = (script : ScriptValue) → IsInLimits script
+    → (HEAD + TAIL < slot_symbols (longest_of script)) × (slot_symbols (longest_of script) ≤ SLOT)
 
 -- and whatever its ends send fits a slot, behind any unfinished flag.
 abbrev pub SlotsAreCodable : Type 0
-SlotsAreCodable = (script : ScriptValue) (files : Both (List ℕ)) (ts : List Turn) (ends : Ends) (t : Turn) (after : Ends) → IsInLimits script
-    → LineRun (channel_of script) (link_of script files) ts ends → HeardIn (channel_of script) ts t → GoingTurn (link_of script files) ts ends t after
+SlotsAreCodable = (script : ScriptValue) (files : Both (List ℕ)) (ts : List Turn) (ends : Ends) (t : Turn) (after : Ends)
+    → IsInLimits script
+    → LineRun (channel_of script) (link_of script files) ts ends → HeardIn (channel_of script) ts t
+    → GoingTurn (link_of script files) ts ends t after
     → (role : Role) (slot : Spoken) (phase : ℕ) → phase < 8 → (of role t).sent ≡ Some slot → IsSendable slot.sent
     → IsCodable slot.check role 0 (slot_symbols (longest_of script)) phase slot.sent

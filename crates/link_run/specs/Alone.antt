@@ -62,20 +62,25 @@ OneLoneRun = (party : Party) (ts us : List LoneTurn) (a b : Account) → LoneRun
 
 -- What the end delivers once it has heard is what it took since: it goes behind all that it had taken.
 abbrev pub LoneHearingsDeliver : Type 0
-LoneHearingsDeliver = (party : Party) (ts : List LoneTurn) (before : Account) (t : LoneTurn) (mid : Account) → LoneRun party ts before → hear (length ts) t.arrived before ≡ Ok mid
+LoneHearingsDeliver = (party : Party) (ts : List LoneTurn) (before : Account) (t : LoneTurn) (mid : Account) → LoneRun party ts before
+    → hear (length ts) t.arrived before ≡ Ok mid
     → mid.incoming.taken ≡ before.incoming.taken ++ deliveries mid
 
 -- And as it is served and speaks it takes nothing.
 abbrev pub LoneSpeakingTakesNothing : Type 0
-LoneSpeakingTakesNothing = (party : Party) (ts : List LoneTurn) (before : Account) (t : LoneTurn) (after : Account) (g : LoneGoing party ts before t after)
+LoneSpeakingTakesNothing = (party : Party) (ts : List LoneTurn) (before : Account) (t : LoneTurn) (after : Account)
+    (g : LoneGoing party ts before t after)
     → after.incoming.taken ≡ g.mid.incoming.taken
 
 -- Whatever arrives, the run goes on, ends as an originator is closed, or ends by a fault of hearing or of speaking.
 pub data LoneNext (party : Party) (ts : List LoneTurn) (a : Account) (arrived : Arrived) : Type 0 where
-  Goes_on : (sent : Option Spoken) (after : Account) → LoneGoing party ts a (record { arrived = arrived; sent = sent }) after → LoneNext party ts a arrived
+  Goes_on : (sent : Option Spoken) (after : Account) → LoneGoing party ts a (record { arrived = arrived; sent = sent }) after
+      → LoneNext party ts a arrived
   Is_last : (mid : Account) → LoneLast ts a (record { arrived = arrived; sent = None }) mid → LoneNext party ts a arrived
   Is_faulty : (fault : LinkFault) → LoneFaulty ts a (record { arrived = arrived; sent = None }) fault → LoneNext party ts a arrived
-  Is_broken : (mid : Account) (fault : LinkFault) → LoneBroken party ts a (record { arrived = arrived; sent = None }) mid fault → LoneNext party ts a arrived
+  Is_broken : (mid : Account) (fault : LinkFault) → LoneBroken party ts a (record { arrived = arrived; sent = None }) mid fault
+      → LoneNext party ts a arrived
 
+-- So no arrival stops a run without an answer.
 abbrev pub EachLoneTurnIsMade : Type 0
 EachLoneTurnIsMade = (party : Party) (ts : List LoneTurn) (a : Account) (arrived : Arrived) → LoneNext party ts a arrived

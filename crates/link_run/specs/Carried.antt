@@ -45,6 +45,7 @@ Crosses (Some slot) Chance = ⊥
 abbrev pub Carries : (Role → ℕ) → List Turn → Turn → Type 0
 Carries delay ts t = (role : Role) → Crosses (sent_ago (delay (other role)) (other role) ts) (of role t).heard
 
+-- and so in each of these turns
 abbrev pub IsCarried : (Role → ℕ) → List Turn → Type 0
 IsCarried delay [] = Unit {0}
 IsCarried delay (t ∷ ts) = Carries delay ts t × IsCarried delay ts

@@ -35,6 +35,7 @@ pub record RunsOver (link : Link) (delay : Role → ℕ) (ts : List Turn) (ends 
 abbrev pub told_by_play : List Slot → List (Option (Sent × ℕ))
 told_by_play line = map (λ (slot : Slot). Some (slot.sent, slot.number)) line
 
+-- none where nothing was sent
 abbrev pub told_by_turn : Option Spoken → Option (Sent × ℕ)
 told_by_turn None = None
 told_by_turn (Some slot) = Some (slot.sent, slot.number)
@@ -70,6 +71,7 @@ pub record HoldsWhole (own peer : Account) (file : List ℕ) : Type 0 where
   pub file_is : concat own.incoming.taken ≡ file
   pub breaks_are : own.their_breaks.lengths ≡ peer.own_breaks.lengths
 
+-- and so at each end
 abbrev pub HoldWhole : Link → Ends → Type 0
 HoldWhole link ends = (role : Role) → HoldsWhole (of role ends) (of (other role) ends) (of (other role) link).user.file
 
@@ -103,7 +105,8 @@ heard_in t = record { orig = t.orig.heard; answ = t.answ.heard }
 
 -- What is heard determines a run: its turns and its ends.
 abbrev pub OneRun : Type 0
-OneRun = (link : Link) (ts us : List Turn) (ends others : Ends) → RunOf link ts ends → RunOf link us others → map heard_in ts ≡ map heard_in us
+OneRun = (link : Link) (ts us : List Turn) (ends others : Ends) → RunOf link ts ends → RunOf link us others
+    → map heard_in ts ≡ map heard_in us
     → (ts ≡ us) × (ends ≡ others)
 
 -- It determines what becomes of each turn too.
@@ -113,7 +116,8 @@ OneOutcome = (link : Link) (ts : List Turn) (before : Ends) (t u : Turn) (mid ot
 
 -- What each end delivers once it has heard is what it took since: it goes behind all that it had taken.
 abbrev pub HearingsDeliver : Type 0
-HearingsDeliver = (link : Link) (ts : List Turn) (before : Ends) (t : Turn) (mid : Ends) → RunOf link ts before → Hears (length ts) before t mid
+HearingsDeliver = (link : Link) (ts : List Turn) (before : Ends) (t : Turn) (mid : Ends) → RunOf link ts before
+    → Hears (length ts) before t mid
     → (role : Role) → (of role mid).incoming.taken ≡ (of role before).incoming.taken ++ deliveries (of role mid)
 
 -- And as it is served and speaks it takes nothing.
@@ -126,13 +130,15 @@ abbrev pub given_in : Option ℕ → List ℕ
 given_in None = []
 given_in (Some length_octet) = length_octet ∷ []
 
+-- over these turns
 abbrev pub given_breaks : Role → List Turn → List ℕ
 given_breaks role [] = []
 given_breaks role (t ∷ ts) = given_breaks role ts ++ given_in (of role t).given
 
 -- The breaks that were given in the turns of a run are all that were taken from the other end.
 abbrev pub GivesAllBreaks : Type 0
-GivesAllBreaks = (link : Link) (ts : List Turn) (ends : Ends) → RunOf link ts ends → (role : Role) → given_breaks role ts ≡ (of role ends).their_breaks.lengths
+GivesAllBreaks = (link : Link) (ts : List Turn) (ends : Ends) → RunOf link ts ends → (role : Role)
+    → given_breaks role ts ≡ (of role ends).their_breaks.lengths
 
 -- both ends offer SREJ
 abbrev pub agreed_srej : Link → Bool
@@ -146,14 +152,16 @@ TakesWhatPassed = (link : Link) (delay : Role → ℕ) (ts : List Turn) (ends : 
 -- and once both ends have heard.
 abbrev pub HearsWhatPassed : Type 0
 HearsWhatPassed = (link : Link) (delay : Role → ℕ) (ts : List Turn) (ends : Ends) (t : Turn) (mid : Ends) → RunsOver link delay ts ends
-    → Carries delay ts t → Hears (length ts) ends t mid → (role : Role) → taken_octets (agreed_srej link) delay role (t ∷ ts) ≡ concat (of role mid).incoming.taken
+    → Carries delay ts t → Hears (length ts) ends t mid → (role : Role)
+    → taken_octets (agreed_srej link) delay role (t ∷ ts) ≡ concat (of role mid).incoming.taken
 
--- The frames that an end sends are short: a segment has at most the octets that the end offers, and every other information at most the 23 octets
--- of an offer.
+-- The frames that an end sends are short: a segment has at most the octets that the end offers, and every other information at most the
+-- 23 octets of an offer.
 abbrev pub SendsShort : Type 0
 SendsShort = (link : Link) (delay : Role → ℕ) (ts : List Turn) (ends : Ends) (t : Turn) (after : Ends) → RunsOver link delay ts ends
     → Carries delay ts t → GoingTurn link ts ends t after
-    → (role : Role) (slot : Spoken) (frame : Frame) → (of role t).sent ≡ Some slot → slot.sent ≡ slots.Frame frame → length (information_of frame) ≤ max 23 (of role link).setup.offer.tx_len
+    → (role : Role) (slot : Spoken) (frame : Frame) → (of role t).sent ≡ Some slot → slot.sent ≡ slots.Frame frame
+    → length (information_of frame) ≤ max 23 (of role link).setup.offer.tx_len
 
 -- An end that breaks is the originator, for want of a pattern, or has spent its tries.
 abbrev pub IsNamed : Role → LinkFault → Type 0
@@ -163,6 +171,7 @@ IsNamed role (BadAck nr va high) = ⊥
 IsNamed role (PeerReset va vr) = ⊥
 IsNamed role PeerRefused = ⊥
 
+-- So each end of a run by a fault has its name: not detected, or lost at that role.
 abbrev pub EachEndIsNamed : Type 0
 EachEndIsNamed = (link : Link) (ts : List Turn) (before : Ends) (t : Turn) (mid : Ends) (role : Role) (fault : LinkFault)
     → MayPlay link.orig.setup link.answ.setup → RunOf link ts before → BrokenTurn link ts before t mid role fault → IsNamed role fault
@@ -186,5 +195,6 @@ pub record OffersAll (file : List ℕ) (a : Account) : Type 0 where
   pub none : wants a ≡ None → offered file a ≡ a
   pub next : offered file (offered_at file a (wants a)) ≡ offered file a
 
+-- So a loop that offers the next piece while one is wanted comes to the same.
 abbrev pub OffersUntilNoneIsWanted : Type 0
 OffersUntilNoneIsWanted = (file : List ℕ) (a : Account) → OffersAll file a

@@ -4,10 +4,11 @@ use Rattle.roles.specs.declared.role.Role.{Role}
 use Rattle.link_account.specs.declared.fault.LinkFault.{LinkFault}
 use Rattle.link_run.specs.Run.{Link, Ends, Turn, GoingTurn, LastTurn, BrokenTurn}
 
+-- what a turn comes to
 pub data Outcome : Type 0 where
   Going : Outcome
   Done : Outcome
-  Broken : (role : Role) (fault : LinkFault) → Outcome
+  Broken : (role : Role) (fault : LinkFault) → Outcome  -- the end of that role gives the link up
 
 -- a turn with that outcome, and the ends as both have heard
 abbrev pub TurnIs : Link → List Turn → Ends → Turn → Ends → Outcome → Type 0

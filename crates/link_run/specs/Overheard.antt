@@ -37,6 +37,7 @@ abbrev pub has_passed : (Frame → Bool) → Role → List Turn → Bool
 has_passed is role [] = false
 has_passed is role (t ∷ ts) = passes_in is (of role t).heard || has_passed is role ts
 
+-- an offer, as a command or as a response
 abbrev pub is_xid : Frame → Bool
 is_xid (Xid command pf info) = true
 is_xid frame = false
@@ -69,24 +70,29 @@ agreed_check link = if (agreed_terms link).check32 then ThirtyTwo else Sixteen
 abbrev pub SendsAgreedCheck : Type 0
 SendsAgreedCheck = (link : Link) (delay : Role → ℕ) (ts : List Turn) (ends : Ends) (t : Turn) (after : Ends) → RunsOver link delay ts ends
     → Carries delay ts t → GoingTurn link ts ends t after
-    → (role : Role) (slot : Spoken) (frame : Frame) → (of role t).sent ≡ Some slot → slot.sent ≡ slots.Frame frame → has_number frame ≡ true → slot.check ≡ agreed_check link
+    → (role : Role) (slot : Spoken) (frame : Frame) → (of role t).sent ≡ Some slot → slot.sent ≡ slots.Frame frame
+    → has_number frame ≡ true → slot.check ≡ agreed_check link
 
 -- and where it passes, its hearer has that check.
 abbrev pub HearsAgreedCheck : Type 0
 HearsAgreedCheck = (link : Link) (delay : Role → ℕ) (ts : List Turn) (ends : Ends) (t : Turn) (mid : Ends) → RunsOver link delay ts ends
     → Carries delay ts t → Hears (length ts) ends t mid
-    → (role : Role) (frame : Frame) → (of role t).heard ≡ Passed (slots.Frame frame) → has_number frame ≡ true → (of role t).check ≡ agreed_check link
+    → (role : Role) (frame : Frame) → (of role t).heard ≡ Passed (slots.Frame frame) → has_number frame ≡ true
+    → (of role t).check ≡ agreed_check link
 
 -- So whatever becomes of a frame on the line, its hearer judges it by the check that it was sent with.
 abbrev pub JudgesByItsCheck : Type 0
 JudgesByItsCheck = (link : Link) (delay : Role → ℕ) (ts : List Turn) (ends : Ends) → RunsOver link delay ts ends
-    → (role : Role) (slot : Spoken) (frame : Frame) → sent_ago (delay (other role)) (other role) ts ≡ Some slot → slot.sent ≡ slots.Frame frame
+    → (role : Role) (slot : Spoken) (frame : Frame) → sent_ago (delay (other role)) (other role) ts ≡ Some slot
+    → slot.sent ≡ slots.Frame frame
     → check_for slot.check frame ≡ check_for (check_of (of role ends)) frame
 
--- nothing of a frame is new to an end: an I frame is neither the next one expected nor one to be held, and a BRK isn't the next one expected
+-- nothing of a frame is new to an end: an I frame is neither the next one expected nor one to be held, and a BRK isn't the next one
+-- expected
 abbrev pub IsOld : Account → Frame → Type 0
 IsOld a (I ns nr pf info) = (kind_of ns a.incoming ≡ InOrder → ⊥) × (kind_of ns a.incoming ≡ Kept → ⊥)
-IsOld a (Ui command pf info) = (number length_octet : ℕ) → word_in info ≡ Ok (Brk number length_octet) → gives number length_octet a.their_breaks ≡ None
+IsOld a (Ui command pf info) = (number length_octet : ℕ) → word_in info ≡ Ok (Brk number length_octet)
+    → gives number length_octet a.their_breaks ≡ None
 IsOld a frame = Unit {0}
 
 -- Once the originator was told to release, which is when a DISC first goes, nothing new passes to either end, and nothing more is taken.
@@ -95,6 +101,7 @@ pub record NothingNew (a : Account) (heard : Heard) (b : Account) : Type 0 where
   pub taken : b.incoming.taken ≡ a.incoming.taken
   pub breaks : b.their_breaks.lengths ≡ a.their_breaks.lengths
 
+-- at each end
 abbrev pub ReleasesLast : Type 0
 ReleasesLast = (link : Link) (delay : Role → ℕ) (ts : List Turn) (ends : Ends) (t : Turn) (mid : Ends) → RunsOver link delay ts ends
     → Carries delay ts t → Hears (length ts) ends t mid → is_released ends.orig.phase ≡ true
@@ -102,7 +109,9 @@ ReleasesLast = (link : Link) (delay : Role → ℕ) (ts : List Turn) (ends : End
 
 -- A break's word that passes before its hearer is Connected is ignored.
 abbrev pub EarlyBreaksAreIgnored : Type 0
-EarlyBreaksAreIgnored = (link : Link) (delay : Role → ℕ) (ts : List Turn) (ends : Ends) (t : Turn) (mid : Ends) → RunsOver link delay ts ends
+EarlyBreaksAreIgnored = (link : Link) (delay : Role → ℕ) (ts : List Turn) (ends : Ends) (t : Turn) (mid : Ends)
+    → RunsOver link delay ts ends
     → Carries delay ts t → Hears (length ts) ends t mid
-    → (role : Role) (command pf : Bool) (info : List ℕ) → has_passed (opens role) role ts ≡ false → (of role t).heard ≡ Passed (slots.Frame (Ui command pf info))
+    → (role : Role) (command pf : Bool) (info : List ℕ) → has_passed (opens role) role ts ≡ false
+    → (of role t).heard ≡ Passed (slots.Frame (Ui command pf info))
     → of role mid ≡ of role ends

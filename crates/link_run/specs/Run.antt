@@ -23,6 +23,7 @@ pub record Party : Type 0 where
   pub setup : Setup
   pub user : User
 
+-- the two ends, each with its user
 abbrev pub Link : Type 0
 Link = Both Party
 
@@ -30,6 +31,7 @@ Link = Both Party
 abbrev pub Ends : Type 0
 Ends = Both Account
 
+-- as a run begins
 abbrev pub start : Link → Ends
 start link = record { orig = fresh link.orig.setup; answ = fresh link.answ.setup }
 
@@ -46,6 +48,7 @@ pub record Side : Type 0 where
   pub sent : Option Spoken  -- none in the last turn of a run
   pub given : Option ℕ  -- the length of the break that its user was given
 
+-- both ends in a turn
 abbrev pub Turn : Type 0
 Turn = Both Side
 

@@ -12,6 +12,7 @@ use Rattle.slot_contents.specs.declared.heard.Heard.TheVariants.{Passed}
 use Rattle.link_run.specs.Run.{Spoken, Turn}
 use Rattle.link_run.specs.Carried.{sent_ago}
 
+-- a segment that passed
 pub record Segment : Type 0 where
   pub number : ℕ  -- the meant number
   pub info : List ℕ

@@ -38,6 +38,7 @@ pub data Next : Type 0 where
 abbrev pub side_with : Account → Account → Heard → Option Spoken → Side
 side_with before mid heard sent = record { heard = heard; check = check_of before; sent = sent; given = given_break mid }
 
+-- both ends in a turn
 abbrev pub turn_with : Ends → Ends → (Role → Heard) → (Role → Option Spoken) → Turn
 turn_with before mid heard sent = record {
   orig = side_with before.orig mid.orig (heard Originator) (sent Originator);
@@ -53,15 +54,18 @@ abbrev pub both_said : Said → Said → Role → Option Spoken
 both_said o a Originator = Some (spoken o)
 both_said o a Answerer = Some (spoken a)
 
+-- the turn, by whether the originator is closed and by what both say
 abbrev pub speaking : Ends → Ends → (Role → Heard) → Bool → Result Said LinkFault → Result Said LinkFault → Next
 speaking before mid heard true o a = last_with before mid heard Done
 speaking before mid heard false (Err fault) a = last_with before mid heard (Broken Originator fault)
 speaking before mid heard false (Ok o) (Err fault) = last_with before mid heard (Broken Answerer fault)
 speaking before mid heard false (Ok o) (Ok a) = Goes (turn_with before mid heard (both_said o a)) (record { orig = o.account; answ = a.account })
 
+-- once both have heard
 abbrev pub then_speaking : Link → ℕ → Ends → Ends → (Role → Heard) → Next
 then_speaking link turn before mid heard = speaking before mid heard (is_closed mid.orig.phase) (said_at link turn mid Originator) (said_at link turn mid Answerer)
 
+-- by what both are that hear
 abbrev pub hearing : Link → ℕ → Ends → (Role → Heard) → Result Account LinkFault → Result Account LinkFault → Next
 hearing link turn before heard (Ok o) (Ok a) = then_speaking link turn before (record { orig = o; answ = a }) heard
 hearing link turn before heard (Ok o) (Err fault) = Stops
@@ -80,9 +84,11 @@ pub record Made : Type 0 where
   pub mid : Ends  -- as both have heard in the last turn
   pub outcome : Option Outcome
 
+-- no last turn yet
 abbrev pub unfinished : List Turn → Ends → Made
 unfinished ts ends = record { turns = ts; ends = ends; last = None; mid = ends; outcome = None }
 
+-- with its last turn
 abbrev pub ended : List Turn → Ends → Turn → Ends → Outcome → Made
 ended ts ends t mid outcome = record { turns = ts; ends = ends; last = Some t; mid = mid; outcome = Some outcome }
 
@@ -102,6 +108,7 @@ abbrev pub with_last : Option Turn → List Turn → List Turn
 with_last None ts = ts
 with_last (Some t) ts = t ∷ ts
 
+-- of a run
 abbrev pub all_turns : Made → List Turn
 all_turns m = with_last m.last m.turns
 
@@ -110,6 +117,7 @@ pub record LastIs (link : Link) (way : Way) (m : Made) (t : Turn) (outcome : Out
   pub is : TurnIs link m.turns m.ends t m.mid outcome
   pub carries : Carries way.delay m.turns t
 
+-- where there is one
 abbrev pub EndsAs : Link → Way → Made → Option Turn → Option Outcome → Type 0
 EndsAs link way m (Some t) (Some outcome) = LastIs link way m t outcome
 EndsAs link way m last outcome = Unit {0}

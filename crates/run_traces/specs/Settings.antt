@@ -1,5 +1,5 @@
 -- The settings of the runs.
-use Rattle.std.specs.Prelude.{ℕ, ◌+◌, Bool, true, false, ◌&&◌, ◌||◌, nat_le, nat_lt, List, [], ◌∷◌}
+use Rattle.std.specs.Prelude.{ℕ, zero, suc, ◌%◌, ◌+◌, Bool, true, false, ◌&&◌, ◌||◌, nat_le, nat_lt, List, [], ◌∷◌}
 use Rattle.roles.specs.declared.role.Role.{Role}
 use Rattle.roles.specs.declared.role.Role.TheVariants.{Originator, Answerer}
 use Rattle.roles.specs.Both.{of}
@@ -40,6 +40,7 @@ pub record Loss : Type 0 where
   pub from : ℕ
   pub count : ℕ
 
+-- a turn is among them
 abbrev pub is_lost : ℕ → List Loss → Bool
 is_lost turn [] = false
 is_lost turn (l ∷ ls) = (nat_le l.from turn && nat_lt turn (l.from + l.count)) || is_lost turn ls
@@ -48,6 +49,7 @@ is_lost turn (l ∷ ls) = (nat_le l.from turn && nat_lt turn (l.from + l.count))
 abbrev pub way : ℕ → List Loss → List Loss → Way
 way delay orig answ = record { delay = λ role. delay; loses = λ role turn. is_lost turn (of role (record { orig = orig; answ = answ })) }
 
+-- one such line
 abbrev pub loses : ℕ → ℕ → List Loss
 loses count turn = (record { from = turn; count = count }) ∷ []
 
@@ -66,6 +68,18 @@ fifteen = 1 ∷ 2 ∷ 3 ∷ 4 ∷ 5 ∷ 6 ∷ 7 ∷ 8 ∷ 9 ∷ 10 ∷ 11 ∷ 12
 -- fifteen segments of one octet over a long delay, and an empty file the other way
 abbrev pub far : Bool → Link
 far srej = link_of 1 srej 96 (plain fifteen) (plain [])
+
+-- so many octets
+abbrev pub octets : ℕ → List ℕ
+octets zero = []
+octets (suc n) = n % 256 ∷ octets n
+
+-- a hundred segments of one octet each way
+abbrev pub hundred_each : Link
+hundred_each = record {
+  orig = record { setup = setup Originator 1 false false 20; user = plain (octets 100) };
+  answ = record { setup = setup Answerer 1 false false 20; user = plain (octets 100) };
+}
 
 -- a file at an end that is busy in so many turns from that one on
 abbrev pub busy_user : List ℕ → ℕ → ℕ → User

@@ -3,7 +3,9 @@ use Rattle.std.specs.Prelude.{◌≡◌, ℕ, ◌-◌, if◌then◌else◌, Bool
 use Rattle.std.specs.List.{concat}
 use Rattle.roles.specs.declared.role.Role.{Role}
 use Rattle.roles.specs.declared.role.Role.TheVariants.{Originator, Answerer}
-use Rattle.link_run.specs.Outcomes.{Done}
+use Rattle.link_account.specs.declared.fault.LinkFault.{LinkFault}
+use Rattle.link_account.specs.declared.fault.LinkFault.TheVariants.{NotDetected, Spent}
+use Rattle.link_run.specs.Outcomes.{Done, Broken}
 use Rattle.frame_check.specs.declared.check.Check.{Check}
 use Rattle.frame_check.specs.declared.check.Check.TheVariants.{Sixteen, ThirtyTwo}
 use Rattle.roles.specs.Both.{of}
@@ -15,7 +17,7 @@ use Rattle.link_run.specs.Taken.{taken_octets}
 use Rattle.link_run.specs.Counts.{lost_slots, sent_again}
 use Rattle.link_run.specs.Trace.{trace_text, turn_text}
 use Rattle.run_traces.specs.Made.{Way, Made, runs, all_turns}
-use Rattle.run_traces.specs.Settings.{way, checked32, loses, one_break, one_octet_each, fifteen, far, busy_for_a_while, busy_for_long}
+use Rattle.run_traces.specs.Settings.{way, checked32, loses, one_break, one_octet_each, fifteen, far, busy_for_a_while, busy_for_long, hundred_each}
 
 -- The run is done in the turn of that number, with these octets at both ends by the frames that passed and by the accounts.
 pub record DoneIn (srej : Bool) (w : Way) (m : Made) (turn : ℕ) (got_o got_a : List ℕ) : Type 0 where
@@ -105,6 +107,21 @@ BusyEnds = DoneIn false (way 1 [] []) busy_run 31 [] fifteen
 -- The answerer is busy in the first 200 turns, much longer than all tries take.
 abbrev pub BusyForLongEnds : Type 0
 BusyForLongEnds = DoneIn false (way 1 [] []) (runs 300 busy_for_long (way 1 [] [])) 205 (98 ∷ []) (97 ∷ [])
+
+-- A run that ends as an end gives the link up, with so many segments taken at both ends.
+pub record BrokenIn (m : Made) (role : Role) (fault : LinkFault) (turn got_o got_a : ℕ) : Type 0 where
+  pub broken : m.outcome ≡ Some (Broken role fault)
+  pub last : length m.turns ≡ turn
+  pub orig : length m.mid.orig.incoming.taken ≡ got_o
+  pub answ : length m.mid.answ.incoming.taken ≡ got_a
+
+-- All that the originator sends is lost from turn 40 on: the answerer's tries are spent six periods later, at its segment 31.
+abbrev pub LinkLostEnds : Type 0
+LinkLostEnds = BrokenIn (runs 200 hundred_each (way 1 (loses 100000 40) [])) Answerer (Spent 31 40) 160 46 32
+
+-- All that the answerer sends is lost: the originator sees no pattern.
+abbrev pub NotDetectedEnds : Type 0
+NotDetectedEnds = BrokenIn (runs 200 (one_octet_each []) (way 1 [] (loses 1000000 0))) Originator NotDetected 120 0 0
 
 -- Both ends offer the 32-bit check: the frames are those of the run without, each end judges by the 16-bit check up to the turn in which it hears
 -- the other's offer, and from then on by the 32-bit one, with which each frame with numbers is sent.

@@ -3,7 +3,7 @@ ghost use Rattle.std.specs.Prelude.{ℕ};
 ghost use Rattle.link_run.specs.Run.{Link};
 ghost use Rattle.run_traces.specs.Made.{Way, IsMade, runs};
 ghost use Rattle.run_traces.specs.Traces.{PlainTrace, PlainEnds, UaLostEnds, BreakLine8, BreakEnds, BreakAgainEnds, FarRejEnds, FarSrejEnds, FarRejCounts, FarSrejCounts};
-ghost use Rattle.run_traces.specs.Traces.{BusyLine10, BusyEnds, BusyForLongEnds, CheckedEnds, ChecksAre};
+ghost use Rattle.run_traces.specs.Traces.{BusyLine10, BusyEnds, BusyForLongEnds, CheckedEnds, ChecksAre, LinkLostEnds, NotDetectedEnds};
 
 /// What is computed is a run over a line by the definitions.
 pub fn computed_runs_are_runs()
@@ -41,6 +41,12 @@ pub fn busy_ends()
     ensures line { BusyLine10 }
     ensures short { BusyEnds }
     ensures long { BusyForLongEnds }
+{}
+
+/// Ends that give the link up: all their tries are spent, or no pattern is seen.
+pub fn links_that_end()
+    ensures lost { LinkLostEnds }
+    ensures undetected { NotDetectedEnds }
 {}
 
 /// Two ends that agree on the 32-bit check.
