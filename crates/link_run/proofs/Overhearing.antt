@@ -37,7 +37,7 @@ use Rattle.link_run.specs.End.{is_released}
 use Rattle.link_run.specs.Run.{RunOf, Link, Ends, Spoken, Turn, spoken, arrival}
 use Rattle.link_run.specs.Carried.{sent_in, sent_ago, Crosses, HasDelays, IsCarried}
 use Rattle.link_run.specs.Laws.{RunsOver, told_by_play, told_by_turn}
-use Rattle.link_run.specs.Overheard.{has_passed, is_xid, opens, OpensByFrames, agreed_terms, AgreesByXid, agreed_check, SendsAgreedCheck, HearsAgreedCheck, JudgesByItsCheck, IsOld, NothingNew, ReleasesLast, EarlyBreaksAreIgnored}
+use Rattle.link_run.specs.Overheard.{has_passed, is_xid, opens, OpensByFrames, agreed_terms, AgreesByXid, agreed_check, SendsAgreedCheck, HearsAgreedCheck, JudgesByItsCheck, SegmentsPassLater, IsOld, NothingNew, ReleasesLast, EarlyBreaksAreIgnored}
 use Rattle.link_run.proofs.Keeping.{stage, GoesOn, hears, Standing, standing, stands-heard}
 use Rattle.link_run.proofs.Playing.{made, next-first, head-of, none-is-some}
 use Rattle.link_run.proofs.Running.{Reaches, lines, run-reaches, hearing-reaches}
@@ -46,6 +46,8 @@ use Rattle.link_run.proofs.Finishing.{Over, over-run}
 use Rattle.link_run.proofs.Taking.{side_with, all-taken}
 use Rattle.link_run.proofs.Knowing.{rank, OnSent, IfSent, OnArrived, ago-all, came-all, SentO, SentA}
 use Rattle.link_run.proofs.Following.{KnownOf, known-run}
+use Rattle.link_run.proofs.Meeting.{is_segment, is_counted, brings}
+use Rattle.link_run.proofs.Joining.{Met, met-run, came}
 
 pub record KnowingLaws : Type 0 where
   pub reads : ReadsAllowed
@@ -381,3 +383,13 @@ early_breaks_are_ignored laws link delay ts ends t mid v c k role command pf inf
     let a = of role ends in
     let early : has_begun a.phase ≡ false = opens_by_frames laws link delay ts ends v role ∙ closed in
     same-ok (hear (length ts) (arrivals.Frame (Ui command pf info)) a) (of role mid) a (subst (λ h. hear (length ts) (arrival h) a ≡ Ok (of role mid)) e (k role).hears) (ignores a.phase command pf info (length ts) a early)
+
+pub segments_pass_later : KnowingLaws → SegmentsPassLater
+segments_pass_later laws link delay ts ends t v c role ns nr pf info e = sym (opens_by_frames laws link delay ts ends v role) ∙ at-role role e
+  where
+    m : Met ts ends.orig ends.answ
+    m = met-run laws.reads laws.keeps link delay v.may_play ts ends v.carried v.run
+
+    at-role : (role : Role) → (of role t).heard ≡ Passed (slots.Frame (I ns nr pf info)) → has_begun (of role ends).phase ≡ true
+    at-role Originator q = stage-begun ends.orig.phase (m.segments (came is_segment delay Answerer ts t.orig.heard (c Originator) (ap (λ h. brings is_segment (arrival h)) q)))
+    at-role Answerer q = stage-begun ends.answ.phase (m.up (m.froms (came is_counted delay Originator ts t.answ.heard (c Answerer) (ap (λ h. brings is_counted (arrival h)) q))))

@@ -53,6 +53,12 @@ abbrev pub OpensByFrames : Type 0
 OpensByFrames = (link : Link) (delay : Role → ℕ) (ts : List Turn) (ends : Ends) → RunsOver link delay ts ends
     → (role : Role) → has_begun (of role ends).phase ≡ has_passed (opens role) role ts
 
+-- No I frame passes to an end before.
+abbrev pub SegmentsPassLater : Type 0
+SegmentsPassLater = (link : Link) (delay : Role → ℕ) (ts : List Turn) (ends : Ends) (t : Turn) → RunsOver link delay ts ends → Carries delay ts t
+    → (role : Role) (ns nr : ℕ) (pf : Bool) (info : List ℕ) → (of role t).heard ≡ Passed (slots.Frame (I ns nr pf info))
+    → has_passed (opens role) role ts ≡ true
+
 -- what both offers come to
 abbrev pub agreed_terms : Link → Terms
 agreed_terms link = agree link.orig.setup.offer link.answ.setup.offer

@@ -3,7 +3,8 @@ ghost use Rattle.link_run.specs.Alone.{OneLoneRun, LoneHearingsDeliver, LoneSpea
 ghost use Rattle.link_run.specs.Laws.{RunsArePlays, HearingsArePlays, TakesPrefixes, HearsPrefixes, DoneIsWhole, HearingsAreWell, BrokenForWant};
 ghost use Rattle.link_run.specs.Laws.{OneRun, OneOutcome, HearingsDeliver, SpeakingTakesNothing, GivesAllBreaks, TakesWhatPassed, HearsWhatPassed};
 ghost use Rattle.link_run.specs.Laws.{SendsShort, EachEndIsNamed, EachTurnIsMade, OffersUntilNoneIsWanted};
-ghost use Rattle.link_run.specs.Overheard.{OpensByFrames, AgreesByXid, SendsAgreedCheck, HearsAgreedCheck, JudgesByItsCheck, ReleasesLast, EarlyBreaksAreIgnored};
+ghost use Rattle.link_run.specs.Overheard.{OpensByFrames, SegmentsPassLater, AgreesByXid, SendsAgreedCheck, HearsAgreedCheck, JudgesByItsCheck};
+ghost use Rattle.link_run.specs.Overheard.{ReleasesLast, EarlyBreaksAreIgnored};
 
 use lapm_receiver::laws::keeps_taken;
 use link_account::laws::{acknowledgements, frames_on_the_line, numbers_on_the_line, plays};
@@ -120,6 +121,7 @@ pub fn pieces_are_offered_until_none_is_wanted()
 /// for all.
 pub fn frames_tell_how_far_ends_are()
     ensures opens { OpensByFrames }
+    ensures segments { SegmentsPassLater }
     ensures agrees { AgreesByXid }
 {
     reads_allowed();
