@@ -1,7 +1,8 @@
 //! What holds of all runs over the line of samples. The functions do nothing but name the laws that they rest on: each law is a contract.
 ghost use Rattle.line_run.specs.Ends.{RunsLeavePrefixes, DoneLeavesWhole, RunsLeaveWhatPassed, OneResult};
 ghost use Rattle.line_run.specs.LineLaws.{SamplesAreCarried, OneIsCarried, HeardOnce, OneLineRun, OneLineEnd, EndsOrGoesOn};
-ghost use Rattle.line_run.specs.Scripted.{ScriptsMayPlay, ScriptsHaveDelays, BreaksAreTheScripts, PausesAreTheScripts, SlotSizesAreKnown, SlotsHaveRoom, SlotsAreCodable};
+ghost use Rattle.line_run.specs.Scripted.{ScriptsMayPlay, ScriptsHaveDelays, BreaksAreTheScripts, PausesAreTheScripts};
+ghost use Rattle.line_run.specs.Scripted.{SlotSizesAreKnown, SlotsHaveRoom, SlotsAreCodable};
 
 use line_laws::laws::codable_slots_fit;
 use link_run::laws::{done_is_whole, frames_are_short, one_run, prefixes, what_passed_is_taken};

@@ -1,10 +1,10 @@
 //! What holds of all runs. The functions do nothing but name the laws that they rest on: each law is a contract.
 ghost use Rattle.link_run.specs.Alone.{OneLoneRun, LoneHearingsDeliver, LoneSpeakingTakesNothing, EachLoneTurnIsMade};
 ghost use Rattle.link_run.specs.Laws.{RunsArePlays, HearingsArePlays, TakesPrefixes, HearsPrefixes, DoneIsWhole, HearingsAreWell, BrokenForWant};
-ghost use Rattle.link_run.specs.Laws.{OneRun, OneOutcome, HearingsDeliver, SpeakingTakesNothing, GivesAllBreaks, TakesWhatPassed, HearsWhatPassed};
-ghost use Rattle.link_run.specs.Laws.{SendsShort, EachEndIsNamed, EachTurnIsMade, OffersUntilNoneIsWanted};
-ghost use Rattle.link_run.specs.Overheard.{OpensByFrames, SegmentsPassLater, AgreesByXid, SendsAgreedCheck, HearsAgreedCheck, JudgesByItsCheck};
-ghost use Rattle.link_run.specs.Overheard.{ReleasesLast, EarlyBreaksAreIgnored};
+ghost use Rattle.link_run.specs.Laws.{OneRun, OneOutcome, HearingsDeliver, SpeakingTakesNothing, GivesAllBreaks};
+ghost use Rattle.link_run.specs.Laws.{TakesWhatPassed, HearsWhatPassed, SendsShort, EachEndIsNamed, EachTurnIsMade, OffersUntilNoneIsWanted};
+ghost use Rattle.link_run.specs.Overheard.{OpensByFrames, SegmentsPassLater, AgreesByXid, SendsAgreedCheck, HearsAgreedCheck};
+ghost use Rattle.link_run.specs.Overheard.{JudgesByItsCheck, ReleasesLast, EarlyBreaksAreIgnored};
 
 use lapm_receiver::laws::keeps_taken;
 use link_account::laws::{acknowledgements, frames_on_the_line, numbers_on_the_line, plays};
@@ -40,7 +40,8 @@ pub fn done_is_whole()
     acknowledgements();
 }
 
-/// No end breaks as it hears, and as it speaks it breaks for want of answers alone: neither meets a bad acknowledgement, a reset or a refusal.
+/// No end breaks as it hears, and as it speaks it breaks for want of answers alone: neither meets a bad acknowledgement, a reset or a
+/// refusal.
 pub fn ends_break_for_want_alone()
     ensures hearing { HearingsAreWell }
     ensures speaking { BrokenForWant }
@@ -87,7 +88,8 @@ pub fn frames_are_short()
     keeps_taken();
 }
 
-/// Whatever a line makes of what was sent, there is a next turn, and an end that breaks has spent its tries, or is the originator and saw no pattern.
+/// Whatever a line makes of what was sent, there is a next turn, and an end that breaks has spent its tries, or is the originator and saw no
+/// pattern.
 pub fn each_turn_is_made()
     ensures made { EachTurnIsMade }
     ensures named { EachEndIsNamed }
@@ -117,8 +119,8 @@ pub fn pieces_are_offered_until_none_is_wanted()
     ensures { OffersUntilNoneIsWanted }
 {}
 
-/// The frames that passed to an end tell how far it is: a UA or a SABME that it is Connected, an XID frame that its terms are agreed, once and
-/// for all.
+/// The frames that passed to an end tell how far it is: a UA or a SABME that it is Connected, an XID frame that its terms are agreed, once
+/// and for all. No I frame passes to it before.
 pub fn frames_tell_how_far_ends_are()
     ensures opens { OpensByFrames }
     ensures segments { SegmentsPassLater }
