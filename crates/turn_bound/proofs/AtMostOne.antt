@@ -157,7 +157,7 @@ one-frame role Closed frame turn a e er h = go frame
     go (Disc pf) = one-closed role _ (ap is_closed e)
     go f = one-same role a a h refl refl (λ x. x)
 
-one-hears : (role : Role) (arrived : Arrived) (turn : ℕ) (a : Account) → a.setup.role ≡ role → NoneDue a → MakesOne role (hear turn arrived a)
+pub one-hears : (role : Role) (arrived : Arrived) (turn : ℕ) (a : Account) → a.setup.role ≡ role → NoneDue a → MakesOne role (hear turn arrived a)
 one-hears role arrivals.Nothing turn a er h = record { one = inl (ap without_adp h.answer); calm = λ c r. h.reply r; none = λ r c. ap without_adp h.answer }
 one-hears role (arrivals.Pattern seen) turn a er h = go a.phase refl
   where
@@ -185,7 +185,7 @@ Goes (Ok said) = NoneDue said.account
 abbrev pub Clean : Said → Type 0
 Clean said = (said.account.owes.answer ≡ None) × (said.account.owes.reply ≡ false)
 
-by-steps : (P : Said → Type 0) (first : Option Said) (said : Said) → AllSaid P first → (first ≡ None → P said) → P (else_says first said)
+pub by-steps : (P : Said → Type 0) (first : Option Said) (said : Said) → AllSaid P first → (first ≡ None → P said) → P (else_says first said)
 by-steps P None said h k = k refl
 by-steps P (Some first) said h k = h
 
@@ -319,7 +319,7 @@ said-clean z before turn release role p a st e er open_ h = subst (λ q. Goes (s
     go Originator Closed st f g o k = let wrong : false ≡ true = sym (o refl) ∙ ap is_closed f in cc
     go Answerer Closed st f g o k = answers slots.Flags (calm Answerer Closed f k refl)
 
-one-ok : (role : Role) (mid : Account) (r : Result Account LinkFault) → r ≡ Ok mid → MakesOne role r → OneDue role mid
+pub one-ok : (role : Role) (mid : Account) (r : Result Account LinkFault) → r ≡ Ok mid → MakesOne role r → OneDue role mid
 one-ok role mid (Err fault) e h = cc
 one-ok role mid (Ok b) e h = let same : b ≡ mid = cc in subst (OneDue role) same h
 

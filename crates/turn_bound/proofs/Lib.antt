@@ -1,34 +1,34 @@
-mod Clock
-mod Value
-mod Run
-mod Potential
-mod Arithmetic
-mod Sender
-mod Sending
+pub mod Clock
+pub mod Value
+pub mod Run
+pub mod Potential
+pub mod Arithmetic
+pub mod Sender
+pub mod Sending
 mod Breaking
-mod Hearing
+pub mod Hearing
 mod Offers
-mod Phases
-mod Speaking
+pub mod Phases
+pub mod Speaking
 mod Turning
-mod Serving
-mod Serves
+pub mod Serving
+pub mod Serves
 mod Still
 mod SpeakStill
-mod Light
-mod OneTurn
+pub mod Light
+pub mod OneTurn
 mod StillTurn
 mod Lines
-mod Falls
-mod Ending
-mod MeetHear
+pub mod Falls
+pub mod Ending
+pub mod MeetHear
 mod MeetSpeak
-mod Meeting
+pub mod Meeting
 mod Soon
 mod Spending
-mod AtMostOne
+pub mod AtMostOne
 mod Sizes
-mod Tied
+pub mod Tied
 mod Credits
 mod Taking
 mod Asking

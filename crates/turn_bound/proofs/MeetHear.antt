@@ -95,7 +95,7 @@ o-early ua final a b p q e f r n = record {
   awaits = λ h g i. let wrong : true ≡ false = ap is_begun (sym i) ∙ (ap is_begun f ∙ n) in cc;
 }
 
-resumed-awaited : (o : Outgoing) → (resumed o).awaited ≡ o.awaited
+pub resumed-awaited : (o : Outgoing) → (resumed o).awaited ≡ o.awaited
 resumed-awaited o = by o.paused
   where
     by : (b : Bool) → (cond b (record o { paused = false; count = cond (is_outstanding o || o.awaited) o.count 0 }) o).awaited ≡ o.awaited
@@ -112,16 +112,16 @@ o-number ua final turn nr a f (Some o) e same k = record {
   awaits = λ h g i. ap (λ x. x.awaited) (same _).1 ∙ (k o refl g ∙ h e);
 }
 
-some-made : (made : ℕ → Outgoing) (m : Option ℕ) (o : Outgoing) (w : Bool) → option_map made m ≡ Some o → ((n : ℕ) → (made n).awaited ≡ w) → o.awaited ≡ w
+pub some-made : (made : ℕ → Outgoing) (m : Option ℕ) (o : Outgoing) (w : Bool) → option_map made m ≡ Some o → ((n : ℕ) → (made n).awaited ≡ w) → o.awaited ≡ w
 some-made made None o w e h = cc
 some-made made (Some n) o w e h = let same : made n ≡ o = cc in ap (λ x. x.awaited) (sym same) ∙ h n
 
-some-then : (g : Outgoing → Outgoing) (m : Option Outgoing) (o : Outgoing) (w : Bool) → option_map g m ≡ Some o → ((x : Outgoing) → (g x).awaited ≡ x.awaited) → ((x : Outgoing) → m ≡ Some x → x.awaited ≡ w) → o.awaited ≡ w
+pub some-then : (g : Outgoing → Outgoing) (m : Option Outgoing) (o : Outgoing) (w : Bool) → option_map g m ≡ Some o → ((x : Outgoing) → (g x).awaited ≡ x.awaited) → ((x : Outgoing) → m ≡ Some x → x.awaited ≡ w) → o.awaited ≡ w
 some-then g None o w e h k = cc
 some-then g (Some x) o w e h k = let same : g x ≡ o = cc in ap (λ y. y.awaited) (sym same) ∙ (h x ∙ k x refl)
 
 -- which of two is used, by whether the answer came
-not-answer : (command pf : Bool) (a : Account) (first second : Option Outgoing) (x : Outgoing) → pf && not command ≡ false → cond (ends_wait command pf a) first second ≡ Some x → second ≡ Some x
+pub not-answer : (command pf : Bool) (a : Account) (first second : Option Outgoing) (x : Outgoing) → pf && not command ≡ false → cond (ends_wait command pf a) first second ≡ Some x → second ≡ Some x
 not-answer command pf a first second x e h = go a.outgoing.awaited (pf && not command) e h
   where
     go : (w f : Bool) → f ≡ false → cond (w && f) first second ≡ Some x → second ≡ Some x

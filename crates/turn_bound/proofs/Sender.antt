@@ -51,7 +51,7 @@ outstanding-same o new h e = let same : o.front ≡ new.front = grind (arith, na
 waiting-less : (out awaited paused awaited' paused' : Bool) → (awaited' ≡ true → awaited ≡ true) → (paused' ≡ true → paused ≡ true) → (out || (awaited' || paused')) ≡ true → (out || (awaited || paused)) ≡ true
 waiting-less out awaited paused awaited' paused' h1 h2 e = grind (arith)
 
-heard-clock : (z : Rates) (turn : ℕ) (o new : Outgoing) (timer : Option ℕ) → Sends z turn turn o timer → Heard o new
+pub heard-clock : (z : Rates) (turn : ℕ) (o new : Outgoing) (timer : Option ℕ) → Sends z turn turn o timer → Heard o new
     → (timer_after turn o new timer ≡ cond (is_waiting new) (cond (nat_lt o.front new.front) (Some turn) timer) None)
     × (new.count ≡ cond (is_waiting new) (cond (nat_lt o.front new.front) 0 o.count) 0)
 heard-clock z turn o new timer s h = (

@@ -78,14 +78,14 @@ silent slots.Odp e = cc
 silent slots.Adp e = cc
 silent (slots.Frame frame) e = cc
 
-none-heard : (m : Option Spoken) (heard : Heard) → m ≡ None → Crosses m heard → arrivals.Nothing ≡ runs.arrival heard
+pub none-heard : (m : Option Spoken) (heard : Heard) → m ≡ None → Crosses m heard → arrivals.Nothing ≡ runs.arrival heard
 none-heard None Nothing e c = refl
 none-heard None (Passed s) e c = absurd c
 none-heard None (Lost s) e c = absurd c
 none-heard None Chance e c = absurd c
 none-heard (Some slot) heard e c = cc
 
-one-heard : (m : Option Spoken) (sent : Sent) (heard : Heard) → sent_of m ≡ Some sent → Crosses m heard → cond (is_lost heard) arrivals.Nothing (arrives sent) ≡ runs.arrival heard
+pub one-heard : (m : Option Spoken) (sent : Sent) (heard : Heard) → sent_of m ≡ Some sent → Crosses m heard → cond (is_lost heard) arrivals.Nothing (arrives sent) ≡ runs.arrival heard
 one-heard None sent heard e c = cc
 one-heard (Some slot) sent heard e c =
     let same : slot.sent ≡ sent = cc in
