@@ -38,7 +38,7 @@ linked-sends z before turn r Establishing a st e = cc
 linked-sends z before turn r Releasing a st e = cc
 linked-sends z before turn r Closed a st e = cc
 
-connected-is : (p : Phase) → is_connected p ≡ true → p ≡ Connected
+pub connected-is : (p : Phase) → is_connected p ≡ true → p ≡ Connected
 connected-is Connected e = refl
 connected-is Detecting e = cc
 connected-is Negotiating e = cc
@@ -65,7 +65,7 @@ released-says turn a said h = go (nat_eq turn (turn + a.setup.period)) (nat_eq 0
     go true true q = cc
     go true false q = of-said _ _ refl refl q
 
-linked-says : (turn : ℕ) (release : Bool) (a : Account) (said : Said) → a.phase ≡ Connected → is_connected said.account.phase ≡ true → speak turn release a ≡ Ok said → speak_linked turn a ≡ Ok said
+pub linked-says : (turn : ℕ) (release : Bool) (a : Account) (said : Said) → a.phase ≡ Connected → is_connected said.account.phase ≡ true → speak turn release a ≡ Ok said → speak_linked turn a ≡ Ok said
 linked-says turn release a said e c h = go (release && is_originator a.setup.role) (sym (ap (λ p. speak_in p turn release a) e) ∙ h)
   where
     go : (x : Bool) → cond x (speak_releasing turn (trying Releasing turn a)) (speak_linked turn a) ≡ Ok said → speak_linked turn a ≡ Ok said

@@ -1,11 +1,13 @@
+use Rattle.std.proofs.Common.{◌*◌, ◌-◌, Bool, refl}
 use Rattle.std.proofs.Common.{◌⊎◌, inl, inr, ◌≡◌, ℕ, zero, suc, ◌+◌, ◌<◌, ◌≤◌, true, false, arith, sym, ◌∙◌, ap, subst, Some}
 use Rattle.std.proofs.lemmas.Bool.{cases_lt}
 use Rattle.link_account.specs.Account.{is_connected}
-use Rattle.turn_periods.proofs.Polling.{PollTurn}
+use Rattle.turn_periods.proofs.Polling.{is_linked, PollTurn}
 use Rattle.turn_periods.proofs.TwoEnds.{EndRun, TwoEnds, hears_poll, hears_final}
 use Rattle.turn_periods.proofs.PollHear.{linked-connected}
 use Rattle.turn_periods.proofs.PeriodLaws.{linked-on, connected-back, NoneLost, StayConnected}
 use Rattle.turn_periods.proofs.PeriodHolds.{LostIn, period-loses}
+use Rattle.turn_periods.proofs.Acknowledged.{Counts}
 
 -- The last expiry before a turn in which the retry count is n + 1: since then the count was that whenever the end had heard.
 pub record Expired (n turn : ℕ) (e : EndRun) : Type 0 where
@@ -18,12 +20,12 @@ pub record Expired (n turn : ℕ) (e : EndRun) : Type 0 where
   pub since : (u : ℕ) → at < u → u < turn → e.count u ≡ n + 1
 
 -- from a turn on in which the end is Connected and the count is 0
-pub expired : (period turns : ℕ) (e o : EndRun) → TwoEnds period turns e o → (from : ℕ) → is_connected (e.account from).phase ≡ true → (e.account from).outgoing.count ≡ 0
+pub last-expired : (period turns : ℕ) (e o : EndRun) → TwoEnds period turns e o → (from : ℕ) → is_connected (e.account from).phase ≡ true → (e.account from).outgoing.count ≡ 0
     → (t : ℕ) → from ≤ t → t ≤ turns → is_connected (e.account t).phase ≡ true → (n : ℕ) → (e.account t).outgoing.count ≡ n + 1 → Expired n t e
-expired period turns e o k from c0 z zero low within c n h = let same : (e.account 0).outgoing.count ≡ 0 = subst (λ x. (e.account x).outgoing.count ≡ 0) (omega (arith, low)) z in let wrong : ⊥ = omega (arith, same, h) in absurd wrong
-expired period turns e o k from c0 z (suc t) low within c n h = elim (cases_lt t from) [
+last-expired period turns e o k from c0 z zero low within c n h = let same : (e.account 0).outgoing.count ≡ 0 = subst (λ x. (e.account x).outgoing.count ≡ 0) (omega (arith, low)) z in let wrong : ⊥ = omega (arith, same, h) in absurd wrong
+last-expired period turns e o k from c0 z (suc t) low within c n h = elim (cases_lt t from) [
   | inl l ↦ none (omega (arith, low, l))
-  | inr g ↦ subst (λ x. Expired n x e) (omega arith) (step g (before g) (λ m q. expired period turns e o k from c0 z t g (omega (arith, within)) (before g) m q))
+  | inr g ↦ subst (λ x. Expired n x e) (omega arith) (step g (before g) (λ m q. last-expired period turns e o k from c0 z t g (omega (arith, within)) (before g) m q))
 ]
   where
     none : suc t ≡ from → Expired n (suc t) e
@@ -90,7 +92,7 @@ period-before period turns e o k from c0 z n t within x low = record {
     counts (inr v) = sym v ∙ x.count
 
     last : Expired n x.at e
-    last = expired period turns e o k from c0 z x.at low (omega (arith, inside)) x.connected n (counts (w.kept x.connected))
+    last = last-expired period turns e o k from c0 z x.at low (omega (arith, inside)) x.connected n (counts (w.kept x.connected))
 
     exact : last.at + period ≡ x.at
     exact = by (w.made_from x.made (linked-connected (e.account x.at).phase x.connected))
@@ -101,16 +103,52 @@ period-before period turns e o k from c0 z n t within x low = record {
     same : (u : ℕ) → u ≡ x.at → e.count u ≡ n + 1
     same u q = ap e.count q ∙ x.count
 
--- So a line is lost in each period between two expiries that follow one another without a start, given that what is sent at the answer is acknowledged.
-pub expiry-loses : (period turns : ℕ) (e o : EndRun) (first : ℕ → Type 0) → TwoEnds period turns e o
-    → ((t : ℕ) → t < turns → is_connected (e.account t).phase ≡ true → is_connected (e.account (t + 1)).phase ≡ true → hears_final e t ≡ true → (e.count t ≡ 0) ⊎ first t)
-    → ((u : ℕ) → first u → u + (e.delay + o.delay) + 1 < turns → StayConnected e u (u + (e.delay + o.delay) + 2) → StayConnected o u (u + (e.delay + o.delay) + 2) → NoneLost e o (u + 1) (e.delay + o.delay + 1)
-    → (v : ℕ) × (u < v) × (v ≤ u + (e.delay + o.delay) + 1) × (e.count v ≡ 0))
-    → (n t : ℕ) → t < turns → (x : PeriodBefore period n t e) → StayConnected e x.expiry.at (t + 1) → StayConnected o x.expiry.at (t + 1) → LostIn e o (x.expiry.at + 1) period
-expiry-loses period turns e o first k answered acknowledged n t within x ce co =
-    period-loses period turns e o (λ v. e.count v ≡ 0) first k answered acknowledged x.expiry.at (omega (arith, exact, within)) x.expiry.made
-    (λ u l g. ce u l (omega (arith, g, exact))) (λ u l g. co u l (omega (arith, g, exact)))
-    (λ v l g c. let q = x.uncleared v l (omega (arith, g, exact)) in let wrong : ⊥ = omega (arith, q, c) in wrong)
+-- where an end was Connected first
+pub record First (turns : ℕ) (e : EndRun) : Type 0 where
+  pub from : ℕ
+  pub connected : is_connected (e.account from).phase ≡ true
+  pub count : (e.account from).outgoing.count ≡ 0
+  pub none_before : (u : ℕ) → u ≤ turns → is_connected (e.account u).phase ≡ true → from ≤ u
+
+pub first-connected : (period turns : ℕ) (e o : EndRun) → TwoEnds period turns e o → Counts turns e o → (t : ℕ) → t ≤ turns → is_connected (e.account t).phase ≡ true → First turns e
+first-connected period turns e o k c zero l h = let wrong : true ≡ false = sym h ∙ c.not_first in cc
+first-connected period turns e o k c (suc t) l h = go (is_linked (e.account t).phase) refl (λ b. first-connected period turns e o k c t (omega (arith, l)) b)
   where
-    exact : x.expiry.at + period ≡ t
-    exact = x.exact
+    now : is_connected (e.account (t + 1)).phase ≡ true
+    now = subst (λ x. is_connected (e.account x).phase ≡ true) (omega arith) h
+
+    go : (b : Bool) → is_linked (e.account t).phase ≡ b → (is_connected (e.account t).phase ≡ true → First turns e) → First turns e
+    go true q again = again ((k.own t (omega (arith, l))).timer now q).0
+    go false q again = record {
+      from = t + 1; connected = now; count = c.begins t (omega (arith, l)) q now;
+      none_before = λ u w x. elim (cases_lt u (t + 1)) [ inl y ↦ early u (omega (arith, y)) x | inr y ↦ y ];
+    }
+      where
+        early : (u : ℕ) → u ≤ t → is_connected (e.account u).phase ≡ true → t + 1 ≤ u
+        early u y x = let wrong : true ≡ false = sym (linked-on period turns e o k u t y (omega (arith, l)) (linked-connected (e.account u).phase x)) ∙ q in cc
+
+pub once-more : (j p : ℕ) → suc j * p ≡ j * p + p
+once-more j p = grind (arith)
+
+no-times : (p : ℕ) → 0 * p ≡ 0
+no-times p = omega arith
+
+-- So a line is lost in each period before the last expiry, as many as the retry count says, and in the one after it.
+pub losses : (period turns : ℕ) (e o : EndRun) → TwoEnds period turns e o → Counts turns e o → (f : First turns e) → StayConnected e f.from turns → StayConnected o f.from turns
+    → (n t : ℕ) → t ≤ turns → (x : Expired n t e) → x.at + period ≤ t → (i : ℕ) → i ≤ n → (s : ℕ) × (s + i * period ≡ x.at) × LostIn e o (s + 1) (period - 1)
+losses period turns e o k c f ce co n t l x far zero q =
+    let none = no-times period in
+    let low : f.from ≤ x.at = f.none_before x.at (let b = x.before in omega (arith, b, l)) x.connected in
+    (x.at, omega (arith, none), period-loses period turns e o k c x.at (omega (arith, far, l)) x.made (λ u a b. ce u (omega (arith, a, low)) (omega (arith, b, far, l))) (λ u a b. co u (omega (arith, a, low)) (omega (arith, b, far, l)))
+      (λ v a b z. let w = x.since v a (omega (arith, b, far)) in omega (arith, w, z)))
+losses period turns e o k c f ce co zero t l x far (suc j) q = absurd (omega (arith, q))
+losses period turns e o k c f ce co (suc n) t l x far (suc j) q = go (losses period turns e o k c f ce co n x.at (let b = x.before in omega (arith, b, l)) last.expiry (let r = last.exact in omega (arith, r)) j (omega (arith, q)))
+  where
+    low : f.from ≤ x.at
+    low = f.none_before x.at (let b = x.before in omega (arith, b, l)) x.connected
+
+    last : PeriodBefore period n x.at e
+    last = period-before period turns e o k f.from f.connected f.count n t l (subst (λ m. Expired m t e) (omega arith) x) low
+
+    go : (s : ℕ) × (s + j * period ≡ last.expiry.at) × LostIn e o (s + 1) (period - 1) → (s : ℕ) × (s + suc j * period ≡ x.at) × LostIn e o (s + 1) (period - 1)
+    go (s, r, w) = let m = once-more j period in let g = last.exact in (s, omega (arith, r, m, g), w)

@@ -19,3 +19,12 @@ mod PeriodLaws
 mod PeriodHolds
 mod Expiries
 mod Keeping
+mod NumberHear
+mod NumberSpeak
+mod Room
+mod NumberTurn
+mod Acknowledged
+mod Numbering
+mod Wanting
+mod Starving
+mod Detecting

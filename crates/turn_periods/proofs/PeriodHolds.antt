@@ -16,6 +16,9 @@ use Rattle.turn_periods.proofs.KeepsPolls.{Answers, StillAwaited}
 use Rattle.turn_periods.proofs.LineLaw.{SetSince, set-since}
 use Rattle.turn_periods.proofs.PollLaws.{two-ends, reply-matches}
 use Rattle.turn_periods.proofs.PeriodLaws.{still-awaited, answer-comes, NoneLost, StayConnected}
+use Rattle.std.proofs.Common.{◌%◌, ◌-◌}
+use Rattle.turn_periods.proofs.NumberHear.{ns_sent}
+use Rattle.turn_periods.proofs.Acknowledged.{Counts, acknowledged}
 
 -- while the answer to a poll is on its way, the clock doesn't expire
 pub unexpired : (period turns : ℕ) (e o : EndRun) → TwoEnds period turns e o → (t : ℕ) → t < turns → is_connected (e.account t).phase ≡ true → hears_final e t ≡ true → (r : ℕ) → (e.account t).wait.timer ≡ Some r → t < r + period
@@ -49,28 +52,27 @@ end-answered tries period delay link ts state deed k w role t within c c' h =
     elim (poll-answered period (length ts) (end_run delay state deed role) (end_run delay state deed (other role)) (two-ends tries period delay link ts state deed k w role) t within c h (of role (deed t).mid)
     (served_at link t (deed t).mid role).account (g.speaking role).said (g.speaking role).after_is c' (g.answers role)) [ inl x ↦ inl x | inr y ↦ inr (within, y) ]
 
--- A period that an expiry begins, at two ends that stay Connected: where no line is lost in it the retry count is 0 in one of its turns, given that what is sent at the answer is acknowledged.
-pub period-cleared : (period turns : ℕ) (e o : EndRun) (cleared first : ℕ → Type 0) → TwoEnds period turns e o
-    → ((t : ℕ) → t < turns → is_connected (e.account t).phase ≡ true → is_connected (e.account (t + 1)).phase ≡ true → hears_final e t ≡ true → cleared t ⊎ first t)
-    → ((u : ℕ) → first u → u + (e.delay + o.delay) + 1 < turns → StayConnected e u (u + (e.delay + o.delay) + 2) → StayConnected o u (u + (e.delay + o.delay) + 2) → NoneLost e o (u + 1) (e.delay + o.delay + 1)
-    → (v : ℕ) × (u < v) × (v ≤ u + (e.delay + o.delay) + 1) × cleared v)
-    → (s : ℕ) → s + period < turns → e.made s ≡ true → StayConnected e s (s + period + 1) → StayConnected o s (s + period + 1) → NoneLost e o (s + 1) period
-    → (v : ℕ) × (s < v) × (v ≤ s + period) × cleared v
-period-cleared period turns e o cleared first k answered acknowledged s within m ce co lost =
+-- A period that an expiry begins, at two ends that stay Connected: where no line is lost in it the retry count is 0 in one of its turns.
+pub period-cleared : (period turns : ℕ) (e o : EndRun) → TwoEnds period turns e o → Counts turns e o → (s : ℕ) → s + period ≤ turns → e.made s ≡ true
+    → StayConnected e s (s + period) → StayConnected o s (s + period) → NoneLost e o (s + 1) (period - 1) → (v : ℕ) × (s < v) × (v < s + period) × (e.count v ≡ 0)
+period-cleared period turns e o k c s within m ce co lost =
     go (answer-comes period turns e o k s (omega (arith, p, within)) m (λ t l g. ce t l (omega (arith, g, p))) (λ t l g. co t l (omega (arith, g, p))) (λ t l g. lost t l (omega (arith, g, p))))
   where
     p : period ≡ 2 * (e.delay + o.delay) + 16
     p = k.period_is
 
-    go : (u : ℕ) × (s < u) × (u ≤ s + (e.delay + o.delay) + 1) × (hears_final e u ≡ true) → (v : ℕ) × (s < v) × (v ≤ s + period) × cleared v
-    go (u, low, high, h) = either (answered u (omega (arith, p, high, within)) (ce u (omega (arith, low)) (omega (arith, high, p))) (ce (u + 1) (omega (arith, low)) (omega (arith, high, p))) h)
-      where
-        later : (v : ℕ) × (u < v) × (v ≤ u + (e.delay + o.delay) + 1) × cleared v → (v : ℕ) × (s < v) × (v ≤ s + period) × cleared v
-        later (v, x, y, z) = (v, omega (arith, x, low), omega (arith, y, high, p), z)
+    d : 1 ≤ e.delay
+    d = k.own_delay
 
-        either : cleared u ⊎ first u → (v : ℕ) × (s < v) × (v ≤ s + period) × cleared v
-        either (inl x) = (u, low, omega (arith, high, p), x)
-        either (inr x) = later (acknowledged u x (omega (arith, high, p, within)) (λ t l g. ce t (omega (arith, l, low)) (omega (arith, g, high, p))) (λ t l g. co t (omega (arith, l, low)) (omega (arith, g, high, p)))
+    go : (u : ℕ) × (s + (e.delay + o.delay) ≤ u) × (u ≤ s + (e.delay + o.delay) + 1) × (hears_final e u ≡ true) → (v : ℕ) × (s < v) × (v < s + period) × (e.count v ≡ 0)
+    go (u, low, high, h) = either (c.answered u (omega (arith, p, high, within)) (ce u (omega (arith, low)) (omega (arith, high, p))) (ce (u + 1) (omega (arith, low)) (omega (arith, high, p))) h)
+      where
+        later : (v : ℕ) × (u < v) × (v ≤ u + (e.delay + o.delay) + 1) × ((e.mid v).outgoing.count ≡ 0) → (v : ℕ) × (s < v) × (v < s + period) × (e.count v ≡ 0)
+        later (v, x, y, z) = (v, omega (arith, x, low), omega (arith, y, high, p), c.count_is v ∙ z)
+
+        either : (e.count u ≡ 0) ⊎ (ns_sent (e.slot u) ≡ Some ((e.mid u).outgoing.front % 128)) → (v : ℕ) × (s < v) × (v < s + period) × (e.count v ≡ 0)
+        either (inl x) = (u, omega (arith, low, d), omega (arith, high, p), x)
+        either (inr x) = later (acknowledged period turns e o k c u (omega (arith, high, p, within)) h x (λ t l g. ce t (omega (arith, l, low)) (omega (arith, g, high, p))) (λ t l g. co t (omega (arith, l, low)) (omega (arith, g, high, p)))
             (λ t l g. lost t (omega (arith, l, low)) (omega (arith, g, high, p))))
 
 -- a line is lost in one of these turns
@@ -97,14 +99,10 @@ lost-or-none e o from (suc n) = go (lost-or-none e o from n)
     go (inr h) = at h (e.loses (from + n)) (o.loses (from + n)) refl refl
 
 -- A line is lost in each such period in which the retry count never is 0.
-pub period-loses : (period turns : ℕ) (e o : EndRun) (cleared first : ℕ → Type 0) → TwoEnds period turns e o
-    → ((t : ℕ) → t < turns → is_connected (e.account t).phase ≡ true → is_connected (e.account (t + 1)).phase ≡ true → hears_final e t ≡ true → cleared t ⊎ first t)
-    → ((u : ℕ) → first u → u + (e.delay + o.delay) + 1 < turns → StayConnected e u (u + (e.delay + o.delay) + 2) → StayConnected o u (u + (e.delay + o.delay) + 2) → NoneLost e o (u + 1) (e.delay + o.delay + 1)
-    → (v : ℕ) × (u < v) × (v ≤ u + (e.delay + o.delay) + 1) × cleared v)
-    → (s : ℕ) → s + period < turns → e.made s ≡ true → StayConnected e s (s + period + 1) → StayConnected o s (s + period + 1) → ((v : ℕ) → s < v → v ≤ s + period → cleared v → ⊥)
-    → LostIn e o (s + 1) period
-period-loses period turns e o cleared first k answered acknowledged s within m ce co none = go (lost-or-none e o (s + 1) period)
+pub period-loses : (period turns : ℕ) (e o : EndRun) → TwoEnds period turns e o → Counts turns e o → (s : ℕ) → s + period ≤ turns → e.made s ≡ true
+    → StayConnected e s (s + period) → StayConnected o s (s + period) → ((v : ℕ) → s < v → v < s + period → e.count v ≡ 0 → ⊥) → LostIn e o (s + 1) (period - 1)
+period-loses period turns e o k c s within m ce co none = go (lost-or-none e o (s + 1) (period - 1))
   where
-    go : LostIn e o (s + 1) period ⊎ NoneLost e o (s + 1) period → LostIn e o (s + 1) period
+    go : LostIn e o (s + 1) (period - 1) ⊎ NoneLost e o (s + 1) (period - 1) → LostIn e o (s + 1) (period - 1)
     go (inl x) = x
-    go (inr h) = let v = period-cleared period turns e o cleared first k answered acknowledged s within m ce co h in absurd (none v.0 v.1 v.2 v.3)
+    go (inr h) = let v = period-cleared period turns e o k c s within m ce co h in absurd (none v.0 v.1 v.2 v.3)

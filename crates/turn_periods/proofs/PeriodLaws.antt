@@ -28,13 +28,10 @@ connected-back period turns e o k s (suc t) less within h c = elim (cases_lt t s
       ((k.own t (omega (arith, within))).timer (subst (λ n. is_connected (e.account n).phase ≡ true) (omega arith) c) (linked-on period turns e o k s t g (omega (arith, within)) h)).0
 ]
 
--- A response with F = 1 that is heard: the poll that it answers is still awaited, and none is due.
-pub still-awaited : (period turns : ℕ) (e o : EndRun) → TwoEnds period turns e o → (t : ℕ) → t < turns → is_connected (e.account t).phase ≡ true → hears_final e t ≡ true → StillAwaited (e.account t)
-still-awaited period turns e o k t within c h = record { awaited = awaits t before (omega arith); none_due = none (poll_due (e.account t)) refl }
+-- The poll that a response with F = 1 answers is awaited from when it became due.
+pub awaits-on : (period turns : ℕ) (e o : EndRun) → TwoEnds period turns e o → (t : ℕ) → t < turns → is_connected (e.account t).phase ≡ true → (m : Answers t e o) → (u : ℕ) → m.due < u → u ≤ t → (e.account u).outgoing.awaited ≡ true
+awaits-on period turns e o k t within c m = awaits
   where
-    m : Answers t e o
-    m = reply-matches period turns e o k t within h
-
     d : 1 ≤ e.delay
     d = k.own_delay
 
@@ -92,6 +89,28 @@ still-awaited period turns e o k t within c h = record { awaited = awaits t befo
         later x i = w.awaited (connected u x (omega (arith, g))) now ∙ or-late (e.made u) _
             (ap (λ b. cond b false (e.account u).outgoing.awaited) (no-answer u x (omega (arith, g)) (hears_final e u) refl) ∙ i)
 
+-- A response with F = 1 that is heard: the poll that it answers is still awaited, and none is due.
+pub still-awaited : (period turns : ℕ) (e o : EndRun) → TwoEnds period turns e o → (t : ℕ) → t < turns → is_connected (e.account t).phase ≡ true → hears_final e t ≡ true → StillAwaited (e.account t)
+still-awaited period turns e o k t within c h = record { awaited = awaits-on period turns e o k t within c m t before (omega arith); none_due = none (poll_due (e.account t)) refl }
+  where
+    m : Answers t e o
+    m = reply-matches period turns e o k t within h
+
+    d : 1 ≤ e.delay
+    d = k.own_delay
+
+    d' : 1 ≤ o.delay
+    d' = k.other_delay
+
+    trip : m.sent + (e.delay + o.delay) ≡ t
+    trip = m.round_trip
+
+    due-before : m.due ≤ m.sent
+    due-before = m.due_before
+
+    before : m.due < t
+    before = omega (arith, trip, due-before, d)
+
     none : (b : Bool) → poll_due (e.account t) ≡ b → poll_due (e.account t) ≡ false
     none false q = q
     none true q = at t refl
@@ -125,20 +144,20 @@ StayConnected e from last = (t : ℕ) → from ≤ t → t ≤ last → is_conne
 
 -- A poll that became due by an expiry is answered within a round trip and a turn, where no line is lost in that time and both ends stay Connected.
 pub answer-comes : (period turns : ℕ) (e o : EndRun) → TwoEnds period turns e o → (s : ℕ) → s + (e.delay + o.delay) + 1 < turns → e.made s ≡ true → StayConnected e s (s + 2) → StayConnected o s (s + (e.delay + o.delay) + 2)
-    → NoneLost e o (s + 1) (e.delay + o.delay + 1) → (u : ℕ) × (s < u) × (u ≤ s + (e.delay + o.delay) + 1) × (hears_final e u ≡ true)
+    → NoneLost e o (s + 1) (e.delay + o.delay + 1) → (u : ℕ) × (s + (e.delay + o.delay) ≤ u) × (u ≤ s + (e.delay + o.delay) + 1) × (hears_final e u ≡ true)
 answer-comes period turns e o k s within m ce co lost = go (poll-goes period turns e o k s (omega (arith, within)) m (ce s (omega arith) (omega arith)) (ce (s + 1) (omega arith) (omega arith)) (ce (s + 2) (omega arith) (omega arith)))
   where
     d : 1 ≤ e.delay
     d = k.own_delay
 
-    from : (q : ℕ) → s ≤ q → q ≤ s + 1 → sends_poll e q ≡ true → (u : ℕ) × (s < u) × (u ≤ s + (e.delay + o.delay) + 1) × (hears_final e u ≡ true)
+    from : (q : ℕ) → s ≤ q → q ≤ s + 1 → sends_poll e q ≡ true → (u : ℕ) × (s + (e.delay + o.delay) ≤ u) × (u ≤ s + (e.delay + o.delay) + 1) × (hears_final e u ≡ true)
     from q low high sent =
         let polled : hears_poll o (q + e.delay) ≡ true = is-heard e.delay turns is_poll e.slot o.heard o.loses k.is_heard q (omega (arith, high, within)) (lost (q + e.delay) (omega (arith, low, d)) (omega (arith, high))).1 ∙ sent in
         let replied : sends_final o (q + e.delay) ≡ true = reply-at-once period turns o e (turned period turns e o k) (q + e.delay) (omega (arith, high, within)) polled
         (co (q + e.delay) (omega (arith, low)) (omega (arith, high))) (co (q + e.delay + 1) (omega (arith, low)) (omega (arith, high, k.other_delay))) in
         let answered : hears_final e (q + e.delay + o.delay) ≡ true = is-heard o.delay turns is_final o.slot e.heard e.loses k.hears (q + e.delay) (omega (arith, high, within)) (lost (q + e.delay + o.delay) (omega (arith, low, d)) (omega (arith, high))).0 ∙ replied in
-        (q + e.delay + o.delay, omega (arith, low, d), omega (arith, high), answered)
+        (q + e.delay + o.delay, omega (arith, low), omega (arith, high), answered)
 
-    go : (sends_poll e s ≡ true) ⊎ (sends_poll e (s + 1) ≡ true) → (u : ℕ) × (s < u) × (u ≤ s + (e.delay + o.delay) + 1) × (hears_final e u ≡ true)
+    go : (sends_poll e s ≡ true) ⊎ (sends_poll e (s + 1) ≡ true) → (u : ℕ) × (s + (e.delay + o.delay) ≤ u) × (u ≤ s + (e.delay + o.delay) + 1) × (hears_final e u ≡ true)
     go (inl x) = from s (omega arith) (omega arith) x
     go (inr x) = from (s + 1) (omega arith) (omega arith) x

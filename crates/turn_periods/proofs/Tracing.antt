@@ -76,7 +76,7 @@ silent-of z before turn Answerer Establishing a st e f n = cc
 silent-of z before turn Answerer Releasing a st e f n = cc
 silent-of z before turn Answerer Closed a st e f n = cc
 
-untimed-of : (z : Rates) (before turn : ℕ) (r : Role) (p : Phase) (a : Account) → Stands z before turn r p a → is_linked p ≡ false → a.wait.timer ≡ None
+pub untimed-of : (z : Rates) (before turn : ℕ) (r : Role) (p : Phase) (a : Account) → Stands z before turn r p a → is_linked p ≡ false → a.wait.timer ≡ None
 untimed-of z before turn Originator Detecting a st e = st.timer
 untimed-of z before turn Originator Negotiating a st e = st.0.timer
 untimed-of z before turn Originator Establishing a st e = st.0.timer

@@ -24,6 +24,7 @@ pub record EndRun : Type 0 where
   pub slot : ℕ → Sent
   pub made : ℕ → Bool
   pub count : ℕ → ℕ  -- the retry count once it has heard
+  pub mid : ℕ → Account  -- once it has heard
 
 abbrev pub end_run : (Role → ℕ) → (ℕ → Ends) → (ℕ → Deed) → Role → EndRun
 end_run delay state deed role = record {
@@ -34,7 +35,7 @@ end_run delay state deed role = record {
   loses = λ t. is_lost (of role (deed t).turn).heard;
   slot = λ t. sent_or (of role (deed t).turn).sent;
   made = λ t. (deed t).made role;
-  count = λ t. (of role (deed t).mid).outgoing.count;
+  count = λ t. (of role (deed t).mid).outgoing.count; mid = λ t. of role (deed t).mid;
 }
 
 -- what arrives is what was sent so many turns before, or is lost

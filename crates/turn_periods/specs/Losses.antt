@@ -1,0 +1,48 @@
+-- What is lost before an end gives up.
+use Rattle.std.specs.Prelude.{◌≡◌, ℕ, ◌+◌, ◌<◌, false, List, ◌∷◌, length}
+use Rattle.roles.specs.declared.role.Role.{Role}
+use Rattle.roles.specs.declared.role.Role.TheVariants.{Originator}
+use Rattle.break_signals.specs.Breaks.{waits}
+use Rattle.link_account.specs.declared.phase.Phase.TheVariants.{Connected}
+use Rattle.link_account.specs.declared.fault.LinkFault.TheVariants.{Spent, NotDetected}
+use Rattle.link_run.specs.Run.{Link, Ends, Turn, RunOf, BrokenTurn, served_at}
+use Rattle.link_run.specs.Carried.{IsCarried, Carries}
+use Rattle.link_run.specs.Laws.{RunsOver}
+use Rattle.link_run.specs.Starved.{IsInSpan, IsStarved, LosesSome, turn_at}
+use Rattle.turn_bound.specs.Time.{KeepsTime}
+
+-- In a turn of the period of that number, counted back from the last turn, something was lost.
+pub record PeriodLoses (period last : ℕ) (ts : List Turn) (number : ℕ) : Type 0 where
+  pub turn : ℕ
+  pub within : turn < length ts
+  pub in_period : IsInSpan period 0 last number turn
+  pub lost : LosesSome (turn_at turn ts)
+
+-- something was lost in each of the latest periods, of so many
+abbrev pub LosesEach : (period count last : ℕ) → List Turn → Type 0
+LosesEach period count last ts = (number : ℕ) → number < count → PeriodLoses period last ts number
+
+-- Where a Connected originator that waits for no break's answer spends its tries, something was lost in each of as many of the latest periods.
+abbrev pub OriginatorWantsAnswers : Type 0
+OriginatorWantsAnswers = (tries period : ℕ) (delay : Role → ℕ) (link : Link) (ts : List Turn) (before : Ends) (t : Turn) (mid : Ends) (segment since : ℕ)
+    → KeepsTime tries period delay link → RunsOver link delay ts before → Carries delay ts t → BrokenTurn link ts before t mid Originator (Spent segment since)
+    → mid.orig.phase ≡ Connected → waits (served_at link (length ts) mid Originator).account.own_breaks ≡ false
+    → LosesEach period tries (length ts) ts
+
+-- So the run was starved.
+abbrev pub OriginatorIsStarved : Type 0
+OriginatorIsStarved = (tries period : ℕ) (delay : Role → ℕ) (link : Link) (ts : List Turn) (before : Ends) (t : Turn) (mid : Ends) (segment since : ℕ)
+    → KeepsTime tries period delay link → RunsOver link delay ts before → Carries delay ts t → BrokenTurn link ts before t mid Originator (Spent segment since)
+    → mid.orig.phase ≡ Connected → waits (served_at link (length ts) mid Originator).account.own_breaks ≡ false
+    → IsStarved tries period delay (t ∷ ts)
+
+-- Where the originator saw no pattern, something was lost in each of the latest periods, one more than there are tries: the run was starved.
+abbrev pub OriginatorWantsPattern : Type 0
+OriginatorWantsPattern = (tries period : ℕ) (delay : Role → ℕ) (link : Link) (ts : List Turn) (before : Ends) (t : Turn) (mid : Ends)
+    → KeepsTime tries period delay link → RunOf link ts before → IsCarried delay ts → BrokenTurn link ts before t mid Originator NotDetected
+    → LosesEach period (tries + 1) (length ts) ts
+
+abbrev pub UndetectedIsStarved : Type 0
+UndetectedIsStarved = (tries period : ℕ) (delay : Role → ℕ) (link : Link) (ts : List Turn) (before : Ends) (t : Turn) (mid : Ends)
+    → KeepsTime tries period delay link → RunOf link ts before → IsCarried delay ts → BrokenTurn link ts before t mid Originator NotDetected
+    → IsStarved tries period delay (t ∷ ts)
