@@ -134,12 +134,13 @@ no-times : (p : ℕ) → 0 * p ≡ 0
 no-times p = omega arith
 
 -- So a line is lost in each period before the last expiry, as many as the retry count says, and in the one after it.
-pub losses : (period turns : ℕ) (e o : EndRun) → TwoEnds period turns e o → Counts turns e o → (f : First turns e) → StayConnected e f.from turns → StayConnected o f.from turns
+pub losses : (period turns : ℕ) (e o : EndRun) → TwoEnds period turns e o → Counts turns e o → (f : First turns e) → StayConnected e f.from turns
+    → ((s u : ℕ) → s < turns → s ≤ u → u ≤ turns → e.made s ≡ true → is_connected (e.account s).phase ≡ true → is_connected (e.account u).phase ≡ true → is_connected (o.account u).phase ≡ true)
     → (n t : ℕ) → t ≤ turns → (x : Expired n t e) → x.at + period ≤ t → (i : ℕ) → i ≤ n → (s : ℕ) × (s + i * period ≡ x.at) × LostIn e o (s + 1) (period - 1)
 losses period turns e o k c f ce co n t l x far zero q =
     let none = no-times period in
     let low : f.from ≤ x.at = f.none_before x.at (let b = x.before in omega (arith, b, l)) x.connected in
-    (x.at, omega (arith, none), period-loses period turns e o k c x.at (omega (arith, far, l)) x.made (λ u a b. ce u (omega (arith, a, low)) (omega (arith, b, far, l))) (λ u a b. co u (omega (arith, a, low)) (omega (arith, b, far, l)))
+    (x.at, omega (arith, none), period-loses period turns e o k c x.at (omega (arith, far, l)) x.made (λ u a b. ce u (omega (arith, a, low)) (omega (arith, b, far, l))) (λ u a b. co x.at u (let m = x.before in omega (arith, m, l)) a (omega (arith, b, far, l)) x.made x.connected (ce u (omega (arith, a, low)) (omega (arith, b, far, l))))
       (λ v a b z. let w = x.since v a (omega (arith, b, far)) in omega (arith, w, z)))
 losses period turns e o k c f ce co zero t l x far (suc j) q = absurd (omega (arith, q))
 losses period turns e o k c f ce co (suc n) t l x far (suc j) q = go (losses period turns e o k c f ce co n x.at (let b = x.before in omega (arith, b, l)) last.expiry (let r = last.exact in omega (arith, r)) j (omega (arith, q)))

@@ -28,3 +28,6 @@ mod Numbering
 mod Wanting
 mod Starving
 mod Detecting
+mod Fewness
+mod Numbered
+mod Answerer

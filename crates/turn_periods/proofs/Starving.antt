@@ -55,15 +55,15 @@ originator-wants laws together tries period delay link ts before t mid segment s
     joined : (x : Ends) → Together x → is_connected x.orig.phase ≡ true → is_connected x.answ.phase ≡ true
     joined x h c = ap is_connected (h.answ (connected-is x.orig.phase c))
 
-    both : (u : ℕ) → u ≤ length ts → is_connected (w.state u).orig.phase ≡ true → is_connected (w.state u).answ.phase ≡ true
-    both u l = elim (cases_lt u (length ts)) [ inl y ↦ (let h = w.trace.happens u y in joined (w.state u) (together tries period delay link (past ts u) (w.state u) kt h.run h.carried))
+    both : (s u : ℕ) → s < length ts → s ≤ u → u ≤ length ts → (w.deed s).made Originator ≡ true → is_connected (w.state s).orig.phase ≡ true → is_connected (w.state u).orig.phase ≡ true → is_connected (w.state u).answ.phase ≡ true
+    both s u _ _ l _ _ = elim (cases_lt u (length ts)) [ inl y ↦ (let h = w.trace.happens u y in joined (w.state u) (together tries period delay link (past ts u) (w.state u) kt h.run h.carried))
       | inr y ↦ joined (w.state u) (subst Together (sym (ap w.state (same u l y) ∙ w.last)) (together tries period delay link ts before kt run.run run.carried)) ]
       where
         same : (x : ℕ) → x ≤ length ts → length ts ≤ x → x ≡ length ts
         same x a b = omega (arith, a, b)
 
 -- the turns with the last one
-later-turn : (turn : ℕ) (t : Turn) (ts : List Turn) → turn < length ts → turn_at turn (t ∷ ts) ≡ turn_at turn ts
+pub later-turn : (turn : ℕ) (t : Turn) (ts : List Turn) → turn < length ts → turn_at turn (t ∷ ts) ≡ turn_at turn ts
 later-turn turn t ts l = ap (slice_get (t ∷ ts)) (index (length ts) l)
   where
     index : (n : ℕ) → turn < n → suc n - 1 - turn ≡ suc (n - 1 - turn)

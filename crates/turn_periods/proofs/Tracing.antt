@@ -67,7 +67,7 @@ speak-poll-ok : (turn : ℕ) (a : Account) (said : Said) (r : Result Said LinkFa
 speak-poll-ok turn a said (Err fault) e h = cc
 speak-poll-ok turn a said (Ok other) e h = let same : other ≡ said = cc in subst (SpeakPoll turn a) same h
 
-silent-of : (z : Rates) (before turn : ℕ) (r : Role) (p : Phase) (a : Account) → Stands z before turn r p a → r ≡ Answerer → is_connected p ≡ true → a.numbered ≡ false → a.wait.timer ≡ None
+pub silent-of : (z : Rates) (before turn : ℕ) (r : Role) (p : Phase) (a : Account) → Stands z before turn r p a → r ≡ Answerer → is_connected p ≡ true → a.numbered ≡ false → a.wait.timer ≡ None
 silent-of z before turn Answerer Connected a st e f n = (st.silent n).1
 silent-of z before turn Originator p a st e f n = cc
 silent-of z before turn Answerer Detecting a st e f n = cc

@@ -160,8 +160,9 @@ lost-is Chance e = cc
 -- So where both ends stay Connected, something was lost in each of the last periods.
 pub wants-answers : (tries period : ℕ) (delay : Role → ℕ) (link : Link) (ts : List Turn) (state : ℕ → Ends) (deed : ℕ → Deed) → KeepsTime tries period delay link → (w : Trace period delay link ts state deed) → (role : Role)
     → Counts (length ts) (end_run delay state deed role) (end_run delay state deed (other role)) → LastTry tries period (length ts) (of role (state (length ts)))
-    → ((u : ℕ) → u ≤ length ts → is_connected (of role (state u)).phase ≡ true → is_connected (of (other role) (state u)).phase ≡ true) → LosesEach period tries (length ts) ts
-wants-answers tries period delay link ts state deed kt w role c l both n less = go (losses period turns e o k c first ce co (tries - 1) turns (omega arith) x far n (omega (arith, less)))
+    → ((s u : ℕ) → s < length ts → s ≤ u → u ≤ length ts → (deed s).made role ≡ true → is_connected (of role (state s)).phase ≡ true → is_connected (of role (state u)).phase ≡ true → is_connected (of (other role) (state u)).phase ≡ true)
+    → LosesEach period tries (length ts) ts
+wants-answers tries period delay link ts state deed kt w role c l both n less = go (losses period turns e o k c first ce both (tries - 1) turns (omega arith) x far n (omega (arith, less)))
   where
     turns : ℕ
     turns = length ts
@@ -186,9 +187,6 @@ wants-answers tries period delay link ts state deed kt w role c l both n less = 
 
     ce : StayConnected e first.from turns
     ce u a b = connected-back period turns e o k u turns b (omega arith) (linked-on period turns e o k first.from u a b (linked-connected (of role (state first.from)).phase first.connected)) l.connected
-
-    co : StayConnected o first.from turns
-    co u a b = both u b (ce u a b)
 
     x : Expired (tries - 1) turns e
     x = last-expired period turns e o k first.from first.connected first.count turns low (omega arith) l.connected (tries - 1) (let q = l.count in omega (arith, q, some-tries))

@@ -1,13 +1,15 @@
 -- What is lost before an end gives up.
-use Rattle.std.specs.Prelude.{◌≡◌, ℕ, ◌+◌, ◌<◌, false, List, ◌∷◌, length}
+use Rattle.std.specs.Prelude.{◌≡◌, ℕ, ◌+◌, ◌*◌, ◌<◌, ◌≤◌, false, List, ◌∷◌, length}
 use Rattle.roles.specs.declared.role.Role.{Role}
-use Rattle.roles.specs.declared.role.Role.TheVariants.{Originator}
+use Rattle.roles.specs.declared.role.Role.TheVariants.{Originator, Answerer}
 use Rattle.break_signals.specs.Breaks.{waits}
 use Rattle.link_account.specs.declared.phase.Phase.TheVariants.{Connected}
 use Rattle.link_account.specs.declared.fault.LinkFault.TheVariants.{Spent, NotDetected}
+use Rattle.link_run.specs.End.{is_released}
 use Rattle.link_run.specs.Run.{Link, Ends, Turn, RunOf, BrokenTurn, served_at}
 use Rattle.link_run.specs.Carried.{IsCarried, Carries}
 use Rattle.link_run.specs.Laws.{RunsOver}
+use Rattle.link_run.specs.Counts.{lost_slots}
 use Rattle.link_run.specs.Starved.{IsInSpan, IsStarved, LosesSome, turn_at}
 use Rattle.turn_bound.specs.Time.{KeepsTime}
 
@@ -36,6 +38,13 @@ OriginatorIsStarved = (tries period : ℕ) (delay : Role → ℕ) (link : Link) 
     → mid.orig.phase ≡ Connected → waits (served_at link (length ts) mid Originator).account.own_breaks ≡ false
     → IsStarved tries period delay (t ∷ ts)
 
+-- So it is with a Connected answerer, while the originator isn't told to release.
+abbrev pub AnswererWantsAnswers : Type 0
+AnswererWantsAnswers = (tries period : ℕ) (delay : Role → ℕ) (link : Link) (ts : List Turn) (before : Ends) (t : Turn) (mid : Ends) (segment since : ℕ)
+    → KeepsTime tries period delay link → RunsOver link delay ts before → Carries delay ts t → BrokenTurn link ts before t mid Answerer (Spent segment since)
+    → mid.answ.phase ≡ Connected → waits (served_at link (length ts) mid Answerer).account.own_breaks ≡ false → is_released mid.orig.phase ≡ false
+    → LosesEach period tries (length ts) ts × IsStarved tries period delay (t ∷ ts)
+
 -- Where the originator saw no pattern, something was lost in each of the latest periods, one more than there are tries: the run was starved.
 abbrev pub OriginatorWantsPattern : Type 0
 OriginatorWantsPattern = (tries period : ℕ) (delay : Role → ℕ) (link : Link) (ts : List Turn) (before : Ends) (t : Turn) (mid : Ends)
@@ -46,3 +55,13 @@ abbrev pub UndetectedIsStarved : Type 0
 UndetectedIsStarved = (tries period : ℕ) (delay : Role → ℕ) (link : Link) (ts : List Turn) (before : Ends) (t : Turn) (mid : Ends)
     → KeepsTime tries period delay link → RunOf link ts before → IsCarried delay ts → BrokenTurn link ts before t mid Originator NotDetected
     → IsStarved tries period delay (t ∷ ts)
+
+-- A starved run lost a slot for each two tries at least: fewer lost slots starve no run,
+abbrev pub StarvedLosesMany : Type 0
+StarvedLosesMany = (tries period : ℕ) (delay : Role → ℕ) (link : Link) (ts : List Turn)
+    → KeepsTime tries period delay link → IsStarved tries period delay ts → tries ≤ 2 * lost_slots ts
+
+-- and where nothing is lost none is starved.
+abbrev pub LosslessIsFed : Type 0
+LosslessIsFed = (tries period : ℕ) (delay : Role → ℕ) (link : Link) (ts : List Turn)
+    → KeepsTime tries period delay link → lost_slots ts ≡ 0 → IsStarved tries period delay ts → ⊥
