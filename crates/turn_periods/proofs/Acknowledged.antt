@@ -1,5 +1,5 @@
 -- What an end sends at the answer to its poll is acknowledged, where no line is lost.
-use Rattle.std.proofs.Common.{◌⊎◌, inl, inr, ◌≡◌, ℕ, zero, suc, ◌+◌, ◌-◌, ◌*◌, ◌%◌, ◌<◌, ◌≤◌, ◌&&◌, Bool, true, false, cond, nat_lt, nat_le, length, arith, refl, sym, ◌∙◌, ap, subst, Option, Some, None}
+use Rattle.std.proofs.Common.{◌⊎◌, inl, inr, ◌≡◌, ℕ, zero, suc, ◌+◌, ◌-◌, ◌%◌, ◌<◌, ◌≤◌, ◌&&◌, Bool, true, false, cond, nat_lt, nat_le, length, arith, refl, sym, ◌∙◌, ap, Option, Some, None}
 use Rattle.std.specs.Prelude.{is_some}
 use Rattle.std.proofs.lemmas.Bool.{cases_lt}
 use Rattle.std.proofs.lemmas.Bool.Decides.{nat_tests}
@@ -10,12 +10,12 @@ use Rattle.slot_contents.specs.declared.sent.Sent.{Sent}
 use Rattle.slot_contents.specs.declared.sent.Sent.TheVariants as slots
 use Rattle.slot_contents.specs.declared.arrived.Arrived.{Arrived}
 use Rattle.slot_contents.specs.declared.arrived.Arrived.TheVariants as arrivals
-use Rattle.link_account.specs.Account.{Account, is_connected}
+use Rattle.link_account.specs.Account.{is_connected}
 use Rattle.link_account.specs.Play.{arrives}
 use Rattle.turn_bound.proofs.MeetHear.{of_arrived}
 use Rattle.turn_periods.specs.Polls.{is_final}
 use Rattle.turn_periods.proofs.Polling.{is_linked}
-use Rattle.turn_periods.proofs.TwoEnds.{EndRun, ArrivesLate, TwoEnds, sends_poll, hears_poll, sends_final, hears_final}
+use Rattle.turn_periods.proofs.TwoEnds.{EndRun, ArrivesLate, TwoEnds, hears_final}
 use Rattle.turn_periods.proofs.KeepsPolls.{Answers}
 use Rattle.turn_periods.proofs.NumberHear.{frame_nr, nr_heard, ns_heard, nr_sent, ns_sent, NumbersHeard}
 use Rattle.turn_periods.proofs.NumberTurn.{NumberTurn}

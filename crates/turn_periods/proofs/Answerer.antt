@@ -1,34 +1,21 @@
 -- A Connected answerer that gives up was starved.
-use Rattle.std.proofs.Common.{◌⊎◌, inl, inr, ◌≡◌, ◌≢◌, ℕ, zero, suc, ◌+◌, ◌-◌, ◌*◌, ◌<◌, ◌≤◌, Bool, true, false, max, List, [], ◌∷◌, length, arith, refl, sym, ◌∙◌, ap, subst, Option, Some, None}
-use Rattle.std.specs.Prelude.{slice_get}
-use Rattle.std.proofs.lemmas.Bool.{cases_lt}
+use Rattle.std.proofs.Common.{◌⊎◌, inl, inr, ◌≡◌, ℕ, ◌<◌, ◌≤◌, Bool, true, false, List, length, arith, refl, sym, ◌∙◌, ap, subst, Some, None}
 use Rattle.roles.specs.declared.role.Role.{Role}
 use Rattle.roles.specs.declared.role.Role.TheVariants.{Originator, Answerer}
-use Rattle.roles.specs.Role.{other}
-use Rattle.roles.specs.Both.{of}
-use Rattle.break_signals.specs.Breaks.{waits}
 use Rattle.link_account.specs.declared.phase.Phase.{Phase}
 use Rattle.link_account.specs.declared.phase.Phase.TheVariants.{Connected}
-use Rattle.link_account.specs.Account.{Account, is_connected}
+use Rattle.link_account.specs.Account.{is_connected}
 use Rattle.link_run.specs.End.{is_released}
-use Rattle.link_run.specs.Run.{Link, Ends, Turn, RunOf, BrokenTurn, arrival, served_at, releases}
-use Rattle.link_run.specs.Carried.{IsCarried, Carries}
-use Rattle.link_run.specs.Laws.{RunsOver}
-use Rattle.link_run.specs.Starved.{IsInSpan, SpanLoses, IsStarved, LosesSome, turn_at}
-use Rattle.turn_bound.specs.Time.{KeepsTime}
-use Rattle.turn_bound.specs.Together.{Together, StandTogether}
+use Rattle.link_run.specs.Run.{Ends, Turn, arrival}
 use Rattle.turn_bound.proofs.Clock.{Rates, rates}
 use Rattle.turn_bound.proofs.Value.{IsOf}
 use Rattle.xid_params.specs.Offers.{IsAllowed}
 use Rattle.turn_periods.specs.Losses.{LosesEach, AnswererWantsAnswers}
-use Rattle.turn_periods.proofs.AnswerTurn.{connected-is}
 use Rattle.turn_periods.proofs.Room.{begins-roomy}
-use Rattle.turn_periods.proofs.Trace.{Deed, Happens, Trace, past}
+use Rattle.turn_periods.proofs.Trace.{past}
 use Rattle.turn_periods.proofs.Tracing.{Known, known, Timed, timed, rated, Traced, traced}
 use Rattle.turn_periods.proofs.Numbering.{Plays, allowed, fits-at, counts-of}
 use Rattle.turn_periods.proofs.Wanting.{LastTry, last-try, wants-answers}
-
-use Rattle.slot_contents.specs.declared.arrived.Arrived.{Arrived}
 use Rattle.link_account.specs.declared.phase.Phase.TheVariants.{Detecting, Negotiating, Establishing, Releasing, Closed}
 use Rattle.link_account.specs.Hear.{hear}
 use Rattle.turn_bound.proofs.MeetHear.{of_arrived}
@@ -82,7 +69,7 @@ answerer-wants laws tries period delay link ts before t mid segment since kt run
     last = last-try tries period link.answ.user turns Answerer (arrival t.answ.heard) before.answ mid.answ (is_released mid.orig.phase) false _ (rated tries period delay link kt)
         (subst (IsOf z) (sym (k Answerer).setup) (tm Answerer).is_of) (k Answerer).stands (ap (λ x. x.role) (k Answerer).setup ∙ (tm Answerer).role_is) (k Answerer).none_due
         (λ u c. ((begins-roomy (arrival t.answ.heard) turns before.answ mid.answ u (fits-at laws link delay ts before run Answerer) (subst IsAllowed (ap (λ x. x.offer) (sym (k Answerer).setup)) (allowed link run.may_play Answerer))
-          (broken.hearing Answerer).hears).so c).2)
+        (broken.hearing Answerer).hears).so c).2)
         (broken.hearing Answerer).hears (ap is_connected cm) quiet broken.broken.1
 
     -- its clock runs once it heard a number, so its peer is Connected or was
@@ -93,7 +80,7 @@ answerer-wants laws tries period delay link ts before t mid segment since kt run
     linked-last : is_linked before.orig.phase ≡ true
     linked-last = ap (λ (x : Ends). is_linked x.orig.phase) (sym w.last)
         ∙ numbered-linked tries period delay link ts w.state w.deed kt w.trace Answerer turns (omega arith)
-          (ap (λ (x : Ends). x.answ.numbered) w.last ∙ counted before.answ.numbered before ts (k Answerer) last.connected last.set last.runs refl)
+        (ap (λ (x : Ends). x.answ.numbered) w.last ∙ counted before.answ.numbered before ts (k Answerer) last.connected last.set last.runs refl)
 
     heard : PollHeard Originator turns (of_arrived is_poll (arrival t.orig.heard)) before.orig mid.orig
     heard = poll-ok Originator turns (of_arrived is_poll (arrival t.orig.heard)) before.orig mid.orig (hear turns (arrival t.orig.heard) before.orig) (broken.hearing Originator).hears

@@ -1,19 +1,18 @@
 -- Where the originator sees no pattern, something was lost in each period.
-use Rattle.std.proofs.Common.{◌⊎◌, inl, inr, ◌≡◌, ℕ, zero, suc, ◌+◌, ◌-◌, ◌*◌, ◌<◌, ◌≤◌, ◌&&◌, ◌||◌, not, Bool, true, false, cond, nat_eq, nat_le, List, length, arith, refl, sym, ◌∙◌, ap, subst, Option, Some, None, Result, Ok, Err}
+use Rattle.std.proofs.Common.{◌⊎◌, inl, inr, ◌≡◌, ℕ, zero, suc, ◌+◌, ◌-◌, ◌*◌, ◌<◌, ◌≤◌, ◌&&◌, Bool, true, false, cond, nat_eq, nat_le, List, length, arith, refl, sym, ◌∙◌, ap, subst, Option, Some, None, Result, Ok, Err}
 use Rattle.std.proofs.lemmas.Bool.{cases_lt}
 use Rattle.roles.specs.declared.role.Role.{Role}
 use Rattle.roles.specs.declared.role.Role.TheVariants.{Originator, Answerer}
 use Rattle.roles.specs.Role.{other, is_originator}
 use Rattle.roles.specs.Both.{of}
 use Rattle.lapm_frames.specs.declared.frame.Frame.{Frame}
-use Rattle.lapm_frames.specs.declared.frame.Frame.TheVariants.{I, Rr, Rnr, Rej, Srej, Sabme, Disc, Ua, Dm, Frmr, Ui, Xid, Test}
+use Rattle.lapm_frames.specs.declared.frame.Frame.TheVariants.{Sabme, Disc, Ua, Dm, Xid}
 use Rattle.xid_params.specs.declared.offer.Offer.{Offer}
 use Rattle.xid_params.specs.Offers.{offer_in, written}
 use Rattle.lapm_sender.specs.Outgoing.{Outgoing, expired}
 use Rattle.break_signals.specs.Breaks.{OwnBreaks, ticked}
 use Rattle.slot_contents.specs.declared.seen.Seen.{Seen}
 use Rattle.slot_contents.specs.declared.seen.Seen.TheVariants as seens
-use Rattle.slot_contents.specs.declared.sent.Sent.{Sent}
 use Rattle.slot_contents.specs.declared.sent.Sent.TheVariants as slots
 use Rattle.slot_contents.specs.declared.arrived.Arrived.{Arrived}
 use Rattle.slot_contents.specs.declared.arrived.Arrived.TheVariants as arrivals
@@ -26,12 +25,11 @@ use Rattle.link_account.specs.declared.answer.Answer.TheVariants as answers
 use Rattle.link_account.specs.Account.{Account}
 use Rattle.link_account.specs.Hear.{hear, on_frame, on_seen, on_pattern, on_negotiating, on_establishing, on_xid_command, on_xid_response, trying}
 use Rattle.link_account.specs.Play.{arrives}
-use Rattle.link_account.specs.Speak.{Said, says, says_frame, else_says, where_says, spent, answering, trying_again, tries_frame, u_try, polling, timer_expires, on_timer, breaking, on_break_timer, after_timers, then_tries, speak_linked, speak, speak_in, speak_detecting, speak_answer, speak_negotiating, speak_releasing}
+use Rattle.link_account.specs.Speak.{Said, says, says_frame, else_says, where_says, spent, answering, trying_again, tries_frame, u_try, polling, timer_expires, breaking, after_timers, then_tries, speak_linked, speak, speak_in, speak_detecting, speak_answer, speak_negotiating, speak_releasing}
 use Rattle.link_run.specs.End.{User, is_busy, is_released}
-use Rattle.link_run.specs.Run.{Link, Ends, Turn, RunOf, BrokenTurn, arrival, served_at, releases}
+use Rattle.link_run.specs.Run.{Ends, Turn, RunOf, arrival, served_at, releases}
 use Rattle.link_run.specs.Carried.{IsCarried}
-use Rattle.link_run.specs.Starved.{IsInSpan, LosesSome, turn_at}
-use Rattle.turn_bound.specs.Time.{KeepsTime}
+use Rattle.link_run.specs.Starved.{LosesSome}
 use Rattle.turn_bound.specs.Due.{NoneDue}
 use Rattle.turn_bound.specs.Spent.{SpendsOnTime}
 use Rattle.turn_bound.proofs.Clock.{Rates, rates}
@@ -40,17 +38,16 @@ use Rattle.turn_bound.proofs.Run.{served_account}
 use Rattle.turn_bound.proofs.OneTurn.{heard-ok}
 use Rattle.turn_bound.proofs.Phases.{hears-well}
 use Rattle.turn_bound.proofs.Serving.{Served, serves-all}
-use Rattle.turn_bound.proofs.Tied.{is_lost}
 use Rattle.turn_bound.proofs.MeetHear.{of_arrived}
 use Rattle.turn_periods.specs.Polls.{is_poll}
-use Rattle.turn_periods.specs.Losses.{PeriodLoses, LosesEach, OriginatorWantsPattern, UndetectedIsStarved}
+use Rattle.turn_periods.specs.Losses.{PeriodLoses, OriginatorWantsPattern, UndetectedIsStarved}
 use Rattle.turn_periods.proofs.Polling.{is_linked}
 use Rattle.turn_periods.proofs.PollHear.{PollHeard, poll-hears}
-use Rattle.turn_periods.proofs.PollSpeak.{SpeakPoll, poll-speaks}
+use Rattle.turn_periods.proofs.PollSpeak.{poll-speaks}
 use Rattle.turn_periods.proofs.NumberTurn.{poll-ok, speak-ok}
-use Rattle.turn_periods.proofs.Trace.{Deed, Happens, Trace, past, sent_or}
-use Rattle.turn_periods.proofs.TwoEnds.{EndRun, ArrivesLate, TwoEnds, end_run}
-use Rattle.turn_periods.proofs.Tracing.{Known, known, Timed, timed, rated, release_of, said-as, Traced, traced}
+use Rattle.turn_periods.proofs.Trace.{past, sent_or}
+use Rattle.turn_periods.proofs.TwoEnds.{EndRun, TwoEnds, end_run}
+use Rattle.turn_periods.proofs.Tracing.{Known, known, timed, rated, Traced, traced}
 use Rattle.turn_periods.proofs.PollLaws.{two-ends}
 use Rattle.turn_periods.proofs.PeriodLaws.{NoneLost}
 use Rattle.turn_periods.proofs.PeriodHolds.{LostIn, lost-or-none}
@@ -321,7 +318,7 @@ wants-pattern spends tries period delay link ts before t mid kt run c broken num
     last =
         let h = err-detecting turns (releases link turns mid) (served_at link turns mid Originator).account broken.broken in
         (heard-from (arrival t.orig.heard) turns before.orig mid.orig (role-at Originator turns ts before run c) (known tries period delay link ts before kt run c Originator).none_due (broken.hearing Originator).hears
-          (sym (serves-all link.orig.user turns (is_released mid.orig.phase) mid.orig).phase ∙ h)).0
+        (sym (serves-all link.orig.user turns (is_released mid.orig.phase) mid.orig).phase ∙ h)).0
 
     mid-role : (r : Role) (u : ℕ) → u < turns → (of r (w.deed u).mid).setup.role ≡ r
     mid-role r u l =
@@ -333,7 +330,7 @@ wants-pattern spends tries period delay link ts before t mid kt run c broken num
         let role : a.setup.role ≡ r = ap (λ s. s.role) kn.setup ∙ tm.role_is in
         let arrived : Arrived = arrival (of r (w.deed u).turn).heard in
         let heard = heard-ok z (length a.outgoing.pieces) 0 u (z.quota * arrived_rnrs arrived) r a.phase a (of r (w.deed u).mid) (hear u arrived a) (h.hearing r).hears
-            (hears-well z (length a.outgoing.pieces) 0 u r a.phase arrived a (rated tries period delay link kt) (subst (IsOf z) (sym kn.setup) tm.is_of) kn'.stands refl role (omega arith)) in
+        (hears-well z (length a.outgoing.pieces) 0 u r a.phase arrived a (rated tries period delay link kt) (subst (IsOf z) (sym kn.setup) tm.is_of) kn'.stands refl role (omega arith)) in
         ap (λ s. s.role) heard.1.setup ∙ role
 
     served-role : (r : Role) (u : ℕ) → u < turns → (served_at link u (w.deed u).mid r).account.setup.role ≡ r
@@ -345,8 +342,8 @@ wants-pattern spends tries period delay link ts before t mid kt run c broken num
         let s = h.speaking Originator in
         let b-detects = said-from u (releases link u (w.deed u).mid) (served_at link u (w.deed u).mid Originator).account s.said s.says (ap (λ (x : Account). x.phase) (sym s.after_is) ∙ d) in
         let f = heard-from (arrival (w.deed u).turn.orig.heard) u (w.state u).orig (w.deed u).mid.orig (role-at Originator u (past ts u) (w.state u) h.run h.carried)
-            (known tries period delay link (past ts u) (w.state u) kt h.run h.carried Originator).none_due (h.hearing Originator).hears
-            (sym (serves-all link.orig.user u (is_released (w.deed u).mid.orig.phase) (w.deed u).mid.orig).phase ∙ b-detects) in
+        (known tries period delay link (past ts u) (w.state u) kt h.run h.carried Originator).none_due (h.hearing Originator).hears
+        (sym (serves-all link.orig.user u (is_released (w.deed u).mid.orig.phase) (w.deed u).mid.orig).phase ∙ b-detects) in
         (f.0, ap sent_or s.sent_is ∙ sends-odp u (releases link u (w.deed u).mid) (served_at link u (w.deed u).mid Originator).account s.said b-detects (served-role Originator u l) s.says, f.1)
 
     down : (n u : ℕ) → u + n ≡ turns → (w.state u).orig.phase ≡ Detecting
@@ -379,7 +376,7 @@ wants-pattern spends tries period delay link ts before t mid kt run c broken num
         let h = w.trace.happens u l in
         let s = h.speaking Answerer in
         let f = answers-odp link.answ.user u (arrival (w.deed u).turn.answ.heard) (w.state u).answ (w.deed u).mid.answ (is_released (w.deed u).mid.orig.phase) false s.said d (role-at Answerer u (past ts u) (w.state u) h.run h.carried)
-            (mid-role Answerer u l) (only-odp u l) (h.hearing Answerer).hears s.says in
+        (mid-role Answerer u l) (only-odp u l) (h.hearing Answerer).hears s.says in
         (ap (λ (x : Account). x.phase) s.after_is ∙ f.0, λ q. ap sent_or s.sent_is ∙ f.1 q)
 
     up : (u : ℕ) → u ≤ turns → (w.state u).answ.phase ≡ Detecting
@@ -463,7 +460,9 @@ wants-pattern spends tries period delay link ts before t mid kt run c broken num
             let a = lost.low in let b = lost.high in let g = long-enough in
             let within : lost.turn < turns = omega (arith, b, room, p) in
             record {
-              turn = lost.turn; within = within; in_period = record { behind = omega (arith, a, less', g); before = omega (arith, b, less', g, split, p) };
+              turn = lost.turn;
+              within = within;
+              in_period = record { behind = omega (arith, a, less', g); before = omega (arith, b, less', g, split, p) };
               lost = subst LosesSome (sym (turn-is period delay link ts w.state w.deed w.trace lost.turn within)) (some lost.turn lost.loses);
             }
 

@@ -5,7 +5,7 @@ use Rattle.link_account.specs.Account.{is_connected}
 use Rattle.turn_periods.proofs.Polling.{is_linked, PollTurn}
 use Rattle.turn_periods.proofs.TwoEnds.{EndRun, TwoEnds, hears_poll, hears_final}
 use Rattle.turn_periods.proofs.PollHear.{linked-connected}
-use Rattle.turn_periods.proofs.PeriodLaws.{linked-on, connected-back, NoneLost, StayConnected}
+use Rattle.turn_periods.proofs.PeriodLaws.{linked-on, connected-back, StayConnected}
 use Rattle.turn_periods.proofs.PeriodHolds.{LostIn, period-loses}
 use Rattle.turn_periods.proofs.Acknowledged.{Counts}
 
@@ -120,7 +120,9 @@ first-connected period turns e o k c (suc t) l h = go (is_linked (e.account t).p
     go : (b : Bool) → is_linked (e.account t).phase ≡ b → (is_connected (e.account t).phase ≡ true → First turns e) → First turns e
     go true q again = again ((k.own t (omega (arith, l))).timer now q).0
     go false q again = record {
-      from = t + 1; connected = now; count = c.begins t (omega (arith, l)) q now;
+      from = t + 1;
+      connected = now;
+      count = c.begins t (omega (arith, l)) q now;
       none_before = λ u w x. elim (cases_lt u (t + 1)) [ inl y ↦ early u (omega (arith, y)) x | inr y ↦ y ];
     }
       where
@@ -139,9 +141,12 @@ pub losses : (period turns : ℕ) (e o : EndRun) → TwoEnds period turns e o �
     → (n t : ℕ) → t ≤ turns → (x : Expired n t e) → x.at + period ≤ t → (i : ℕ) → i ≤ n → (s : ℕ) × (s + i * period ≡ x.at) × LostIn e o (s + 1) (period - 1)
 losses period turns e o k c f ce co n t l x far zero q =
     let none = no-times period in
-    let low : f.from ≤ x.at = f.none_before x.at (let b = x.before in omega (arith, b, l)) x.connected in
-    (x.at, omega (arith, none), period-loses period turns e o k c x.at (omega (arith, far, l)) x.made (λ u a b. ce u (omega (arith, a, low)) (omega (arith, b, far, l))) (λ u a b. co x.at u (let m = x.before in omega (arith, m, l)) a (omega (arith, b, far, l)) x.made x.connected (ce u (omega (arith, a, low)) (omega (arith, b, far, l))))
-      (λ v a b z. let w = x.since v a (omega (arith, b, far)) in omega (arith, w, z)))
+    let low : f.from ≤ x.at = f.none_before x.at (let b = x.before in omega (arith, b, l)) x.connected in (
+      x.at,
+      omega (arith, none),
+      period-loses period turns e o k c x.at (omega (arith, far, l)) x.made (λ u a b. ce u (omega (arith, a, low)) (omega (arith, b, far, l))) (λ u a b. co x.at u (let m = x.before in omega (arith, m, l)) a (omega (arith, b, far, l)) x.made x.connected (ce u (omega (arith, a, low)) (omega (arith, b, far, l))))
+          (λ v a b z. let w = x.since v a (omega (arith, b, far)) in omega (arith, w, z)),
+    )
 losses period turns e o k c f ce co zero t l x far (suc j) q = absurd (omega (arith, q))
 losses period turns e o k c f ce co (suc n) t l x far (suc j) q = go (losses period turns e o k c f ce co n x.at (let b = x.before in omega (arith, b, l)) last.expiry (let r = last.exact in omega (arith, r)) j (omega (arith, q)))
   where

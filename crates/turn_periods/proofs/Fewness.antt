@@ -1,17 +1,14 @@
 -- A starved run has many lost slots: each lies in two spans at most.
-use Rattle.std.proofs.Common.{◌⊎◌, inl, inr, ◌≡◌, ◌≢◌, ℕ, zero, suc, ◌+◌, ◌-◌, ◌*◌, ◌<◌, ◌≤◌, ◌&&◌, ◌||◌, Bool, true, false, cond, max, nat_lt, nat_le, List, [], ◌∷◌, length, arith, refl, sym, ◌∙◌, ap, subst, Option, Some, None}
+use Rattle.std.proofs.Common.{inl, inr, ◌≡◌, ◌≢◌, ℕ, zero, suc, ◌+◌, ◌-◌, ◌*◌, ◌<◌, ◌≤◌, ◌&&◌, ◌||◌, Bool, true, false, max, nat_lt, nat_le, List, [], ◌∷◌, length, arith, refl, ◌∙◌, ap, subst, Some}
 use Rattle.std.specs.Prelude.{slice_get}
 use Rattle.std.proofs.lemmas.Bool.{cases_lt}
 use Rattle.std.proofs.lemmas.Bool.Decides.{nat_tests}
-use Rattle.roles.specs.declared.role.Role.{Role}
 use Rattle.roles.specs.declared.role.Role.TheVariants.{Originator, Answerer}
-use Rattle.roles.specs.Both.{of}
 use Rattle.slot_contents.specs.declared.heard.Heard.{Heard}
 use Rattle.slot_contents.specs.declared.heard.Heard.TheVariants.{Nothing, Passed, Lost, Chance}
-use Rattle.link_run.specs.Run.{Link, Turn}
+use Rattle.link_run.specs.Run.{Turn}
 use Rattle.link_run.specs.Counts.{lost_in, lost_slots}
-use Rattle.link_run.specs.Starved.{IsInSpan, SpanLoses, IsStarved, IsLost, LosesSome, turn_at}
-use Rattle.turn_bound.specs.Time.{KeepsTime}
+use Rattle.link_run.specs.Starved.{SpanLoses, IsLost, LosesSome, turn_at}
 use Rattle.turn_bound.proofs.Clock.{one_if}
 use Rattle.turn_bound.proofs.Tied.{is_lost}
 use Rattle.turn_periods.specs.Losses.{StarvedLosesMany, LosslessIsFed}
@@ -163,8 +160,10 @@ loses-turn t (Answerer, h) = by (is_lost t.orig.heard) (is-loss t.answ.heard h)
 
 covers-loss : (period delay last span : ℕ) (ts : List Turn) (turn : ℕ) → turn < length ts → LosesSome (turn_at turn ts) → in_span period delay last turn span ≡ true → covers period delay last ts span ≡ true
 covers-loss period delay last span [] turn l h e = absurd (omega (arith, l))
-covers-loss period delay last span (t ∷ ts) turn l h e = elim (cases_lt turn (length ts)) [ inl less ↦ later (covers-loss period delay last span ts turn less (subst LosesSome (later-turn turn t ts less) h) e)
-  | inr more ↦ here (omega (arith, l, more)) ]
+covers-loss period delay last span (t ∷ ts) turn l h e = elim (cases_lt turn (length ts)) [
+  | inl less ↦ later (covers-loss period delay last span ts turn less (subst LosesSome (later-turn turn t ts less) h) e)
+  | inr more ↦ here (omega (arith, l, more))
+]
   where
     or-second : (x y : Bool) → y ≡ true → x || y ≡ true
     or-second true y q = refl

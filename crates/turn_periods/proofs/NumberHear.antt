@@ -1,5 +1,5 @@
 -- What a Connected end makes of the numbers that it hears.
-use Rattle.std.proofs.Common.{◌⊎◌, inl, inr, ◌≡◌, ℕ, ◌+◌, ◌-◌, ◌%◌, ◌<◌, ◌≤◌, ◌&&◌, ◌||◌, not, Bool, true, false, cond, nat_eq, nat_lt, nat_le, List, [], ◌∷◌, ◌++◌, length, length-append, arith, refl, sym, ◌∙◌, ap, subst, Option, Some, None, Result, Ok, Err}
+use Rattle.std.proofs.Common.{◌⊎◌, inl, inr, ◌≡◌, ℕ, ◌-◌, ◌%◌, ◌<◌, ◌≤◌, ◌&&◌, ◌||◌, Bool, true, false, cond, nat_lt, List, length, length-append, arith, refl, sym, ◌∙◌, ap, subst, Option, Some, None, Result, Ok, Err}
 use Rattle.std.proofs.lemmas.Bool.Decides.{nat_tests}
 use Rattle.std.proofs.lemmas.Bool.{cases_lt}
 use Rattle.roles.specs.declared.role.Role.{Role}
@@ -242,7 +242,14 @@ connected-numbers (Srej command nr pf) turn a = go (is_outstanding a.outgoing) (
     go false m = tt
     go true None = tt
     go true (Some n) = record {
-      window = refl; pieces = refl; front_low = omega arith; advance = inl refl; acked = λ r e. cc; incoming = same-taken a.incoming; numbered = λ s e. cc; special = refl;
+      window = refl;
+      pieces = refl;
+      front_low = omega arith;
+      advance = inl refl;
+      acked = λ r e. cc;
+      incoming = same-taken a.incoming;
+      numbered = λ s e. cc;
+      special = refl;
     }
 connected-numbers (Sabme pf) turn a = go (a.numbered || is_originator a.setup.role)
   where

@@ -1,10 +1,9 @@
 -- A turn of an end that is Connected before it and after it, by the numbers that it hears and tells.
-use Rattle.std.proofs.Common.{◌⊎◌, inl, inr, ◌≡◌, ℕ, zero, suc, ◌+◌, ◌%◌, ◌<◌, ◌≤◌, Bool, true, false, List, length, arith, refl, sym, ◌∙◌, ap, subst, Option, Some, None, Result, Ok, Err}
+use Rattle.std.proofs.Common.{◌⊎◌, inl, inr, ◌≡◌, ℕ, zero, suc, ◌+◌, ◌%◌, ◌≤◌, Bool, true, false, List, length, arith, refl, sym, ◌∙◌, ap, subst, Some, None, Result, Ok, Err}
 use Rattle.std.specs.Prelude.{is_some}
 use Rattle.roles.specs.declared.role.Role.{Role}
 use Rattle.slot_contents.specs.declared.sent.Sent.{Sent}
 use Rattle.slot_contents.specs.declared.arrived.Arrived.{Arrived}
-use Rattle.link_account.specs.declared.phase.Phase.TheVariants.{Connected}
 use Rattle.link_account.specs.declared.fault.LinkFault.{LinkFault}
 use Rattle.link_account.specs.Account.{Account, is_connected}
 use Rattle.link_account.specs.Hear.{hear}
@@ -20,7 +19,7 @@ use Rattle.turn_periods.proofs.PollSpeak.{SpeakPoll, SaidPoll, PollSpeaks, poll-
 use Rattle.turn_periods.proofs.Polling.{is_linked}
 use Rattle.xid_params.specs.Offers.{IsAllowed}
 use Rattle.turn_periods.proofs.AnswerTurn.{linked-says, connected-is}
-use Rattle.turn_periods.proofs.NumberHear.{nr_heard, ns_heard, nr_sent, ns_sent, NumbersHeard, numbers-heard}
+use Rattle.turn_periods.proofs.NumberHear.{nr_sent, ns_sent, NumbersHeard, numbers-heard}
 use Rattle.turn_periods.proofs.NumberSpeak.{NumbersSaid, linked-numbers}
 use Rattle.turn_periods.proofs.Room.{Room, Fits, ServedLeft, served-left, begins-roomy}
 

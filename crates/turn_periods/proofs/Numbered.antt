@@ -1,6 +1,5 @@
 -- An answerer that heard a number has a peer that is Connected, or was.
-use Rattle.std.proofs.Common.{◌⊎◌, inl, inr, ◌≡◌, ◌≢◌, ℕ, zero, suc, ◌+◌, ◌-◌, ◌*◌, ◌<◌, ◌≤◌, ◌&&◌, ◌||◌, Bool, true, false, cond, nat_eq, nat_le, List, length, arith, refl, sym, ◌∙◌, ap, subst, Option, Some, None, Result, Ok, Err}
-use Rattle.std.proofs.lemmas.Bool.{cases_lt}
+use Rattle.std.proofs.Common.{◌⊎◌, inl, inr, ◌≡◌, ◌≢◌, ℕ, zero, suc, ◌+◌, ◌-◌, ◌*◌, ◌<◌, ◌≤◌, ◌||◌, Bool, true, false, cond, nat_eq, nat_le, List, length, arith, refl, sym, ◌∙◌, ap, subst, Option, Some, None, Result, Ok, Err}
 use Rattle.roles.specs.declared.role.Role.{Role}
 use Rattle.roles.specs.declared.role.Role.TheVariants.{Originator, Answerer}
 use Rattle.roles.specs.Role.{other, is_originator}
@@ -26,15 +25,14 @@ use Rattle.link_account.specs.declared.fault.LinkFault.TheVariants.{NotDetected}
 use Rattle.link_account.specs.declared.answer.Answer.{Answer}
 use Rattle.link_account.specs.declared.answer.Answer.TheVariants as answers
 use Rattle.link_account.specs.Account.{Account, is_connected}
-use Rattle.link_account.specs.Hear.{hear, on_frame, on_seen, on_pattern, on_detecting, on_negotiating, on_establishing, on_connected, on_releasing, on_closed, on_disc, on_word, peer_reset, owing, on_xid_command, on_xid_response, trying}
-use Rattle.link_account.specs.Speak.{Said, says, says_frame, else_says, where_says, spent, answering, frame_for, trying_again, tries_frame, u_try, speak_linked, speak, speak_in, speak_detecting, speak_answer, speak_negotiating, speak_releasing}
-use Rattle.link_run.specs.End.{User, is_released}
+use Rattle.link_account.specs.Hear.{hear, on_frame, on_seen, on_pattern, on_detecting, on_negotiating, on_establishing, on_releasing, on_closed, on_disc, on_word, peer_reset, owing, on_xid_command, on_xid_response}
+use Rattle.link_account.specs.Speak.{Said, says, says_frame, else_says, where_says, spent, answering, trying_again, tries_frame, u_try, speak, speak_in, speak_detecting, speak_negotiating}
+use Rattle.link_run.specs.End.{is_released}
 use Rattle.link_run.specs.Run.{Link, Ends, Turn, arrival, served_at}
 use Rattle.turn_bound.specs.Time.{KeepsTime}
 use Rattle.turn_bound.proofs.MeetHear.{of_frame, of_arrived}
 use Rattle.turn_bound.proofs.Serving.{serves-all}
 use Rattle.turn_periods.proofs.Polling.{is_linked}
-use Rattle.turn_periods.proofs.PollHear.{linked-connected}
 use Rattle.turn_periods.proofs.PollSpeak.{SpeakPoll, poll-speaks}
 use Rattle.turn_periods.proofs.NumberTurn.{speak-ok}
 use Rattle.turn_periods.proofs.Trace.{Deed, Happens, Trace, past, sent_or}
@@ -276,5 +274,5 @@ numbered-linked tries period delay link ts state deed kt w role (suc u) l n =
         let within : v < length ts = omega (arith, l) in
         let s = (w.happens v within).speaking (other role) in
         let linked = sends-counted v (release_of link v (deed v).mid (other role)) (served_at link v (deed v).mid (other role)).account s.said (says-of (other role) v within)
-            (ap (λ x. of_frame is_counted (sent_or x)) (sym s.sent_is) ∙ sent.1) in
+        (ap (λ x. of_frame is_counted (sent_or x)) (sym s.sent_is) ∙ sent.1) in
         linked-on period (length ts) o e (turned period (length ts) e o k) (v + 1) (suc u) (omega arith) l (ap (λ (x : Account). is_linked x.phase) s.after_is ∙ linked)

@@ -1,31 +1,28 @@
 -- The numbers of both ends of a run.
-use Rattle.std.proofs.Common.{◌⊎◌, inl, inr, ◌≡◌, ℕ, zero, suc, ◌+◌, ◌*◌, ◌%◌, ◌<◌, ◌≤◌, Bool, true, false, cond, List, length, length-append, arith, refl, sym, ◌∙◌, ap, subst, Option, Some, None, Result, Ok, Err}
+use Rattle.std.proofs.Common.{inl, inr, ◌≡◌, ℕ, zero, suc, ◌+◌, ◌*◌, ◌%◌, ◌<◌, ◌≤◌, Bool, true, false, cond, List, length, length-append, arith, refl, sym, ◌∙◌, ap, subst, Option, Some}
 use Rattle.roles.specs.declared.role.Role.{Role}
 use Rattle.roles.specs.declared.role.Role.TheVariants.{Originator, Answerer}
 use Rattle.roles.specs.Role.{other}
 use Rattle.roles.specs.Both.{of}
 use Rattle.plain_lists.specs.Prefix.{IsPrefixOf}
 use Rattle.xid_params.specs.Offers.{IsAllowed}
-use Rattle.xid_params.specs.Terms.{default_offer}
-use Rattle.slot_contents.specs.declared.sent.Sent.{Sent}
 use Rattle.slot_contents.specs.declared.arrived.Arrived.{Arrived}
 use Rattle.link_account.specs.Account.{Account, is_connected, first_terms}
 use Rattle.link_account.specs.Hear.{hear}
 use Rattle.link_account.specs.Laws.{MayPlay, TakesInOrder, AcknowledgesTaken}
 use Rattle.link_run.specs.End.{is_released}
-use Rattle.link_run.specs.Run.{Link, Ends, Spoken, Turn, RunOf, arrival}
-use Rattle.link_run.specs.Carried.{IsCarried}
+use Rattle.link_run.specs.Run.{Link, Ends, Spoken, Turn, arrival}
 use Rattle.link_run.specs.Laws.{RunsOver, RunsArePlays, HearingsArePlays, IsPlayed}
 use Rattle.link_run.specs.Overheard.{AgreesByXid, has_passed, is_xid, agreed_terms}
 use Rattle.turn_bound.specs.Time.{KeepsTime}
 use Rattle.turn_bound.proofs.Clock.{Rates, rates}
-use Rattle.turn_bound.proofs.Value.{IsOf, Stands, arrived_rnrs}
+use Rattle.turn_bound.proofs.Value.{IsOf, arrived_rnrs}
 use Rattle.turn_bound.proofs.OneTurn.{heard-ok}
 use Rattle.turn_bound.proofs.Phases.{hears-well}
 use Rattle.turn_periods.proofs.Polling.{is_linked}
-use Rattle.turn_periods.proofs.Trace.{Deed, Happens, Trace, past, sent_or}
-use Rattle.turn_periods.proofs.TwoEnds.{end_run, hears_final}
-use Rattle.turn_periods.proofs.Tracing.{Known, known, Timed, timed, rated, release_of, said-as, untimed-of}
+use Rattle.turn_periods.proofs.Trace.{Deed, Trace, past, sent_or}
+use Rattle.turn_periods.proofs.TwoEnds.{end_run}
+use Rattle.turn_periods.proofs.Tracing.{Known, known, timed, rated, release_of, said-as, untimed-of}
 use Rattle.turn_periods.proofs.NumberHear.{ns_sent}
 use Rattle.turn_periods.proofs.NumberTurn.{NumberTurn, number-turn, Begins, begins-turn}
 use Rattle.turn_periods.proofs.Room.{Room, Fits, fits-second}
@@ -115,9 +112,9 @@ counts-of laws tries period delay link ts state deed kt m w role = record {
         let k = known-at r t l in
         let tm = timed tries period delay link kt r in
         subst (λ x. NumberTurn (arrival (of r (deed t).turn).heard) x (of r (state t)) (of r (deed t).mid) (of r (state (t + 1)))) (ap sent_or (sym s.sent_is))
-          (subst (λ x. NumberTurn (arrival (of r (deed t).turn).heard) s.said.sent (of r (state t)) (of r (deed t).mid) x) (sym s.after_is)
-            (number-turn (of r link).user t r (arrival (of r (deed t).turn).heard) (of r (state t)) (of r (deed t).mid) (is_released (deed t).mid.orig.phase) (release_of link t (deed t).mid r) s.said
-              (ap (λ x. x.role) k.setup ∙ tm.role_is) k.none_due (h.hearing r).hears (sym (said-as link t (deed t).mid r) ∙ s.says) ca (ap (λ (x : Account). is_connected x.phase) (sym s.after_is) ∙ cc')))
+        (subst (λ x. NumberTurn (arrival (of r (deed t).turn).heard) s.said.sent (of r (state t)) (of r (deed t).mid) x) (sym s.after_is)
+        (number-turn (of r link).user t r (arrival (of r (deed t).turn).heard) (of r (state t)) (of r (deed t).mid) (is_released (deed t).mid.orig.phase) (release_of link t (deed t).mid r) s.said
+        (ap (λ x. x.role) k.setup ∙ tm.role_is) k.none_due (h.hearing r).hears (sym (said-as link t (deed t).mid r) ∙ s.says) ca (ap (λ (x : Account). is_connected x.phase) (sym s.after_is) ∙ cc')))
 
     fits-terms : (r : Role) (t : ℕ) → t < length ts → Fits (of r (state t)).terms
     fits-terms r t l =
@@ -136,12 +133,12 @@ counts-of laws tries period delay link ts state deed kt m w role = record {
         let arrived : Arrived = arrival (of r (deed t).turn).heard in
         let is-of : IsOf z a.setup = subst (IsOf z) (sym k.setup) tm.is_of in
         let heard = heard-ok z (length a.outgoing.pieces) 0 t (z.quota * arrived_rnrs arrived) r a.phase a mid (hear t arrived a) (h.hearing r).hears
-            (hears-well z (length a.outgoing.pieces) 0 t r a.phase arrived a y is-of k.stands refl (ap (λ x. x.role) k.setup ∙ tm.role_is) (omega arith)) in
+        (hears-well z (length a.outgoing.pieces) 0 t r a.phase arrived a y is-of k.stands refl (ap (λ x. x.role) k.setup ∙ tm.role_is) (omega arith)) in
         let long = y.period in
         subst Begins (sym s.after_is)
-          (begins-turn (of r link).user t period r arrived a mid (is_released (deed t).mid.orig.phase) (release_of link t (deed t).mid r) s.said (ap (λ x. x.role) k.setup ∙ tm.role_is) k.none_due
-            (untimed-of z t t r a.phase a k.stands ua) (ap (λ x. x.period) heard.1.setup ∙ is-of.period) (omega (arith, long)) (fits-terms r t l) (subst IsAllowed (ap (λ x. x.offer) (sym k.setup)) (allowed link m r))
-            (h.hearing r).hears (sym (said-as link t (deed t).mid r) ∙ s.says) ua (ap (λ (x : Account). is_connected x.phase) (sym s.after_is) ∙ cc'))
+        (begins-turn (of r link).user t period r arrived a mid (is_released (deed t).mid.orig.phase) (release_of link t (deed t).mid r) s.said (ap (λ x. x.role) k.setup ∙ tm.role_is) k.none_due
+        (untimed-of z t t r a.phase a k.stands ua) (ap (λ x. x.period) heard.1.setup ∙ is-of.period) (omega (arith, long)) (fits-terms r t l) (subst IsAllowed (ap (λ x. x.offer) (sym k.setup)) (allowed link m r))
+        (h.hearing r).hears (sym (said-as link t (deed t).mid r) ∙ s.says) ua (ap (λ (x : Account). is_connected x.phase) (sym s.after_is) ∙ cc'))
 
     rooms : (r : Role) (t : ℕ) → t ≤ length ts → is_connected (of r (state t)).phase ≡ true → Room (of r (state t))
     rooms r zero l c = let wrong : true ≡ false = sym c ∙ none r in cc

@@ -1,21 +1,14 @@
 -- An end that gives up was starved.
-use Rattle.std.proofs.Common.{◌⊎◌, inl, inr, ◌≡◌, ◌≢◌, ℕ, zero, suc, ◌+◌, ◌-◌, ◌*◌, ◌<◌, ◌≤◌, Bool, true, false, max, List, [], ◌∷◌, length, arith, refl, sym, ◌∙◌, ap, subst, Option, Some, None}
+use Rattle.std.proofs.Common.{inl, inr, ◌≡◌, ◌≢◌, ℕ, suc, ◌-◌, ◌<◌, ◌≤◌, true, max, List, ◌∷◌, length, arith, sym, ◌∙◌, ap, subst}
 use Rattle.std.specs.Prelude.{slice_get}
 use Rattle.std.proofs.lemmas.Bool.{cases_lt}
 use Rattle.roles.specs.declared.role.Role.{Role}
 use Rattle.roles.specs.declared.role.Role.TheVariants.{Originator, Answerer}
 use Rattle.roles.specs.Role.{other}
-use Rattle.roles.specs.Both.{of}
-use Rattle.break_signals.specs.Breaks.{waits}
-use Rattle.link_account.specs.declared.phase.Phase.{Phase}
-use Rattle.link_account.specs.declared.phase.Phase.TheVariants.{Connected}
-use Rattle.link_account.specs.Account.{Account, is_connected}
+use Rattle.link_account.specs.Account.{is_connected}
 use Rattle.link_run.specs.End.{is_released}
-use Rattle.link_run.specs.Run.{Link, Ends, Turn, RunOf, BrokenTurn, arrival, served_at, releases}
-use Rattle.link_run.specs.Carried.{IsCarried, Carries}
-use Rattle.link_run.specs.Laws.{RunsOver}
-use Rattle.link_run.specs.Starved.{IsInSpan, SpanLoses, IsStarved, LosesSome, turn_at}
-use Rattle.turn_bound.specs.Time.{KeepsTime}
+use Rattle.link_run.specs.Run.{Ends, Turn, arrival, releases}
+use Rattle.link_run.specs.Starved.{SpanLoses, IsStarved, LosesSome, turn_at}
 use Rattle.turn_bound.specs.Together.{Together, StandTogether}
 use Rattle.turn_bound.proofs.Clock.{Rates, rates}
 use Rattle.turn_bound.proofs.Value.{IsOf}
@@ -23,7 +16,7 @@ use Rattle.xid_params.specs.Offers.{IsAllowed}
 use Rattle.turn_periods.specs.Losses.{PeriodLoses, LosesEach, OriginatorWantsAnswers, OriginatorIsStarved}
 use Rattle.turn_periods.proofs.AnswerTurn.{connected-is}
 use Rattle.turn_periods.proofs.Room.{begins-roomy}
-use Rattle.turn_periods.proofs.Trace.{Deed, Happens, Trace, past}
+use Rattle.turn_periods.proofs.Trace.{past}
 use Rattle.turn_periods.proofs.Tracing.{Known, known, Timed, timed, rated, Traced, traced}
 use Rattle.turn_periods.proofs.Numbering.{Plays, allowed, fits-at, counts-of}
 use Rattle.turn_periods.proofs.Wanting.{LastTry, last-try, wants-answers}
@@ -31,7 +24,7 @@ use Rattle.turn_periods.proofs.Wanting.{LastTry, last-try, wants-answers}
 pub originator-wants : Plays → StandTogether → OriginatorWantsAnswers
 originator-wants laws together tries period delay link ts before t mid segment since kt run cs broken cm quiet =
     wants-answers tries period delay link ts w.state w.deed kt w.trace Originator (counts-of laws tries period delay link ts w.state w.deed kt run.may_play w.trace Originator)
-      (subst (λ (x : Ends). LastTry tries period (length ts) x.orig) (sym w.last) last) both
+    (subst (λ (x : Ends). LastTry tries period (length ts) x.orig) (sym w.last) last) both
   where
     z : Rates
     z = rates tries period
@@ -49,15 +42,17 @@ originator-wants laws together tries period delay link ts before t mid segment s
     last = last-try tries period link.orig.user (length ts) Originator (arrival t.orig.heard) before.orig mid.orig (is_released mid.orig.phase) (releases link (length ts) mid) _ (rated tries period delay link kt)
         (subst (IsOf z) (sym k.setup) tm.is_of) k.stands (ap (λ x. x.role) k.setup ∙ tm.role_is) k.none_due
         (λ u c. ((begins-roomy (arrival t.orig.heard) (length ts) before.orig mid.orig u (fits-at laws link delay ts before run Originator) (subst IsAllowed (ap (λ x. x.offer) (sym k.setup)) (allowed link run.may_play Originator))
-          (broken.hearing Originator).hears).so c).2)
+        (broken.hearing Originator).hears).so c).2)
         (broken.hearing Originator).hears (ap is_connected cm) quiet broken.broken
 
     joined : (x : Ends) → Together x → is_connected x.orig.phase ≡ true → is_connected x.answ.phase ≡ true
     joined x h c = ap is_connected (h.answ (connected-is x.orig.phase c))
 
     both : (s u : ℕ) → s < length ts → s ≤ u → u ≤ length ts → (w.deed s).made Originator ≡ true → is_connected (w.state s).orig.phase ≡ true → is_connected (w.state u).orig.phase ≡ true → is_connected (w.state u).answ.phase ≡ true
-    both s u _ _ l _ _ = elim (cases_lt u (length ts)) [ inl y ↦ (let h = w.trace.happens u y in joined (w.state u) (together tries period delay link (past ts u) (w.state u) kt h.run h.carried))
-      | inr y ↦ joined (w.state u) (subst Together (sym (ap w.state (same u l y) ∙ w.last)) (together tries period delay link ts before kt run.run run.carried)) ]
+    both s u _ _ l _ _ = elim (cases_lt u (length ts)) [
+      | inl y ↦ (let h = w.trace.happens u y in joined (w.state u) (together tries period delay link (past ts u) (w.state u) kt h.run h.carried))
+      | inr y ↦ joined (w.state u) (subst Together (sym (ap w.state (same u l y) ∙ w.last)) (together tries period delay link ts before kt run.run run.carried))
+    ]
       where
         same : (x : ℕ) → x ≤ length ts → length ts ≤ x → x ≡ length ts
         same x a b = omega (arith, a, b)
@@ -74,7 +69,8 @@ span-loses : (period delay : ℕ) (t : Turn) (ts : List Turn) (n : ℕ) → Peri
 span-loses period delay t ts n h =
     let behind = h.in_period.behind in let before = h.in_period.before in let within = h.within in
     record {
-      turn = h.turn; within = omega (arith, within);
+      turn = h.turn;
+      within = omega (arith, within);
       in_span = record { behind = omega (arith, behind); before = omega (arith, before) };
       lost = subst LosesSome (sym (later-turn h.turn t ts within)) h.lost;
     }

@@ -35,7 +35,8 @@ end_run delay state deed role = record {
   loses = λ t. is_lost (of role (deed t).turn).heard;
   slot = λ t. sent_or (of role (deed t).turn).sent;
   made = λ t. (deed t).made role;
-  count = λ t. (of role (deed t).mid).outgoing.count; mid = λ t. of role (deed t).mid;
+  count = λ t. (of role (deed t).mid).outgoing.count;
+  mid = λ t. of role (deed t).mid;
 }
 
 -- what arrives is what was sent so many turns before, or is lost

@@ -1,13 +1,12 @@
 -- Why a Connected end breaks, and what was lost then.
-use Rattle.std.proofs.Common.{◌⊎◌, inl, inr, ◌≡◌, ℕ, zero, suc, ◌+◌, ◌-◌, ◌*◌, ◌<◌, ◌≤◌, ◌&&◌, ◌||◌, not, Bool, true, false, cond, nat_eq, List, length, arith, refl, sym, ◌∙◌, ap, subst, Option, Some, None, Result, Ok, Err}
+use Rattle.std.proofs.Common.{◌⊎◌, inl, inr, ◌≡◌, ℕ, ◌+◌, ◌-◌, ◌*◌, ◌<◌, ◌≤◌, ◌&&◌, Bool, true, false, cond, nat_eq, List, length, arith, refl, sym, ◌∙◌, ap, subst, Option, Some, None, Ok, Err}
 use Rattle.std.proofs.lemmas.Bool.Decides.{nat_tests}
 use Rattle.roles.specs.declared.role.Role.{Role}
-use Rattle.roles.specs.declared.role.Role.TheVariants.{Originator, Answerer}
 use Rattle.roles.specs.Role.{other, is_originator}
 use Rattle.roles.specs.Both.{of}
 use Rattle.lapm_frames.specs.declared.frame.Frame.TheVariants.{Disc}
-use Rattle.lapm_sender.specs.Outgoing.{Outgoing, expired}
-use Rattle.break_signals.specs.Breaks.{OwnBreaks, waits, ticked}
+use Rattle.lapm_sender.specs.Outgoing.{expired}
+use Rattle.break_signals.specs.Breaks.{waits}
 use Rattle.slot_contents.specs.declared.arrived.Arrived.{Arrived}
 use Rattle.slot_contents.specs.declared.heard.Heard.{Heard}
 use Rattle.slot_contents.specs.declared.heard.Heard.TheVariants.{Nothing, Passed, Lost, Chance}
@@ -15,11 +14,10 @@ use Rattle.link_account.specs.declared.phase.Phase.TheVariants.{Connected, Relea
 use Rattle.link_account.specs.declared.fault.LinkFault.{LinkFault}
 use Rattle.link_account.specs.Account.{Account, is_connected}
 use Rattle.link_account.specs.Hear.{hear, trying}
-use Rattle.link_account.specs.Speak.{Said, spent, trying_again, tries_frame, polling, timer_expires, on_timer, breaking, on_break_timer, after_timers, then_tries, speak_linked, speak, speak_in, speak_releasing}
-use Rattle.link_run.specs.End.{User, is_busy, is_released}
-use Rattle.link_run.specs.Run.{Link, Ends, Turn, RunOf, HearsAt, arrival, served_at, said_at}
-use Rattle.link_run.specs.Carried.{IsCarried}
-use Rattle.link_run.specs.Starved.{IsInSpan, IsLost, LosesSome, turn_at}
+use Rattle.link_account.specs.Speak.{spent, trying_again, tries_frame, polling, timer_expires, breaking, on_break_timer, after_timers, then_tries, speak_linked, speak, speak_in, speak_releasing}
+use Rattle.link_run.specs.End.{User, is_busy}
+use Rattle.link_run.specs.Run.{Link, Ends, Turn}
+use Rattle.link_run.specs.Starved.{IsLost, LosesSome}
 use Rattle.turn_bound.specs.Time.{KeepsTime}
 use Rattle.turn_bound.specs.Due.{NoneDue}
 use Rattle.turn_bound.proofs.Clock.{Rates, rates, AreRates, Sends}
@@ -37,16 +35,15 @@ use Rattle.turn_bound.proofs.Serving.{Served, serves-all}
 use Rattle.turn_bound.proofs.Tied.{is_lost}
 use Rattle.turn_periods.specs.Losses.{PeriodLoses, LosesEach}
 use Rattle.turn_periods.proofs.Polling.{is_linked}
-use Rattle.turn_periods.proofs.PollHear.{PollHeard, PollHears, poll-hears, linked-connected}
-use Rattle.turn_periods.proofs.Trace.{Deed, Happens, Trace, past}
+use Rattle.turn_periods.proofs.PollHear.{PollHeard, poll-hears, linked-connected}
+use Rattle.turn_periods.proofs.Trace.{Deed, Trace}
 use Rattle.turn_periods.proofs.TwoEnds.{EndRun, TwoEnds, end_run}
-use Rattle.turn_periods.proofs.Tracing.{Known, known, Timed, timed, rated, release_of, said-as, Traced, traced}
 use Rattle.turn_periods.proofs.AnswerTurn.{linked-sends, connected-is}
 use Rattle.turn_periods.proofs.HeardCount.{CountKept, count-hears}
 use Rattle.turn_periods.proofs.PollLaws.{two-ends}
 use Rattle.turn_periods.proofs.PeriodLaws.{linked-on, connected-back, StayConnected}
 use Rattle.turn_periods.proofs.PeriodHolds.{LostIn}
-use Rattle.turn_periods.proofs.Expiries.{Expired, last-expired, First, first-connected, losses, once-more}
+use Rattle.turn_periods.proofs.Expiries.{Expired, last-expired, First, first-connected, losses}
 use Rattle.turn_periods.proofs.Acknowledged.{Counts}
 use Rattle.turn_periods.proofs.Keeping.{turn-is}
 
@@ -146,8 +143,11 @@ last-try tries period user turn role arrived a mid released release fault y k h 
         by : CountKept a mid → LastTry tries period turn a
         by (inl c) = absurd (omega (arith, c, mid-count, some-tries))
         by (inr (c, w)) = record {
-          connected = ca; set = why.set; runs = sym w ∙ (ap (λ v. v.timer) (sym s.wait) ∙ why.runs);
-          now = let n = why.now in omega (arith, n, per); count = sym c ∙ mid-count;
+          connected = ca;
+          set = why.set;
+          runs = sym w ∙ (ap (λ v. v.timer) (sym s.wait) ∙ why.runs);
+          now = let n = why.now in omega (arith, n, per);
+          count = sym c ∙ mid-count;
         }
 
 -- a turn in which an end hears nothing of what was sent
@@ -203,7 +203,9 @@ wants-answers tries period delay link ts state deed kt w role c l both n less = 
         let a = lost.low in let b = lost.high in let f = exact in
         let within : lost.turn < turns = omega (arith, b, f, q, long) in
         record {
-          turn = lost.turn; within = within; in_period = record { behind = omega (arith, a, q, f, same); before = omega (arith, b, q, f, long) };
+          turn = lost.turn;
+          within = within;
+          in_period = record { behind = omega (arith, a, q, f, same); before = omega (arith, b, q, f, long) };
           lost = subst LosesSome (sym (turn-is period delay link ts state deed w lost.turn within)) (some lost.turn lost.loses);
         }
       where
