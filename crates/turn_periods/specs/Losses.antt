@@ -24,36 +24,47 @@ pub record PeriodLoses (period last : ℕ) (ts : List Turn) (number : ℕ) : Typ
 abbrev pub LosesEach : (period count last : ℕ) → List Turn → Type 0
 LosesEach period count last ts = (number : ℕ) → number < count → PeriodLoses period last ts number
 
--- Where a Connected originator that waits for no break's answer spends its tries, something was lost in each of as many of the latest periods.
+-- Where a Connected originator that waits for no break's answer spends its tries, something was lost in each of the latest periods, as many
+-- as it has tries.
 abbrev pub OriginatorWantsAnswers : Type 0
-OriginatorWantsAnswers = (tries period : ℕ) (delay : Role → ℕ) (link : Link) (ts : List Turn) (before : Ends) (t : Turn) (mid : Ends) (segment since : ℕ)
-    → KeepsTime tries period delay link → RunsOver link delay ts before → Carries delay ts t → BrokenTurn link ts before t mid Originator (Spent segment since)
+OriginatorWantsAnswers = (tries period : ℕ) (delay : Role → ℕ) (link : Link) (ts : List Turn) (before : Ends) (t : Turn) (mid : Ends)
+    (segment since : ℕ)
+    → KeepsTime tries period delay link → RunsOver link delay ts before → Carries delay ts t
+    → BrokenTurn link ts before t mid Originator (Spent segment since)
     → mid.orig.phase ≡ Connected → waits (served_at link (length ts) mid Originator).account.own_breaks ≡ false
     → LosesEach period tries (length ts) ts
 
 -- So the run was starved.
 abbrev pub OriginatorIsStarved : Type 0
-OriginatorIsStarved = (tries period : ℕ) (delay : Role → ℕ) (link : Link) (ts : List Turn) (before : Ends) (t : Turn) (mid : Ends) (segment since : ℕ)
-    → KeepsTime tries period delay link → RunsOver link delay ts before → Carries delay ts t → BrokenTurn link ts before t mid Originator (Spent segment since)
+OriginatorIsStarved = (tries period : ℕ) (delay : Role → ℕ) (link : Link) (ts : List Turn) (before : Ends) (t : Turn) (mid : Ends)
+    (segment since : ℕ)
+    → KeepsTime tries period delay link → RunsOver link delay ts before → Carries delay ts t
+    → BrokenTurn link ts before t mid Originator (Spent segment since)
     → mid.orig.phase ≡ Connected → waits (served_at link (length ts) mid Originator).account.own_breaks ≡ false
     → IsStarved tries period delay (t ∷ ts)
 
 -- So it is with a Connected answerer, while the originator isn't told to release.
 abbrev pub AnswererWantsAnswers : Type 0
-AnswererWantsAnswers = (tries period : ℕ) (delay : Role → ℕ) (link : Link) (ts : List Turn) (before : Ends) (t : Turn) (mid : Ends) (segment since : ℕ)
-    → KeepsTime tries period delay link → RunsOver link delay ts before → Carries delay ts t → BrokenTurn link ts before t mid Answerer (Spent segment since)
-    → mid.answ.phase ≡ Connected → waits (served_at link (length ts) mid Answerer).account.own_breaks ≡ false → is_released mid.orig.phase ≡ false
+AnswererWantsAnswers = (tries period : ℕ) (delay : Role → ℕ) (link : Link) (ts : List Turn) (before : Ends) (t : Turn) (mid : Ends)
+    (segment since : ℕ)
+    → KeepsTime tries period delay link → RunsOver link delay ts before → Carries delay ts t
+    → BrokenTurn link ts before t mid Answerer (Spent segment since)
+    → mid.answ.phase ≡ Connected → waits (served_at link (length ts) mid Answerer).account.own_breaks ≡ false
+    → is_released mid.orig.phase ≡ false
     → LosesEach period tries (length ts) ts × IsStarved tries period delay (t ∷ ts)
 
--- Where the originator saw no pattern, something was lost in each of the latest periods, one more than there are tries: the run was starved.
+-- Where the originator saw no pattern, something was lost in each of the latest periods, one more than there are tries: the run was
+-- starved.
 abbrev pub OriginatorWantsPattern : Type 0
 OriginatorWantsPattern = (tries period : ℕ) (delay : Role → ℕ) (link : Link) (ts : List Turn) (before : Ends) (t : Turn) (mid : Ends)
-    → KeepsTime tries period delay link → RunOf link ts before → IsCarried delay ts → BrokenTurn link ts before t mid Originator NotDetected
+    → KeepsTime tries period delay link → RunOf link ts before → IsCarried delay ts
+    → BrokenTurn link ts before t mid Originator NotDetected
     → LosesEach period (tries + 1) (length ts) ts
 
 abbrev pub UndetectedIsStarved : Type 0
 UndetectedIsStarved = (tries period : ℕ) (delay : Role → ℕ) (link : Link) (ts : List Turn) (before : Ends) (t : Turn) (mid : Ends)
-    → KeepsTime tries period delay link → RunOf link ts before → IsCarried delay ts → BrokenTurn link ts before t mid Originator NotDetected
+    → KeepsTime tries period delay link → RunOf link ts before → IsCarried delay ts
+    → BrokenTurn link ts before t mid Originator NotDetected
     → IsStarved tries period delay (t ∷ ts)
 
 -- A starved run lost a slot for each two tries at least: fewer lost slots starve no run,
