@@ -139,16 +139,19 @@ fn seven_ones_abort_once(rt: HostRuntime) -> Result<(), Fail> {
     Ok(())
 }
 
+/// The symbols of a slot in which the last flag of such a frame's slot is cut.
+const SYMBOLS: usize = 464;
+
 #[test]
 fn a_flag_that_is_cut_goes_on_in_the_next_slot(rt: HostRuntime) -> Result<(), Fail> {
-    let mut writer = SlotWriter::new(SLOT as u16);
+    let mut writer = SlotWriter::new(SYMBOLS as u16);
     let mut slot = BitSlot::new();
     writer.slot(Some(&[1, 2, 3, 0xff]), &mut slot);
-    assert_digits(&rt, &slot, 4 * SLOT - 7, b"0111111");
+    assert_digits(&rt, &slot, 4 * SYMBOLS - 7, b"0111111");
     slot.clear();
     writer.slot(None, &mut slot);
     assert_digits(&rt, &slot, 0, b"001111110");
-    assert_digits(&rt, &slot, 4 * SLOT - 7, b"0111111");
+    assert_digits(&rt, &slot, 4 * SYMBOLS - 7, b"0111111");
     writer.restart();
     slot.clear();
     writer.slot(None, &mut slot);

@@ -1,8 +1,6 @@
 // Offsets that turn one slot into another.
-ghost use Rattle.slot_contents.specs.Sendable.{IsSendable};
-
 use super::*;
-use lapm_frames::Frame;
+use bit_stuffing::SlotWriter;
 use line_coding::Modulator;
 use noise_script::SCRIPT_OCTETS;
 use scramblers::Mode;
@@ -39,30 +37,34 @@ fn script_between(alloc: Global, from: &BitSlot, to: &BitSlot) -> Result<Script,
     Ok(read_script(alloc, text.as_bytes())?)
 }
 
-/// The bits of an originator's first slot.
-fn coded(alloc: Global, sent: &Sent) -> Result<BitSlot, Fail>
-    requires { IsSendable sent.now }
-{
-    laws::all_fits();
-    let mut line = Line::new(alloc, Role::Originator, SLOT as u16)?;
+/// The symbols of a slot, few enough that a script has a line for each.
+const SYMBOLS: u16 = 464;
+
+/// A ready frame of the originator's, a response, with its check.
+const READY: &[u8] = b"\x01\x01\x00\xc8\x85";
+
+/// The bits of a first slot of flags alone.
+fn flags() -> BitSlot {
     let mut slot = BitSlot::new();
-    line.code(sent, Check::Sixteen, 0, &mut slot);
-    Ok(slot)
+    SlotWriter::new(SYMBOLS).slot(None, &mut slot);
+    slot
+}
+
+/// The bits of a first slot with the frame.
+fn ready() -> BitSlot {
+    let mut slot = BitSlot::new();
+    SlotWriter::new(SYMBOLS).slot(Some(READY), &mut slot);
+    slot
 }
 
 #[test]
 fn a_frame_that_was_not_sent_is_chance(rt: HostRuntime) -> Result<(), Fail> {
     let alloc = rt.alloc();
-    let flags = coded(alloc, &Sent::Flags)?;
-    let ready = Sent::Frame(Frame::Rr {
-        command: false,
-        nr: 0,
-        pf: false,
-    });
-    let frame = coded(alloc, &ready)?;
-    let script = script_between(alloc, &flags, &frame)?;
-    let check = Check::Sixteen;
-    let heard = first_slot(alloc, Role::Originator, &script, &Sent::Flags, check, check)?;
+    let script = script_between(alloc, &flags(), &ready())?;
+    let mut line = Line::new(alloc, Role::Originator, SYMBOLS)?;
+    let mut slot = BitSlot::new();
+    line.code(&Sent::Flags, Check::Sixteen, 0, &mut slot);
+    let heard = line.pass(&script, &slot, &Sent::Flags, false, Check::Sixteen, 0)?;
     assert!(&rt; matches!(heard, Heard::Chance));
     Ok(())
 }
