@@ -4,7 +4,7 @@ use Rattle.roles.specs.declared.role.Role.TheVariants.{Originator, Answerer}
 use Rattle.xid_params.specs.declared.terms.Terms.{Terms}
 use Rattle.lapm_sender.specs.Outgoing as outgoing
 use Rattle.lapm_sender.specs.Outgoing.{Outgoing}
-use Rattle.lapm_sender.specs.Sending.{StandsOut, wanted_by}
+use Rattle.lapm_sender.specs.Sending.{StandsOut, wanted_by, room_by}
 use Rattle.lapm_receiver.specs.Incoming as incoming
 use Rattle.lapm_receiver.specs.Taking.{Taking, StandsIn}
 use Rattle.break_signals.specs.Breaks.{no_breaks, none_heard}
@@ -263,3 +263,12 @@ piece_of (ends.Establishing end) = 0
 piece_of (ends.Connected end) = end.sender.size
 piece_of (ends.Releasing end) = 0
 piece_of (ends.Closed end) = 0
+
+-- how many more segments the end wants at most
+abbrev pub room_of : AnyEnd → ℕ
+room_of (ends.Detecting end) = 0
+room_of (ends.Negotiating end) = 0
+room_of (ends.Establishing end) = 0
+room_of (ends.Connected end) = room_by end.sender
+room_of (ends.Releasing end) = 0
+room_of (ends.Closed end) = 0

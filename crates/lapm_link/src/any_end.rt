@@ -1,11 +1,11 @@
 // An end in any of its states.
 ghost use Rattle.slot_contents.specs.Sendable.{IsSendable};
 ghost use Rattle.std.specs.Prelude.{◌≡◌, ◌+◌, ◌≤◌, ◌<◌, ◌^◌, ℕ, List, length, Some, None, IfOk, IsSomeAnd, is_some, OnErr};
-ghost use Rattle.std.specs.Bool.{OnFalse};
+ghost use Rattle.std.specs.Bool.{OnFalse, OnTrue};
 ghost use Rattle.link_account.specs.Account.{Account, wants, piece_size, after_offer, delivers, after_delivery, is_done, takes_own, after_break_asked, break_waits, given_break, after_given, after_busy, check_of};
 ghost use Rattle.link_account.specs.Hear.{hear};
 ghost use Rattle.link_account.specs.Speak.{speak};
-ghost use Rattle.lapm_link.specs.Stands.{StandsFor, Hears, Speaks, TakesNothing, phase_of, taken_of, undelivered_of, waiting_of, wanted_of, piece_of};
+ghost use Rattle.lapm_link.specs.Stands.{StandsFor, Hears, Speaks, TakesNothing, phase_of, taken_of, undelivered_of, waiting_of, wanted_of, piece_of, room_of};
 ghost use Rattle.link_account.specs.Numbers.{IsNumbered};
 
 use crate::terms::size_for;
@@ -128,6 +128,7 @@ impl AnyEnd {
         requires short { length piece.now ≤ piece_of self.old }
         ensures account { (a : Account) → StandsFor self.old a → StandsFor self.new (after_offer piece.now a) }
         ensures takes_nothing { TakesNothing self.old self.new }
+        ensures fewer { room_of self.new < room_of self.old }
     {
         if let AnyEnd::Connected(end) = self {
             end.sender.offer(piece);
@@ -141,6 +142,7 @@ impl AnyEnd {
         ensures account { (a : Account) → StandsFor self.old a → StandsFor self.new (after_delivery a) }
         ensures unchanged { OnFalse result (out.new ≡ out.old) }
         ensures delivered { OnFalse result (undelivered_of self.new ≡ 0) }
+        ensures fewer { OnTrue result (undelivered_of self.new < undelivered_of self.old) }
         ensures takes_nothing { TakesNothing self.old self.new }
     {
         match self {

@@ -4,6 +4,7 @@ ghost use Rattle.std.specs.Prelude.{◌≡◌, ◌<◌, ◌^◌, None, IfOk, OnE
 ghost use Rattle.lapm_link.specs.Fits.{IsSetUp};
 
 use crate::answer::{slot_of, without_adp};
+use crate::terms::first_terms;
 use crate::{AnyEnd, Arrived, LinkFault, Sent, Setup};
 use lapm_frames::Frame;
 use link_account::Answer;
@@ -46,11 +47,25 @@ impl Broken {
 
 impl Closed {
     ghost use Rattle.link_account.specs.declared.answer.Answer.{Answer};
-    ghost use Rattle.link_account.specs.Account.{Account};
+    ghost use Rattle.link_account.specs.declared.phase.Phase.{Phase};
+    ghost use Rattle.link_account.specs.Account.{Account, first_terms};
     ghost use Rattle.link_account.specs.Hear.{on_closed, hear, owing};
     ghost use Rattle.link_account.specs.Speak.{speak, Said, answering, else_says, says};
     ghost use Rattle.lapm_link.specs.Stands.{StandsFor, Hears, Speaks, TakesNothing, taken_of};
     ghost use Rattle.link_account.specs.Numbers.{IsNumbered};
+
+    /// An end that is set up so and whose link is over before it was tried. It takes no memory.
+    pub fn new(setup: Setup) -> Closed
+        requires { IsSetUp setup }
+        ensures { (a : Account) → a.setup ≡ setup → a.phase ≡ Phase.Closed → a.owes.answer ≡ None → a.terms ≡ first_terms
+            → StandsFor (AnyEnd.Closed result) a }
+    {
+        Closed {
+            setup,
+            answer: None,
+            terms: first_terms(),
+        }
+    }
 
     fn on_frame(self, frame: &Frame) -> AnyEnd
         ensures hears { (a : Account) → StandsFor (AnyEnd.Closed self) a → Hears (on_closed frame.now a) a (Ok result) }

@@ -1,5 +1,5 @@
 -- What a sender keeps, and the part of an account for which it stands.
-use Rattle.std.specs.Prelude.{◌≡◌, ℕ, ◌+◌, ◌^◌, ◌%◌, ◌≤◌, Bool, not, if◌then◌else◌, ◌&&◌, nat_lt, List, [], length, drop, Option, Some, None, slice_index_or}
+use Rattle.std.specs.Prelude.{◌≡◌, ℕ, ◌+◌, ◌-◌, ◌^◌, ◌%◌, ◌≤◌, Bool, not, if◌then◌else◌, ◌&&◌, nat_lt, List, [], length, drop, Option, Some, None, slice_index_or}
 use Rattle.frame_check.specs.declared.sizes.TheConstants.{INFO}
 use Rattle.lapm_sender.specs.declared.faults.BadAck.{BadAck}
 use Rattle.lapm_sender.specs.declared.faults.Spent.{Spent}
@@ -60,6 +60,10 @@ pub record SameTerms (old new : Sending) : Type 0 where
 -- the number of the next segment that a sender wants, of what it keeps
 abbrev pub wanted_by : Sending → Option ℕ
 wanted_by sender = if not sender.ended && nat_lt (length sender.kept) sender.window then Some (sender.front + length sender.kept) else None
+
+-- how many more segments a sender wants at most: none once the file has ended
+abbrev pub room_by : Sending → ℕ
+room_by sender = if sender.ended then 0 else sender.window - length sender.kept
 
 -- a segment is given to be sent: this is its number modulo 128, and the sender then stands for the part after it
 pub record GivesNext (sender : Sending) (segment : List ℕ) (o : Outgoing) (ns : ℕ) : Type 0 where

@@ -41,7 +41,7 @@ impl Model for Sender {
 impl Sender {
     ghost use Rattle.lapm_sender.specs.Outgoing.{Outgoing, not_begun, begun, wanted, with_piece, next_number, advanced, acknowledged, rejected, replied, paused_at, resumed, selected, expired, is_whole, is_outstanding};
     ghost use Rattle.std.specs.Option.{option_map};
-    ghost use Rattle.lapm_sender.specs.Sending.{StandsOut, wanted_by, GivesNext, Advances, Follows, RefusesAck, SpendsAll, SameTerms};
+    ghost use Rattle.lapm_sender.specs.Sending.{StandsOut, wanted_by, room_by, GivesNext, Advances, Follows, RefusesAck, SpendsAll, SameTerms};
 
     /// A sender that isn't begun, with room for so many segments. It takes all its memory here.
     pub fn new(alloc: Global, room: u8) -> Result<Sender, NoMemory>
@@ -109,6 +109,7 @@ impl Sender {
         requires short { length piece.now ≤ self.old.size }
         ensures stands { (o : Outgoing) → StandsOut self.old o → StandsOut self.new (with_piece piece.now o) }
         ensures terms { SameTerms self.old self.new }
+        ensures fewer { room_by self.new < room_by self.old }
     {
         match piece {
             [] => self.ended = true,

@@ -5,7 +5,7 @@ use Rattle.roles.specs.declared.role.Role.{Role}
 use Rattle.roles.specs.declared.role.Role.TheVariants.{Originator, Answerer}
 use Rattle.roles.specs.Role.{same_role}
 use Rattle.noise_script.specs.declared.entry.Pause.{Pause}
-use Rattle.noise_script.specs.Laws.{IsShort}
+use Rattle.noise_script.specs.Script.{IsShort}
 use Rattle.line_run.specs.Scripted.{busy_line}
 use Rattle.turn_bound.specs.Limits as limits
 

@@ -8,7 +8,6 @@ use Rattle.roles.specs.Both.{Both, of}
 use Rattle.noise_script.specs.declared.entry.Break.{Break}
 use Rattle.noise_script.specs.declared.entry.Pause.{Pause}
 use Rattle.noise_script.specs.Script.{ScriptValue, IsInLimits, delay_of}
-use Rattle.noise_script.specs.Laws.{IsShort, PausesAreShort}
 use Rattle.link_run.specs.Run.{Ends}
 use Rattle.link_run.specs.Carried.{IsCarried}
 use Rattle.line_run.specs.LineLaws.{SamplesAreCarried}
@@ -62,8 +61,8 @@ line-runs-advance carried advances c files ts us before after role h none run ma
     advances c.script.tries (period_of c.script) (delay_of c.script) (link_of c.script files) ts us before after role (scripts-keep-time c.script files h) (never-busy c.script files none) run.run may goes
     (carried c (us ++ ts) heard) unwhole same
 
-limited : (script : ScriptValue) (text : List ℕ) (files : Both (List ℕ)) → IsInLimits script → ((role : Role) → length (of role files) ≤ file_limit) → AllByRecursion IsShort script.pauses → IsLimited script.tries (delay_of script) (link_of script files)
-limited script text files h short all = record {
+limited : (script : ScriptValue) (files : Both (List ℕ)) → IsInLimits script → ((role : Role) → length (of role files) ≤ file_limit) → IsLimited script.tries (delay_of script) (link_of script files)
+limited script files h short = record {
   tries_few = h.tries_few;
   delays_few = delays;
   files_short = shortly;
@@ -81,9 +80,9 @@ limited script text files h short all = record {
     shortly Answerer = short Answerer
 
     pauses : (role : Role) → AllByRecursion limits.IsShort (of role (link_of script files)).user.busy
-    pauses Originator = shorts Originator script.pauses all
-    pauses Answerer = shorts Answerer script.pauses all
+    pauses Originator = shorts Originator script.pauses h.pauses_short
+    pauses Answerer = shorts Answerer script.pauses h.pauses_short
 
-pub no-line-run-is-long : PausesAreShort → SamplesAreCarried → NoRunIsLong → NoLineRunIsLong
-no-line-run-is-long short carried long c text files ts ends h spelled few run =
-    long c.script.tries (period_of c.script) (delay_of c.script) (link_of c.script files) ts ends (scripts-keep-time c.script files h) (limited c.script text files h few (short text c.script spelled)) run.run (carried c ts run.heard)
+pub no-line-run-is-long : SamplesAreCarried → NoRunIsLong → NoLineRunIsLong
+no-line-run-is-long carried long c files ts ends h few run =
+    long c.script.tries (period_of c.script) (delay_of c.script) (link_of c.script files) ts ends (scripts-keep-time c.script files h) (limited c.script files h few) run.run (carried c ts run.heard)

@@ -4,7 +4,6 @@ use Rattle.roles.specs.declared.role.Role.{Role}
 use Rattle.roles.specs.Both.{Both, of}
 use Rattle.lapm_sender.specs.Outgoing.{is_whole}
 use Rattle.noise_script.specs.Script.{ScriptValue, IsInLimits, delay_of}
-use Rattle.noise_script.specs.Grammar.{ScriptSpelling}
 use Rattle.link_run.specs.Run.{Ends, Turn}
 use Rattle.line_run.specs.Sampled.{Channel, IsHeardOver, LineRun}
 use Rattle.line_run.specs.Scripted.{period_of, link_of}
@@ -40,6 +39,6 @@ LineRunsAdvance = (c : Channel) (files : Both (List ℕ)) (ts us : List Turn) (b
 
 -- No run of a script, of files within their limit, is as long as the turns that an end can count.
 abbrev pub NoLineRunIsLong : Type 0
-NoLineRunIsLong = (c : Channel) (text : List ℕ) (files : Both (List ℕ)) (ts : List Turn) (ends : Ends)
-    → IsInLimits c.script → ScriptSpelling text c.script → ((role : Role) → length (of role files) ≤ file_limit)
+NoLineRunIsLong = (c : Channel) (files : Both (List ℕ)) (ts : List Turn) (ends : Ends)
+    → IsInLimits c.script → ((role : Role) → length (of role files) ≤ file_limit)
     → LineRun c (link_of c.script files) ts ends → length ts < 2 ^ 40

@@ -2,7 +2,6 @@
 ghost use Rattle.line_bound.specs.Scripts.{ScriptsKeepTime, LineRunsEndSoon, LineRunsAdvance, NoLineRunIsLong};
 
 use line_run::laws::samples_are_carried;
-use noise_script::laws::pauses_are_short;
 use turn_bound::laws::{fronts_advance_soon, runs_end_soon};
 
 /// The ends of a script's link keep one time: its tries, and the period of its delays.
@@ -18,7 +17,6 @@ pub fn line_runs_end_soon()
     ensures fronts { LineRunsAdvance }
     ensures within_limits { NoLineRunIsLong }
 {
-    pauses_are_short();
     samples_are_carried();
     runs_end_soon();
     fronts_advance_soon();

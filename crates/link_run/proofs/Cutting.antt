@@ -15,20 +15,18 @@ use Rattle.roles.specs.declared.role.Role.TheVariants.{Originator, Answerer}
 use Rattle.lapm_sender.specs.Outgoing.{Outgoing, wanted, with_piece}
 use Rattle.link_account.specs.declared.phase.Phase.{Phase}
 use Rattle.link_account.specs.declared.phase.Phase.TheVariants.{Detecting, Negotiating, Establishing, Connected, Releasing, Closed}
-use Rattle.link_account.specs.Account.{Account, is_connected, wants, piece_size, after_given, after_busy, size_for}
+use Rattle.link_account.specs.Account.{Account, fresh, is_connected, wants, piece_size, after_given, after_busy, size_for}
 use Rattle.link_run.specs.End.{User, delivered, piece_at, offered_at, offered_times, room_for, offered, is_busy, served}
+use Rattle.link_run.specs.Reading.{IsCut, IsOffered}
 use Rattle.link_run.proofs.Keeping.{Books, stage, AreTerms, GoesOn}
 use Rattle.link_run.proofs.Speaking.{Ledger, Speaks, Keeps_on, Releases}
 use Rattle.link_run.proofs.Serving.{asks-alone, busy-alone}
 use Rattle.plain_lists.specs.Prefix.{IsPrefixOf}
 
--- what was offered begins the file, and is all of it once the file has ended
-pub record IsCut (file : List ℕ) (size : ℕ) (pieces : List (List ℕ)) (ended : Bool) : Type 0 where
-  pub begins : concat pieces ≡ take (size * length pieces) file
-  pub whole : ended ≡ true → concat pieces ≡ file
-
 pub none-cut : (file : List ℕ) (size : ℕ) → IsCut file size [] false
-none-cut file size = record { begins = ap (λ n. take n file) (let z : 0 ≡ size * 0 = omega arith in z); whole = λ e. absurd (false≢true e) }
+none-cut file size =
+    let none : 0 ≡ size * 0 = omega arith in
+    record { begins = ap (λ n. take n file) none; whole = λ e. absurd (false≢true e); more = λ e. omega (arith, none) }
 
 short-take : (n : ℕ) (xs : List ℕ) → length (take n xs) < n → length xs ≤ n
 short-take n xs h = omega (arith, h, length-take n xs)
@@ -36,15 +34,15 @@ short-take n xs h = omega (arith, h, length-take n xs)
 concat-one : (pieces : List (List ℕ)) (p : List ℕ) → concat (pieces ++ p ∷ []) ≡ concat pieces ++ p
 concat-one pieces p = concat-append pieces (p ∷ []) ∙ ap (λ l. concat pieces ++ l) (append-nil p)
 
-times-next : (s n m : ℕ) → m ≡ n + 1 → s * n + s ≡ s * m
+pub times-next : (s n m : ℕ) → m ≡ n + 1 → s * n + s ≡ s * m
 times-next s n m e = rw e (grind arith)
 
-next-cut : (file : List ℕ) (o : Outgoing) (p : List ℕ) → 1 ≤ o.size → IsCut file o.size o.pieces o.ended → p ≡ take o.size (drop (o.size * length o.pieces) file)
+pub next-cut : (file : List ℕ) (o : Outgoing) (p : List ℕ) → 1 ≤ o.size → IsCut file o.size o.pieces o.ended → p ≡ take o.size (drop (o.size * length o.pieces) file)
     → IsCut file o.size (with_piece p o).pieces (with_piece p o).ended
 next-cut file o [] some h e =
     let n = o.size * length o.pieces in
     let none : length file ≤ n = omega (arith, some, ap length e, length-take o.size (drop n file), length-drop n file) in
-    record { begins = h.begins; whole = λ z. h.begins ∙ take_all n file none }
+    record { begins = h.begins; whole = λ z. h.begins ∙ take_all n file none; more = λ z. absurd (false≢true (sym z)) }
 next-cut file o (x ∷ xs) some h e =
     let n = o.size * length o.pieces in
     let p = x ∷ xs in
@@ -55,27 +53,44 @@ next-cut file o (x ∷ xs) some h e =
           let less : length p < o.size = grind (arith, nat_tests) in
           let all : length (drop n file) ≤ o.size = short-take o.size (drop n file) (subst (λ l. length l < o.size) e less) in
           joined ∙ take_all (n + o.size) file (omega (arith, all, length-drop n file));
+      more = λ z.
+          let full : o.size ≤ length p = grind (arith, nat_tests) in
+          let has : o.size ≤ length (drop n file) = omega (arith, subst (λ l. o.size ≤ length l) e full, length-take o.size (drop n file)) in
+          let reach : n + o.size ≤ length file = omega (arith, has, some, length-drop n file) in
+          subst (λ m. m ≤ length file) (times-next o.size (length o.pieces) (length (o.pieces ++ p ∷ [])) (length-append o.pieces (p ∷ []))) reach;
     }
 
--- the file of an end's user, as far as it was offered
-pub record Cuts (file : List ℕ) (a : Account) : Type 0 where
-  pub allowed : IsAllowed a.setup.offer
-  pub terms : AreTerms a.terms
-  pub size : stage a.phase ≡ 1 → 1 ≤ a.outgoing.size
-  pub cut : IsCut file a.outgoing.size a.outgoing.pieces a.outgoing.ended
+pub fresh-cuts : (file : List ℕ) (setup : Setup) → IsAllowed setup.offer → IsOffered file (fresh setup)
+fresh-cuts file setup h = record { allowed = h; terms = (omega arith, omega arith); size = λ z. absurd (false≢true z); cut = none-cut file 0 }
 
-as-cut : (file : List ℕ) (s s' : ℕ) (ps ps' : List (List ℕ)) (e e' : Bool) → s' ≡ s → ps' ≡ ps → e' ≡ e → IsCut file s ps e → IsCut file s' ps' e'
+pub as-cut : (file : List ℕ) (s s' : ℕ) (ps ps' : List (List ℕ)) (e e' : Bool) → s' ≡ s → ps' ≡ ps → e' ≡ e → IsCut file s ps e → IsCut file s' ps' e'
 as-cut file s s' ps ps' e e' p q r h = rw (p, q, r) h
 
 size-of : (r : Role) (t : Terms) → AreTerms t → 1 ≤ size_for r t
 size-of Originator t h = h.0
 size-of Answerer t h = h.1
 
-pub heard-cuts : (file : List ℕ) (a b : Account) → Cuts file a → GoesOn a b → Cuts file b
+pub linked-stage : (p : Phase) → is_connected p ≡ true → stage p ≡ 1
+linked-stage Connected e = refl
+linked-stage Detecting e = absurd (false≢true e)
+linked-stage Negotiating e = absurd (false≢true e)
+linked-stage Establishing e = absurd (false≢true e)
+linked-stage Releasing e = absurd (false≢true e)
+linked-stage Closed e = absurd (false≢true e)
+
+stage-linked : (p : Phase) → stage p ≡ 1 → is_connected p ≡ true
+stage-linked Connected e = refl
+stage-linked Detecting e = absurd (omega (arith, e))
+stage-linked Negotiating e = absurd (omega (arith, e))
+stage-linked Establishing e = absurd (omega (arith, e))
+stage-linked Releasing e = absurd (omega (arith, e))
+stage-linked Closed e = absurd (omega (arith, e))
+
+pub heard-cuts : (file : List ℕ) (a b : Account) → IsOffered file a → GoesOn a b → IsOffered file b
 heard-cuts file a b h (inl s) = record {
   allowed = subst (λ (k : Books). IsAllowed k.setup.offer) (sym s.books_are) h.allowed;
   terms = s.terms h.allowed h.terms;
-  size = λ z. subst (λ n. 1 ≤ n) (sym s.size) (h.size (linked z));
+  size = λ z. subst (λ n. 1 ≤ n) (sym s.size) (h.size (stage-linked a.phase (linked (linked-stage b.phase z))));
   cut = as-cut file a.outgoing.size b.outgoing.size a.outgoing.pieces b.outgoing.pieces a.outgoing.ended b.outgoing.ended s.size (ap (λ (k : Books). k.pieces) s.books_are) (ap (λ (k : Books). k.ended) s.books_are) h.cut;
 }
   where
@@ -121,26 +136,18 @@ wants-are a n e = go (is_connected a.phase) refl e
     go true k z = record { linked = k; number = wanted-is a.outgoing n z }
     go false k z = absurd (none z)
 
-pub linked-stage : (p : Phase) → is_connected p ≡ true → stage p ≡ 1
-linked-stage Connected e = refl
-linked-stage Detecting e = absurd (false≢true e)
-linked-stage Negotiating e = absurd (false≢true e)
-linked-stage Establishing e = absurd (false≢true e)
-linked-stage Releasing e = absurd (false≢true e)
-linked-stage Closed e = absurd (false≢true e)
-
-piece-size-is : (a : Account) → is_connected a.phase ≡ true → piece_size a ≡ a.outgoing.size
+pub piece-size-is : (a : Account) → is_connected a.phase ≡ true → piece_size a ≡ a.outgoing.size
 piece-size-is a e = ap (λ b. cond b a.outgoing.size 0) e
 
-piece-sizes : (p : List ℕ) (o : Outgoing) → (with_piece p o).size ≡ o.size
+pub piece-sizes : (p : List ℕ) (o : Outgoing) → (with_piece p o).size ≡ o.size
 piece-sizes [] o = refl
 piece-sizes (x ∷ xs) o = refl
 
-offered-cuts-at : (file : List ℕ) (a : Account) (w : Option ℕ) → wants a ≡ w → Cuts file a → Cuts file (offered_at file a w)
+pub offered-cuts-at : (file : List ℕ) (a : Account) (w : Option ℕ) → wants a ≡ w → IsOffered file a → IsOffered file (offered_at file a w)
 offered-cuts-at file a None e h = h
 offered-cuts-at file a (Some n) e h =
     let w = wants-are a n e in
-    let some = h.size (linked-stage a.phase w.linked) in
+    let some = h.size w.linked in
     let p = piece_at (piece_size a) file n in
     let is : p ≡ take a.outgoing.size (drop (a.outgoing.size * length a.outgoing.pieces) file) = rw (piece-size-is a w.linked, w.number) refl in
     record {
@@ -151,43 +158,43 @@ offered-cuts-at file a (Some n) e h =
           (piece-sizes p a.outgoing) refl refl (next-cut file a.outgoing p some h.cut is);
     }
 
-offered-cuts : (n : ℕ) (file : List ℕ) (a : Account) → Cuts file a → Cuts file (offered_times n file a)
+offered-cuts : (n : ℕ) (file : List ℕ) (a : Account) → IsOffered file a → IsOffered file (offered_times n file a)
 offered-cuts zero file a h = h
 offered-cuts (suc n) file a h = offered-cuts n file (offered_at file a (wants a)) (offered-cuts-at file a (wants a) refl h)
 
-delivered-cuts : (file : List ℕ) (a : Account) → Cuts file a → Cuts file (delivered a)
+pub delivered-cuts : (file : List ℕ) (a : Account) → IsOffered file a → IsOffered file (delivered a)
 delivered-cuts file a h = go (is_connected a.phase)
   where
-    go : (b : Bool) → Cuts file (cond b (record a { incoming = record a.incoming { given = length a.incoming.taken } }) a)
+    go : (b : Bool) → IsOffered file (cond b (record a { incoming = record a.incoming { given = length a.incoming.taken } }) a)
     go true = record { allowed = h.allowed; terms = h.terms; size = h.size; cut = h.cut }
     go false = h
 
-pub served-cuts : (u : User) (turn : ℕ) (released : Bool) (a : Account) → Cuts u.file a → Cuts u.file (served u turn released a).account
+pub served-cuts : (u : User) (turn : ℕ) (released : Bool) (a : Account) → IsOffered u.file a → IsOffered u.file (served u turn released a).account
 served-cuts u turn released a h =
     let d = delivered-cuts u.file a h in
-    let g : Cuts u.file (after_given (delivered a)) = record { allowed = d.allowed; terms = d.terms; size = d.size; cut = d.cut } in
+    let g : IsOffered u.file (after_given (delivered a)) = record { allowed = d.allowed; terms = d.terms; size = d.size; cut = d.cut } in
     let o = offered-cuts (room_for (after_given (delivered a))) u.file (after_given (delivered a)) g in
     let c = offered u.file (after_given (delivered a)) in
     let busy = is_busy turn u.busy in
-    let b : Cuts u.file (after_busy busy c) = subst (Cuts u.file) (sym (busy-alone busy c)) (record { allowed = o.allowed; terms = o.terms; size = o.size; cut = o.cut }) in
-    subst (Cuts u.file) (sym (asks-alone turn released u.breaks (after_busy busy c))) (record { allowed = b.allowed; terms = b.terms; size = b.size; cut = b.cut })
+    let b : IsOffered u.file (after_busy busy c) = subst (IsOffered u.file) (sym (busy-alone busy c)) (record { allowed = o.allowed; terms = o.terms; size = o.size; cut = o.cut }) in
+    subst (IsOffered u.file) (sym (asks-alone turn released u.breaks (after_busy busy c))) (record { allowed = b.allowed; terms = b.terms; size = b.size; cut = b.cut })
 
-pub spoken-cuts : (file : List ℕ) (release : Bool) (a b : Account) → Cuts file a → Speaks release a b → Cuts file b
+pub spoken-cuts : (file : List ℕ) (release : Bool) (a b : Account) → IsOffered file a → Speaks release a b → IsOffered file b
 spoken-cuts file release a b h (Keeps_on e) = record {
   allowed = subst (λ (l : Ledger). IsAllowed l.books.setup.offer) (sym e) h.allowed;
   terms = subst (λ (l : Ledger). AreTerms l.terms) (sym e) h.terms;
-  size = λ z. subst (λ (l : Ledger). 1 ≤ l.size) (sym e) (h.size (sym (ap (λ (l : Ledger). stage l.phase) e) ∙ z));
+  size = λ z. subst (λ (l : Ledger). 1 ≤ l.size) (sym e) (h.size (sym (ap (λ (l : Ledger). is_connected l.phase) e) ∙ z));
   cut = subst (λ (l : Ledger). IsCut file l.size l.books.pieces l.books.ended) (sym e) h.cut;
 }
 spoken-cuts file release a b h (Releases on role linked e k) = record {
   allowed = subst (λ (l : Ledger). IsAllowed l.books.setup.offer) (sym e) h.allowed;
   terms = subst (λ (l : Ledger). AreTerms l.terms) (sym e) h.terms;
-  size = λ z. subst (λ (l : Ledger). 1 ≤ l.size) (sym e) (h.size (ap stage linked));
+  size = λ z. subst (λ (l : Ledger). 1 ≤ l.size) (sym e) (h.size (ap is_connected linked));
   cut = subst (λ (l : Ledger). IsCut file l.size l.books.pieces l.books.ended) (sym e) h.cut;
 }
 
 -- segments that begin those that were offered begin the file
-pub begins-file : (file : List ℕ) (a : Account) (taken : List (List ℕ)) → Cuts file a → IsPrefixOf taken a.outgoing.pieces → IsPrefixOf (concat taken) file
+pub begins-file : (file : List ℕ) (a : Account) (taken : List (List ℕ)) → IsOffered file a → IsPrefixOf taken a.outgoing.pieces → IsPrefixOf (concat taken) file
 begins-file file a taken h p =
     let n = a.outgoing.size * length a.outgoing.pieces in (
       concat p.0 ++ drop n file,

@@ -17,7 +17,8 @@ use Rattle.link_run.proofs.Keeping.{Books, GoesOn, hears}
 use Rattle.link_run.proofs.Speaking.{Ledger, Speaks, Keeps_on, Releases}
 use Rattle.link_run.proofs.Serving.{served-alone}
 use Rattle.link_run.proofs.Running.{Reaches, told, speaks-at, hearing-reaches, run-reaches}
-use Rattle.link_run.proofs.Cutting.{Cuts, heard-cuts, served-cuts, spoken-cuts, none-cut, begins-file}
+use Rattle.link_run.specs.Reading.{IsOffered}
+use Rattle.link_run.proofs.Cutting.{fresh-cuts, heard-cuts, served-cuts, spoken-cuts, begins-file}
 
 -- what holds of each end by itself, all through a run
 pub record IsKept (P : Role → Account → Type 0) (link : Link) : Type 0 where
@@ -76,11 +77,11 @@ setups-kept link = record {
 
 -- an end's segments are cut from its file
 abbrev pub HasCut : Link → Role → Account → Type 0
-HasCut link r a = Cuts (of r link).user.file a
+HasCut link r a = IsOffered (of r link).user.file a
 
 pub cuts-kept : (link : Link) → ((r : Role) → IsAllowed (of r link).setup.offer) → IsKept (HasCut link) link
 cuts-kept link allowed = record {
-  begins = λ r. record { allowed = allowed r; terms = (omega arith, omega arith); size = λ z. absurd (omega (arith, z)); cut = none-cut (of r link).user.file 0 };
+  begins = λ r. fresh-cuts (of r link).user.file (of r link).setup (allowed r);
   hears = λ r a b h g. heard-cuts (of r link).user.file a b h g;
   serves = λ r turn released a h. served-cuts (of r link).user turn released a h;
   speaks = λ r release a b h g. spoken-cuts (of r link).user.file release a b h g;

@@ -9,6 +9,7 @@ mod Running
 mod Ending
 mod Finishing
 mod Offering
+mod Reading
 mod Only
 mod Faulting
 mod Delivering

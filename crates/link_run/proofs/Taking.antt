@@ -216,8 +216,9 @@ into-hears srej ss role turn from a b (slot ∷ rest) tl (Some t) left (Passed s
 -- an end that isn't Connected yet was offered nothing
 pub record Unoffered (a : Account) : Type 0 where
   pub none : stage a.phase ≡ 0 → a.outgoing.pieces ≡ []
+  pub going : stage a.phase ≡ 0 → a.outgoing.ended ≡ false
 
-abbrev IsUnoffered : Role → Account → Type 0
+abbrev pub IsUnoffered : Role → Account → Type 0
 IsUnoffered r a = Unoffered a
 
 -- the pieces of an end that hears stay
@@ -240,7 +241,7 @@ offers-more (suc n) file a =
     let rest = offers-more n file (offered_at file a (wants a)) in
     (first.0 ++ rest.0, rest.1 ∙ ap (λ l. l ++ rest.0) first.1 ∙ append_assoc a.outgoing.pieces first.0 rest.0)
 
-delivered-out : (a : Account) → (delivered a).outgoing ≡ a.outgoing
+pub delivered-out : (a : Account) → (delivered a).outgoing ≡ a.outgoing
 delivered-out a = go (is_connected a.phase)
   where
     go : (b : Bool) → (cond b (record a { incoming = record a.incoming { given = length a.incoming.taken } }) a).outgoing ≡ a.outgoing
@@ -270,25 +271,26 @@ offers-none (suc n) file a e = ap (λ w. offered_times n file (offered_at file a
 
 pub unoffered-kept : (link : Link) → IsKept IsUnoffered link
 unoffered-kept link = record {
-  begins = λ r. record { none = λ z. refl };
+  begins = λ r. record { none = λ z. refl; going = λ z. refl };
   hears = λ r a b h g. by a b h g;
   serves = λ r turn released a h. serves (of r link).user turn released a h;
   speaks = λ r release a b h g. spoken release a b h g;
 }
   where
     by : (a b : Account) → Unoffered a → GoesOn a b → Unoffered b
-    by a b h (inl s) = record { none = λ z. ap (λ (k : Books). k.pieces) s.books_are ∙ h.none (omega (arith, z, s.later)) }
-    by a b h (inr e) = record { none = λ z. absurd (omega (arith, z, ap stage e.is)) }
+    by a b h (inl s) = record {
+      none = λ z. ap (λ (k : Books). k.pieces) s.books_are ∙ h.none (omega (arith, z, s.later));
+      going = λ z. ap (λ (k : Books). k.ended) s.books_are ∙ h.going (omega (arith, z, s.later));
+    }
+    by a b h (inr e) = record { none = λ z. absurd (omega (arith, z, ap stage e.is)); going = λ z. absurd (omega (arith, z, ap stage e.is)) }
 
     serves : (u : User) (turn : ℕ) (released : Bool) (a : Account) → Unoffered a → Unoffered (served u turn released a).account
     serves u turn released a h =
-        let g = after_given (delivered a) in
         let l = serving u turn released a in
+        let same : stage (served u turn released a).account.phase ≡ 0 → (served u turn released a).account.outgoing ≡ a.outgoing = λ z. same-out (sym (ap stage l.phase) ∙ z) in
         record {
-          none = λ z.
-              let was : stage a.phase ≡ 0 = sym (ap stage l.phase) ∙ z in
-              let none : wants g ≡ None = wants-none g (ap stage (serving-phase a) ∙ was) in
-              ap (λ (b : Account). b.outgoing.pieces) (served-alone u turn released a) ∙ ap (λ (b : Account). b.outgoing.pieces) (offers-none (room_for g) u.file g none) ∙ ap (λ (o : Outgoing). o.pieces) (delivered-out a) ∙ h.none was;
+          none = λ z. ap (λ (o : Outgoing). o.pieces) (same z) ∙ h.none (sym (ap stage l.phase) ∙ z);
+          going = λ z. ap (λ (o : Outgoing). o.ended) (same z) ∙ h.going (sym (ap stage l.phase) ∙ z);
         }
       where
         serving-phase : (x : Account) → (after_given (delivered x)).phase ≡ x.phase
@@ -298,9 +300,21 @@ unoffered-kept link = record {
             go true = refl
             go false = refl
 
+        same-out : stage a.phase ≡ 0 → (served u turn released a).account.outgoing ≡ a.outgoing
+        same-out was =
+            let x = after_given (delivered a) in
+            let none : wants x ≡ None = wants-none x (ap stage (serving-phase a) ∙ was) in
+            ap (λ (b : Account). b.outgoing) (served-alone u turn released a) ∙ ap (λ (b : Account). b.outgoing) (offers-none (room_for x) u.file x none) ∙ delivered-out a
+
     spoken : (release : Bool) (a b : Account) → Unoffered a → Speaks release a b → Unoffered b
-    spoken release a b h (Keeps_on e) = record { none = λ z. ap (λ (l : Ledger). l.books.pieces) e ∙ h.none (sym (ap (λ (l : Ledger). stage l.phase) e) ∙ z) }
-    spoken release a b h (Releases on role linked e k) = record { none = λ z. absurd (omega (arith, z, ap (λ (l : Ledger). stage l.phase) e)) }
+    spoken release a b h (Keeps_on e) = record {
+      none = λ z. ap (λ (l : Ledger). l.books.pieces) e ∙ h.none (sym (ap (λ (l : Ledger). stage l.phase) e) ∙ z);
+      going = λ z. ap (λ (l : Ledger). l.books.ended) e ∙ h.going (sym (ap (λ (l : Ledger). stage l.phase) e) ∙ z);
+    }
+    spoken release a b h (Releases on role linked e k) = record {
+      none = λ z. absurd (omega (arith, z, ap (λ (l : Ledger). stage l.phase) e));
+      going = λ z. absurd (omega (arith, z, ap (λ (l : Ledger). stage l.phase) e));
+    }
 
 -- more is offered
 right-grows : (pieces more : List (List ℕ)) (ss : List Segment) → AreRight pieces ss → AreRight (pieces ++ more) ss

@@ -1,5 +1,6 @@
 pub mod End
 pub mod Run
+pub mod Reading
 pub mod Carried
 pub mod Outcomes
 pub mod Taken

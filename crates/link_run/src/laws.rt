@@ -4,6 +4,7 @@ ghost use Rattle.link_run.specs.Laws.{RunsArePlays, HearingsArePlays, TakesPrefi
 ghost use Rattle.link_run.specs.Laws.{OneRun, OneOutcome, HearingsDeliver, SpeakingTakesNothing, GivesAllBreaks};
 ghost use Rattle.link_run.specs.Laws.{TakesWhatPassed, HearsWhatPassed, SendsShort, EachEndIsNamed, EachTurnIsMade, OffersUntilNoneIsWanted};
 ghost use Rattle.link_run.specs.Overheard.{OpensByFrames, SegmentsPassLater, AgreesByXid, SendsAgreedCheck, HearsAgreedCheck};
+ghost use Rattle.link_run.specs.Reading.{BeginsUnoffered, HearingStaysOffered, SpeakingStaysOffered, OffersWhatIsRead, SegmentsAreTold, OwnSegmentsStay, RunsByWhatWasRead};
 ghost use Rattle.link_run.specs.Overheard.{JudgesByItsCheck, ReleasesLast, EarlyBreaksAreIgnored};
 
 use lapm_receiver::laws::keeps_taken;
@@ -161,5 +162,27 @@ pub fn early_breaks_are_ignored()
 {
     reads_allowed();
     reads_written();
+    keeps_taken();
+}
+
+/// What is offered of a user's file stays offered, as the end hears and speaks. A segment that is wanted may be any: the file is then known
+/// to have it in its place.
+pub fn segments_are_offered_as_they_are_read()
+    ensures begins { BeginsUnoffered }
+    ensures heard { HearingStaysOffered }
+    ensures spoken { SpeakingStaysOffered }
+    ensures next { OffersWhatIsRead }
+    ensures told { SegmentsAreTold }
+    ensures own { OwnSegmentsStay }
+{
+    reads_allowed();
+    keeps_taken();
+}
+
+/// The users' files count as far as they were read: a run is one of any two files that are the same up to there.
+pub fn files_count_as_far_as_they_were_read()
+    ensures { RunsByWhatWasRead }
+{
+    reads_allowed();
     keeps_taken();
 }

@@ -8,4 +8,3 @@ pub mod Progress
 pub mod Ranges
 pub mod Unique
 pub mod Exists
-mod Pauses

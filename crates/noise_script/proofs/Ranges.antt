@@ -1,6 +1,6 @@
 -- What a script's lines say is in its range.
 use Rattle.std.proofs.Common.{◌≡◌, ℕ, ◌≤◌, Bool, true, false, cond, List, [], ◌∷◌, length, filter_map, Option, Some, None, refl, sym, subst, ◌∙◌, arith, append-nil}
-use Rattle.std.specs.List.{cons_option}
+use Rattle.std.specs.List.{cons_option, AllByRecursion}
 use Rattle.frame_check.specs.declared.sizes.TheConstants.{INFO}
 use Rattle.roles.specs.declared.role.Role.{Role}
 use Rattle.roles.specs.declared.role.Role.TheVariants.{Originator, Answerer}
@@ -12,8 +12,8 @@ use Rattle.noise_script.specs.declared.forms.Form.TheVariants as forms
 use Rattle.noise_script.specs.declared.draft.Draft.{Draft}
 use Rattle.noise_script.specs.Forms.{Kind, row, most, SpellsEach, arguments_of, values_of, form_of}
 use Rattle.noise_script.specs.Offsets.{IsQuiet, AreQuiet}
-use Rattle.noise_script.specs.Script.{ScriptValue, IsInLimits}
-use Rattle.noise_script.specs.Grammar.{Says, nothing, passed_over, spelled, AreAllowed, whole, first, window_said, length_said, loss_said, hit_said, noise_said, break_said, pause_said, delays_in, tries_in, offered_in, noises_in, breaks_in, delays_or_one, tries_or_five, window_or_15, length_or_128, offer_by, script_of, ScriptSpelling}
+use Rattle.noise_script.specs.Script.{ScriptValue, IsShort, IsInLimits}
+use Rattle.noise_script.specs.Grammar.{Says, nothing, passed_over, spelled, AreAllowed, whole, first, window_said, length_said, loss_said, hit_said, noise_said, break_said, pause_said, delays_in, tries_in, offered_in, noises_in, breaks_in, pauses_in, delays_or_one, tries_or_five, window_or_15, length_or_128, offer_by, script_of, ScriptSpelling}
 use Rattle.noise_script.specs.Draft.{Holds, HoldsUpTo, draft_script}
 use Rattle.noise_script.proofs.Entries.{Counts, standing-said, counts-lose, counts-hit, counts-noise, counts-break, counts-busy}
 use Rattle.noise_script.proofs.Order.{in_order-length}
@@ -32,6 +32,7 @@ IsInRange (entries.Window window) = IsWindow window.segments
 IsInRange (entries.Length l) = IsLength l.octets
 IsInRange (entries.Tries tries) = (1 ≤ tries) × (tries ≤ 20)
 IsInRange (entries.Noise noise) = IsQuiet noise
+IsInRange (entries.Busy pause) = IsShort pause
 IsInRange _ = Unit {0}
 
 abbrev AreInRange : List Entry → Type 0
@@ -55,7 +56,10 @@ each-in-range (entries.Check32 role) words s = tt
 each-in-range (entries.Lose loss) words s = tt
 each-in-range (entries.Hit hit) words s = tt
 each-in-range (entries.Break line) words s = tt
-each-in-range (entries.Busy pause) words s = tt
+each-in-range (entries.Busy pause) (a ∷ b ∷ c ∷ words) s = s.1.1.0.not_above
+each-in-range (entries.Busy pause) (a ∷ b ∷ []) s = absurd s.1.1
+each-in-range (entries.Busy pause) (a ∷ []) s = absurd s.1
+each-in-range (entries.Busy pause) [] s = absurd s
 each-in-range (entries.Noise noise) (a ∷ b ∷ c ∷ d ∷ words) s = s.1.1.1.0.not_above
 each-in-range (entries.Noise noise) (a ∷ b ∷ c ∷ []) s = absurd s.1.1.1
 each-in-range (entries.Noise noise) (a ∷ b ∷ []) s = absurd s.1.1
@@ -115,6 +119,11 @@ noises-quiet [] r = tt
 noises-quiet (entries.Noise noise ∷ said) r = (r.0, noises-quiet said r.1)
 noises-quiet (_ ∷ said) r = noises-quiet said r.1
 
+pauses-short : (said : List Entry) → AreInRange said → AllByRecursion IsShort (pauses_in said)
+pauses-short [] r = tt
+pauses-short (entries.Busy pause ∷ said) r = (r.0, pauses-short said r.1)
+pauses-short (_ ∷ said) r = pauses-short said r.1
+
 in-limits : (said : List Entry) → AreInRange said → AreAllowed said → IsInLimits (script_of said)
 in-limits said r a =
     let delays = delays-in-range said r in
@@ -134,6 +143,7 @@ in-limits said r a =
       breaks_few = omega (arith, few (whole forms.Break) break_said counts-break, in_order-length (breaks_in said));
       pauses_few = few (whole forms.Busy) pause_said counts-busy;
       quiet = noises-quiet said r;
+      pauses_short = pauses-short said r;
     }
   where
     few : {X : Type 0} (kind : Kind) (say : Entry → Option X) → Counts kind say → length (filter_map say said) ≤ most (row kind.form).bound

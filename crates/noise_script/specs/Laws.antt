@@ -1,10 +1,9 @@
 -- Laws of scripts' texts.
-use Rattle.std.specs.Prelude.{◌≡◌, ◌≢◌, ◌⊎◌, ℕ, ◌≤◌, Bool, true, not, nat_eq, List, [], ◌∷◌, ◌++◌}
-use Rattle.std.specs.List.{list_all, AllByRecursion}
+use Rattle.std.specs.Prelude.{◌≡◌, ◌≢◌, ◌⊎◌, ℕ, Bool, true, not, nat_eq, List, [], ◌∷◌, ◌++◌}
+use Rattle.std.specs.List.{list_all}
 use Rattle.noise_script.specs.Lines.{lines_of, without_return, words_of, is_blank}
 use Rattle.script_causes.specs.declared.cause.Cause.{Cause}
 use Rattle.noise_script.specs.declared.entry.Break.{Break}
-use Rattle.noise_script.specs.declared.entry.Pause.{Pause}
 use Rattle.noise_script.specs.Breaks.{in_order, IsOrder}
 use Rattle.noise_script.specs.Script.{ScriptValue}
 use Rattle.noise_script.specs.Grammar.{ScriptSpelling, FirstFault}
@@ -51,11 +50,3 @@ pub record WordsFromFront : Type 0 where
 -- a script's breaks rise in turn, and those of one turn stand as in the text
 abbrev pub BreaksInOrder : Type 0
 BreaksInOrder = (lines : List Break) → IsOrder lines (in_order lines)
-
--- a pause is at most that long
-abbrev pub IsShort : Pause → Type 0
-IsShort pause = pause.count ≤ 10000
-
--- a text spells no longer pause
-abbrev pub PausesAreShort : Type 0
-PausesAreShort = (text : List ℕ) (script : ScriptValue) → ScriptSpelling text script → AllByRecursion IsShort script.pauses

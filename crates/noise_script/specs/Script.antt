@@ -1,6 +1,6 @@
 -- What a script says, as plain numbers and lists, and what the line and the ends do by it.
 use Rattle.std.specs.Prelude.{ℕ, ◌≤◌, ◌&&◌, Bool, List, Option, length, map}
-use Rattle.std.specs.List.{list_any}
+use Rattle.std.specs.List.{list_any, AllByRecursion}
 use Rattle.roles.specs.declared.role.Role.{Role}
 use Rattle.roles.specs.declared.role.Role.TheVariants.{Originator, Answerer}
 use Rattle.noise_script.specs.declared.entry.Loss.{Loss}
@@ -57,6 +57,10 @@ break_of script role index = break_in script.breaks role index
 abbrev pub is_busy : ScriptValue → Role → ℕ → Bool
 is_busy script role turn = list_any (λ pause. same_role pause.role role && covers pause.from pause.count turn) script.pauses
 
+-- a pause lasts at most 10,000 turns
+abbrev pub IsShort : Pause → Type 0
+IsShort pause = pause.count ≤ 10000
+
 -- the ranges of the numbers, and how many lines there may be
 pub record IsInLimits (script : ScriptValue) : Type 0 where
   pub delay_orig_some : 1 ≤ script.delay_orig
@@ -73,3 +77,4 @@ pub record IsInLimits (script : ScriptValue) : Type 0 where
   pub breaks_few : length script.breaks ≤ 64
   pub pauses_few : length script.pauses ≤ 64
   pub quiet : AreQuiet script.noises
+  pub pauses_short : AllByRecursion IsShort script.pauses

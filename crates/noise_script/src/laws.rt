@@ -1,7 +1,7 @@
 //! Laws of scripts' texts.
 ghost use Rattle.std.specs.Prelude.{◌≡◌};
 ghost use Rattle.noise_script.specs.declared.limits.TheConstants.{SCRIPT_OCTETS, LOSE_LINES, HIT_LINES, NOISE_LINES, BREAK_LINES, BUSY_LINES};
-ghost use Rattle.noise_script.specs.Laws.{BreaksInOrder, EachHasAnswer, ScriptsAreOne, FaultsAreOne, NoFaultInScripts, LinesFromFront, WordsFromFront, PausesAreShort};
+ghost use Rattle.noise_script.specs.Laws.{BreaksInOrder, EachHasAnswer, ScriptsAreOne, FaultsAreOne, NoFaultInScripts, LinesFromFront, WordsFromFront};
 
 /// Each text spells one script, or has one first fault with one cause, and never both.
 pub fn one_answer()
@@ -20,11 +20,6 @@ pub fn cuts()
 /// A script's breaks are those of its text, in rising order of turn, and those of one turn as they stand there.
 pub fn breaks_in_order()
     ensures { BreaksInOrder }
-{}
-
-/// No pause of a script is longer than 10,000 turns.
-pub fn pauses_are_short()
-    ensures { PausesAreShort }
 {}
 
 /// How much a script may hold: 65,536 octets, 1,024 lines `lose`, as many lines `hit`, and 64 lines each of `noise`,

@@ -55,6 +55,16 @@ fn break_at(lines: &[Break], role: Role, index: usize) -> Option<(u64, u8)>
 }
 
 impl Script {
+    ghost use Rattle.noise_script.specs.Script.{IsInLimits};
+
+    /// A script is within the limits of its numbers and lines. It does nothing: the fact is the contract.
+    pub fn is_in_limits(&self)
+        ensures { IsInLimits self.now }
+    {
+        // for the prover: reading the script brings its invariant
+        let _tries = self.tries;
+    }
+
     /// How many turns a slot of this sender is on the line.
     pub fn delay(&self, sender: Role) -> u8
         ensures value { result ≡ delay_of self.now sender }

@@ -1,0 +1,9 @@
+//! An end of the link together with its user: the user's file is read from a folder segment by segment, what the end takes is
+//! appended to another, and the user's breaks and pauses are handed on. A pure function of turn numbers, of what arrives and of the
+//! folder. The central type is [`Station`].
+#![tactic(auto)]
+
+mod segment;
+mod station;
+
+pub use station::Station;
