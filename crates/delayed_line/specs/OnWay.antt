@@ -6,6 +6,7 @@ use Rattle.detection.specs.Slots.{Signal}
 use Rattle.exact_decoder.specs.declared.decoder.Lost.{Lost}
 use Rattle.roles.specs.declared.role.Role.{Role}
 use Rattle.roles.specs.Both.{of}
+use Rattle.slot_contents.specs.Sendable.{IsSendable}
 use Rattle.slot_contents.specs.declared.heard.Heard.{Heard}
 use Rattle.noise_script.specs.Script.{delay_of}
 use Rattle.sample_line.specs.Signals.{signal_of}
@@ -13,7 +14,7 @@ use Rattle.sample_line.specs.Line.{LineStands, bits_behind, sender_of}
 use Rattle.link_run.specs.Run.{Spoken, Turn}
 use Rattle.link_run.specs.Carried.{on_line}
 use Rattle.line_run.specs.Sampled.{Channel, signal_in, signals, IsHeardOf, LosesLine}
-use Rattle.delayed_line.specs.declared.direction.Slot.{Slot}
+use Rattle.delayed_line.specs.declared.slot.Slot.{Slot}
 use Rattle.delayed_line.specs.declared.direction.DelayedLine.{DelayedLine}
 
 -- slots that a role sent as signals, the oldest first
@@ -21,12 +22,17 @@ abbrev pub signals_in : Channel → Role → List (Option Spoken) → List Signa
 signals_in c role [] = []
 signals_in c role (slot ∷ slots) = signal_in c role slot ++ signals_in c role slots
 
--- Each slot is what was sent, the oldest first: its bits stand behind those of all slots before.
+-- A slot is what was sent, which an end may send, and its bits stand behind those of all slots before.
+pub record IsOnWay (c : Channel) (role : Role) (before : List Signal) (slot : Slot) (spoken : Spoken) : Type 0 where
+  pub sent : slot.sent ≡ spoken.sent
+  pub sendable : IsSendable spoken.sent
+  pub bits : line_bits slot.bits ≡ bits_behind (4 * c.symbols) before (signal_of spoken.check role c.dlci spoken.sent)
+
+-- so are these, the oldest first
 abbrev pub AreOnWay : Channel → Role → List Signal → List Slot → List (Option Spoken) → Type 0
 AreOnWay c role before [] [] = Unit {0}
 AreOnWay c role before (slot ∷ slots) (Some spoken ∷ line) =
-    (slot.sent ≡ spoken.sent) × (line_bits slot.bits ≡ bits_behind (4 * c.symbols) before (signal_of spoken.check role c.dlci spoken.sent))
-    × AreOnWay c role (before ++ signal_of spoken.check role c.dlci spoken.sent ∷ []) slots line
+    IsOnWay c role before slot spoken × AreOnWay c role (before ++ signal_of spoken.check role c.dlci spoken.sent ∷ []) slots line
 AreOnWay c role before (slot ∷ slots) (None ∷ line) = ⊥
 AreOnWay c role before [] (slot ∷ line) = ⊥
 AreOnWay c role before (slot ∷ slots) [] = ⊥
@@ -38,6 +44,8 @@ pub record OnWay (d : DelayedLine) (c : Channel) (turns : ℕ) (ts : List Turn) 
   pub sender : sender_of d.line ≡ d.sender
   pub symbols : d.line.writer.symbols ≡ c.symbols
   pub delay : d.delay ≡ delay_of c.script d.sender
+  pub some : 1 ≤ d.delay
+  pub room : d.slots.capacity ≡ d.delay
 
 -- between turns all slots of the delay are on their way
 abbrev pub WaitsFor : DelayedLine → Channel → List Turn → Type 0
@@ -51,7 +59,3 @@ HasArrived d c ts = OnWay d c (d.delay - 1) ts
 abbrev pub ArrivesAs : DelayedLine → Channel → List Turn → Check → Result Heard Lost → Type 0
 ArrivesAs d c ts check (Ok heard) = IsHeardOf c d.sender ts check heard × HasArrived d c ts
 ArrivesAs d c ts check (Err lost) = LosesLine c d.sender ts lost.symbol
-
--- what the role of this direction sent in a turn
-pub record IsSentIn (d : DelayedLine) (slot : Spoken) (t : Turn) : Type 0 where
-  pub sent : (of d.sender t).sent ≡ Some slot

@@ -11,24 +11,19 @@ ghost use Rattle.link_run.specs.Run.{Spoken, Turn, arrival};
 ghost use Rattle.line_run.specs.Sampled.{Channel};
 ghost use Rattle.delayed_line.specs.OnWay.{WaitsFor, HasArrived, ArrivesAs};
 
+use crate::slot::Slot;
 use bit_stuffing::BitSlot;
 use circular_buffer::HeapCircularBuffer;
 use exact_decoder::Lost;
 use frame_check::Check;
+use line_laws::laws::losses_stay;
 use noise_script::Script;
 use outside_core::NoMemory;
 use roles::Role;
 use sample_line::Line;
+use sample_line::laws::recordings_grow;
 use slot_contents::{Heard, Sent};
 use std::alloc::Global;
-
-/// A slot that is on its way: its bits, and what was sent in it.
-#[derive(Drop)]
-struct Slot {
-    bits: BitSlot,
-    sent: Sent,
-    ghost sendable: { IsSendable sent },
-}
 
 /// A direction of the line: what its sender sends in a turn arrives after its delay.
 #[derive(Drop)]
@@ -48,6 +43,7 @@ impl DelayedLine {
     pub fn new(alloc: Global, sender: Role, symbols: u16, delay: u8) -> Result<DelayedLine, NoMemory>
         requires low { HEAD + TAIL < symbols }
         requires high { symbols ≤ SLOT }
+        requires some { 1 ≤ delay }
         ensures sender { IfOk result (λ direction. direction.sender ≡ sender) }
         ensures waits { IfOk result (λ direction. (c : Channel) → c.symbols ≡ symbols → delay_of c.script sender ≡ delay → WaitsFor direction c []) }
     {
@@ -70,13 +66,15 @@ impl DelayedLine {
     ) -> Result<Heard, Lost>
         requires channel { dlci < 64 }
         requires early { turn < 2 ^ 40 }
-        requires waits { (c : Channel) × (ts : List Turn) × WaitsFor self.old c ts × (turn ≡ length ts) }
+        requires waits { (c : Channel) × (ts : List Turn) × WaitsFor self.old c ts × (c.script ≡ script.now) × (c.dlci ≡ dlci) × (turn ≡ length ts) }
         ensures arrives { (c : Channel) (ts : List Turn) → WaitsFor self.old c ts → c.script ≡ script.now → c.dlci ≡ dlci → turn ≡ length ts
             → ArrivesAs self.new c ts check result }
         ensures sender { self.new.sender ≡ self.old.sender }
         ensures delay { self.new.delay ≡ self.old.delay }
         ensures numbered { IfOk result (λ heard. IsNumbered (arrival heard)) }
     {
+        recordings_grow();
+        losses_stay();
         if self.slots.len() < usize::from(self.delay) {
             return Ok(Heard::Nothing);
         }

@@ -3,5 +3,6 @@
 #![tactic(auto)]
 
 mod direction;
+mod slot;
 
 pub use direction::DelayedLine;

@@ -1,17 +1,6 @@
 // An end of the link with its user.
-ghost use Rattle.std.specs.Prelude.{◌≡◌, ℕ, ◌+◌, ◌*◌, ◌≤◌, ◌<◌, ◌^◌, List, length, IfOk, OnOk, OnErr, IsErrOf, not, ◌&&◌, ◌||◌};
-ghost use Rattle.std.specs.List.{concat};
-ghost use Rattle.std.specs.Option.{option_map};
-ghost use Rattle.outside_core.specs.Folder.{OnlyReads, OnlyWrites, HasCause, Adds, PartlyAppended, FaultsStand, CountsStand};
-ghost use Rattle.slot_contents.specs.Sendable.{IsSendable};
+
 ghost use Rattle.lapm_link.specs.Fits.{IsSetUp};
-ghost use Rattle.lapm_link.specs.Stands.{TakesNothing, undelivered_of};
-ghost use Rattle.link_account.specs.Numbers.{IsNumbered};
-ghost use Rattle.link_account.specs.Account.{Account, fresh, after_given, after_busy, given_break, is_done, break_waits, check_of};
-ghost use Rattle.link_account.specs.Hear.{hear};
-ghost use Rattle.link_account.specs.Speak.{speak};
-ghost use Rattle.link_run.specs.End.{deliveries, delivered, asked_at, is_ready};
-ghost use Rattle.stations.specs.Station.{Stands, HearsAs, SpeaksAs, Supplies, IsIdle, IsCounted, line_of};
 
 use crate::segment::read_segment;
 use frame_check::{Check, INFO, Info};
@@ -31,7 +20,18 @@ pub struct Station {
 }
 
 impl Station {
-    ghost use Rattle.stations.specs.declared.station.Station.{Station};
+    ghost use Rattle.std.specs.Prelude.{◌≡◌, ℕ, ◌+◌, ◌*◌, ◌≤◌, ◌<◌, ◌^◌, List, length, IfOk, OnOk, OnErr, IsErrOf, not, ◌&&◌, ◌||◌};
+    ghost use Rattle.std.specs.List.{concat};
+    ghost use Rattle.std.specs.Option.{option_map};
+    ghost use Rattle.outside_core.specs.Folder.{OnlyReads, OnlyWrites, HasCause, Adds, PartlyAppended, FaultsStand, CountsStand};
+    ghost use Rattle.slot_contents.specs.Sendable.{IsSendable};
+    ghost use Rattle.lapm_link.specs.Stands.{TakesNothing, undelivered_of};
+    ghost use Rattle.link_account.specs.Numbers.{IsNumbered};
+    ghost use Rattle.link_account.specs.Account.{Account, fresh, after_given, after_busy, given_break, is_done, break_waits, check_of};
+    ghost use Rattle.link_account.specs.Hear.{hear};
+    ghost use Rattle.link_account.specs.Speak.{speak};
+    ghost use Rattle.link_run.specs.End.{deliveries, delivered, asked_at, is_ready};
+    ghost use Rattle.stations.specs.Station.{Stands, HearsAs, SpeaksAs, Supplies, IsIdle, IsCounted, line_of};
 
     /// A station before its first turn. It takes all the memory that its end will need.
     pub fn new(alloc: Global, setup: Setup) -> Result<Station, NoMemory>
