@@ -90,7 +90,7 @@ by-slot : (c : Channel) (role : Role) (k : ℕ) (ts : List Turn) (slot : Slot) (
 by-slot c role k ts slot slots b None e h = absurd h
 by-slot c role k ts slot slots b (Some spoken) e h =
     let upto : signals c role (drop k ts) ≡ signals c role (drop (suc k) ts) ++ signal_of spoken.check role c.dlci spoken.sent ∷ [] =
-        ap (signals c role) b.behind ∙ ap (λ o. signals c role (drop (suc k) ts) ++ signal_in c role o) e in
+    ap (signals c role) b.behind ∙ ap (λ o. signals c role (drop (suc k) ts) ++ signal_in c role o) e in
     record {
       spoken = spoken;
       ago = ap (sent_in role) b.is ∙ e;

@@ -40,7 +40,12 @@ impl DelayedLine {
     ghost use Rattle.delayed_line.specs.declared.direction.DelayedLine.{DelayedLine};
 
     /// A direction on which nothing was sent, whose slots have so many symbols. It takes all its memory.
-    pub fn new(alloc: Global, sender: Role, symbols: u16, delay: u8) -> Result<DelayedLine, NoMemory>
+    pub fn new(
+        alloc: Global,
+        sender: Role,
+        symbols: u16,
+        delay: u8,
+    ) -> Result<DelayedLine, NoMemory>
         requires low { HEAD + TAIL < symbols }
         requires high { symbols ≤ SLOT }
         requires some { 1 ≤ delay }
@@ -82,7 +87,8 @@ impl DelayedLine {
             None => Ok(Heard::Nothing),
             Some(slot) => {
                 let loses = script.loses(self.sender, turn - u64::from(self.delay));
-                self.line.pass(script, &slot.bits, &slot.sent, loses, check, dlci)
+                self.line
+                    .pass(script, &slot.bits, &slot.sent, loses, check, dlci)
             }
         }
     }

@@ -2,13 +2,13 @@
 ghost use Rattle.slot_contents.specs.Sendable.{IsSendable};
 ghost use Rattle.std.specs.Prelude.{◌≡◌, ◌+◌, ◌≤◌, ◌<◌, ◌^◌, ℕ, List, length, Some, None, IfOk, IsSomeAnd, is_some, OnErr};
 ghost use Rattle.std.specs.Bool.{OnFalse, OnTrue};
+ghost use Rattle.frame_check.specs.declared.sizes.TheConstants.{INFO};
 ghost use Rattle.link_account.specs.Account.{Account, wants, piece_size, after_offer, delivers, after_delivery, is_done, takes_own, after_break_asked, break_waits, given_break, after_given, after_busy, check_of};
 ghost use Rattle.link_account.specs.Hear.{hear};
 ghost use Rattle.link_account.specs.Speak.{speak};
 ghost use Rattle.lapm_link.specs.Stands.{StandsFor, Hears, Speaks, TakesNothing, phase_of, taken_of, undelivered_of, waiting_of, wanted_of, piece_of, room_of};
 ghost use Rattle.link_account.specs.Numbers.{IsNumbered};
 
-use crate::terms::size_for;
 use crate::{
     Arrived, Broken, Closed, Connected, Detecting, Establishing, Negotiating, Phase, Releasing,
     Sent,
@@ -115,9 +115,10 @@ impl AnyEnd {
     pub fn piece(&self) -> u16
         ensures value { result ≡ piece_of self.now }
         ensures account { (a : Account) → StandsFor self.now a → result ≡ piece_size a }
+        ensures few { result ≤ INFO }
     {
         match self {
-            AnyEnd::Connected(end) => size_for(end.setup.role, &end.terms),
+            AnyEnd::Connected(end) => end.sender.size(),
             _ => 0,
         }
     }

@@ -103,6 +103,14 @@ impl Sender {
         }
     }
 
+    /// The agreed length of a segment, in octets; 0 before it is begun.
+    pub fn size(&self) -> u16
+        ensures value { result ≡ self.now.size }
+        ensures few { result ≤ INFO }
+    {
+        self.size
+    }
+
     /// Takes the next segment of the file. One that isn't full ends the file; an empty one is no segment.
     pub fn offer(&mut self, piece: &[u8])
         requires wanted { IsSomeAnd (wanted_by self.old) (λ number. number < 2 ^ 56) }

@@ -139,8 +139,7 @@ told file others size n (x ∷ xs) o is count going h =
     let next : o.size * length (o.pieces ++ (x ∷ xs) ∷ []) ≡ k + size = sym (times-next o.size (length o.pieces) (length (o.pieces ++ (x ∷ xs) ∷ [])) (length-append o.pieces ((x ∷ xs) ∷ []))) ∙ ap (λ s. s * length o.pieces + s) is ∙ ap (λ m. size * m + size) count in
     let up : take (k + size) others ≡ take (k + size) file = subst (λ m. take m others ≡ take m file) next h.front in
     let before : take k others ≡ take k file = sym (take-take k (k + size) others (omega arith)) ∙ ap (take k) up ∙ take-take k (k + size) file (omega arith) in
-    let same : take (o.size * length o.pieces) others ≡ take (o.size * length o.pieces) file = subst (λ m. take m others ≡ take m file) (sym (ap (λ s. s * length o.pieces) is ∙ ap (λ m. size * m) count)) before in
-    (
+    let same : take (o.size * length o.pieces) others ≡ take (o.size * length o.pieces) file = subst (λ m. take m others ≡ take m file) (sym (ap (λ s. s * length o.pieces) is ∙ ap (λ m. size * m) count)) before in (
       sym (drop-take k size others) ∙ ap (drop k) up ∙ drop-take k size file,
       record { front = same; whole = λ z. absurd (false≢true (sym going ∙ z)) },
     )

@@ -60,9 +60,11 @@ pub record Supplies (f : FolderState) (name : List ℕ) (limit : ℕ) (file : Li
 -- The same while it is offered: whatever more is read, the rest of it leads where all of it does.
 pub record Supplying (f : FolderState) (name : List ℕ) (limit : ℕ) (file : List ℕ) (a : Account) (s : Station) : Type 0 where
   pub others : List ℕ
-  pub reads_on : ReadsOn f name limit file a others
+  pub within : length others ≤ limit
+  pub told : IsTrue (f.tells name) → file ≡ file_at f name limit → others ≡ file
   pub now : Account
   pub stands : Stands s others now
+  pub same : (more : List ℕ) → SameSoFar now.outgoing others more → SameSoFar a.outgoing file more
   pub leads : (more : List ℕ) → SameSoFar now.outgoing others more → offered more now ≡ offered more a
 
 -- a break that is to be asked for, by its turn and its length

@@ -1,5 +1,5 @@
 // A segment of a user's file.
-ghost use Rattle.std.specs.Prelude.{◌≡◌, ◌≤◌, ◌*◌, ◌-◌, ◌^◌, ◌<◌, IfOk, OnOk, IsErrOf, IsTrue, length, take, drop, min};
+ghost use Rattle.std.specs.Prelude.{◌≡◌, ◌≤◌, ◌+◌, ◌*◌, ◌^◌, ◌<◌, IfOk, OnOk, IsErrOf, IsTrue, length, take, drop, min};
 ghost use Rattle.outside_core.specs.Folder.{OnlyReads, HasCause, FaultsStand, CountsStand, octets_at};
 ghost use Rattle.frame_check.specs.declared.sizes.TheConstants.{INFO};
 ghost use Rattle.link_run.specs.End.{piece_at};
@@ -23,6 +23,7 @@ pub(crate) fn read_segment<F: Folder>(
     requires limit { limit < 2 ^ 56 }
     ensures length { length segment.new ≡ length segment.old }
     ensures count { IfOk result (λ count. count ≤ size) }
+    ensures within { IfOk result (λ count. size * number + count ≤ limit) }
     ensures octets { IfOk result (λ count. IsTrue ((F.state folder.old).tells name.now)
         → take count segment.new ≡ piece_at size (file_at (F.state folder.old) name.now limit) number) }
     ensures only { OnlyReads (F.state folder.old) (F.state folder.new) }

@@ -5,6 +5,9 @@ ghost use Rattle.lapm_link.specs.Fits.{IsSetUp};
 use crate::segment::read_segment;
 use frame_check::{Check, INFO, Info};
 use lapm_link::{AnyEnd, Arrived, Closed, Detecting, LinkFault, Phase, Sent, Setup};
+use link_run::laws::{
+    pieces_are_offered_until_none_is_wanted, segments_are_offered_as_they_are_read,
+};
 use outside_core::{Folder, FolderFault, NoMemory};
 use std::alloc::Global;
 use std::mem::replace;
@@ -40,6 +43,7 @@ impl Station {
         ensures idle { IfOk result IsIdle }
         ensures counted { IfOk result (λ station. IsCounted station 0) }
     {
+        segments_are_offered_as_they_are_read();
         let end = Detecting::new(alloc, setup)?;
         Ok(Station {
             end: AnyEnd::Detecting(end),
@@ -65,6 +69,7 @@ impl Station {
         ensures hears { (file : List ℕ) (a : Account) → Stands self.old file a → HearsAs (hear turn arrived.now a) file self.new result }
         ensures counted { OnOk result (IsCounted self.new (turn + 1)) }
     {
+        segments_are_offered_as_they_are_read();
         match self.take_end().hear(turn, arrived) {
             Ok(end) => {
                 self.end = end;
@@ -114,7 +119,12 @@ impl Station {
     }
 
     /// Reads the user's file, segment by segment, as far as the end wants it. A file ends at its limit.
-    pub fn supply<F: Folder>(&mut self, folder: &mut F, name: &str, limit: u64) -> Result<(), FolderFault>
+    pub fn supply<F: Folder>(
+        &mut self,
+        folder: &mut F,
+        name: &str,
+        limit: u64,
+    ) -> Result<(), FolderFault>
         requires limit { limit < 2 ^ 56 }
         requires stands { (file : List ℕ) × (a : Account) × Stands self.old file a × (length file ≤ limit) }
         ensures stands { OnOk result ((file : List ℕ) (a : Account) → Stands self.old file a → length file ≤ limit → Supplies (F.state folder.old) name.now limit file a self.new) }
@@ -126,6 +136,8 @@ impl Station {
         ensures stand { OnOk result (CountsStand (F.state folder.old) (F.state folder.new)) }
         ensures spared { IsErrOf result FolderFault.NoMemory → FaultsStand (F.state folder.old) (F.state folder.new) }
     {
+        segments_are_offered_as_they_are_read();
+        pieces_are_offered_until_none_is_wanted();
         let mut segment = [0u8; INFO];
         loop {
             let number = match self.end.wants() {
@@ -165,10 +177,14 @@ impl Station {
         ensures idle { IsIdle self.old → IsIdle self.new }
         ensures counted { IsCounted self.new (turn + 1) }
     {
-        if let Some((from, length)) = next {
-            if from <= turn && self.end.ask_break(turn, length) {
-                self.breaks += 1;
-            }
+        let Some((from, length)) = next else {
+            return;
+        };
+        if turn < from {
+            return;
+        }
+        if self.end.ask_break(turn, length) {
+            self.breaks += 1;
         }
     }
 
@@ -193,6 +209,7 @@ impl Station {
         ensures idle { OnOk result (IsIdle self.old → IsIdle self.new) }
         ensures counted { OnOk result ((turns : ℕ) → IsCounted self.old turns → IsCounted self.new turns) }
     {
+        segments_are_offered_as_they_are_read();
         match self.take_end().speak(turn, release, sent) {
             Ok(end) => {
                 self.end = end;
