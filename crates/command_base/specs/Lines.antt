@@ -3,7 +3,7 @@ use Rattle.std.specs.Prelude.{ℕ, ◌≤◌, List, [], ◌∷◌, ◌++◌, len
 use Rattle.xid_params.specs.declared.fault.XidFault.{XidFault}
 use Rattle.xid_params.specs.declared.fault.XidFault.TheVariants as xid
 use Rattle.command_base.specs.declared.status.Status.{Status}
-use Rattle.command_base.specs.declared.status.Status.TheVariants.{BadScript, BadRecording, BadHex, BadXid, TooLong, ReadFault, WriteFault, LineLost, LinkLost, NoMemory}
+use Rattle.command_base.specs.declared.status.Status.TheVariants.{BadScript, BadRecording, BadHex, BadXid, TooLong, ReadFault, WriteFault, LineLost, NotDetected, LinkLost, ChanceMatch, NoMemory}
 use Rattle.roles.specs.Role.{role_word}
 use Rattle.script_causes.specs.Cause.{cause_word}
 
@@ -65,7 +65,9 @@ short_line (BadXid fault) = codes "bad xid: " ++ xid_words fault ++ codes "\n"
 short_line ReadFault = codes "read fault\n"
 short_line WriteFault = codes "write fault\n"
 short_line (LineLost role symbol) = codes "line lost: " ++ role_word role ++ codes " symbol " ++ decimal symbol ++ codes "\n"
+short_line (NotDetected turn) = codes "not detected: turn " ++ decimal turn ++ codes "\n"
 short_line (LinkLost role segment turn) = codes "link lost: " ++ role_word role ++ codes " segment " ++ decimal segment ++ codes " turn " ++ decimal turn ++ codes "\n"
+short_line (ChanceMatch role turn) = codes "chance match: " ++ role_word role ++ codes " turn " ++ decimal turn ++ codes "\n"
 short_line NoMemory = codes "no memory\n"
 short_line status = []
 

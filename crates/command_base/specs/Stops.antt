@@ -32,7 +32,9 @@ IsOwn (status.BadHex at) = Unit {0}
 IsOwn (status.BadXid fault) = Unit {0}
 IsOwn (status.TooLong word) = Unit {0}
 IsOwn (status.LineLost role symbol) = Unit {0}
+IsOwn (status.NotDetected turn) = Unit {0}
 IsOwn (status.LinkLost role segment turn) = Unit {0}
+IsOwn (status.ChanceMatch role turn) = Unit {0}
 IsOwn answer = ⊥
 
 -- of one of these names the count rose, or stands at its last value

@@ -161,6 +161,11 @@ pub(crate) fn write_short(status: Status) -> Line
             put_decimal(&mut line, symbol);
             line.extend(b"\n");
         }
+        Status::NotDetected { turn } => {
+            line.extend(b"not detected: turn ");
+            put_decimal(&mut line, turn);
+            line.extend(b"\n");
+        }
         Status::LinkLost {
             role,
             segment,
@@ -170,6 +175,13 @@ pub(crate) fn write_short(status: Status) -> Line
             line.extend(role.word().as_bytes());
             line.extend(b" segment ");
             put_decimal(&mut line, segment);
+            line.extend(b" turn ");
+            put_decimal(&mut line, turn);
+            line.extend(b"\n");
+        }
+        Status::ChanceMatch { role, turn } => {
+            line.extend(b"chance match: ");
+            line.extend(role.word().as_bytes());
             line.extend(b" turn ");
             put_decimal(&mut line, turn);
             line.extend(b"\n");

@@ -25,8 +25,12 @@ pub enum Status {
     WriteFault,
     /// What that end receives can't be followed from that symbol on, counted from 0.
     LineLost { role: Role, symbol: u64 },
+    /// Up to that turn, the last one, the originator saw no pattern of the answerer's.
+    NotDetected { turn: u64 },
     /// That end sent a segment as often as it may, and never heard an acknowledgement.
     LinkLost { role: Role, segment: u64, turn: u64 },
+    /// That end received in that turn what was not sent, by a chance of the noise.
+    ChanceMatch { role: Role, turn: u64 },
     NoMemory,
 }
 
@@ -48,7 +52,9 @@ impl Status {
             Status::ReadFault => 5,
             Status::WriteFault => 6,
             Status::LineLost { .. } => 7,
+            Status::NotDetected { .. } => 8,
             Status::LinkLost { .. } => 9,
+            Status::ChanceMatch { .. } => 10,
             Status::NoMemory => 11,
         }
     }

@@ -9,6 +9,13 @@ use std::test::Fail;
 /// A flag, the frame SABME with its poll bit and its check, as bits with zeros put in, and a flag.
 const SABME: [u8; 7] = [0x7e, 0x03, 0xdf, 0x3e, 0xb9, 0xfa, 0xf9];
 
+/// A break of 300 ms, the answer to one of 2550 ms with number 1, and a break with a number that there is not: three UI frames with
+/// their checks between flags.
+const BREAKS: [u8; 26] = [
+    0x7e, 0x03, 0x03, 0x40, 0x00, 0x1e, 0xdf, 0x11, 0xfc, 0x06, 0x06, 0xc0, 0x02, 0xbe, 0xcf, 0x24,
+    0xf7, 0x1b, 0x18, 0x00, 0x12, 0xf0, 0x78, 0xda, 0xf1, 0x03,
+];
+
 fn words(alloc: Global, sender: &str) -> Result<Vec<String>, AllocError> {
     let mut words = Vec::new(alloc);
     for text in ["frames", sender, "b"] {
@@ -47,6 +54,9 @@ fn pieces_are_listed(rt: HostRuntime) -> Result<(), Fail> {
     lists(&rt, alloc, "orig", &SABME, 0, done, frame)?;
     let refused = "refused control 7f\npieces 1\n";
     lists(&rt, alloc, "answ", &SABME, 0, done, refused)?;
+    let breaks =
+        "frame ui cmd p=0 brk 0 30\nframe ui cmd p=0 brkack 1 255\nframe ui cmd p=0 n=3\npieces 3\n";
+    lists(&rt, alloc, "orig", &BREAKS, 0, done, breaks)?;
     let mut bits = SABME;
     bits[1] = 0x02;
     let bad = "bad check 4\npieces 1\n";

@@ -69,6 +69,19 @@ fn each_status_says_its_line(rt: HostRuntime) -> Result<(), Fail> {
             9,
             "link lost: orig segment 0 turn 120\n",
         ),
+        (
+            Status::NotDetected { turn: 120 },
+            8,
+            "not detected: turn 120\n",
+        ),
+        (
+            Status::ChanceMatch {
+                role: Role::Originator,
+                turn: 1,
+            },
+            10,
+            "chance match: orig turn 1\n",
+        ),
     ];
     for (status, code, said) in lines {
         says(&rt, rt.alloc(), Stop::Own(status), status, code, said)?;

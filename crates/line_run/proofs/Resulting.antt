@@ -9,7 +9,8 @@ use Rattle.link_account.specs.declared.fault.LinkFault.{LinkFault}
 use Rattle.link_account.specs.declared.fault.LinkFault.TheVariants.{NotDetected, Spent}
 use Rattle.link_run.specs.Run.{Link, Ends, Turn, Hears, GoingTurn, RunOf}
 use Rattle.link_run.specs.Outcomes.{Outcome, Going, Done, Broken, TurnIs}
-use Rattle.link_run.specs.Trace.{trace_text, chance_line}
+use Rattle.line_texts.specs.LineText.{chance_line}
+use Rattle.link_run.specs.Trace.{trace_text}
 use Rattle.link_run.specs.Laws.{heard_in, OneOutcome}
 use Rattle.line_run.specs.Sampled.{Channel, IsHeardOf, HeardIn, IsHeardOver, LineRun, LineEnd, EndsLine}
 use Rattle.line_run.specs.Sampled as lines

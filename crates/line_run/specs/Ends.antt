@@ -14,7 +14,8 @@ use Rattle.link_run.specs.Carried.{HasDelays}
 use Rattle.link_run.specs.Outcomes.{Outcome, Done, Broken, TurnIs}
 use Rattle.link_run.specs.Starved.{IsStarved}
 use Rattle.link_run.specs.Taken.{taken_octets}
-use Rattle.link_run.specs.Trace.{trace_text, chance_line}
+use Rattle.line_texts.specs.LineText.{chance_line}
+use Rattle.link_run.specs.Trace.{trace_text}
 use Rattle.link_run.specs.Laws.{agreed_srej}
 use Rattle.line_run.specs.Sampled.{Channel, HeardIn, LineRun, LineEnd, EndsLine}
 use Rattle.line_run.specs.Sampled as lines

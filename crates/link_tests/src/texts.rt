@@ -1,12 +1,13 @@
-// The text of each kind of frame, and numbers as texts.
+// The text of each kind of frame, lines of a trace, and numbers as texts.
 use frame_check::Octets;
-use lapm_frames::read;
-use line_texts::{FrameText, put_decimal, write_frame_text};
+use lapm_frames::{Frame, read};
+use line_texts::{FrameText, LineText, TraceLine, put_decimal, write_frame_text, write_line};
 use roles::Role;
+use slot_contents::{Heard, Sent};
 use std::test::Fail;
 
 /// The octets of a frame of the originator, and its text.
-const FRAMES: [(&[u8], &[u8]); 16] = [
+const FRAMES: [(&[u8], &[u8]); 20] = [
     (b"\x03\xfe\x01ab", b"i s=127 r=0 p=1 n=2"),
     (b"\x03\x02\x14", b"i s=1 r=10 p=0 n=0"),
     (b"\x03\x01\x01", b"rr cmd r=0 p=1"),
@@ -19,7 +20,11 @@ const FRAMES: [(&[u8], &[u8]); 16] = [
     (b"\x01\x0f", b"dm rsp p=0"),
     (b"\x01\x87a", b"frmr rsp p=0 n=1"),
     (b"\x03\x03abc", b"ui cmd p=0 n=3"),
+    (b"\x03\x03@\x00\x1e", b"ui cmd p=0 brk 0 30"),
+    (b"\x01\x13`\x01\xff", b"ui rsp p=1 brkack 1 255"),
+    (b"\x03\x03@\x02\x1e", b"ui cmd p=0 n=3"),
     (b"\x01\x13", b"ui rsp p=1 n=0"),
+    (b"\x03\xe3@\x00\x1e", b"test cmd p=0 n=3"),
     (b"\x03\xafabcdefghijkl", b"xid cmd p=0 n=12"),
     (b"\x01\xaf", b"xid rsp p=0 n=0"),
     (b"\x03\xf3ab", b"test cmd p=1 n=2"),
@@ -33,6 +38,60 @@ fn each_kind_has_its_text(rt: HostRuntime) -> Result<(), Fail> {
         write_frame_text(&frame, &mut out);
         assert_eq!(rt; out.as_slice(), text);
     }
+    Ok(())
+}
+
+/// The frame of these octets of the originator.
+fn frame_of(octets: &[u8]) -> Result<Frame, Fail> {
+    Ok(read(octets, Role::Originator, 0).map_err(|_| "refused")?)
+}
+
+/// A line of a trace has that text.
+fn line_is(line: &TraceLine, text: &[u8]) -> bool {
+    let mut out = LineText::new();
+    write_line(line, &mut out);
+    out.as_slice() == text
+}
+
+#[test]
+fn lines_of_a_trace_have_their_texts(rt: HostRuntime) -> Result<(), Fail> {
+    let silent = TraceLine {
+        turn: 0,
+        role: Role::Answerer,
+        arrived: Heard::Nothing,
+        sent: Some(Sent::Mark),
+        given: None,
+    };
+    assert!(&rt; line_is(&silent, b"0 answ - > mark\n"));
+    let broken = TraceLine {
+        turn: 8,
+        role: Role::Answerer,
+        arrived: Heard::Passed(Sent::Frame(frame_of(b"\x03\x03@\x00\x1e")?)),
+        sent: Some(Sent::Frame(frame_of(b"\x03\x03`\x00\x1e")?)),
+        given: Some(30),
+    };
+    assert!(&rt;
+        line_is(
+            &broken,
+            b"8 answ ui cmd p=0 brk 0 30 > ui cmd p=0 brkack 0 30 break=30\n"
+        )
+    );
+    let last = TraceLine {
+        turn: 120,
+        role: Role::Originator,
+        arrived: Heard::Lost(Sent::Adp),
+        sent: None,
+        given: None,
+    };
+    assert!(&rt; line_is(&last, b"120 orig lost adp > none\n"));
+    let chance = TraceLine {
+        turn: 1,
+        role: Role::Originator,
+        arrived: Heard::Chance,
+        sent: None,
+        given: None,
+    };
+    assert!(&rt; line_is(&chance, b"1 orig chance\n"));
     Ok(())
 }
 

@@ -64,8 +64,13 @@ UaLostEnds = DoneIn false (way 1 [] (loses 1 5)) ua_lost 32 (98 ∷ []) (97 ∷ 
 abbrev pub broken : Made
 broken = runs 100 (one_octet_each one_break) (way 1 [] [])
 
+abbrev pub BreakLine7 : Type 0
+BreakLine7 = lines_in 7 broken ≡ codes "7 orig - > ui cmd p=0 brk 0 30\n7 answ rr cmd r=0 p=1 > rr rsp r=0 p=1\n"
+
 abbrev pub BreakLine8 : Type 0
-BreakLine8 = lines_in 8 broken ≡ codes "8 orig rr rsp r=0 p=1 > i s=0 r=0 p=0 n=1\n8 answ ui cmd p=0 n=3 > ui cmd p=0 n=3 break=30\n"
+BreakLine8 =
+    lines_in 8 broken ≡
+    codes "8 orig rr rsp r=0 p=1 > i s=0 r=0 p=0 n=1\n8 answ ui cmd p=0 brk 0 30 > ui cmd p=0 brkack 0 30 break=30\n"
 
 abbrev pub BreakEnds : Type 0
 BreakEnds = DoneIn false (way 1 [] []) broken 13 (98 ∷ []) (97 ∷ [])

@@ -2,7 +2,7 @@
 ghost use Rattle.std.specs.Prelude.{ℕ};
 ghost use Rattle.link_run.specs.Run.{Link};
 ghost use Rattle.run_traces.specs.Made.{Way, IsMade, runs};
-ghost use Rattle.run_traces.specs.Traces.{PlainTrace, PlainEnds, UaLostEnds, BreakLine8, BreakEnds, BreakAgainEnds, FarRejEnds, FarSrejEnds, FarRejCounts, FarSrejCounts};
+ghost use Rattle.run_traces.specs.Traces.{PlainTrace, PlainEnds, UaLostEnds, BreakLine7, BreakLine8, BreakEnds, BreakAgainEnds, FarRejEnds, FarSrejEnds, FarRejCounts, FarSrejCounts};
 ghost use Rattle.run_traces.specs.Traces.{BusyLine10, BusyEnds, BusyForLongEnds, CheckedEnds, ChecksAre, LinkLostEnds, NotDetectedEnds};
 
 /// What is computed is a run over a line by the definitions.
@@ -23,7 +23,8 @@ pub fn ua_is_lost()
 
 /// A break, whose answer comes, and one whose answer is lost.
 pub fn breaks()
-    ensures line { BreakLine8 }
+    ensures asked { BreakLine7 }
+    ensures given { BreakLine8 }
     ensures answered { BreakEnds }
     ensures again { BreakAgainEnds }
 {}

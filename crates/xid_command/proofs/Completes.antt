@@ -9,7 +9,8 @@ use Rattle.xid_params.specs.Offers.{OfferSpelling}
 use Rattle.xid_params.proofs.Exact.{never-both}
 use Rattle.command_base.specs.declared.limits.TheConstants.{HEX_LIMIT}
 use Rattle.command_base.specs.declared.status.Status.{Status}
-use Rattle.command_base.specs.declared.status.Status.TheVariants.{Done, Usage, BadScript, BadRecording, BadHex, BadXid, TooLong, ReadFault, WriteFault, LineLost, LinkLost, NoMemory}
+use Rattle.command_base.specs.declared.status.Status.TheVariants.{Done, Usage, BadScript, BadRecording, BadHex, BadXid, TooLong, ReadFault, WriteFault}
+use Rattle.command_base.specs.declared.status.Status.TheVariants.{LineLost, NotDetected, LinkLost, ChanceMatch, NoMemory}
 use Rattle.command_base.specs.declared.stop.Stop.TheVariants.{Own}
 use Rattle.command_base.specs.Stops.{IsOwn}
 use Rattle.command_base.specs.Job.{SaysStop, Answers}
@@ -42,7 +43,9 @@ never-refused digits (BadRecording at) r why = why
 never-refused digits ReadFault r why = why
 never-refused digits WriteFault r why = why
 never-refused digits (LineLost role symbol) r why = why
+never-refused digits (NotDetected turn) r why = why
 never-refused digits (LinkLost role segment turn) r why = why
+never-refused digits (ChanceMatch role turn) r why = why
 never-refused digits NoMemory r why = why
 
 -- what digits are refused for is the command's own answer
@@ -57,7 +60,9 @@ refuses-own digits (BadRecording at) why = tt
 refuses-own digits ReadFault why = why
 refuses-own digits WriteFault why = why
 refuses-own digits (LineLost role symbol) why = tt
+refuses-own digits (NotDetected turn) why = tt
 refuses-own digits (LinkLost role segment turn) why = tt
+refuses-own digits (ChanceMatch role turn) why = tt
 refuses-own digits NoMemory why = why
 
 -- the offer was explained

@@ -1,0 +1,59 @@
+// The lines of a trace.
+ghost use Rattle.std.specs.Prelude.{◌≡◌, ◌≤◌, ◌+◌, ◌++◌, [], length, codes};
+ghost use Rattle.line_texts.specs.LineText.{break_word, line_begins, line_text, sent_word};
+ghost use Rattle.line_texts.specs.declared.words.TheConstants.{TEXT};
+
+use crate::slots::{is_chance, put_given, put_heard, put_sent};
+use crate::{LineText, put_decimal};
+use roles::Role;
+use slot_contents::{Heard, Sent};
+
+/// A line of a trace: what an end heard and sent in a turn.
+#[derive(Drop)]
+pub struct TraceLine {
+    pub turn: u64,
+    pub role: Role,
+    /// What arrived at the end. An idle slot and none look alike.
+    pub arrived: Heard,
+    /// What the end sent; none in the last turn of a run.
+    pub sent: Option<Sent>,
+    /// The length of the break that the end's user was given, in units of 10 ms.
+    pub given: Option<u8>,
+}
+
+/// Puts the turn and the role.
+fn put_beginning(turn: u64, role: Role, out: &mut LineText)
+    requires { out.old ≡ [] }
+    ensures text { out.new ≡ line_begins turn role }
+    ensures short { length out.new ≤ 26 }
+{
+    put_decimal(out, turn);
+    out.push(b' ');
+    out.extend(role.word().as_bytes());
+    out.push(b' ');
+}
+
+/// Puts what was sent and which break was given.
+fn put_reply(line: &TraceLine, out: &mut LineText)
+    requires room { length out.old + 75 ≤ TEXT }
+    ensures text { out.new ≡ out.old ++ codes " > " ++ sent_word line.now.sent ++ break_word line.now.given }
+    ensures short { length out.new ≤ length out.old + 58 }
+{
+    out.extend(b" > ");
+    put_sent(line.sent.as_ref(), out);
+    put_given(line.given, out);
+}
+
+/// Writes the text of a line with its line feed. After a chance match the line says nothing more.
+pub fn write_line(line: &TraceLine, out: &mut LineText)
+    requires { out.old ≡ [] }
+    ensures text { out.new ≡ line_text line.now }
+    ensures short { length out.new ≤ TEXT }
+{
+    put_beginning(line.turn, line.role, out);
+    put_heard(&line.arrived, out);
+    if !is_chance(&line.arrived) {
+        put_reply(line, out);
+    }
+    out.push(b'\n');
+}

@@ -1,0 +1,47 @@
+-- Names that the test of octets tells apart differ.
+use Rattle.std.proofs.Common.{◌≡◌, ◌≢◌, ◌∙◌, ℕ, Bool, true, false, not, ◌&&◌, List, [], ◌∷◌, refl, sym, ap}
+use Rattle.std.specs.Str.{bytes_eq}
+use Rattle.std.proofs.lemmas.Slice.Eq.{bytes_eq-Decides}
+use Rattle.command_base.specs.Outputs.{AreApart, IsNoneOf}
+use Rattle.run_inputs.specs.Words.{are_apart, is_none_of, AreNoneOf}
+
+-- both halves of a test
+left : (a b : Bool) → a && b ≡ true → a ≡ true
+left true b e = refl
+left false b e = e
+
+right : (a b : Bool) → a && b ≡ true → b ≡ true
+right true b e = e
+right false b e = cc
+
+differ : (a b : List ℕ) → not (bytes_eq a b) ≡ true → a ≢ b
+differ a b e same = cc (sym e ∙ ap not ((bytes_eq-Decides a b).1 same))
+
+none : (name : List ℕ) (names : List (List ℕ)) → is_none_of name names ≡ true → IsNoneOf name names
+none name [] e = tt
+none name (first ∷ others) e = (
+  differ name first (left (not (bytes_eq name first)) (is_none_of name others) e),
+  none name others (right (not (bytes_eq name first)) (is_none_of name others) e),
+)
+
+-- the first output by itself
+first-apart : (name : List ℕ) (inputs names : List (List ℕ)) → are_apart inputs (name ∷ names) ≡ true
+    → is_none_of name inputs && is_none_of name names ≡ true
+first-apart name inputs names e = left (is_none_of name inputs && is_none_of name names) (are_apart inputs names) e
+
+others-apart : (name : List ℕ) (inputs names : List (List ℕ)) → are_apart inputs (name ∷ names) ≡ true → are_apart inputs names ≡ true
+others-apart name inputs names e = right (is_none_of name inputs && is_none_of name names) (are_apart inputs names) e
+
+pub outputs-differ : (inputs outputs : List (List ℕ)) → are_apart inputs outputs ≡ true → AreApart outputs
+outputs-differ inputs [] e = tt
+outputs-differ inputs (name ∷ names) e = (
+  none name names (right (is_none_of name inputs) (is_none_of name names) (first-apart name inputs names e)),
+  outputs-differ inputs names (others-apart name inputs names e),
+)
+
+pub none-of-inputs : (inputs outputs : List (List ℕ)) → are_apart inputs outputs ≡ true → AreNoneOf outputs inputs
+none-of-inputs inputs [] e = tt
+none-of-inputs inputs (name ∷ names) e = (
+  none name inputs (left (is_none_of name inputs) (is_none_of name names) (first-apart name inputs names e)),
+  none-of-inputs inputs names (others-apart name inputs names e),
+)

@@ -1,0 +1,118 @@
+-- Lengths that are looked at one after the other.
+use Rattle.std.proofs.Common.{inl, inr, ℕ, ◌+◌, ◌<◌, ◌≤◌, List, [], ◌∷◌, length, Result, Ok, Err, OnOk, refl, sym, subst}
+use Rattle.outside_core.specs.Folder.{FolderState, OnlyReads, CountsStand}
+use Rattle.outside_core.specs.Steps.{octets-kept, told_later, CountsStand-trans}
+use Rattle.outside_core.specs.declared.folder.FolderFault.TheVariants as folder
+use Rattle.command_base.specs.declared.stop.Stop.{Stop}
+use Rattle.command_base.specs.declared.stop.Stop.TheVariants.{Own, Read, Write, Say, NoMemory}
+use Rattle.command_base.specs.Inputs.{IsWithin, IsLonger, IsNotWithin}
+use Rattle.command_base.specs.Stops.{IsOwn, SomeRose, StopCounts, EndCounts}
+use Rattle.command_base.proofs.Jobs.{stop-earlier}
+use Rattle.run_inputs.specs.Lengths.{AreWithin, IsFirstLong, RefusesLengths}
+
+-- ---- a look changes nothing
+
+within-kept : (old mid : FolderState) (name : List ℕ) (limit : ℕ) → OnlyReads old mid → IsWithin mid name limit → IsWithin old name limit
+within-kept old mid name limit r w told =
+    subst (λ xs. length xs ≤ limit) (octets-kept old mid name (r.names name) told) (w (told_later r.goes_on name told))
+
+longer-kept : (old mid : FolderState) (name : List ℕ) (limit : ℕ) → OnlyReads old mid → IsLonger mid name limit → IsLonger old name limit
+longer-kept old mid name limit r w told =
+    subst (λ xs. limit < length xs) (octets-kept old mid name (r.names name) told) (w (told_later r.goes_on name told))
+
+all-kept : (old mid : FolderState) (names : List (List ℕ)) (limit : ℕ) → OnlyReads old mid
+    → AreWithin limit mid names → AreWithin limit old names
+all-kept old mid [] limit r w = tt
+all-kept old mid (name ∷ names) limit r w = (within-kept old mid name limit r w.0, all-kept old mid names limit r w.1)
+
+first-kept : (old mid : FolderState) (names : List (List ℕ)) (limit place word : ℕ) → OnlyReads old mid
+    → IsFirstLong limit mid place names word → IsFirstLong limit old place names word
+first-kept old mid [] limit place word r long = long
+first-kept old mid (name ∷ names) limit place word r (inl long) = inl (long.0, longer-kept old mid name limit r long.1)
+first-kept old mid (name ∷ names) limit place word r (inr long) =
+    inr (within-kept old mid name limit r long.0, first-kept old mid names limit (place + 1) word r long.1)
+
+-- ---- the first is within its limit, and one behind it is not
+
+pub refused-later : (old mid : FolderState) (name : List ℕ) (names : List (List ℕ)) (limit place : ℕ) (stop : Stop) → OnlyReads old mid
+    → IsWithin old name limit → RefusesLengths limit mid (place + 1) names stop → RefusesLengths limit old place (name ∷ names) stop
+refused-later old mid name names limit place (Own answer) r w long =
+    record {
+      word = long.word;
+      answer_is = long.answer_is;
+      first = inr (w, first-kept old mid names limit (place + 1) long.word r long.first);
+    }
+refused-later old mid name names limit place (Read fault) r w why = tt
+refused-later old mid name names limit place (Write fault) r w why = why
+refused-later old mid name names limit place (Say fault) r w why = why
+refused-later old mid name names limit place NoMemory r w why = why
+
+-- what was counted of some inputs was counted of all that have them among them
+of-more : (old new : FolderState) (names more outputs : List (List ℕ)) (stop : Stop)
+    → (SomeRose old.read_faults new.read_faults names → SomeRose old.read_faults new.read_faults more)
+    → StopCounts old new names outputs stop → StopCounts old new more outputs stop
+of-more old new names more outputs (Own answer) among counts = counts
+of-more old new names more outputs (Read folder.Failed) among rose = among rose
+of-more old new names more outputs (Read folder.NoMemory) among refused = refused
+of-more old new names more outputs (Write fault) among counts = counts
+of-more old new names more outputs (Say fault) among counts = counts
+of-more old new names more outputs NoMemory among counts = counts
+
+-- what is counted in all, of those behind the first
+pub counts-later : {D : Type 0} (old mid new : FolderState) (name : List ℕ) (names outputs : List (List ℕ)) (end : Result D Stop)
+    → CountsStand old mid → EndCounts mid new names outputs end → EndCounts old new (name ∷ names) outputs end
+counts-later old mid new name names outputs (Ok done) stand counts = CountsStand-trans stand counts
+counts-later old mid new name names outputs (Err stop) stand counts =
+    of-more old new names (name ∷ names) outputs stop (λ rose. inr rose) (stop-earlier old mid new names outputs stop stand counts)
+
+-- all of them are within
+pub within-all : {D : Type 0} (old mid : FolderState) (name : List ℕ) (names : List (List ℕ)) (limit : ℕ) (end : Result D Stop)
+    → OnlyReads old mid → IsWithin old name limit → OnOk end (AreWithin limit mid names) → OnOk end (AreWithin limit old (name ∷ names))
+within-all old mid name names limit (Ok done) r w within = (w, all-kept old mid names limit r within)
+within-all old mid name names limit (Err stop) r w within = tt
+
+-- ---- the first is not within its limit
+
+pub refused-first : (old new : FolderState) (name : List ℕ) (names : List (List ℕ)) (limit place : ℕ) (stop : Stop)
+    → IsNotWithin old new name limit place stop → RefusesLengths limit old place (name ∷ names) stop
+refused-first old new name names limit place (Own answer) (is, longer, stand) =
+    record { word = place; answer_is = is; first = inl (refl, longer) }
+refused-first old new name names limit place (Read fault) why = tt
+refused-first old new name names limit place (Write fault) why = absurd why
+refused-first old new name names limit place (Say fault) why = absurd why
+refused-first old new name names limit place NoMemory why = absurd why
+
+pub counts-first : (old new : FolderState) (name : List ℕ) (names outputs : List (List ℕ)) (limit place : ℕ) (stop : Stop)
+    → IsNotWithin old new name limit place stop → StopCounts old new (name ∷ names) outputs stop
+counts-first old new name names outputs limit place (Own answer) (is, longer, stand) =
+    (subst IsOwn (sym is) tt, stand)
+counts-first old new name names outputs limit place (Read folder.Failed) (inl rose) = inl rose
+counts-first old new name names outputs limit place (Read folder.Failed) (inr never) = absurd never
+counts-first old new name names outputs limit place (Read folder.NoMemory) refused = refused
+counts-first old new name names outputs limit place (Write fault) why = absurd why
+counts-first old new name names outputs limit place (Say fault) why = absurd why
+counts-first old new name names outputs limit place NoMemory why = absurd why
+
+-- ---- the inputs of a run
+
+-- the script stands behind both files
+pub counts-script : (old new : FolderState) (orig answ script : List ℕ) (outputs : List (List ℕ)) (stop : Stop)
+    → StopCounts old new (script ∷ []) outputs stop → StopCounts old new (orig ∷ answ ∷ script ∷ []) outputs stop
+counts-script old new orig answ script outputs stop counts =
+    of-more old new (script ∷ []) (orig ∷ answ ∷ script ∷ []) outputs stop among counts
+  where
+    among : SomeRose old.read_faults new.read_faults (script ∷ []) → SomeRose old.read_faults new.read_faults (orig ∷ answ ∷ script ∷ [])
+    among rose = inr (inr rose)
+
+-- which nothing was counted of before they were looked at
+pub counts-files : (old mid new : FolderState) (orig answ script : List ℕ) (outputs : List (List ℕ)) (stop : Stop) → CountsStand old mid
+    → StopCounts mid new (orig ∷ answ ∷ []) outputs stop → StopCounts old new (orig ∷ answ ∷ script ∷ []) outputs stop
+counts-files old mid new orig answ script outputs stop stand counts =
+    of-more old new (orig ∷ answ ∷ []) (orig ∷ answ ∷ script ∷ []) outputs stop among
+    (stop-earlier old mid new (orig ∷ answ ∷ []) outputs stop stand counts)
+  where
+    among : SomeRose old.read_faults new.read_faults (orig ∷ answ ∷ [])
+        → SomeRose old.read_faults new.read_faults (orig ∷ answ ∷ script ∷ [])
+    among (inl rose) = inl rose
+    among (inr (inl rose)) = inr (inl rose)
+    among (inr (inr never)) = absurd never

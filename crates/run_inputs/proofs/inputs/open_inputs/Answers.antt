@@ -1,0 +1,23 @@
+use Rattle.outside_core.specs.Folder.{FolderState}
+use Rattle.outside_core.specs.Steps.{CountsStand-trans}
+use Rattle.run_inputs.proofs.Looking.{counts-script, counts-files}
+use Rattle.run_inputs.proofs.inputs.open_inputs.Goals as goal
+
+pub returns-in-Err-clause-counts : goal.returns-in-Err-clause-counts
+returns-in-Err-clause-counts g c = λ outputs.
+    let old : FolderState = g.F.Folder.state c.args.folder.now in
+    let new : FolderState = g.F.Folder.state c.open_script.new.folder in
+    counts-script old new c.args.words.now.orig.now c.args.words.now.answ.now c.args.words.now.script.now outputs c.in-Err.stop
+    (c.in-Err.ensures.counts outputs)
+
+pub returns-in-Ok-check_lengths-clause-counts : goal.returns-in-Ok-check_lengths-clause-counts
+returns-in-Ok-check_lengths-clause-counts g c = λ outputs.
+    CountsStand-trans (c.in-Ok.ensures.counts outputs) (c.in-Ok-check_lengths.ensures.counts outputs)
+
+pub returns-in-Err-check_lengths-clause-counts : goal.returns-in-Err-check_lengths-clause-counts
+returns-in-Err-check_lengths-clause-counts g c = λ outputs.
+    let old : FolderState = g.F.Folder.state c.args.folder.now in
+    let mid : FolderState = g.F.Folder.state c.open_script.new.folder in
+    let new : FolderState = g.F.Folder.state c.check_lengths.new.folder in
+    counts-files old mid new c.args.words.now.orig.now c.args.words.now.answ.now c.args.words.now.script.now outputs
+    c.in-Err-check_lengths.stop (c.in-Ok.ensures.counts outputs) (c.in-Err-check_lengths.ensures.counts outputs)

@@ -1,0 +1,56 @@
+-- The words of a run, as octets.
+use Rattle.std.specs.Prelude.{ℕ, Bool, true, not, ◌&&◌, List, [], ◌∷◌, Option, Some, None, if◌then◌else◌, codes}
+use Rattle.std.specs.Str.{bytes_eq}
+use Rattle.command_base.specs.Outputs.{IsNoneOf}
+use Rattle.run_inputs.specs.declared.words.RunWords.{RunWords}
+
+-- the names of a run
+pub record RunNames : Type 0 where
+  pub orig : List ℕ
+  pub answ : List ℕ
+  pub script : List ℕ
+  pub got_o : List ℕ
+  pub got_a : List ℕ
+  pub trace : List ℕ
+
+-- the name is none of these
+abbrev pub is_none_of : List ℕ → List (List ℕ) → Bool
+is_none_of name [] = true
+is_none_of name (first ∷ others) = not (bytes_eq name first) && is_none_of name others
+
+-- no two outputs have one name, and no output has an input's name
+abbrev pub are_apart : List (List ℕ) → List (List ℕ) → Bool
+are_apart inputs [] = true
+are_apart inputs (name ∷ others) = is_none_of name inputs && is_none_of name others && are_apart inputs others
+
+-- each of the first names is none of the second ones
+abbrev pub AreNoneOf : List (List ℕ) → List (List ℕ) → Type 0
+AreNoneOf [] inputs = Unit {0}
+AreNoneOf (name ∷ names) inputs = IsNoneOf name inputs × AreNoneOf names inputs
+
+-- the files that are sent, the names that are read, and those that are written, in the order of the words
+abbrev pub files_of : RunNames → List (List ℕ)
+files_of n = n.orig ∷ n.answ ∷ []
+
+abbrev pub inputs_of : RunNames → List (List ℕ)
+inputs_of n = n.orig ∷ n.answ ∷ n.script ∷ []
+
+abbrev pub outputs_of : RunNames → List (List ℕ)
+outputs_of n = n.got_o ∷ n.got_a ∷ n.trace ∷ []
+
+-- the words `run ORIG ANSW SCRIPT GOT_O GOT_A TRACE`, and no others
+abbrev pub names_of : List (List ℕ) → Option RunNames
+names_of (command ∷ orig ∷ answ ∷ script ∷ got_o ∷ got_a ∷ trace ∷ []) =
+    let n : RunNames = record { orig = orig; answ = answ; script = script; got_o = got_o; got_a = got_a; trace = trace } in
+    if bytes_eq command (codes "run") && are_apart (inputs_of n) (outputs_of n) then Some n else None
+names_of words = None
+
+abbrev pub named : RunWords → RunNames
+named w = record {
+  orig = w.orig.now;
+  answ = w.answ.now;
+  script = w.script.now;
+  got_o = w.got_o.now;
+  got_a = w.got_a.now;
+  trace = w.trace.now;
+}

@@ -1,0 +1,16 @@
+// The limits of a run's inputs.
+
+use command_base::{RUN_FILE_LIMIT, SCRIPT_LIMIT};
+
+/// The most octets of a script and of a file that is sent.
+#[derive(Clone, Copy)]
+pub struct Limits {
+    pub script: u64,
+    pub file: u64,
+}
+
+/// The limits of a run.
+pub const LIMITS: Limits = Limits {
+    script: SCRIPT_LIMIT,
+    file: RUN_FILE_LIMIT,
+};
