@@ -1,5 +1,10 @@
-pub mod Names
-pub mod Link
-pub mod Lines
+pub mod Script
+pub mod Heard
+pub mod Slots
+pub mod Received
+pub mod Receiver
+pub mod Direction
+pub mod Run
+pub mod Crossing
+pub mod Station
 pub mod World
-pub mod Turns

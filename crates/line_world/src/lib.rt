@@ -1,15 +1,19 @@
-//! Two modems in turns: two ends of the link with their users' files, and the two directions of the line of samples between them. A pure
-//! function of a script and of the folder that is handed in. [`World`] makes one turn of a run at a time.
+//! Two ends of a link and the line between them, in turns: a pure function of two files and a script of lost slots, apart
+//! from the folder that a turn writes to. `World` makes one turn at a time, `Script` says which slots the line loses,
+//! `Heard` is what arrives at an end. The line carries slots of bits: frames between flags.
 #![tactic(auto)]
 
-mod each;
-mod lines;
-mod link;
-mod names;
-mod trace;
+mod direction;
+mod heard;
+pub mod laws;
+mod receiver;
+mod script;
+mod sizes;
+mod station;
 mod world;
 
-pub use line_texts::{TraceLine, write_frame_text, write_line};
-pub use names::{FILE_LIMIT, Names, RunFault, Step};
-pub use sample_line::{Heard, Line};
-pub use world::World;
+pub use heard::Heard;
+pub use line_texts::write_frame_text;
+pub use script::{Loss, Script, ScriptFault, read_script};
+pub use script_causes::Cause;
+pub use world::{Names, RunFault, Step, World};

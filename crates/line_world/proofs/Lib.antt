@@ -1,0 +1,10 @@
+pub mod Scripts
+pub mod Stations
+pub mod Frames
+pub mod Received
+pub mod SlotBits
+pub mod Directions
+pub mod Turns
+pub mod Order
+pub mod Crossing
+pub mod Bound
