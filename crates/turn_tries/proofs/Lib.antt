@@ -1,0 +1,7 @@
+mod Moving
+mod Answering
+mod Setups
+mod Phasing
+mod Trying
+mod Wanting
+mod Parting

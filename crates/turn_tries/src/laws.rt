@@ -1,0 +1,29 @@
+//! What holds of each run over a line that carries what is sent, whatever it loses. The functions do nothing but name the laws that
+//! they rest on: each law is a contract.
+ghost use Rattle.turn_tries.specs.Tries.{OriginatorWantsFrame, AnswererWantsAnswer};
+
+use link_account::laws::{acknowledgements, plays};
+use link_run::laws::{frames_tell_how_far_ends_are, runs_are_plays};
+use turn_periods::laws::connected_answerers_give_up_for_losses;
+use xid_params::laws::reads_written;
+
+/// An originator gives up its XID, its SABME or its DISC only where something was lost in each of the latest periods, one more than it
+/// has tries: so the run was starved.
+pub fn originators_give_up_frames_for_losses()
+    ensures { OriginatorWantsFrame }
+{
+    reads_written();
+}
+
+/// An answerer that waits for no break's answer gives up only where something was lost in each of the latest periods, as many as it
+/// has tries, also while the originator releases: so the run was starved.
+pub fn answerers_give_up_for_losses()
+    ensures { AnswererWantsAnswer }
+{
+    reads_written();
+    plays();
+    acknowledgements();
+    runs_are_plays();
+    frames_tell_how_far_ends_are();
+    connected_answerers_give_up_for_losses();
+}
