@@ -22,7 +22,7 @@ mod Lines
 pub mod Falls
 pub mod Ending
 pub mod MeetHear
-mod MeetSpeak
+pub mod MeetSpeak
 pub mod Meeting
 mod Soon
 mod Spending

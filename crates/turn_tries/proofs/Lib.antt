@@ -1,7 +1,8 @@
-mod Moving
-mod Answering
-mod Setups
-mod Phasing
-mod Trying
-mod Wanting
-mod Parting
+pub mod Moving
+pub mod Answering
+pub mod Setups
+pub mod Phasing
+pub mod Trying
+pub mod Wanting
+pub mod Parting
+pub mod GivingUp

@@ -20,13 +20,14 @@ use Rattle.slot_contents.specs.declared.arrived.Arrived.TheVariants as arrivals
 use Rattle.link_account.specs.declared.phase.Phase.{Phase}
 use Rattle.link_account.specs.declared.phase.Phase.TheVariants.{Detecting, Negotiating, Establishing, Connected, Releasing, Closed}
 use Rattle.link_account.specs.declared.fault.LinkFault.{LinkFault}
+use Rattle.link_account.specs.declared.fault.LinkFault.TheVariants.{Spent}
 use Rattle.link_account.specs.Account.{Account, is_connected, is_done, break_waits}
 use Rattle.link_account.specs.Hear.{hear, trying}
 use Rattle.link_account.specs.Laws.{MayPlay}
 use Rattle.link_account.specs.Play.{arrives}
 use Rattle.link_account.specs.Speak.{Said, speak, speak_in, speak_linked, speak_releasing, speak_detecting, speak_negotiating}
 use Rattle.link_run.specs.End.{is_busy, is_released, is_closed, is_ready, next_break}
-use Rattle.link_run.specs.Run.{Link, Ends, Spoken, Turn, RunOf, Hears, SpeaksAt, arrival, served_at, said_at, finished_at, releases, spoken}
+use Rattle.link_run.specs.Run.{Link, Ends, Spoken, Turn, RunOf, Hears, BrokenTurn, SpeaksAt, arrival, served_at, said_at, finished_at, releases, spoken}
 use Rattle.link_run.specs.Carried.{Crosses, Carries, IsCarried, has_message, sent_in, sent_ago}
 use Rattle.link_run.specs.Laws.{RunsOver}
 use Rattle.link_run.specs.Starved.{LosesSome, SpanLoses, IsStarved, turn_at}
@@ -675,7 +676,7 @@ parted-each laws reads tries period delay link ts before t mid kt run cs hearing
                 absurd (un.uncleared r.0 r.1 r.2 r.3)
 
 -- over all turns, the last one too
-later-loses : (period : ℕ) (t : Turn) (ts : List Turn) (n : ℕ) → PeriodLoses period (length ts) ts n → PeriodLoses period (length ts) (t ∷ ts) n
+pub later-loses : (period : ℕ) (t : Turn) (ts : List Turn) (n : ℕ) → PeriodLoses period (length ts) ts n → PeriodLoses period (length ts) (t ∷ ts) n
 later-loses period t ts n h = let b = h.within in record {
   turn = h.turn;
   within = omega (arith, b);
@@ -710,6 +711,20 @@ answerer-connected z before turn b q fault st e r h = go q e st (ap (λ x. speak
     go Releasing f s q = absurd s
     go Closed f s q = cc
 
+pub answerer-gives-up : (tries period : ℕ) (delay : Role → ℕ) (link : Link) (ts : List Turn) (before : Ends) (t : Turn) (mid : Ends) (fault : LinkFault) → KeepsTime tries period delay link → RunsOver link delay ts before
+    → BrokenTurn link ts before t mid Answerer fault → is_connected mid.answ.phase ≡ true
+answerer-gives-up tries period delay link ts before t mid fault kt run broken =
+    let turns : ℕ = length ts in
+    let z : Rates = rates tries period in
+    let b : Account = (served_at link turns mid Answerer).account in
+    let hd = heard-as tries period delay link ts before kt run.run run.carried Answerer (arrival t.answ.heard) mid.answ (broken.hearing Answerer).hears in
+    let s = serves-all link.answ.user turns (is_released mid.orig.phase) mid.answ in
+    let kn = known tries period delay link ts before kt run.run run.carried Answerer in
+    ap is_connected (sym s.phase)
+    ∙ answerer-connected z (turns + 1) turns b hd.0 fault
+    (serves-well z (length before.answ.outgoing.pieces) (length link.answ.user.breaks) turns (is_busy turns link.answ.user.busy) Answerer hd.0 mid.answ b (rated tries period delay link kt) hd.1.stands hd.1.phase s).stands (s.phase ∙ hd.1.phase)
+    (ap (λ x. x.role) (s.setup ∙ (hd.1.setup ∙ kn.setup)) ∙ kt.roles Answerer) broken.broken.1
+
 pub answerer-wants-answer : Plays → ReadsWritten → AnswererWantsAnswers → AnswererWantsAnswer
 answerer-wants-answer laws reads wants tries period delay link ts before t mid segment since kt run cs broken quiet = (each, all-but-last tries period delay t ts each)
   where
@@ -719,15 +734,6 @@ answerer-wants-answer laws reads wants tries period delay link ts before t mid s
     z : Rates
     z = rates tries period
 
-    hd : (q : Phase) × HeardAs z (length before.answ.outgoing.pieces) 0 turns (z.quota * arrived_rnrs (arrival t.answ.heard)) Answerer before.answ.phase before.answ q mid.answ
-    hd = heard-as tries period delay link ts before kt run.run run.carried Answerer (arrival t.answ.heard) mid.answ (broken.hearing Answerer).hears
-
-    b : Account
-    b = (served_at link turns mid Answerer).account
-
-    s : Served turns (length link.answ.user.breaks) (is_busy turns link.answ.user.busy) mid.answ b
-    s = serves-all link.answ.user turns (is_released mid.orig.phase) mid.answ
-
     kn : Known z link turns before Answerer
     kn = known tries period delay link ts before kt run.run run.carried Answerer
 
@@ -735,8 +741,7 @@ answerer-wants-answer laws reads wants tries period delay link ts before t mid s
     tm = timed tries period delay link kt Answerer
 
     cm : is_connected mid.answ.phase ≡ true
-    cm = ap is_connected (sym s.phase) ∙ answerer-connected z (turns + 1) turns b hd.0 _ (serves-well z (length before.answ.outgoing.pieces) (length link.answ.user.breaks) turns (is_busy turns link.answ.user.busy) Answerer hd.0 mid.answ b
-        (rated tries period delay link kt) hd.1.stands hd.1.phase s).stands (s.phase ∙ hd.1.phase) (ap (λ x. x.role) (s.setup ∙ (hd.1.setup ∙ kn.setup)) ∙ kt.roles Answerer) broken.broken.1
+    cm = answerer-gives-up tries period delay link ts before t mid (Spent segment since) kt run broken
 
     last : LastTry tries period turns before.answ
     last = last-try tries period link.answ.user turns Answerer (arrival t.answ.heard) before.answ mid.answ (is_released mid.orig.phase) false _ (rated tries period delay link kt)

@@ -1,11 +1,13 @@
 -- What is lost before an end gives up that waits for no break's answer, in whatever phase.
-use Rattle.std.specs.Prelude.{◌≡◌, ℕ, ◌+◌, false, List, ◌∷◌, length}
+use Rattle.std.specs.Prelude.{◌≡◌, ℕ, ◌+◌, Bool, false, List, ◌∷◌, length}
 use Rattle.roles.specs.declared.role.Role.{Role}
 use Rattle.roles.specs.declared.role.Role.TheVariants.{Originator, Answerer}
+use Rattle.roles.specs.Both.{of}
 use Rattle.break_signals.specs.Breaks.{waits}
 use Rattle.link_account.specs.declared.phase.Phase.TheVariants.{Connected}
+use Rattle.link_account.specs.declared.fault.LinkFault.{LinkFault}
 use Rattle.link_account.specs.declared.fault.LinkFault.TheVariants.{Spent}
-use Rattle.link_account.specs.Account.{is_connected}
+use Rattle.link_account.specs.Account.{is_connected, break_waits}
 use Rattle.link_run.specs.Run.{Link, Ends, Turn, BrokenTurn, served_at}
 use Rattle.link_run.specs.Carried.{Carries}
 use Rattle.link_run.specs.Laws.{RunsOver}
@@ -32,3 +34,18 @@ AnswererWantsAnswer = (tries period : ℕ) (delay : Role → ℕ) (link : Link) 
     → BrokenTurn link ts before t mid Answerer (Spent segment since)
     → waits (served_at link (length ts) mid Answerer).account.own_breaks ≡ false
     → LosesEach period tries (length ts) (t ∷ ts) × IsStarved tries period delay (t ∷ ts)
+
+-- So where no break waits at an end that gives up, whatever it is, something was lost in each of the latest periods: as many as it has
+-- tries, and one more where the end isn't Connected. The run was starved.
+pub record IsForLosses (tries period : ℕ) (delay : Role → ℕ) (ts : List Turn) (t : Turn) (connected : Bool) : Type 0 where
+  pub each : LosesEach period tries (length ts) (t ∷ ts)
+  pub all : connected ≡ false → LosesEach period (tries + 1) (length ts) (t ∷ ts)
+  pub starved : IsStarved tries period delay (t ∷ ts)
+
+abbrev pub GivesUpForLosses : Type 0
+GivesUpForLosses = (tries period : ℕ) (delay : Role → ℕ) (link : Link) (ts : List Turn) (before : Ends) (t : Turn) (mid : Ends) (role : Role)
+    (fault : LinkFault)
+    → KeepsTime tries period delay link → RunsOver link delay ts before → Carries delay ts t
+    → BrokenTurn link ts before t mid role fault
+    → break_waits (served_at link (length ts) mid role).account ≡ false
+    → IsForLosses tries period delay ts t (is_connected (of role mid).phase)

@@ -1,10 +1,13 @@
 //! What holds of each run over a line that carries what is sent, whatever it loses. The functions do nothing but name the laws that
 //! they rest on: each law is a contract.
-ghost use Rattle.turn_tries.specs.Tries.{OriginatorWantsFrame, AnswererWantsAnswer};
+ghost use Rattle.turn_tries.specs.Tries.{OriginatorWantsFrame, AnswererWantsAnswer, GivesUpForLosses};
 
 use link_account::laws::{acknowledgements, plays};
-use link_run::laws::{frames_tell_how_far_ends_are, runs_are_plays};
-use turn_periods::laws::connected_answerers_give_up_for_losses;
+use link_run::laws::{each_turn_is_made, frames_tell_how_far_ends_are, runs_are_plays};
+use turn_periods::laws::{
+    connected_answerers_give_up_for_losses, connected_originators_give_up_for_losses,
+    patterns_are_missed_for_losses,
+};
 use xid_params::laws::reads_written;
 
 /// An originator gives up its XID, its SABME or its DISC only where something was lost in each of the latest periods, one more than it
@@ -26,4 +29,16 @@ pub fn answerers_give_up_for_losses()
     runs_are_plays();
     frames_tell_how_far_ends_are();
     connected_answerers_give_up_for_losses();
+}
+
+/// So where no break waits at an end that gives up, whatever it is, something was lost in each of the latest periods: as many as it has
+/// tries, and one more where the end isn't Connected. The run was starved.
+pub fn ends_give_up_for_losses()
+    ensures { GivesUpForLosses }
+{
+    each_turn_is_made();
+    connected_originators_give_up_for_losses();
+    patterns_are_missed_for_losses();
+    originators_give_up_frames_for_losses();
+    answerers_give_up_for_losses();
 }
