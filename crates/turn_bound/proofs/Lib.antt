@@ -10,7 +10,7 @@ pub mod Hearing
 mod Offers
 pub mod Phases
 pub mod Speaking
-mod Turning
+pub mod Turning
 pub mod Serving
 pub mod Serves
 mod Still

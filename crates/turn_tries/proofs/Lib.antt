@@ -6,3 +6,4 @@ pub mod Trying
 pub mod Wanting
 pub mod Parting
 pub mod GivingUp
+pub mod Unbroken

@@ -1,5 +1,5 @@
 -- What is lost before an end gives up that waits for no break's answer, in whatever phase.
-use Rattle.std.specs.Prelude.{◌≡◌, ℕ, ◌+◌, Bool, false, List, ◌∷◌, length}
+use Rattle.std.specs.Prelude.{◌≡◌, ℕ, ◌+◌, Bool, false, List, [], ◌∷◌, length}
 use Rattle.roles.specs.declared.role.Role.{Role}
 use Rattle.roles.specs.declared.role.Role.TheVariants.{Originator, Answerer}
 use Rattle.roles.specs.Both.{of}
@@ -48,4 +48,12 @@ GivesUpForLosses = (tries period : ℕ) (delay : Role → ℕ) (link : Link) (ts
     → KeepsTime tries period delay link → RunsOver link delay ts before → Carries delay ts t
     → BrokenTurn link ts before t mid role fault
     → break_waits (served_at link (length ts) mid role).account ≡ false
+    → IsForLosses tries period delay ts t (is_connected (of role mid).phase)
+
+-- And so it is with each end whose user asks for no break.
+abbrev pub GivesUpUnbroken : Type 0
+GivesUpUnbroken = (tries period : ℕ) (delay : Role → ℕ) (link : Link) (ts : List Turn) (before : Ends) (t : Turn) (mid : Ends) (role : Role)
+    (fault : LinkFault)
+    → KeepsTime tries period delay link → (of role link).user.breaks ≡ [] → RunsOver link delay ts before → Carries delay ts t
+    → BrokenTurn link ts before t mid role fault
     → IsForLosses tries period delay ts t (is_connected (of role mid).phase)

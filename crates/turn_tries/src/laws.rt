@@ -1,6 +1,6 @@
 //! What holds of each run over a line that carries what is sent, whatever it loses. The functions do nothing but name the laws that
 //! they rest on: each law is a contract.
-ghost use Rattle.turn_tries.specs.Tries.{OriginatorWantsFrame, AnswererWantsAnswer, GivesUpForLosses};
+ghost use Rattle.turn_tries.specs.Tries.{OriginatorWantsFrame, AnswererWantsAnswer, GivesUpForLosses, GivesUpUnbroken};
 
 use link_account::laws::{acknowledgements, plays};
 use link_run::laws::{each_turn_is_made, frames_tell_how_far_ends_are, runs_are_plays};
@@ -32,9 +32,10 @@ pub fn answerers_give_up_for_losses()
 }
 
 /// So where no break waits at an end that gives up, whatever it is, something was lost in each of the latest periods: as many as it has
-/// tries, and one more where the end isn't Connected. The run was starved.
+/// tries, and one more where the end isn't Connected. The run was starved. So it is with each end whose user asks for no break.
 pub fn ends_give_up_for_losses()
-    ensures { GivesUpForLosses }
+    ensures waiting_for_none { GivesUpForLosses }
+    ensures asked_for_none { GivesUpUnbroken }
 {
     each_turn_is_made();
     connected_originators_give_up_for_losses();
