@@ -188,6 +188,7 @@ parted-cleared period turns e o k c s v within before g m ce co late lost =
 pub record Released (link : Link) (t : ℕ) (mid : Ends) : Type 0 where
   pub done : is_whole (served_at link t mid Answerer).account.outgoing ≡ true
   pub breaks : waits (served_at link t mid Answerer).account.own_breaks ≡ false
+  pub connected : is_connected (served_at link t mid Answerer).account.phase ≡ true
 
 and-both : (x y : Bool) → x && y ≡ true → (x ≡ true) × (y ≡ true)
 and-both true true e = (refl, refl)
@@ -207,7 +208,7 @@ told-release link t mid e = go (is_connected a.phase) refl (and-both (finished_a
     go : (c : Bool) → is_connected a.phase ≡ c → (cond c (is_whole a.outgoing) false && not (cond c (waits a.own_breaks) false || is_ready t (next_break link.answ.user.breaks a))) ≡ true → Released link t mid
     go true q f =
         let x = and-both (is_whole a.outgoing) _ f in
-        record { done = x.0; breaks = first (waits a.own_breaks) (is_ready t (next_break link.answ.user.breaks a)) (not-either _ x.1) }
+        record { done = x.0; breaks = first (waits a.own_breaks) (is_ready t (next_break link.answ.user.breaks a)) (not-either _ x.1); connected = q }
       where
         first : (x y : Bool) → x || y ≡ false → x ≡ false
         first true y g = cc
@@ -243,7 +244,7 @@ whole-is : (o : Outgoing) → is_whole o ≡ true → o.front ≡ length o.piece
 whole-is o e = let x = (and-both o.ended (nat_eq o.front (length o.pieces)) e).1 in grind (arith, nat_tests, x)
 
 -- what passes of a slot
-passes-as : (m : Option Spoken) (said : Said) (heard : Heard) → m ≡ Some (spoken said) → Crosses m heard → is_lost heard ≡ false → arrival heard ≡ arrives said.sent
+pub passes-as : (m : Option Spoken) (said : Said) (heard : Heard) → m ≡ Some (spoken said) → Crosses m heard → is_lost heard ≡ false → arrival heard ≡ arrives said.sent
 passes-as None said heard e c l = cc
 passes-as (Some slot) said Nothing e c l = let same : slot ≡ spoken said = cc in sym (silent-arrives slot.sent c) ∙ ap (λ (x : Spoken). arrives x.sent) same
   where
@@ -258,13 +259,13 @@ passes-as (Some slot) said (Lost s) e c l = cc
 passes-as (Some slot) said Chance e c l = absurd c
 
 -- the last of some turns
-newest : (t : Turn) (ts : List Turn) → turn_at (length ts) (t ∷ ts) ≡ Some t
+pub newest : (t : Turn) (ts : List Turn) → turn_at (length ts) (t ∷ ts) ≡ Some t
 newest t ts = ap (slice_get (t ∷ ts)) (index (length ts))
   where
     index : (n : ℕ) → suc n - 1 - n ≡ 0
     index n = omega arith
 
-connected-or : (p : Phase) → is_linked p ≡ true → is_connected p ≡ false → (p ≡ Releasing) ⊎ (p ≡ Closed)
+pub connected-or : (p : Phase) → is_linked p ≡ true → is_connected p ≡ false → (p ≡ Releasing) ⊎ (p ≡ Closed)
 connected-or Detecting l c = cc
 connected-or Negotiating l c = cc
 connected-or Establishing l c = cc
@@ -273,14 +274,14 @@ connected-or Releasing l c = inl refl
 connected-or Closed l c = inr refl
 
 -- what an end's setup says its role is
-setup-role : (tries period : ℕ) (delay : Role → ℕ) (link : Link) (us : List Turn) (y : Ends) → KeepsTime tries period delay link → RunOf link us y → IsCarried delay us → (r : Role) → (of r y).setup.role ≡ r
+pub setup-role : (tries period : ℕ) (delay : Role → ℕ) (link : Link) (us : List Turn) (y : Ends) → KeepsTime tries period delay link → RunOf link us y → IsCarried delay us → (r : Role) → (of r y).setup.role ≡ r
 setup-role tries period delay link us y kt run c r = ap (λ s. s.role) (start-setup tries period delay link us y kt run c r) ∙ kt.roles r
 
 not-releasing : (tries period : ℕ) (delay : Role → ℕ) (link : Link) (ts : List Turn) (state : ℕ → Ends) (deed : ℕ → Deed) → KeepsTime tries period delay link → Trace period delay link ts state deed → (state 0).orig.phase ≡ Releasing → ⊥
 not-releasing tries period delay link ts state deed kt w q = let there : Detecting ≡ Releasing = ap (λ (y : Ends). y.orig.phase) (sym w.starts) ∙ q in cc
 
 -- when it was told
-told-at : ReadsWritten → (tries period : ℕ) (delay : Role → ℕ) (link : Link) (ts : List Turn) (state : ℕ → Ends) (deed : ℕ → Deed) → KeepsTime tries period delay link → MayPlay link.orig.setup link.answ.setup → Trace period delay link ts state deed
+pub told-at : ReadsWritten → (tries period : ℕ) (delay : Role → ℕ) (link : Link) (ts : List Turn) (state : ℕ → Ends) (deed : ℕ → Deed) → KeepsTime tries period delay link → MayPlay link.orig.setup link.answ.setup → Trace period delay link ts state deed
     → (u : ℕ) → u ≤ length ts → (state u).orig.phase ≡ Releasing → ToldIn link deed (end_run delay state deed Originator) u
 told-at reads tries period delay link ts state deed kt m w zero y q = absurd (not-releasing tries period delay link ts state deed kt w q)
 told-at reads tries period delay link ts state deed kt m w (suc u) y q = subst (ToldIn link deed (end_run delay state deed Originator)) (next u) (go (tries-so reads tries period delay link ts state deed kt m w Releasing refl u (omega (arith, y)) now) (λ f. told-at reads tries period delay link ts state deed kt m w u (omega (arith, y)) f))
@@ -371,7 +372,7 @@ served-pieces tries period delay link ts state deed kt w u b =
     let q = (serves-all link.answ.user u (is_released (deed u).mid.orig.phase) (deed u).mid.answ).longer.longer in
     let r = ap length (heard-at tries period delay link ts state deed kt w u b).1.pieces in omega (arith, q, r)
 
-mid-connected : (tries period : ℕ) (delay : Role → ℕ) (link : Link) (ts : List Turn) (state : ℕ → Ends) (deed : ℕ → Deed) → KeepsTime tries period delay link → Trace period delay link ts state deed → (u : ℕ) → u < length ts → is_connected (state (u + 1)).answ.phase ≡ true → is_connected (deed u).mid.answ.phase ≡ true
+pub mid-connected : (tries period : ℕ) (delay : Role → ℕ) (link : Link) (ts : List Turn) (state : ℕ → Ends) (deed : ℕ → Deed) → KeepsTime tries period delay link → Trace period delay link ts state deed → (u : ℕ) → u < length ts → is_connected (state (u + 1)).answ.phase ≡ true → is_connected (deed u).mid.answ.phase ≡ true
 mid-connected tries period delay link ts state deed kt w u b g =
     let h = w.happens u b in
     let s = h.speaking Answerer in
@@ -700,7 +701,7 @@ all-but-last tries period delay t ts h = record { spared = tries; each = λ n fe
     }
 
 -- only a Connected answerer gives up
-answerer-connected : (z : Rates) (before turn : ℕ) (b : Account) (q : Phase) (fault : LinkFault) → Stands z before turn Answerer q b → b.phase ≡ q → b.setup.role ≡ Answerer → speak turn false b ≡ Err fault → is_connected b.phase ≡ true
+pub answerer-connected : (z : Rates) (before turn : ℕ) (b : Account) (q : Phase) (fault : LinkFault) → Stands z before turn Answerer q b → b.phase ≡ q → b.setup.role ≡ Answerer → speak turn false b ≡ Err fault → is_connected b.phase ≡ true
 answerer-connected z before turn b q fault st e r h = go q e st (ap (λ x. speak_in x turn false b) (sym e) ∙ h)
   where
     go : (x : Phase) → b.phase ≡ x → Stands z before turn Answerer x b → speak_in x turn false b ≡ Err fault → is_connected b.phase ≡ true

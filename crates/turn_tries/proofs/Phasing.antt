@@ -142,7 +142,7 @@ establishing-hears (arrivals.Frame frame) turn a e = subst (λ p. EstablishedIn 
     go (Dm true) = tt
     go f = ap is_established e
 
-stays-established : (role : Role) (arrived : Arrived) (turn : ℕ) (a mid : Account) → a.setup.role ≡ role → a.owes.answer ≡ None → hear turn arrived a ≡ Ok mid → is_established a.phase ≡ true → is_established mid.phase ≡ true
+pub stays-established : (role : Role) (arrived : Arrived) (turn : ℕ) (a mid : Account) → a.setup.role ≡ role → a.owes.answer ≡ None → hear turn arrived a ≡ Ok mid → is_established a.phase ≡ true → is_established mid.phase ≡ true
 stays-established role arrived turn a mid r none h c = go a.phase refl c
   where
     linked : is_linked a.phase ≡ true → is_established mid.phase ≡ true

@@ -159,7 +159,7 @@ pub record Unanswered (period : ℕ) (p : Phase) (e : EndRun) (s : ℕ) : Type 0
 pub times-suc : (j p : ℕ) → (suc j + 1) * p ≡ (j + 1) * p + p
 times-suc j p = grind (arith)
 
-one-time : (p : ℕ) → (0 + 1) * p ≡ p
+pub one-time : (p : ℕ) → (0 + 1) * p ≡ p
 one-time p = omega arith
 
 -- so each of them went a period before the next one, or before the turn in which the last one's timer expires
