@@ -36,20 +36,27 @@ WaitsForNoBreak c link ts ends (IsDone turn) left e = Unit {0}
 WaitsForNoBreak c link ts ends (LineLost role symbol) left e = Unit {0}
 WaitsForNoBreak c link ts ends (ChanceMatch role turn) left e = Unit {0}
 
--- The run was starved: something was lost in each of its latest periods, counted back from the last turn.
-pub record WasStarved (c : Channel) (files : Both (List ℕ)) (end : RunEnd) (left : Left) (r : RunsTo c (link_of c.script files) end left) : Type 0 where
-  pub starved : StarvedBy c.script (turns_heard c (link_of c.script files) r.turns r.ends end left r.ended)
-  pub periods : LosesEach (period_of c.script) (periods_lost end c.script.tries) (length r.turns)
-      (turns_heard c (link_of c.script files) r.turns r.ends end left r.ended)
-
--- A run that ends by a lost link or undetected was starved, where no break waits at the end that gives up;
+-- A run that ends by a lost link or undetected was starved, whatever the end that gives up waits for.
 abbrev pub LostLinksWereStarved : Type 0
 LostLinksWereStarved = (c : Channel) (files : Both (List ℕ)) (end : RunEnd) (left : Left) → IsInLimits c.script
     → (r : RunsTo c (link_of c.script files) end left) → GivesUp end
-    → WaitsForNoBreak c (link_of c.script files) r.turns r.ends end left r.ended
-    → WasStarved c files end left r
+    → StarvedBy c.script (turns_heard c (link_of c.script files) r.turns r.ends end left r.ended)
 
--- and whatever it waits for, where the script has no break lines.
-abbrev pub UnbrokenLinksWereStarved : Type 0
-UnbrokenLinksWereStarved = (c : Channel) (files : Both (List ℕ)) (end : RunEnd) (left : Left) → IsInLimits c.script → c.script.breaks ≡ []
-    → (r : RunsTo c (link_of c.script files) end left) → GivesUp end → WasStarved c files end left r
+-- something was lost in each of its latest periods, counted back from the last turn
+abbrev pub LosesInPeriods : (c : Channel) (files : Both (List ℕ)) (end : RunEnd) (left : Left) → RunsTo c (link_of c.script files) end left
+    → Type 0
+LosesInPeriods c files end left r =
+    LosesEach (period_of c.script) (periods_lost end c.script.tries) (length r.turns)
+    (turns_heard c (link_of c.script files) r.turns r.ends end left r.ended)
+
+-- Where no break waits at that end, each of the latest periods lost something;
+abbrev pub LosesWithoutBreak : Type 0
+LosesWithoutBreak = (c : Channel) (files : Both (List ℕ)) (end : RunEnd) (left : Left) → IsInLimits c.script
+    → (r : RunsTo c (link_of c.script files) end left) → GivesUp end
+    → WaitsForNoBreak c (link_of c.script files) r.turns r.ends end left r.ended
+    → LosesInPeriods c files end left r
+
+-- and so it is in each run of a script without break lines.
+abbrev pub LosesUnbroken : Type 0
+LosesUnbroken = (c : Channel) (files : Both (List ℕ)) (end : RunEnd) (left : Left) → IsInLimits c.script → c.script.breaks ≡ []
+    → (r : RunsTo c (link_of c.script files) end left) → GivesUp end → LosesInPeriods c files end left r

@@ -1,4 +1,4 @@
-use Rattle.line_causes.proofs.Starving.{Laws, lost-links-were-starved, unbroken-links-were-starved}
+use Rattle.line_causes.proofs.Starving.{Laws, lost-links-were-starved, loses-without-break, loses-unbroken}
 use Rattle.line_causes.proofs.laws.lost_links_were_starved.Goals as goal
 
 pub returns : goal.returns
@@ -12,6 +12,6 @@ returns c =
       quiet = c.ends_give_up_for_losses.ensures.waiting_for_none;
       unbroken = c.ends_give_up_for_losses.ensures.asked_for_none;
       pattern = c.patterns_are_missed_for_losses.ensures.each_period;
-      starved = c.patterns_are_missed_for_losses.ensures.starved;
+      starves = c.ends_give_up_starved.ensures;
     } in
-    record { waiting_for_none = lost-links-were-starved laws; asked_for_none = unbroken-links-were-starved laws }
+    record { starved = lost-links-were-starved laws; waiting_for_none = loses-without-break laws; asked_for_none = loses-unbroken laws }
