@@ -1,5 +1,5 @@
 -- A run that ends by a lost link was starved.
-use Rattle.std.proofs.Common.{◌≡◌, ℕ, ◌+◌, Bool, false, List, [], ◌∷◌, map, filter, length, refl, ap}
+use Rattle.std.proofs.Common.{arith, ◌≡◌, ℕ, ◌+◌, Bool, false, List, [], ◌∷◌, map, filter, length, refl, ap}
 use Rattle.roles.specs.declared.role.Role.{Role}
 use Rattle.roles.specs.declared.role.Role.TheVariants.{Originator, Answerer}
 use Rattle.roles.specs.Role.{same_role}
@@ -14,16 +14,16 @@ use Rattle.link_run.specs.Run.{Link, Ends, Turn, BrokenTurn, served_at}
 use Rattle.link_run.specs.Carried.{Carries}
 use Rattle.link_run.specs.Laws.{RunsOver}
 use Rattle.turn_bound.specs.Time.{KeepsTime}
-use Rattle.turn_periods.specs.Losses.{OriginatorWantsPattern}
+use Rattle.turn_periods.specs.Losses.{OriginatorWantsPattern, StarvedLosesMany}
 use Rattle.turn_tries.specs.Tries.{GivesUpForLosses, GivesUpUnbroken}
 use Rattle.turn_tries.proofs.Parting.{later-loses}
 use Rattle.turn_breaks.specs.Breaks.{GivesUpStarved}
 use Rattle.line_run.specs.Sampled.{Channel, LineRun}
 use Rattle.line_run.specs.Scripted.{period_of, link_of, break_line, ScriptsMayPlay, ScriptsHaveDelays}
 use Rattle.line_run.specs.LineLaws.{SamplesAreCarried, OneIsCarried}
-use Rattle.line_run.specs.Ends.{RunEnd, IsDone, LinkLost, NotDetected, LineLost, ChanceMatch, Left, EndsInTurn, RunsTo}
+use Rattle.line_run.specs.Ends.{RunEnd, IsDone, LinkLost, NotDetected, LineLost, ChanceMatch, Left, RunsTo, turns_heard}
 use Rattle.line_bound.specs.Scripts.{ScriptsKeepTime}
-use Rattle.line_causes.specs.Causes.{LostLinksWereStarved, LosesInPeriods, LosesWithoutBreak, LosesUnbroken}
+use Rattle.line_causes.specs.Causes.{LostLinksWereStarved, LosesInPeriods, LosesWithoutBreak, LosesUnbroken, FewLossesKeepLinks}
 
 pub record Laws : Type 0 where
   pub play : ScriptsMayPlay
@@ -83,3 +83,8 @@ loses-unbroken laws c files (NotDetected turn) left h none r g = undetected laws
 loses-unbroken laws c files (IsDone turn) left h none r g = absurd g
 loses-unbroken laws c files (LineLost role symbol) left h none r g = absurd g
 loses-unbroken laws c files (ChanceMatch role turn) left h none r g = absurd g
+
+pub few-losses-keep-links : ScriptsKeepTime → LostLinksWereStarved → StarvedLosesMany → FewLossesKeepLinks
+few-losses-keep-links time starved many c files end left h r few g =
+    let lost = many c.script.tries (period_of c.script) (delay_of c.script) (link_of c.script files) (turns_heard c (link_of c.script files) r.turns r.ends end left r.ended) (time c.script files h) (starved c files end left h r g) in
+    omega (arith, few, lost)

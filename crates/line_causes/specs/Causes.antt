@@ -1,10 +1,11 @@
 -- Why a script's run over the line of samples ends by a lost link.
-use Rattle.std.specs.Prelude.{◌≡◌, ℕ, ◌+◌, false, List, [], length}
+use Rattle.std.specs.Prelude.{◌≡◌, ℕ, ◌+◌, ◌*◌, ◌<◌, false, List, [], length}
 use Rattle.roles.specs.declared.role.Role.{Role}
 use Rattle.roles.specs.Both.{Both}
 use Rattle.noise_script.specs.Script.{IsInLimits}
 use Rattle.link_account.specs.Account.{break_waits}
 use Rattle.link_run.specs.Run.{Link, Ends, Turn, served_at}
+use Rattle.link_run.specs.Counts.{lost_slots}
 use Rattle.turn_periods.specs.Losses.{LosesEach}
 use Rattle.line_run.specs.Sampled.{Channel}
 use Rattle.line_run.specs.Scripted.{period_of, link_of}
@@ -60,3 +61,10 @@ LosesWithoutBreak = (c : Channel) (files : Both (List ℕ)) (end : RunEnd) (left
 abbrev pub LosesUnbroken : Type 0
 LosesUnbroken = (c : Channel) (files : Both (List ℕ)) (end : RunEnd) (left : Left) → IsInLimits c.script → c.script.breaks ≡ []
     → (r : RunsTo c (link_of c.script files) end left) → GivesUp end → LosesInPeriods c files end left r
+
+-- So where fewer slots were lost than one for each two tries, no end gave the link up: the run ends by Done, or the line ends it.
+abbrev pub FewLossesKeepLinks : Type 0
+FewLossesKeepLinks = (c : Channel) (files : Both (List ℕ)) (end : RunEnd) (left : Left) → IsInLimits c.script
+    → (r : RunsTo c (link_of c.script files) end left)
+    → 2 * lost_slots (turns_heard c (link_of c.script files) r.turns r.ends end left r.ended) < c.script.tries
+    → GivesUp end → ⊥
