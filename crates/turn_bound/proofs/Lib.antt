@@ -10,7 +10,7 @@ pub mod Hearing
 mod Offers
 pub mod Phases
 pub mod Speaking
-mod Turning
+pub mod Turning
 pub mod Serving
 pub mod Serves
 mod Still
@@ -22,7 +22,7 @@ mod Lines
 pub mod Falls
 pub mod Ending
 pub mod MeetHear
-mod MeetSpeak
+pub mod MeetSpeak
 pub mod Meeting
 mod Soon
 mod Spending

@@ -103,7 +103,7 @@ not-true : (b : Bool) → (b ≡ true → ⊥) → b ≡ false
 not-true true f = absurd (f refl)
 not-true false f = refl
 
-o-ok : (ua final : Bool) (a mid : Account) (r : Result Account LinkFault) → r ≡ Ok mid → OHears ua final a r → OHeard ua final a mid
+pub o-ok : (ua final : Bool) (a mid : Account) (r : Result Account LinkFault) → r ≡ Ok mid → OHears ua final a r → OHeard ua final a mid
 o-ok ua final a mid (Err fault) e h = cc
 o-ok ua final a mid (Ok b) e h = let same : b ≡ mid = cc in subst (OHeard ua final a) same h
 

@@ -6,7 +6,9 @@ use Rattle.link_account.specs.declared.phase.Phase.{Phase}
 use Rattle.link_account.specs.declared.phase.Phase.TheVariants.{Connected}
 use Rattle.link_account.specs.Account.{is_connected}
 use Rattle.link_run.specs.End.{is_released}
-use Rattle.link_run.specs.Run.{Ends, Turn, arrival}
+use Rattle.link_run.specs.Run.{Link, Ends, Turn, Hears, arrival}
+use Rattle.link_run.specs.Laws.{RunsOver}
+use Rattle.turn_bound.specs.Time.{KeepsTime}
 use Rattle.turn_bound.proofs.Clock.{Rates, rates}
 use Rattle.turn_bound.proofs.Value.{IsOf}
 use Rattle.xid_params.specs.Offers.{IsAllowed}
@@ -38,8 +40,12 @@ only-connected Connected l r = refl
 only-connected Releasing l r = cc
 only-connected Closed l r = cc
 
-pub answerer-wants : Plays → AnswererWantsAnswers
-answerer-wants laws tries period delay link ts before t mid segment since kt run cs broken cm quiet going = (each, all-but-one tries period delay t ts each)
+pub answerer-each : Plays → (tries period : ℕ) (delay : Role → ℕ) (link : Link) (ts : List Turn) (before : Ends) (t : Turn) (mid : Ends)
+    → KeepsTime tries period delay link → RunsOver link delay ts before → Hears (length ts) before t mid
+    → is_released mid.orig.phase ≡ false → LastTry tries period (length ts) before.answ → LosesEach period tries (length ts) ts
+answerer-each laws tries period delay link ts before t mid kt run hearing going last =
+    wants-answers tries period delay link ts w.state w.deed kt w.trace Answerer (counts-of laws tries period delay link ts w.state w.deed kt run.may_play w.trace Answerer)
+    (subst (λ (x : Ends). LastTry tries period turns x.answ) (sym w.last) last) both
   where
     z : Rates
     z = rates tries period
@@ -65,13 +71,6 @@ answerer-wants laws tries period delay link ts before t mid segment since kt run
     tm : (r : Role) → Timed z link r
     tm r = timed tries period delay link kt r
 
-    last : LastTry tries period turns before.answ
-    last = last-try tries period link.answ.user turns Answerer (arrival t.answ.heard) before.answ mid.answ (is_released mid.orig.phase) false _ (rated tries period delay link kt)
-        (subst (IsOf z) (sym (k Answerer).setup) (tm Answerer).is_of) (k Answerer).stands (ap (λ x. x.role) (k Answerer).setup ∙ (tm Answerer).role_is) (k Answerer).none_due
-        (λ u c. ((begins-roomy (arrival t.answ.heard) turns before.answ mid.answ u (fits-at laws link delay ts before run Answerer) (subst IsAllowed (ap (λ x. x.offer) (sym (k Answerer).setup)) (allowed link run.may_play Answerer))
-        (broken.hearing Answerer).hears).so c).2)
-        (broken.hearing Answerer).hears (ap is_connected cm) quiet broken.broken.1
-
     -- its clock runs once it heard a number, so its peer is Connected or was
     counted : (b : Bool) (x : Ends) (us : List Turn) → Known z link (length us) x Answerer → is_connected x.answ.phase ≡ true → (s : ℕ) → x.answ.wait.timer ≡ Some s → x.answ.numbered ≡ b → x.answ.numbered ≡ true
     counted true x us h c s q n = n
@@ -83,7 +82,7 @@ answerer-wants laws tries period delay link ts before t mid segment since kt run
         (ap (λ (x : Ends). x.answ.numbered) w.last ∙ counted before.answ.numbered before ts (k Answerer) last.connected last.set last.runs refl)
 
     heard : PollHeard Originator turns (of_arrived is_poll (arrival t.orig.heard)) before.orig mid.orig
-    heard = poll-ok Originator turns (of_arrived is_poll (arrival t.orig.heard)) before.orig mid.orig (hear turns (arrival t.orig.heard) before.orig) (broken.hearing Originator).hears
+    heard = poll-ok Originator turns (of_arrived is_poll (arrival t.orig.heard)) before.orig mid.orig (hear turns (arrival t.orig.heard) before.orig) (hearing Originator).hears
         (poll-hears Originator (arrival t.orig.heard) turns before.orig (ap (λ x. x.role) (k Originator).setup ∙ (tm Originator).role_is) (k Originator).none_due.answer)
 
     peer-last : is_connected before.orig.phase ≡ true
@@ -102,6 +101,27 @@ answerer-wants laws tries period delay link ts before t mid segment since kt run
         let back = turned period turns e o ends in
         connected-back period turns o e back u turns high (omega arith) (linked-on period turns o e back s u low high first) (ap (λ (x : Ends). is_connected x.orig.phase) w.last ∙ peer-last)
 
+pub answerer-wants : Plays → AnswererWantsAnswers
+answerer-wants laws tries period delay link ts before t mid segment since kt run cs broken cm quiet going = (each, all-but-one tries period delay t ts each)
+  where
+    turns : ℕ
+    turns = length ts
+
+    z : Rates
+    z = rates tries period
+
+    k : (r : Role) → Known z link turns before r
+    k r = known tries period delay link ts before kt run.run run.carried r
+
+    tm : (r : Role) → Timed z link r
+    tm r = timed tries period delay link kt r
+
+    last : LastTry tries period turns before.answ
+    last = last-try tries period link.answ.user turns Answerer (arrival t.answ.heard) before.answ mid.answ (is_released mid.orig.phase) false _ (rated tries period delay link kt)
+        (subst (IsOf z) (sym (k Answerer).setup) (tm Answerer).is_of) (k Answerer).stands (ap (λ x. x.role) (k Answerer).setup ∙ (tm Answerer).role_is) (k Answerer).none_due
+        (λ u c. ((begins-roomy (arrival t.answ.heard) turns before.answ mid.answ u (fits-at laws link delay ts before run Answerer) (subst IsAllowed (ap (λ x. x.offer) (sym (k Answerer).setup)) (allowed link run.may_play Answerer))
+        (broken.hearing Answerer).hears).so c).2)
+        (broken.hearing Answerer).hears (ap is_connected cm) quiet broken.broken.1
+
     each : LosesEach period tries turns ts
-    each = wants-answers tries period delay link ts w.state w.deed kt w.trace Answerer (counts-of laws tries period delay link ts w.state w.deed kt run.may_play w.trace Answerer)
-        (subst (λ (x : Ends). LastTry tries period turns x.answ) (sym w.last) last) both
+    each = answerer-each laws tries period delay link ts before t mid kt run broken.hearing going last

@@ -56,11 +56,11 @@ use Rattle.turn_periods.proofs.Wanting.{lost-is}
 use Rattle.turn_periods.proofs.Starving.{all-but-one}
 
 -- a try leaves the phase
-abbrev InPhase : Phase → Result Said LinkFault → Type 0
+abbrev pub InPhase : Phase → Result Said LinkFault → Type 0
 InPhase p (Err fault) = Unit {0}
 InPhase p (Ok said) = said.account.phase ≡ p
 
-try-phase : (turn : ℕ) (frame : Frame) (a : Account) → InPhase a.phase (u_try turn frame a)
+pub try-phase : (turn : ℕ) (frame : Frame) (a : Account) → InPhase a.phase (u_try turn frame a)
 try-phase turn frame a = go (nat_eq turn (a.wait.try_set + a.setup.period)) (nat_eq a.wait.try_count a.setup.tries)
   where
     by : (c : Account) → c.phase ≡ a.phase → (due : Bool) → (else_says (where_says due (says_frame frame (record c { wait = record c.wait { try = false } }))) (says slots.Flags c)).account.phase ≡ a.phase
@@ -72,14 +72,14 @@ try-phase turn frame a = go (nat_eq turn (a.wait.try_set + a.setup.period)) (nat
     go true true = tt
     go true false = by (trying_again turn a) refl true
 
-answer-phase : (a : Account) → InPhase a.phase (speak_answer a)
+pub answer-phase : (a : Account) → InPhase a.phase (speak_answer a)
 answer-phase a = by a.owes.answer
   where
     by : (m : Option Answer) → (else_says (answering m a) (says slots.Flags a)).account.phase ≡ a.phase
     by None = refl
     by (Some answer) = refl
 
-phase-ok : (p : Phase) (said : Said) (r : Result Said LinkFault) → r ≡ Ok said → InPhase p r → said.account.phase ≡ p
+pub phase-ok : (p : Phase) (said : Said) (r : Result Said LinkFault) → r ≡ Ok said → InPhase p r → said.account.phase ≡ p
 phase-ok p said (Err fault) e h = cc
 phase-ok p said (Ok other) e h = let same : other ≡ said = cc in subst (λ s. s.account.phase ≡ p) same h
 

@@ -132,7 +132,7 @@ first-connected period turns e o k c (suc t) l h = go (is_linked (e.account t).p
 pub once-more : (j p : ℕ) → suc j * p ≡ j * p + p
 once-more j p = grind (arith)
 
-no-times : (p : ℕ) → 0 * p ≡ 0
+pub no-times : (p : ℕ) → 0 * p ≡ 0
 no-times p = omega arith
 
 -- So a line is lost in each period before the last expiry, as many as the retry count says, and in the one after it.

@@ -1,33 +1,33 @@
-mod Polls
-mod Polling
-mod Answered
-mod TwoEnds
-mod Trace
-mod KeepsPolls
-mod PollsFresh
-mod PollHear
-mod PollSpeak
-mod PollTurn
-mod Awaiting
-mod HeardCount
-mod Answering
-mod AnswerTurn
-mod Tracing
-mod LineLaw
-mod PollLaws
-mod PeriodLaws
-mod PeriodHolds
-mod Expiries
-mod Keeping
-mod NumberHear
-mod NumberSpeak
-mod Room
-mod NumberTurn
-mod Acknowledged
-mod Numbering
-mod Wanting
-mod Starving
-mod Detecting
-mod Fewness
-mod Numbered
-mod Answerer
+pub mod Polls
+pub mod Polling
+pub mod Answered
+pub mod TwoEnds
+pub mod Trace
+pub mod KeepsPolls
+pub mod PollsFresh
+pub mod PollHear
+pub mod PollSpeak
+pub mod PollTurn
+pub mod Awaiting
+pub mod HeardCount
+pub mod Answering
+pub mod AnswerTurn
+pub mod Tracing
+pub mod LineLaw
+pub mod PollLaws
+pub mod PeriodLaws
+pub mod PeriodHolds
+pub mod Expiries
+pub mod Keeping
+pub mod NumberHear
+pub mod NumberSpeak
+pub mod Room
+pub mod NumberTurn
+pub mod Acknowledged
+pub mod Numbering
+pub mod Wanting
+pub mod Starving
+pub mod Detecting
+pub mod Fewness
+pub mod Numbered
+pub mod Answerer

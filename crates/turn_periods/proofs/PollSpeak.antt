@@ -242,7 +242,7 @@ pub record SaidPoll (turn : ℕ) (a : Account) (said : Said) : Type 0 where
   pub counted : (n : ℕ) → said.account.outgoing.count ≡ n + 1
       → ((made ≡ true) × (a.outgoing.count ≡ n) × (said.account.wait.timer ≡ Some turn)) ⊎ ((made ≡ false) × (a.outgoing.count ≡ n + 1) × ((r : ℕ) → a.wait.timer ≡ Some r → said.account.wait.timer ≡ Some r))
 
-linked-poll : (turn : ℕ) (a : Account) → OnOk (SaidPoll turn a) (speak_linked turn a)
+pub linked-poll : (turn : ℕ) (a : Account) → OnOk (SaidPoll turn a) (speak_linked turn a)
 linked-poll turn a = go (then_tries turn (on_timer turn a)) (timers-poll turn a)
   where
     go : (r : Result Account LinkFault) → OnOk (TimersPoll turn a) r → OnOk (SaidPoll turn a) (after_timers turn a.special r)

@@ -7,7 +7,9 @@ use Rattle.roles.specs.declared.role.Role.TheVariants.{Originator, Answerer}
 use Rattle.roles.specs.Role.{other}
 use Rattle.link_account.specs.Account.{is_connected}
 use Rattle.link_run.specs.End.{is_released}
-use Rattle.link_run.specs.Run.{Ends, Turn, arrival, releases}
+use Rattle.link_run.specs.Run.{Link, Ends, Turn, arrival, releases}
+use Rattle.link_run.specs.Laws.{RunsOver}
+use Rattle.turn_bound.specs.Time.{KeepsTime}
 use Rattle.link_run.specs.Starved.{SpanLoses, IsStarved, LosesSome, turn_at}
 use Rattle.turn_bound.specs.Together.{Together, StandTogether}
 use Rattle.turn_bound.proofs.Clock.{Rates, rates}
@@ -21,16 +23,32 @@ use Rattle.turn_periods.proofs.Tracing.{Known, known, Timed, timed, rated, Trace
 use Rattle.turn_periods.proofs.Numbering.{Plays, allowed, fits-at, counts-of}
 use Rattle.turn_periods.proofs.Wanting.{LastTry, last-try, wants-answers}
 
-pub originator-wants : Plays → StandTogether → OriginatorWantsAnswers
-originator-wants laws together tries period delay link ts before t mid segment since kt run cs broken cm quiet =
+pub originator-each : Plays → StandTogether → (tries period : ℕ) (delay : Role → ℕ) (link : Link) (ts : List Turn) (before : Ends)
+    → KeepsTime tries period delay link → RunsOver link delay ts before → LastTry tries period (length ts) before.orig → LosesEach period tries (length ts) ts
+originator-each laws together tries period delay link ts before kt run last =
     wants-answers tries period delay link ts w.state w.deed kt w.trace Originator (counts-of laws tries period delay link ts w.state w.deed kt run.may_play w.trace Originator)
     (subst (λ (x : Ends). LastTry tries period (length ts) x.orig) (sym w.last) last) both
   where
-    z : Rates
-    z = rates tries period
-
     w : Traced period delay link ts before
     w = traced tries period delay link ts before kt run.run run.carried
+
+    joined : (x : Ends) → Together x → is_connected x.orig.phase ≡ true → is_connected x.answ.phase ≡ true
+    joined x h c = ap is_connected (h.answ (connected-is x.orig.phase c))
+
+    both : (s u : ℕ) → s < length ts → s ≤ u → u ≤ length ts → (w.deed s).made Originator ≡ true → is_connected (w.state s).orig.phase ≡ true → is_connected (w.state u).orig.phase ≡ true → is_connected (w.state u).answ.phase ≡ true
+    both s u _ _ l _ _ = elim (cases_lt u (length ts)) [
+      | inl y ↦ (let h = w.trace.happens u y in joined (w.state u) (together tries period delay link (past ts u) (w.state u) kt h.run h.carried))
+      | inr y ↦ joined (w.state u) (subst Together (sym (ap w.state (same u l y) ∙ w.last)) (together tries period delay link ts before kt run.run run.carried))
+    ]
+      where
+        same : (x : ℕ) → x ≤ length ts → length ts ≤ x → x ≡ length ts
+        same x a b = omega (arith, a, b)
+
+pub originator-wants : Plays → StandTogether → OriginatorWantsAnswers
+originator-wants laws together tries period delay link ts before t mid segment since kt run cs broken cm quiet = originator-each laws together tries period delay link ts before kt run last
+  where
+    z : Rates
+    z = rates tries period
 
     k : Known z link (length ts) before Originator
     k = known tries period delay link ts before kt run.run run.carried Originator
@@ -44,18 +62,6 @@ originator-wants laws together tries period delay link ts before t mid segment s
         (λ u c. ((begins-roomy (arrival t.orig.heard) (length ts) before.orig mid.orig u (fits-at laws link delay ts before run Originator) (subst IsAllowed (ap (λ x. x.offer) (sym k.setup)) (allowed link run.may_play Originator))
         (broken.hearing Originator).hears).so c).2)
         (broken.hearing Originator).hears (ap is_connected cm) quiet broken.broken
-
-    joined : (x : Ends) → Together x → is_connected x.orig.phase ≡ true → is_connected x.answ.phase ≡ true
-    joined x h c = ap is_connected (h.answ (connected-is x.orig.phase c))
-
-    both : (s u : ℕ) → s < length ts → s ≤ u → u ≤ length ts → (w.deed s).made Originator ≡ true → is_connected (w.state s).orig.phase ≡ true → is_connected (w.state u).orig.phase ≡ true → is_connected (w.state u).answ.phase ≡ true
-    both s u _ _ l _ _ = elim (cases_lt u (length ts)) [
-      | inl y ↦ (let h = w.trace.happens u y in joined (w.state u) (together tries period delay link (past ts u) (w.state u) kt h.run h.carried))
-      | inr y ↦ joined (w.state u) (subst Together (sym (ap w.state (same u l y) ∙ w.last)) (together tries period delay link ts before kt run.run run.carried))
-    ]
-      where
-        same : (x : ℕ) → x ≤ length ts → length ts ≤ x → x ≡ length ts
-        same x a b = omega (arith, a, b)
 
 -- the turns with the last one
 pub later-turn : (turn : ℕ) (t : Turn) (ts : List Turn) → turn < length ts → turn_at turn (t ∷ ts) ≡ turn_at turn ts

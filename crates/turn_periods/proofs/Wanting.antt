@@ -98,11 +98,11 @@ pub record LastTry (tries period turn : ℕ) (a : Account) : Type 0 where
   pub now : turn ≡ set + period
   pub count : a.outgoing.count ≡ tries
 
-pub last-try : (tries period : ℕ) (user : User) (turn : ℕ) (role : Role) (arrived : Arrived) (a mid : Account) (released release : Bool) (fault : LinkFault) → AreRates (rates tries period) → IsOf (rates tries period) a.setup
+pub last-try-of : (tries period : ℕ) (user : User) (turn : ℕ) (role : Role) (arrived : Arrived) (a mid : Account) (released : Bool) → AreRates (rates tries period) → IsOf (rates tries period) a.setup
     → Stands (rates tries period) turn turn role a.phase a → a.setup.role ≡ role → NoneDue a → (is_linked a.phase ≡ false → is_connected mid.phase ≡ true → mid.outgoing.count ≡ 0)
-    → hear turn arrived a ≡ Ok mid → is_connected mid.phase ≡ true → waits (served_account user turn released mid).own_breaks ≡ false → speak turn release (served_account user turn released mid) ≡ Err fault
+    → hear turn arrived a ≡ Ok mid → is_connected mid.phase ≡ true → SpendsTries turn (served_account user turn released mid)
     → LastTry tries period turn a
-last-try tries period user turn role arrived a mid released release fault y k h er none begins hears cm quiet breaks = from (polls.from cm)
+last-try-of tries period user turn role arrived a mid released y k h er none begins hears cm why = from (polls.from cm)
   where
     z : Rates
     z = rates tries period
@@ -123,9 +123,6 @@ last-try tries period user turn role arrived a mid released release fault y k h 
 
     per : b.setup.period ≡ period
     per = ap (λ x. x.period) (s.setup ∙ heard.1.setup) ∙ k.period
-
-    why : SpendsTries turn b
-    why = let long = y.period in connected-why turn release b fault (s.phase ∙ connected-is mid.phase cm) (omega (arith, per, long)) quiet breaks
 
     polls : PollHeard role turn (of_arrived is_poll arrived) a mid
     polls = poll-ok role turn (of_arrived is_poll arrived) a mid (hear turn arrived a) hears (poll-hears role arrived turn a er none.answer)
@@ -149,6 +146,32 @@ last-try tries period user turn role arrived a mid released release fault y k h 
           now = let n = why.now in omega (arith, n, per);
           count = sym c ∙ mid-count;
         }
+
+-- so it is where no break waits
+pub last-try : (tries period : ℕ) (user : User) (turn : ℕ) (role : Role) (arrived : Arrived) (a mid : Account) (released release : Bool) (fault : LinkFault) → AreRates (rates tries period) → IsOf (rates tries period) a.setup
+    → Stands (rates tries period) turn turn role a.phase a → a.setup.role ≡ role → NoneDue a → (is_linked a.phase ≡ false → is_connected mid.phase ≡ true → mid.outgoing.count ≡ 0)
+    → hear turn arrived a ≡ Ok mid → is_connected mid.phase ≡ true → waits (served_account user turn released mid).own_breaks ≡ false → speak turn release (served_account user turn released mid) ≡ Err fault
+    → LastTry tries period turn a
+last-try tries period user turn role arrived a mid released release fault y k h er none begins hears cm quiet breaks = last-try-of tries period user turn role arrived a mid released y k h er none begins hears cm why
+  where
+    z : Rates
+    z = rates tries period
+
+    b : Account
+    b = served_account user turn released mid
+
+    s : Served turn (length user.breaks) (is_busy turn user.busy) mid b
+    s = serves-all user turn released mid
+
+    heard : (q : Phase) × HeardAs z (length a.outgoing.pieces) (length user.breaks) turn (z.quota * arrived_rnrs arrived) role a.phase a q mid
+    heard = heard-ok z (length a.outgoing.pieces) (length user.breaks) turn (z.quota * arrived_rnrs arrived) role a.phase a mid (hear turn arrived a) hears
+        (hears-well z (length a.outgoing.pieces) (length user.breaks) turn role a.phase arrived a y k h refl er (omega arith))
+
+    per : b.setup.period ≡ period
+    per = ap (λ x. x.period) (s.setup ∙ heard.1.setup) ∙ k.period
+
+    why : SpendsTries turn b
+    why = let long = y.period in connected-why turn release b fault (s.phase ∙ connected-is mid.phase cm) (omega (arith, per, long)) quiet breaks
 
 -- a turn in which an end hears nothing of what was sent
 pub lost-is : (h : Heard) → is_lost h ≡ true → IsLost h

@@ -1,0 +1,70 @@
+-- Why a script's run over the line of samples ends by a lost link.
+use Rattle.std.specs.Prelude.{◌≡◌, ℕ, ◌+◌, ◌*◌, ◌<◌, false, List, [], length}
+use Rattle.roles.specs.declared.role.Role.{Role}
+use Rattle.roles.specs.Both.{Both}
+use Rattle.noise_script.specs.Script.{IsInLimits}
+use Rattle.link_account.specs.Account.{break_waits}
+use Rattle.link_run.specs.Run.{Link, Ends, Turn, served_at}
+use Rattle.link_run.specs.Counts.{lost_slots}
+use Rattle.turn_periods.specs.Losses.{LosesEach}
+use Rattle.line_run.specs.Sampled.{Channel}
+use Rattle.line_run.specs.Scripted.{period_of, link_of}
+use Rattle.line_run.specs.Ends.{RunEnd, IsDone, LinkLost, NotDetected, LineLost, ChanceMatch, Left, EndsBy, RunsTo, turns_heard, StarvedBy}
+
+-- how many of the latest periods lose something: as many as there are tries, and one more where no pattern is detected; none of a run that
+-- ends otherwise
+abbrev pub periods_lost : RunEnd → ℕ → ℕ
+periods_lost (LinkLost role segment turn) tries = tries
+periods_lost (NotDetected turn) tries = tries + 1
+periods_lost (IsDone turn) tries = 0
+periods_lost (LineLost role symbol) tries = 0
+periods_lost (ChanceMatch role turn) tries = 0
+
+-- An end gives the link up.
+abbrev pub GivesUp : RunEnd → Type 0
+GivesUp (LinkLost role segment turn) = Unit {0}
+GivesUp (NotDetected turn) = Unit {0}
+GivesUp (IsDone turn) = ⊥
+GivesUp (LineLost role symbol) = ⊥
+GivesUp (ChanceMatch role turn) = ⊥
+
+-- No break waits at the end whose tries are spent.
+abbrev pub WaitsForNoBreak : (c : Channel) (link : Link) (ts : List Turn) (ends : Ends) (end : RunEnd) (left : Left)
+    → EndsBy c link ts ends end left → Type 0
+WaitsForNoBreak c link ts ends (LinkLost role segment turn) left e = break_waits (served_at link (length ts) e.1.mid role).account ≡ false
+WaitsForNoBreak c link ts ends (NotDetected turn) left e = Unit {0}
+WaitsForNoBreak c link ts ends (IsDone turn) left e = Unit {0}
+WaitsForNoBreak c link ts ends (LineLost role symbol) left e = Unit {0}
+WaitsForNoBreak c link ts ends (ChanceMatch role turn) left e = Unit {0}
+
+-- A run that ends by a lost link or undetected was starved, whatever the end that gives up waits for.
+abbrev pub LostLinksWereStarved : Type 0
+LostLinksWereStarved = (c : Channel) (files : Both (List ℕ)) (end : RunEnd) (left : Left) → IsInLimits c.script
+    → (r : RunsTo c (link_of c.script files) end left) → GivesUp end
+    → StarvedBy c.script (turns_heard c (link_of c.script files) r.turns r.ends end left r.ended)
+
+-- something was lost in each of its latest periods, counted back from the last turn
+abbrev pub LosesInPeriods : (c : Channel) (files : Both (List ℕ)) (end : RunEnd) (left : Left) → RunsTo c (link_of c.script files) end left
+    → Type 0
+LosesInPeriods c files end left r =
+    LosesEach (period_of c.script) (periods_lost end c.script.tries) (length r.turns)
+    (turns_heard c (link_of c.script files) r.turns r.ends end left r.ended)
+
+-- Where no break waits at that end, each of the latest periods lost something;
+abbrev pub LosesWithoutBreak : Type 0
+LosesWithoutBreak = (c : Channel) (files : Both (List ℕ)) (end : RunEnd) (left : Left) → IsInLimits c.script
+    → (r : RunsTo c (link_of c.script files) end left) → GivesUp end
+    → WaitsForNoBreak c (link_of c.script files) r.turns r.ends end left r.ended
+    → LosesInPeriods c files end left r
+
+-- and so it is in each run of a script without break lines.
+abbrev pub LosesUnbroken : Type 0
+LosesUnbroken = (c : Channel) (files : Both (List ℕ)) (end : RunEnd) (left : Left) → IsInLimits c.script → c.script.breaks ≡ []
+    → (r : RunsTo c (link_of c.script files) end left) → GivesUp end → LosesInPeriods c files end left r
+
+-- So where fewer slots were lost than one for each two tries, no end gave the link up: the run ends by Done, or the line ends it.
+abbrev pub FewLossesKeepLinks : Type 0
+FewLossesKeepLinks = (c : Channel) (files : Both (List ℕ)) (end : RunEnd) (left : Left) → IsInLimits c.script
+    → (r : RunsTo c (link_of c.script files) end left)
+    → 2 * lost_slots (turns_heard c (link_of c.script files) r.turns r.ends end left r.ended) < c.script.tries
+    → GivesUp end → ⊥
