@@ -1,7 +1,7 @@
 -- Sets of states as words.
-use Rattle.std.proofs.Common.{◌≡◌, ◌≢◌, ◌⊎◌, inl, inr, ℕ, zero, suc, ◌+◌, ◌*◌, ◌/◌, ◌%◌, ◌<◌, ◌≤◌, List, [], ◌∷◌, length, set, slice_index, bit_and, arith, refl, sym, ◌∙◌, ap, subst}
+use Rattle.std.proofs.Common.{◌≡◌, ◌≢◌, ◌⊎◌, inl, inr, ℕ, zero, suc, ◌+◌, ◌*◌, ◌/◌, ◌%◌, ◌<◌, List, [], ◌∷◌, length, set, slice_index, bit_and, arith, sym, ◌∙◌, ap, subst}
 use Rattle.std.specs.Int.{bit_at}
-use Rattle.std.proofs.lemmas.Bool.{cases_eq, cases_lt}
+use Rattle.std.proofs.lemmas.Bool.{cases_eq}
 use Rattle.std.proofs.lemmas.Nat.{and_le_l}
 use Rattle.std.proofs.lemmas.Nat.Bits.{bit_at-zero}
 use Rattle.exact_decoder.specs.States.{Has, weight}
@@ -61,14 +61,9 @@ taken-fewer (a ∷ b ∷ []) word less long within fewer = absurd (omega arith)
 taken-fewer (a ∷ b ∷ c ∷ []) word less long within fewer = absurd (omega arith)
 taken-fewer (a ∷ b ∷ c ∷ d ∷ e ∷ more) word less long within fewer = absurd (omega arith)
 
-past : (xs : List ℕ) (i : ℕ) → length xs ≤ i → slice_index xs i ≡ 0
-past [] i l = refl
-past (x ∷ xs) zero l = absurd (omega arith)
-past (x ∷ xs) (suc i) l = past xs i (omega arith)
-
--- no word has a bit
-pub has-none : (words : List ℕ) (s : ℕ) → length words ≡ 4 → ((word : ℕ) → word < 4 → slice_index words word ≡ 0) → Has words s → ⊥
-has-none words s long zeros h =
-    let none : slice_index words (s / 64) ≡ 0 = elim (cases_lt (s / 64) 4) [ inl low ↦ zeros (s / 64) low | inr high ↦ past words (s / 64) (omega arith) ] in
+-- no word with a bit of a state has one
+pub has-none : (states words_count : ℕ) (words : List ℕ) (s : ℕ) → words_count ≡ (states + 63) / 64 → s < states → ((word : ℕ) → word < words_count → slice_index words word ≡ 0) → Has words s → ⊥
+has-none states words_count words s count within zeros h =
+    let none : slice_index words (s / 64) ≡ 0 = zeros (s / 64) (omega (arith, count)) in
     let no_bit : 0 ≡ 1 = sym (bit_at-zero (s % 64)) ∙ ap (λ n. bit_at n (s % 64)) (sym none) ∙ h in
     omega (arith, no_bit)

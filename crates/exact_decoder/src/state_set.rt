@@ -67,6 +67,15 @@ fn word_of<const STATES: usize>(state: u8) -> usize
     }
 }
 
+/// How many words have bits of states.
+fn words_of<const STATES: usize>() -> usize
+    requires { STATES ≤ 256 }
+    ensures value { result ≡ (STATES + 63) / 64 }
+    ensures bound { result ≤ 4 }
+{
+    (STATES + 63) / 64
+}
+
 impl<const STATES: usize> StateSet<STATES> {
     /// A set of no states.
     pub fn new() -> StateSet<STATES>
@@ -88,13 +97,14 @@ impl<const STATES: usize> StateSet<STATES> {
 
     /// Takes the first state out of the set.
     pub fn take_first(&mut self) -> Option<u8>
+        requires { STATES ≤ 256 }
         ensures first { MatchOption result ((s : ℕ) → Has self.old s → ⊥) (Has self.old) }
         ensures kept { (s : ℕ) → Has self.old s → (result ≡ Some s) ⊎ Has self.new s }
         ensures only { (s : ℕ) → Has self.new s → Has self.old s }
         ensures fewer { IfSome result (λ _. weight self.new < weight self.old) }
         ensures within { IfSome result (λ state. state < STATES) }
     {
-        for word in 0..WORDS {
+        for word in 0..words_of::<STATES>() {
             let bits = self.words[word];
             if bits != 0 {
                 let place = lowest_bit(bits);
