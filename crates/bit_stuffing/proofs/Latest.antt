@@ -1,11 +1,11 @@
 -- The latest eight bits as a number.
-use Rattle.std.proofs.Common.{◌≡◌, ℕ, zero, suc, ◌+◌, ◌-◌, ◌*◌, ◌/◌, ◌%◌, ◌^◌, ◌<◌, ◌≤◌, Bool, true, false, nat_eq, List, [], ◌∷◌, ◌++◌, length, lit<, arith, refl, sym, ◌∙◌, ap, subst, bit_or, inl, inr}
+use Rattle.std.proofs.Common.{◌≡◌, ℕ, zero, suc, ◌+◌, ◌-◌, ◌*◌, ◌/◌, ◌%◌, ◌^◌, ◌<◌, ◌≤◌, Bool, true, false, nat_eq, List, [], ◌∷◌, ◌++◌, length, lit<, arith, refl, sym, ◌∙◌, ap, inl, inr}
 use Rattle.std.proofs.lemmas.Nat.Bits.{bit_at_cat_low, bit_at_lowest, bit_at-suc, same_from_bits_below}
 use Rattle.std.proofs.lemmas.Grind.{common_steps}
 use Rattle.std.proofs.lemmas.Bool.Decides.{nat_tests}
 use Rattle.std.specs.Int.{bit_at}
 use Rattle.std.proofs.lemmas.Bool.{cases_lt}
-use Rattle.std.proofs.lemmas.Nat.{shr_split, or_shifted}
+use Rattle.std.proofs.lemmas.Nat.{shr_split}
 use Rattle.plain_lists.specs.Bits.{number}
 use Rattle.bit_stuffing.specs.Flags.{bit_of, flag, FlagEndsAt, SevenOnesEndAt}
 use Rattle.bit_stuffing.specs.Deframer.{back, HoldsLatest}
@@ -48,28 +48,30 @@ below8 P p0 p1 p2 p3 p4 p5 p6 p7 (suc (suc (suc (suc (suc (suc (suc (suc i))))))
 bit_at-rem : (n k i : ℕ) → i < k → bit_at (n % 2 ^ k) i ≡ bit_at n i
 bit_at-rem n k i h = let e : n ≡ n / 2 ^ k * 2 ^ k + n % 2 ^ k = sym (shr_split n k) in sym (ap (λ x. bit_at x i) e ∙ bit_at_cat_low (n / 2 ^ k) k (n % 2 ^ k) i h)
 
-shifted-is : (r n : ℕ) → n < 2 → bit_or (r * 2 % 256) n ≡ r % 128 * 2 + n
-shifted-is r n h =
-    let e : r * 2 % 256 ≡ r % 128 * 2 ^ 1 = omega arith in
-    ap (λ x. bit_or x n) e ∙ or_shifted (r % 128) 1 n h
-
 -- one more bit
-pub latest-shifted : (r n : ℕ) (past : List Bool) (bit : Bool) → n ≡ number bit → HoldsLatest r past → HoldsLatest (bit_or (r * 2 % 256) n) (past ++ bit ∷ [])
-latest-shifted r n past bit e h = subst (λ x. HoldsLatest x (past ++ bit ∷ [])) (sym (shifted-is r n small)) record { low = omega (arith, small); each = each }
+pub latest-shifted : (r n : ℕ) (past : List Bool) (bit : Bool) → n ≡ number bit → HoldsLatest r past → HoldsLatest (r / 2 + 128 * n) (past ++ bit ∷ [])
+latest-shifted r n past bit e h = record { low = omega (arith, small, h.low); each = each }
   where
     small : n < 2
     small = rw e (number-lt bit)
 
-    each : (place : ℕ) → place < 8 → bit_at (r % 128 * 2 + n) place ≡ number (back (past ++ bit ∷ []) (place + 1))
-    each zero l = let lowest : (r % 128 * 2 + n) % 2 ≡ n = omega (arith, small) in bit_at_lowest (r % 128 * 2 + n) ∙ lowest ∙ e ∙ ap number (sym (back-first past bit))
-    each (suc place) l =
-        let half : (r % 128 * 2 + n) / 2 ≡ r % 2 ^ 7 = omega (arith, small) in
-        let up : suc place + 1 ≡ place + 1 + 1 = omega arith in
-        rw up (bit_at-suc (r % 128 * 2 + n) place ∙ ap (λ x. bit_at x place) half ∙ bit_at-rem r 7 place (omega arith) ∙ h.each place (omega arith) ∙ ap number (sym (back-more past bit (place + 1) (omega arith))))
+    each : (place : ℕ) → place < 8 → bit_at (r / 2 + 128 * n) place ≡ number (back (past ++ bit ∷ []) (8 - place))
+    each place l = elim (cases_lt place 7) [
+      | inl older ↦
+          let turned : r / 2 + 128 * n ≡ n * 2 ^ 7 + r / 2 = omega arith in
+          let up : 8 - place ≡ 7 - place + 1 = omega arith in
+          let there : 8 - suc place ≡ 7 - place = omega arith in
+          let held : bit_at r (suc place) ≡ number (back past (7 - place)) = rw there at (h.each (suc place) (omega arith)) in
+          rw up (ap (λ x. bit_at x place) turned ∙ bit_at_cat_low n 7 (r / 2) place older ∙ sym (bit_at-suc r place) ∙ held ∙ ap number (sym (back-more past bit (7 - place) (omega arith))))
+      | inr last ↦
+          let seven : place ≡ 7 = omega arith in
+          let top : (r / 2 + 128 * n) / 2 ^ 7 % 2 ≡ n = omega (arith, small, h.low) in
+          rw seven (top ∙ e ∙ ap number (sym (back-first past bit)))
+    ]
 
 -- a flag is a number
-flag_places : (i : ℕ) → i < 8 → bit_at 126 (7 - i) ≡ number (bit_of flag i)
-flag_places = below8 (λ i. bit_at 126 (7 - i) ≡ number (bit_of flag i)) refl refl refl refl refl refl refl refl
+flag_places : (i : ℕ) → i < 8 → bit_at 126 i ≡ number (bit_of flag i)
+flag_places = below8 (λ i. bit_at 126 i ≡ number (bit_of flag i)) refl refl refl refl refl refl refl refl
 
 pub latest-flag : (bits : List Bool) → HoldsLatest 126 bits → FlagEndsAt bits (length bits)
 latest-flag bits h = record { room = room; within = omega arith; spelled = spelled }
@@ -79,65 +81,60 @@ latest-flag bits h = record { room = room; within = omega arith; spelled = spell
       where
         too_few : length bits < 8 → ⊥
         too_few few =
-            let zero_last : number (back bits 8) ≡ 0 = sym (h.each 7 (lit< tt)) in
+            let zero_last : number (back bits 8) ≡ 0 = sym (h.each 0 (lit< tt)) in
             let one_last : number (back bits 8) ≡ 1 = ap number (back-past bits 8 few) in
             absurd (omega arith)
 
     spelled : (i : ℕ) → i < 8 → bit_of bits (length bits - 8 + i) ≡ bit_of flag i
     spelled i l =
-        let up : 7 - i + 1 ≡ 8 - i = omega arith in
         let place : length bits - (8 - i) ≡ length bits - 8 + i = omega (arith, room) in
-        let held : bit_at 126 (7 - i) ≡ number (back bits (8 - i)) = rw up at (h.each (7 - i) (omega arith)) in
         let seen : back bits (8 - i) ≡ bit_of bits (length bits - 8 + i) = back-within bits (8 - i) (omega (arith, room)) ∙ ap (bit_of bits) place in
-        same_number (bit_of bits (length bits - 8 + i)) (bit_of flag i) (ap number (sym seen) ∙ sym held ∙ flag_places i l)
+        same_number (bit_of bits (length bits - 8 + i)) (bit_of flag i) (ap number (sym seen) ∙ sym (h.each i l) ∙ flag_places i l)
 
 pub flag-latest : (latest : ℕ) (bits : List Bool) → HoldsLatest latest bits → FlagEndsAt bits (length bits) → latest ≡ 126
 flag-latest latest bits h f = same_from_bits_below 8 latest 126 h.low (lit< tt) each
   where
     each : (place : ℕ) → place < 8 → bit_at latest place ≡ bit_at 126 place
     each place l =
-        let seven : 7 - (7 - place) ≡ place = omega arith in
-        let at_place : length bits - (place + 1) ≡ length bits - 8 + (7 - place) = omega (arith, f.room) in
-        let seen : back bits (place + 1) ≡ bit_of bits (length bits - 8 + (7 - place)) = back-within bits (place + 1) (omega (arith, f.room)) ∙ ap (bit_of bits) at_place in
-        let in_flag : bit_at 126 place ≡ number (bit_of flag (7 - place)) = rw seven at (flag_places (7 - place) (omega arith)) in
-        h.each place l ∙ ap number (seen ∙ f.spelled (7 - place) (omega arith)) ∙ sym in_flag
+        let at_place : length bits - (8 - place) ≡ length bits - 8 + place = omega (arith, f.room) in
+        let seen : back bits (8 - place) ≡ bit_of bits (length bits - 8 + place) = back-within bits (8 - place) (omega (arith, f.room)) ∙ ap (bit_of bits) at_place in
+        h.each place l ∙ ap number (seen ∙ f.spelled place l) ∙ sym (flag_places place l)
 
 -- seven ones are a number
 seven_places : (i : ℕ) → i < 8 → i < 7 → bit_at 127 i ≡ 1
 seven_places = below8 (λ i. i < 7 → bit_at 127 i ≡ 1) (λ l. refl) (λ l. refl) (λ l. refl) (λ l. refl) (λ l. refl) (λ l. refl) (λ l. refl) (λ l. absurd (omega arith))
 
-pub latest-seven : (latest : ℕ) (bits : List Bool) → HoldsLatest latest bits → 7 ≤ length bits → latest % 128 ≡ 127 → SevenOnesEndAt bits (length bits)
+pub latest-seven : (latest : ℕ) (bits : List Bool) → HoldsLatest latest bits → 7 ≤ length bits → latest / 2 ≡ 127 → SevenOnesEndAt bits (length bits)
 latest-seven latest bits h room e = record { room = room; within = omega arith; ones = ones }
   where
     ones : (i : ℕ) → i < 7 → bit_of bits (length bits - 7 + i) ≡ true
     ones i l =
-        let up : 6 - i + 1 ≡ 7 - i = omega arith in
+        let up : 8 - suc i ≡ 7 - i = omega arith in
         let place : length bits - (7 - i) ≡ length bits - 7 + i = omega (arith, room) in
-        let low : bit_at (latest % 2 ^ 7) (6 - i) ≡ bit_at latest (6 - i) = bit_at-rem latest 7 (6 - i) (omega arith) in
-        let one : bit_at latest (6 - i) ≡ 1 = sym low ∙ ap (λ x. bit_at x (6 - i)) e ∙ seven_places (6 - i) (omega arith) (omega arith) in
-        let held : bit_at latest (6 - i) ≡ number (back bits (7 - i)) = rw up at (h.each (6 - i) (omega arith)) in
+        let one : bit_at latest (suc i) ≡ 1 = bit_at-suc latest i ∙ ap (λ x. bit_at x i) e ∙ seven_places i (omega arith) l in
+        let held : bit_at latest (suc i) ≡ number (back bits (7 - i)) = rw up at (h.each (suc i) (omega arith)) in
         let seen : back bits (7 - i) ≡ bit_of bits (length bits - 7 + i) = back-within bits (7 - i) (omega (arith, room)) ∙ ap (bit_of bits) place in
         same_number (bit_of bits (length bits - 7 + i)) true (ap number (sym seen) ∙ sym held ∙ one)
 
-pub seven-latest : (latest : ℕ) (bits : List Bool) → HoldsLatest latest bits → SevenOnesEndAt bits (length bits) → latest % 128 ≡ 127
-seven-latest latest bits h s = same_from_bits_below 7 (latest % 128) 127 (omega arith) (lit< tt) each
+pub seven-latest : (latest : ℕ) (bits : List Bool) → HoldsLatest latest bits → SevenOnesEndAt bits (length bits) → latest / 2 ≡ 127
+seven-latest latest bits h s = same_from_bits_below 7 (latest / 2) 127 (omega (arith, h.low)) (lit< tt) each
   where
-    each : (place : ℕ) → place < 7 → bit_at (latest % 128) place ≡ bit_at 127 place
+    each : (place : ℕ) → place < 7 → bit_at (latest / 2) place ≡ bit_at 127 place
     each place l =
-        let at_place : length bits - (place + 1) ≡ length bits - 7 + (6 - place) = omega (arith, s.room) in
-        let seen : back bits (place + 1) ≡ bit_of bits (length bits - 7 + (6 - place)) = back-within bits (place + 1) (omega (arith, s.room)) ∙ ap (bit_of bits) at_place in
-        bit_at-rem latest 7 place l ∙ h.each place (omega arith) ∙ ap number (seen ∙ s.ones (6 - place) (omega arith)) ∙ sym (seven_places place (omega arith) l)
+        let up : 8 - suc place ≡ 7 - place = omega arith in
+        let at_place : length bits - (7 - place) ≡ length bits - 7 + place = omega (arith, s.room) in
+        let held : bit_at latest (suc place) ≡ number (back bits (7 - place)) = rw up at (h.each (suc place) (omega arith)) in
+        let seen : back bits (7 - place) ≡ bit_of bits (length bits - 7 + place) = back-within bits (7 - place) (omega (arith, s.room)) ∙ ap (bit_of bits) at_place in
+        sym (bit_at-suc latest place) ∙ held ∙ ap number (seen ∙ s.ones place l) ∙ sym (seven_places place (omega arith) l)
 
 -- the oldest of them
 is_one : (b : Bool) → nat_eq (number b) 1 ≡ b
 is_one true = refl
 is_one false = refl
 
-pub latest-oldest : (latest : ℕ) (bits : List Bool) → HoldsLatest latest bits → nat_eq (latest / 128) 1 ≡ back bits 8
-latest-oldest latest bits h =
-    let top : latest / 128 ≡ bit_at latest 7 = omega (arith, h.low) in
-    ap (λ n. nat_eq n 1) (top ∙ h.each 7 (lit< tt)) ∙ is_one (back bits 8)
+pub latest-oldest : (latest : ℕ) (bits : List Bool) → HoldsLatest latest bits → nat_eq (latest % 2) 1 ≡ back bits 8
+latest-oldest latest bits h = ap (λ n. nat_eq n 1) (sym (bit_at_lowest latest) ∙ h.each 0 (lit< tt)) ∙ is_one (back bits 8)
 
 -- before the first bit
 pub latest-none : HoldsLatest 255 []
-latest-none = record { low = lit< tt; each = below8 (λ place. bit_at 255 place ≡ number (back [] (place + 1))) refl refl refl refl refl refl refl refl }
+latest-none = record { low = lit< tt; each = below8 (λ place. bit_at 255 place ≡ number (back [] (8 - place))) refl refl refl refl refl refl refl refl }

@@ -14,6 +14,9 @@ mod Worked
 pub mod Written
 pub mod Fill
 mod Counters
+mod Quiet
+mod Octets
+mod Passing
 mod States
 mod Frames
 mod Plain

@@ -1,9 +1,9 @@
 -- What a deframer keeps, and the bits for which it stands.
-use Rattle.std.specs.Prelude.{◌≡◌, ℕ, ◌+◌, ◌-◌, ◌*◌, ◌<◌, ◌≤◌, Bool, true, false, if◌then◌else◌, nat_lt, List, ◌++◌, length, min, All, Option, Some, None}
+use Rattle.std.specs.Prelude.{◌≡◌, ℕ, ◌+◌, ◌-◌, ◌*◌, ◌/◌, ◌%◌, ◌^◌, ◌<◌, ◌≤◌, Bool, true, false, not, ◌&&◌, if◌then◌else◌, nat_eq, nat_lt, List, ◌++◌, length, min, Option, Some, None}
 use Rattle.std.specs.Int.{bit_at}
 use Rattle.frame_check.specs.declared.sizes.TheConstants.{WHOLE}
 use Rattle.plain_lists.specs.Bits.{number, low_bits, bits_of}
-use Rattle.bit_stuffing.specs.Flags.{bit_of, OpenedAt}
+use Rattle.bit_stuffing.specs.Flags.{bit_of, OpenedAt, FlagEndsAt, SevenOnesEndAt}
 use Rattle.bit_stuffing.specs.Stuffing.{removed, room_after}
 use Rattle.bit_stuffing.specs.Pieces.{content, EndsWhole}
 use Rattle.plain_lists.specs.Octets.{AreOctets}
@@ -12,10 +12,10 @@ use Rattle.plain_lists.specs.Octets.{AreOctets}
 abbrev pub back : List Bool → ℕ → Bool
 back bits places = if nat_lt (length bits) places then true else bit_of bits (length bits - places)
 
--- a number has the latest eight bits, the last one lowest
+-- an octet has the latest eight bits, the first one lowest
 pub record HoldsLatest (latest : ℕ) (bits : List Bool) : Type 0 where
   pub low : latest < 256
-  pub each : (place : ℕ) → place < 8 → bit_at latest place ≡ number (back bits (place + 1))
+  pub each : (place : ℕ) → place < 8 → bit_at latest place ≡ number (back bits (8 - place))
 
 -- the number of bits behind the flag that is open, up to eight; none where no flag is open
 abbrev pub CountsSince : Option ℕ → List Bool → Type 0
@@ -67,3 +67,16 @@ pub record DeframerStands (deframer : Kept) (bits : List Bool) : Type 0 where
   pub finds : Finds deframer.finding bits
   pub gathers : (p : ℕ) → OpenedAt bits p → p + 8 ≤ length bits → Gathers deframer.gathering (content bits p)
   pub lends : Lends deframer.lent deframer.gathering.octets bits
+
+-- Of these bits none that stands behind the others is the last of a flag or of seven ones.
+pub record IsQuiet (past bits : List Bool) : Type 0 where
+  pub no_flag : (n : ℕ) → length past < n → FlagEndsAt (past ++ bits) n → ⊥
+  pub no_seven : (n : ℕ) → length past < n → SevenOnesEndAt (past ++ bits) n → ⊥
+
+-- Behind so many ones fewer than five, given as how many may still follow, no zero is due within an octet's bits or behind them.
+abbrev pub is_plain : ℕ → ℕ → Bool
+is_plain room octet = not (nat_eq (octet % 2 ^ room) (2 ^ room - 1)) && (not (nat_eq (octet / 2 % 32) 31) && (not (nat_eq (octet / 4 % 32) 31) && not (nat_eq (octet / 8) 31)))
+
+-- how many ones may still follow such an octet before a zero has to
+abbrev pub room_behind_octet : ℕ → ℕ
+room_behind_octet octet = if nat_lt octet 128 then 5 else (if nat_lt octet 192 then 4 else (if nat_lt octet 224 then 3 else (if nat_lt octet 240 then 2 else 1)))

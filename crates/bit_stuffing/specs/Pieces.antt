@@ -1,5 +1,5 @@
 -- The answer at each bit of a stream, by the places of the flags in all bits so far.
-use Rattle.std.specs.Prelude.{◌≡◌, ◌⊎◌, ℕ, ◌-◌, ◌*◌, ◌<◌, ◌≤◌, Bool, List, [], ◌∷◌, ◌++◌, length, take, drop, All, Option, Some, None}
+use Rattle.std.specs.Prelude.{◌≡◌, ◌⊎◌, ℕ, ◌-◌, ◌*◌, ◌<◌, ◌≤◌, Bool, List, [], ◌∷◌, ◌++◌, length, take, drop, Option, Some, None}
 use Rattle.frame_check.specs.declared.sizes.TheConstants.{WHOLE}
 use Rattle.plain_lists.specs.Bits.{bits_of}
 use Rattle.bit_stuffing.specs.declared.piece.Piece.{Piece}

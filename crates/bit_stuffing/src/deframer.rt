@@ -35,10 +35,11 @@ fn is_whole(piece: Piece) -> bool
 }
 
 impl Deframer {
-    ghost use Rattle.std.specs.Prelude.{ℕ, ◌+◌, ◌≤◌, length, List, Bool, [], ◌∷◌, ◌++◌};
+    ghost use Rattle.std.specs.Prelude.{ℕ, ◌+◌, ◌≤◌, length, drop, List, Bool, true, false, [], ◌∷◌, ◌++◌};
+    ghost use Rattle.plain_lists.specs.Bits.{octet_bits};
     ghost use Rattle.bit_stuffing.specs.Flags.{OpenedAt};
     ghost use Rattle.bit_stuffing.specs.Pieces.{IsAnswer, IsLent, content};
-    ghost use Rattle.bit_stuffing.specs.Found.{answer_of, lent_of};
+    ghost use Rattle.bit_stuffing.specs.Found.{answer_of, lent_of, pieces_of};
     ghost use Rattle.bit_stuffing.specs.Deframer.{DeframerStands, Gathers};
 
     /// A deframer before the first bit.
@@ -85,6 +86,36 @@ impl Deframer {
             Some(Event::Aborted) => Some(Piece::Aborted),
             None => None,
         }
+    }
+
+    /// Gathers the latest eight bits, where they stand behind the flag that is open.
+    fn gather_octet(&mut self)
+        ensures gathers { (past : List Bool) → DeframerStands self.old past
+            → (p : ℕ) → OpenedAt past p → p + 8 ≤ length past → Gathers self.new.gathering (drop p past) }
+        ensures finding { self.new.finding ≡ self.old.finding }
+    {
+        match self.finder.leaving_octet() {
+            Some(octet) => self.unstuffer.push_octet(octet),
+            None => {}
+        }
+    }
+
+    /// Goes on by the bits of an octet, the low one first, where it is plain that nothing ends with any of them: whether it did.
+    /// Then no octets are lent.
+    pub fn pass(&mut self, octet: u8) -> bool
+        ensures stands { result ≡ true → (past : List Bool) → DeframerStands self.old past
+            → DeframerStands self.new (past ++ octet_bits octet) }
+        ensures quiet { result ≡ true → (past : List Bool) → DeframerStands self.old past
+            → pieces_of (past ++ octet_bits octet) ≡ pieces_of past }
+        ensures stays { result ≡ false → self.new ≡ self.old }
+    {
+        if !self.finder.is_quiet(octet) {
+            return false;
+        }
+        self.gather_octet();
+        self.lent = false;
+        self.finder.pass(octet);
+        true
     }
 
     /// The octets of the piece that the last push answered as whole, with their check. None are lent where

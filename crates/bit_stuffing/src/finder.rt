@@ -1,5 +1,7 @@
 // Flags and aborts in a stream of bits.
-ghost use Rattle.std.specs.Prelude.{◌≡◌, ◌≤◌, ◌↔◌, IsTrue, List, Bool, [], ◌∷◌, ◌++◌, length};
+ghost use Rattle.std.specs.Prelude.{◌≡◌, ◌⊎◌, ◌≤◌, ◌<◌, ◌+◌, ◌-◌, ◌*◌, ◌↔◌, ℕ, IsTrue, true, false, Some, None, List, Bool, [], ◌∷◌, ◌++◌, length, drop};
+ghost use Rattle.std.specs.Int.{bit_at};
+ghost use Rattle.plain_lists.specs.Bits.{octet_bits};
 ghost use Rattle.bit_stuffing.specs.Flags.{FlagEndsAt, SevenOnesEndAt};
 ghost use Rattle.bit_stuffing.specs.Deframer.{HoldsLatest};
 
@@ -15,11 +17,11 @@ pub(crate) enum Event {
     Closed,
 }
 
-/// The latest bits, the last one lowest, after one more bit.
+/// The latest bits, the first one lowest, after one more bit.
 fn shifted(latest: u8, bit: bool) -> u8
     ensures { (past : List Bool) → HoldsLatest latest past → HoldsLatest result (past ++ bit ∷ []) }
 {
-    (latest << 1) | u8::from(bit)
+    latest / 2 + 128 * u8::from(bit)
 }
 
 /// Whether the latest bits are a flag.
@@ -35,7 +37,23 @@ fn ends_seven_ones(latest: u8) -> bool
     ensures { (bits : List Bool) → HoldsLatest latest bits → 7 ≤ length bits
         → (IsTrue result ↔ SevenOnesEndAt bits (length bits)) }
 {
-    latest & 0x7f == 0x7f
+    latest / 2 == 0x7f
+}
+
+/// Eight bits and those of an octet behind them, the first one lowest.
+fn window_of(latest: u8, octet: u8) -> u16
+    ensures { result ≡ 256 * octet + latest }
+{
+    256 * u16::from(octet) + u16::from(latest)
+}
+
+/// Whether six of the bits are ones in a row.
+fn has_six_ones(bits: u16) -> bool
+    ensures { result ≡ false → (i : ℕ) → ((j : ℕ) → j < 6 → bit_at bits (i + j) ≡ 1) → ⊥ }
+{
+    let twos = bits & (bits / 2);
+    let fours = twos & (twos / 4);
+    fours & (twos / 16) != 0
 }
 
 /// Finds flags, and ones in a row.
@@ -56,7 +74,7 @@ impl Model for FlagFinder {
 impl FlagFinder {
     ghost use Rattle.std.specs.Prelude.{IfSome, IfNone};
     ghost use Rattle.bit_stuffing.specs.Flags.{IsFar, IsNear};
-    ghost use Rattle.bit_stuffing.specs.Deframer.{Finds, back};
+    ghost use Rattle.bit_stuffing.specs.Deframer.{Finds, IsQuiet, back};
     ghost use Rattle.bit_stuffing.specs.Events.{IsEvent};
 
     pub(crate) fn new() -> FlagFinder
@@ -86,7 +104,7 @@ impl FlagFinder {
         ensures near { IfNone result ((past : List Bool) → Finds self.now past → IsNear past) }
     {
         if self.is_far() {
-            Some(self.latest >> 7 == 1)
+            Some(self.latest % 2 == 1)
         } else {
             None
         }
@@ -115,5 +133,37 @@ impl FlagFinder {
             }
             None => None,
         }
+    }
+
+    /// Whether no flag is open, or eight bits or more stand behind the one that is, and no flag and no seven ones end with a bit of
+    /// the octet.
+    pub(crate) fn is_quiet(&self, octet: u8) -> bool
+        ensures quiet { result ≡ true → (past : List Bool) → Finds self.now past → IsQuiet past (octet_bits octet) }
+        ensures settled { result ≡ true → (self.now.since ≡ None) ⊎ (self.now.since ≡ Some 8) }
+    {
+        match self.since {
+            Some(count) if count != 8 => false,
+            _ => !has_six_ones(window_of(self.latest, octet)),
+        }
+    }
+
+    /// The latest eight bits, where they stand behind the flag that is open.
+    pub(crate) fn leaving_octet(&self) -> Option<u8>
+        ensures octet { IfSome result (λ octet. (past : List Bool) → Finds self.now past → IsFar past × (drop (length past - 8) past ≡ octet_bits octet)) }
+        ensures near { IfNone result ((past : List Bool) → Finds self.now past → IsNear past) }
+    {
+        if self.is_far() {
+            Some(self.latest)
+        } else {
+            None
+        }
+    }
+
+    /// Goes on by the bits of an octet with which nothing ends.
+    pub(crate) fn pass(&mut self, octet: u8)
+        requires { (self.old.since ≡ None) ⊎ (self.old.since ≡ Some 8) }
+        ensures { (past : List Bool) → IsQuiet past (octet_bits octet) → Finds self.old past → Finds self.new (past ++ octet_bits octet) }
+    {
+        self.latest = octet;
     }
 }

@@ -1,5 +1,8 @@
 // The octets of a content, as the bits between two flags come in.
-ghost use Rattle.std.specs.Prelude.{◌≡◌, List, Bool, [], ◌∷◌, ◌++◌};
+ghost use Rattle.std.specs.Prelude.{◌≡◌, ◌≤◌, ◌<◌, ◌+◌, ◌*◌, ◌/◌, ◌^◌, true, false, List, Bool, [], ◌∷◌, ◌++◌, length};
+ghost use Rattle.plain_lists.specs.Bits.{octet_bits};
+ghost use Rattle.bit_stuffing.specs.Deframer.{is_plain, room_behind_octet};
+ghost use Rattle.frame_check.specs.declared.sizes.TheConstants.{WHOLE};
 
 use crate::bits::with_bit;
 use crate::piece::{Piece, SHORTEST};
@@ -8,6 +11,45 @@ use std::marker::Model;
 
 /// The most ones in a row that a content's line may have. A zero stands behind them.
 pub(crate) const RUN: u8 = 5;
+
+/// Whether no zero is due within an octet's bits or behind them, where so many ones may still follow what was before.
+fn is_plain(room: u8, octet: u8) -> bool
+    requires { room ≤ 5 }
+    ensures { result ≡ is_plain room octet }
+{
+    octet % (1 << room) != (1 << room) - 1
+        && octet / 2 % 32 != 31
+        && octet / 4 % 32 != 31
+        && octet / 8 != 31
+}
+
+/// How many ones may still follow such an octet before a zero has to.
+fn room_behind_octet(octet: u8) -> u8
+    ensures value { result ≡ room_behind_octet octet }
+    ensures bound { result ≤ 5 }
+{
+    if octet < 128 {
+        5
+    } else if octet < 192 {
+        4
+    } else if octet < 224 {
+        3
+    } else if octet < 240 {
+        2
+    } else {
+        1
+    }
+}
+
+/// The low bits of a part, so many, and those of an octet above them.
+fn joined(part: u8, held: u8, octet: u8) -> u16
+    requires held { held < 8 }
+    requires part { part < 2 ^ held }
+    ensures value { result ≡ part + octet * 2 ^ held }
+    ensures bound { result / 256 < 2 ^ held }
+{
+    u16::from(part) + (u16::from(octet) << held)
+}
 
 /// Takes the inserted zeros out of a content's line, and gathers its octets.
 #[derive(Drop)]
@@ -98,6 +140,41 @@ impl Unstuffer {
             self.part = part;
             self.held += 1;
         }
+    }
+
+    /// The next eight bits of the line, the low one of the octet first.
+    pub(crate) fn push_octet(&mut self, octet: u8)
+        ensures { (line : List Bool) → Gathers self.old line → Gathers self.new (line ++ octet_bits octet) }
+    {
+        if !self.over && self.octets.len() + 1 < WHOLE && is_plain(self.room, octet) {
+            self.keep_octet(octet);
+        } else {
+            self.push_each(octet);
+        }
+    }
+
+    /// The next eight bits of the line, one by one.
+    fn push_each(&mut self, octet: u8)
+        ensures { (line : List Bool) → Gathers self.old line → Gathers self.new (line ++ octet_bits octet) }
+    {
+        let mut rest = octet;
+        for place in 0..8u32 {
+            self.push(rest % 2 == 1);
+            rest /= 2;
+        }
+    }
+
+    /// The next eight bits of the line, none of which is an inserted zero.
+    fn keep_octet(&mut self, octet: u8)
+        requires not_over { self.old.over ≡ false }
+        requires room { length self.old.octets + 1 < WHOLE }
+        requires plain { is_plain self.old.room octet ≡ true }
+        ensures { (line : List Bool) → Gathers self.old line → Gathers self.new (line ++ octet_bits octet) }
+    {
+        let bits = joined(self.part, self.held, octet);
+        self.octets.push((bits % 256) as u8);
+        self.part = (bits / 256) as u8;
+        self.room = room_behind_octet(octet);
     }
 
     /// What the content is, once all its bits came in.

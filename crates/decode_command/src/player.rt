@@ -23,7 +23,7 @@ use roles::Role;
 use scramblers::Mode;
 
 /// How many octets are read at a time: there is room for those that their samples give. Each piece opens both files anew.
-const PIECE: usize = 2_048;
+const PIECE: usize = 4_096;
 
 /// Plays the whole samples of a piece, up to the one that loses the line.
 fn play_piece(playback: &mut Playback, piece: &[u8], octets: &mut Octets<ROOM>) -> Result<(), Lost>

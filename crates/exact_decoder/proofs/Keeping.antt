@@ -15,7 +15,7 @@ use Rattle.survivors.specs.Trellises.{trellis_of}
 use Rattle.survivors.specs.Steps.{Chooses}
 use Rattle.exact_decoder.specs.declared.choice.Choice.{Choice}
 use Rattle.exact_decoder.specs.Keys.{IsNearest, AreClose, IsLeastWay}
-use Rattle.exact_decoder.specs.Settled.{IsLeastKeyOf, far_key, leveled, settled, chosen, choice_in, choice_at}
+use Rattle.exact_decoder.specs.Settled.{IsLeastKeyOf, AreNear, AreSettled, far_key, leveled, settled, chosen, choice_in, choice_at}
 use Rattle.exact_decoder.specs.Columns.{Entry, branch_of, sum_of, sum_in, entry_in, sums_at, tail_at, entry_at, new_sums_at}
 use Rattle.exact_decoder.specs.Traced.{traced, IsColumn, AreColumns, Part, Splits}
 use Rattle.exact_decoder.specs.Kept.{kept_of, HoldsColumns, AreSums, AllChosen, Stepped, Covered, IsParted, Released, IsLeastSum}
@@ -71,8 +71,8 @@ sum-far key l = let e : nat_lt key far_key ≡ false = no_less key far_key l in 
     no_less : (a b : ℕ) → b ≤ a → nat_lt a b ≡ false
     no_less a b q = grind (arith, nat_tests)
 
--- the sums and the column that keys make
-pub record AreSettled (states : ℕ) (entered : List ℕ) (least : ℕ) (new_sums : List ℕ) (column : List Choice) : Type 0 where
+-- the sums and the column that keys make, and the least of these
+pub record Settles (states : ℕ) (entered : List ℕ) (least : ℕ) (new_sums : List ℕ) (column : List Choice) : Type 0 where
   pub new_long : length new_sums ≡ states
   pub column_long : length column ≡ states
   pub is_least : IsLeastKeyOf states entered least
@@ -115,7 +115,7 @@ pub least-near : (states : ℕ) (entered : List ℕ) (least : ℕ) → length en
 least-near states entered least long h some = let k = new_sum-known states entered some.0 some.1 long some.2 in omega (arith, h.below some.0 k.0, k.1)
 
 -- where a state's key is near, and where it is far, the new sum
-new_sums-at : (states : ℕ) (entered new_sums : List ℕ) (least : ℕ) (column : List Choice) (s : ℕ) → states ≤ 256 → length entered ≡ states → AreSettled states entered least new_sums column → sums_at (map sum_in new_sums) s ≡ option_map (λ n. n - least / 65536) (new_sums_at (map entry_in entered) s)
+new_sums-at : (states : ℕ) (entered new_sums : List ℕ) (least : ℕ) (column : List Choice) (s : ℕ) → states ≤ 256 → length entered ≡ states → Settles states entered least new_sums column → sums_at (map sum_in new_sums) s ≡ option_map (λ n. n - least / 65536) (new_sums_at (map entry_in entered) s)
 new_sums-at states entered new_sums least column s few long h = elim (cases_lt s states) [
   | inl l ↦ elim (cases_lt (slice_index entered s) far_key) [
     | inl near ↦
@@ -144,7 +144,7 @@ newest-more column columns newer n l e = ap (take (n + 1)) e ∙ cons n (take (l
 
 -- the step that keys make
 pub stepped-of : (table : ℕ → ℕ → Option ℕ) (points : ℕ → Sample) (states labels parallel subsets ways steps : ℕ) (before subset : ℕ → ℕ → ℕ) (sample : Sample) (sums nearest entered new_sums : List ℕ) (least : ℕ) (column : List Choice) (columns newer : List (List Choice)) (unreleased : ℕ)
-    → IsCode table states labels parallel subsets ways before subset → AreKeys points states parallel subsets ways before subset sample sums nearest entered → AreSettled states entered least new_sums column
+    → IsCode table states labels parallel subsets ways before subset → AreKeys points states parallel subsets ways before subset sample sums nearest entered → Settles states entered least new_sums column
     → least < far_key → unreleased < length columns → newer ≡ column ∷ take (length columns - 1) columns → Stepped table points sample (kept_of states sums columns unreleased) (kept_of states new_sums newer (unreleased + 1))
 stepped-of table points states labels parallel subsets ways steps before subset sample sums nearest entered new_sums least column columns newer unreleased code keys made near room e = record {
   entries = map entry_in entered;
@@ -179,7 +179,7 @@ stepped-of table points states labels parallel subsets ways steps before subset 
         ∙ ap (λ t. t ++ f.label ∷ []) (sym (tail-at states (take unreleased columns) f.before within))
 
 -- each state has a choice of one that was reached
-pub covered-of : (states : ℕ) (entered new_sums : List ℕ) (least : ℕ) (column : List Choice) (columns newer : List (List Choice)) (unreleased : ℕ) → states ≤ 256 → length entered ≡ states → AreSettled states entered least new_sums column
+pub covered-of : (states : ℕ) (entered new_sums : List ℕ) (least : ℕ) (column : List Choice) (columns newer : List (List Choice)) (unreleased : ℕ) → states ≤ 256 → length entered ≡ states → Settles states entered least new_sums column
     → least < far_key → unreleased < length columns → newer ≡ column ∷ take (length columns - 1) columns → Covered states (kept_of states new_sums newer (unreleased + 1))
 covered-of states entered new_sums least column columns newer unreleased few long made near room e s l = elim (cases_lt (slice_index entered s) far_key) [
   | inl here ↦ (s, slice_index entered s / 65536 - least / 65536, l, known s l here, refl)
@@ -204,7 +204,7 @@ covered-of states entered new_sums least column columns newer unreleased few lon
 
 -- what holds of sums and columns holds after a step
 pub holds-next : (table : ℕ → ℕ → Option ℕ) (points : ℕ → Sample) (states labels parallel subsets ways depth : ℕ) (before subset : ℕ → ℕ → ℕ) (sample : Sample) (sums nearest entered new_sums : List ℕ) (least : ℕ) (column : List Choice) (columns newer : List (List Choice)) (unreleased : ℕ)
-    → IsCode table states labels parallel subsets ways before subset → AreKeys points states parallel subsets ways before subset sample sums nearest entered → AreSettled states entered least new_sums column
+    → IsCode table states labels parallel subsets ways before subset → AreKeys points states parallel subsets ways before subset sample sums nearest entered → Settles states entered least new_sums column
     → least < far_key → unreleased ≤ depth → newer ≡ column ∷ take (length columns - 1) columns → HoldsColumns states labels depth sums columns unreleased → HoldsColumns states labels depth new_sums newer (unreleased + 1)
 holds-next table points states labels parallel subsets ways depth before subset sample sums nearest entered new_sums least column columns newer unreleased code keys made near room e h = record {
   sums_long = made.new_long;
@@ -290,10 +290,9 @@ pub push-all : (table : ℕ → ℕ → Option ℕ) (points : ℕ → Sample) (s
     → IsCode table states labels parallel subsets ways before subset → 1 ≤ steps → Reaches table states labels steps → ((s m : ℕ) → sums_at (map sum_in sums) s ≡ Some m → m < 2 ^ 44) → unreleased ≤ depth → HoldsColumns states labels depth sums columns unreleased
     → ((q : ℕ) → q < subsets → IsNearest points parallel sample q (slice_index nearest q)) → ((q : ℕ) → q < subsets → AreClose points parallel sample q)
     → ((to : ℕ) → to < states → IsLeastWay ways before subset sums nearest to (slice_index entered to)) → length entered ≡ states → IsLeastKeyOf states entered least
-    → ((to : ℕ) → to < states → slice_index new_sums to ≡ leveled (slice_index entered to) least to) → length new_sums ≡ states
-    → ((column : List Choice) × (newer ≡ column ∷ take (length columns - 1) columns) × (length column ≡ states) × ((to : ℕ) → to < states → choice_at column to ≡ chosen (slice_index entered to) least))
+    → ((column : List Choice) × (newer ≡ column ∷ take (length columns - 1) columns) × AreSettled states entered least new_sums column)
     → HoldsColumns states labels depth new_sums newer (unreleased + 1) × Stepped table points sample (kept_of states sums columns unreleased) (kept_of states new_sums newer (unreleased + 1)) × Covered states (kept_of states new_sums newer (unreleased + 1))
-push-all table points states labels parallel subsets ways steps depth before subset sample sums nearest entered new_sums least columns newer unreleased code low reach small room holds near close into long is_least levels new_long (column, e, column_long, choices) = (
+push-all table points states labels parallel subsets ways steps depth before subset sample sums nearest entered new_sums least columns newer unreleased code low reach small room holds near close into long is_least (column, e, settled) = (
   holds-next table points states labels parallel subsets ways depth before subset sample sums nearest entered new_sums least column columns newer unreleased code keys made far room e holds,
   stepped-of table points states labels parallel subsets ways steps before subset sample sums nearest entered new_sums least column columns newer unreleased code keys made far (omega (arith, holds.columns_long)) e,
   covered-of states entered new_sums least column columns newer unreleased code.states_few long made far (omega (arith, holds.columns_long)) e,
@@ -302,13 +301,29 @@ push-all table points states labels parallel subsets ways steps depth before sub
     keys : AreKeys points states parallel subsets ways before subset sample sums nearest entered
     keys = record { sums_long = holds.sums_long; entered_long = long; states_in = holds.states_in; near = near; into = into; small = small; close = λ q i l k. close q l i k }
 
-    made : AreSettled states entered least new_sums column
-    made = record { new_long = new_long; column_long = column_long; is_least = is_least; levels = levels; choices = choices }
+    made : Settles states entered least new_sums column
+    made = record { new_long = settled.sums_long; column_long = settled.column_long; is_least = is_least; levels = settled.levels; choices = settled.choices }
 
     far : least < far_key
     far = least-near states entered least long is_least (reached-next table points states labels steps sample (map sum_in sums) (map entry_in entered) (λ s. true) low reach
         (λ starts to. chosen-all table points states labels parallel subsets ways before subset sample sums nearest entered starts to code keys)
         holds.reached.0 (slice_index sums holds.reached.0 / 65536) holds.reached.1 (map-at sum_in sums holds.reached.0 (omega (arith, holds.reached.1, holds.sums_long)) ∙ sum-near (slice_index sums holds.reached.0) holds.reached.2))
+
+-- a sequence leads to each state where one led to each before
+pub near-entered : (states subsets ways : ℕ) (before subset : ℕ → ℕ → ℕ) (sums nearest entered : List ℕ)
+    → ((to place : ℕ) → to < states → place < ways → (before to place < states) × (subset to place < subsets)) → length sums ≡ states
+    → ((s m : ℕ) → sums_at (map sum_in sums) s ≡ Some m → m < 2 ^ 44) → ((q : ℕ) → q < subsets → slice_index nearest q < 2 ^ 50)
+    → ((to : ℕ) → to < states → IsLeastWay ways before subset sums nearest to (slice_index entered to)) → AreNear states sums → AreNear states entered
+near-entered states subsets ways before subset sums nearest entered within long small bound into near s l =
+    let way = into s l in
+    let q = within s way.place l way.within in
+    let from = before s way.place in
+    let known : sums_at (map sum_in sums) from ≡ Some (slice_index sums from / 65536) = map-at sum_in sums from (omega (arith, q.0)) ∙ sum-near (slice_index sums from) (near from q.0) in
+    omega (arith, way.key_is, small from (slice_index sums from / 65536) known, bound (subset s way.place) q.1)
+
+-- and then their sums are near too
+pub near-settled : (states : ℕ) (entered new_sums : List ℕ) (least : ℕ) (column : List Choice) → states ≤ 256 → AreSettled states entered least new_sums column → AreNear states entered → AreNear states new_sums
+near-settled states entered new_sums least column few made near s l = omega (arith, made.levels s l ∙ leveled-near (slice_index entered s) least s (near s l), near s l)
 
 -- lists that are read from the last have the same labels
 pub All-reversed : (P : ℕ → Type 0) (xs : List ℕ) → All P (reverse xs) → All P xs

@@ -1,4 +1,5 @@
 pub mod Subsets
+pub mod Sets
 pub mod Settling
 pub mod Walking
 pub mod Stepping

@@ -6,6 +6,7 @@ pub use Rattle.survivors.specs.Steps
 pub use Rattle.survivors.specs.Laws as SurvivorLaws
 pub mod Keys
 pub mod Settled
+pub mod States
 pub mod Traced
 pub mod Columns
 pub mod Kept

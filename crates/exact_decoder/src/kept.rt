@@ -6,7 +6,7 @@ ghost use Rattle.exact_decoder.specs.declared.labels.TheConstants.{ROOM};
 
 use crate::advance::advance;
 use crate::back::{labels_back, release};
-use crate::choice::{Choice, least_of};
+use crate::choice::{Choice, are_near, least_of};
 use crate::entering::enter;
 use crate::labels::Labels;
 use crate::nearest::find_nearest;
@@ -24,15 +24,14 @@ pub struct Survivors<const STATES: usize, const LABELS: usize, const DEPTH: usiz
     sums: Vec<u64>,
     ring: HeapCircularBuffer<Vec<Choice>>,
     unreleased: usize,
-    // These are filled anew with each sample.
-    nearest: Vec<u64>,
-    entered: Vec<u64>,
-    ways: Vec<u8>,
+    // Whether it is known that a sequence leads to each state.
+    near: bool,
 }
 
 impl<const STATES: usize, const LABELS: usize, const DEPTH: usize> Model
     for Survivors<STATES, LABELS, DEPTH> {
-    ghost use Rattle.std.specs.Prelude.{◌≡◌, ◌≤◌, ◌+◌, length};
+    ghost use Rattle.std.specs.Prelude.{◌≡◌, ◌≤◌, ◌+◌, true, length};
+    ghost use Rattle.exact_decoder.specs.Settled.{AreNear};
     ghost use Rattle.exact_decoder.specs.Traced.{columns_in};
     ghost use Rattle.exact_decoder.specs.Kept.{Kept, kept_of, HoldsColumns};
 
@@ -40,7 +39,7 @@ impl<const STATES: usize, const LABELS: usize, const DEPTH: usize> Model
 
     ghost view = { λ s. kept_of STATES s.sums.items (columns_in s.ring.items) s.unreleased };
 
-    ghost invariant = { λ s. (length s.nearest.items ≡ LABELS) × (length s.entered.items ≡ STATES) × (length s.ways.items ≡ STATES)
+    ghost invariant = { λ s. (s.near ≡ true → AreNear STATES s.sums.items)
         × (s.ring.capacity ≡ DEPTH + 1) × HoldsColumns STATES LABELS DEPTH s.sums.items (columns_in s.ring.items) s.unreleased };
 }
 
@@ -85,16 +84,11 @@ impl<const STATES: usize, const LABELS: usize, const DEPTH: usize> Survivors<
         ensures { IfOk result (λ s. s ≡ record { sums = map sum_in sums.items; tails = replicate STATES []; unreleased = 0 }) }
     {
         let ring = ring_of_columns(alloc, DEPTH + 1, STATES)?;
-        let nearest = vec![in alloc; 0; LABELS]?;
-        let entered = vec![in alloc; 0; STATES]?;
-        let ways = vec![in alloc; 0; STATES]?;
         Ok(Survivors {
             sums,
             ring,
             unreleased: 0,
-            nearest,
-            entered,
-            ways,
+            near: false,
         })
     }
 
@@ -113,10 +107,13 @@ impl<const STATES: usize, const LABELS: usize, const DEPTH: usize> Survivors<
         ensures stepped { Stepped C.table C.points sample self.old self.new }
         ensures covered { Covered STATES self.new }
     {
-        find_nearest(code, sample, &mut self.nearest);
-        enter(code, &self.sums, &self.nearest, &mut self.entered);
-        let least = least_of::<STATES>(&self.entered);
-        advance::<STATES, LABELS>(&self.entered, least, &mut self.sums, &mut self.ring);
+        let mut nearest = [0; LABELS];
+        find_nearest(code, sample, &mut nearest);
+        let mut entered = [0; STATES];
+        enter(code, &self.sums, &nearest, &mut entered);
+        let least = least_of::<STATES>(&entered);
+        self.near = are_near::<STATES>(self.near, &entered);
+        advance::<STATES, LABELS>(&entered, least, self.near, &mut self.sums, &mut self.ring);
         self.unreleased += 1;
     }
 
@@ -130,12 +127,7 @@ impl<const STATES: usize, const LABELS: usize, const DEPTH: usize> Survivors<
         ensures released { Released self.old self.new (reverse labels.new) }
         ensures below { All (λ label. label < LABELS) labels.new }
     {
-        self.unreleased = release::<STATES, LABELS>(
-            &self.ring,
-            self.unreleased,
-            &mut self.ways,
-            labels,
-        );
+        self.unreleased = release::<STATES, LABELS>(&self.ring, self.unreleased, labels);
     }
 
     /// The unreleased labels of the survivor of least cost, the oldest last: of equal ones that of the smallest state.

@@ -17,6 +17,7 @@ mod labels;
 pub mod laws;
 mod nearest;
 mod room;
+mod state_set;
 mod tail;
 
 pub use decoder::{Decoder, Lost};

@@ -1,5 +1,5 @@
 // A listener to a stream of bits, who says what each piece is.
-ghost use Rattle.std.specs.Prelude.{◌≡◌, ◌≤◌, ◌<◌, ◌+◌, ◌*◌, ◌^◌, ℕ, Bool, List, [], ◌∷◌, ◌++◌, OnOk, OnErr, IfErr, length};
+ghost use Rattle.std.specs.Prelude.{◌≡◌, ◌≤◌, ◌<◌, ◌+◌, ◌*◌, ◌^◌, ℕ, Bool, true, false, List, [], ◌∷◌, ◌++◌, OnOk, OnErr, IfErr, length};
 ghost use Rattle.outside_core.specs.Folder.{FolderState, OnlySays, CountsStand};
 ghost use Rattle.plain_lists.specs.Bits.{octet_bits, bits_of};
 ghost use Rattle.command_base.specs.Stops.{SayFails};
@@ -73,8 +73,8 @@ impl Listener {
         }
     }
 
-    /// Hears the eight bits of an octet, the low one first.
-    fn hear_octet<F: Folder>(&mut self, folder: &mut F, octet: u8) -> Result<(), FolderFault>
+    /// Hears the eight bits of an octet, the low one first, one by one.
+    fn hear_each<F: Folder>(&mut self, folder: &mut F, octet: u8) -> Result<(), FolderFault>
         requires { self.old.pieces < 2 ^ 62 }
         ensures ok { (start : FolderState) (bits : List Bool) → Heard start (F.state folder.old) self.old bits
             → OnOk result (Heard start (F.state folder.new) self.new (bits ++ octet_bits octet)) }
@@ -93,6 +93,36 @@ impl Listener {
             }
         }
         Ok(())
+    }
+
+    /// Hears the eight bits of an octet, the low one first.
+    fn hear_octet<F: Folder>(&mut self, folder: &mut F, octet: u8) -> Result<(), FolderFault>
+        requires { self.old.pieces < 2 ^ 62 }
+        ensures ok { (start : FolderState) (bits : List Bool) → Heard start (F.state folder.old) self.old bits
+            → OnOk result (Heard start (F.state folder.new) self.new (bits ++ octet_bits octet)) }
+        ensures err { (start : FolderState) (bits : List Bool) → Heard start (F.state folder.old) self.old bits
+            → OnErr result (PartlyHeard start (F.state folder.new) self.old.sender (bits ++ octet_bits octet)) }
+        ensures only { OnlySays (F.state folder.old) (F.state folder.new) }
+        ensures fails { IfErr result (SayFails (F.state folder.old) (F.state folder.new)) }
+        ensures stand { OnOk result (CountsStand (F.state folder.old) (F.state folder.new)) }
+        ensures sender { self.new.sender ≡ self.old.sender }
+        ensures pieces { self.new.pieces ≤ self.old.pieces + 8 }
+    {
+        if self.pass(octet) {
+            return Ok(());
+        }
+        self.hear_each(folder, octet)
+    }
+
+    /// Hears the bits of an octet where it is plain that no piece ends with any of them: whether it did.
+    fn pass(&mut self, octet: u8) -> bool
+        ensures heard { result ≡ true → (start now : FolderState) (bits : List Bool) → Heard start now self.old bits
+            → Heard start now self.new (bits ++ octet_bits octet) }
+        ensures stays { result ≡ false → self.new ≡ self.old }
+        ensures sender { self.new.sender ≡ self.old.sender }
+        ensures pieces { self.new.pieces ≡ self.old.pieces }
+    {
+        self.deframer.pass(octet)
     }
 
     /// Hears the bits of octets.

@@ -7,9 +7,7 @@ use Rattle.exact_decoder.proofs.kept.Survivors.with_sums.Goals as goal
 
 pub invariant_of-result : goal.invariant_of-result
 invariant_of-result g c = (
-  omega (arith, c.in_ok-nearest.ensures.len),
-  omega (arith, c.in_ok-entered.ensures.len),
-  omega (arith, c.in_ok-ways.ensures.len),
+  λ e. absurd cc,
   c.in_ok-ring.ensures.capacity,
   record {
     sums_long = c.requires.sums.sums_long;

@@ -5,7 +5,7 @@ use Rattle.plain_lists.specs.Bits.{octet_bits}
 use Rattle.roles.specs.declared.role.Role.{Role}
 use Rattle.frames_command.specs.Heard.{Heard, PartlyHeard}
 use Rattle.frames_command.proofs.Hearing.{partly-longer, bit-more, bits-left, says-trans}
-use Rattle.frames_command.proofs.listener.Listener.hear_octet.Goals as goal
+use Rattle.frames_command.proofs.listener.Listener.hear_each.Goals as goal
 
 pub returns-in-Err-clause-err : goal.returns-in-Err-clause-err
 returns-in-Err-clause-err g c = λ start bits heard.

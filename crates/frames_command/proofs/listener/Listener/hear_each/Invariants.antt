@@ -2,7 +2,7 @@ use Rattle.std.proofs.Common.{◌≡◌, ◌≤◌, ◌+◌, Bool, List, ◌++�
 use Rattle.outside_core.specs.Folder.{FolderState, OnlySays, CountsStand}
 use Rattle.plain_lists.specs.Bits.{octet_bits}
 use Rattle.frames_command.specs.Heard.{Heard}
-use Rattle.frames_command.proofs.listener.Listener.hear_octet.Given as goal
+use Rattle.frames_command.proofs.listener.Listener.hear_each.Given as goal
 
 abbrev pub invariant-loop-place : goal.invariant-loop-place
 invariant-loop-place g l = record {

@@ -1,0 +1,11 @@
+use Rattle.std.proofs.Common.{ℕ, ◌≡◌, ◌+◌, ◌<◌, sym, subst}
+use Rattle.std.specs.Int.{bit_at}
+use Rattle.bit_stuffing.specs.Deframer.{Finds}
+use Rattle.bit_stuffing.proofs.Quiet.{quiet-octet, none-of}
+use Rattle.bit_stuffing.proofs.finder.FlagFinder.is_quiet.Goals as goal
+
+pub returns-in_default-clause-quiet : goal.returns-in_default-clause-quiet
+returns-in_default-clause-quiet c = λ quiet past h.
+    let s = subst (λ v. Finds v past) (sym c.self.view_is) h in
+    quiet-octet c.self.inside.latest c.args.octet past s.holds
+    (subst (λ bits. (i : ℕ) → ((j : ℕ) → j < 6 → bit_at bits (i + j) ≡ 1) → ⊥) c.window_of.ensures (c.has_six_ones.ensures (none-of c.has_six_ones.result quiet)))

@@ -1,0 +1,5 @@
+use Rattle.bit_stuffing.proofs.Quiet.{six-ones, zero-of}
+use Rattle.bit_stuffing.proofs.finder.has_six_ones.Goals as goal
+
+pub returns : goal.returns
+returns c = λ none i ones. six-ones c.args.bits (zero-of _ none) i ones

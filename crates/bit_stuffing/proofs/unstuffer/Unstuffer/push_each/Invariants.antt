@@ -1,0 +1,7 @@
+use Rattle.std.proofs.Common.{Bool, List}
+use Rattle.bit_stuffing.specs.Deframer.{Gathers}
+use Rattle.bit_stuffing.proofs.Octets.{HasPushed}
+use Rattle.bit_stuffing.proofs.unstuffer.Unstuffer.push_each.Given as goal
+
+abbrev pub invariant-loop-place : goal.invariant-loop-place
+invariant-loop-place l = (line : List Bool) → Gathers l.fn.self line → HasPushed l.self line l.place l.rest l.octet
