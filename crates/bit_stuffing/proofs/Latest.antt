@@ -46,10 +46,12 @@ below8 P p0 p1 p2 p3 p4 p5 p6 p7 (suc (suc (suc (suc (suc (suc (suc (suc i))))))
 
 -- the low bits of a number are those of its remainder
 bit_at-rem : (n k i : ℕ) → i < k → bit_at (n % 2 ^ k) i ≡ bit_at n i
-bit_at-rem n k i h = let e : n ≡ n / 2 ^ k * 2 ^ k + n % 2 ^ k = sym (shr_split n k) in sym (ap (λ x. bit_at x i) e ∙ bit_at_cat_low (n / 2 ^ k) k (n % 2 ^ k) i h)
+bit_at-rem n k i h = let e : n ≡ n / 2 ^ k * 2 ^ k + n % 2 ^ k = sym (shr_split n k) in sym (ap (λ x. bit_at x i) e
+    ∙ bit_at_cat_low (n / 2 ^ k) k (n % 2 ^ k) i h)
 
 -- one more bit
-pub latest-shifted : (r n : ℕ) (past : List Bool) (bit : Bool) → n ≡ number bit → HoldsLatest r past → HoldsLatest (r / 2 + 128 * n) (past ++ bit ∷ [])
+pub latest-shifted : (r n : ℕ) (past : List Bool) (bit : Bool) → n ≡ number bit → HoldsLatest r past
+    → HoldsLatest (r / 2 + 128 * n) (past ++ bit ∷ [])
 latest-shifted r n past bit e h = record { low = omega (arith, small, h.low); each = each }
   where
     small : n < 2
@@ -62,7 +64,8 @@ latest-shifted r n past bit e h = record { low = omega (arith, small, h.low); ea
           let up : 8 - place ≡ 7 - place + 1 = omega arith in
           let there : 8 - suc place ≡ 7 - place = omega arith in
           let held : bit_at r (suc place) ≡ number (back past (7 - place)) = rw there at (h.each (suc place) (omega arith)) in
-          rw up (ap (λ x. bit_at x place) turned ∙ bit_at_cat_low n 7 (r / 2) place older ∙ sym (bit_at-suc r place) ∙ held ∙ ap number (sym (back-more past bit (7 - place) (omega arith))))
+          rw up (ap (λ x. bit_at x place) turned ∙ bit_at_cat_low n 7 (r / 2) place older ∙ sym (bit_at-suc r place) ∙ held
+          ∙ ap number (sym (back-more past bit (7 - place) (omega arith))))
       | inr last ↦
           let seven : place ≡ 7 = omega arith in
           let top : (r / 2 + 128 * n) / 2 ^ 7 % 2 ≡ n = omega (arith, small, h.low) in
@@ -88,7 +91,8 @@ latest-flag bits h = record { room = room; within = omega arith; spelled = spell
     spelled : (i : ℕ) → i < 8 → bit_of bits (length bits - 8 + i) ≡ bit_of flag i
     spelled i l =
         let place : length bits - (8 - i) ≡ length bits - 8 + i = omega (arith, room) in
-        let seen : back bits (8 - i) ≡ bit_of bits (length bits - 8 + i) = back-within bits (8 - i) (omega (arith, room)) ∙ ap (bit_of bits) place in
+        let seen : back bits (8 - i) ≡ bit_of bits (length bits - 8 + i) = back-within bits (8 - i) (omega (arith, room))
+        ∙ ap (bit_of bits) place in
         same_number (bit_of bits (length bits - 8 + i)) (bit_of flag i) (ap number (sym seen) ∙ sym (h.each i l) ∙ flag_places i l)
 
 pub flag-latest : (latest : ℕ) (bits : List Bool) → HoldsLatest latest bits → FlagEndsAt bits (length bits) → latest ≡ 126
@@ -97,14 +101,17 @@ flag-latest latest bits h f = same_from_bits_below 8 latest 126 h.low (lit< tt) 
     each : (place : ℕ) → place < 8 → bit_at latest place ≡ bit_at 126 place
     each place l =
         let at_place : length bits - (8 - place) ≡ length bits - 8 + place = omega (arith, f.room) in
-        let seen : back bits (8 - place) ≡ bit_of bits (length bits - 8 + place) = back-within bits (8 - place) (omega (arith, f.room)) ∙ ap (bit_of bits) at_place in
+        let seen : back bits (8 - place) ≡ bit_of bits (length bits - 8 + place) = back-within bits (8 - place) (omega (arith, f.room))
+        ∙ ap (bit_of bits) at_place in
         h.each place l ∙ ap number (seen ∙ f.spelled place l) ∙ sym (flag_places place l)
 
 -- seven ones are a number
 seven_places : (i : ℕ) → i < 8 → i < 7 → bit_at 127 i ≡ 1
-seven_places = below8 (λ i. i < 7 → bit_at 127 i ≡ 1) (λ l. refl) (λ l. refl) (λ l. refl) (λ l. refl) (λ l. refl) (λ l. refl) (λ l. refl) (λ l. absurd (omega arith))
+seven_places = below8 (λ i. i < 7
+    → bit_at 127 i ≡ 1) (λ l. refl) (λ l. refl) (λ l. refl) (λ l. refl) (λ l. refl) (λ l. refl) (λ l. refl) (λ l. absurd (omega arith))
 
-pub latest-seven : (latest : ℕ) (bits : List Bool) → HoldsLatest latest bits → 7 ≤ length bits → latest / 2 ≡ 127 → SevenOnesEndAt bits (length bits)
+pub latest-seven : (latest : ℕ) (bits : List Bool) → HoldsLatest latest bits → 7 ≤ length bits → latest / 2 ≡ 127
+    → SevenOnesEndAt bits (length bits)
 latest-seven latest bits h room e = record { room = room; within = omega arith; ones = ones }
   where
     ones : (i : ℕ) → i < 7 → bit_of bits (length bits - 7 + i) ≡ true
@@ -113,7 +120,8 @@ latest-seven latest bits h room e = record { room = room; within = omega arith; 
         let place : length bits - (7 - i) ≡ length bits - 7 + i = omega (arith, room) in
         let one : bit_at latest (suc i) ≡ 1 = bit_at-suc latest i ∙ ap (λ x. bit_at x i) e ∙ seven_places i (omega arith) l in
         let held : bit_at latest (suc i) ≡ number (back bits (7 - i)) = rw up at (h.each (suc i) (omega arith)) in
-        let seen : back bits (7 - i) ≡ bit_of bits (length bits - 7 + i) = back-within bits (7 - i) (omega (arith, room)) ∙ ap (bit_of bits) place in
+        let seen : back bits (7 - i) ≡ bit_of bits (length bits - 7 + i) = back-within bits (7 - i) (omega (arith, room))
+        ∙ ap (bit_of bits) place in
         same_number (bit_of bits (length bits - 7 + i)) true (ap number (sym seen) ∙ sym held ∙ one)
 
 pub seven-latest : (latest : ℕ) (bits : List Bool) → HoldsLatest latest bits → SevenOnesEndAt bits (length bits) → latest / 2 ≡ 127
@@ -124,7 +132,8 @@ seven-latest latest bits h s = same_from_bits_below 7 (latest / 2) 127 (omega (a
         let up : 8 - suc place ≡ 7 - place = omega arith in
         let at_place : length bits - (7 - place) ≡ length bits - 7 + place = omega (arith, s.room) in
         let held : bit_at latest (suc place) ≡ number (back bits (7 - place)) = rw up at (h.each (suc place) (omega arith)) in
-        let seen : back bits (7 - place) ≡ bit_of bits (length bits - 7 + place) = back-within bits (7 - place) (omega (arith, s.room)) ∙ ap (bit_of bits) at_place in
+        let seen : back bits (7 - place) ≡ bit_of bits (length bits - 7 + place) = back-within bits (7 - place) (omega (arith, s.room))
+        ∙ ap (bit_of bits) at_place in
         sym (bit_at-suc latest place) ∙ held ∙ ap number (seen ∙ s.ones place l) ∙ sym (seven_places place (omega arith) l)
 
 -- the oldest of them
@@ -137,4 +146,8 @@ latest-oldest latest bits h = ap (λ n. nat_eq n 1) (sym (bit_at_lowest latest) 
 
 -- before the first bit
 pub latest-none : HoldsLatest 255 []
-latest-none = record { low = lit< tt; each = below8 (λ place. bit_at 255 place ≡ number (back [] (8 - place))) refl refl refl refl refl refl refl refl }
+latest-none = record {
+  low = lit< tt;
+  each = below8 (λ place. bit_at 255 place ≡ number
+      (back [] (8 - place))) refl refl refl refl refl refl refl refl;
+}

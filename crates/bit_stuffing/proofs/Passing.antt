@@ -20,11 +20,13 @@ middle-and-rest (suc p) (suc n) [] l = refl
 middle-and-rest (suc p) (suc n) (x ∷ xs) l = middle-and-rest p n xs (omega arith)
 
 -- what was gathered and the latest eight bits are all that stands behind a flag
-pub gathered-all : (past : List Bool) (p octet : ℕ) → p + 8 ≤ length past → drop (length past - 8) past ≡ octet_bits octet → content past p ++ octet_bits octet ≡ drop p past
+pub gathered-all : (past : List Bool) (p octet : ℕ) → p + 8 ≤ length past → drop (length past - 8) past ≡ octet_bits octet
+    → content past p ++ octet_bits octet ≡ drop p past
 gathered-all past p octet far e = ap (λ l. content past p ++ l) (sym e) ∙ middle-and-rest p (length past - 8) past (omega arith)
 
 content-octet : (past : List Bool) (octet p : ℕ) → content (past ++ octet_bits octet) p ≡ drop p past
-content-octet past octet p = ap (drop p) (front past (octet_bits octet) (length (past ++ octet_bits octet) - 8) (omega (arith, long past (octet_bits octet))))
+content-octet past octet p = ap (drop p) (front past (octet_bits octet) (length (past ++ octet_bits octet) - 8)
+    (omega (arith, long past (octet_bits octet))))
   where
     long : (xs ys : List Bool) → length (xs ++ ys) ≡ length xs + length ys
     long xs ys = grind (arith, common_steps)
@@ -32,11 +34,14 @@ content-octet past octet p = ap (drop p) (front past (octet_bits octet) (length 
     front : (xs ys : List Bool) (n : ℕ) → n ≡ length xs → take n (xs ++ ys) ≡ xs
     front xs ys n e = grind (arith, common_steps)
 
-pub quiet-stands : (finding next : Finding) (g : Gathering) (octet : ℕ) (past : List Bool) → (finding.since ≡ None) ⊎ (finding.since ≡ Some 8) → IsQuiet past (octet_bits octet) → Finds finding past
-    → Finds next (past ++ octet_bits octet) → ((p : ℕ) → OpenedAt past p → p + 8 ≤ length past → Gathers g (drop p past)) → DeframerStands (record { finding = next; gathering = g; lent = false }) (past ++ octet_bits octet)
+pub quiet-stands : (finding next : Finding) (g : Gathering) (octet : ℕ) (past : List Bool)
+    → (finding.since ≡ None) ⊎ (finding.since ≡ Some 8) → IsQuiet past (octet_bits octet) → Finds finding past
+    → Finds next (past ++ octet_bits octet) → ((p : ℕ) → OpenedAt past p → p + 8 ≤ length past → Gathers g (drop p past))
+    → DeframerStands (record { finding = next; gathering = g; lent = false }) (past ++ octet_bits octet)
 quiet-stands finding next g octet past settled q h found gathered = record {
   finds = found;
-  gathers = λ p o far. subst (Gathers g) (sym (content-octet past octet p)) (gathered p ((quiet-rests past (octet_bits octet) q).was p o) (is_far p ((quiet-rests past (octet_bits octet) q).was p o) settled));
+  gathers = λ p o far. subst (Gathers g) (sym (content-octet past octet p))
+      (gathered p ((quiet-rests past (octet_bits octet) q).was p o) (is_far p ((quiet-rests past (octet_bits octet) q).was p o) settled));
   lends = λ other e. q.no_flag (length (past ++ octet_bits octet)) (omega (arith, long past (octet_bits octet))) e.closes.closing;
 }
   where

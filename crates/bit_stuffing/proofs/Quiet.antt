@@ -29,7 +29,8 @@ zero-of n e = each (nat_eq n 0) refl
 -- the bits behind others
 bit-behind : (past s : List Bool) (i : ℕ) → bit_of (past ++ s) (length past + i) ≡ bit_of s i
 bit-behind [] s i = let e : length {A = Bool} [] + i ≡ i = omega arith in ap (bit_of s) e
-bit-behind (x ∷ past) s i = let e : length (x ∷ past) + i ≡ suc (length past + i) = omega arith in ap (bit_of (x ∷ past ++ s)) e ∙ bit-behind past s i
+bit-behind (x ∷ past) s i = let e : length (x ∷ past) + i ≡ suc (length past + i) = omega arith in ap (bit_of (x ∷ past ++ s)) e
+    ∙ bit-behind past s i
 
 bit-front : (past s : List Bool) (i : ℕ) → i < length past → bit_of (past ++ s) i ≡ bit_of past i
 bit-front [] s i l = absurd (omega arith)
@@ -50,7 +51,8 @@ back-before past s k some = elim (cases_lt (length past) k) [
   | inl few ↦ past_all (past ++ s) (k + length s) (omega (arith, long-both past s)) ∙ sym (past_all past k few)
   | inr many ↦
       let place : length (past ++ s) - (k + length s) ≡ length past - k = omega (arith, long-both past s) in
-      back-within (past ++ s) (k + length s) (omega (arith, long-both past s)) ∙ ap (bit_of (past ++ s)) place ∙ bit-front past s (length past - k) (omega arith) ∙ sym (back-within past k many)
+      back-within (past ++ s) (k + length s) (omega (arith, long-both past s)) ∙ ap (bit_of (past ++ s)) place
+      ∙ bit-front past s (length past - k) (omega arith) ∙ sym (back-within past k many)
 ]
   where
     past_all : (bits : List Bool) (places : ℕ) → length bits < places → back bits places ≡ true
@@ -80,12 +82,15 @@ latest-octet octet past small = record { low = small; each = each }
     each : (place : ℕ) → place < 8 → bit_at octet place ≡ number (back (past ++ octet_bits octet) (8 - place))
     each place l =
         let there : 8 - (8 - place) ≡ place = omega arith in
-        let bit : back (past ++ octet_bits octet) (8 - place) ≡ bit_of (octet_bits octet) place = back-at past (octet_bits octet) (8 - place) (omega arith) ∙ ap (bit_of (octet_bits octet)) there in
+        let bit : back (past ++ octet_bits octet) (8 - place) ≡ bit_of (octet_bits octet) place = back-at past (octet_bits octet)
+        (8 - place) (omega arith) ∙ ap (bit_of (octet_bits octet)) there in
         sym (octet-bit octet place l) ∙ ap number (sym bit)
 
 -- the latest eight bits as a list
-pub latest-bits : (latest : ℕ) (past : List Bool) → HoldsLatest latest past → 8 ≤ length past → drop (length past - 8) past ≡ octet_bits latest
-latest-bits latest past h many = same_bits (drop (length past - 8) past) (octet_bits latest) (left (length past - 8) past (omega arith) ∙ omega arith) each
+pub latest-bits : (latest : ℕ) (past : List Bool) → HoldsLatest latest past → 8 ≤ length past
+    → drop (length past - 8) past ≡ octet_bits latest
+latest-bits latest past h many = same_bits (drop (length past - 8) past) (octet_bits latest) (left (length past - 8) past (omega arith)
+    ∙ omega arith) each
   where
     left : (n : ℕ) (xs : List Bool) → n ≤ length xs → length (drop n xs) ≡ length xs - n
     left n xs l = grind (arith, common_steps)
@@ -103,12 +108,14 @@ latest-bits latest past h many = same_bits (drop (length past - 8) past) (octet_
     same_bits [] [] e f = refl
     same_bits [] (y ∷ ys) e f = absurd (omega arith)
     same_bits (x ∷ xs) [] e f = absurd (omega arith)
-    same_bits (x ∷ xs) (y ∷ ys) e f = let first : x ≡ y = f 0 (omega arith) in ap (λ z. z ∷ xs) first ∙ ap (λ t. y ∷ t) (same_bits xs ys (omega arith) (λ i l. f (suc i) (omega arith)))
+    same_bits (x ∷ xs) (y ∷ ys) e f = let first : x ≡ y = f 0 (omega arith) in ap (λ z. z ∷ xs) first
+        ∙ ap (λ t. y ∷ t) (same_bits xs ys (omega arith) (λ i l. f (suc i) (omega arith)))
 
     each : (i : ℕ) → i < 8 → bit_of (drop (length past - 8) past) i ≡ bit_of (octet_bits latest) i
     each i l =
         let place : length past - (8 - i) ≡ length past - 8 + i = omega arith in
-        let seen : back past (8 - i) ≡ bit_of past (length past - 8 + i) = back-within past (8 - i) (omega arith) ∙ ap (bit_of past) place in
+        let seen : back past (8 - i) ≡ bit_of past (length past - 8 + i) = back-within past (8 - i) (omega arith)
+        ∙ ap (bit_of past) place in
         same_number (bit_of (drop (length past - 8) past) i) (bit_of (octet_bits latest) i)
         (ap number (dropped (length past - 8) past i ∙ sym seen) ∙ sym (h.each i l) ∙ sym (octet-bit latest i l))
 
@@ -124,8 +131,11 @@ pub six-ones : (bits : ℕ) → bit_and (bit_and (bit_and bits (bits / 2)) (bit_
 six-ones bits none i ones =
     let sixteenth : twos / 16 ≡ twos / 4 / 4 = omega arith in
     let y : bit_at (bit_and fours (twos / 16)) i ≡ 1 =
-    bit_at_and fours (twos / 16) i ∙ both (bit_at fours i) (bit_at (twos / 16) i) (four i (two i (at 0 (omega arith) (lit< tt)) (at 1 (omega arith) (lit< tt))) (two (suc (suc i)) (at 2 (omega arith) (lit< tt)) (at 3 (omega arith) (lit< tt))))
-    (ap (λ x. bit_at x i) sixteenth ∙ quarter (twos / 4) i ∙ quarter twos (suc (suc i)) ∙ two (suc (suc (suc (suc i)))) (at 4 (omega arith) (lit< tt)) (at 5 (omega arith) (lit< tt))) in
+    bit_at_and fours (twos / 16) i
+    ∙ both (bit_at fours i) (bit_at (twos / 16) i) (four i (two i (at 0 (omega arith) (lit< tt)) (at 1 (omega arith) (lit< tt)))
+    (two (suc (suc i)) (at 2 (omega arith) (lit< tt)) (at 3 (omega arith) (lit< tt))))
+    (ap (λ x. bit_at x i) sixteenth ∙ quarter (twos / 4) i ∙ quarter twos (suc (suc i))
+    ∙ two (suc (suc (suc (suc i)))) (at 4 (omega arith) (lit< tt)) (at 5 (omega arith) (lit< tt))) in
     let zero_bit : 0 ≡ 1 = sym (bit_at-zero i) ∙ ap (λ n. bit_at n i) (sym none) ∙ y in
     omega (arith, zero_bit)
   where
@@ -148,20 +158,25 @@ six-ones bits none i ones =
     four n a b = bit_at_and twos (twos / 4) n ∙ both (bit_at twos n) (bit_at (twos / 4) n) a (quarter twos n ∙ b)
 
 -- sixteen bits that end with an octet's
-window-bit : (latest octet : ℕ) (past : List Bool) → HoldsLatest latest past → (i : ℕ) → i < 16 → bit_at (256 * octet + latest) i ≡ number (back (past ++ octet_bits octet) (16 - i))
+window-bit : (latest octet : ℕ) (past : List Bool) → HoldsLatest latest past → (i : ℕ) → i < 16
+    → bit_at (256 * octet + latest) i ≡ number (back (past ++ octet_bits octet) (16 - i))
 window-bit latest octet past h i l =
     let cat : 256 * octet + latest ≡ octet * 2 ^ 8 + latest = omega arith in
     elim (cases_lt i 8) [
       | inl older ↦
           let place : 16 - i ≡ 8 - i + length (octet_bits octet) = omega arith in
-          ap (λ x. bit_at x i) cat ∙ bit_at_cat_low octet 8 latest i older ∙ h.each i older ∙ ap number (sym (ap (back (past ++ octet_bits octet)) place ∙ back-before past (octet_bits octet) (8 - i) (omega arith)))
+          ap (λ x. bit_at x i) cat ∙ bit_at_cat_low octet 8 latest i older ∙ h.each i older
+          ∙ ap number (sym (ap (back (past ++ octet_bits octet)) place ∙ back-before past (octet_bits octet) (8 - i) (omega arith)))
       | inr newer ↦
           let there : 8 - (16 - i) ≡ i - 8 = omega arith in
-          let bit : back (past ++ octet_bits octet) (16 - i) ≡ bit_of (octet_bits octet) (i - 8) = back-at past (octet_bits octet) (16 - i) (omega arith) ∙ ap (bit_of (octet_bits octet)) there in
-          ap (λ x. bit_at x i) cat ∙ bit_at_cat_high octet 8 latest i h.low newer ∙ sym (octet-bit octet (i - 8) (omega arith)) ∙ ap number (sym bit)
+          let bit : back (past ++ octet_bits octet) (16 - i) ≡ bit_of (octet_bits octet) (i - 8) = back-at past (octet_bits octet)
+          (16 - i) (omega arith) ∙ ap (bit_of (octet_bits octet)) there in
+          ap (λ x. bit_at x i) cat ∙ bit_at_cat_high octet 8 latest i h.low newer ∙ sym (octet-bit octet (i - 8) (omega arith))
+          ∙ ap number (sym bit)
     ]
 
-pub quiet-octet : (latest octet : ℕ) (past : List Bool) → HoldsLatest latest past → ((i : ℕ) → ((j : ℕ) → j < 6 → bit_at (256 * octet + latest) (i + j) ≡ 1) → ⊥) → IsQuiet past (octet_bits octet)
+pub quiet-octet : (latest octet : ℕ) (past : List Bool) → HoldsLatest latest past
+    → ((i : ℕ) → ((j : ℕ) → j < 6 → bit_at (256 * octet + latest) (i + j) ≡ 1) → ⊥) → IsQuiet past (octet_bits octet)
 quiet-octet latest octet past h none = record {
   no_flag = λ n above f. six n above f.within (omega (arith, f.room)) (λ j l.
       let place : n - 7 + j ≡ n - 8 + suc j = omega (arith, f.room) in
@@ -186,14 +201,25 @@ quiet-octet latest octet past h none = record {
         let long = long-both past (octet_bits octet) in
         let i = n + 9 - length all + j in
         let place : length all - (16 - i) ≡ n - 7 + j = omega (arith, long) in
-        window-bit latest octet past h i (omega (arith, long)) ∙ ap number (back-within all (16 - i) (omega (arith, long)) ∙ ap (bit_of all) place ∙ ones j l))
+        window-bit latest octet past h i (omega (arith, long))
+        ∙ ap number (back-within all (16 - i) (omega (arith, long)) ∙ ap (bit_of all) place ∙ ones j l))
 
 -- what is open and found stays as it was
 flag-lift : (bits s : List Bool) (n : ℕ) → FlagEndsAt bits n → FlagEndsAt (bits ++ s) n
-flag-lift bits s n f = record { room = f.room; within = omega (arith, f.within, long-both bits s); spelled = λ i l. bit-front bits s (n - 8 + i) (omega (arith, f.room, f.within)) ∙ f.spelled i l }
+flag-lift bits s n f = record {
+  room = f.room;
+  within = omega (arith, f.within, long-both bits s);
+  spelled = λ i l. bit-front bits s
+      (n - 8 + i) (omega (arith, f.room, f.within)) ∙ f.spelled i l;
+}
 
 seven-lift : (bits s : List Bool) (n : ℕ) → SevenOnesEndAt bits n → SevenOnesEndAt (bits ++ s) n
-seven-lift bits s n f = record { room = f.room; within = omega (arith, f.within, long-both bits s); ones = λ i l. bit-front bits s (n - 7 + i) (omega (arith, f.room, f.within)) ∙ f.ones i l }
+seven-lift bits s n f = record {
+  room = f.room;
+  within = omega (arith, f.within, long-both bits s);
+  ones = λ i l. bit-front bits s
+      (n - 7 + i) (omega (arith, f.room, f.within)) ∙ f.ones i l;
+}
 
 pub record Rests (past all : List Bool) : Type 0 where
   pub pieces : pieces_of all ≡ pieces_of past
@@ -201,11 +227,16 @@ pub record Rests (past all : List Bool) : Type 0 where
   pub was : (p : ℕ) → OpenedAt all p → OpenedAt past p
 
 pub quiet-rests : (past s : List Bool) → IsQuiet past s → Rests past (past ++ s)
-quiet-rests past [] q = let same : past ≡ past ++ [] = sym (append-nil past) in subst (Rests past) same (record { pieces = refl; stays = λ p o. o; was = λ p o. o })
+quiet-rests past [] q = let same : past ≡ past ++ [] = sym (append-nil past) in subst (Rests past) same
+    (record { pieces = refl; stays = λ p o. o; was = λ p o. o })
 quiet-rests past (b ∷ s) q =
     let joined = append_assoc past (b ∷ []) s in
-    let no_flag : FlagEndsAt (past ++ b ∷ []) (length past + 1) → ⊥ = λ f. q.no_flag (length past + 1) (omega arith) (subst (λ l. FlagEndsAt l (length past + 1)) joined (flag-lift (past ++ b ∷ []) s (length past + 1) f)) in
-    let no_seven : SevenOnesEndAt (past ++ b ∷ []) (length past + 1) → ⊥ = λ f. q.no_seven (length past + 1) (omega arith) (subst (λ l. SevenOnesEndAt l (length past + 1)) joined (seven-lift (past ++ b ∷ []) s (length past + 1) f)) in
+    let no_flag : FlagEndsAt (past ++ b ∷ []) (length past + 1)
+    → ⊥ = λ f. q.no_flag (length past + 1) (omega arith)
+    (subst (λ l. FlagEndsAt l (length past + 1)) joined (flag-lift (past ++ b ∷ []) s (length past + 1) f)) in
+    let no_seven : SevenOnesEndAt (past ++ b ∷ []) (length past + 1)
+    → ⊥ = λ f. q.no_seven (length past + 1) (omega arith)
+    (subst (λ l. SevenOnesEndAt l (length past + 1)) joined (seven-lift (past ++ b ∷ []) s (length past + 1) f)) in
     let rest : IsQuiet (past ++ b ∷ []) s = record {
       no_flag = λ n above f. q.no_flag n (omega (arith, above, length-snoc past b)) (subst (λ l. FlagEndsAt l n) joined f);
       no_seven = λ n above f. q.no_seven n (omega (arith, above, length-snoc past b)) (subst (λ l. SevenOnesEndAt l n) joined f);
@@ -219,13 +250,15 @@ quiet-rests past (b ∷ s) q =
       was = λ p o.
           let w = r.was p o in
           elim (cases_lt (length past) p) [
-            | inl above ↦ let last : p ≡ length past + 1 = omega (arith, w.flag_ends.within, length-snoc past b) in absurd (before (subst (OpenedAt (past ++ b ∷ [])) last w))
+            | inl above ↦ let last : p ≡ length past + 1 = omega (arith, w.flag_ends.within, length-snoc past b) in absurd
+                (before (subst (OpenedAt (past ++ b ∷ [])) last w))
             | inr within ↦ opened-was past b p within w
           ];
     })
 
 -- the finder goes on
-pub quiet-finds : (finding : Finding) (octet : ℕ) (past : List Bool) → octet < 256 → (finding.since ≡ None) ⊎ (finding.since ≡ Some 8) → IsQuiet past (octet_bits octet) → Finds finding past
+pub quiet-finds : (finding : Finding) (octet : ℕ) (past : List Bool) → octet < 256 → (finding.since ≡ None) ⊎ (finding.since ≡ Some 8)
+    → IsQuiet past (octet_bits octet) → Finds finding past
     → Finds (record { latest = octet; since = finding.since }) (past ++ octet_bits octet)
 quiet-finds finding octet past small settled q h = record { holds = latest-octet octet past small; counts = counts settled }
   where
@@ -233,7 +266,13 @@ quiet-finds finding octet past small settled q h = record { holds = latest-octet
     all = past ++ octet_bits octet
 
     counts : (finding.since ≡ None) ⊎ (finding.since ≡ Some 8) → CountsSince finding.since all
-    counts (inl none) = subst (λ s. CountsSince s all) (sym none) (λ p o. (subst (λ s. CountsSince s past) none h.counts) p ((quiet-rests past (octet_bits octet) q).was p o))
+    counts (inl none) = subst (λ s. CountsSince s all) (sym none)
+        (λ p o. (subst (λ s. CountsSince s past) none h.counts) p ((quiet-rests past (octet_bits octet) q).was p o))
     counts (inr far) =
         let k = subst (λ s. CountsSince s past) far h.counts in
-        subst (λ s. CountsSince s all) (sym far) (k.0, (quiet-rests past (octet_bits octet) q).stays k.0 k.1, omega (arith, k.2, long-both past (octet_bits octet)))
+        subst (λ s. CountsSince s all) (sym far) (
+          k.0,
+          (quiet-rests past (octet_bits octet) q).stays k.0 k.1,
+          omega
+              (arith, k.2, long-both past (octet_bits octet)),
+        )

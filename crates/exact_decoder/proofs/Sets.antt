@@ -27,29 +27,34 @@ pub record IsWithout (bits place less : ℕ) : Type 0 where
   pub clear : bit_at less place ≡ 0
   pub fewer : less < bits
 
-pub taken-kept : (words : List ℕ) (word place less s : ℕ) → word < length words → IsWithout (slice_index words word) place less → Has words s → (64 * word + place ≡ s) ⊎ Has (set words word less) s
+pub taken-kept : (words : List ℕ) (word place less s : ℕ) → word < length words → IsWithout (slice_index words word) place less
+    → Has words s → (64 * word + place ≡ s) ⊎ Has (set words word less) s
 taken-kept words word place less s within w h = elim (cases_eq (s / 64) word) [
   | inl here ↦ elim (cases_eq (s % 64) place) [
     | inl own ↦ inl (omega (arith, here, own))
     | inr other ↦
         let low : s % 64 < 64 = omega arith in
-        inr (ap (λ n. bit_at n (s % 64)) (set-index_here words less word (s / 64) here within) ∙ w.others (s % 64) low other ∙ ap (λ i. bit_at (slice_index words i) (s % 64)) (sym here) ∙ h)
+        inr (ap (λ n. bit_at n (s % 64)) (set-index_here words less word (s / 64) here within) ∙ w.others (s % 64) low other
+        ∙ ap (λ i. bit_at (slice_index words i) (s % 64)) (sym here) ∙ h)
   ]
   | inr there ↦ inr (ap (λ n. bit_at n (s % 64)) (set-index words less word (s / 64) there) ∙ h)
 ]
 
-pub taken-only : (words : List ℕ) (word place less s : ℕ) → word < length words → IsWithout (slice_index words word) place less → Has (set words word less) s → Has words s
+pub taken-only : (words : List ℕ) (word place less s : ℕ) → word < length words → IsWithout (slice_index words word) place less
+    → Has (set words word less) s → Has words s
 taken-only words word place less s within w h = elim (cases_eq (s / 64) word) [
   | inl here ↦
       let now : bit_at less (s % 64) ≡ 1 = ap (λ n. bit_at n (s % 64)) (sym (set-index_here words less word (s / 64) here within)) ∙ h in
       elim (cases_eq (s % 64) place) [
         | inl own ↦ let no_bit : 0 ≡ 1 = sym w.clear ∙ ap (bit_at less) (sym own) ∙ now in absurd (omega (arith, no_bit))
-        | inr other ↦ let low : s % 64 < 64 = omega arith in ap (λ i. bit_at (slice_index words i) (s % 64)) here ∙ sym (w.others (s % 64) low other) ∙ now
+        | inr other ↦ let low : s % 64 < 64 = omega arith in ap (λ i. bit_at (slice_index words i) (s % 64)) here
+            ∙ sym (w.others (s % 64) low other) ∙ now
       ]
   | inr there ↦ ap (λ n. bit_at n (s % 64)) (sym (set-index words less word (s / 64) there)) ∙ h
 ]
 
-pub taken-fewer : (words : List ℕ) (word less : ℕ) → length words ≡ 4 → word < 4 → less < slice_index words word → weight (set words word less) < weight words
+pub taken-fewer : (words : List ℕ) (word less : ℕ) → length words ≡ 4 → word < 4 → less < slice_index words word
+    → weight (set words word less) < weight words
 taken-fewer (a ∷ b ∷ c ∷ d ∷ []) zero less long within fewer = omega (arith, fewer)
 taken-fewer (a ∷ b ∷ c ∷ d ∷ []) (suc zero) less long within fewer = omega (arith, fewer)
 taken-fewer (a ∷ b ∷ c ∷ d ∷ []) (suc (suc zero)) less long within fewer = omega (arith, fewer)
@@ -62,7 +67,8 @@ taken-fewer (a ∷ b ∷ c ∷ []) word less long within fewer = absurd (omega a
 taken-fewer (a ∷ b ∷ c ∷ d ∷ e ∷ more) word less long within fewer = absurd (omega arith)
 
 -- no word with a bit of a state has one
-pub has-none : (states words_count : ℕ) (words : List ℕ) (s : ℕ) → words_count ≡ (states + 63) / 64 → s < states → ((word : ℕ) → word < words_count → slice_index words word ≡ 0) → Has words s → ⊥
+pub has-none : (states words_count : ℕ) (words : List ℕ) (s : ℕ) → words_count ≡ (states + 63) / 64 → s < states
+    → ((word : ℕ) → word < words_count → slice_index words word ≡ 0) → Has words s → ⊥
 has-none states words_count words s count within zeros h =
     let none : slice_index words (s / 64) ≡ 0 = zeros (s / 64) (omega (arith, count)) in
     let no_bit : 0 ≡ 1 = sym (bit_at-zero (s % 64)) ∙ ap (λ n. bit_at n (s % 64)) (sym none) ∙ h in

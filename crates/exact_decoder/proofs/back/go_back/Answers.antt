@@ -16,7 +16,8 @@ loop-state-preserved g c =
 
 pub returns-then-same-clause-before : goal.returns-then-same-clause-before
 returns-then-same-clause-before g c =
-    went-all c.args.column.now c.args.live.now c.loop-state.live c.loop-state.before (choice_at c.args.column.now c.in-Some.state) c.loop-state.same c.in_default.ensures.first c.loop-state.invariant
+    went-all c.args.column.now c.args.live.now c.loop-state.live c.loop-state.before
+    (choice_at c.args.column.now c.in-Some.state) c.loop-state.same c.in_default.ensures.first c.loop-state.invariant
 
 pub returns-then-same-clause-label : goal.returns-then-same-clause-label
 returns-then-same-clause-label g c =
@@ -26,7 +27,8 @@ returns-then-same-clause-label g c =
 
 pub returns-else-same-clause-before : goal.returns-else-same-clause-before
 returns-else-same-clause-before g c =
-    went-all c.args.column.now c.args.live.now c.loop-state.live c.loop-state.before (choice_at c.args.column.now c.in-Some.state) c.loop-state.same c.in_default.ensures.first c.loop-state.invariant
+    went-all c.args.column.now c.args.live.now c.loop-state.live c.loop-state.before
+    (choice_at c.args.column.now c.in-Some.state) c.loop-state.same c.in_default.ensures.first c.loop-state.invariant
 
 pub returns-else-same-clause-label : goal.returns-else-same-clause-label
 returns-else-same-clause-label g c =

@@ -8,4 +8,5 @@ pub returns-in-None : goal.returns-in-None
 returns-in-None g c =
     let columns = columns_in c.args.ring.now.items in
     subst (Back g.row.STATES columns 1 1 (Has c.states_before-before.result)) (sym c.requires.empty)
-    (back-differ g.row.STATES columns c.column_back-newest.result.now 0 0 (λ s. s < g.row.STATES) c.states_before-before.result [] c.column_back-newest.ensures.next c.states_before-before.ensures c.in-None.ensures (back-none g.row.STATES columns))
+    (back-differ g.row.STATES columns c.column_back-newest.result.now 0 0
+    (λ s. s < g.row.STATES) c.states_before-before.result [] c.column_back-newest.ensures.next c.states_before-before.ensures c.in-None.ensures (back-none g.row.STATES columns))

@@ -10,4 +10,5 @@ pub returns-clause-clear : goal.returns-clause-clear
 returns-clause-clear c = bit_at_clear_same w64 _ _ c.requires.within
 
 pub returns-clause-fewer : goal.returns-clause-fewer
-returns-clause-fewer c = and-less c.args.word _ c.args.place c.requires.there (bit_at_clear_same w64 c.args.word c.args.place c.requires.within)
+returns-clause-fewer c = and-less c.args.word _ c.args.place c.requires.there
+    (bit_at_clear_same w64 c.args.word c.args.place c.requires.within)

@@ -10,10 +10,13 @@ pub returns-clause-stands : goal.returns-clause-stands
 returns-clause-stands c = λ e past h.
     let s = subst (λ v. DeframerStands v past) (sym c.self.view_is) h in
     let q = c.if-not-is_quiet.ensures.quiet refl past s.finds in
-    let same : c.self-2.inside.finder ≡ c.self.inside.finder = ap (λ v. v.finding) c.self-2.view_is ∙ c.gather_octet.ensures.finding ∙ sym (ap (λ v. v.finding) c.self.view_is) in
+    let same : c.self-2.inside.finder ≡ c.self.inside.finder = ap (λ v. v.finding) c.self-2.view_is ∙ c.gather_octet.ensures.finding
+    ∙ sym (ap (λ v. v.finding) c.self.view_is) in
     let found = c.pass.ensures past q (subst (λ f. Finds f past) (sym same) s.finds) in
-    let gathered = subst (λ v. (p : ℕ) → OpenedAt past p → p + 8 ≤ length past → Gathers v.gathering (drop p past)) (sym c.self-2.view_is) (c.gather_octet.ensures.gathers past h) in
-    quiet-stands c.self.inside.finder c.pass.new.self c.self-2.inside.unstuffer c.args.octet past (c.if-not-is_quiet.ensures.settled refl) q s.finds found gathered
+    let gathered = subst (λ v. (p : ℕ) → OpenedAt past p → p + 8 ≤ length past
+    → Gathers v.gathering (drop p past)) (sym c.self-2.view_is) (c.gather_octet.ensures.gathers past h) in
+    quiet-stands c.self.inside.finder c.pass.new.self c.self-2.inside.unstuffer c.args.octet past
+    (c.if-not-is_quiet.ensures.settled refl) q s.finds found gathered
 
 pub returns-clause-quiet : goal.returns-clause-quiet
 returns-clause-quiet c = λ e past h.

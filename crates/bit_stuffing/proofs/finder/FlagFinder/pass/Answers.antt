@@ -7,4 +7,5 @@ pub returns : goal.returns
 returns c = λ past quiet h.
     let s = subst (λ v. Finds v past) (sym c.self.view_is) h in
     let settled = subst (λ v. (v.since ≡ None) ⊎ (v.since ≡ Some 8)) (sym c.self.view_is) c.requires in
-    quiet-finds (record { latest = c.self.inside.latest; since = c.self.inside.since }) c.args.octet past c.ranges.octet.fits settled quiet s
+    quiet-finds
+    (record { latest = c.self.inside.latest; since = c.self.inside.since }) c.args.octet past c.ranges.octet.fits settled quiet s
