@@ -1,6 +1,5 @@
 -- Why a script's run over the line of samples ends by a lost link.
 use Rattle.std.specs.Prelude.{◌≡◌, ℕ, ◌+◌, ◌*◌, ◌<◌, false, List, [], length}
-use Rattle.roles.specs.declared.role.Role.{Role}
 use Rattle.roles.specs.Both.{Both}
 use Rattle.noise_script.specs.Script.{IsInLimits}
 use Rattle.link_account.specs.Account.{break_waits}
