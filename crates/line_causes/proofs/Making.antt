@@ -1,20 +1,18 @@
 -- What is heard makes a next turn.
-use Rattle.std.proofs.Common.{◌≡◌, ℕ, List, length, refl, sym, ◌∙◌, ap, subst, None}
-use Rattle.frame_check.specs.declared.check.Check.{Check}
+use Rattle.std.proofs.Common.{◌≡◌, List, length, refl, sym, ◌∙◌, subst, None}
 use Rattle.roles.specs.declared.role.Role.{Role}
 use Rattle.roles.specs.declared.role.Role.TheVariants.{Originator, Answerer}
 use Rattle.roles.specs.Role.{other}
-use Rattle.roles.specs.Both.{Both, of}
-use Rattle.noise_script.specs.Script.{IsInLimits, delay_of}
-use Rattle.slot_contents.specs.declared.heard.Heard.{Heard}
+use Rattle.roles.specs.Both.{of}
+use Rattle.noise_script.specs.Script.{delay_of}
 use Rattle.link_account.specs.Account.{check_of}
 use Rattle.link_run.specs.Run.{Link, Ends, Side, Turn, Hears}
 use Rattle.link_run.specs.Outcomes.{Outcome, Going, Done, Broken, TurnIs}
 use Rattle.link_run.specs.Laws.{EachTurnIsMade, MakesTurn}
-use Rattle.line_run.specs.Sampled.{Channel, HeardAt, HeardIn, IsHeardOf, IsHeardWell, LineRun}
+use Rattle.line_run.specs.Sampled.{HeardIn, IsHeardOf}
 use Rattle.line_run.specs.Scripted.{link_of, ScriptsMayPlay, ScriptsHaveDelays}
 use Rattle.line_run.specs.LineLaws.{SamplesAreCarried, OneIsCarried}
-use Rattle.line_causes.specs.Causes.{MadeOver, HeardTurnsAreMade}
+use Rattle.line_causes.specs.Causes.{HeardTurnsAreMade}
 
 pub record Makes : Type 0 where
   pub play : ScriptsMayPlay
@@ -48,7 +46,12 @@ heard-turns-are-made laws c files ts ends h run well = record { turn = m.turn; m
 
     m : MakesTurn (link_of c.script files) ts ends (λ role. (of role first).heard)
     m = laws.made (link_of c.script files) (delay_of c.script) ts ends (λ role. (of role first).heard)
-        (record { may_play = laws.play c.script files h; delays = laws.delays c.script h; carried = laws.carried c ts run.heard; run = run.run })
+        (record {
+          may_play = laws.play c.script files h;
+          delays = laws.delays c.script h;
+          carried = laws.carried c ts run.heard;
+          run = run.run;
+        })
         (λ role. laws.one c ts first heard-first role)
 
     hears : Hears (length ts) ends m.turn m.mid
