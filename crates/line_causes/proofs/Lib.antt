@@ -1,1 +1,2 @@
 mod Starving
+mod Making

@@ -1,13 +1,15 @@
 -- Why a script's run over the line of samples ends by a lost link.
 use Rattle.std.specs.Prelude.{◌≡◌, ℕ, ◌+◌, ◌*◌, ◌<◌, false, List, [], length}
 use Rattle.roles.specs.declared.role.Role.{Role}
-use Rattle.roles.specs.Both.{Both}
+use Rattle.roles.specs.Role.{other}
+use Rattle.roles.specs.Both.{Both, of}
 use Rattle.noise_script.specs.Script.{IsInLimits}
-use Rattle.link_account.specs.Account.{break_waits}
+use Rattle.link_account.specs.Account.{break_waits, check_of}
 use Rattle.link_run.specs.Run.{Link, Ends, Turn, served_at}
+use Rattle.link_run.specs.Outcomes.{Outcome, TurnIs}
 use Rattle.link_run.specs.Counts.{lost_slots}
 use Rattle.turn_periods.specs.Losses.{LosesEach}
-use Rattle.line_run.specs.Sampled.{Channel}
+use Rattle.line_run.specs.Sampled.{Channel, HeardIn, IsHeardWell, LineRun}
 use Rattle.line_run.specs.Scripted.{period_of, link_of}
 use Rattle.line_run.specs.Ends.{RunEnd, IsDone, LinkLost, NotDetected, LineLost, ChanceMatch, Left, EndsBy, RunsTo, turns_heard, StarvedBy}
 
@@ -68,3 +70,17 @@ FewLossesKeepLinks = (c : Channel) (files : Both (List ℕ)) (end : RunEnd) (lef
     → (r : RunsTo c (link_of c.script files) end left)
     → 2 * lost_slots (turns_heard c (link_of c.script files) r.turns r.ends end left r.ended) < c.script.tries
     → GivesUp end → ⊥
+
+-- What is heard of each other's slots makes a next turn, where it is no chance match: it goes on, is done, or an end gives up.
+pub record MadeOver (c : Channel) (files : Both (List ℕ)) (ts : List Turn) (ends : Ends) : Type 0 where
+  pub turn : Turn
+  pub mid : Ends
+  pub outcome : Outcome
+  pub heard : HeardIn c ts turn
+  pub is : TurnIs (link_of c.script files) ts ends turn mid outcome
+
+abbrev pub HeardTurnsAreMade : Type 0
+HeardTurnsAreMade = (c : Channel) (files : Both (List ℕ)) (ts : List Turn) (ends : Ends) → IsInLimits c.script
+    → LineRun c (link_of c.script files) ts ends
+    → ((role : Role) → IsHeardWell c (other role) ts (check_of (of role ends)))
+    → MadeOver c files ts ends

@@ -1,8 +1,9 @@
 //! What the laws on losses say of a script's runs. The functions do nothing but name the laws that they rest on: each law is a contract.
-ghost use Rattle.line_causes.specs.Causes.{LostLinksWereStarved, LosesWithoutBreak, LosesUnbroken, FewLossesKeepLinks};
+ghost use Rattle.line_causes.specs.Causes.{LostLinksWereStarved, LosesWithoutBreak, LosesUnbroken, FewLossesKeepLinks, HeardTurnsAreMade};
 
 use line_bound::laws::scripts_keep_time;
 use line_run::laws::{samples_are_carried, scripts_make_links};
+use link_run::laws::each_turn_is_made;
 use turn_breaks::laws::ends_give_up_starved;
 use turn_periods::laws::{few_losses_starve_no_run, patterns_are_missed_for_losses};
 use turn_tries::laws::ends_give_up_for_losses;
@@ -30,4 +31,13 @@ pub fn few_losses_keep_links()
     scripts_keep_time();
     lost_links_were_starved();
     few_losses_starve_no_run();
+}
+
+/// What is heard of the slots that arrive makes a next turn, where none is a chance match: it goes on, is done, or an end gives up.
+pub fn heard_turns_are_made()
+    ensures { HeardTurnsAreMade }
+{
+    scripts_make_links();
+    samples_are_carried();
+    each_turn_is_made();
 }

@@ -1,24 +1,16 @@
 -- A turn after which an end is Connected, by its breaks and by what it owes for the other end's.
-use Rattle.std.proofs.Common.{◌⊎◌, inl, inr, ◌≡◌, ℕ, ◌+◌, ◌%◌, ◌<◌, ◌≤◌, ◌&&◌, ◌||◌, not, Bool, true, false, cond, nat_eq, nat_le, nat_lt, List, [], ◌∷◌, ◌++◌, length, length-append, arith, refl, sym, ◌∙◌, ap, subst, Option, Some, None, Result, Ok, Err}
+use Rattle.std.proofs.Common.{◌⊎◌, inl, inr, ◌≡◌, ℕ, ◌+◌, ◌%◌, ◌<◌, ◌≤◌, ◌&&◌, ◌||◌, not, Bool, true, false, cond, nat_le, nat_lt, List, [], ◌∷◌, ◌++◌, length, length-append, arith, refl, sym, ◌∙◌, ap, None}
 use Rattle.std.specs.Prelude.{is_some}
 use Rattle.std.proofs.lemmas.Bool.Decides.{nat_tests}
-use Rattle.roles.specs.declared.role.Role.{Role}
-use Rattle.break_signals.specs.Breaks.{OwnBreaks, waits, takes_break, after_ask}
+use Rattle.break_signals.specs.Breaks.{OwnBreaks, waits, after_ask}
 use Rattle.slot_contents.specs.declared.sent.Sent.{Sent}
 use Rattle.slot_contents.specs.declared.arrived.Arrived.{Arrived}
-use Rattle.link_account.specs.declared.phase.Phase.TheVariants.{Connected}
 use Rattle.link_account.specs.Account.{Account, is_connected}
-use Rattle.link_account.specs.Hear.{hear}
-use Rattle.link_account.specs.Speak.{Said, speak}
-use Rattle.link_run.specs.End.{User, is_busy}
+use Rattle.link_account.specs.Speak.{Said}
 use Rattle.turn_bound.proofs.MeetHear.{of_frame, of_arrived}
-use Rattle.turn_bound.proofs.Value.{IsAck}
-use Rattle.turn_bound.proofs.Run.{served_account}
-use Rattle.turn_bound.proofs.Serving.{Served, serves-all}
 use Rattle.turn_periods.specs.Polls.{is_poll, is_final}
-use Rattle.turn_periods.proofs.AnswerTurn.{connected-is, linked-says}
-use Rattle.turn_breaks.proofs.BreakHear.{of_word, brk_of, ack_of, any_brk, pends, pends_of, BreakHeard, break-heard}
-use Rattle.turn_breaks.proofs.BreakSpeak.{holds, SaidBreaks, breaks-said}
+use Rattle.turn_breaks.proofs.BreakHear.{of_word, brk_of, ack_of, any_brk, pends, pends_of, BreakHeard}
+use Rattle.turn_breaks.proofs.BreakSpeak.{holds, SaidBreaks}
 
 -- between turns: a break waits, of this number; its BRK is due; a BRKACK is due; the first segment is urgent
 abbrev pub break_waits : Account → Bool
@@ -52,26 +44,35 @@ pub record Deeds : Type 0 where
 pub record BreakTurn (period turn : ℕ) (arrived : Arrived) (sent : Sent) (d : Deeds) (a c : Account) : Type 0 where
   -- when one becomes due
   pub made_set : d.made ≡ true → (waits c.own_breaks ≡ true) × (c.own_breaks.set ≡ turn)
-  pub made_late : d.made ≡ true → is_connected a.phase ≡ true → ((waits a.own_breaks ≡ true) × (turn ≡ a.own_breaks.set + period)) ⊎ ((waits a.own_breaks ≡ false) × (a.own_breaks.rest ≤ turn))
-  pub kept_set : d.made ≡ false → is_connected a.phase ≡ true → waits c.own_breaks ≡ true → (waits a.own_breaks ≡ true) × (c.own_breaks.set ≡ a.own_breaks.set)
-  pub kept_rest : d.made ≡ false → is_connected a.phase ≡ true → waits c.own_breaks ≡ false → ((waits a.own_breaks ≡ false) × (c.own_breaks.rest ≡ a.own_breaks.rest)) ⊎ (c.own_breaks.rest ≡ turn + 8)
+  pub made_late : d.made ≡ true → is_connected a.phase ≡ true → ((waits a.own_breaks ≡ true) × (turn ≡ a.own_breaks.set + period))
+      ⊎ ((waits a.own_breaks ≡ false) × (a.own_breaks.rest ≤ turn))
+  pub kept_set : d.made ≡ false → is_connected a.phase ≡ true → waits c.own_breaks ≡ true
+      → (waits a.own_breaks ≡ true) × (c.own_breaks.set ≡ a.own_breaks.set)
+  pub kept_rest : d.made ≡ false → is_connected a.phase ≡ true → waits c.own_breaks ≡ false
+      → ((waits a.own_breaks ≡ false) × (c.own_breaks.rest ≡ a.own_breaks.rest)) ⊎ (c.own_breaks.rest ≡ turn + 8)
   pub first_made : d.made ≡ false → is_connected a.phase ≡ false → waits c.own_breaks ≡ false
   -- a BRK goes where it is due
   pub brk_from : brk_due c ≡ true → (brk_due a ≡ true) ⊎ (d.made ≡ true)
-  pub brk_sent : of_frame (of_word any_brk) sent ≡ true → ((brk_due a ≡ true) ⊎ (d.made ≡ true)) × (brk_due c ≡ false) × (of_frame (of_word (brk_of (number_of c))) sent ≡ true)
-  pub brk_goes : waits c.own_breaks ≡ true → (brk_due a ≡ true) ⊎ (d.made ≡ true) → (brk_due c ≡ true) ⊎ (of_frame (of_word (brk_of (number_of c))) sent ≡ true)
+  pub brk_sent : of_frame (of_word any_brk) sent ≡ true → ((brk_due a ≡ true) ⊎ (d.made ≡ true)) × (brk_due c ≡ false)
+      × (of_frame (of_word (brk_of (number_of c))) sent ≡ true)
+  pub brk_goes : waits c.own_breaks ≡ true → (brk_due a ≡ true) ⊎ (d.made ≡ true)
+      → (brk_due c ≡ true) ⊎ (of_frame (of_word (brk_of (number_of c))) sent ≡ true)
   pub held : brk_due c ≡ true → holds (of_frame is_final sent) (of_frame is_poll sent) d.hurries d.acks (was_special a) d.answers ≡ true
   -- the wait goes on, with its number, unless its answer comes
   pub number : is_connected a.phase ≡ true → waits a.own_breaks ≡ true → waits c.own_breaks ≡ true → number_of c ≡ number_of a
-  pub ends : is_connected a.phase ≡ true → waits a.own_breaks ≡ true → of_arrived (of_word (ack_of (number_of a))) arrived ≡ true → waits c.own_breaks ≡ false
+  pub ends : is_connected a.phase ≡ true → waits a.own_breaks ≡ true → of_arrived (of_word (ack_of (number_of a))) arrived ≡ true
+      → waits c.own_breaks ≡ false
   pub counts : is_connected a.phase ≡ true → waits a.own_breaks ≡ true → waits c.own_breaks ≡ true → (n : ℕ) → c.own_breaks.count ≡ n + 1
       → ((d.made ≡ true) × (a.own_breaks.count ≡ n)) ⊎ ((d.made ≡ false) × (a.own_breaks.count ≡ n + 1))
   pub newly : waits c.own_breaks ≡ true → (is_connected a.phase && waits a.own_breaks) ≡ false → (d.made ≡ true) × (c.own_breaks.count ≡ 0)
   -- BRKACKs
-  pub ack_from : ack_due c ≡ true → ((ack_due a ≡ true) × (d.acks ≡ false)) ⊎ ((of_arrived (of_word any_brk) arrived ≡ true) × (d.acks ≡ false))
+  pub ack_from : ack_due c ≡ true
+      → ((ack_due a ≡ true) × (d.acks ≡ false)) ⊎ ((of_arrived (of_word any_brk) arrived ≡ true) × (d.acks ≡ false))
   pub acked : d.acks ≡ true → (ack_due a ≡ true) ⊎ (of_arrived (of_word any_brk) arrived ≡ true)
-  pub asked : (n : ℕ) → n < 2 → is_connected a.phase ≡ true → of_arrived (of_word (brk_of n)) arrived ≡ true → (ack_due_of n c ≡ true) ⊎ (of_frame (of_word (ack_of n)) sent ≡ true)
-  pub asked_on : (n : ℕ) → n < 2 → ack_due_of n a ≡ true → of_arrived (of_word any_brk) arrived ≡ false → (ack_due_of n c ≡ true) ⊎ (of_frame (of_word (ack_of n)) sent ≡ true)
+  pub asked : (n : ℕ) → n < 2 → is_connected a.phase ≡ true → of_arrived (of_word (brk_of n)) arrived ≡ true
+      → (ack_due_of n c ≡ true) ⊎ (of_frame (of_word (ack_of n)) sent ≡ true)
+  pub asked_on : (n : ℕ) → n < 2 → ack_due_of n a ≡ true → of_arrived (of_word any_brk) arrived ≡ false
+      → (ack_due_of n c ≡ true) ⊎ (of_frame (of_word (ack_of n)) sent ≡ true)
   pub held_ack : ack_due c ≡ true → holds (of_frame is_final sent) (of_frame is_poll sent) d.hurries d.acks (was_special a) d.answers ≡ true
   -- the turn before
   pub urgent : is_urgent c ≡ true → (is_urgent a ≡ true) ⊎ (of_arrived is_final arrived ≡ true)
@@ -101,7 +102,8 @@ clash b e f = let wrong : true ≡ false = sym e ∙ f in cc
 -- what serving makes of its breaks: the same, or one more is taken
 pub record ServedBreaks (turn : ℕ) (a b : OwnBreaks) : Type 0 where
   pub taken : Bool
-  pub yes : taken ≡ true → (waits a ≡ false) × (a.rest ≤ turn) × (b.brk ≡ true) × (b.set ≡ turn) × (b.count ≡ 0) × (waits b ≡ true) × (b.rest ≡ a.rest) × (b.answered ≡ a.answered)
+  pub yes : taken ≡ true → (waits a ≡ false) × (a.rest ≤ turn) × (b.brk ≡ true) × (b.set ≡ turn) × (b.count ≡ 0) × (waits b ≡ true)
+      × (b.rest ≡ a.rest) × (b.answered ≡ a.answered)
   pub no : taken ≡ false → b ≡ a
 
 waits-less : (b : OwnBreaks) → b.answered < length b.lengths → waits b ≡ true
@@ -119,18 +121,33 @@ not-waits b e = grind (arith, nat_tests, e)
 pub served-breaks : (turn l : ℕ) (a : OwnBreaks) → a.answered ≤ length a.lengths → ServedBreaks turn a (after_ask turn l a)
 served-breaks turn l a low = go (waits a) refl (nat_le a.rest turn) refl
   where
-    go : (w : Bool) → waits a ≡ w → (r : Bool) → nat_le a.rest turn ≡ r → ServedBreaks turn a (cond (not w && r) (record a { lengths = a.lengths ++ l ∷ []; brk = true; set = turn; count = 0 }) a)
+    go : (w : Bool) → waits a ≡ w → (r : Bool) → nat_le a.rest turn ≡ r
+        → ServedBreaks turn a (cond (not w && r) (record a { lengths = a.lengths ++ l ∷ []; brk = true; set = turn; count = 0 }) a)
     go true w r q = record { taken = false; yes = λ e. cc; no = λ e. refl }
     go false w false q = record { taken = false; yes = λ e. cc; no = λ e. refl }
     go false w true q = record {
       taken = true;
-      yes = λ e. (w, grind (arith, nat_tests, q), refl, refl, refl, waits-less (record a { lengths = a.lengths ++ l ∷ []; brk = true; set = turn; count = 0 }) (omega (arith, low, length-append {A = ℕ})), refl, refl);
+      yes = λ e. (
+        w,
+        grind (arith, nat_tests, q),
+        refl,
+        refl,
+        refl,
+        waits-less
+            (record a { lengths = a.lengths ++ l ∷ []; brk = true; set = turn; count = 0 })
+            (omega (arith, low, length-append {A = ℕ})),
+        refl,
+        refl,
+      );
       no = λ e. cc;
     }
 
-pub break-turn-of : (period turn : ℕ) (arrived : Arrived) (a mid b : Account) (said : Said) → is_connected a.phase ≡ true → is_connected said.account.phase ≡ true → length a.own_breaks.lengths ≤ a.own_breaks.answered + 1 → b.setup.period ≡ period → 1 ≤ period
+pub break-turn-of : (period turn : ℕ) (arrived : Arrived) (a mid b : Account) (said : Said) → is_connected a.phase ≡ true
+    → is_connected said.account.phase ≡ true → length a.own_breaks.lengths ≤ a.own_breaks.answered + 1 → b.setup.period ≡ period
+    → 1 ≤ period
     → b.special ≡ mid.special → b.their_breaks ≡ mid.their_breaks → b.wait.urgent ≡ mid.wait.urgent
-    → BreakHeard turn arrived a mid → ServedBreaks turn mid.own_breaks b.own_breaks → (k : SaidBreaks turn b said) → (d : Deeds) × (d.answers ≡ is_some b.owes.answer) × BreakTurn period turn arrived said.sent d a said.account
+    → BreakHeard turn arrived a mid → ServedBreaks turn mid.own_breaks b.own_breaks → (k : SaidBreaks turn b said)
+    → (d : Deeds) × (d.answers ≡ is_some b.owes.answer) × BreakTurn period turn arrived said.sent d a said.account
 break-turn-of period turn arrived a mid b said ca cc' high per long special their urgent h s k = (
   record { made = made; hurries = k.hurries; acks = k.acks; answers = is_some b.owes.answer },
   refl,
@@ -143,7 +160,9 @@ break-turn-of period turn arrived a mid b said ca cc' high per long special thei
     brk_from = λ e. brk-from e;
     brk_sent = λ e. let x = k.sends e in (due-from x.0, and-drop (is_connected c.phase) c.own_breaks.brk x.1, number-said x.2);
     brk_goes = λ w e. goes w e;
-    held = λ e. ap (λ x. holds (of_frame is_final said.sent) (of_frame is_poll said.sent) k.hurries k.acks x (is_some b.owes.answer)) (and-is (is_connected a.phase) a.special ca ∙ sym (special ∙ h.special)) ∙ k.held (and-second (is_connected c.phase) c.own_breaks.brk e);
+    held = λ e. ap (λ x. holds (of_frame is_final said.sent) (of_frame is_poll said.sent) k.hurries k.acks x (is_some b.owes.answer))
+        (and-is (is_connected a.phase) a.special ca ∙ sym (special ∙ h.special))
+        ∙ k.held (and-second (is_connected c.phase) c.own_breaks.brk e);
     number = λ x w w'. number w w';
     ends = λ x w e. ends w e;
     counts = λ x w w' n q. counts w w' n q;
@@ -151,12 +170,18 @@ break-turn-of period turn arrived a mid b said ca cc' high per long special thei
     ack_from = ack-from;
     acked = acked;
     asked = λ n l x e. asked n l (ap (λ t. pends_of n t.ack) their ∙ h.asked n e) k.ack;
-    asked_on = λ n l e f. asked n l (ap (λ t. pends_of n t.ack) their ∙ (ap (pends_of n) (h.kept f) ∙ and-second (is_connected a.phase) (pends_of n a.their_breaks.ack) e)) k.ack;
-    held_ack = λ e. ap (λ x. holds (of_frame is_final said.sent) (of_frame is_poll said.sent) k.hurries k.acks x (is_some b.owes.answer)) (and-is (is_connected a.phase) a.special ca ∙ sym (special ∙ h.special)) ∙ k.held_ack (and-second (is_connected c.phase) (pends c.their_breaks.ack) e);
+    asked_on = λ n l e f. asked n l
+        (ap (λ t. pends_of n t.ack) their
+        ∙ (ap (pends_of n) (h.kept f) ∙ and-second (is_connected a.phase) (pends_of n a.their_breaks.ack) e)) k.ack;
+    held_ack = λ e. ap (λ x. holds (of_frame is_final said.sent) (of_frame is_poll said.sent) k.hurries k.acks x (is_some b.owes.answer))
+        (and-is (is_connected a.phase) a.special ca ∙ sym (special ∙ h.special))
+        ∙ k.held_ack (and-second (is_connected c.phase) (pends c.their_breaks.ack) e);
     urgent = λ e. urgent-from (sym urgent ∙ k.calm (and-second (is_connected c.phase) c.wait.urgent e));
     hurried = λ e. let x = k.hurried e in (urgent-from (sym urgent ∙ x.0), and-drop (is_connected c.phase) c.wait.urgent x.1);
-    special_own = λ e f. k.special_own (and-second (is_connected c.phase) c.special e) (and-second (is_connected c.phase) c.own_breaks.brk f);
-    special_ack = λ e f. k.special_ack (and-second (is_connected c.phase) c.special e) (and-second (is_connected c.phase) (pends c.their_breaks.ack) f);
+    special_own = λ e f. k.special_own (and-second (is_connected c.phase) c.special e)
+        (and-second (is_connected c.phase) c.own_breaks.brk f);
+    special_ack = λ e f. k.special_ack (and-second (is_connected c.phase) c.special e)
+        (and-second (is_connected c.phase) (pends c.their_breaks.ack) f);
   },
 )
   where
@@ -173,7 +198,9 @@ break-turn-of period turn arrived a mid b said ca cc' high per long special thei
     heard-own : (mid.own_breaks ≡ a.own_breaks) ⊎ Ended
     heard-own = by h.own
       where
-        by : (mid.own_breaks ≡ a.own_breaks) ⊎ ((waits a.own_breaks ≡ true) × (mid.own_breaks.answered ≡ a.own_breaks.answered + 1) × (mid.own_breaks.lengths ≡ a.own_breaks.lengths) × (mid.own_breaks.brk ≡ false) × (mid.own_breaks.rest ≡ turn + 8))
+        by : (mid.own_breaks ≡ a.own_breaks)
+            ⊎ ((waits a.own_breaks ≡ true) × (mid.own_breaks.answered ≡ a.own_breaks.answered + 1)
+            × (mid.own_breaks.lengths ≡ a.own_breaks.lengths) × (mid.own_breaks.brk ≡ false) × (mid.own_breaks.rest ≡ turn + 8))
             → (mid.own_breaks ≡ a.own_breaks) ⊎ Ended
         by (inl x) = inl x
         by (inr (w, n, l, d, r)) = inr (w, waits-not mid.own_breaks (let q = ap length l in omega (arith, n, q, high)), d, r)
@@ -193,7 +220,8 @@ break-turn-of period turn arrived a mid b said ca cc' high per long special thei
         by false e f = (e, f)
 
     waits-said : waits c.own_breaks ≡ waits b.own_breaks
-    waits-said = ap (λ n. nat_lt n (length c.own_breaks.lengths)) k.answered ∙ ap (λ (l : List ℕ). nat_lt b.own_breaks.answered (length l)) k.lengths
+    waits-said = ap (λ n. nat_lt n (length c.own_breaks.lengths)) k.answered
+        ∙ ap (λ (l : List ℕ). nat_lt b.own_breaks.answered (length l)) k.lengths
 
     -- a break that is taken in this turn isn't late in it
     untaken : s.taken ≡ true → k.ticks ≡ false
@@ -210,13 +238,17 @@ break-turn-of period turn arrived a mid b said ca cc' high per long special thei
         by (inl e) = (waits-said ∙ (s.yes e).5, k.no (untaken e) ∙ (s.yes e).3)
         by (inr (e, f)) = (waits-said ∙ (k.yes f).0, (k.yes f).2)
 
-    made-late : made ≡ true → ((waits a.own_breaks ≡ true) × (turn ≡ a.own_breaks.set + period)) ⊎ ((waits a.own_breaks ≡ false) × (a.own_breaks.rest ≤ turn))
+    made-late : made ≡ true → ((waits a.own_breaks ≡ true) × (turn ≡ a.own_breaks.set + period))
+        ⊎ ((waits a.own_breaks ≡ false) × (a.own_breaks.rest ≤ turn))
     made-late m = by (either-made m) heard-own
       where
-        by : (s.taken ≡ true) ⊎ ((s.taken ≡ false) × (k.ticks ≡ true)) → (mid.own_breaks ≡ a.own_breaks) ⊎ Ended → ((waits a.own_breaks ≡ true) × (turn ≡ a.own_breaks.set + period)) ⊎ ((waits a.own_breaks ≡ false) × (a.own_breaks.rest ≤ turn))
+        by : (s.taken ≡ true) ⊎ ((s.taken ≡ false) × (k.ticks ≡ true)) → (mid.own_breaks ≡ a.own_breaks) ⊎ Ended
+            → ((waits a.own_breaks ≡ true) × (turn ≡ a.own_breaks.set + period))
+            ⊎ ((waits a.own_breaks ≡ false) × (a.own_breaks.rest ≤ turn))
         by (inl e) (inl q) = inr (ap waits (sym q) ∙ (s.yes e).0, let r = (s.yes e).1 in let t = ap (λ x. x.rest) q in omega (arith, r, t))
         by (inl e) (inr (w, w', d, r)) = let t = (s.yes e).1 in absurd (omega (arith, t, r))
-        by (inr (e, f)) (inl q) = let y = k.yes f in let t = ap (λ x. x.set) (s.no e ∙ q) in let u = y.1 in inl (ap waits (sym (s.no e ∙ q)) ∙ y.0, omega (arith, u, t, per))
+        by (inr (e, f)) (inl q) = let y = k.yes f in let t = ap (λ x. x.set) (s.no e ∙ q) in let u = y.1 in inl
+            (ap waits (sym (s.no e ∙ q)) ∙ y.0, omega (arith, u, t, per))
         by (inr (e, f)) (inr (w, w', d, r)) = clash (waits mid.own_breaks) (ap waits (sym (s.no e)) ∙ (k.yes f).0) w'
 
     kept-set : made ≡ false → waits c.own_breaks ≡ true → (waits a.own_breaks ≡ true) × (c.own_breaks.set ≡ a.own_breaks.set)
@@ -229,20 +261,23 @@ break-turn-of period turn arrived a mid b said ca cc' high per long special thei
         by (inl q) = (ap waits (sym (s.no n.0 ∙ q)) ∙ (sym waits-said ∙ w), k.no n.1 ∙ ap (λ x. x.set) (s.no n.0 ∙ q))
         by (inr (x, w', d, r)) = clash (waits mid.own_breaks) (ap waits (sym (s.no n.0)) ∙ (sym waits-said ∙ w)) w'
 
-    kept-rest : made ≡ false → waits c.own_breaks ≡ false → ((waits a.own_breaks ≡ false) × (c.own_breaks.rest ≡ a.own_breaks.rest)) ⊎ (c.own_breaks.rest ≡ turn + 8)
+    kept-rest : made ≡ false → waits c.own_breaks ≡ false → ((waits a.own_breaks ≡ false) × (c.own_breaks.rest ≡ a.own_breaks.rest))
+        ⊎ (c.own_breaks.rest ≡ turn + 8)
     kept-rest m w = by heard-own
       where
         n : (s.taken ≡ false) × (k.ticks ≡ false)
         n = none-made m
 
-        by : (mid.own_breaks ≡ a.own_breaks) ⊎ Ended → ((waits a.own_breaks ≡ false) × (c.own_breaks.rest ≡ a.own_breaks.rest)) ⊎ (c.own_breaks.rest ≡ turn + 8)
+        by : (mid.own_breaks ≡ a.own_breaks) ⊎ Ended → ((waits a.own_breaks ≡ false) × (c.own_breaks.rest ≡ a.own_breaks.rest))
+            ⊎ (c.own_breaks.rest ≡ turn + 8)
         by (inl q) = inl (ap waits (sym (s.no n.0 ∙ q)) ∙ (sym waits-said ∙ w), k.rest ∙ ap (λ x. x.rest) (s.no n.0 ∙ q))
         by (inr (x, w', d, r)) = inr (k.rest ∙ (ap (λ x. x.rest) (s.no n.0) ∙ r))
 
     due-from : k.ticks || b.own_breaks.brk ≡ true → (brk_due a ≡ true) ⊎ (made ≡ true)
     due-from e = by k.ticks refl e s.taken refl heard-own
       where
-        by : (x : Bool) → k.ticks ≡ x → x || b.own_breaks.brk ≡ true → (y : Bool) → s.taken ≡ y → (mid.own_breaks ≡ a.own_breaks) ⊎ Ended → (brk_due a ≡ true) ⊎ (made ≡ true)
+        by : (x : Bool) → k.ticks ≡ x → x || b.own_breaks.brk ≡ true → (y : Bool) → s.taken ≡ y → (mid.own_breaks ≡ a.own_breaks) ⊎ Ended
+            → (brk_due a ≡ true) ⊎ (made ≡ true)
         by true f g y q o = inr (ap (λ z. s.taken || z) f ∙ or-true s.taken)
           where
             or-true : (z : Bool) → z || true ≡ true
@@ -255,10 +290,12 @@ break-turn-of period turn arrived a mid b said ca cc' high per long special thei
     brk-from : brk_due c ≡ true → (brk_due a ≡ true) ⊎ (made ≡ true)
     brk-from e = due-from (k.brk (and-second (is_connected c.phase) c.own_breaks.brk e))
 
-    number-said : of_frame (of_word (brk_of (b.own_breaks.answered % 2))) said.sent ≡ true → of_frame (of_word (brk_of (number_of c))) said.sent ≡ true
+    number-said : of_frame (of_word (brk_of (b.own_breaks.answered % 2))) said.sent ≡ true
+        → of_frame (of_word (brk_of (number_of c))) said.sent ≡ true
     number-said e = ap (λ n. of_frame (of_word (brk_of (n % 2))) said.sent) k.answered ∙ e
 
-    goes : waits c.own_breaks ≡ true → (brk_due a ≡ true) ⊎ (made ≡ true) → (brk_due c ≡ true) ⊎ (of_frame (of_word (brk_of (number_of c))) said.sent ≡ true)
+    goes : waits c.own_breaks ≡ true → (brk_due a ≡ true) ⊎ (made ≡ true)
+        → (brk_due c ≡ true) ⊎ (of_frame (of_word (brk_of (number_of c))) said.sent ≡ true)
     goes w e = by (k.goes (still e heard-own))
       where
         or-second : (x y : Bool) → y ≡ true → x || y ≡ true
@@ -275,10 +312,12 @@ break-turn-of period turn arrived a mid b said ca cc' high per long special thei
           where
             on : (y : Bool) → s.taken ≡ y → (mid.own_breaks ≡ a.own_breaks) ⊎ Ended → k.ticks || b.own_breaks.brk ≡ true
             on true f q = or-second k.ticks b.own_breaks.brk (s.yes f).2
-            on false f (inl q) = or-second k.ticks b.own_breaks.brk (ap (λ z. z.brk) (s.no f ∙ q) ∙ and-second (is_connected a.phase) a.own_breaks.brk d)
+            on false f (inl q) = or-second k.ticks b.own_breaks.brk
+                (ap (λ z. z.brk) (s.no f ∙ q) ∙ and-second (is_connected a.phase) a.own_breaks.brk d)
             on false f (inr (x, w', y, r)) = clash (waits mid.own_breaks) (ap waits (sym (s.no f)) ∙ (sym waits-said ∙ w)) w'
 
-        by : (c.own_breaks.brk ≡ true) ⊎ (of_frame (of_word (brk_of (b.own_breaks.answered % 2))) said.sent ≡ true) → (brk_due c ≡ true) ⊎ (of_frame (of_word (brk_of (number_of c))) said.sent ≡ true)
+        by : (c.own_breaks.brk ≡ true) ⊎ (of_frame (of_word (brk_of (b.own_breaks.answered % 2))) said.sent ≡ true)
+            → (brk_due c ≡ true) ⊎ (of_frame (of_word (brk_of (number_of c))) said.sent ≡ true)
         by (inl x) = inl (and-true (is_connected c.phase) c.own_breaks.brk cc' x)
         by (inr x) = inr (number-said x)
 
@@ -298,16 +337,22 @@ break-turn-of period turn arrived a mid b said ca cc' high per long special thei
     ends : waits a.own_breaks ≡ true → of_arrived (of_word (ack_of (number_of a))) arrived ≡ true → waits c.own_breaks ≡ false
     ends w e = by s.taken refl (h.ends e w)
       where
-        by : (x : Bool) → s.taken ≡ x → (mid.own_breaks.answered ≡ a.own_breaks.answered + 1) × (mid.own_breaks.lengths ≡ a.own_breaks.lengths) × (mid.own_breaks.rest ≡ turn + 8) → waits c.own_breaks ≡ false
+        by : (x : Bool) → s.taken ≡ x → (mid.own_breaks.answered ≡ a.own_breaks.answered + 1)
+            × (mid.own_breaks.lengths ≡ a.own_breaks.lengths) × (mid.own_breaks.rest ≡ turn + 8) → waits c.own_breaks ≡ false
         by true f (n, l, r) = let t = (s.yes f).1 in absurd (omega (arith, t, r))
-        by false f (n, l, r) = waits-said ∙ (ap waits (s.no f) ∙ waits-not mid.own_breaks (let q = ap length l in omega (arith, n, q, high)))
+        by false f (n, l, r) = waits-said
+            ∙ (ap waits (s.no f) ∙ waits-not mid.own_breaks (let q = ap length l in omega (arith, n, q, high)))
 
-    counts : waits a.own_breaks ≡ true → waits c.own_breaks ≡ true → (n : ℕ) → c.own_breaks.count ≡ n + 1 → ((made ≡ true) × (a.own_breaks.count ≡ n)) ⊎ ((made ≡ false) × (a.own_breaks.count ≡ n + 1))
+    counts : waits a.own_breaks ≡ true → waits c.own_breaks ≡ true → (n : ℕ) → c.own_breaks.count ≡ n + 1
+        → ((made ≡ true) × (a.own_breaks.count ≡ n)) ⊎ ((made ≡ false) × (a.own_breaks.count ≡ n + 1))
     counts w w' n q = by k.ticks refl (on-wait w w')
       where
-        by : (x : Bool) → k.ticks ≡ x → (s.taken ≡ false) × (mid.own_breaks ≡ a.own_breaks) → ((made ≡ true) × (a.own_breaks.count ≡ n)) ⊎ ((made ≡ false) × (a.own_breaks.count ≡ n + 1))
-        by true f (t, o) = let y = k.counts f in let z = ap (λ x. x.count) (s.no t ∙ o) in inl (ap (λ x. x || k.ticks) t ∙ f, omega (arith, y, z, q))
-        by false f (t, o) = let y = k.count f in let z = ap (λ x. x.count) (s.no t ∙ o) in inr (ap (λ x. x || k.ticks) t ∙ f, omega (arith, y, z, q))
+        by : (x : Bool) → k.ticks ≡ x → (s.taken ≡ false) × (mid.own_breaks ≡ a.own_breaks)
+            → ((made ≡ true) × (a.own_breaks.count ≡ n)) ⊎ ((made ≡ false) × (a.own_breaks.count ≡ n + 1))
+        by true f (t, o) = let y = k.counts f in let z = ap (λ x. x.count) (s.no t ∙ o) in inl
+            (ap (λ x. x || k.ticks) t ∙ f, omega (arith, y, z, q))
+        by false f (t, o) = let y = k.count f in let z = ap (λ x. x.count) (s.no t ∙ o) in inr
+            (ap (λ x. x || k.ticks) t ∙ f, omega (arith, y, z, q))
 
     newly : waits c.own_breaks ≡ true → is_connected a.phase && waits a.own_breaks ≡ false → (made ≡ true) × (c.own_breaks.count ≡ 0)
     newly w e = by s.taken refl heard-own
@@ -325,30 +370,40 @@ break-turn-of period turn arrived a mid b said ca cc' high per long special thei
       where
         by : (x : Bool) → of_arrived (of_word any_brk) arrived ≡ x → (ack_due a ≡ true) ⊎ (of_arrived (of_word any_brk) arrived ≡ true)
         by true f = inr f
-        by false f = inl (and-true (is_connected a.phase) (pends a.their_breaks.ack) ca (ap pends (sym (h.kept f)) ∙ (ap (λ t. pends t.ack) (sym their) ∙ e)))
+        by false f = inl (and-true (is_connected a.phase) (pends a.their_breaks.ack) ca
+            (ap pends (sym (h.kept f)) ∙ (ap (λ t. pends t.ack) (sym their) ∙ e)))
 
-    ack-from : ack_due c ≡ true → ((ack_due a ≡ true) × (k.acks ≡ false)) ⊎ ((of_arrived (of_word any_brk) arrived ≡ true) × (k.acks ≡ false))
+    ack-from : ack_due c ≡ true
+        → ((ack_due a ≡ true) × (k.acks ≡ false)) ⊎ ((of_arrived (of_word any_brk) arrived ≡ true) × (k.acks ≡ false))
     ack-from e = by k.ack
       where
-        by : ((c.their_breaks ≡ b.their_breaks) × (k.acks ≡ false)) ⊎ ((c.their_breaks.ack ≡ None) × (pends b.their_breaks.ack ≡ true) × ((n : ℕ) → n < 2 → pends_of n b.their_breaks.ack ≡ true → of_frame (of_word (ack_of n)) said.sent ≡ true))
+        by : ((c.their_breaks ≡ b.their_breaks) × (k.acks ≡ false))
+            ⊎ ((c.their_breaks.ack ≡ None) × (pends b.their_breaks.ack ≡ true) × ((n : ℕ) → n < 2 → pends_of n b.their_breaks.ack ≡ true
+            → of_frame (of_word (ack_of n)) said.sent ≡ true))
             → ((ack_due a ≡ true) × (k.acks ≡ false)) ⊎ ((of_arrived (of_word any_brk) arrived ≡ true) × (k.acks ≡ false))
-        by (inr (n, x, y)) = let wrong : true ≡ false = sym (and-second (is_connected c.phase) (pends c.their_breaks.ack) e) ∙ ap pends n in cc
+        by (inr (n, x, y)) = let wrong : true ≡ false = sym (and-second (is_connected c.phase) (pends c.their_breaks.ack) e)
+            ∙ ap pends n in cc
         by (inl (q, f)) = on (ack-heard (ap (λ t. pends t.ack) (sym q) ∙ and-second (is_connected c.phase) (pends c.their_breaks.ack) e))
           where
-            on : (ack_due a ≡ true) ⊎ (of_arrived (of_word any_brk) arrived ≡ true) → ((ack_due a ≡ true) × (k.acks ≡ false)) ⊎ ((of_arrived (of_word any_brk) arrived ≡ true) × (k.acks ≡ false))
+            on : (ack_due a ≡ true) ⊎ (of_arrived (of_word any_brk) arrived ≡ true)
+                → ((ack_due a ≡ true) × (k.acks ≡ false)) ⊎ ((of_arrived (of_word any_brk) arrived ≡ true) × (k.acks ≡ false))
             on (inl x) = inl (x, f)
             on (inr x) = inr (x, f)
 
     acked : k.acks ≡ true → (ack_due a ≡ true) ⊎ (of_arrived (of_word any_brk) arrived ≡ true)
     acked e = by k.ack
       where
-        by : ((c.their_breaks ≡ b.their_breaks) × (k.acks ≡ false)) ⊎ ((c.their_breaks.ack ≡ None) × (pends b.their_breaks.ack ≡ true) × ((n : ℕ) → n < 2 → pends_of n b.their_breaks.ack ≡ true → of_frame (of_word (ack_of n)) said.sent ≡ true))
+        by : ((c.their_breaks ≡ b.their_breaks) × (k.acks ≡ false))
+            ⊎ ((c.their_breaks.ack ≡ None) × (pends b.their_breaks.ack ≡ true) × ((n : ℕ) → n < 2 → pends_of n b.their_breaks.ack ≡ true
+            → of_frame (of_word (ack_of n)) said.sent ≡ true))
             → (ack_due a ≡ true) ⊎ (of_arrived (of_word any_brk) arrived ≡ true)
         by (inl (q, f)) = clash k.acks e f
         by (inr (n, x, y)) = ack-heard x
 
     asked : (n : ℕ) → n < 2 → pends_of n b.their_breaks.ack ≡ true
-        → ((c.their_breaks ≡ b.their_breaks) × (k.acks ≡ false)) ⊎ ((c.their_breaks.ack ≡ None) × (pends b.their_breaks.ack ≡ true) × ((n : ℕ) → n < 2 → pends_of n b.their_breaks.ack ≡ true → of_frame (of_word (ack_of n)) said.sent ≡ true))
+        → ((c.their_breaks ≡ b.their_breaks) × (k.acks ≡ false))
+        ⊎ ((c.their_breaks.ack ≡ None) × (pends b.their_breaks.ack ≡ true) × ((n : ℕ) → n < 2 → pends_of n b.their_breaks.ack ≡ true
+        → of_frame (of_word (ack_of n)) said.sent ≡ true))
         → (ack_due_of n c ≡ true) ⊎ (of_frame (of_word (ack_of n)) said.sent ≡ true)
     asked n l e (inl (q, f)) = inl (and-true (is_connected c.phase) (pends_of n c.their_breaks.ack) cc' (ap (λ t. pends_of n t.ack) q ∙ e))
     asked n l e (inr (x, y, z)) = inr (z n l e)

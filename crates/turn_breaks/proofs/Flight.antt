@@ -1,49 +1,30 @@
 -- Once an originator is Connected, its peer hears no SABME any more: each one was answered, or is lost, before the next goes.
-use Rattle.std.proofs.Common.{◌⊎◌, inl, inr, ◌≡◌, ℕ, zero, suc, ◌+◌, ◌-◌, ◌*◌, ◌<◌, ◌≤◌, Bool, true, false, List, length, arith, refl, sym, ◌∙◌, ap, subst, Option, Some, None, Result, Ok, Err}
+use Rattle.std.proofs.Common.{◌⊎◌, inl, inr, ◌≡◌, ℕ, zero, suc, ◌+◌, ◌-◌, ◌*◌, ◌<◌, ◌≤◌, Bool, true, false, arith, refl, sym, ◌∙◌, ap, Ok}
 use Rattle.std.proofs.lemmas.Bool.{cases_lt}
-use Rattle.roles.specs.declared.role.Role.{Role}
-use Rattle.roles.specs.declared.role.Role.TheVariants.{Originator, Answerer}
-use Rattle.roles.specs.Both.{of}
 use Rattle.lapm_frames.specs.declared.frame.Frame.{Frame}
 use Rattle.lapm_frames.specs.declared.frame.Frame.TheVariants.{I, Rr, Rnr, Rej, Srej, Sabme, Disc, Ua, Dm, Frmr, Ui, Xid, Test}
-use Rattle.xid_params.specs.Offers.{ReadsWritten}
 use Rattle.slot_contents.specs.declared.sent.Sent.{Sent}
 use Rattle.slot_contents.specs.declared.sent.Sent.TheVariants as slots
 use Rattle.slot_contents.specs.declared.arrived.Arrived.{Arrived}
 use Rattle.slot_contents.specs.declared.arrived.Arrived.TheVariants as arrivals
 use Rattle.link_account.specs.declared.phase.Phase.{Phase}
 use Rattle.link_account.specs.declared.phase.Phase.TheVariants.{Detecting, Negotiating, Establishing, Connected, Releasing, Closed}
-use Rattle.link_account.specs.declared.fault.LinkFault.{LinkFault}
-use Rattle.link_account.specs.Account.{Account, is_connected}
-use Rattle.link_account.specs.Laws.{MayPlay}
-use Rattle.link_account.specs.Hear.{hear, on_frame, on_seen, on_establishing, on_nothing, connected}
-use Rattle.link_account.specs.Speak.{Said, speak}
-use Rattle.link_run.specs.End.{is_busy, is_released}
-use Rattle.link_run.specs.Run.{Link, Ends, Turn, SpeaksAt, arrival, served_at, said_at}
-use Rattle.turn_bound.specs.Time.{KeepsTime}
-use Rattle.turn_bound.proofs.MeetHear.{is_ua_due, frame_ua, frame_disc, of_frame, of_arrived}
-use Rattle.turn_bound.proofs.MeetSpeak.{SaysSo, speaks-so}
-use Rattle.turn_bound.proofs.Meeting.{s-ok}
-use Rattle.turn_bound.proofs.Serving.{Served, serves-all}
+use Rattle.link_account.specs.Account.{Account}
+use Rattle.link_account.specs.Hear.{hear, on_frame, on_seen, on_establishing, on_nothing}
+use Rattle.turn_bound.proofs.MeetHear.{frame_ua, frame_disc, of_frame, of_arrived}
 use Rattle.turn_periods.proofs.Polling.{is_linked}
-use Rattle.turn_periods.proofs.PollSpeak.{poll-speaks}
-use Rattle.turn_periods.proofs.NumberTurn.{speak-ok}
-use Rattle.turn_periods.proofs.Trace.{Deed, Happens, Trace, past, sent_or}
-use Rattle.turn_periods.proofs.TwoEnds.{EndRun, TwoEnds, end_run}
-use Rattle.turn_periods.proofs.Tracing.{Known, known}
+use Rattle.turn_periods.proofs.TwoEnds.{EndRun, TwoEnds}
 use Rattle.turn_periods.proofs.LineLaw.{was-sent}
-use Rattle.turn_periods.proofs.PollLaws.{two-ends, turned}
 use Rattle.turn_periods.proofs.PeriodLaws.{linked-on}
-use Rattle.turn_tries.proofs.Moving.{is_trying, moves_on, TryGoesOn, TryBegins, try-heard}
-use Rattle.turn_tries.proofs.Setups.{start-setup, heard-setup, served-setup}
-use Rattle.turn_tries.proofs.Phasing.{is_sabme, is_established, established-on}
-use Rattle.turn_tries.proofs.Trying.{TryTurn, tries-so}
-use Rattle.turn_breaks.proofs.Sabmes.{AnswerBy, answer-by}
-use Rattle.turn_breaks.proofs.Establishing.{SaidSabme, says-sabme, try-over}
+use Rattle.turn_tries.proofs.Moving.{moves_on}
+use Rattle.turn_tries.proofs.Phasing.{is_sabme, is_established}
+use Rattle.turn_tries.proofs.Trying.{TryTurn}
 
 -- an end that is Establishing, and is linked once it has heard, heard UA
-pub heard-ua : (arrived : Arrived) (turn : ℕ) (a mid : Account) → a.phase ≡ Establishing → hear turn arrived a ≡ Ok mid → is_linked mid.phase ≡ true → of_arrived (moves_on Establishing) arrived ≡ true
-heard-ua arrivals.Nothing turn a mid e h l = let same : on_nothing a ≡ mid = cc in let wrong : false ≡ true = sym (ap is_linked e) ∙ (ap (λ x. is_linked x.phase) same ∙ l) in cc
+pub heard-ua : (arrived : Arrived) (turn : ℕ) (a mid : Account) → a.phase ≡ Establishing → hear turn arrived a ≡ Ok mid
+    → is_linked mid.phase ≡ true → of_arrived (moves_on Establishing) arrived ≡ true
+heard-ua arrivals.Nothing turn a mid e h l = let same : on_nothing a ≡ mid = cc in let wrong : false ≡ true = sym (ap is_linked e)
+    ∙ (ap (λ x. is_linked x.phase) same ∙ l) in cc
 heard-ua (arrivals.Pattern seen) turn a mid e h l =
     let there : Ok (on_seen Establishing seen turn a) ≡ Ok mid = ap (λ p. Ok (on_seen p seen turn a)) (sym e) ∙ h in
     let same : a ≡ mid = cc in let wrong : false ≡ true = sym (ap is_linked e) ∙ (ap (λ x. is_linked x.phase) same ∙ l) in cc
@@ -102,13 +83,18 @@ not-true false f = refl
 
 -- the SABMEs of a run
 pub record Sabmes (period turns : ℕ) (o : EndRun) : Type 0 where
-  pub sent : (q : ℕ) → q < turns → of_frame is_sabme (o.slot q) ≡ true → ((o.account (q + 1)).phase ≡ Establishing) × ((o.account q).phase ≡ Establishing → q ≡ (o.account q).wait.try_set + period)
-  pub tries : (u : ℕ) → u < turns → (o.account (u + 1)).phase ≡ Establishing → TryTurn period u Establishing (o.heard u) (o.slot u) (o.account u) (o.account (u + 1))
+  pub sent : (q : ℕ) → q < turns → of_frame is_sabme (o.slot q) ≡ true
+      → ((o.account (q + 1)).phase ≡ Establishing) × ((o.account q).phase ≡ Establishing → q ≡ (o.account q).wait.try_set + period)
+  pub tries : (u : ℕ) → u < turns → (o.account (u + 1)).phase ≡ Establishing
+      → TryTurn period u Establishing (o.heard u) (o.slot u) (o.account u) (o.account (u + 1))
   pub established : (u : ℕ) → u < turns → is_established (o.account u).phase ≡ true → is_established (o.account (u + 1)).phase ≡ true
 
 -- two of them lie a period apart
-since-sabme : (period turns : ℕ) (o : EndRun) → Sabmes period turns o → (r n : ℕ) → r + 1 + n ≤ turns → of_frame is_sabme (o.slot r) ≡ true → ((u : ℕ) → r < u → u ≤ r + 1 + n → (o.account u).phase ≡ Establishing) → r ≤ (o.account (r + 1 + n)).wait.try_set
-since-sabme period turns o h r zero l sent all = let q = ap (λ x. (o.account x).wait.try_set) (same r) in let w = by (h.tries r (omega (arith, l)) (all (r + 1) (omega arith) (omega arith))) in omega (arith, q, w)
+since-sabme : (period turns : ℕ) (o : EndRun) → Sabmes period turns o → (r n : ℕ) → r + 1 + n ≤ turns
+    → of_frame is_sabme (o.slot r) ≡ true → ((u : ℕ) → r < u → u ≤ r + 1 + n → (o.account u).phase ≡ Establishing)
+    → r ≤ (o.account (r + 1 + n)).wait.try_set
+since-sabme period turns o h r zero l sent all = let q = ap (λ x. (o.account x).wait.try_set) (same r) in let w = by
+    (h.tries r (omega (arith, l)) (all (r + 1) (omega arith) (omega arith))) in omega (arith, q, w)
   where
     same : (x : ℕ) → x + 1 + 0 ≡ x + 1
     same x = omega arith
@@ -126,36 +112,47 @@ since-sabme period turns o h r (suc n) l sent all =
     next : (x y : ℕ) → x + 1 + suc y ≡ x + 1 + y + 1
     next x y = omega arith
 
-    by : r ≤ (o.account (r + 1 + n)).wait.try_set → TryTurn period (r + 1 + n) Establishing (o.heard (r + 1 + n)) (o.slot (r + 1 + n)) (o.account (r + 1 + n)) (o.account (r + 1 + n + 1)) → r ≤ (o.account (r + 1 + n + 1)).wait.try_set
+    by : r ≤ (o.account (r + 1 + n)).wait.try_set → TryTurn period (r + 1 + n) Establishing (o.heard (r + 1 + n)) (o.slot (r + 1 + n))
+        (o.account (r + 1 + n)) (o.account (r + 1 + n + 1)) → r ≤ (o.account (r + 1 + n + 1)).wait.try_set
     by b (inl (a, set, count, s)) = omega (arith, set)
     by b (inr (inl (g, due, set, count, s))) = omega (arith, set)
     by b (inr (inr (g, due, set, count))) = omega (arith, set, b)
 
-pub sabmes-apart : (period turns : ℕ) (o : EndRun) → Sabmes period turns o → (r q : ℕ) → r < q → q < turns → of_frame is_sabme (o.slot r) ≡ true → of_frame is_sabme (o.slot q) ≡ true → ((u : ℕ) → r < u → u ≤ q → (o.account u).phase ≡ Establishing) → r + period ≤ q
+pub sabmes-apart : (period turns : ℕ) (o : EndRun) → Sabmes period turns o → (r q : ℕ) → r < q → q < turns
+    → of_frame is_sabme (o.slot r) ≡ true → of_frame is_sabme (o.slot q) ≡ true
+    → ((u : ℕ) → r < u → u ≤ q → (o.account u).phase ≡ Establishing) → r + period ≤ q
 sabmes-apart period turns o h r q less within first second all =
     let same : r + 1 + (q - (r + 1)) ≡ q = omega (arith, less) in
-    let set = since-sabme period turns o h r (q - (r + 1)) (omega (arith, less, within)) first (λ u a b. all u a (omega (arith, b, same))) in
+    let set = since-sabme period turns o h r (q - (r + 1)) (omega (arith, less, within)) first
+    (λ u a b. all u a (omega (arith, b, same))) in
     let there = ap (λ x. (o.account x).wait.try_set) same in
     let due = (h.sent q within second).1 (all q less (omega arith)) in
     omega (arith, set, there, due)
 
 -- established for good, and linked somewhere
-linked-in : (turns : ℕ) (o : EndRun) (q n : ℕ) → is_linked (o.account q).phase ≡ false → is_linked (o.account (q + n)).phase ≡ true → (z : ℕ) × (q ≤ z) × (z < q + n) × (is_linked (o.account z).phase ≡ false) × (is_linked (o.account (z + 1)).phase ≡ true)
-linked-in turns o q zero u l = let same : is_linked (o.account (q + 0)).phase ≡ is_linked (o.account q).phase = ap (λ x. is_linked (o.account x).phase) (omega arith) in let wrong : true ≡ false = sym l ∙ (same ∙ u) in cc
+linked-in : (turns : ℕ) (o : EndRun) (q n : ℕ) → is_linked (o.account q).phase ≡ false → is_linked (o.account (q + n)).phase ≡ true
+    → (z : ℕ) × (q ≤ z) × (z < q + n) × (is_linked (o.account z).phase ≡ false) × (is_linked (o.account (z + 1)).phase ≡ true)
+linked-in turns o q zero u l = let same : is_linked (o.account (q + 0)).phase ≡ is_linked (o.account q).phase = ap
+    (λ x. is_linked (o.account x).phase) (omega arith) in let wrong : true ≡ false = sym l ∙ (same ∙ u) in cc
 linked-in turns o q (suc n) u l = by (is_linked (o.account (q + n)).phase) refl (λ f. linked-in turns o q n u f)
   where
-    by : (b : Bool) → is_linked (o.account (q + n)).phase ≡ b → (is_linked (o.account (q + n)).phase ≡ true → (z : ℕ) × (q ≤ z) × (z < q + n) × (is_linked (o.account z).phase ≡ false) × (is_linked (o.account (z + 1)).phase ≡ true))
+    by : (b : Bool) → is_linked (o.account (q + n)).phase ≡ b
+        → (is_linked (o.account (q + n)).phase ≡ true → (z : ℕ) × (q ≤ z) × (z < q + n) × (is_linked (o.account z).phase ≡ false)
+        × (is_linked (o.account (z + 1)).phase ≡ true))
         → (z : ℕ) × (q ≤ z) × (z < q + suc n) × (is_linked (o.account z).phase ≡ false) × (is_linked (o.account (z + 1)).phase ≡ true)
     by true f again = let x = again f in let b = x.2 in (x.0, x.1, omega (arith, b), x.3, x.4)
     by false f again = (q + n, omega arith, omega arith, f, ap (λ x. is_linked (o.account x).phase) (omega arith) ∙ l)
 
 -- what the two ends of a run make of SABME and UA
 pub record Meeting (turns : ℕ) (o e : EndRun) : Type 0 where
-  pub ua_heard : (z : ℕ) → z < turns → (o.account z).phase ≡ Establishing → is_linked (o.account (z + 1)).phase ≡ true → of_arrived (moves_on Establishing) (o.heard z) ≡ true
-  pub ua_sent : (y : ℕ) → y < turns → of_frame (moves_on Establishing) (e.slot y) ≡ true → (of_arrived is_sabme (e.heard y) ≡ true) ⊎ (of_arrived frame_disc (e.heard y) ≡ true)
+  pub ua_heard : (z : ℕ) → z < turns → (o.account z).phase ≡ Establishing → is_linked (o.account (z + 1)).phase ≡ true
+      → of_arrived (moves_on Establishing) (o.heard z) ≡ true
+  pub ua_sent : (y : ℕ) → y < turns → of_frame (moves_on Establishing) (e.slot y) ≡ true
+      → (of_arrived is_sabme (e.heard y) ≡ true) ⊎ (of_arrived frame_disc (e.heard y) ≡ true)
   pub disc_sent : (y : ℕ) → y < turns → of_frame frame_disc (o.slot y) ≡ true → is_linked (o.account (y + 1)).phase ≡ true
 
-pub no-sabme-heard : (period turns : ℕ) (o e : EndRun) → TwoEnds period turns o e → Sabmes period turns o → Meeting turns o e → (s : ℕ) → s < turns → is_linked (o.account (s + 1)).phase ≡ true → (t : ℕ) → s ≤ t → t < turns → of_arrived is_sabme (e.heard t) ≡ true → ⊥
+pub no-sabme-heard : (period turns : ℕ) (o e : EndRun) → TwoEnds period turns o e → Sabmes period turns o → Meeting turns o e → (s : ℕ)
+    → s < turns → is_linked (o.account (s + 1)).phase ≡ true → (t : ℕ) → s ≤ t → t < turns → of_arrived is_sabme (e.heard t) ≡ true → ⊥
 no-sabme-heard period turns o e k h m s inside linked t low within heard = by (cases_lt s q)
   where
     p : period ≡ 2 * (o.delay + e.delay) + 16
@@ -176,15 +173,18 @@ no-sabme-heard period turns o e k h m s inside linked t low within heard = by (c
     was : (o.account (q + 1)).phase ≡ Establishing
     was = (h.sent q (omega (arith, within)) came.1).0
 
-    established : (n : ℕ) (u : ℕ) → u + n ≤ turns → is_established (o.account u).phase ≡ true → is_established (o.account (u + n)).phase ≡ true
+    established : (n : ℕ) (u : ℕ) → u + n ≤ turns → is_established (o.account u).phase ≡ true
+        → is_established (o.account (u + n)).phase ≡ true
     established n u l f = up n l
       where
         up : (j : ℕ) → u + j ≤ turns → is_established (o.account (u + j)).phase ≡ true
         up zero g = ap (λ x. is_established (o.account x).phase) (omega arith) ∙ f
-        up (suc j) g = ap (λ x. is_established (o.account x).phase) (omega arith) ∙ h.established (u + j) (omega (arith, g)) (up j (omega (arith, g)))
+        up (suc j) g = ap (λ x. is_established (o.account x).phase) (omega arith)
+            ∙ h.established (u + j) (omega (arith, g)) (up j (omega (arith, g)))
 
     -- all between are Establishing
-    between : (r z : ℕ) → r ≤ turns → z ≤ turns → is_established (o.account r).phase ≡ true → is_linked (o.account z).phase ≡ false → (u : ℕ) → r ≤ u → u ≤ z → (o.account u).phase ≡ Establishing
+    between : (r z : ℕ) → r ≤ turns → z ≤ turns → is_established (o.account r).phase ≡ true → is_linked (o.account z).phase ≡ false
+        → (u : ℕ) → r ≤ u → u ≤ z → (o.account u).phase ≡ Establishing
     between r z rl zl f g u a b = only-establishing (o.account u).phase
         (ap (λ x. is_established (o.account x).phase) (omega (arith, a)) ∙ established (u - r) r (omega (arith, a, b, zl)) f)
         (not-true (is_linked (o.account u).phase) (λ j. let wrong : true ≡ false = sym (linked-on period turns o e k u z b zl j) ∙ g in cc))
@@ -193,20 +193,23 @@ no-sabme-heard period turns o e k h m s inside linked t low within heard = by (c
     meets z a b u l = on (m.ua_sent y (omega (arith, within, b, low)) sent.1)
       where
         zp : (o.account z).phase ≡ Establishing
-        zp = between (q + 1) z (omega (arith, within, d)) (omega (arith, b, inside)) (ap is_established was) u z (omega (arith, a)) (omega arith)
+        zp = between (q + 1) z (omega (arith, within, d)) (omega (arith, b, inside)) (ap is_established was) u z (omega (arith, a))
+            (omega arith)
 
         y : ℕ
         y = z - e.delay
 
         sent : (e.delay ≤ z) × (of_frame (moves_on Establishing) (e.slot y) ≡ true)
-        sent = was-sent e.delay turns (moves_on Establishing) e.slot o.heard o.loses k.hears z (omega (arith, b, inside)) (m.ua_heard z (omega (arith, b, inside)) zp l)
+        sent = was-sent e.delay turns (moves_on Establishing) e.slot o.heard o.loses k.hears z (omega (arith, b, inside))
+            (m.ua_heard z (omega (arith, b, inside)) zp l)
 
         on : (of_arrived is_sabme (e.heard y) ≡ true) ⊎ (of_arrived frame_disc (e.heard y) ≡ true) → ⊥
         on (inr f) =
             let c = was-sent o.delay turns frame_disc o.slot e.heard e.loses k.is_heard y (omega (arith, within, b, low)) f in
             let c0 = c.0 in let s0 = sent.0 in
             let j = m.disc_sent (y - o.delay) (omega (arith, within, b, low)) c.1 in
-            let wrong : true ≡ false = sym (linked-on period turns o e k (y - o.delay + 1) z (omega (arith, c0, s0, d')) (omega (arith, b, inside)) j) ∙ u in cc
+            let wrong : true ≡ false = sym
+            (linked-on period turns o e k (y - o.delay + 1) z (omega (arith, c0, s0, d')) (omega (arith, b, inside)) j) ∙ u in cc
         on (inl f) = compare (cases_lt r q)
           where
             c : (o.delay ≤ y) × (of_frame is_sabme (o.slot (y - o.delay)) ≡ true)
@@ -219,15 +222,21 @@ no-sabme-heard period turns o e k h m s inside linked t low within heard = by (c
             compare (inr g) = let c0 = c.0 in let s0 = sent.0 in let t0 = came.0 in omega (arith, g, c0, s0, t0, b, low, d')
             compare (inl g) =
                 let c0 = c.0 in let s0 = sent.0 in
-                let far = sabmes-apart period turns o h r q g (omega (arith, within)) c.1 came.1 (λ x i j. between (r + 1) z (omega (arith, g, within)) (omega (arith, b, inside)) (ap is_established (h.sent r (omega (arith, g, within)) c.1).0) u x (omega (arith, i)) (omega (arith, j, a))) in
+                let far = sabmes-apart period turns o h r q g (omega (arith, within)) c.1 came.1
+                (λ x i j. between (r + 1) z (omega (arith, g, within)) (omega (arith, b, inside))
+                (ap is_established (h.sent r (omega (arith, g, within)) c.1).0) u x (omega (arith, i)) (omega (arith, j, a))) in
                 omega (arith, far, c0, s0, a, p)
 
     by : (s < q) ⊎ (q ≤ s) → ⊥
-    by (inl g) = let wrong : true ≡ false = sym (linked-on period turns o e k (s + 1) (q + 1) (omega (arith, g)) (omega (arith, within)) linked) ∙ ap is_linked was in cc
+    by (inl g) = let wrong : true ≡ false = sym
+        (linked-on period turns o e k (s + 1) (q + 1) (omega (arith, g)) (omega (arith, within)) linked) ∙ ap is_linked was in cc
     by (inr g) = elim (cases_lt q s) [
-      | inl l ↦ found (linked-in turns o (q + 1) (s - q) (ap is_linked was) (ap (λ x. is_linked (o.account x).phase) (omega (arith, l)) ∙ linked))
-      | inr l ↦ let same : s + 1 ≡ q + 1 = omega (arith, l, g) in let wrong : true ≡ false = sym linked ∙ (ap (λ x. is_linked (o.account x).phase) same ∙ ap is_linked was) in cc
+      | inl l ↦ found (linked-in turns o (q + 1) (s - q) (ap is_linked was) (ap (λ x. is_linked (o.account x).phase) (omega (arith, l))
+          ∙ linked))
+      | inr l ↦ let same : s + 1 ≡ q + 1 = omega (arith, l, g) in let wrong : true ≡ false = sym linked
+          ∙ (ap (λ x. is_linked (o.account x).phase) same ∙ ap is_linked was) in cc
     ]
       where
-        found : (z : ℕ) × (q + 1 ≤ z) × (z < q + 1 + (s - q)) × (is_linked (o.account z).phase ≡ false) × (is_linked (o.account (z + 1)).phase ≡ true) → ⊥
+        found : (z : ℕ) × (q + 1 ≤ z) × (z < q + 1 + (s - q)) × (is_linked (o.account z).phase ≡ false)
+            × (is_linked (o.account (z + 1)).phase ≡ true) → ⊥
         found (z, a, b, u, l) = meets z (omega (arith, a)) (omega (arith, b, g)) u l

@@ -1,16 +1,13 @@
 -- Where an originator is Connected, no SABME of its is on its way; so no UA is due at its peer.
-use Rattle.std.proofs.Common.{◌⊎◌, inl, inr, ◌≡◌, ◌≢◌, ℕ, zero, suc, ◌+◌, ◌-◌, ◌*◌, ◌<◌, ◌≤◌, ◌&&◌, ◌||◌, Bool, true, false, cond, nat_eq, nat_le, List, length, arith, refl, sym, ◌∙◌, ap, subst, Option, Some, None, Result, Ok, Err}
+use Rattle.std.proofs.Common.{◌⊎◌, inl, inr, ◌≡◌, ℕ, ◌&&◌, ◌||◌, Bool, true, false, cond, refl, sym, ◌∙◌, ap, subst, Option, Some, None, Result, Ok, Err}
 use Rattle.std.specs.Prelude.{is_some}
-use Rattle.std.proofs.lemmas.Bool.{cases_lt}
-use Rattle.std.proofs.lemmas.Bool.Decides.{nat_tests}
 use Rattle.roles.specs.declared.role.Role.{Role}
 use Rattle.roles.specs.declared.role.Role.TheVariants.{Originator, Answerer}
 use Rattle.roles.specs.Role.{is_originator}
-use Rattle.roles.specs.Both.{of}
 use Rattle.lapm_frames.specs.declared.frame.Frame.{Frame}
 use Rattle.lapm_frames.specs.declared.frame.Frame.TheVariants.{I, Rr, Rnr, Rej, Srej, Sabme, Disc, Ua, Dm, Frmr, Ui, Xid, Test}
 use Rattle.xid_params.specs.declared.offer.Offer.{Offer}
-use Rattle.xid_params.specs.Offers.{offer_in, written, ReadsWritten}
+use Rattle.xid_params.specs.Offers.{offer_in}
 use Rattle.lapm_sender.specs.Outgoing.{Outgoing, acknowledged, selected}
 use Rattle.break_signals.specs.declared.word.BreakWord.{BreakWord}
 use Rattle.break_signals.specs.declared.word.BreakWord.TheVariants.{Brk, Ack}
@@ -18,22 +15,15 @@ use Rattle.break_signals.specs.declared.fault.BreakFault.{BreakFault}
 use Rattle.break_signals.specs.Words.{word_in}
 use Rattle.slot_contents.specs.declared.seen.Seen.{Seen}
 use Rattle.slot_contents.specs.declared.seen.Seen.TheVariants.{Odp, Adp}
-use Rattle.slot_contents.specs.declared.sent.Sent.{Sent}
-use Rattle.slot_contents.specs.declared.sent.Sent.TheVariants as slots
 use Rattle.slot_contents.specs.declared.arrived.Arrived.{Arrived}
 use Rattle.slot_contents.specs.declared.arrived.Arrived.TheVariants as arrivals
 use Rattle.link_account.specs.declared.phase.Phase.{Phase}
 use Rattle.link_account.specs.declared.phase.Phase.TheVariants.{Detecting, Negotiating, Establishing, Connected, Releasing, Closed}
 use Rattle.link_account.specs.declared.fault.LinkFault.{LinkFault}
-use Rattle.link_account.specs.declared.fault.LinkFault.TheVariants.{NotDetected}
-use Rattle.link_account.specs.declared.answer.Answer.{Answer}
 use Rattle.link_account.specs.declared.answer.Answer.TheVariants as answers
 use Rattle.link_account.specs.Account.{Account, is_connected}
-use Rattle.link_account.specs.Laws.{MayPlay}
 use Rattle.link_account.specs.Hear.{hear, on_frame, on_seen, on_pattern, on_nothing, without_adp, on_detecting, on_negotiating, on_establishing, on_releasing, on_closed, on_connected, on_number, then_in, replying, taking, hurrying, pausing, ends_wait, on_disc, on_word, peer_reset, on_xid_command, on_xid_response, owing, trying, connected, timer_after}
-use Rattle.link_account.specs.Speak.{Said, says, says_frame, else_says, where_says, spent, answering, trying_again, tries_frame, u_try, speak, speak_in, speak_detecting, speak_negotiating, speak_linked, speak_releasing}
-use Rattle.turn_bound.proofs.MeetHear.{is_ua_due, frame_ua, frame_disc, of_frame, of_arrived}
-use Rattle.turn_periods.proofs.Polling.{is_linked}
+use Rattle.turn_bound.proofs.MeetHear.{is_ua_due, frame_disc, of_arrived}
 use Rattle.turn_tries.proofs.Phasing.{is_sabme}
 
 -- What makes an answer due.
@@ -46,7 +36,11 @@ AnswersBy arrived (Err fault) = Unit {0}
 AnswersBy arrived (Ok b) = AnswerBy arrived b
 
 none-by : (arrived : Arrived) (b : Account) → b.owes.answer ≡ None → AnswerBy arrived b
-none-by arrived b e = record { ua = λ h. let wrong : true ≡ false = sym h ∙ ap is_ua_due e in cc; some = λ c h. let wrong : true ≡ false = sym h ∙ ap is_some e in cc }
+none-by arrived b e = record {
+  ua = λ h. let wrong : true ≡ false = sym h
+      ∙ ap is_ua_due e in cc;
+  some = λ c h. let wrong : true ≡ false = sym h ∙ ap is_some e in cc;
+}
 
 sabme-by : (pf : Bool) (b : Account) → AnswerBy (arrivals.Frame (Sabme pf)) b
 sabme-by pf b = record { ua = λ h. inl refl; some = λ c h. refl }
@@ -56,24 +50,39 @@ disc-by pf b n = record { ua = λ h. inr refl; some = λ c h. let wrong : true �
 
 -- another answer
 other-by : (arrived : Arrived) (b : Account) → is_ua_due b.owes.answer ≡ false → is_connected b.phase ≡ false → AnswerBy arrived b
-other-by arrived b u n = record { ua = λ h. let wrong : true ≡ false = sym h ∙ u in cc; some = λ c h. let wrong : true ≡ false = sym c ∙ n in cc }
+other-by arrived b u n = record {
+  ua = λ h. let wrong : true ≡ false = sym h ∙ u in cc;
+  some = λ c h. let wrong : true ≡ false = sym c
+      ∙ n in cc;
+}
 
-number-by : (turn nr : ℕ) (arrived : Arrived) (a : Account) (f : Account → Account) (m : Option Outgoing) → a.owes.answer ≡ None → ((b : Account) → (f b).owes.answer ≡ b.owes.answer) → AnswersBy arrived (then_in f (on_number turn nr m a))
+number-by : (turn nr : ℕ) (arrived : Arrived) (a : Account) (f : Account → Account) (m : Option Outgoing) → a.owes.answer ≡ None
+    → ((b : Account) → (f b).owes.answer ≡ b.owes.answer) → AnswersBy arrived (then_in f (on_number turn nr m a))
 number-by turn nr arrived a f None e same = tt
 number-by turn nr arrived a f (Some o) e same =
-    let b : Account = record a { numbered = true; outgoing = o; wait = record a.wait { timer = timer_after turn a.outgoing o a.wait.timer } } in
+    let b : Account = record a
+    { numbered = true; outgoing = o; wait = record a.wait { timer = timer_after turn a.outgoing o a.wait.timer } } in
     none-by arrived (f b) (same b ∙ e)
 
-connected-by : (frame : Frame) (turn : ℕ) (a : Account) → a.owes.answer ≡ None → AnswersBy (arrivals.Frame frame) (on_connected frame turn a)
-connected-by (I ns nr pf info) turn a e = number-by turn nr (arrivals.Frame (I ns nr pf info)) a (λ b. replying pf (taking ns info b)) (acknowledged nr a.outgoing) e (λ b. refl)
-connected-by (Rr command nr pf) turn a e = number-by turn nr (arrivals.Frame (Rr command nr pf)) a (λ b. hurrying (ends_wait command pf a) (replying (command && pf) b)) _ e (λ b. refl)
-connected-by (Rnr command nr pf) turn a e = number-by turn nr (arrivals.Frame (Rnr command nr pf)) a (λ b. pausing turn (replying (command && pf) b)) _ e (λ b. refl)
-connected-by (Rej command nr pf) turn a e = number-by turn nr (arrivals.Frame (Rej command nr pf)) a (λ b. hurrying (ends_wait command pf a) (replying (command && pf) b)) _ e (λ b. refl)
+connected-by : (frame : Frame) (turn : ℕ) (a : Account) → a.owes.answer ≡ None
+    → AnswersBy (arrivals.Frame frame) (on_connected frame turn a)
+connected-by (I ns nr pf info) turn a e = number-by turn nr (arrivals.Frame (I ns nr pf info)) a (λ b. replying pf (taking ns info b))
+    (acknowledged nr a.outgoing) e (λ b. refl)
+connected-by (Rr command nr pf) turn a e = number-by turn nr (arrivals.Frame (Rr command nr pf)) a
+    (λ b. hurrying (ends_wait command pf a) (replying (command && pf) b)) _ e (λ b. refl)
+connected-by (Rnr command nr pf) turn a e = number-by turn nr (arrivals.Frame (Rnr command nr pf)) a
+    (λ b. pausing turn (replying (command && pf) b)) _ e (λ b. refl)
+connected-by (Rej command nr pf) turn a e = number-by turn nr (arrivals.Frame (Rej command nr pf)) a
+    (λ b. hurrying (ends_wait command pf a) (replying (command && pf) b)) _ e (λ b. refl)
 connected-by (Srej command nr pf) turn a e = go (selected nr a.outgoing)
   where
     go : (m : Option Outgoing) → AnswersBy (arrivals.Frame (Srej command nr pf)) (on_number turn nr m a)
     go None = tt
-    go (Some o) = record { ua = λ h. let wrong : true ≡ false = sym h ∙ ap is_ua_due e in cc; some = λ c h. let wrong : true ≡ false = sym h ∙ ap is_some e in cc }
+    go (Some o) = record {
+      ua = λ h. let wrong : true ≡ false = sym h
+          ∙ ap is_ua_due e in cc;
+      some = λ c h. let wrong : true ≡ false = sym h ∙ ap is_some e in cc;
+    }
 connected-by (Sabme pf) turn a e = go (a.numbered || is_originator a.setup.role)
   where
     go : (b : Bool) → AnswersBy (arrivals.Frame (Sabme pf)) (cond b (Err (peer_reset a)) (Ok (owing (answers.Ua pf) a)))
@@ -90,13 +99,22 @@ connected-by (Frmr pf info) turn a e = tt
 connected-by (Ui command pf info) turn a e = go (word_in info)
   where
     go : (w : Result BreakWord BreakFault) → AnswersBy (arrivals.Frame (Ui command pf info)) (Ok (on_word turn w a))
-    go (Ok (Brk n l)) = record { ua = λ h. let wrong : true ≡ false = sym h ∙ ap is_ua_due e in cc; some = λ c h. let wrong : true ≡ false = sym h ∙ ap is_some e in cc }
-    go (Ok (Ack n l)) = record { ua = λ h. let wrong : true ≡ false = sym h ∙ ap is_ua_due e in cc; some = λ c h. let wrong : true ≡ false = sym h ∙ ap is_some e in cc }
+    go (Ok (Brk n l)) = record {
+      ua = λ h. let wrong : true ≡ false = sym h
+          ∙ ap is_ua_due e in cc;
+      some = λ c h. let wrong : true ≡ false = sym h ∙ ap is_some e in cc;
+    }
+    go (Ok (Ack n l)) = record {
+      ua = λ h. let wrong : true ≡ false = sym h
+          ∙ ap is_ua_due e in cc;
+      some = λ c h. let wrong : true ≡ false = sym h ∙ ap is_some e in cc;
+    }
     go (Err fault) = none-by (arrivals.Frame (Ui command pf info)) a e
 connected-by (Xid command pf info) turn a e = none-by (arrivals.Frame (Xid command pf info)) a e
 connected-by (Test command pf info) turn a e = none-by (arrivals.Frame (Test command pf info)) a e
 
-frame-by : (p : Phase) (frame : Frame) (turn : ℕ) (a : Account) → a.phase ≡ p → a.owes.answer ≡ None → AnswersBy (arrivals.Frame frame) (on_frame p frame turn a)
+frame-by : (p : Phase) (frame : Frame) (turn : ℕ) (a : Account) → a.phase ≡ p → a.owes.answer ≡ None
+    → AnswersBy (arrivals.Frame frame) (on_frame p frame turn a)
 frame-by Detecting frame turn a e n = go a.setup.role frame
   where
     commanded : (f : Frame) (m : Option Offer) → AnswerBy (arrivals.Frame f) (on_xid_command m a)
@@ -162,7 +180,8 @@ by-all (arrivals.Pattern seen) turn a n = go a.phase refl
     go Closed e = none-by (arrivals.Pattern seen) a n
 by-all (arrivals.Frame frame) turn a n = frame-by a.phase frame turn a refl n
 
-pub answer-by : (arrived : Arrived) (turn : ℕ) (a mid : Account) → a.owes.answer ≡ None → hear turn arrived a ≡ Ok mid → AnswerBy arrived mid
+pub answer-by : (arrived : Arrived) (turn : ℕ) (a mid : Account) → a.owes.answer ≡ None → hear turn arrived a ≡ Ok mid
+    → AnswerBy arrived mid
 answer-by arrived turn a mid n h = go (hear turn arrived a) h (by-all arrived turn a n)
   where
     go : (r : Result Account LinkFault) → r ≡ Ok mid → AnswersBy arrived r → AnswerBy arrived mid

@@ -54,35 +54,52 @@ pub record SpendsTries (turn : ℕ) (b : Account) : Type 0 where
   pub now : turn ≡ set + b.setup.period
   pub count : b.outgoing.count ≡ b.outgoing.tries
 
-linked-why : (turn : ℕ) (b : Account) (fault : LinkFault) → waits b.own_breaks ≡ false → speak_linked turn b ≡ Err fault → SpendsTries turn b
+linked-why : (turn : ℕ) (b : Account) (fault : LinkFault) → waits b.own_breaks ≡ false → speak_linked turn b ≡ Err fault
+    → SpendsTries turn b
 linked-why turn b fault none h = timed b.wait.timer refl h
   where
     well : (c : Account) → c.own_breaks ≡ b.own_breaks → after_timers turn b.special (on_break_timer turn c) ≡ Err fault → ⊥
-    well c own q = by (waits c.own_breaks) (ap waits own ∙ none) (nat_eq turn (c.own_breaks.set + c.setup.period)) (nat_eq c.own_breaks.count c.setup.tries) q
+    well c own q = by (waits c.own_breaks) (ap waits own ∙ none) (nat_eq turn (c.own_breaks.set + c.setup.period))
+        (nat_eq c.own_breaks.count c.setup.tries) q
       where
         by : (w : Bool) → w ≡ false → (due s : Bool)
-            → after_timers turn b.special (breaking turn (cond (w && due) (cond s None (Some (record c.own_breaks { brk = true; set = turn; count = c.own_breaks.count + 1 }))) (Some c.own_breaks)) c) ≡ Err fault → ⊥
+            → after_timers turn b.special
+                (breaking turn (cond (w && due)
+                (cond s None (Some (record c.own_breaks { brk = true; set = turn; count = c.own_breaks.count + 1 }))) (Some c.own_breaks))
+                c) ≡ Err fault → ⊥
         by false e due s q = cc
         by true e due s q = cc
 
-    timed : (timer : Option ℕ) → b.wait.timer ≡ timer → after_timers turn b.special (then_tries turn (cond (timer_expires turn b timer) (polling turn (expired b.outgoing) b) (Ok b))) ≡ Err fault → SpendsTries turn b
+    timed : (timer : Option ℕ) → b.wait.timer ≡ timer
+        → after_timers turn b.special
+        (then_tries turn (cond (timer_expires turn b timer) (polling turn (expired b.outgoing) b) (Ok b))) ≡ Err fault
+        → SpendsTries turn b
     timed None e q = absurd (well b refl q)
     timed (Some set) e q = go (nat_eq turn (set + b.setup.period)) refl (nat_eq b.outgoing.count b.outgoing.tries) refl q
       where
         go : (due : Bool) → nat_eq turn (set + b.setup.period) ≡ due → (s : Bool) → nat_eq b.outgoing.count b.outgoing.tries ≡ s
-            → after_timers turn b.special (then_tries turn (cond due (polling turn (cond s None (Some (record b.outgoing { count = b.outgoing.count + 1; awaited = true }))) b) (Ok b))) ≡ Err fault → SpendsTries turn b
+            → after_timers turn b.special
+                (then_tries turn (cond due
+                (polling turn (cond s None (Some (record b.outgoing { count = b.outgoing.count + 1; awaited = true }))) b) (Ok b))) ≡ Err
+                fault → SpendsTries turn b
         go false d s f q = absurd (well b refl q)
-        go true d false f q = absurd (well (record b { outgoing = record b.outgoing { count = b.outgoing.count + 1; awaited = true }; wait = record b.wait { poll = true; timer = Some turn } }) refl q)
+        go true d false f q = absurd
+            (well (record b { outgoing = record b.outgoing { count = b.outgoing.count + 1; awaited = true }; wait = record b.wait
+            { poll = true; timer = Some turn } }) refl q)
         go true d true f q = record { set = set; runs = e; now = grind (arith, nat_tests, d); count = grind (arith, nat_tests, f) }
 
-pub connected-why : (turn : ℕ) (release : Bool) (b : Account) (fault : LinkFault) → b.phase ≡ Connected → 1 ≤ b.setup.period → waits b.own_breaks ≡ false → speak turn release b ≡ Err fault → SpendsTries turn b
-connected-why turn release b fault e long none h = go (release && is_originator b.setup.role) (sym (ap (λ p. speak_in p turn release b) e) ∙ h)
+pub connected-why : (turn : ℕ) (release : Bool) (b : Account) (fault : LinkFault) → b.phase ≡ Connected → 1 ≤ b.setup.period
+    → waits b.own_breaks ≡ false → speak turn release b ≡ Err fault → SpendsTries turn b
+connected-why turn release b fault e long none h = go (release && is_originator b.setup.role)
+    (sym (ap (λ p. speak_in p turn release b) e) ∙ h)
   where
     later : nat_eq turn (turn + b.setup.period) ≡ false
     later = grind (arith, nat_tests, long)
 
     by : (due : Bool) → due ≡ false
-        → cond due (cond (nat_eq 0 b.setup.tries) (Err (spent turn (trying Releasing turn b))) (Ok (tries_frame (Disc true) (trying_again turn (trying Releasing turn b))))) (Ok (tries_frame (Disc true) (trying Releasing turn b))) ≡ Err fault → SpendsTries turn b
+        → cond due (cond (nat_eq 0 b.setup.tries) (Err (spent turn (trying Releasing turn b)))
+            (Ok (tries_frame (Disc true) (trying_again turn (trying Releasing turn b)))))
+            (Ok (tries_frame (Disc true) (trying Releasing turn b))) ≡ Err fault → SpendsTries turn b
     by false f q = cc
     by true f q = cc
 
@@ -98,8 +115,10 @@ pub record LastTry (tries period turn : ℕ) (a : Account) : Type 0 where
   pub now : turn ≡ set + period
   pub count : a.outgoing.count ≡ tries
 
-pub last-try-of : (tries period : ℕ) (user : User) (turn : ℕ) (role : Role) (arrived : Arrived) (a mid : Account) (released : Bool) → AreRates (rates tries period) → IsOf (rates tries period) a.setup
-    → Stands (rates tries period) turn turn role a.phase a → a.setup.role ≡ role → NoneDue a → (is_linked a.phase ≡ false → is_connected mid.phase ≡ true → mid.outgoing.count ≡ 0)
+pub last-try-of : (tries period : ℕ) (user : User) (turn : ℕ) (role : Role) (arrived : Arrived) (a mid : Account) (released : Bool)
+    → AreRates (rates tries period) → IsOf (rates tries period) a.setup
+    → Stands (rates tries period) turn turn role a.phase a → a.setup.role ≡ role → NoneDue a
+        → (is_linked a.phase ≡ false → is_connected mid.phase ≡ true → mid.outgoing.count ≡ 0)
     → hear turn arrived a ≡ Ok mid → is_connected mid.phase ≡ true → SpendsTries turn (served_account user turn released mid)
     → LastTry tries period turn a
 last-try-of tries period user turn role arrived a mid released y k h er none begins hears cm why = from (polls.from cm)
@@ -113,12 +132,16 @@ last-try-of tries period user turn role arrived a mid released y k h er none beg
     s : Served turn (length user.breaks) (is_busy turn user.busy) mid b
     s = serves-all user turn released mid
 
-    heard : (q : Phase) × HeardAs z (length a.outgoing.pieces) (length user.breaks) turn (z.quota * arrived_rnrs arrived) role a.phase a q mid
-    heard = heard-ok z (length a.outgoing.pieces) (length user.breaks) turn (z.quota * arrived_rnrs arrived) role a.phase a mid (hear turn arrived a) hears
+    heard : (q : Phase) × HeardAs z (length a.outgoing.pieces) (length user.breaks) turn
+        (z.quota * arrived_rnrs arrived) role a.phase a q mid
+    heard = heard-ok z (length a.outgoing.pieces) (length user.breaks) turn (z.quota * arrived_rnrs arrived) role a.phase a mid
+        (hear turn arrived a) hears
         (hears-well z (length a.outgoing.pieces) (length user.breaks) turn role a.phase arrived a y k h refl er (omega arith))
 
     sends : Sends z (turn + 1) turn b.outgoing b.wait.timer
-    sends = linked-sends z (turn + 1) turn role heard.0 b (serves-well z (length a.outgoing.pieces) (length user.breaks) turn (is_busy turn user.busy) role heard.0 mid b y heard.1.stands heard.1.phase s).stands
+    sends = linked-sends z (turn + 1) turn role heard.0 b
+        (serves-well z (length a.outgoing.pieces) (length user.breaks) turn
+        (is_busy turn user.busy) role heard.0 mid b y heard.1.stands heard.1.phase s).stands
         (ap is_connected (sym heard.1.phase) ∙ cm)
 
     per : b.setup.period ≡ period
@@ -148,11 +171,15 @@ last-try-of tries period user turn role arrived a mid released y k h er none beg
         }
 
 -- so it is where no break waits
-pub last-try : (tries period : ℕ) (user : User) (turn : ℕ) (role : Role) (arrived : Arrived) (a mid : Account) (released release : Bool) (fault : LinkFault) → AreRates (rates tries period) → IsOf (rates tries period) a.setup
-    → Stands (rates tries period) turn turn role a.phase a → a.setup.role ≡ role → NoneDue a → (is_linked a.phase ≡ false → is_connected mid.phase ≡ true → mid.outgoing.count ≡ 0)
-    → hear turn arrived a ≡ Ok mid → is_connected mid.phase ≡ true → waits (served_account user turn released mid).own_breaks ≡ false → speak turn release (served_account user turn released mid) ≡ Err fault
+pub last-try : (tries period : ℕ) (user : User) (turn : ℕ) (role : Role) (arrived : Arrived) (a mid : Account) (released release : Bool)
+    (fault : LinkFault) → AreRates (rates tries period) → IsOf (rates tries period) a.setup
+    → Stands (rates tries period) turn turn role a.phase a → a.setup.role ≡ role → NoneDue a
+        → (is_linked a.phase ≡ false → is_connected mid.phase ≡ true → mid.outgoing.count ≡ 0)
+    → hear turn arrived a ≡ Ok mid → is_connected mid.phase ≡ true → waits (served_account user turn released mid).own_breaks ≡ false
+        → speak turn release (served_account user turn released mid) ≡ Err fault
     → LastTry tries period turn a
-last-try tries period user turn role arrived a mid released release fault y k h er none begins hears cm quiet breaks = last-try-of tries period user turn role arrived a mid released y k h er none begins hears cm why
+last-try tries period user turn role arrived a mid released release fault y k h er none begins hears cm quiet breaks = last-try-of tries
+    period user turn role arrived a mid released y k h er none begins hears cm why
   where
     z : Rates
     z = rates tries period
@@ -163,15 +190,18 @@ last-try tries period user turn role arrived a mid released release fault y k h 
     s : Served turn (length user.breaks) (is_busy turn user.busy) mid b
     s = serves-all user turn released mid
 
-    heard : (q : Phase) × HeardAs z (length a.outgoing.pieces) (length user.breaks) turn (z.quota * arrived_rnrs arrived) role a.phase a q mid
-    heard = heard-ok z (length a.outgoing.pieces) (length user.breaks) turn (z.quota * arrived_rnrs arrived) role a.phase a mid (hear turn arrived a) hears
+    heard : (q : Phase) × HeardAs z (length a.outgoing.pieces) (length user.breaks) turn
+        (z.quota * arrived_rnrs arrived) role a.phase a q mid
+    heard = heard-ok z (length a.outgoing.pieces) (length user.breaks) turn (z.quota * arrived_rnrs arrived) role a.phase a mid
+        (hear turn arrived a) hears
         (hears-well z (length a.outgoing.pieces) (length user.breaks) turn role a.phase arrived a y k h refl er (omega arith))
 
     per : b.setup.period ≡ period
     per = ap (λ x. x.period) (s.setup ∙ heard.1.setup) ∙ k.period
 
     why : SpendsTries turn b
-    why = let long = y.period in connected-why turn release b fault (s.phase ∙ connected-is mid.phase cm) (omega (arith, per, long)) quiet breaks
+    why = let long = y.period in connected-why turn release b fault (s.phase ∙ connected-is mid.phase cm)
+        (omega (arith, per, long)) quiet breaks
 
 -- a turn in which an end hears nothing of what was sent
 pub lost-is : (h : Heard) → is_lost h ≡ true → IsLost h
@@ -181,11 +211,15 @@ lost-is (Lost s) e = tt
 lost-is Chance e = cc
 
 -- So where both ends stay Connected, something was lost in each of the last periods.
-pub wants-answers : (tries period : ℕ) (delay : Role → ℕ) (link : Link) (ts : List Turn) (state : ℕ → Ends) (deed : ℕ → Deed) → KeepsTime tries period delay link → (w : Trace period delay link ts state deed) → (role : Role)
-    → Counts (length ts) (end_run delay state deed role) (end_run delay state deed (other role)) → LastTry tries period (length ts) (of role (state (length ts)))
-    → ((s u : ℕ) → s < length ts → s ≤ u → u ≤ length ts → (deed s).made role ≡ true → is_connected (of role (state s)).phase ≡ true → is_connected (of role (state u)).phase ≡ true → is_connected (of (other role) (state u)).phase ≡ true)
+pub wants-answers : (tries period : ℕ) (delay : Role → ℕ) (link : Link) (ts : List Turn) (state : ℕ → Ends) (deed : ℕ → Deed)
+    → KeepsTime tries period delay link → (w : Trace period delay link ts state deed) → (role : Role)
+    → Counts (length ts) (end_run delay state deed role) (end_run delay state deed (other role))
+        → LastTry tries period (length ts) (of role (state (length ts)))
+    → ((s u : ℕ) → s < length ts → s ≤ u → u ≤ length ts → (deed s).made role ≡ true → is_connected (of role (state s)).phase ≡ true
+        → is_connected (of role (state u)).phase ≡ true → is_connected (of (other role) (state u)).phase ≡ true)
     → LosesEach period tries (length ts) ts
-wants-answers tries period delay link ts state deed kt w role c l both n less = go (losses period turns e o k c first ce both (tries - 1) turns (omega arith) x far n (omega (arith, less)))
+wants-answers tries period delay link ts state deed kt w role c l both n less = go
+    (losses period turns e o k c first ce both (tries - 1) turns (omega arith) x far n (omega (arith, less)))
   where
     turns : ℕ
     turns = length ts
@@ -209,16 +243,20 @@ wants-answers tries period delay link ts state deed kt w role c l both n less = 
     low = first.none_before turns (omega arith) l.connected
 
     ce : StayConnected e first.from turns
-    ce u a b = connected-back period turns e o k u turns b (omega arith) (linked-on period turns e o k first.from u a b (linked-connected (of role (state first.from)).phase first.connected)) l.connected
+    ce u a b = connected-back period turns e o k u turns b (omega arith)
+        (linked-on period turns e o k first.from u a b (linked-connected (of role (state first.from)).phase first.connected)) l.connected
 
     x : Expired (tries - 1) turns e
-    x = last-expired period turns e o k first.from first.connected first.count turns low (omega arith) l.connected (tries - 1) (let q = l.count in omega (arith, q, some-tries))
+    x = last-expired period turns e o k first.from first.connected first.count turns low (omega arith) l.connected (tries - 1)
+        (let q = l.count in omega (arith, q, some-tries))
 
     far : x.at + period ≤ turns
-    far = let there : Some x.at ≡ Some l.set = sym x.timer ∙ l.runs in let same : x.at ≡ l.set = cc in let q = l.now in omega (arith, same, q)
+    far = let there : Some x.at ≡ Some l.set = sym x.timer ∙ l.runs in let same : x.at ≡ l.set = cc in let q = l.now in omega
+        (arith, same, q)
 
     exact : x.at + period ≡ turns
-    exact = let there : Some x.at ≡ Some l.set = sym x.timer ∙ l.runs in let same : x.at ≡ l.set = cc in let q = l.now in omega (arith, same, q)
+    exact = let there : Some x.at ≡ Some l.set = sym x.timer ∙ l.runs in let same : x.at ≡ l.set = cc in let q = l.now in omega
+        (arith, same, q)
 
     go : (s : ℕ) × (s + n * period ≡ x.at) × LostIn e o (s + 1) (period - 1) → PeriodLoses period turns ts n
     go (s, q, lost) =
@@ -238,6 +276,7 @@ wants-answers tries period delay link ts state deed kt w role c l both n less = 
         long : 1 ≤ period
         long = let p = kt.period_is in omega (arith, p)
 
-        some : (t : ℕ) → (is_lost (of role (deed t).turn).heard ≡ true) ⊎ (is_lost (of (other role) (deed t).turn).heard ≡ true) → LosesSome (Some (deed t).turn)
+        some : (t : ℕ) → (is_lost (of role (deed t).turn).heard ≡ true) ⊎ (is_lost (of (other role) (deed t).turn).heard ≡ true)
+            → LosesSome (Some (deed t).turn)
         some t (inl y) = (role, lost-is (of role (deed t).turn).heard y)
         some t (inr y) = (other role, lost-is (of (other role) (deed t).turn).heard y)

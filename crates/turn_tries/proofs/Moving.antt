@@ -25,15 +25,13 @@ use Rattle.link_account.specs.declared.phase.Phase.TheVariants.{Detecting, Negot
 use Rattle.link_account.specs.declared.fault.LinkFault.{LinkFault}
 use Rattle.link_account.specs.declared.fault.LinkFault.TheVariants.{NotDetected}
 use Rattle.link_account.specs.declared.answer.Answer.TheVariants as answers
-use Rattle.link_account.specs.Account.{Account, is_connected}
+use Rattle.link_account.specs.Account.{Account}
 use Rattle.link_account.specs.Hear.{hear, on_frame, on_seen, on_nothing, on_pattern, on_detecting, on_negotiating, on_establishing, on_releasing, on_closed, on_connected, on_number, then_in, replying, taking, hurrying, pausing, ends_wait, on_disc, on_word, peer_reset, owing, on_xid_response, trying, timer_after, connected}
 use Rattle.link_account.specs.Speak.{Said, says, says_frame, else_says, where_says, spent, trying_again, tries_frame, u_try, speak, speak_in, speak_detecting, speak_negotiating, speak_releasing, speak_linked, speak_answer}
 use Rattle.turn_bound.proofs.MeetHear.{of_frame, of_arrived}
-use Rattle.turn_periods.proofs.Polling.{is_linked}
 use Rattle.turn_bound.proofs.Speaking.{OnOk}
-use Rattle.turn_periods.proofs.PollSpeak.{SaidPoll, linked-poll, poll-speaks}
+use Rattle.turn_periods.proofs.PollSpeak.{SaidPoll, linked-poll}
 use Rattle.turn_periods.proofs.Detecting.{answer-phase, phase-ok}
-use Rattle.turn_periods.proofs.NumberTurn.{speak-ok}
 
 -- the phases in which an originator tries a frame
 abbrev pub is_trying : Phase → Bool
@@ -76,30 +74,43 @@ TryHears turn arrived a (Ok b) = TryHeard turn arrived a b
 no-try : (turn : ℕ) (arrived : Arrived) (a b : Account) (q : Phase) → b.phase ≡ q → is_trying q ≡ false → TryHeard turn arrived a b
 no-try turn arrived a b q e n = λ p t f. let wrong : true ≡ false = sym t ∙ (ap is_trying (sym f ∙ e) ∙ n) in cc
 
-same-try : (turn : ℕ) (arrived : Arrived) (a b : Account) (q : Phase) → a.phase ≡ q → b.phase ≡ q → b.wait ≡ a.wait → of_arrived (moves_on q) arrived ≡ false → TryHeard turn arrived a b
-same-try turn arrived a b q e f w n = λ p t g. let same : q ≡ p = sym f ∙ g in inl (e ∙ same, w, ap (λ x. of_arrived (moves_on x) arrived) (sym same) ∙ n)
+same-try : (turn : ℕ) (arrived : Arrived) (a b : Account) (q : Phase) → a.phase ≡ q → b.phase ≡ q → b.wait ≡ a.wait
+    → of_arrived (moves_on q) arrived ≡ false → TryHeard turn arrived a b
+same-try turn arrived a b q e f w n = λ p t g. let same : q ≡ p = sym f
+    ∙ g in inl (e ∙ same, w, ap (λ x. of_arrived (moves_on x) arrived) (sym same) ∙ n)
 
-begins-try : (turn : ℕ) (arrived : Arrived) (a : Account) (q r : Phase) (b : Account) → a.phase ≡ q → b.phase ≡ r → (q ≡ r → ⊥) → (r ≡ Releasing → ⊥) → b.wait.try ≡ true → b.wait.try_set ≡ turn → b.wait.try_count ≡ 0
+begins-try : (turn : ℕ) (arrived : Arrived) (a : Account) (q r : Phase) (b : Account) → a.phase ≡ q → b.phase ≡ r → (q ≡ r → ⊥)
+    → (r ≡ Releasing → ⊥) → b.wait.try ≡ true → b.wait.try_set ≡ turn → b.wait.try_count ≡ 0
     → TryHeard turn arrived a b
-begins-try turn arrived a q r b e f n m x y z = λ p t g. let same : r ≡ p = sym f ∙ g in inr ((λ h. n (sym e ∙ (h ∙ sym same))), (λ h. m (same ∙ h)), x, y, z)
+begins-try turn arrived a q r b e f n m x y z = λ p t g. let same : r ≡ p = sym f
+    ∙ g in inr ((λ h. n (sym e ∙ (h ∙ sym same))), (λ h. m (same ∙ h)), x, y, z)
 
 -- a Connected end tries no frame
-number-try : (turn nr : ℕ) (arrived : Arrived) (a : Account) (f : Account → Account) (m : Option Outgoing) → a.phase ≡ Connected → ((b : Account) → (f b).phase ≡ b.phase) → TryHears turn arrived a (then_in f (on_number turn nr m a))
+number-try : (turn nr : ℕ) (arrived : Arrived) (a : Account) (f : Account → Account) (m : Option Outgoing) → a.phase ≡ Connected
+    → ((b : Account) → (f b).phase ≡ b.phase) → TryHears turn arrived a (then_in f (on_number turn nr m a))
 number-try turn nr arrived a f None e same = tt
 number-try turn nr arrived a f (Some o) e same =
-    let b : Account = record a { numbered = true; outgoing = o; wait = record a.wait { timer = timer_after turn a.outgoing o a.wait.timer } } in
+    let b : Account = record a
+    { numbered = true; outgoing = o; wait = record a.wait { timer = timer_after turn a.outgoing o a.wait.timer } } in
     no-try turn arrived a (f b) Connected (same b ∙ e) refl
 
-connected-try : (turn : ℕ) (frame : Frame) (a : Account) → a.phase ≡ Connected → TryHears turn (arrivals.Frame frame) a (on_connected frame turn a)
-connected-try turn (I ns nr pf info) a e = number-try turn nr (arrivals.Frame (I ns nr pf info)) a (λ b. replying pf (taking ns info b)) (acknowledged nr a.outgoing) e (λ b. refl)
-connected-try turn (Rr command nr pf) a e = number-try turn nr (arrivals.Frame (Rr command nr pf)) a (λ b. hurrying (ends_wait command pf a) (replying (command && pf) b)) _ e (λ b. refl)
-connected-try turn (Rnr command nr pf) a e = number-try turn nr (arrivals.Frame (Rnr command nr pf)) a (λ b. pausing turn (replying (command && pf) b)) _ e (λ b. refl)
-connected-try turn (Rej command nr pf) a e = number-try turn nr (arrivals.Frame (Rej command nr pf)) a (λ b. hurrying (ends_wait command pf a) (replying (command && pf) b)) _ e (λ b. refl)
+connected-try : (turn : ℕ) (frame : Frame) (a : Account) → a.phase ≡ Connected
+    → TryHears turn (arrivals.Frame frame) a (on_connected frame turn a)
+connected-try turn (I ns nr pf info) a e = number-try turn nr (arrivals.Frame (I ns nr pf info)) a (λ b. replying pf (taking ns info b))
+    (acknowledged nr a.outgoing) e (λ b. refl)
+connected-try turn (Rr command nr pf) a e = number-try turn nr (arrivals.Frame (Rr command nr pf)) a
+    (λ b. hurrying (ends_wait command pf a) (replying (command && pf) b)) _ e (λ b. refl)
+connected-try turn (Rnr command nr pf) a e = number-try turn nr (arrivals.Frame (Rnr command nr pf)) a
+    (λ b. pausing turn (replying (command && pf) b)) _ e (λ b. refl)
+connected-try turn (Rej command nr pf) a e = number-try turn nr (arrivals.Frame (Rej command nr pf)) a
+    (λ b. hurrying (ends_wait command pf a) (replying (command && pf) b)) _ e (λ b. refl)
 connected-try turn (Srej command nr pf) a e = go (selected nr a.outgoing)
   where
     go : (m : Option Outgoing) → TryHears turn (arrivals.Frame (Srej command nr pf)) a (on_number turn nr m a)
     go None = tt
-    go (Some o) = no-try turn (arrivals.Frame (Srej command nr pf)) a (record a { numbered = true; outgoing = o; wait = record a.wait { timer = timer_after turn a.outgoing o a.wait.timer } }) Connected e refl
+    go (Some o) = no-try turn (arrivals.Frame (Srej command nr pf)) a
+        (record a { numbered = true; outgoing = o; wait = record a.wait { timer = timer_after turn a.outgoing o a.wait.timer } })
+        Connected e refl
 connected-try turn (Sabme pf) a e = go (a.numbered || is_originator a.setup.role)
   where
     go : (b : Bool) → TryHears turn (arrivals.Frame (Sabme pf)) a (cond b (Err (peer_reset a)) (Ok (owing (answers.Ua pf) a)))
@@ -125,16 +136,20 @@ connected-try turn (Ui command pf info) a e = go (word_in info)
 connected-try turn (Xid command pf info) a e = no-try turn (arrivals.Frame (Xid command pf info)) a a Connected e refl
 connected-try turn (Test command pf info) a e = no-try turn (arrivals.Frame (Test command pf info)) a a Connected e refl
 
-frame-try : (p : Phase) (turn : ℕ) (frame : Frame) (a : Account) → a.phase ≡ p → a.setup.role ≡ Originator → TryHears turn (arrivals.Frame frame) a (on_frame p frame turn a)
+frame-try : (p : Phase) (turn : ℕ) (frame : Frame) (a : Account) → a.phase ≡ p → a.setup.role ≡ Originator
+    → TryHears turn (arrivals.Frame frame) a (on_frame p frame turn a)
 frame-try Detecting turn frame a e r = subst (λ x. TryHears turn (arrivals.Frame frame) a (on_detecting x frame turn a)) (sym r) (go frame)
   where
     go : (f : Frame) → TryHears turn (arrivals.Frame f) a (on_detecting Originator f turn a)
     go f = no-try turn (arrivals.Frame f) a a Detecting e refl
-frame-try Negotiating turn frame a e r = subst (λ x. TryHears turn (arrivals.Frame frame) a (on_negotiating x frame turn a)) (sym r) (go frame)
+frame-try Negotiating turn frame a e r = subst (λ x. TryHears turn (arrivals.Frame frame) a (on_negotiating x frame turn a)) (sym r)
+    (go frame)
   where
-    answered : (pf : Bool) (info : List ℕ) (m : Option Offer) → offer_in info ≡ m → TryHears turn (arrivals.Frame (Xid false pf info)) a (Ok (on_xid_response m turn a))
+    answered : (pf : Bool) (info : List ℕ) (m : Option Offer) → offer_in info ≡ m
+        → TryHears turn (arrivals.Frame (Xid false pf info)) a (Ok (on_xid_response m turn a))
     answered pf info None q = same-try turn (arrivals.Frame (Xid false pf info)) a a Negotiating e e refl (ap is_some q)
-    answered pf info (Some offer) q = begins-try turn (arrivals.Frame (Xid false pf info)) a Negotiating Establishing (trying Establishing turn (record a { terms = agree a.setup.offer offer })) e refl (λ w. cc) (λ w. cc) refl refl refl
+    answered pf info (Some offer) q = begins-try turn (arrivals.Frame (Xid false pf info)) a Negotiating Establishing
+        (trying Establishing turn (record a { terms = agree a.setup.offer offer })) e refl (λ w. cc) (λ w. cc) refl refl refl
 
     go : (f : Frame) → TryHears turn (arrivals.Frame f) a (on_negotiating Originator f turn a)
     go (Xid false pf info) = answered pf info (offer_in info) refl
@@ -168,7 +183,8 @@ try-all arrivals.Nothing turn a r = same-try turn arrivals.Nothing a (on_nothing
 try-all (arrivals.Pattern seen) turn a r = go a.phase refl
   where
     on : (s : Seen) → a.phase ≡ Detecting → TryHears turn (arrivals.Pattern s) a (Ok (on_pattern Originator s turn a))
-    on Adp e = begins-try turn (arrivals.Pattern Adp) a Detecting Negotiating (trying Negotiating turn a) e refl (λ w. cc) (λ w. cc) refl refl refl
+    on Adp e = begins-try turn (arrivals.Pattern Adp) a Detecting Negotiating (trying Negotiating turn a) e refl (λ w. cc)
+        (λ w. cc) refl refl refl
     on Odp e = no-try turn (arrivals.Pattern Odp) a a Detecting e refl
 
     go : (p : Phase) → a.phase ≡ p → TryHears turn (arrivals.Pattern seen) a (Ok (on_seen p seen turn a))
@@ -180,7 +196,8 @@ try-all (arrivals.Pattern seen) turn a r = go a.phase refl
     go Closed e = no-try turn (arrivals.Pattern seen) a a Closed e refl
 try-all (arrivals.Frame frame) turn a r = frame-try a.phase turn frame a refl r
 
-pub try-heard : (arrived : Arrived) (turn : ℕ) (a mid : Account) → a.setup.role ≡ Originator → hear turn arrived a ≡ Ok mid → TryHeard turn arrived a mid
+pub try-heard : (arrived : Arrived) (turn : ℕ) (a mid : Account) → a.setup.role ≡ Originator → hear turn arrived a ≡ Ok mid
+    → TryHeard turn arrived a mid
 try-heard arrived turn a mid r h = go (hear turn arrived a) h (try-all arrived turn a r)
   where
     go : (x : Result Account LinkFault) → x ≡ Ok mid → TryHears turn arrived a x → TryHeard turn arrived a mid
@@ -190,19 +207,23 @@ try-heard arrived turn a mid r h = go (hear turn arrived a) h (try-all arrived t
 -- Speaking: its timer expires and the frame goes again, or it stands and the frame goes where it is due.
 abbrev pub TriesAgain : Phase → ℕ → Account → Said → Type 0
 TriesAgain p turn b said =
-    (turn ≡ b.wait.try_set + b.setup.period) × (said.account.wait.try_set ≡ turn) × (said.account.wait.try_count ≡ b.wait.try_count + 1) × (of_frame (asks p) said.sent ≡ true)
+    (turn ≡ b.wait.try_set + b.setup.period) × (said.account.wait.try_set ≡ turn) × (said.account.wait.try_count ≡ b.wait.try_count + 1)
+    × (of_frame (asks p) said.sent ≡ true)
 
 abbrev pub TryStands : Phase → ℕ → Account → Said → Type 0
 TryStands p turn b said =
-    (turn ≡ b.wait.try_set + b.setup.period → ⊥) × (said.account.wait.try_set ≡ b.wait.try_set) × (said.account.wait.try_count ≡ b.wait.try_count)
+    (turn ≡ b.wait.try_set + b.setup.period → ⊥) × (said.account.wait.try_set ≡ b.wait.try_set)
+    × (said.account.wait.try_count ≡ b.wait.try_count)
     × (b.wait.try ≡ true → of_frame (asks p) said.sent ≡ true)
 
 -- a try that begins as it is said
 abbrev pub TryIsNew : Phase → ℕ → Account → Said → Type 0
-TryIsNew p turn b said = (b.phase ≡ Connected) × (p ≡ Releasing) × (said.account.wait.try_set ≡ turn) × (said.account.wait.try_count ≡ 0) × (of_frame (asks p) said.sent ≡ true)
+TryIsNew p turn b said = (b.phase ≡ Connected) × (p ≡ Releasing) × (said.account.wait.try_set ≡ turn) × (said.account.wait.try_count ≡ 0)
+    × (of_frame (asks p) said.sent ≡ true)
 
 abbrev pub TrySaid : ℕ → Account → Said → Type 0
-TrySaid turn b said = (p : Phase) → is_trying p ≡ true → said.account.phase ≡ p → ((b.phase ≡ p) × (TriesAgain p turn b said ⊎ TryStands p turn b said)) ⊎ TryIsNew p turn b said
+TrySaid turn b said = (p : Phase) → is_trying p ≡ true → said.account.phase ≡ p
+    → ((b.phase ≡ p) × (TriesAgain p turn b said ⊎ TryStands p turn b said)) ⊎ TryIsNew p turn b said
 
 abbrev TryOf : Phase → ℕ → Account → Result Said LinkFault → Type 0
 TryOf p turn b (Err fault) = Unit {0}
@@ -211,18 +232,28 @@ TryOf p turn b (Ok said) = (said.account.phase ≡ b.phase) × (TriesAgain p tur
 try-said : (p : Phase) (turn : ℕ) (frame : Frame) (b : Account) → asks p frame ≡ true → TryOf p turn b (u_try turn frame b)
 try-said p turn frame b k = go (nat_eq turn (b.wait.try_set + b.setup.period)) refl (nat_eq b.wait.try_count b.setup.tries)
   where
-    stands : (nat_eq turn (b.wait.try_set + b.setup.period) ≡ false) → (due : Bool) → b.wait.try ≡ due → TryOf p turn b (Ok (else_says (where_says due (says_frame frame (record b { wait = record b.wait { try = false } }))) (says slots.Flags b)))
+    stands : (nat_eq turn (b.wait.try_set + b.setup.period) ≡ false) → (due : Bool) → b.wait.try ≡ due
+        → TryOf p turn b (Ok (else_says (where_says due (says_frame frame (record b { wait = record b.wait { try = false } })))
+        (says slots.Flags b)))
     stands q true d = (refl, inr ((λ e. let wrong : ⊥ = grind (arith, nat_tests, q, e) in wrong), refl, refl, λ x. k))
-    stands q false d = (refl, inr ((λ e. let wrong : ⊥ = grind (arith, nat_tests, q, e) in wrong), refl, refl, λ x. let wrong : true ≡ false = sym x ∙ d in cc))
+    stands q false d = (
+      refl,
+      inr
+          ((λ e. let wrong : ⊥ = grind (arith, nat_tests, q, e) in wrong), refl, refl, λ x. let wrong : true ≡ false = sym x ∙ d in cc),
+    )
 
-    go : (due : Bool) → nat_eq turn (b.wait.try_set + b.setup.period) ≡ due → (s : Bool) → TryOf p turn b (cond due (cond s (Err (spent turn b)) (Ok (tries_frame frame (trying_again turn b)))) (Ok (tries_frame frame b)))
+    go : (due : Bool) → nat_eq turn (b.wait.try_set + b.setup.period) ≡ due → (s : Bool)
+        → TryOf p turn b (cond due (cond s (Err (spent turn b)) (Ok (tries_frame frame (trying_again turn b))))
+        (Ok (tries_frame frame b)))
     go false q s = stands q b.wait.try refl
     go true q true = tt
     go true q false = (refl, inl (grind (arith, nat_tests, q), refl, refl, k))
 
-try-ok : (p : Phase) (turn : ℕ) (b : Account) (said : Said) (r : Result Said LinkFault) → r ≡ Ok said → TryOf p turn b r → (said.account.phase ≡ b.phase) × (TriesAgain p turn b said ⊎ TryStands p turn b said)
+try-ok : (p : Phase) (turn : ℕ) (b : Account) (said : Said) (r : Result Said LinkFault) → r ≡ Ok said → TryOf p turn b r
+    → (said.account.phase ≡ b.phase) × (TriesAgain p turn b said ⊎ TryStands p turn b said)
 try-ok p turn b said (Err fault) e h = cc
-try-ok p turn b said (Ok other) e h = let same : other ≡ said = cc in subst (λ s. (s.account.phase ≡ b.phase) × (TriesAgain p turn b s ⊎ TryStands p turn b s)) same h
+try-ok p turn b said (Ok other) e h = let same : other ≡ said = cc in subst
+    (λ s. (s.account.phase ≡ b.phase) × (TriesAgain p turn b s ⊎ TryStands p turn b s)) same h
 
 pub linked-phase : (turn : ℕ) (b : Account) (said : Said) → speak_linked turn b ≡ Ok said → said.account.phase ≡ b.phase
 linked-phase turn b said h = go (speak_linked turn b) h (linked-poll turn b)
@@ -231,11 +262,13 @@ linked-phase turn b said h = go (speak_linked turn b) h (linked-poll turn b)
     go (Err fault) q k = cc
     go (Ok x) q k = let same : x ≡ said = cc in ap (λ y. y.account.phase) (sym same) ∙ k.phase
 
-pub try-says : (turn : ℕ) (release : Bool) (b : Account) (said : Said) → b.setup.role ≡ Originator → 1 ≤ b.setup.period → is_some (offer_in (written b.setup.offer)) ≡ true → speak turn release b ≡ Ok said
+pub try-says : (turn : ℕ) (release : Bool) (b : Account) (said : Said) → b.setup.role ≡ Originator → 1 ≤ b.setup.period
+    → is_some (offer_in (written b.setup.offer)) ≡ true → speak turn release b ≡ Ok said
     → TrySaid turn b said
 try-says turn release b said r long offers h = λ p t f. go b.phase refl h p t f
   where
-    on : (q : Phase) (frame : Frame) → b.phase ≡ q → asks q frame ≡ true → u_try turn frame b ≡ Ok said → (p : Phase) → is_trying p ≡ true → said.account.phase ≡ p
+    on : (q : Phase) (frame : Frame) → b.phase ≡ q → asks q frame ≡ true → u_try turn frame b ≡ Ok said → (p : Phase) → is_trying p ≡ true
+        → said.account.phase ≡ p
         → ((b.phase ≡ p) × (TriesAgain p turn b said ⊎ TryStands p turn b said)) ⊎ TryIsNew p turn b said
     on q frame e k u p t f =
         let w = try-ok q turn b said (u_try turn frame b) u (try-said q turn frame b k) in
@@ -243,14 +276,17 @@ try-says turn release b said r long offers h = λ p t f. go b.phase refl h p t f
         inl (e ∙ same, subst (λ x. TriesAgain x turn b said ⊎ TryStands x turn b said) same w.1)
 
     -- released: a new try
-    anew : b.phase ≡ Connected → u_try turn (Disc true) (trying Releasing turn b) ≡ Ok said → (p : Phase) → is_trying p ≡ true → said.account.phase ≡ p
+    anew : b.phase ≡ Connected → u_try turn (Disc true) (trying Releasing turn b) ≡ Ok said → (p : Phase) → is_trying p ≡ true
+        → said.account.phase ≡ p
         → ((b.phase ≡ p) × (TriesAgain p turn b said ⊎ TryStands p turn b said)) ⊎ TryIsNew p turn b said
     anew e u p t f =
-        let w = try-ok Releasing turn (trying Releasing turn b) said (u_try turn (Disc true) (trying Releasing turn b)) u (try-said Releasing turn (Disc true) (trying Releasing turn b) refl) in
+        let w = try-ok Releasing turn (trying Releasing turn b) said (u_try turn (Disc true) (trying Releasing turn b)) u
+        (try-said Releasing turn (Disc true) (trying Releasing turn b) refl) in
         let same : Releasing ≡ p = sym w.0 ∙ f in
         by same w.1
       where
-        by : Releasing ≡ p → TriesAgain Releasing turn (trying Releasing turn b) said ⊎ TryStands Releasing turn (trying Releasing turn b) said
+        by : Releasing ≡ p → TriesAgain Releasing turn (trying Releasing turn b) said ⊎ TryStands Releasing turn
+            (trying Releasing turn b) said
             → ((b.phase ≡ p) × (TriesAgain p turn b said ⊎ TryStands p turn b said)) ⊎ TryIsNew p turn b said
         by same (inl x) = let a = x.0 in absurd (omega (arith, a, long))
         by same (inr x) = inr (e, sym same, x.1, x.2, subst (λ y. of_frame (asks y) said.sent ≡ true) same (x.3 refl))
@@ -258,40 +294,50 @@ try-says turn release b said r long offers h = λ p t f. go b.phase refl h p t f
     unchanged : speak_linked turn b ≡ Ok said → b.phase ≡ Connected → said.account.phase ≡ Connected
     unchanged u e = linked-phase turn b said u ∙ e
 
-    never : (p q : Phase) → is_trying p ≡ true → said.account.phase ≡ p → said.account.phase ≡ q → is_trying q ≡ false → ((b.phase ≡ p) × (TriesAgain p turn b said ⊎ TryStands p turn b said)) ⊎ TryIsNew p turn b said
+    never : (p q : Phase) → is_trying p ≡ true → said.account.phase ≡ p → said.account.phase ≡ q → is_trying q ≡ false
+        → ((b.phase ≡ p) × (TriesAgain p turn b said ⊎ TryStands p turn b said)) ⊎ TryIsNew p turn b said
     never p q t f g n = let wrong : true ≡ false = sym t ∙ (ap is_trying (sym f ∙ g) ∙ n) in cc
 
-    from-connected : (x : Bool) → b.phase ≡ Connected → cond x (speak_releasing turn (trying Releasing turn b)) (speak_linked turn b) ≡ Ok said → (p : Phase) → is_trying p ≡ true → said.account.phase ≡ p
+    from-connected : (x : Bool) → b.phase ≡ Connected
+        → cond x (speak_releasing turn (trying Releasing turn b)) (speak_linked turn b) ≡ Ok said → (p : Phase) → is_trying p ≡ true
+        → said.account.phase ≡ p
         → ((b.phase ≡ p) × (TriesAgain p turn b said ⊎ TryStands p turn b said)) ⊎ TryIsNew p turn b said
     from-connected true e u p t f = anew e u p t f
     from-connected false e u p t f = never p Connected t f (unchanged u e) refl
 
-    detecting : (x : Bool) → b.phase ≡ Detecting → cond x (Err NotDetected) (Ok (says slots.Odp b)) ≡ Ok said → said.account.phase ≡ Detecting
+    detecting : (x : Bool) → b.phase ≡ Detecting → cond x (Err NotDetected) (Ok (says slots.Odp b)) ≡ Ok said
+        → said.account.phase ≡ Detecting
     detecting true e u = cc
     detecting false e u = let same : says slots.Odp b ≡ said = cc in ap (λ s. s.account.phase) (sym same) ∙ e
 
     go : (q : Phase) → b.phase ≡ q → speak_in q turn release b ≡ Ok said → (p : Phase) → is_trying p ≡ true → said.account.phase ≡ p
         → ((b.phase ≡ p) × (TriesAgain p turn b said ⊎ TryStands p turn b said)) ⊎ TryIsNew p turn b said
-    go Detecting e u p t f = never p Detecting t f (detecting (nat_le ((b.setup.tries + 1) * b.setup.period) turn) e (sym (ap (λ x. speak_detecting x turn b) r) ∙ u)) refl
-    go Negotiating e u p t f = on Negotiating (Xid true false (written b.setup.offer)) e offers (sym (ap (λ x. speak_negotiating x turn b) r) ∙ u) p t f
+    go Detecting e u p t f = never p Detecting t f
+        (detecting (nat_le ((b.setup.tries + 1) * b.setup.period) turn) e (sym (ap (λ x. speak_detecting x turn b) r) ∙ u)) refl
+    go Negotiating e u p t f = on Negotiating (Xid true false (written b.setup.offer)) e offers
+        (sym (ap (λ x. speak_negotiating x turn b) r) ∙ u) p t f
     go Establishing e u p t f = on Establishing (Sabme true) e refl u p t f
     go Connected e u p t f = from-connected (release && is_originator b.setup.role) e u p t f
     go Releasing e u p t f = on Releasing (Disc true) e refl u p t f
     go Closed e u p t f = never p Closed t f (phase-ok b.phase said (speak_answer b) u (answer-phase b) ∙ e) refl
 
 -- what ends a try: its timer expires with the last one
-pub try-spent : (turn : ℕ) (frame : Frame) (b : Account) (fault : LinkFault) → u_try turn frame b ≡ Err fault → (turn ≡ b.wait.try_set + b.setup.period) × (b.wait.try_count ≡ b.setup.tries)
+pub try-spent : (turn : ℕ) (frame : Frame) (b : Account) (fault : LinkFault) → u_try turn frame b ≡ Err fault
+    → (turn ≡ b.wait.try_set + b.setup.period) × (b.wait.try_count ≡ b.setup.tries)
 try-spent turn frame b fault h = go (nat_eq turn (b.wait.try_set + b.setup.period)) refl (nat_eq b.wait.try_count b.setup.tries) refl h
   where
     go : (due : Bool) → nat_eq turn (b.wait.try_set + b.setup.period) ≡ due → (s : Bool) → nat_eq b.wait.try_count b.setup.tries ≡ s
-        → cond due (cond s (Err (spent turn b)) (Ok (tries_frame frame (trying_again turn b)))) (Ok (tries_frame frame b)) ≡ Err fault → (turn ≡ b.wait.try_set + b.setup.period) × (b.wait.try_count ≡ b.setup.tries)
+        → cond due (cond s (Err (spent turn b)) (Ok (tries_frame frame (trying_again turn b)))) (Ok (tries_frame frame b)) ≡ Err fault
+        → (turn ≡ b.wait.try_set + b.setup.period) × (b.wait.try_count ≡ b.setup.tries)
     go false q s k u = cc
     go true q false k u = cc
     go true q true k u = (grind (arith, nat_tests, q), grind (arith, nat_tests, k))
 
 -- an end that releases is not Connected again
-pub releasing-stays : (arrived : Arrived) (turn : ℕ) (a mid : Account) → a.phase ≡ Releasing → hear turn arrived a ≡ Ok mid → mid.phase ≡ Connected → ⊥
-releasing-stays arrivals.Nothing turn a mid e h c = let same : on_nothing a ≡ mid = cc in let wrong : Releasing ≡ Connected = sym e ∙ (ap (λ x. x.phase) same ∙ c) in cc
+pub releasing-stays : (arrived : Arrived) (turn : ℕ) (a mid : Account) → a.phase ≡ Releasing → hear turn arrived a ≡ Ok mid
+    → mid.phase ≡ Connected → ⊥
+releasing-stays arrivals.Nothing turn a mid e h c = let same : on_nothing a ≡ mid = cc in let wrong : Releasing ≡ Connected = sym e
+    ∙ (ap (λ x. x.phase) same ∙ c) in cc
 releasing-stays (arrivals.Pattern seen) turn a mid e h c =
     let there : Ok (on_seen Releasing seen turn a) ≡ Ok mid = ap (λ p. Ok (on_seen p seen turn a)) (sym e) ∙ h in
     let same : a ≡ mid = cc in let wrong : Releasing ≡ Connected = sym e ∙ (ap (λ x. x.phase) same ∙ c) in cc

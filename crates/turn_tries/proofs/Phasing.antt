@@ -1,8 +1,7 @@
 -- An answerer begins only once the originator establishes the link.
-use Rattle.std.proofs.Common.{◌⊎◌, inl, inr, ◌≡◌, ℕ, zero, suc, ◌+◌, ◌-◌, ◌*◌, ◌<◌, ◌≤◌, ◌||◌, Bool, true, false, cond, nat_eq, nat_le, List, length, arith, refl, sym, ◌∙◌, ap, subst, Option, Some, None, Result, Ok, Err}
+use Rattle.std.proofs.Common.{◌⊎◌, inl, inr, ◌≡◌, ℕ, zero, suc, ◌+◌, ◌-◌, ◌*◌, ◌≤◌, Bool, true, false, cond, nat_eq, nat_le, List, length, arith, refl, sym, ◌∙◌, ap, subst, Option, Some, None, Result, Ok, Err}
 use Rattle.roles.specs.declared.role.Role.{Role}
 use Rattle.roles.specs.declared.role.Role.TheVariants.{Originator, Answerer}
-use Rattle.roles.specs.Both.{of}
 use Rattle.lapm_frames.specs.declared.frame.Frame.{Frame}
 use Rattle.lapm_frames.specs.declared.frame.Frame.TheVariants.{Sabme, Disc, Ua, Dm, Xid}
 use Rattle.xid_params.specs.declared.offer.Offer.{Offer}
@@ -20,7 +19,7 @@ use Rattle.link_account.specs.declared.fault.LinkFault.TheVariants.{NotDetected}
 use Rattle.link_account.specs.declared.answer.Answer.{Answer}
 use Rattle.link_account.specs.declared.answer.Answer.TheVariants as answers
 use Rattle.link_account.specs.Account.{Account}
-use Rattle.link_account.specs.Hear.{hear, on_frame, on_seen, on_pattern, on_nothing, on_detecting, on_negotiating, on_establishing, on_xid_command, on_xid_response, owing}
+use Rattle.link_account.specs.Hear.{hear, on_frame, on_seen, on_pattern, on_nothing, on_detecting, on_negotiating, on_establishing, on_xid_command, owing}
 use Rattle.link_account.specs.Speak.{Said, says, says_frame, else_says, where_says, spent, answering, trying_again, tries_frame, u_try, speak, speak_in, speak_detecting, speak_negotiating}
 use Rattle.link_run.specs.End.{is_released}
 use Rattle.link_run.specs.Run.{Link, Ends, Turn, SpeaksAt, arrival, served_at, said_at}
@@ -59,7 +58,8 @@ was-begun : (sabme : Bool) (a : Account) (r : Result Account LinkFault) → is_b
 was-begun sabme a (Err fault) e = tt
 was-begun sabme a (Ok b) e = λ h. inl e
 
-begun-frame : (p : Phase) (frame : Frame) (turn : ℕ) (a : Account) → a.phase ≡ p → a.setup.role ≡ Answerer → (p ≡ Establishing → ⊥) → BegunBy (is_sabme frame) a (on_frame p frame turn a)
+begun-frame : (p : Phase) (frame : Frame) (turn : ℕ) (a : Account) → a.phase ≡ p → a.setup.role ≡ Answerer → (p ≡ Establishing → ⊥)
+    → BegunBy (is_sabme frame) a (on_frame p frame turn a)
 begun-frame Detecting frame turn a e r n = subst (λ x. BegunBy (is_sabme frame) a (on_detecting x frame turn a)) (sym r) (go frame)
   where
     commanded : (s : Bool) (m : Option Offer) → BegunBy s a (Ok (on_xid_command m a))
@@ -86,7 +86,8 @@ begun-frame Connected frame turn a e r n = was-begun (is_sabme frame) a _ (ap is
 begun-frame Releasing frame turn a e r n = was-begun (is_sabme frame) a _ (ap is_begun e)
 begun-frame Closed frame turn a e r n = was-begun (is_sabme frame) a _ (ap is_begun e)
 
-begun-all : (arrived : Arrived) (turn : ℕ) (a : Account) → a.setup.role ≡ Answerer → (a.phase ≡ Establishing → ⊥) → BegunBy (of_arrived is_sabme arrived) a (hear turn arrived a)
+begun-all : (arrived : Arrived) (turn : ℕ) (a : Account) → a.setup.role ≡ Answerer → (a.phase ≡ Establishing → ⊥)
+    → BegunBy (of_arrived is_sabme arrived) a (hear turn arrived a)
 begun-all arrivals.Nothing turn a r n = stays-begun false a (on_nothing a) refl
 begun-all (arrivals.Pattern seen) turn a r n = go a.phase refl
   where
@@ -103,10 +104,12 @@ begun-all (arrivals.Pattern seen) turn a r n = go a.phase refl
     go Closed e = stays-begun false a a refl
 begun-all (arrivals.Frame frame) turn a r n = begun-frame a.phase frame turn a refl r n
 
-begun-by : (arrived : Arrived) (turn : ℕ) (a mid : Account) → a.setup.role ≡ Answerer → (a.phase ≡ Establishing → ⊥) → hear turn arrived a ≡ Ok mid → is_begun mid.phase ≡ true → (is_begun a.phase ≡ true) ⊎ (of_arrived is_sabme arrived ≡ true)
+begun-by : (arrived : Arrived) (turn : ℕ) (a mid : Account) → a.setup.role ≡ Answerer → (a.phase ≡ Establishing → ⊥)
+    → hear turn arrived a ≡ Ok mid → is_begun mid.phase ≡ true → (is_begun a.phase ≡ true) ⊎ (of_arrived is_sabme arrived ≡ true)
 begun-by arrived turn a mid r n h c = go (hear turn arrived a) h (begun-all arrived turn a r n)
   where
-    go : (x : Result Account LinkFault) → x ≡ Ok mid → BegunBy (of_arrived is_sabme arrived) a x → (is_begun a.phase ≡ true) ⊎ (of_arrived is_sabme arrived ≡ true)
+    go : (x : Result Account LinkFault) → x ≡ Ok mid → BegunBy (of_arrived is_sabme arrived) a x
+        → (is_begun a.phase ≡ true) ⊎ (of_arrived is_sabme arrived ≡ true)
     go (Err fault) q k = cc
     go (Ok b) q k = let same : b ≡ mid = cc in k (ap (λ x. is_begun x.phase) same ∙ c)
 
@@ -134,7 +137,8 @@ EstablishedIn (Ok b) = is_established b.phase ≡ true
 
 establishing-hears : (arrived : Arrived) (turn : ℕ) (a : Account) → a.phase ≡ Establishing → EstablishedIn (hear turn arrived a)
 establishing-hears arrivals.Nothing turn a e = ap is_established e
-establishing-hears (arrivals.Pattern seen) turn a e = subst (λ p. is_established (on_seen p seen turn a).phase ≡ true) (sym e) (ap is_established e)
+establishing-hears (arrivals.Pattern seen) turn a e = subst (λ p. is_established (on_seen p seen turn a).phase ≡ true) (sym e)
+    (ap is_established e)
 establishing-hears (arrivals.Frame frame) turn a e = subst (λ p. EstablishedIn (on_frame p frame turn a)) (sym e) (go frame)
   where
     go : (f : Frame) → EstablishedIn (on_establishing f turn a)
@@ -142,11 +146,13 @@ establishing-hears (arrivals.Frame frame) turn a e = subst (λ p. EstablishedIn 
     go (Dm true) = tt
     go f = ap is_established e
 
-pub stays-established : (role : Role) (arrived : Arrived) (turn : ℕ) (a mid : Account) → a.setup.role ≡ role → a.owes.answer ≡ None → hear turn arrived a ≡ Ok mid → is_established a.phase ≡ true → is_established mid.phase ≡ true
+pub stays-established : (role : Role) (arrived : Arrived) (turn : ℕ) (a mid : Account) → a.setup.role ≡ role → a.owes.answer ≡ None
+    → hear turn arrived a ≡ Ok mid → is_established a.phase ≡ true → is_established mid.phase ≡ true
 stays-established role arrived turn a mid r none h c = go a.phase refl c
   where
     linked : is_linked a.phase ≡ true → is_established mid.phase ≡ true
-    linked l = linked-established mid.phase ((poll-ok role turn (of_arrived is_poll arrived) a mid (hear turn arrived a) h (poll-hears role arrived turn a r none)).linked l)
+    linked l = linked-established mid.phase
+        ((poll-ok role turn (of_arrived is_poll arrived) a mid (hear turn arrived a) h (poll-hears role arrived turn a r none)).linked l)
 
     ok : (x : Result Account LinkFault) → x ≡ Ok mid → EstablishedIn x → is_established mid.phase ≡ true
     ok (Err fault) q k = cc
@@ -161,13 +167,16 @@ stays-established role arrived turn a mid r none h c = go a.phase refl c
     go Closed e f = linked (ap is_linked e)
 
 -- and as it speaks
-said-established : (turn : ℕ) (release : Bool) (b : Account) (said : Said) → speak turn release b ≡ Ok said → is_established b.phase ≡ true → is_established said.account.phase ≡ true
+said-established : (turn : ℕ) (release : Bool) (b : Account) (said : Said) → speak turn release b ≡ Ok said
+    → is_established b.phase ≡ true → is_established said.account.phase ≡ true
 said-established turn release b said h c = go b.phase refl c h
   where
     linked : is_linked b.phase ≡ true → is_established said.account.phase ≡ true
-    linked l = linked-established said.account.phase ((speak-ok turn b said (speak turn release b) h (poll-speaks turn release b)).linked ∙ l)
+    linked l = linked-established said.account.phase ((speak-ok turn b said (speak turn release b) h (poll-speaks turn release b)).linked
+        ∙ l)
 
-    go : (p : Phase) → b.phase ≡ p → is_established p ≡ true → speak_in p turn release b ≡ Ok said → is_established said.account.phase ≡ true
+    go : (p : Phase) → b.phase ≡ p → is_established p ≡ true → speak_in p turn release b ≡ Ok said
+        → is_established said.account.phase ≡ true
     go Detecting e f u = cc
     go Negotiating e f u = cc
     go Establishing e f u = ap is_established (phase-ok b.phase said _ u (try-phase turn (Sabme true) b) ∙ e)
@@ -183,28 +192,34 @@ NoSabme (Ok said) = of_frame is_sabme said.sent ≡ false
 try-no-sabme : (turn : ℕ) (frame : Frame) (a : Account) → is_sabme frame ≡ false → NoSabme (u_try turn frame a)
 try-no-sabme turn frame a e = go (nat_eq turn (a.wait.try_set + a.setup.period)) (nat_eq a.wait.try_count a.setup.tries)
   where
-    by : (c : Account) (due : Bool) → of_frame is_sabme (else_says (where_says due (says_frame frame (record c { wait = record c.wait { try = false } }))) (says slots.Flags c)).sent ≡ false
+    by : (c : Account) (due : Bool)
+        → of_frame is_sabme (else_says (where_says due (says_frame frame (record c { wait = record c.wait { try = false } })))
+        (says slots.Flags c)).sent ≡ false
     by c true = e
     by c false = refl
 
-    go : (due spent' : Bool) → NoSabme (cond due (cond spent' (Err (spent turn a)) (Ok (tries_frame frame (trying_again turn a)))) (Ok (tries_frame frame a)))
+    go : (due spent' : Bool)
+        → NoSabme (cond due (cond spent' (Err (spent turn a)) (Ok (tries_frame frame (trying_again turn a)))) (Ok (tries_frame frame a)))
     go false s = by a a.wait.try
     go true true = tt
     go true false = by (trying_again turn a) true
 
-answer-no-sabme : (a : Account) (silence : Sent) → of_frame is_sabme silence ≡ false → (m : Option Answer) → of_frame is_sabme (else_says (answering m a) (says silence a)).sent ≡ false
+answer-no-sabme : (a : Account) (silence : Sent) → of_frame is_sabme silence ≡ false → (m : Option Answer)
+    → of_frame is_sabme (else_says (answering m a) (says silence a)).sent ≡ false
 answer-no-sabme a silence e None = e
 answer-no-sabme a silence e (Some answers.Adp) = refl
 answer-no-sabme a silence e (Some answers.Xid) = refl
 answer-no-sabme a silence e (Some (answers.Ua pf)) = refl
 answer-no-sabme a silence e (Some (answers.Dm pf)) = refl
 
-sends-sabme : (turn : ℕ) (release : Bool) (b : Account) (said : Said) → speak turn release b ≡ Ok said → of_frame is_sabme said.sent ≡ true → is_established said.account.phase ≡ true
+sends-sabme : (turn : ℕ) (release : Bool) (b : Account) (said : Said) → speak turn release b ≡ Ok said
+    → of_frame is_sabme said.sent ≡ true → is_established said.account.phase ≡ true
 sends-sabme turn release b said h c = go b.phase refl
   where
     wrong : (r : Result Said LinkFault) → r ≡ Ok said → NoSabme r → is_established said.account.phase ≡ true
     wrong (Err fault) q k = cc
-    wrong (Ok x) q k = let same : x ≡ said = cc in let none : true ≡ false = sym c ∙ (ap (λ y. of_frame is_sabme y.sent) (sym same) ∙ k) in cc
+    wrong (Ok x) q k = let same : x ≡ said = cc in let none : true ≡ false = sym c
+        ∙ (ap (λ y. of_frame is_sabme y.sent) (sym same) ∙ k) in cc
 
     detecting : (r : Role) → NoSabme (speak_detecting r turn b)
     detecting Originator = by (nat_le ((b.setup.tries + 1) * b.setup.period) turn)
@@ -220,20 +235,23 @@ sends-sabme turn release b said h c = go b.phase refl
 
     go : (p : Phase) → b.phase ≡ p → is_established said.account.phase ≡ true
     go Detecting e = wrong (speak_in Detecting turn release b) (ap (λ q. speak_in q turn release b) (sym e) ∙ h) (detecting b.setup.role)
-    go Negotiating e = wrong (speak_in Negotiating turn release b) (ap (λ q. speak_in q turn release b) (sym e) ∙ h) (negotiating b.setup.role)
+    go Negotiating e = wrong (speak_in Negotiating turn release b) (ap (λ q. speak_in q turn release b) (sym e) ∙ h)
+        (negotiating b.setup.role)
     go Establishing e = said-established turn release b said h (ap is_established e)
     go Connected e = said-established turn release b said h (ap is_established e)
     go Releasing e = said-established turn release b said h (ap is_established e)
     go Closed e = said-established turn release b said h (ap is_established e)
 
 -- What holds of the two all through a run.
-pub established-on : (tries period : ℕ) (delay : Role → ℕ) (link : Link) (ts : List Turn) (state : ℕ → Ends) (deed : ℕ → Deed) → KeepsTime tries period delay link → Trace period delay link ts state deed
+pub established-on : (tries period : ℕ) (delay : Role → ℕ) (link : Link) (ts : List Turn) (state : ℕ → Ends) (deed : ℕ → Deed)
+    → KeepsTime tries period delay link → Trace period delay link ts state deed
     → (s n : ℕ) → s + n ≤ length ts → is_established (state s).orig.phase ≡ true → is_established (state (s + n)).orig.phase ≡ true
 established-on tries period delay link ts state deed kt w s zero l c = ap (λ x. is_established (state x).orig.phase) (same s) ∙ c
   where
     same : (x : ℕ) → x + 0 ≡ x
     same x = omega arith
-established-on tries period delay link ts state deed kt w s (suc n) l c = ap (λ x. is_established (state x).orig.phase) (next s n) ∙ after (established-on tries period delay link ts state deed kt w s n (omega (arith, l)) c)
+established-on tries period delay link ts state deed kt w s (suc n) l c = ap (λ x. is_established (state x).orig.phase) (next s n)
+    ∙ after (established-on tries period delay link ts state deed kt w s n (omega (arith, l)) c)
   where
     u : ℕ
     u = s + n
@@ -247,19 +265,26 @@ established-on tries period delay link ts state deed kt w s (suc n) l c = ap (λ
     heard : is_established (state u).orig.phase ≡ true → is_established (deed u).mid.orig.phase ≡ true
     heard before =
         let k = known tries period delay link (past ts u) (state u) kt h.run h.carried Originator in
-        stays-established Originator (arrival (deed u).turn.orig.heard) u (state u).orig (deed u).mid.orig (ap (λ x. x.role) k.setup ∙ (timed tries period delay link kt Originator).role_is) k.none_due.answer (h.hearing Originator).hears before
+        stays-established Originator (arrival (deed u).turn.orig.heard) u (state u).orig (deed u).mid.orig
+        (ap (λ x. x.role) k.setup ∙ (timed tries period delay link kt Originator).role_is) k.none_due.answer
+        (h.hearing Originator).hears before
 
     after : is_established (state u).orig.phase ≡ true → is_established (state (u + 1)).orig.phase ≡ true
     after before =
         let x = h.speaking Originator in
         ap (λ (y : Account). is_established y.phase) x.after_is
-        ∙ said-established u (release_of link u (deed u).mid Originator) (served_at link u (deed u).mid Originator).account x.said (sym (said-as link u (deed u).mid Originator) ∙ x.says)
+        ∙ said-established u (release_of link u (deed u).mid Originator) (served_at link u (deed u).mid Originator).account x.said
+        (sym (said-as link u (deed u).mid Originator) ∙ x.says)
         (ap is_established (serves-all link.orig.user u (is_released (deed u).mid.orig.phase) (deed u).mid.orig).phase ∙ heard before)
 
-pub begun-established : (tries period : ℕ) (delay : Role → ℕ) (link : Link) (ts : List Turn) (state : ℕ → Ends) (deed : ℕ → Deed) → KeepsTime tries period delay link → Trace period delay link ts state deed
+pub begun-established : (tries period : ℕ) (delay : Role → ℕ) (link : Link) (ts : List Turn) (state : ℕ → Ends) (deed : ℕ → Deed)
+    → KeepsTime tries period delay link → Trace period delay link ts state deed
     → (u : ℕ) → u ≤ length ts → is_begun (state u).answ.phase ≡ true → is_established (state u).orig.phase ≡ true
-begun-established tries period delay link ts state deed kt w zero l b = let wrong : false ≡ true = sym (ap (λ (x : Ends). is_begun x.answ.phase) w.starts) ∙ b in cc
-begun-established tries period delay link ts state deed kt w (suc u) l b = go (begun-by (arrival (deed u).turn.answ.heard) u (state u).answ (deed u).mid.answ role never (h.hearing Answerer).hears mid-begun) (λ q. begun-established tries period delay link ts state deed kt w u (omega (arith, l)) q)
+begun-established tries period delay link ts state deed kt w zero l b = let wrong : false ≡ true = sym
+    (ap (λ (x : Ends). is_begun x.answ.phase) w.starts) ∙ b in cc
+begun-established tries period delay link ts state deed kt w (suc u) l b = go
+    (begun-by (arrival (deed u).turn.answ.heard) u (state u).answ (deed u).mid.answ role never (h.hearing Answerer).hears mid-begun)
+    (λ q. begun-established tries period delay link ts state deed kt w u (omega (arith, l)) q)
   where
     h : Happens period delay link (past ts u) u (state u) (deed u) (state (u + 1))
     h = w.happens u (omega (arith, l))
@@ -271,23 +296,30 @@ begun-established tries period delay link ts state deed kt w (suc u) l b = go (b
     next x = omega arith
 
     role : (state u).answ.setup.role ≡ Answerer
-    role = ap (λ x. x.role) (known tries period delay link (past ts u) (state u) kt h.run h.carried Answerer).setup ∙ (timed tries period delay link kt Answerer).role_is
+    role = ap (λ x. x.role) (known tries period delay link (past ts u) (state u) kt h.run h.carried Answerer).setup
+        ∙ (timed tries period delay link kt Answerer).role_is
 
     never : (state u).answ.phase ≡ Establishing → ⊥
-    never e = subst (λ p. Stands (rates tries period) (length (past ts u)) (length (past ts u)) Answerer p (state u).answ) e (known tries period delay link (past ts u) (state u) kt h.run h.carried Answerer).stands
+    never e = subst (λ p. Stands (rates tries period) (length (past ts u)) (length (past ts u)) Answerer p (state u).answ) e
+        (known tries period delay link (past ts u) (state u) kt h.run h.carried Answerer).stands
 
     s : SpeaksAt (said_at link u (deed u).mid Answerer) (deed u).turn.answ (state (u + 1)).answ
     s = h.speaking Answerer
 
     served-begun : is_begun (served_at link u (deed u).mid Answerer).account.phase ≡ true
     served-begun =
-        let x = s-ok (served_at link u (deed u).mid Answerer).account s.said (speak u false (served_at link u (deed u).mid Answerer).account) s.says (speaks-so u false (served_at link u (deed u).mid Answerer).account) in
-        sym x.begun ∙ (ap (λ (y : Account). is_begun y.phase) (sym s.after_is) ∙ (ap (λ x. is_begun (state x).answ.phase) (sym (next u)) ∙ b))
+        let x = s-ok (served_at link u (deed u).mid Answerer).account s.said
+        (speak u false (served_at link u (deed u).mid Answerer).account) s.says
+        (speaks-so u false (served_at link u (deed u).mid Answerer).account) in
+        sym x.begun ∙ (ap (λ (y : Account). is_begun y.phase) (sym s.after_is)
+        ∙ (ap (λ x. is_begun (state x).answ.phase) (sym (next u)) ∙ b))
 
     mid-begun : is_begun (deed u).mid.answ.phase ≡ true
     mid-begun = ap is_begun (sym (serves-all link.answ.user u (is_released (deed u).mid.orig.phase) (deed u).mid.answ).phase) ∙ served-begun
 
-    go : (is_begun (state u).answ.phase ≡ true) ⊎ (of_arrived is_sabme (arrival (deed u).turn.answ.heard) ≡ true) → (is_begun (state u).answ.phase ≡ true → is_established (state u).orig.phase ≡ true) → is_established (state (suc u)).orig.phase ≡ true
+    go : (is_begun (state u).answ.phase ≡ true) ⊎ (of_arrived is_sabme (arrival (deed u).turn.answ.heard) ≡ true)
+        → (is_begun (state u).answ.phase ≡ true → is_established (state u).orig.phase ≡ true)
+        → is_established (state (suc u)).orig.phase ≡ true
     go (inl q) again =
         ap (λ x. is_established (state x).orig.phase) (next u)
         ∙ established-on tries period delay link ts state deed kt w u 1 (omega (arith, l)) (again q)
@@ -298,9 +330,11 @@ begun-established tries period delay link ts state deed kt w (suc u) l b = go (b
         let v : ℕ = u - o.delay in
         let x = (w.happens v (omega (arith, l))).speaking Originator in
         let first : is_established (state (v + 1)).orig.phase ≡ true = ap (λ (y : Account). is_established y.phase) x.after_is
-        ∙ sends-sabme v (release_of link v (deed v).mid Originator) (served_at link v (deed v).mid Originator).account x.said (sym (said-as link v (deed v).mid Originator) ∙ x.says)
+        ∙ sends-sabme v (release_of link v (deed v).mid Originator) (served_at link v (deed v).mid Originator).account x.said
+        (sym (said-as link v (deed v).mid Originator) ∙ x.says)
         (ap (λ y. of_frame is_sabme (sent_or y)) (sym x.sent_is) ∙ sent.1) in
-        ap (λ n. is_established (state n).orig.phase) (there v (u - v) (omega arith)) ∙ established-on tries period delay link ts state deed kt w (v + 1) (u - v) (omega (arith, l)) first
+        ap (λ n. is_established (state n).orig.phase) (there v (u - v) (omega arith))
+        ∙ established-on tries period delay link ts state deed kt w (v + 1) (u - v) (omega (arith, l)) first
       where
         there : (x n : ℕ) → x + n ≡ u → suc u ≡ x + 1 + n
         there x n q = omega (arith, q)

@@ -23,21 +23,26 @@ use Rattle.turn_bound.proofs.Ending.{fits}
 use Rattle.turn_bound.proofs.Tied.{Tied, tied, keeps, link_of, turn_of, state_of}
 use Rattle.turn_periods.proofs.Tracing.{Known, known, Timed, timed, rated}
 
-pub start-setup : (tries period : ℕ) (delay : Role → ℕ) (link : Link) (ts : List Turn) (ends : Ends) → KeepsTime tries period delay link → RunOf link ts ends → IsCarried delay ts → (r : Role) → (of r ends).setup ≡ (of r link).setup
+pub start-setup : (tries period : ℕ) (delay : Role → ℕ) (link : Link) (ts : List Turn) (ends : Ends) → KeepsTime tries period delay link
+    → RunOf link ts ends → IsCarried delay ts → (r : Role) → (of r ends).setup ≡ (of r link).setup
 start-setup tries period delay link ts ends k run c r = (known tries period delay link ts ends k run c r).setup
 
-pub heard-as : (tries period : ℕ) (delay : Role → ℕ) (link : Link) (ts : List Turn) (ends : Ends) → KeepsTime tries period delay link → RunOf link ts ends → IsCarried delay ts → (r : Role) (arrived : Arrived) (mid : Account)
+pub heard-as : (tries period : ℕ) (delay : Role → ℕ) (link : Link) (ts : List Turn) (ends : Ends) → KeepsTime tries period delay link
+    → RunOf link ts ends → IsCarried delay ts → (r : Role) (arrived : Arrived) (mid : Account)
     → hear (length ts) arrived (of r ends) ≡ Ok mid
-    → (q : Phase) × HeardAs (rates tries period) (length (of r ends).outgoing.pieces) 0 (length ts) ((rates tries period).quota * arrived_rnrs arrived) r (of r ends).phase (of r ends) q mid
+    → (q : Phase) × HeardAs (rates tries period) (length (of r ends).outgoing.pieces) 0 (length ts)
+    ((rates tries period).quota * arrived_rnrs arrived) r (of r ends).phase (of r ends) q mid
 heard-as tries period delay link ts ends k run c r arrived mid h =
     let z : Rates = rates tries period in
     let a : Account = of r ends in
     let kn : Known z link (length ts) ends r = known tries period delay link ts ends k run c r in
     let tm : Timed z link r = timed tries period delay link k r in
     heard-ok z (length a.outgoing.pieces) 0 (length ts) (z.quota * arrived_rnrs arrived) r a.phase a mid (hear (length ts) arrived a) h
-    (hears-well z (length a.outgoing.pieces) 0 (length ts) r a.phase arrived a (rated tries period delay link k) (subst (IsOf z) (sym kn.setup) tm.is_of) kn.stands refl (ap (λ s. s.role) kn.setup ∙ tm.role_is) (omega arith))
+    (hears-well z (length a.outgoing.pieces) 0 (length ts) r a.phase arrived a (rated tries period delay link k)
+    (subst (IsOf z) (sym kn.setup) tm.is_of) kn.stands refl (ap (λ s. s.role) kn.setup ∙ tm.role_is) (omega arith))
 
-pub heard-setup : (tries period : ℕ) (delay : Role → ℕ) (link : Link) (ts : List Turn) (ends : Ends) → KeepsTime tries period delay link → RunOf link ts ends → IsCarried delay ts → (r : Role) (arrived : Arrived) (mid : Account)
+pub heard-setup : (tries period : ℕ) (delay : Role → ℕ) (link : Link) (ts : List Turn) (ends : Ends) → KeepsTime tries period delay link
+    → RunOf link ts ends → IsCarried delay ts → (r : Role) (arrived : Arrived) (mid : Account)
     → hear (length ts) arrived (of r ends) ≡ Ok mid → mid.setup ≡ (of r link).setup
 heard-setup tries period delay link ts ends k run c r arrived mid h =
     (heard-as tries period delay link ts ends k run c r arrived mid h).1.setup ∙ start-setup tries period delay link ts ends k run c r
@@ -50,8 +55,10 @@ pub record Met (ends : Ends) : Type 0 where
   pub closed : is_closed ends.answ.phase ≡ true → is_released ends.orig.phase ≡ true
   pub begun : is_begun ends.orig.phase ≡ true → is_begun ends.answ.phase ≡ true
 
-pub met : (tries period : ℕ) (delay : Role → ℕ) (link : Link) (ts : List Turn) (ends : Ends) → KeepsTime tries period delay link → RunOf link ts ends → IsCarried delay ts → Met ends
+pub met : (tries period : ℕ) (delay : Role → ℕ) (link : Link) (ts : List Turn) (ends : Ends) → KeepsTime tries period delay link
+    → RunOf link ts ends → IsCarried delay ts → Met ends
 met tries period delay link ts ends k run c =
     let i : Tied delay link ts ends = tied delay link ts ends k.delays run c in
-    let m : Meets (state_of ends i.forward i.back) = meets-run (rates tries period) (link_of delay link) (map turn_of ts) (state_of ends i.forward i.back) (fits tries period (link_of delay link) (keeps tries period delay link k)) i.run in
+    let m : Meets (state_of ends i.forward i.back) = meets-run (rates tries period) (link_of delay link) (map turn_of ts)
+    (state_of ends i.forward i.back) (fits tries period (link_of delay link) (keeps tries period delay link k)) i.run in
     record { closed = m.closed; begun = m.begun }

@@ -1,10 +1,9 @@
 -- The tries of an originator by the turn: when each went, and what is lost where none is answered.
-use Rattle.std.proofs.Common.{◌⊎◌, inl, inr, ◌≡◌, ℕ, zero, suc, ◌+◌, ◌-◌, ◌*◌, ◌<◌, ◌≤◌, not, Bool, true, false, cond, List, length, arith, refl, sym, ◌∙◌, ap, subst, Some, Ok}
+use Rattle.std.proofs.Common.{◌⊎◌, inl, inr, ◌≡◌, ℕ, zero, suc, ◌+◌, ◌-◌, ◌*◌, ◌<◌, ◌≤◌, not, Bool, true, false, List, length, arith, refl, sym, ◌∙◌, ap, subst, Some, Ok}
 use Rattle.std.specs.Prelude.{is_some}
 use Rattle.std.proofs.lemmas.Bool.{cases_lt}
 use Rattle.roles.specs.declared.role.Role.{Role}
 use Rattle.roles.specs.declared.role.Role.TheVariants.{Originator, Answerer}
-use Rattle.roles.specs.Both.{of}
 use Rattle.xid_params.specs.Offers.{offer_in, written, IsAllowed, ReadsWritten}
 use Rattle.slot_contents.specs.declared.sent.Sent.{Sent}
 use Rattle.slot_contents.specs.declared.arrived.Arrived.{Arrived}
@@ -28,7 +27,7 @@ use Rattle.turn_periods.proofs.Numbering.{allowed}
 use Rattle.turn_periods.proofs.Numbered.{numbered-linked}
 use Rattle.turn_periods.proofs.Trace.{Deed, Happens, Trace, past, sent_or}
 use Rattle.turn_periods.proofs.TwoEnds.{EndRun, TwoEnds, end_run}
-use Rattle.turn_periods.proofs.Tracing.{known, timed, release_of, said-as}
+use Rattle.turn_periods.proofs.Tracing.{known, release_of}
 use Rattle.turn_periods.proofs.LineLaw.{is-heard}
 use Rattle.turn_periods.proofs.PollLaws.{two-ends}
 use Rattle.turn_periods.proofs.PeriodLaws.{NoneLost}
@@ -45,11 +44,15 @@ GoesUnanswered p arrived a = (a.phase ≡ p) × (of_arrived (moves_on p) arrived
 abbrev pub TryTurn : (period turn : ℕ) → Phase → Arrived → Sent → Account → Account → Type 0
 TryTurn period turn p arrived sent a c =
     ((a.phase ≡ p → ⊥) × (c.wait.try_set ≡ turn) × (c.wait.try_count ≡ 0) × (of_frame (asks p) sent ≡ true))
-    ⊎ (GoesUnanswered p arrived a × (turn ≡ a.wait.try_set + period) × (c.wait.try_set ≡ turn) × (c.wait.try_count ≡ a.wait.try_count + 1) × (of_frame (asks p) sent ≡ true))
-    ⊎ (GoesUnanswered p arrived a × (turn ≡ a.wait.try_set + period → ⊥) × (c.wait.try_set ≡ a.wait.try_set) × (c.wait.try_count ≡ a.wait.try_count))
+    ⊎ (GoesUnanswered p arrived a × (turn ≡ a.wait.try_set + period) × (c.wait.try_set ≡ turn) × (c.wait.try_count ≡ a.wait.try_count + 1)
+    × (of_frame (asks p) sent ≡ true))
+    ⊎ (GoesUnanswered p arrived a × (turn ≡ a.wait.try_set + period → ⊥) × (c.wait.try_set ≡ a.wait.try_set)
+    × (c.wait.try_count ≡ a.wait.try_count))
 
-try-turn : (user : User) (period turn : ℕ) (p : Phase) (arrived : Arrived) (a mid : Account) (released release : Bool) (said : Said) → a.setup.role ≡ Originator → mid.setup.role ≡ Originator → mid.setup.period ≡ period → 1 ≤ period
-    → is_some (offer_in (written mid.setup.offer)) ≡ true → hear turn arrived a ≡ Ok mid → speak turn release (served_account user turn released mid) ≡ Ok said → is_trying p ≡ true → said.account.phase ≡ p
+try-turn : (user : User) (period turn : ℕ) (p : Phase) (arrived : Arrived) (a mid : Account) (released release : Bool) (said : Said)
+    → a.setup.role ≡ Originator → mid.setup.role ≡ Originator → mid.setup.period ≡ period → 1 ≤ period
+    → is_some (offer_in (written mid.setup.offer)) ≡ true → hear turn arrived a ≡ Ok mid
+    → speak turn release (served_account user turn released mid) ≡ Ok said → is_trying p ≡ true → said.account.phase ≡ p
     → TryTurn period turn p arrived said.sent a said.account
 try-turn user period turn p arrived a mid released release said r r' per long offers hears speaks t e = go said-so
   where
@@ -66,7 +69,9 @@ try-turn user period turn p arrived a mid released release said r r' per long of
     heard f = try-heard arrived turn a mid r hears p t f
 
     said-so : ((b.phase ≡ p) × (TriesAgain p turn b said ⊎ TryStands p turn b said)) ⊎ TryIsNew p turn b said
-    said-so = try-says turn release b said (ap (λ x. x.role) s.setup ∙ r') (let q = ap (λ x. x.period) s.setup in omega (arith, q, per, long)) (ap (λ x. is_some (offer_in (written x.offer))) s.setup ∙ offers) speaks p t e
+    said-so = try-says turn release b said (ap (λ x. x.role) s.setup ∙ r')
+        (let q = ap (λ x. x.period) s.setup in omega (arith, q, per, long)) (ap (λ x. is_some (offer_in (written x.offer))) s.setup
+        ∙ offers) speaks p t e
 
     set-is : b.wait.try_set ≡ mid.wait.try_set
     set-is = ap (λ w. w.try_set) wait
@@ -74,19 +79,29 @@ try-turn user period turn p arrived a mid released release said r r' per long of
     b-period : b.setup.period ≡ period
     b-period = ap (λ x. x.period) s.setup ∙ per
 
-    again : TryGoesOn p arrived a mid ⊎ TryBegins turn p a mid → TriesAgain p turn b said → TryTurn period turn p arrived said.sent a said.account
+    again : TryGoesOn p arrived a mid ⊎ TryBegins turn p a mid → TriesAgain p turn b said
+        → TryTurn period turn p arrived said.sent a said.account
     again (inl (x, w, n)) (due, set, count, sends) =
         let same = ap (λ v. v.try_set) w in let same' = ap (λ v. v.try_count) w in let bc = ap (λ v. v.try_count) wait in
         inr (inl ((x, n), omega (arith, due, set-is, same, b-period), set, omega (arith, count, bc, same'), sends))
     again (inr (x, y, try, set', count')) (due, set, count, sends) = absurd (omega (arith, due, set-is, set', b-period, long))
 
-    stands : TryGoesOn p arrived a mid ⊎ TryBegins turn p a mid → TryStands p turn b said → TryTurn period turn p arrived said.sent a said.account
+    stands : TryGoesOn p arrived a mid ⊎ TryBegins turn p a mid → TryStands p turn b said
+        → TryTurn period turn p arrived said.sent a said.account
     stands (inl (x, w, n)) (due, set, count, sends) =
         let same = ap (λ v. v.try_set) w in
-        inr (inr ((x, n), (λ q. due (omega (arith, q, set-is, same, b-period))), set ∙ (set-is ∙ same), count ∙ (ap (λ v. v.try_count) wait ∙ ap (λ v. v.try_count) w)))
-    stands (inr (x, y, try, set', count')) (due, set, count, sends) = inl (x, set ∙ (set-is ∙ set'), count ∙ (ap (λ v. v.try_count) wait ∙ count'), sends (ap (λ v. v.try) wait ∙ try))
+        inr (inr (
+          (x, n),
+          (λ q. due (omega (arith, q, set-is, same, b-period))),
+          set ∙ (set-is ∙ same),
+          count
+              ∙ (ap (λ v. v.try_count) wait ∙ ap (λ v. v.try_count) w),
+        ))
+    stands (inr (x, y, try, set', count')) (due, set, count, sends) = inl
+        (x, set ∙ (set-is ∙ set'), count ∙ (ap (λ v. v.try_count) wait ∙ count'), sends (ap (λ v. v.try) wait ∙ try))
 
-    go : ((b.phase ≡ p) × (TriesAgain p turn b said ⊎ TryStands p turn b said)) ⊎ TryIsNew p turn b said → TryTurn period turn p arrived said.sent a said.account
+    go : ((b.phase ≡ p) × (TriesAgain p turn b said ⊎ TryStands p turn b said)) ⊎ TryIsNew p turn b said
+        → TryTurn period turn p arrived said.sent a said.account
     go (inl (f, inl x)) = again (heard (sym s.phase ∙ f)) x
     go (inl (f, inr x)) = stands (heard (sym s.phase ∙ f)) x
     go (inr (f, q, set, count, sends)) = inl ((λ x. releasing-stays arrived turn a mid (x ∙ q) hears (sym s.phase ∙ f)), set, count, sends)
@@ -99,14 +114,18 @@ pub record Tried (period : ℕ) (p : Phase) (e : EndRun) (t : ℕ) : Type 0 wher
   pub within : t ≤ set + period
   pub sends : of_frame (asks p) (e.slot set) ≡ true
   pub since : (u : ℕ) → set < u → u ≤ t → (e.account u).phase ≡ p
-  pub earlier : (n : ℕ) → (e.account t).wait.try_count ≡ n + 1 → ((e.account set).phase ≡ p) × ((e.account set).wait.try_count ≡ n) × ((e.account set).wait.try_set + period ≡ set)
+  pub earlier : (n : ℕ) → (e.account t).wait.try_count ≡ n + 1 → ((e.account set).phase ≡ p) × ((e.account set).wait.try_count ≡ n)
+      × ((e.account set).wait.try_set + period ≡ set)
 
 abbrev pub TriesSo : (period turns : ℕ) → Phase → EndRun → Type 0
-TriesSo period turns p e = (t : ℕ) → t < turns → (e.account (t + 1)).phase ≡ p → TryTurn period t p (e.heard t) (e.slot t) (e.account t) (e.account (t + 1))
+TriesSo period turns p e = (t : ℕ) → t < turns → (e.account (t + 1)).phase ≡ p
+    → TryTurn period t p (e.heard t) (e.slot t) (e.account t) (e.account (t + 1))
 
-pub tried : (period turns : ℕ) (p : Phase) (e : EndRun) → 1 ≤ period → TriesSo period turns p e → ((e.account 0).phase ≡ p → ⊥) → (t : ℕ) → t ≤ turns → (e.account t).phase ≡ p → Tried period p e t
+pub tried : (period turns : ℕ) (p : Phase) (e : EndRun) → 1 ≤ period → TriesSo period turns p e → ((e.account 0).phase ≡ p → ⊥) → (t : ℕ)
+    → t ≤ turns → (e.account t).phase ≡ p → Tried period p e t
 tried period turns p e long h none zero l f = absurd (none f)
-tried period turns p e long h none (suc t) l f = subst (Tried period p e) (next t) (go (h t (omega (arith, l)) now) (λ g. tried period turns p e long h none t (omega (arith, l)) g))
+tried period turns p e long h none (suc t) l f = subst (Tried period p e) (next t)
+    (go (h t (omega (arith, l)) now) (λ g. tried period turns p e long h none t (omega (arith, l)) g))
   where
     next : (x : ℕ) → x + 1 ≡ suc x
     next x = omega arith
@@ -117,7 +136,8 @@ tried period turns p e long h none (suc t) l f = subst (Tried period p e) (next 
     at : (u : ℕ) → t < u → u ≤ t + 1 → (e.account u).phase ≡ p
     at u x y = ap (λ v. (e.account v).phase) (omega (arith, x, y)) ∙ now
 
-    go : TryTurn period t p (e.heard t) (e.slot t) (e.account t) (e.account (t + 1)) → ((e.account t).phase ≡ p → Tried period p e t) → Tried period p e (t + 1)
+    go : TryTurn period t p (e.heard t) (e.slot t) (e.account t) (e.account (t + 1)) → ((e.account t).phase ≡ p → Tried period p e t)
+        → Tried period p e (t + 1)
     go (inl (first, set, count, sends)) again = record {
       set = t;
       set_is = set;
@@ -163,7 +183,8 @@ pub one-time : (p : ℕ) → (0 + 1) * p ≡ p
 one-time p = omega arith
 
 -- so each of them went a period before the next one, or before the turn in which the last one's timer expires
-pub unanswered : (period turns : ℕ) (p : Phase) (e : EndRun) → 1 ≤ period → TriesSo period turns p e → ((e.account 0).phase ≡ p → ⊥) → (n t : ℕ) → t ≤ turns → (e.account t).phase ≡ p → (e.account t).wait.try_count ≡ n
+pub unanswered : (period turns : ℕ) (p : Phase) (e : EndRun) → 1 ≤ period → TriesSo period turns p e → ((e.account 0).phase ≡ p → ⊥)
+    → (n t : ℕ) → t ≤ turns → (e.account t).phase ≡ p → (e.account t).wait.try_count ≡ n
     → (e.account t).wait.try_set + period ≡ t → (j : ℕ) → j ≤ n → (s : ℕ) × (s + (j + 1) * period ≡ t) × Unanswered period p e s
 unanswered period turns p e long h none n t l f c due zero less =
     let i = tried period turns p e long h none t l f in
@@ -182,14 +203,17 @@ unanswered period turns p e long h none (suc n) t l f c due (suc j) less =
     (r.0, omega (arith, d, m, q, due), r.2)
 
 -- What both ends of a run are to each other while the originator tries.
-pub tries-so : ReadsWritten → (tries period : ℕ) (delay : Role → ℕ) (link : Link) (ts : List Turn) (state : ℕ → Ends) (deed : ℕ → Deed) → KeepsTime tries period delay link → MayPlay link.orig.setup link.answ.setup → Trace period delay link ts state deed
+pub tries-so : ReadsWritten → (tries period : ℕ) (delay : Role → ℕ) (link : Link) (ts : List Turn) (state : ℕ → Ends) (deed : ℕ → Deed)
+    → KeepsTime tries period delay link → MayPlay link.orig.setup link.answ.setup → Trace period delay link ts state deed
     → (p : Phase) → is_trying p ≡ true → TriesSo period (length ts) p (end_run delay state deed Originator)
 tries-so reads tries period delay link ts state deed kt m w p t u l f =
     subst (λ x. TryTurn period u p (arrival (deed u).turn.orig.heard) x (state u).orig (state (u + 1)).orig) (ap sent_or (sym s.sent_is))
     (subst (λ x. TryTurn period u p (arrival (deed u).turn.orig.heard) s.said.sent (state u).orig x) (sym s.after_is)
-    (try-turn link.orig.user period u p (arrival (deed u).turn.orig.heard) (state u).orig (deed u).mid.orig (is_released (deed u).mid.orig.phase) (release_of link u (deed u).mid Originator) s.said
+    (try-turn link.orig.user period u p (arrival (deed u).turn.orig.heard) (state u).orig (deed u).mid.orig
+    (is_released (deed u).mid.orig.phase) (release_of link u (deed u).mid Originator) s.said
     (ap (λ x. x.role) (start-setup tries period delay link (past ts u) (state u) kt h.run h.carried Originator) ∙ kt.roles Originator)
-    (ap (λ x. x.role) mid-setup ∙ kt.roles Originator) (ap (λ x. x.period) mid-setup ∙ (kt.timed Originator).period_is) (let q = kt.period_is in omega (arith, q))
+    (ap (λ x. x.role) mid-setup ∙ kt.roles Originator) (ap (λ x. x.period) mid-setup ∙ (kt.timed Originator).period_is)
+    (let q = kt.period_is in omega (arith, q))
     (ap is_some (reads-own reads (deed u).mid.orig.setup (subst (λ x. IsAllowed x.offer) (sym mid-setup) (allowed link m Originator))))
     (h.hearing Originator).hears s.says t (ap (λ (x : Account). x.phase) (sym s.after_is) ∙ f)))
   where
@@ -200,14 +224,17 @@ tries-so reads tries period delay link ts state deed kt m w p t u l f =
     s = h.speaking Originator
 
     mid-setup : (deed u).mid.orig.setup ≡ link.orig.setup
-    mid-setup = heard-setup tries period delay link (past ts u) (state u) kt h.run h.carried Originator (arrival (deed u).turn.orig.heard) (deed u).mid.orig
+    mid-setup = heard-setup tries period delay link (past ts u) (state u) kt h.run h.carried Originator (arrival (deed u).turn.orig.heard)
+        (deed u).mid.orig
         (ap (λ n. hear n (arrival (deed u).turn.orig.heard) (state u).orig) h.number ∙ (h.hearing Originator).hears)
 
     reads-own : ReadsWritten → (x : Setup) → IsAllowed x.offer → offer_in (written x.offer) ≡ Some x.offer
     reads-own r x a = r x.offer a
 
 -- an answerer can answer what is tried
-answerable : (p q : Phase) (n : Bool) → is_trying p ≡ true → (q ≡ Establishing → ⊥) → (q ≡ Releasing → ⊥) → (p ≡ Negotiating → is_begun q ≡ false) → (p ≡ Establishing → (n ≡ false) × (is_closed q ≡ false)) → (p ≡ Releasing → is_begun q ≡ true)
+answerable : (p q : Phase) (n : Bool) → is_trying p ≡ true → (q ≡ Establishing → ⊥) → (q ≡ Releasing → ⊥)
+    → (p ≡ Negotiating → is_begun q ≡ false) → (p ≡ Establishing → (n ≡ false) × (is_closed q ≡ false))
+    → (p ≡ Releasing → is_begun q ≡ true)
     → can_answer p q n ≡ true
 answerable Detecting q n t e r x y z = cc
 answerable Connected q n t e r x y z = cc
@@ -236,12 +263,15 @@ not-so true f = absurd (f refl)
 not-so false f = refl
 
 -- The answerer answers in the turn in which it hears.
-pub answers-so : ReadsWritten → (tries period : ℕ) (delay : Role → ℕ) (link : Link) (ts : List Turn) (state : ℕ → Ends) (deed : ℕ → Deed) → KeepsTime tries period delay link → MayPlay link.orig.setup link.answ.setup → Trace period delay link ts state deed
-    → (p : Phase) → is_trying p ≡ true → (u : ℕ) → u < length ts → (state u).orig.phase ≡ p → of_arrived (asks p) (arrival (deed u).turn.answ.heard) ≡ true → of_frame (moves_on p) (sent_or (deed u).turn.answ.sent) ≡ true
+pub answers-so : ReadsWritten → (tries period : ℕ) (delay : Role → ℕ) (link : Link) (ts : List Turn) (state : ℕ → Ends) (deed : ℕ → Deed)
+    → KeepsTime tries period delay link → MayPlay link.orig.setup link.answ.setup → Trace period delay link ts state deed
+    → (p : Phase) → is_trying p ≡ true → (u : ℕ) → u < length ts → (state u).orig.phase ≡ p
+    → of_arrived (asks p) (arrival (deed u).turn.answ.heard) ≡ true → of_frame (moves_on p) (sent_or (deed u).turn.answ.sent) ≡ true
 answers-so reads tries period delay link ts state deed kt m w p t u l f k =
     ap (λ x. of_frame (moves_on p) (sent_or x)) s.sent_is
     ∙ says-due p u (served_at link u (deed u).mid Answerer).account s.said (ap (λ x. x.role) b-setup ∙ kt.roles Answerer)
-    (ap (λ x. is_some (offer_in (written x.offer))) b-setup ∙ ap is_some (reads link.answ.setup.offer (allowed link m Answerer))) served-due s.says
+    (ap (λ x. is_some (offer_in (written x.offer))) b-setup ∙ ap is_some (reads link.answ.setup.offer (allowed link m Answerer)))
+    served-due s.says
   where
     h : Happens period delay link (past ts u) u (state u) (deed u) (state (u + 1))
     h = w.happens u l
@@ -253,7 +283,9 @@ answers-so reads tries period delay link ts state deed kt m w p t u l f k =
     mid = (deed u).mid.answ
 
     mid-setup : mid.setup ≡ link.answ.setup
-    mid-setup = heard-setup tries period delay link (past ts u) (state u) kt h.run h.carried Answerer (arrival (deed u).turn.answ.heard) mid (ap (λ n. hear n (arrival (deed u).turn.answ.heard) (state u).answ) h.number ∙ (h.hearing Answerer).hears)
+    mid-setup = heard-setup tries period delay link (past ts u) (state u) kt h.run h.carried Answerer
+        (arrival (deed u).turn.answ.heard) mid (ap (λ n. hear n (arrival (deed u).turn.answ.heard) (state u).answ) h.number
+        ∙ (h.hearing Answerer).hears)
 
     v : Served u (length link.answ.user.breaks) (is_busy u link.answ.user.busy) mid (served_at link u (deed u).mid Answerer).account
     v = serves-all link.answ.user u (is_released (deed u).mid.orig.phase) mid
@@ -261,23 +293,32 @@ answers-so reads tries period delay link ts state deed kt m w p t u l f k =
     b-setup : (served_at link u (deed u).mid Answerer).account.setup ≡ link.answ.setup
     b-setup = served-setup link.answ.user u (is_released (deed u).mid.orig.phase) mid ∙ mid-setup
 
-    never : (q : Phase) → Stands (rates tries period) (length (past ts u)) (length (past ts u)) Answerer q (state u).answ ≡ ⊥ → (state u).answ.phase ≡ q → ⊥
-    never q e g = subst (λ x. x) e (subst (λ x. Stands (rates tries period) (length (past ts u)) (length (past ts u)) Answerer x (state u).answ) g (known tries period delay link (past ts u) (state u) kt h.run h.carried Answerer).stands)
+    never : (q : Phase) → Stands (rates tries period) (length (past ts u)) (length (past ts u)) Answerer q (state u).answ ≡ ⊥
+        → (state u).answ.phase ≡ q → ⊥
+    never q e g = subst (λ x. x) e
+        (subst (λ x. Stands (rates tries period) (length (past ts u)) (length (past ts u)) Answerer x (state u).answ) g
+        (known tries period delay link (past ts u) (state u) kt h.run h.carried Answerer).stands)
 
     both : Met (state u)
     both = met tries period delay link (past ts u) (state u) kt h.run h.carried
 
     can : can_answer p (state u).answ.phase (state u).answ.numbered ≡ true
     can = answerable p (state u).answ.phase (state u).answ.numbered t (never Establishing refl) (never Releasing refl)
-        (λ q. not-so (is_begun (state u).answ.phase) (λ b. let wrong : true ≡ false = sym (begun-established tries period delay link ts state deed kt w u (omega (arith, l)) b) ∙ ap is_established (f ∙ q) in cc))
+        (λ q. not-so (is_begun (state u).answ.phase)
+        (λ b. let wrong : true ≡ false = sym (begun-established tries period delay link ts state deed kt w u (omega (arith, l)) b)
+        ∙ ap is_established (f ∙ q) in cc))
         (λ q. (
-          not-so (state u).answ.numbered (λ n. let wrong : true ≡ false = sym (numbered-linked tries period delay link ts state deed kt w Answerer u (omega (arith, l)) n) ∙ ap is_linked (f ∙ q) in cc),
+          not-so (state u).answ.numbered
+              (λ n. let wrong : true ≡ false = sym
+              (numbered-linked tries period delay link ts state deed kt w Answerer u (omega (arith, l)) n) ∙ ap is_linked (f ∙ q) in cc),
           not-so (is_closed (state u).answ.phase) (λ c. let wrong : true ≡ false = sym (both.closed c) ∙ ap is_released (f ∙ q) in cc),
         ))
         (λ q. both.begun (ap is_begun (f ∙ q)))
 
     due : AnswerDue p mid
-    due = answer-due p (arrival (deed u).turn.answ.heard) u (state u).answ mid (ap (λ x. x.role) (start-setup tries period delay link (past ts u) (state u) kt h.run h.carried Answerer) ∙ kt.roles Answerer) can k (h.hearing Answerer).hears
+    due = answer-due p (arrival (deed u).turn.answ.heard) u (state u).answ mid
+        (ap (λ x. x.role) (start-setup tries period delay link (past ts u) (state u) kt h.run h.carried Answerer) ∙ kt.roles Answerer) can
+        k (h.hearing Answerer).hears
 
     moved : (q : Phase) (a b : Account) → b.phase ≡ a.phase → b.owes.answer ≡ a.owes.answer → AnswerDue q a → AnswerDue q b
     moved Negotiating a b x y (g, d) = (x ∙ g, y ∙ d)
@@ -292,7 +333,9 @@ answers-so reads tries period delay link ts state deed kt m w p t u l f k =
     served-due = moved p mid (served_at link u (deed u).mid Answerer).account v.phase v.answer due
 
 -- So where none moves the originator on for a whole period, something was lost in it.
-pub unanswered-loses : ReadsWritten → (tries period : ℕ) (delay : Role → ℕ) (link : Link) (ts : List Turn) (state : ℕ → Ends) (deed : ℕ → Deed) → KeepsTime tries period delay link → MayPlay link.orig.setup link.answ.setup → Trace period delay link ts state deed
+pub unanswered-loses : ReadsWritten → (tries period : ℕ) (delay : Role → ℕ) (link : Link) (ts : List Turn) (state : ℕ → Ends)
+    (deed : ℕ → Deed) → KeepsTime tries period delay link → MayPlay link.orig.setup link.answ.setup
+    → Trace period delay link ts state deed
     → (p : Phase) → is_trying p ≡ true → (s : ℕ) → s + period ≤ length ts → Unanswered period p (end_run delay state deed Originator) s
     → LostIn (end_run delay state deed Originator) (end_run delay state deed Answerer) (s + 1) (period - 1)
 unanswered-loses reads tries period delay link ts state deed kt m w p t s within x = go (lost-or-none e o (s + 1) (period - 1))
@@ -316,7 +359,8 @@ unanswered-loses reads tries period delay link ts state deed kt m w p t s within
     d' = k.other_delay
 
     unheard : (u : ℕ) → s < u → u + 1 ≤ s + period → of_arrived (moves_on p) (e.heard u) ≡ false
-    unheard u a b = by (tries-so reads tries period delay link ts state deed kt m w p t u (omega (arith, b, within)) (x.stays (u + 1) (omega (arith, a)) b))
+    unheard u a b = by (tries-so reads tries period delay link ts state deed kt m w p t u (omega (arith, b, within))
+        (x.stays (u + 1) (omega (arith, a)) b))
       where
         by : TryTurn period u p (e.heard u) (e.slot u) (e.account u) (e.account (u + 1)) → of_arrived (moves_on p) (e.heard u) ≡ false
         by (inl (first, _, _, _)) = absurd (first (x.stays u a (omega (arith, b))))
@@ -328,8 +372,12 @@ unanswered-loses reads tries period delay link ts state deed kt m w p t s within
     go (inr none) =
         let v : ℕ = s + e.delay in
         let y : ℕ = v + o.delay in
-        let reaches : of_arrived (asks p) (o.heard v) ≡ true = is-heard e.delay (length ts) (asks p) e.slot o.heard o.loses k.is_heard s (omega (arith, within, per)) (none v (omega (arith, d)) (omega (arith, per))).1 ∙ x.sends in
-        let answered : of_frame (moves_on p) (o.slot v) ≡ true = answers-so reads tries period delay link ts state deed kt m w p t v (omega (arith, within, per)) (x.stays v (omega (arith, d)) (omega (arith, per))) reaches in
-        let hears : of_arrived (moves_on p) (e.heard y) ≡ true = is-heard o.delay (length ts) (moves_on p) o.slot e.heard e.loses k.hears v (omega (arith, within, per)) (none y (omega (arith, d)) (omega (arith, per))).0 ∙ answered in
+        let reaches : of_arrived (asks p) (o.heard v) ≡ true = is-heard e.delay (length ts) (asks p) e.slot o.heard o.loses k.is_heard s
+        (omega (arith, within, per)) (none v (omega (arith, d)) (omega (arith, per))).1 ∙ x.sends in
+        let answered : of_frame (moves_on p) (o.slot v) ≡ true = answers-so reads tries period delay link ts state deed kt m w p t v
+        (omega (arith, within, per)) (x.stays v (omega (arith, d)) (omega (arith, per))) reaches in
+        let hears : of_arrived (moves_on p) (e.heard y) ≡ true = is-heard o.delay (length ts)
+        (moves_on p) o.slot e.heard e.loses k.hears v (omega (arith, within, per)) (none y (omega (arith, d)) (omega (arith, per))).0
+        ∙ answered in
         let wrong : true ≡ false = sym hears ∙ unheard y (omega (arith, d)) (omega (arith, per)) in
         cc

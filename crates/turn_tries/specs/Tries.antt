@@ -4,7 +4,6 @@ use Rattle.roles.specs.declared.role.Role.{Role}
 use Rattle.roles.specs.declared.role.Role.TheVariants.{Originator, Answerer}
 use Rattle.roles.specs.Both.{of}
 use Rattle.break_signals.specs.Breaks.{waits}
-use Rattle.link_account.specs.declared.phase.Phase.TheVariants.{Connected}
 use Rattle.link_account.specs.declared.fault.LinkFault.{LinkFault}
 use Rattle.link_account.specs.declared.fault.LinkFault.TheVariants.{Spent}
 use Rattle.link_account.specs.Account.{is_connected, break_waits}
@@ -43,7 +42,8 @@ pub record IsForLosses (tries period : ℕ) (delay : Role → ℕ) (ts : List Tu
   pub starved : IsStarved tries period delay (t ∷ ts)
 
 abbrev pub GivesUpForLosses : Type 0
-GivesUpForLosses = (tries period : ℕ) (delay : Role → ℕ) (link : Link) (ts : List Turn) (before : Ends) (t : Turn) (mid : Ends) (role : Role)
+GivesUpForLosses = (tries period : ℕ) (delay : Role → ℕ) (link : Link) (ts : List Turn) (before : Ends) (t : Turn) (mid : Ends)
+    (role : Role)
     (fault : LinkFault)
     → KeepsTime tries period delay link → RunsOver link delay ts before → Carries delay ts t
     → BrokenTurn link ts before t mid role fault

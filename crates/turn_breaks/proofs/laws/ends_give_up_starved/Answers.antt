@@ -1,5 +1,5 @@
 use Rattle.turn_periods.proofs.Numbering.{Plays}
-use Rattle.turn_breaks.proofs.Law.{Base, gives-up-starved}
+use Rattle.turn_breaks.proofs.Law.{gives-up-starved}
 use Rattle.turn_breaks.proofs.laws.ends_give_up_starved.Goals as goal
 
 pub returns : goal.returns
