@@ -1,23 +1,23 @@
 -- What a station stands for once its end has heard or spoken, or was asked for a break.
-use Rattle.std.proofs.Common.{◌≡◌, ℕ, ◌+◌, ◌≤◌, ◌<◌, Bool, true, false, cond, nat_le, List, [], ◌∷◌, ◌++◌, length, arith, length-append, refl, sym, ◌∙◌, ap, subst, Option, Some, None, Ok, Err, Result}
-use Rattle.std.proofs.lemmas.Bool.Decides.{nat_tests}
+use Rattle.std.proofs.Common.{◌≡◌, ℕ, ◌+◌, Bool, true, false, cond, nat_le, List, [], ◌∷◌, ◌++◌, length, arith, length-append}
+use Rattle.std.proofs.Common.{refl, sym, ◌∙◌, ap, subst, Some, Ok, Err, Result}
 use Rattle.break_signals.specs.Breaks.{OwnBreaks, takes_break, after_ask}
 use Rattle.slot_contents.specs.declared.arrived.Arrived.{Arrived}
 use Rattle.slot_contents.specs.declared.sent.Sent.{Sent}
-use Rattle.lapm_link.specs.declared.any_end.AnyEnd.{AnyEnd}
 use Rattle.lapm_link.specs.declared.closed.Broken.{Broken}
 use Rattle.lapm_link.specs.Stands.{StandsFor, Hears, Speaks}
 use Rattle.link_account.specs.declared.fault.LinkFault.{LinkFault}
-use Rattle.link_account.specs.Account.{Account, is_connected, takes_own, after_break_asked, after_given, after_busy}
+use Rattle.link_account.specs.Account.{Account, is_connected, takes_own, after_break_asked}
 use Rattle.link_account.specs.Hear.{hear}
 use Rattle.link_account.specs.Speak.{Said, speak}
-use Rattle.link_run.specs.End.{delivered, asked_at}
+use Rattle.link_run.specs.End.{asked_at}
 use Rattle.link_run.specs.Reading.{IsOffered, HearingStaysOffered, SpeakingStaysOffered}
 use Rattle.stations.specs.declared.station.Station.{Station}
 use Rattle.stations.specs.Station.{Stands, HearsAs, SpeaksAs, line_of}
 
 -- what was offered depends on these parts alone
-pub as-offered : (file : List ℕ) (a b : Account) → b.setup ≡ a.setup → b.terms ≡ a.terms → b.phase ≡ a.phase → b.outgoing ≡ a.outgoing → IsOffered file a → IsOffered file b
+pub as-offered : (file : List ℕ) (a b : Account) → b.setup ≡ a.setup → b.terms ≡ a.terms → b.phase ≡ a.phase → b.outgoing ≡ a.outgoing
+    → IsOffered file a → IsOffered file b
 as-offered file a b setup terms phase outgoing h = record {
   allowed = rw setup h.allowed;
   terms = rw terms h.terms;
@@ -25,30 +25,38 @@ as-offered file a b setup terms phase outgoing h = record {
   cut = rw outgoing h.cut;
 }
 
-pub heard-stands : (stays : HearingStaysOffered) (turn : ℕ) (arrived : Arrived) (file : List ℕ) (a : Account) (old new : Station) → Stands old file a → new.breaks ≡ old.breaks
+pub heard-stands : (stays : HearingStaysOffered) (turn : ℕ) (arrived : Arrived) (file : List ℕ) (a : Account) (old new : Station)
+    → Stands old file a → new.breaks ≡ old.breaks
     → Hears (hear turn arrived a) a (Ok new.end) → HearsAs (hear turn arrived a) file new (Ok tt)
 heard-stands stays turn arrived file a old new h breaks k = go (hear turn arrived a) refl k
   where
     go : (r : Result Account LinkFault) → hear turn arrived a ≡ r → Hears r a (Ok new.end) → HearsAs r file new (Ok tt)
-    go (Ok b) e s = let o = stays file turn arrived a b h.offered e in record { end = s; breaks = breaks ∙ h.breaks ∙ sym (ap length o.breaks); offered = o.offered }
+    go (Ok b) e s =
+        let o = stays file turn arrived a b h.offered e in
+        record { end = s; breaks = breaks ∙ h.breaks ∙ sym (ap length o.breaks); offered = o.offered }
     go (Err fault) e s = s
 
-pub heard-breaks : (turn : ℕ) (arrived : Arrived) (file : List ℕ) (a : Account) (new : Station) (broken : Broken) → Hears (hear turn arrived a) a (Err broken) → HearsAs (hear turn arrived a) file new (Err broken.fault)
+pub heard-breaks : (turn : ℕ) (arrived : Arrived) (file : List ℕ) (a : Account) (new : Station) (broken : Broken)
+    → Hears (hear turn arrived a) a (Err broken) → HearsAs (hear turn arrived a) file new (Err broken.fault)
 heard-breaks turn arrived file a new broken k = go (hear turn arrived a) k
   where
     go : (r : Result Account LinkFault) → Hears r a (Err broken) → HearsAs r file new (Err broken.fault)
     go (Ok b) s = s
     go (Err fault) s = s.fault_is
 
-pub spoken-stands : (stays : SpeakingStaysOffered) (turn : ℕ) (release : Bool) (file : List ℕ) (a : Account) (before sent : Sent) (old new : Station) → Stands old file a → new.breaks ≡ old.breaks
+pub spoken-stands : (stays : SpeakingStaysOffered) (turn : ℕ) (release : Bool) (file : List ℕ) (a : Account) (before sent : Sent)
+    (old new : Station) → Stands old file a → new.breaks ≡ old.breaks
     → Speaks (speak turn release a) a before sent (Ok new.end) → SpeaksAs (speak turn release a) file sent new (Ok tt)
 spoken-stands stays turn release file a before sent old new h breaks k = go (speak turn release a) refl k
   where
     go : (r : Result Said LinkFault) → speak turn release a ≡ r → Speaks r a before sent (Ok new.end) → SpeaksAs r file sent new (Ok tt)
-    go (Ok said) e s = let o = stays file turn release a said h.offered e in (s.0, record { end = s.1; breaks = breaks ∙ h.breaks ∙ sym (ap length o.breaks); offered = o.offered })
+    go (Ok said) e s =
+        let o = stays file turn release a said h.offered e in
+        (s.0, record { end = s.1; breaks = breaks ∙ h.breaks ∙ sym (ap length o.breaks); offered = o.offered })
     go (Err fault) e s = s
 
-pub spoken-breaks : (turn : ℕ) (release : Bool) (file : List ℕ) (a : Account) (before sent : Sent) (new : Station) (broken : Broken) → Speaks (speak turn release a) a before sent (Err broken)
+pub spoken-breaks : (turn : ℕ) (release : Bool) (file : List ℕ) (a : Account) (before sent : Sent) (new : Station) (broken : Broken)
+    → Speaks (speak turn release a) a before sent (Err broken)
     → SpeaksAs (speak turn release a) file sent new (Err broken.fault)
 spoken-breaks turn release file a before sent new broken k = go (speak turn release a) k
   where
@@ -65,14 +73,19 @@ taken_number false = 0
 ask-lengths : (turn n : ℕ) (o : OwnBreaks) → length (after_ask turn n o).lengths ≡ length o.lengths + taken_number (takes_break turn o)
 ask-lengths turn n o = go (takes_break turn o)
   where
-    go : (b : Bool) → length (cond b (record o { lengths = o.lengths ++ n ∷ []; brk = true; set = turn; count = 0 }) o).lengths ≡ length o.lengths + taken_number b
+    go : (b : Bool)
+        → length (cond b (record o { lengths = o.lengths ++ n ∷ []; brk = true; set = turn; count = 0 }) o).lengths
+        ≡ length o.lengths + taken_number b
     go true = length-append o.lengths (n ∷ [])
     go false = omega arith
 
-pub asked-breaks : (turn n : ℕ) (a : Account) → length (after_break_asked turn n a).own_breaks.lengths ≡ length a.own_breaks.lengths + taken_number (takes_own turn a)
+pub asked-breaks : (turn n : ℕ) (a : Account)
+    → length (after_break_asked turn n a).own_breaks.lengths ≡ length a.own_breaks.lengths + taken_number (takes_own turn a)
 asked-breaks turn n a = go (is_connected a.phase)
   where
-    go : (b : Bool) → length (cond b (record a { own_breaks = after_ask turn n a.own_breaks }) a).own_breaks.lengths ≡ length a.own_breaks.lengths + taken_number (cond b (takes_break turn a.own_breaks) false)
+    go : (b : Bool)
+        → length (cond b (record a { own_breaks = after_ask turn n a.own_breaks }) a).own_breaks.lengths
+        ≡ length a.own_breaks.lengths + taken_number (cond b (takes_break turn a.own_breaks) false)
     go true = ask-lengths turn n a.own_breaks
     go false = omega arith
 
@@ -83,15 +96,18 @@ asked-offered file turn n a h = go (is_connected a.phase)
     go true = as-offered file a (record a { own_breaks = after_ask turn n a.own_breaks }) refl refl refl refl h
     go false = h
 
-pub asked-stands : (file : List ℕ) (turn from n : ℕ) (a : Account) (old new : Station) (taken : Bool) → Stands old file a → nat_le from turn ≡ true
+pub asked-stands : (file : List ℕ) (turn from n : ℕ) (a : Account) (old new : Station) (taken : Bool) → Stands old file a
+    → nat_le from turn ≡ true
     → StandsFor new.end (after_break_asked turn n a) → taken ≡ takes_own turn a → new.breaks ≡ old.breaks + taken_number taken
     → Stands new file (asked_at turn (Some (line_of (from, n))) a)
 asked-stands file turn from n a old new taken h ready end answer breaks =
     subst (λ b. Stands new file (cond b (after_break_asked turn n a) a)) (sym ready) (record {
       end = end;
-      breaks = breaks ∙ ap (λ m. m + taken_number taken) h.breaks ∙ ap (λ t. length a.own_breaks.lengths + taken_number t) answer ∙ sym (asked-breaks turn n a);
+      breaks = breaks ∙ ap (λ m. m + taken_number taken) h.breaks ∙ ap (λ t. length a.own_breaks.lengths + taken_number t) answer
+          ∙ sym (asked-breaks turn n a);
       offered = asked-offered file turn n a h.offered;
     })
 
-pub unasked-stands : (file : List ℕ) (turn from n : ℕ) (a : Account) (s : Station) → Stands s file a → nat_le from turn ≡ false → Stands s file (asked_at turn (Some (line_of (from, n))) a)
+pub unasked-stands : (file : List ℕ) (turn from n : ℕ) (a : Account) (s : Station) → Stands s file a → nat_le from turn ≡ false
+    → Stands s file (asked_at turn (Some (line_of (from, n))) a)
 unasked-stands file turn from n a s h early = subst (λ b. Stands s file (cond b (after_break_asked turn n a) a)) (sym early) h

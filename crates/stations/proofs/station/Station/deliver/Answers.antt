@@ -1,8 +1,9 @@
-use Rattle.std.proofs.Common.{◌≤◌, ℕ, List, arith, refl, sym, ap, subst, ◌∙◌}
+use Rattle.std.proofs.Common.{ℕ, List, arith, refl, sym, subst}
 use Rattle.outside_core.specs.Folder.{FolderState, Appended, PartlyAppended}
 use Rattle.outside_core.specs.Steps.{CountsStand-refl, CountsStand-trans}
 use Rattle.stations.specs.declared.station.Station.{Station}
-use Rattle.stations.proofs.Handing.{Handing, handing-starts, handing-next, handing-ends, handing-stops, handed-segment, writes-on, writes-none}
+use Rattle.stations.proofs.Handing.{handing-starts, handing-next, handing-ends, handing-stops, handed-segment, writes-on}
+use Rattle.stations.proofs.Handing.{writes-none}
 use Rattle.stations.proofs.station.Station.deliver.Goals as goal
 
 pub loop-segment-init : goal.loop-segment-init
@@ -18,7 +19,9 @@ pub returns-then-not-deliver-clause-stands : goal.returns-then-not-deliver-claus
 returns-then-not-deliver-clause-stands g c = λ file a h.
     let i = c.loop-segment.invariant.hands file a h in
     let e = sym (c.if-not-deliver.ensures.answer i.after i.stands.end) in
-    let k = handing-ends (g.F.Folder.state c.args.folder.now) (g.F.Folder.state c.loop-segment.folder) c.args.name.now c.loop-segment.self _ file a i e (c.if-not-deliver.ensures.account i.after i.stands.end) refl in
+    let k = handing-ends (g.F.Folder.state c.args.folder.now) (g.F.Folder.state c.loop-segment.folder) c.args.name.now
+    c.loop-segment.self _ file a i e
+    (c.if-not-deliver.ensures.account i.after i.stands.end) refl in
     k.0
 
 pub returns-then-not-deliver-clause-ok : goal.returns-then-not-deliver-clause-ok
@@ -26,7 +29,9 @@ returns-then-not-deliver-clause-ok g c = λ file a h.
     let i = c.loop-segment.invariant.hands file a h in
     let e = sym (c.if-not-deliver.ensures.answer i.after i.stands.end) in
     let new : Station = record c.loop-segment.self { end = c.deliver.new.self } in
-    let k = handing-ends (g.F.Folder.state c.args.folder.now) (g.F.Folder.state c.loop-segment.folder) c.args.name.now c.loop-segment.self new file a i e (c.if-not-deliver.ensures.account i.after i.stands.end) refl in
+    let k = handing-ends (g.F.Folder.state c.args.folder.now) (g.F.Folder.state c.loop-segment.folder) c.args.name.now
+    c.loop-segment.self new file a i e
+    (c.if-not-deliver.ensures.account i.after i.stands.end) refl in
     k.1
 
 pub loop-segment-preserved : goal.loop-segment-preserved
@@ -40,8 +45,10 @@ loop-segment-preserved g c =
     record {
       hands = λ file a h.
           let i = old.hands file a h in
-          let e = handed-segment c.loop-segment.self.end c.deliver.new.out i.after i.stands.end (c.if-not-deliver.ensures.answer i.after i.stands.end) c.if-not-deliver.ensures.segment in
-          handing-next start now next name c.deliver.new.out c.loop-segment.self _ file a old.only.goes_on i e (c.if-not-deliver.ensures.account i.after i.stands.end) refl put;
+          let e = handed-segment c.loop-segment.self.end c.deliver.new.out i.after i.stands.end
+          (c.if-not-deliver.ensures.answer i.after i.stands.end) c.if-not-deliver.ensures.segment in
+          handing-next start now next name c.deliver.new.out c.loop-segment.self _ file a old.only.goes_on i e
+          (c.if-not-deliver.ensures.account i.after i.stands.end) refl put;
       takes = record {
         taken_of = omega (arith, old.takes.taken_of, c.if-not-deliver.ensures.takes_nothing.taken_of);
         undelivered_of = omega (arith, old.takes.undelivered_of, c.if-not-deliver.ensures.takes_nothing.undelivered_of);
@@ -58,7 +65,9 @@ returns-in-Err-clause-err g c = λ file a h.
     let now : FolderState = g.F.Folder.state c.loop-segment.folder in
     let next : FolderState = g.F.Folder.state c.append.new.self in
     let name : List ℕ = c.args.name.now in
-    let part : PartlyAppended now next name c.deliver.new.out = subst (PartlyAppended now next name) c.as_slice.ensures.items c.in-Err.ensures.err in
+    let part : PartlyAppended now next name c.deliver.new.out =
+    subst (PartlyAppended now next name) c.as_slice.ensures.items c.in-Err.ensures.err in
     let i = c.loop-segment.invariant.hands file a h in
-    let e = handed-segment c.loop-segment.self.end c.deliver.new.out i.after i.stands.end (c.if-not-deliver.ensures.answer i.after i.stands.end) c.if-not-deliver.ensures.segment in
+    let e = handed-segment c.loop-segment.self.end c.deliver.new.out i.after i.stands.end
+    (c.if-not-deliver.ensures.answer i.after i.stands.end) c.if-not-deliver.ensures.segment in
     handing-stops start now next name c.deliver.new.out c.loop-segment.self file a c.loop-segment.invariant.only.goes_on i e part

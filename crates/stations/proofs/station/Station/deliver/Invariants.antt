@@ -8,7 +8,8 @@ use Rattle.stations.proofs.station.Station.deliver.Given as goal
 
 abbrev pub invariant-loop-segment : goal.invariant-loop-segment
 invariant-loop-segment g l = record {
-  hands : (file : List ℕ) (a : Account) → Stands l.fn.self file a → Handing (g.F.Folder.state l.fn.folder) (g.F.Folder.state l.folder) l.name l.self file a;
+  hands : (file : List ℕ) (a : Account) → Stands l.fn.self file a
+      → Handing (g.F.Folder.state l.fn.folder) (g.F.Folder.state l.folder) l.name l.self file a;
   takes : TakesNothing l.fn.self.end l.self.end;
   breaks : l.self.breaks ≡ l.fn.self.breaks;
   only : OnlyWrites (g.F.Folder.state l.fn.folder) (g.F.Folder.state l.folder) l.name;

@@ -1,17 +1,17 @@
-use Rattle.std.proofs.Common.{◌≡◌, ◌≤◌, ◌<◌, ◌+◌, ◌*◌, ◌^◌, ℕ, List, length, take, IsTrue, arith, refl, sym, ap, subst, ◌∙◌, Option, Some, None}
+use Rattle.std.proofs.Common.{◌≡◌, ◌<◌, ◌^◌, ℕ, List, length, take, arith, refl, sym, ap, subst, ◌∙◌, Option}
 use Rattle.std.proofs.lemmas.List.{length-take-le}
 use Rattle.std.specs.Option.{IsSomeAnd}
-use Rattle.outside_core.specs.Folder.{FolderState, octets_at}
-use Rattle.outside_core.specs.Steps.{OnlyReads-refl, OnlyReads-trans, CountsStand-refl, CountsStand-trans, FaultsStand-trans, told_later, octets-kept}
+use Rattle.outside_core.specs.Folder.{FolderState}
+use Rattle.outside_core.specs.Steps.{OnlyReads-refl, OnlyReads-trans, CountsStand-refl, CountsStand-trans, FaultsStand-trans, told_later}
+use Rattle.outside_core.specs.Steps.{octets-kept}
 use Rattle.link_run.specs.End.{piece_at}
-use Rattle.lapm_link.specs.Stands.{wanted_of}
-use Rattle.stations.specs.Station.{Supplying, file_at}
 use Rattle.stations.proofs.Offering.{supplying-starts, supplying-next, supplying-ends, wants-within, as-err}
 use Rattle.stations.proofs.station.Station.supply.Goals as goal
 
 pub loop-number-init : goal.loop-number-init
 loop-number-init g c = record {
-  supplies = λ file a h short. supplying-starts (g.F.Folder.state c.args.folder.now) c.args.name.now c.args.limit file a c.args.self.now h short;
+  supplies = λ file a h short.
+      supplying-starts (g.F.Folder.state c.args.folder.now) c.args.name.now c.args.limit file a c.args.self.now h short;
   takes = record { taken_of = omega arith; undelivered_of = omega arith; waiting_of = λ e. e };
   breaks = refl;
   room = refl;
@@ -22,27 +22,33 @@ loop-number-init g c = record {
 pub returns-in-None-clause-stands : goal.returns-in-None-clause-stands
 returns-in-None-clause-stands g c = λ file a h short.
     let i = c.loop-number.invariant.supplies file a h short in
-    supplying-ends c.pieces_are_offered_until_none_is_wanted.ensures (g.F.Folder.state c.args.folder.now) c.args.name.now c.args.limit file a c.loop-number.self i (c.in-None.ensures.account i.now i.stands.end)
+    supplying-ends c.pieces_are_offered_until_none_is_wanted.ensures
+    (g.F.Folder.state c.args.folder.now) c.args.name.now c.args.limit file a c.loop-number.self i
+    (c.in-None.ensures.account i.now i.stands.end)
 
 pub read_segment-requires-clause-within : goal.read_segment-requires-clause-within
 read_segment-requires-clause-within g c =
     let w = c.requires.stands in
     let i = c.loop-number.invariant.supplies w.0 w.1 w.2 w.3 in
-    let k = wants-within c.segments_are_offered_as_they_are_read.ensures.next (g.F.Folder.state c.args.folder.now) c.args.name.now c.args.limit w.0 w.1 c.loop-number.self c.in-Some.number c.piece-size.result i
+    let k = wants-within c.segments_are_offered_as_they_are_read.ensures.next
+    (g.F.Folder.state c.args.folder.now) c.args.name.now c.args.limit w.0 w.1 c.loop-number.self c.in-Some.number c.piece-size.result i
     (c.in-Some.ensures.account i.now i.stands.end) (c.piece-size.ensures.account i.now i.stands.end) in
     k.within
 
 pub slice_bounds-segment-end : goal.slice_bounds-segment-end
-slice_bounds-segment-end g c = omega (arith, c.in-Ok.ensures.count, c.piece-size.ensures.few, c.read_segment.ensures.length, c.loop-number.invariant.room)
+slice_bounds-segment-end g c =
+    omega (arith, c.in-Ok.ensures.count, c.piece-size.ensures.few, c.read_segment.ensures.length, c.loop-number.invariant.room)
 
 pub slice_bounds-offer-end : goal.slice_bounds-offer-end
-slice_bounds-offer-end g c = sym (length-take-le c.in-Ok.count c.read_segment.new.segment (omega (arith, c.in-Ok.ensures.count, c.piece-size.ensures.few, c.read_segment.ensures.length, c.loop-number.invariant.room)))
+slice_bounds-offer-end g c = sym (length-take-le c.in-Ok.count c.read_segment.new.segment
+    (omega (arith, c.in-Ok.ensures.count, c.piece-size.ensures.few, c.read_segment.ensures.length, c.loop-number.invariant.room)))
 
 pub offer-requires-clause-wanted : goal.offer-requires-clause-wanted
 offer-requires-clause-wanted g c =
     let w = c.requires.stands in
     let i = c.loop-number.invariant.supplies w.0 w.1 w.2 w.3 in
-    let k = wants-within c.segments_are_offered_as_they_are_read.ensures.next (g.F.Folder.state c.args.folder.now) c.args.name.now c.args.limit w.0 w.1 c.loop-number.self c.in-Some.number c.piece-size.result i
+    let k = wants-within c.segments_are_offered_as_they_are_read.ensures.next
+    (g.F.Folder.state c.args.folder.now) c.args.name.now c.args.limit w.0 w.1 c.loop-number.self c.in-Some.number c.piece-size.result i
     (c.in-Some.ensures.account i.now i.stands.end) (c.piece-size.ensures.account i.now i.stands.end) in
     let few : c.in-Some.number < 2 ^ 56 = omega (arith, k.few, c.requires.limit) in
     subst (λ (o : Option ℕ). IsSomeAnd o (λ number. number < 2 ^ 56)) c.in-Some.ensures.value few
@@ -53,14 +59,22 @@ loop-number-preserved g c =
     let now : FolderState = g.F.Folder.state c.loop-number.folder in
     let name : List ℕ = c.args.name.now in
     let old = c.loop-number.invariant in
-    let whole : length (take c.in-Ok.count c.read_segment.new.segment) ≡ c.in-Ok.count = length-take-le c.in-Ok.count c.read_segment.new.segment (omega (arith, c.in-Ok.ensures.count, c.piece-size.ensures.few, c.read_segment.ensures.length, old.room)) in
+    let whole : length (take c.in-Ok.count c.read_segment.new.segment) ≡ c.in-Ok.count =
+    length-take-le c.in-Ok.count c.read_segment.new.segment
+    (omega (arith, c.in-Ok.ensures.count, c.piece-size.ensures.few, c.read_segment.ensures.length, old.room)) in
     record {
       supplies = λ file a h short.
           let i = old.supplies file a h short in
-          supplying-next c.segments_are_offered_as_they_are_read.ensures.next c.segments_are_offered_as_they_are_read.ensures.told c.segments_are_offered_as_they_are_read.ensures.own c.pieces_are_offered_until_none_is_wanted.ensures
-          start name c.args.limit file a c.loop-number.self _ c.in-Some.number c.piece-size.result (take c.in-Ok.count c.read_segment.new.segment) i
-          (c.in-Some.ensures.account i.now i.stands.end) (c.piece-size.ensures.account i.now i.stands.end) (omega (arith, whole, c.in-Ok.ensures.count)) (omega (arith, whole, c.in-Ok.ensures.within))
-          (λ told. c.in-Ok.ensures.octets (told_later old.only.goes_on name told) ∙ ap (λ l. piece_at c.piece-size.result (take c.args.limit l) c.in-Some.number) (octets-kept start now name (old.only.names name) told))
+          supplying-next c.segments_are_offered_as_they_are_read.ensures.next
+          c.segments_are_offered_as_they_are_read.ensures.told c.segments_are_offered_as_they_are_read.ensures.own
+          c.pieces_are_offered_until_none_is_wanted.ensures
+          start name c.args.limit file a c.loop-number.self _ c.in-Some.number c.piece-size.result
+          (take c.in-Ok.count c.read_segment.new.segment) i
+          (c.in-Some.ensures.account i.now i.stands.end) (c.piece-size.ensures.account i.now i.stands.end)
+          (omega (arith, whole, c.in-Ok.ensures.count)) (omega (arith, whole, c.in-Ok.ensures.within))
+          (λ told. c.in-Ok.ensures.octets (told_later old.only.goes_on name told)
+          ∙ ap (λ l. piece_at c.piece-size.result (take c.args.limit l) c.in-Some.number)
+          (octets-kept start now name (old.only.names name) told))
           (c.offer.ensures.account i.now i.stands.end) refl;
       takes = record {
         taken_of = omega (arith, old.takes.taken_of, c.offer.ensures.takes_nothing.taken_of);
@@ -77,4 +91,5 @@ pub returns-in-Err-clause-only : goal.returns-in-Err-clause-only
 returns-in-Err-clause-only g c = OnlyReads-trans c.loop-number.invariant.only c.read_segment.ensures.only
 
 pub returns-in-Err-clause-spared : goal.returns-in-Err-clause-spared
-returns-in-Err-clause-spared g c = λ e. FaultsStand-trans c.loop-number.invariant.stand.faults (c.in-Err.ensures.spared (as-err c.in-Err.fault _ e))
+returns-in-Err-clause-spared g c = λ e. FaultsStand-trans c.loop-number.invariant.stand.faults
+    (c.in-Err.ensures.spared (as-err c.in-Err.fault _ e))

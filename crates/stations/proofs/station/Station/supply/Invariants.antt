@@ -8,7 +8,8 @@ use Rattle.stations.proofs.station.Station.supply.Given as goal
 
 abbrev pub invariant-loop-number : goal.invariant-loop-number
 invariant-loop-number g l = record {
-  supplies : (file : List ℕ) (a : Account) → Stands l.fn.self file a → length file ≤ l.limit → Supplying (g.F.Folder.state l.fn.folder) l.name l.limit file a l.self;
+  supplies : (file : List ℕ) (a : Account) → Stands l.fn.self file a → length file ≤ l.limit
+      → Supplying (g.F.Folder.state l.fn.folder) l.name l.limit file a l.self;
   takes : TakesNothing l.fn.self.end l.self.end;
   breaks : l.self.breaks ≡ l.fn.self.breaks;
   room : length l.segment ≡ INFO;
