@@ -1,5 +1,6 @@
 -- What is on its way, turn by turn.
-use Rattle.std.proofs.Common.{◌≡◌, ◌⊎◌, inl, inr, ℕ, zero, suc, ◌+◌, ◌-◌, ◌*◌, ◌<◌, ◌≤◌, List, [], ◌∷◌, ◌++◌, length, drop, arith, length-append, refl, sym, ◌∙◌, ap, subst, Option, Some, None}
+use Rattle.std.proofs.Common.{◌≡◌, ◌⊎◌, inl, inr, ℕ, zero, suc, ◌+◌, ◌<◌, ◌≤◌, List, [], ◌∷◌, ◌++◌, length, drop, arith}
+use Rattle.std.proofs.Common.{length-append, refl, sym, ◌∙◌, ap, subst, Option, Some, None}
 use Rattle.std.proofs.lemmas.Bool.{cases_lt}
 use Rattle.std.proofs.lemmas.List.{append-nil, append_assoc}
 use Rattle.std.specs.Prelude.{slice_get}
@@ -20,17 +21,21 @@ use Rattle.delayed_line.specs.OnWay.{IsOnWay, AreOnWay, OnWay, signals_in}
 pub many-turns : (n : ℕ) (role : Role) (ts : List Turn) → n ≤ length ts → length (on_line n role ts) ≡ n
 many-turns zero role ts h = refl
 many-turns (suc n) role [] h = absurd (omega (arith, h))
-many-turns (suc n) role (t ∷ ts) h = length-append (on_line n role ts) ((of role t).sent ∷ []) ∙ (let e = many-turns n role ts (omega (arith, h)) in omega (arith, e))
+many-turns (suc n) role (t ∷ ts) h = length-append (on_line n role ts) ((of role t).sent ∷ [])
+    ∙ (let e = many-turns n role ts (omega (arith, h)) in omega (arith, e))
 
 pub few-turns : (n : ℕ) (role : Role) (ts : List Turn) → length ts ≤ n → length (on_line n role ts) ≡ length ts
 few-turns zero role [] h = refl
 few-turns zero role (t ∷ ts) h = absurd (omega (arith, h))
 few-turns (suc n) role [] h = refl
-few-turns (suc n) role (t ∷ ts) h = length-append (on_line n role ts) ((of role t).sent ∷ []) ∙ (let e = few-turns n role ts (omega (arith, h)) in omega (arith, e))
+few-turns (suc n) role (t ∷ ts) h = length-append (on_line n role ts) ((of role t).sent ∷ [])
+    ∙ (let e = few-turns n role ts (omega (arith, h)) in omega (arith, e))
 
-pub same-count : (c : Channel) (role : Role) (before : List Signal) (slots : List Slot) (line : List (Option Spoken)) → AreOnWay c role before slots line → length slots ≡ length line
+pub same-count : (c : Channel) (role : Role) (before : List Signal) (slots : List Slot) (line : List (Option Spoken))
+    → AreOnWay c role before slots line → length slots ≡ length line
 same-count c role before [] [] h = refl
-same-count c role before (slot ∷ slots) (Some spoken ∷ line) h = ap suc (same-count c role (before ++ signal_of spoken.check role c.dlci spoken.sent ∷ []) slots line h.1)
+same-count c role before (slot ∷ slots) (Some spoken ∷ line) h = ap suc
+    (same-count c role (before ++ signal_of spoken.check role c.dlci spoken.sent ∷ []) slots line h.1)
 same-count c role before (slot ∷ slots) (None ∷ line) h = absurd h
 same-count c role before [] (slot ∷ line) h = absurd h
 same-count c role before (slot ∷ slots) [] h = absurd h
@@ -81,10 +86,12 @@ pub record Front (c : Channel) (role : Role) (d k : ℕ) (ts : List Turn) (slot 
   pub is : IsOnWay c role (signals c role (drop d ts)) slot spoken
   pub rest : AreOnWay c role (signals c role (drop k ts)) slots (on_line k role ts)
   pub upto : signals c role (drop k ts) ≡ signals c role (drop d ts) ++ signal_of spoken.check role c.dlci spoken.sent ∷ []
-  pub waiting : signals_in c role (on_line d role ts) ≡ signal_of spoken.check role c.dlci spoken.sent ∷ signals_in c role (on_line k role ts)
+  pub waiting : signals_in c role (on_line d role ts)
+      ≡ signal_of spoken.check role c.dlci spoken.sent ∷ signals_in c role (on_line k role ts)
   pub number : length ts ≡ d + length (drop d ts)
 
-by-slot : (c : Channel) (role : Role) (k : ℕ) (ts : List Turn) (slot : Slot) (slots : List Slot) (b : Back k role ts) (o : Option Spoken) → (of role b.turn).sent ≡ o
+by-slot : (c : Channel) (role : Role) (k : ℕ) (ts : List Turn) (slot : Slot) (slots : List Slot) (b : Back k role ts) (o : Option Spoken)
+    → (of role b.turn).sent ≡ o
     → AreOnWay c role (signals c role (drop (suc k) ts)) (slot ∷ slots) (o ∷ on_line k role ts)
     → Front c role (suc k) k ts slot slots
 by-slot c role k ts slot slots b None e h = absurd h
@@ -127,33 +134,42 @@ front c role d k ts slot slots e many h = subst (λ n. Front c role n k ts slot 
         (subst (λ n. AreOnWay c role (signals c role (drop n ts)) (slot ∷ slots) (on_line n role ts)) e h))
 
 -- one more slot behind those on their way
-pub behind : (c : Channel) (role : Role) (before : List Signal) (slots : List Slot) (line : List (Option Spoken)) (slot : Slot) (spoken : Spoken)
+pub behind : (c : Channel) (role : Role) (before : List Signal) (slots : List Slot) (line : List (Option Spoken)) (slot : Slot)
+    (spoken : Spoken)
     → AreOnWay c role before slots line → IsOnWay c role (before ++ signals_in c role line) slot spoken
     → AreOnWay c role before (slots ++ slot ∷ []) (line ++ Some spoken ∷ [])
 behind c role before [] [] slot spoken h k = (subst (λ l. IsOnWay c role l slot spoken) (append-nil before) k, tt)
 behind c role before (x ∷ slots) (Some first ∷ line) slot spoken h k =
-    let s = signal_of first.check role c.dlci first.sent in
-    (h.0, behind c role (before ++ s ∷ []) slots line slot spoken h.1 (subst (λ l. IsOnWay c role l slot spoken) (sym (append_assoc before (s ∷ []) (signals_in c role line))) k))
+    let s = signal_of first.check role c.dlci first.sent in (
+      h.0,
+      behind c role (before ++ s ∷ []) slots line slot spoken h.1
+          (subst (λ l. IsOnWay c role l slot spoken) (sym (append_assoc before (s ∷ []) (signals_in c role line))) k),
+    )
 behind c role before (x ∷ slots) (None ∷ line) slot spoken h k = absurd h
 behind c role before [] (first ∷ line) slot spoken h k = absurd h
 behind c role before (x ∷ slots) [] slot spoken h k = absurd h
 
-pub signals-more : (c : Channel) (role : Role) (line : List (Option Spoken)) (slot : Option Spoken) → signals_in c role (line ++ slot ∷ []) ≡ signals_in c role line ++ signal_in c role slot
+pub signals-more : (c : Channel) (role : Role) (line : List (Option Spoken)) (slot : Option Spoken)
+    → signals_in c role (line ++ slot ∷ []) ≡ signals_in c role line ++ signal_in c role slot
 signals-more c role [] slot = append-nil (signal_in c role slot)
-signals-more c role (first ∷ line) slot = ap (λ l. signal_in c role first ++ l) (signals-more c role line slot) ∙ sym (append_assoc (signal_in c role first) (signals_in c role line) (signal_in c role slot))
+signals-more c role (first ∷ line) slot = ap (λ l. signal_in c role first ++ l) (signals-more c role line slot)
+    ∙ sym (append_assoc (signal_in c role first) (signals_in c role line) (signal_in c role slot))
 
 -- before the first turn
 pub none-way : (n : ℕ) (role : Role) → on_line n role [] ≡ []
 none-way zero role = refl
 none-way (suc n) role = refl
 
-pub starts : (d : DelayedLine) (c : Channel) (n : ℕ) → LineStands d.line c.script [] [] → d.slots.items ≡ [] → sender_of d.line ≡ d.sender → d.line.writer.symbols ≡ c.symbols
+pub starts : (d : DelayedLine) (c : Channel) (n : ℕ) → LineStands d.line c.script [] [] → d.slots.items ≡ [] → sender_of d.line ≡ d.sender
+    → d.line.writer.symbols ≡ c.symbols
     → d.delay ≡ delay_of c.script d.sender → 1 ≤ d.delay → d.slots.capacity ≡ d.delay → OnWay d c n []
 starts d c n stands items sender symbols delay some room =
     let gone : drop n [] ≡ [] = none-gone n [] (omega arith) in
     record {
-      line = subst (λ l. LineStands d.line c.script (signals c d.sender (drop n [])) (signals_in c d.sender l)) (sym (none-way n d.sender)) (subst (λ l. LineStands d.line c.script (signals c d.sender l) []) (sym gone) stands);
-      slots = subst (λ l. AreOnWay c d.sender (signals c d.sender (drop n [])) d.slots.items l) (sym (none-way n d.sender)) (subst (λ xs. AreOnWay c d.sender (signals c d.sender (drop n [])) xs []) (sym items) tt);
+      line = subst (λ l. LineStands d.line c.script (signals c d.sender (drop n [])) (signals_in c d.sender l)) (sym (none-way n d.sender))
+          (subst (λ l. LineStands d.line c.script (signals c d.sender l) []) (sym gone) stands);
+      slots = subst (λ l. AreOnWay c d.sender (signals c d.sender (drop n [])) d.slots.items l) (sym (none-way n d.sender))
+          (subst (λ xs. AreOnWay c d.sender (signals c d.sender (drop n [])) xs []) (sym items) tt);
       sender = sender;
       symbols = symbols;
       delay = delay;

@@ -1,7 +1,5 @@
-use Rattle.std.proofs.Common.{◌≡◌, ◌-◌, ◌<◌, List, [], ◌∷◌, ◌++◌, length, drop, arith, refl, sym, ◌∙◌, ap, subst}
-use Rattle.bit_stuffing.specs.BitSlot.{line_bits}
+use Rattle.std.proofs.Common.{◌≡◌, ◌-◌, ◌<◌, List, [], ◌∷◌, ◌++◌, length, drop, refl, sym, ◌∙◌, ap, subst}
 use Rattle.detection.specs.Slots.{Signal}
-use Rattle.slot_contents.specs.declared.sent.Sent.{Sent}
 use Rattle.slot_contents.specs.Sendable.{IsSendable}
 use Rattle.sample_line.specs.Signals.{signal_of}
 use Rattle.sample_line.specs.Line.{LineStands, sender_of, size_of, bits_behind}
@@ -25,9 +23,12 @@ returns-clause-waits c = λ channel ts t spoken h dlci e sent check.
     let waiting : List Signal = signals_in channel d.sender (on_line k d.sender ts) in
     let signal : Signal = signal_of spoken.check d.sender channel.dlci spoken.sent in
     let same : signal_of c.args.check (sender_of d.line) c.args.dlci c.args.sent ≡ signal =
-    ap (λ x. signal_of x (sender_of d.line) c.args.dlci c.args.sent) (sym check) ∙ ap (λ x. signal_of spoken.check x c.args.dlci c.args.sent) h.sender
+    ap (λ x. signal_of x (sender_of d.line) c.args.dlci c.args.sent) (sym check)
+    ∙ ap (λ x. signal_of spoken.check x c.args.dlci c.args.sent) h.sender
     ∙ ap (λ x. signal_of spoken.check d.sender x c.args.sent) (sym dlci) ∙ ap (signal_of spoken.check d.sender channel.dlci) (sym sent) in
-    sends-so d new channel ts t slot spoken h e refl refl (ap (λ b. b.items) c.push_back.ensures.items ∙ kept) (ap (λ b. b.capacity) c.push_back.ensures.items)
+    sends-so d new channel ts t slot spoken h e refl refl (ap (λ b. b.items) c.push_back.ensures.items ∙ kept)
+    (ap (λ b. b.capacity) c.push_back.ensures.items)
     (ap (λ p. p.transmitter.sender) c.code.ensures.path) c.code.ensures.symbols (sym sent) (subst IsSendable (sym sent) c.requires.sendable)
     (c.code.ensures.bits channel.script passed waiting h.line ∙ ap (bits_behind (size_of d.line) (passed ++ waiting)) same)
-    (subst (λ x. LineStands c.code.new.self channel.script passed (waiting ++ x ∷ [])) same (c.code.ensures.stands channel.script passed waiting h.line))
+    (subst (λ x. LineStands c.code.new.self channel.script passed (waiting ++ x ∷ [])) same
+    (c.code.ensures.stands channel.script passed waiting h.line))
