@@ -1,5 +1,6 @@
 -- What is offered is what was read, and files count in a run as far as they were read.
-use Rattle.std.proofs.Common.{◌≡◌, inl, inr, ℕ, zero, suc, ◌+◌, ◌*◌, ◌<◌, ◌≤◌, Bool, true, false, cond, not, ◌&&◌, nat_lt, List, [], ◌∷◌, ◌++◌, length, take, drop, arith, length-append, drop-drop, refl, sym, ◌∙◌, ap, subst, Option, Some, None, Ok}
+use Rattle.std.proofs.Common.{◌≡◌, inl, inr, ℕ, zero, suc, ◌+◌, ◌*◌, ◌<◌, ◌≤◌, Bool, true, false, cond, not, ◌&&◌, nat_lt, List, [], ◌∷◌}
+use Rattle.std.proofs.Common.{◌++◌, length, take, drop, arith, length-append, drop-drop, refl, sym, ◌∙◌, ap, subst, Option, Some, None}
 use Rattle.std.proofs.lemmas.Bool.{false≢true}
 use Rattle.std.specs.Prelude.{is_some}
 use Rattle.std.proofs.lemmas.Bool.Decides.{nat_tests}
@@ -7,18 +8,22 @@ use Rattle.std.proofs.lemmas.List.{append-nil, take_all, take-take, drop-take, t
 use Rattle.std.proofs.Math.Seq.{take-append_seam, drop-append_seam}
 use Rattle.roles.specs.declared.role.Role.{Role}
 use Rattle.roles.specs.declared.role.Role.TheVariants.{Originator, Answerer}
-use Rattle.roles.specs.Both.{Both, of}
+use Rattle.roles.specs.Both.{of}
 use Rattle.xid_params.specs.Offers.{IsAllowed, ReadsAllowed}
 use Rattle.lapm_receiver.specs.Incoming.{KeepsTaken}
-use Rattle.lapm_sender.specs.Outgoing.{Outgoing, wanted, with_piece}
+use Rattle.lapm_sender.specs.Outgoing.{Outgoing, with_piece}
 use Rattle.link_account.specs.Account.{Account, is_connected, wants, piece_size, after_offer, given_break, after_given, after_busy}
 use Rattle.link_account.specs.Speak.{speak}
-use Rattle.link_run.specs.End.{User, Served, deliveries, delivered, piece_at, offered_at, offered_times, room_for, offered, is_busy, asked, served, is_released, has_finished}
-use Rattle.link_run.specs.Run.{Link, Ends, Turn, arrival, GoingTurn, RunOf, SpeaksAt, said_at, served_at}
-use Rattle.link_run.specs.Reading.{IsCut, IsOffered, SameSoFar, with_segment, OffersNext, BeginsUnoffered, StaysOffered, HearingStaysOffered, SpeakingStaysOffered, OffersWhatIsRead, TellsSegment, SegmentsAreTold, OwnSegmentsStay, with_files, RunsByWhatWasRead}
+use Rattle.link_run.specs.End.{User, Served, deliveries, delivered, piece_at, offered_at, offered_times, room_for, offered, is_busy, asked}
+use Rattle.link_run.specs.End.{served, is_released, has_finished}
+use Rattle.link_run.specs.Run.{Link, Ends, arrival, GoingTurn, SpeaksAt, said_at, served_at}
+use Rattle.link_run.specs.Reading.{IsCut, IsOffered, SameSoFar, with_segment, BeginsUnoffered}
+use Rattle.link_run.specs.Reading.{HearingStaysOffered, SpeakingStaysOffered, OffersWhatIsRead, SegmentsAreTold}
+use Rattle.link_run.specs.Reading.{OwnSegmentsStay, with_files, RunsByWhatWasRead}
 use Rattle.link_run.proofs.Keeping.{Books, GoesOn, hears}
 use Rattle.link_run.proofs.Speaking.{Ledger, Speaks, Keeps_on, Releases, speaks}
-use Rattle.link_run.proofs.Cutting.{fresh-cuts, heard-cuts, spoken-cuts, delivered-cuts, offered-cuts-at, wants-are, piece-size-is, piece-sizes, next-cut, as-cut, times-next}
+use Rattle.link_run.proofs.Cutting.{fresh-cuts, heard-cuts, spoken-cuts, delivered-cuts, offered-cuts-at, wants-are, piece-size-is}
+use Rattle.link_run.proofs.Cutting.{piece-sizes, next-cut, as-cut, times-next}
 use Rattle.link_run.proofs.Serving.{served-alone}
 use Rattle.link_run.proofs.Running.{speaks-at}
 use Rattle.link_run.proofs.Running as running
@@ -49,20 +54,23 @@ speaking_stays_offered file turn release a said h e =
 -- ---- one segment
 
 -- the part before a segment is as it was
-front-stays : (size n : ℕ) (piece file : List ℕ) → size * n ≤ length file → take (size * n) (with_segment size n piece file) ≡ take (size * n) file
+front-stays : (size n : ℕ) (piece file : List ℕ) → size * n ≤ length file
+    → take (size * n) (with_segment size n piece file) ≡ take (size * n) file
 front-stays size n piece file h =
     let k = length-take-le (size * n) file h in
     let rest = piece ++ (cond (nat_lt (length piece) size) [] (drop (size * n + size) file)) in
     subst (λ m. take m (take (size * n) file ++ rest) ≡ take (size * n) file) k (take-append_seam (take (size * n) file) rest)
 
-behind-front : (size n : ℕ) (piece file : List ℕ) → size * n ≤ length file → drop (size * n) (with_segment size n piece file) ≡ piece ++ (cond (nat_lt (length piece) size) [] (drop (size * n + size) file))
+behind-front : (size n : ℕ) (piece file : List ℕ) → size * n ≤ length file
+    → drop (size * n) (with_segment size n piece file) ≡ piece ++ (cond (nat_lt (length piece) size) [] (drop (size * n + size) file))
 behind-front size n piece file h =
     let k = length-take-le (size * n) file h in
     let rest = piece ++ (cond (nat_lt (length piece) size) [] (drop (size * n + size) file)) in
     subst (λ m. drop m (take (size * n) file ++ rest) ≡ rest) k (drop-append_seam (take (size * n) file) rest)
 
 -- the segment stands in its place
-segment-stands : (size n : ℕ) (piece file : List ℕ) → size * n ≤ length file → length piece ≤ size → piece_at size (with_segment size n piece file) n ≡ piece
+segment-stands : (size n : ℕ) (piece file : List ℕ) → size * n ≤ length file → length piece ≤ size
+    → piece_at size (with_segment size n piece file) n ≡ piece
 segment-stands size n piece file h short = ap (take size) (behind-front size n piece file h) ∙ go (nat_lt (length piece) size) refl
   where
     go : (b : Bool) → nat_lt (length piece) size ≡ b → take size (piece ++ cond b [] (drop (size * n + size) file)) ≡ piece
@@ -78,7 +86,8 @@ own_segments_stay size n file =
     rest : List ℕ
     rest = drop (size * n) file
 
-    go : (b : Bool) → nat_lt (length (piece_at size file n)) size ≡ b → piece_at size file n ++ cond b [] (drop (size * n + size) file) ≡ rest
+    go : (b : Bool) → nat_lt (length (piece_at size file n)) size ≡ b
+        → piece_at size file n ++ cond b [] (drop (size * n + size) file) ≡ rest
     go true e =
         let less : length (take size rest) < size = grind (arith, nat_tests) in
         append-nil (take size rest) ∙ take_all size rest (omega (arith, less, length-take size rest))
@@ -107,9 +116,11 @@ offers_what_is_read file a n piece h e short =
     let within : size * n ≤ length file = rw (is, w.number) reach in
     let g = with_segment size n piece file in
     let front : take (size * n) g ≡ take (size * n) file = front-stays size n piece file within in
-    let at : take (o.size * length o.pieces) g ≡ take (o.size * length o.pieces) file = subst (λ m. take m g ≡ take m file) (ap (λ s. s * n) is ∙ ap (λ m. o.size * m) w.number) front in
+    let at : take (o.size * length o.pieces) g ≡ take (o.size * length o.pieces) file = subst (λ m. take m g ≡ take m file)
+    (ap (λ s. s * n) is ∙ ap (λ m. o.size * m) w.number) front in
     let stands : piece_at size g n ≡ piece = segment-stands size n piece file within short in
-    let is-segment : piece ≡ take o.size (drop (o.size * length o.pieces) g) = sym (subst (λ s. take s (drop (s * n) g) ≡ piece) is stands) ∙ ap (λ m. take o.size (drop (o.size * m) g)) w.number in
+    let is-segment : piece ≡ take o.size (drop (o.size * length o.pieces) g) = sym (subst (λ s. take s (drop (s * n) g) ≡ piece) is stands)
+    ∙ ap (λ m. take o.size (drop (o.size * m) g)) w.number in
     let cut : IsCut g o.size o.pieces o.ended = record {
       begins = h.cut.begins ∙ sym at;
       whole = λ z. absurd (false≢true (sym (wants-open a n e) ∙ z));
@@ -124,7 +135,8 @@ offers_what_is_read file a n piece h e short =
         allowed = h.allowed;
         terms = h.terms;
         size = λ z. subst (λ m. 1 ≤ m) (sym (piece-sizes piece o)) some;
-        cut = as-cut g o.size (with_piece piece o).size (with_piece piece o).pieces (with_piece piece o).pieces (with_piece piece o).ended (with_piece piece o).ended
+        cut = as-cut g o.size (with_piece piece o).size (with_piece piece o).pieces (with_piece piece o).pieces (with_piece piece o).ended
+            (with_piece piece o).ended
             (piece-sizes piece o) refl refl (next-cut g o piece some cut is-segment);
       };
     }
@@ -136,10 +148,14 @@ told file others size n [] o is count going h =
     let e = h.whole refl in (ap (λ f. piece_at size f n) e, record { front = ap (take (o.size * length o.pieces)) e; whole = λ z. e })
 told file others size n (x ∷ xs) o is count going h =
     let k = size * n in
-    let next : o.size * length (o.pieces ++ (x ∷ xs) ∷ []) ≡ k + size = sym (times-next o.size (length o.pieces) (length (o.pieces ++ (x ∷ xs) ∷ [])) (length-append o.pieces ((x ∷ xs) ∷ []))) ∙ ap (λ s. s * length o.pieces + s) is ∙ ap (λ m. size * m + size) count in
+    let next : o.size * length (o.pieces ++ (x ∷ xs) ∷ []) ≡ k + size = sym
+    (times-next o.size (length o.pieces) (length (o.pieces ++ (x ∷ xs) ∷ [])) (length-append o.pieces ((x ∷ xs) ∷ [])))
+    ∙ ap (λ s. s * length o.pieces + s) is ∙ ap (λ m. size * m + size) count in
     let up : take (k + size) others ≡ take (k + size) file = subst (λ m. take m others ≡ take m file) next h.front in
-    let before : take k others ≡ take k file = sym (take-take k (k + size) others (omega arith)) ∙ ap (take k) up ∙ take-take k (k + size) file (omega arith) in
-    let same : take (o.size * length o.pieces) others ≡ take (o.size * length o.pieces) file = subst (λ m. take m others ≡ take m file) (sym (ap (λ s. s * length o.pieces) is ∙ ap (λ m. size * m) count)) before in (
+    let before : take k others ≡ take k file = sym (take-take k (k + size) others (omega arith)) ∙ ap (take k) up
+    ∙ take-take k (k + size) file (omega arith) in
+    let same : take (o.size * length o.pieces) others ≡ take (o.size * length o.pieces) file = subst (λ m. take m others ≡ take m file)
+    (sym (ap (λ s. s * length o.pieces) is ∙ ap (λ m. size * m) count)) before in (
       sym (drop-take k size others) ∙ ap (drop k) up ∙ drop-take k size file,
       record { front = same; whole = λ z. absurd (false≢true (sym going ∙ z)) },
     )
@@ -161,9 +177,11 @@ segments_are_told file others a n piece h e short same =
 -- ---- whole runs
 
 -- what was offered later has in it what was offered before
-same-earlier : (file others : List ℕ) (o p : Outgoing) → o.size ≡ p.size → length o.pieces ≤ length p.pieces → (o.ended ≡ true → p.ended ≡ true) → SameSoFar p file others → SameSoFar o file others
+same-earlier : (file others : List ℕ) (o p : Outgoing) → o.size ≡ p.size → length o.pieces ≤ length p.pieces
+    → (o.ended ≡ true → p.ended ≡ true) → SameSoFar p file others → SameSoFar o file others
 same-earlier file others o p size fewer ended h = record {
-  front = shorter (o.size * length o.pieces) (p.size * length p.pieces) others file (grows o.size p.size (length o.pieces) (length p.pieces) size fewer) h.front;
+  front = shorter (o.size * length o.pieces) (p.size * length p.pieces) others file
+      (grows o.size p.size (length o.pieces) (length p.pieces) size fewer) h.front;
   whole = λ z. h.whole (ended z);
 }
   where
@@ -187,7 +205,12 @@ then-offers a b c h k = record { size = h.size ∙ k.size; fewer = omega (arith,
 
 offers-piece : (piece : List ℕ) (a : Account) → a.outgoing.ended ≡ false → Offers a (after_offer piece a)
 offers-piece [] a e = record { size = refl; fewer = omega arith; ended = λ z. refl }
-offers-piece (x ∷ xs) a e = record { size = refl; fewer = omega (arith, length-append a.outgoing.pieces ((x ∷ xs) ∷ [])); ended = λ z. absurd (false≢true (sym e ∙ z)) }
+offers-piece (x ∷ xs) a e = record {
+  size = refl;
+  fewer = omega
+      (arith, length-append a.outgoing.pieces ((x ∷ xs) ∷ []));
+  ended = λ z. absurd (false≢true (sym e ∙ z));
+}
 
 offers-at : (file : List ℕ) (a : Account) (w : Option ℕ) → wants a ≡ w → Offers a (offered_at file a w)
 offers-at file a None e = none-less a
@@ -200,11 +223,13 @@ offers-times (suc n) file a =
     then-offers a b (offered_times n file b) (offers-at file a (wants a) refl) (offers-times n file b)
 
 -- the same is offered of a file that is the same up to there
-offered-same : (n : ℕ) (file others : List ℕ) (a : Account) → IsOffered file a → SameSoFar (offered_times n file a).outgoing file others → offered_times n others a ≡ offered_times n file a
+offered-same : (n : ℕ) (file others : List ℕ) (a : Account) → IsOffered file a → SameSoFar (offered_times n file a).outgoing file others
+    → offered_times n others a ≡ offered_times n file a
 offered-same zero file others a h s = refl
 offered-same (suc n) file others a h s = go (wants a) refl (λ b. offered-same n file others b) s
   where
-    go : (w : Option ℕ) → wants a ≡ w → ((b : Account) → IsOffered file b → SameSoFar (offered_times n file b).outgoing file others → offered_times n others b ≡ offered_times n file b)
+    go : (w : Option ℕ) → wants a ≡ w → ((b : Account) → IsOffered file b → SameSoFar (offered_times n file b).outgoing file others
+        → offered_times n others b ≡ offered_times n file b)
         → SameSoFar (offered_times n file (offered_at file a w)).outgoing file others
         → offered_times n others (offered_at others a w) ≡ offered_times n file (offered_at file a w)
     go None e ih s = ih a h s
@@ -225,32 +250,46 @@ served-same u file others turn released a h s =
     let x = after_given (delivered a) in
     let d = delivered-cuts file a h in
     let g : IsOffered file x = record { allowed = d.allowed; terms = d.terms; size = d.size; cut = d.cut } in
-    let out : (served (record u { file = file }) turn released a).account.outgoing ≡ (offered file x).outgoing = ap (λ (b : Account). b.outgoing) (served-alone (record u { file = file }) turn released a) in
+    let out : (served (record u { file = file }) turn released a).account.outgoing ≡ (offered file x).outgoing = ap
+    (λ (b : Account). b.outgoing) (served-alone (record u { file = file }) turn released a) in
     let now : SameSoFar (offered file x).outgoing file others = subst (λ o. SameSoFar o file others) out s in
-    ap (λ (y : Account). record { segments = deliveries a; given = given_break a; account = asked turn released u.breaks (after_busy (is_busy turn u.busy) y) }) (offered-same (room_for x) file others x g now)
+    ap (λ (y : Account). record {
+      segments = deliveries a;
+      given = given_break a;
+      account = asked turn released u.breaks
+          (after_busy (is_busy turn u.busy) y);
+    }) (offered-same (room_for x) file others x g now)
 
 -- speaking offers nothing
-same-spoken : (file others : List ℕ) (release : Bool) (a b : Account) → Speaks release a b → SameSoFar b.outgoing file others → SameSoFar a.outgoing file others
+same-spoken : (file others : List ℕ) (release : Bool) (a b : Account) → Speaks release a b → SameSoFar b.outgoing file others
+    → SameSoFar a.outgoing file others
 same-spoken file others release a b (Keeps_on e) s =
     let pieces = ap (λ (l : Ledger). l.books.pieces) e in
-    same-earlier file others a.outgoing b.outgoing (sym (ap (λ (l : Ledger). l.size) e)) (omega (arith, ap length pieces)) (λ z. ap (λ (l : Ledger). l.books.ended) e ∙ z) s
+    same-earlier file others a.outgoing b.outgoing (sym (ap (λ (l : Ledger). l.size) e)) (omega (arith, ap length pieces))
+    (λ z. ap (λ (l : Ledger). l.books.ended) e ∙ z) s
 same-spoken file others release a b (Releases on role linked e k) s =
     let pieces = ap (λ (l : Ledger). l.books.pieces) e in
-    same-earlier file others a.outgoing b.outgoing (sym (ap (λ (l : Ledger). l.size) e)) (omega (arith, ap length pieces)) (λ z. ap (λ (l : Ledger). l.books.ended) e ∙ z) s
+    same-earlier file others a.outgoing b.outgoing (sym (ap (λ (l : Ledger). l.size) e)) (omega (arith, ap length pieces))
+    (λ z. ap (λ (l : Ledger). l.books.ended) e ∙ z) s
 
 -- serving offers no less
-same-served : (u : User) (file others : List ℕ) (turn : ℕ) (released : Bool) (a : Account) → SameSoFar (served u turn released a).account.outgoing file others → SameSoFar a.outgoing file others
+same-served : (u : User) (file others : List ℕ) (turn : ℕ) (released : Bool) (a : Account)
+    → SameSoFar (served u turn released a).account.outgoing file others → SameSoFar a.outgoing file others
 same-served u file others turn released a s =
     let x = after_given (delivered a) in
-    let out : (served u turn released a).account.outgoing ≡ (offered u.file x).outgoing = ap (λ (b : Account). b.outgoing) (served-alone u turn released a) in
+    let out : (served u turn released a).account.outgoing ≡ (offered u.file x).outgoing = ap (λ (b : Account). b.outgoing)
+    (served-alone u turn released a) in
     let more = offers-times (room_for x) u.file x in
-    let at-x = same-earlier file others x.outgoing (offered u.file x).outgoing more.size more.fewer more.ended (subst (λ o. SameSoFar o file others) out s) in
+    let at-x = same-earlier file others x.outgoing (offered u.file x).outgoing more.size more.fewer more.ended
+    (subst (λ o. SameSoFar o file others) out s) in
     subst (λ o. SameSoFar o file others) (delivered-out a) at-x
 
 -- an end that becomes Connected was offered nothing before
-same-heard : (file others : List ℕ) (a b : Account) → Unoffered a → GoesOn a b → SameSoFar b.outgoing file others → SameSoFar a.outgoing file others
+same-heard : (file others : List ℕ) (a b : Account) → Unoffered a → GoesOn a b → SameSoFar b.outgoing file others
+    → SameSoFar a.outgoing file others
 same-heard file others a b un (inl g) s =
-    same-earlier file others a.outgoing b.outgoing (sym g.size) (omega (arith, ap (λ (k : Books). length k.pieces) g.books_are)) (λ z. ap (λ (k : Books). k.ended) g.books_are ∙ z) s
+    same-earlier file others a.outgoing b.outgoing (sym g.size) (omega (arith, ap (λ (k : Books). length k.pieces) g.books_are))
+    (λ z. ap (λ (k : Books). k.ended) g.books_are ∙ z) s
 same-heard file others a b un (inr g) s = record {
   front = nothing (a.outgoing.size * length a.outgoing.pieces) (rw (un.none g.was) (omega arith));
   whole = λ z. absurd (false≢true (sym (un.going g.was) ∙ z));
@@ -284,7 +323,8 @@ runs_by_what_was_read reads keeps link files others (t ∷ ts) ends allowed h sa
     is-allowed Answerer = allowed Answerer
 
     cut : (r : Role) → IsOffered (of r old).user.file (of r mid)
-    cut = kept-heard reads keeps (HasCut old) old (cuts-kept old is-allowed) turn h.0 t mid (kept-run reads keeps (HasCut old) old (cuts-kept old is-allowed) ts h.0 h.1) g.hearing
+    cut = kept-heard reads keeps (HasCut old) old (cuts-kept old is-allowed) turn h.0 t mid
+        (kept-run reads keeps (HasCut old) old (cuts-kept old is-allowed) ts h.0 h.1) g.hearing
 
     unoffered : (r : Role) → Unoffered (of r h.0)
     unoffered = kept-run reads keeps IsUnoffered old (unoffered-kept old) ts h.0 h.1
@@ -292,23 +332,30 @@ runs_by_what_was_read reads keeps link files others (t ∷ ts) ends allowed h sa
     at-served : (r : Role) → SameSoFar (served_at old turn mid r).account.outgoing (of r files) (of r others)
     at-served r =
         let s = g.speaking r in
-        same-spoken (of r files) (of r others) (running.told old turn mid r) (served_at old turn mid r).account s.said.account (speaks-at old turn mid r s.said s.says)
+        same-spoken (of r files) (of r others) (running.told old turn mid r) (served_at old turn mid r).account s.said.account
+        (speaks-at old turn mid r s.said s.says)
         (subst (λ (a : Account). SameSoFar a.outgoing (of r files) (of r others)) s.after_is (same r))
 
     before : (r : Role) → SameSoFar (of r h.0).outgoing (of r files) (of r others)
     before r =
         let e = g.hearing r in
-        same-heard (of r files) (of r others) (of r h.0) (of r mid) (unoffered r) (hears reads keeps turn (arrival (of r t).heard) (of r h.0) (of r mid) e.hears)
+        same-heard (of r files) (of r others) (of r h.0) (of r mid) (unoffered r)
+        (hears reads keeps turn (arrival (of r t).heard) (of r h.0) (of r mid) e.hears)
         (same-served (of r old).user (of r files) (of r others) turn (is_released mid.orig.phase) (of r mid) (at-served r))
 
     served-so : (r : Role) → served_at new turn mid r ≡ served_at old turn mid r
-    served-so Originator = served-same link.orig.user files.orig others.orig turn (is_released mid.orig.phase) mid.orig (cut Originator) (at-served Originator)
-    served-so Answerer = served-same link.answ.user files.answ others.answ turn (is_released mid.orig.phase) mid.answ (cut Answerer) (at-served Answerer)
+    served-so Originator = served-same link.orig.user files.orig others.orig turn (is_released mid.orig.phase) mid.orig (cut Originator)
+        (at-served Originator)
+    served-so Answerer = served-same link.answ.user files.answ others.answ turn (is_released mid.orig.phase) mid.answ (cut Answerer)
+        (at-served Answerer)
 
     says-so : (r : Role) → said_at new turn mid r ≡ said_at old turn mid r
     says-so Originator =
-        ap (λ (s : Served). speak turn (has_finished link.orig.user turn s.account && has_finished link.answ.user turn (served_at new turn mid Answerer).account) s.account) (served-so Originator)
-        ∙ ap (λ (s : Served). speak turn (has_finished link.orig.user turn (served_at old turn mid Originator).account && has_finished link.answ.user turn s.account) (served_at old turn mid Originator).account) (served-so Answerer)
+        ap (λ (s : Served). speak turn (has_finished link.orig.user turn s.account && has_finished link.answ.user turn
+        (served_at new turn mid Answerer).account) s.account) (served-so Originator)
+        ∙ ap (λ (s : Served). speak turn (has_finished link.orig.user turn
+        (served_at old turn mid Originator).account && has_finished link.answ.user turn s.account)
+        (served_at old turn mid Originator).account) (served-so Answerer)
     says-so Answerer = ap (λ (s : Served). speak turn false s.account) (served-so Answerer)
 
     speaks-so : (r : Role) → SpeaksAt (said_at new turn mid r) (of r t) (of r ends)

@@ -11,7 +11,7 @@ use Rattle.link_account.specs.declared.setup.Setup.{Setup}
 use Rattle.link_account.specs.Account.{Account, fresh, is_connected, wants, piece_size, after_offer}
 use Rattle.link_account.specs.Hear.{hear}
 use Rattle.link_account.specs.Speak.{Said, speak}
-use Rattle.link_run.specs.End.{piece_at, offered}
+use Rattle.link_run.specs.End.{piece_at}
 use Rattle.link_run.specs.Run.{Party, Link, Ends, Turn, RunOf}
 
 -- a size is agreed both ways
