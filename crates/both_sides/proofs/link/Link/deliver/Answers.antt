@@ -1,0 +1,20 @@
+use Rattle.std.proofs.Common.{sym}
+use Rattle.std.specs.List.{concat}
+use Rattle.outside_core.specs.Steps.{Adds-kept, PartlyAppended-all, kept-PartlyAppended}
+use Rattle.link_run.specs.End.{deliveries}
+use Rattle.both_sides.specs.Names.{written}
+use Rattle.both_sides.proofs.link.Link.deliver.Goals as goal
+
+pub returns-in-Err-deliver-clause-err : goal.returns-in-Err-deliver-clause-err
+returns-in-Err-deliver-clause-err g c = λ files ends h.
+    let start = g.F.Folder.state c.args.folder.now in
+    let mid = g.F.Folder.state c.deliver.new.folder in
+    let end = g.F.Folder.state c.deliver-2.new.folder in
+    let n = written c.args.names.now in
+    record {
+      got_o = PartlyAppended-all start end n.got_o (concat (deliveries ends.orig))
+          (Adds-kept start mid end n.got_o (concat (deliveries ends.orig)) c.in-Ok.ensures.only.goes_on (c.in-Ok.ensures.ok files.orig ends.orig h.orig)
+          (c.in-Err-deliver.ensures.only.names n.got_o c.requires.apart.got));
+      got_a = kept-PartlyAppended start mid end n.got_a (concat (deliveries ends.answ)) c.in-Ok.ensures.only.goes_on
+          (c.in-Ok.ensures.only.names n.got_a (λ e. c.requires.apart.got (sym e))) (c.in-Err-deliver.ensures.err files.answ ends.answ h.answ);
+    }

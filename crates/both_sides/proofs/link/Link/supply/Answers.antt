@@ -1,0 +1,35 @@
+use Rattle.outside_core.specs.Steps.{OnlyReads-trans}
+use Rattle.turn_bound.specs.Limits.{file_limit}
+use Rattle.stations.specs.Station.{Supplies}
+use Rattle.both_sides.specs.Names.{written}
+use Rattle.both_sides.proofs.Linking.{reads-later}
+use Rattle.both_sides.proofs.link.Link.supply.Goals as goal
+
+pub returns-in-Err-clause-counted : goal.returns-in-Err-clause-counted
+returns-in-Err-clause-counted g c = λ turns h. record { orig = c.supply.ensures.counted turns h.orig; answ = h.answ }
+
+pub returns-in-Ok-supply-clause-stands : goal.returns-in-Ok-supply-clause-stands
+returns-in-Ok-supply-clause-stands g c = λ files ends h within.
+    let start = g.F.Folder.state c.args.folder.now in
+    let mid = g.F.Folder.state c.supply.new.folder in
+    let n = written c.args.names.now in
+    let orig : Supplies start n.orig file_limit files.orig ends.orig c.supply.new.self = c.in-Ok.ensures.stands files.orig ends.orig h.orig within.orig in
+    let answ : Supplies mid n.answ file_limit files.answ ends.answ c.supply-2.new.self = c.in-Ok-supply.ensures.stands files.answ ends.answ h.answ within.answ in
+    record {
+      others = record { orig = orig.others; answ = answ.others };
+      orig = orig.reads_on;
+      answ = reads-later start mid n.answ file_limit files.answ ends.answ answ.others c.supply.ensures.only answ.reads_on;
+      stands = record { orig = orig.stands; answ = answ.stands };
+    }
+
+pub returns-in-Ok-supply-clause-counted : goal.returns-in-Ok-supply-clause-counted
+returns-in-Ok-supply-clause-counted g c = λ turns h. record { orig = c.supply.ensures.counted turns h.orig; answ = c.supply-2.ensures.counted turns h.answ }
+
+pub returns-in-Ok-supply-clause-only : goal.returns-in-Ok-supply-clause-only
+returns-in-Ok-supply-clause-only g c = OnlyReads-trans c.supply.ensures.only c.supply-2.ensures.only
+
+pub returns-in-Err-supply-clause-counted : goal.returns-in-Err-supply-clause-counted
+returns-in-Err-supply-clause-counted g c = λ turns h. record { orig = c.supply.ensures.counted turns h.orig; answ = c.supply-2.ensures.counted turns h.answ }
+
+pub returns-in-Err-supply-clause-only : goal.returns-in-Err-supply-clause-only
+returns-in-Err-supply-clause-only g c = OnlyReads-trans c.supply.ensures.only c.supply-2.ensures.only

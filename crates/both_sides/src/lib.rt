@@ -1,0 +1,17 @@
+//! What there is twice in a run of the whole link: both ends, each with its user ([`Link`]), and both directions of the line of samples
+//! ([`Lines`]), the originator's first where the order counts. Each does its part of a turn; who makes whole turns of them stands above.
+#![tactic(auto)]
+
+mod each;
+mod heard;
+mod lines;
+mod link;
+mod names;
+mod trace;
+
+pub use each::Each;
+pub use heard::arrived;
+pub use lines::{LineEnd, Lines};
+pub use link::{Breaking, Link};
+pub use names::{FILE_LIMIT, Names};
+pub use trace::{append_line, append_turn};
