@@ -45,7 +45,7 @@ pub answerer-each : Plays → (tries period : ℕ) (delay : Role → ℕ) (link 
     → is_released mid.orig.phase ≡ false → LastTry tries period (length ts) before.answ → LosesEach period tries (length ts) ts
 answerer-each laws tries period delay link ts before t mid kt run hearing going last =
     wants-answers tries period delay link ts w.state w.deed kt w.trace Answerer
-        (counts-of laws tries period delay link ts w.state w.deed kt run.may_play w.trace Answerer)
+    (counts-of laws tries period delay link ts w.state w.deed kt run.may_play w.trace Answerer)
     (subst (λ (x : Ends). LastTry tries period turns x.answ) (sym w.last) last) both
   where
     z : Rates
@@ -83,13 +83,13 @@ answerer-each laws tries period delay link ts before t mid kt run hearing going 
     linked-last = ap (λ (x : Ends). is_linked x.orig.phase) (sym w.last)
         ∙ numbered-linked tries period delay link ts w.state w.deed kt w.trace Answerer turns (omega arith)
         (ap (λ (x : Ends). x.answ.numbered) w.last
-            ∙ counted before.answ.numbered before ts (k Answerer) last.connected last.set last.runs refl)
+        ∙ counted before.answ.numbered before ts (k Answerer) last.connected last.set last.runs refl)
 
     heard : PollHeard Originator turns (of_arrived is_poll (arrival t.orig.heard)) before.orig mid.orig
     heard = poll-ok Originator turns (of_arrived is_poll (arrival t.orig.heard)) before.orig mid.orig
         (hear turns (arrival t.orig.heard) before.orig) (hearing Originator).hears
         (poll-hears Originator (arrival t.orig.heard) turns before.orig (ap (λ x. x.role) (k Originator).setup ∙ (tm Originator).role_is)
-            (k Originator).none_due.answer)
+        (k Originator).none_due.answer)
 
     peer-last : is_connected before.orig.phase ≡ true
     peer-last = by (heard.from (only-connected mid.orig.phase (heard.linked linked-last) going))
@@ -104,11 +104,11 @@ answerer-each laws tries period delay link ts before t mid kt run hearing going 
         let h = w.trace.happens s l in
         let from = (h.polls Answerer).made_from made (linked-connected (w.state s).answ.phase c) in
         let n = counted (w.state s).answ.numbered (w.state s) (past ts s)
-            (known tries period delay link (past ts s) (w.state s) kt h.run h.carried Answerer) c from.1 from.2 refl in
+        (known tries period delay link (past ts s) (w.state s) kt h.run h.carried Answerer) c from.1 from.2 refl in
         let first = numbered-linked tries period delay link ts w.state w.deed kt w.trace Answerer s (omega (arith, l)) n in
         let back = turned period turns e o ends in
         connected-back period turns o e back u turns high (omega arith) (linked-on period turns o e back s u low high first)
-            (ap (λ (x : Ends). is_connected x.orig.phase) w.last ∙ peer-last)
+        (ap (λ (x : Ends). is_connected x.orig.phase) w.last ∙ peer-last)
 
 pub answerer-wants : Plays → AnswererWantsAnswers
 answerer-wants laws tries period delay link ts before t mid segment since kt run cs broken cm quiet
@@ -130,9 +130,9 @@ answerer-wants laws tries period delay link ts before t mid segment since kt run
     last = last-try tries period link.answ.user turns Answerer (arrival t.answ.heard) before.answ mid.answ
         (is_released mid.orig.phase) false _ (rated tries period delay link kt)
         (subst (IsOf z) (sym (k Answerer).setup) (tm Answerer).is_of) (k Answerer).stands
-            (ap (λ x. x.role) (k Answerer).setup ∙ (tm Answerer).role_is) (k Answerer).none_due
+        (ap (λ x. x.role) (k Answerer).setup ∙ (tm Answerer).role_is) (k Answerer).none_due
         (λ u c. ((begins-roomy (arrival t.answ.heard) turns before.answ mid.answ u (fits-at laws link delay ts before run Answerer)
-            (subst IsAllowed (ap (λ x. x.offer) (sym (k Answerer).setup)) (allowed link run.may_play Answerer))
+        (subst IsAllowed (ap (λ x. x.offer) (sym (k Answerer).setup)) (allowed link run.may_play Answerer))
         (broken.hearing Answerer).hears).so c).2)
         (broken.hearing Answerer).hears (ap is_connected cm) quiet broken.broken.1
 

@@ -25,10 +25,10 @@ use Rattle.turn_periods.proofs.Wanting.{LastTry, last-try, wants-answers}
 
 pub originator-each : Plays → StandTogether → (tries period : ℕ) (delay : Role → ℕ) (link : Link) (ts : List Turn) (before : Ends)
     → KeepsTime tries period delay link → RunsOver link delay ts before → LastTry tries period (length ts) before.orig
-        → LosesEach period tries (length ts) ts
+    → LosesEach period tries (length ts) ts
 originator-each laws together tries period delay link ts before kt run last =
     wants-answers tries period delay link ts w.state w.deed kt w.trace Originator
-        (counts-of laws tries period delay link ts w.state w.deed kt run.may_play w.trace Originator)
+    (counts-of laws tries period delay link ts w.state w.deed kt run.may_play w.trace Originator)
     (subst (λ (x : Ends). LastTry tries period (length ts) x.orig) (sym w.last) last) both
   where
     w : Traced period delay link ts before
@@ -68,8 +68,8 @@ originator-wants laws together tries period delay link ts before t mid segment s
         (is_released mid.orig.phase) (releases link (length ts) mid) _ (rated tries period delay link kt)
         (subst (IsOf z) (sym k.setup) tm.is_of) k.stands (ap (λ x. x.role) k.setup ∙ tm.role_is) k.none_due
         (λ u c. ((begins-roomy (arrival t.orig.heard) (length ts) before.orig mid.orig u
-            (fits-at laws link delay ts before run Originator)
-            (subst IsAllowed (ap (λ x. x.offer) (sym k.setup)) (allowed link run.may_play Originator))
+        (fits-at laws link delay ts before run Originator)
+        (subst IsAllowed (ap (λ x. x.offer) (sym k.setup)) (allowed link run.may_play Originator))
         (broken.hearing Originator).hears).so c).2)
         (broken.hearing Originator).hears (ap is_connected cm) quiet broken.broken
 
@@ -109,4 +109,4 @@ all-but-one tries period delay t ts h = record {
 pub originator-starved : Plays → StandTogether → OriginatorIsStarved
 originator-starved laws together tries period delay link ts before t mid segment since kt run cs broken cm quiet =
     all-but-one tries period delay t ts
-        (originator-wants laws together tries period delay link ts before t mid segment since kt run cs broken cm quiet)
+    (originator-wants laws together tries period delay link ts before t mid segment since kt run cs broken cm quiet)

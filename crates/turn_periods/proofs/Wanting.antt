@@ -64,9 +64,9 @@ linked-why turn b fault none h = timed b.wait.timer refl h
       where
         by : (w : Bool) → w ≡ false → (due s : Bool)
             → after_timers turn b.special
-                (breaking turn (cond (w && due)
-                (cond s None (Some (record c.own_breaks { brk = true; set = turn; count = c.own_breaks.count + 1 }))) (Some c.own_breaks))
-                c) ≡ Err fault → ⊥
+            (breaking turn (cond (w && due)
+            (cond s None (Some (record c.own_breaks { brk = true; set = turn; count = c.own_breaks.count + 1 }))) (Some c.own_breaks))
+            c) ≡ Err fault → ⊥
         by false e due s q = cc
         by true e due s q = cc
 
@@ -79,13 +79,16 @@ linked-why turn b fault none h = timed b.wait.timer refl h
       where
         go : (due : Bool) → nat_eq turn (set + b.setup.period) ≡ due → (s : Bool) → nat_eq b.outgoing.count b.outgoing.tries ≡ s
             → after_timers turn b.special
-                (then_tries turn (cond due
-                (polling turn (cond s None (Some (record b.outgoing { count = b.outgoing.count + 1; awaited = true }))) b) (Ok b))) ≡ Err
-                fault → SpendsTries turn b
+            (then_tries turn (cond due
+            (polling turn (cond s None (Some (record b.outgoing { count = b.outgoing.count + 1; awaited = true }))) b) (Ok b))) ≡ Err
+            fault → SpendsTries turn b
         go false d s f q = absurd (well b refl q)
         go true d false f q = absurd
-            (well (record b { outgoing = record b.outgoing { count = b.outgoing.count + 1; awaited = true }; wait = record b.wait
-            { poll = true; timer = Some turn } }) refl q)
+            (well (record b {
+              outgoing = record b.outgoing { count = b.outgoing.count + 1; awaited = true };
+              wait = record b.wait
+                  { poll = true; timer = Some turn };
+            }) refl q)
         go true d true f q = record { set = set; runs = e; now = grind (arith, nat_tests, d); count = grind (arith, nat_tests, f) }
 
 pub connected-why : (turn : ℕ) (release : Bool) (b : Account) (fault : LinkFault) → b.phase ≡ Connected → 1 ≤ b.setup.period
@@ -98,8 +101,8 @@ connected-why turn release b fault e long none h = go (release && is_originator 
 
     by : (due : Bool) → due ≡ false
         → cond due (cond (nat_eq 0 b.setup.tries) (Err (spent turn (trying Releasing turn b)))
-            (Ok (tries_frame (Disc true) (trying_again turn (trying Releasing turn b)))))
-            (Ok (tries_frame (Disc true) (trying Releasing turn b))) ≡ Err fault → SpendsTries turn b
+        (Ok (tries_frame (Disc true) (trying_again turn (trying Releasing turn b)))))
+        (Ok (tries_frame (Disc true) (trying Releasing turn b))) ≡ Err fault → SpendsTries turn b
     by false f q = cc
     by true f q = cc
 
@@ -118,7 +121,7 @@ pub record LastTry (tries period turn : ℕ) (a : Account) : Type 0 where
 pub last-try-of : (tries period : ℕ) (user : User) (turn : ℕ) (role : Role) (arrived : Arrived) (a mid : Account) (released : Bool)
     → AreRates (rates tries period) → IsOf (rates tries period) a.setup
     → Stands (rates tries period) turn turn role a.phase a → a.setup.role ≡ role → NoneDue a
-        → (is_linked a.phase ≡ false → is_connected mid.phase ≡ true → mid.outgoing.count ≡ 0)
+    → (is_linked a.phase ≡ false → is_connected mid.phase ≡ true → mid.outgoing.count ≡ 0)
     → hear turn arrived a ≡ Ok mid → is_connected mid.phase ≡ true → SpendsTries turn (served_account user turn released mid)
     → LastTry tries period turn a
 last-try-of tries period user turn role arrived a mid released y k h er none begins hears cm why = from (polls.from cm)
@@ -174,9 +177,9 @@ last-try-of tries period user turn role arrived a mid released y k h er none beg
 pub last-try : (tries period : ℕ) (user : User) (turn : ℕ) (role : Role) (arrived : Arrived) (a mid : Account) (released release : Bool)
     (fault : LinkFault) → AreRates (rates tries period) → IsOf (rates tries period) a.setup
     → Stands (rates tries period) turn turn role a.phase a → a.setup.role ≡ role → NoneDue a
-        → (is_linked a.phase ≡ false → is_connected mid.phase ≡ true → mid.outgoing.count ≡ 0)
+    → (is_linked a.phase ≡ false → is_connected mid.phase ≡ true → mid.outgoing.count ≡ 0)
     → hear turn arrived a ≡ Ok mid → is_connected mid.phase ≡ true → waits (served_account user turn released mid).own_breaks ≡ false
-        → speak turn release (served_account user turn released mid) ≡ Err fault
+    → speak turn release (served_account user turn released mid) ≡ Err fault
     → LastTry tries period turn a
 last-try tries period user turn role arrived a mid released release fault y k h er none begins hears cm quiet breaks = last-try-of tries
     period user turn role arrived a mid released y k h er none begins hears cm why
@@ -214,9 +217,9 @@ lost-is Chance e = cc
 pub wants-answers : (tries period : ℕ) (delay : Role → ℕ) (link : Link) (ts : List Turn) (state : ℕ → Ends) (deed : ℕ → Deed)
     → KeepsTime tries period delay link → (w : Trace period delay link ts state deed) → (role : Role)
     → Counts (length ts) (end_run delay state deed role) (end_run delay state deed (other role))
-        → LastTry tries period (length ts) (of role (state (length ts)))
+    → LastTry tries period (length ts) (of role (state (length ts)))
     → ((s u : ℕ) → s < length ts → s ≤ u → u ≤ length ts → (deed s).made role ≡ true → is_connected (of role (state s)).phase ≡ true
-        → is_connected (of role (state u)).phase ≡ true → is_connected (of (other role) (state u)).phase ≡ true)
+    → is_connected (of role (state u)).phase ≡ true → is_connected (of (other role) (state u)).phase ≡ true)
     → LosesEach period tries (length ts) ts
 wants-answers tries period delay link ts state deed kt w role c l both n less = go
     (losses period turns e o k c first ce both (tries - 1) turns (omega arith) x far n (omega (arith, less)))
