@@ -1,4 +1,4 @@
--- The names of a run's files.
+-- The names of the files that both users send, and of those that they receive.
 use Rattle.std.specs.Prelude.{◌≡◌, ◌≢◌, ◌⊎◌, ℕ, List, Result, IsErrOf}
 use Rattle.outside_core.specs.Folder.{FolderState, GoesOn, KeepsName, Rose}
 use Rattle.outside_core.specs.declared.folder.FolderFault.{FolderFault}
@@ -11,32 +11,17 @@ pub record Written : Type 0 where
   pub answ : List ℕ
   pub got_o : List ℕ
   pub got_a : List ℕ
-  pub trace : List ℕ
 
 abbrev pub written : Names → Written
-written n = record { orig = n.orig.now; answ = n.answ.now; got_o = n.got_o.now; got_a = n.got_a.now; trace = n.trace.now }
-
--- outputs differ from one another and from the inputs
-pub record AreApart (n : Written) : Type 0 where
-  pub got : n.got_o ≢ n.got_a
-  pub got_o_trace : n.got_o ≢ n.trace
-  pub got_a_trace : n.got_a ≢ n.trace
-  pub got_o_orig : n.got_o ≢ n.orig
-  pub got_o_answ : n.got_o ≢ n.answ
-  pub got_a_orig : n.got_a ≢ n.orig
-  pub got_a_answ : n.got_a ≢ n.answ
-  pub trace_orig : n.trace ≢ n.orig
-  pub trace_answ : n.trace ≢ n.answ
+written n = record { orig = n.orig.now; answ = n.answ.now; got_o = n.got_o.now; got_a = n.got_a.now }
 
 -- a count of reading a file that is sent rose, or stands at its last value
 abbrev pub ReadRose : FolderState → FolderState → Written → Type 0
 ReadRose old new n = Rose (old.read_faults n.orig) (new.read_faults n.orig) ⊎ Rose (old.read_faults n.answ) (new.read_faults n.answ)
 
--- one of writing an output
+-- one of writing a received file
 abbrev pub WriteRose : FolderState → FolderState → Written → Type 0
-WriteRose old new n =
-    Rose (old.write_faults n.got_o) (new.write_faults n.got_o) ⊎ Rose (old.write_faults n.got_a) (new.write_faults n.got_a)
-    ⊎ Rose (old.write_faults n.trace) (new.write_faults n.trace)
+WriteRose old new n = Rose (old.write_faults n.got_o) (new.write_faults n.got_o) ⊎ Rose (old.write_faults n.got_a) (new.write_faults n.got_a)
 
 -- The received files alone were touched, and nothing was said.
 pub record OnlyGot (n : Written) (old new : FolderState) : Type 0 where

@@ -14,7 +14,7 @@ ghost use Rattle.link_run.specs.End.{deliveries, delivered, asked, is_busy, is_c
 ghost use Rattle.link_run.specs.Run.{Ends, start};
 ghost use Rattle.line_run.specs.Scripted.{setup_of, breaks_of, busy_of, party_of, link_of};
 ghost use Rattle.stations.specs.Station.{Stands, IsIdle, IsCounted};
-ghost use Rattle.both_sides.specs.Names.{AreApart, OnlyGot, WriteCause, ReadCause, written};
+ghost use Rattle.both_sides.specs.Names.{OnlyGot, WriteCause, ReadCause, written};
 ghost use Rattle.both_sides.specs.Link.{HearsOn};
 ghost use Rattle.link_account.specs.Hear.{hear};
 
@@ -158,7 +158,7 @@ impl Link {
         folder: &mut F,
         names: &Names<'_>,
     ) -> Result<(), FolderFault>
-        requires apart { AreApart (written names.now) }
+        requires apart { (written names.now).got_o ≢ (written names.now).got_a }
         ensures stands { OnOk result ((files : Both (List ℕ)) (ends : Ends) → LinkStands self.old files ends → LinkStands self.new files (both_ends delivered ends)) }
         ensures delivered { OnOk result (HaveDelivered self.new) }
         ensures counted { OnOk result ((turns : ℕ) → AreCounted self.old turns → AreCounted self.new turns) }

@@ -14,7 +14,7 @@ returns-in-Err-deliver-clause-err g c = λ files ends h.
     record {
       got_o = PartlyAppended-all start end n.got_o (concat (deliveries ends.orig))
           (Adds-kept start mid end n.got_o (concat (deliveries ends.orig)) c.in-Ok.ensures.only.goes_on (c.in-Ok.ensures.ok files.orig ends.orig h.orig)
-          (c.in-Err-deliver.ensures.only.names n.got_o c.requires.apart.got));
+          (c.in-Err-deliver.ensures.only.names n.got_o c.requires.apart));
       got_a = kept-PartlyAppended start mid end n.got_a (concat (deliveries ends.answ)) c.in-Ok.ensures.only.goes_on
-          (c.in-Ok.ensures.only.names n.got_a (λ e. c.requires.apart.got (sym e))) (c.in-Err-deliver.ensures.err files.answ ends.answ h.answ);
+          (c.in-Ok.ensures.only.names n.got_a (λ e. c.requires.apart (sym e))) (c.in-Err-deliver.ensures.err files.answ ends.answ h.answ);
     }
