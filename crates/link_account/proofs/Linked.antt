@@ -19,7 +19,7 @@ use Rattle.link_account.specs.declared.fault.LinkFault.{LinkFault}
 use Rattle.link_account.specs.Account.{Account}
 use Rattle.roles.specs.Role.{is_originator}
 use Rattle.link_account.specs.Hear.{on_connected, on_i, on_ready, on_rej, on_srej, on_number, on_word, then_in, replying, hurrying, taking, ends_wait, timer_after, on_rnr, pausing}
-use Rattle.link_account.specs.Speak.{Said, says, says_frame, else_says, where_says, steps, step1, step2, step3, step4, step5, step6, step7, step8, step9, may_send, says_segment, says_asking, says_break, says_own, says_word, nr_of, telling, tells, ready_frame, differs, has_news}
+use Rattle.link_account.specs.Speak.{Said, says, says_frame, else_says, where_says, steps, step1, step2, step3, step4, step5, step6, step7, step8, step9, may_send, says_segment, says_asking, says_break, says_own, says_word, nr_of, telling, tells, ready_frame, differs}
 use Rattle.link_account.specs.Play.{Slot}
 use Rattle.link_account.proofs.Flow.{IsAskable}
 use Rattle.link_account.proofs.Ends.{segment_of, asked_of, Goes, back-forgotten, ack-found, back-advanced, back-rejected, back-replied, back-selected, line-passed, line-lost, line-taken, line-quiet, line-sent, back-told, asked-lies}

@@ -23,7 +23,7 @@ use Rattle.link_account.specs.Account.{Account, fresh, wants, piece_size, after_
 use Rattle.link_account.specs.Hear.{hear, on_nothing}
 use Rattle.link_account.specs.Speak.{Said, speak}
 use Rattle.link_account.specs.Play.{Slot, Play, Event, Speaks, Passes, Is_lost, Hears_nothing, Is_offered, Is_asked, Delivers, Gives_break, arrives, seen_from, play_of, spoken, heard, passes, is_lost, is_offered, happens_at, role_of, goes_on, happens, play, start, Is_busy}
-use Rattle.link_account.specs.Laws.{MayPlay, played, TakesInOrder, WantsAnswers, BreaksForWantAlone, IsTakenBy, TakesByNumber, AcknowledgesTaken, SendsWhatWasOffered, AgreesOnSrej, has_begun, KnownByNumber}
+use Rattle.link_account.specs.Laws.{MayPlay, played, TakesInOrder, WantsAnswers, BreaksForWantAlone, IsTakenBy, TakesByNumber, AcknowledgesTaken, SendsWhatWasOffered, AgreesOnSrej, has_begun, KnownByNumber, IsInRange, SendsInRange}
 use Rattle.plain_lists.specs.Prefix.{IsPrefixOf}
 use Rattle.link_account.proofs.Flow.{keeps-offered}
 use Rattle.link_account.proofs.Ends.{Goes, flow, order-exact}
@@ -416,4 +416,39 @@ known_by_number_always so sa events m =
           let line = subst (λ l. LineA sa (rank p.originator.account.phase) (rank p.answerer.account.phase) l) e h.line_a in
           by-number (terms_of so sa).window_a (terms_of so sa).srej p.answerer.account.outgoing p.originator.account.incoming ns nr pf info n told rest p.originator.line
           (subst (λ l. Goes (terms_of so sa).window_a (terms_of so sa).srej p.answerer.account.outgoing p.originator.account.incoming l p.originator.line) e h.flow_ao) place.1 place.2 line.0.0,
+    )
+
+in-range : (w : ℕ) (srej : Bool) (o : Outgoing) (i : Incoming) (forward back : List Slot) → Goes w srej o i forward back → IsInRange o
+in-range w srej o i forward back h = record {
+  front_from = h.to_send.low;
+  from_high = h.to_send.high;
+  few = omega (arith, h.range.highs, h.width.high);
+  chosen = h.to_send.choices;
+}
+
+unsent-o : (t : Terms) (p : Phase) (a : Account) → has_begun p ≡ false → PlaceO t p a → a.outgoing.high ≡ 0
+unsent-o t Detecting a e h = ap (λ o. o.high) h.0
+unsent-o t Negotiating a e h = ap (λ o. o.high) h.0
+unsent-o t Establishing a e h = ap (λ o. o.high) h.0.0
+unsent-o t Connected a e h = absurd (false≢true (sym e))
+unsent-o t Releasing a e h = absurd (false≢true (sym e))
+unsent-o t Closed a e h = absurd (false≢true (sym e))
+
+unsent-a : (t : Terms) (p : Phase) (a : Account) → has_begun p ≡ false → PlaceA t p a → a.outgoing.high ≡ 0
+unsent-a t Detecting a e h = ap (λ o. o.high) h.0
+unsent-a t Negotiating a e h = ap (λ o. o.high) h.0.0
+unsent-a t Establishing a e h = absurd h
+unsent-a t Connected a e h = absurd (false≢true (sym e))
+unsent-a t Releasing a e h = absurd h
+unsent-a t Closed a e h = absurd (false≢true (sym e))
+
+pub sends_in_range_always : SendsInRange
+sends_in_range_always so sa events m =
+    let p = played so sa events in
+    let h = (played-well so sa events m).good in
+    let t = terms_of so sa in
+    let o = p.originator.account in
+    let a = p.answerer.account in (
+      record { range = in-range t.window_o t.srej o.outgoing a.incoming p.originator.line p.answerer.line h.flow_oa; unsent = λ e. unsent-o t o.phase o e h.place_o },
+      record { range = in-range t.window_a t.srej a.outgoing o.incoming p.answerer.line p.originator.line h.flow_ao; unsent = λ e. unsent-a t a.phase a e h.place_a },
     )

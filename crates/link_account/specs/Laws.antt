@@ -1,7 +1,9 @@
 -- The laws of plays from two fresh ends.
 use Rattle.std.specs.Prelude.{◌≡◌, ℕ, ◌+◌, ◌%◌, ◌<◌, ◌≤◌, Bool, true, false, List, [], ◌∷◌, length, slice_index_or, Option, Some, None, Ok}
+use Rattle.std.specs.List.{AllByRecursion}
 use Rattle.roles.specs.declared.role.Role.TheVariants.{Originator, Answerer}
 use Rattle.lapm_frames.specs.declared.frame.Frame.TheVariants.{I, Ui}
+use Rattle.lapm_sender.specs.Outgoing.{Outgoing}
 use Rattle.lapm_receiver.specs.Incoming.{Incoming, kind_of, next_expected}
 use Rattle.lapm_receiver.specs.declared.took.Took.TheVariants.{InOrder, Kept}
 use Rattle.xid_params.specs.Offers.{IsAllowed}
@@ -144,3 +146,19 @@ NextIsBreak from to =
 abbrev pub SendsBreaksTaken : Type 0
 SendsBreaksTaken = (so sa : Setup) (events : List Event) →
     NextIsBreak (played so sa events).originator (played so sa events).answerer × NextIsBreak (played so sa events).answerer (played so sa events).originator
+
+-- What is sent next lies between what is acknowledged and what was sent, and that is no more than a window.
+pub record IsInRange (o : Outgoing) : Type 0 where
+  pub front_from : o.front ≤ o.from
+  pub from_high : o.from ≤ o.high
+  pub few : o.high ≤ o.front + 127
+  pub chosen : AllByRecursion (λ n. (o.front ≤ n) × (n < o.high)) o.chosen
+
+-- and so at an end, which sends no segment before it is Connected
+pub record SendsInOrder (a : Account) : Type 0 where
+  pub range : IsInRange a.outgoing
+  pub unsent : has_begun a.phase ≡ false → a.outgoing.high ≡ 0
+
+abbrev pub SendsInRange : Type 0
+SendsInRange = (so sa : Setup) (events : List Event) → MayPlay so sa →
+    SendsInOrder (played so sa events).originator.account × SendsInOrder (played so sa events).answerer.account

@@ -1,6 +1,6 @@
 -- What an end sends and then is: one definition a rule, then one a phase. A Connected end looks at its timers first, and then
 -- sends what the first of nine steps gives that applies. An end breaks once all its tries are spent.
-use Rattle.std.specs.Prelude.{not, ℕ, ◌+◌, ◌-◌, ◌*◌, ◌%◌, Bool, true, false, if◌then◌else◌, ◌&&◌, ◌||◌, nat_eq, nat_le, [], length, Option, Some, None, Result, Ok, Err, slice_index_or}
+use Rattle.std.specs.Prelude.{not, ℕ, ◌+◌, ◌-◌, ◌%◌, Bool, true, false, if◌then◌else◌, ◌&&◌, ◌||◌, nat_eq, nat_le, [], length, Option, Some, None, Result, Ok, Err, slice_index_or}
 use Rattle.roles.specs.declared.role.Role.{Role}
 use Rattle.roles.specs.declared.role.Role.TheVariants.{Originator, Answerer}
 use Rattle.lapm_frames.specs.declared.frame.Frame.{Frame}

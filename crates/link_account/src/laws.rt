@@ -1,6 +1,6 @@
 //! What two ends do, over all plays. The functions do nothing: each law is a contract.
 ghost use Rattle.link_account.specs.Laws.{TakesInOrder, TakesByNumber, BreaksForWantAlone, GivesBreaksInOrder, SaysNumbers};
-ghost use Rattle.link_account.specs.Laws.{AcknowledgesTaken, AnswersGiven, SendsWhatWasOffered, AgreesOnSrej, KnownByNumber, SendsBreaksTaken};
+ghost use Rattle.link_account.specs.Laws.{AcknowledgesTaken, AnswersGiven, SendsWhatWasOffered, AgreesOnSrej, KnownByNumber, SendsBreaksTaken, SendsInRange};
 
 /// Whatever is lost and whenever timers expire, what an end takes is a prefix of what was offered at the other, each
 /// segment is taken by its meant number, an end breaks for want of answers alone, and breaks are given in order.
@@ -28,6 +28,11 @@ pub fn frames_on_the_line()
 pub fn numbers_on_the_line()
     ensures segments { KnownByNumber }
     ensures breaks { SendsBreaksTaken }
+{}
+
+/// What an end sends next lies between what is acknowledged and what was sent, no more than a window in all.
+pub fn next_numbers()
+    ensures { SendsInRange }
 {}
 
 /// What an end says can be heard.

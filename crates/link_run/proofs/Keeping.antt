@@ -66,6 +66,7 @@ AreTerms t = (1 ≤ t.len_o) × (1 ≤ t.len_a)
 pub record Stays (a b : Account) : Type 0 where
   pub books_are : books b ≡ books a
   pub size : b.outgoing.size ≡ a.outgoing.size
+  pub high : b.outgoing.high ≡ a.outgoing.high
   pub taken : List (List ℕ)
   pub taken_are : b.incoming.taken ≡ a.incoming.taken ++ taken
   pub theirs : List ℕ
@@ -104,11 +105,12 @@ OnHearing a (Ok b) = GoesOn a b
 OnHearing a (Err fault) = WantsAnswers (Some fault) → ⊥
 
 -- nothing that counts changes
-same : (a b : Account) → books b ≡ books a → b.outgoing.size ≡ a.outgoing.size → b.incoming.taken ≡ a.incoming.taken → b.their_breaks.lengths ≡ a.their_breaks.lengths → stage b.phase ≡ stage a.phase
+same : (a b : Account) → books b ≡ books a → (b.outgoing.size ≡ a.outgoing.size) × (b.outgoing.high ≡ a.outgoing.high) → b.incoming.taken ≡ a.incoming.taken → b.their_breaks.lengths ≡ a.their_breaks.lengths → stage b.phase ≡ stage a.phase
     → (IsAllowed a.setup.offer → AreTerms a.terms → AreTerms b.terms) → GoesOn a b
-same a b books_are size taken theirs phase terms = inl (record {
+same a b books_are sent taken theirs phase terms = inl (record {
   books_are = books_are;
-  size = size;
+  size = sent.0;
+  high = sent.1;
   taken = [];
   taken_are = taken ∙ sym (append-nil a.incoming.taken);
   theirs = [];
@@ -123,10 +125,11 @@ same a b books_are size taken theirs phase terms = inl (record {
 })
 
 -- the end is closed
-closes : (a b : Account) → books b ≡ books a → b.outgoing.size ≡ a.outgoing.size → b.incoming.taken ≡ a.incoming.taken → b.their_breaks.lengths ≡ a.their_breaks.lengths → 1 ≤ stage a.phase → stage b.phase ≡ 3 → b.terms ≡ a.terms → (a.setup.role ≡ Originator → 2 ≤ stage a.phase) → GoesOn a b
-closes a b books_are size taken theirs from to terms hangs = inl (record {
+closes : (a b : Account) → books b ≡ books a → (b.outgoing.size ≡ a.outgoing.size) × (b.outgoing.high ≡ a.outgoing.high) → b.incoming.taken ≡ a.incoming.taken → b.their_breaks.lengths ≡ a.their_breaks.lengths → 1 ≤ stage a.phase → stage b.phase ≡ 3 → b.terms ≡ a.terms → (a.setup.role ≡ Originator → 2 ≤ stage a.phase) → GoesOn a b
+closes a b books_are sent taken theirs from to terms hangs = inl (record {
   books_are = books_are;
-  size = size;
+  size = sent.0;
+  high = sent.1;
   taken = [];
   taken_are = taken ∙ sym (append-nil a.incoming.taken);
   theirs = [];
@@ -175,15 +178,15 @@ enters turn a b was setup own their told terms f e = subst (λ (c : Account). Go
 }))
 
 command-terms : (a : Account) (o : Option Offer) → ((p : Offer) → o ≡ Some p → IsAllowed p) → stage a.phase ≡ 0 → GoesOn a (on_xid_command o a)
-command-terms a None h was = same a a refl refl refl refl refl (λ o t. t)
-command-terms a (Some p) h was = same a (on_xid_command (Some p) a) refl refl refl refl (sym was) (λ o t. agreed p a.setup.offer (h p refl) o)
+command-terms a None h was = same a a refl (refl, refl) refl refl refl (λ o t. t)
+command-terms a (Some p) h was = same a (on_xid_command (Some p) a) refl (refl, refl) refl refl (sym was) (λ o t. agreed p a.setup.offer (h p refl) o)
 
 response-terms : (a : Account) (turn : ℕ) (o : Option Offer) → ((p : Offer) → o ≡ Some p → IsAllowed p) → stage a.phase ≡ 0 → GoesOn a (on_xid_response o turn a)
-response-terms a turn None h was = same a a refl refl refl refl refl (λ o t. t)
-response-terms a turn (Some p) h was = same a (on_xid_response (Some p) turn a) refl refl refl refl (sym was) (λ o t. agreed a.setup.offer p o (h p refl))
+response-terms a turn None h was = same a a refl (refl, refl) refl refl refl (λ o t. t)
+response-terms a turn (Some p) h was = same a (on_xid_response (Some p) turn a) refl (refl, refl) refl refl (sym was) (λ o t. agreed a.setup.offer p o (h p refl))
 
 kept : (a : Account) → GoesOn a a
-kept a = same a a refl refl refl refl refl (λ o t. t)
+kept a = same a a refl (refl, refl) refl refl refl (λ o t. t)
 
 detecting : (reads : ReadsAllowed) (role : Role) (frame : Frame) (turn : ℕ) (a : Account) → stage a.phase ≡ 0 → OnHearing a (on_detecting role frame turn a)
 detecting reads Answerer (Xid true pf info) turn a e = command-terms a (offer_in info) (λ p. reads info p) e
@@ -196,7 +199,7 @@ negotiating reads Originator (Xid false pf info) turn a e = response-terms a tur
 negotiating reads Originator (Dm pf) turn a e = λ z. z
 negotiating reads Answerer (Xid true pf info) turn a e = command-terms a (offer_in info) (λ p. reads info p) e
 negotiating reads Answerer (Sabme pf) turn a e = enters turn a a e refl refl refl refl (λ o t. t) (owing (answers.Ua pf)) refl
-negotiating reads Answerer (Disc pf) turn a e = same a (owing (answers.Dm pf) a) refl refl refl refl refl (λ o t. t)
+negotiating reads Answerer (Disc pf) turn a e = same a (owing (answers.Dm pf) a) refl (refl, refl) refl refl refl (λ o t. t)
 negotiating reads role frame turn a e = kept a
 
 establishing : (frame : Frame) (turn : ℕ) (a : Account) → stage a.phase ≡ 0 → OnHearing a (on_establishing frame turn a)
@@ -205,12 +208,12 @@ establishing (Dm true) turn a e = λ z. z
 establishing frame turn a e = kept a
 
 releasing : (frame : Frame) (a : Account) → a.phase ≡ Releasing → OnHearing a (on_releasing frame a)
-releasing (Ua true) a e = closes a (record a { phase = Closed }) refl refl refl refl (omega (arith, ap stage e)) refl refl (λ o. omega (arith, ap stage e))
-releasing (Dm true) a e = closes a (record a { phase = Closed }) refl refl refl refl (omega (arith, ap stage e)) refl refl (λ o. omega (arith, ap stage e))
+releasing (Ua true) a e = closes a (record a { phase = Closed }) refl (refl, refl) refl refl (omega (arith, ap stage e)) refl refl (λ o. omega (arith, ap stage e))
+releasing (Dm true) a e = closes a (record a { phase = Closed }) refl (refl, refl) refl refl (omega (arith, ap stage e)) refl refl (λ o. omega (arith, ap stage e))
 releasing frame a e = kept a
 
 closed : (frame : Frame) (a : Account) → OnHearing a (on_closed frame a)
-closed (Disc pf) a = same a (owing (answers.Dm pf) a) refl refl refl refl refl (λ o t. t)
+closed (Disc pf) a = same a (owing (answers.Dm pf) a) refl (refl, refl) refl refl refl (λ o t. t)
 closed frame a = kept a
 
 -- Connected: what an N(R) makes of the sender's part
@@ -218,6 +221,7 @@ pub record SameOut (o p : Outgoing) : Type 0 where
   pub pieces : p.pieces ≡ o.pieces
   pub ended : p.ended ≡ o.ended
   pub size : p.size ≡ o.size
+  pub high : p.high ≡ o.high
 
 abbrev pub IfOut : Outgoing → Option Outgoing → Type 0
 IfOut o None = Unit {0}
@@ -228,31 +232,31 @@ same-out o f h None = tt
 same-out o f h (Some n) = h n
 
 out-acknowledged : (nr : ℕ) (o : Outgoing) → IfOut o (acknowledged nr o)
-out-acknowledged nr o = same-out o (advanced o) (λ n. record { pieces = refl; ended = refl; size = refl }) (meant o.front o.high nr)
+out-acknowledged nr o = same-out o (advanced o) (λ n. record { pieces = refl; ended = refl; size = refl; high = refl }) (meant o.front o.high nr)
 
 out-rejected : (nr : ℕ) (o : Outgoing) → IfOut o (rejected nr o)
-out-rejected nr o = same-out o (λ n. gone_back (advanced o n)) (λ n. record { pieces = refl; ended = refl; size = refl }) (meant o.front o.high nr)
+out-rejected nr o = same-out o (λ n. gone_back (advanced o n)) (λ n. record { pieces = refl; ended = refl; size = refl; high = refl }) (meant o.front o.high nr)
 
 out-replied : (nr : ℕ) (o : Outgoing) → IfOut o (replied nr o)
-out-replied nr o = same-out o (λ n. wait_ended (advanced o n)) (λ n. record { pieces = refl; ended = refl; size = refl }) (meant o.front o.high nr)
+out-replied nr o = same-out o (λ n. wait_ended (advanced o n)) (λ n. record { pieces = refl; ended = refl; size = refl; high = refl }) (meant o.front o.high nr)
 
 out-selected : (nr : ℕ) (o : Outgoing) → IfOut o (selected nr o)
 out-selected nr o = go (is_outstanding o)
   where
     go : (b : Bool) → IfOut o (cond b (option_map (λ n. record o { chosen = with_number n o.chosen }) (meant o.front (o.high - 1) nr)) None)
-    go true = same-out o (λ n. record o { chosen = with_number n o.chosen }) (λ n. record { pieces = refl; ended = refl; size = refl }) (meant o.front (o.high - 1) nr)
+    go true = same-out o (λ n. record o { chosen = with_number n o.chosen }) (λ n. record { pieces = refl; ended = refl; size = refl; high = refl }) (meant o.front (o.high - 1) nr)
     go false = tt
 
 out-paused : (o : Outgoing) (m : Option Outgoing) → IfOut o m → IfOut o (option_map paused_at m)
 out-paused o None h = tt
-out-paused o (Some p) h = record { pieces = h.pieces; ended = h.ended; size = h.size }
+out-paused o (Some p) h = record { pieces = h.pieces; ended = h.ended; size = h.size; high = h.high }
 
 out-resumed : (o : Outgoing) (m : Option Outgoing) → IfOut o m → IfOut o (option_map resumed m)
 out-resumed o None h = tt
 out-resumed o (Some p) h = go p.paused
   where
     go : (b : Bool) → SameOut o (cond b (record p { paused = false; count = cond (is_outstanding p || p.awaited) p.count 0 }) p)
-    go true = record { pieces = h.pieces; ended = h.ended; size = h.size }
+    go true = record { pieces = h.pieces; ended = h.ended; size = h.size; high = h.high }
     go false = h
 
 out-books : (a : Account) (ps : List (List ℕ)) (e : Bool) → ps ≡ a.outgoing.pieces → e ≡ a.outgoing.ended
@@ -263,13 +267,13 @@ numbered : (turn nr : ℕ) (a : Account) (m : Option Outgoing) (asked ended : Bo
 numbered turn nr a None asked ended h = λ z. z
 numbered turn nr a (Some new) asked ended h = same a
     (hurrying ended (replying asked (record a { numbered = true; outgoing = new; wait = record a.wait { timer = timer_after turn a.outgoing new a.wait.timer } })))
-    (out-books a new.pieces new.ended h.pieces h.ended) h.size refl refl refl (λ o t. t)
+    (out-books a new.pieces new.ended h.pieces h.ended) (h.size, h.high) refl refl refl (λ o t. t)
 
 hushed : (turn nr : ℕ) (a : Account) (m : Option Outgoing) (asked : Bool) → IfOut a.outgoing m → OnHearing a (then_in (λ b. pausing turn (replying asked b)) (on_number turn nr m a))
 hushed turn nr a None asked h = λ z. z
 hushed turn nr a (Some new) asked h = same a
     (pausing turn (replying asked (record a { numbered = true; outgoing = new; wait = record a.wait { timer = timer_after turn a.outgoing new a.wait.timer } })))
-    (out-books a new.pieces new.ended h.pieces h.ended) h.size refl refl refl (λ o t. t)
+    (out-books a new.pieces new.ended h.pieces h.ended) (h.size, h.high) refl refl refl (λ o t. t)
 
 out-cond : (b : Bool) (o : Outgoing) (m n : Option Outgoing) → IfOut o m → IfOut o n → IfOut o (cond b m n)
 out-cond true o m n h k = h
@@ -293,6 +297,7 @@ segment keeps turn ns nr info a (Some new) asked e h =
     inl (record {
       books_are = take-books a new.pieces new.ended (after_take ns info a.incoming).given h.pieces h.ended (kind-given (kind_of ns a.incoming) (offset a.incoming ns) info a.incoming);
       size = h.size;
+      high = h.high;
       taken = more.0;
       taken_are = more.1;
       theirs = [];
@@ -323,6 +328,7 @@ word turn (Ok (Brk number length_octet)) a e =
     inl (record {
       books_are = refl;
       size = refl;
+      high = refl;
       taken = [];
       taken_are = sym (append-nil a.incoming.taken);
       theirs = more.0;
@@ -337,7 +343,7 @@ word turn (Ok (Brk number length_octet)) a e =
     })
 word turn (Ok (Ack number length_octet)) a e =
     same a (on_word turn (Ok (Ack number length_octet)) a)
-    (ap (λ l. record { setup = a.setup; pieces = a.outgoing.pieces; ended = a.outgoing.ended; given = a.incoming.given; told = a.breaks_told; lengths = l }) (answer-lengths turn number a.own_breaks)) refl refl refl refl (λ o t. t)
+    (ap (λ l. record { setup = a.setup; pieces = a.outgoing.pieces; ended = a.outgoing.ended; given = a.incoming.given; told = a.breaks_told; lengths = l }) (answer-lengths turn number a.own_breaks)) (refl, refl) refl refl refl (λ o t. t)
 word turn (Err fault) a e = kept a
 
 answers-not : {r : Role} → r ≡ Answerer → r ≡ Originator → ⊥
@@ -348,11 +354,11 @@ sabme pf a = go (a.numbered || is_originator a.setup.role)
   where
     go : (b : Bool) → OnHearing a (cond b (Err (peer_reset a)) (Ok (owing (answers.Ua pf) a)))
     go true = λ z. z
-    go false = same a (owing (answers.Ua pf) a) refl refl refl refl refl (λ o t. t)
+    go false = same a (owing (answers.Ua pf) a) refl (refl, refl) refl refl refl (λ o t. t)
 
 disc : (role : Role) (pf : Bool) (a : Account) → a.phase ≡ Connected → a.setup.role ≡ role → OnHearing a (on_disc role pf a)
 disc Originator pf a e role = λ z. z
-disc Answerer pf a e role = closes a (owing (answers.Ua pf) (record a { phase = Closed })) refl refl refl refl (omega (arith, ap stage e)) refl refl (λ o. absurd (answers-not role o))
+disc Answerer pf a e role = closes a (owing (answers.Ua pf) (record a { phase = Closed })) refl (refl, refl) refl refl (omega (arith, ap stage e)) refl refl (λ o. absurd (answers-not role o))
 
 linked : (keeps : KeepsTaken) (frame : Frame) (turn : ℕ) (a : Account) → a.phase ≡ Connected → OnHearing a (on_connected frame turn a)
 linked keeps (I ns nr pf info) turn a e = segment keeps turn ns nr info a (acknowledged nr a.outgoing) pf e (out-acknowledged nr a.outgoing)
@@ -373,7 +379,7 @@ linked keeps (Srej command nr pf) turn a e = chosen (selected nr a.outgoing) (ou
     chosen : (m : Option Outgoing) → IfOut a.outgoing m → OnHearing a (on_number turn nr m a)
     chosen None h = λ z. z
     chosen (Some new) h = same a (record a { numbered = true; outgoing = new; wait = record a.wait { timer = timer_after turn a.outgoing new a.wait.timer } })
-        (out-books a new.pieces new.ended h.pieces h.ended) h.size refl refl refl (λ o t. t)
+        (out-books a new.pieces new.ended h.pieces h.ended) (h.size, h.high) refl refl refl (λ o t. t)
 linked keeps (Sabme pf) turn a e = sabme pf a
 linked keeps (Disc pf) turn a e = disc a.setup.role pf a e refl
 linked keeps (Ua pf) turn a e = kept a
@@ -392,9 +398,9 @@ framed reads keeps Releasing frame turn a e = releasing frame a e
 framed reads keeps Closed frame turn a e = closed frame a
 
 patterned : (role : Role) (seen : Seen) (turn : ℕ) (a : Account) → stage a.phase ≡ 0 → GoesOn a (on_pattern role seen turn a)
-patterned Originator Adp turn a e = same a (trying Negotiating turn a) refl refl refl refl (sym e) (λ o t. t)
+patterned Originator Adp turn a e = same a (trying Negotiating turn a) refl (refl, refl) refl refl (sym e) (λ o t. t)
 patterned Originator Odp turn a e = kept a
-patterned Answerer Odp turn a e = same a (owing answers.Adp a) refl refl refl refl refl (λ o t. t)
+patterned Answerer Odp turn a e = same a (owing answers.Adp a) refl (refl, refl) refl refl refl (λ o t. t)
 patterned Answerer Adp turn a e = kept a
 
 sighted : (p : Phase) (seen : Seen) (turn : ℕ) (a : Account) → a.phase ≡ p → GoesOn a (on_seen p seen turn a)
@@ -406,7 +412,7 @@ sighted Releasing seen turn a e = kept a
 sighted Closed seen turn a e = kept a
 
 pub hearing : (reads : ReadsAllowed) (keeps : KeepsTaken) (turn : ℕ) (arrived : Arrived) (a : Account) → OnHearing a (hear turn arrived a)
-hearing reads keeps turn arrivals.Nothing a = same a (on_nothing a) refl refl refl refl refl (λ o t. t)
+hearing reads keeps turn arrivals.Nothing a = same a (on_nothing a) refl (refl, refl) refl refl refl (λ o t. t)
 hearing reads keeps turn (arrivals.Pattern seen) a = sighted a.phase seen turn a refl
 hearing reads keeps turn (arrivals.Frame frame) a = framed reads keeps a.phase frame turn a refl
 

@@ -25,3 +25,5 @@ mod Following
 mod Overhearing
 mod Lengths
 mod Sizing
+mod Numbering
+mod Amounts

@@ -19,7 +19,7 @@ use Rattle.link_run.specs.End.{served, is_released, has_finished}
 use Rattle.link_run.specs.Run.{Link, Ends, arrival, GoingTurn, SpeaksAt, said_at, served_at}
 use Rattle.link_run.specs.Reading.{IsCut, IsOffered, SameSoFar, with_segment, BeginsUnoffered}
 use Rattle.link_run.specs.Reading.{HearingStaysOffered, SpeakingStaysOffered, OffersWhatIsRead, SegmentsAreTold}
-use Rattle.link_run.specs.Reading.{OwnSegmentsStay, with_files, RunsByWhatWasRead}
+use Rattle.link_run.specs.Reading.{OwnSegmentsStay, with_files, RunsByWhatWasRead, RunsByWhatIsReadOn}
 use Rattle.link_run.proofs.Keeping.{Books, GoesOn, hears}
 use Rattle.link_run.proofs.Speaking.{Ledger, Speaks, Keeps_on, Releases, speaks}
 use Rattle.link_run.proofs.Cutting.{fresh-cuts, heard-cuts, spoken-cuts, delivered-cuts, offered-cuts-at, wants-are, piece-size-is}
@@ -360,3 +360,15 @@ runs_by_what_was_read reads keeps link files others (t ∷ ts) ends allowed h sa
 
     speaks-so : (r : Role) → SpeaksAt (said_at new turn mid r) (of r t) (of r ends)
     speaks-so r = let s = g.speaking r in record { said = s.said; says = says-so r ∙ s.says; sent_is = s.sent_is; after_is = s.after_is }
+
+pub runs_by_what_is_read_on : ReadsAllowed → KeepsTaken → RunsByWhatIsReadOn
+runs_by_what_is_read_on reads keeps link files others ts ends t mid allowed h e same =
+    runs_by_what_was_read reads keeps link files others ts ends allowed h before
+  where
+    unoffered : (r : Role) → Unoffered (of r ends)
+    unoffered = kept-run reads keeps IsUnoffered (with_files files link) (unoffered-kept (with_files files link)) ts ends h
+
+    before : (r : Role) → SameSoFar (of r ends).outgoing (of r files) (of r others)
+    before r = same-heard (of r files) (of r others) (of r ends) (of r mid) (unoffered r)
+        (hears reads keeps (length ts) (arrival (of r t).heard) (of r ends) (of r mid) (e r).hears)
+        (subst (λ o. SameSoFar o (of r files) (of r others)) (delivered-out (of r mid)) (same r))

@@ -1,5 +1,5 @@
 -- How many slots were lost in some turns, and how many segments went again.
-use Rattle.std.specs.Prelude.{ℕ, ◌+◌, Bool, false, if◌then◌else◌, ◌||◌, nat_eq, List, [], ◌∷◌, ◌++◌, Option, Some, None}
+use Rattle.std.specs.Prelude.{◌≡◌, ℕ, ◌+◌, ◌%◌, Bool, false, if◌then◌else◌, ◌||◌, nat_eq, nat_lt, List, [], ◌∷◌, ◌++◌, Option, Some, None}
 use Rattle.roles.specs.declared.role.Role.{Role}
 use Rattle.roles.specs.declared.role.Role.TheVariants.{Originator, Answerer}
 use Rattle.roles.specs.Both.{of}
@@ -9,7 +9,9 @@ use Rattle.slot_contents.specs.declared.sent.Sent.{Sent}
 use Rattle.slot_contents.specs.declared.sent.Sent.TheVariants as slots
 use Rattle.slot_contents.specs.declared.heard.Heard.{Heard}
 use Rattle.slot_contents.specs.declared.heard.Heard.TheVariants.{Nothing, Passed, Lost, Chance}
-use Rattle.link_run.specs.Run.{Spoken, Turn}
+use Rattle.link_run.specs.Run.{Link, Ends, Spoken, Turn, GoingTurn}
+use Rattle.link_run.specs.Carried.{Carries}
+use Rattle.link_run.specs.Laws.{RunsOver}
 
 -- 1 where the slot was lost
 abbrev pub lost_in : Heard → ℕ
@@ -38,6 +40,19 @@ abbrev pub segment_number : Option Spoken → List ℕ
 segment_number None = []
 segment_number (Some slot) = number_in slot.number slot.sent
 
+-- the N(S) of an I frame
+abbrev pub sequence_number : Frame → Option ℕ
+sequence_number (I ns nr pf info) = Some ns
+sequence_number frame = None
+
+abbrev pub sequence_in : Sent → Option ℕ
+sequence_in (slots.Frame frame) = sequence_number frame
+sequence_in sent = None
+
+abbrev pub sequence_of : Option Spoken → Option ℕ
+sequence_of None = None
+sequence_of (Some slot) = sequence_in slot.sent
+
 -- a number stands among these
 abbrev pub is_number : ℕ → List ℕ → Bool
 is_number n [] = false
@@ -56,3 +71,27 @@ repeated (n ∷ ns) = if is_number n ns then repeated ns + 1 else repeated ns
 -- I frames whose segment had been sent before
 abbrev pub sent_again : List Turn → ℕ
 sent_again ts = repeated (numbers_sent Originator ts) + repeated (numbers_sent Answerer ts)
+
+-- Who counts what a role sends by N(S) alone, from how many segments it has sent: one with the next N(S) is the next one, and any other was
+-- sent before.
+abbrev pub next_count : Option ℕ → ℕ → ℕ
+next_count None sent = sent
+next_count (Some ns) sent = if nat_eq ns (sent % 128) then sent + 1 else sent
+
+abbrev pub again_in : Option ℕ → ℕ → ℕ
+again_in None sent = 0
+again_in (Some ns) sent = if nat_eq ns (sent % 128) then 0 else 1
+
+-- So it comes to all that is counted by the meant numbers.
+pub record CountsOn (role : Role) (ts : List Turn) (ends : Ends) (t : Turn) (after : Ends) : Type 0 where
+  pub high : (of role after).outgoing.high ≡ next_count (sequence_of (of role t).sent) (of role ends).outgoing.high
+  pub again : repeated (numbers_sent role (t ∷ ts)) ≡ repeated (numbers_sent role ts) + again_in (sequence_of (of role t).sent) (of role ends).outgoing.high
+
+abbrev pub CountsByNumber : Type 0
+CountsByNumber = (link : Link) (delay : Role → ℕ) (ts : List Turn) (ends : Ends) (t : Turn) (after : Ends) → RunsOver link delay ts ends
+    → Carries delay ts t → GoingTurn link ts ends t after → (role : Role) → CountsOn role ts ends t after
+
+-- And the segments that were sent are all those before a number.
+abbrev pub SentBelowHigh : Type 0
+SentBelowHigh = (link : Link) (delay : Role → ℕ) (ts : List Turn) (ends : Ends) → RunsOver link delay ts ends → (role : Role) (n : ℕ)
+    → is_number n (numbers_sent role ts) ≡ nat_lt n (of role ends).outgoing.high

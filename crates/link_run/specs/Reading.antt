@@ -8,11 +8,11 @@ use Rattle.xid_params.specs.Offers.{IsAllowed}
 use Rattle.lapm_sender.specs.Outgoing.{Outgoing}
 use Rattle.slot_contents.specs.declared.arrived.Arrived.{Arrived}
 use Rattle.link_account.specs.declared.setup.Setup.{Setup}
-use Rattle.link_account.specs.Account.{Account, fresh, is_connected, wants, piece_size, after_offer}
+use Rattle.link_account.specs.Account.{Account, fresh, is_connected, wants, piece_size, after_offer, after_given}
 use Rattle.link_account.specs.Hear.{hear}
 use Rattle.link_account.specs.Speak.{Said, speak}
-use Rattle.link_run.specs.End.{piece_at}
-use Rattle.link_run.specs.Run.{Party, Link, Ends, Turn, RunOf}
+use Rattle.link_run.specs.End.{piece_at, delivered}
+use Rattle.link_run.specs.Run.{Party, Link, Ends, Turn, Hears, RunOf}
 
 -- a size is agreed both ways
 abbrev pub AreSized : Terms → Type 0
@@ -98,4 +98,12 @@ RunsByWhatWasRead = (link : Link) (files others : Both (List ℕ)) (ts : List Tu
     → ((role : Role) → IsAllowed (of role link).setup.offer)
     → RunOf (with_files files link) ts ends
     → ((role : Role) → SameSoFar (of role ends).outgoing (of role files) (of role others))
+    → RunOf (with_files others link) ts ends
+
+-- The same, by what is known in the middle of the next turn: once both ends have heard and what they took is handed over.
+abbrev pub RunsByWhatIsReadOn : Type 0
+RunsByWhatIsReadOn = (link : Link) (files others : Both (List ℕ)) (ts : List Turn) (ends : Ends) (t : Turn) (mid : Ends)
+    → ((role : Role) → IsAllowed (of role link).setup.offer)
+    → RunOf (with_files files link) ts ends → Hears (length ts) ends t mid
+    → ((role : Role) → SameSoFar (after_given (delivered (of role mid))).outgoing (of role files) (of role others))
     → RunOf (with_files others link) ts ends

@@ -1,14 +1,17 @@
 //! What holds of all runs. The functions do nothing but name the laws that they rest on: each law is a contract.
 ghost use Rattle.link_run.specs.Alone.{OneLoneRun, LoneHearingsDeliver, LoneSpeakingTakesNothing, EachLoneTurnIsMade};
+ghost use Rattle.link_run.specs.Counts.{CountsByNumber, SentBelowHigh};
 ghost use Rattle.link_run.specs.Laws.{RunsArePlays, HearingsArePlays, TakesPrefixes, HearsPrefixes, DoneIsWhole, HearingsAreWell, BrokenForWant};
 ghost use Rattle.link_run.specs.Laws.{OneRun, OneOutcome, HearingsDeliver, SpeakingTakesNothing, GivesAllBreaks};
 ghost use Rattle.link_run.specs.Laws.{TakesWhatPassed, HearsWhatPassed, SendsShort, EachEndIsNamed, EachTurnIsMade, OffersUntilNoneIsWanted};
 ghost use Rattle.link_run.specs.Overheard.{OpensByFrames, SegmentsPassLater, AgreesByXid, SendsAgreedCheck, HearsAgreedCheck};
-ghost use Rattle.link_run.specs.Reading.{BeginsUnoffered, HearingStaysOffered, SpeakingStaysOffered, OffersWhatIsRead, SegmentsAreTold, OwnSegmentsStay, RunsByWhatWasRead};
+ghost use Rattle.link_run.specs.Reading.{BeginsUnoffered, HearingStaysOffered, SpeakingStaysOffered, OffersWhatIsRead, SegmentsAreTold, OwnSegmentsStay, RunsByWhatWasRead, RunsByWhatIsReadOn};
 ghost use Rattle.link_run.specs.Overheard.{JudgesByItsCheck, ReleasesLast, EarlyBreaksAreIgnored};
 
 use lapm_receiver::laws::keeps_taken;
-use link_account::laws::{acknowledgements, frames_on_the_line, numbers_on_the_line, plays};
+use link_account::laws::{
+    acknowledgements, frames_on_the_line, next_numbers, numbers_on_the_line, plays,
+};
 use xid_params::laws::{reads_allowed, reads_written};
 
 /// Each run over a line, as it goes on and once both ends have heard, is a play of the link.
@@ -179,10 +182,23 @@ pub fn segments_are_offered_as_they_are_read()
     keeps_taken();
 }
 
-/// The users' files count as far as they were read: a run is one of any two files that are the same up to there.
+/// The users' files count as far as they were read: a run is one of any two files that are the same up to there, be that known after its
+/// turns or in the middle of the next.
 pub fn files_count_as_far_as_they_were_read()
-    ensures { RunsByWhatWasRead }
+    ensures read { RunsByWhatWasRead }
+    ensures next { RunsByWhatIsReadOn }
 {
     reads_allowed();
     keeps_taken();
+}
+
+/// Who counts the segments that an end sends by N(S) alone comes to what the meant numbers give: one with the next N(S) is the next one, and
+/// any other was sent before. Those that were sent are all below a number.
+pub fn segments_are_counted_by_their_numbers()
+    ensures turn { CountsByNumber }
+    ensures below { SentBelowHigh }
+{
+    reads_allowed();
+    keeps_taken();
+    next_numbers();
 }
