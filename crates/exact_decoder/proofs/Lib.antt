@@ -1,3 +1,4 @@
+pub mod Rings
 pub mod Subsets
 pub mod Sets
 pub mod Settling

@@ -15,3 +15,4 @@ pub mod Decoder
 pub mod Laws
 pub mod Signs
 pub mod Flips
+pub mod Laps

@@ -4,14 +4,13 @@ ghost use Rattle.exact_decoder.specs.Columns.{sum_in, sums_at, tail_at};
 ghost use Rattle.exact_decoder.specs.Kept.{Kept, AreSums, IsLeastSum, Stepped, Released, Covered};
 ghost use Rattle.exact_decoder.specs.declared.labels.TheConstants.{ROOM};
 
-use crate::advance::advance;
 use crate::back::{labels_back, release};
-use crate::choice::{Choice, are_near, least_of};
+use crate::choice::{are_near, least_of};
+use crate::columns::Columns;
 use crate::entering::enter;
 use crate::labels::Labels;
 use crate::nearest::find_nearest;
-use crate::room::{far_sums, no_sums, ring_of_columns};
-use circular_buffer::HeapCircularBuffer;
+use crate::room::{far_sums, no_sums};
 use std::alloc::{AllocError, Global};
 use std::marker::Model;
 use symbol_map::Sample;
@@ -22,7 +21,7 @@ use trellis_tables::TrellisCode;
 #[derive(Drop)]
 pub struct Survivors<const STATES: usize, const LABELS: usize, const DEPTH: usize> {
     sums: Vec<u64>,
-    ring: HeapCircularBuffer<Vec<Choice>>,
+    ring: Columns,
     unreleased: usize,
     // Whether it is known that a sequence leads to each state.
     near: bool,
@@ -32,15 +31,14 @@ impl<const STATES: usize, const LABELS: usize, const DEPTH: usize> Model
     for Survivors<STATES, LABELS, DEPTH> {
     ghost use Rattle.std.specs.Prelude.{◌≡◌, ◌≤◌, ◌+◌, true, length};
     ghost use Rattle.exact_decoder.specs.Settled.{AreNear};
-    ghost use Rattle.exact_decoder.specs.Traced.{columns_in};
     ghost use Rattle.exact_decoder.specs.Kept.{Kept, kept_of, HoldsColumns};
 
     ghost Value = { Kept };
 
-    ghost view = { λ s. kept_of STATES s.sums.items (columns_in s.ring.items) s.unreleased };
+    ghost view = { λ s. kept_of STATES s.sums.items s.ring s.unreleased };
 
     ghost invariant = { λ s. (s.near ≡ true → AreNear STATES s.sums.items)
-        × (s.ring.capacity ≡ DEPTH + 1) × HoldsColumns STATES LABELS DEPTH s.sums.items (columns_in s.ring.items) s.unreleased };
+        × HoldsColumns STATES LABELS DEPTH s.sums.items s.ring s.unreleased };
 }
 
 impl<const STATES: usize, const LABELS: usize, const DEPTH: usize> Survivors<
@@ -83,7 +81,7 @@ impl<const STATES: usize, const LABELS: usize, const DEPTH: usize> Survivors<
         requires depth { DEPTH ≤ 128 }
         ensures { IfOk result (λ s. s ≡ record { sums = map sum_in sums.items; tails = replicate STATES []; unreleased = 0 }) }
     {
-        let ring = ring_of_columns(alloc, DEPTH + 1, STATES)?;
+        let ring = Columns::new(alloc, DEPTH + 1, STATES)?;
         Ok(Survivors {
             sums,
             ring,
@@ -113,7 +111,8 @@ impl<const STATES: usize, const LABELS: usize, const DEPTH: usize> Survivors<
         enter(code, &self.sums, &nearest, &mut entered);
         let least = least_of::<STATES>(&entered);
         self.near = are_near::<STATES>(self.near, &entered);
-        advance::<STATES, LABELS>(&entered, least, self.near, &mut self.sums, &mut self.ring);
+        self.ring
+            .advance::<STATES, LABELS>(&entered, least, self.near, &mut self.sums);
         self.unreleased += 1;
     }
 

@@ -6,9 +6,9 @@
 //! choices.
 #![tactic(auto)]
 
-mod advance;
 mod back;
 mod choice;
+mod columns;
 mod decoder;
 mod entering;
 mod kept;

@@ -1,6 +1,4 @@
-use Rattle.std.proofs.Common.{map, ◌∙◌, ap, arith}
-use Rattle.std.proofs.lemmas.List.{length-map}
-use Rattle.exact_decoder.specs.Traced.{columns_in}
+use Rattle.std.proofs.Common.{map, ap, arith}
 use Rattle.exact_decoder.specs.Columns.{sum_in}
 use Rattle.exact_decoder.proofs.Keeping.{start-tails}
 use Rattle.exact_decoder.proofs.kept.Survivors.with_sums.Goals as goal
@@ -8,17 +6,16 @@ use Rattle.exact_decoder.proofs.kept.Survivors.with_sums.Goals as goal
 pub invariant_of-result : goal.invariant_of-result
 invariant_of-result g c = (
   λ e. absurd cc,
-  c.in_ok-ring.ensures.capacity,
   record {
     sums_long = c.requires.sums.sums_long;
     states_in = c.requires.sums.states_in;
     bound = c.requires.sums.bound;
     reached = c.requires.sums.reached;
-    columns_long = length-map c.in_ok-ring.ring.items (λ v. v.items) ∙ c.in_ok-ring.ensures.long;
+    columns_long = c.in_ok-ring.ensures.long;
     columns_fit = c.in_ok-ring.ensures.columns g.row.LABELS c.requires.labels;
     within = omega arith;
   },
 )
 
 pub returns : goal.returns
-returns g c = ap (λ l. record { sums = map sum_in c.args.sums.items; tails = l; unreleased = 0 }) (start-tails g.row.STATES (columns_in c.in_ok-ring.ring.items))
+returns g c = ap (λ l. record { sums = map sum_in c.args.sums.items; tails = l; unreleased = 0 }) (start-tails g.row.STATES c.in_ok-ring.ring)
