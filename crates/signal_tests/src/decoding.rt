@@ -287,3 +287,111 @@ fn labels_of_two_starts_are_released(rt: HostRuntime) -> Result<(), NoMemory> {
     assert_eq!(&rt; tail.as_slice(), [1].as_slice());
     Ok(())
 }
+
+/// A code of 80 states in a circle. Each of its 80 labels leads as many states on.
+#[derive(Clone, Copy, Debug)]
+struct Laps;
+
+impl TrellisCode<80, 80> for Laps {
+    ghost use Rattle.std.proofs.Common.{lit≤, refl};
+    ghost use Rattle.exact_decoder.specs.Laps.{laps_next, laps_bounded, laps_within, laps_enters_once, laps_reaches, laps_before, laps_subset, laps_ways_within, laps_ways_lead, laps_ways_all, laps_point, laps_differ};
+
+    const REACH: usize = 1;
+
+    ghost REACH = { 1 };
+
+    const PARALLEL: usize = 1;
+
+    ghost PARALLEL = { 1 };
+
+    const SUBSETS: usize = 80;
+
+    ghost SUBSETS = { 80 };
+
+    const WAYS: usize = 80;
+
+    ghost WAYS = { 80 };
+
+    ghost way_before = { laps_before };
+
+    ghost way_subset = { laps_subset };
+
+    ghost table = { laps_next };
+
+    ghost points = { laps_point };
+
+    fn next(&self, state: u8, label: u8) -> Option<u8> {
+        Some((state + label) % 80)
+    }
+
+    fn before(&self, state: u8, label: u8) -> Option<u8> {
+        Some((state + 80 - label) % 80)
+    }
+
+    fn point(&self, label: u8) -> Sample {
+        let re = if label == 79 {
+            10_000
+        } else {
+            i16::from(label)
+        };
+        Sample { re, im: 0 }
+    }
+
+    fn way(&self, state: u8, place: u8) -> Way {
+        Way {
+            before: (state + 80 - place) % 80,
+            subset: place,
+        }
+    }
+
+    ghost states_few = { (lit≤ tt, lit≤ tt) };
+
+    ghost labels_few = { (lit≤ tt, lit≤ tt) };
+
+    ghost reach_some = { lit≤ tt };
+
+    ghost reach_few = { lit≤ tt };
+
+    ghost bounded = { laps_bounded };
+
+    ghost within = { laps_within };
+
+    ghost enters_once = { laps_enters_once };
+
+    ghost reaches = { laps_reaches };
+
+    ghost points_differ = { laps_differ };
+
+    ghost parallel_some = { lit≤ tt };
+
+    ghost ways_some = { lit≤ tt };
+
+    ghost ways_few = { lit≤ tt };
+
+    ghost subsets_fill = { refl };
+
+    ghost ways_within = { laps_ways_within };
+
+    ghost ways_lead = { laps_ways_lead };
+
+    ghost ways_all = { laps_ways_all };
+}
+
+// More states than a word has bits. Each end state but one has one label that was not sent, and of equal costs that is the last one; so all
+// labels but the last are released.
+#[test]
+fn codes_may_have_many_states(rt: HostRuntime) -> Result<(), NoMemory> {
+    let sent = Sample { re: 10_000, im: 0 };
+    let mut decoder: Decoder<Laps, 80, 80, 2> = Decoder::new(rt.alloc(), Laps, 70)?;
+    assert!(&rt; decoder.push(sent).is_ok());
+    assert_eq!(&rt; decoder.pending(), 0);
+    assert!(&rt; decoder.push(sent).is_ok());
+    assert_eq!(&rt; decoder.take(), Some(79));
+    assert_eq!(&rt; decoder.pending(), 0);
+    assert!(&rt; decoder.push(sent).is_ok());
+    assert_eq!(&rt; decoder.take(), Some(79));
+    assert_eq!(&rt; decoder.pending(), 0);
+    let tail = decoder.finish();
+    assert_eq!(&rt; tail.as_slice(), [79].as_slice());
+    Ok(())
+}

@@ -12,6 +12,8 @@ mod differences;
 #[cfg(test)]
 mod modulation;
 #[cfg(test)]
+mod picked_up;
+#[cfg(test)]
 mod points;
 #[cfg(test)]
 mod recorded;

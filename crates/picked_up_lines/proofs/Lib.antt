@@ -1,0 +1,5 @@
+pub mod Quads
+pub mod Late
+pub mod Middle
+pub mod Taking
+pub mod Readers

@@ -1,0 +1,78 @@
+-- Quads behind the first one don't depend on what stood before, nor on a turn.
+use Rattle.std.proofs.Common.{◌≡◌, ◌∙◌, ℕ, zero, suc, ◌+◌, ◌-◌, ◌*◌, ◌%◌, ◌<◌, ◌≤◌, List, [], ◌∷◌, length, map, drop, get_or, nat_eq, false, refl, sym, ap, arith}
+use Rattle.std.specs.List.{flat_map}
+use Rattle.std.proofs.Math.Seq.{drop-nil}
+use Rattle.std.proofs.lemmas.Bool.Decides.{nat_tests}
+use Rattle.std.proofs.lemmas.List.{ext_get_or, get_or-drop, length-drop, length-map}
+use Rattle.plain_lists.specs.Bits.{low_bits}
+use Rattle.differential.specs.Turned.{unturned_at, before}
+use Rattle.symbol_map.specs.Labels.{y_of, q3q4_of}
+use Rattle.symbol_map.specs.Laws.{turned_label}
+use Rattle.trellis_tables.specs.Quads.{quad_of}
+use Rattle.trellis_tables.specs.LabelReader.{quad_at, quads_of}
+use Rattle.trellis_tables.proofs.Readings.{length-quads_of, get_or-quads_of, get_or-map, quads_of-turned}
+
+-- turned labels have the same quads but for the first
+pub quads-turned : (labels : List ℕ) → drop 1 (quads_of (map turned_label labels)) ≡ drop 1 (quads_of labels)
+quads-turned labels = ext_get_or 0 (drop 1 (quads_of (map turned_label labels))) (drop 1 (quads_of labels)) long (λ i within. each i within)
+  where
+    counts : length (quads_of (map turned_label labels)) ≡ length labels
+    counts = length-quads_of (map turned_label labels) ∙ length-map labels turned_label
+
+    long : length (drop 1 (quads_of (map turned_label labels))) ≡ length (drop 1 (quads_of labels))
+    long = omega (arith, counts, length-quads_of labels, length-drop 1 (quads_of (map turned_label labels)), length-drop 1 (quads_of labels))
+
+    each : (i : ℕ) → i < length (drop 1 (quads_of (map turned_label labels))) → get_or (drop 1 (quads_of (map turned_label labels))) i 0 ≡ get_or (drop 1 (quads_of labels)) i 0
+    each i within =
+        get_or-drop 1 (quads_of (map turned_label labels)) i 0
+        ∙ quads_of-turned labels (1 + i) (omega arith) (omega (arith, counts, length-drop 1 (quads_of (map turned_label labels))))
+        ∙ sym (get_or-drop 1 (quads_of labels) i 0)
+
+-- the y before a place behind the first
+before-some : (y : List ℕ) (n : ℕ) → 1 ≤ n → before y n ≡ get_or y (n - 1) 0
+before-some y n l = let no : nat_eq n 0 ≡ false = grind (arith, nat_tests) in rw no refl
+
+-- the quad at a place behind the first
+quad-behind : (labels : List ℕ) (n i : ℕ) → n + (i + 1) < length labels → quad_at (drop n labels) (i + 1) ≡ quad_at labels (n + (i + 1))
+quad-behind labels n i l =
+    let more : i + 1 < length (drop n labels) = omega (arith, length-drop n labels) in
+    let less : i < length (drop n labels) = omega (arith, length-drop n labels) in
+    let here : get_or (map y_of (drop n labels)) (i + 1) 0 ≡ get_or (map y_of labels) (n + (i + 1)) 0 =
+    get_or-map y_of (drop n labels) (i + 1) more ∙ ap y_of (get_or-drop n labels (i + 1) 0) ∙ sym (get_or-map y_of labels (n + (i + 1)) l) in
+    let one : i + 1 - 1 ≡ i = omega arith in
+    let other : n + (i + 1) - 1 ≡ n + i = omega arith in
+    let last : before (map y_of (drop n labels)) (i + 1) ≡ before (map y_of labels) (n + (i + 1)) =
+    before-some (map y_of (drop n labels)) (i + 1) (omega arith) ∙ ap (λ k. get_or (map y_of (drop n labels)) k 0) one
+    ∙ get_or-map y_of (drop n labels) i less ∙ ap y_of (get_or-drop n labels i 0) ∙ sym (get_or-map y_of labels (n + i) (omega arith))
+    ∙ ap (λ k. get_or (map y_of labels) k 0) (sym other) ∙ sym (before-some (map y_of labels) (n + (i + 1)) (omega arith)) in
+    ap (λ a. quad_of ((a + 4 - before (map y_of (drop n labels)) (i + 1)) % 4) (q3q4_of (get_or (drop n labels) (i + 1) 0))) here
+    ∙ ap (λ b. quad_of ((get_or (map y_of labels) (n + (i + 1)) 0 + 4 - b) % 4) (q3q4_of (get_or (drop n labels) (i + 1) 0))) last
+    ∙ ap (λ q. quad_of (unturned_at (map y_of labels) (n + (i + 1))) (q3q4_of q)) (get_or-drop n labels (i + 1) 0)
+
+-- the quads of the last labels, but for the first of them
+pub quads-drop : (labels : List ℕ) (n : ℕ) → drop 1 (quads_of (drop n labels)) ≡ drop (n + 1) (quads_of labels)
+quads-drop labels n = ext_get_or 0 (drop 1 (quads_of (drop n labels))) (drop (n + 1) (quads_of labels)) long (λ i within. each i within)
+  where
+    counts : length (quads_of (drop n labels)) ≡ length labels - n
+    counts = length-quads_of (drop n labels) ∙ length-drop n labels
+
+    long : length (drop 1 (quads_of (drop n labels))) ≡ length (drop (n + 1) (quads_of labels))
+    long = omega (arith, counts, length-quads_of labels, length-drop 1 (quads_of (drop n labels)), length-drop (n + 1) (quads_of labels))
+
+    each : (i : ℕ) → i < length (drop 1 (quads_of (drop n labels))) → get_or (drop 1 (quads_of (drop n labels))) i 0 ≡ get_or (drop (n + 1) (quads_of labels)) i 0
+    each i within =
+        let inside : n + (i + 1) < length labels = omega (arith, counts, length-drop 1 (quads_of (drop n labels))) in
+        let order : 1 + i ≡ i + 1 = omega arith in
+        let place : n + (i + 1) ≡ n + 1 + i = omega arith in
+        get_or-drop 1 (quads_of (drop n labels)) i 0 ∙ ap (λ k. get_or (quads_of (drop n labels)) k 0) order
+        ∙ get_or-quads_of (drop n labels) (i + 1) (omega (arith, length-drop n labels)) ∙ quad-behind labels n i inside
+        ∙ sym (get_or-quads_of labels (n + (i + 1)) inside) ∙ ap (λ k. get_or (quads_of labels) k 0) place
+        ∙ sym (get_or-drop (n + 1) (quads_of labels) i 0)
+
+-- fours of bits behind the first ones
+pub fours-drop : (n : ℕ) (quads : List ℕ) → flat_map (low_bits 4) (drop n quads) ≡ drop (4 * n) (flat_map (low_bits 4) quads)
+fours-drop zero quads = refl
+fours-drop (suc n) [] = sym (drop-nil (4 * suc n))
+fours-drop (suc n) (quad ∷ quads) =
+    let four : 4 * suc n ≡ suc (suc (suc (suc (4 * n)))) = omega arith in
+    fours-drop n quads ∙ sym (ap (λ m. drop m (flat_map (low_bits 4) (quad ∷ quads))) four)

@@ -1,0 +1,3 @@
+pub mod PickedUp
+pub mod Reading
+pub mod Laws
