@@ -10,7 +10,7 @@ use Rattle.detection.specs.Patterns.{seen_at}
 use Rattle.detection.specs.Sights.{Sight, sights_at, sights_before, sights_of}
 use Rattle.std.specs.Option.{option_map, option_map_or}
 use Rattle.bit_stuffing.specs.declared.piece.Piece.{Piece}
-use Rattle.bit_stuffing.specs.declared.piece.Piece.TheVariants.{Whole}
+use Rattle.bit_stuffing.specs.declared.piece.Piece.TheVariants.{Whole, Ragged, Aborted, TooLong, TooShort}
 use Rattle.bit_stuffing.specs.Found.{Found, found_at, listed, pieces_of}
 use Rattle.bit_stuffing.specs.Sent.{wholes, octets_if_whole}
 use Rattle.bit_stuffing.proofs.Found.{pieces-more}
@@ -98,3 +98,16 @@ found-none check sender dlci bits = record {
   sights_are = sym (append-nil (sights_of bits));
   patterns_are = refl;
 }
+
+-- where no whole piece ends there is no frame
+pub no-frames : (check : Check) (sender : Role) (dlci : ℕ) (found : Option Found) → (option_map (λ (f : Found). f.piece) found ≡ Some Whole → ⊥)
+    → AreFrames check sender dlci (wholes (listed found)) []
+no-frames check sender dlci None other = refl
+no-frames check sender dlci (Some found) other = go found.piece refl
+  where
+    go : (piece : Piece) → found.piece ≡ piece → AreFrames check sender dlci (octets_if_whole piece found.octets ++ []) []
+    go Whole e = absurd (other (ap Some e))
+    go Ragged e = refl
+    go Aborted e = refl
+    go TooLong e = refl
+    go TooShort e = refl

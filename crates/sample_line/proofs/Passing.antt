@@ -63,7 +63,7 @@ pub slot-passes : (script : ScriptValue) (line : Kept) (path : Path) (passed : L
     → bits ≡ bits_behind (4 * line.writer.symbols) passed signal
     → path.transmitter.sender ≡ line.path.transmitter.sender
     → CarriesBetween path script (signal_bits (4 * line.writer.symbols) passed ++ bits) check line.path.transmitter.sender dlci s stands.read tally
-    → path.hearer.decoder.lost ≡ None → path.hearer.decoder.pending ≡ []
+    → path.hearer.reader.decoder.lost ≡ None → path.hearer.reader.decoder.pending ≡ []
     → ((frames : List Frame) (patterns : List Seen) → Tallies s frames patterns tally → IsOutcome loses s frames patterns heard)
     → PassesSlot (kept line.writer (line.passed + 1) path) script passed signal waiting check dlci loses s heard
 slot-passes script line path passed signal waiting check dlci loses s bits tally heard stands e sender_is found not_lost taken outcome =
@@ -105,8 +105,8 @@ pub line-heard : (script : ScriptValue) (line : Kept) (passed waiting : List Sig
     × DecoderStands next_state point_of (λ state. nat_eq state 0) line_depth (decoder_of line) samples taken × ((decoder_of line).pending ≡ [])
 line-heard script line passed waiting h = (
   h.carries.samples,
-  h.carries.hears.labels,
+  h.carries.hears.reader.labels,
   recorded line.path.transmitter script (signal_bits (size_of line) passed) h.carries.samples h.carries.transmits,
-  h.carries.hears.decoder,
+  h.carries.hears.reader.decoder,
   h.all_taken,
 )

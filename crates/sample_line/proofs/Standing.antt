@@ -50,12 +50,12 @@ recorded transmitter script bits samples h = record {
 
 -- where each released label was taken, what was read is what the samples give
 pub gives : (sender : Role) (hearer : Hearer) (samples : List Sample) (read : List Bool) → Hears (mode_of sender) hearer samples read
-    → hearer.decoder.lost ≡ None → hearer.decoder.pending ≡ [] → Gives sender samples read
+    → hearer.reader.decoder.lost ≡ None → hearer.reader.decoder.pending ≡ [] → Gives sender samples read
 gives sender hearer samples read h not_lost taken = record {
-  labels = h.labels;
-  released = subst (λ (xs : List Sample). IsReleased line_trellis xs h.labels) (ap (λ l. heard l samples) not_lost)
-      (subst (λ (xs : List ℕ). IsReleased line_trellis (heard hearer.decoder.lost samples) xs) (ap (λ p. h.labels ++ p) taken ∙ append-nil h.labels) h.decoder.released);
-  read = demodulated (mode_of sender) hearer.receiver.demodulator h.labels read h.receiver.demodulator;
+  labels = h.reader.labels;
+  released = subst (λ (xs : List Sample). IsReleased line_trellis xs h.reader.labels) (ap (λ l. heard l samples) not_lost)
+      (subst (λ (xs : List ℕ). IsReleased line_trellis (heard hearer.reader.decoder.lost samples) xs) (ap (λ p. h.reader.labels ++ p) taken ∙ append-nil h.reader.labels) h.reader.decoder.released);
+  read = demodulated (mode_of sender) hearer.reader.demodulator h.reader.labels read h.reader.demodulator;
 }
 
 -- one more quad of a slot

@@ -29,7 +29,7 @@ abbrev pub sender_of : Kept → Role
 sender_of line = line.path.transmitter.sender
 
 abbrev pub decoder_of : Kept → Decoding
-decoder_of line = line.path.hearer.decoder
+decoder_of line = line.path.hearer.reader.decoder
 
 -- how many bits a slot has
 abbrev pub size_of : Kept → ℕ
@@ -42,8 +42,8 @@ pub record LineStands (line : Kept) (script : ScriptValue) (passed waiting : Lis
   pub slots : line.passed ≡ length passed
   pub read : List Bool
   pub carries : Carries line.path script (signal_bits (size_of line) passed) read
-  pub not_lost : line.path.hearer.decoder.lost ≡ None
-  pub all_taken : line.path.hearer.decoder.pending ≡ []
+  pub not_lost : line.path.hearer.reader.decoder.lost ≡ None
+  pub all_taken : line.path.hearer.reader.decoder.pending ≡ []
 
 -- the bits of a slot behind these
 abbrev pub bits_behind : ℕ → List Signal → Signal → List Bool

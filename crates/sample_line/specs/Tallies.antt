@@ -1,5 +1,5 @@
 -- What was received in a slot so far, beside what was sent in it.
-use Rattle.std.specs.Prelude.{ℕ, Bool, true, false, List}
+use Rattle.std.specs.Prelude.{ℕ, Bool, true, false, List, ◌++◌, Option, IfSome, IfNone, option_to_list}
 use Rattle.frame_check.specs.declared.check.Check.{Check}
 use Rattle.roles.specs.declared.role.Role.{Role}
 use Rattle.lapm_frames.specs.declared.frame.Frame.{Frame}
@@ -10,7 +10,10 @@ use Rattle.slot_contents.specs.declared.sent.Sent.TheVariants as sent
 use Rattle.sample_line.specs.declared.tally.Tally.{Tally}
 use Rattle.sample_line.specs.declared.tally.Tally.TheVariants.{Silent, AsSent, Other}
 use Rattle.sample_line.specs.Outcomes.{IsSilent, IsWhatWasSent}
-use Rattle.sample_line.specs.Received.{FoundBetween}
+use Rattle.bit_stuffing.specs.Found.{found_at, listed}
+use Rattle.bit_stuffing.specs.Sent.{wholes}
+use Rattle.lapm_frames.specs.Checked.{SpellsFrame}
+use Rattle.sample_line.specs.Received.{AreFrames, FoundBetween}
 
 -- these frames and patterns were received
 abbrev pub Tallies : Sent → List Frame → List Seen → Tally → Type 0
@@ -42,6 +45,19 @@ after_pattern false Silent = Other
 after_pattern true AsSent = AsSent
 after_pattern false AsSent = Other
 after_pattern carried Other = Other
+
+-- The frame that a whole piece spells, if it spells one, is tallied behind these.
+pub record WholeIsTallied (check : Check) (sender : Role) (dlci : ℕ) (s : Sent) (whole : List ℕ) (frames : List Frame) (patterns : List Seen) (tally : Tally) : Type 0 where
+  pub frame : Option Frame
+  pub some : IfSome frame (SpellsFrame check sender dlci whole)
+  pub none : IfNone frame ((other : Frame) → SpellsFrame check sender dlci whole other → ⊥)
+  pub tallies : Tallies s (frames ++ option_to_list frame) patterns tally
+
+-- And so is the frame that ends with these bits.
+pub record BitIsTallied (check : Check) (sender : Role) (dlci : ℕ) (s : Sent) (bits : List Bool) (frames : List Frame) (patterns : List Seen) (tally : Tally) : Type 0 where
+  pub frame : Option Frame
+  pub found : AreFrames check sender dlci (wholes (listed (found_at bits))) (option_to_list frame)
+  pub tallies : Tallies s (frames ++ option_to_list frame) patterns tally
 
 -- What was found behind the earlier bits is tallied.
 pub record TalliesBetween (check : Check) (sender : Role) (dlci : ℕ) (s : Sent) (earlier later : List Bool) (tally : Tally) : Type 0 where

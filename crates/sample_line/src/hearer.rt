@@ -4,9 +4,10 @@ ghost use Rattle.scramblers.specs.declared.mode.Mode.{Mode};
 ghost use Rattle.symbol_map.specs.declared.sample.Sample.{Sample};
 ghost use Rattle.sample_line.specs.Hears.{Hears, HearsBetween, HearsSample};
 
-use crate::receiver::{Receiver, Slot};
+use crate::receiver::{Finder, Slot};
 use crate::tally::Tally;
 use exact_decoder::{Decoder, Lost};
+use line_decoding::SampleReader;
 use outside_core::NoMemory;
 use scramblers::Mode;
 use std::alloc::Global;
@@ -19,24 +20,24 @@ pub const DEPTH: usize = 128;
 /// The decoder of a line.
 pub type LineDecoder = Decoder<V32Code, 8, 32, DEPTH>;
 
-/// The decoder, and what reads the labels that it releases.
+/// What reads the samples, and what finds frames and patterns in their bits.
 #[derive(Drop)]
 pub(crate) struct Hearer {
-    pub decoder: LineDecoder,
-    receiver: Receiver,
+    pub reader: SampleReader<DEPTH>,
+    finder: Finder,
 }
 
 impl Hearer {
     /// A hearer before its first sample.
     pub fn new(alloc: Global, mode: Mode) -> Result<Hearer, NoMemory>
-        ensures count { IfOk result (λ hearer. hearer.decoder.count ≡ 0) }
-        ensures pending { IfOk result (λ hearer. hearer.decoder.pending ≡ []) }
-        ensures lost { IfOk result (λ hearer. hearer.decoder.lost ≡ None) }
+        ensures count { IfOk result (λ hearer. hearer.reader.decoder.count ≡ 0) }
+        ensures pending { IfOk result (λ hearer. hearer.reader.decoder.pending ≡ []) }
+        ensures lost { IfOk result (λ hearer. hearer.reader.decoder.lost ≡ None) }
         ensures stands { IfOk result (λ hearer. Hears mode hearer [] []) }
     {
         Ok(Hearer {
-            decoder: Decoder::new(alloc, V32Code, 0)?,
-            receiver: Receiver::new(mode),
+            reader: SampleReader::new(alloc, mode)?,
+            finder: Finder::new(),
         })
     }
 
@@ -46,12 +47,12 @@ impl Hearer {
         ensures stands { (mode : Mode) (samples : List Sample) (earlier : List Bool)
             → HearsBetween mode self.old samples slot.entry.check slot.entry.sender slot.entry.dlci slot.entry.sent.now earlier tally
             → HearsBetween mode self.new samples slot.entry.check slot.entry.sender slot.entry.dlci slot.entry.sent.now earlier result }
-        ensures pending { self.new.decoder.pending ≡ drop 1 self.old.decoder.pending }
-        ensures count { self.new.decoder.count ≡ self.old.decoder.count }
-        ensures lost { self.new.decoder.lost ≡ self.old.decoder.lost }
+        ensures pending { self.new.reader.decoder.pending ≡ drop 1 self.old.reader.decoder.pending }
+        ensures count { self.new.reader.decoder.count ≡ self.old.reader.decoder.count }
+        ensures lost { self.new.reader.decoder.lost ≡ self.old.reader.decoder.lost }
     {
-        match self.decoder.take() {
-            Some(label) => self.receiver.push(label, slot, tally),
+        match self.reader.take() {
+            Some(four) => self.finder.push_four(four, slot, tally),
             None => tally,
         }
     }
@@ -62,12 +63,12 @@ impl Hearer {
         ensures stands { (mode : Mode) (samples : List Sample) (earlier : List Bool)
             → HearsBetween mode self.old samples slot.entry.check slot.entry.sender slot.entry.dlci slot.entry.sent.now earlier tally
             → HearsBetween mode self.new samples slot.entry.check slot.entry.sender slot.entry.dlci slot.entry.sent.now earlier result }
-        ensures pending { self.new.decoder.pending ≡ [] }
-        ensures count { self.new.decoder.count ≡ self.old.decoder.count }
-        ensures lost { self.new.decoder.lost ≡ self.old.decoder.lost }
+        ensures pending { self.new.reader.decoder.pending ≡ [] }
+        ensures count { self.new.reader.decoder.count ≡ self.old.reader.decoder.count }
+        ensures lost { self.new.reader.decoder.lost ≡ self.old.reader.decoder.lost }
     {
         let mut tally = tally;
-        for _ in 0..self.decoder.pending() {
+        for _ in 0..self.reader.pending() {
             tally = self.read_label(slot, tally);
         }
         tally
@@ -76,17 +77,17 @@ impl Hearer {
     /// The tally once one sample more was heard, and each label that it releases was read.
     pub fn hear(&mut self, sample: Sample, slot: Slot<'_>, tally: Tally) -> Result<Tally, Lost>
         requires channel { slot.dlci < 64 }
-        requires pending { self.old.decoder.pending ≡ [] }
-        requires count { self.old.decoder.count < 2 ^ 56 }
+        requires pending { self.old.reader.decoder.pending ≡ [] }
+        requires count { self.old.reader.decoder.count < 2 ^ 56 }
         ensures stands { (mode : Mode) (samples : List Sample) (earlier : List Bool)
             → HearsBetween mode self.old samples slot.entry.check slot.entry.sender slot.entry.dlci slot.entry.sent.now earlier tally
             → HearsSample mode self.new (samples ++ sample ∷ []) slot.entry.check slot.entry.sender slot.entry.dlci slot.entry.sent.now earlier result }
-        ensures pending { OnOk result (self.new.decoder.pending ≡ []) }
-        ensures lost { OnOk result (self.new.decoder.lost ≡ None) }
-        ensures taken { self.new.decoder.lost ≡ None → self.new.decoder.pending ≡ [] }
-        ensures count { self.new.decoder.count ≤ self.old.decoder.count + 1 }
+        ensures pending { OnOk result (self.new.reader.decoder.pending ≡ []) }
+        ensures lost { OnOk result (self.new.reader.decoder.lost ≡ None) }
+        ensures taken { self.new.reader.decoder.lost ≡ None → self.new.reader.decoder.pending ≡ [] }
+        ensures count { self.new.reader.decoder.count ≤ self.old.reader.decoder.count + 1 }
     {
-        self.decoder.push(sample)?;
+        self.reader.push(sample)?;
         Ok(self.read_labels(slot, tally))
     }
 }

@@ -51,8 +51,8 @@ impl Model for Line {
     ghost view = { λ l. record { writer = l.writer; passed = l.passed; path = l.path } };
 
     ghost invariant = { λ l. (l.symbols ≡ l.writer.symbols) × (HEAD + TAIL < l.symbols) × (l.symbols ≤ SLOT)
-        × (l.path.transmitter.symbol ≤ SLOT * l.passed) × (l.path.hearer.decoder.count ≤ SLOT * l.passed)
-        × (l.path.hearer.decoder.lost ≡ None → l.path.hearer.decoder.pending ≡ []) };
+        × (l.path.transmitter.symbol ≤ SLOT * l.passed) × (l.path.hearer.reader.decoder.count ≤ SLOT * l.passed)
+        × (l.path.hearer.reader.decoder.lost ≡ None → l.path.hearer.reader.decoder.pending ≡ []) };
 }
 
 impl Line {
@@ -142,6 +142,6 @@ impl Line {
             × DecoderStands next_state point_of (λ state. nat_eq state 0) line_depth result.now samples taken × (result.now.pending ≡ []) }
         ensures taken { result.now.lost ≡ None → result.now.pending ≡ [] }
     {
-        &self.path.hearer.decoder
+        self.path.hearer.reader.decoder()
     }
 }

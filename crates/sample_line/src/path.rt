@@ -29,9 +29,9 @@ impl Path {
     pub fn new(alloc: Global, sender: Role) -> Result<Path, NoMemory>
         ensures sender { IfOk result (λ path. path.transmitter.sender ≡ sender) }
         ensures symbol { IfOk result (λ path. path.transmitter.symbol ≡ 0) }
-        ensures count { IfOk result (λ path. path.hearer.decoder.count ≡ 0) }
-        ensures pending { IfOk result (λ path. path.hearer.decoder.pending ≡ []) }
-        ensures lost { IfOk result (λ path. path.hearer.decoder.lost ≡ None) }
+        ensures count { IfOk result (λ path. path.hearer.reader.decoder.count ≡ 0) }
+        ensures pending { IfOk result (λ path. path.hearer.reader.decoder.pending ≡ []) }
+        ensures lost { IfOk result (λ path. path.hearer.reader.decoder.lost ≡ None) }
         ensures stands { IfOk result (λ path. (script : ScriptValue) → Carries path script [] []) }
     {
         Ok(Path {
@@ -51,17 +51,17 @@ impl Path {
         requires channel { slot.dlci < 64 }
         requires quad { quad < 16 }
         requires symbol { self.old.transmitter.symbol < 2 ^ 55 }
-        requires count { self.old.hearer.decoder.count < 2 ^ 55 }
-        requires pending { self.old.hearer.decoder.pending ≡ [] }
+        requires count { self.old.hearer.reader.decoder.count < 2 ^ 55 }
+        requires pending { self.old.hearer.reader.decoder.pending ≡ [] }
         ensures arrives { (bits earlier : List Bool)
             → CarriesBetween self.old script.now bits slot.entry.check slot.entry.sender slot.entry.dlci slot.entry.sent.now earlier tally
             → Arrives self.new script.now (bits ++ low_bits 4 quad) slot.entry.check slot.entry.sender slot.entry.dlci slot.entry.sent.now earlier result }
         ensures sender { self.new.transmitter.sender ≡ self.old.transmitter.sender }
         ensures symbol { self.new.transmitter.symbol ≡ self.old.transmitter.symbol + 1 }
-        ensures count { self.new.hearer.decoder.count ≤ self.old.hearer.decoder.count + 1 }
-        ensures pending { OnOk result (self.new.hearer.decoder.pending ≡ []) }
-        ensures lost { OnOk result (self.new.hearer.decoder.lost ≡ None) }
-        ensures taken { self.new.hearer.decoder.lost ≡ None → self.new.hearer.decoder.pending ≡ [] }
+        ensures count { self.new.hearer.reader.decoder.count ≤ self.old.hearer.reader.decoder.count + 1 }
+        ensures pending { OnOk result (self.new.hearer.reader.decoder.pending ≡ []) }
+        ensures lost { OnOk result (self.new.hearer.reader.decoder.lost ≡ None) }
+        ensures taken { self.new.hearer.reader.decoder.lost ≡ None → self.new.hearer.reader.decoder.pending ≡ [] }
     {
         let sample = self.transmitter.send(script, quad);
         self.hearer.hear(sample, slot, tally)
@@ -71,17 +71,17 @@ impl Path {
     pub fn pass(&mut self, script: &Script, bits: &BitSlot, slot: Slot<'_>) -> Result<Tally, Lost>
         requires channel { slot.dlci < 64 }
         requires symbol { self.old.transmitter.symbol < 2 ^ 54 }
-        requires count { self.old.hearer.decoder.count < 2 ^ 54 }
-        requires pending { self.old.hearer.decoder.pending ≡ [] }
-        requires lost { self.old.hearer.decoder.lost ≡ None }
+        requires count { self.old.hearer.reader.decoder.count < 2 ^ 54 }
+        requires pending { self.old.hearer.reader.decoder.pending ≡ [] }
+        requires lost { self.old.hearer.reader.decoder.lost ≡ None }
         ensures passes { (before earlier : List Bool) → Carries self.old script.now before earlier
             → PassesBits self.new script.now before (line_bits bits.now) slot.entry.check slot.entry.sender slot.entry.dlci slot.entry.sent.now earlier result }
         ensures sender { self.new.transmitter.sender ≡ self.old.transmitter.sender }
         ensures symbol { self.new.transmitter.symbol ≤ self.old.transmitter.symbol + SLOT }
-        ensures count { self.new.hearer.decoder.count ≤ self.old.hearer.decoder.count + SLOT }
-        ensures pending { OnOk result (self.new.hearer.decoder.pending ≡ []) }
-        ensures lost { OnOk result (self.new.hearer.decoder.lost ≡ None) }
-        ensures taken { self.new.hearer.decoder.lost ≡ None → self.new.hearer.decoder.pending ≡ [] }
+        ensures count { self.new.hearer.reader.decoder.count ≤ self.old.hearer.reader.decoder.count + SLOT }
+        ensures pending { OnOk result (self.new.hearer.reader.decoder.pending ≡ []) }
+        ensures lost { OnOk result (self.new.hearer.reader.decoder.lost ≡ None) }
+        ensures taken { self.new.hearer.reader.decoder.lost ≡ None → self.new.hearer.reader.decoder.pending ≡ [] }
     {
         let mut tally = Tally::Silent;
         for place in 0..bits.len() {

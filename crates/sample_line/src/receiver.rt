@@ -1,23 +1,19 @@
-// The receiver behind the decoder: labels to bits, and what is found in them.
-ghost use Rattle.std.specs.Prelude.{◌≡◌, ◌<◌, ℕ, Bool, List, [], ◌∷◌, ◌++◌, option_to_list};
+// The receiver behind the decoder: what is found in the bits.
+ghost use Rattle.std.specs.Prelude.{◌≡◌, ◌<◌, true, false, Some, ℕ, Bool, List, [], ◌∷◌, ◌++◌};
 ghost use Rattle.plain_lists.specs.Bits.{low_bits};
-ghost use Rattle.scramblers.specs.declared.mode.Mode.{Mode};
 ghost use Rattle.bit_stuffing.specs.Deframer.{DeframerStands};
-ghost use Rattle.bit_stuffing.specs.Found.{found_at, listed};
-ghost use Rattle.bit_stuffing.specs.Sent.{wholes};
-ghost use Rattle.sample_line.specs.Received.{AreFrames};
-ghost use Rattle.sample_line.specs.Tallies.{TalliesBetween};
-ghost use Rattle.sample_line.specs.Receiver.{HasRead, ReceiverStands, ReadsLabel};
+ghost use Rattle.bit_stuffing.specs.declared.piece.Piece.{Piece};
+ghost use Rattle.lapm_frames.specs.declared.frame.Frame.{Frame};
+ghost use Rattle.slot_contents.specs.declared.seen.Seen.{Seen};
+ghost use Rattle.sample_line.specs.Tallies.{BitIsTallied, Tallies, TalliesBetween, WholeIsTallied};
+ghost use Rattle.sample_line.specs.Receiver.{HasRead};
 
 use crate::checks::frame_in;
 use crate::tally::Tally;
 use bit_stuffing::{Deframer, Piece};
 use detection::PatternReader;
 use frame_check::Check;
-use lapm_frames::Frame;
-use line_coding::Demodulator;
 use roles::Role;
-use scramblers::Mode;
 use slot_contents::Sent;
 
 /// What is known of the slot that is received: what was sent in it, and how its receiver judges frames.
@@ -29,16 +25,37 @@ pub(crate) struct Slot<'a> {
     pub dlci: u8,
 }
 
-/// The frame that ends with the next bit.
-fn frame_at(deframer: &mut Deframer, bit: bool, slot: Slot<'_>) -> Option<Frame>
+/// Whether a whole piece ends here.
+fn is_whole(piece: Option<Piece>) -> bool
+    ensures yes { result ≡ true → piece ≡ Some Piece.Whole }
+    ensures no { result ≡ false → piece ≡ Some Piece.Whole → ⊥ }
+{
+    matches!(piece, Some(Piece::Whole))
+}
+
+/// The tally once the frame that stands in a whole piece, if one does, was received. A frame has room for the longest information: what each bit
+/// goes through has no part in that.
+fn with_whole(whole: &[u8], slot: Slot<'_>, tally: Tally) -> Tally
+    requires { slot.dlci < 64 }
+    ensures { (frames : List Frame) (patterns : List Seen) → Tallies slot.entry.sent.now frames patterns tally
+        → WholeIsTallied slot.entry.check slot.entry.sender slot.entry.dlci slot.entry.sent.now whole.now frames patterns result }
+{
+    let frame = frame_in(whole, slot.check, slot.sender, slot.dlci);
+    tally.with_frame(slot.sent, frame)
+}
+
+/// The tally once the deframer took one bit more: with the frame that ends there, if one does.
+fn with_bit(deframer: &mut Deframer, bit: bool, slot: Slot<'_>, tally: Tally) -> Tally
     requires { slot.dlci < 64 }
     ensures stands { (bits : List Bool) → DeframerStands deframer.old bits → DeframerStands deframer.new (bits ++ bit ∷ []) }
-    ensures frame { (bits : List Bool) → DeframerStands deframer.old bits
-        → AreFrames slot.entry.check slot.entry.sender slot.entry.dlci (wholes (listed (found_at (bits ++ bit ∷ [])))) (option_to_list result) }
+    ensures frame { (bits : List Bool) (frames : List Frame) (patterns : List Seen) → DeframerStands deframer.old bits
+        → Tallies slot.entry.sent.now frames patterns tally
+        → BitIsTallied slot.entry.check slot.entry.sender slot.entry.dlci slot.entry.sent.now (bits ++ bit ∷ []) frames patterns result }
 {
-    match deframer.push(bit) {
-        Some(Piece::Whole) => frame_in(deframer.whole(), slot.check, slot.sender, slot.dlci),
-        _ => None,
+    if is_whole(deframer.push(bit)) {
+        with_whole(deframer.whole(), slot, tally)
+    } else {
+        tally
     }
 }
 
@@ -69,14 +86,12 @@ impl Finder {
             → TalliesBetween slot.entry.check slot.entry.sender slot.entry.dlci slot.entry.sent.now earlier (bits ++ bit ∷ []) result }
     {
         let pattern = self.reader.push(bit);
-        let frame = frame_at(&mut self.deframer, bit, slot);
-        tally
-            .with_pattern(slot.sent, pattern)
-            .with_frame(slot.sent, frame)
+        let tally = tally.with_pattern(slot.sent, pattern);
+        with_bit(&mut self.deframer, bit, slot, tally)
     }
 
     /// The tally once four bits more were read.
-    fn push_four(&mut self, four: u8, slot: Slot<'_>, tally: Tally) -> Tally
+    pub fn push_four(&mut self, four: u8, slot: Slot<'_>, tally: Tally) -> Tally
         requires channel { slot.dlci < 64 }
         requires four { four < 16 }
         ensures stands { (bits : List Bool) → HasRead self.old bits → HasRead self.new (bits ++ low_bits 4 four) }
@@ -88,36 +103,5 @@ impl Finder {
         let tally = self.push(four / 2 % 2 == 1, slot, tally);
         let tally = self.push(four / 4 % 2 == 1, slot, tally);
         self.push(four / 8 == 1, slot, tally)
-    }
-}
-
-/// What reads the labels that the decoder releases.
-#[derive(Drop)]
-pub(crate) struct Receiver {
-    demodulator: Demodulator,
-    finder: Finder,
-}
-
-impl Receiver {
-    /// A receiver before its first label.
-    pub fn new(mode: Mode) -> Receiver
-        ensures { ReceiverStands mode result [] [] }
-    {
-        Receiver {
-            demodulator: Demodulator::new(mode),
-            finder: Finder::new(),
-        }
-    }
-
-    /// The tally once one label more was read.
-    pub fn push(&mut self, label: u8, slot: Slot<'_>, tally: Tally) -> Tally
-        requires channel { slot.dlci < 64 }
-        requires label { label < 32 }
-        ensures { (mode : Mode) (labels : List ℕ) (earlier bits : List Bool) → ReceiverStands mode self.old labels bits
-            → TalliesBetween slot.entry.check slot.entry.sender slot.entry.dlci slot.entry.sent.now earlier bits tally
-            → ReadsLabel mode self.new (labels ++ label ∷ []) slot.entry.check slot.entry.sender slot.entry.dlci slot.entry.sent.now earlier result }
-    {
-        let four = self.demodulator.push(label);
-        self.finder.push_four(four, slot, tally)
     }
 }

@@ -1,21 +1,22 @@
-use Rattle.std.proofs.Common.{[], ◌∷◌, ◌++◌, sym, subst, append-nil, nat_eq}
+use Rattle.std.proofs.Common.{◌++◌, subst, append-nil}
+use Rattle.plain_lists.specs.Bits.{low_bits}
+use Rattle.line_decoding.specs.Reading.{SamplesRead, at_beginning}
+use Rattle.sample_line.specs.Received.{line_depth}
 use Rattle.sample_line.proofs.hearer.Hearer.read_label.Goals as goal
 
 pub returns-in-Some-clause-stands : goal.returns-in-Some-clause-stands
-returns-in-Some-clause-stands c = λ mode samples earlier h.
-    let taken = c.in-Some.ensures.stands (λ state. nat_eq state 0) samples h.hears.labels h.hears.decoder in
-    let reads = c.push.ensures mode h.hears.labels earlier h.read h.hears.receiver h.tallies in
-    record {
-      read = reads.bits;
-      hears = record { labels = h.hears.labels ++ c.in-Some.label ∷ []; decoder = taken; receiver = reads.stands };
-      tallies = reads.tallies;
-    }
+returns-in-Some-clause-stands c = λ mode samples earlier h. record {
+  read = h.read ++ low_bits 4 c.in-Some.four;
+  hears = record { reader = c.in-Some.ensures.stands mode at_beginning samples h.read h.hears.reader; finder = c.push_four.ensures.stands h.read h.hears.finder };
+  tallies = c.push_four.ensures.tallies earlier h.read h.hears.finder h.tallies;
+}
 
 pub returns-in-None-clause-stands : goal.returns-in-None-clause-stands
-returns-in-None-clause-stands c = λ mode samples earlier h.
-    let taken = c.in-None.ensures.stands (λ state. nat_eq state 0) samples h.hears.labels h.hears.decoder in
-    record {
-      read = h.read;
-      hears = record { labels = h.hears.labels ++ []; decoder = taken; receiver = subst (λ xs. Rattle.sample_line.specs.Receiver.ReceiverStands mode c.args.self.now.receiver xs h.read) (sym (append-nil h.hears.labels)) h.hears.receiver };
-      tallies = h.tallies;
-    }
+returns-in-None-clause-stands c = λ mode samples earlier h. record {
+  read = h.read;
+  hears = record {
+    reader = subst (SamplesRead mode at_beginning line_depth c.take.new.self samples) (append-nil h.read) (c.in-None.ensures.stands mode at_beginning samples h.read h.hears.reader);
+    finder = h.hears.finder;
+  };
+  tallies = h.tallies;
+}

@@ -9,7 +9,7 @@ invariant-loop l = record {
   stands : (mode : Mode) (samples : List Sample) (earlier : List Bool)
       → HearsBetween mode l.fn.self samples l.slot.check l.slot.sender l.slot.dlci l.slot.sent.now earlier l.fn.tally
       → HearsBetween mode l.self samples l.slot.check l.slot.sender l.slot.dlci l.slot.sent.now earlier l.tally;
-  left : length l.self.decoder.pending + l.counter ≡ length l.fn.self.decoder.pending;
-  count : l.self.decoder.count ≡ l.fn.self.decoder.count;
-  lost : l.self.decoder.lost ≡ l.fn.self.decoder.lost;
+  left : length l.self.reader.decoder.pending + l.counter ≡ length l.fn.self.reader.decoder.pending;
+  count : l.self.reader.decoder.count ≡ l.fn.self.reader.decoder.count;
+  lost : l.self.reader.decoder.lost ≡ l.fn.self.reader.decoder.lost;
 }

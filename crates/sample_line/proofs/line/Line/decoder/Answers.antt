@@ -1,4 +1,4 @@
-use Rattle.std.proofs.Common.{◌≡◌, ℕ, nat_eq, List, [], sym, ap, subst}
+use Rattle.std.proofs.Common.{◌≡◌, ◌∙◌, ℕ, nat_eq, List, [], sym, ap, subst}
 use Rattle.symbol_map.specs.declared.sample.Sample.{Sample}
 use Rattle.symbol_map.specs.Points.{point_of}
 use Rattle.trellis_tables.specs.Table.{next_state}
@@ -15,4 +15,4 @@ returns-clause-heard c = λ script passed waiting h.
     let line : Kept = c.args.self.now in
     subst (λ (d : Decoding). (samples : List Sample) × (taken : List ℕ) × Records script (sender_of line) (signal_bits (size_of line) passed) samples
     × DecoderStands next_state point_of (λ state. nat_eq state 0) line_depth d samples taken × (d.pending ≡ []))
-    (ap decoder_of (sym c.self.view_is)) (line-heard script line passed waiting h)
+    (ap decoder_of (sym c.self.view_is) ∙ sym c.decoder.ensures) (line-heard script line passed waiting h)

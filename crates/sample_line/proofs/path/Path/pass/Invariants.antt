@@ -9,7 +9,7 @@ invariant-loop-place l = record {
       → CarriesBetween l.self l.script (before ++ line_bits (take l.place l.bits)) l.slot.check l.slot.sender l.slot.dlci l.slot.sent.now earlier l.tally;
   sender : l.self.transmitter.sender ≡ l.fn.self.transmitter.sender;
   symbol : l.self.transmitter.symbol ≡ l.fn.self.transmitter.symbol + l.place;
-  count : l.self.hearer.decoder.count ≤ l.fn.self.hearer.decoder.count + l.place;
-  pending : l.self.hearer.decoder.pending ≡ [];
-  lost : l.self.hearer.decoder.lost ≡ None;
+  count : l.self.hearer.reader.decoder.count ≤ l.fn.self.hearer.reader.decoder.count + l.place;
+  pending : l.self.hearer.reader.decoder.pending ≡ [];
+  lost : l.self.hearer.reader.decoder.lost ≡ None;
 }
