@@ -8,3 +8,4 @@ pub mod Progress
 pub mod Ranges
 pub mod Unique
 pub mod Exists
+pub mod Noisy

@@ -1,11 +1,13 @@
 -- What a script's lines say is in its range.
-use Rattle.std.proofs.Common.{◌≡◌, ℕ, ◌≤◌, Bool, true, false, cond, List, [], ◌∷◌, length, filter_map, Option, Some, None, refl, sym, subst, ◌∙◌, arith, append-nil}
+use Rattle.std.proofs.Common.{◌≡◌, ℕ, ◌<◌, ◌≤◌, nat_lt, All, IfSome, Bool, true, false, cond, List, [], ◌∷◌, length, filter_map, Option, Some, None, refl, sym, subst, ◌∙◌, arith, append-nil}
 use Rattle.std.specs.List.{cons_option, AllByRecursion}
+use Rattle.std.proofs.lemmas.List.Elements.{All-nil, All-cons, All-head, All-tail}
 use Rattle.frame_check.specs.declared.sizes.TheConstants.{INFO}
 use Rattle.roles.specs.declared.role.Role.{Role}
 use Rattle.roles.specs.declared.role.Role.TheVariants.{Originator, Answerer}
 use Rattle.roles.specs.Role.{same_role}
 use Rattle.xid_params.specs.Offers.{IsAllowed}
+use Rattle.noise_script.specs.declared.entry.Break.{Break}
 use Rattle.noise_script.specs.declared.entry.Entry.{Entry}
 use Rattle.noise_script.specs.declared.entry.Entry.TheVariants as entries
 use Rattle.noise_script.specs.declared.forms.Form.TheVariants as forms
@@ -15,6 +17,8 @@ use Rattle.noise_script.specs.Offsets.{IsQuiet, AreQuiet}
 use Rattle.noise_script.specs.Script.{ScriptValue, IsShort, IsInLimits}
 use Rattle.noise_script.specs.Grammar.{Says, nothing, passed_over, spelled, AreAllowed, whole, first, window_said, length_said, loss_said, hit_said, noise_said, break_said, pause_said, delays_in, tries_in, offered_in, noises_in, breaks_in, pauses_in, delays_or_one, tries_or_five, window_or_15, length_or_128, offer_by, script_of, ScriptSpelling}
 use Rattle.noise_script.specs.Draft.{Holds, HoldsUpTo, draft_script}
+use Rattle.noise_script.specs.Breaks.{placed, placed_each}
+use Rattle.noise_script.specs.Laws.{SpelledIsInLimits, BreaksAreOctets}
 use Rattle.noise_script.proofs.Entries.{Counts, standing-said, counts-lose, counts-hit, counts-noise, counts-break, counts-busy}
 use Rattle.noise_script.proofs.Order.{in_order-length}
 
@@ -164,3 +168,53 @@ read-spelling text number draft script h e = record {
   allowed = h.allowed;
   script_is = e ∙ draft-script-is draft h.said h.holds;
 }
+
+-- what a text spells
+
+pub spelled-in-limits : SpelledIsInLimits
+spelled-in-limits text script s = subst IsInLimits (sym s.script_is) (in-limits s.said (says-in-range s.says) s.allowed)
+
+abbrev IsOctetBreak : Break → Type 0
+IsOctetBreak line = line.length < 256
+
+line-octet : (entry : Entry) (words : List (List ℕ)) → SpellsEach (arguments_of (form_of entry)) words (values_of entry) → IfSome (break_said entry) IsOctetBreak
+line-octet (entries.Break line) (a ∷ b ∷ c ∷ words) s = let few = s.1.1.0.not_above in omega (arith, few)
+line-octet (entries.Break line) (a ∷ b ∷ []) s = absurd s.1.1
+line-octet (entries.Break line) (a ∷ []) s = absurd s.1
+line-octet (entries.Break line) [] s = absurd s
+line-octet (entries.Delay delays) words s = tt
+line-octet (entries.Window window) words s = tt
+line-octet (entries.Length l) words s = tt
+line-octet (entries.Tries tries) words s = tt
+line-octet (entries.Srej role) words s = tt
+line-octet (entries.Check32 role) words s = tt
+line-octet (entries.Lose loss) words s = tt
+line-octet (entries.Hit hit) words s = tt
+line-octet (entries.Noise noise) words s = tt
+line-octet (entries.Busy pause) words s = tt
+
+with-line : (o : Option Break) (lines : List Break) → IfSome o IsOctetBreak → All IsOctetBreak lines → All IsOctetBreak (cons_option o lines)
+with-line None lines h k = k
+with-line (Some line) lines h k = All-cons IsOctetBreak line lines h k
+
+says-octets : {lines : List (List ℕ)} {said : List Entry} → Says lines said → All IsOctetBreak (breaks_in said)
+says-octets nothing = All-nil IsOctetBreak
+says-octets (passed_over p s) = says-octets s
+says-octets {lines} {said} (spelled p s) = with-line _ _ (line-octet _ p.rest p.each) (says-octets s)
+
+placed-octets : (line : Break) (lines : List Break) → IsOctetBreak line → All IsOctetBreak lines → All IsOctetBreak (placed line lines)
+placed-octets line [] h k = All-cons IsOctetBreak line [] h k
+placed-octets line (next ∷ lines) h k = by (nat_lt line.turn next.turn) (placed-octets line lines h (All-tail IsOctetBreak next lines k))
+  where
+    by : (b : Bool) → All IsOctetBreak (placed line lines) → All IsOctetBreak (cond b (line ∷ next ∷ lines) (next ∷ placed line lines))
+    by true later = All-cons IsOctetBreak line (next ∷ lines) h k
+    by false later = All-cons IsOctetBreak next (placed line lines) (All-head IsOctetBreak next lines k) later
+
+placed-each-octets : (sorted lines : List Break) → All IsOctetBreak sorted → All IsOctetBreak lines → All IsOctetBreak (placed_each sorted lines)
+placed-each-octets sorted [] h k = h
+placed-each-octets sorted (line ∷ lines) h k =
+    placed-each-octets (placed line sorted) lines (placed-octets line sorted (All-head IsOctetBreak line lines k) h) (All-tail IsOctetBreak line lines k)
+
+pub breaks-octets : BreaksAreOctets
+breaks-octets text script s =
+    subst (λ (x : ScriptValue). All IsOctetBreak x.breaks) (sym s.script_is) (placed-each-octets [] (breaks_in s.said) (All-nil IsOctetBreak) (says-octets s.says))

@@ -1,11 +1,11 @@
 -- Laws of scripts' texts.
-use Rattle.std.specs.Prelude.{◌≡◌, ◌≢◌, ◌⊎◌, ℕ, Bool, true, not, nat_eq, List, [], ◌∷◌, ◌++◌}
+use Rattle.std.specs.Prelude.{◌≡◌, ◌≢◌, ◌⊎◌, ℕ, ◌<◌, Bool, true, not, nat_eq, List, [], ◌∷◌, ◌++◌, All}
 use Rattle.std.specs.List.{list_all}
 use Rattle.noise_script.specs.Lines.{lines_of, without_return, words_of, is_blank}
 use Rattle.script_causes.specs.declared.cause.Cause.{Cause}
 use Rattle.noise_script.specs.declared.entry.Break.{Break}
 use Rattle.noise_script.specs.Breaks.{in_order, IsOrder}
-use Rattle.noise_script.specs.Script.{ScriptValue}
+use Rattle.noise_script.specs.Script.{ScriptValue, IsInLimits}
 use Rattle.noise_script.specs.Grammar.{ScriptSpelling, FirstFault}
 
 -- a text spells one script at most
@@ -50,3 +50,11 @@ pub record WordsFromFront : Type 0 where
 -- a script's breaks rise in turn, and those of one turn stand as in the text
 abbrev pub BreaksInOrder : Type 0
 BreaksInOrder = (lines : List Break) → IsOrder lines (in_order lines)
+
+-- what a text spells is within the limits of scripts,
+abbrev pub SpelledIsInLimits : Type 0
+SpelledIsInLimits = (text : List ℕ) (script : ScriptValue) → ScriptSpelling text script → IsInLimits script
+
+-- and the length of each break is an octet
+abbrev pub BreaksAreOctets : Type 0
+BreaksAreOctets = (text : List ℕ) (script : ScriptValue) → ScriptSpelling text script → All (λ (line : Break). line.length < 256) script.breaks

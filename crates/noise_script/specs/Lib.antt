@@ -7,3 +7,4 @@ pub mod Forms
 pub mod Grammar
 pub mod Draft
 pub mod Laws
+pub mod Noisy

@@ -1,7 +1,8 @@
 //! Laws of scripts' texts.
 ghost use Rattle.std.specs.Prelude.{◌≡◌};
 ghost use Rattle.noise_script.specs.declared.limits.TheConstants.{SCRIPT_OCTETS, LOSE_LINES, HIT_LINES, NOISE_LINES, BREAK_LINES, BUSY_LINES};
-ghost use Rattle.noise_script.specs.Laws.{BreaksInOrder, EachHasAnswer, ScriptsAreOne, FaultsAreOne, NoFaultInScripts, LinesFromFront, WordsFromFront};
+ghost use Rattle.noise_script.specs.Noisy.{NoisyLinesSpell};
+ghost use Rattle.noise_script.specs.Laws.{BreaksInOrder, EachHasAnswer, ScriptsAreOne, FaultsAreOne, NoFaultInScripts, LinesFromFront, WordsFromFront, SpelledIsInLimits, BreaksAreOctets};
 
 /// Each text spells one script, or has one first fault with one cause, and never both.
 pub fn one_answer()
@@ -20,6 +21,17 @@ pub fn cuts()
 /// A script's breaks are those of its text, in rising order of turn, and those of one turn as they stand there.
 pub fn breaks_in_order()
     ensures { BreaksInOrder }
+{}
+
+/// What a text spells is within the limits of scripts, and its breaks have lengths of one octet.
+pub fn spelled_scripts_are_in_limits()
+    ensures limits { SpelledIsInLimits }
+    ensures breaks { BreaksAreOctets }
+{}
+
+/// A line on delays, then lines on noise and lines on losses spell the script that says just that.
+pub fn noisy_lines_spell()
+    ensures { NoisyLinesSpell }
 {}
 
 /// How much a script may hold: 65,536 octets, 1,024 lines `lose`, as many lines `hit`, and 64 lines each of `noise`,

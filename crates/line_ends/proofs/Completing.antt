@@ -1,0 +1,19 @@
+-- A run that the line doesn't end is done where no end gives up.
+use Rattle.std.proofs.Common.{refl}
+use Rattle.line_run.specs.Scripted.{channel_of}
+use Rattle.line_run.specs.Ends.{RunEnd, IsDone, LinkLost, NotDetected, LineLost, ChanceMatch}
+use Rattle.line_causes.specs.Causes.{GivesUp, LostLinksWereStarved, FewLossesKeepLinks}
+use Rattle.line_ends.specs.Completes.{EndsDone, LineEnds, CompletesUnstarved, CompletesWithFewLosses}
+
+pub done-else : (end : RunEnd) → (GivesUp end → ⊥) → (LineEnds end → ⊥) → EndsDone end
+done-else (IsDone turn) up line = (turn, refl)
+done-else (LinkLost role segment turn) up line = absurd (up tt)
+done-else (NotDetected turn) up line = absurd (up tt)
+done-else (LineLost role symbol) up line = absurd (line tt)
+done-else (ChanceMatch role turn) up line = absurd (line tt)
+
+pub completes-unstarved : LostLinksWereStarved → CompletesUnstarved
+completes-unstarved starved script files end left h r fed line = done-else end (λ g. fed (starved (channel_of script) files end left h r g)) line
+
+pub completes-with-few : FewLossesKeepLinks → CompletesWithFewLosses
+completes-with-few keep script files end left h r few line = done-else end (λ g. keep (channel_of script) files end left h r few g) line

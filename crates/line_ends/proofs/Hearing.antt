@@ -1,0 +1,161 @@
+-- What is heard in a script's run of which no symbol is displaced.
+use Rattle.std.proofs.Common.{◌≡◌, ◌≢◌, ℕ, ◌+◌, ◌-◌, ◌*◌, ◌≤◌, Bool, true, false, List, [], ◌∷◌, ◌++◌, length, drop, replicate, arith, refl, sym, ◌∙◌, subst, Option, Some, None, append-nil}
+use Rattle.std.proofs.lemmas.List.Elements.{All-replicate}
+use Rattle.frame_check.specs.declared.check.Check.{Check}
+use Rattle.roles.specs.declared.role.Role.{Role}
+use Rattle.roles.specs.declared.role.Role.TheVariants.{Originator, Answerer}
+use Rattle.roles.specs.Role.{other}
+use Rattle.roles.specs.Both.{Both, of}
+use Rattle.detection.specs.Slots.{Signal, signal_bits}
+use Rattle.lapm_frames.specs.declared.frame.Frame.{Frame}
+use Rattle.lapm_frames.specs.Checked.{check_for}
+use Rattle.slot_contents.specs.declared.seen.Seen.{Seen}
+use Rattle.slot_contents.specs.declared.seen.Seen.TheVariants as seen
+use Rattle.slot_contents.specs.declared.sent.Sent.{Sent}
+use Rattle.slot_contents.specs.declared.sent.Sent.TheVariants as slots
+use Rattle.slot_contents.specs.declared.heard.Heard.{Heard}
+use Rattle.slot_contents.specs.declared.heard.Heard.TheVariants.{Nothing, Chance}
+use Rattle.slot_contents.specs.Sendable.{IsSendable}
+use Rattle.noise_script.specs.Script.{ScriptValue, IsInLimits, delay_of, loses}
+use Rattle.sample_line.specs.Signals.{signal_of}
+use Rattle.sample_line.specs.Recorded.{Records}
+use Rattle.sample_line.specs.Outcomes.{IsPattern, IsOutcome}
+use Rattle.sample_line.specs.Laws.{OneOutcome}
+use Rattle.line_laws.specs.Fitting.{AreFit}
+use Rattle.line_laws.specs.Unhindered.{ChecksAgree, DisplacesNoneBefore, frames_in, patterns_in, unhindered}
+use Rattle.line_laws.specs.Laws.{EmptyScriptDisplacesNone, NeverLost, ReceivedIsSent, NeverChance}
+use Rattle.link_account.specs.Account.{check_of}
+use Rattle.link_run.specs.Run.{Ends, Spoken, Turn}
+use Rattle.link_run.specs.Carried.{sent_ago}
+use Rattle.link_run.specs.Laws.{RunsOver}
+use Rattle.link_run.specs.Overheard.{JudgesByItsCheck}
+use Rattle.link_run.specs.Starved.{IsLost}
+use Rattle.line_run.specs.Sampled.{Channel, signal_in, signals, Arrives, ArrivesAs, IsHeardOf, HeardIn, LineRun, LosesLine, EndsLine}
+use Rattle.line_run.specs.Sampled as lines
+use Rattle.line_run.specs.Scripted.{channel_of, link_of, ScriptsMayPlay, ScriptsHaveDelays, SlotsHaveRoom, SlotsAreCodable}
+use Rattle.line_run.specs.LineLaws.{SamplesAreCarried}
+use Rattle.line_ends.specs.Completes.{DisplacesNone, AllSendable, UndisplacedGoOn}
+use Rattle.line_ends.proofs.Fitting.{symbols_of, bits_in, fits-all, fits-before}
+use Rattle.line_ends.proofs.Slots.{SentAgo, sent-ago}
+
+pub record HearLaws : Type 0 where
+  pub play : ScriptsMayPlay
+  pub delays : ScriptsHaveDelays
+  pub room : SlotsHaveRoom
+  pub codable : SlotsAreCodable
+  pub carried : SamplesAreCarried
+  pub judges : JudgesByItsCheck
+  pub displaces : EmptyScriptDisplacesNone
+  pub never_lost : NeverLost
+  pub received : ReceivedIsSent
+  pub never_chance : NeverChance
+  pub one : OneOutcome
+
+-- the line of samples as any line
+pub over : HearLaws → (script : ScriptValue) (files : Both (List ℕ)) (ts : List Turn) (ends : Ends) → IsInLimits script
+    → LineRun (channel_of script) (link_of script files) ts ends → RunsOver (link_of script files) (delay_of script) ts ends
+over laws script files ts ends h r = record
+    { may_play = laws.play script files h; delays = laws.delays script h; carried = laws.carried (channel_of script) ts r.heard; run = r.run }
+
+nine : (pattern : Seen) → IsPattern pattern [] (replicate 9 pattern)
+nine pattern = (refl, (λ e. absurd cc), All-replicate (λ other. other ≡ pattern) 9 pattern refl)
+
+-- the outcome where nothing but what was sent is received
+expected : (loses : Bool) (s : Sent) → IsOutcome loses s (frames_in s) (patterns_in s) (unhindered loses s)
+expected true slots.Mark = refl
+expected false slots.Mark = (refl, (refl, refl))
+expected true slots.Flags = refl
+expected false slots.Flags = (refl, (refl, refl))
+expected true slots.Odp = (refl, refl)
+expected false slots.Odp = (refl, nine seen.Odp)
+expected true slots.Adp = (refl, refl)
+expected false slots.Adp = (refl, nine seen.Adp)
+expected true (slots.Frame frame) = (refl, refl)
+expected false (slots.Frame frame) = (refl, (refl, refl))
+
+agree-on : (check hearing : Check) (s : Sent) → ((frame : Frame) → s ≡ slots.Frame frame → check_for check frame ≡ check_for hearing frame) → ChecksAgree check hearing s
+agree-on check hearing slots.Mark f = tt
+agree-on check hearing slots.Odp f = tt
+agree-on check hearing slots.Adp f = tt
+agree-on check hearing slots.Flags f = tt
+agree-on check hearing (slots.Frame frame) f = f frame refl
+
+displaces-none : EmptyScriptDisplacesNone → (script : ScriptValue) (sender : Role) (count : ℕ) → DisplacesNone script → DisplacesNoneBefore script sender count
+displaces-none law script sender count d = law script sender count d.no_hits d.no_noises
+
+-- a slot that arrives
+arrives-unhindered : HearLaws → (script : ScriptValue) (sender : Role) (earlier : List Turn) (t : Turn) (hearing : Check) (slot : Spoken) (heard : Heard)
+    → IsInLimits script → DisplacesNone script → (of sender t).sent ≡ Some slot → AreFit (bits_in script) 0 (signals (channel_of script) sender (t ∷ earlier)) → IsSendable slot.sent
+    → ChecksAgree slot.check hearing slot.sent → Arrives (channel_of script) sender earlier (t ∷ earlier) hearing slot heard
+    → heard ≡ unhindered (loses script sender (length earlier)) slot.sent
+arrives-unhindered laws script sender earlier t hearing slot heard h d e fit is agree a =
+    let c : Channel = channel_of script in
+    let before : List Signal = signals c sender earlier in
+    let signal : Signal = signal_of slot.check sender 0 slot.sent in
+    let fits : AreFit (bits_in script) 0 (before ++ signal ∷ []) = subst (λ o. AreFit (bits_in script) 0 (before ++ signal_in c sender o)) e fit in
+    let recorded : Records script sender (signal_bits (bits_in script) (before ++ signal ∷ [])) a.samples
+    = subst (λ o. Records script sender (signal_bits (bits_in script) (before ++ signal_in c sender o)) a.samples) e a.recorded in
+    let same = laws.received script slot.check hearing sender 0 (symbols_of script) before slot.sent a.before a.samples a.frames a.patterns
+    (displaces-none laws.displaces script sender (symbols_of script * (length before + 1)) d) (laws.room script h).0 fits is agree a.recorded_before recorded a.received in
+    let lose : Bool = loses script sender (length earlier) in
+    laws.one lose slot.sent (frames_in slot.sent) (patterns_in slot.sent) heard (unhindered lose slot.sent)
+    (subst (λ xs. IsOutcome lose slot.sent (frames_in slot.sent) xs heard) same.1 (subst (λ xs. IsOutcome lose slot.sent xs a.patterns heard) same.0 a.outcome)) (expected lose slot.sent)
+
+-- What is heard of a sender in the turn after these: no chance match, and lost only where the script says so.
+pub record AsNamed (script : ScriptValue) (sender : Role) (ts : List Turn) (heard : Heard) : Type 0 where
+  pub well : heard ≢ Chance
+  pub lost : IsLost heard → (delay_of script sender ≤ length ts) × (loses script sender (length ts - delay_of script sender) ≡ true)
+
+lost-named : (lose : Bool) (s : Sent) → IsLost (unhindered lose s) → lose ≡ true
+lost-named true s h = refl
+lost-named false slots.Mark h = absurd h
+lost-named false slots.Odp h = absurd h
+lost-named false slots.Adp h = absurd h
+lost-named false slots.Flags h = absurd h
+lost-named false (slots.Frame frame) h = absurd h
+
+nothing-named : (script : ScriptValue) (sender : Role) (ts : List Turn) → AsNamed script sender ts Nothing
+nothing-named script sender ts = record { well = λ e. absurd cc; lost = λ h. absurd h }
+
+pub heard-named : HearLaws → (script : ScriptValue) (files : Both (List ℕ)) (ts : List Turn) (ends : Ends) → IsInLimits script → DisplacesNone script
+    → LineRun (channel_of script) (link_of script files) ts ends → AllSendable ts → (role : Role) (heard : Heard)
+    → IsHeardOf (channel_of script) (other role) ts (check_of (of role ends)) heard → AsNamed script (other role) ts heard
+heard-named laws script files ts ends h d r s role heard k = go (sent_ago delay sender ts) refl k
+  where
+    sender : Role
+    sender = other role
+
+    delay : ℕ
+    delay = delay_of script sender
+
+    hearing : Check
+    hearing = check_of (of role ends)
+
+    go : (o : Option Spoken) → sent_ago delay sender ts ≡ o → ArrivesAs (channel_of script) sender (drop delay ts) (drop (delay - 1) ts) hearing o heard → AsNamed script sender ts heard
+    go None e a = subst (AsNamed script sender ts) (sym a) (nothing-named script sender ts)
+    go (Some slot) e a =
+        let x : SentAgo sender delay ts slot = sent-ago sender delay ts slot (laws.delays script h sender) e in
+        let fit : AreFit (bits_in script) 0 (signals (channel_of script) sender (x.turn ∷ drop delay ts))
+        = subst (λ us. AreFit (bits_in script) 0 (signals (channel_of script) sender us)) x.rest (fits-before script sender (delay - 1) ts (fits-all laws.codable script files ts ends h r s sender)) in
+        let arrives : Arrives (channel_of script) sender (drop delay ts) (x.turn ∷ drop delay ts) hearing slot heard
+        = subst (λ us. Arrives (channel_of script) sender (drop delay ts) us hearing slot heard) x.rest a in
+        let checks : ChecksAgree slot.check hearing slot.sent
+        = agree-on slot.check hearing slot.sent (λ frame f. laws.judges (link_of script files) (delay_of script) ts ends (over laws script files ts ends h r) role slot frame e f) in
+        let same = arrives-unhindered laws script sender (drop delay ts) x.turn hearing slot heard h d x.sent fit (x.sendable s) checks arrives in
+        record {
+          well = λ f. laws.never_chance (loses script sender (length (drop delay ts))) slot.sent (sym same ∙ f);
+          lost = λ l. (x.enough, subst (λ n. loses script sender n ≡ true) x.count (lost-named (loses script sender (length (drop delay ts))) slot.sent (subst IsLost same l)));
+        }
+
+-- the line isn't lost
+stays : HearLaws → (script : ScriptValue) (sender : Role) (ts : List Turn) (symbol : ℕ) → DisplacesNone script → LosesLine (channel_of script) sender ts symbol → ⊥
+stays laws script sender ts symbol d l =
+    let bits : List Bool = lines.bits_of (channel_of script) sender (drop (delay_of script sender - 1) ts) in
+    laws.never_lost sender script (length bits) [] bits symbol (displaces-none laws.displaces script sender (length bits) d) (omega arith)
+    (record { first = bits; rest = []; bits_are = sym (append-nil bits); loses = l.loses })
+
+pub undisplaced-go-on : HearLaws → UndisplacedGoOn
+undisplaced-go-on laws script files ts ends (lines.LineLost Originator symbol) h d r s e = stays laws script Answerer ts symbol d e
+undisplaced-go-on laws script files ts ends (lines.LineLost Answerer symbol) h d r s e = stays laws script Originator ts symbol d e.1
+undisplaced-go-on laws script files ts ends (lines.ChanceMatch Originator) h d r s e = (heard-named laws script files ts ends h d r s Originator Chance e).well refl
+undisplaced-go-on laws script files ts ends (lines.ChanceMatch Answerer) h d r s e = (heard-named laws script files ts ends h d r s Answerer Chance e.1).well refl

@@ -1,0 +1,13 @@
+mod Completing
+mod Fitting
+mod Slots
+mod Hearing
+mod Counting
+mod Undisturbed
+mod Words
+mod Saying
+mod Handing
+mod Sending
+mod Deciding
+mod Receiving
+mod EachEnds

@@ -1,0 +1,95 @@
+-- Which runs of a script over the line of samples are done.
+use Rattle.std.specs.Prelude.{◌≡◌, ℕ, ◌+◌, ◌*◌, ◌<◌, ◌≤◌, List, [], ◌∷◌, All, Some}
+use Rattle.plain_lists.specs.Octets.{AreOctets}
+use Rattle.roles.specs.declared.role.Role.{Role}
+use Rattle.roles.specs.Both.{Both, of}
+use Rattle.slot_contents.specs.Sendable.{IsSendable}
+use Rattle.noise_script.specs.declared.entry.Break.{Break}
+use Rattle.noise_script.specs.declared.entry.Loss.{Loss}
+use Rattle.noise_script.specs.Script.{ScriptValue, IsInLimits}
+use Rattle.link_run.specs.Run.{Ends, Spoken, Turn}
+use Rattle.link_run.specs.Counts.{lost_slots}
+use Rattle.line_run.specs.Sampled.{LineRun, LineEnd, EndsLine}
+use Rattle.line_run.specs.Scripted.{channel_of, link_of}
+use Rattle.line_run.specs.Ends.{RunEnd, IsDone, LinkLost, NotDetected, LineLost, ChanceMatch, Left, RunsTo, turns_heard, StarvedBy}
+
+-- a script's run, over two users' files, that ends so
+abbrev pub ScriptRunsTo : ScriptValue → Both (List ℕ) → RunEnd → Left → Type 0
+ScriptRunsTo script files end left = RunsTo (channel_of script) (link_of script files) end left
+
+-- the turns in which something was heard in it
+abbrev pub heard_turns : (script : ScriptValue) (files : Both (List ℕ)) (end : RunEnd) (left : Left) → ScriptRunsTo script files end left → List Turn
+heard_turns script files end left r = turns_heard (channel_of script) (link_of script files) r.turns r.ends end left r.ended
+
+-- both files are whole, and the link is released
+abbrev pub EndsDone : RunEnd → Type 0
+EndsDone end = (turn : ℕ) × (end ≡ IsDone turn)
+
+-- The line ends the run, and no end of the link does: the line is lost, or what is received of a slot is a chance match.
+abbrev pub LineEnds : RunEnd → Type 0
+LineEnds (LineLost role symbol) = Unit {0}
+LineEnds (ChanceMatch role turn) = Unit {0}
+LineEnds (IsDone turn) = ⊥
+LineEnds (LinkLost role segment turn) = ⊥
+LineEnds (NotDetected turn) = ⊥
+
+-- A run that isn't starved is done, unless the line ends it.
+abbrev pub CompletesUnstarved : Type 0
+CompletesUnstarved = (script : ScriptValue) (files : Both (List ℕ)) (end : RunEnd) (left : Left) → IsInLimits script
+    → (r : ScriptRunsTo script files end left)
+    → (StarvedBy script (heard_turns script files end left r) → ⊥) → (LineEnds end → ⊥) → EndsDone end
+
+-- So is a run in which fewer slots are lost than one for each two tries.
+abbrev pub CompletesWithFewLosses : Type 0
+CompletesWithFewLosses = (script : ScriptValue) (files : Both (List ℕ)) (end : RunEnd) (left : Left) → IsInLimits script
+    → (r : ScriptRunsTo script files end left)
+    → 2 * lost_slots (heard_turns script files end left r) < script.tries → (LineEnds end → ⊥) → EndsDone end
+
+-- no line of the script displaces a symbol
+pub record DisplacesNone (script : ScriptValue) : Type 0 where
+  pub no_hits : script.hits ≡ []
+  pub no_noises : script.noises ≡ []
+
+-- what the two users hand over are octets: their files, and the lengths of the breaks that they ask for
+pub record AreOfOctets (script : ScriptValue) (files : Both (List ℕ)) : Type 0 where
+  pub files_are : (role : Role) → AreOctets (of role files)
+  pub breaks_are : All (λ (b : Break). b.length < 256) script.breaks
+
+-- All that was sent in these turns can be sent: the numbers of its frames are below 128, and it consists of octets.
+abbrev pub AllSendable : List Turn → Type 0
+AllSendable [] = Unit {0}
+AllSendable (t ∷ ts) = ((role : Role) (slot : Spoken) → (of role t).sent ≡ Some slot → IsSendable slot.sent) × AllSendable ts
+
+-- Ends that are handed octets send what can be sent.
+abbrev pub OctetsAreSendable : Type 0
+OctetsAreSendable = (script : ScriptValue) (files : Both (List ℕ)) (ts : List Turn) (ends : Ends) → IsInLimits script
+    → AreOfOctets script files → LineRun (channel_of script) (link_of script files) ts ends → AllSendable ts
+
+-- The line doesn't end a run in which no symbol is displaced.
+abbrev pub UndisplacedGoOn : Type 0
+UndisplacedGoOn = (script : ScriptValue) (files : Both (List ℕ)) (ts : List Turn) (ends : Ends) (end : LineEnd) → IsInLimits script
+    → DisplacesNone script → LineRun (channel_of script) (link_of script files) ts ends → AllSendable ts
+    → EndsLine (channel_of script) ts ends end → ⊥
+
+-- how many slots the lose lines of a script name
+abbrev pub slots_named : List Loss → ℕ
+slots_named [] = 0
+slots_named (loss ∷ losses) = loss.count + slots_named losses
+
+-- In such a run no more slots are lost than the lose lines name.
+abbrev pub LosesWhatIsNamed : Type 0
+LosesWhatIsNamed = (script : ScriptValue) (files : Both (List ℕ)) (end : RunEnd) (left : Left) → IsInLimits script
+    → DisplacesNone script → (r : ScriptRunsTo script files end left) → AllSendable r.turns
+    → lost_slots (heard_turns script files end left r) ≤ slots_named script.losses
+
+-- Where no symbol is displaced, and the lose lines name fewer slots than one for each two tries, each run is done;
+abbrev pub CompletesWithFewNamed : Type 0
+CompletesWithFewNamed = (script : ScriptValue) (files : Both (List ℕ)) (end : RunEnd) (left : Left) → IsInLimits script
+    → DisplacesNone script → AreOfOctets script files → 2 * slots_named script.losses < script.tries
+    → ScriptRunsTo script files end left → EndsDone end
+
+-- and so is each run of a script without lines that lose, hit or displace.
+abbrev pub CompletesUndisturbed : Type 0
+CompletesUndisturbed = (script : ScriptValue) (files : Both (List ℕ)) (end : RunEnd) (left : Left) → IsInLimits script
+    → script.losses ≡ [] → script.hits ≡ [] → script.noises ≡ [] → AreOfOctets script files
+    → ScriptRunsTo script files end left → EndsDone end

@@ -1,0 +1,103 @@
+//! Which runs of a script are done. The functions do nothing but name the laws that they rest on: each law is a contract.
+ghost use Rattle.line_ends.specs.Completes.{CompletesUnstarved, CompletesWithFewLosses, UndisplacedGoOn, LosesWhatIsNamed};
+ghost use Rattle.line_ends.specs.EachEnds.{EachSlotBecomes, EachTurnIsDecided, EachRunEnds, UndisturbedRunsDeliver};
+ghost use Rattle.line_ends.specs.Completes.{OctetsAreSendable, CompletesWithFewNamed, CompletesUndisturbed};
+
+use break_signals::laws::is_spelled_back;
+use detection::laws::sights_stay;
+use line_bound::laws::line_runs_end_soon;
+use line_causes::laws::{few_losses_keep_links, heard_turns_are_made, lost_links_were_starved};
+use line_laws::laws::{
+    each_list_of_fours_is_recorded, heard_is_sent, received_is_sent,
+    scripts_displace_by_their_lines_alone, undisplaced_lines_are_never_lost,
+};
+use line_run::laws::{
+    runs_leave_prefixes, samples_are_carried, scripts_make_links, slots_have_room,
+};
+use link_run::laws::{
+    each_turn_is_made, frames_are_short, numbers_have_the_agreed_check,
+    segments_are_offered_as_they_are_read,
+};
+use sample_line::laws::{given_bits_stay, one_outcome, recordings_grow};
+
+/// A run that isn't starved is done, unless the line ends it; and so is one in which fewer slots are lost than one for each two tries.
+pub fn unstarved_runs_complete()
+    ensures unstarved { CompletesUnstarved }
+    ensures few_losses { CompletesWithFewLosses }
+{
+    lost_links_were_starved();
+    few_losses_keep_links();
+}
+
+/// The line doesn't end a run in which no symbol is displaced, and loses no more slots of it than the script's lose lines name.
+pub fn undisplaced_runs_go_on()
+    ensures goes_on { UndisplacedGoOn }
+    ensures loses { LosesWhatIsNamed }
+{
+    scripts_make_links();
+    slots_have_room();
+    samples_are_carried();
+    numbers_have_the_agreed_check();
+    scripts_displace_by_their_lines_alone();
+    undisplaced_lines_are_never_lost();
+    received_is_sent();
+    heard_is_sent();
+    one_outcome();
+}
+
+/// Ends whose users hand over octets send nothing but what can be sent.
+pub fn octets_are_sendable()
+    ensures { OctetsAreSendable }
+{
+    scripts_make_links();
+    samples_are_carried();
+    frames_are_short();
+    is_spelled_back();
+    segments_are_offered_as_they_are_read();
+}
+
+/// Where a script displaces no symbol and its lose lines name fewer slots than one for each two tries, each run of two files of octets is
+/// done; and so it is where a script has no line that loses, hits or displaces.
+pub fn undisturbed_runs_complete()
+    ensures few_named { CompletesWithFewNamed }
+    ensures undisturbed { CompletesUndisturbed }
+{
+    unstarved_runs_complete();
+    undisplaced_runs_go_on();
+    octets_are_sendable();
+}
+
+/// In each turn the line is lost, or a slot is a chance match, or something is heard of both: the line ends the run, or a turn is made.
+pub fn turns_are_decided()
+    ensures slot { EachSlotBecomes }
+    ensures turn { EachTurnIsDecided }
+{
+    scripts_make_links();
+    slots_have_room();
+    each_list_of_fours_is_recorded();
+    recordings_grow();
+    given_bits_stay();
+    sights_stay();
+    octets_are_sendable();
+    heard_turns_are_made();
+}
+
+/// Each script within its limits and each two files of octets within theirs have a run that ends.
+pub fn runs_end()
+    ensures { EachRunEnds }
+{
+    scripts_make_links();
+    turns_are_decided();
+    each_turn_is_made();
+    line_runs_end_soon();
+}
+
+/// A script without lines that lose, hit or displace delivers both files: it has a run that is done, and each user has the other's file.
+pub fn undisturbed_runs_deliver()
+    ensures { UndisturbedRunsDeliver }
+{
+    scripts_make_links();
+    runs_leave_prefixes();
+    undisturbed_runs_complete();
+    runs_end();
+}

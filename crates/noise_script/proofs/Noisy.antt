@@ -1,0 +1,150 @@
+-- Lines on delays, noise and losses spell their script.
+use Rattle.std.proofs.Common.{◌≡◌, ◌∙◌, ℕ, ◌+◌, ◌≤◌, ◌||◌, Bool, true, false, cond, List, [], ◌∷◌, ◌++◌, length, map, filter_map, refl, sym, ap, subst, arith, Option, Some, None}
+use Rattle.std.specs.List.{cons_option, list_any}
+use Rattle.roles.specs.declared.role.Role.{Role}
+use Rattle.roles.specs.declared.role.Role.TheVariants.{Originator, Answerer}
+use Rattle.noise_script.specs.declared.entry.Loss.{Loss}
+use Rattle.noise_script.specs.declared.entry.Noise.{Noise}
+use Rattle.noise_script.specs.declared.entry.Entry.{Entry}
+use Rattle.noise_script.specs.declared.entry.Entry.TheVariants as entries
+use Rattle.noise_script.specs.declared.forms.Form.{Form}
+use Rattle.noise_script.specs.declared.forms.Form.TheVariants as forms
+use Rattle.noise_script.specs.Lines.{lines_of, words_of}
+use Rattle.noise_script.specs.Forms.{Kind, row, kind_of, most, SpellsLine}
+use Rattle.noise_script.specs.Grammar.{Says, nothing, spelled, same_kind, standing, AreAllowed, each, tries_said, window_said, length_said, loss_said, hit_said, noise_said, break_said, pause_said, script_of}
+use Rattle.noise_script.specs.Noisy.{text_of, IsWhole, SaysDelays, SaysNoise, SaysLoss, EachSays, noisy_script, NoisyLinesSpell}
+use Rattle.noise_script.proofs.Cuts.{line-cut}
+
+-- what the lines say
+
+abbrev noise_entries : List Noise → List Entry
+noise_entries noises = map entries.Noise noises
+
+abbrev loss_entries : List Loss → List Entry
+loss_entries losses = map entries.Lose losses
+
+abbrev all_entries : List Noise → List Loss → List Entry
+all_entries noises losses = noise_entries noises ++ loss_entries losses
+
+one-line : (line rest : List ℕ) (entry : Entry) (said : List Entry) → IsWhole line → SpellsLine (words_of line) entry → Says (lines_of rest) said → Says (lines_of (line ++ 10 ∷ rest)) (entry ∷ said)
+one-line line rest entry said w s more =
+    subst (λ lines. Says lines (entry ∷ said)) (sym (line-cut line rest w.no_feed ∙ ap (λ l. l ∷ lines_of rest) w.no_return)) (spelled s more)
+
+spells-delays : (line : List ℕ) (orig answ : ℕ) → SaysDelays line orig answ → SpellsLine (words_of line) (entries.Delay (record { orig = orig; answ = answ }))
+spells-delays line orig answ s = record { rest = s.orig_word ∷ s.answ_word ∷ []; words_are = s.words; each = (s.orig_is, (s.answ_is, (refl, refl))) }
+
+spells-noise : (line : List ℕ) (noise : Noise) → SaysNoise line noise → SpellsLine (words_of line) (entries.Noise noise)
+spells-noise line noise s = record { rest = _; words_are = s.words; each = (refl, (s.from_is, (s.count_is, (s.amplitude_is, (s.seed_is, (refl, refl)))))) }
+
+spells-loss : (line : List ℕ) (loss : Loss) → SaysLoss line loss → SpellsLine (words_of line) (entries.Lose loss)
+spells-loss line loss s = record { rest = _; words_are = s.words; each = (refl, (s.from_is, (s.count_is, (refl, refl)))) }
+
+losses-say : (losing : List (List ℕ)) (losses : List Loss) → EachSays SaysLoss losing losses → Says (lines_of (text_of losing)) (loss_entries losses)
+losses-say [] [] s = nothing
+losses-say [] (x ∷ xs) s = absurd s
+losses-say (line ∷ losing) [] s = absurd s
+losses-say (line ∷ losing) (loss ∷ losses) s = one-line line (text_of losing) (entries.Lose loss) (loss_entries losses) s.0.whole (spells-loss line loss s.0) (losses-say losing losses s.1)
+
+noises-say : (noisy losing : List (List ℕ)) (noises : List Noise) (losses : List Loss) → EachSays SaysNoise noisy noises → EachSays SaysLoss losing losses
+    → Says (lines_of (text_of (noisy ++ losing))) (all_entries noises losses)
+noises-say [] losing [] losses s l = losses-say losing losses l
+noises-say [] losing (x ∷ xs) losses s l = absurd s
+noises-say (line ∷ noisy) losing [] losses s l = absurd s
+noises-say (line ∷ noisy) losing (noise ∷ noises) losses s l =
+    one-line line (text_of (noisy ++ losing)) (entries.Noise noise) (all_entries noises losses) s.0.whole (spells-noise line noise s.0) (noises-say noisy losing noises losses s.1 l)
+
+-- nothing else is said
+
+none-said : {X : Type 0} (say : Entry → Option X) → ((noise : Noise) → say (entries.Noise noise) ≡ None) → ((loss : Loss) → say (entries.Lose loss) ≡ None)
+    → (noises : List Noise) (losses : List Loss) → filter_map say (all_entries noises losses) ≡ []
+none-said say n l [] [] = refl
+none-said say n l [] (loss ∷ losses) = ap (λ o. cons_option o (filter_map say (loss_entries losses))) (l loss) ∙ none-said say n l [] losses
+none-said say n l (noise ∷ noises) losses = ap (λ o. cons_option o (filter_map say (all_entries noises losses))) (n noise) ∙ none-said say n l noises losses
+
+none-stands : (test : Entry → Bool) → ((noise : Noise) → test (entries.Noise noise) ≡ false) → ((loss : Loss) → test (entries.Lose loss) ≡ false)
+    → (noises : List Noise) (losses : List Loss) → list_any test (all_entries noises losses) ≡ false
+none-stands test n l [] [] = refl
+none-stands test n l [] (loss ∷ losses) = ap (λ b. b || list_any test (loss_entries losses)) (l loss) ∙ none-stands test n l [] losses
+none-stands test n l (noise ∷ noises) losses = ap (λ b. b || list_any test (all_entries noises losses)) (n noise) ∙ none-stands test n l noises losses
+
+losses-are : (noises : List Noise) (losses : List Loss) → filter_map loss_said (all_entries noises losses) ≡ losses
+losses-are [] [] = refl
+losses-are [] (loss ∷ losses) = ap (λ l. loss ∷ l) (losses-are [] losses)
+losses-are (noise ∷ noises) losses = losses-are noises losses
+
+noises-are : (noises : List Noise) (losses : List Loss) → filter_map noise_said (all_entries noises losses) ≡ noises
+noises-are [] [] = refl
+noises-are [] (loss ∷ losses) = noises-are [] losses
+noises-are (noise ∷ noises) losses = ap (λ l. noise ∷ l) (noises-are noises losses)
+
+script-is : (orig answ : ℕ) (noises : List Noise) (losses : List Loss) → noisy_script orig answ noises losses ≡ script_of (entries.Delay (record { orig = orig; answ = answ }) ∷ all_entries noises losses)
+script-is orig answ noises losses =
+    rw (
+      losses-are noises losses,
+      noises-are noises losses,
+      none-said tries_said (λ n. refl) (λ l. refl) noises losses,
+      none-said hit_said (λ n. refl) (λ l. refl) noises losses,
+      none-said break_said (λ n. refl) (λ l. refl) noises losses,
+      none-said pause_said (λ n. refl) (λ l. refl) noises losses,
+      none-said (window_said Originator) (λ n. refl) (λ l. refl) noises losses,
+      none-said (window_said Answerer) (λ n. refl) (λ l. refl) noises losses,
+      none-said (length_said Originator) (λ n. refl) (λ l. refl) noises losses,
+      none-said (length_said Answerer) (λ n. refl) (λ l. refl) noises losses,
+      none-stands (λ entry. same_kind (each forms.Srej Originator) (kind_of entry)) (λ n. refl) (λ l. refl) noises losses,
+      none-stands (λ entry. same_kind (each forms.Srej Answerer) (kind_of entry)) (λ n. refl) (λ l. refl) noises losses,
+      none-stands (λ entry. same_kind (each forms.Check32 Originator) (kind_of entry)) (λ n. refl) (λ l. refl) noises losses,
+      none-stands (λ entry. same_kind (each forms.Check32 Answerer) (kind_of entry)) (λ n. refl) (λ l. refl) noises losses,
+    ) refl
+
+-- and there is not too much
+
+abbrev noise_kind : Kind
+noise_kind = record { form = forms.Noise; role = None }
+
+abbrev lose_kind : Kind
+lose_kind = record { form = forms.Lose; role = None }
+
+few-losses : (kind : Kind) (losses : List Loss) → standing kind (loss_entries losses) ≡ cond (same_kind kind lose_kind) (length losses) 0
+few-losses kind losses = go (same_kind kind lose_kind) refl losses
+  where
+    go : (b : Bool) → same_kind kind lose_kind ≡ b → (losses : List Loss) → standing kind (loss_entries losses) ≡ cond b (length losses) 0
+    go true e [] = refl
+    go false e [] = refl
+    go true e (loss ∷ losses) = ap (λ b. cond b 1 0 + standing kind (loss_entries losses)) e ∙ (let later = go true e losses in omega (arith, later))
+    go false e (loss ∷ losses) = ap (λ b. cond b 1 0 + standing kind (loss_entries losses)) e ∙ (let later = go false e losses in omega (arith, later))
+
+few-all : (kind : Kind) (noises : List Noise) (losses : List Loss) → standing kind (all_entries noises losses) ≡ cond (same_kind kind noise_kind) (length noises) 0 + cond (same_kind kind lose_kind) (length losses) 0
+few-all kind noises losses = go (same_kind kind noise_kind) refl noises
+  where
+    go : (b : Bool) → same_kind kind noise_kind ≡ b → (noises : List Noise) → standing kind (all_entries noises losses) ≡ cond b (length noises) 0 + cond (same_kind kind lose_kind) (length losses) 0
+    go true e [] = let l = few-losses kind losses in omega (arith, l)
+    go false e [] = let l = few-losses kind losses in omega (arith, l)
+    go true e (noise ∷ noises) = ap (λ b. cond b 1 0 + standing kind (all_entries noises losses)) e ∙ (let later = go true e noises in omega (arith, later))
+    go false e (noise ∷ noises) = ap (λ b. cond b 1 0 + standing kind (all_entries noises losses)) e ∙ (let later = go false e noises in omega (arith, later))
+
+allowed : (orig answ : ℕ) (noises : List Noise) (losses : List Loss) → length noises ≤ 64 → length losses ≤ 1024 → AreAllowed (entries.Delay (record { orig = orig; answ = answ }) ∷ all_entries noises losses)
+allowed orig answ noises losses n l kind = go kind.form kind.role
+  where
+    go : (form : Form) (role : Option Role) → standing (record { form = form; role = role }) (entries.Delay (record { orig = orig; answ = answ }) ∷ all_entries noises losses) ≤ most (row form).bound
+    go forms.Delay None = let few = few-all (record { form = forms.Delay; role = None }) noises losses in omega (arith, few)
+    go forms.Delay (Some role) = let few = few-all (record { form = forms.Delay; role = Some role }) noises losses in omega (arith, few)
+    go forms.Noise None = let few = few-all (record { form = forms.Noise; role = None }) noises losses in omega (arith, few, n)
+    go forms.Noise (Some role) = let few = few-all (record { form = forms.Noise; role = Some role }) noises losses in omega (arith, few)
+    go forms.Lose None = let few = few-all (record { form = forms.Lose; role = None }) noises losses in omega (arith, few, l)
+    go forms.Lose (Some role) = let few = few-all (record { form = forms.Lose; role = Some role }) noises losses in omega (arith, few)
+    go forms.Window role = let few = few-all (record { form = forms.Window; role = role }) noises losses in omega (arith, few)
+    go forms.Length role = let few = few-all (record { form = forms.Length; role = role }) noises losses in omega (arith, few)
+    go forms.Tries role = let few = few-all (record { form = forms.Tries; role = role }) noises losses in omega (arith, few)
+    go forms.Srej role = let few = few-all (record { form = forms.Srej; role = role }) noises losses in omega (arith, few)
+    go forms.Check32 role = let few = few-all (record { form = forms.Check32; role = role }) noises losses in omega (arith, few)
+    go forms.Hit role = let few = few-all (record { form = forms.Hit; role = role }) noises losses in omega (arith, few)
+    go forms.Break role = let few = few-all (record { form = forms.Break; role = role }) noises losses in omega (arith, few)
+    go forms.Busy role = let few = few-all (record { form = forms.Busy; role = role }) noises losses in omega (arith, few)
+
+pub noisy-lines-spell : NoisyLinesSpell
+noisy-lines-spell delays noisy losing orig answ noises losses d n l few_noises few_losses = record {
+  said = entries.Delay (record { orig = orig; answ = answ }) ∷ all_entries noises losses;
+  says = one-line delays (text_of (noisy ++ losing)) (entries.Delay (record { orig = orig; answ = answ })) (all_entries noises losses) d.whole (spells-delays delays orig answ d) (noises-say noisy losing noises losses n l);
+  allowed = allowed orig answ noises losses few_noises few_losses;
+  script_is = script-is orig answ noises losses;
+}
