@@ -26,8 +26,8 @@ heard-well s file a turn arrived well h = go (hear turn arrived a) refl well h
     go (Ok b) e w k = record { mid = b; hears = e; stands = k }
     go (Err fault) e w k = absurd (false≢true w)
 
-pub counted-later : (s : Station) (turn : ℕ) → IsCounted s turn → IsCounted s (turn + 1)
-counted-later s turn h = record { segments = omega (arith, h.segments); breaks = omega (arith, h.breaks) }
+pub counted-later : (s : Station) (heard asked : ℕ) → IsCounted s heard asked → IsCounted s heard (asked + 1)
+counted-later s heard asked h = record { segments = omega (arith, h.segments); breaks = omega (arith, h.breaks) }
 
 -- The next break of the script is the next one of the user's.
 pub next-is : BreaksAreTheScripts → (value : ScriptValue) (role : Role) (index taken : ℕ) (next : Option (ℕ × ℕ))

@@ -35,9 +35,9 @@ pub record AreIdle (l : Link) : Type 0 where
   pub answ : IsIdle l.answ
 
 -- what both took in so many turns is bounded by them
-pub record AreCounted (l : Link) (turns : ℕ) : Type 0 where
-  pub orig : IsCounted l.orig turns
-  pub answ : IsCounted l.answ turns
+pub record AreCounted (l : Link) (heard asked : ℕ) : Type 0 where
+  pub orig : IsCounted l.orig heard asked
+  pub answ : IsCounted l.answ heard asked
 
 -- Both ends hear these, and neither breaks.
 pub record HearsBoth (l : Link) (files : Both (List ℕ)) (ends : Ends) (turn : ℕ) (to_orig to_answ : Arrived) : Type 0 where

@@ -1,4 +1,4 @@
--- The names of the files that both users send, and of those that they receive.
+-- The names of a run's files: those that both users send, those that they receive, and the trace.
 use Rattle.std.specs.Prelude.{◌≡◌, ◌≢◌, ◌⊎◌, ℕ, List, Result, IsErrOf}
 use Rattle.outside_core.specs.Folder.{FolderState, GoesOn, KeepsName, Rose}
 use Rattle.outside_core.specs.declared.folder.FolderFault.{FolderFault}
@@ -11,9 +11,10 @@ pub record Written : Type 0 where
   pub answ : List ℕ
   pub got_o : List ℕ
   pub got_a : List ℕ
+  pub trace : List ℕ
 
 abbrev pub written : Names → Written
-written n = record { orig = n.orig.now; answ = n.answ.now; got_o = n.got_o.now; got_a = n.got_a.now }
+written n = record { orig = n.orig.now; answ = n.answ.now; got_o = n.got_o.now; got_a = n.got_a.now; trace = n.trace.now }
 
 -- a count of reading a file that is sent rose, or stands at its last value
 abbrev pub ReadRose : FolderState → FolderState → Written → Type 0

@@ -62,11 +62,11 @@ fn setup(script: &Script, role: Role) -> Setup
 /// is taken down.
 fn serve(station: &mut Station, script: &Script, role: Role, turn: u64, released: bool)
     requires turn { turn < 2 ^ 40 }
-    requires counted { IsCounted station.old turn }
+    requires counted { IsCounted station.old (turn + 1) turn }
     ensures stands { (file : List ℕ) (a : Account) → Stands station.old file a
         → Stands station.new file (asked turn released (breaks_of script.now role) (after_busy (is_busy turn (busy_of script.now role)) a)) }
     ensures idle { IsIdle station.old → IsIdle station.new }
-    ensures counted { IsCounted station.new (turn + 1) }
+    ensures counted { IsCounted station.new (turn + 1) (turn + 1) }
 {
     scripts_make_links();
     station.set_busy(script.busy(role, turn));
@@ -99,10 +99,10 @@ fn hear_well(station: &mut Station, turn: u64, arrived: &Arrived)
     requires turn { turn < 2 ^ 40 }
     requires numbers { IsNumbered arrived.now }
     requires idle { IsIdle station.old }
-    requires counted { IsCounted station.old turn }
+    requires counted { IsCounted station.old turn turn }
     requires well { (file : List ℕ) × (a : Account) × Stands station.old file a × (is_ok (hear turn arrived.now a) ≡ true) }
     ensures hears { (file : List ℕ) (a : Account) → Stands station.old file a → is_ok (hear turn arrived.now a) ≡ true → HearsOn station.new file a turn arrived.now }
-    ensures counted { IsCounted station.new (turn + 1) }
+    ensures counted { IsCounted station.new (turn + 1) turn }
 {
     match station.hear(turn, arrived) {
         Ok(()) => {}
@@ -118,7 +118,7 @@ impl Link {
     pub fn new(alloc: Global, script: &Script) -> Result<Link, NoMemory>
         ensures stands { IfOk result (λ link. (files : Both (List ℕ)) → LinkStands link files (start (link_of script.now files))) }
         ensures idle { IfOk result AreIdle }
-        ensures counted { IfOk result (λ link. AreCounted link 0) }
+        ensures counted { IfOk result (λ link. AreCounted link 0 0) }
     {
         Ok(Link {
             orig: Station::new(alloc, setup(script, Role::Originator))?,
@@ -142,11 +142,11 @@ impl Link {
         requires orig_numbers { IsNumbered to_orig.now }
         requires answ_numbers { IsNumbered to_answ.now }
         requires idle { AreIdle self.old }
-        requires counted { AreCounted self.old turn }
+        requires counted { AreCounted self.old turn turn }
         requires well { (files : Both (List ℕ)) × (ends : Ends) × LinkStands self.old files ends × HearsWell ends turn to_orig.now to_answ.now }
         ensures hears { (files : Both (List ℕ)) (ends : Ends) → LinkStands self.old files ends → HearsWell ends turn to_orig.now to_answ.now
             → HearsBoth self.new files ends turn to_orig.now to_answ.now }
-        ensures counted { AreCounted self.new (turn + 1) }
+        ensures counted { AreCounted self.new (turn + 1) turn }
     {
         hear_well(&mut self.orig, turn, to_orig);
         hear_well(&mut self.answ, turn, to_answ);
@@ -161,7 +161,7 @@ impl Link {
         requires apart { (written names.now).got_o ≢ (written names.now).got_a }
         ensures stands { OnOk result ((files : Both (List ℕ)) (ends : Ends) → LinkStands self.old files ends → LinkStands self.new files (both_ends delivered ends)) }
         ensures delivered { OnOk result (HaveDelivered self.new) }
-        ensures counted { OnOk result ((turns : ℕ) → AreCounted self.old turns → AreCounted self.new turns) }
+        ensures counted { OnOk result ((heard asked : ℕ) → AreCounted self.old heard asked → AreCounted self.new heard asked) }
         ensures ok { OnOk result ((files : Both (List ℕ)) (ends : Ends) → LinkStands self.old files ends → Delivers (F.state folder.old) (F.state folder.new) (written names.now) ends) }
         ensures err { OnErr result ((files : Both (List ℕ)) (ends : Ends) → LinkStands self.old files ends → DeliversPart (F.state folder.old) (F.state folder.new) (written names.now) ends) }
         ensures only { OnlyGot (written names.now) (F.state folder.old) (F.state folder.new) }
@@ -185,7 +185,7 @@ impl Link {
         ensures answer { (files : Both (List ℕ)) (ends : Ends) → LinkStands self.old files ends → (result.orig ≡ given_break ends.orig) × (result.answ ≡ given_break ends.answ) }
         ensures stands { (files : Both (List ℕ)) (ends : Ends) → LinkStands self.old files ends → LinkStands self.new files (both_ends after_given ends) }
         ensures idle { AreIdle self.new }
-        ensures counted { (turns : ℕ) → AreCounted self.old turns → AreCounted self.new turns }
+        ensures counted { (heard asked : ℕ) → AreCounted self.old heard asked → AreCounted self.new heard asked }
     {
         let orig = self.orig.given_break();
         let answ = self.answ.given_break();
@@ -209,7 +209,7 @@ impl Link {
         ensures stands { OnOk result ((files : Both (List ℕ)) (ends : Ends) → LinkStands self.old files ends → AreWithin files
             → SuppliesBoth (F.state folder.old) (written names.now) self.new files ends) }
         ensures idle { AreIdle self.old → AreIdle self.new }
-        ensures counted { (turns : ℕ) → AreCounted self.old turns → AreCounted self.new turns }
+        ensures counted { (heard asked : ℕ) → AreCounted self.old heard asked → AreCounted self.new heard asked }
         ensures only { OnlyReads (F.state folder.old) (F.state folder.new) }
         ensures cause { ReadCause (F.state folder.old) (F.state folder.new) (written names.now) result }
         ensures stand { OnOk result (CountsStand (F.state folder.old) (F.state folder.new)) }
@@ -228,10 +228,10 @@ impl Link {
     /// Both ends are told whether their users are busy, and asked for the next break of each, unless the originator was told to release.
     pub fn serve(&mut self, script: &Script, turn: u64)
         requires turn { turn < 2 ^ 40 }
-        requires counted { AreCounted self.old turn }
+        requires counted { AreCounted self.old (turn + 1) turn }
         ensures stands { (files : Both (List ℕ)) (ends : Ends) → LinkStands self.old files ends → LinkStands self.new files (served_on script.now turn ends) }
         ensures idle { AreIdle self.old → AreIdle self.new }
-        ensures counted { AreCounted self.new (turn + 1) }
+        ensures counted { AreCounted self.new (turn + 1) (turn + 1) }
     {
         let released = is_released(self.orig.phase());
         serve(&mut self.orig, script, Role::Originator, turn, released);
@@ -253,7 +253,7 @@ impl Link {
         ensures orig_sendable { IfOk result (λ sent. IsSendable sent.orig) }
         ensures answ_sendable { IfOk result (λ sent. IsSendable sent.answ) }
         ensures idle { OnOk result (AreIdle self.old → AreIdle self.new) }
-        ensures counted { OnOk result ((turns : ℕ) → AreCounted self.old turns → AreCounted self.new turns) }
+        ensures counted { OnOk result ((heard asked : ℕ) → AreCounted self.old heard asked → AreCounted self.new heard asked) }
     {
         let release = self.are_finished(script, turn);
         let mut orig = Sent::Flags;

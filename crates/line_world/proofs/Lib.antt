@@ -1,10 +1,5 @@
-pub mod Scripts
-pub mod Stations
-pub mod Frames
-pub mod Received
-pub mod SlotBits
-pub mod Directions
-pub mod Turns
-pub mod Order
-pub mod Crossing
-pub mod Bound
+pub mod Hearing
+pub mod Serving
+pub mod Speaking
+pub mod Folders
+pub mod Turning

@@ -1,10 +1,4 @@
-pub mod Script
-pub mod Heard
-pub mod Slots
-pub mod Received
-pub mod Receiver
-pub mod Direction
-pub mod Run
-pub mod Crossing
-pub mod Station
+pub mod Tally
 pub mod World
+pub mod Turn
+pub mod Mid

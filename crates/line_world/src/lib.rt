@@ -1,19 +1,15 @@
-//! Two ends of a link and the line between them, in turns: a pure function of two files and a script of lost slots, apart
-//! from the folder that a turn writes to. `World` makes one turn at a time, `Script` says which slots the line loses,
-//! `Heard` is what arrives at an end. The line carries slots of bits: frames between flags.
+//! Two ends of the link, each with its user, over two directions of the line of samples, in turns: a run, as its script and its files
+//! determine it. A pure function of the script and of the folder that is lent to each turn. The central type is [`World`].
 #![tactic(auto)]
 
-mod direction;
-mod heard;
 pub mod laws;
-mod receiver;
-mod script;
-mod sizes;
-mod station;
+mod lines;
+mod step;
+mod tally;
 mod world;
 
-pub use heard::Heard;
-pub use line_texts::write_frame_text;
-pub use script::{Loss, Script, ScriptFault, read_script};
-pub use script_causes::Cause;
-pub use world::{Names, RunFault, Step, World};
+pub use both_sides::Names;
+pub use line_texts::{TraceLine, write_frame_text, write_line};
+pub use sample_line::{Heard, Line};
+pub use step::{RunFault, Step};
+pub use world::World;

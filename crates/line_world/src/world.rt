@@ -1,86 +1,79 @@
 // Turns of the world.
-ghost use Rattle.std.specs.Prelude.{◌≡◌, ◌<◌, ◌+◌, ◌^◌, ◌≢◌, ◌&&◌, [], List, ℕ, OnOk, OnErr, IfErr, MatchResult};
-ghost use Rattle.outside_core.specs.Folder.{Rose, CountsStand};
-ghost use Rattle.line_world.specs.declared.script.Loss.{Loss};
-ghost use Rattle.thin_link.specs.Account.{Account, whole};
-ghost use Rattle.line_world.specs.Run.{Files, Turn, Ends, start, delivered_both, offered_both, both_whole};
-ghost use Rattle.line_world.specs.World.{During, WorldAfter, IsReady, files_of, script_of, turn_of, Written, written, AreApart, HeardBoth, HaveArrived, SameLine, KeepsLine, CountsTo, AreIdle, SpeaksAs, Wrote, WrotePart, IsFolderFault, IsTries, TurnIs, number_after, HasRunCause, OnlyGot, PassesNoneOver};
+ghost use Rattle.std.specs.Prelude.{◌≡◌, ℕ, ◌+◌, ◌<◌, ◌^◌, ◌∷◌, [], true, List, length, OnOk, OnErr, IfOk, IfErr};
+ghost use Rattle.roles.specs.Both.{Both};
+ghost use Rattle.slot_contents.specs.declared.heard.Heard.{Heard};
+ghost use Rattle.link_run.specs.Run.{Ends, Turn, start};
+ghost use Rattle.link_run.specs.End.{is_closed};
+ghost use Rattle.line_run.specs.Sampled.{EndsLine};
+ghost use Rattle.line_run.specs.Sampled as line_ends;
+ghost use Rattle.line_run.specs.Scripted.{channel_of, link_of};
+ghost use Rattle.both_sides.specs.declared.each.Each.{Each};
+ghost use Rattle.both_sides.specs.Names.{written};
+ghost use Rattle.both_sides.specs.Link.{AreCounted, AreIdle, AreWithin, LinkStands};
+ghost use Rattle.outside_core.specs.Folder.{OnlyReads, OnlyWrites};
+ghost use Rattle.link_account.specs.Account.{check_of, given_break};
+ghost use Rattle.noise_script.specs.Script.{IsInLimits};
 
-use crate::direction::Direction;
-use crate::station::Station;
-use crate::{Heard, Script};
-use outside_core::{Folder, FolderFault};
+use crate::laws::turns_are_few;
+use crate::lines::{folder_fault, link_fault, sent_in, turn_lines, write_chance, write_turn};
+use crate::step::{RunFault, Step};
+use crate::tally::Tally;
+use both_sides::{Each, LineEnd, Lines, Link, Names, arrived};
+use frame_check::Check;
+use line_run::laws::{samples_are_carried, scripts_make_links, slots_have_room};
+use link_run::laws::{
+    each_turn_is_made, ends_break_for_want_alone, files_count_as_far_as_they_were_read,
+    segments_are_counted_by_their_numbers,
+};
+use noise_script::Script;
+use outside_core::{Folder, NoMemory};
 use roles::Role;
-use thin_link::Spent;
+use sample_line::{Heard, Line};
+use std::alloc::Global;
 
-/// The names of a run's files: what each end sends, what each end received, and the trace.
-#[derive(Clone, Copy)]
-pub struct Names<'a> {
-    pub orig: &'a str,
-    pub answ: &'a str,
-    pub got_o: &'a str,
-    pub got_a: &'a str,
-    pub trace: &'a str,
-}
-
-/// What comes after a turn.
-#[derive(Clone, Copy, Debug, PartialEq, Eq)]
-pub enum Step {
-    Going,
-    /// Both files have crossed. `turn` is the number of this last turn.
-    Done { turn: u64 },
-}
-
-/// Why a run ends with less than both files.
-#[derive(Clone, Copy, Debug, PartialEq, Eq)]
-pub enum RunFault {
-    WriteFault,
-    /// That end sent the segment as often as it may, and never heard an acknowledgement.
-    LinkLost { role: Role, segment: u64, turn: u64 },
-    NoMemory,
-}
-
-/// Two ends with their files, and the line between them.
+/// Two ends with their users, and the line between them.
 #[derive(Drop)]
 pub struct World {
-    orig: Station,
-    answ: Station,
-    from_orig: Direction,
-    from_answ: Direction,
+    link: Link,
+    lines: Lines,
     script: Script,
     turn: u64,
+    tally: Tally,
 }
 
-/// What a write that failed makes of the run.
-fn write_fault(fault: FolderFault) -> RunFault
-    ensures write { result ≡ RunFault.WriteFault → fault ≡ FolderFault.Failed }
-    ensures memory { result ≡ RunFault.NoMemory → fault ≡ FolderFault.NoMemory }
-    ensures others { (role : Role) (segment turn : ℕ) → result ≢ RunFault.LinkLost role segment turn }
+/// The checks of both ends' frames with numbers: with these each hears, and sends.
+fn checks(link: &Link) -> Each<Check>
+    ensures orig { (files : Both (List ℕ)) (ends : Ends) → LinkStands link.now files ends → result.orig ≡ check_of ends.orig }
+    ensures answ { (files : Both (List ℕ)) (ends : Ends) → LinkStands link.now files ends → result.answ ≡ check_of ends.answ }
 {
-    match fault {
-        FolderFault::Failed => RunFault::WriteFault,
-        FolderFault::NoMemory => RunFault::NoMemory,
+    Each {
+        orig: link.check(Role::Originator),
+        answ: link.check(Role::Answerer),
     }
 }
 
 impl World {
-    /// A world before its first turn.
-    #[tactic(auto, unfolding(crate::specs::World::CarriesLast))]
-    pub fn new(script: Script, orig: Vec<u8>, answ: Vec<u8>) -> World
-        ensures files { files_of result ≡ record { orig = orig.items; answ = answ.items } }
-        ensures script { script_of result ≡ script }
-        ensures world { WorldAfter result (files_of result) (script_of result) [] start }
-        ensures ready { IsReady result }
-        ensures turn { turn_of result ≡ 0 }
+    ghost use Rattle.line_world.specs.declared.world.World.{World};
+    ghost use Rattle.line_world.specs.Tally.{IsFew};
+    ghost use Rattle.line_world.specs.World.{IsReady, WorldAfter, AreApart, HasPassed, OnlyOutputs, script_of, turn_of, lost_of, again_of};
+    ghost use Rattle.line_world.specs.Mid.{AddsPart, Finishes, HearsTurn, InTurn, HandsOver, HasPart, IsToSpeak, SameBeside, Serves, SpeaksTurn, handed};
+    ghost use Rattle.line_world.specs.Turn.{EndsBy, FaultCounts, IsReading, IsWriting, TurnAnswers, TurnCounts};
+
+    /// A world before its first turn. It takes all memory of its ends and its lines.
+    pub fn new(alloc: Global, script: Script) -> Result<World, NoMemory>
+        ensures script { IfOk result (λ w. script_of w ≡ script) }
+        ensures turn { IfOk result (λ w. turn_of w ≡ 0) }
+        ensures ready { IfOk result IsReady }
+        ensures world { IfOk result (λ w. (files : Both (List ℕ)) → WorldAfter w files [] (start (link_of script files))) }
     {
-        World {
-            orig: Station::new(orig),
-            answ: Station::new(answ),
-            from_orig: Direction::new(Role::Originator),
-            from_answ: Direction::new(Role::Answerer),
+        script.is_in_limits();
+        Ok(World {
+            link: Link::new(alloc, &script)?,
+            lines: Lines::new(alloc, &script)?,
             script,
             turn: 0,
-        }
+            tally: Tally::new(),
+        })
     }
 
     /// How many turns were made.
@@ -90,122 +83,252 @@ impl World {
         self.turn
     }
 
-    /// Both ends hear what arrives.
-    fn hear(&mut self)
+    /// Both ends hear what arrives, or the line ends the run.
+    fn hear(&mut self) -> Result<Each<Heard>, LineEnd>
         requires ready { IsReady self.old }
-        requires early { turn_of self.old < 2 ^ 40 }
-        ensures heard { (f : Files) (script : List Loss) (ts : List Turn) (ends : Ends) → WorldAfter self.old f script ts ends → HeardBoth self.new f script ts ends }
-        ensures kept { KeepsLine self.old self.new }
-        ensures counted { CountsTo self.new (turn_of self.old + turn_of self.old + 2) }
+        ensures hears { (files : Both (List ℕ)) (ts : List Turn) (ends : Ends) → WorldAfter self.old files ts ends → HearsTurn self.new files ts ends result }
+        ensures counted { OnOk result (AreCounted self.new.link (self.old.turn + 1) self.old.turn) }
+        ensures few { OnOk result (IsFew self.new.tally (self.old.turn + 1) self.old.turn) }
+        ensures turn { self.new.turn ≡ self.old.turn }
+        ensures script { self.new.script ≡ self.old.script }
     {
-        let to_orig = self.from_answ.arrive(&self.script, self.turn);
-        let to_answ = self.from_orig.arrive(&self.script, self.turn);
-        self.orig.hear(&to_orig);
-        self.answ.hear(&to_answ);
+        turns_are_few();
+        samples_are_carried();
+        scripts_make_links();
+        ends_break_for_want_alone();
+        self.script.is_in_limits();
+        let checks = checks(&self.link);
+        let heard = match self.lines.arrive(&self.script, self.turn, &checks) {
+            Ok(heard) => heard,
+            Err(end) => return Err(end),
+        };
+        self.tally.hear(&heard);
+        self.link
+            .hear(self.turn, &arrived(&heard.orig), &arrived(&heard.answ));
+        Ok(heard)
     }
 
-    /// What both ends took is appended to the received files.
-    fn hand_out<F: Folder>(&mut self, folder: &mut F, names: &Names<'_>) -> Result<(), RunFault>
+    /// What both ends took is handed over: segments to the received files, and to the users the lengths of the breaks that came.
+    fn hand_over<F: Folder>(
+        &mut self,
+        folder: &mut F,
+        names: &Names<'_>,
+    ) -> Result<Each<Option<u8>>, RunFault>
         requires apart { AreApart (written names.now) }
-        ensures during { OnOk result ((f : Files) (script : List Loss) (ts : List Turn) (ends : Ends) → During self.old f script ts ends → During self.new f script ts (delivered_both ends)) }
-        ensures idle { OnOk result (AreIdle self.new) }
-        ensures kept { KeepsLine self.old self.new }
-        ensures line { SameLine self.old self.new }
-        ensures counted { (most : ℕ) → CountsTo self.old most → CountsTo self.new most }
-
-        ensures ok { OnOk result ((f : Files) (script : List Loss) (ts : List Turn) (ends : Ends) → During self.old f script ts ends → Wrote (F.state folder.old) (F.state folder.new) (written names.now) ends) }
-        ensures err { OnErr result ((f : Files) (script : List Loss) (ts : List Turn) (ends : Ends) → During self.old f script ts ends → WrotePart (F.state folder.old) (F.state folder.new) (written names.now) ends) }
-        ensures only { OnlyGot (written names.now) (F.state folder.old) (F.state folder.new) }
-        ensures cause { IfErr result (IsFolderFault (F.state folder.old) (F.state folder.new) (written names.now)) }
-        ensures stand { OnOk result (CountsStand (F.state folder.old) (F.state folder.new)) }
+        ensures hands { IfOk result (λ given. (files : Both (List ℕ)) (ts : List Turn) (ends : Ends) (heard : Each Heard) (mid : Ends) → InTurn self.old files ts ends heard mid mid
+            → HandsOver self.new (F.state folder.old) (F.state folder.new) (written names.now) files ts ends heard mid given) }
+        ensures part { OnErr result ((files : Both (List ℕ)) (ts : List Turn) (ends : Ends) (heard : Each Heard) (mid : Ends) → InTurn self.old files ts ends heard mid mid
+            → HasPart (F.state folder.old) (F.state folder.new) (written names.now) mid) }
+        ensures idle { OnOk result (AreIdle self.new.link) }
+        ensures counted { OnOk result ((heard asked : ℕ) → AreCounted self.old.link heard asked → AreCounted self.new.link heard asked) }
+        ensures beside { SameBeside self.old self.new }
+        ensures only { OnlyOutputs (F.state folder.old) (F.state folder.new) (written names.now) }
+        ensures counts { TurnCounts (F.state folder.old) (F.state folder.new) (written names.now) result }
+        ensures write { IfErr result IsWriting }
     {
-        match self.orig.hand_out(folder, names.got_o) {
+        match self.link.deliver(folder, names) {
+            Ok(()) => Ok(self.link.given_breaks()),
+            Err(fault) => Err(folder_fault(RunFault::WriteFault, fault)),
+        }
+    }
+
+    /// Both ends are offered what they want of their users' files, and served otherwise: they are then to speak.
+    fn serve<F: Folder>(&mut self, folder: &mut F, names: &Names<'_>) -> Result<(), RunFault>
+        requires early { self.old.turn < 2 ^ 40 }
+        requires counted { AreCounted self.old.link (self.old.turn + 1) self.old.turn }
+        requires limits { IsInLimits self.old.script }
+        requires stands { (files : Both (List ℕ)) × (ts : List Turn) × (ends : Ends) × (heard : Each Heard) × (mid : Ends) × InTurn self.old files ts ends heard mid (handed mid)
+            × AreWithin files }
+        ensures serves { OnOk result ((files : Both (List ℕ)) (ts : List Turn) (ends : Ends) (heard : Each Heard) (mid : Ends) → InTurn self.old files ts ends heard mid (handed mid)
+            → AreWithin files → Serves self.new (F.state folder.old) (written names.now) files ts ends heard mid) }
+        ensures idle { OnOk result (AreIdle self.old.link → AreIdle self.new.link) }
+        ensures counted { OnOk result (AreCounted self.new.link (self.old.turn + 1) (self.old.turn + 1)) }
+        ensures beside { SameBeside self.old self.new }
+        ensures only { OnlyReads (F.state folder.old) (F.state folder.new) }
+        ensures counts { TurnCounts (F.state folder.old) (F.state folder.new) (written names.now) result }
+        ensures read { IfErr result IsReading }
+    {
+        files_count_as_far_as_they_were_read();
+        match self.link.supply(folder, names) {
             Ok(()) => {}
-            Err(fault) => return Err(write_fault(fault)),
+            Err(fault) => return Err(folder_fault(RunFault::ReadFault, fault)),
         }
-        match self.answ.hand_out(folder, names.got_a) {
-            Ok(()) => Ok(()),
-            Err(fault) => Err(write_fault(fault)),
-        }
-    }
-
-    /// Both ends are offered the pieces that they want.
-    fn supply(&mut self)
-        ensures during { (f : Files) (script : List Loss) (ts : List Turn) (ends : Ends) → During self.old f script ts ends → During self.new f script ts (offered_both f ends) }
-        ensures idle { AreIdle self.old → AreIdle self.new }
-        ensures kept { KeepsLine self.old self.new }
-        ensures line { SameLine self.old self.new }
-        ensures counted { (most : ℕ) → CountsTo self.old most → CountsTo self.new most }
-    {
-        self.orig.supply();
-        self.answ.supply();
-    }
-
-    /// Both files are read to their end and wholly acknowledged.
-    fn whole(&self) -> bool
-        ensures { (f : Files) (script : List Loss) (ts : List Turn) (ends : Ends) → During self.now f script ts ends → result ≡ both_whole ends }
-    {
-        self.orig.whole() && self.answ.whole()
-    }
-
-    /// That end's tries are spent in this turn.
-    fn link_lost(&self, role: Role, spent: Spent) -> RunFault
-        ensures { result ≡ RunFault.LinkLost role spent.segment (turn_of self.now) }
-    {
-        RunFault::LinkLost {
-            role,
-            segment: spent.segment,
-            turn: self.turn,
-        }
-    }
-
-    /// Both ends speak, and what they send is put on the line.
-    fn speak(&mut self) -> Result<(), RunFault>
-        requires early { turn_of self.old < 2 ^ 40 }
-        ensures spoken { (f : Files) (script : List Loss) (ts : List Turn) (mid : Ends) → During self.old f script ts mid → HaveArrived self.old ts → SpeaksAs self.new f script ts mid result }
-        ensures tries { IfErr result IsTries }
-        ensures idle { AreIdle self.old → AreIdle self.new }
-        ensures kept { KeepsLine self.old self.new }
-        ensures counted { (most : ℕ) → CountsTo self.old most → CountsTo self.new most }
-    {
-        let from_orig = match self.orig.speak(self.turn) {
-            Ok(sent) => sent,
-            Err(spent) => return Err(self.link_lost(Role::Originator, spent)),
-        };
-        let from_answ = match self.answ.speak(self.turn) {
-            Ok(sent) => sent,
-            Err(spent) => return Err(self.link_lost(Role::Answerer, spent)),
-        };
-        self.from_orig.transmit(&from_orig);
-        self.from_answ.transmit(&from_answ);
+        self.link.serve(&self.script, self.turn);
         Ok(())
     }
 
-    /// One turn: both ends hear, what they took is written, they are offered what they want, and they speak. The names
-    /// of all turns are the same.
+    /// Both ends speak: what they send is counted and put on the line, and both lines of the turn go out. In the last turn nothing is sent.
+    fn speak<F: Folder>(
+        &mut self,
+        folder: &mut F,
+        names: &Names<'_>,
+        heard: Each<Heard>,
+        given: &Each<Option<u8>>,
+    ) -> Result<(), RunFault>
+        requires early { self.old.turn < 2 ^ 40 }
+        requires limits { IsInLimits self.old.script }
+        requires few { IsFew self.old.tally (self.old.turn + 1) self.old.turn }
+        requires stands { (files : Both (List ℕ)) × (ts : List Turn) × (ends : Ends) × (mid : Ends) × IsToSpeak self.old files ts ends heard mid }
+        ensures speaks { (files : Both (List ℕ)) (ts : List Turn) (ends mid : Ends) → IsToSpeak self.old files ts ends heard mid
+            → given.now.orig ≡ given_break mid.orig → given.now.answ ≡ given_break mid.answ
+            → SpeaksTurn self.new (F.state folder.old) (F.state folder.new) (written names.now) files ts ends mid result }
+        ensures idle { OnOk result (AreIdle self.old.link → AreIdle self.new.link) }
+        ensures counted { OnOk result ((heard asked : ℕ) → AreCounted self.old.link heard asked → AreCounted self.new.link heard asked) }
+        ensures few { OnOk result (IsFew self.new.tally (self.old.turn + 1) (self.old.turn + 1)) }
+        ensures script { self.new.script ≡ self.old.script }
+        ensures turn { OnOk result (self.new.turn ≡ self.old.turn + 1) }
+        ensures only { OnlyWrites (F.state folder.old) (F.state folder.new) (written names.now).trace }
+        ensures counts { TurnCounts (F.state folder.old) (F.state folder.new) (written names.now) result }
+    {
+        samples_are_carried();
+        scripts_make_links();
+        slots_have_room();
+        each_turn_is_made();
+        segments_are_counted_by_their_numbers();
+        match self.link.speak(&self.script, self.turn) {
+            Ok(sent) => {
+                let checks = checks(&self.link);
+                self.tally.send(&sent);
+                let sent = Each {
+                    orig: Some(sent.orig),
+                    answ: Some(sent.answ),
+                };
+                let lines = turn_lines(self.turn, heard, given, sent);
+                match write_turn(folder, names, &lines) {
+                    Ok(()) => {}
+                    Err(fault) => return Err(fault),
+                }
+                self.lines.send(sent_in(lines), &checks);
+                self.turn += 1;
+                Ok(())
+            }
+            Err(breaking) => {
+                let silent = Each {
+                    orig: None,
+                    answ: None,
+                };
+                let lines = turn_lines(self.turn, heard, given, silent);
+                match write_turn(folder, names, &lines) {
+                    Ok(()) => Err(link_fault(self.turn, breaking)),
+                    Err(fault) => Err(fault),
+                }
+            }
+        }
+    }
+
+    /// The run is done: nothing is sent in this last turn, and its lines go out.
+    fn finish<F: Folder>(
+        &self,
+        folder: &mut F,
+        names: &Names<'_>,
+        heard: Each<Heard>,
+        given: &Each<Option<u8>>,
+    ) -> Result<(), RunFault>
+        ensures adds { OnOk result ((files : Both (List ℕ)) (ts : List Turn) (ends mid : Ends) → InTurn self.now files ts ends heard mid (handed mid) → is_closed mid.orig.phase ≡ true
+            → given.now.orig ≡ given_break mid.orig → given.now.answ ≡ given_break mid.answ
+            → Finishes self.now (F.state folder.old) (F.state folder.new) (written names.now) files ts ends mid) }
+        ensures part { OnErr result ((files : Both (List ℕ)) (ts : List Turn) (ends mid : Ends) → InTurn self.now files ts ends heard mid (handed mid) → is_closed mid.orig.phase ≡ true
+            → given.now.orig ≡ given_break mid.orig → given.now.answ ≡ given_break mid.answ
+            → AddsPart self.now.script (F.state folder.old) (F.state folder.new) (written names.now) files ts ends mid) }
+        ensures only { OnlyWrites (F.state folder.old) (F.state folder.new) (written names.now).trace }
+        ensures counts { TurnCounts (F.state folder.old) (F.state folder.new) (written names.now) result }
+        ensures write { IfErr result IsWriting }
+    {
+        let silent = Each {
+            orig: None,
+            answ: None,
+        };
+        let lines = turn_lines(self.turn, heard, given, silent);
+        match write_turn(folder, names, &lines) {
+            Ok(()) => Ok(()),
+            Err(fault) => Err(fault),
+        }
+    }
+
+    /// A slot is a chance match: its one line goes out.
+    fn meet_chance<F: Folder>(&self, folder: &mut F, names: &Names<'_>, role: Role) -> RunFault
+        requires apart { AreApart (written names.now) }
+        ensures meets { (ts : List Turn) (ends : Ends) → turn_of self.now ≡ length ts → EndsLine (channel_of (script_of self.now)) ts ends (line_ends.ChanceMatch role)
+            → (files : Both (List ℕ)) → EndsBy (script_of self.now) (F.state folder.old) (F.state folder.new) (written names.now) files ts ends result }
+        ensures only { OnlyWrites (F.state folder.old) (F.state folder.new) (written names.now).trace }
+        ensures counts { FaultCounts (F.state folder.old) (F.state folder.new) (written names.now) result }
+    {
+        match write_chance(folder, names, self.turn, role) {
+            Ok(()) => RunFault::ChanceMatch {
+                role,
+                turn: self.turn,
+            },
+            Err(fault) => fault,
+        }
+    }
+
+    /// One turn: both ends hear, what they took is written, they are offered what they want and served, and they speak. The names of all
+    /// turns are the same. A file that is sent ends at [`both_sides::FILE_LIMIT`] octets.
     pub fn turn<F: Folder>(&mut self, folder: &mut F, names: &Names<'_>) -> Result<Step, RunFault>
         requires ready { IsReady self.old }
-        requires early { turn_of self.old < 2 ^ 40 }
         requires apart { AreApart (written names.now) }
 
-        // A turn goes on as the ends' rules say, over what arrives.
-        ensures turn { (f : Files) (script : List Loss) (ts : List Turn) (ends : Ends) → WorldAfter self.old f script ts ends → TurnIs self.new (F.state folder.old) (F.state folder.new) (written names.now) f script ts ends result }
-        ensures number { turn_of self.new ≡ number_after (turn_of self.old) result }
+        // A turn is one of the run that the script and the files make, and adds to each output what that turn gives.
+        ensures turn { (files : Both (List ℕ)) (ts : List Turn) (ends : Ends) → WorldAfter self.old files ts ends → AreWithin files
+            → TurnAnswers self.new (F.state folder.old) (F.state folder.new) (written names.now) files ts ends result }
+        ensures script { script_of self.new ≡ script_of self.old }
         ensures ready { result ≡ Ok Step.Going → IsReady self.new }
+        ensures number { result ≡ Ok Step.Going → turn_of self.new ≡ turn_of self.old + 1 }
 
-        // It touches the received files alone, and a fault has its cause.
-        ensures only { OnlyGot (written names.now) (F.state folder.old) (F.state folder.new) }
-        ensures cause { IfErr result (HasRunCause (F.state folder.old) (F.state folder.new) (written names.now)) }
-        ensures stand { PassesNoneOver (F.state folder.old) (F.state folder.new) result }
+        // It touches the outputs alone, and a fault has its cause.
+        ensures only { OnlyOutputs (F.state folder.old) (F.state folder.new) (written names.now) }
+        ensures counts { TurnCounts (F.state folder.old) (F.state folder.new) (written names.now) result }
     {
-        self.hear();
-        self.hand_out(folder, names)?;
-        self.supply();
-        if self.whole() {
-            return Ok(Step::Done { turn: self.turn });
+        turns_are_few();
+        samples_are_carried();
+        scripts_make_links();
+        each_turn_is_made();
+        let heard = match self.hear() {
+            Ok(heard) => heard,
+            Err(LineEnd::Lost { role, symbol }) => {
+                return Err(RunFault::LineLost { role, symbol });
+            }
+            Err(LineEnd::Chance { role }) => return Err(self.meet_chance(folder, names, role)),
+        };
+        let given = match self.hand_over(folder, names) {
+            Ok(given) => given,
+            Err(fault) => return Err(fault),
+        };
+        if self.link.is_closed() {
+            return match self.finish(folder, names, heard, &given) {
+                Ok(()) => Ok(Step::Done { turn: self.turn }),
+                Err(fault) => Err(fault),
+            };
         }
-        self.speak()?;
-        self.turn += 1;
-        Ok(Step::Going)
+        match self.serve(folder, names) {
+            Ok(()) => {}
+            Err(fault) => return Err(fault),
+        }
+        match self.speak(folder, names, heard, &given) {
+            Ok(()) => Ok(Step::Going),
+            Err(fault) => Err(fault),
+        }
+    }
+
+    /// The direction in which this role sends. Its decoder has heard the samples of exactly the slots that have arrived, also of those that the
+    /// script loses.
+    pub fn line(&self, role: Role) -> &Line
+        ensures { (files : Both (List ℕ)) (ts : List Turn) (ends : Ends) → WorldAfter self.now files ts ends → HasPassed result.now (script_of self.now) role ts }
+    {
+        self.lines.line(role)
+    }
+
+    /// How many slots were lost in the turns so far.
+    pub fn lost(&self) -> u64
+        ensures { result ≡ lost_of self.now }
+    {
+        self.tally.lost
+    }
+
+    /// How many I frames were sent in the turns so far whose segment had been sent before.
+    pub fn again(&self) -> u64
+        ensures { result ≡ again_of self.now }
+    {
+        self.tally.again
     }
 }

@@ -21,10 +21,10 @@ pub record IsIdle (s : Station) : Type 0 where
   pub delivered : undelivered_of s.end ≡ 0
   pub given : waiting_of s.end ≡ None
 
--- What an end took in so many turns is bounded by them.
-pub record IsCounted (s : Station) (turns : ℕ) : Type 0 where
-  pub segments : taken_of s.end ≤ 128 * turns
-  pub breaks : s.breaks ≤ turns
+-- What an end took is bounded by the turns in which it heard, and its user's breaks by those in which it was asked for one.
+pub record IsCounted (s : Station) (heard asked : ℕ) : Type 0 where
+  pub segments : taken_of s.end ≤ 128 * heard
+  pub breaks : s.breaks ≤ asked
 
 -- what hearing answers, where this is what it makes of the account
 abbrev pub HearsAs : Result Account LinkFault → List ℕ → Station → Result (Unit {0}) LinkFault → Type 0

@@ -41,7 +41,7 @@ impl Station {
         requires { IsSetUp setup }
         ensures stands { IfOk result (λ station. (file : List ℕ) → Stands station file (fresh setup)) }
         ensures idle { IfOk result IsIdle }
-        ensures counted { IfOk result (λ station. IsCounted station 0) }
+        ensures counted { IfOk result (λ station. IsCounted station 0 0) }
     {
         segments_are_offered_as_they_are_read();
         let end = Detecting::new(alloc, setup)?;
@@ -65,9 +65,9 @@ impl Station {
         requires turn { turn < 2 ^ 40 }
         requires numbers { IsNumbered arrived.now }
         requires idle { IsIdle self.old }
-        requires counted { IsCounted self.old turn }
+        requires counted { IsCounted self.old turn turn }
         ensures hears { (file : List ℕ) (a : Account) → Stands self.old file a → HearsAs (hear turn arrived.now a) file self.new result }
-        ensures counted { OnOk result (IsCounted self.new (turn + 1)) }
+        ensures counted { OnOk result (IsCounted self.new (turn + 1) turn) }
     {
         segments_are_offered_as_they_are_read();
         match self.take_end().hear(turn, arrived) {
@@ -113,7 +113,7 @@ impl Station {
         ensures answer { (file : List ℕ) (a : Account) → Stands self.old file a → result ≡ given_break a }
         ensures stands { (file : List ℕ) (a : Account) → Stands self.old file a → Stands self.new file (after_given a) }
         ensures idle { undelivered_of self.old.end ≡ 0 → IsIdle self.new }
-        ensures counted { (turns : ℕ) → IsCounted self.old turns → IsCounted self.new turns }
+        ensures counted { (heard asked : ℕ) → IsCounted self.old heard asked → IsCounted self.new heard asked }
     {
         self.end.given_break()
     }
@@ -129,7 +129,7 @@ impl Station {
         requires stands { (file : List ℕ) × (a : Account) × Stands self.old file a × (length file ≤ limit) }
         ensures stands { OnOk result ((file : List ℕ) (a : Account) → Stands self.old file a → length file ≤ limit → Supplies (F.state folder.old) name.now limit file a self.new) }
         ensures idle { IsIdle self.old → IsIdle self.new }
-        ensures counted { (turns : ℕ) → IsCounted self.old turns → IsCounted self.new turns }
+        ensures counted { (heard asked : ℕ) → IsCounted self.old heard asked → IsCounted self.new heard asked }
 
         ensures only { OnlyReads (F.state folder.old) (F.state folder.new) }
         ensures cause { HasCause ((F.state folder.old).read_faults name.now) ((F.state folder.new).read_faults name.now) (F.state folder.old).refusals (F.state folder.new).refusals result }
@@ -156,7 +156,7 @@ impl Station {
     pub fn set_busy(&mut self, busy: bool)
         ensures stands { (file : List ℕ) (a : Account) → Stands self.old file a → Stands self.new file (after_busy busy a) }
         ensures idle { IsIdle self.old → IsIdle self.new }
-        ensures counted { (turns : ℕ) → IsCounted self.old turns → IsCounted self.new turns }
+        ensures counted { (heard asked : ℕ) → IsCounted self.old heard asked → IsCounted self.new heard asked }
     {
         self.end.set_busy(busy);
     }
@@ -172,10 +172,10 @@ impl Station {
     /// units of 10 ms.
     pub fn ask(&mut self, turn: u64, next: Option<(u64, u8)>)
         requires turn { turn < 2 ^ 40 }
-        requires counted { IsCounted self.old turn }
+        requires counted { IsCounted self.old (turn + 1) turn }
         ensures stands { (file : List ℕ) (a : Account) → Stands self.old file a → Stands self.new file (asked_at turn (option_map line_of next) a) }
         ensures idle { IsIdle self.old → IsIdle self.new }
-        ensures counted { IsCounted self.new (turn + 1) }
+        ensures counted { IsCounted self.new (turn + 1) (turn + 1) }
     {
         let Some((from, length)) = next else {
             return;
@@ -207,7 +207,7 @@ impl Station {
         ensures speaks { (file : List ℕ) (a : Account) → Stands self.old file a → SpeaksAs (speak turn release a) file sent.new self.new result }
         ensures sendable { OnOk result (IsSendable sent.new) }
         ensures idle { OnOk result (IsIdle self.old → IsIdle self.new) }
-        ensures counted { OnOk result ((turns : ℕ) → IsCounted self.old turns → IsCounted self.new turns) }
+        ensures counted { OnOk result ((heard asked : ℕ) → IsCounted self.old heard asked → IsCounted self.new heard asked) }
     {
         segments_are_offered_as_they_are_read();
         match self.take_end().speak(turn, release, sent) {

@@ -1,11 +1,11 @@
-use Rattle.std.proofs.Common.{subst}
+use Rattle.std.proofs.Common.{◌+◌, subst}
 use Rattle.link_account.specs.Account.{Account, after_busy}
 use Rattle.stations.specs.Station.{Stands}
 use Rattle.both_sides.proofs.Linking.{asks-so, asks-none, counted-later}
 use Rattle.both_sides.proofs.link.serve.Goals as goal
 
 pub ask-requires-clause-counted : goal.ask-requires-clause-counted
-ask-requires-clause-counted c = c.set_busy.ensures.counted c.args.turn c.requires.counted
+ask-requires-clause-counted c = c.set_busy.ensures.counted (c.args.turn + 1) c.args.turn c.requires.counted
 
 pub returns-then-not-released-clause-stands : goal.returns-then-not-released-clause-stands
 returns-then-not-released-clause-stands c = λ file a h.
@@ -22,4 +22,4 @@ returns-else-not-released-clause-stands c = λ file a h.
     (c.set_busy.ensures.stands file a h)
 
 pub returns-else-not-released-clause-counted : goal.returns-else-not-released-clause-counted
-returns-else-not-released-clause-counted c = counted-later c.set_busy.new.self c.args.turn (c.set_busy.ensures.counted c.args.turn c.requires.counted)
+returns-else-not-released-clause-counted c = counted-later c.set_busy.new.self (c.args.turn + 1) c.args.turn (c.set_busy.ensures.counted (c.args.turn + 1) c.args.turn c.requires.counted)

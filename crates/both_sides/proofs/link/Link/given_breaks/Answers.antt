@@ -1,4 +1,4 @@
 use Rattle.both_sides.proofs.link.Link.given_breaks.Goals as goal
 
 pub returns-clause-counted : goal.returns-clause-counted
-returns-clause-counted c = λ turns h. record { orig = c.given_break-orig.ensures.counted turns h.orig; answ = c.given_break-answ.ensures.counted turns h.answ }
+returns-clause-counted c = λ heard asked h. record { orig = c.given_break-orig.ensures.counted heard asked h.orig; answ = c.given_break-answ.ensures.counted heard asked h.answ }

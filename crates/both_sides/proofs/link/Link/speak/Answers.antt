@@ -25,7 +25,7 @@ returns-in-Ok-speak-clause-speaks c = λ files ends h.
     }
 
 pub returns-in-Ok-speak-clause-counted : goal.returns-in-Ok-speak-clause-counted
-returns-in-Ok-speak-clause-counted c = λ turns h. record { orig = c.in-Ok.ensures.counted turns h.orig; answ = c.in-Ok-speak.ensures.counted turns h.answ }
+returns-in-Ok-speak-clause-counted c = λ heard asked h. record { orig = c.in-Ok.ensures.counted heard asked h.orig; answ = c.in-Ok-speak.ensures.counted heard asked h.answ }
 
 pub returns-in-Err-speak-clause-speaks : goal.returns-in-Err-speak-clause-speaks
 returns-in-Err-speak-clause-speaks c = λ files ends h.

@@ -6,7 +6,7 @@ use Rattle.both_sides.proofs.Linking.{reads-later}
 use Rattle.both_sides.proofs.link.Link.supply.Goals as goal
 
 pub returns-in-Err-clause-counted : goal.returns-in-Err-clause-counted
-returns-in-Err-clause-counted g c = λ turns h. record { orig = c.supply.ensures.counted turns h.orig; answ = h.answ }
+returns-in-Err-clause-counted g c = λ heard asked h. record { orig = c.supply.ensures.counted heard asked h.orig; answ = h.answ }
 
 pub returns-in-Ok-supply-clause-stands : goal.returns-in-Ok-supply-clause-stands
 returns-in-Ok-supply-clause-stands g c = λ files ends h within.
@@ -23,13 +23,13 @@ returns-in-Ok-supply-clause-stands g c = λ files ends h within.
     }
 
 pub returns-in-Ok-supply-clause-counted : goal.returns-in-Ok-supply-clause-counted
-returns-in-Ok-supply-clause-counted g c = λ turns h. record { orig = c.supply.ensures.counted turns h.orig; answ = c.supply-2.ensures.counted turns h.answ }
+returns-in-Ok-supply-clause-counted g c = λ heard asked h. record { orig = c.supply.ensures.counted heard asked h.orig; answ = c.supply-2.ensures.counted heard asked h.answ }
 
 pub returns-in-Ok-supply-clause-only : goal.returns-in-Ok-supply-clause-only
 returns-in-Ok-supply-clause-only g c = OnlyReads-trans c.supply.ensures.only c.supply-2.ensures.only
 
 pub returns-in-Err-supply-clause-counted : goal.returns-in-Err-supply-clause-counted
-returns-in-Err-supply-clause-counted g c = λ turns h. record { orig = c.supply.ensures.counted turns h.orig; answ = c.supply-2.ensures.counted turns h.answ }
+returns-in-Err-supply-clause-counted g c = λ heard asked h. record { orig = c.supply.ensures.counted heard asked h.orig; answ = c.supply-2.ensures.counted heard asked h.answ }
 
 pub returns-in-Err-supply-clause-only : goal.returns-in-Err-supply-clause-only
 returns-in-Err-supply-clause-only g c = OnlyReads-trans c.supply.ensures.only c.supply-2.ensures.only

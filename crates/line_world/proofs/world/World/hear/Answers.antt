@@ -1,28 +1,55 @@
-use Rattle.roles.specs.declared.role.Role.TheVariants.{Originator, Answerer}
-use Rattle.line_world.specs.Run.{last_sent}
-use Rattle.line_world.specs.Crossing.{slots_before}
-use Rattle.line_world.proofs.Turns.{arrival, both-carry, orig-arrived, answ-arrived}
+use Rattle.std.proofs.Common.{refl, subst, sym, ap, ◌∙◌}
+use Rattle.line_run.specs.Scripted.{channel_of}
+use Rattle.both_sides.specs.Link.{HearsWell}
+use Rattle.both_sides.specs.Lines.{ArrivesBoth}
+use Rattle.link_run.specs.Run.{arrival}
+use Rattle.line_world.proofs.Hearing.{HearingLaws, hears-well, has-heard, tallies-heard, lost-so}
 use Rattle.line_world.proofs.world.World.hear.Goals as goal
 
-pub returns-clause-heard : goal.returns-clause-heard
-returns-clause-heard c f script ts ends w =
-    let d = w.during in
-    let line = both-carry _ ts w.carries in
-    let from_answ = c.arrive-to_orig.ensures in
-    let from_orig = c.arrive-to_answ.ensures in
-    record {
-      orig_heard = c.arrive-to_orig.result;
-      answ_heard = c.arrive-to_answ.result;
-      orig_arrives = record { slot = arrival _ _ _ _ _ _ _ (from_answ.heard Answerer (slots_before Answerer ts) (last_sent Answerer ts) line.from_answ) d.script_is d.turn };
-      answ_arrives = record { slot = arrival _ _ _ _ _ _ _ (from_orig.heard Originator (slots_before Originator ts) (last_sent Originator ts) line.from_orig) d.script_is d.turn };
-      during = record {
-        orig = c.hear.ensures.account f.orig ends.orig d.orig;
-        answ = c.hear-2.ensures.account f.answ ends.answ d.answ;
-        script_is = d.script_is;
-        turn = d.turn;
-      };
-      arrived = record {
-        from_orig = orig-arrived _ ts (from_orig.carries Originator (slots_before Originator ts) (last_sent Originator ts) line.from_orig);
-        from_answ = answ-arrived _ ts (from_answ.carries Answerer (slots_before Answerer ts) (last_sent Answerer ts) line.from_answ);
-      };
-    }
+pub returns-in-Err-clause-hears : goal.returns-in-Err-clause-hears
+returns-in-Err-clause-hears c = λ files ts ends h.
+    lost-so c.args.self.now.script c.arrive.new.self ts ends c.in-Err.end
+    (c.in-Err.ensures.arrives ts ends h.lines h.turn (c.checks-checks.ensures.orig files ends h.link) (c.checks-checks.ensures.answ files ends h.link))
+
+pub hear-requires-2-clause-well : goal.hear-requires-2-clause-well
+hear-requires-2-clause-well c =
+    let r = c.requires.ready in
+    let h = r.after in
+    let script = c.args.self.now.script in
+    let laws : HearingLaws = record {
+      play = c.scripts_make_links.ensures.ends;
+      delays = c.scripts_make_links.ensures.delays;
+      carried = c.samples_are_carried.ensures.runs;
+      one = c.samples_are_carried.ensures.turn;
+      well = c.ends_break_for_want_alone.ensures.hearing;
+    } in
+    let a : ArrivesBoth c.arrive.new.self (channel_of script) r.turns r.ends c.in-Ok.heard =
+    c.in-Ok.ensures.arrives r.turns r.ends h.lines h.turn (c.checks-checks.ensures.orig r.files r.ends h.link) (c.checks-checks.ensures.answ r.files r.ends h.link) in
+    let well : HearsWell r.ends _ (arrival c.in-Ok.heard.orig) (arrival c.in-Ok.heard.answ) =
+    hears-well laws script r.files c.arrive.new.self r.turns r.ends c.in-Ok.heard r.limits h.run a in
+    (r.files, r.ends, h.link, rw (h.turn, c.arrived.ensures, c.arrived-2.ensures) well)
+
+pub returns-clause-hears : goal.returns-clause-hears
+returns-clause-hears c = λ files ts ends h.
+    let r = c.requires.ready in
+    let script = c.args.self.now.script in
+    let laws : HearingLaws = record {
+      play = c.scripts_make_links.ensures.ends;
+      delays = c.scripts_make_links.ensures.delays;
+      carried = c.samples_are_carried.ensures.runs;
+      one = c.samples_are_carried.ensures.turn;
+      well = c.ends_break_for_want_alone.ensures.hearing;
+    } in
+    let a : ArrivesBoth c.arrive.new.self (channel_of script) ts ends c.in-Ok.heard =
+    c.in-Ok.ensures.arrives ts ends h.lines h.turn (c.checks-checks.ensures.orig files ends h.link) (c.checks-checks.ensures.answ files ends h.link) in
+    let well : HearsWell ends _ (arrival c.in-Ok.heard.orig) (arrival c.in-Ok.heard.answ) =
+    hears-well laws script files c.arrive.new.self ts ends c.in-Ok.heard r.limits h.run a in
+    let so : HearsWell ends c.args.self.now.turn c.arrived.result c.arrived-2.result = rw (h.turn, c.arrived.ensures, c.arrived-2.ensures) well in
+    has-heard c.args.self.now _ files ts ends c.in-Ok.heard c.args.self.now.turn c.arrived.result c.arrived-2.result h refl refl a
+    (record {
+      number = h.turn;
+      orig_is = c.arrived.ensures;
+      answ_is = c.arrived-2.ensures;
+      hears = c.hear-2.ensures.hears files ends h.link so;
+    })
+    (tallies-heard c.args.self.now.tally c.hear.new.self ts ends c.in-Ok.heard h.tally c.hear.ensures)

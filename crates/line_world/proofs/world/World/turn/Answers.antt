@@ -1,90 +1,230 @@
-use Rattle.std.proofs.Common.{◌∷◌, ◌∙◌, arith, sym, ap, subst, refl, Result, Err, Some, None, IfErr}
-use Rattle.std.proofs.lemmas.Result.{err_from_is_err_and}
-use Rattle.outside_core.specs.Folder.{FolderState}
-use Rattle.line_world.specs.Run.{Turn, Ends, GoingTurn, listens}
-use Rattle.line_world.specs.declared.world.Step.{Step}
-use Rattle.line_world.specs.declared.world.RunFault.{RunFault}
-use Rattle.line_world.specs.World.{TurnIs, HasRunCause, written}
-use Rattle.line_world.proofs.Turns.{stopped-as, lost-in, lost-cause, line-stays, carries-last}
+use Rattle.std.proofs.Common.{◌≡◌, ℕ, ◌+◌, length, refl, sym, ◌∙◌, ap, subst}
+use Rattle.outside_core.specs.Steps.{CountsStand-trans}
+use Rattle.noise_script.specs.Script.{ScriptValue, IsInLimits}
+use Rattle.link_run.specs.End.{is_closed}
+use Rattle.both_sides.specs.Names.{written}
+use Rattle.both_sides.specs.Link.{AreCounted}
+use Rattle.both_sides.specs.declared.lines.LineEnd.{LineEnd}
+use Rattle.line_world.specs.Mid.{IsLineEnd, handed}
+use Rattle.line_world.specs.Turn.{EndsBy, GoesOnBy}
+use Rattle.line_world.proofs.Serving.{phase-delivered}
+use Rattle.line_world.proofs.Folders.{then-only, reads-only, lines-only, counts-later, delivered-kept, stay-known, others-known}
+use Rattle.line_world.proofs.Turning.{MakingLaws, writing-ends, reading-ends, stops-handing, stops-reading, stops-writing, done-in, speaks-last, goes-on-by, ready-on}
 use Rattle.line_world.proofs.world.World.turn.Goals as goal
 
-pub returns-in_err-hand_out-clause-turn : goal.returns-in_err-hand_out-clause-turn
-returns-in_err-hand_out-clause-turn g c f script ts ends w =
-    let p = err_from_is_err_and c.from_residual.result c.from_residual.ensures.1 in
-    let old : FolderState = g.F.Folder.state c.args.folder.now in let new : FolderState = g.F.Folder.state c.hand_out.new.folder in
-    let h = c.hear.ensures.heard f script ts ends w in
-    let part = c.in_err-hand_out.ensures.err f script ts _ h.during in
-    subst (TurnIs c.hand_out.new.self old new (written c.args.names.now) f script ts ends) (sym (p.1 ∙ ap Err p.2))
-    (stopped-as old new (written c.args.names.now) f script ts ends _ c.in_err-hand_out.ensures.cause (record {
-      orig_heard = h.orig_heard;
-      answ_heard = h.answ_heard;
-      orig_arrives = h.orig_arrives;
-      answ_arrives = h.answ_arrives;
-      writes = record { got_o = part.got_o; got_a = part.got_a };
-    }))
+pub returns-in-Err-Chance-clause-turn : goal.returns-in-Err-Chance-clause-turn
+returns-in-Err-Chance-clause-turn g c = λ files ts ends h within.
+    c.meet_chance.ensures.meets ts ends (c.hear.ensures.turn ∙ h.turn)
+    (subst (λ (e : LineEnd). IsLineEnd c.hear.new.self.script ts ends e) c.in-Err-Chance.field-0-is (c.in-Err-Chance.ensures.hears files ts ends h)) files
 
-pub returns-then-whole-clause-turn : goal.returns-then-whole-clause-turn
-returns-then-whole-clause-turn g c f script ts ends w =
-    let h = c.hear.ensures.heard f script ts ends w in
-    let wrote = c.in_ok-hand_out.ensures.ok f script ts _ h.during in
-    let mid = c.supply.ensures.during f script ts _ (c.in_ok-hand_out.ensures.during f script ts _ h.during) in
-    record {
-      number_is = mid.turn;
-      turn = record { orig = record { heard = h.orig_heard; sent = None }; answ = record { heard = h.answ_heard; sent = None } };
-      mid = record { orig = listens f.orig ends.orig h.orig_heard; answ = listens f.answ ends.answ h.answ_heard };
-      last = record {
-        listening = record { orig_heard = h.orig_arrives; answ_heard = h.answ_arrives; orig = refl; answ = refl };
-        done = sym (c.whole.ensures f script ts _ mid) ∙ c.if-whole.true;
-        orig_sent = refl;
-        answ_sent = refl;
-      };
-      writes = record { got_o = wrote.got_o; got_a = wrote.got_a };
-    }
-
-pub returns-in_err-speak-clause-turn : goal.returns-in_err-speak-clause-turn
-returns-in_err-speak-clause-turn g c f script ts ends w =
-    let p = err_from_is_err_and c.from_residual-in_err-speak.result c.from_residual-in_err-speak.ensures.1 in
-    let old : FolderState = g.F.Folder.state c.args.folder.now in let new : FolderState = g.F.Folder.state c.hand_out.new.folder in
-    let h = c.hear.ensures.heard f script ts ends w in
-    let wrote = c.in_ok-hand_out.ensures.ok f script ts _ h.during in
-    let mid = c.supply.ensures.during f script ts _ (c.in_ok-hand_out.ensures.during f script ts _ h.during) in
-    let t : Turn = record { orig = record { heard = h.orig_heard; sent = None }; answ = record { heard = h.answ_heard; sent = None } } in
-    let m : Ends = record { orig = listens f.orig ends.orig h.orig_heard; answ = listens f.answ ends.answ h.answ_heard } in
-    subst (TurnIs c.speak.new.self old new (written c.args.names.now) f script ts ends) (sym (p.1 ∙ ap Err p.2))
-    (lost-in old new (written c.args.names.now) f script ts ends t m _
-    (record { orig_heard = h.orig_arrives; answ_heard = h.answ_arrives; orig = refl; answ = refl })
-    (sym (c.whole.ensures f script ts _ mid) ∙ c.if-whole.false) refl refl
-    (record { got_o = wrote.got_o; got_a = wrote.got_a })
-    (c.in_err-speak.ensures.spoken f script ts _ mid (line-stays _ _ ts c.supply.ensures.line (line-stays _ _ ts c.in_ok-hand_out.ensures.line h.arrived))))
-
-pub returns-in_err-speak-clause-cause : goal.returns-in_err-speak-clause-cause
-returns-in_err-speak-clause-cause g c =
-    let p = err_from_is_err_and c.from_residual-in_err-speak.result c.from_residual-in_err-speak.ensures.1 in
-    let old : FolderState = g.F.Folder.state c.args.folder.now in let new : FolderState = g.F.Folder.state c.hand_out.new.folder in
-    subst (λ (r : Result Step RunFault). IfErr r (HasRunCause old new (written c.args.names.now))) (sym (p.1 ∙ ap Err p.2)) (lost-cause old new (written c.args.names.now) _ c.in_err-speak.ensures.tries)
-
-pub returns-clause-turn : goal.returns-clause-turn
-returns-clause-turn g c f script ts ends w =
-    let h = c.hear.ensures.heard f script ts ends w in
-    let wrote = c.in_ok-hand_out.ensures.ok f script ts _ h.during in
-    let mid = c.supply.ensures.during f script ts _ (c.in_ok-hand_out.ensures.during f script ts _ h.during) in
-    let s = c.in_ok-speak.ensures.spoken f script ts _ mid (line-stays _ _ ts c.supply.ensures.line (line-stays _ _ ts c.in_ok-hand_out.ensures.line h.arrived)) in
-    let t : Turn = record { orig = record { heard = h.orig_heard; sent = Some s.orig.sent }; answ = record { heard = h.answ_heard; sent = Some s.answ.sent } } in
-    let after : Ends = record { orig = s.orig.account; answ = s.answ.account } in
-    let going : GoingTurn f script ts ends t after = record {
-      mid = record { orig = listens f.orig ends.orig h.orig_heard; answ = listens f.answ ends.answ h.answ_heard };
-      listening = record { orig_heard = h.orig_arrives; answ_heard = h.answ_arrives; orig = refl; answ = refl };
-      going = sym (c.whole.ensures f script ts _ mid) ∙ c.if-whole.false;
-      speaking = record { orig = s.orig; answ = s.answ; orig_speaks = s.orig_speaks; answ_speaks = s.answ_speaks; orig_sent = refl; answ_sent = refl; orig_after = refl; answ_after = refl };
+pub returns-in-Err-clause-turn : goal.returns-in-Err-clause-turn
+returns-in-Err-clause-turn g c = λ files ts ends h within.
+    let a = g.F.Folder.state c.args.folder.now in
+    let b = g.F.Folder.state c.hand_over.new.folder in
+    let n = written c.args.names.now in
+    let script = c.hear.new.self.script in
+    let has = c.in-Ok.ensures.hears files ts ends h in
+    let laws : MakingLaws = record {
+      play = c.scripts_make_links.ensures.ends;
+      delays = c.scripts_make_links.ensures.delays;
+      carried = c.samples_are_carried.ensures.runs;
+      one = c.samples_are_carried.ensures.turn;
+      made = c.each_turn_is_made.ensures.made;
     } in
-    record {
-      turn = t;
-      after = after;
-      going = going;
-      world = record {
-        run = (ends, w.run, going);
-        during = record { orig = s.during.orig; answ = s.during.answ; script_is = s.during.script_is; turn = omega (arith, s.during.turn) };
-        carries = carries-last _ (t ∷ ts) s.from_orig s.from_answ;
-      };
-      writes = record { got_o = wrote.got_o; got_a = wrote.got_a };
-    }
+    let limits : IsInLimits script = subst IsInLimits (sym c.hear.ensures.script) c.requires.ready.limits in
+    subst (λ (s : ScriptValue). EndsBy s a b n files ts ends c.in-Err.fault) (sym c.hand_over.ensures.beside.script)
+    (writing-ends script a b n files ts ends c.in-Err.fault c.in-Err.ensures.write
+    (stops-handing laws script a b n files ts ends c.in-Ok.heard has.mid limits c.requires.apart within c.hand_over.ensures.only has.stands.overhears
+    (c.in-Err.ensures.part files ts ends c.in-Ok.heard has.mid has.stands)))
+
+pub returns-in-Ok-finish-clause-turn : goal.returns-in-Ok-finish-clause-turn
+returns-in-Ok-finish-clause-turn g c = λ files ts ends h within.
+    let a = g.F.Folder.state c.args.folder.now in
+    let b = g.F.Folder.state c.hand_over.new.folder in
+    let d = g.F.Folder.state c.finish.new.folder in
+    let n = written c.args.names.now in
+    let has = c.in-Ok.ensures.hears files ts ends h in
+    let hands = c.in-Ok-hand_over.ensures.hands files ts ends c.in-Ok.heard has.mid has.stands in
+    let closed = sym (ap is_closed (phase-delivered has.mid.orig)) ∙ sym (c.is_closed.ensures files (handed has.mid) hands.stands.link) ∙ c.if-is_closed.true in
+    done-in c.hand_over.new.self a b d n files ts ends has.mid c.hand_over.new.self.turn c.requires.apart hands.stands.turn
+    (stay-known a d n files c.requires.apart (then-only a b d n c.hand_over.ensures.only (lines-only b d n c.finish.ensures.only)) within)
+    c.hand_over.ensures.only hands.delivered c.finish.ensures.only
+    (c.in-Ok-finish.ensures.adds files ts ends has.mid hands.stands closed hands.orig_given hands.answ_given) hands.stands.lines
+
+pub returns-in-Ok-finish-clause-only : goal.returns-in-Ok-finish-clause-only
+returns-in-Ok-finish-clause-only g c = then-only _ _ _ (written c.args.names.now) c.hand_over.ensures.only (lines-only _ _ (written c.args.names.now) c.finish.ensures.only)
+
+pub returns-in-Ok-finish-clause-counts : goal.returns-in-Ok-finish-clause-counts
+returns-in-Ok-finish-clause-counts g c = CountsStand-trans c.in-Ok-hand_over.ensures.counts c.in-Ok-finish.ensures.counts
+
+pub returns-in-Err-finish-clause-turn : goal.returns-in-Err-finish-clause-turn
+returns-in-Err-finish-clause-turn g c = λ files ts ends h within.
+    let a = g.F.Folder.state c.args.folder.now in
+    let b = g.F.Folder.state c.hand_over.new.folder in
+    let d = g.F.Folder.state c.finish.new.folder in
+    let n = written c.args.names.now in
+    let script = c.hand_over.new.self.script in
+    let has = c.in-Ok.ensures.hears files ts ends h in
+    let hands = c.in-Ok-hand_over.ensures.hands files ts ends c.in-Ok.heard has.mid has.stands in
+    let closed = sym (ap is_closed (phase-delivered has.mid.orig)) ∙ sym (c.is_closed.ensures files (handed has.mid) hands.stands.link) ∙ c.if-is_closed.true in
+    writing-ends script a d n files ts ends c.in-Err-finish.fault c.in-Err-finish.ensures.write
+    (stops-writing script a b d n files files ts ends has.mid c.requires.apart
+    (stay-known a d n files c.requires.apart (then-only a b d n c.hand_over.ensures.only (lines-only b d n c.finish.ensures.only)) within)
+    c.hand_over.ensures.only hands.delivered c.finish.ensures.only
+    (c.in-Err-finish.ensures.part files ts ends has.mid hands.stands closed hands.orig_given hands.answ_given))
+
+pub returns-in-Err-finish-clause-only : goal.returns-in-Err-finish-clause-only
+returns-in-Err-finish-clause-only g c = then-only _ _ _ (written c.args.names.now) c.hand_over.ensures.only (lines-only _ _ (written c.args.names.now) c.finish.ensures.only)
+
+pub returns-in-Err-finish-clause-counts : goal.returns-in-Err-finish-clause-counts
+returns-in-Err-finish-clause-counts g c = counts-later (g.F.Folder.state c.args.folder.now) (g.F.Folder.state c.hand_over.new.folder) (g.F.Folder.state c.finish.new.folder) (written c.args.names.now) c.in-Err-finish.fault c.in-Ok-hand_over.ensures.counts c.in-Err-finish.ensures.counts
+
+pub serve-requires-clause-counted : goal.serve-requires-clause-counted
+serve-requires-clause-counted g c =
+    let t = c.args.self.now.turn in
+    let e : c.hand_over.new.self.turn ≡ t = c.hand_over.ensures.beside.turn ∙ c.hear.ensures.turn in
+    subst (λ x. AreCounted c.hand_over.new.self.link (x + 1) x) (sym e) (c.in-Ok-hand_over.ensures.counted (t + 1) t c.in-Ok.ensures.counted)
+
+pub serve-requires-clause-limits : goal.serve-requires-clause-limits
+serve-requires-clause-limits g c = subst IsInLimits (sym (c.hand_over.ensures.beside.script ∙ c.hear.ensures.script)) c.requires.ready.limits
+
+pub serve-requires-clause-stands : goal.serve-requires-clause-stands
+serve-requires-clause-stands g c =
+    let r = c.requires.ready in
+    let has = c.in-Ok.ensures.hears r.files r.turns r.ends r.after in
+    let hands = c.in-Ok-hand_over.ensures.hands r.files r.turns r.ends c.in-Ok.heard has.mid has.stands in
+    (r.files, r.turns, r.ends, c.in-Ok.heard, has.mid, hands.stands, r.within)
+
+pub returns-in-Err-serve-clause-turn : goal.returns-in-Err-serve-clause-turn
+returns-in-Err-serve-clause-turn g c = λ files ts ends h within.
+    let a = g.F.Folder.state c.args.folder.now in
+    let b = g.F.Folder.state c.hand_over.new.folder in
+    let d = g.F.Folder.state c.serve.new.folder in
+    let n = written c.args.names.now in
+    let script = c.hand_over.new.self.script in
+    let has = c.in-Ok.ensures.hears files ts ends h in
+    let hands = c.in-Ok-hand_over.ensures.hands files ts ends c.in-Ok.heard has.mid has.stands in
+    let laws : MakingLaws = record {
+      play = c.scripts_make_links.ensures.ends;
+      delays = c.scripts_make_links.ensures.delays;
+      carried = c.samples_are_carried.ensures.runs;
+      one = c.samples_are_carried.ensures.turn;
+      made = c.each_turn_is_made.ensures.made;
+    } in
+    let limits : IsInLimits script = subst IsInLimits (sym (c.hand_over.ensures.beside.script ∙ c.hear.ensures.script)) c.requires.ready.limits in
+    subst (λ (s : ScriptValue). EndsBy s a d n files ts ends c.in-Err-serve.fault) (sym c.serve.ensures.beside.script)
+    (reading-ends script a d n files ts ends c.in-Err-serve.fault c.in-Err-serve.ensures.read
+    (stops-reading laws script a d n files ts ends c.in-Ok.heard has.mid limits c.requires.apart within
+    (then-only a b d n c.hand_over.ensures.only (reads-only b d n c.serve.ensures.only)) hands.stands.overhears
+    (delivered-kept a b d n has.mid c.hand_over.ensures.only.goes_on c.serve.ensures.only hands.delivered)))
+
+pub returns-in-Err-serve-clause-only : goal.returns-in-Err-serve-clause-only
+returns-in-Err-serve-clause-only g c = then-only _ _ _ (written c.args.names.now) c.hand_over.ensures.only (reads-only _ _ (written c.args.names.now) c.serve.ensures.only)
+
+pub returns-in-Err-serve-clause-counts : goal.returns-in-Err-serve-clause-counts
+returns-in-Err-serve-clause-counts g c = counts-later (g.F.Folder.state c.args.folder.now) (g.F.Folder.state c.hand_over.new.folder) (g.F.Folder.state c.serve.new.folder) (written c.args.names.now) c.in-Err-serve.fault c.in-Ok-hand_over.ensures.counts c.in-Err-serve.ensures.counts
+
+pub speak-requires-clause-early : goal.speak-requires-clause-early
+speak-requires-clause-early g c =
+    rw (c.serve.ensures.beside.turn, c.hand_over.ensures.beside.turn, c.hear.ensures.turn) (c.turns_are_few.ensures c.args.self.now c.requires.ready)
+
+pub speak-requires-clause-limits : goal.speak-requires-clause-limits
+speak-requires-clause-limits g c =
+    subst IsInLimits (sym (c.serve.ensures.beside.script ∙ c.hand_over.ensures.beside.script ∙ c.hear.ensures.script)) c.requires.ready.limits
+
+pub speak-requires-clause-few : goal.speak-requires-clause-few
+speak-requires-clause-few g c =
+    rw (c.serve.ensures.beside.turn, c.hand_over.ensures.beside.turn, c.serve.ensures.beside.tally, c.hand_over.ensures.beside.tally, c.hear.ensures.turn) c.in-Ok.ensures.few
+
+pub speak-requires-clause-stands : goal.speak-requires-clause-stands
+speak-requires-clause-stands g c =
+    let r = c.requires.ready in
+    let has = c.in-Ok.ensures.hears r.files r.turns r.ends r.after in
+    let hands = c.in-Ok-hand_over.ensures.hands r.files r.turns r.ends c.in-Ok.heard has.mid has.stands in
+    let still = sym (ap is_closed (phase-delivered has.mid.orig)) ∙ sym (c.is_closed.ensures r.files (handed has.mid) hands.stands.link) ∙ c.if-is_closed.false in
+    let s = c.in-Ok-serve.ensures.serves r.files r.turns r.ends c.in-Ok.heard has.mid hands.stands r.within in
+    (s.others, r.turns, r.ends, has.mid, record { stands = s.stands; going = still })
+
+pub returns-in-Ok-speak-clause-turn : goal.returns-in-Ok-speak-clause-turn
+returns-in-Ok-speak-clause-turn g c = λ files ts ends h within.
+    let a = g.F.Folder.state c.args.folder.now in
+    let b = g.F.Folder.state c.hand_over.new.folder in
+    let d = g.F.Folder.state c.serve.new.folder in
+    let z = g.F.Folder.state c.speak.new.folder in
+    let n = written c.args.names.now in
+    let has = c.in-Ok.ensures.hears files ts ends h in
+    let hands = c.in-Ok-hand_over.ensures.hands files ts ends c.in-Ok.heard has.mid has.stands in
+    let still = sym (ap is_closed (phase-delivered has.mid.orig)) ∙ sym (c.is_closed.ensures files (handed has.mid) hands.stands.link) ∙ c.if-is_closed.false in
+    let s = c.in-Ok-serve.ensures.serves files ts ends c.in-Ok.heard has.mid hands.stands within in
+    let gone = c.in-Ok-speak.ensures.speaks s.others ts ends has.mid (record { stands = s.stands; going = still }) hands.orig_given hands.answ_given in
+    let only-d = then-only a b d n c.hand_over.ensures.only (reads-only b d n c.serve.ensures.only) in
+    let only-z = then-only a d z n only-d (lines-only d z n c.speak.ensures.only) in
+    goes-on-by c.speak.new.self a d z n files s.others ts ends has.mid c.requires.apart
+    (others-known a b z n files s.others has.mid c.requires.apart c.hand_over.ensures.only only-z s.reads) only-d
+    (delivered-kept a b d n has.mid c.hand_over.ensures.only.goes_on c.serve.ensures.only hands.delivered) c.speak.ensures.only gone
+
+pub returns-in-Ok-speak-clause-ready : goal.returns-in-Ok-speak-clause-ready
+returns-in-Ok-speak-clause-ready g c = λ going.
+    let r = c.requires.ready in
+    let files = r.files in
+    let ts = r.turns in
+    let ends = r.ends in
+    let a = g.F.Folder.state c.args.folder.now in
+    let b = g.F.Folder.state c.hand_over.new.folder in
+    let d = g.F.Folder.state c.serve.new.folder in
+    let z = g.F.Folder.state c.speak.new.folder in
+    let n = written c.args.names.now in
+    let has = c.in-Ok.ensures.hears files ts ends r.after in
+    let hands = c.in-Ok-hand_over.ensures.hands files ts ends c.in-Ok.heard has.mid has.stands in
+    let still = sym (ap is_closed (phase-delivered has.mid.orig)) ∙ sym (c.is_closed.ensures files (handed has.mid) hands.stands.link) ∙ c.if-is_closed.false in
+    let s = c.in-Ok-serve.ensures.serves files ts ends c.in-Ok.heard has.mid hands.stands r.within in
+    let gone = c.in-Ok-speak.ensures.speaks s.others ts ends has.mid (record { stands = s.stands; going = still }) hands.orig_given hands.answ_given in
+    let only-d = then-only a b d n c.hand_over.ensures.only (reads-only b d n c.serve.ensures.only) in
+    let only-z = then-only a d z n only-d (lines-only d z n c.speak.ensures.only) in
+    let by : GoesOnBy c.speak.new.self a z n files ts ends = goes-on-by c.speak.new.self a d z n files s.others ts ends has.mid c.requires.apart
+    (others-known a b z n files s.others has.mid c.requires.apart c.hand_over.ensures.only only-z s.reads) only-d
+    (delivered-kept a b d n has.mid c.hand_over.ensures.only.goes_on c.serve.ensures.only hands.delivered) c.speak.ensures.only gone in
+    let t = c.hand_over.new.self.turn + 1 in
+    let same : c.serve.new.self.turn + 1 ≡ t = ap (λ x. x + 1) c.serve.ensures.beside.turn in
+    ready-on c.speak.new.self a d z n files ts ends t
+    (subst IsInLimits (sym (c.speak.ensures.script ∙ c.serve.ensures.beside.script ∙ c.hand_over.ensures.beside.script ∙ c.hear.ensures.script)) r.limits) by
+    (c.in-Ok-speak.ensures.idle (c.in-Ok-serve.ensures.idle c.in-Ok-hand_over.ensures.idle))
+    (c.in-Ok-speak.ensures.counted t t c.in-Ok-serve.ensures.counted)
+    (rw (sym same) c.in-Ok-speak.ensures.few)
+    (c.in-Ok-speak.ensures.turn ∙ same)
+
+pub returns-in-Ok-speak-clause-only : goal.returns-in-Ok-speak-clause-only
+returns-in-Ok-speak-clause-only g c =
+    let n = written c.args.names.now in
+    then-only _ _ _ n (then-only _ _ _ n c.hand_over.ensures.only (reads-only _ _ n c.serve.ensures.only)) (lines-only _ _ n c.speak.ensures.only)
+
+pub returns-in-Ok-speak-clause-counts : goal.returns-in-Ok-speak-clause-counts
+returns-in-Ok-speak-clause-counts g c = CountsStand-trans (CountsStand-trans c.in-Ok-hand_over.ensures.counts c.in-Ok-serve.ensures.counts) c.in-Ok-speak.ensures.counts
+
+pub returns-in-Err-speak-clause-turn : goal.returns-in-Err-speak-clause-turn
+returns-in-Err-speak-clause-turn g c = λ files ts ends h within.
+    let a = g.F.Folder.state c.args.folder.now in
+    let b = g.F.Folder.state c.hand_over.new.folder in
+    let d = g.F.Folder.state c.serve.new.folder in
+    let z = g.F.Folder.state c.speak.new.folder in
+    let n = written c.args.names.now in
+    let script = c.serve.new.self.script in
+    let has = c.in-Ok.ensures.hears files ts ends h in
+    let hands = c.in-Ok-hand_over.ensures.hands files ts ends c.in-Ok.heard has.mid has.stands in
+    let still = sym (ap is_closed (phase-delivered has.mid.orig)) ∙ sym (c.is_closed.ensures files (handed has.mid) hands.stands.link) ∙ c.if-is_closed.false in
+    let s = c.in-Ok-serve.ensures.serves files ts ends c.in-Ok.heard has.mid hands.stands within in
+    let last = c.in-Err-speak.ensures.speaks s.others ts ends has.mid (record { stands = s.stands; going = still }) hands.orig_given hands.answ_given in
+    let only-d = then-only a b d n c.hand_over.ensures.only (reads-only b d n c.serve.ensures.only) in
+    let only-z = then-only a d z n only-d (lines-only d z n c.speak.ensures.only) in
+    speaks-last c.speak.new.self.script a d z n files s.others ts ends has.mid c.in-Err-speak.fault c.requires.apart
+    (others-known a b z n files s.others has.mid c.requires.apart c.hand_over.ensures.only only-z s.reads) only-d
+    (delivered-kept a b d n has.mid c.hand_over.ensures.only.goes_on c.serve.ensures.only hands.delivered) c.speak.ensures.only last
+
+pub returns-in-Err-speak-clause-only : goal.returns-in-Err-speak-clause-only
+returns-in-Err-speak-clause-only g c =
+    let n = written c.args.names.now in
+    then-only _ _ _ n (then-only _ _ _ n c.hand_over.ensures.only (reads-only _ _ n c.serve.ensures.only)) (lines-only _ _ n c.speak.ensures.only)
+
+pub returns-in-Err-speak-clause-counts : goal.returns-in-Err-speak-clause-counts
+returns-in-Err-speak-clause-counts g c =
+    counts-later (g.F.Folder.state c.args.folder.now) (g.F.Folder.state c.serve.new.folder) (g.F.Folder.state c.speak.new.folder) (written c.args.names.now) c.in-Err-speak.fault (CountsStand-trans c.in-Ok-hand_over.ensures.counts c.in-Ok-serve.ensures.counts) c.in-Err-speak.ensures.counts

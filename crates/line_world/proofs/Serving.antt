@@ -1,0 +1,106 @@
+-- What happens to both ends between hearing and speaking.
+use Rattle.std.proofs.Common.{◌≡◌, ◌≢◌, ℕ, zero, suc, Bool, true, false, cond, List, length, drop, refl, sym, ◌∙◌, ap, subst, Option, Some, None}
+use Rattle.outside_core.specs.Folder.{FolderState}
+use Rattle.roles.specs.declared.role.Role.{Role}
+use Rattle.roles.specs.declared.role.Role.TheVariants.{Originator, Answerer}
+use Rattle.roles.specs.Both.{Both, of}
+use Rattle.noise_script.specs.Script.{ScriptValue, IsInLimits, delay_of}
+use Rattle.xid_params.specs.Offers.{IsAllowed}
+use Rattle.link_account.specs.Account.{Account, after_busy, after_given, given_break, wants}
+use Rattle.link_run.specs.End.{asked, delivered, is_busy, is_released, offered, offered_at, offered_times, room_for}
+use Rattle.link_run.specs.Run.{Ends, Spoken, Turn, Hears, served_at}
+use Rattle.link_run.specs.Reading.{RunsByWhatIsReadOn, SameSoFar}
+use Rattle.line_run.specs.Scripted.{channel_of, link_of, breaks_of, busy_of}
+use Rattle.link_run.specs.Carried.{on_line}
+use Rattle.line_run.specs.Sampled.{signals}
+use Rattle.sample_line.specs.Line.{Kept, LineStands}
+use Rattle.delayed_line.specs.declared.direction.DelayedLine.{DelayedLine}
+use Rattle.delayed_line.specs.OnWay.{WaitsFor, signals_in}
+use Rattle.both_sides.specs.declared.lines.Lines.{Lines}
+use Rattle.both_sides.specs.Lines.{LinesWait}
+use Rattle.line_world.specs.World.{HasPassed}
+use Rattle.both_sides.specs.declared.each.Each.{Each}
+use Rattle.slot_contents.specs.declared.heard.Heard.{Heard}
+use Rattle.both_sides.specs.Names.{Written}
+use Rattle.line_world.specs.Mid.{Overhears, ReadsBoth, handed, served, turn_in}
+
+-- handing segments over hands no break over
+pub given-delivered : (a : Account) → given_break (delivered a) ≡ given_break a
+given-delivered a = go _
+  where
+    go : (b : Bool) → given_break (cond b (record a { incoming = record a.incoming { given = length a.incoming.taken } }) a) ≡ given_break a
+    go true = refl
+    go false = refl
+
+pub hears-in : (script : ScriptValue) (files : Both (List ℕ)) (ts : List Turn) (ends mid : Ends) (heard : Each Heard) (sent : Both (Option Spoken))
+    → Overhears script files ts ends heard mid → Hears (length ts) ends (turn_in heard ends mid sent) mid
+hears-in script files ts ends mid heard sent o Originator = record { hears = o.orig_hears; check_is = refl; given_is = refl }
+hears-in script files ts ends mid heard sent o Answerer = record { hears = o.answ_hears; check_is = refl; given_is = refl }
+
+-- a run is one of the files as far as they are read now
+pub over-others : RunsByWhatIsReadOn → (script : ScriptValue) (files others : Both (List ℕ)) (ts : List Turn) (ends mid : Ends) (heard : Each Heard) (f : FolderState) (n : Written)
+    → IsInLimits script → Overhears script files ts ends heard mid → ReadsBoth f n files (handed mid) others → Overhears script others ts ends heard mid
+over-others law script files others ts ends mid heard f n limits o r = record {
+  orig_heard = o.orig_heard;
+  answ_heard = o.answ_heard;
+  orig_well = o.orig_well;
+  answ_well = o.answ_well;
+  orig_hears = o.orig_hears;
+  answ_hears = o.answ_hears;
+  run = record {
+    run = law (link_of script files) files others ts ends (turn_in heard ends mid (record { orig = None; answ = None })) mid allowed o.run.run
+        (hears-in script files ts ends mid heard (record { orig = None; answ = None }) o) same;
+    heard = o.run.heard;
+  };
+}
+  where
+    allowed : (role : Role) → IsAllowed (of role (link_of script files)).setup.offer
+    allowed Originator = limits.offer_orig_allowed
+    allowed Answerer = limits.offer_answ_allowed
+
+    same : (role : Role) → SameSoFar (after_given (delivered (of role mid))).outgoing (of role files) (of role others)
+    same Originator = r.orig.same
+    same Answerer = r.answ.same
+
+-- being offered pieces and handing over leaves the phase
+phase-offered : (n : ℕ) (file : List ℕ) (a : Account) → (offered_times n file a).phase ≡ a.phase
+phase-offered zero file a = refl
+phase-offered (suc n) file a = phase-offered n file (offered_at file a (wants a)) ∙ at (wants a)
+  where
+    at : (w : Option ℕ) → (offered_at file a w).phase ≡ a.phase
+    at None = refl
+    at (Some m) = refl
+
+pub phase-delivered : (a : Account) → (delivered a).phase ≡ a.phase
+phase-delivered a = go _
+  where
+    go : (b : Bool) → (cond b (record a { incoming = record a.incoming { given = length a.incoming.taken } }) a).phase ≡ a.phase
+    go true = refl
+    go false = refl
+
+-- both ends as they are to speak, as a run's definition has it
+pub served-is : (script : ScriptValue) (files : Both (List ℕ)) (turn : ℕ) (mid : Ends)
+    → served script files turn mid ≡ record {
+      orig = (served_at (link_of script files) turn mid Originator).account;
+      answ = (served_at (link_of script files) turn mid Answerer).account;
+    }
+served-is script files turn mid = ap (λ r. record {
+  orig = asked turn r (breaks_of script Originator) (after_busy (is_busy turn (busy_of script Originator)) (offered files.orig x));
+  answ = asked turn r (breaks_of script Answerer) (after_busy (is_busy turn (busy_of script Answerer)) (offered files.answ (after_given (delivered mid.answ))));
+}) (ap is_released (phase-offered (room_for x) files.orig x ∙ phase-delivered mid.orig))
+  where
+    x : Account
+    x = after_given (delivered mid.orig)
+
+-- the slots that have passed a direction by now
+passed-by : (d : DelayedLine) (script : ScriptValue) (role : Role) (ts : List Turn) (line : Kept) → WaitsFor d (channel_of script) ts → d.sender ≡ role → line ≡ d.line → HasPassed line script role ts
+passed-by d script role ts line h sends is =
+    let delay : d.delay ≡ delay_of script role = h.delay ∙ ap (delay_of script) sends in
+    subst (λ l. HasPassed l script role ts) (sym is)
+    (subst (λ k. LineStands d.line script (signals (channel_of script) role (drop k ts)) (signals_in (channel_of script) role (on_line k role ts))) delay
+    (subst (λ r. LineStands d.line script (signals (channel_of script) r (drop d.delay ts)) (signals_in (channel_of script) r (on_line d.delay r ts))) sends h.line))
+
+pub passed-so : (l : Lines) (script : ScriptValue) (role : Role) (ts : List Turn) (line : Kept) → LinesWait l (channel_of script) ts
+    → (role ≡ Originator → line ≡ l.from_orig.line) → (role ≡ Answerer → line ≡ l.from_answ.line) → HasPassed line script role ts
+passed-so l script Originator ts line h orig answ = passed-by l.from_orig script Originator ts line h.from_orig h.orig_sends (orig refl)
+passed-so l script Answerer ts line h orig answ = passed-by l.from_answ script Answerer ts line h.from_answ h.answ_sends (answ refl)
