@@ -69,7 +69,7 @@ last-only line_of words before new (Err (Say fault)) s t = subst (λ (f : Folder
 last-only line_of words before new (Err NoMemory) s t = says-only before new _ _ s t
 
 -- an answer that no fault in saying gives is that of the job's end
-last-plain : {D : Type 0} (line_of : D → List ℕ) (words : List (List ℕ)) (before new : FolderState) (end : Result D Stop) (s t : Status) → SaysLast line_of words before new end s → s ≡ t → IsPlain t → end_status end ≡ t
+pub last-plain : {D : Type 0} (line_of : D → List ℕ) (words : List (List ℕ)) (before new : FolderState) (end : Result D Stop) (s t : Status) → SaysLast line_of words before new end s → s ≡ t → IsPlain t → end_status end ≡ t
 last-plain line_of words before new (Ok done) s t l e p = (tells-plain before new _ _ s t l e p).0
 last-plain line_of words before new (Err (Own answer)) s t l e p = (tells-plain before new _ _ s t l e p).0
 last-plain line_of words before new (Err (Read fault)) s t l e p = (tells-plain before new _ _ s t l e p).0

@@ -32,6 +32,11 @@ octets_line octets = count_line (codes "octets") octets
 abbrev pub pieces_line : ℕ → List ℕ
 pieces_line pieces = count_line (codes "pieces") pieces
 
+-- a soak that is done: its seed, the last turn, slots lost, and segments sent again
+abbrev pub soak_line : ℕ → ℕ → ℕ → ℕ → List ℕ
+soak_line seed turn lost again =
+    codes "soak " ++ decimal seed ++ codes " done " ++ decimal turn ++ codes " lost " ++ decimal lost ++ codes " again " ++ decimal again ++ codes "\n"
+
 -- ---- how the program is used
 
 -- words behind the first one

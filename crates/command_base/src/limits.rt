@@ -6,9 +6,6 @@ pub const RUN_FILE_LIMIT: u64 = 16_777_216;
 /// The most octets of the file of `encode` and of the bits of `frames`.
 pub const FILE_LIMIT: u64 = 1_048_576;
 
-/// The most octets of a script.
-pub const SCRIPT_LIMIT: u64 = 65_536;
-
 /// The most octets of a recording: its header, and two samples for each octet of the longest file.
 pub const RECORDING_LIMIT: u64 = 8_388_616;
 

@@ -1,7 +1,7 @@
 // The lines that answers say.
 ghost use Rattle.std.specs.Prelude.{◌≡◌, ◌<◌, ◌≤◌, ◌+◌, ◌*◌, ◌++◌, map, length, decimal, codes};
 ghost use Rattle.roles.specs.Role.{role_word};
-ghost use Rattle.command_base.specs.Lines.{xid_words, count_line, done_line, samples_line, octets_line, pieces_line, listed_behind, usage_line, AreShort, short_line};
+ghost use Rattle.command_base.specs.Lines.{xid_words, count_line, done_line, samples_line, octets_line, pieces_line, soak_line, listed_behind, usage_line, AreShort, short_line};
 ghost use Rattle.script_causes.specs.Cause.{cause_word};
 
 use crate::Status;
@@ -82,6 +82,29 @@ pub fn write_pieces(pieces: u64) -> Line
     ensures { result ≡ pieces_line pieces }
 {
     write_count("pieces", pieces)
+}
+
+/// Puts a word, and a number in decimal digits behind it.
+fn put_number(line: &mut Line, word: &[u8], number: u64)
+    requires { length line.old + length word.now + 20 ≤ LINE }
+    ensures text { line.new ≡ line.old ++ word.now ++ decimal number }
+    ensures room { length line.new ≤ length line.old + length word.now + 20 }
+{
+    line.extend(word);
+    put_decimal(line, number);
+}
+
+/// The line of a soak that is done, with its seed, its last turn, how many slots were lost, and how many segments went again.
+pub fn write_soak(seed: u64, turn: u64, lost: u64, again: u64) -> Line
+    ensures { result ≡ soak_line seed turn lost again }
+{
+    let mut line = Line::new();
+    put_number(&mut line, b"soak ", seed);
+    put_number(&mut line, b" done ", turn);
+    put_number(&mut line, b" lost ", lost);
+    put_number(&mut line, b" again ", again);
+    line.extend(b"\n");
+    line
 }
 
 /// Puts words behind the first one, each behind a comma.

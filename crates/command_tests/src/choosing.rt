@@ -36,7 +36,7 @@ fn answers(
 #[test]
 fn each_command_is_done(rt: HostRuntime) -> Result<(), Fail> {
     let run = ["run", "o", "a", "s", "go", "ga", "t"];
-    answers(&rt, rt.alloc(), &run, Status::Done, "done 2\n")?;
+    answers(&rt, rt.alloc(), &run, Status::Done, "done 12\n")?;
     let encode = ["encode", "call", "o", "r"];
     answers(&rt, rt.alloc(), &encode, Status::Done, "samples 2\n")?;
     let decode = ["decode", "r", "f"];
@@ -49,7 +49,7 @@ fn each_command_is_done(rt: HostRuntime) -> Result<(), Fail> {
 }
 
 #[test]
-fn empty_files_are_done_at_once(rt: HostRuntime) -> Result<(), Fail> {
+fn empty_files_are_done_once_the_link_was_up(rt: HostRuntime) -> Result<(), Fail> {
     let alloc = rt.alloc();
     let mut words = Vec::new(alloc);
     for text in ["run", "e", "e", "e", "go", "ga", "t"] {
@@ -58,7 +58,7 @@ fn empty_files_are_done_at_once(rt: HostRuntime) -> Result<(), Fail> {
     let mut folder = MemoryFolder::new(alloc);
     folder.put("e", b"")?;
     assert!(&rt; modem(alloc, &words, &mut folder) == Status::Done);
-    assert!(&rt; folder.said() == b"done 0\n".as_slice());
+    assert!(&rt; folder.said() == b"done 8\n".as_slice());
     for got in ["go", "ga", "t"] {
         assert!(&rt; folder.get(got) == Some(b"".as_slice()));
     }
@@ -109,7 +109,7 @@ fn samples_at_the_origin_are_followed_as_far_as_the_depth(rt: HostRuntime) -> Re
 
 #[test]
 fn other_words_are_told_the_usage(rt: HostRuntime) -> Result<(), Fail> {
-    let usage = "usage: modem run, encode, decode, frames, xid\n";
+    let usage = "usage: modem run, encode, decode, frames, xid, soak\n";
     let runs = [
         ["run", "o", "a", "s", "go", "go", "t"],
         ["run", "o", "a", "s", "go", "ga", "s"],

@@ -21,3 +21,5 @@ mod opening;
 mod running;
 #[cfg(test)]
 mod saying;
+#[cfg(test)]
+mod soaking;

@@ -1,118 +1,110 @@
 // Runs over a folder in memory, with what each says and leaves.
-use command_base::Status;
+use modem_cli::{Status, modem};
 use outside_core::MemoryFolder;
 use roles::Role;
-use run_command::{run, run_words};
-use script_causes::Cause;
-use std::alloc::{AllocError, Global};
+use std::alloc::Global;
 use std::process::Abort;
 use std::test::Fail;
 
-fn words(alloc: Global) -> Result<Vec<String>, AllocError> {
+mod failing;
+mod files;
+mod hits;
+mod losses;
+mod traces;
+
+/// What a run answered and left.
+#[derive(Drop)]
+struct Ran {
+    status: Status,
+    folder: MemoryFolder,
+}
+
+/// A run of two files and a script, over a folder that fails at these calls.
+fn run_failing(
+    alloc: Global,
+    orig: &[u8],
+    answ: &[u8],
+    script: &[u8],
+    fails: &[u64],
+) -> Result<Ran, Fail> {
     let mut words = Vec::new(alloc);
     for text in ["run", "o", "a", "s", "go", "ga", "t"] {
         words.push(String::from_str(alloc, text)?)?;
     }
-    Ok(words)
-}
-
-/// A folder with two files and a script.
-fn folder_of(alloc: Global, orig: &[u8], answ: &[u8], script: &[u8]) -> Result<MemoryFolder, Fail> {
     let mut folder = MemoryFolder::new(alloc);
     folder.put("o", orig)?;
     folder.put("a", answ)?;
     folder.put("s", script)?;
-    Ok(folder)
+    folder.fail_at(fails)?;
+    let status = modem(alloc, &words, &mut folder);
+    Ok(Ran { status, folder })
 }
 
-/// Runs over the folder, and looks at the answer and at what was said.
-fn answers(
+/// A run of two files and a script.
+fn run(alloc: Global, orig: &[u8], answ: &[u8], script: &[u8]) -> Result<Ran, Fail> {
+    run_failing(alloc, orig, answ, script, &[])
+}
+
+/// So many octets that differ from their neighbours.
+fn octets(alloc: Global, count: usize) -> Result<Vec<u8>, Fail> {
+    let mut octets = vec![in alloc; 0u8; count]?;
+    for (place, octet) in octets.iter_mut().enumerate() {
+        *octet = (place % 251) as u8;
+    }
+    Ok(octets)
+}
+
+/// Looks at the answer and at what was said.
+fn says(rt: &impl Abort, ran: &Ran, status: Status, said: &str) {
+    assert!(rt; ran.status == status, "{said}");
+    assert!(rt; ran.folder.said() == said.as_bytes(), "{said}");
+}
+
+/// Looks at what both ends received.
+fn receives(rt: &impl Abort, ran: &Ran, got_o: &[u8], got_a: &[u8]) {
+    assert!(rt; ran.folder.get("go") == Some(got_o));
+    assert!(rt; ran.folder.get("ga") == Some(got_a));
+}
+
+/// Runs, and looks whether both files crossed, with this said.
+fn crosses(
     rt: &impl Abort,
     alloc: Global,
-    folder: &mut MemoryFolder,
-    status: Status,
+    orig: &[u8],
+    answ: &[u8],
+    script: &[u8],
     said: &str,
-) -> Result<(), Fail> {
-    let words = words(alloc)?;
-    match run_words(&words) {
-        Some(names) => assert!(rt; run(alloc, folder, &words, &names) == status),
-        None => assert!(rt; false),
+) -> Result<Ran, Fail> {
+    let ran = run(alloc, orig, answ, script)?;
+    says(rt, &ran, Status::Done, said);
+    receives(rt, &ran, answ, orig);
+    Ok(ran)
+}
+
+/// How many lines the trace has.
+fn count_lines(ran: &Ran) -> usize {
+    let trace = ran.folder.get("t").unwrap_or_default();
+    trace.iter().filter(|octet| **octet == b'\n').count()
+}
+
+/// Whether a line stands in the trace.
+fn has_line(ran: &Ran, line: &str) -> bool {
+    let trace = ran.folder.get("t").unwrap_or_default();
+    trace
+        .split(|octet| *octet == b'\n')
+        .any(|found| found == line.as_bytes())
+}
+
+/// Whether an end sent this in a turn, whatever it heard: how the line begins and ends.
+fn has_sent(ran: &Ran, begins: &str, sent: &str) -> bool {
+    let trace = ran.folder.get("t").unwrap_or_default();
+    trace.split(|octet| *octet == b'\n').any(|line| line.starts_with(begins.as_bytes())
+        && line.ends_with(sent.as_bytes()))
+}
+
+/// Looks for lines of the trace.
+fn has_lines(rt: &impl Abort, ran: &Ran, lines: &[&str]) {
+    for line in lines {
+        assert!(rt; has_line(ran, line), "{line}");
     }
-    assert!(rt; folder.said() == said.as_bytes());
-    Ok(())
-}
-
-/// What both ends received, and the trace.
-fn holds(rt: &impl Abort, folder: &MemoryFolder, got: [Option<&[u8]>; 3]) {
-    assert!(rt; [folder.get("go"), folder.get("ga"), folder.get("t")] == got);
-}
-
-#[test]
-fn a_lost_frame_goes_again(rt: HostRuntime) -> Result<(), Fail> {
-    let mut folder = folder_of(rt.alloc(), b"a", b"b", b"lose answ 0 1")?;
-    answers(&rt, rt.alloc(), &mut folder, Status::Done, "done 22\n")?;
-    holds(&rt, &folder, [Some(b"b"), Some(b"a"), Some(b"")]);
-    Ok(())
-}
-
-#[test]
-fn a_line_that_loses_all_ends_the_link(rt: HostRuntime) -> Result<(), Fail> {
-    let mut folder = folder_of(rt.alloc(), b"a", b"b", b"lose answ 0 1000\n")?;
-    let lost = Status::LinkLost {
-        role: Role::Originator,
-        segment: 0,
-        turn: 120,
-    };
-    let said = "link lost: orig segment 0 turn 120\n";
-    answers(&rt, rt.alloc(), &mut folder, lost, said)?;
-    holds(&rt, &folder, [Some(b""), Some(b"a"), Some(b"")]);
-    Ok(())
-}
-
-#[test]
-fn long_inputs_are_named(rt: HostRuntime) -> Result<(), Fail> {
-    let alloc = rt.alloc();
-    let long = vec![in alloc; 7u8; 16_777_217]?;
-    let mut folder = folder_of(alloc, &long, b"", b"")?;
-    let orig = Status::TooLong { word: 1 };
-    answers(&rt, alloc, &mut folder, orig, "too long: o\n")?;
-    let mut folder = folder_of(alloc, b"", &long, b"")?;
-    let answ = Status::TooLong { word: 2 };
-    answers(&rt, alloc, &mut folder, answ, "too long: a\n")?;
-    let long = vec![in alloc; 7u8; 65_537]?;
-    let mut folder = folder_of(alloc, b"", b"", &long)?;
-    let script = Status::TooLong { word: 3 };
-    answers(&rt, alloc, &mut folder, script, "too long: s\n")?;
-    holds(&rt, &folder, [None, None, None]);
-    Ok(())
-}
-
-#[test]
-fn the_first_faulty_line_of_a_script_is_named(rt: HostRuntime) -> Result<(), Fail> {
-    let mut folder = folder_of(rt.alloc(), b"a", b"b", b"lose orig 0 1\nlose orig 0\n")?;
-    let bad = Status::BadScript {
-        line: 2,
-        cause: Cause::Word,
-    };
-    let said = "bad script: line 2: word\n";
-    answers(&rt, rt.alloc(), &mut folder, bad, said)?;
-    holds(&rt, &folder, [None, None, None]);
-    Ok(())
-}
-
-/// A run of the two one-octet files makes eight reads, three files, two appends, and says one line. Where the folder fails
-/// at a call, the answer is named by the call's kind.
-#[test]
-fn each_call_that_fails_is_named_by_its_kind(rt: HostRuntime) -> Result<(), Fail> {
-    for number in 1..=14u64 {
-        let mut folder = folder_of(rt.alloc(), b"a", b"b", b"")?;
-        folder.fail_at(&[number])?;
-        let (status, said) = match number {
-            1..=8 => (Status::ReadFault, "read fault\n"),
-            9..=13 => (Status::WriteFault, "write fault\n"),
-            _ => (Status::WriteFault, ""),
-        };
-        answers(&rt, rt.alloc(), &mut folder, status, said)?;
-    }
-    Ok(())
 }

@@ -3,13 +3,15 @@ use Rattle.std.proofs.Common.{◌≡◌, ◌∙◌, true, ℕ, List, [], ◌∷�
 use Rattle.outside_core.specs.Folder.{FolderState}
 use Rattle.command_base.specs.declared.status.Status.{Status}
 use Rattle.command_base.specs.Job.{Answers as AnswersOf}
-use Rattle.run_command.specs.Words.{RunNames, names_of as run_names}
+use Rattle.run_inputs.specs.Words.{RunNames, names_of as run_names}
 use Rattle.run_command.specs.Ends.{run_job}
 use Rattle.run_command.specs.Headline.{Headline as RunHeadline}
+use Rattle.run_command.specs.Completes.{Completes as RunCompletes}
 use Rattle.encode_command.specs.Words.{names_of as encode_names}
 use Rattle.decode_command.specs.Words.{names_of as decode_names}
 use Rattle.frames_command.specs.Words.{names_of as frames_names}
 use Rattle.xid_command.specs.Words.{digits_named}
+use Rattle.soak_command.specs.Words.{seed_named}
 use Rattle.modem_cli.specs.Modem.{is_none, Promises, Answers, Completes}
 
 pub record OthersNone (words : List (List ℕ)) : Type 0 where
@@ -17,6 +19,7 @@ pub record OthersNone (words : List (List ℕ)) : Type 0 where
   pub decode : decode_names words ≡ None
   pub frames : frames_names words ≡ None
   pub xid : digits_named words ≡ None
+  pub soak : seed_named words ≡ None
 
 run-alone : (words : List (List ℕ)) (n : RunNames) → run_names words ≡ Some n → OthersNone words
 run-alone [] n e = absurd cc
@@ -26,7 +29,7 @@ run-alone (a ∷ b ∷ d ∷ []) n e = absurd cc
 run-alone (a ∷ b ∷ d ∷ f ∷ []) n e = absurd cc
 run-alone (a ∷ b ∷ d ∷ f ∷ h ∷ []) n e = absurd cc
 run-alone (a ∷ b ∷ d ∷ f ∷ h ∷ i ∷ []) n e = absurd cc
-run-alone (a ∷ b ∷ d ∷ f ∷ h ∷ i ∷ j ∷ []) n e = record { encode = refl; decode = refl; frames = refl; xid = refl }
+run-alone (a ∷ b ∷ d ∷ f ∷ h ∷ i ∷ j ∷ []) n e = record { encode = refl; decode = refl; frames = refl; xid = refl; soak = refl }
 run-alone (a ∷ b ∷ d ∷ f ∷ h ∷ i ∷ j ∷ k ∷ more) n e = absurd cc
 
 never : {A : Type 0} (o : Option A) (a : A) → o ≡ None → o ≡ Some a → ⊥
@@ -56,6 +59,7 @@ run-promises words old new n s e h =
       decode = λ m f. absurd (never (decode_names words) m o.decode f);
       frames = λ m f. absurd (never (frames_names words) m o.frames f);
       xid = λ m f. absurd (never (digits_named words) m o.xid f);
+      soak = λ m f. absurd (never (seed_named words) m o.soak f);
       other = λ none. absurd (never-none (run_names words) n e none.0);
     }
 
@@ -68,15 +72,18 @@ run-answers words old new n s e a =
       decode = λ m f. absurd (never (decode_names words) m o.decode f);
       frames = λ m f. absurd (never (frames_names words) m o.frames f);
       xid = λ m f. absurd (never (digits_named words) m o.xid f);
+      soak = λ m f. absurd (never (seed_named words) m o.soak f);
       other = λ none. absurd (never-none (run_names words) n e none.0);
     }
 
-pub run-completes : (words : List (List ℕ)) (old new : FolderState) (n : RunNames) (s : Status) → run_names words ≡ Some n → Completes words old new s
-run-completes words old new n s e =
+pub run-completes : (words : List (List ℕ)) (old new : FolderState) (n : RunNames) (s : Status) → run_names words ≡ Some n → RunCompletes old new n s → Completes words old new s
+run-completes words old new n s e k =
     let o : OthersNone words = run-alone words n e in
     record {
+      run = λ m f. subst (λ (x : RunNames). RunCompletes old new x s) (same (run_names words) n m e f) k;
       encode = λ m f. absurd (never (encode_names words) m o.encode f);
       decode = λ m f. absurd (never (decode_names words) m o.decode f);
       frames = λ m f. absurd (never (frames_names words) m o.frames f);
       xid = λ m f. absurd (never (digits_named words) m o.xid f);
+      soak = λ m f. absurd (never (seed_named words) m o.soak f);
     }

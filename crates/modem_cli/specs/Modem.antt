@@ -8,9 +8,10 @@ use Rattle.command_base.specs.Job.{Answers as AnswersOf, Shared}
 use Rattle.command_base.specs.Lines.{usage_line}
 use Rattle.command_base.specs.Outputs.{KeepsAll}
 use Rattle.command_base.specs.Tells.{Tells}
-use Rattle.run_command.specs.Words.{RunNames, names_of as run_names}
+use Rattle.run_inputs.specs.Words.{RunNames, names_of as run_names}
 use Rattle.run_command.specs.Ends.{run_job}
 use Rattle.run_command.specs.Headline.{Headline as RunHeadline}
+use Rattle.run_command.specs.Completes.{Completes as RunCompletes}
 use Rattle.encode_command.specs.Words.{EncodeNames, names_of as encode_names}
 use Rattle.encode_command.specs.Ends.{encode_job}
 use Rattle.encode_command.specs.Headline.{Headline as EncodeHeadline}
@@ -26,6 +27,10 @@ use Rattle.frames_command.specs.Completes.{Completes as FramesCompletes}
 use Rattle.xid_command.specs.Words.{digits_named}
 use Rattle.xid_command.specs.Ends.{xid_job}
 use Rattle.xid_command.specs.Completes.{Completes as XidCompletes}
+use Rattle.soak_command.specs.Words.{seed_named}
+use Rattle.soak_command.specs.Ends.{soak_job}
+use Rattle.soak_command.specs.Headline.{Headline as SoakHeadline}
+use Rattle.soak_command.specs.Completes.{Completes as SoakCompletes}
 
 -- A command: its word, and whether words are not its own.
 pub record Command : Type 0 where
@@ -44,6 +49,7 @@ commands =
     ∷ record { word = codes "decode"; refuses = λ words. is_none (decode_names words) }
     ∷ record { word = codes "frames"; refuses = λ words. is_none (frames_names words) }
     ∷ record { word = codes "xid"; refuses = λ words. is_none (digits_named words) }
+    ∷ record { word = codes "soak"; refuses = λ words. is_none (seed_named words) }
     ∷ []
 
 -- the words are those of none of these
@@ -66,6 +72,7 @@ pub record Promises (words : List (List ℕ)) (old new : FolderState) (s : Statu
   pub decode : (n : DecodeNames) → decode_names words ≡ Some n → DecodeHeadline old new n s
   pub frames : (n : FramesNames) → frames_names words ≡ Some n → FramesHeadline old new n s
   pub xid : (digits : List ℕ) → digits_named words ≡ Some digits → Shared [] [] old new s
+  pub soak : (seed : ℕ) → seed_named words ≡ Some seed → SoakHeadline old new seed s
   pub other : IsNoCommand words → KeepsAll old new
 
 -- The answer to any words.
@@ -75,11 +82,14 @@ pub record Answers (words : List (List ℕ)) (old new : FolderState) (s : Status
   pub decode : (n : DecodeNames) → decode_names words ≡ Some n → AnswersOf (decode_job n) words old new s
   pub frames : (n : FramesNames) → frames_names words ≡ Some n → AnswersOf (frames_job n) words old new s
   pub xid : (digits : List ℕ) → digits_named words ≡ Some digits → AnswersOf (xid_job digits) words old new s
+  pub soak : (seed : ℕ) → seed_named words ≡ Some seed → AnswersOf (soak_job seed) words old new s
   pub other : IsNoCommand words → Tells old new usage Usage s
 
--- When words of a command are done, but for want of memory. `run` is not among them.
+-- When words of a command are done, but for want of memory.
 pub record Completes (words : List (List ℕ)) (old new : FolderState) (s : Status) : Type 0 where
+  pub run : (n : RunNames) → run_names words ≡ Some n → RunCompletes old new n s
   pub encode : (n : EncodeNames) → encode_names words ≡ Some n → EncodeCompletes old new n s
   pub decode : (n : DecodeNames) → decode_names words ≡ Some n → DecodeCompletes old new n s
   pub frames : (n : FramesNames) → frames_names words ≡ Some n → FramesCompletes old new n s
   pub xid : (digits : List ℕ) → digits_named words ≡ Some digits → XidCompletes old new digits s
+  pub soak : (seed : ℕ) → seed_named words ≡ Some seed → SoakCompletes old new seed s

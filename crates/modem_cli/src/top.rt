@@ -9,6 +9,7 @@ use encode_command::{encode, encode_words};
 use frames_command::{frames, frames_words};
 use outside_core::Folder;
 use run_command::{run, run_words};
+use soak_command::{soak, soak_words};
 use std::alloc::Global;
 use xid_command::{xid, xid_words};
 
@@ -16,7 +17,7 @@ use xid_command::{xid, xid_words};
 fn usage() -> Line
     ensures { result ≡ usage }
 {
-    write_usage(&["run", "encode", "decode", "frames", "xid"])
+    write_usage(&["run", "encode", "decode", "frames", "xid", "soak"])
 }
 
 /// Does what the words of a command line say, and answers how it ended. Each answer's line is said last.
@@ -52,6 +53,9 @@ pub fn modem<F: Folder>(alloc: Global, words: &[String], folder: &mut F) -> Stat
     }
     if let Some(digits) = xid_words(words) {
         return xid(folder, words, digits);
+    }
+    if let Some(seed) = soak_words(words) {
+        return soak(alloc, folder, words, seed);
     }
     tell(folder, usage().as_slice(), Status::Usage)
 }

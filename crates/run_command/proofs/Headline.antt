@@ -1,136 +1,133 @@
--- From how a run ends to the headline.
-use Rattle.std.proofs.Common.{◌≡◌, inl, inr, ℕ, ◌+◌, ◌*◌, ◌<◌, List, [], ◌++◌, IsTrue, Some, Result, Ok, Err, refl, sym, ◌∙◌, ap, subst, arith, append_assoc}
+-- From every answer to the headline, and to when a run is done.
+use Rattle.std.proofs.Common.{◌≡◌, ◌⊎◌, inl, inr, ℕ, Bool, true, false, List, [], ◌++◌, Some, Result, Ok, Err, refl, sym, ◌∙◌, ap, subst}
 use Rattle.std.specs.Option.{option_map}
-use Rattle.plain_lists.specs.Prefix.{IsPrefixOf}
-use Rattle.outside_core.specs.Folder.{FolderState, octets_at, GoesOn, KeepsName}
+use Rattle.std.proofs.lemmas.Bool.{false≢true}
+use Rattle.outside_core.specs.Folder.{FolderState, GoesOn, KeepsName}
 use Rattle.outside_core.specs.Steps.{KeepsName-trans, told_later}
-use Rattle.roles.specs.declared.role.Role.{Role}
-use Rattle.line_world.specs.Run.{segments}
-use Rattle.line_world.proofs.Order.{run-linked, run-whole, mid-order, mid-prefix, heard-prefix}
-use Rattle.line_world.proofs.Bound.{run-length}
+use Rattle.outside_core.specs.declared.folder.FolderFault.{FolderFault}
+use Rattle.outside_core.specs.declared.folder.FolderFault.TheVariants as folder
+use Rattle.roles.specs.declared.role.Role.TheVariants.{Originator, Answerer}
+use Rattle.noise_script.specs.Script.{delay_of}
+use Rattle.link_run.specs.Laws.{agreed_srej}
+use Rattle.link_run.specs.Taken.{taken_octets}
+use Rattle.line_run.specs.Ends.{RunEnd, RunsTo, turns_heard}
+use Rattle.line_run.specs.Ends as runs
+use Rattle.line_run.specs.Scripted.{channel_of, link_of}
 use Rattle.command_base.specs.declared.status.Status.{Status}
-use Rattle.command_base.specs.declared.status.Status.TheVariants.{Done}
+use Rattle.command_base.specs.declared.status.Status.TheVariants.{Done, ReadFault, WriteFault}
+use Rattle.command_base.specs.declared.status.Status.TheVariants.{LineLost, NotDetected, LinkLost, ChanceMatch}
 use Rattle.command_base.specs.declared.stop.Stop.{Stop}
-use Rattle.command_base.specs.declared.stop.Stop.TheVariants.{Own, Read, Write, Say, NoMemory}
-use Rattle.command_base.specs.Status.{IsRefusal}
-use Rattle.command_base.specs.Stops.{end_status}
+use Rattle.command_base.specs.declared.stop.Stop.TheVariants as stops
+use Rattle.command_base.specs.Stops.{fault_status, end_status}
 use Rattle.command_base.specs.Job.{Answers}
 use Rattle.command_base.specs.Lines.{done_line}
-use Rattle.command_base.specs.Outputs.{Holds, HoldsPart, KeptOrEmpty, KeepsAll, CreatesPart}
-use Rattle.command_base.proofs.Jobs.{IsDone, refusal-own, last-only, done-of, shared-of}
-use Rattle.run_command.specs.declared.limits.TheConstants.{LIMITS}
-use Rattle.run_command.specs.Words.{RunNames, outputs_of}
-use Rattle.run_command.specs.Ends.{EndsDone, EndsLost, EndsInTurn, EndsCreating, EndsBy, Ends, run_job}
-use Rattle.run_command.specs.Headline.{KeptOrPrefix, HoldsWhole, Headline}
-
--- what a received file holds begins the file that was read
-prefix-of : (old before : FolderState) (got sent file taken : List ℕ) → GoesOn old before → (IsTrue (old.tells sent) → file ≡ octets_at old sent) → Holds before got taken → IsPrefixOf taken file → KeptOrPrefix old before got sent
-prefix-of old before got sent file taken g reads holds p =
-    inr (λ ts tg. (taken, holds (told_later g got tg), (p.0, p.1 ∙ reads ts)))
-
--- and so it does with a part of the next piece behind it
-part-of : (old before : FolderState) (got sent file taken piece : List ℕ) → GoesOn old before → (IsTrue (old.tells sent) → file ≡ octets_at old sent) → HoldsPart before got taken piece → IsPrefixOf (taken ++ piece) file → KeptOrPrefix old before got sent
-part-of old before got sent file taken piece g reads holds p =
-    inr (λ ts tg. let h = holds (told_later g got tg) in
-    (taken ++ h.0, h.2, (h.1.0 ++ p.0, regroup h.0 h.1.0 h.1.1 ∙ p.1 ∙ reads ts)))
-  where
-    regroup : (part rest : List ℕ) → part ++ rest ≡ piece → (taken ++ part) ++ (rest ++ p.0) ≡ (taken ++ piece) ++ p.0
-    regroup part rest e = sym (append_assoc (taken ++ part) rest p.0) ∙ ap (λ x. x ++ p.0) (append_assoc taken part rest ∙ ap (λ x. taken ++ x) e)
-
-empty-of : (old before : FolderState) (got sent : List ℕ) → GoesOn old before → KeptOrEmpty old before got → KeptOrPrefix old before got sent
-empty-of old before got sent g (inl k) = inl k
-empty-of old before got sent g (inr h) = inr (λ ts tg. ([], h (told_later g got tg), (octets_at old sent, refl)))
-
--- both received files, whatever the run ended by
-pub record BothPrefix (old before : FolderState) (n : RunNames) : Type 0 where
-  pub got_o : KeptOrPrefix old before n.got_o n.answ
-  pub got_a : KeptOrPrefix old before n.got_a n.orig
-
-both-done : (old before : FolderState) (n : RunNames) (number : ℕ) → GoesOn old before → EndsDone LIMITS old before n number → BothPrefix old before n
-both-done old before n number g e =
-    let r = e.runs in
-    let p = mid-prefix e.files r.mid (mid-order e.files e.script r.turns r.ends r.mid r.turn (run-linked e.files e.script r.turns r.ends r.run) r.last.listening) in
-    record { got_o = prefix-of old before n.got_o n.answ e.files.answ _ g e.opens.answ_read r.orig_got p.1; got_a = prefix-of old before n.got_a n.orig e.files.orig _ g e.opens.orig_read r.answ_got p.0 }
-
-both-lost : (old before : FolderState) (n : RunNames) (role : Role) (segment number : ℕ) → GoesOn old before → EndsLost LIMITS old before n role segment number → BothPrefix old before n
-both-lost old before n role segment number g e =
-    let r = e.runs in
-    let p = mid-prefix e.files r.mid (mid-order e.files e.script r.turns r.ends r.mid r.turn (run-linked e.files e.script r.turns r.ends r.run) r.lost.listening) in
-    record { got_o = prefix-of old before n.got_o n.answ e.files.answ _ g e.opens.answ_read r.orig_got p.1; got_a = prefix-of old before n.got_a n.orig e.files.orig _ g e.opens.orig_read r.answ_got p.0 }
-
-both-stopped : (old before : FolderState) (n : RunNames) → GoesOn old before → EndsInTurn LIMITS old before n → BothPrefix old before n
-both-stopped old before n g e =
-    let r = e.runs in
-    let p = heard-prefix e.files e.script r.turns r.ends r.orig_heard r.answ_heard r.run r.orig_arrives r.answ_arrives in
-    record { got_o = part-of old before n.got_o n.answ e.files.answ _ _ g e.opens.answ_read r.orig_got p.1; got_a = part-of old before n.got_a n.orig e.files.orig _ _ g e.opens.orig_read r.answ_got p.0 }
-
-both-creating : (old before : FolderState) (n : RunNames) → GoesOn old before → EndsCreating LIMITS old before n → BothPrefix old before n
-both-creating old before n g e = by e.creates
-  where
-    by : CreatesPart old before (outputs_of n) → BothPrefix old before n
-    by (inl (o, (a, rest))) = record { got_o = empty-of old before n.got_o n.answ g o; got_a = inl a }
-    by (inr (o, inl (a, rest))) = record { got_o = empty-of old before n.got_o n.answ g (inr o); got_a = empty-of old before n.got_a n.orig g a }
-    by (inr (o, inr (a, rest))) = record { got_o = empty-of old before n.got_o n.answ g (inr o); got_a = empty-of old before n.got_a n.orig g (inr a) }
-
-both-kept : (old before : FolderState) (n : RunNames) → KeepsAll old before → BothPrefix old before n
-both-kept old before n kept = record { got_o = inl (kept n.got_o); got_a = inl (kept n.got_a) }
-
-both-by : (old before : FolderState) (n : RunNames) (stop : Stop) → GoesOn old before → EndsBy LIMITS old before n stop → BothPrefix old before n
-both-by old before n (Own answer) g (inl refused) = both-kept old before n refused.0
-both-by old before n (Own answer) g (inr e) = both-lost old before n e.role e.segment e.turn g e.lost
-both-by old before n (Read fault) g kept = both-kept old before n kept
-both-by old before n NoMemory g e = both-kept old before n e.0
-both-by old before n (Write fault) g (inl c) = both-creating old before n g c
-both-by old before n (Write fault) g (inr t) = both-stopped old before n g t
-both-by old before n (Say fault) g never = absurd never
-
-both-of : (old before : FolderState) (n : RunNames) (end : Result ℕ Stop) → GoesOn old before → Ends LIMITS old before n end → BothPrefix old before n
-both-of old before n (Ok number) g e = both-done old before n number g e
-both-of old before n (Err stop) g e = both-by old before n stop g e
-
--- a refusal comes before the outputs
-own-refused : (old before : FolderState) (n : RunNames) (answer : Status) → IsRefusal answer → EndsBy LIMITS old before n (Own answer) → KeepsAll old before
-own-refused old before n answer r (inl refused) = refused.0
-own-refused old before n answer r (inr e) = absurd (subst IsRefusal e.answer_is r)
-
-pub refused-by : (old before : FolderState) (n : RunNames) (end : Result ℕ Stop) → Ends LIMITS old before n end → IsRefusal (end_status end) → KeepsAll old before
-refused-by old before n end ends = refusal-own end (KeepsAll old before) (λ answer e r. own-refused old before n answer r (subst (Ends LIMITS old before n) e ends))
+use Rattle.command_base.specs.Outputs.{Holds, KeepsAll, OnlyOutputs}
+use Rattle.command_base.proofs.Answering.{IsPlain}
+use Rattle.command_base.proofs.Holding.{Holds-kept}
+use Rattle.command_base.proofs.Jobs.{last-only, last-plain, done-of, shared-of}
+use Rattle.run_inputs.specs.declared.limits.TheConstants.{LIMITS}
+use Rattle.run_inputs.specs.Words.{RunNames}
+use Rattle.run_inputs.specs.Inputs.{RefusesOwn}
+use Rattle.run_command.specs.Ends.{RanTo, EndsBy, run_job}
+use Rattle.run_command.specs.Ends as ends
+use Rattle.run_command.specs.Headline.{KeptOrPrefix, HoldsWhole, Ran, RanBy, Headline}
+use Rattle.run_command.proofs.Prefixes.{RunLaws, BothPrefix, may-run, both-of}
+use Rattle.run_command.proofs.ReadingOff.{run-read}
 
 prefix-later : (old before new : FolderState) (got sent : List ℕ) → GoesOn old before → KeepsName before new got → KeptOrPrefix old before got sent → KeptOrPrefix old new got sent
 prefix-later old before new got sent g k (inl h) = inl (KeepsName-trans old before new got g h k)
 prefix-later old before new got sent g k (inr h) = inr (λ ts tg. let p = h ts tg in (p.0, k (told_later g got tg) ∙ p.1, p.2))
 
 -- a run that is done
-whole-of : (old before new : FolderState) (n : RunNames) (number : ℕ) → GoesOn old before → KeepsAll before new → EndsDone LIMITS old before n number → HoldsWhole old new n.got_o n.answ × HoldsWhole old new n.got_a n.orig
-whole-of old before new n number g kept e =
-    let r = e.runs in let w = run-whole e.files e.script r.turns r.ends r.turn r.mid r.run r.last in (
-      (λ ts tg. kept n.got_o (told_later g n.got_o tg) ∙ r.orig_got (told_later g n.got_o tg) ∙ ap Some (w.1 ∙ e.opens.answ_read ts)),
-      (λ ts tg. kept n.got_a (told_later g n.got_a tg) ∙ r.answ_got (told_later g n.got_a tg) ∙ ap Some (w.0 ∙ e.opens.orig_read ts)),
+whole-of : RunLaws → (old before new : FolderState) (n : RunNames) (turn : ℕ) → GoesOn old before → KeepsAll before new → RanTo LIMITS old before n (runs.IsDone turn)
+    → HoldsWhole old new n.got_o n.answ × HoldsWhole old new n.got_a n.orig
+whole-of laws old before new n turn g kept e =
+    let w = laws.whole (channel_of e.script) (link_of e.script e.files) turn e.left (may-run laws e.script e.files e.takes.limits) e.run in (
+      (λ ts tg. kept n.got_o (told_later g n.got_o tg) ∙ e.holds.got_o (told_later g n.got_o tg) ∙ ap Some (w Originator ∙ e.takes.answ ts)),
+      (λ ts tg. kept n.got_a (told_later g n.got_a tg) ∙ e.holds.got_a (told_later g n.got_a tg) ∙ ap Some (w Answerer ∙ e.takes.orig ts)),
     )
 
-bound-of : (old before : FolderState) (n : RunNames) (number : ℕ) → EndsDone LIMITS old before n number → IsTrue (old.tells n.orig) → IsTrue (old.tells n.answ) →
-    number < 140 * (segments (octets_at old n.orig) + segments (octets_at old n.answ) + 6)
-bound-of old before n number e to ta =
-    let r = e.runs in
-    let least : number < 140 * (segments e.files.orig + segments e.files.answ + 6) = omega (arith, run-length e.files e.script r.turns r.ends r.run, r.number_is) in
-    subst (λ (p : List ℕ × List ℕ). number < 140 * (segments p.0 + segments p.1 + 6)) (λ i. (e.opens.orig_read to i, e.opens.answ_read ta i)) least
+-- a run that ended by itself
+ran-of : RunLaws → (old before new : FolderState) (n : RunNames) (end : RunEnd) → OnlyOutputs before new [] → RanTo LIMITS old before n end → Ran old new n end
+ran-of laws old before new n end last e =
+    let c = channel_of e.script in
+    let link = link_of e.script e.files in
+    let heard = turns_heard c link e.run.turns e.run.ends end e.left e.run.ended in
+    let passed = laws.passed c link end e.left (may-run laws e.script e.files e.takes.limits) e.run in record {
+      script = e.script;
+      files = e.files;
+      are_of = record { script_is = e.takes.opens.reads.spelled; orig_is = e.takes.orig; answ_is = e.takes.answ };
+      left = e.left;
+      run = e.run;
+      heard = heard;
+      heard_is = refl;
+      read_off = run-read laws.least c link e.run.turns e.run.ends end e.left e.run.run e.run.ended;
+      got = record {
+        got_o = Holds-kept before new n.got_o (taken_octets (agreed_srej link) (delay_of e.script) Originator heard) last.goes_on (subst (Holds before n.got_o) (passed Originator) e.holds.got_o) (last.names n.got_o tt);
+        got_a = Holds-kept before new n.got_a (taken_octets (agreed_srej link) (delay_of e.script) Answerer heard) last.goes_on (subst (Holds before n.got_a) (passed Answerer) e.holds.got_a) (last.names n.got_a tt);
+      };
+      trace = Holds-kept before new n.trace e.left.trace last.goes_on e.holds.trace (last.names n.trace tt);
+      few = laws.soon c e.files e.run.turns e.run.ends e.takes.limits e.run.run;
+      starved = laws.starved c e.files end e.left e.takes.limits e.run;
+    }
+
+-- answers by which a run itself ends
+abbrev is_run_end : Status → Bool
+is_run_end (LineLost role symbol) = true
+is_run_end (NotDetected turn) = true
+is_run_end (LinkLost role segment turn) = true
+is_run_end (ChanceMatch role turn) = true
+is_run_end answer = false
+
+plain-end : (s : Status) → is_run_end s ≡ true → IsPlain s
+plain-end s e = record { write = λ f. false≢true (ap is_run_end (sym f) ∙ e); memory = λ f. false≢true (ap is_run_end (sym f) ∙ e) }
+
+no-fault : (failed : Status) (fault : FolderFault) → is_run_end failed ≡ false → is_run_end (fault_status failed fault) ≡ true → ⊥
+no-fault failed folder.Failed f e = false≢true (sym f ∙ e)
+no-fault failed folder.NoMemory f e = false≢true e
+
+own-end : (end : Result ℕ Stop) (s : Status) → is_run_end s ≡ true → end_status end ≡ s → end ≡ Err (stops.Own s)
+own-end (Ok turn) s e f = absurd (false≢true (ap is_run_end f ∙ e))
+own-end (Err (stops.Own answer)) s e f = ap (λ x. Err (stops.Own x)) f
+own-end (Err (stops.Read fault)) s e f = absurd (no-fault ReadFault fault refl (ap is_run_end f ∙ e))
+own-end (Err (stops.Write fault)) s e f = absurd (no-fault WriteFault fault refl (ap is_run_end f ∙ e))
+own-end (Err (stops.Say fault)) s e f = absurd (no-fault WriteFault fault refl (ap is_run_end f ∙ e))
+own-end (Err stops.NoMemory) s e f = absurd (false≢true (ap is_run_end f ∙ e))
+
+-- the answer is that of the run's end
+own-ends : (words : List (List ℕ)) (old new : FolderState) (n : RunNames) (s t : Status) (a : Answers (run_job n) words old new s) → is_run_end t ≡ true → s ≡ t → EndsBy LIMITS old a.before n (stops.Own t)
+own-ends words old new n s t a e f =
+    let is = own-end a.end t e (last-plain done_line words a.before new a.end s t a.says f (plain-end t e)) in
+    subst (ends.Ends LIMITS old a.before n) is a.ends.0
+
+not-refused : {P : Type 0} → (old before : FolderState) (n : RunNames) (answer : Status) → (RefusesOwn LIMITS old n answer → ⊥) → (KeepsAll old before × RefusesOwn LIMITS old n answer) ⊎ P → P
+not-refused old before n answer never (inl r) = absurd (never r.1)
+not-refused old before n answer never (inr p) = p
+
+ran-by : RunLaws → (words : List (List ℕ)) (old new : FolderState) (n : RunNames) (s t : Status) (a : Answers (run_job n) words old new s) → OnlyOutputs a.before new [] → s ≡ t → RanBy old new n t
+ran-by laws words old new n s Done a last e = let d = done-of (run_job n) words old new s a e in (d.done, d.said ∙ ap (option_map (λ x. x ++ done_line d.done)) d.ends.1, ran-of laws old a.before new n (runs.IsDone d.done) last d.ends.0)
+ran-by laws words old new n s (LinkLost role segment turn) a last e = ran-of laws old a.before new n _ last (not-refused old a.before n (LinkLost role segment turn) (λ x. x) (own-ends words old new n s (LinkLost role segment turn) a refl e))
+ran-by laws words old new n s (NotDetected turn) a last e = ran-of laws old a.before new n _ last (not-refused old a.before n (NotDetected turn) (λ x. x) (own-ends words old new n s (NotDetected turn) a refl e))
+ran-by laws words old new n s (LineLost role symbol) a last e = ran-of laws old a.before new n _ last (not-refused old a.before n (LineLost role symbol) (λ x. x) (own-ends words old new n s (LineLost role symbol) a refl e))
+ran-by laws words old new n s (ChanceMatch role turn) a last e = ran-of laws old a.before new n _ last (not-refused old a.before n (ChanceMatch role turn) (λ x. x) (own-ends words old new n s (ChanceMatch role turn) a refl e))
+ran-by laws words old new n s t a last e = tt
 
 -- the headline holds of every answer
-pub headline-of : (words : List (List ℕ)) (old new : FolderState) (n : RunNames) (s : Status) → Answers (run_job n) words old new s → Headline old new n s
-headline-of words old new n s a = record {
+pub headline-of : RunLaws → (words : List (List ℕ)) (old new : FolderState) (n : RunNames) (s : Status) → Answers (run_job n) words old new s → Headline old new n s
+headline-of laws words old new n s a = record {
   shared = shared-of (run_job n) words old new s a;
   got_o = prefix-later old a.before new n.got_o n.answ a.only.goes_on (kept n.got_o) both.got_o;
   got_a = prefix-later old a.before new n.got_a n.orig a.only.goes_on (kept n.got_a) both.got_a;
-  whole_o = λ e. let d = done e in (whole-of old a.before new n d.done a.only.goes_on kept d.ends.0).0;
-  whole_a = λ e. let d = done e in (whole-of old a.before new n d.done a.only.goes_on kept d.ends.0).1;
-  said = λ e. let d = done e in (d.done, d.said ∙ ap (option_map (λ x. x ++ done_line d.done)) d.ends.1, bound-of old a.before n d.done d.ends.0);
+  whole_o = λ e. let d = done-of (run_job n) words old new s a e in (whole-of laws old a.before new n d.done a.only.goes_on kept d.ends.0).0;
+  whole_a = λ e. let d = done-of (run_job n) words old new s a e in (whole-of laws old a.before new n d.done a.only.goes_on kept d.ends.0).1;
+  ran = ran-by laws words old new n s s a last refl;
 }
   where
+    last : OnlyOutputs a.before new []
+    last = last-only done_line words a.before new a.end s a.says
+
     kept : KeepsAll a.before new
-    kept name = (last-only done_line words a.before new a.end s a.says).names name tt
+    kept name = last.names name tt
 
     both : BothPrefix old a.before n
-    both = both-of old a.before n a.end a.only.goes_on a.ends.0
-
-    done : s ≡ Done → IsDone (run_job n) old a.before new
-    done e = done-of (run_job n) words old new s a e
+    both = both-of laws old a.before n a.end a.only.goes_on a.ends.0

@@ -1,3 +1,7 @@
 pub mod Reached
 pub mod Runs
+pub mod Refusing
+pub mod ReadingOff
+pub mod Prefixes
 pub mod Headline
+pub mod Completing

@@ -1,27 +1,34 @@
 -- From the phases of a run to how it ends.
-use Rattle.std.proofs.Common.{◌≡◌, inl, inr, ℕ, List, [], ◌∷◌, Err, sym, rules, true, refl}
-use Rattle.outside_core.specs.Folder.{FolderState, OnlyReads}
-use Rattle.line_world.specs.declared.script.Loss.{Loss}
-use Rattle.line_world.specs.declared.world.RunFault.{RunFault}
-use Rattle.line_world.specs.declared.world.RunFault.TheVariants.{WriteFault, LinkLost, NoMemory}
-use Rattle.line_world.specs.Run.{Files}
-use Rattle.line_world.specs.World.{Written, AreApart, OnlyGot, HasRunCause, PassesNoneOver}
+use Rattle.std.proofs.Common.{◌≡◌, ◌≢◌, inl, inr, ℕ, ◌≤◌, IsTrue, List, [], ◌∷◌, sym, ◌∙◌, ap, take, arith}
+use Rattle.std.proofs.lemmas.List.{take_all}
+use Rattle.outside_core.specs.Folder.{FolderState, octets_at, GoesOn, KeepsName, OnlyReads}
+use Rattle.outside_core.specs.Steps.{GoesOn-trans, KeepsName-trans, octets-kept, told_later}
+use Rattle.roles.specs.Both.{Both}
+use Rattle.noise_script.specs.Script.{ScriptValue}
+use Rattle.line_run.specs.Ends.{RunEnd}
+use Rattle.line_run.specs.Ends as runs
+use Rattle.turn_bound.specs.Limits.{file_limit}
+use Rattle.line_world.specs.declared.step.RunFault.{RunFault}
+use Rattle.line_world.specs.declared.step.RunFault.TheVariants as faults
+use Rattle.line_world.specs.World.{AreApart, KnowsFiles, OnlyOutputs as OnlyWritten}
+use Rattle.line_world.specs.Turn.{FaultCounts}
 use Rattle.command_base.specs.declared.stop.Stop.{Stop}
 use Rattle.command_base.specs.declared.stop.Stop.TheVariants as stops
-use Rattle.command_base.specs.Outputs.{Holds, KeepsEach, Creates, CreatesPart}
+use Rattle.command_base.specs.Inputs.{IsWithin}
+use Rattle.command_base.specs.Outputs.{IsNoneOf, OnlyOutputs, KeepsEach, CreatesPart, AreApart as AreDistinct}
 use Rattle.command_base.specs.Stops.{StopCounts}
 use Rattle.command_base.proofs.Creating.{CreatesPart-earlier}
-use Rattle.command_base.proofs.Holding.{Holds-kept}
-use Rattle.run_command.specs.declared.limits.Limits.{Limits}
-use Rattle.run_command.specs.Words.{RunNames, are_apart, names_written, inputs_of, outputs_of}
-use Rattle.run_command.specs.Inputs.{Opens, Refuses}
-use Rattle.run_command.specs.Turns.{FaultyRun}
-use Rattle.run_command.specs.Ends.{EndsCreating, EndsBy, fault_stop}
+use Rattle.run_inputs.specs.declared.limits.Limits.{Limits}
+use Rattle.run_inputs.specs.declared.limits.TheConstants.{LIMITS}
+use Rattle.run_inputs.specs.Words.{RunNames, AreNoneOf, inputs_of, outputs_of}
+use Rattle.run_inputs.specs.Inputs.{Refuses}
+use Rattle.run_command.specs.Turns.{names_written, RunEnds, RunStops, FaultEnds}
+use Rattle.run_command.specs.Ends.{IsBegun, Takes, RanTo, StopsInTurn, StopsCreating, EndsBy, fault_stop}
 
 -- the inputs were not taken
 pub ends-refused : (l : Limits) (old new : FolderState) (n : RunNames) (stop : Stop) → OnlyReads old new → Refuses l old n stop → EndsBy l old new n stop
 ends-refused l old new n (stops.Own answer) reads r = inl (reads.names, r)
-ends-refused l old new n (stops.Read fault) reads r = reads.names
+ends-refused l old new n (stops.Read fault) reads r = inl reads.names
 ends-refused l old new n stops.NoMemory reads r = (reads.names, r)
 ends-refused l old new n (stops.Write fault) reads never = absurd never
 ends-refused l old new n (stops.Say fault) reads never = never
@@ -31,44 +38,93 @@ keeps-each old new [] reads = tt
 keeps-each old new (name ∷ names) reads = (reads.names name, keeps-each old new names reads)
 
 -- an output was not created
-pub ends-creating : (l : Limits) (old mid new : FolderState) (n : RunNames) (files : Files) (script : List Loss) → OnlyReads old mid → Opens l old n files script → CreatesPart mid new (outputs_of n) → EndsCreating l old new n
-ends-creating l old mid new n files script r opens c = record {
-  files = files;
+pub ends-creating : (l : Limits) (old mid new : FolderState) (n : RunNames) (script : ScriptValue) → IsBegun l old mid n script → CreatesPart mid new (outputs_of n) → StopsCreating l old new n
+ends-creating l old mid new n script b c = record {
   script = script;
-  opens = opens;
-  creates = CreatesPart-earlier old mid new (outputs_of n) r.goes_on (keeps-each old mid (outputs_of n) r) c;
+  opens = b.opens;
+  creates = CreatesPart-earlier old mid new (outputs_of n) b.reads.goes_on (keeps-each old mid (outputs_of n) b.reads) c;
 }
 
--- what a turn's fault leaves, over the names as they are written
-pub record TurnFault (files : Files) (script : List Loss) (now next : FolderState) (w : Written) (fault : RunFault) : Type 0 where
-  pub run : FaultyRun files script next w.got_o w.got_a fault
-  pub only : OnlyGot w now next
-  pub apart : AreApart w
+-- names that the words keep apart
+pub apart-names : (n : RunNames) → AreDistinct (outputs_of n) → AreNoneOf (outputs_of n) (inputs_of n) → AreApart (names_written n)
+apart-names n d i = record {
+  got = d.0.0;
+  got_o_trace = d.0.1.0;
+  got_a_trace = d.1.0.0;
+  got_o_orig = i.0.0;
+  got_o_answ = i.0.1.0;
+  got_a_orig = i.1.0.0;
+  got_a_answ = i.1.0.1.0;
+  trace_orig = i.1.1.0.0;
+  trace_answ = i.1.1.0.1.0;
+}
 
-created-trace : (now : FolderState) (n : RunNames) → Creates now (outputs_of n) → Holds now n.trace []
-created-trace now n (o, (a, (t, end))) = t
+-- the outputs alone were touched
+pub only-written : (a b : FolderState) (n : RunNames) → OnlyWritten a b (names_written n) → OnlyOutputs a b (outputs_of n)
+only-written a b n o = record { goes_on = o.goes_on; names = λ other apart. o.names other apart.0 apart.1.0 apart.1.1.0 }
+
+-- the phases of a run, once its inputs were opened
+pub record Phases (l : Limits) (old mid now next : FolderState) (n : RunNames) (script : ScriptValue) : Type 0 where
+  pub begun : IsBegun l old mid n script
+  pub creates : OnlyOutputs mid now (outputs_of n)
+  pub turns : OnlyWritten now next (names_written n)
+  pub apart : AreApart (names_written n)
+
+-- a file as it was before all of them
+file-is : (old next : FolderState) (name file : List ℕ) (limit : ℕ) → GoesOn old next → KeepsName old next name → IsWithin old name limit → limit ≤ file_limit
+    → (IsTrue (next.tells name) → file ≡ take file_limit (octets_at next name)) → IsTrue (old.tells name) → file ≡ octets_at old name
+file-is old next name file limit on kept within few known told =
+    let same : octets_at next name ≡ octets_at old name = octets-kept old next name kept told in
+    known (told_later on name told) ∙ ap (take file_limit) same ∙ take_all file_limit (octets_at old name) (omega (arith, within told, few))
+
+takes : (old mid now next : FolderState) (n : RunNames) (script : ScriptValue) (files : Both (List ℕ)) → Phases LIMITS old mid now next n script → KnowsFiles next (names_written n) files → Takes LIMITS old n script files
+takes old mid now next n script files p k =
+    record {
+      opens = p.begun.opens;
+      limits = p.begun.limits;
+      within = k.within;
+      orig = file-is old next n.orig files.orig LIMITS.file on (kept n.orig p.apart.got_o_orig p.apart.got_a_orig p.apart.trace_orig) p.begun.opens.files.0 (omega arith) k.orig;
+      answ = file-is old next n.answ files.answ LIMITS.file on (kept n.answ p.apart.got_o_answ p.apart.got_a_answ p.apart.trace_answ) p.begun.opens.files.1.0 (omega arith) k.answ;
+    }
+  where
+    on : GoesOn old next
+    on = GoesOn-trans p.begun.reads.goes_on (GoesOn-trans p.creates.goes_on p.turns.goes_on)
+
+    kept : (name : List ℕ) → n.got_o ≢ name → n.got_a ≢ name → n.trace ≢ name → KeepsName old next name
+    kept name o a t =
+        let other : IsNoneOf name (outputs_of n) = (λ e. o (sym e), (λ e. a (sym e), (λ e. t (sym e), tt))) in
+        KeepsName-trans old mid next name p.begun.reads.goes_on (p.begun.reads.names name)
+        (KeepsName-trans mid now next name p.creates.goes_on (p.creates.names name other) (p.turns.names name other.0 other.1.0 other.1.1.0))
+
+-- the run ended by itself
+pub ran-to : (old mid now next : FolderState) (n : RunNames) (script : ScriptValue) (end : RunEnd) → Phases LIMITS old mid now next n script → RunEnds script next (names_written n) end → RanTo LIMITS old next n end
+ran-to old mid now next n script end p r =
+    record { script = script; files = r.files; takes = takes old mid now next n script r.files p r.knows; left = r.left; run = r.run; holds = r.holds }
+
+-- or for the folder
+stops-in : (old mid now next : FolderState) (n : RunNames) (script : ScriptValue) → Phases LIMITS old mid now next n script → RunStops script next (names_written n) → StopsInTurn LIMITS old next n
+stops-in old mid now next n script p r =
+    record { script = script; files = r.files; takes = takes old mid now next n script r.files p r.knows; stops = r.stops }
 
 -- a turn's fault ended the run
-pub ends-in-turn : (l : Limits) (old now next : FolderState) (n : RunNames) (files : Files) (script : List Loss) (fault : RunFault) →
-    Opens l old n files script → Creates now (outputs_of n) → TurnFault files script now next (names_written n) fault → EndsBy l old next n (fault_stop fault)
-ends-in-turn l old now next n files script fault opens c t = by_fault fault t.run
-  where
-    trace : Holds next n.trace []
-    trace = Holds-kept now next n.trace [] t.only.goes_on (created-trace now n c) (t.only.names n.trace (λ e. t.apart.got_o_trace (sym e)) (λ e. t.apart.got_a_trace (sym e)))
-
-    by_fault : (fault : RunFault) → FaultyRun files script next n.got_o n.got_a fault → EndsBy l old next n (fault_stop fault)
-    by_fault WriteFault run = inr (record { files = files; script = script; opens = opens; runs = run; trace = trace })
-    by_fault NoMemory run = inr (record { files = files; script = script; opens = opens; runs = run; trace = trace })
-    by_fault (LinkLost role segment turn) run =
-        inr (record { role = role; segment = segment; turn = turn; answer_is = refl; lost = record { files = files; script = script; opens = opens; runs = run; trace = trace } })
+pub ends-in-turn : (old mid now next : FolderState) (n : RunNames) (script : ScriptValue) (fault : RunFault) → Phases LIMITS old mid now next n script → FaultEnds script next (names_written n) fault → EndsBy LIMITS old next n (fault_stop fault)
+ends-in-turn old mid now next n script faults.ReadFault p e = inr (stops-in old mid now next n script p e)
+ends-in-turn old mid now next n script faults.WriteFault p e = inr (stops-in old mid now next n script p e)
+ends-in-turn old mid now next n script faults.NoMemory p e = inr (stops-in old mid now next n script p e)
+ends-in-turn old mid now next n script (faults.LineLost role symbol) p e = inr (ran-to old mid now next n script (runs.LineLost role symbol) p e)
+ends-in-turn old mid now next n script (faults.ChanceMatch role turn) p e = inr (ran-to old mid now next n script (runs.ChanceMatch role turn) p e)
+ends-in-turn old mid now next n script (faults.NotDetected turn) p e = inr (ran-to old mid now next n script (runs.NotDetected turn) p e)
+ends-in-turn old mid now next n script (faults.LinkLost role segment turn) p e = inr (ran-to old mid now next n script (runs.LinkLost role segment turn) p e)
 
 -- what a turn's fault counts
-pub turn-counts : (now next : FolderState) (n : RunNames) (fault : RunFault) → HasRunCause now next (names_written n) fault → PassesNoneOver {T = ℕ} now next (Err fault) → StopCounts now next (inputs_of n) (outputs_of n) (fault_stop fault)
-turn-counts now next n WriteFault (inl rose) stand = inl rose
-turn-counts now next n WriteFault (inr rose) stand = inr (inl rose)
-turn-counts now next n NoMemory refused stand = refused
-turn-counts now next n (LinkLost role segment turn) cause stand = (tt, stand)
-
--- names that the words keep apart
-pub apart-names : (n : RunNames) → are_apart n ≡ true → AreApart (names_written n)
-apart-names n e = search rules
+pub turn-counts : (now next : FolderState) (n : RunNames) (fault : RunFault) → FaultCounts now next (names_written n) fault → StopCounts now next (inputs_of n) (outputs_of n) (fault_stop fault)
+turn-counts now next n faults.ReadFault (inl rose) = inl rose
+turn-counts now next n faults.ReadFault (inr rose) = inr (inl rose)
+turn-counts now next n faults.WriteFault (inl rose) = inl rose
+turn-counts now next n faults.WriteFault (inr (inl rose)) = inr (inl rose)
+turn-counts now next n faults.WriteFault (inr (inr rose)) = inr (inr (inl rose))
+turn-counts now next n faults.NoMemory counts = counts.1
+turn-counts now next n (faults.LineLost role symbol) stand = (tt, stand)
+turn-counts now next n (faults.ChanceMatch role turn) stand = (tt, stand)
+turn-counts now next n (faults.NotDetected turn) stand = (tt, stand)
+turn-counts now next n (faults.LinkLost role segment turn) stand = (tt, stand)

@@ -1,85 +1,94 @@
--- How a run ends, before its line is said: by its answer, what the folder then holds, and why.
-use Rattle.std.specs.Prelude.{◌≡◌, ◌⊎◌, ℕ, List, [], Result, Ok, Err}
-use Rattle.outside_core.specs.Folder.{FolderState}
+-- How a run ends, before its line is said: by its answer, which run it was, and what the outputs then hold. What is said of a name's octets
+-- holds where the folder tells that name.
+use Rattle.std.specs.Prelude.{◌≡◌, ◌⊎◌, ℕ, IsTrue, List, Result, Ok, Err}
+use Rattle.outside_core.specs.Folder.{FolderState, OnlyReads, octets_at}
 use Rattle.outside_core.specs.declared.folder.FolderFault.TheVariants as folder
-use Rattle.roles.specs.declared.role.Role.{Role}
-use Rattle.line_world.specs.declared.script.Loss.{Loss}
-use Rattle.line_world.specs.declared.world.RunFault.{RunFault}
-use Rattle.line_world.specs.declared.world.RunFault.TheVariants as faults
-use Rattle.line_world.specs.Run.{Files}
+use Rattle.roles.specs.Both.{Both}
+use Rattle.noise_script.specs.Script.{ScriptValue, IsInLimits}
+use Rattle.line_run.specs.Ends.{RunEnd, Left, RunsTo}
+use Rattle.line_run.specs.Ends as runs
+use Rattle.line_run.specs.Scripted.{channel_of, link_of}
+use Rattle.both_sides.specs.Link.{AreWithin}
+use Rattle.line_world.specs.declared.step.RunFault.{RunFault}
+use Rattle.line_world.specs.declared.step.RunFault.TheVariants as faults
 use Rattle.command_base.specs.declared.status.Status.{Status}
-use Rattle.command_base.specs.declared.status.Status.TheVariants.{LinkLost}
+use Rattle.command_base.specs.declared.status.Status.TheVariants.{LineLost, NotDetected, LinkLost, ChanceMatch}
 use Rattle.command_base.specs.declared.stop.Stop.{Stop}
 use Rattle.command_base.specs.declared.stop.Stop.TheVariants.{Own, Read, Write, Say, NoMemory}
 use Rattle.command_base.specs.Inputs.{IsWithin}
 use Rattle.command_base.specs.Job.{Job}
 use Rattle.command_base.specs.Lines.{done_line}
-use Rattle.command_base.specs.Outputs.{Holds, KeepsAll, SaysNothing, CreatesPart}
-use Rattle.run_command.specs.declared.limits.Limits.{Limits}
-use Rattle.run_command.specs.declared.limits.TheConstants.{LIMITS}
-use Rattle.run_command.specs.Words.{RunNames, inputs_of, outputs_of}
-use Rattle.run_command.specs.Inputs.{Opens, RefusesOwn}
-use Rattle.run_command.specs.Turns.{RunsToEnd, RunsToLoss, RunsToFault}
+use Rattle.command_base.specs.Outputs.{KeepsAll, SaysNothing, CreatesPart}
+use Rattle.run_inputs.specs.declared.limits.Limits.{Limits}
+use Rattle.run_inputs.specs.declared.limits.TheConstants.{LIMITS}
+use Rattle.run_inputs.specs.Words.{RunNames, inputs_of, outputs_of}
+use Rattle.run_inputs.specs.Inputs.{Opens, RefusesOwn}
+use Rattle.run_command.specs.Turns.{names_written, HoldLeft, StopsAfter}
 
--- Both files have crossed, in the turn of that number; the trace is empty.
-pub record EndsDone (l : Limits) (old new : FolderState) (n : RunNames) (number : ℕ) : Type 0 where
-  pub files : Files
-  pub script : List Loss
-  pub opens : Opens l old n files script
-  pub runs : RunsToEnd files script new n.got_o n.got_a number
-  pub trace : Holds new n.trace []
+-- The inputs were opened, and nothing else was done: they are within their limits, and this is the script.
+pub record IsBegun (l : Limits) (old now : FolderState) (n : RunNames) (script : ScriptValue) : Type 0 where
+  pub opens : Opens l old n script
+  pub limits : IsInLimits script
+  pub reads : OnlyReads old now
 
--- An end's tries were spent, in the turn of that number; the trace is empty.
-pub record EndsLost (l : Limits) (old new : FolderState) (n : RunNames) (role : Role) (segment number : ℕ) : Type 0 where
-  pub files : Files
-  pub script : List Loss
-  pub opens : Opens l old n files script
-  pub runs : RunsToLoss files script new n.got_o n.got_a role segment number
-  pub trace : Holds new n.trace []
+-- The inputs are within their limits, and are this script and these files.
+pub record Takes (l : Limits) (f : FolderState) (n : RunNames) (script : ScriptValue) (files : Both (List ℕ)) : Type 0 where
+  pub opens : Opens l f n script
+  pub limits : IsInLimits script
+  pub within : AreWithin files
+  pub orig : IsTrue (f.tells n.orig) → files.orig ≡ octets_at f n.orig
+  pub answ : IsTrue (f.tells n.answ) → files.answ ≡ octets_at f n.answ
 
--- A turn's write was not done; the trace is empty.
-pub record EndsInTurn (l : Limits) (old new : FolderState) (n : RunNames) : Type 0 where
-  pub files : Files
-  pub script : List Loss
-  pub opens : Opens l old n files script
-  pub runs : RunsToFault files script new n.got_o n.got_a
-  pub trace : Holds new n.trace []
+-- The run of the inputs ends so, and the outputs hold what it leaves.
+pub record RanTo (l : Limits) (old new : FolderState) (n : RunNames) (end : RunEnd) : Type 0 where
+  pub script : ScriptValue
+  pub files : Both (List ℕ)
+  pub takes : Takes l old n script files
+  pub left : Left
+  pub run : RunsTo (channel_of script) (link_of script files) end left
+  pub holds : HoldLeft new (names_written n) left
 
--- An output was not created.
-pub record EndsCreating (l : Limits) (old new : FolderState) (n : RunNames) : Type 0 where
-  pub files : Files
-  pub script : List Loss
-  pub opens : Opens l old n files script
+-- The folder failed in a turn of the run of the inputs.
+pub record StopsInTurn (l : Limits) (old new : FolderState) (n : RunNames) : Type 0 where
+  pub script : ScriptValue
+  pub files : Both (List ℕ)
+  pub takes : Takes l old n script files
+  pub stops : StopsAfter (channel_of script) (link_of script files) new (names_written n)
+
+-- An output was not created, once the inputs were opened.
+pub record StopsCreating (l : Limits) (old new : FolderState) (n : RunNames) : Type 0 where
+  pub script : ScriptValue
+  pub opens : Opens l old n script
   pub creates : CreatesPart old new (outputs_of n)
 
--- the folder didn't write, once the inputs were read
-abbrev pub EndsWriting : Limits → FolderState → FolderState → RunNames → Type 0
-EndsWriting l old new n = EndsCreating l old new n ⊎ EndsInTurn l old new n
+-- the answers by which a run itself ends, each by its cause
+abbrev pub RanBy : Limits → FolderState → FolderState → RunNames → Status → Type 0
+RanBy l old new n (LinkLost role segment turn) = RanTo l old new n (runs.LinkLost role segment turn)
+RanBy l old new n (NotDetected turn) = RanTo l old new n (runs.NotDetected turn)
+RanBy l old new n (LineLost role symbol) = RanTo l old new n (runs.LineLost role symbol)
+RanBy l old new n (ChanceMatch role turn) = RanTo l old new n (runs.ChanceMatch role turn)
+RanBy l old new n answer = ⊥
 
--- That end's tries were spent, and the answer says so.
-pub record LosesLink (l : Limits) (old new : FolderState) (n : RunNames) (answer : Status) : Type 0 where
-  pub role : Role
-  pub segment : ℕ
-  pub turn : ℕ
-  pub answer_is : answer ≡ LinkLost role segment turn
-  pub lost : EndsLost l old new n role segment turn
-
--- why a run stops: for its inputs, before any output is created, or later
+-- why a run stops with less than both files: for its inputs, before any output is created, for what becomes of it, or for the folder
 abbrev pub EndsBy : Limits → FolderState → FolderState → RunNames → Stop → Type 0
-EndsBy l old new n (Own answer) = (KeepsAll old new × RefusesOwn l old n answer) ⊎ LosesLink l old new n answer
-EndsBy l old new n (Read fault) = KeepsAll old new
-EndsBy l old new n (Write fault) = EndsWriting l old new n
+EndsBy l old new n (Own answer) = (KeepsAll old new × RefusesOwn l old n answer) ⊎ RanBy l old new n answer
+EndsBy l old new n (Read fault) = KeepsAll old new ⊎ StopsInTurn l old new n
+EndsBy l old new n (Write fault) = StopsCreating l old new n ⊎ StopsInTurn l old new n
 EndsBy l old new n (Say fault) = ⊥
 EndsBy l old new n NoMemory = KeepsAll old new × IsWithin old n.script l.script
 
 -- how a run ends: done in the turn of that number, or before
 abbrev pub Ends : Limits → FolderState → FolderState → RunNames → Result ℕ Stop → Type 0
-Ends l old new n (Ok number) = EndsDone l old new n number
+Ends l old new n (Ok turn) = RanTo l old new n (runs.IsDone turn)
 Ends l old new n (Err stop) = EndsBy l old new n stop
 
 -- why a run stops whose turns end by this fault
 abbrev pub fault_stop : RunFault → Stop
+fault_stop faults.ReadFault = Read folder.Failed
 fault_stop faults.WriteFault = Write folder.Failed
+fault_stop (faults.LineLost role symbol) = Own (LineLost role symbol)
+fault_stop (faults.ChanceMatch role turn) = Own (ChanceMatch role turn)
+fault_stop (faults.NotDetected turn) = Own (NotDetected turn)
 fault_stop (faults.LinkLost role segment turn) = Own (LinkLost role segment turn)
 fault_stop faults.NoMemory = Write folder.NoMemory
 

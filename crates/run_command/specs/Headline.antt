@@ -1,33 +1,79 @@
--- What a run promises, over the folder before and after it. What is said of a name's octets holds where the folder
--- tells that name.
-use Rattle.std.specs.Prelude.{◌≡◌, ◌⊎◌, ℕ, ◌+◌, ◌*◌, ◌<◌, IsTrue, List, Some}
+-- What a run promises, over the folder before and after it. What is said of a name's octets holds where the folder tells that name.
+use Rattle.std.specs.Prelude.{◌≡◌, ◌⊎◌, ℕ, IsTrue, List, Some}
 use Rattle.plain_lists.specs.Prefix.{IsPrefixOf}
 use Rattle.outside_core.specs.Folder.{FolderState, held_at, octets_at, KeepsName, Said}
-use Rattle.line_world.specs.Run.{segments}
+use Rattle.roles.specs.declared.role.Role.TheVariants.{Originator, Answerer}
+use Rattle.roles.specs.Both.{Both}
+use Rattle.noise_script.specs.Script.{ScriptValue, delay_of}
+use Rattle.noise_script.specs.Grammar.{ScriptSpelling}
+use Rattle.link_run.specs.Run.{Link, Turn}
+use Rattle.link_run.specs.Laws.{agreed_srej}
+use Rattle.link_run.specs.Taken.{taken_octets}
+use Rattle.line_run.specs.Ends.{RunEnd, Left, RunsTo, StarvedBy, turns_heard}
+use Rattle.line_run.specs.Ends as runs
+use Rattle.line_run.specs.Scripted.{channel_of, link_of}
+use Rattle.line_bound.specs.Scripts.{HasFewTurns}
+use Rattle.line_causes.specs.Causes.{GivesUp}
 use Rattle.command_base.specs.declared.status.Status.{Status}
-use Rattle.command_base.specs.declared.status.Status.TheVariants.{Done}
+use Rattle.command_base.specs.declared.status.Status.TheVariants.{Done, LineLost, NotDetected, LinkLost, ChanceMatch}
 use Rattle.command_base.specs.Job.{Shared}
 use Rattle.command_base.specs.Lines.{done_line}
-use Rattle.run_command.specs.Words.{RunNames, inputs_of, outputs_of}
+use Rattle.command_base.specs.Outputs.{Holds}
+use Rattle.run_inputs.specs.Words.{RunNames, inputs_of, outputs_of}
+use Rattle.run_command.specs.ReadOff.{AreReadOff}
 
 -- a received file is as it was, or holds the beginning of the other end's file
 abbrev pub KeptOrPrefix : FolderState → FolderState → List ℕ → List ℕ → Type 0
-KeptOrPrefix old new got sent = KeepsName old new got ⊎ (IsTrue (old.tells sent) → IsTrue (old.tells got) → (front : List ℕ) × (held_at new got ≡ Some front) × IsPrefixOf front (octets_at old sent))
+KeptOrPrefix old new got sent =
+    KeepsName old new got
+    ⊎ (IsTrue (old.tells sent) → IsTrue (old.tells got)
+    → (front : List ℕ) × (held_at new got ≡ Some front) × IsPrefixOf front (octets_at old sent))
 
 -- a received file holds the whole of the other end's file
 abbrev pub HoldsWhole : FolderState → FolderState → List ℕ → List ℕ → Type 0
 HoldsWhole old new got sent = IsTrue (old.tells sent) → IsTrue (old.tells got) → held_at new got ≡ Some (octets_at old sent)
 
--- the last turn was said, and is within the bound
-abbrev pub SaysDone : FolderState → FolderState → RunNames → Type 0
-SaysDone old new n = (turn : ℕ) × Said old new (done_line turn)
-    × (IsTrue (old.tells n.orig) → IsTrue (old.tells n.answ) → turn < 140 * (segments (octets_at old n.orig) + segments (octets_at old n.answ) + 6))
+-- The script and the files of a run are those of the folder.
+pub record AreOf (f : FolderState) (n : RunNames) (script : ScriptValue) (files : Both (List ℕ)) : Type 0 where
+  pub script_is : IsTrue (f.tells n.script) → ScriptSpelling (octets_at f n.script) script
+  pub orig_is : IsTrue (f.tells n.orig) → files.orig ≡ octets_at f n.orig
+  pub answ_is : IsTrue (f.tells n.answ) → files.answ ≡ octets_at f n.answ
 
--- Whatever the line loses, each end receives a prefix of the other's file; done means both whole; a fault has its cause.
+-- The received files hold what passed in these turns, by the numbers that were meant.
+pub record HoldWhatPassed (f : FolderState) (n : RunNames) (script : ScriptValue) (link : Link) (ts : List Turn) : Type 0 where
+  pub got_o : Holds f n.got_o (taken_octets (agreed_srej link) (delay_of script) Originator ts)
+  pub got_a : Holds f n.got_a (taken_octets (agreed_srej link) (delay_of script) Answerer ts)
+
+-- The run of the folder's script and files ended so: each outcome was read off the line, the received files hold what passed, the trace holds
+-- its text, there were few turns, and no link was given up but for losses that went on.
+pub record Ran (old new : FolderState) (n : RunNames) (end : RunEnd) : Type 0 where
+  pub script : ScriptValue
+  pub files : Both (List ℕ)
+  pub are_of : AreOf old n script files
+  pub left : Left
+  pub run : RunsTo (channel_of script) (link_of script files) end left
+  pub heard : List Turn
+  pub heard_is : heard ≡ turns_heard (channel_of script) (link_of script files) run.turns run.ends end left run.ended
+  pub read_off : AreReadOff (channel_of script) heard
+  pub got : HoldWhatPassed new n script (link_of script files) heard
+  pub trace : Holds new n.trace left.trace
+  pub few : HasFewTurns script files run.turns run.ends
+  pub starved : GivesUp end → StarvedBy script heard
+
+-- the run, where the answer is one by which a run itself ends; done says its last turn
+abbrev pub RanBy : FolderState → FolderState → RunNames → Status → Type 0
+RanBy old new n Done = (turn : ℕ) × Said old new (done_line turn) × Ran old new n (runs.IsDone turn)
+RanBy old new n (LinkLost role segment turn) = Ran old new n (runs.LinkLost role segment turn)
+RanBy old new n (NotDetected turn) = Ran old new n (runs.NotDetected turn)
+RanBy old new n (LineLost role symbol) = Ran old new n (runs.LineLost role symbol)
+RanBy old new n (ChanceMatch role turn) = Ran old new n (runs.ChanceMatch role turn)
+RanBy old new n status = Unit {0}
+
+-- Whatever the line does, each end receives a prefix of the other's file; done means both whole; every other end has its cause.
 pub record Headline (old new : FolderState) (n : RunNames) (s : Status) : Type 0 where
   pub shared : Shared (inputs_of n) (outputs_of n) old new s
   pub got_o : KeptOrPrefix old new n.got_o n.answ
   pub got_a : KeptOrPrefix old new n.got_a n.orig
   pub whole_o : s ≡ Done → HoldsWhole old new n.got_o n.answ
   pub whole_a : s ≡ Done → HoldsWhole old new n.got_a n.orig
-  pub said : s ≡ Done → SaysDone old new n
+  pub ran : RanBy old new n s

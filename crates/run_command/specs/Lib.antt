@@ -1,5 +1,5 @@
-pub mod Words
-pub mod Inputs
 pub mod Turns
 pub mod Ends
+pub mod ReadOff
 pub mod Headline
+pub mod Completes

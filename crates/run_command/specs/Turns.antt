@@ -1,59 +1,105 @@
--- What the turns of a run leave: the run, and what the received files hold of it.
-use Rattle.std.specs.Prelude.{◌≡◌, ℕ, List, length, Result, Ok, Err}
+-- What the outputs hold of a run: what its turns left, and a part of what the next turn adds where the folder fails in it.
+use Rattle.std.specs.Prelude.{◌≡◌, ◌⊎◌, ℕ, List, [], ◌∷◌, length, Result, Ok, Err}
 use Rattle.std.specs.List.{concat}
 use Rattle.outside_core.specs.Folder.{FolderState}
-use Rattle.command_base.specs.Outputs.{Holds, HoldsPart}
 use Rattle.roles.specs.declared.role.Role.{Role}
-use Rattle.roles.specs.declared.role.Role.TheVariants.{Originator, Answerer}
-use Rattle.line_world.specs.declared.script.Loss.{Loss}
-use Rattle.line_world.specs.declared.heard.Heard.{Heard}
-use Rattle.line_world.specs.declared.world.RunFault.{RunFault}
-use Rattle.line_world.specs.declared.world.RunFault.TheVariants.{WriteFault, LinkLost, NoMemory}
-use Rattle.line_world.specs.Run.{Files, Turn, Ends, Arrives, delivered, RunOf, LastTurn, LostTurn}
+use Rattle.roles.specs.Both.{Both, of}
+use Rattle.line_texts.specs.LineText.{chance_line}
+use Rattle.link_run.specs.Counts.{lost_slots, sent_again}
+use Rattle.link_run.specs.End.{deliveries}
+use Rattle.link_run.specs.Run.{Link, Ends, Turn}
+use Rattle.link_run.specs.Outcomes.{Outcome, TurnIs}
+use Rattle.link_run.specs.Trace.{trace_text, turn_text}
+use Rattle.line_run.specs.Sampled.{Channel, HeardIn, LineRun, EndsLine}
+use Rattle.line_run.specs.Sampled as lines
+use Rattle.line_run.specs.Ends.{RunEnd, Left, Leaves, RunsTo}
+use Rattle.line_run.specs.Ends as runs
+use Rattle.line_run.specs.Scripted.{channel_of, link_of}
+use Rattle.noise_script.specs.Script.{ScriptValue}
+use Rattle.command_base.specs.Outputs.{Holds, HoldsPart}
+use Rattle.both_sides.specs.Names.{Written}
+use Rattle.line_world.specs.World.{KnowsFiles}
+use Rattle.line_world.specs.declared.step.RunFault.{RunFault}
+use Rattle.line_world.specs.declared.step.RunFault.TheVariants as faults
+use Rattle.run_inputs.specs.Words.{RunNames}
 
--- The run is done: its turns, the last of that number, and the received files.
-pub record RunsToEnd (f : Files) (script : List Loss) (now : FolderState) (got_o got_a : List ℕ) (number : ℕ) : Type 0 where
-  pub turns : List Turn
-  pub ends : Ends
+-- the names that turns use
+abbrev pub names_written : RunNames → Written
+names_written n = record { orig = n.orig; answ = n.answ; got_o = n.got_o; got_a = n.got_a; trace = n.trace }
+
+-- The outputs hold what is left.
+pub record HoldLeft (f : FolderState) (n : Written) (left : Left) : Type 0 where
+  pub got_o : Holds f n.got_o left.got.orig
+  pub got_a : Holds f n.got_a left.got.answ
+  pub trace : Holds f n.trace left.trace
+
+-- They hold that, and each a part of what comes behind it.
+pub record HoldPart (f : FolderState) (n : Written) (left more : Left) : Type 0 where
+  pub got_o : HoldsPart f n.got_o left.got.orig more.got.orig
+  pub got_a : HoldsPart f n.got_a left.got.answ more.got.answ
+  pub trace : HoldsPart f n.trace left.trace more.trace
+
+-- What a turn after these adds, whatever it comes to: what both ends take in it, and its two lines of the trace.
+pub record AddsTurn (c : Channel) (link : Link) (ts : List Turn) (ends : Ends) (more : Left) : Type 0 where
   pub turn : Turn
   pub mid : Ends
-  pub run : RunOf f script turns ends
-  pub last : LastTurn f script turns ends turn mid
-  pub number_is : number ≡ length turns
-  pub orig_got : Holds now got_o (concat mid.orig.taken)
-  pub answ_got : Holds now got_a (concat mid.answ.taken)
+  pub outcome : Outcome
+  pub heard : HeardIn c ts turn
+  pub is : TurnIs link ts ends turn mid outcome
+  pub got_is : (role : Role) → of role more.got ≡ concat (deliveries (of role mid))
+  pub trace_is : more.trace ≡ turn_text (length ts) turn
 
--- An end's tries are spent in the turn of that number.
-pub record RunsToLoss (f : Files) (script : List Loss) (now : FolderState) (got_o got_a : List ℕ) (role : Role) (segment number : ℕ) : Type 0 where
+-- What is added where a slot of that turn is a chance match: one line of the trace.
+pub record AddsChance (c : Channel) (ts : List Turn) (ends : Ends) (more : Left) : Type 0 where
+  pub role : Role
+  pub is : EndsLine c ts ends (lines.ChanceMatch role)
+  pub got_is : (side : Role) → of side more.got ≡ []
+  pub trace_is : more.trace ≡ chance_line (length ts) role
+
+-- The folder failed in the turn after some: the outputs hold what these left, and a part of what that turn adds.
+pub record StopsAfter (c : Channel) (link : Link) (f : FolderState) (n : Written) : Type 0 where
   pub turns : List Turn
   pub ends : Ends
-  pub turn : Turn
-  pub mid : Ends
-  pub run : RunOf f script turns ends
-  pub lost : LostTurn f script turns ends turn mid role segment
-  pub number_is : number ≡ length turns
-  pub orig_got : Holds now got_o (concat mid.orig.taken)
-  pub answ_got : Holds now got_a (concat mid.answ.taken)
+  pub run : LineRun c link turns ends
+  pub left : Left
+  pub leaves : Leaves ends (trace_text turns) left
+  pub more : Left
+  pub adds : AddsTurn c link turns ends more ⊎ AddsChance c turns ends more
+  pub holds : HoldPart f n left more
 
--- A write failed in the turn after these: each received file holds what these turns gave, and a part of what that one gives.
-pub record RunsToFault (f : Files) (script : List Loss) (now : FolderState) (got_o got_a : List ℕ) : Type 0 where
-  pub turns : List Turn
-  pub ends : Ends
-  pub run : RunOf f script turns ends
-  pub orig_heard : Heard
-  pub answ_heard : Heard
-  pub orig_arrives : Arrives script Originator turns orig_heard
-  pub answ_arrives : Arrives script Answerer turns answ_heard
-  pub orig_got : HoldsPart now got_o (concat ends.orig.taken) (delivered ends.orig orig_heard)
-  pub answ_got : HoldsPart now got_a (concat ends.answ.taken) (delivered ends.answ answ_heard)
+-- ---- what turns come to that are made over a folder
+
+-- The run of a script and these files ended so.
+pub record RunEnds (script : ScriptValue) (f : FolderState) (n : Written) (end : RunEnd) : Type 0 where
+  pub files : Both (List ℕ)
+  pub knows : KnowsFiles f n files
+  pub left : Left
+  pub run : RunsTo (channel_of script) (link_of script files) end left
+  pub holds : HoldLeft f n left
+
+-- It was done in this turn, with so many slots lost and so many segments sent again in all its turns.
+pub record RunCounts (script : ScriptValue) (f : FolderState) (n : Written) (turn lost again : ℕ) : Type 0 where
+  pub ran : RunEnds script f n (runs.IsDone turn)
+  pub lost_is : lost ≡ lost_slots (ran.run.ended.last ∷ ran.run.turns)
+  pub again_is : again ≡ sent_again (ran.run.ended.last ∷ ran.run.turns)
+
+-- The folder failed in a turn of it.
+pub record RunStops (script : ScriptValue) (f : FolderState) (n : Written) : Type 0 where
+  pub files : Both (List ℕ)
+  pub knows : KnowsFiles f n files
+  pub stops : StopsAfter (channel_of script) (link_of script files) f n
 
 -- how turns end with a fault
-abbrev pub FaultyRun : Files → List Loss → FolderState → List ℕ → List ℕ → RunFault → Type 0
-FaultyRun f script now got_o got_a (LinkLost role segment turn) = RunsToLoss f script now got_o got_a role segment turn
-FaultyRun f script now got_o got_a WriteFault = RunsToFault f script now got_o got_a
-FaultyRun f script now got_o got_a NoMemory = RunsToFault f script now got_o got_a
+abbrev pub FaultEnds : ScriptValue → FolderState → Written → RunFault → Type 0
+FaultEnds script f n faults.ReadFault = RunStops script f n
+FaultEnds script f n faults.WriteFault = RunStops script f n
+FaultEnds script f n (faults.LineLost role symbol) = RunEnds script f n (runs.LineLost role symbol)
+FaultEnds script f n (faults.ChanceMatch role turn) = RunEnds script f n (runs.ChanceMatch role turn)
+FaultEnds script f n (faults.NotDetected turn) = RunEnds script f n (runs.NotDetected turn)
+FaultEnds script f n (faults.LinkLost role segment turn) = RunEnds script f n (runs.LinkLost role segment turn)
+FaultEnds script f n faults.NoMemory = RunStops script f n
 
 -- how turns end
-abbrev pub RunEnds : Files → List Loss → FolderState → List ℕ → List ℕ → Result ℕ RunFault → Type 0
-RunEnds f script now got_o got_a (Ok number) = RunsToEnd f script now got_o got_a number
-RunEnds f script now got_o got_a (Err fault) = FaultyRun f script now got_o got_a fault
+abbrev pub TurnsEnd : ScriptValue → FolderState → Written → Result ℕ RunFault → Type 0
+TurnsEnd script f n (Ok turn) = RunEnds script f n (runs.IsDone turn)
+TurnsEnd script f n (Err fault) = FaultEnds script f n fault

@@ -1,28 +1,53 @@
-// The command: its inputs are opened, its outputs made, turns follow to its end, and its line is said.
-ghost use Rattle.std.specs.Prelude.{◌≡◌, true, map, string_bytes};
+// The command: its inputs are opened, all memory is taken, its outputs are made, turns follow to its end, and its line is said.
+ghost use Rattle.std.specs.Prelude.{◌≡◌, [], List, ℕ, true, map, string_bytes};
+ghost use Rattle.outside_core.specs.Folder.{FolderState};
+ghost use Rattle.roles.specs.Both.{Both};
+ghost use Rattle.link_run.specs.Run.{start};
+ghost use Rattle.line_run.specs.Scripted.{link_of};
+ghost use Rattle.both_sides.specs.Names.{written};
+ghost use Rattle.line_world.specs.World.{IsReady, WorldAfter, script_of};
 ghost use Rattle.command_base.specs.Job.{Answers};
 ghost use Rattle.command_base.specs.Outputs.{OnlyOutputs, SaysNothing};
 ghost use Rattle.command_base.specs.Stops.{EndCounts};
-ghost use Rattle.run_command.specs.Words.{named, are_apart, inputs_of, outputs_of};
-ghost use Rattle.run_command.specs.Ends.{Ends, fault_stop, run_job};
+ghost use Rattle.run_inputs.specs.Words.{named, are_apart, inputs_of, outputs_of};
+ghost use Rattle.run_command.specs.Turns.{names_written};
+ghost use Rattle.run_command.specs.Ends.{Ends, IsBegun, fault_stop, run_job};
 ghost use Rattle.run_command.specs.Headline.{Headline};
+ghost use Rattle.run_command.specs.Completes.{Completes};
 
-use crate::inputs::open_inputs;
-use crate::limits::LIMITS;
+use crate::laws::{answers_keep_the_headline, right_runs_are_done};
 use crate::outputs::create_all;
 use crate::turns::run_turns;
-use crate::words::RunWords;
 use command_base::{Status, Stop, tell, tell_stop, write_done};
-use line_world::{RunFault, World};
+use line_world::{Names, RunFault, World};
 use outside_core::{Folder, FolderFault};
+use run_inputs::laws::apart_names_differ;
+use run_inputs::{LIMITS, RunWords, open_inputs};
 use std::alloc::Global;
+
+/// The names that turns use.
+fn names_of<'a>(words: &RunWords<'a>) -> Names<'a>
+    ensures { written result ≡ names_written (named words.now) }
+{
+    Names {
+        orig: words.orig,
+        answ: words.answ,
+        got_o: words.got_o,
+        got_a: words.got_a,
+        trace: words.trace,
+    }
+}
 
 /// Why a run stops whose turns end by this fault.
 fn stop_of(fault: RunFault) -> Stop
     ensures { result ≡ fault_stop fault }
 {
     match fault {
+        RunFault::ReadFault => Stop::Read(FolderFault::Failed),
         RunFault::WriteFault => Stop::Write(FolderFault::Failed),
+        RunFault::LineLost { role, symbol } => Stop::Own(Status::LineLost { role, symbol }),
+        RunFault::ChanceMatch { role, turn } => Stop::Own(Status::ChanceMatch { role, turn }),
+        RunFault::NotDetected { turn } => Stop::Own(Status::NotDetected { turn }),
         RunFault::LinkLost {
             role,
             segment,
@@ -36,27 +61,49 @@ fn stop_of(fault: RunFault) -> Stop
     }
 }
 
-/// A run up to its end: the number of its last turn.
-fn run_to_end<F: Folder>(alloc: Global, folder: &mut F, names: &RunWords<'_>) -> Result<u64, Stop>
-    requires { are_apart (named names.now) ≡ true }
-    ensures ends { Ends LIMITS (F.state folder.old) (F.state folder.new) (named names.now) result }
-    ensures only { OnlyOutputs (F.state folder.old) (F.state folder.new) (outputs_of (named names.now)) }
+/// The run of a world, once its inputs are opened: the outputs are made, and turns follow to its end.
+fn run_world<F: Folder>(
+    world: &mut World,
+    folder: &mut F,
+    words: &RunWords<'_>,
+) -> Result<u64, Stop>
+    requires ready { IsReady world.old }
+    requires first { (files : Both (List ℕ)) → WorldAfter world.old files [] (start (link_of (script_of world.old) files)) }
+    requires apart { are_apart (inputs_of (named words.now)) (outputs_of (named words.now)) ≡ true }
+    ensures ends { (begin : FolderState) → IsBegun LIMITS begin (F.state folder.old) (named words.now) (script_of world.old) → Ends LIMITS begin (F.state folder.new) (named words.now) result }
+    ensures only { OnlyOutputs (F.state folder.old) (F.state folder.new) (outputs_of (named words.now)) }
     ensures said { SaysNothing (F.state folder.old) (F.state folder.new) }
-    ensures counts { EndCounts (F.state folder.old) (F.state folder.new) (inputs_of (named names.now)) (outputs_of (named names.now)) result }
+    ensures counts { EndCounts (F.state folder.old) (F.state folder.new) (inputs_of (named words.now)) (outputs_of (named words.now)) result }
 {
-    let inputs = match open_inputs(alloc, folder, names, LIMITS) {
-        Ok(inputs) => inputs,
-        Err(stop) => return Err(stop),
-    };
-    let world = World::new(inputs.script, inputs.orig, inputs.answ);
-    match create_all(folder, names) {
+    apart_names_differ();
+    match create_all(folder, words) {
         Ok(()) => {}
         Err(fault) => return Err(Stop::Write(fault)),
     }
-    match run_turns(world, folder, &names.names()) {
+    match run_turns(world, folder, &names_of(words)) {
         Ok(turn) => Ok(turn),
         Err(fault) => Err(stop_of(fault)),
     }
+}
+
+/// A run up to its end: the number of its last turn.
+fn run_to_end<F: Folder>(alloc: Global, folder: &mut F, words: &RunWords<'_>) -> Result<u64, Stop>
+    requires { are_apart (inputs_of (named words.now)) (outputs_of (named words.now)) ≡ true }
+    ensures ends { Ends LIMITS (F.state folder.old) (F.state folder.new) (named words.now) result }
+    ensures only { OnlyOutputs (F.state folder.old) (F.state folder.new) (outputs_of (named words.now)) }
+    ensures said { SaysNothing (F.state folder.old) (F.state folder.new) }
+    ensures counts { EndCounts (F.state folder.old) (F.state folder.new) (inputs_of (named words.now)) (outputs_of (named words.now)) result }
+{
+    let script = match open_inputs(alloc, folder, words, LIMITS) {
+        Ok(script) => script,
+        Err(stop) => return Err(stop),
+    };
+    script.is_in_limits();
+    let mut world = match World::new(alloc, script) {
+        Ok(world) => world,
+        Err(_) => return Err(Stop::NoMemory),
+    };
+    run_world(&mut world, folder, words)
 }
 
 /// Runs, and says how it ended.
@@ -66,7 +113,7 @@ fn run_and_tell<F: Folder>(
     words: &[String],
     names: &RunWords<'_>,
 ) -> Status
-    requires { are_apart (named names.now) ≡ true }
+    requires { are_apart (inputs_of (named names.now)) (outputs_of (named names.now)) ≡ true }
     ensures { Answers (run_job (named names.now)) (map string_bytes words.now) (F.state folder.old) (F.state folder.new) result }
 {
     match run_to_end(alloc, folder, names) {
@@ -82,13 +129,19 @@ pub fn run<F: Folder>(
     words: &[String],
     names: &RunWords<'_>,
 ) -> Status
-    requires { are_apart (named names.now) ≡ true }
+    requires { are_apart (inputs_of (named names.now)) (outputs_of (named names.now)) ≡ true }
 
-    // Each end receives a prefix of the other's file, and done means that both are whole.
+    // Each end receives a prefix of the other's file, and done means that both are whole. The run is that of the script and the files.
     ensures headline { Headline (F.state folder.old) (F.state folder.new) (named names.now) result }
+
+    // Where the inputs are right and the folder is sound, nothing but want of memory keeps the run from being done, if the line carries it
+    // to its end, or loses few slots of it, or the script names few and displaces no symbol.
+    ensures completes { Completes (F.state folder.old) (F.state folder.new) (named names.now) result }
 
     // Each answer comes where it has to, with its line.
     ensures answer { Answers (run_job (named names.now)) (map string_bytes words.now) (F.state folder.old) (F.state folder.new) result }
 {
+    answers_keep_the_headline();
+    right_runs_are_done();
     run_and_tell(alloc, folder, words, names)
 }

@@ -1,9 +1,42 @@
-// The limits of a run as numbers.
-ghost use Rattle.std.specs.Prelude.{◌≡◌};
-ghost use Rattle.run_command.specs.declared.limits.TheConstants.{LIMITS};
+// What every answer of a run promises. The functions do nothing but name the laws that they rest on: each law is a contract.
+ghost use Rattle.std.specs.Prelude.{List, ℕ};
+ghost use Rattle.outside_core.specs.Folder.{FolderState};
+ghost use Rattle.command_base.specs.declared.status.Status.{Status};
+ghost use Rattle.command_base.specs.Job.{Answers};
+ghost use Rattle.run_inputs.specs.Words.{RunNames};
+ghost use Rattle.run_command.specs.Ends.{run_job};
+ghost use Rattle.run_command.specs.Headline.{Headline};
+ghost use Rattle.run_command.specs.Completes.{Completes};
 
-/// A script has at most 65,536 octets, and each file that is sent at most 16,777,216.
-pub fn limits_of_inputs()
-    ensures script { LIMITS.script ≡ 65536 }
-    ensures file { LIMITS.file ≡ 16777216 }
-{}
+use line_bound::laws::line_runs_end_soon;
+use line_causes::laws::lost_links_were_starved;
+use line_ends::laws::{undisturbed_runs_complete, unstarved_runs_complete};
+use line_run::laws::{runs_leave_prefixes, samples_are_carried, scripts_make_links};
+use link_run::laws::{prefixes, turns_deliver_what_came};
+use noise_script::laws::{one_answer, spelled_scripts_are_in_limits};
+use survivors::laws::released_labels_begin_a_least_sequence;
+
+/// Whatever a run answers, its headline holds.
+pub(crate) fn answers_keep_the_headline()
+    ensures { (words : List (List ℕ)) (old new : FolderState) (n : RunNames) (s : Status) → Answers (run_job n) words old new s → Headline old new n s }
+{
+    scripts_make_links();
+    samples_are_carried();
+    prefixes();
+    turns_deliver_what_came();
+    runs_leave_prefixes();
+    line_runs_end_soon();
+    lost_links_were_starved();
+    released_labels_begin_a_least_sequence();
+}
+
+/// Where the inputs are right, the folder is sound, and the run is carried to its end, or its losses are few, it is done, but for want of memory.
+pub(crate) fn right_runs_are_done()
+    ensures { (words : List (List ℕ)) (old new : FolderState) (n : RunNames) (s : Status) → Answers (run_job n) words old new s → Completes old new n s }
+{
+    one_answer();
+    spelled_scripts_are_in_limits();
+    lost_links_were_starved();
+    unstarved_runs_complete();
+    undisturbed_runs_complete();
+}

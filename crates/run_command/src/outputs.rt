@@ -3,15 +3,16 @@ ghost use Rattle.std.specs.Prelude.{◌≡◌, true, OnOk, OnErr, IfErr};
 ghost use Rattle.outside_core.specs.Folder.{CountsStand};
 ghost use Rattle.command_base.specs.Outputs.{Creates, CreatesPart, OnlyOutputs, SaysNothing};
 ghost use Rattle.command_base.specs.Stops.{WriteFails};
-ghost use Rattle.run_command.specs.Words.{named, are_apart, outputs_of};
+ghost use Rattle.run_inputs.specs.Words.{named, are_apart, inputs_of, outputs_of};
 
-use crate::words::RunWords;
 use command_base::create_outputs;
 use outside_core::{Folder, FolderFault};
+use run_inputs::RunWords;
+use run_inputs::laws::apart_names_differ;
 
 /// The outputs are made, in the order of the words.
 pub(crate) fn create_all<F: Folder>(folder: &mut F, words: &RunWords<'_>) -> Result<(), FolderFault>
-    requires { are_apart (named words.now) ≡ true }
+    requires { are_apart (inputs_of (named words.now)) (outputs_of (named words.now)) ≡ true }
     ensures ok { OnOk result (Creates (F.state folder.new) (outputs_of (named words.now))) }
     ensures err { OnErr result (CreatesPart (F.state folder.old) (F.state folder.new) (outputs_of (named words.now))) }
     ensures only { OnlyOutputs (F.state folder.old) (F.state folder.new) (outputs_of (named words.now)) }
@@ -19,5 +20,6 @@ pub(crate) fn create_all<F: Folder>(folder: &mut F, words: &RunWords<'_>) -> Res
     ensures stand { OnOk result (CountsStand (F.state folder.old) (F.state folder.new)) }
     ensures fails { IfErr result (WriteFails (F.state folder.old) (F.state folder.new) (outputs_of (named words.now))) }
 {
+    apart_names_differ();
     create_outputs(folder, &[words.got_o, words.got_a, words.trace])
 }

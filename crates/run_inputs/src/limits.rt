@@ -1,6 +1,7 @@
 // The limits of a run's inputs.
 
-use command_base::{RUN_FILE_LIMIT, SCRIPT_LIMIT};
+use command_base::RUN_FILE_LIMIT;
+use noise_script::SCRIPT_OCTETS;
 
 /// The most octets of a script and of a file that is sent.
 #[derive(Clone, Copy)]
@@ -11,6 +12,6 @@ pub struct Limits {
 
 /// The limits of a run.
 pub const LIMITS: Limits = Limits {
-    script: SCRIPT_LIMIT,
+    script: SCRIPT_OCTETS as u64,
     file: RUN_FILE_LIMIT,
 };

@@ -2,7 +2,7 @@
 ghost use Rattle.std.specs.Prelude.{◌≤◌};
 
 use bit_stuffing::{Deframer, HEAD, Piece, SHORTEST, TAIL};
-use command_base::{FILE_LIMIT, HEX_LIMIT, RECORDING_LIMIT, RUN_FILE_LIMIT, SCRIPT_LIMIT};
+use command_base::{FILE_LIMIT, HEX_LIMIT, RECORDING_LIMIT, RUN_FILE_LIMIT};
 use frame_check::{Check, INFO, Octets, SLOT, WHOLE, append, passes};
 use lapm_frames::{FrameFault, read};
 use line_texts::{FrameText, write_frame_text};
@@ -14,7 +14,7 @@ use std::process::Abort;
 use std::test::Fail;
 
 /// The sizes and limits by their numbers: contracts name them, and would follow another number.
-const SIZES: [(u64, u64); 17] = [
+const SIZES: [(u64, u64); 16] = [
     (INFO as u64, 1024),
     (WHOLE as u64, 1031),
     (SLOT as u64, 2615),
@@ -23,7 +23,6 @@ const SIZES: [(u64, u64); 17] = [
     (TAIL as u64, 128),
     (RUN_FILE_LIMIT, 16_777_216),
     (FILE_LIMIT, 1_048_576),
-    (SCRIPT_LIMIT, 65_536),
     (RECORDING_LIMIT, 8_388_616),
     (HEX_LIMIT as u64, 512),
     (SCRIPT_OCTETS as u64, 65_536),

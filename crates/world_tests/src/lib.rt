@@ -1,4 +1,4 @@
-//! Worked runs of the crates that join a link, a line and files: folders, scripts, the line of samples and the run's world.
+//! Worked examples of the crates below a run: folders, scripts, and the line of samples.
 //!
 //! It has no call of its own. In their own crates these tests would prove each crate's whole code once more.
 #![tactic(auto)]
@@ -9,7 +9,3 @@ mod folders;
 mod lines;
 #[cfg(test)]
 mod scripts;
-#[cfg(test)]
-mod thin_ends;
-#[cfg(test)]
-mod worlds;

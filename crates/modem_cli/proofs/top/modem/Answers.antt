@@ -1,5 +1,5 @@
 use Rattle.std.proofs.Common.{map, string_bytes, sym}
-use Rattle.run_command.specs.Words.{named}
+use Rattle.run_inputs.specs.Words.{named}
 use Rattle.modem_cli.proofs.Alone.{run-promises, run-answers, run-completes}
 use Rattle.modem_cli.proofs.top.modem.Goals as goal
 
@@ -13,4 +13,4 @@ returns-in-Some-clause-answer g c =
 
 pub returns-in-Some-clause-completes : goal.returns-in-Some-clause-completes
 returns-in-Some-clause-completes g c =
-    run-completes (map string_bytes c.args.words.now) (g.F.Folder.state c.args.folder.now) (g.F.Folder.state c.run.new.folder) (named c.in-Some.names) c.run.result (sym c.in-Some.ensures.names)
+    run-completes (map string_bytes c.args.words.now) (g.F.Folder.state c.args.folder.now) (g.F.Folder.state c.run.new.folder) (named c.in-Some.names) c.run.result (sym c.in-Some.ensures.names) c.run.ensures.completes

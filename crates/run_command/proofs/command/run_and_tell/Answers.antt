@@ -2,13 +2,15 @@ use Rattle.std.proofs.Common.{◌∙◌, ℕ, List, Ok, Err, subst}
 use Rattle.outside_core.specs.Folder.{FolderState}
 use Rattle.command_base.specs.declared.status.Status.TheVariants.{Done}
 use Rattle.command_base.specs.Tells.{Tells}
-use Rattle.run_command.specs.Words.{RunNames, named}
-use Rattle.run_command.proofs.Headline.{refused-by}
+use Rattle.run_inputs.specs.Words.{RunNames, named}
+use Rattle.run_command.proofs.Refusing.{refused-by}
 use Rattle.run_command.proofs.command.run_and_tell.Goals as goal
 
 pub returns-in-Ok : goal.returns-in-Ok
 returns-in-Ok g c =
-    let before : FolderState = g.F.Folder.state c.run_to_end.new.folder in let new : FolderState = g.F.Folder.state c.tell.new.folder in let n : RunNames = named c.args.names.now in
+    let before : FolderState = g.F.Folder.state c.run_to_end.new.folder in
+    let new : FolderState = g.F.Folder.state c.tell.new.folder in
+    let n : RunNames = named c.args.names.now in
     record {
       end = Ok c.in-Ok.turn;
       before = before;
@@ -21,7 +23,8 @@ returns-in-Ok g c =
 
 pub returns-in-Err : goal.returns-in-Err
 returns-in-Err g c =
-    let before : FolderState = g.F.Folder.state c.run_to_end.new.folder in let n : RunNames = named c.args.names.now in
+    let before : FolderState = g.F.Folder.state c.run_to_end.new.folder in
+    let n : RunNames = named c.args.names.now in
     record {
       end = Err c.in-Err.stop;
       before = before;

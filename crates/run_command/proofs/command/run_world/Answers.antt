@@ -1,0 +1,81 @@
+use Rattle.std.proofs.Common.{inl, sym, subst}
+use Rattle.outside_core.specs.Folder.{FolderState}
+use Rattle.noise_script.specs.Script.{ScriptValue}
+use Rattle.both_sides.specs.Names.{Written}
+use Rattle.line_world.specs.World.{AreApart, OnlyOutputs as OnlyWritten, script_of}
+use Rattle.line_world.specs.Turn.{FaultCounts}
+use Rattle.command_base.specs.Stops.{StopCounts}
+use Rattle.command_base.proofs.Jobs.{stop-earlier}
+use Rattle.command_base.proofs.OnlyOutputs.{OnlyOutputs-trans}
+use Rattle.run_inputs.specs.declared.limits.TheConstants.{LIMITS}
+use Rattle.run_inputs.specs.Words.{RunNames, named, inputs_of, outputs_of}
+use Rattle.run_command.specs.Turns.{RunEnds, FaultEnds}
+use Rattle.run_command.specs.Ends.{EndsBy}
+use Rattle.line_run.specs.Ends as runs
+use Rattle.run_command.proofs.Runs.{apart-names, only-written, ends-creating, ran-to, ends-in-turn, turn-counts}
+use Rattle.run_command.proofs.command.run_world.Goals as goal
+
+pub returns-in-Err-clause-ends : goal.returns-in-Err-clause-ends
+returns-in-Err-clause-ends g c = λ begin b.
+    inl (ends-creating LIMITS begin (g.F.Folder.state c.args.folder.now) (g.F.Folder.state c.create_all.new.folder) (named c.args.words.now) (script_of c.args.world.now) b c.in-Err.ensures.err)
+
+pub run_turns-requires-clause-apart : goal.run_turns-requires-clause-apart
+run_turns-requires-clause-apart g c =
+    let n : RunNames = named c.args.words.now in
+    subst AreApart (sym c.names_of.ensures) (apart-names n (c.apart_names_differ.ensures.outputs (inputs_of n) (outputs_of n) c.requires.apart) (c.apart_names_differ.ensures.inputs (inputs_of n) (outputs_of n) c.requires.apart))
+
+pub returns-in-Ok-run_turns-clause-ends : goal.returns-in-Ok-run_turns-clause-ends
+returns-in-Ok-run_turns-clause-ends g c = λ begin b.
+    let mid : FolderState = g.F.Folder.state c.args.folder.now in
+    let now : FolderState = g.F.Folder.state c.create_all.new.folder in
+    let next : FolderState = g.F.Folder.state c.run_turns.new.folder in
+    let n : RunNames = named c.args.words.now in
+    let script : ScriptValue = script_of c.args.world.now in
+    let end = runs.IsDone c.in-Ok-run_turns.turn in
+    ran-to begin mid now next n script end (record {
+      begun = b;
+      creates = c.in-Ok.ensures.only;
+      turns = subst (OnlyWritten now next) c.names_of.ensures c.in-Ok-run_turns.ensures.only;
+      apart = apart-names n (c.apart_names_differ.ensures.outputs (inputs_of n) (outputs_of n) c.requires.apart) (c.apart_names_differ.ensures.inputs (inputs_of n) (outputs_of n) c.requires.apart);
+    }) (subst (λ (w : Written). RunEnds script next w end) c.names_of.ensures c.in-Ok-run_turns.ensures.run)
+
+pub returns-in-Ok-run_turns-clause-only : goal.returns-in-Ok-run_turns-clause-only
+returns-in-Ok-run_turns-clause-only g c =
+    let now : FolderState = g.F.Folder.state c.create_all.new.folder in
+    let next : FolderState = g.F.Folder.state c.run_turns.new.folder in
+    let n : RunNames = named c.args.words.now in
+    OnlyOutputs-trans (outputs_of n) c.in-Ok.ensures.only (only-written now next n (subst (OnlyWritten now next) c.names_of.ensures c.in-Ok-run_turns.ensures.only))
+
+pub returns-in-Err-run_turns-clause-ends : goal.returns-in-Err-run_turns-clause-ends
+returns-in-Err-run_turns-clause-ends g c = λ begin b.
+    let mid : FolderState = g.F.Folder.state c.args.folder.now in
+    let now : FolderState = g.F.Folder.state c.create_all.new.folder in
+    let next : FolderState = g.F.Folder.state c.run_turns.new.folder in
+    let n : RunNames = named c.args.words.now in
+    let script : ScriptValue = script_of c.args.world.now in
+    let fault = c.in-Err-run_turns.fault in
+    subst (EndsBy LIMITS begin next n) (sym c.stop_of.ensures)
+    (ends-in-turn begin mid now next n script fault (record {
+      begun = b;
+      creates = c.in-Ok.ensures.only;
+      turns = subst (OnlyWritten now next) c.names_of.ensures c.in-Err-run_turns.ensures.only;
+      apart = apart-names n (c.apart_names_differ.ensures.outputs (inputs_of n) (outputs_of n) c.requires.apart) (c.apart_names_differ.ensures.inputs (inputs_of n) (outputs_of n) c.requires.apart);
+    }) (subst (λ (w : Written). FaultEnds script next w fault) c.names_of.ensures c.in-Err-run_turns.ensures.run))
+
+pub returns-in-Err-run_turns-clause-only : goal.returns-in-Err-run_turns-clause-only
+returns-in-Err-run_turns-clause-only g c =
+    let now : FolderState = g.F.Folder.state c.create_all.new.folder in
+    let next : FolderState = g.F.Folder.state c.run_turns.new.folder in
+    let n : RunNames = named c.args.words.now in
+    OnlyOutputs-trans (outputs_of n) c.in-Ok.ensures.only (only-written now next n (subst (OnlyWritten now next) c.names_of.ensures c.in-Err-run_turns.ensures.only))
+
+pub returns-in-Err-run_turns-clause-counts : goal.returns-in-Err-run_turns-clause-counts
+returns-in-Err-run_turns-clause-counts g c =
+    let mid : FolderState = g.F.Folder.state c.args.folder.now in
+    let now : FolderState = g.F.Folder.state c.create_all.new.folder in
+    let next : FolderState = g.F.Folder.state c.run_turns.new.folder in
+    let n : RunNames = named c.args.words.now in
+    let fault = c.in-Err-run_turns.fault in
+    subst (StopCounts mid next (inputs_of n) (outputs_of n)) (sym c.stop_of.ensures)
+    (stop-earlier mid now next (inputs_of n) (outputs_of n) _ c.in-Ok.ensures.stand
+    (turn-counts now next n fault (subst (λ (w : Written). FaultCounts now next w fault) c.names_of.ensures c.in-Err-run_turns.ensures.counts)))

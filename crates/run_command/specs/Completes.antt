@@ -1,0 +1,70 @@
+-- When nothing but want of memory keeps a run from being done.
+use Rattle.std.specs.Prelude.{◌≡◌, ℕ, ◌*◌, ◌<◌, ◌≤◌, IsTrue, List, [], length}
+use Rattle.plain_lists.specs.Octets.{AreOctets}
+use Rattle.outside_core.specs.Folder.{FolderState, octets_at}
+use Rattle.roles.specs.declared.role.Role.{Role}
+use Rattle.roles.specs.Both.{Both, of}
+use Rattle.noise_script.specs.Script.{ScriptValue}
+use Rattle.noise_script.specs.Grammar.{ScriptSpelling}
+use Rattle.link_run.specs.Counts.{lost_slots}
+use Rattle.line_run.specs.Ends.{RunEnd, Left, StarvedBy}
+use Rattle.line_causes.specs.Causes.{GivesUp}
+use Rattle.line_ends.specs.Completes.{ScriptRunsTo, heard_turns, LineEnds, DisplacesNone, slots_named}
+use Rattle.command_base.specs.declared.status.Status.{Status}
+use Rattle.command_base.specs.Sound.{IsSound, DoneUnlessMemory}
+use Rattle.run_inputs.specs.Words.{RunNames, inputs_of, outputs_of}
+
+-- The line doesn't end the run of a script and two files: it isn't lost, and nothing received is a chance match.
+abbrev pub LineStays : ScriptValue → Both (List ℕ) → Type 0
+LineStays script files = (end : RunEnd) (left : Left) → ScriptRunsTo script files end left → LineEnds end → ⊥
+
+-- The line doesn't end the run, and losses don't go on for so long in it that an end gives up.
+pub record IsCarried (script : ScriptValue) (files : Both (List ℕ)) : Type 0 where
+  pub stays : LineStays script files
+  pub not_starved : (end : RunEnd) (left : Left) (r : ScriptRunsTo script files end left) → GivesUp end
+      → StarvedBy script (heard_turns script files end left r) → ⊥
+
+-- The line doesn't end the run, and fewer slots are lost in it than one for each two tries.
+pub record LosesFew (script : ScriptValue) (files : Both (List ℕ)) : Type 0 where
+  pub stays : LineStays script files
+  pub few : (end : RunEnd) (left : Left) (r : ScriptRunsTo script files end left) → 2 * lost_slots (heard_turns script files end left r) < script.tries
+
+-- The files are octets, no line of the script displaces a symbol, and its lose lines name fewer slots than one for each two tries.
+pub record NamesFew (script : ScriptValue) (files : Both (List ℕ)) : Type 0 where
+  pub octets : (role : Role) → AreOctets (of role files)
+  pub displaces_none : DisplacesNone script
+  pub few : 2 * slots_named script.losses < script.tries
+
+-- The files are octets, and no line of the script loses, hits or displaces.
+pub record IsUndisturbed (script : ScriptValue) (files : Both (List ℕ)) : Type 0 where
+  pub octets : (role : Role) → AreOctets (of role files)
+  pub no_losses : script.losses ≡ []
+  pub no_hits : script.hits ≡ []
+  pub no_noises : script.noises ≡ []
+
+-- The inputs are told: a script of at most 65,536 octets, and two files of at most 16,777,216.
+pub record AreRight (f : FolderState) (n : RunNames) (script : ScriptValue) : Type 0 where
+  pub script_told : IsTrue (f.tells n.script)
+  pub script_short : length (octets_at f n.script) ≤ 65536
+  pub spelled : ScriptSpelling (octets_at f n.script) script
+  pub orig_told : IsTrue (f.tells n.orig)
+  pub orig_short : length (octets_at f n.orig) ≤ 16777216
+  pub answ_told : IsTrue (f.tells n.answ)
+  pub answ_short : length (octets_at f n.answ) ≤ 16777216
+
+-- the files that the users hand over
+abbrev pub files_at : FolderState → RunNames → Both (List ℕ)
+files_at f n = record { orig = octets_at f n.orig; answ = octets_at f n.answ }
+
+-- the folder is sound, the inputs are right, and this holds of their script and files: then the run is done, but for want of memory
+abbrev pub DoneWhere : FolderState → FolderState → RunNames → Status → (ScriptValue → Both (List ℕ) → Type 0) → Type 0
+DoneWhere old new n s Holds =
+    IsSound old new (inputs_of n) (outputs_of n) → (script : ScriptValue) → AreRight old n script → Holds script (files_at old n) → DoneUnlessMemory s
+
+-- The run is done, but for want of memory: where it is carried to its end; where it loses few slots; and, whatever else its script says and
+-- its files hold, where few are named and no symbol is displaced, so also where nothing disturbs it.
+pub record Completes (old new : FolderState) (n : RunNames) (s : Status) : Type 0 where
+  pub carried : DoneWhere old new n s IsCarried
+  pub few_losses : DoneWhere old new n s LosesFew
+  pub few_named : DoneWhere old new n s NamesFew
+  pub undisturbed : DoneWhere old new n s IsUndisturbed
