@@ -1,0 +1,5 @@
+use Rattle.soak_command.proofs.Headline.{completes-of}
+use Rattle.soak_command.proofs.laws.carried_soaks_are_done.Goals as goal
+
+pub returns : goal.returns
+returns c = completes-of c.lost_links_were_starved.ensures.starved

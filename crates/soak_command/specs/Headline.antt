@@ -1,0 +1,49 @@
+-- What a soak promises, over the folder before and after it.
+use Rattle.std.specs.Prelude.{◌≡◌, ℕ, []}
+use Rattle.plain_lists.specs.Prefix.{IsPrefixOf}
+use Rattle.outside_core.specs.Folder.{FolderState, Said}
+use Rattle.roles.specs.declared.role.Role.{Role}
+use Rattle.roles.specs.Role.{other}
+use Rattle.roles.specs.Both.{of}
+use Rattle.line_run.specs.Ends.{RunEnd, StarvedBy, turns_heard}
+use Rattle.line_run.specs.Ends as runs
+use Rattle.line_bound.specs.Scripts.{HasFewTurns}
+use Rattle.line_causes.specs.Causes.{GivesUp}
+use Rattle.command_base.specs.declared.status.Status.{Status}
+use Rattle.command_base.specs.declared.status.Status.TheVariants.{Done, LineLost, NotDetected, LinkLost, ChanceMatch}
+use Rattle.command_base.specs.Job.{Shared}
+use Rattle.command_base.specs.Lines.{soak_line}
+use Rattle.soak_inputs.specs.Soak.{soak_file, soak_script}
+use Rattle.soak_command.specs.declared.counts.SoakCounts.{SoakCounts}
+use Rattle.soak_command.specs.Ends.{SoakEnds, IsSoaked, soak_channel, soak_link, soak_files}
+
+-- The run of the seed ended so: each end received the beginning of the other's file, there were few turns, and no link was given up but for
+-- losses that went on.
+pub record Soaks (seed : ℕ) (end : RunEnd) : Type 0 where
+  pub ends : SoakEnds seed end
+  pub begins : (role : Role) → IsPrefixOf (of role ends.left.got) (soak_file seed (other role))
+  pub few : HasFewTurns (soak_script seed) (soak_files seed) ends.run.turns ends.run.ends
+  pub starved : GivesUp end
+      → StarvedBy (soak_script seed) (turns_heard (soak_channel seed) (soak_link seed) ends.run.turns ends.run.ends end ends.left ends.run.ended)
+
+-- It was done, what its turns show was said, and each end received the other's file whole.
+pub record SoaksWhole (old new : FolderState) (seed : ℕ) : Type 0 where
+  pub counts : SoakCounts
+  pub said : Said old new (soak_line seed counts.turn counts.lost counts.again)
+  pub soaked : IsSoaked seed counts
+  pub whole : (role : Role) → of role soaked.ends.left.got ≡ soak_file seed (other role)
+  pub soaks : Soaks seed (runs.IsDone counts.turn)
+
+-- the run, where the answer is one by which it ends
+abbrev pub RanBy : FolderState → FolderState → ℕ → Status → Type 0
+RanBy old new seed Done = SoaksWhole old new seed
+RanBy old new seed (LinkLost role segment turn) = Soaks seed (runs.LinkLost role segment turn)
+RanBy old new seed (NotDetected turn) = Soaks seed (runs.NotDetected turn)
+RanBy old new seed (LineLost role symbol) = Soaks seed (runs.LineLost role symbol)
+RanBy old new seed (ChanceMatch role turn) = Soaks seed (runs.ChanceMatch role turn)
+RanBy old new seed status = Unit {0}
+
+-- No name changes, and each end of the run has its cause.
+pub record Headline (old new : FolderState) (seed : ℕ) (s : Status) : Type 0 where
+  pub shared : Shared [] [] old new s
+  pub ran : RanBy old new seed s

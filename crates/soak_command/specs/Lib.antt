@@ -1,0 +1,5 @@
+pub mod Words
+pub mod Folder
+pub mod Ends
+pub mod Headline
+pub mod Completes

@@ -1,0 +1,43 @@
+// The command: the run of a seed is made, and its line is said.
+ghost use Rattle.std.specs.Prelude.{[], map, string_bytes};
+ghost use Rattle.command_base.specs.Job.{Answers};
+ghost use Rattle.soak_command.specs.Completes.{Completes};
+ghost use Rattle.soak_command.specs.Ends.{soak_job};
+ghost use Rattle.soak_command.specs.Headline.{Headline};
+
+use crate::laws::{answers_keep_the_headline, carried_soaks_are_done};
+use crate::soaking::soak_run;
+use command_base::{Status, tell, tell_stop, write_soak};
+use outside_core::Folder;
+use std::alloc::Global;
+
+/// Makes the run of a seed, and says how it ended.
+fn soak_and_tell<F: Folder>(alloc: Global, folder: &mut F, words: &[String], seed: u64) -> Status
+    ensures { Answers (soak_job seed) (map string_bytes words.now) (F.state folder.old) (F.state folder.new) result }
+{
+    match soak_run(alloc, seed) {
+        Ok(counts) => tell(
+            folder,
+            write_soak(seed, counts.turn, counts.lost, counts.again).as_slice(),
+            Status::Done,
+        ),
+        Err(stop) => tell_stop(folder, words, stop),
+    }
+}
+
+/// Makes the run of a seed in a folder of its own, and says how it ended. No name of the folder is touched.
+pub fn soak<F: Folder>(alloc: Global, folder: &mut F, words: &[String], seed: u64) -> Status
+    // No name changes. The run is that of the seed's files and script: each end receives a prefix of the other's file, and done means that both
+    // are whole.
+    ensures headline { Headline (F.state folder.old) (F.state folder.new) seed result }
+
+    // Where the line carries the run to its end and saying doesn't fail, nothing but want of memory keeps it from being done.
+    ensures completes { Completes (F.state folder.old) (F.state folder.new) seed result }
+
+    // Each answer comes where it has to, with its line.
+    ensures answer { Answers (soak_job seed) (map string_bytes words.now) (F.state folder.old) (F.state folder.new) result }
+{
+    answers_keep_the_headline();
+    carried_soaks_are_done();
+    soak_and_tell(alloc, folder, words, seed)
+}

@@ -1,0 +1,29 @@
+// What every answer of a soak promises. The functions do nothing but name the laws that they rest on: each law is a contract.
+ghost use Rattle.std.specs.Prelude.{List, ℕ};
+ghost use Rattle.outside_core.specs.Folder.{FolderState};
+ghost use Rattle.command_base.specs.declared.status.Status.{Status};
+ghost use Rattle.command_base.specs.Job.{Answers};
+ghost use Rattle.soak_command.specs.Ends.{soak_job};
+ghost use Rattle.soak_command.specs.Headline.{Headline};
+ghost use Rattle.soak_command.specs.Completes.{Completes};
+
+use line_bound::laws::line_runs_end_soon;
+use line_causes::laws::lost_links_were_starved;
+use line_run::laws::{runs_leave_prefixes, scripts_make_links};
+
+/// Whatever a soak answers, its headline holds.
+pub(crate) fn answers_keep_the_headline()
+    ensures { (words : List (List ℕ)) (old new : FolderState) (seed : ℕ) (s : Status) → Answers (soak_job seed) words old new s → Headline old new seed s }
+{
+    scripts_make_links();
+    runs_leave_prefixes();
+    line_runs_end_soon();
+    lost_links_were_starved();
+}
+
+/// Where the line carries the run to its end and saying doesn't fail, the soak is done, but for want of memory.
+pub(crate) fn carried_soaks_are_done()
+    ensures { (words : List (List ℕ)) (old new : FolderState) (seed : ℕ) (s : Status) → Answers (soak_job seed) words old new s → Completes old new seed s }
+{
+    lost_links_were_starved();
+}

@@ -1,0 +1,4 @@
+pub mod Drawing
+pub mod Soak
+pub mod Text
+pub mod Seed
