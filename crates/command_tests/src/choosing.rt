@@ -59,7 +59,7 @@ fn empty_files_are_done_once_the_link_was_up(rt: HostRuntime) -> Result<(), Fail
     folder.put("e", b"")?;
     assert!(&rt; modem(alloc, &words, &mut folder) == Status::Done);
     assert!(&rt; folder.said() == b"done 8\n".as_slice());
-    for got in ["go", "ga", "t"] {
+    for got in ["go", "ga"] {
         assert!(&rt; folder.get(got) == Some(b"".as_slice()));
     }
     Ok(())

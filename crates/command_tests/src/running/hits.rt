@@ -3,6 +3,7 @@ use super::*;
 use bit_stuffing::BitSlot;
 use detection::{mark_slot, pattern_slot};
 use line_coding::Modulator;
+use noise_script::read_script;
 use scramblers::Mode;
 use slot_contents::Seen;
 use symbol_map::Sample;
@@ -10,9 +11,9 @@ use symbol_map::Sample;
 /// The symbols of a slot.
 const SYMBOLS: u16 = 464;
 
-/// The points of an answerer's first slot.
-fn points(alloc: Global, slot: &BitSlot) -> Result<Vec<Sample>, Fail> {
-    let mut modulator = Modulator::new(Mode::Answer);
+/// The points of an end's first slot.
+fn points(alloc: Global, mode: Mode, slot: &BitSlot) -> Result<Vec<Sample>, Fail> {
+    let mut modulator = Modulator::new(mode);
     let mut points = Vec::new(alloc);
     for place in 0..slot.len() {
         points.push(modulator.push(slot.quad(place)))?;
@@ -27,10 +28,10 @@ fn marks() -> BitSlot {
     slot
 }
 
-/// What it doesn't: its patterns.
-fn patterns() -> BitSlot {
+/// A slot of patterns.
+fn patterns(seen: Seen) -> BitSlot {
     let mut slot = BitSlot::new();
-    pattern_slot(Seen::Adp, SYMBOLS, &mut slot);
+    pattern_slot(seen, SYMBOLS, &mut slot);
     slot
 }
 
@@ -47,7 +48,11 @@ fn samples_that_say_nothing_lose_the_line(rt: HostRuntime) -> Result<(), Fail> {
     let alloc = rt.alloc();
     let mut script = String::new(alloc);
     let zero = Sample { re: 0, im: 0 };
-    for (symbol, point) in points(alloc, &marks())?.iter().take(129).enumerate() {
+    for (symbol, point) in points(alloc, Mode::Answer, &marks())?
+        .iter()
+        .take(129)
+        .enumerate()
+    {
         write_hit(&mut script, symbol, point, &zero)?;
     }
     let ran = run(alloc, b"a", b"b", script.as_bytes())?;
@@ -65,8 +70,8 @@ fn samples_that_say_nothing_lose_the_line(rt: HostRuntime) -> Result<(), Fail> {
 fn a_pattern_that_was_not_sent_is_a_chance_match(rt: HostRuntime) -> Result<(), Fail> {
     let alloc = rt.alloc();
     let mut script = String::new(alloc);
-    let sent = points(alloc, &marks())?;
-    let other = points(alloc, &patterns())?;
+    let sent = points(alloc, Mode::Answer, &marks())?;
+    let other = points(alloc, Mode::Answer, &patterns(Seen::Adp))?;
     for (symbol, (from, to)) in sent.iter().zip(&other).enumerate() {
         write_hit(&mut script, symbol, from, to)?;
     }
@@ -78,6 +83,20 @@ fn a_pattern_that_was_not_sent_is_a_chance_match(rt: HostRuntime) -> Result<(), 
     says(&rt, &ran, chance, "chance match: orig turn 1\n");
     let trace = b"0 orig - > odp\n0 answ - > mark\n1 orig chance\n";
     assert!(rt; ran.folder.get("t") == Some(trace.as_slice()));
+    Ok(())
+}
+
+#[test]
+fn noise_moves_the_first_sample(rt: HostRuntime) -> Result<(), Fail> {
+    let alloc = rt.alloc();
+    let script = read_script(alloc, b"noise orig 0 2 500 42")?;
+    let offset = script.offset(Role::Originator, 0);
+    let sent = points(alloc, Mode::Call, &patterns(Seen::Odp))?;
+    let Some(point) = sent.first() else {
+        panic!(rt; "no points");
+    };
+    assert_eq!(rt; offset.re + i32::from(point.re), 8387);
+    assert_eq!(rt; offset.im + i32::from(point.im), -2281);
     Ok(())
 }
 
