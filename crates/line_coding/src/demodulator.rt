@@ -1,5 +1,5 @@
 // Labels become bits.
-ghost use Rattle.std.specs.Prelude.{◌≡◌, ◌<◌, ℕ, Bool, List, [], ◌∷◌, ◌++◌};
+ghost use Rattle.std.specs.Prelude.{◌≡◌, ◌<◌, ◌^◌, ℕ, Bool, List, [], ◌∷◌, ◌++◌};
 ghost use Rattle.plain_lists.specs.Bits.{low_bits};
 ghost use Rattle.scramblers.specs.declared.mode.Mode.{Mode};
 ghost use Rattle.line_coding.specs.Demodulates.{DemodulatorStands};
@@ -8,6 +8,28 @@ use crate::scrambling::ModeDescrambler;
 use scramblers::Mode;
 use trellis_tables::LabelReader;
 
+/// Reads the bits that a code's labels carry, so many for each label.
+pub trait Demodulate<const LABELS: usize>: Drop {
+    ghost BITS: { ℕ };
+
+    /// How many bits a label carries.
+    const BITS: usize;
+
+    // It has read these labels, sent by a modem of this mode, as these bits.
+    ghost reads: { Mode → Self → List ℕ → List Bool → Type 0 };
+
+    /// What reads a modem's labels, before the first one.
+    fn new(mode: Mode) -> Self
+        ensures { reads mode result [] [] };
+
+    /// The next bits, for the next label, in a number that has the first one lowest.
+    fn push(&mut self, label: u8) -> u8
+        requires { label < LABELS }
+        ensures stands { (mode : Mode) (labels : List ℕ) (bits : List Bool) → reads mode self.old labels bits
+            → reads mode self.new (labels ++ label ∷ []) (bits ++ low_bits BITS result) }
+        ensures bound { result < 2 ^ BITS };
+}
+
 /// A demodulator of what a modem of a mode sent. The register of its descrambler is zero and y is 0 before the first label.
 #[derive(Drop)]
 pub struct Demodulator {
@@ -15,24 +37,21 @@ pub struct Demodulator {
     descrambler: ModeDescrambler,
 }
 
-impl Demodulator {
-    /// A demodulator before its first label.
-    pub fn new(mode: Mode) -> Demodulator
-        ensures { DemodulatorStands mode result [] [] }
-    {
+impl Demodulate<32> for Demodulator {
+    const BITS: usize = 4;
+
+    ghost BITS = { 4 };
+
+    ghost reads = { DemodulatorStands };
+
+    fn new(mode: Mode) -> Demodulator {
         Demodulator {
             reader: LabelReader::new(),
             descrambler: ModeDescrambler::new(mode),
         }
     }
 
-    /// The next four bits, for the next label: a quad that has the first one lowest.
-    pub fn push(&mut self, label: u8) -> u8
-        requires { label < 32 }
-        ensures stands { (mode : Mode) (labels : List ℕ) (bits : List Bool) → DemodulatorStands mode self.old labels bits
-            → DemodulatorStands mode self.new (labels ++ label ∷ []) (bits ++ low_bits 4 result) }
-        ensures bound { result < 16 }
-    {
+    fn push(&mut self, label: u8) -> u8 {
         let quad = self.reader.push(label);
         self.descrambler.push_four(quad)
     }

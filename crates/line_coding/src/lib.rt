@@ -3,7 +3,8 @@
 //!
 //! A [`Modulator`] scrambles the four bits of a quad, codes them and gives the point of the label; a [`Demodulator`] reads the
 //! quad that each label carries after those before it, and descrambles its four bits. A quad is a number below 16 whose lowest bit
-//! comes first. Which scrambler is used follows from the mode of the modem that sends.
+//! comes first. Which scrambler is used follows from the mode of the modem that sends. [`Demodulate`] is what the readers of several codes'
+//! labels have in common.
 #![tactic(auto)]
 
 mod demodulator;
@@ -11,5 +12,5 @@ pub mod laws;
 mod modulator;
 mod scrambling;
 
-pub use demodulator::Demodulator;
+pub use demodulator::{Demodulate, Demodulator};
 pub use modulator::Modulator;

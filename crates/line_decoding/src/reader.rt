@@ -1,62 +1,90 @@
 // The decoder with the reader of its labels.
-ghost use Rattle.std.specs.Prelude.{◌≡◌, ℕ, ◌+◌, ◌<◌, ◌≤◌, ◌^◌, Bool, List, All, [], ◌∷◌, ◌++◌, Some, None, length, drop, IfOk, MatchOption, MatchResult};
+ghost use Rattle.std.specs.Prelude.{◌≡◌, ℕ, ◌+◌, ◌<◌, ◌≤◌, ◌^◌, Bool, List, All, [], ◌∷◌, ◌++◌, Some, None, length, drop, nat_eq, nat_lt, IfOk, MatchOption, MatchResult};
 ghost use Rattle.scramblers.specs.declared.mode.Mode.{Mode};
 ghost use Rattle.symbol_map.specs.declared.sample.Sample.{Sample};
-ghost use Rattle.line_decoding.specs.Reading.{SamplesRead, IsFinished, at_beginning, at_any, bits_in};
+ghost use Rattle.line_decoding.specs.Reading.{SamplesRead, IsFinished, bits_in};
 
 use exact_decoder::{Decoder, Lost, Tail};
-use line_coding::Demodulator;
+use line_coding::Demodulate;
 use outside_core::NoMemory;
 use scramblers::Mode;
 use std::alloc::Global;
 use std::marker::Model;
 use symbol_map::Sample;
-use trellis_tables::V32Code;
+use trellis_tables::TrellisCode;
 
-/// Reads the bits that a line's samples carry, four for each label that the decoder releases. At most `DEPTH` labels are unreleased while
+/// Reads the bits that a line's samples carry, those of each label that the decoder releases. At most `DEPTH` labels are unreleased while
 /// the line is not lost.
 #[derive(Drop)]
-pub struct SampleReader<const DEPTH: usize> {
-    decoder: Decoder<V32Code, 8, 32, DEPTH>,
-    demodulator: Demodulator,
+pub struct SampleReader<
+    C: TrellisCode<STATES, LABELS> + Drop,
+    D: Demodulate<LABELS>,
+    const STATES: usize,
+    const LABELS: usize,
+    const DEPTH: usize,
+> {
+    decoder: Decoder<C, STATES, LABELS, DEPTH>,
+    demodulator: D,
 }
 
-impl<const DEPTH: usize> Model for SampleReader<DEPTH> {
+impl<
+    C: TrellisCode<STATES, LABELS> + Drop,
+    D: Demodulate<LABELS>,
+    const STATES: usize,
+    const LABELS: usize,
+    const DEPTH: usize,
+> Model for SampleReader<C, D, STATES, LABELS, DEPTH> {
     ghost use Rattle.line_decoding.specs.Reading.{Reading};
 
-    ghost Value = { Reading };
+    ghost Value = { Reading D };
 
     ghost view = { λ r. record { decoder = r.decoder; demodulator = r.demodulator } };
 }
 
-impl<const DEPTH: usize> SampleReader<DEPTH> {
-    /// A reader before a line's first sample. All memory is taken here.
-    pub fn new(alloc: Global, mode: Mode) -> Result<SampleReader<DEPTH>, NoMemory>
+impl<
+    C: TrellisCode<STATES, LABELS> + Drop,
+    D: Demodulate<LABELS>,
+    const STATES: usize,
+    const LABELS: usize,
+    const DEPTH: usize,
+> SampleReader<C, D, STATES, LABELS, DEPTH> {
+    /// A reader before a line's first sample, at which the code is in this state. All memory is taken here.
+    pub fn new(
+        alloc: Global,
+        code: C,
+        start: u8,
+        mode: Mode,
+    ) -> Result<SampleReader<C, D, STATES, LABELS, DEPTH>, NoMemory>
+        requires start { start < STATES }
         requires low { 1 ≤ DEPTH }
         requires high { DEPTH ≤ 128 }
-        ensures stands { IfOk result (λ r. SamplesRead mode at_beginning DEPTH r [] []) }
+        ensures stands { IfOk result (λ r. SamplesRead C.table C.points (D.reads mode) (λ state. nat_eq state start) DEPTH r [] []) }
         ensures count { IfOk result (λ r. r.decoder.count ≡ 0) }
         ensures pending { IfOk result (λ r. r.decoder.pending ≡ []) }
         ensures lost { IfOk result (λ r. r.decoder.lost ≡ None) }
     {
         Ok(SampleReader {
-            decoder: Decoder::new(alloc, V32Code, 0)?,
-            demodulator: Demodulator::new(mode),
+            decoder: Decoder::new(alloc, code, start)?,
+            demodulator: D::new(mode),
         })
     }
 
     /// A reader before a sample in the middle of a line: its code is in any state. All memory is taken here.
-    pub fn new_any(alloc: Global, mode: Mode) -> Result<SampleReader<DEPTH>, NoMemory>
+    pub fn new_any(
+        alloc: Global,
+        code: C,
+        mode: Mode,
+    ) -> Result<SampleReader<C, D, STATES, LABELS, DEPTH>, NoMemory>
         requires low { 1 ≤ DEPTH }
         requires high { DEPTH ≤ 128 }
-        ensures stands { IfOk result (λ r. SamplesRead mode at_any DEPTH r [] []) }
+        ensures stands { IfOk result (λ r. SamplesRead C.table C.points (D.reads mode) (λ state. nat_lt state STATES) DEPTH r [] []) }
         ensures count { IfOk result (λ r. r.decoder.count ≡ 0) }
         ensures pending { IfOk result (λ r. r.decoder.pending ≡ []) }
         ensures lost { IfOk result (λ r. r.decoder.lost ≡ None) }
     {
         Ok(SampleReader {
-            decoder: Decoder::new_any(alloc, V32Code)?,
-            demodulator: Demodulator::new(mode),
+            decoder: Decoder::new_any(alloc, code)?,
+            demodulator: D::new(mode),
         })
     }
 
@@ -65,19 +93,19 @@ impl<const DEPTH: usize> SampleReader<DEPTH> {
     pub fn push(&mut self, sample: Sample) -> Result<(), Lost>
         requires taken { self.old.decoder.pending ≡ [] }
         requires count { self.old.decoder.count < 2 ^ 56 }
-        ensures stands { (mode : Mode) (starts : ℕ → Bool) (samples : List Sample) (bits : List Bool) → SamplesRead mode starts DEPTH self.old samples bits
-            → SamplesRead mode starts DEPTH self.new (samples ++ sample ∷ []) bits }
+        ensures stands { (mode : Mode) (starts : ℕ → Bool) (samples : List Sample) (bits : List Bool) → SamplesRead C.table C.points (D.reads mode) starts DEPTH self.old samples bits
+            → SamplesRead C.table C.points (D.reads mode) starts DEPTH self.new (samples ++ sample ∷ []) bits }
         ensures answer { MatchResult result (λ _. self.new.decoder.lost ≡ None) (λ lost. self.new.decoder.lost ≡ Some lost.symbol) }
         ensures count { self.new.decoder.count ≤ self.old.decoder.count + 1 }
     {
         self.decoder.push(sample)
     }
 
-    /// The four bits of the oldest label that is released and not yet taken: a quad that has the first one lowest.
+    /// The bits of the oldest label that is released and not yet taken, in a number that has the first one lowest.
     pub fn take(&mut self) -> Option<u8>
-        ensures stands { (mode : Mode) (starts : ℕ → Bool) (samples : List Sample) (bits : List Bool) → SamplesRead mode starts DEPTH self.old samples bits
-            → SamplesRead mode starts DEPTH self.new samples (bits ++ bits_in result) }
-        ensures first { MatchOption result (self.old.decoder.pending ≡ []) (λ four. (four < 16) × (length self.old.decoder.pending ≡ length self.new.decoder.pending + 1)) }
+        ensures stands { (mode : Mode) (starts : ℕ → Bool) (samples : List Sample) (bits : List Bool) → SamplesRead C.table C.points (D.reads mode) starts DEPTH self.old samples bits
+            → SamplesRead C.table C.points (D.reads mode) starts DEPTH self.new samples (bits ++ bits_in D.BITS result) }
+        ensures first { MatchOption result (self.old.decoder.pending ≡ []) (λ number. (number < 2 ^ D.BITS) × (length self.old.decoder.pending ≡ length self.new.decoder.pending + 1)) }
         ensures pending { self.new.decoder.pending ≡ drop 1 self.old.decoder.pending }
         ensures count { self.new.decoder.count ≡ self.old.decoder.count }
         ensures lost { self.new.decoder.lost ≡ self.old.decoder.lost }
@@ -89,7 +117,7 @@ impl<const DEPTH: usize> SampleReader<DEPTH> {
     }
 
     /// The decoder.
-    pub fn decoder(&self) -> &Decoder<V32Code, 8, 32, DEPTH>
+    pub fn decoder(&self) -> &Decoder<C, STATES, LABELS, DEPTH>
         ensures { result.now ≡ self.now.decoder }
     {
         &self.decoder
@@ -112,12 +140,12 @@ impl<const DEPTH: usize> SampleReader<DEPTH> {
 
     /// The labels behind the released ones in the least whole sequence, and what reads on from there: of survivors of one cost that of the
     /// smallest end state.
-    pub fn finish(self) -> (Tail, Demodulator)
+    pub fn finish(self) -> (Tail, D)
         requires taken { self.decoder.pending ≡ [] }
         requires lost { self.decoder.lost ≡ None }
-        ensures least { (mode : Mode) (starts : ℕ → Bool) (samples : List Sample) (bits : List Bool) → SamplesRead mode starts DEPTH self.entry samples bits
-            → IsFinished mode starts samples bits result.0 result.1 }
-        ensures bound { All (λ label. label < 32) result.0 }
+        ensures least { (mode : Mode) (starts : ℕ → Bool) (samples : List Sample) (bits : List Bool) → SamplesRead C.table C.points (D.reads mode) starts DEPTH self samples bits
+            → IsFinished C.table C.points (D.reads mode) starts samples bits result.0 result.1 }
+        ensures bound { All (λ label. label < LABELS) result.0 }
     {
         let SampleReader {
             decoder,

@@ -6,7 +6,7 @@ use Rattle.std.proofs.lemmas.List.{drop-append-le}
 use Rattle.plain_lists.specs.Bits.{low_bits}
 use Rattle.scramblers.specs.declared.mode.Mode.{Mode}
 use Rattle.symbol_map.specs.declared.sample.Sample.{Sample}
-use Rattle.line_decoding.specs.Reading.{Reading, SamplesRead, at_any}
+use Rattle.line_decoding.specs.V32.{LineReading, LineRead, at_any}
 use Rattle.picked_up_lines.specs.Reading.{Middle, MiddleRead}
 
 -- what is behind the first bits once more are there, and how many labels were taken
@@ -40,13 +40,13 @@ later all more bits taken e n l four =
       counted = omega (arith, both);
     }
 
-abbrev pub middle_of : Reading → ℕ → Middle
+abbrev pub middle_of : LineReading → ℕ → Middle
 middle_of reading taken = record { reading = reading; taken = taken }
 
-abbrev pub Reads : Mode → ℕ → Reading → Reading → List Sample → List Bool → Type 0
-Reads mode depth old new samples more = (bits : List Bool) → SamplesRead mode at_any depth old samples bits → SamplesRead mode at_any depth new samples (bits ++ more)
+abbrev pub Reads : Mode → ℕ → LineReading → LineReading → List Sample → List Bool → Type 0
+Reads mode depth old new samples more = (bits : List Bool) → LineRead mode at_any depth old samples bits → LineRead mode at_any depth new samples (bits ++ more)
 
-pub middle-early : (mode : Mode) (depth : ℕ) (old new : Reading) (taken four : ℕ) (samples : List Sample) (bits : List Bool) → taken < 6 → Reads mode depth old new samples (low_bits 4 four)
+pub middle-early : (mode : Mode) (depth : ℕ) (old new : LineReading) (taken four : ℕ) (samples : List Sample) (bits : List Bool) → taken < 6 → Reads mode depth old new samples (low_bits 4 four)
     → MiddleRead mode depth (middle_of old taken) samples bits → MiddleRead mode depth (middle_of new (taken + 1)) samples (bits ++ [])
 middle-early mode depth old new taken four samples bits l reads h =
     let b = early h.all (low_bits 4 four) bits taken h.bits_are h.counted l refl in
@@ -56,29 +56,29 @@ middle-early mode depth old new taken four samples bits l reads h =
 last-bit : (four : ℕ) → four < 16 → nat_eq (four / 8) 1 ∷ [] ≡ drop 3 (low_bits 4 four)
 last-bit four l = let e : four / 8 ≡ four / 2 / 2 / 2 % 2 = omega (arith, l) in ap (λ n. nat_eq n 1 ∷ []) e
 
-pub middle-sixth : (mode : Mode) (depth : ℕ) (old new : Reading) (taken four : ℕ) (samples : List Sample) (bits : List Bool) → taken ≡ 6 → four < 16 → Reads mode depth old new samples (low_bits 4 four)
+pub middle-sixth : (mode : Mode) (depth : ℕ) (old new : LineReading) (taken four : ℕ) (samples : List Sample) (bits : List Bool) → taken ≡ 6 → four < 16 → Reads mode depth old new samples (low_bits 4 four)
     → MiddleRead mode depth (middle_of old taken) samples bits → MiddleRead mode depth (middle_of new 7) samples (bits ++ nat_eq (four / 8) 1 ∷ [])
 middle-sixth mode depth old new taken four samples bits six small reads h =
     let b = sixth h.all (low_bits 4 four) bits taken h.bits_are h.counted six refl in
     record { all = h.all ++ low_bits 4 four; read = reads h.all h.read; bits_are = ap (λ l. bits ++ l) (last-bit four small) ∙ b.given_is; counted = b.counted }
 
-pub middle-later : (mode : Mode) (depth : ℕ) (old new : Reading) (taken four : ℕ) (samples : List Sample) (bits : List Bool) → 6 < taken → Reads mode depth old new samples (low_bits 4 four)
+pub middle-later : (mode : Mode) (depth : ℕ) (old new : LineReading) (taken four : ℕ) (samples : List Sample) (bits : List Bool) → 6 < taken → Reads mode depth old new samples (low_bits 4 four)
     → MiddleRead mode depth (middle_of old taken) samples bits → MiddleRead mode depth (middle_of new taken) samples (bits ++ low_bits 4 four)
 middle-later mode depth old new taken four samples bits l reads h =
     let b = later h.all (low_bits 4 four) bits taken h.bits_are h.counted l refl in
     record { all = h.all ++ low_bits 4 four; read = reads h.all h.read; bits_are = b.given_is; counted = b.counted }
 
-pub middle-none : (mode : Mode) (depth : ℕ) (old new : Reading) (taken : ℕ) (samples : List Sample) (bits : List Bool) → Reads mode depth old new samples []
+pub middle-none : (mode : Mode) (depth : ℕ) (old new : LineReading) (taken : ℕ) (samples : List Sample) (bits : List Bool) → Reads mode depth old new samples []
     → MiddleRead mode depth (middle_of old taken) samples bits → MiddleRead mode depth (middle_of new taken) samples (bits ++ [])
 middle-none mode depth old new taken samples bits reads h =
     record {
       all = h.all;
-      read = subst (SamplesRead mode at_any depth new samples) (append-nil h.all) (reads h.all h.read);
+      read = subst (LineRead mode at_any depth new samples) (append-nil h.all) (reads h.all h.read);
       bits_are = append-nil bits ∙ h.bits_are;
       counted = h.counted;
     }
 
-pub middle-pushed : (mode : Mode) (depth : ℕ) (old new : Reading) (taken : ℕ) (samples more : List Sample) (bits : List Bool)
-    → ((bits : List Bool) → SamplesRead mode at_any depth old samples bits → SamplesRead mode at_any depth new more bits)
+pub middle-pushed : (mode : Mode) (depth : ℕ) (old new : LineReading) (taken : ℕ) (samples more : List Sample) (bits : List Bool)
+    → ((bits : List Bool) → LineRead mode at_any depth old samples bits → LineRead mode at_any depth new more bits)
     → MiddleRead mode depth (middle_of old taken) samples bits → MiddleRead mode depth (middle_of new taken) more bits
 middle-pushed mode depth old new taken samples more bits reads h = record { all = h.all; read = reads h.all h.read; bits_are = h.bits_are; counted = h.counted }

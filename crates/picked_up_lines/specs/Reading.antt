@@ -3,19 +3,19 @@ use Rattle.std.specs.Prelude.{◌≡◌, ℕ, ◌*◌, min, Bool, List, [], ◌�
 use Rattle.plain_lists.specs.Bits.{low_bits}
 use Rattle.scramblers.specs.declared.mode.Mode.{Mode}
 use Rattle.symbol_map.specs.declared.sample.Sample.{Sample}
-use Rattle.line_decoding.specs.Reading.{Reading, SamplesRead, at_any}
+use Rattle.line_decoding.specs.V32.{LineReading, LineRead, at_any}
 use Rattle.picked_up_lines.specs.declared.middle_reader.Taken.{Taken}
 use Rattle.picked_up_lines.specs.declared.middle_reader.Taken.TheVariants as taken
 
 -- what a reader keeps
 pub record Middle : Type 0 where
-  pub reading : Reading
+  pub reading : LineReading
   pub taken : ℕ
 
 -- The samples are read, from any state, and the bits are those behind the first quad and 23 more.
 pub record MiddleRead (mode : Mode) (depth : ℕ) (m : Middle) (samples : List Sample) (bits : List Bool) : Type 0 where
   pub all : List Bool
-  pub read : SamplesRead mode at_any depth m.reading samples all
+  pub read : LineRead mode at_any depth m.reading samples all
   pub bits_are : bits ≡ drop 27 all
   pub counted : 4 * m.taken ≡ min 28 (length all)  -- of seven labels at most
 

@@ -5,12 +5,13 @@ ghost use Rattle.symbol_map.specs.declared.sample.Sample.{Sample};
 ghost use Rattle.picked_up_lines.specs.Reading.{MiddleRead, bits_taken};
 
 use exact_decoder::Lost;
-use line_decoding::SampleReader;
+use line_decoding::LineReader;
 use outside_core::NoMemory;
 use scramblers::Mode;
 use std::alloc::Global;
 use std::marker::Model;
 use symbol_map::Sample;
+use trellis_tables::V32Code;
 
 /// What a label gives.
 #[derive(Clone, Copy, Debug, PartialEq, Eq)]
@@ -30,7 +31,7 @@ const SILENT: u8 = 6;
 /// unreleased while the line is not lost.
 #[derive(Drop)]
 pub struct MiddleReader<const DEPTH: usize> {
-    reader: SampleReader<DEPTH>,
+    reader: LineReader<DEPTH>,
     // How many labels were taken, as far as that matters.
     taken: u8,
 }
@@ -54,7 +55,7 @@ impl<const DEPTH: usize> MiddleReader<DEPTH> {
         ensures lost { IfOk result (λ m. m.reading.decoder.lost ≡ None) }
     {
         Ok(MiddleReader {
-            reader: SampleReader::new_any(alloc, mode)?,
+            reader: LineReader::new_any(alloc, V32Code, mode)?,
             taken: 0,
         })
     }

@@ -4,7 +4,7 @@ use Rattle.frame_check.specs.declared.check.Check.{Check}
 use Rattle.scramblers.specs.declared.mode.Mode.{Mode}
 use Rattle.symbol_map.specs.declared.sample.Sample.{Sample}
 use Rattle.survivors.specs.Survivors.{LostIs}
-use Rattle.line_decoding.specs.Reading.{SamplesRead, at_beginning}
+use Rattle.line_decoding.specs.V32.{LineRead, at_beginning}
 use Rattle.exact_decoder.specs.declared.decoder.Lost.{Lost}
 use Rattle.roles.specs.declared.role.Role.{Role}
 use Rattle.slot_contents.specs.declared.sent.Sent.{Sent}
@@ -16,7 +16,7 @@ use Rattle.sample_line.specs.Tallies.{TalliesBetween}
 
 -- The reader stands for the samples, and its bits were searched for frames and patterns.
 pub record Hears (mode : Mode) (hearer : Hearer) (samples : List Sample) (read : List Bool) : Type 0 where
-  pub reader : SamplesRead mode at_beginning line_depth hearer.reader samples read
+  pub reader : LineRead mode at_beginning line_depth hearer.reader samples read
   pub finder : HasRead hearer.finder read
 
 -- the same, with what was found behind the earlier bits tallied

@@ -7,7 +7,7 @@ ghost use Rattle.sample_line.specs.Hears.{Hears, HearsBetween, HearsSample};
 use crate::receiver::{Finder, Slot};
 use crate::tally::Tally;
 use exact_decoder::{Decoder, Lost};
-use line_decoding::SampleReader;
+use line_decoding::LineReader;
 use outside_core::NoMemory;
 use scramblers::Mode;
 use std::alloc::Global;
@@ -23,7 +23,7 @@ pub type LineDecoder = Decoder<V32Code, 8, 32, DEPTH>;
 /// What reads the samples, and what finds frames and patterns in their bits.
 #[derive(Drop)]
 pub(crate) struct Hearer {
-    pub reader: SampleReader<DEPTH>,
+    pub reader: LineReader<DEPTH>,
     finder: Finder,
 }
 
@@ -36,7 +36,7 @@ impl Hearer {
         ensures stands { IfOk result (λ hearer. Hears mode hearer [] []) }
     {
         Ok(Hearer {
-            reader: SampleReader::new(alloc, mode)?,
+            reader: LineReader::new(alloc, V32Code, 0, mode)?,
             finder: Finder::new(),
         })
     }

@@ -1,5 +1,5 @@
 // The bits of the labels that octets are coded as.
-use line_coding::Demodulator;
+use line_coding::{Demodulate, Demodulator};
 use scramblers::Mode;
 
 #[test]

@@ -3,7 +3,7 @@ use Rattle.std.proofs.lemmas.Result.{err_from_is_err_and}
 use Rattle.symbol_map.specs.declared.sample.Sample.{Sample}
 use Rattle.survivors.specs.Survivors.{LostIs}
 use Rattle.exact_decoder.specs.declared.decoder.Lost.{Lost}
-use Rattle.line_decoding.specs.Reading.{at_beginning}
+use Rattle.line_decoding.specs.V32.{at_beginning}
 use Rattle.sample_line.specs.declared.hearer.Hearer.{Hearer}
 use Rattle.sample_line.specs.declared.tally.Tally.{Tally}
 use Rattle.sample_line.specs.Received.{line_trellis, line_depth}

@@ -1,6 +1,6 @@
 use Rattle.std.proofs.Common.{◌++◌, subst, append-nil}
 use Rattle.plain_lists.specs.Bits.{low_bits}
-use Rattle.line_decoding.specs.Reading.{SamplesRead, at_beginning}
+use Rattle.line_decoding.specs.V32.{LineRead, at_beginning}
 use Rattle.sample_line.specs.Received.{line_depth}
 use Rattle.sample_line.proofs.hearer.Hearer.read_label.Goals as goal
 
@@ -15,7 +15,7 @@ pub returns-in-None-clause-stands : goal.returns-in-None-clause-stands
 returns-in-None-clause-stands c = λ mode samples earlier h. record {
   read = h.read;
   hears = record {
-    reader = subst (SamplesRead mode at_beginning line_depth c.take.new.self samples) (append-nil h.read) (c.in-None.ensures.stands mode at_beginning samples h.read h.hears.reader);
+    reader = subst (LineRead mode at_beginning line_depth c.take.new.self samples) (append-nil h.read) (c.in-None.ensures.stands mode at_beginning samples h.read h.hears.reader);
     finder = h.hears.finder;
   };
   tallies = h.tallies;

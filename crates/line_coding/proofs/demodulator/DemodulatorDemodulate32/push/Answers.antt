@@ -5,7 +5,7 @@ use Rattle.trellis_tables.specs.LabelReader.{LabelReaderStands, quads_of}
 use Rattle.line_coding.specs.Modes.{DescramblesAs}
 use Rattle.line_coding.specs.Demodulates.{line_of}
 use Rattle.line_coding.proofs.Fours.{fours-more}
-use Rattle.line_coding.proofs.demodulator.Demodulator.push.Goals as goal
+use Rattle.line_coding.proofs.demodulator.DemodulatorDemodulate32.push.Goals as goal
 
 pub returns-clause-stands : goal.returns-clause-stands
 returns-clause-stands c mode labels bits s =
