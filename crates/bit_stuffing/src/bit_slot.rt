@@ -9,6 +9,7 @@ use std::marker::Model;
 /// in order of time.
 #[derive(Drop)]
 pub struct BitSlot {
+    /// In the order in which they are sent, each below 16.
     quads: ArrayVec<u8, SLOT>,
 }
 

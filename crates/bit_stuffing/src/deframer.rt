@@ -10,7 +10,9 @@ use std::marker::Model;
 /// is.
 #[derive(Drop)]
 pub struct Deframer {
+    /// Where flags and aborts stand.
     finder: FlagFinder,
+    /// What has come since the last flag.
     unstuffer: Unstuffer,
     /// Whether the last bit closed a whole piece.
     lent: bool,

@@ -13,7 +13,9 @@ pub(crate) const FLAG: u8 = 0x7e;
 /// What ends at a bit.
 #[derive(Clone, Copy, Debug)]
 pub(crate) enum Event {
+    /// The seventh one in a row.
     Aborted,
+    /// The last bit of a flag behind something.
     Closed,
 }
 
@@ -59,7 +61,9 @@ fn has_six_ones(bits: u16) -> bool
 /// Finds flags, and ones in a row.
 #[derive(Drop)]
 pub(crate) struct FlagFinder {
+    /// The latest eight bits, the first one lowest.
     latest: u8,
+    /// How many bits have come since the last flag, eight where they are more; none where no flag opens anything.
     since: Option<u8>,
 }
 

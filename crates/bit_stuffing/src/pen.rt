@@ -22,7 +22,9 @@ fn flag_bit(place: u8) -> bool
 /// Writes bits into a slot. It holds those of the next quad.
 #[derive(Drop)]
 pub(crate) struct Pen {
+    /// The bits of the next quad that are there, the first one lowest.
     part: u8,
+    /// How many they are.
     held: u8,
     ghost few: { held < 4 },
     ghost low: { part < 2 ^ held },

@@ -35,7 +35,9 @@ fn opened(phase: u8, frame: Option<&[u8]>, out: &mut BitSlot) -> Pen
 /// Writes slots of flags, one after another. The flags run on from one slot to the next.
 #[derive(Drop)]
 pub struct SlotWriter {
+    /// How many symbols of four bits a slot has.
     symbols: u16,
+    /// How many bits of its last flag the slot before had: 0 where it was whole.
     phase: u8,
 }
 

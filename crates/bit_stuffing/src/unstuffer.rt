@@ -56,9 +56,11 @@ fn joined(part: u8, held: u8, octet: u8) -> u16
 pub(crate) struct Unstuffer {
     /// How many ones may still follow before a zero has to.
     room: u8,
+    /// Those that are whole.
     octets: Whole,
     /// The low bits of the next octet, and how many they are.
     part: u8,
+    /// How many bits `part` has, less than eight.
     held: u8,
     /// Whether the content has more bits than the longest frame.
     over: bool,

@@ -33,7 +33,9 @@ pub enum LineEnd {
 /// The direction from each end to the other.
 #[derive(Drop)]
 pub struct Lines {
+    /// From the originator to the answerer.
     pub from_orig: DelayedLine,
+    /// From the answerer to the originator.
     pub from_answ: DelayedLine,
 }
 

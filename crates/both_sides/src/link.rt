@@ -32,14 +32,18 @@ use std::alloc::Global;
 /// Two stations.
 #[derive(Drop)]
 pub struct Link {
+    /// The originator with its user.
     pub orig: Station,
+    /// The answerer with its user.
     pub answ: Station,
 }
 
 /// An end that breaks as it is to speak, and why.
 #[derive(Clone, Copy)]
 pub struct Breaking {
+    /// The end that gave up.
     pub role: Role,
+    /// Why.
     pub fault: LinkFault,
 }
 

@@ -8,7 +8,9 @@ use std::marker::Model;
 /// The other end's breaks, each given once.
 #[derive(Drop)]
 pub struct BreakReceiver {
+    /// The number of the next break that is given, 0 or 1.
     expected: u8,
+    /// The BRKACK that is due.
     ack: Option<BreakWord>,
 }
 

@@ -18,8 +18,11 @@ pub struct Spent0;
 struct Waiting {
     /// In units of 10 ms.
     units: u8,
+    /// Whether its BRK is to be sent.
     due: bool,
+    /// The turn in which its timer was set.
     set: u64,
+    /// How often its timer has expired; stands still at its last value.
     count: u16,
 }
 
@@ -40,8 +43,11 @@ impl Waiting {
 /// An end's own breaks: one at a time waits for its answer.
 #[derive(Drop)]
 pub struct BreakSender {
+    /// The number of the break that waits, or else of the next one: 0 or 1.
     number: u8,
+    /// The break that isn't acknowledged yet.
     waiting: Option<Waiting>,
+    /// The first turn in which another break may be asked for.
     rest: u64,
 }
 

@@ -28,7 +28,9 @@ use std::alloc::Global;
 /// A direction of the line: what its sender sends in a turn arrives after its delay.
 #[derive(Drop)]
 pub struct DelayedLine {
+    /// What makes samples of slots, and hears them.
     line: Line,
+    /// The end that sends.
     sender: Role,
     /// How many turns a slot is on its way.
     delay: u8,

@@ -60,6 +60,7 @@ fn ends_pattern(latest: u128, seen: Seen) -> bool
 /// long the gaps in them are.
 #[derive(Drop)]
 pub struct PatternReader {
+    /// The latest 128 bits, the last one lowest; zeros before the first.
     latest: u128,
 }
 

@@ -7,6 +7,7 @@ use std::marker::Model;
 /// Adds up quarter turns. It keeps the sum modulo 4.
 #[derive(Debug, Drop)]
 pub struct Turner {
+    /// The sum of all quarter turns so far, modulo 4.
     latest: u8,
 }
 

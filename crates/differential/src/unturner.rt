@@ -7,6 +7,7 @@ use std::marker::Model;
 /// The inverse of the [`Turner`](crate::Turner). It keeps the latest number.
 #[derive(Debug, Drop)]
 pub struct Unturner {
+    /// The turn of the label before, 0 before the first.
     latest: u8,
 }
 

@@ -8,8 +8,11 @@ use scramblers::Mode;
 /// A recording that is to be made.
 #[derive(Clone, Copy)]
 pub struct EncodeWords<'a> {
+    /// The mode of the modem that sends.
     pub mode: Mode,
+    /// The octets to be sent.
     pub file: &'a str,
+    /// The recording that is made.
     pub rec: &'a str,
 }
 

@@ -11,6 +11,7 @@ use std::marker::Model;
 /// Columns of choices, the newest first, always as many: a new one takes the place of the oldest.
 #[derive(Drop)]
 pub struct Columns {
+    /// A column has a choice for each state.
     items: Vec<Vec<Choice>>,
     // The place of the newest. The others follow it, and go on at place 0 behind the last one.
     newest: usize,

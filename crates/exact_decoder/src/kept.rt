@@ -20,8 +20,11 @@ use trellis_tables::TrellisCode;
 /// through columns of choices, the newest first. As many columns as labels are unreleased count.
 #[derive(Drop)]
 pub struct Survivors<const STATES: usize, const LABELS: usize, const DEPTH: usize> {
+    /// By state, less a number that is common to all. A state that no sequence has reached is far above all others.
     sums: Vec<u64>,
+    /// The latest columns of choices, one for each sample.
     ring: Columns,
+    /// How many labels of each survivor are not released.
     unreleased: usize,
     // Whether it is known that a sequence leads to each state.
     near: bool,

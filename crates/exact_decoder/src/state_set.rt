@@ -11,6 +11,7 @@ const WORDS: usize = 4;
 /// A set of states below `STATES`, a bit for each.
 #[derive(Drop)]
 pub struct StateSet<const STATES: usize> {
+    /// A bit for each state.
     words: [u64; WORDS],
 }
 

@@ -10,7 +10,9 @@ use crate::register::after_octets;
 /// One of the two checks of ITU-T V.42, by its number of bits.
 #[derive(Clone, Copy, Debug, PartialEq, Eq)]
 pub enum Check {
+    /// Two octets; generator x^16 + x^12 + x^5 + 1.
     Sixteen,
+    /// Four octets; the generator of HDLC's 32-bit check.
     ThirtyTwo,
 }
 

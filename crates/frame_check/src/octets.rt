@@ -12,6 +12,7 @@ use std::marker::Model;
 /// At most `CAP` octets, which lie in the value itself.
 #[derive(Drop)]
 pub struct Octets<const CAP: usize> {
+    /// In order, each below 256.
     items: ArrayVec<u8, CAP>,
 }
 

@@ -12,58 +12,71 @@ use frame_check::Info;
 /// N(R) modulo 128, and `pf` is the poll bit of a command and the final bit of a response.
 #[derive(Debug, Drop, PartialEq, Eq)]
 pub enum Frame {
+    /// A segment: N(S) is its number, N(R) the next one that is expected of the other end, both modulo 128.
     I {
         ns: u8,
         nr: u8,
         pf: bool,
         info: Info,
     },
+    /// Receive ready: all before N(R) came.
     Rr {
         command: bool,
         nr: u8,
         pf: bool,
     },
+    /// Receive not ready: they came, and its sender asks for a pause.
     Rnr {
         command: bool,
         nr: u8,
         pf: bool,
     },
+    /// Reject: N(R) and all behind it are asked for again.
     Rej {
         command: bool,
         nr: u8,
         pf: bool,
     },
+    /// Selective reject: N(R) alone is asked for again.
     Srej {
         command: bool,
         nr: u8,
         pf: bool,
     },
+    /// Set asynchronous balanced mode extended: sets the link up.
     Sabme {
         pf: bool,
     },
+    /// Disconnect: takes it down.
     Disc {
         pf: bool,
     },
+    /// Unnumbered acknowledgement of SABME or DISC.
     Ua {
         pf: bool,
     },
+    /// Disconnected mode: refuses them.
     Dm {
         pf: bool,
     },
+    /// Frame reject. Its information is read as octets.
     Frmr {
         pf: bool,
         info: Info,
     },
+    /// Unnumbered information: a break, or its acknowledgement.
     Ui {
         command: bool,
         pf: bool,
         info: Info,
     },
+    /// Exchange identification: an offer.
     Xid {
         command: bool,
         pf: bool,
         info: Info,
     },
+    /// A test of the link, which an end ignores.
     Test {
         command: bool,
         pf: bool,

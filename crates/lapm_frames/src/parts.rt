@@ -17,10 +17,13 @@ pub struct Parts<'a> {
     pub command: bool,
     /// The control octet of the kind, without N(S) and P/F. That of an I frame is 0.
     pub control: u8,
+    /// N(S), below 128.
     pub ns: Option<u8>,
+    /// N(R), below 128.
     pub nr: Option<u8>,
     /// The poll bit of a command, the final bit of a response.
     pub pf: bool,
+    /// The information field, where the kind has one.
     pub info: Option<&'a Info>,
 }
 

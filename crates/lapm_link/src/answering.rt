@@ -17,6 +17,7 @@ use xid_params::Offer;
 /// An answerer that has heard an offer. Each further one takes its place.
 #[derive(Drop)]
 pub(crate) struct Answering {
+    /// With the terms of the latest offer.
     pub(crate) agreed: Agreed,
 }
 

@@ -18,11 +18,17 @@ use frame_check::{Check, Info};
 /// An end in any of its states. The calls besides `hear` and `speak` read and change a Connected end alone.
 #[derive(Drop)]
 pub enum AnyEnd {
+    /// Looks for the other end.
     Detecting(Detecting),
+    /// Agrees on terms.
     Negotiating(Negotiating),
+    /// Sets the link up.
     Establishing(Establishing),
+    /// The link is up.
     Connected(Connected),
+    /// Takes it down.
     Releasing(Releasing),
+    /// It is over.
     Closed(Closed),
 }
 

@@ -17,7 +17,9 @@ use lapm_frames::Frame;
 /// An originator that sends its offer until the other one comes.
 #[derive(Drop)]
 pub(crate) struct Asking {
+    /// What it will need once it is connected.
     pub(crate) memory: Unlinked,
+    /// Its XID command.
     pub(crate) attempt: Attempt,
 }
 

@@ -13,8 +13,11 @@ use xid_params::Terms;
 /// An end whose link is over. It answers a DISC.
 #[derive(Drop)]
 pub struct Closed {
+    /// What it was made with.
     pub(crate) setup: Setup,
+    /// The answer that it owes.
     pub(crate) answer: Option<Answer>,
+    /// The terms that were agreed on.
     pub(crate) terms: Terms,
     ghost set_up: { IsSetUp setup },
 }
@@ -22,7 +25,9 @@ pub struct Closed {
 /// The link broke: why, and the end that is left, which owes nothing.
 #[derive(Drop)]
 pub struct Broken {
+    /// Why it broke.
     pub fault: LinkFault,
+    /// What is left.
     pub end: Closed,
 }
 

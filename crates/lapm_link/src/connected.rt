@@ -13,12 +13,19 @@ use xid_params::Terms;
 /// An end whose link is up.
 #[derive(Drop)]
 pub struct Connected {
+    /// What it was made with.
     pub(crate) setup: Setup,
+    /// The terms that were agreed on.
     pub(crate) terms: Terms,
+    /// The segments that it sends.
     pub(crate) sender: Sender,
+    /// The segments that it takes.
     pub(crate) receiver: Receiver,
+    /// Breaks both ways.
     pub(crate) breaks: Breaks,
+    /// What it owes at once.
     pub(crate) owes: Owes,
+    /// What it waits for.
     pub(crate) wait: Wait,
     /// Whether an I frame or a supervisory frame was heard.
     pub(crate) numbered: bool,
@@ -34,7 +41,9 @@ pub struct Connected {
 /// Breaks both ways.
 #[derive(Drop)]
 pub(crate) struct Breaks {
+    /// Its own user's.
     pub(crate) own: BreakSender,
+    /// The other user's.
     pub(crate) their: BreakReceiver,
     /// The length of a break that the user wasn't given yet, in units of 10 ms.
     pub(crate) given: Option<u8>,

@@ -10,7 +10,9 @@ use lapm_frames::Frame;
 /// An originator that sends its SABME until it is answered.
 #[derive(Drop)]
 pub struct Establishing {
+    /// With the terms of both offers.
     pub(crate) agreed: Agreed,
+    /// Its SABME.
     pub(crate) attempt: Attempt,
 }
 

@@ -9,12 +9,15 @@ use crate::{AnyEnd, Arrived, Broken, Sent};
 /// An end that negotiates: the originator sends its offer until the other one comes, and the answerer has heard one.
 #[derive(Drop)]
 pub struct Negotiating {
+    /// Its side of it.
     pub(crate) talk: Talk,
 }
 
 #[derive(Drop)]
 pub(crate) enum Talk {
+    /// The originator.
     Asking(Asking),
+    /// The answerer.
     Answering(Answering),
 }
 

@@ -22,8 +22,11 @@ pub(crate) enum Meaning {
 /// What a frame says of the end that sent it.
 #[derive(Clone, Copy)]
 pub(crate) enum Readiness {
+    /// Nothing.
     Unsaid,
+    /// It takes segments.
     Ready,
+    /// It asks for a pause.
     Busy,
 }
 

@@ -13,11 +13,15 @@ use xid_params::Terms;
 /// An originator that sends its DISC until it is answered.
 #[derive(Drop)]
 pub struct Releasing {
+    /// What it was made with.
     pub(crate) setup: Setup,
+    /// The answer that it owes.
     pub(crate) answer: Option<Answer>,
+    /// The terms that were agreed on.
     pub(crate) terms: Terms,
     /// How many segments were acknowledged.
     pub(crate) front: u64,
+    /// Its DISC.
     pub(crate) attempt: Attempt,
     ghost set_up: { IsSetUp setup },
 }

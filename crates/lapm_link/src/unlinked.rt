@@ -19,9 +19,13 @@ use xid_params::{Offer, Terms};
 /// An end that isn't connected yet, with all the memory that it will need.
 #[derive(Drop)]
 pub(crate) struct Unlinked {
+    /// What it was made with.
     pub(crate) setup: Setup,
+    /// The answer that it owes.
     pub(crate) answer: Option<Answer>,
+    /// Not begun: its window is 0.
     sender: Sender,
+    /// Not begun: its window is 0.
     receiver: Receiver,
     ghost set_up: { IsSetUp setup },
     ghost sender_room: { sender.room ≡ setup.offer.tx_window },
@@ -33,7 +37,9 @@ pub(crate) struct Unlinked {
 /// The same, and it has agreed on these terms.
 #[derive(Drop)]
 pub(crate) struct Agreed {
+    /// What it will need once it is connected.
     pub(crate) memory: Unlinked,
+    /// Windows, lengths, selective reject and check.
     pub(crate) terms: Terms,
     ghost fits: { Fits memory.setup terms },
 }

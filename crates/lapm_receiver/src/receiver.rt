@@ -14,13 +14,19 @@ use std::marker::Model;
 /// turn.
 #[derive(Drop)]
 pub struct Receiver {
+    /// What has come and isn't delivered; the next number in order is V(R).
     slots: Slots,
+    /// In segments [k]; 0 before it has begun.
     window: u8,
+    /// Whether later segments are kept, and missing ones asked for one by one.
     srej: bool,
     /// Of the numbers that are missing those below this one were asked for.
     asked_below: u64,
+    /// Whether a REJ is due.
     rej: bool,
+    /// Whether a REJ was due since the last segment that came in order.
     gapped: bool,
+    /// Whether an acknowledgement is owed.
     owed: bool,
 }
 

@@ -17,7 +17,9 @@ use std::marker::Model;
 /// has come.
 #[derive(Drop)]
 pub(crate) struct Slots {
+    /// As many as the window has segments.
     ring: HeapCircularBuffer<Option<Info>>,
+    /// How many segments were taken in order.
     taken: u64,
 }
 

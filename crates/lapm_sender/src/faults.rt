@@ -4,13 +4,17 @@
 /// acknowledged, and one more than the highest number sent.
 #[derive(Clone, Copy, Debug, PartialEq, Eq)]
 pub struct BadAck {
+    /// The number received [N(R)].
     pub nr: u8,
+    /// The segments acknowledged, modulo 128 [V(A)].
     pub va: u8,
+    /// One more than the highest number sent, modulo 128 [V(S)].
     pub high: u8,
 }
 
 /// All tries are spent. `segment` is the number of the oldest segment that isn't acknowledged.
 #[derive(Clone, Copy, Debug, PartialEq, Eq)]
 pub struct Spent {
+    /// Counted from 0, without a modulus.
     pub segment: u64,
 }

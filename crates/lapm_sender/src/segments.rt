@@ -14,6 +14,7 @@ use std::marker::Model;
 /// A segment that isn't acknowledged.
 #[derive(Drop)]
 struct Segment {
+    /// Its octets.
     info: Info,
     /// It alone is to be sent again.
     again: bool,
@@ -22,7 +23,9 @@ struct Segment {
 /// The segments that aren't acknowledged, in a ring. Their numbers go on from the front.
 #[derive(Drop)]
 pub(crate) struct Segments {
+    /// As many places as the window has segments.
     ring: HeapCircularBuffer<Segment>,
+    /// The number of the first one [V(A)], from 0, without a modulus.
     front: u64,
 }
 

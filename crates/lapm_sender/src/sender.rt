@@ -14,14 +14,23 @@ use std::marker::Model;
 /// end has acknowledged it.
 #[derive(Drop)]
 pub struct Sender {
+    /// Those offered and not acknowledged.
     segments: Segments,
+    /// In segments [k]; 0 before it has begun.
     window: u8,
+    /// The most octets of a segment [N401].
     size: u16,
+    /// How often it asks in vain [N400].
     tries: u8,
+    /// Whether the file was offered to its end.
     ended: bool,
+    /// One more than the highest number sent, or 0 [V(S)].
     high: u64,
+    /// The next number in order that goes, at least the front.
     from: u64,
+    /// How often the timer has expired since it last got on.
     count: u8,
+    /// Whether the answer to a poll is awaited.
     awaited: bool,
     /// Whether the other end counts as busy: then nothing is sent.
     paused: bool,

@@ -33,7 +33,9 @@ pub trait Demodulate<const LABELS: usize>: Drop {
 /// A demodulator of what a modem of a mode sent. The register of its descrambler is zero and y is 0 before the first label.
 #[derive(Drop)]
 pub struct Demodulator {
+    /// The quads of the labels.
     reader: LabelReader,
+    /// Their bits.
     descrambler: ModeDescrambler,
 }
 

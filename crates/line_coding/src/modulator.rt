@@ -13,7 +13,9 @@ use trellis_tables::Encoder;
 /// A modulator of a mode. The register of its scrambler is zero and its code in state 0 before the first bit.
 #[derive(Drop)]
 pub struct Modulator {
+    /// The bits of the next quad.
     scrambler: ModeScrambler,
+    /// Their labels.
     encoder: Encoder,
 }
 

@@ -9,7 +9,9 @@ use scramblers::{ANSWER_TAP, CALL_TAP, Descrambler, Mode, Scrambler};
 /// A scrambler with the tap of a mode.
 #[derive(Drop)]
 pub(crate) enum ModeScrambler {
+    /// The originator sends.
     Call(Scrambler<CALL_TAP>),
+    /// The answerer sends.
     Answer(Scrambler<ANSWER_TAP>),
 }
 
@@ -41,7 +43,9 @@ impl ModeScrambler {
 /// A descrambler with the tap of a mode.
 #[derive(Drop)]
 pub(crate) enum ModeDescrambler {
+    /// The originator sent.
     Call(Descrambler<CALL_TAP>),
+    /// The answerer sent.
     Answer(Descrambler<ANSWER_TAP>),
 }
 

@@ -11,7 +11,9 @@ use slot_contents::{Heard, Sent};
 /// A line of a trace: what an end heard and sent in a turn.
 #[derive(Drop)]
 pub struct TraceLine {
+    /// From 0.
     pub turn: u64,
+    /// The end that hears and sends.
     pub role: Role,
     /// What arrived at the end. An idle slot and none look alike.
     pub arrived: Heard,

@@ -5,6 +5,7 @@ use roles::Role;
 /// What comes after a turn.
 #[derive(Clone, Copy, Debug, PartialEq, Eq)]
 pub enum Step {
+    /// There is a next turn.
     Going,
     /// Both files have crossed. `turn` is the number of this last turn.
     Done { turn: u64 },

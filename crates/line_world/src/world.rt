@@ -34,10 +34,15 @@ use std::alloc::Global;
 /// Two ends with their users, and the line between them.
 #[derive(Drop)]
 pub struct World {
+    /// Both ends with their users.
     link: Link,
+    /// Both directions of the line.
     lines: Lines,
+    /// What the line and the users do.
     script: Script,
+    /// How many turns were made.
     turn: u64,
+    /// What they show in numbers.
     tally: Tally,
 }
 

@@ -4,8 +4,12 @@
 /// due takes the place of the one before. `pf` is that of the command that it answers.
 #[derive(Clone, Copy, Debug, PartialEq, Eq)]
 pub enum Answer {
+    /// The answerer's pattern.
     Adp,
+    /// The XID response with its own offer.
     Xid,
+    /// To SABME or DISC, with the P bit of the command.
     Ua { pf: bool },
+    /// The same, where the end is not connected.
     Dm { pf: bool },
 }

@@ -15,15 +15,23 @@ use std::alloc::Global;
 
 #[derive(Drop)]
 pub(crate) struct Draft {
+    /// Where a line said them.
     delays: Option<Delays>,
+    /// Where a line said them.
     tries: Option<u8>,
+    /// What lines said of the originator's offer.
     orig: Offered,
+    /// What lines said of the answerer's offer.
     answ: Offered,
+    /// In the order of the text.
     losses: Vec<Loss>,
+    /// In the order of the text.
     hits: Vec<Hit>,
+    /// In the order of the text.
     noises: Vec<Noise>,
     /// In rising order of turn.
     breaks: Vec<Break>,
+    /// In the order of the text.
     pauses: Vec<Pause>,
 }
 

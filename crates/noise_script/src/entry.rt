@@ -6,81 +6,117 @@ use roles::Role;
 /// The slots that a role sends in `count` turns from `from` on.
 #[derive(Clone, Copy, Debug, PartialEq, Eq)]
 pub struct Loss {
+    /// The end that sends.
     pub role: Role,
+    /// The first turn.
     pub from: u32,
+    /// Turns, at least 1.
     pub count: u32,
 }
 
 /// One offset for `count` symbols of a role from `from` on.
 #[derive(Clone, Copy, Debug, PartialEq, Eq)]
 pub struct Hit {
+    /// The end that sends.
     pub role: Role,
+    /// The first symbol, counted from 0 over all slots.
     pub from: u64,
+    /// Symbols, at least 1.
     pub count: u32,
+    /// Units of a sample.
     pub re: i16,
+    /// Units of a sample.
     pub im: i16,
 }
 
 /// Offsets drawn from a seed for `count` symbols of a role from `from` on, each part at most `amplitude` from zero.
 #[derive(Clone, Copy, Debug, PartialEq, Eq)]
 pub struct Noise {
+    /// The end that sends.
     pub role: Role,
+    /// The first symbol, counted from 0 over all slots.
     pub from: u64,
+    /// Symbols, at least 1.
     pub count: u32,
+    /// Units of a sample.
     pub amplitude: u16,
+    /// That of the generator, which also knows the role.
     pub seed: u64,
 }
 
 /// A break that a role's user asks for from a turn on. Its length is in units of 10 ms.
 #[derive(Clone, Copy, Debug, PartialEq, Eq)]
 pub struct Break {
+    /// The end whose user asks.
     pub role: Role,
+    /// From this turn on.
     pub turn: u32,
+    /// In units of 10 ms.
     pub length: u8,
 }
 
 /// The `count` turns from `from` on in which a role's user asks for a pause.
 #[derive(Clone, Copy, Debug, PartialEq, Eq)]
 pub struct Pause {
+    /// The end whose user asks.
     pub role: Role,
+    /// The first turn.
     pub from: u32,
+    /// Turns, 1 to 10,000.
     pub count: u16,
 }
 
 /// The window that a role offers both ways.
 #[derive(Clone, Copy, Debug, PartialEq, Eq)]
 pub(crate) struct Window {
+    /// The end that offers it, both ways.
     pub(crate) role: Role,
+    /// 1 to 127 [k].
     pub(crate) segments: u8,
 }
 
 /// The longest information field that a role offers both ways.
 #[derive(Clone, Copy, Debug, PartialEq, Eq)]
 pub(crate) struct Length {
+    /// The end that offers it, both ways.
     pub(crate) role: Role,
+    /// Of a segment [N401].
     pub(crate) octets: u16,
 }
 
 /// How many turns a slot is on the line: from the originator to the answerer, and back.
 #[derive(Clone, Copy, Debug, PartialEq, Eq)]
 pub(crate) struct Delays {
+    /// From the originator to the answerer, in turns.
     pub(crate) orig: u8,
+    /// Back, in turns.
     pub(crate) answ: u8,
 }
 
 /// What one line says.
 #[derive(Clone, Copy, Debug, PartialEq, Eq)]
 pub(crate) enum Entry {
+    /// `delay`
     Delay(Delays),
+    /// `k`
     Window(Window),
+    /// `n401`
     Length(Length),
+    /// `n400`
     Tries(u8),
+    /// `srej`
     Srej(Role),
+    /// `check32`
     Check32(Role),
+    /// `lose`
     Lose(Loss),
+    /// `hit`
     Hit(Hit),
+    /// `noise`
     Noise(Noise),
+    /// `break`
     Break(Break),
+    /// `busy`
     Busy(Pause),
 }
 

@@ -9,6 +9,7 @@ use outside_core::NoMemory;
 pub enum ScriptFault {
     /// The first faulty line, counted from 1, and the first thing that is wrong with it.
     Line { line: u32, cause: Cause },
+    /// Memory was not found for its lines.
     NoMemory,
 }
 

@@ -10,32 +10,47 @@ use frame_check::INFO;
 /// A line's form, by its first word.
 #[derive(Clone, Copy, Debug, PartialEq, Eq)]
 pub(crate) enum Form {
+    /// `delay`
     Delay,
+    /// `k`
     Window,
+    /// `n401`
     Length,
+    /// `n400`
     Tries,
+    /// `srej`
     Srej,
+    /// `check32`
     Check32,
+    /// `lose`
     Lose,
+    /// `hit`
     Hit,
+    /// `noise`
     Noise,
+    /// `break`
     Break,
+    /// `busy`
     Busy,
 }
 
 /// How many lines of a form there may be.
 #[derive(Clone, Copy, Debug, PartialEq, Eq)]
 pub(crate) enum Bound {
+    /// Once in a script.
     Once,
     /// Once for each role.
     OnceEach,
+    /// So many, of both roles together.
     AtMost(usize),
 }
 
 /// What a number may be, ends included.
 #[derive(Clone, Copy, Debug, PartialEq, Eq)]
 pub(crate) struct Range {
+    /// The least number.
     pub(crate) low: u64,
+    /// The greatest number.
     pub(crate) high: u64,
 }
 

@@ -7,9 +7,13 @@ use xid_params::Offer;
 /// What lines say of an end's offer, where they do.
 #[derive(Clone, Copy, Debug, PartialEq, Eq)]
 pub(crate) struct Offered {
+    /// In segments, where a line said it.
     pub(crate) window: Option<u8>,
+    /// In octets, where a line said it.
     pub(crate) length: Option<u16>,
+    /// Whether a line said it.
     pub(crate) srej: bool,
+    /// Whether a line said it.
     pub(crate) check32: bool,
 }
 

@@ -12,7 +12,9 @@ use roles::Role;
 /// What the line adds to a sample, in the units of samples.
 #[derive(Clone, Copy, Debug, PartialEq, Eq)]
 pub struct Offset {
+    /// Units of a sample.
     pub re: i32,
+    /// Units of a sample.
     pub im: i32,
 }
 

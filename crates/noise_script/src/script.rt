@@ -15,16 +15,25 @@ use xid_params::Offer;
 /// ask for breaks and pauses.
 #[derive(Drop)]
 pub struct Script {
+    /// From the originator to the answerer, 1 to 60 turns.
     pub(crate) delay_orig: u8,
+    /// From the answerer to the originator, 1 to 60 turns.
     pub(crate) delay_answ: u8,
+    /// Of both ends, 1 to 20 [N400].
     pub(crate) tries: u8,
+    /// The originator's.
     pub(crate) offer_orig: Offer,
+    /// The answerer's.
     pub(crate) offer_answ: Offer,
+    /// In the order of the text.
     pub(crate) losses: Vec<Loss>,
+    /// In the order of the text.
     pub(crate) hits: Vec<Hit>,
+    /// In the order of the text.
     pub(crate) noises: Vec<Noise>,
     /// In rising order of turn, equal turns in the order of the text.
     pub(crate) breaks: Vec<Break>,
+    /// In the order of the text.
     pub(crate) pauses: Vec<Pause>,
 }
 

@@ -16,9 +16,13 @@ use std::rt::Files;
 /// appended to takes them at its end. Its three counts are proved.
 #[derive(Drop)]
 pub struct DiskFolder<R> {
+    /// The files and the standard output of the process.
     rt: R,
+    /// Of all names; stands still at its last value.
     read_faults: u64,
+    /// Of all names and of what is said; stands still at its last value.
     write_faults: u64,
+    /// Of memory; stands still at its last value.
     refusals: u64,
 }
 

@@ -16,13 +16,21 @@ use std::marker::Model;
 /// A call fails exactly where its number is one of those, or where it reads a name that isn't held.
 #[derive(Drop)]
 pub struct MemoryFolder {
+    /// The files.
     store: Store,
+    /// All that was said.
     said: Vec<u8>,
+    /// How many calls of a folder were made.
     calls: u64,
+    /// The numbers of the calls that are to fail, from 1.
     fails: Vec<u64>,
+    /// Of all names.
     read_faults: u64,
+    /// Of all names and of what is said.
     write_faults: u64,
+    /// Of memory.
     refusals: u64,
+    /// Where its memory comes from.
     alloc: Global,
 }
 

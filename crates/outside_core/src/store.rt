@@ -10,7 +10,9 @@ use std::marker::Model;
 /// Names and their octets, in memory.
 #[derive(Drop)]
 pub struct Store {
+    /// By name.
     files: BTreeMap<String, Vec<u8>>,
+    /// Where its memory comes from.
     alloc: Global,
 }
 

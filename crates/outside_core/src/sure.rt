@@ -14,9 +14,13 @@ use std::marker::Model;
 /// A folder in memory that answers `NoMemory` at worst. It tells every name, and one that isn't held reads as empty.
 #[derive(Drop)]
 pub struct SureFolder {
+    /// The files.
     store: Store,
+    /// All that was said.
     said: Vec<u8>,
+    /// How many calls of a folder were made.
     calls: u64,
+    /// Of memory.
     refusals: u64,
 }
 

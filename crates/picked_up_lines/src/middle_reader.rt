@@ -31,6 +31,7 @@ const SILENT: u8 = 6;
 /// unreleased while the line is not lost.
 #[derive(Drop)]
 pub struct MiddleReader<const DEPTH: usize> {
+    /// From any state.
     reader: LineReader<DEPTH>,
     // How many labels were taken, as far as that matters.
     taken: u8,

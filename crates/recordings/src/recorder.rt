@@ -14,6 +14,7 @@ pub const RECORDED: usize = 8;
 /// What is sent in one direction, as the octets of its samples.
 #[derive(Drop)]
 pub struct Recorder {
+    /// What makes the samples.
     modulator: Modulator,
 }
 

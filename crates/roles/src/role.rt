@@ -7,7 +7,9 @@ use scramblers::Mode;
 /// An end of the link: the one that called, or the one that answered.
 #[derive(Clone, Copy, Debug, PartialEq, Eq)]
 pub enum Role {
+    /// `orig`: it calls.
     Originator,
+    /// `answ`: it is called.
     Answerer,
 }
 

@@ -6,7 +6,9 @@ use noise_script::SCRIPT_OCTETS;
 /// The most octets of a script and of a file that is sent.
 #[derive(Clone, Copy)]
 pub struct Limits {
+    /// In octets.
     pub script: u64,
+    /// In octets, of each.
     pub file: u64,
 }
 

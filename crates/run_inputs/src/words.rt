@@ -12,11 +12,13 @@ pub struct RunWords<'a> {
     pub orig: &'a str,
     /// The answerer's file.
     pub answ: &'a str,
+    /// What the line does.
     pub script: &'a str,
     /// What the originator receives.
     pub got_o: &'a str,
     /// What the answerer receives.
     pub got_a: &'a str,
+    /// What becomes of each turn.
     pub trace: &'a str,
 }
 

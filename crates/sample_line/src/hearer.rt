@@ -23,7 +23,9 @@ pub type LineDecoder = Decoder<V32Code, 8, 32, DEPTH>;
 /// What reads the samples, and what finds frames and patterns in their bits.
 #[derive(Drop)]
 pub(crate) struct Hearer {
+    /// From samples to bits.
     pub reader: LineReader<DEPTH>,
+    /// From bits to frames and patterns.
     finder: Finder,
 }
 

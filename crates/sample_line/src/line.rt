@@ -33,9 +33,13 @@ use std::marker::Model;
 /// One direction of the line: slots are coded where they are sent, and pass, in the same order, to the end that hears them.
 #[derive(Drop)]
 pub struct Line {
+    /// How many a slot has.
     symbols: u16,
+    /// What makes bits of what is sent.
     writer: SlotWriter,
+    /// How many slots have passed.
     passed: u64,
+    /// From bits to what is heard.
     path: Path,
 }
 

@@ -20,7 +20,9 @@ use std::alloc::Global;
 /// What makes samples of bits, and what hears them.
 #[derive(Drop)]
 pub(crate) struct Path {
+    /// From bits to samples.
     pub transmitter: Transmitter,
+    /// From samples to frames and patterns.
     pub hearer: Hearer,
 }
 

@@ -19,9 +19,13 @@ use slot_contents::Sent;
 /// What is known of the slot that is received: what was sent in it, and how its receiver judges frames.
 #[derive(Clone, Copy)]
 pub(crate) struct Slot<'a> {
+    /// What was sent in it.
     pub sent: &'a Sent,
+    /// The hearer's.
     pub check: Check,
+    /// The end that sent it.
     pub sender: Role,
+    /// The channel, below 64.
     pub dlci: u8,
 }
 
@@ -62,7 +66,9 @@ fn with_bit(deframer: &mut Deframer, bit: bool, slot: Slot<'_>, tally: Tally) ->
 /// Finds frames and patterns in a stream of bits.
 #[derive(Drop)]
 pub(crate) struct Finder {
+    /// Finds frames.
     deframer: Deframer,
+    /// Finds patterns.
     reader: PatternReader,
 }
 

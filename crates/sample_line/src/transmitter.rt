@@ -40,8 +40,11 @@ fn displaced(offset: Offset, point: Sample) -> Sample
 /// What makes samples of an end's bits. Symbols are counted from 0 over all slots.
 #[derive(Drop)]
 pub(crate) struct Transmitter {
+    /// The end that sends.
     pub sender: Role,
+    /// From bits to points.
     modulator: Modulator,
+    /// The number of the next symbol.
     pub symbol: u64,
 }
 

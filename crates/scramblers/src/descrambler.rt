@@ -10,6 +10,7 @@ use std::marker::Model;
 /// so a wrong bit is forgotten after 23 more.
 #[derive(Debug, Drop)]
 pub struct Descrambler<const TAP: usize> {
+    /// The latest 32 bits on the line, the last one highest. 23 of them count.
     register: u32,
 }
 

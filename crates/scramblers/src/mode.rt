@@ -7,6 +7,8 @@ pub const ANSWER_TAP: usize = 5;
 /// Which modem sends: the one that called, with [`CALL_TAP`], or the one that answered, with [`ANSWER_TAP`].
 #[derive(Clone, Copy, Debug, PartialEq, Eq)]
 pub enum Mode {
+    /// The originator sends: the second bit is 18 places back.
     Call,
+    /// The answerer sends: it is 5 places back.
     Answer,
 }

@@ -6,7 +6,10 @@ use lapm_frames::Frame;
 /// What arrives at an end in a turn.
 #[derive(Debug, Drop, PartialEq, Eq)]
 pub enum Arrived {
+    /// An idle slot, or none.
     Nothing,
+    /// A pattern was seen.
     Pattern(Seen),
+    /// A frame came, and passed its check.
     Frame(Frame),
 }

@@ -3,6 +3,8 @@
 /// A pattern of the detection phase: the originator's and the answerer's.
 #[derive(Clone, Copy, Debug, PartialEq, Eq)]
 pub enum Seen {
+    /// The originator's.
     Odp,
+    /// The answerer's.
     Adp,
 }

@@ -7,9 +7,12 @@ use lapm_frames::Frame;
 pub enum Sent {
     /// Nothing but ones.
     Mark,
+    /// The originator's pattern.
     Odp,
+    /// The answerer's pattern.
     Adp,
     /// Nothing but flags.
     Flags,
+    /// A frame between flags.
     Frame(Frame),
 }

@@ -15,9 +15,11 @@ use std::mem::replace;
 /// An end with its user.
 #[derive(Drop)]
 pub struct Station {
+    /// The end of the link.
     end: AnyEnd,
     /// How many of its user's breaks the end has taken.
     breaks: usize,
+    /// What it was made with.
     setup: Setup,
     ghost set_up: { IsSetUp setup },
 }

@@ -41,11 +41,17 @@ fn segments_of(value: &[u8]) -> u8
 /// What each parameter said, where it stood.
 #[derive(Clone, Copy, Debug, PartialEq, Eq)]
 pub(crate) struct Given {
+    /// Of the functions.
     srej: Option<bool>,
+    /// Of the functions.
     check32: Option<bool>,
+    /// In octets.
     tx_len: Option<u16>,
+    /// In octets.
     rx_len: Option<u16>,
+    /// In segments.
     tx_window: Option<u8>,
+    /// In segments.
     rx_window: Option<u8>,
 }
 
