@@ -10,8 +10,8 @@ use Rattle.lapm_frames.specs.declared.fault.FrameFault.TheVariants as faults
 use Rattle.lapm_frames.specs.declared.fault.CheckedFault.TheVariants as checks
 use Rattle.lapm_frames.specs.Checked.{IsCheckedFault, SpellsFrame}
 use Rattle.line_texts.specs.FrameText.{frame_text}
-use Rattle.frames_command.specs.declared.reading.Reading.{Reading}
-use Rattle.frames_command.specs.declared.reading.Reading.TheVariants as readings
+use Rattle.piece_listener.specs.declared.reading.Reading.{Reading}
+use Rattle.piece_listener.specs.declared.reading.Reading.TheVariants as readings
 
 -- what a whole piece of these octets is, on channel 0: a frame or none, with the check of 16 bits behind it, or octets without it
 abbrev pub ReadsWhole : Role → List ℕ → Reading → Type 0

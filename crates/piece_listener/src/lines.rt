@@ -1,6 +1,6 @@
 // The lines that say what pieces are.
 ghost use Rattle.std.specs.Prelude.{◌≡◌, ◌≤◌, ◌<◌, ◌+◌, ◌++◌, [], ◌∷◌, length, decimal};
-ghost use Rattle.frames_command.specs.Readings.{hex_digit, hex_octet, fault_words, reading_line};
+ghost use Rattle.piece_listener.specs.Readings.{hex_digit, hex_octet, fault_words, reading_line};
 
 use crate::reading::Reading;
 use frame_check::Octets;

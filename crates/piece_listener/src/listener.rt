@@ -1,9 +1,9 @@
 // A listener to a stream of bits, who says what each piece is.
 ghost use Rattle.std.specs.Prelude.{◌≡◌, ◌≤◌, ◌<◌, ◌+◌, ◌*◌, ◌^◌, ℕ, Bool, true, false, List, [], ◌∷◌, ◌++◌, OnOk, OnErr, IfErr, length};
 ghost use Rattle.outside_core.specs.Folder.{FolderState, OnlySays, CountsStand};
-ghost use Rattle.plain_lists.specs.Bits.{octet_bits, bits_of};
+ghost use Rattle.plain_lists.specs.Bits.{low_bits, octet_bits, bits_of};
 ghost use Rattle.command_base.specs.Stops.{SayFails};
-ghost use Rattle.frames_command.specs.Heard.{Heard, PartlyHeard};
+ghost use Rattle.piece_listener.specs.Heard.{Heard, PartlyHeard};
 
 use crate::lines::write_reading;
 use crate::reading::read_piece;
@@ -15,14 +15,14 @@ use std::marker::Model;
 
 /// Hears the stream of one end, bit by bit, and says a line for each piece.
 #[derive(Drop)]
-pub(crate) struct Listener {
+pub struct Listener {
     deframer: Deframer,
     sender: Role,
     pieces: u64,
 }
 
 impl Model for Listener {
-    ghost use Rattle.frames_command.specs.Heard.{Listening};
+    ghost use Rattle.piece_listener.specs.Heard.{Listening};
 
     ghost Value = { Listening };
 
@@ -51,7 +51,7 @@ impl Listener {
     }
 
     /// Hears a bit, and says the line of the piece that ends with it, if one does.
-    fn hear_bit<F: Folder>(&mut self, folder: &mut F, bit: bool) -> Result<(), FolderFault>
+    pub fn hear_bit<F: Folder>(&mut self, folder: &mut F, bit: bool) -> Result<(), FolderFault>
         requires { self.old.pieces < 2 ^ 63 }
         ensures ok { (start : FolderState) (bits : List Bool) → Heard start (F.state folder.old) self.old bits
             → OnOk result (Heard start (F.state folder.new) self.new (bits ++ bit ∷ [])) }
@@ -73,20 +73,26 @@ impl Listener {
         }
     }
 
-    /// Hears the eight bits of an octet, the low one first, one by one.
-    fn hear_each<F: Folder>(&mut self, folder: &mut F, octet: u8) -> Result<(), FolderFault>
-        requires { self.old.pieces < 2 ^ 62 }
+    /// Hears the low bits of an octet, so many, the lowest one first.
+    pub fn hear_low<F: Folder>(
+        &mut self,
+        folder: &mut F,
+        octet: u8,
+        count: u32,
+    ) -> Result<(), FolderFault>
+        requires pieces { self.old.pieces < 2 ^ 62 }
+        requires few { count ≤ 8 }
         ensures ok { (start : FolderState) (bits : List Bool) → Heard start (F.state folder.old) self.old bits
-            → OnOk result (Heard start (F.state folder.new) self.new (bits ++ octet_bits octet)) }
+            → OnOk result (Heard start (F.state folder.new) self.new (bits ++ low_bits count octet)) }
         ensures err { (start : FolderState) (bits : List Bool) → Heard start (F.state folder.old) self.old bits
-            → OnErr result (PartlyHeard start (F.state folder.new) self.old.sender (bits ++ octet_bits octet)) }
+            → OnErr result (PartlyHeard start (F.state folder.new) self.old.sender (bits ++ low_bits count octet)) }
         ensures only { OnlySays (F.state folder.old) (F.state folder.new) }
         ensures fails { IfErr result (SayFails (F.state folder.old) (F.state folder.new)) }
         ensures stand { OnOk result (CountsStand (F.state folder.old) (F.state folder.new)) }
         ensures sender { self.new.sender ≡ self.old.sender }
-        ensures pieces { self.new.pieces ≤ self.old.pieces + 8 }
+        ensures pieces { self.new.pieces ≤ self.old.pieces + count }
     {
-        for place in 0..8u32 {
+        for place in 0..count {
             match self.hear_bit(folder, (octet >> place) & 1 == 1) {
                 Ok(()) => {}
                 Err(fault) => return Err(fault),
@@ -111,7 +117,7 @@ impl Listener {
         if self.pass(octet) {
             return Ok(());
         }
-        self.hear_each(folder, octet)
+        self.hear_low(folder, octet, 8)
     }
 
     /// Hears the bits of an octet where it is plain that no piece ends with any of them: whether it did.

@@ -1,10 +1,10 @@
 use Rattle.std.proofs.Common.{◌≡◌, ◌∙◌, ◌+◌, Bool, List, ℕ, [], ◌∷◌, ◌++◌, refl, sym, subst}
 use Rattle.outside_core.specs.Folder.{FolderState, Said, PartlySaid}
 use Rattle.command_base.proofs.Saying.{on-err-map}
-use Rattle.frames_command.specs.Readings.{Reads, reading_line}
-use Rattle.frames_command.specs.Heard.{Listening, Heard, PartlyHeard}
-use Rattle.frames_command.proofs.Hearing.{FoundThere, found-there, heard-none, heard-some, partly-some, on-ok-map}
-use Rattle.frames_command.proofs.listener.Listener.hear_bit.Goals as goal
+use Rattle.piece_listener.specs.Readings.{Reads, reading_line}
+use Rattle.piece_listener.specs.Heard.{Listening, Heard, PartlyHeard}
+use Rattle.piece_listener.proofs.Hearing.{FoundThere, found-there, heard-none, heard-some, partly-some, on-ok-map}
+use Rattle.piece_listener.proofs.listener.Listener.hear_bit.Goals as goal
 
 pub returns-in-None-clause-ok : goal.returns-in-None-clause-ok
 returns-in-None-clause-ok g c = λ start bits heard.

@@ -5,7 +5,7 @@ use Rattle.std.proofs.lemmas.List.{take_more, take-append-drop}
 use Rattle.std.proofs.lemmas.Nat.{and_mask}
 use Rattle.outside_core.specs.Folder.{FolderState, OnlySays, Said, PartlySaid}
 use Rattle.outside_core.specs.Steps.{GoesOn-trans, KeepsName-trans}
-use Rattle.plain_lists.specs.Bits.{octet_bits, bits_of}
+use Rattle.plain_lists.specs.Bits.{low_bits, octet_bits, bits_of}
 use Rattle.frame_check.proofs.BitLists.{length-low_bits, get_or-low_bits, bits_of-snoc, bits_of-append}
 use Rattle.bit_stuffing.specs.declared.piece.Piece.{Piece}
 use Rattle.bit_stuffing.specs.Found.{Found, found_at, pieces_of, listed, answer_of, lent_of}
@@ -13,10 +13,10 @@ use Rattle.bit_stuffing.specs.Deframer.{DeframerStands}
 use Rattle.bit_stuffing.proofs.Found.{pieces-none, pieces-more}
 use Rattle.roles.specs.declared.role.Role.{Role}
 use Rattle.command_base.proofs.Saying.{Said-Said, Said-PartlySaid}
-use Rattle.frames_command.specs.declared.reading.Reading.{Reading}
-use Rattle.frames_command.specs.Readings.{Reads, AreLines, reading_line}
-use Rattle.frames_command.specs.Heard.{Listening, Heard, PartlyHeard}
-use Rattle.frames_command.proofs.PieceLines.{AreLines-more}
+use Rattle.piece_listener.specs.declared.reading.Reading.{Reading}
+use Rattle.piece_listener.specs.Readings.{Reads, AreLines, reading_line}
+use Rattle.piece_listener.specs.Heard.{Listening, Heard, PartlyHeard}
+use Rattle.piece_listener.proofs.PieceLines.{AreLines-more}
 
 -- what is found at the last of the bits, where a piece is answered there
 pub record FoundThere (bits : List Bool) (piece : Piece) : Type 0 where
@@ -130,16 +130,16 @@ partly-longer start now sender bits more all e h = record {
   said = h.said;
 }
 
--- the bits of an octet up to a place, and one more
-pub bit-more : (bits : List Bool) (n i : ℕ) → i < 8 → (bits ++ take i (octet_bits n)) ++ nat_eq (bit_and (n / 2 ^ i) 1) 1 ∷ [] ≡ bits ++ take (i + 1) (octet_bits n)
-bit-more bits n i h =
-    let within : i < length (octet_bits n) = omega (arith, length-low_bits 8 n) in
-    let bit : get_or (octet_bits n) i false ≡ nat_eq (bit_and (n / 2 ^ i) 1) 1 = get_or-low_bits 8 n i false h ∙ ap (λ x. nat_eq x 1) (sym (and_mask (n / 2 ^ i) 1)) in
-    append_assoc bits (take i (octet_bits n)) (nat_eq (bit_and (n / 2 ^ i) 1) 1 ∷ [])
-    ∙ ap (λ xs. bits ++ xs) (sym (take_more (octet_bits n) i false within ∙ ap (λ b. take i (octet_bits n) ++ b ∷ []) bit))
+-- the low bits of an octet up to a place, and one more
+pub bit-more : (bits : List Bool) (n count i : ℕ) → i < count → (bits ++ take i (low_bits count n)) ++ nat_eq (bit_and (n / 2 ^ i) 1) 1 ∷ [] ≡ bits ++ take (i + 1) (low_bits count n)
+bit-more bits n count i h =
+    let within : i < length (low_bits count n) = omega (arith, h, length-low_bits count n) in
+    let bit : get_or (low_bits count n) i false ≡ nat_eq (bit_and (n / 2 ^ i) 1) 1 = get_or-low_bits count n i false h ∙ ap (λ x. nat_eq x 1) (sym (and_mask (n / 2 ^ i) 1)) in
+    append_assoc bits (take i (low_bits count n)) (nat_eq (bit_and (n / 2 ^ i) 1) 1 ∷ [])
+    ∙ ap (λ xs. bits ++ xs) (sym (take_more (low_bits count n) i false within ∙ ap (λ b. take i (low_bits count n) ++ b ∷ []) bit))
 
-pub bits-left : (bits : List Bool) (n i : ℕ) → (bits ++ take i (octet_bits n)) ++ drop i (octet_bits n) ≡ bits ++ octet_bits n
-bits-left bits n i = append_assoc bits (take i (octet_bits n)) (drop i (octet_bits n)) ∙ ap (λ xs. bits ++ xs) (take-append-drop i (octet_bits n))
+pub bits-left : (bits more : List Bool) (i : ℕ) → (bits ++ take i more) ++ drop i more ≡ bits ++ more
+bits-left bits more i = append_assoc bits (take i more) (drop i more) ∙ ap (λ xs. bits ++ xs) (take-append-drop i more)
 
 -- the octets up to a place, and one more
 pub octet-more : (bits : List Bool) (octets : List ℕ) (i : ℕ) → i < length octets → (bits ++ bits_of (take i octets)) ++ octet_bits (get_or octets i 0) ≡ bits ++ bits_of (take (i + 1) octets)
@@ -163,3 +163,11 @@ says-trans a b c p q = record {
   names = λ name. KeepsName-trans a b c name p.goes_on (p.names name) (q.names name);
   read_faults = λ name. q.read_faults name ∙ p.read_faults name;
 }
+
+-- nothing more is said
+pub said-nothing : (f : FolderState) → Said f f []
+said-nothing f = go f.said
+  where
+    go : (said : Option (List ℕ)) → said ≡ option_map (λ s. s ++ []) said
+    go None = refl
+    go (Some s) = ap Some (sym (append-nil s))

@@ -2,8 +2,8 @@
 use Rattle.std.proofs.Common.{◌∙◌, ℕ, List, [], ◌∷◌, ◌++◌, refl, sym, ap, append-nil, append_assoc}
 use Rattle.bit_stuffing.specs.Found.{Found}
 use Rattle.roles.specs.declared.role.Role.{Role}
-use Rattle.frames_command.specs.declared.reading.Reading.{Reading}
-use Rattle.frames_command.specs.Readings.{Reads, AreLines, reading_line}
+use Rattle.piece_listener.specs.declared.reading.Reading.{Reading}
+use Rattle.piece_listener.specs.Readings.{Reads, AreLines, reading_line}
 
 -- the lines of one piece more
 pub AreLines-more : (sender : Role) (pieces : List Found) (found : Found) (reading : Reading) (lines : List ℕ) → AreLines sender pieces lines → Reads sender found reading → AreLines sender (pieces ++ found ∷ []) (lines ++ reading_line reading)

@@ -1,7 +1,7 @@
 // What a piece of a stream is to a reader of frames.
 ghost use Rattle.std.specs.Prelude.{◌≡◌};
 ghost use Rattle.bit_stuffing.specs.Found.{Found};
-ghost use Rattle.frames_command.specs.Readings.{ReadsWhole, Reads};
+ghost use Rattle.piece_listener.specs.Readings.{ReadsWhole, Reads};
 
 use bit_stuffing::Piece;
 use frame_check::Check;
@@ -36,7 +36,7 @@ fn read_whole(octets: &[u8], sender: Role) -> Reading
 }
 
 /// What a piece is, of these octets where it is whole.
-pub(crate) fn read_piece(piece: Piece, octets: &[u8], sender: Role) -> Reading
+pub fn read_piece(piece: Piece, octets: &[u8], sender: Role) -> Reading
     ensures { (found : Found) → found.piece ≡ piece → found.octets ≡ octets.now → Reads sender found result }
 {
     match piece {

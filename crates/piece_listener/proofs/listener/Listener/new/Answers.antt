@@ -1,8 +1,7 @@
 use Rattle.std.proofs.Common.{refl}
-use Rattle.frames_command.specs.Heard.{Listening}
-use Rattle.frames_command.proofs.Hearing.{heard-nothing}
-use Rattle.frames_command.proofs.Listed.{said-nothing}
-use Rattle.frames_command.proofs.listener.Listener.new.Goals as goal
+use Rattle.piece_listener.specs.Heard.{Listening}
+use Rattle.piece_listener.proofs.Hearing.{heard-nothing, said-nothing}
+use Rattle.piece_listener.proofs.listener.Listener.new.Goals as goal
 
 pub returns-clause-heard : goal.returns-clause-heard
 returns-clause-heard c = λ start.

@@ -1,7 +1,7 @@
 use Rattle.std.proofs.Common.{refl, sym, subst}
-use Rattle.frames_command.specs.Heard.{Listening, Heard}
-use Rattle.frames_command.proofs.Hearing.{heard-octet}
-use Rattle.frames_command.proofs.listener.Listener.pass.Goals as goal
+use Rattle.piece_listener.specs.Heard.{Listening, Heard}
+use Rattle.piece_listener.proofs.Hearing.{heard-octet}
+use Rattle.piece_listener.proofs.listener.Listener.pass.Goals as goal
 
 pub returns-clause-heard : goal.returns-clause-heard
 returns-clause-heard c = λ passed start now bits heard.

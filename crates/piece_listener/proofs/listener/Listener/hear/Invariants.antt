@@ -1,8 +1,8 @@
 use Rattle.std.proofs.Common.{◌≡◌, ◌≤◌, ◌+◌, ◌*◌, Bool, List, ◌++◌, take}
 use Rattle.outside_core.specs.Folder.{FolderState, OnlySays, CountsStand}
 use Rattle.plain_lists.specs.Bits.{bits_of}
-use Rattle.frames_command.specs.Heard.{Heard}
-use Rattle.frames_command.proofs.listener.Listener.hear.Given as goal
+use Rattle.piece_listener.specs.Heard.{Heard}
+use Rattle.piece_listener.proofs.listener.Listener.hear.Given as goal
 
 abbrev pub invariant-loop-octet : goal.invariant-loop-octet
 invariant-loop-octet g l = record {

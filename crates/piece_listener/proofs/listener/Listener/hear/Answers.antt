@@ -2,9 +2,9 @@ use Rattle.std.proofs.Common.{◌∙◌, ◌+◌, ◌<◌, Bool, List, ◌++◌,
 use Rattle.outside_core.specs.Folder.{FolderState}
 use Rattle.plain_lists.specs.Bits.{octet_bits, bits_of}
 use Rattle.roles.specs.declared.role.Role.{Role}
-use Rattle.frames_command.specs.Heard.{PartlyHeard}
-use Rattle.frames_command.proofs.Hearing.{partly-longer, octet-more, octets-left}
-use Rattle.frames_command.proofs.listener.Listener.hear.Goals as goal
+use Rattle.piece_listener.specs.Heard.{PartlyHeard}
+use Rattle.piece_listener.proofs.Hearing.{partly-longer, octet-more, octets-left}
+use Rattle.piece_listener.proofs.listener.Listener.hear.Goals as goal
 
 pub returns-in-Err-clause-err : goal.returns-in-Err-clause-err
 returns-in-Err-clause-err g c = λ start bits heard.
