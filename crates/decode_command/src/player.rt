@@ -8,22 +8,20 @@ ghost use Rattle.command_base.specs.Outputs.{OnlyOutput};
 ghost use Rattle.command_base.specs.Stops.{EndCounts};
 ghost use Rattle.decode_command.specs.Words.{named, are_apart};
 ghost use Rattle.decode_command.specs.Playing.{Hears, IsReady};
-ghost use Rattle.decode_command.specs.Played.{PlayedTo, PlaysPiece, IsAtEnd};
-ghost use Rattle.decode_command.specs.Ends.{hearer_of, EndsBy, Ends};
+ghost use Rattle.decode_command.specs.Played.{PlayedTo, PlaysPiece};
+ghost use Rattle.decode_command.specs.Ends.{EndsBy, Ends};
 ghost use Rattle.recordings.specs.declared.header.TheConstants.{HEADER};
+ghost use Rattle.recording_inputs.specs.Recordings.{IsAtEnd};
 
 use crate::playback::{Playback, ROOM};
 use crate::words::DecodeWords;
-use command_base::{RECORDING_LIMIT, Status, Stop, append_output, read_piece};
+use command_base::{Status, Stop, append_output};
 use exact_decoder::Lost;
 use frame_check::Octets;
 use outside_core::Folder;
+use recording_inputs::{PIECE, hearer_of, read_samples};
 use recordings::{HEADER, SAMPLE, sample_at};
-use roles::Role;
 use scramblers::Mode;
-
-/// How many octets are read at a time: there is room for those that their samples give. Each piece opens both files anew.
-const PIECE: usize = 4_096;
 
 /// Plays the whole samples of a piece, up to the one that loses the line.
 fn play_piece(playback: &mut Playback, piece: &[u8], octets: &mut Octets<ROOM>) -> Result<(), Lost>
@@ -42,16 +40,6 @@ fn play_piece(playback: &mut Playback, piece: &[u8], octets: &mut Octets<ROOM>) 
         }
     }
     Ok(())
-}
-
-/// The end that hears what is sent in this mode.
-fn hearer_of(mode: Mode) -> Role
-    ensures { result ≡ hearer_of mode }
-{
-    match mode {
-        Mode::Call => Role::Answerer,
-        Mode::Answer => Role::Originator,
-    }
 }
 
 /// What a step has read, and the octets that it gave.
@@ -80,7 +68,7 @@ pub(crate) fn play_next<F: Folder>(
     ensures ok { (start : FolderState) (written : ℕ) → PlayedTo start (F.state folder.old) (named names.now) mode playback.old at written
         → IfOk result (λ step. PlayedTo start (F.state folder.new) (named names.now) mode playback.new (at + step.read) (written + step.given)) }
     ensures end { (start : FolderState) (written : ℕ) → PlayedTo start (F.state folder.old) (named names.now) mode playback.old at written
-        → IfOk result (λ step. step.read ≡ 0 → IsAtEnd start (named names.now) at) }
+        → IfOk result (λ step. step.read ≡ 0 → IsAtEnd start names.now.rec.now at) }
     ensures err { (start : FolderState) (written : ℕ) → PlayedTo start (F.state folder.old) (named names.now) mode playback.old at written
         → IfErr result (EndsBy start (F.state folder.new) (named names.now)) }
     ensures ready { IfOk result (λ step. IsReady playback.new (at + step.read)) }
@@ -89,7 +77,7 @@ pub(crate) fn play_next<F: Folder>(
     ensures only { OnlyOutput (F.state folder.old) (F.state folder.new) names.now.file.now }
     ensures counts { EndCounts (F.state folder.old) (F.state folder.new) (names.now.rec.now ∷ []) (names.now.file.now ∷ []) result }
 {
-    let read = match read_piece(folder, names.rec, RECORDING_LIMIT, at, piece) {
+    let read = match read_samples(folder, names.rec, at, piece) {
         Ok(read) => read,
         Err(fault) => return Err(Stop::Read(fault)),
     };
@@ -124,7 +112,7 @@ pub(crate) fn play_to_end<F: Folder>(
     requires apart { are_apart (named names.now) ≡ true }
     requires ready { IsReady playback.old 0 }
     ensures ok { (start : FolderState) → PlayedTo start (F.state folder.old) (named names.now) mode playback.old HEADER 0
-        → IfOk result (λ written. (at : ℕ) × PlayedTo start (F.state folder.new) (named names.now) mode playback.new at written × IsAtEnd start (named names.now) at) }
+        → IfOk result (λ written. (at : ℕ) × PlayedTo start (F.state folder.new) (named names.now) mode playback.new at written × IsAtEnd start names.now.rec.now at) }
     ensures err { (start : FolderState) → PlayedTo start (F.state folder.old) (named names.now) mode playback.old HEADER 0
         → IfErr result (EndsBy start (F.state folder.new) (named names.now)) }
     ensures ready { IfOk result (λ written. IsReady playback.new RECORDING_LIMIT) }
@@ -160,7 +148,7 @@ pub(crate) fn write_rest<F: Folder>(
     requires not_lost { playback.decoder.lost ≡ None }
     requires room { written ≤ 2 ^ 60 }
     ensures ends { (start : FolderState) (mode : Mode) (at : ℕ) → PlayedTo start (F.state folder.old) (named names.now) mode playback at written
-        → IsAtEnd start (named names.now) at → Ends start (F.state folder.new) (named names.now) result }
+        → IsAtEnd start names.now.rec.now at → Ends start (F.state folder.new) (named names.now) result }
     ensures only { OnlyOutput (F.state folder.old) (F.state folder.new) names.now.file.now }
     ensures counts { EndCounts (F.state folder.old) (F.state folder.new) (names.now.rec.now ∷ []) (names.now.file.now ∷ []) result }
 {

@@ -1,4 +1,2 @@
-pub mod PieceLines
-pub mod Hearing
 pub mod Listed
 pub mod Headline

@@ -1,6 +1,5 @@
 -- From single steps to how a listing ends.
-use Rattle.std.proofs.Common.{◌≡◌, ◌∙◌, ℕ, ◌+◌, Bool, true, false, IsTrue, List, [], ◌++◌, Option, Some, None, refl, sym, ap, subst, append-nil, append_assoc}
-use Rattle.std.specs.Option.{option_map}
+use Rattle.std.proofs.Common.{◌≡◌, ◌∙◌, ℕ, ◌+◌, Bool, true, false, IsTrue, List, [], ◌++◌, refl, sym, ap, subst, append-nil, append_assoc}
 use Rattle.plain_lists.specs.Prefix.{IsPrefixOf}
 use Rattle.outside_core.specs.Folder.{FolderState, octets_at, OnlyReads, OnlySays, Said}
 use Rattle.plain_lists.specs.Bits.{bits_of}
@@ -16,8 +15,9 @@ use Rattle.command_base.specs.Inputs.{IsNotWithin, ReadTo}
 use Rattle.command_base.proofs.OnlyOutputs.{OnlyOutputs-reads, OnlyOutputs-says, OnlyOutputs-trans}
 use Rattle.command_base.proofs.Reading.{ReadTo-none, ReadTo-kept, ReadTo-begins}
 use Rattle.frames_command.specs.Words.{FramesNames}
-use Rattle.frames_command.specs.Readings.{AreLines}
-use Rattle.frames_command.specs.Heard.{Listening, Heard, PartlyHeard, HeardTo, Begun}
+use Rattle.piece_listener.specs.Readings.{AreLines}
+use Rattle.piece_listener.specs.Heard.{Listening, Heard, PartlyHeard}
+use Rattle.frames_command.specs.Heard.{HeardTo, Begun}
 use Rattle.frames_command.specs.Ends.{SaysAll, AreFirst, SaysFirst, SaysPart, EndsBy}
 
 -- a read leaves what was said
@@ -117,11 +117,3 @@ heard-none-yet start old n l b sender heard = record {
   heard = heard-after start start old l [] b.reads (heard start);
   only = OnlyOutputs-reads [] b.reads;
 }
-
--- nothing more is said
-pub said-nothing : (f : FolderState) → Said f f []
-said-nothing f = go f.said
-  where
-    go : (said : Option (List ℕ)) → said ≡ option_map (λ s. s ++ []) said
-    go None = refl
-    go (Some s) = ap Some (sym (append-nil s))

@@ -1,5 +1,4 @@
 pub mod Words
-pub mod Readings
 pub mod Heard
 pub mod Ends
 pub mod Completes

@@ -3,12 +3,9 @@
 #![tactic(auto)]
 
 mod command;
-mod lines;
-mod listener;
 mod listing;
-mod reading;
 mod words;
 
 pub use command::frames;
-pub use reading::Reading;
+pub use piece_listener::Reading;
 pub use words::{FramesWords, frames_words};

@@ -8,10 +8,10 @@ ghost use Rattle.frames_command.specs.Words.{named};
 ghost use Rattle.frames_command.specs.Heard.{Begun, HeardTo};
 ghost use Rattle.frames_command.specs.Ends.{SaysAll, EndsBy, Ends};
 
-use crate::listener::Listener;
 use crate::words::FramesWords;
 use command_base::{FILE_LIMIT, Stop, read_piece, within_limit};
 use outside_core::Folder;
+use piece_listener::Listener;
 
 /// The place of the stream's name among the words.
 const BITS: usize = 2;

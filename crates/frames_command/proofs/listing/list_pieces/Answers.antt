@@ -1,6 +1,7 @@
 use Rattle.outside_core.specs.Folder.{FolderState}
 use Rattle.frames_command.specs.Words.{named}
-use Rattle.frames_command.proofs.Listed.{not-begun, said-nothing}
+use Rattle.piece_listener.proofs.Hearing.{said-nothing}
+use Rattle.frames_command.proofs.Listed.{not-begun}
 use Rattle.frames_command.proofs.listing.list_pieces.Goals as goal
 
 pub returns-in-Err-clause-ends : goal.returns-in-Err-clause-ends

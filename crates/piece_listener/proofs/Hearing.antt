@@ -1,0 +1,173 @@
+-- What a listener heard, one more step at a time.
+use Rattle.std.proofs.Common.{◌≡◌, ◌∙◌, ℕ, ◌+◌, ◌/◌, ◌^◌, ◌<◌, Bool, false, List, [], ◌∷◌, ◌++◌, length, take, drop, get_or, Result, Ok, Err, OnOk, nat_eq, bit_and, Option, Some, None, refl, sym, ap, subst, arith, append-nil, append_assoc, length-append}
+use Rattle.std.specs.Option.{option_map, option_map_or}
+use Rattle.std.proofs.lemmas.List.{take_more, take-append-drop}
+use Rattle.std.proofs.lemmas.Nat.{and_mask}
+use Rattle.outside_core.specs.Folder.{FolderState, OnlySays, Said, PartlySaid}
+use Rattle.outside_core.specs.Steps.{GoesOn-trans, KeepsName-trans}
+use Rattle.plain_lists.specs.Bits.{low_bits, octet_bits, bits_of}
+use Rattle.frame_check.proofs.BitLists.{length-low_bits, get_or-low_bits, bits_of-snoc, bits_of-append}
+use Rattle.bit_stuffing.specs.declared.piece.Piece.{Piece}
+use Rattle.bit_stuffing.specs.Found.{Found, found_at, pieces_of, listed, answer_of, lent_of}
+use Rattle.bit_stuffing.specs.Deframer.{DeframerStands}
+use Rattle.bit_stuffing.proofs.Found.{pieces-none, pieces-more}
+use Rattle.roles.specs.declared.role.Role.{Role}
+use Rattle.command_base.proofs.Saying.{Said-Said, Said-PartlySaid}
+use Rattle.piece_listener.specs.declared.reading.Reading.{Reading}
+use Rattle.piece_listener.specs.Readings.{Reads, AreLines, reading_line}
+use Rattle.piece_listener.specs.Heard.{Listening, Heard, PartlyHeard}
+use Rattle.piece_listener.proofs.PieceLines.{AreLines-more}
+
+-- what is found at the last of the bits, where a piece is answered there
+pub record FoundThere (bits : List Bool) (piece : Piece) : Type 0 where
+  pub found : Found
+  pub found_is : found_at bits ≡ Some found
+  pub piece_is : found.piece ≡ piece
+  pub octets_are : found.octets ≡ lent_of bits
+
+pub found-there : (bits : List Bool) (piece : Piece) → Some piece ≡ answer_of bits → FoundThere bits piece
+found-there bits piece e = go (found_at bits) refl
+  where
+    go : (o : Option Found) → found_at bits ≡ o → FoundThere bits piece
+    go None q = absurd (none (e ∙ ap (option_map (λ found. found.piece)) q))
+      where
+        none : Some piece ≡ None → ⊥
+        none h = cc
+    go (Some found) q = record {
+      found = found;
+      found_is = q;
+      piece_is = same (sym (e ∙ ap (option_map (λ found. found.piece)) q));
+      octets_are = sym (ap (λ o. option_map_or (λ found. found.octets) o []) q);
+    }
+      where
+        same : Some found.piece ≡ Some piece → found.piece ≡ piece
+        same h = cc
+
+nothing-there : (bits : List Bool) → None ≡ answer_of bits → found_at bits ≡ None
+nothing-there bits e = go (found_at bits) refl
+  where
+    go : (o : Option Found) → found_at bits ≡ o → found_at bits ≡ None
+    go None q = q
+    go (Some found) q = absurd (some (e ∙ ap (option_map (λ found. found.piece)) q))
+      where
+        some : None ≡ Some found.piece → ⊥
+        some h = cc
+
+-- before the first bit
+pub heard-nothing : (start : FolderState) (l : Listening) → DeframerStands l.deframer [] → l.pieces ≡ 0 → Said start start [] → Heard start start l []
+heard-nothing start l stands none said = record {
+  stands = stands;
+  lines = [];
+  are_lines = subst (λ pieces. AreLines l.sender pieces []) (sym pieces-none) refl;
+  said = said;
+  count = none ∙ sym (ap length pieces-none);
+}
+
+-- a bit at which no piece ends
+pub heard-none : (start now : FolderState) (l next : Listening) (bits : List Bool) (bit : Bool) → Heard start now l bits → None ≡ answer_of (bits ++ bit ∷ []) → DeframerStands next.deframer (bits ++ bit ∷ []) →
+    next.sender ≡ l.sender → next.pieces ≡ l.pieces → Heard start now next (bits ++ bit ∷ [])
+heard-none start now l next bits bit h none stands sender pieces = record {
+  stands = stands;
+  lines = h.lines;
+  are_lines = subst (λ (p : Role × List Found). AreLines p.0 p.1 h.lines) (λ i. (sym sender i, sym same i)) h.are_lines;
+  said = h.said;
+  count = pieces ∙ h.count ∙ sym (ap length same);
+}
+  where
+    same : pieces_of (bits ++ bit ∷ []) ≡ pieces_of bits
+    same = pieces-more bits bit ∙ ap (λ o. pieces_of bits ++ listed o) (nothing-there (bits ++ bit ∷ []) none) ∙ append-nil (pieces_of bits)
+
+-- an octet with whose bits no piece ends
+pub heard-octet : (start now : FolderState) (l next : Listening) (bits : List Bool) (octet : ℕ) → Heard start now l bits → DeframerStands next.deframer (bits ++ octet_bits octet)
+    → pieces_of (bits ++ octet_bits octet) ≡ pieces_of bits → next.sender ≡ l.sender → next.pieces ≡ l.pieces → Heard start now next (bits ++ octet_bits octet)
+heard-octet start now l next bits octet h stands same sender pieces = record {
+  stands = stands;
+  lines = h.lines;
+  are_lines = subst (λ (p : Role × List Found). AreLines p.0 p.1 h.lines) (λ i. (sym sender i, sym same i)) h.are_lines;
+  said = h.said;
+  count = pieces ∙ h.count ∙ sym (ap length same);
+}
+
+piece-more : (bits : List Bool) (bit : Bool) (piece : Piece) (f : FoundThere (bits ++ bit ∷ []) piece) → pieces_of (bits ++ bit ∷ []) ≡ pieces_of bits ++ f.found ∷ []
+piece-more bits bit piece f = pieces-more bits bit ∙ ap (λ o. pieces_of bits ++ listed o) f.found_is
+
+lines-more : (start now : FolderState) (l : Listening) (bits : List Bool) (bit : Bool) (piece : Piece) (reading : Reading) (h : Heard start now l bits) (f : FoundThere (bits ++ bit ∷ []) piece) → Reads l.sender f.found reading →
+    AreLines l.sender (pieces_of (bits ++ bit ∷ [])) (h.lines ++ reading_line reading)
+lines-more start now l bits bit piece reading h f r =
+    subst (λ (pieces : List Found). AreLines l.sender pieces (h.lines ++ reading_line reading)) (sym (piece-more bits bit piece f)) (AreLines-more l.sender (pieces_of bits) f.found reading h.lines h.are_lines r)
+
+-- a bit at which a piece ends, whose line was said
+pub heard-some : (start now new : FolderState) (l next : Listening) (bits : List Bool) (bit : Bool) (piece : Piece) (reading : Reading) → Heard start now l bits → (f : FoundThere (bits ++ bit ∷ []) piece) →
+    Reads l.sender f.found reading → DeframerStands next.deframer (bits ++ bit ∷ []) → next.sender ≡ l.sender → next.pieces ≡ l.pieces + 1 → Said now new (reading_line reading) → Heard start new next (bits ++ bit ∷ [])
+heard-some start now new l next bits bit piece reading h f r stands sender pieces said = record {
+  stands = stands;
+  lines = h.lines ++ reading_line reading;
+  are_lines = subst (λ (role : Role). AreLines role (pieces_of (bits ++ bit ∷ [])) (h.lines ++ reading_line reading)) (sym sender) (lines-more start now l bits bit piece reading h f r);
+  said = Said-Said start now new h.lines (reading_line reading) h.said said;
+  count = pieces ∙ ap (λ n. n + 1) h.count ∙ sym (length-append (pieces_of bits) (f.found ∷ [])) ∙ sym (ap length (piece-more bits bit piece f));
+}
+
+-- and where the say failed
+pub partly-some : (start now new : FolderState) (l : Listening) (bits : List Bool) (bit : Bool) (piece : Piece) (reading : Reading) → Heard start now l bits → (f : FoundThere (bits ++ bit ∷ []) piece) →
+    Reads l.sender f.found reading → PartlySaid now new (reading_line reading) → PartlyHeard start new l.sender (bits ++ bit ∷ [])
+partly-some start now new l bits bit piece reading h f r said = record {
+  heard = bits ++ bit ∷ [];
+  rest = [];
+  bits_are = sym (append-nil (bits ++ bit ∷ []));
+  lines = h.lines ++ reading_line reading;
+  are_lines = lines-more start now l bits bit piece reading h f r;
+  said = Said-PartlySaid start now new h.lines (reading_line reading) h.said said;
+}
+
+-- of more bits too some were heard
+pub partly-longer : (start now : FolderState) (sender : Role) (bits more all : List Bool) → bits ++ more ≡ all → PartlyHeard start now sender bits → PartlyHeard start now sender all
+partly-longer start now sender bits more all e h = record {
+  heard = h.heard;
+  rest = h.rest ++ more;
+  bits_are = sym e ∙ ap (λ xs. xs ++ more) h.bits_are ∙ append_assoc h.heard h.rest more;
+  lines = h.lines;
+  are_lines = h.are_lines;
+  said = h.said;
+}
+
+-- the low bits of an octet up to a place, and one more
+pub bit-more : (bits : List Bool) (n count i : ℕ) → i < count → (bits ++ take i (low_bits count n)) ++ nat_eq (bit_and (n / 2 ^ i) 1) 1 ∷ [] ≡ bits ++ take (i + 1) (low_bits count n)
+bit-more bits n count i h =
+    let within : i < length (low_bits count n) = omega (arith, h, length-low_bits count n) in
+    let bit : get_or (low_bits count n) i false ≡ nat_eq (bit_and (n / 2 ^ i) 1) 1 = get_or-low_bits count n i false h ∙ ap (λ x. nat_eq x 1) (sym (and_mask (n / 2 ^ i) 1)) in
+    append_assoc bits (take i (low_bits count n)) (nat_eq (bit_and (n / 2 ^ i) 1) 1 ∷ [])
+    ∙ ap (λ xs. bits ++ xs) (sym (take_more (low_bits count n) i false within ∙ ap (λ b. take i (low_bits count n) ++ b ∷ []) bit))
+
+pub bits-left : (bits more : List Bool) (i : ℕ) → (bits ++ take i more) ++ drop i more ≡ bits ++ more
+bits-left bits more i = append_assoc bits (take i more) (drop i more) ∙ ap (λ xs. bits ++ xs) (take-append-drop i more)
+
+-- the octets up to a place, and one more
+pub octet-more : (bits : List Bool) (octets : List ℕ) (i : ℕ) → i < length octets → (bits ++ bits_of (take i octets)) ++ octet_bits (get_or octets i 0) ≡ bits ++ bits_of (take (i + 1) octets)
+octet-more bits octets i h =
+    append_assoc bits (bits_of (take i octets)) (octet_bits (get_or octets i 0))
+    ∙ ap (λ xs. bits ++ xs) (sym (bits_of-snoc (take i octets) (get_or octets i 0)) ∙ sym (ap bits_of (take_more octets i 0 h)))
+
+pub octets-left : (bits : List Bool) (octets : List ℕ) (i : ℕ) → (bits ++ bits_of (take i octets)) ++ bits_of (drop i octets) ≡ bits ++ bits_of octets
+octets-left bits octets i =
+    append_assoc bits (bits_of (take i octets)) (bits_of (drop i octets))
+    ∙ ap (λ xs. bits ++ xs) (sym (bits_of-append (take i octets) (drop i octets)) ∙ ap bits_of (take-append-drop i octets))
+
+-- what follows where it went well
+pub on-ok-map : {T E : Type 0} {P Q : Type 0} (r : Result T E) → (P → Q) → OnOk r P → OnOk r Q
+on-ok-map (Ok value) f p = f p
+on-ok-map (Err fault) f p = tt
+
+pub says-trans : (a b c : FolderState) → OnlySays a b → OnlySays b c → OnlySays a c
+says-trans a b c p q = record {
+  goes_on = GoesOn-trans p.goes_on q.goes_on;
+  names = λ name. KeepsName-trans a b c name p.goes_on (p.names name) (q.names name);
+  read_faults = λ name. q.read_faults name ∙ p.read_faults name;
+}
+
+-- nothing more is said
+pub said-nothing : (f : FolderState) → Said f f []
+said-nothing f = go f.said
+  where
+    go : (said : Option (List ℕ)) → said ≡ option_map (λ s. s ++ []) said
+    go None = refl
+    go (Some s) = ap Some (sym (append-nil s))

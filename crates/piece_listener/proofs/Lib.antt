@@ -1,0 +1,2 @@
+pub mod PieceLines
+pub mod Hearing

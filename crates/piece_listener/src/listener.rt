@@ -1,0 +1,156 @@
+// A listener to a stream of bits, who says what each piece is.
+ghost use Rattle.std.specs.Prelude.{◌≡◌, ◌≤◌, ◌<◌, ◌+◌, ◌*◌, ◌^◌, ℕ, Bool, true, false, List, [], ◌∷◌, ◌++◌, OnOk, OnErr, IfErr, length};
+ghost use Rattle.outside_core.specs.Folder.{FolderState, OnlySays, CountsStand};
+ghost use Rattle.plain_lists.specs.Bits.{low_bits, octet_bits, bits_of};
+ghost use Rattle.command_base.specs.Stops.{SayFails};
+ghost use Rattle.piece_listener.specs.Heard.{Heard, PartlyHeard};
+
+use crate::lines::write_reading;
+use crate::reading::read_piece;
+use bit_stuffing::Deframer;
+use command_base::say_line;
+use outside_core::{Folder, FolderFault};
+use roles::Role;
+use std::marker::Model;
+
+/// Hears the stream of one end, bit by bit, and says a line for each piece.
+#[derive(Drop)]
+pub struct Listener {
+    deframer: Deframer,
+    sender: Role,
+    pieces: u64,
+}
+
+impl Model for Listener {
+    ghost use Rattle.piece_listener.specs.Heard.{Listening};
+
+    ghost Value = { Listening };
+
+    ghost view = { λ l. record { deframer = l.deframer; sender = l.sender; pieces = l.pieces } };
+}
+
+impl Listener {
+    /// A listener before the first bit.
+    pub fn new(sender: Role) -> Listener
+        ensures heard { (start : FolderState) → Heard start start result [] }
+        ensures sender { result.sender ≡ sender }
+        ensures pieces { result.pieces ≡ 0 }
+    {
+        Listener {
+            deframer: Deframer::new(),
+            sender,
+            pieces: 0,
+        }
+    }
+
+    /// How many pieces were heard.
+    pub fn pieces(&self) -> u64
+        ensures { result ≡ self.now.pieces }
+    {
+        self.pieces
+    }
+
+    /// Hears a bit, and says the line of the piece that ends with it, if one does.
+    pub fn hear_bit<F: Folder>(&mut self, folder: &mut F, bit: bool) -> Result<(), FolderFault>
+        requires { self.old.pieces < 2 ^ 63 }
+        ensures ok { (start : FolderState) (bits : List Bool) → Heard start (F.state folder.old) self.old bits
+            → OnOk result (Heard start (F.state folder.new) self.new (bits ++ bit ∷ [])) }
+        ensures err { (start : FolderState) (bits : List Bool) → Heard start (F.state folder.old) self.old bits
+            → OnErr result (PartlyHeard start (F.state folder.new) self.old.sender (bits ++ bit ∷ [])) }
+        ensures only { OnlySays (F.state folder.old) (F.state folder.new) }
+        ensures fails { IfErr result (SayFails (F.state folder.old) (F.state folder.new)) }
+        ensures stand { OnOk result (CountsStand (F.state folder.old) (F.state folder.new)) }
+        ensures sender { self.new.sender ≡ self.old.sender }
+        ensures pieces { self.new.pieces ≤ self.old.pieces + 1 }
+    {
+        match self.deframer.push(bit) {
+            None => Ok(()),
+            Some(piece) => {
+                self.pieces += 1;
+                let reading = read_piece(piece, self.deframer.whole(), self.sender);
+                say_line(folder, write_reading(&reading).as_slice())
+            }
+        }
+    }
+
+    /// Hears the low bits of an octet, so many, the lowest one first.
+    pub fn hear_low<F: Folder>(
+        &mut self,
+        folder: &mut F,
+        octet: u8,
+        count: u32,
+    ) -> Result<(), FolderFault>
+        requires pieces { self.old.pieces < 2 ^ 62 }
+        requires few { count ≤ 8 }
+        ensures ok { (start : FolderState) (bits : List Bool) → Heard start (F.state folder.old) self.old bits
+            → OnOk result (Heard start (F.state folder.new) self.new (bits ++ low_bits count octet)) }
+        ensures err { (start : FolderState) (bits : List Bool) → Heard start (F.state folder.old) self.old bits
+            → OnErr result (PartlyHeard start (F.state folder.new) self.old.sender (bits ++ low_bits count octet)) }
+        ensures only { OnlySays (F.state folder.old) (F.state folder.new) }
+        ensures fails { IfErr result (SayFails (F.state folder.old) (F.state folder.new)) }
+        ensures stand { OnOk result (CountsStand (F.state folder.old) (F.state folder.new)) }
+        ensures sender { self.new.sender ≡ self.old.sender }
+        ensures pieces { self.new.pieces ≤ self.old.pieces + count }
+    {
+        for place in 0..count {
+            match self.hear_bit(folder, (octet >> place) & 1 == 1) {
+                Ok(()) => {}
+                Err(fault) => return Err(fault),
+            }
+        }
+        Ok(())
+    }
+
+    /// Hears the eight bits of an octet, the low one first.
+    fn hear_octet<F: Folder>(&mut self, folder: &mut F, octet: u8) -> Result<(), FolderFault>
+        requires { self.old.pieces < 2 ^ 62 }
+        ensures ok { (start : FolderState) (bits : List Bool) → Heard start (F.state folder.old) self.old bits
+            → OnOk result (Heard start (F.state folder.new) self.new (bits ++ octet_bits octet)) }
+        ensures err { (start : FolderState) (bits : List Bool) → Heard start (F.state folder.old) self.old bits
+            → OnErr result (PartlyHeard start (F.state folder.new) self.old.sender (bits ++ octet_bits octet)) }
+        ensures only { OnlySays (F.state folder.old) (F.state folder.new) }
+        ensures fails { IfErr result (SayFails (F.state folder.old) (F.state folder.new)) }
+        ensures stand { OnOk result (CountsStand (F.state folder.old) (F.state folder.new)) }
+        ensures sender { self.new.sender ≡ self.old.sender }
+        ensures pieces { self.new.pieces ≤ self.old.pieces + 8 }
+    {
+        if self.pass(octet) {
+            return Ok(());
+        }
+        self.hear_low(folder, octet, 8)
+    }
+
+    /// Hears the bits of an octet where it is plain that no piece ends with any of them: whether it did.
+    fn pass(&mut self, octet: u8) -> bool
+        ensures heard { result ≡ true → (start now : FolderState) (bits : List Bool) → Heard start now self.old bits
+            → Heard start now self.new (bits ++ octet_bits octet) }
+        ensures stays { result ≡ false → self.new ≡ self.old }
+        ensures sender { self.new.sender ≡ self.old.sender }
+        ensures pieces { self.new.pieces ≡ self.old.pieces }
+    {
+        self.deframer.pass(octet)
+    }
+
+    /// Hears the bits of octets.
+    pub fn hear<F: Folder>(&mut self, folder: &mut F, octets: &[u8]) -> Result<(), FolderFault>
+        requires pieces { self.old.pieces < 2 ^ 60 }
+        requires few { length octets.now < 2 ^ 32 }
+        ensures ok { (start : FolderState) (bits : List Bool) → Heard start (F.state folder.old) self.old bits
+            → OnOk result (Heard start (F.state folder.new) self.new (bits ++ bits_of octets.now)) }
+        ensures err { (start : FolderState) (bits : List Bool) → Heard start (F.state folder.old) self.old bits
+            → OnErr result (PartlyHeard start (F.state folder.new) self.old.sender (bits ++ bits_of octets.now)) }
+        ensures only { OnlySays (F.state folder.old) (F.state folder.new) }
+        ensures fails { IfErr result (SayFails (F.state folder.old) (F.state folder.new)) }
+        ensures stand { OnOk result (CountsStand (F.state folder.old) (F.state folder.new)) }
+        ensures sender { self.new.sender ≡ self.old.sender }
+        ensures pieces { self.new.pieces ≤ self.old.pieces + 8 * length octets.now }
+    {
+        for octet in octets {
+            match self.hear_octet(folder, *octet) {
+                Ok(()) => {}
+                Err(fault) => return Err(fault),
+            }
+        }
+        Ok(())
+    }
+}

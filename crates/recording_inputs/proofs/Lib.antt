@@ -1,0 +1,3 @@
+pub mod HeaderRead
+pub mod Behind
+pub mod Headers
