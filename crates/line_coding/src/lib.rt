@@ -14,3 +14,4 @@ mod scrambling;
 
 pub use demodulator::{Demodulate, Demodulator};
 pub use modulator::Modulator;
+pub use scrambling::{ModeDescrambler, ModeScrambler};

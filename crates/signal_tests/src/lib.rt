@@ -16,6 +16,8 @@ mod picked_up;
 #[cfg(test)]
 mod points;
 #[cfg(test)]
+mod quarters;
+#[cfg(test)]
 mod recorded;
 #[cfg(test)]
 mod scrambling;

@@ -1,0 +1,5 @@
+pub mod Code
+pub mod CodeLaws
+pub mod Modulates
+pub mod Demodulates
+pub mod Laws
