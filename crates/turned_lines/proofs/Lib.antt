@@ -1,0 +1,4 @@
+pub mod Turned
+pub mod Quads
+pub mod Bits
+pub mod PickedUp

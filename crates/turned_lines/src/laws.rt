@@ -1,0 +1,29 @@
+//! Laws of a recording with noise and of the same after a quarter turn, as far as both are released. Each function's contract is a law.
+ghost use Rattle.turned_lines.specs.Laws.{NearTurns, QuadsAreAlike, FewBitsDiffer, OnePickedUpBegins, OneListOfPiecesBegins, ReadersPiecesBegin};
+
+/// Turned samples are as near to the points of the turned labels.
+pub fn turned_samples_are_as_near()
+    ensures { NearTurns }
+{}
+
+/// From one start, with noise below 2.5 squares of a map unit: both recordings carry the same quads but for the first.
+pub fn quads_behind_the_first_are_the_same()
+    ensures { QuadsAreAlike }
+{}
+
+/// Behind the descramblers at most six bits differ: those that the first two bits of the line go into.
+pub fn at_most_six_bits_differ()
+    ensures { FewBitsDiffer }
+{}
+
+/// From any state, with noise below one square of a map unit: of the bits that are picked up of both recordings one list begins the
+/// other, and so do the pieces of these bits.
+pub fn one_list_begins_the_other()
+    ensures bits { OnePickedUpBegins }
+    ensures pieces { OneListOfPiecesBegins }
+{}
+
+/// So it is of what two readers pick up of both.
+pub fn readers_pick_up_the_same_pieces()
+    ensures { ReadersPiecesBegin }
+{}
