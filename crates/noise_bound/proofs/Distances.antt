@@ -1,5 +1,5 @@
 -- How far two sequences are apart that meet: each fact is a test over pairs of states and labels that computes, and what it shows.
-use Rattle.std.proofs.Common.{◌≡◌, ◌≢◌, ℕ, zero, suc, ◌+◌, ◌-◌, ◌*◌, ◌/◌, ◌<◌, ◌≤◌, ◌⊎◌, inl, inr, Bool, true, false, ◌||◌, if◌then◌else◌, nat_eq, List, [], ◌∷◌, length, take, map, arith, Option, Some, None, refl, sym, ◌∙◌, ap, subst, eq-eqb}
+use Rattle.std.proofs.Common.{◌≡◌, ◌≢◌, ℕ, suc, ◌+◌, ◌*◌, ◌/◌, ◌≤◌, ◌⊎◌, inl, inr, Bool, true, ◌||◌, if◌then◌else◌, nat_eq, List, [], ◌∷◌, length, map, arith, Option, Some, None, refl, sym, ◌∙◌, ap, subst, eq-eqb}
 use Rattle.std.specs.Prelude.{nat_le, slice_index}
 use Rattle.std.proofs.lemmas.Bool.{leb-true, eqb-true, or_cases, cases_eq}
 use Rattle.symbol_map.specs.Finite.{each_below, at_each, at_each_pair}
@@ -13,7 +13,7 @@ use Rattle.trellis_tables.proofs.Branches.{leaves_apart}
 use Rattle.noiseless_line.proofs.Costs.{far-is}
 use Rattle.noiseless_line.proofs.Meetings.{Parted, parted-cost}
 use Rattle.noiseless_line.proofs.Detours.{other-end}
-use Rattle.noise_bound.specs.Distances.{apart_in_all, AreApartFrom, Near}
+use Rattle.noise_bound.specs.Distances.{apart_in_all, AreApartFrom}
 use Rattle.noise_bound.specs.DistanceLaws.{MeetingIsFar, MeetingAgainIsFar, ApartIsFar, PartingIsFar, EndsAreNear, CostIsDistance}
 
 -- the least that two sequences differ by from two states until they meet, a line for each state of one of them

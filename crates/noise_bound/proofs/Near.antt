@@ -1,14 +1,14 @@
 -- Survivors of samples that are near the points of a code sequence, and what they release.
-use Rattle.std.proofs.Common.{◌≡◌, ℕ, ◌+◌, ◌*◌, ◌<◌, ◌≤◌, ◌⊎◌, inl, inr, Bool, true, List, ◌++◌, length, map, take, drop, arith, append_assoc, length-take, None, refl, sym, ◌∙◌, ap, subst, eq-eqb}
+use Rattle.std.proofs.Common.{◌≡◌, ℕ, ◌+◌, ◌*◌, ◌<◌, ◌≤◌, ◌⊎◌, inl, inr, Bool, true, List, ◌++◌, length, map, take, drop, arith, append_assoc, length-take, None, sym, ◌∙◌, ap, subst}
 use Rattle.std.proofs.lemmas.Bool.{cases_lt, cases_eq, eqb-true}
-use Rattle.std.proofs.lemmas.List.{take-append-drop, take-take, take_all}
+use Rattle.std.proofs.lemmas.List.{take-append-drop, take_all}
 use Rattle.plain_lists.specs.Prefix.{IsPrefixOf}
 use Rattle.symbol_map.specs.declared.sample.Sample.{Sample}
 use Rattle.symbol_map.specs.Points.{point_of}
 use Rattle.trellis_tables.specs.Laws.{far_from}
 use Rattle.trellis_tables.specs.Sequences.{Leads, cost}
 use Rattle.trellis_tables.specs.Table.{next_state}
-use Rattle.trellis_tables.proofs.Sequences.{Leads-take, Leads_once}
+use Rattle.trellis_tables.proofs.Sequences.{Leads-take}
 use Rattle.survivors.specs.Trellises.{IsSequence}
 use Rattle.survivors.specs.Orders.{Beats}
 use Rattle.survivors.specs.Survivors.{IsSurvivor, IsReleased, LostIs}
@@ -18,7 +18,7 @@ use Rattle.quarter_turns.specs.Turned.{code_from}
 use Rattle.noiseless_line.proofs.Agreeing.{Survives, AreNear, cheaper, released-begins, few-from_one, few-from_any}
 use Rattle.noiseless_line.proofs.Followed.{few-unreleased_of_any}
 use Rattle.noise_bound.specs.Distances.{apart_in_all}
-use Rattle.noise_bound.specs.Near.{only, sure, sure_of_any, IsNear, Follows}
+use Rattle.noise_bound.specs.Near.{only, sure, sure_of_any, IsNear}
 use Rattle.noise_bound.specs.Laws.{ReleasesNear, FewUnreleased, NeverLost, DecodesNear, ReleasesNearOfAny, FewUnreleasedOfAny, NeverLostOfAny, DecodesNearOfAny, FewUnreleasedWithoutNoise}
 use Rattle.noise_bound.proofs.Distances.{meeting-is-far, one-or-far, cost-is-distance}
 use Rattle.noise_bound.proofs.Costs.{cost-over_others, distance-over_samples, cost-take, points-of_no-cost}

@@ -1,8 +1,7 @@
 -- Which bits may differ behind a descrambler.
-use Rattle.std.proofs.Common.{◌≡◌, ◌≢◌, ℕ, ◌+◌, ◌-◌, ◌<◌, ◌≤◌, ◌⊎◌, inl, inr, Bool, true, false, if◌then◌else◌, List, length, get_or, nat_lt, arith, refl, sym, ◌∙◌, ap}
+use Rattle.std.proofs.Common.{◌≡◌, ℕ, ◌+◌, ◌-◌, ◌<◌, ◌≤◌, ◌⊎◌, inl, inr, Bool, false, List, length, get_or, nat_lt, arith}
 use Rattle.std.proofs.lemmas.Bool.{cases_lt, cases_eq}
 use Rattle.std.proofs.lemmas.Bool.Decides.{nat_tests}
-use Rattle.symbol_map.specs.declared.sample.Sample.{Sample}
 use Rattle.scramblers.specs.Stream.{bit_at_place, earlier}
 use Rattle.scramblers.proofs.Readings.{depends_on_three}
 use Rattle.line_coding.specs.Demodulates.{line_of, Demodulates}
@@ -40,7 +39,7 @@ unchanged : (tap i : ℕ) (labels front turned_front : List ℕ) (bits turned_bi
     → i < length bits → i < length turned_bits → (i ≡ 0 → ⊥) → (i ≡ 1 → ⊥) → (i ≡ tap → ⊥) → (i ≡ tap + 1 → ⊥) → (i ≡ 23 → ⊥) → (i ≡ 24 → ⊥) → bit_at_place turned_bits i ≡ bit_at_place bits i
 unchanged tap i labels front turned_front bits turned_bits h d e within turned_within a0 a1 b0 b1 c0 c1 =
     let same : (j : ℕ) → 2 ≤ j → j ≤ i → get_or (line_of turned_front) j false ≡ get_or (line_of front) j false =
-        λ j some last. bits-alike j labels front turned_front h some (omega (arith, d.lengths)) (omega (arith, e.lengths)) in
+    λ j some last. bits-alike j labels front turned_front h some (omega (arith, d.lengths)) (omega (arith, e.lengths)) in
     depends_on_three tap (line_of turned_front) (line_of front) turned_bits bits i i (omega (arith, e.lengths)) (omega (arith, d.lengths)) e d
     (same-before i 0 (line_of turned_front) (line_of front) same a0 a1)
     (same-before i tap (line_of turned_front) (line_of front) same b0 b1)

@@ -1,14 +1,14 @@
 -- Of what is picked up of a recording and of its turn one begins the other.
-use Rattle.std.proofs.Common.{◌≡◌, ℕ, zero, suc, ◌+◌, ◌-◌, ◌<◌, ◌≤◌, ◌⊎◌, inl, inr, Bool, false, List, [], ◌∷◌, ◌++◌, length, map, take, drop, get_or, nat_lt, arith, length-append, append_assoc, refl, sym, ◌∙◌, ap, subst}
+use Rattle.std.proofs.Common.{◌≡◌, ℕ, zero, suc, ◌+◌, ◌-◌, ◌<◌, ◌≤◌, inl, inr, Bool, false, List, [], ◌∷◌, ◌++◌, length, map, take, drop, nat_lt, arith, length-append, append_assoc, refl, sym, ◌∙◌, ap, subst}
 use Rattle.std.specs.List.{flat_map}
 use Rattle.std.proofs.lemmas.Bool.{cases_lt}
 use Rattle.std.proofs.lemmas.Bool.Decides.{nat_tests}
-use Rattle.std.proofs.lemmas.List.{ext_get_or, get_or-take, get_or_append_left, take_at, take-append-le, take-append-drop, take-map, map-append, length-map, length-take-le}
+use Rattle.std.proofs.lemmas.List.{ext_get_or, get_or-take, get_or_append_left, take_at, take-append-le, take-append-drop, take-map, length-take-le}
 use Rattle.plain_lists.specs.Bits.{low_bits}
 use Rattle.plain_lists.specs.Prefix.{IsPrefixOf}
 use Rattle.scramblers.specs.declared.mode.Mode.{Mode}
 use Rattle.scramblers.specs.Mode.{tap_of}
-use Rattle.scramblers.specs.Stream.{bit_at_place, earlier}
+use Rattle.scramblers.specs.Stream.{earlier}
 use Rattle.scramblers.specs.Scrambles.{Descrambles}
 use Rattle.scramblers.proofs.Readings.{depends_on_three}
 use Rattle.symbol_map.specs.declared.sample.Sample.{Sample}
@@ -16,14 +16,13 @@ use Rattle.symbol_map.specs.Distance.{quarter_turned}
 use Rattle.symbol_map.specs.Laws.{turned_label}
 use Rattle.quarter_turns.specs.Turned.{all_states}
 use Rattle.quarter_turns.proofs.Least.{all_states_turn}
-use Rattle.exact_decoder.specs.Decoder.{Decoding}
 use Rattle.noise_bound.specs.Near.{sure_of_any, IsNear}
 use Rattle.picked_up_lines.specs.PickedUp.{IsPickedUp, line_behind}
-use Rattle.picked_up_lines.specs.Reading.{Middle, MiddleRead}
+use Rattle.picked_up_lines.specs.Reading.{Middle}
 use Rattle.picked_up_lines.specs.Laws.{ReadsMiddle}
 use Rattle.picked_up_lines.proofs.Quads.{quads-turned}
 use Rattle.picked_up_lines.proofs.Readers.{readers_pick_up}
-use Rattle.bit_stuffing.specs.Found.{Found, pieces_of}
+use Rattle.bit_stuffing.specs.Found.{pieces_of}
 use Rattle.bit_stuffing.proofs.Sent.{pieces-stay}
 use Rattle.turned_lines.specs.Turned.{OneBegins}
 use Rattle.turned_lines.specs.Laws.{OnePickedUpBegins, OneListOfPiecesBegins, ReadersPiecesBegin}

@@ -1,8 +1,8 @@
 -- Quads of labels that begin others, and of turned ones.
-use Rattle.std.proofs.Common.{◌≡◌, ℕ, zero, suc, ◌+◌, ◌-◌, ◌*◌, ◌/◌, ◌%◌, ◌<◌, ◌≤◌, Bool, false, List, [], ◌∷◌, ◌++◌, length, map, take, drop, get_or, arith, length-append, refl, sym, ◌∙◌, ap, subst}
+use Rattle.std.proofs.Common.{◌≡◌, ℕ, ◌+◌, ◌-◌, ◌/◌, ◌<◌, ◌≤◌, false, List, [], ◌∷◌, ◌++◌, length, map, take, drop, get_or, arith, length-append, refl, sym, ◌∙◌, ap}
 use Rattle.std.specs.List.{flat_map}
 use Rattle.std.proofs.lemmas.Grind.{flat_map-append}
-use Rattle.std.proofs.lemmas.List.{take_at, take-append-drop, get_or-take, get_or-drop, get_or_append_left, length-map}
+use Rattle.std.proofs.lemmas.List.{take_at, take-append-drop, get_or-drop, get_or_append_left, length-map}
 use Rattle.plain_lists.specs.Bits.{low_bits}
 use Rattle.plain_lists.specs.Prefix.{IsPrefixOf}
 use Rattle.symbol_map.specs.Labels.{q3q4_of, y_of}
@@ -91,6 +91,6 @@ bits-alike j labels front turned_front h some within turned_within =
     let theirs : line_of turned ≡ line_of turned_front ++ q.0 = ap line_of (sym h.turned_begins.1) ∙ sym q.1 in
     let place : 2 + (j - 2) ≡ j = omega arith in
     let behind : get_or (line_of turned) j false ≡ get_or (line_of labels) j false =
-        ap (λ n. get_or (line_of turned) n false) (sym place) ∙ sym (get_or-drop 2 (line_of turned) (j - 2) false) ∙ ap (λ k. get_or k (j - 2) false) (lines-alike labels)
-        ∙ get_or-drop 2 (line_of labels) (j - 2) false ∙ ap (λ n. get_or (line_of labels) n false) place in
+    ap (λ n. get_or (line_of turned) n false) (sym place) ∙ sym (get_or-drop 2 (line_of turned) (j - 2) false) ∙ ap (λ k. get_or k (j - 2) false) (lines-alike labels)
+    ∙ get_or-drop 2 (line_of labels) (j - 2) false ∙ ap (λ n. get_or (line_of labels) n false) place in
     sym (get_or_append_left (line_of turned_front) q.0 false j turned_within) ∙ ap (λ k. get_or k j false) (sym theirs) ∙ behind ∙ ap (λ k. get_or k j false) mine ∙ get_or_append_left (line_of front) p.0 false j within
