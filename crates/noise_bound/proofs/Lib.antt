@@ -1,3 +1,5 @@
-pub mod Distances
-pub mod Costs
-pub mod Near
+pub mod Margins
+pub mod Turned
+pub mod Quads
+pub mod Bits
+pub mod PickedUp

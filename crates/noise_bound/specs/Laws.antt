@@ -1,53 +1,62 @@
--- Laws of what is decoded of samples that are near the points of a code sequence.
-use Rattle.std.specs.Prelude.{ℕ, ◌+◌, ◌≤◌, Bool, List, length, take, None}
+-- Laws of recordings with little noise, and of the same after a quarter turn.
+use Rattle.std.specs.Prelude.{◌≡◌, ◌≢◌, ℕ, ◌<◌, ◌≤◌, Bool, List, length, map, take, slice_index, None}
 use Rattle.plain_lists.specs.Prefix.{IsPrefixOf}
+use Rattle.scramblers.specs.declared.mode.Mode.{Mode}
+use Rattle.scramblers.specs.Stream.{bit_at_place}
 use Rattle.symbol_map.specs.declared.sample.Sample.{Sample}
-use Rattle.symbol_map.specs.Points.{point_of}
-use Rattle.trellis_tables.specs.Table.{next_state}
+use Rattle.symbol_map.specs.Distance.{quarter_turned}
+use Rattle.symbol_map.specs.Laws.{turned_label}
+use Rattle.trellis_tables.specs.LabelReader.{quads_of}
+use Rattle.trellis_tables.specs.Rotation.{rotated}
 use Rattle.survivors.specs.Survivors.{IsReleased, LostIs}
-use Rattle.exact_decoder.specs.Decoder.{Decoding, DecoderStands}
-use Rattle.quarter_turns.specs.Turned.{code_from}
-use Rattle.noise_bound.specs.Near.{only, sure, sure_of_any, IsNear, Follows}
+use Rattle.quarter_turns.specs.Turned.{all_states, code_from, StartsTurn}
+use Rattle.noisy_line.specs.Near.{only, sure, sure_of_any, IsNear}
+use Rattle.line_coding.specs.Demodulates.{Demodulates}
+use Rattle.picked_up_lines.specs.PickedUp.{IsPickedUp}
+use Rattle.picked_up_lines.specs.Reading.{Middle, MiddleRead}
+use Rattle.bit_stuffing.specs.Found.{pieces_of}
+use Rattle.noise_bound.specs.Margins.{IsCostOf}
+use Rattle.noise_bound.specs.Turned.{BothRelease, IsOfFirstTwo, OneBegins}
 
--- from one start
+-- labels that cost little are near the samples
+abbrev pub SureIsNear : Type 0
+SureIsNear = (mode : Mode) (octets : List ℕ) (samples : List Sample) (price : ℕ) → (c : IsCostOf mode octets samples price) → price < sure
+    → IsNear sure (only 0) c.modulated.labels samples
 
--- what the first n samples release was sent
-abbrev pub ReleasesNear : Type 0
-ReleasesNear = (start n : ℕ) (labels front : List ℕ) (samples : List Sample)
-    → IsNear sure (only start) labels samples → IsReleased (code_from (only start)) (take n samples) front → IsPrefixOf front labels
+-- so the line isn't lost, and what is released was sent
+abbrev pub SureIsDecoded : Type 0
+SureIsDecoded = (mode : Mode) (octets : List ℕ) (samples : List Sample) (price depth : ℕ) → (c : IsCostOf mode octets samples price) → price < sure → 126 ≤ depth
+    → LostIs (code_from (only 0)) depth samples None × ((front : List ℕ) → IsReleased (code_from (only 0)) samples front → IsPrefixOf front c.modulated.labels)
 
--- and all of it but the latest 126 labels
-abbrev pub FewUnreleased : Type 0
-FewUnreleased = (start n : ℕ) (labels front : List ℕ) (samples : List Sample) → n ≤ length samples
-    → IsNear sure (only start) labels samples → IsReleased (code_from (only start)) (take n samples) front → n ≤ length front + 126
+-- turned samples are near the turned labels
+abbrev pub NearTurns : Type 0
+NearTurns = (bound : ℕ) (starts turned_starts : ℕ → Bool) (labels : List ℕ) (samples : List Sample) → StartsTurn starts turned_starts
+    → IsNear bound starts labels samples → IsNear bound turned_starts (map turned_label labels) (map quarter_turned samples)
 
-abbrev pub NeverLost : Type 0
-NeverLost = (start depth : ℕ) (labels : List ℕ) (samples : List Sample)
-    → IsNear sure (only start) labels samples → 126 ≤ depth → LostIs (code_from (only start)) depth samples None
+-- the quads behind the first one are the same
+abbrev pub QuadsAreAlike : Type 0
+QuadsAreAlike = (start i : ℕ) (labels front turned_front : List ℕ) (samples : List Sample) → start < 8 → IsNear sure (only start) labels samples
+    → BothRelease (only start) (only (rotated start)) samples front turned_front
+    → 1 ≤ i → i < length front → i < length turned_front → slice_index (quads_of turned_front) i ≡ slice_index (quads_of front) i
 
-abbrev pub DecodesNear : Type 0
-DecodesNear = (start depth : ℕ) (labels taken : List ℕ) (samples : List Sample) (d : Decoding) → 126 ≤ depth → IsNear sure (only start) labels samples
-    → DecoderStands next_state point_of (only start) depth d samples taken → Follows 126 d taken labels
+-- bits that differ are among six
+abbrev pub FewBitsDiffer : Type 0
+FewBitsDiffer = (tap start i : ℕ) (labels front turned_front : List ℕ) (samples : List Sample) (bits turned_bits : List Bool) → start < 8 → IsNear sure (only start) labels samples
+    → BothRelease (only start) (only (rotated start)) samples front turned_front → Demodulates tap front bits → Demodulates tap turned_front turned_bits
+    → i < length bits → i < length turned_bits → bit_at_place turned_bits i ≢ bit_at_place bits i → IsOfFirstTwo tap i
 
--- from whatever starts
+-- of what is picked up one begins the other
+abbrev pub OnePickedUpBegins : Type 0
+OnePickedUpBegins = (tap : ℕ) (labels front turned_front : List ℕ) (samples : List Sample) (bits turned_bits : List Bool) → IsNear sure_of_any all_states labels samples
+    → BothRelease all_states all_states samples front turned_front → IsPickedUp tap front bits → IsPickedUp tap turned_front turned_bits → OneBegins bits turned_bits
 
-abbrev pub ReleasesNearOfAny : Type 0
-ReleasesNearOfAny = (starts : ℕ → Bool) (n : ℕ) (labels front : List ℕ) (samples : List Sample)
-    → IsNear sure_of_any starts labels samples → IsReleased (code_from starts) (take n samples) front → IsPrefixOf front labels
+abbrev pub OneListOfPiecesBegins : Type 0
+OneListOfPiecesBegins = (tap : ℕ) (labels front turned_front : List ℕ) (samples : List Sample) (bits turned_bits : List Bool) → IsNear sure_of_any all_states labels samples
+    → BothRelease all_states all_states samples front turned_front → IsPickedUp tap front bits → IsPickedUp tap turned_front turned_bits
+    → OneBegins (pieces_of bits) (pieces_of turned_bits)
 
-abbrev pub FewUnreleasedOfAny : Type 0
-FewUnreleasedOfAny = (starts : ℕ → Bool) (n : ℕ) (labels front : List ℕ) (samples : List Sample) → n ≤ length samples
-    → IsNear sure_of_any starts labels samples → IsReleased (code_from starts) (take n samples) front → n ≤ length front + 116
-
-abbrev pub NeverLostOfAny : Type 0
-NeverLostOfAny = (starts : ℕ → Bool) (depth : ℕ) (labels : List ℕ) (samples : List Sample)
-    → IsNear sure_of_any starts labels samples → 116 ≤ depth → LostIs (code_from starts) depth samples None
-
-abbrev pub DecodesNearOfAny : Type 0
-DecodesNearOfAny = (starts : ℕ → Bool) (depth : ℕ) (labels taken : List ℕ) (samples : List Sample) (d : Decoding) → 116 ≤ depth → IsNear sure_of_any starts labels samples
-    → DecoderStands next_state point_of starts depth d samples taken → Follows 116 d taken labels
-
--- samples that cost nothing
-abbrev pub FewUnreleasedWithoutNoise : Type 0
-FewUnreleasedWithoutNoise = (starts : ℕ → Bool) (n : ℕ) (labels front : List ℕ) (samples : List Sample) → n ≤ length samples
-    → IsNear 1 starts labels samples → IsReleased (code_from starts) (take n samples) front → n ≤ length front + 29
+-- however far two readers have read
+abbrev pub ReadersPiecesBegin : Type 0
+ReadersPiecesBegin = (mode : Mode) (depth turned_depth count turned_count : ℕ) (m turned : Middle) (labels : List ℕ) (samples : List Sample) (bits turned_bits : List Bool)
+    → IsNear sure_of_any all_states labels samples → MiddleRead mode depth m (take count samples) bits
+    → MiddleRead mode turned_depth turned (take turned_count (map quarter_turned samples)) turned_bits → OneBegins (pieces_of bits) (pieces_of turned_bits)

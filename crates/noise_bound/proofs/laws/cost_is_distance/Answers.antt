@@ -1,5 +1,0 @@
-use Rattle.noise_bound.proofs.Distances.{cost-is-distance}
-use Rattle.noise_bound.proofs.laws.cost_is_distance.Goals as goal
-
-pub returns : goal.returns
-returns c = cost-is-distance

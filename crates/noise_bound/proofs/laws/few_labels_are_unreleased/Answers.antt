@@ -1,5 +1,0 @@
-use Rattle.noise_bound.proofs.Near.{few-unreleased, never-lost}
-use Rattle.noise_bound.proofs.laws.few_labels_are_unreleased.Goals as goal
-
-pub returns : goal.returns
-returns c = record { few = few-unreleased; never_lost = never-lost }

@@ -1,4 +1,0 @@
-pub mod Turned
-pub mod Quads
-pub mod Bits
-pub mod PickedUp

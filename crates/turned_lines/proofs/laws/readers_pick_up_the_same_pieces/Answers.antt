@@ -1,5 +1,0 @@
-use Rattle.turned_lines.proofs.PickedUp.{readers-pieces-begin}
-use Rattle.turned_lines.proofs.laws.readers_pick_up_the_same_pieces.Goals as goal
-
-pub returns : goal.returns
-returns c = readers-pieces-begin
