@@ -1,10 +1,10 @@
 -- A decoder follows a line whose noise is faint.
-use Rattle.std.proofs.Common.{◌≡◌, ◌∙◌, ℕ, zero, suc, ◌+◌, ◌*◌, ◌<◌, ◌≤◌, Bool, true, false, ◌&&◌, if◌then◌else◌, List, [], ◌∷◌, length, map, refl, sym, ap, arith, Some, None, ℤ, pos, neg_ℤ, ◌+ℤ◌, ◌-ℤ◌, ◌≤ℤ◌, ◌*ℤ◌, int_lt, int_le, unsigned_abs}
+use Rattle.std.proofs.Common.{◌≡◌, ◌∙◌, ℕ, zero, suc, ◌+◌, ◌*◌, ◌<◌, ◌≤◌, Bool, true, false, ◌&&◌, if◌then◌else◌, List, [], ◌∷◌, length, map, refl, sym, ap, arith, Some, None, ℤ, pos, neg_ℤ, ◌+ℤ◌, ◌-ℤ◌, ◌≤ℤ◌, int_lt, int_le, unsigned_abs}
 use Rattle.std.proofs.lemmas.Bool.{and_parts}
 use Rattle.std.proofs.lemmas.Int.{ints}
 use Rattle.std.proofs.lemmas.Nat.{mul-le}
 use Rattle.symbol_map.specs.declared.sample.Sample.{Sample}
-use Rattle.symbol_map.specs.Distance.{squared_gap, distance_of}
+use Rattle.symbol_map.specs.Distance.{distance_of}
 use Rattle.symbol_map.specs.Finite.{each_below, at_each}
 use Rattle.symbol_map.specs.Points.{point_of}
 use Rattle.scramblers.specs.Mode.{tap_of}
@@ -20,11 +20,9 @@ use Rattle.line_coding.proofs.Readings.{four-each}
 use Rattle.roles.specs.declared.role.Role.{Role}
 use Rattle.roles.specs.Role.{mode_of}
 use Rattle.noise_script.specs.declared.offset.Offset.{Offset}
-use Rattle.noise_script.specs.Offsets.{nothing}
 use Rattle.noise_script.specs.Script.{ScriptValue, offset_of}
 use Rattle.sample_line.specs.Recorded.{displaced, displaced_from, saturated, Records}
 use Rattle.sample_line.specs.Received.{line_trellis, line_depth}
-use Rattle.sample_line.specs.Path.{LosesAt}
 use Rattle.line_laws.specs.Unhindered.{DisplacesNoneBefore}
 use Rattle.line_laws.specs.Faint.{squares_of, squares_from, IsFaintBefore}
 use Rattle.line_laws.specs.Laws.{UndisplacedIsFaint}

@@ -2,7 +2,7 @@
 use Rattle.std.proofs.Common.{◌≡◌, ◌∙◌, inr, ℕ, ◌+◌, ◌*◌, ◌<◌, ◌≤◌, Bool, true, false, List, [], ◌∷◌, ◌++◌, length, take, drop, map, replicate, Ok, Err, Result, refl, sym, ap, subst, arith, length-append, append-nil, append_assoc}
 use Rattle.std.proofs.Math.Nat.{mul_assoc, mul-suc}
 use Rattle.std.proofs.Math.Seq.{take-append_seam, drop-append_seam}
-use Rattle.std.proofs.lemmas.List.{map-append, take_all, take-append-drop, length-drop}
+use Rattle.std.proofs.lemmas.List.{map-append, take-append-drop, length-drop}
 use Rattle.std.proofs.lemmas.List.Elements.{All-replicate}
 use Rattle.frame_check.specs.declared.check.Check.{Check}
 use Rattle.scramblers.specs.Mode.{tap_of}
