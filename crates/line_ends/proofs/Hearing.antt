@@ -1,5 +1,5 @@
--- What is heard in a script's run of which no symbol is displaced.
-use Rattle.std.proofs.Common.{◌≡◌, ◌≢◌, ℕ, ◌+◌, ◌-◌, ◌*◌, ◌≤◌, Bool, true, false, List, [], ◌∷◌, ◌++◌, length, drop, replicate, arith, refl, sym, ◌∙◌, subst, Option, Some, None, append-nil}
+-- What is heard in a script's run whose noise is faint.
+use Rattle.std.proofs.Common.{◌≡◌, ◌≢◌, ℕ, ◌+◌, ◌-◌, ◌*◌, ◌<◌, ◌≤◌, Bool, true, false, List, [], ◌∷◌, ◌++◌, length, drop, replicate, arith, refl, sym, ◌∙◌, subst, Option, Some, None, append-nil}
 use Rattle.std.proofs.lemmas.List.Elements.{All-replicate}
 use Rattle.frame_check.specs.declared.check.Check.{Check}
 use Rattle.roles.specs.declared.role.Role.{Role}
@@ -22,8 +22,8 @@ use Rattle.sample_line.specs.Recorded.{Records}
 use Rattle.sample_line.specs.Outcomes.{IsPattern, IsOutcome}
 use Rattle.sample_line.specs.Laws.{OneOutcome}
 use Rattle.line_laws.specs.Fitting.{AreFit}
-use Rattle.line_laws.specs.Unhindered.{ChecksAgree, DisplacesNoneBefore, frames_in, patterns_in, unhindered}
-use Rattle.line_laws.specs.Laws.{EmptyScriptDisplacesNone, NeverLost, ReceivedIsSent, NeverChance}
+use Rattle.line_laws.specs.Unhindered.{ChecksAgree, frames_in, patterns_in, unhindered}
+use Rattle.line_laws.specs.Laws.{FaintNeverLost, FaintReceivedIsSent, NeverChance}
 use Rattle.link_account.specs.Account.{check_of}
 use Rattle.link_run.specs.Run.{Ends, Spoken, Turn}
 use Rattle.link_run.specs.Carried.{sent_ago}
@@ -34,7 +34,7 @@ use Rattle.line_run.specs.Sampled.{Channel, signal_in, signals, Arrives, Arrives
 use Rattle.line_run.specs.Sampled as lines
 use Rattle.line_run.specs.Scripted.{channel_of, link_of, ScriptsMayPlay, ScriptsHaveDelays, SlotsHaveRoom, SlotsAreCodable}
 use Rattle.line_run.specs.LineLaws.{SamplesAreCarried}
-use Rattle.line_ends.specs.Completes.{DisplacesNone, AllSendable, UndisplacedGoOn}
+use Rattle.line_ends.specs.Completes.{IsFaint, AllSendable, FaintGoOn}
 use Rattle.line_ends.proofs.Fitting.{symbols_of, bits_in, fits-all, fits-before}
 use Rattle.line_ends.proofs.Slots.{SentAgo, sent-ago}
 
@@ -45,9 +45,8 @@ pub record HearLaws : Type 0 where
   pub codable : SlotsAreCodable
   pub carried : SamplesAreCarried
   pub judges : JudgesByItsCheck
-  pub displaces : EmptyScriptDisplacesNone
-  pub never_lost : NeverLost
-  pub received : ReceivedIsSent
+  pub never_lost : FaintNeverLost
+  pub received : FaintReceivedIsSent
   pub never_chance : NeverChance
   pub one : OneOutcome
 
@@ -80,12 +79,13 @@ agree-on check hearing slots.Adp f = tt
 agree-on check hearing slots.Flags f = tt
 agree-on check hearing (slots.Frame frame) f = f frame refl
 
-displaces-none : EmptyScriptDisplacesNone → (script : ScriptValue) (sender : Role) (count : ℕ) → DisplacesNone script → DisplacesNoneBefore script sender count
-displaces-none law script sender count d = law script sender count d.no_hits d.no_noises
+-- the slots of a script are long enough
+slots-long : (script : ScriptValue) → 215 < symbols_of script
+slots-long script = omega arith
 
 -- a slot that arrives
 arrives-unhindered : HearLaws → (script : ScriptValue) (sender : Role) (earlier : List Turn) (t : Turn) (hearing : Check) (slot : Spoken) (heard : Heard)
-    → IsInLimits script → DisplacesNone script → (of sender t).sent ≡ Some slot → AreFit (bits_in script) 0 (signals (channel_of script) sender (t ∷ earlier)) → IsSendable slot.sent
+    → IsInLimits script → IsFaint script → (of sender t).sent ≡ Some slot → AreFit (bits_in script) 0 (signals (channel_of script) sender (t ∷ earlier)) → IsSendable slot.sent
     → ChecksAgree slot.check hearing slot.sent → Arrives (channel_of script) sender earlier (t ∷ earlier) hearing slot heard
     → heard ≡ unhindered (loses script sender (length earlier)) slot.sent
 arrives-unhindered laws script sender earlier t hearing slot heard h d e fit is agree a =
@@ -96,7 +96,7 @@ arrives-unhindered laws script sender earlier t hearing slot heard h d e fit is 
     let recorded : Records script sender (signal_bits (bits_in script) (before ++ signal ∷ [])) a.samples
     = subst (λ o. Records script sender (signal_bits (bits_in script) (before ++ signal_in c sender o)) a.samples) e a.recorded in
     let same = laws.received script slot.check hearing sender 0 (symbols_of script) before slot.sent a.before a.samples a.frames a.patterns
-    (displaces-none laws.displaces script sender (symbols_of script * (length before + 1)) d) (laws.room script h).0 fits is agree a.recorded_before recorded a.received in
+    (d sender (symbols_of script * (length before + 1))) (slots-long script) fits is agree a.recorded_before recorded a.received in
     let lose : Bool = loses script sender (length earlier) in
     laws.one lose slot.sent (frames_in slot.sent) (patterns_in slot.sent) heard (unhindered lose slot.sent)
     (subst (λ xs. IsOutcome lose slot.sent (frames_in slot.sent) xs heard) same.1 (subst (λ xs. IsOutcome lose slot.sent xs a.patterns heard) same.0 a.outcome)) (expected lose slot.sent)
@@ -117,7 +117,7 @@ lost-named false (slots.Frame frame) h = absurd h
 nothing-named : (script : ScriptValue) (sender : Role) (ts : List Turn) → AsNamed script sender ts Nothing
 nothing-named script sender ts = record { well = λ e. absurd cc; lost = λ h. absurd h }
 
-pub heard-named : HearLaws → (script : ScriptValue) (files : Both (List ℕ)) (ts : List Turn) (ends : Ends) → IsInLimits script → DisplacesNone script
+pub heard-named : HearLaws → (script : ScriptValue) (files : Both (List ℕ)) (ts : List Turn) (ends : Ends) → IsInLimits script → IsFaint script
     → LineRun (channel_of script) (link_of script files) ts ends → AllSendable ts → (role : Role) (heard : Heard)
     → IsHeardOf (channel_of script) (other role) ts (check_of (of role ends)) heard → AsNamed script (other role) ts heard
 heard-named laws script files ts ends h d r s role heard k = go (sent_ago delay sender ts) refl k
@@ -148,14 +148,14 @@ heard-named laws script files ts ends h d r s role heard k = go (sent_ago delay 
         }
 
 -- the line isn't lost
-stays : HearLaws → (script : ScriptValue) (sender : Role) (ts : List Turn) (symbol : ℕ) → DisplacesNone script → LosesLine (channel_of script) sender ts symbol → ⊥
+stays : HearLaws → (script : ScriptValue) (sender : Role) (ts : List Turn) (symbol : ℕ) → IsFaint script → LosesLine (channel_of script) sender ts symbol → ⊥
 stays laws script sender ts symbol d l =
     let bits : List Bool = lines.bits_of (channel_of script) sender (drop (delay_of script sender - 1) ts) in
-    laws.never_lost sender script (length bits) [] bits symbol (displaces-none laws.displaces script sender (length bits) d) (omega arith)
+    laws.never_lost sender script (length bits) [] bits symbol (d sender (length bits)) (omega arith)
     (record { first = bits; rest = []; bits_are = sym (append-nil bits); loses = l.loses })
 
-pub undisplaced-go-on : HearLaws → UndisplacedGoOn
-undisplaced-go-on laws script files ts ends (lines.LineLost Originator symbol) h d r s e = stays laws script Answerer ts symbol d e
-undisplaced-go-on laws script files ts ends (lines.LineLost Answerer symbol) h d r s e = stays laws script Originator ts symbol d e.1
-undisplaced-go-on laws script files ts ends (lines.ChanceMatch Originator) h d r s e = (heard-named laws script files ts ends h d r s Originator Chance e).well refl
-undisplaced-go-on laws script files ts ends (lines.ChanceMatch Answerer) h d r s e = (heard-named laws script files ts ends h d r s Answerer Chance e.1).well refl
+pub faint-go-on : HearLaws → FaintGoOn
+faint-go-on laws script files ts ends (lines.LineLost Originator symbol) h d r s e = stays laws script Answerer ts symbol d e
+faint-go-on laws script files ts ends (lines.LineLost Answerer symbol) h d r s e = stays laws script Originator ts symbol d e.1
+faint-go-on laws script files ts ends (lines.ChanceMatch Originator) h d r s e = (heard-named laws script files ts ends h d r s Originator Chance e).well refl
+faint-go-on laws script files ts ends (lines.ChanceMatch Answerer) h d r s e = (heard-named laws script files ts ends h d r s Answerer Chance e.1).well refl

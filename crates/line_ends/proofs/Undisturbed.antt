@@ -1,10 +1,11 @@
--- Runs of scripts that displace no symbol are done.
+-- Runs of scripts whose noise is faint are done.
 use Rattle.std.proofs.Common.{◌≡◌, ℕ, List, [], ◌∷◌, length, arith, ap, subst}
 use Rattle.roles.specs.declared.role.Role.{Role}
 use Rattle.roles.specs.declared.role.Role.TheVariants.{Originator, Answerer}
 use Rattle.roles.specs.Role.{other}
 use Rattle.roles.specs.Both.{Both, of}
 use Rattle.noise_script.specs.Script.{ScriptValue, IsInLimits}
+use Rattle.line_laws.specs.Laws.{EmptyScriptDisplacesNone, UndisplacedIsFaint}
 use Rattle.link_account.specs.declared.fault.LinkFault.TheVariants as faults
 use Rattle.link_run.specs.Run.{Link, Ends, Turn, Hears}
 use Rattle.link_run.specs.Outcomes.{Outcome, Going, Done, Broken, TurnIs}
@@ -12,8 +13,8 @@ use Rattle.line_run.specs.Sampled.{Channel, IsHeardOf, HeardIn, LineRun}
 use Rattle.line_run.specs.Sampled as lines
 use Rattle.line_run.specs.Scripted.{channel_of, link_of, ScriptsMayPlay, ScriptsHaveDelays}
 use Rattle.line_run.specs.Ends.{RunEnd, IsDone, LinkLost, NotDetected, LineLost, ChanceMatch, Left, EndsInTurn, DoneLeavesWhole}
-use Rattle.line_ends.specs.Completes.{ScriptRunsTo, heard_turns, LineEnds, DisplacesNone, AllSendable, OctetsAreSendable, UndisplacedGoOn, LosesWhatIsNamed, CompletesWithFewLosses, CompletesWithFewNamed, CompletesUndisturbed, slots_named}
-use Rattle.line_ends.specs.EachEnds.{HasEnd, EachRunEnds, UndisturbedRunsDeliver}
+use Rattle.line_ends.specs.Completes.{ScriptRunsTo, heard_turns, LineEnds, IsFaint, IsQuiet, DisplacesNoneIsFaint, AllSendable, OctetsAreSendable, FaintGoOn, LosesWhatIsNamed, CompletesWithFewLosses, CompletesWithFewNamed, CompletesQuiet, CompletesUndisturbed, slots_named}
+use Rattle.line_ends.specs.EachEnds.{HasEnd, EachRunEnds, QuietRunsDeliver, UndisturbedRunsDeliver}
 use Rattle.line_ends.proofs.Hearing.{HearLaws, AsNamed, heard-named}
 use Rattle.line_ends.proofs.Counting.{AllNamed, lost-few}
 
@@ -24,27 +25,27 @@ hearing-in link ts ends t mid Done h = h.hearing
 hearing-in link ts ends t mid (Broken role fault) h = h.hearing
 
 -- what is heard in a turn, and in all turns of a run
-turn-named : HearLaws → (script : ScriptValue) (files : Both (List ℕ)) (ts : List Turn) (ends : Ends) (t : Turn) (mid : Ends) → IsInLimits script → DisplacesNone script
+turn-named : HearLaws → (script : ScriptValue) (files : Both (List ℕ)) (ts : List Turn) (ends : Ends) (t : Turn) (mid : Ends) → IsInLimits script → IsFaint script
     → LineRun (channel_of script) (link_of script files) ts ends → AllSendable ts → Hears (length ts) ends t mid → HeardIn (channel_of script) ts t
     → (role : Role) → AsNamed script (other role) ts (of role t).heard
 turn-named laws script files ts ends t mid h d r s k w role =
     heard-named laws script files ts ends h d r s role (of role t).heard
     (subst (λ z. IsHeardOf (channel_of script) (other role) ts z (of role t).heard) (k role).check_is (w role).heard_of)
 
-run-named : HearLaws → (script : ScriptValue) (files : Both (List ℕ)) (ts : List Turn) (ends : Ends) → IsInLimits script → DisplacesNone script
+run-named : HearLaws → (script : ScriptValue) (files : Both (List ℕ)) (ts : List Turn) (ends : Ends) → IsInLimits script → IsFaint script
     → LineRun (channel_of script) (link_of script files) ts ends → AllSendable ts → AllNamed script ts
 run-named laws script files [] ends h d r s = tt
 run-named laws script files (t ∷ ts) ends h d r s =
     let before : LineRun (channel_of script) (link_of script files) ts r.run.0 = record { run = r.run.1; heard = r.heard.1 } in
     (turn-named laws script files ts r.run.0 t r.run.2.mid h d before s.1 r.run.2.hearing r.heard.0, run-named laws script files ts r.run.0 h d before s.1)
 
-last-named : HearLaws → (script : ScriptValue) (files : Both (List ℕ)) (ts : List Turn) (ends : Ends) (o : Outcome) (turn : ℕ) (left : Left) → IsInLimits script → DisplacesNone script
+last-named : HearLaws → (script : ScriptValue) (files : Both (List ℕ)) (ts : List Turn) (ends : Ends) (o : Outcome) (turn : ℕ) (left : Left) → IsInLimits script → IsFaint script
     → LineRun (channel_of script) (link_of script files) ts ends → AllSendable ts
     → (e : EndsInTurn (channel_of script) (link_of script files) ts ends o turn left) → AllNamed script (e.last ∷ ts)
 last-named laws script files ts ends o turn left h d r s e =
     (turn-named laws script files ts ends e.last e.mid h d r s (hearing-in (link_of script files) ts ends e.last e.mid o e.is) e.heard, run-named laws script files ts ends h d r s)
 
-all-named : HearLaws → (script : ScriptValue) (files : Both (List ℕ)) (end : RunEnd) (left : Left) → IsInLimits script → DisplacesNone script
+all-named : HearLaws → (script : ScriptValue) (files : Both (List ℕ)) (end : RunEnd) (left : Left) → IsInLimits script → IsFaint script
     → (r : ScriptRunsTo script files end left) → AllSendable r.turns → AllNamed script (heard_turns script files end left r)
 all-named laws script files (IsDone turn) left h d r s = last-named laws script files r.turns r.ends Done turn left h d r.run s r.ended
 all-named laws script files (LinkLost role segment turn) left h d r s =
@@ -57,7 +58,7 @@ all-named laws script files (ChanceMatch role turn) left h d r s = run-named law
 pub loses-what-is-named : HearLaws → LosesWhatIsNamed
 loses-what-is-named laws script files end left h d r s = lost-few script (heard_turns script files end left r) (all-named laws script files end left h d r s)
 
-line-ends-not : UndisplacedGoOn → (script : ScriptValue) (files : Both (List ℕ)) (end : RunEnd) (left : Left) → IsInLimits script → DisplacesNone script
+line-ends-not : FaintGoOn → (script : ScriptValue) (files : Both (List ℕ)) (end : RunEnd) (left : Left) → IsInLimits script → IsFaint script
     → (r : ScriptRunsTo script files end left) → AllSendable r.turns → LineEnds end → ⊥
 line-ends-not law script files (LineLost role symbol) left h d r s x = law script files r.turns r.ends (lines.LineLost role symbol) h d r.run s r.ended.is
 line-ends-not law script files (ChanceMatch role turn) left h d r s x = law script files r.turns r.ends (lines.ChanceMatch role) h d r.run s r.ended.1.is
@@ -65,25 +66,38 @@ line-ends-not law script files (IsDone turn) left h d r s x = x
 line-ends-not law script files (LinkLost role segment turn) left h d r s x = x
 line-ends-not law script files (NotDetected turn) left h d r s x = x
 
-pub completes-with-few-named : CompletesWithFewLosses → UndisplacedGoOn → LosesWhatIsNamed → OctetsAreSendable → CompletesWithFewNamed
+pub completes-with-few-named : CompletesWithFewLosses → FaintGoOn → LosesWhatIsNamed → OctetsAreSendable → CompletesWithFewNamed
 completes-with-few-named few goes named octets script files end left h d o l r =
     let s : AllSendable r.turns = octets script files r.turns r.ends h o r.run in
     let n = named script files end left h d r s in
     few script files end left h r (omega (arith, l, n)) (line-ends-not goes script files end left h d r s)
 
-pub completes-undisturbed : CompletesWithFewNamed → CompletesUndisturbed
-completes-undisturbed few script files end left h losses hits noises o r =
-    let none : slots_named script.losses ≡ 0 = ap slots_named losses in
-    few script files end left h (record { no_hits = hits; no_noises = noises }) o (omega (arith, none, h.tries_some)) r
+pub completes-quiet : CompletesWithFewNamed → CompletesQuiet
+completes-quiet few script files end left h q o r =
+    let none : slots_named script.losses ≡ 0 = ap slots_named q.no_losses in
+    few script files end left h q.faint o (omega (arith, none, h.tries_some)) r
+
+-- a script without lines that displace
+pub displaces-none_is_faint : EmptyScriptDisplacesNone → UndisplacedIsFaint → DisplacesNoneIsFaint
+displaces-none_is_faint empty faint script d = λ sender count. faint script sender count (empty script sender count d.no_hits d.no_noises)
+
+is-quiet : DisplacesNoneIsFaint → (script : ScriptValue) → script.losses ≡ [] → script.hits ≡ [] → script.noises ≡ [] → IsQuiet script
+is-quiet faint script losses hits noises = record { no_losses = losses; faint = faint script (record { no_hits = hits; no_noises = noises }) }
+
+pub completes-undisturbed : DisplacesNoneIsFaint → CompletesQuiet → CompletesUndisturbed
+completes-undisturbed faint quiet script files end left h losses hits noises o r = quiet script files end left h (is-quiet faint script losses hits noises) o r
 
 -- and there is one that delivers both files
-pub undisturbed-deliver : ScriptsMayPlay → ScriptsHaveDelays → DoneLeavesWhole → CompletesUndisturbed → EachRunEnds → UndisturbedRunsDeliver
-undisturbed-deliver play delays whole done ends script files h f losses hits noises o =
+pub quiet-deliver : ScriptsMayPlay → ScriptsHaveDelays → DoneLeavesWhole → CompletesQuiet → EachRunEnds → QuietRunsDeliver
+quiet-deliver play delays whole done ends script files h f q o =
     let e : HasEnd script files = ends script files h f o in
-    let d = done script files e.end e.left h losses hits noises o e.runs in
+    let d = done script files e.end e.left h q o e.runs in
     let runs : ScriptRunsTo script files (IsDone d.0) e.left = subst (λ end. ScriptRunsTo script files end e.left) d.1 e.runs in
     record { turn = d.0; left = e.left; runs = runs; whole = λ role. is-whole role (whole (channel_of script) (link_of script files) d.0 e.left (record { may_play = play script files h; delays = delays script h }) runs role) }
   where
     is-whole : (role : Role) {got : List ℕ} → got ≡ (of (other role) (link_of script files)).user.file → got ≡ of (other role) files
     is-whole Originator e = e
     is-whole Answerer e = e
+
+pub undisturbed-deliver : DisplacesNoneIsFaint → QuietRunsDeliver → UndisturbedRunsDeliver
+undisturbed-deliver faint quiet script files h f losses hits noises o = quiet script files h f (is-quiet faint script losses hits noises) o

@@ -7,6 +7,7 @@ use Rattle.slot_contents.specs.Sendable.{IsSendable}
 use Rattle.noise_script.specs.declared.entry.Break.{Break}
 use Rattle.noise_script.specs.declared.entry.Loss.{Loss}
 use Rattle.noise_script.specs.Script.{ScriptValue, IsInLimits}
+use Rattle.line_laws.specs.Faint.{IsFaintBefore}
 use Rattle.link_run.specs.Run.{Ends, Spoken, Turn}
 use Rattle.link_run.specs.Counts.{lost_slots}
 use Rattle.line_run.specs.Sampled.{LineRun, LineEnd, EndsLine}
@@ -45,10 +46,23 @@ CompletesWithFewLosses = (script : ScriptValue) (files : Both (List ℕ)) (end :
     → (r : ScriptRunsTo script files end left)
     → 2 * lost_slots (heard_turns script files end left r) < script.tries → (LineEnds end → ⊥) → EndsDone end
 
+-- The squares of the parts of all that a script adds to the symbols of a sender add up to less than 2.5 squares of a map unit, for either.
+abbrev pub IsFaint : ScriptValue → Type 0
+IsFaint script = (sender : Role) (count : ℕ) → IsFaintBefore script sender count
+
+-- and no line of it loses a slot
+pub record IsQuiet (script : ScriptValue) : Type 0 where
+  pub no_losses : script.losses ≡ []
+  pub faint : IsFaint script
+
 -- no line of the script displaces a symbol
 pub record DisplacesNone (script : ScriptValue) : Type 0 where
   pub no_hits : script.hits ≡ []
   pub no_noises : script.noises ≡ []
+
+-- So it adds nothing, which is faint.
+abbrev pub DisplacesNoneIsFaint : Type 0
+DisplacesNoneIsFaint = (script : ScriptValue) → DisplacesNone script → IsFaint script
 
 -- what the two users hand over are octets: their files, and the lengths of the breaks that they ask for
 pub record AreOfOctets (script : ScriptValue) (files : Both (List ℕ)) : Type 0 where
@@ -65,10 +79,10 @@ abbrev pub OctetsAreSendable : Type 0
 OctetsAreSendable = (script : ScriptValue) (files : Both (List ℕ)) (ts : List Turn) (ends : Ends) → IsInLimits script
     → AreOfOctets script files → LineRun (channel_of script) (link_of script files) ts ends → AllSendable ts
 
--- The line doesn't end a run in which no symbol is displaced.
-abbrev pub UndisplacedGoOn : Type 0
-UndisplacedGoOn = (script : ScriptValue) (files : Both (List ℕ)) (ts : List Turn) (ends : Ends) (end : LineEnd) → IsInLimits script
-    → DisplacesNone script → LineRun (channel_of script) (link_of script files) ts ends → AllSendable ts
+-- The line doesn't end a run whose noise is faint.
+abbrev pub FaintGoOn : Type 0
+FaintGoOn = (script : ScriptValue) (files : Both (List ℕ)) (ts : List Turn) (ends : Ends) (end : LineEnd) → IsInLimits script
+    → IsFaint script → LineRun (channel_of script) (link_of script files) ts ends → AllSendable ts
     → EndsLine (channel_of script) ts ends end → ⊥
 
 -- how many slots the lose lines of a script name
@@ -79,14 +93,19 @@ slots_named (loss ∷ losses) = loss.count + slots_named losses
 -- In such a run no more slots are lost than the lose lines name.
 abbrev pub LosesWhatIsNamed : Type 0
 LosesWhatIsNamed = (script : ScriptValue) (files : Both (List ℕ)) (end : RunEnd) (left : Left) → IsInLimits script
-    → DisplacesNone script → (r : ScriptRunsTo script files end left) → AllSendable r.turns
+    → IsFaint script → (r : ScriptRunsTo script files end left) → AllSendable r.turns
     → lost_slots (heard_turns script files end left r) ≤ slots_named script.losses
 
--- Where no symbol is displaced, and the lose lines name fewer slots than one for each two tries, each run is done;
+-- Where noise is faint, and the lose lines name fewer slots than one for each two tries, each run is done;
 abbrev pub CompletesWithFewNamed : Type 0
 CompletesWithFewNamed = (script : ScriptValue) (files : Both (List ℕ)) (end : RunEnd) (left : Left) → IsInLimits script
-    → DisplacesNone script → AreOfOctets script files → 2 * slots_named script.losses < script.tries
+    → IsFaint script → AreOfOctets script files → 2 * slots_named script.losses < script.tries
     → ScriptRunsTo script files end left → EndsDone end
+
+-- so is each run of a script that is quiet,
+abbrev pub CompletesQuiet : Type 0
+CompletesQuiet = (script : ScriptValue) (files : Both (List ℕ)) (end : RunEnd) (left : Left) → IsInLimits script
+    → IsQuiet script → AreOfOctets script files → ScriptRunsTo script files end left → EndsDone end
 
 -- and so is each run of a script without lines that lose, hit or displace.
 abbrev pub CompletesUndisturbed : Type 0

@@ -13,7 +13,7 @@ use Rattle.line_run.specs.Sampled.{Channel, IsHeardOf, LineRun, LineEnd, LosesLi
 use Rattle.line_run.specs.Scripted.{channel_of, link_of}
 use Rattle.line_run.specs.Ends.{RunEnd, IsDone, Left}
 use Rattle.line_causes.specs.Causes.{MadeOver}
-use Rattle.line_ends.specs.Completes.{ScriptRunsTo, AreOfOctets}
+use Rattle.line_ends.specs.Completes.{ScriptRunsTo, AreOfOctets, IsQuiet}
 
 -- What becomes of the slot of a sender that arrives in the turn after these.
 pub data Becomes (c : Channel) (sender : Role) (ts : List Turn) (hearing : Check) : Type 0 where
@@ -51,7 +51,12 @@ pub record IsDelivered (script : ScriptValue) (files : Both (List ℕ)) : Type 0
   pub runs : ScriptRunsTo script files (IsDone turn) left
   pub whole : (role : Role) → of role left.got ≡ of (other role) files
 
--- So a script without lines that lose, hit or displace delivers each two files of octets within their limits.
+-- So a quiet script delivers each two files of octets within their limits,
+abbrev pub QuietRunsDeliver : Type 0
+QuietRunsDeliver = (script : ScriptValue) (files : Both (List ℕ)) → IsInLimits script → ((role : Role) → length (of role files) ≤ file_limit)
+    → IsQuiet script → AreOfOctets script files → IsDelivered script files
+
+-- and so does a script without lines that lose, hit or displace.
 abbrev pub UndisturbedRunsDeliver : Type 0
 UndisturbedRunsDeliver = (script : ScriptValue) (files : Both (List ℕ)) → IsInLimits script → ((role : Role) → length (of role files) ≤ file_limit)
     → script.losses ≡ [] → script.hits ≡ [] → script.noises ≡ [] → AreOfOctets script files → IsDelivered script files

@@ -1,15 +1,15 @@
 //! Which runs of a script are done. The functions do nothing but name the laws that they rest on: each law is a contract.
-ghost use Rattle.line_ends.specs.Completes.{CompletesUnstarved, CompletesWithFewLosses, UndisplacedGoOn, LosesWhatIsNamed};
-ghost use Rattle.line_ends.specs.EachEnds.{EachSlotBecomes, EachTurnIsDecided, EachRunEnds, UndisturbedRunsDeliver};
-ghost use Rattle.line_ends.specs.Completes.{OctetsAreSendable, CompletesWithFewNamed, CompletesUndisturbed};
+ghost use Rattle.line_ends.specs.Completes.{CompletesUnstarved, CompletesWithFewLosses, DisplacesNoneIsFaint, FaintGoOn, LosesWhatIsNamed};
+ghost use Rattle.line_ends.specs.EachEnds.{EachSlotBecomes, EachTurnIsDecided, EachRunEnds, QuietRunsDeliver, UndisturbedRunsDeliver};
+ghost use Rattle.line_ends.specs.Completes.{OctetsAreSendable, CompletesWithFewNamed, CompletesQuiet, CompletesUndisturbed};
 
 use break_signals::laws::is_spelled_back;
 use detection::laws::sights_stay;
 use line_bound::laws::line_runs_end_soon;
 use line_causes::laws::{few_losses_keep_links, heard_turns_are_made, lost_links_were_starved};
 use line_laws::laws::{
-    each_list_of_fours_is_recorded, heard_is_sent, received_is_sent,
-    scripts_displace_by_their_lines_alone, undisplaced_lines_are_never_lost,
+    each_list_of_fours_is_recorded, faint_lines_are_never_lost, heard_is_sent,
+    scripts_displace_by_their_lines_alone, what_is_received_of_faint_lines_is_sent,
 };
 use line_run::laws::{
     runs_leave_prefixes, samples_are_carried, scripts_make_links, slots_have_room,
@@ -29,18 +29,25 @@ pub fn unstarved_runs_complete()
     few_losses_keep_links();
 }
 
-/// The line doesn't end a run in which no symbol is displaced, and loses no more slots of it than the script's lose lines name.
-pub fn undisplaced_runs_go_on()
-    ensures goes_on { UndisplacedGoOn }
+/// A script without lines that hit or displace has no noise, which is faint.
+pub fn undisplaced_runs_have_faint_noise()
+    ensures { DisplacesNoneIsFaint }
+{
+    scripts_displace_by_their_lines_alone();
+    faint_lines_are_never_lost();
+}
+
+/// The line doesn't end a run whose noise is faint, and loses no more slots of it than the script's lose lines name.
+pub fn faint_runs_go_on()
+    ensures goes_on { FaintGoOn }
     ensures loses { LosesWhatIsNamed }
 {
     scripts_make_links();
     slots_have_room();
     samples_are_carried();
     numbers_have_the_agreed_check();
-    scripts_displace_by_their_lines_alone();
-    undisplaced_lines_are_never_lost();
-    received_is_sent();
+    faint_lines_are_never_lost();
+    what_is_received_of_faint_lines_is_sent();
     heard_is_sent();
     one_outcome();
 }
@@ -56,14 +63,16 @@ pub fn octets_are_sendable()
     segments_are_offered_as_they_are_read();
 }
 
-/// Where a script displaces no symbol and its lose lines name fewer slots than one for each two tries, each run of two files of octets is
-/// done; and so it is where a script has no line that loses, hits or displaces.
+/// Where a script's noise is faint and its lose lines name fewer slots than one for each two tries, each run of two files of octets is
+/// done; so it is where a script is quiet, and where it has no line that loses, hits or displaces.
 pub fn undisturbed_runs_complete()
     ensures few_named { CompletesWithFewNamed }
+    ensures quiet { CompletesQuiet }
     ensures undisturbed { CompletesUndisturbed }
 {
     unstarved_runs_complete();
-    undisplaced_runs_go_on();
+    faint_runs_go_on();
+    undisplaced_runs_have_faint_noise();
     octets_are_sendable();
 }
 
@@ -92,12 +101,15 @@ pub fn runs_end()
     line_runs_end_soon();
 }
 
-/// A script without lines that lose, hit or displace delivers both files: it has a run that is done, and each user has the other's file.
+/// A quiet script delivers both files, and so does one without lines that lose, hit or displace: it has a run that is done, and each user
+/// has the other's file.
 pub fn undisturbed_runs_deliver()
-    ensures { UndisturbedRunsDeliver }
+    ensures quiet { QuietRunsDeliver }
+    ensures undisturbed { UndisturbedRunsDeliver }
 {
     scripts_make_links();
     runs_leave_prefixes();
+    undisplaced_runs_have_faint_noise();
     undisturbed_runs_complete();
     runs_end();
 }

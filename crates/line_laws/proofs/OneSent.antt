@@ -1,18 +1,16 @@
 -- The bits of a slot tell what was sent in it.
-use Rattle.std.proofs.Common.{◌≡◌, ℕ, ◌*◌, ◌<◌, List, [], Some, None, refl, sym, ap, subst, arith}
+use Rattle.std.proofs.Common.{◌≡◌, ℕ, ◌*◌, List, [], Some, None, refl, ap, subst, arith}
 use Rattle.frame_check.specs.declared.check.Check.{Check}
 use Rattle.roles.specs.declared.role.Role.{Role}
-use Rattle.lapm_frames.specs.declared.frame.Frame.{Frame}
 use Rattle.lapm_frames.specs.Checked.{checked, SpellsFrame}
 use Rattle.lapm_frames.proofs.Checking.{spells, spells-one}
 use Rattle.slot_contents.specs.declared.sent.Sent.{Sent}
 use Rattle.slot_contents.specs.declared.sent.Sent.TheVariants as sent
 use Rattle.slot_contents.specs.Sendable.{IsSendable}
-use Rattle.bit_stuffing.specs.Slots.{slot_bits}
-use Rattle.detection.specs.Slots.{Signal, slot_of}
+use Rattle.detection.specs.Slots.{Signal}
 use Rattle.detection.specs.Slots.Signal.{PatternSlot, MarkSlot, FlagSlot}
 use Rattle.detection.proofs.OneSignal.{one-signal}
-use Rattle.sample_line.specs.Signals.{signal_of, IsCodable}
+use Rattle.sample_line.specs.Signals.{signal_of}
 use Rattle.line_laws.specs.Laws.{SlotsTellWhatWasSent}
 use Rattle.line_laws.proofs.Patterns.{ArePlain}
 use Rattle.line_laws.proofs.Fitting.{codable-fits, codable-sendable, fit-slot, spelled-octets}

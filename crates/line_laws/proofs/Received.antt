@@ -2,7 +2,7 @@
 use Rattle.std.proofs.Common.{◌≡◌, ◌∙◌, inr, ℕ, ◌+◌, ◌*◌, ◌<◌, ◌≤◌, Bool, true, false, List, [], ◌∷◌, ◌++◌, length, take, drop, map, replicate, Ok, Err, Result, refl, sym, ap, subst, arith, length-append, append-nil, append_assoc}
 use Rattle.std.proofs.Math.Nat.{mul_assoc, mul-suc}
 use Rattle.std.proofs.Math.Seq.{take-append_seam, drop-append_seam}
-use Rattle.std.proofs.lemmas.List.{map-append, take_all, take-append-drop, length-drop}
+use Rattle.std.proofs.lemmas.List.{map-append, take-append-drop, length-drop}
 use Rattle.std.proofs.lemmas.List.Elements.{All-replicate}
 use Rattle.frame_check.specs.declared.check.Check.{Check}
 use Rattle.scramblers.specs.Mode.{tap_of}
@@ -11,8 +11,7 @@ use Rattle.symbol_map.specs.declared.sample.Sample.{Sample}
 use Rattle.survivors.specs.Survivors.{IsReleased}
 use Rattle.survivors.proofs.Least.{some-released}
 use Rattle.exact_decoder.specs.declared.decoder.Lost.{Lost}
-use Rattle.noiseless_line.proofs.Costs.{length-points}
-use Rattle.noiseless_line.proofs.Followed.{few-unreleased_at, released-sent_at, v32_has_laws}
+use Rattle.noiseless_line.proofs.Followed.{v32_has_laws}
 use Rattle.line_coding.specs.Demodulates.{Demodulates, line_of}
 use Rattle.line_coding.proofs.Readings.{first-stay, four-each}
 use Rattle.bit_stuffing.specs.Found.{Found, pieces_of}
@@ -45,39 +44,35 @@ use Rattle.sample_line.specs.Line.{bits_behind, Kept, Passes, PassesSlot, sender
 use Rattle.sample_line.proofs.Finding.{wholes-append}
 use Rattle.sample_line.proofs.Once.{given-stays, outcome-once, received-once, recordings-grow}
 use Rattle.line_laws.specs.Fitting.{AreFit}
-use Rattle.line_laws.specs.Unhindered.{ChecksAgree, DisplacesNoneBefore, frames_in, patterns_in, unhindered}
+use Rattle.line_laws.specs.Unhindered.{ChecksAgree, frames_in, patterns_in, unhindered}
 use Rattle.line_laws.proofs.Patterns.{AreSeen}
 use Rattle.line_laws.proofs.Fitting.{fit-front, length-fit}
 use Rattle.line_laws.proofs.Recordings.{tap-some}
-use Rattle.line_laws.proofs.Settled.{Lags, settled-all, settled-finds, slot-adds}
-use Rattle.line_laws.proofs.Undisplaced.{carried, recorded-noiseless, none-within}
+use Rattle.line_laws.proofs.Settled.{Lags, LeavesTime, settled-all, settled-finds, slot-adds}
+use Rattle.line_laws.proofs.Following.{Follows, none-within}
+use Rattle.line_laws.proofs.Undisplaced.{carried}
 
 -- the labels that the samples release carry the first of the bits
-released-carry : (script : ScriptValue) (sender : Role) (count : ℕ) (bits : List Bool) (samples : List Sample) (labels : List ℕ) → DisplacesNoneBefore script sender count → length bits ≤ 4 * count → Records script sender bits samples
+released-carry : (lag : ℕ) (script : ScriptValue) (sender : Role) (count : ℕ) (bits : List Bool) (samples : List Sample) (labels : List ℕ) → Follows lag script sender count → length bits ≤ 4 * count → Records script sender bits samples
     → IsReleased line_trellis samples labels → Demodulates (tap_of (mode_of sender)) labels (take (4 * length labels) bits)
-released-carry script sender count bits samples labels none few r released =
+released-carry lag script sender count bits samples labels follows few r released =
     let tap : ℕ = tap_of (mode_of sender) in
-    let all : take (length samples) samples ≡ samples = take_all (length samples) samples (omega arith) in
-    let sent = released-sent_at 0 r.modulated.labels samples (length samples) labels (recorded-noiseless script sender count bits samples none few r)
-    (subst (λ (xs : List Sample). IsReleased line_trellis xs labels) (sym all) released) in
+    let sent = follows.sent bits samples labels few r released in
     let first : take (length labels) r.modulated.labels ≡ labels = ap (take (length labels)) (sym sent.1) ∙ take-append_seam labels sent.0 in
     subst (λ (xs : List ℕ). Demodulates tap xs (take (4 * length labels) bits)) first (first-stay tap (length labels) r.modulated.labels bits (tap-some sender) (carried script sender bits samples r))
 
--- all but the last 96 bits were read
-lags : (script : ScriptValue) (sender : Role) (count : ℕ) (bits read : List Bool) (samples : List Sample) → DisplacesNoneBefore script sender count → length bits ≤ 4 * count → Records script sender bits samples → Gives sender samples read → Lags bits read
-lags script sender count bits read samples none within r g =
+-- all but the last bits were read
+lags : (lag : ℕ) (script : ScriptValue) (sender : Role) (count : ℕ) (bits read : List Bool) (samples : List Sample) → Follows lag script sender count → length bits ≤ 4 * count → Records script sender bits samples → Gives sender samples read → Lags lag bits read
+lags lag script sender count bits read samples follows within r g =
     let tap : ℕ = tap_of (mode_of sender) in
     let labels : List ℕ = r.modulated.labels in
     let n : ℕ = length g.labels in
-    let noiseless = recorded-noiseless script sender count bits samples none within r in
-    let all : take (length samples) samples ≡ samples = take_all (length samples) samples (omega arith) in
-    let few = few-unreleased_at 0 labels samples (length samples) g.labels (omega arith) noiseless (subst (λ (xs : List Sample). IsReleased line_trellis xs g.labels) (sym all) g.released) in
-    let long : length samples ≡ length labels = ap length noiseless.exact ∙ length-points labels in
-    let same : take (4 * n) bits ≡ read = Descrambles_once tap (line_of g.labels) (take (4 * n) bits) read (released-carry script sender count bits samples g.labels none within r g.released) g.read in
+    let few = follows.few bits samples g.labels within r g.released in
+    let same : take (4 * n) bits ≡ read = Descrambles_once tap (line_of g.labels) (take (4 * n) bits) read (released-carry lag script sender count bits samples g.labels follows within r g.released) g.read in
     record {
       rest = drop (4 * n) bits;
       goes_on = sym (take-append-drop (4 * n) bits) ∙ ap (λ xs. xs ++ drop (4 * n) bits) same;
-      few = omega (arith, few, long, length-drop (4 * n) bits, four-each tap labels bits (carried script sender bits samples r));
+      few = omega (arith, few, length-drop (4 * n) bits, four-each tap labels bits (carried script sender bits samples r));
     }
 
 -- a frame has the same octets with either end's check, where these agree on it
@@ -122,15 +117,15 @@ more-grows laws earlier more =
     record { pieces = pieces.0; pieces_are = pieces.1.all; sights = sights.0; sights_are = sights.1.all }
 
 -- what is found of a slot in the bits that were read up to its end and not before
-found-sent : (laws : AreSeen) (check hearing : Check) (sender : Role) (dlci size : ℕ) (passed : List Signal) (s : Sent) (earlier later : List Bool)
-    → 552 < size → AreFit size 0 (passed ++ signal_of check sender dlci s ∷ []) → IsSendable s → ChecksAgree check hearing s
-    → Lags (signal_bits size passed) earlier → Lags (signal_bits size (passed ++ signal_of check sender dlci s ∷ [])) later
+found-sent : (laws : AreSeen) (lag : ℕ) (check hearing : Check) (sender : Role) (dlci size : ℕ) (passed : List Signal) (s : Sent) (earlier later : List Bool)
+    → LeavesTime lag size → AreFit size 0 (passed ++ signal_of check sender dlci s ∷ []) → IsSendable s → ChecksAgree check hearing s
+    → Lags lag (signal_bits size passed) earlier → Lags lag (signal_bits size (passed ++ signal_of check sender dlci s ∷ [])) later
     → Grows earlier later → FoundBetween hearing sender dlci earlier later (frames_in s) (patterns_in s)
-found-sent laws check hearing sender dlci size passed s earlier later long fit is agree old new f =
+found-sent laws lag check hearing sender dlci size passed s earlier later time fit is agree old new f =
     let signal : Signal = signal_of check sender dlci s in
-    let a = slot-adds laws size passed signal long fit in
-    let before = settled-finds laws (signal_bits size passed) earlier (settled-all laws size passed long (fit-front size 0 passed (signal ∷ []) fit)) old in
-    let upto = settled-finds laws (signal_bits size (passed ++ signal ∷ [])) later (settled-all laws size (passed ++ signal ∷ []) long fit) new in
+    let a = slot-adds laws size passed signal time.long fit in
+    let before = settled-finds laws lag (signal_bits size passed) earlier (settled-all laws lag size passed time (fit-front size 0 passed (signal ∷ []) fit)) old in
+    let upto = settled-finds laws lag (signal_bits size (passed ++ signal ∷ [])) later (settled-all laws lag size (passed ++ signal ∷ []) time fit) new in
     let start : ℕ = length (signal_bits size passed) in
     let one_way : pieces_of (signal_bits size (passed ++ signal ∷ [])) ≡ pieces_of earlier ++ (before.added ++ a.added)
     = a.all ∙ ap (λ xs. xs ++ a.added) before.pieces ∙ append_assoc (pieces_of earlier) before.added a.added in
@@ -166,32 +161,36 @@ bounds laws symbols passed signal long fit =
     by-size : (m n : ℕ) → 4 * m * n ≤ 4 * (m * (n + 1))
     by-size m n = subst (λ k. k ≤ 4 * (m * (n + 1))) (sym (mul_assoc 4 m n)) (let more = mul-suc m n in omega (arith, more))
 
-pub received-sent : (laws : AreSeen) (script : ScriptValue) (check hearing : Check) (sender : Role) (dlci symbols : ℕ) (passed : List Signal) (s : Sent)
+-- slots that leave time are long enough for patterns
+long-of : (lag symbols : ℕ) → LeavesTime lag (4 * symbols) → 138 < symbols
+long-of lag symbols time = omega (arith, time.long)
+
+pub received-sent : (laws : AreSeen) (lag : ℕ) (script : ScriptValue) (check hearing : Check) (sender : Role) (dlci symbols : ℕ) (passed : List Signal) (s : Sent)
     (before upto : List Sample) (frames : List Frame) (patterns : List Seen)
-    → DisplacesNoneBefore script sender (symbols * (length passed + 1)) → 138 < symbols → AreFit (4 * symbols) 0 (passed ++ signal_of check sender dlci s ∷ []) → IsSendable s → ChecksAgree check hearing s
+    → Follows lag script sender (symbols * (length passed + 1)) → LeavesTime lag (4 * symbols) → AreFit (4 * symbols) 0 (passed ++ signal_of check sender dlci s ∷ []) → IsSendable s → ChecksAgree check hearing s
     → Records script sender (signal_bits (4 * symbols) passed) before
     → Records script sender (signal_bits (4 * symbols) (passed ++ signal_of check sender dlci s ∷ [])) upto
     → Receives hearing sender dlci before upto frames patterns
     → (frames ≡ frames_in s) × (patterns ≡ patterns_in s)
-received-sent laws script check hearing sender dlci symbols passed s before upto frames patterns none long fit is agree old new r =
-    let b = bounds laws symbols passed (signal_of check sender dlci s) long fit in
+received-sent laws lag script check hearing sender dlci symbols passed s before upto frames patterns follows time fit is agree old new r =
+    let b = bounds laws symbols passed (signal_of check sender dlci s) (long-of lag symbols time) fit in
     received-once hearing sender dlci before upto frames (frames_in s) patterns (patterns_in s) r (record {
       earlier = r.earlier;
       later = r.later;
       gave = r.gave;
       gives = r.gives;
-      found = found-sent laws check hearing sender dlci (4 * symbols) passed s r.earlier r.later (omega arith) fit is agree
-          (lags script sender (symbols * (length passed + 1)) (signal_bits (4 * symbols) passed) r.earlier before none b.0 old r.gave)
-          (lags script sender (symbols * (length passed + 1)) (signal_bits (4 * symbols) (passed ++ signal_of check sender dlci s ∷ [])) r.later upto none b.1 new r.gives)
+      found = found-sent laws lag check hearing sender dlci (4 * symbols) passed s r.earlier r.later time fit is agree
+          (lags lag script sender (symbols * (length passed + 1)) (signal_bits (4 * symbols) passed) r.earlier before follows b.0 old r.gave)
+          (lags lag script sender (symbols * (length passed + 1)) (signal_bits (4 * symbols) (passed ++ signal_of check sender dlci s ∷ [])) r.later upto follows b.1 new r.gives)
           (record { pieces = r.found.pieces; pieces_are = r.found.pieces_are; sights = r.found.sights; sights_are = r.found.sights_are });
     })
 
 -- and it is received
 
-gives-some : (script : ScriptValue) (sender : Role) (count : ℕ) (bits : List Bool) (samples : List Sample) → DisplacesNoneBefore script sender count → length bits ≤ 4 * count → Records script sender bits samples → (read : List Bool) × Gives sender samples read
-gives-some script sender count bits samples none few r =
+gives-some : (lag : ℕ) (script : ScriptValue) (sender : Role) (count : ℕ) (bits : List Bool) (samples : List Sample) → Follows lag script sender count → length bits ≤ 4 * count → Records script sender bits samples → (read : List Bool) × Gives sender samples read
+gives-some lag script sender count bits samples follows few r =
     let some = some-released line_trellis 8 32 2 samples (v32_has_laws 0 (omega arith)) in
-    (take (4 * length some.0) bits, record { labels = some.0; released = some.1; read = released-carry script sender count bits samples some.0 none few r some.1 })
+    (take (4 * length some.0) bits, record { labels = some.0; released = some.1; read = released-carry lag script sender count bits samples some.0 follows few r some.1 })
 
 -- what is given goes on where the recording does
 given-grows : (laws : AreSeen) (script : ScriptValue) (sender : Role) (bits more earlier later : List Bool) (before upto : List Sample)
@@ -201,13 +200,13 @@ given-grows laws script sender bits more earlier later before upto old new gave 
     let stays = given-stays sender before grown.0 earlier later gave (subst (λ (xs : List Sample). Gives sender xs later) grown.1 gives) in
     subst (λ (xs : List Bool). Grows earlier xs) (sym stays.1) (more-grows laws earlier stays.0)
 
-given-received : (laws : AreSeen) (script : ScriptValue) (check hearing : Check) (sender : Role) (dlci size : ℕ) (passed : List Signal) (s : Sent)
+given-received : (laws : AreSeen) (lag : ℕ) (script : ScriptValue) (check hearing : Check) (sender : Role) (dlci size : ℕ) (passed : List Signal) (s : Sent)
     (before upto : List Sample) (earlier later : List Bool)
-    → (count : ℕ) → DisplacesNoneBefore script sender count → length (signal_bits size passed) ≤ 4 * count → length (signal_bits size (passed ++ signal_of check sender dlci s ∷ [])) ≤ 4 * count → 552 < size → AreFit size 0 (passed ++ signal_of check sender dlci s ∷ []) → IsSendable s → ChecksAgree check hearing s
+    → (count : ℕ) → Follows lag script sender count → length (signal_bits size passed) ≤ 4 * count → length (signal_bits size (passed ++ signal_of check sender dlci s ∷ [])) ≤ 4 * count → LeavesTime lag size → AreFit size 0 (passed ++ signal_of check sender dlci s ∷ []) → IsSendable s → ChecksAgree check hearing s
     → Records script sender (signal_bits size passed) before → Records script sender (signal_bits size (passed ++ signal_of check sender dlci s ∷ [])) upto
     → Gives sender before earlier → Gives sender upto later
     → Receives hearing sender dlci before upto (frames_in s) (patterns_in s)
-given-received laws script check hearing sender dlci size passed s before upto earlier later count none few_before few_upto long fit is agree old new gave gives =
+given-received laws lag script check hearing sender dlci size passed s before upto earlier later count follows few_before few_upto time fit is agree old new gave gives =
     let signal : Signal = signal_of check sender dlci s in
     let slot : List Bool = slot_bits size (phase_after size (slots_of size passed)) (slot_of size signal) in
     let joined : signal_bits size (passed ++ signal ∷ []) ≡ signal_bits size passed ++ slot
@@ -218,24 +217,24 @@ given-received laws script check hearing sender dlci size passed s before upto e
       later = later;
       gave = gave;
       gives = gives;
-      found = found-sent laws check hearing sender dlci size passed s earlier later long fit is agree
-          (lags script sender count (signal_bits size passed) earlier before none few_before old gave)
-          (lags script sender count (signal_bits size (passed ++ signal ∷ [])) later upto none few_upto new gives)
+      found = found-sent laws lag check hearing sender dlci size passed s earlier later time fit is agree
+          (lags lag script sender count (signal_bits size passed) earlier before follows few_before old gave)
+          (lags lag script sender count (signal_bits size (passed ++ signal ∷ [])) later upto follows few_upto new gives)
           (given-grows laws script sender (signal_bits size passed) slot earlier later before upto old added gave gives);
     }
 
-pub sent-received : (laws : AreSeen) (script : ScriptValue) (check hearing : Check) (sender : Role) (dlci symbols : ℕ) (passed : List Signal) (s : Sent)
+pub sent-received : (laws : AreSeen) (lag : ℕ) (script : ScriptValue) (check hearing : Check) (sender : Role) (dlci symbols : ℕ) (passed : List Signal) (s : Sent)
     (before upto : List Sample)
-    → DisplacesNoneBefore script sender (symbols * (length passed + 1)) → 138 < symbols → AreFit (4 * symbols) 0 (passed ++ signal_of check sender dlci s ∷ []) → IsSendable s → ChecksAgree check hearing s
+    → Follows lag script sender (symbols * (length passed + 1)) → LeavesTime lag (4 * symbols) → AreFit (4 * symbols) 0 (passed ++ signal_of check sender dlci s ∷ []) → IsSendable s → ChecksAgree check hearing s
     → Records script sender (signal_bits (4 * symbols) passed) before
     → Records script sender (signal_bits (4 * symbols) (passed ++ signal_of check sender dlci s ∷ [])) upto
     → Receives hearing sender dlci before upto (frames_in s) (patterns_in s)
-sent-received laws script check hearing sender dlci symbols passed s before upto none long fit is agree old new =
+sent-received laws lag script check hearing sender dlci symbols passed s before upto follows time fit is agree old new =
     let count : ℕ = symbols * (length passed + 1) in
-    let b = bounds laws symbols passed (signal_of check sender dlci s) long fit in
-    let earlier = gives-some script sender count (signal_bits (4 * symbols) passed) before none b.0 old in
-    let later = gives-some script sender count (signal_bits (4 * symbols) (passed ++ signal_of check sender dlci s ∷ [])) upto none b.1 new in
-    given-received laws script check hearing sender dlci (4 * symbols) passed s before upto earlier.0 later.0 count none b.0 b.1 (omega arith) fit is agree old new earlier.1 later.1
+    let b = bounds laws symbols passed (signal_of check sender dlci s) (long-of lag symbols time) fit in
+    let earlier = gives-some lag script sender count (signal_bits (4 * symbols) passed) before follows b.0 old in
+    let later = gives-some lag script sender count (signal_bits (4 * symbols) (passed ++ signal_of check sender dlci s ∷ [])) upto follows b.1 new in
+    given-received laws lag script check hearing sender dlci (4 * symbols) passed s before upto earlier.0 later.0 count follows b.0 b.1 time fit is agree old new earlier.1 later.1
 
 -- and has one outcome
 
@@ -254,16 +253,16 @@ as-expected false sent.Adp = (refl, all-nine seen.Adp)
 as-expected true (sent.Frame frame) = (refl, refl)
 as-expected false (sent.Frame frame) = (refl, (refl, refl))
 
-pub heard-sent : (laws : AreSeen) (line : Kept) (script : ScriptValue) (passed waiting : List Signal) (signal : Signal) (check hearing : Check) (dlci : ℕ) (loses : Bool) (s : Sent) (heard : Heard)
-    → DisplacesNoneBefore script (sender_of line) (line.writer.symbols * (length passed + 1)) → 138 < line.writer.symbols → AreFit (size_of line) 0 (passed ++ signal ∷ [])
+pub heard-sent : (laws : AreSeen) (lag : ℕ) (line : Kept) (script : ScriptValue) (passed waiting : List Signal) (signal : Signal) (check hearing : Check) (dlci : ℕ) (loses : Bool) (s : Sent) (heard : Heard)
+    → Follows lag script (sender_of line) (line.writer.symbols * (length passed + 1)) → LeavesTime lag (4 * line.writer.symbols) → AreFit (size_of line) 0 (passed ++ signal ∷ [])
     → signal ≡ signal_of check (sender_of line) dlci s → IsSendable s → ChecksAgree check hearing s
     → PassesSlot line script passed signal waiting hearing dlci loses s heard → heard ≡ unhindered loses s
-heard-sent laws line script passed waiting signal check hearing dlci loses s heard none long fit e is agree p =
+heard-sent laws lag line script passed waiting signal check hearing dlci loses s heard follows time fit e is agree p =
     let sender : Role = sender_of line in
     let fit_s : AreFit (size_of line) 0 (passed ++ signal_of check sender dlci s ∷ []) = subst (λ (x : Signal). AreFit (size_of line) 0 (passed ++ x ∷ [])) e fit in
     let recorded : Records script sender (signal_bits (size_of line) (passed ++ signal_of check sender dlci s ∷ [])) p.upto
     = subst (λ (x : Signal). Records script sender (signal_bits (size_of line) (passed ++ x ∷ [])) p.upto) e p.recorded in
-    let same = received-sent laws script check hearing sender dlci line.writer.symbols passed s p.before p.upto p.frames p.patterns none long fit_s is agree p.recorded_before recorded p.received in
+    let same = received-sent laws lag script check hearing sender dlci line.writer.symbols passed s p.before p.upto p.frames p.patterns follows time fit_s is agree p.recorded_before recorded p.received in
     outcome-once loses s (frames_in s) (patterns_in s) heard (unhindered loses s)
     (subst (λ (xs : List Seen). IsOutcome loses s (frames_in s) xs heard) same.1 (subst (λ (xs : List Frame). IsOutcome loses s xs p.patterns heard) same.0 p.outcome)) (as-expected loses s)
 
@@ -277,16 +276,16 @@ never-chance false sent.Adp e = absurd cc
 never-chance true (sent.Frame frame) e = absurd cc
 never-chance false (sent.Frame frame) e = absurd cc
 
-pub passes-sent : (laws : AreSeen) (line : Kept) (script : ScriptValue) (passed waiting : List Signal) (signal : Signal) (check hearing : Check) (dlci : ℕ) (loses : Bool) (s : Sent) (result : Result Heard Lost)
-    → DisplacesNoneBefore script (sender_of line) (line.writer.symbols * (length passed + 1)) → 138 < line.writer.symbols → AreFit (size_of line) 0 (passed ++ signal ∷ [])
+pub passes-sent : (laws : AreSeen) (lag : ℕ) (line : Kept) (script : ScriptValue) (passed waiting : List Signal) (signal : Signal) (check hearing : Check) (dlci : ℕ) (loses : Bool) (s : Sent) (result : Result Heard Lost)
+    → Follows lag script (sender_of line) (line.writer.symbols * (length passed + 1)) → LeavesTime lag (4 * line.writer.symbols) → AreFit (size_of line) 0 (passed ++ signal ∷ [])
     → signal ≡ signal_of check (sender_of line) dlci s → IsSendable s → ChecksAgree check hearing s
     → Passes line script passed signal waiting hearing dlci loses s result → result ≡ Ok (unhindered loses s)
-passes-sent laws line script passed waiting signal check hearing dlci loses s (Ok heard) none long fit e is agree p =
-    ap (λ (h : Heard). let r : Result Heard Lost = Ok h in r) (heard-sent laws line script passed waiting signal check hearing dlci loses s heard none long fit e is agree p)
-passes-sent laws line script passed waiting signal check hearing dlci loses s (Err lost) none long fit e is agree p =
+passes-sent laws lag line script passed waiting signal check hearing dlci loses s (Ok heard) follows time fit e is agree p =
+    ap (λ (h : Heard). let r : Result Heard Lost = Ok h in r) (heard-sent laws lag line script passed waiting signal check hearing dlci loses s heard follows time fit e is agree p)
+passes-sent laws lag line script passed waiting signal check hearing dlci loses s (Err lost) follows time fit e is agree p =
     let size : ℕ = size_of line in
     let joined : signal_bits size (passed ++ signal ∷ []) ≡ signal_bits size passed ++ bits_behind size passed signal
     = ap (sent_bits size) (map-append (slot_of size) passed (signal ∷ [])) ∙ bits-append size 0 (slots_of size passed) (slot_of size signal) in
-    let few = (bounds laws line.writer.symbols passed signal long fit).1 in
-    absurd (none-within (sender_of line) script (line.writer.symbols * (length passed + 1)) (signal_bits size passed) (bits_behind size passed signal) lost.symbol none
+    let few = (bounds laws line.writer.symbols passed signal (long-of lag line.writer.symbols time) fit).1 in
+    absurd (none-within lag (sender_of line) script (line.writer.symbols * (length passed + 1)) (signal_bits size passed) (bits_behind size passed signal) lost.symbol follows
     (subst (λ (xs : List Bool). length xs ≤ 4 * (line.writer.symbols * (length passed + 1))) joined few) p)

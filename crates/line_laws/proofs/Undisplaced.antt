@@ -1,5 +1,5 @@
 -- Samples that no line of a script displaces, up to some symbol.
-use Rattle.std.proofs.Common.{◌≡◌, ◌∙◌, ℕ, zero, suc, ◌+◌, ◌*◌, ◌-◌, ◌<◌, ◌≤◌, nat_le, Bool, true, false, cond, ◌&&◌, All, List, [], ◌∷◌, ◌++◌, length, map, refl, ap, arith, length-append, Some, None}
+use Rattle.std.proofs.Common.{◌≡◌, ◌∙◌, ℕ, zero, suc, ◌+◌, ◌*◌, ◌-◌, ◌<◌, ◌≤◌, nat_le, Bool, true, false, cond, ◌&&◌, All, List, [], ◌∷◌, length, map, refl, ap, arith, Some, None}
 use Rattle.std.proofs.lemmas.Bool.Decides.{nat_tests}
 use Rattle.std.proofs.lemmas.List.Elements.{All-head, All-nil, All-same, All-tail}
 use Rattle.std.specs.Prelude.{ℤ, pos, ◌*ℤ◌}
@@ -9,7 +9,8 @@ use Rattle.std.specs.Prelude.{slice_index_or}
 use Rattle.scramblers.specs.Mode.{tap_of}
 use Rattle.survivors.proofs.Fronts.{lost-once}
 use Rattle.noiseless_line.specs.Noiseless.{IsNoiseless}
-use Rattle.noiseless_line.proofs.Followed.{never-lost}
+use Rattle.noiseless_line.proofs.Costs.{length-points}
+use Rattle.noiseless_line.proofs.Followed.{few-unreleased_at, never-lost, released-sent_at}
 use Rattle.line_coding.specs.Demodulates.{Demodulates}
 use Rattle.line_coding.proofs.Readings.{comes-back, four-each}
 use Rattle.roles.specs.declared.role.Role.{Role}
@@ -22,8 +23,9 @@ use Rattle.noise_script.specs.Script.{ScriptValue}
 use Rattle.sample_line.specs.Recorded.{displaced, displaced_from, Records}
 use Rattle.roles.specs.Role.{mode_of}
 use Rattle.sample_line.specs.Received.{line_trellis, line_depth}
-use Rattle.sample_line.specs.Path.{LosesAt, LosesWithin}
+use Rattle.sample_line.specs.Path.{LosesAt}
 use Rattle.line_laws.specs.Unhindered.{DisplacesNoneBefore}
+use Rattle.line_laws.proofs.Following.{Follows, all-of}
 
 -- lines of a script that are for the other role, or for later symbols
 
@@ -113,10 +115,14 @@ none-at sender script count bits symbol h few l =
     let both : Some symbol ≡ None = lost-once line_trellis line_depth l.samples (Some symbol) None l.lost never in
     absurd cc
 
-pub none-within : (sender : Role) (script : ScriptValue) (count : ℕ) (before bits : List Bool) (symbol : ℕ) → DisplacesNoneBefore script sender count → length (before ++ bits) ≤ 4 * count
-    → LosesWithin sender script before bits symbol → ⊥
-none-within sender script count before bits symbol h few l =
-    let all = length-append {A = Bool} before bits in
-    let some = length-append {A = Bool} before l.first in
-    let two : length bits ≡ length l.first + length l.rest = ap length l.bits_are ∙ length-append {A = Bool} l.first l.rest in
-    none-at sender script count (before ++ l.first) symbol h (omega (arith, few, all, some, two)) l.loses
+-- so a decoder follows it
+pub undisplaced-followed : (script : ScriptValue) (sender : Role) (count : ℕ) → DisplacesNoneBefore script sender count → Follows 96 script sender count
+undisplaced-followed script sender count h = record {
+  sent = λ bits samples labels few r released.
+      released-sent_at 0 r.modulated.labels samples (length samples) labels (recorded-noiseless script sender count bits samples h few r) (all-of samples labels released);
+  few = λ bits samples labels few r released.
+      let noiseless = recorded-noiseless script sender count bits samples h few r in
+      let long : length samples ≡ length r.modulated.labels = ap length noiseless.exact ∙ length-points r.modulated.labels in
+      omega (arith, long, few-unreleased_at 0 r.modulated.labels samples (length samples) labels (omega arith) noiseless (all-of samples labels released));
+  goes_on = λ bits symbol few l. none-at sender script count bits symbol h few l;
+}

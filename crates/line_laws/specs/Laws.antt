@@ -1,4 +1,4 @@
--- Laws of lines whose symbols are not displaced, up to some symbol.
+-- Laws of lines whose symbols are not displaced, or faintly, up to some symbol.
 use Rattle.std.specs.Prelude.{◌≡◌, ℕ, ◌+◌, ◌-◌, ◌*◌, ◌/◌, ◌%◌, ◌<◌, ◌≤◌, Bool, List, [], ◌∷◌, ◌++◌, length, All, true, Result, Ok, Some}
 use Rattle.frame_check.specs.declared.check.Check.{Check}
 use Rattle.symbol_map.specs.declared.sample.Sample.{Sample}
@@ -28,6 +28,7 @@ use Rattle.sample_line.specs.Path.{LosesAt, LosesWithin}
 use Rattle.sample_line.specs.Line.{Kept, Passes, PassesSlot, sender_of, size_of}
 use Rattle.line_laws.specs.Fitting.{Fits, AreFit, OfOctets}
 use Rattle.line_laws.specs.Unhindered.{ChecksAgree, DisplacesNoneBefore, frames_in, patterns_in, unhindered}
+use Rattle.line_laws.specs.Faint.{IsFaintBefore}
 
 -- a script displaces no symbol before the first that its hit lines and noise lines for the role name
 abbrev pub LaterLinesDisplaceNone : Type 0
@@ -98,34 +99,35 @@ LossIsInEachRecording = (sender : Role) (script : ScriptValue) (before bits more
     → LosesWithin sender script before bits symbol → Records script sender ((before ++ bits) ++ more) samples
     → LostIs line_trellis line_depth samples (Some symbol)
 
--- lines without offsets, up to the end of a slot
+-- Lines up to the end of a slot, where this holds of a script, a sender, and how many of its first symbols it is said of. The slots have more
+-- symbols than so many.
 
-abbrev pub NeverLost : Type 0
-NeverLost = (sender : Role) (script : ScriptValue) (count : ℕ) (before bits : List Bool) (symbol : ℕ)
-    → DisplacesNoneBefore script sender count → length (before ++ bits) ≤ 4 * count → LosesWithin sender script before bits symbol → ⊥
+abbrev pub NeverLostWhere : (ScriptValue → Role → ℕ → Type 0) → Type 0
+NeverLostWhere Holds = (sender : Role) (script : ScriptValue) (count : ℕ) (before bits : List Bool) (symbol : ℕ)
+    → Holds script sender count → length (before ++ bits) ≤ 4 * count → LosesWithin sender script before bits symbol → ⊥
 
 -- nothing but what was sent in a slot is received in it, and all of that is: the end that sends has one check, the end that hears another, which
 -- agree on what is sent
-abbrev pub ReceivedIsSent : Type 0
-ReceivedIsSent = (script : ScriptValue) (check hearing : Check) (sender : Role) (dlci symbols : ℕ) (passed : List Signal) (s : Sent)
+abbrev pub ReceivedIsSentWhere : (ScriptValue → Role → ℕ → Type 0) → ℕ → Type 0
+ReceivedIsSentWhere Holds most = (script : ScriptValue) (check hearing : Check) (sender : Role) (dlci symbols : ℕ) (passed : List Signal) (s : Sent)
     (before upto : List Sample) (frames : List Frame) (patterns : List Seen)
-    → DisplacesNoneBefore script sender (symbols * (length passed + 1)) → HEAD + TAIL < symbols → AreFit (4 * symbols) 0 (passed ++ signal_of check sender dlci s ∷ []) → IsSendable s → ChecksAgree check hearing s
+    → Holds script sender (symbols * (length passed + 1)) → most < symbols → AreFit (4 * symbols) 0 (passed ++ signal_of check sender dlci s ∷ []) → IsSendable s → ChecksAgree check hearing s
     → Records script sender (signal_bits (4 * symbols) passed) before
     → Records script sender (signal_bits (4 * symbols) (passed ++ signal_of check sender dlci s ∷ [])) upto
     → Receives hearing sender dlci before upto frames patterns
     → (frames ≡ frames_in s) × (patterns ≡ patterns_in s)
 
-abbrev pub SentIsReceived : Type 0
-SentIsReceived = (script : ScriptValue) (check hearing : Check) (sender : Role) (dlci symbols : ℕ) (passed : List Signal) (s : Sent) (before upto : List Sample)
-    → DisplacesNoneBefore script sender (symbols * (length passed + 1)) → HEAD + TAIL < symbols → AreFit (4 * symbols) 0 (passed ++ signal_of check sender dlci s ∷ []) → IsSendable s → ChecksAgree check hearing s
+abbrev pub SentIsReceivedWhere : (ScriptValue → Role → ℕ → Type 0) → ℕ → Type 0
+SentIsReceivedWhere Holds most = (script : ScriptValue) (check hearing : Check) (sender : Role) (dlci symbols : ℕ) (passed : List Signal) (s : Sent) (before upto : List Sample)
+    → Holds script sender (symbols * (length passed + 1)) → most < symbols → AreFit (4 * symbols) 0 (passed ++ signal_of check sender dlci s ∷ []) → IsSendable s → ChecksAgree check hearing s
     → Records script sender (signal_bits (4 * symbols) passed) before
     → Records script sender (signal_bits (4 * symbols) (passed ++ signal_of check sender dlci s ∷ [])) upto
     → Receives hearing sender dlci before upto (frames_in s) (patterns_in s)
 
 -- so it is what is heard
-abbrev pub HeardIsSent : Type 0
-HeardIsSent = (line : Kept) (script : ScriptValue) (passed waiting : List Signal) (signal : Signal) (check hearing : Check) (dlci : ℕ) (loses : Bool) (s : Sent) (h : Heard)
-    → DisplacesNoneBefore script (sender_of line) (line.writer.symbols * (length passed + 1)) → HEAD + TAIL < line.writer.symbols → AreFit (size_of line) 0 (passed ++ signal ∷ [])
+abbrev pub HeardIsSentWhere : (ScriptValue → Role → ℕ → Type 0) → ℕ → Type 0
+HeardIsSentWhere Holds most = (line : Kept) (script : ScriptValue) (passed waiting : List Signal) (signal : Signal) (check hearing : Check) (dlci : ℕ) (loses : Bool) (s : Sent) (h : Heard)
+    → Holds script (sender_of line) (line.writer.symbols * (length passed + 1)) → most < line.writer.symbols → AreFit (size_of line) 0 (passed ++ signal ∷ [])
     → signal ≡ signal_of check (sender_of line) dlci s → IsSendable s → ChecksAgree check hearing s
     → PassesSlot line script passed signal waiting hearing dlci loses s h → h ≡ unhindered loses s
 
@@ -134,11 +136,49 @@ abbrev pub NeverChance : Type 0
 NeverChance = (loses : Bool) (s : Sent) → unhindered loses s ≡ heard.Chance → ⊥
 
 -- and the slot does pass
-abbrev pub PassesUnhindered : Type 0
-PassesUnhindered = (line : Kept) (script : ScriptValue) (passed waiting : List Signal) (signal : Signal) (check hearing : Check) (dlci : ℕ) (loses : Bool) (s : Sent) (result : Result Heard Lost)
-    → DisplacesNoneBefore script (sender_of line) (line.writer.symbols * (length passed + 1)) → HEAD + TAIL < line.writer.symbols → AreFit (size_of line) 0 (passed ++ signal ∷ [])
+abbrev pub PassesUnhinderedWhere : (ScriptValue → Role → ℕ → Type 0) → ℕ → Type 0
+PassesUnhinderedWhere Holds most = (line : Kept) (script : ScriptValue) (passed waiting : List Signal) (signal : Signal) (check hearing : Check) (dlci : ℕ) (loses : Bool) (s : Sent) (result : Result Heard Lost)
+    → Holds script (sender_of line) (line.writer.symbols * (length passed + 1)) → most < line.writer.symbols → AreFit (size_of line) 0 (passed ++ signal ∷ [])
     → signal ≡ signal_of check (sender_of line) dlci s → IsSendable s → ChecksAgree check hearing s
     → Passes line script passed signal waiting hearing dlci loses s result → result ≡ Ok (unhindered loses s)
+
+-- where no symbol is displaced
+
+abbrev pub NeverLost : Type 0
+NeverLost = NeverLostWhere DisplacesNoneBefore
+
+abbrev pub ReceivedIsSent : Type 0
+ReceivedIsSent = ReceivedIsSentWhere DisplacesNoneBefore (HEAD + TAIL)
+
+abbrev pub SentIsReceived : Type 0
+SentIsReceived = SentIsReceivedWhere DisplacesNoneBefore (HEAD + TAIL)
+
+abbrev pub HeardIsSent : Type 0
+HeardIsSent = HeardIsSentWhere DisplacesNoneBefore (HEAD + TAIL)
+
+abbrev pub PassesUnhindered : Type 0
+PassesUnhindered = PassesUnhinderedWhere DisplacesNoneBefore (HEAD + TAIL)
+
+-- And where noise is faint: what was sent may be behind by 126 symbols then, and the ninth of ten patterns ends with bit 359 of its slot.
+
+abbrev pub FaintNeverLost : Type 0
+FaintNeverLost = NeverLostWhere IsFaintBefore
+
+abbrev pub FaintReceivedIsSent : Type 0
+FaintReceivedIsSent = ReceivedIsSentWhere IsFaintBefore 215
+
+abbrev pub FaintSentIsReceived : Type 0
+FaintSentIsReceived = SentIsReceivedWhere IsFaintBefore 215
+
+abbrev pub FaintHeardIsSent : Type 0
+FaintHeardIsSent = HeardIsSentWhere IsFaintBefore 215
+
+abbrev pub FaintPassesUnhindered : Type 0
+FaintPassesUnhindered = PassesUnhinderedWhere IsFaintBefore 215
+
+-- nothing is fainter than what displaces no symbol
+abbrev pub UndisplacedIsFaint : Type 0
+UndisplacedIsFaint = (script : ScriptValue) (sender : Role) (count : ℕ) → DisplacesNoneBefore script sender count → IsFaintBefore script sender count
 
 -- The bits of a slot tell what was sent in it, among all that can be coded at its size and flag phase with this check, by this sender on this channel.
 abbrev pub SlotsTellWhatWasSent : Type 0

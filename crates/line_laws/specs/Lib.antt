@@ -1,3 +1,4 @@
 pub mod Fitting
 pub mod Unhindered
+pub mod Faint
 pub mod Laws

@@ -3,7 +3,7 @@ ghost use Rattle.line_laws.specs.Laws.{LaterLinesDisplaceNone, EmptyScriptDispla
 ghost use Rattle.line_laws.specs.Laws.{CodableFits, CodableIsSendable, SpelledInOctets, FewOctetsBesidesInformation, ShortIsCodable};
 ghost use Rattle.line_laws.specs.Laws.{EachIsRecorded, SlotsAreRecorded, LossStays, LossIsInEachRecording};
 ghost use Rattle.line_laws.specs.Laws.{NeverLost, ReceivedIsSent, SentIsReceived, HeardIsSent, NeverChance, PassesUnhindered};
-ghost use Rattle.line_laws.specs.Laws.{SlotsTellWhatWasSent};
+ghost use Rattle.line_laws.specs.Laws.{SlotsTellWhatWasSent, FaintNeverLost, FaintReceivedIsSent, FaintSentIsReceived, FaintHeardIsSent, FaintPassesUnhindered, UndisplacedIsFaint};
 
 use detection::laws::{patterns_are_plain, seen_is_sent, sights_stay};
 
@@ -75,6 +75,25 @@ pub fn heard_is_sent()
     ensures heard { HeardIsSent }
     ensures never_chance { NeverChance }
     ensures passes { PassesUnhindered }
+{
+    patterns_are_plain();
+    sights_stay();
+    seen_is_sent();
+}
+
+/// Noise is faint where no symbol is displaced. A line is not lost while it is.
+pub fn faint_lines_are_never_lost()
+    ensures undisplaced { UndisplacedIsFaint }
+    ensures never { FaintNeverLost }
+{}
+
+/// Where noise is faint up to the end of a slot, and slots are long enough, what is received in it is what was sent in it and nothing else,
+/// and it is heard so.
+pub fn what_is_received_of_faint_lines_is_sent()
+    ensures nothing_else { FaintReceivedIsSent }
+    ensures all { FaintSentIsReceived }
+    ensures heard { FaintHeardIsSent }
+    ensures passes { FaintPassesUnhindered }
 {
     patterns_are_plain();
     sights_stay();

@@ -1,4 +1,5 @@
 pub mod Costs
 pub mod Meetings
 pub mod Detours
+pub mod Agreeing
 pub mod Followed

@@ -1,5 +1,5 @@
 -- Two sequences of one length part for good behind the last state that they share. What the parted symbols cost grows.
-use Rattle.std.proofs.Common.{◌≡◌, ℕ, zero, suc, ◌+◌, ◌*◌, ◌≤◌, ◌⊎◌, inl, inr, List, [], ◌∷◌, ◌++◌, length, map, arith, Some, refl, sym, ap, subst}
+use Rattle.std.proofs.Common.{◌≡◌, ℕ, zero, suc, ◌+◌, ◌*◌, ◌<◌, ◌≤◌, ◌⊎◌, inl, inr, List, [], ◌∷◌, ◌++◌, length, map, arith, Some, refl, sym, ap, subst}
 use Rattle.std.proofs.lemmas.Bool.{cases_eq}
 use Rattle.symbol_map.specs.Points.{point_of}
 use Rattle.trellis_tables.specs.Sequences.{Leads, cost}
@@ -114,11 +114,11 @@ parted-cost (suc k) s t (a ∷ b ∷ e ∷ q) [] p h = absurd p
 parted-cost (suc k) s t (a ∷ b ∷ e ∷ q) (d ∷ []) p h = absurd p.5
 parted-cost (suc k) s t (a ∷ b ∷ e ∷ q) (d ∷ f ∷ []) p h = absurd p.5.5
 
--- 25 symbols behind a shared state cost at least 20
-pub behind-cost : (mid : ℕ) (q c : List ℕ) → Behind mid q c → 25 ≤ length q → 83886080 ≤ cost far_from q (map point_of c)
-behind-cost mid [] c b h = absurd (omega arith)
-behind-cost mid (a ∷ q) [] b h = absurd b
-behind-cost mid (a ∷ q) (d ∷ c) (u, v, e, f, p) h =
+-- one symbol behind a shared state and so many times three more cost at least 4 and so many times 2
+pub behind-cost : (k mid : ℕ) (q c : List ℕ) → Behind mid q c → 3 * k < length q → 16777216 + 8388608 * k ≤ cost far_from q (map point_of c)
+behind-cost k mid [] c b h = absurd (omega arith)
+behind-cost k mid (a ∷ q) [] b h = absurd b
+behind-cost k mid (a ∷ q) (d ∷ c) (u, v, e, f, p) h =
     let first = leaves_apart mid a d u v e f (parted-now u v q c p) in
-    let many : 3 * 8 ≤ length q = omega arith in
-    omega (arith, first.far, far-is a d (branch_of mid a u e).in_labels (branch_of mid d v f).in_labels, parted-cost 8 u v q c p many)
+    let many : 3 * k ≤ length q = omega arith in
+    omega (arith, first.far, far-is a d (branch_of mid a u e).in_labels (branch_of mid d v f).in_labels, parted-cost k u v q c p many)

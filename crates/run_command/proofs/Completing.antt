@@ -9,7 +9,7 @@ use Rattle.line_run.specs.Ends.{RunEnd}
 use Rattle.line_run.specs.Ends as runs
 use Rattle.line_run.specs.Scripted.{channel_of}
 use Rattle.line_causes.specs.Causes.{GivesUp, LostLinksWereStarved}
-use Rattle.line_ends.specs.Completes.{EndsDone, LineEnds, AreOfOctets, CompletesWithFewLosses, CompletesWithFewNamed, CompletesUndisturbed}
+use Rattle.line_ends.specs.Completes.{EndsDone, LineEnds, AreOfOctets, CompletesWithFewLosses, CompletesWithFewNamed, CompletesQuiet, CompletesUndisturbed}
 use Rattle.command_base.specs.declared.status.Status.{Status}
 use Rattle.command_base.specs.declared.status.Status.TheVariants.{BadScript, TooLong, LineLost, NotDetected, LinkLost, ChanceMatch}
 use Rattle.command_base.specs.declared.stop.Stop.TheVariants.{Own}
@@ -20,7 +20,7 @@ use Rattle.run_inputs.specs.declared.limits.TheConstants.{LIMITS}
 use Rattle.run_inputs.specs.Words.{RunNames}
 use Rattle.run_inputs.specs.Inputs.{RefusesOwn}
 use Rattle.run_command.specs.Ends.{RanTo, RanBy, EndsBy, run_job}
-use Rattle.run_command.specs.Completes.{IsCarried, LosesFew, NamesFew, IsUndisturbed, AreRight, files_at, DoneWhere, Completes}
+use Rattle.run_command.specs.Completes.{IsCarried, LosesFew, NamesFew, RunsQuietly, IsUndisturbed, AreRight, files_at, DoneWhere, Completes}
 
 script-fits : (count : ℕ) → count ≤ 65536 → LIMITS.script < count → ⊥
 script-fits count within longer = omega (arith, within, longer)
@@ -49,6 +49,7 @@ pub record DoneLaws : Type 0 where
   pub starved : LostLinksWereStarved
   pub few_losses : CompletesWithFewLosses
   pub few_named : CompletesWithFewNamed
+  pub quiet : CompletesQuiet
   pub undisturbed : CompletesUndisturbed
 
 -- the run that was made is the one that is carried to its end
@@ -103,8 +104,17 @@ named-carried laws text script files spelled f =
     let limits = laws.limits text script spelled in
     let octets : AreOfOctets script files = record { files_are = f.octets; breaks_are = laws.breaks text script spelled } in
     record {
-      stays = λ end left r x. done-stays end (laws.few_named script files end left limits f.displaces_none octets f.few r) x;
-      not_starved = λ end left r g starved. done-kept end (laws.few_named script files end left limits f.displaces_none octets f.few r) g;
+      stays = λ end left r x. done-stays end (laws.few_named script files end left limits f.faint octets f.few r) x;
+      not_starved = λ end left r g starved. done-kept end (laws.few_named script files end left limits f.faint octets f.few r) g;
+    }
+
+quiet-carried : DoneLaws → (text : List ℕ) (script : ScriptValue) (files : Both (List ℕ)) → ScriptSpelling text script → RunsQuietly script files → IsCarried script files
+quiet-carried laws text script files spelled q =
+    let limits = laws.limits text script spelled in
+    let octets : AreOfOctets script files = record { files_are = q.octets; breaks_are = laws.breaks text script spelled } in
+    record {
+      stays = λ end left r x. done-stays end (laws.quiet script files end left limits q.quiet octets r) x;
+      not_starved = λ end left r g starved. done-kept end (laws.quiet script files end left limits q.quiet octets r) g;
     }
 
 undisturbed-carried : DoneLaws → (text : List ℕ) (script : ScriptValue) (files : Both (List ℕ)) → ScriptSpelling text script → IsUndisturbed script files → IsCarried script files
@@ -127,5 +137,6 @@ completes-of laws words old new n s a =
       carried = done;
       few_losses = λ sound script r f. done sound script r (few-carried laws (octets_at old n.script) script (files_at old n) r.spelled f);
       few_named = λ sound script r f. done sound script r (named-carried laws (octets_at old n.script) script (files_at old n) r.spelled f);
+      quiet = λ sound script r q. done sound script r (quiet-carried laws (octets_at old n.script) script (files_at old n) r.spelled q);
       undisturbed = λ sound script r u. done sound script r (undisturbed-carried laws (octets_at old n.script) script (files_at old n) r.spelled u);
     }

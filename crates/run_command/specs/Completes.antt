@@ -9,7 +9,7 @@ use Rattle.noise_script.specs.Grammar.{ScriptSpelling}
 use Rattle.link_run.specs.Counts.{lost_slots}
 use Rattle.line_run.specs.Ends.{RunEnd, Left, StarvedBy}
 use Rattle.line_causes.specs.Causes.{GivesUp}
-use Rattle.line_ends.specs.Completes.{ScriptRunsTo, heard_turns, LineEnds, DisplacesNone, slots_named}
+use Rattle.line_ends.specs.Completes.{ScriptRunsTo, heard_turns, LineEnds, IsFaint, IsQuiet, slots_named}
 use Rattle.command_base.specs.declared.status.Status.{Status}
 use Rattle.command_base.specs.Sound.{IsSound, DoneUnlessMemory}
 use Rattle.run_inputs.specs.Words.{RunNames, inputs_of, outputs_of}
@@ -29,11 +29,16 @@ pub record LosesFew (script : ScriptValue) (files : Both (List ℕ)) : Type 0 wh
   pub stays : LineStays script files
   pub few : (end : RunEnd) (left : Left) (r : ScriptRunsTo script files end left) → 2 * lost_slots (heard_turns script files end left r) < script.tries
 
--- The files are octets, no line of the script displaces a symbol, and its lose lines name fewer slots than one for each two tries.
+-- The files are octets, the noise of the script is faint, as it is where no symbol is displaced, and its lose lines name fewer slots than one for each two tries.
 pub record NamesFew (script : ScriptValue) (files : Both (List ℕ)) : Type 0 where
   pub octets : (role : Role) → AreOctets (of role files)
-  pub displaces_none : DisplacesNone script
+  pub faint : IsFaint script
   pub few : 2 * slots_named script.losses < script.tries
+
+-- The files are octets, and the script is quiet: it loses no slot, and its noise is faint.
+pub record RunsQuietly (script : ScriptValue) (files : Both (List ℕ)) : Type 0 where
+  pub octets : (role : Role) → AreOctets (of role files)
+  pub quiet : IsQuiet script
 
 -- The files are octets, and no line of the script loses, hits or displaces.
 pub record IsUndisturbed (script : ScriptValue) (files : Both (List ℕ)) : Type 0 where
@@ -62,9 +67,10 @@ DoneWhere old new n s Holds =
     IsSound old new (inputs_of n) (outputs_of n) → (script : ScriptValue) → AreRight old n script → Holds script (files_at old n) → DoneUnlessMemory s
 
 -- The run is done, but for want of memory: where it is carried to its end; where it loses few slots; and, whatever else its script says and
--- its files hold, where few are named and no symbol is displaced, so also where nothing disturbs it.
+-- its files hold, where few are named and noise is faint, so also where the script is quiet, and where nothing disturbs it.
 pub record Completes (old new : FolderState) (n : RunNames) (s : Status) : Type 0 where
   pub carried : DoneWhere old new n s IsCarried
   pub few_losses : DoneWhere old new n s LosesFew
   pub few_named : DoneWhere old new n s NamesFew
+  pub quiet : DoneWhere old new n s RunsQuietly
   pub undisturbed : DoneWhere old new n s IsUndisturbed

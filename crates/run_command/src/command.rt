@@ -135,7 +135,7 @@ pub fn run<F: Folder>(
     ensures headline { Headline (F.state folder.old) (F.state folder.new) (named names.now) result }
 
     // Where the inputs are right and the folder is sound, nothing but want of memory keeps the run from being done, if the line carries it
-    // to its end, or loses few slots of it, or the script names few and displaces no symbol.
+    // to its end, or loses few slots of it, or the script names few and its noise is faint.
     ensures completes { Completes (F.state folder.old) (F.state folder.new) (named names.now) result }
 
     // Each answer comes where it has to, with its line.

@@ -1,4 +1,4 @@
-//! Worked values of the crates between octets and samples: scramblers, coding, points, decoding and recordings.
+//! Worked values of the crates between octets and samples: scramblers, coding, points, decoding, recordings and their noise.
 //!
 //! It has no call of its own. In their own crates these tests would prove each crate's whole code once more.
 #![tactic(auto)]
@@ -9,6 +9,8 @@ mod decoding;
 mod demodulation;
 #[cfg(test)]
 mod differences;
+#[cfg(test)]
+mod margins;
 #[cfg(test)]
 mod modulation;
 #[cfg(test)]

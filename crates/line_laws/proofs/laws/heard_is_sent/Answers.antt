@@ -1,5 +1,7 @@
+use Rattle.line_laws.specs.Unhindered.{DisplacesNoneBefore}
 use Rattle.line_laws.proofs.Patterns.{AreSeen}
-use Rattle.line_laws.proofs.Received.{heard-sent, never-chance, passes-sent}
+use Rattle.line_laws.proofs.Received.{never-chance}
+use Rattle.line_laws.proofs.Heard.{heard-where, passes-where, undisplaced}
 use Rattle.line_laws.proofs.laws.heard_is_sent.Goals as goal
 
 pub returns : goal.returns
@@ -9,4 +11,4 @@ returns c =
       stay = c.sights_stay.ensures;
       sent = c.seen_is_sent.ensures;
     } in
-    record { heard = heard-sent seen; never_chance = never-chance; passes = passes-sent seen }
+    record { heard = heard-where DisplacesNoneBefore 138 96 undisplaced seen; never_chance = never-chance; passes = passes-where DisplacesNoneBefore 138 96 undisplaced seen }

@@ -1,5 +1,6 @@
+use Rattle.line_laws.specs.Unhindered.{DisplacesNoneBefore}
 use Rattle.line_laws.proofs.Patterns.{AreSeen}
-use Rattle.line_laws.proofs.Received.{received-sent, sent-received}
+use Rattle.line_laws.proofs.Heard.{received-where, sent-where, undisplaced}
 use Rattle.line_laws.proofs.laws.received_is_sent.Goals as goal
 
 pub returns : goal.returns
@@ -9,4 +10,4 @@ returns c =
       stay = c.sights_stay.ensures;
       sent = c.seen_is_sent.ensures;
     } in
-    record { nothing_else = received-sent seen; all = sent-received seen }
+    record { nothing_else = received-where DisplacesNoneBefore 138 96 undisplaced seen; all = sent-where DisplacesNoneBefore 138 96 undisplaced seen }

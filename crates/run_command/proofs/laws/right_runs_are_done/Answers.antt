@@ -11,6 +11,7 @@ returns c =
       starved = c.lost_links_were_starved.ensures.starved;
       few_losses = c.unstarved_runs_complete.ensures.few_losses;
       few_named = c.undisturbed_runs_complete.ensures.few_named;
+      quiet = c.undisturbed_runs_complete.ensures.quiet;
       undisturbed = c.undisturbed_runs_complete.ensures.undisturbed;
     } in
     completes-of laws

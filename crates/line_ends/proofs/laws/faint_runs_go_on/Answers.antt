@@ -1,6 +1,6 @@
-use Rattle.line_ends.proofs.Hearing.{HearLaws, undisplaced-go-on}
+use Rattle.line_ends.proofs.Hearing.{HearLaws, faint-go-on}
 use Rattle.line_ends.proofs.Undisturbed.{loses-what-is-named}
-use Rattle.line_ends.proofs.laws.undisplaced_runs_go_on.Goals as goal
+use Rattle.line_ends.proofs.laws.faint_runs_go_on.Goals as goal
 
 pub returns : goal.returns
 returns c =
@@ -11,10 +11,9 @@ returns c =
       codable = c.slots_have_room.ensures.codable;
       carried = c.samples_are_carried.ensures.runs;
       judges = c.numbers_have_the_agreed_check.ensures.judges;
-      displaces = c.scripts_displace_by_their_lines_alone.ensures.empty;
-      never_lost = c.undisplaced_lines_are_never_lost.ensures;
-      received = c.received_is_sent.ensures.nothing_else;
+      never_lost = c.faint_lines_are_never_lost.ensures.never;
+      received = c.what_is_received_of_faint_lines_is_sent.ensures.nothing_else;
       never_chance = c.heard_is_sent.ensures.never_chance;
       one = c.one_outcome.ensures.outcome;
     } in
-    record { goes_on = undisplaced-go-on laws; loses = loses-what-is-named laws }
+    record { goes_on = faint-go-on laws; loses = loses-what-is-named laws }

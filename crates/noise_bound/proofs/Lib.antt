@@ -1,0 +1,5 @@
+pub mod Margins
+pub mod Turned
+pub mod Quads
+pub mod Bits
+pub mod PickedUp

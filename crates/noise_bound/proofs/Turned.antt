@@ -1,0 +1,66 @@
+-- A near recording after a quarter turn, and what both release.
+use Rattle.std.proofs.Common.{ℕ, ◌+◌, ◌<◌, List, ◌++◌, map, take, drop, arith, append_assoc, Option, Some, None, sym, ◌∙◌, ap, subst}
+use Rattle.std.proofs.lemmas.Bool.{eqb-true}
+use Rattle.std.proofs.lemmas.List.{take-append-drop}
+use Rattle.plain_lists.specs.Prefix.{IsPrefixOf}
+use Rattle.symbol_map.specs.declared.sample.Sample.{Sample}
+use Rattle.symbol_map.specs.Distance.{quarter_turned}
+use Rattle.symbol_map.specs.Laws.{turned_label}
+use Rattle.trellis_tables.specs.Rotation.{rotated}
+use Rattle.trellis_tables.proofs.Rotations.{rotated-lt, one_start_turns, turn_keeps_cost}
+use Rattle.survivors.specs.Survivors.{IsReleased}
+use Rattle.quarter_turns.specs.Turned.{code_from, all_states, StartsTurn}
+use Rattle.quarter_turns.proofs.Lists.{labels-small, leads-within}
+use Rattle.quarter_turns.proofs.Least.{sequences_turn, all_states_turn}
+use Rattle.exact_decoder.specs.Decoder.{heard}
+use Rattle.noisy_line.specs.Near.{only, sure, sure_of_any, IsNear}
+use Rattle.noisy_line.proofs.Near.{near-front, releases-near, releases-near_of_any}
+use Rattle.noise_bound.specs.Turned.{BothRelease}
+use Rattle.noise_bound.specs.Laws.{NearTurns}
+
+pub near-turns : NearTurns
+near-turns bound starts turned_starts labels samples turn h =
+    let from = h.sequence.code_sequence.from in
+    let small = labels-small from h.end labels h.sequence.code_sequence.leads in
+    let in_end = leads-within from h.end labels (turn.within from h.sequence.code_sequence.starts_there) h.sequence.code_sequence.leads in
+    record {
+      end = rotated h.end;
+      sequence = (sequences_turn starts turned_starts samples labels h.end turn in_end small).0 h.sequence;
+      near = omega (arith, turn_keeps_cost labels samples small, h.near);
+    }
+
+one-turns : (start : ℕ) → start < 8 → StartsTurn (only start) (only (rotated start))
+one-turns start low = record {
+  within = λ state e. subst (λ s. s < 8) (sym (eqb-true state start e)) low;
+  turned_within = λ state e. subst (λ s. s < 8) (sym (eqb-true state (rotated start) e)) (rotated-lt start low);
+  turned = one_start_turns start low;
+}
+
+-- both begin the sent labels, as they are and turned
+pub record BothBegin (labels front turned_front : List ℕ) : Type 0 where
+  pub begins : IsPrefixOf front labels
+  pub turned_begins : IsPrefixOf turned_front (map turned_label labels)
+
+pub begin-from_one : (start : ℕ) (labels front turned_front : List ℕ) (samples : List Sample) → start < 8 → IsNear sure (only start) labels samples → BothRelease (only start) (only (rotated start)) samples front turned_front
+    → BothBegin labels front turned_front
+begin-from_one start labels front turned_front samples low h r =
+    let turned = near-turns sure (only start) (only (rotated start)) labels samples (one-turns start low) h in
+    record {
+      begins = releases-near start r.count labels front samples h r.released;
+      turned_begins = releases-near (rotated start) r.turned_count (map turned_label labels) turned_front (map quarter_turned samples) turned r.turned_released;
+    }
+
+pub begin-from_any : (labels front turned_front : List ℕ) (samples : List Sample) → IsNear sure_of_any all_states labels samples → BothRelease all_states all_states samples front turned_front → BothBegin labels front turned_front
+begin-from_any labels front turned_front samples h r =
+    let turned = near-turns sure_of_any all_states all_states labels samples all_states_turn h in
+    record {
+      begins = releases-near_of_any all_states r.count labels front samples h r.released;
+      turned_begins = releases-near_of_any all_states r.turned_count (map turned_label labels) turned_front (map quarter_turned samples) turned r.turned_released;
+    }
+
+-- what is heard up to a loss is released of the first samples
+pub heard-begins : (labels front : List ℕ) (samples : List Sample) (count : ℕ) (lost : Option ℕ) → IsNear sure_of_any all_states labels samples → IsReleased (code_from all_states) (heard lost (take count samples)) front → IsPrefixOf front labels
+heard-begins labels front samples count None h r = releases-near_of_any all_states count labels front samples h r
+heard-begins labels front samples count (Some symbol) h r =
+    let p = releases-near_of_any all_states (symbol + 1) (take count labels) front (take count samples) (near-front sure_of_any all_states labels samples count h) r in
+    (p.0 ++ drop count labels, sym (append_assoc front p.0 (drop count labels)) ∙ ap (λ k. k ++ drop count labels) p.1 ∙ take-append-drop count labels)

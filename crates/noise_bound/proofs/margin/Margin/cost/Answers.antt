@@ -1,0 +1,7 @@
+use Rattle.std.proofs.Common.{ap, subst, sym}
+use Rattle.noise_bound.specs.Margins.{Measured, IsCostOf}
+use Rattle.noise_bound.proofs.Margins.{measured}
+use Rattle.noise_bound.proofs.margin.Margin.cost.Goals as goal
+
+pub returns : goal.returns
+returns c mode octets samples s = subst (λ (m : Measured). IsCostOf mode octets samples m.cost) (sym c.self.view_is) (measured mode c.args.self.now octets samples s)

@@ -1,0 +1,62 @@
+-- Laws of recordings with little noise, and of the same after a quarter turn.
+use Rattle.std.specs.Prelude.{◌≡◌, ◌≢◌, ℕ, ◌<◌, ◌≤◌, Bool, List, length, map, take, slice_index, None}
+use Rattle.plain_lists.specs.Prefix.{IsPrefixOf}
+use Rattle.scramblers.specs.declared.mode.Mode.{Mode}
+use Rattle.scramblers.specs.Stream.{bit_at_place}
+use Rattle.symbol_map.specs.declared.sample.Sample.{Sample}
+use Rattle.symbol_map.specs.Distance.{quarter_turned}
+use Rattle.symbol_map.specs.Laws.{turned_label}
+use Rattle.trellis_tables.specs.LabelReader.{quads_of}
+use Rattle.trellis_tables.specs.Rotation.{rotated}
+use Rattle.survivors.specs.Survivors.{IsReleased, LostIs}
+use Rattle.quarter_turns.specs.Turned.{all_states, code_from, StartsTurn}
+use Rattle.noisy_line.specs.Near.{only, sure, sure_of_any, IsNear}
+use Rattle.line_coding.specs.Demodulates.{Demodulates}
+use Rattle.picked_up_lines.specs.PickedUp.{IsPickedUp}
+use Rattle.picked_up_lines.specs.Reading.{Middle, MiddleRead}
+use Rattle.bit_stuffing.specs.Found.{pieces_of}
+use Rattle.noise_bound.specs.Margins.{IsCostOf}
+use Rattle.noise_bound.specs.Turned.{BothRelease, IsOfFirstTwo, OneBegins}
+
+-- labels that cost little are near the samples
+abbrev pub SureIsNear : Type 0
+SureIsNear = (mode : Mode) (octets : List ℕ) (samples : List Sample) (price : ℕ) → (c : IsCostOf mode octets samples price) → price < sure
+    → IsNear sure (only 0) c.modulated.labels samples
+
+-- so the line isn't lost, and what is released was sent
+abbrev pub SureIsDecoded : Type 0
+SureIsDecoded = (mode : Mode) (octets : List ℕ) (samples : List Sample) (price depth : ℕ) → (c : IsCostOf mode octets samples price) → price < sure → 126 ≤ depth
+    → LostIs (code_from (only 0)) depth samples None × ((front : List ℕ) → IsReleased (code_from (only 0)) samples front → IsPrefixOf front c.modulated.labels)
+
+-- turned samples are near the turned labels
+abbrev pub NearTurns : Type 0
+NearTurns = (bound : ℕ) (starts turned_starts : ℕ → Bool) (labels : List ℕ) (samples : List Sample) → StartsTurn starts turned_starts
+    → IsNear bound starts labels samples → IsNear bound turned_starts (map turned_label labels) (map quarter_turned samples)
+
+-- the quads behind the first one are the same
+abbrev pub QuadsAreAlike : Type 0
+QuadsAreAlike = (start i : ℕ) (labels front turned_front : List ℕ) (samples : List Sample) → start < 8 → IsNear sure (only start) labels samples
+    → BothRelease (only start) (only (rotated start)) samples front turned_front
+    → 1 ≤ i → i < length front → i < length turned_front → slice_index (quads_of turned_front) i ≡ slice_index (quads_of front) i
+
+-- bits that differ are among six
+abbrev pub FewBitsDiffer : Type 0
+FewBitsDiffer = (tap start i : ℕ) (labels front turned_front : List ℕ) (samples : List Sample) (bits turned_bits : List Bool) → start < 8 → IsNear sure (only start) labels samples
+    → BothRelease (only start) (only (rotated start)) samples front turned_front → Demodulates tap front bits → Demodulates tap turned_front turned_bits
+    → i < length bits → i < length turned_bits → bit_at_place turned_bits i ≢ bit_at_place bits i → IsOfFirstTwo tap i
+
+-- of what is picked up one begins the other
+abbrev pub OnePickedUpBegins : Type 0
+OnePickedUpBegins = (tap : ℕ) (labels front turned_front : List ℕ) (samples : List Sample) (bits turned_bits : List Bool) → IsNear sure_of_any all_states labels samples
+    → BothRelease all_states all_states samples front turned_front → IsPickedUp tap front bits → IsPickedUp tap turned_front turned_bits → OneBegins bits turned_bits
+
+abbrev pub OneListOfPiecesBegins : Type 0
+OneListOfPiecesBegins = (tap : ℕ) (labels front turned_front : List ℕ) (samples : List Sample) (bits turned_bits : List Bool) → IsNear sure_of_any all_states labels samples
+    → BothRelease all_states all_states samples front turned_front → IsPickedUp tap front bits → IsPickedUp tap turned_front turned_bits
+    → OneBegins (pieces_of bits) (pieces_of turned_bits)
+
+-- however far two readers have read
+abbrev pub ReadersPiecesBegin : Type 0
+ReadersPiecesBegin = (mode : Mode) (depth turned_depth count turned_count : ℕ) (m turned : Middle) (labels : List ℕ) (samples : List Sample) (bits turned_bits : List Bool)
+    → IsNear sure_of_any all_states labels samples → MiddleRead mode depth m (take count samples) bits
+    → MiddleRead mode turned_depth turned (take turned_count (map quarter_turned samples)) turned_bits → OneBegins (pieces_of bits) (pieces_of turned_bits)

@@ -1,0 +1,10 @@
+pub use Rattle.noisy_line.specs.Near
+pub use Rattle.noisy_line.specs.Laws as NearLaws
+pub use Rattle.quarter_turns.specs.Turned as Turns
+pub use Rattle.line_coding.specs.Demodulates
+pub use Rattle.picked_up_lines.specs.PickedUp
+pub use Rattle.picked_up_lines.specs.Reading
+pub use Rattle.bit_stuffing.specs.Found
+pub mod Turned
+pub mod Margins
+pub mod Laws

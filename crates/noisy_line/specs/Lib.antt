@@ -1,0 +1,11 @@
+pub use Rattle.symbol_map.specs.Points
+pub use Rattle.trellis_tables.specs.Sequences
+pub use Rattle.trellis_tables.specs.Table
+pub use Rattle.survivors.specs.Trellises
+pub use Rattle.survivors.specs.Survivors
+pub use Rattle.quarter_turns.specs.Turned
+pub use Rattle.exact_decoder.specs.Decoder
+pub mod Distances
+pub mod Near
+pub mod DistanceLaws
+pub mod Laws
