@@ -1,18 +1,22 @@
 -- Which bits may differ behind a descrambler.
-use Rattle.std.proofs.Common.{◌≡◌, ℕ, ◌+◌, ◌-◌, ◌<◌, ◌≤◌, ◌⊎◌, inl, inr, Bool, false, List, length, get_or, nat_lt, arith}
+use Rattle.std.proofs.Common.{◌≡◌, ◌≢◌, ℕ, ◌+◌, ◌-◌, ◌<◌, ◌≤◌, ◌⊎◌, inl, inr, Bool, false, List, length, get_or, nat_lt, arith}
 use Rattle.std.proofs.lemmas.Bool.{cases_lt, cases_eq}
 use Rattle.std.proofs.lemmas.Bool.Decides.{nat_tests}
 use Rattle.scramblers.specs.Stream.{bit_at_place, earlier}
 use Rattle.scramblers.proofs.Readings.{depends_on_three}
 use Rattle.line_coding.specs.Demodulates.{line_of, Demodulates}
 use Rattle.noise_bound.specs.Turned.{IsOfFirstTwo}
-use Rattle.noise_bound.specs.Laws.{QuadsAreAlike, FewBitsDiffer}
-use Rattle.noise_bound.proofs.Turned.{BothBegin, begin-from_one}
+use Rattle.noise_bound.specs.Laws.{QuadsAreAlike, QuadsAreAlikeOfAny, FewBitsDiffer, FewBitsDifferOfAny}
+use Rattle.noise_bound.proofs.Turned.{BothBegin, begin-from_one, begin-from_any}
 use Rattle.noise_bound.proofs.Quads.{quads-alike, bits-alike}
 
 pub quads-are-alike : QuadsAreAlike
-quads-are-alike start i labels front turned_front samples low h r some within turned_within =
+quads-are-alike start low i labels front turned_front samples h r some within turned_within =
     quads-alike i labels front turned_front (begin-from_one start labels front turned_front samples low h r) some within turned_within
+
+pub quads-are-alike_of_any : QuadsAreAlikeOfAny
+quads-are-alike_of_any i labels front turned_front samples h r some within turned_within =
+    quads-alike i labels front turned_front (begin-from_any labels front turned_front samples h r) some within turned_within
 
 -- bits so many places before one are the same, unless they are of the first two
 same-before : (i k : ℕ) (a b : List Bool) → ((j : ℕ) → 2 ≤ j → j ≤ i → get_or a j false ≡ get_or b j false) → (i ≡ k → ⊥) → (i ≡ k + 1 → ⊥) → earlier a i k ≡ earlier b i k
@@ -45,13 +49,11 @@ unchanged tap i labels front turned_front bits turned_bits h d e within turned_w
     (same-before i tap (line_of turned_front) (line_of front) same b0 b1)
     (same-before i 23 (line_of turned_front) (line_of front) same c0 c1)
 
-pub few-bits-differ : FewBitsDiffer
-few-bits-differ tap start i labels front turned_front samples bits turned_bits low h r d e within turned_within differ =
+few-differ : (tap i : ℕ) (labels front turned_front : List ℕ) (bits turned_bits : List Bool) → BothBegin labels front turned_front → Demodulates tap front bits → Demodulates tap turned_front turned_bits
+    → i < length bits → i < length turned_bits → bit_at_place turned_bits i ≢ bit_at_place bits i → IsOfFirstTwo tap i
+few-differ tap i labels front turned_front bits turned_bits begins d e within turned_within differ =
     decided (cases_eq i 0) (cases_eq i 1) (cases_eq i tap) (cases_eq i (tap + 1)) (cases_eq i 23) (cases_eq i 24)
   where
-    begins : BothBegin labels front turned_front
-    begins = begin-from_one start labels front turned_front samples low h r
-
     decided : (i ≡ 0) ⊎ (i ≡ 0 → ⊥) → (i ≡ 1) ⊎ (i ≡ 1 → ⊥) → (i ≡ tap) ⊎ (i ≡ tap → ⊥) → (i ≡ tap + 1) ⊎ (i ≡ tap + 1 → ⊥) → (i ≡ 23) ⊎ (i ≡ 23 → ⊥) → (i ≡ 24) ⊎ (i ≡ 24 → ⊥) → IsOfFirstTwo tap i
     decided (inl a0) a1 b0 b1 c0 c1 = inl a0
     decided (inr a0) (inl a1) b0 b1 c0 c1 = inr (inl a1)
@@ -61,3 +63,11 @@ few-bits-differ tap start i labels front turned_front samples bits turned_bits l
     decided (inr a0) (inr a1) (inr b0) (inr b1) (inr c0) (inl c1) = inr (inr (inr (inr (inr c1))))
     decided (inr a0) (inr a1) (inr b0) (inr b1) (inr c0) (inr c1) =
         absurd (differ (unchanged tap i labels front turned_front bits turned_bits begins d e within turned_within a0 a1 b0 b1 c0 c1))
+
+pub few-bits-differ : FewBitsDiffer
+few-bits-differ start low tap i labels front turned_front samples bits turned_bits h r d e within turned_within differ =
+    few-differ tap i labels front turned_front bits turned_bits (begin-from_one start labels front turned_front samples low h r) d e within turned_within differ
+
+pub few-bits-differ_of_any : FewBitsDifferOfAny
+few-bits-differ_of_any tap i labels front turned_front samples bits turned_bits h r d e within turned_within differ =
+    few-differ tap i labels front turned_front bits turned_bits (begin-from_any labels front turned_front samples h r) d e within turned_within differ

@@ -1,21 +1,19 @@
 -- What a margin has measured, and what follows where that is little.
-use Rattle.std.proofs.Common.{◌≡◌, ◌∙◌, ℕ, ◌+◌, ◌*◌, ◌<◌, ◌≤◌, List, [], ◌∷◌, ◌++◌, length, map, take, None, refl, sym, ap, subst, arith, length-append}
+use Rattle.std.proofs.Common.{◌≡◌, ◌∙◌, ℕ, ◌+◌, List, [], ◌∷◌, ◌++◌, length, map, take, refl, sym, ap, subst, arith, length-append}
 use Rattle.std.proofs.lemmas.List.{take_all}
 use Rattle.plain_lists.specs.Bits.{bits_of}
-use Rattle.plain_lists.specs.Prefix.{IsPrefixOf}
 use Rattle.scramblers.specs.declared.mode.Mode.{Mode}
-use Rattle.scramblers.specs.Mode.{tap_of}
 use Rattle.symbol_map.specs.declared.sample.Sample.{Sample}
 use Rattle.symbol_map.specs.Distance.{distance_of}
 use Rattle.symbol_map.specs.Points.{point_of}
 use Rattle.trellis_tables.specs.Laws.{far_from}
 use Rattle.trellis_tables.specs.Sequences.{cost}
-use Rattle.survivors.specs.Survivors.{IsReleased, LostIs}
+use Rattle.survivors.specs.Survivors.{IsReleased}
 use Rattle.quarter_turns.specs.Turned.{code_from}
 use Rattle.noiseless_line.proofs.Costs.{length-points}
-use Rattle.noisy_line.specs.Near.{only, sure, IsNear}
+use Rattle.noisy_line.specs.Near.{only}
 use Rattle.noisy_line.proofs.Near.{releases-near, never-lost}
-use Rattle.line_coding.specs.Modulates.{Modulates, ModulatorStands}
+use Rattle.line_coding.specs.Modulates.{ModulatorStands}
 use Rattle.line_coding.specs.declared.modulator.Modulator.{Modulator}
 use Rattle.line_coding.proofs.Standing.{modulated}
 use Rattle.noise_bound.specs.Margins.{distances, IsCostOf, Measured, MarginStands}

@@ -34,16 +34,30 @@ NearTurns = (bound : ℕ) (starts turned_starts : ℕ → Bool) (labels : List �
     → IsNear bound starts labels samples → IsNear bound turned_starts (map turned_label labels) (map quarter_turned samples)
 
 -- the quads behind the first one are the same
-abbrev pub QuadsAreAlike : Type 0
-QuadsAreAlike = (start i : ℕ) (labels front turned_front : List ℕ) (samples : List Sample) → start < 8 → IsNear sure (only start) labels samples
-    → BothRelease (only start) (only (rotated start)) samples front turned_front
+abbrev pub QuadsAreAlikeFrom : ℕ → (ℕ → Bool) → (ℕ → Bool) → Type 0
+QuadsAreAlikeFrom bound starts turned_starts = (i : ℕ) (labels front turned_front : List ℕ) (samples : List Sample) → IsNear bound starts labels samples
+    → BothRelease starts turned_starts samples front turned_front
     → 1 ≤ i → i < length front → i < length turned_front → slice_index (quads_of turned_front) i ≡ slice_index (quads_of front) i
 
 -- bits that differ are among six
-abbrev pub FewBitsDiffer : Type 0
-FewBitsDiffer = (tap start i : ℕ) (labels front turned_front : List ℕ) (samples : List Sample) (bits turned_bits : List Bool) → start < 8 → IsNear sure (only start) labels samples
-    → BothRelease (only start) (only (rotated start)) samples front turned_front → Demodulates tap front bits → Demodulates tap turned_front turned_bits
+abbrev pub FewBitsDifferFrom : ℕ → (ℕ → Bool) → (ℕ → Bool) → Type 0
+FewBitsDifferFrom bound starts turned_starts = (tap i : ℕ) (labels front turned_front : List ℕ) (samples : List Sample) (bits turned_bits : List Bool) → IsNear bound starts labels samples
+    → BothRelease starts turned_starts samples front turned_front → Demodulates tap front bits → Demodulates tap turned_front turned_bits
     → i < length bits → i < length turned_bits → bit_at_place turned_bits i ≢ bit_at_place bits i → IsOfFirstTwo tap i
+
+-- from one start, and from any
+
+abbrev pub QuadsAreAlike : Type 0
+QuadsAreAlike = (start : ℕ) → start < 8 → QuadsAreAlikeFrom sure (only start) (only (rotated start))
+
+abbrev pub QuadsAreAlikeOfAny : Type 0
+QuadsAreAlikeOfAny = QuadsAreAlikeFrom sure_of_any all_states all_states
+
+abbrev pub FewBitsDiffer : Type 0
+FewBitsDiffer = (start : ℕ) → start < 8 → FewBitsDifferFrom sure (only start) (only (rotated start))
+
+abbrev pub FewBitsDifferOfAny : Type 0
+FewBitsDifferOfAny = FewBitsDifferFrom sure_of_any all_states all_states
 
 -- of what is picked up one begins the other
 abbrev pub OnePickedUpBegins : Type 0

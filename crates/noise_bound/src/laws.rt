@@ -1,6 +1,6 @@
 //! Laws of a recording with little noise, and of the same after a quarter turn, as far as both are released. Each function's contract is a
 //! law. Those of samples that are near what was sent are handed on from [`noisy_line`].
-ghost use Rattle.noise_bound.specs.Laws.{SureIsNear, SureIsDecoded, NearTurns, QuadsAreAlike, FewBitsDiffer, OnePickedUpBegins, OneListOfPiecesBegins, ReadersPiecesBegin};
+ghost use Rattle.noise_bound.specs.Laws.{SureIsNear, SureIsDecoded, NearTurns, QuadsAreAlike, QuadsAreAlikeOfAny, FewBitsDiffer, FewBitsDifferOfAny, OnePickedUpBegins, OneListOfPiecesBegins, ReadersPiecesBegin};
 
 pub use noisy_line::laws::{
     cost_is_distance, decoders_follow_a_line, decoders_follow_a_line_from_any_start,
@@ -21,14 +21,17 @@ pub fn turned_samples_are_as_near()
     ensures { NearTurns }
 {}
 
-/// From one start, with noise below 2.5 squares of a map unit: both recordings carry the same quads but for the first.
+/// From one start, with noise below 2.5 squares of a map unit, and from any state, with noise below one: both recordings carry the same quads
+/// but for the first.
 pub fn quads_behind_the_first_are_the_same()
-    ensures { QuadsAreAlike }
+    ensures one_start { QuadsAreAlike }
+    ensures any_start { QuadsAreAlikeOfAny }
 {}
 
-/// Behind the descramblers at most six bits differ: those that the first two bits of the line go into.
+/// Behind the descramblers at most six bits differ then: those that the first two bits of the line go into.
 pub fn at_most_six_bits_differ()
-    ensures { FewBitsDiffer }
+    ensures one_start { FewBitsDiffer }
+    ensures any_start { FewBitsDifferOfAny }
 {}
 
 /// From any state, with noise below one square of a map unit: of the bits that are picked up of both recordings one list begins the

@@ -5,7 +5,7 @@ use Rattle.symbol_map.specs.Points.{point_of}
 use Rattle.trellis_tables.specs.Laws.{far_from}
 use Rattle.trellis_tables.specs.Sequences.{Leads, cost}
 use Rattle.trellis_tables.specs.Table.{next_state}
-use Rattle.noisy_line.specs.Distances.{apart_in_all, AreApartFrom, Near}
+use Rattle.noisy_line.specs.Distances.{apart_in_all, AreApartFrom, IsReachedNear}
 
 -- two sequences that meet differ by at least 4
 abbrev pub MeetingIsFar : Type 0
@@ -27,7 +27,7 @@ PartingIsFar = (s u v : ℕ) (a b : List ℕ) → 1 ≤ length a → length a �
 
 -- each state is reached by a sequence that is at most 18 from another one
 abbrev pub EndsAreNear : Type 0
-EndsAreNear = (from end to : ℕ) (labels : List ℕ) → 2 ≤ length labels → to < 8 → Leads next_state from labels end → Near from to labels 18
+EndsAreNear = (from end to : ℕ) (labels : List ℕ) → 2 ≤ length labels → to < 8 → Leads next_state from labels end → IsReachedNear from to labels 18
 
 -- labels cost against the points of others their distance, times the square of 2048
 abbrev pub CostIsDistance : Type 0

@@ -14,8 +14,8 @@ apart_in_all (x ∷ a) (y ∷ b) = apart x y + apart_in_all a b
 abbrev pub AreApartFrom : ℕ → ℕ → ℕ → List ℕ → List ℕ → Type 0
 AreApartFrom n s t a b = (i u v : ℕ) → n ≤ i → i ≤ length a → Leads next_state s (take i a) u → Leads next_state t (take i b) v → u ≢ v
 
--- a sequence of as many labels to this state, no farther than so much
-pub record Near (from to : ℕ) (labels : List ℕ) (most : ℕ) : Type 0 where
+-- Another sequence of as many labels leads to this state, and is no farther than so much.
+pub record IsReachedNear (from to : ℕ) (labels : List ℕ) (most : ℕ) : Type 0 where
   pub other : List ℕ
   pub leads : Leads next_state from other to
   pub same_length : length other ≡ length labels
