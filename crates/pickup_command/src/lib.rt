@@ -3,11 +3,10 @@
 #![tactic(auto)]
 
 mod command;
-mod laws;
+pub mod laws;
 mod player;
 mod playing;
 mod words;
 
 pub use command::pickup;
-pub use laws::later_pieces_stand_behind;
 pub use words::pickup_words;
