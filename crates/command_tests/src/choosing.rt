@@ -45,6 +45,8 @@ fn each_command_is_done(rt: HostRuntime) -> Result<(), Fail> {
     answers(&rt, rt.alloc(), &frames, Status::Done, "pieces 0\n")?;
     let offer = "window tx=15 rx=15 length tx=128 rx=128 srej=0 check32=0\n";
     answers(&rt, rt.alloc(), &["xid", "82"], Status::Done, offer)?;
+    let pickup = ["pickup", "r"];
+    answers(&rt, rt.alloc(), &pickup, Status::Done, "pieces 0\n")?;
     Ok(())
 }
 
@@ -109,7 +111,7 @@ fn samples_at_the_origin_are_followed_as_far_as_the_depth(rt: HostRuntime) -> Re
 
 #[test]
 fn other_words_are_told_the_usage(rt: HostRuntime) -> Result<(), Fail> {
-    let usage = "usage: modem run, encode, decode, frames, xid, soak\n";
+    let usage = "usage: modem run, encode, decode, frames, xid, soak, pickup\n";
     let runs = [
         ["run", "o", "a", "s", "go", "go", "t"],
         ["run", "o", "a", "s", "go", "ga", "s"],
@@ -134,6 +136,9 @@ fn other_words_are_told_the_usage(rt: HostRuntime) -> Result<(), Fail> {
     for words in three {
         answers(&rt, rt.alloc(), &words, Status::Usage, usage)?;
     }
+    answers(&rt, rt.alloc(), &["pickup"], Status::Usage, usage)?;
+    answers(&rt, rt.alloc(), &["pick", "r"], Status::Usage, usage)?;
+    answers(&rt, rt.alloc(), &["pickup", "r", "f"], Status::Usage, usage)?;
     answers(&rt, rt.alloc(), &[], Status::Usage, usage)?;
     Ok(())
 }

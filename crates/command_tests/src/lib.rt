@@ -18,6 +18,8 @@ mod listing;
 #[cfg(test)]
 mod opening;
 #[cfg(test)]
+mod picking;
+#[cfg(test)]
 mod running;
 #[cfg(test)]
 mod saying;

@@ -24,7 +24,7 @@ fn answers(
 }
 
 #[test]
-fn files_of_the_limit_are_recorded_and_decoded(rt: HostRuntime) -> Result<(), Fail> {
+fn files_of_the_limit_are_recorded_and_decoded_and_picked_up(rt: HostRuntime) -> Result<(), Fail> {
     let alloc = rt.alloc();
     let mut folder = MemoryFolder::new(alloc);
     let file = vec![in alloc; 7u8; 1_048_576]?;
@@ -36,10 +36,13 @@ fn files_of_the_limit_are_recorded_and_decoded(rt: HostRuntime) -> Result<(), Fa
     let octets = "octets 1048576\n";
     answers(&rt, alloc, &mut folder, &decode, Status::Done, octets)?;
     assert!(&rt; folder.get("g") == Some(file.as_slice()));
+    let pickup = ["pickup", "r"];
+    answers(&rt, alloc, &mut folder, &pickup, Status::Done, "pieces 0\n")?;
     let long = vec![in alloc; 7u8; 8_388_617]?;
     folder.put("r", &long)?;
     let status = Status::TooLong { word: 1 };
     answers(&rt, alloc, &mut folder, &decode, status, "too long: r\n")?;
+    answers(&rt, alloc, &mut folder, &pickup, status, "too long: r\n")?;
     Ok(())
 }
 

@@ -17,12 +17,9 @@ use Rattle.command_base.proofs.Reading.{ReadTo-none, ReadTo-kept, ReadTo-begins}
 use Rattle.frames_command.specs.Words.{FramesNames}
 use Rattle.piece_listener.specs.Readings.{AreLines}
 use Rattle.piece_listener.specs.Heard.{Listening, Heard, PartlyHeard}
+use Rattle.piece_listener.proofs.Hearing.{said-after, heard-after}
 use Rattle.frames_command.specs.Heard.{HeardTo, Begun}
 use Rattle.frames_command.specs.Ends.{SaysAll, AreFirst, SaysFirst, SaysPart, EndsBy}
-
--- a read leaves what was said
-said-after : (start old mid : FolderState) (lines : List ℕ) → OnlyReads old mid → Said start old lines → Said start mid lines
-said-after start old mid lines r said = r.said ∙ said
 
 -- Lines of the pieces in bits with which the bits of octets begin, where the file begins with these octets: so they are the
 -- lines of the file's first pieces.
@@ -66,9 +63,6 @@ not-begun old new n (Read fault) nothing reads fails = none-first old new n noth
 not-begun old new n (Write fault) nothing reads never = never
 not-begun old new n (Say fault) nothing reads never = absurd never
 not-begun old new n NoMemory nothing reads never = never
-
-heard-after : (start old mid : FolderState) (l : Listening) (bits : List Bool) → OnlyReads old mid → Heard start old l bits → Heard start mid l bits
-heard-after start old mid l bits reads h = record { stands = h.stands; lines = h.lines; are_lines = h.are_lines; said = said-after start old mid h.lines reads h.said; count = h.count }
 
 -- a piece more was heard
 pub heard-more : (start old mid new : FolderState) (n : FramesNames) (l next : Listening) (at count : ℕ) (piece : List ℕ) (h : HeardTo start old n l at) →

@@ -1,5 +1,7 @@
--- Words of `run` are no other command's.
-use Rattle.std.proofs.Common.{◌≡◌, ◌∙◌, true, ℕ, List, [], ◌∷◌, Option, Some, None, refl, sym, ap, subst}
+-- Words of `run` are no other command's, and those of `soak` aren't those of `pickup`.
+use Rattle.std.proofs.Common.{◌≡◌, ◌∙◌, Bool, true, false, ℕ, List, [], ◌∷◌, Option, Some, None, codes, refl, sym, ap, subst}
+use Rattle.std.specs.Str.{bytes_eq}
+use Rattle.std.proofs.lemmas.Slice.Eq.{bytes_eq-Decides}
 use Rattle.outside_core.specs.Folder.{FolderState}
 use Rattle.command_base.specs.declared.status.Status.{Status}
 use Rattle.command_base.specs.Job.{Answers as AnswersOf}
@@ -12,6 +14,9 @@ use Rattle.decode_command.specs.Words.{names_of as decode_names}
 use Rattle.frames_command.specs.Words.{names_of as frames_names}
 use Rattle.xid_command.specs.Words.{digits_named}
 use Rattle.soak_command.specs.Words.{seed_named}
+use Rattle.soak_command.specs.Headline.{Headline as SoakHeadline}
+use Rattle.soak_command.specs.Completes.{Completes as SoakCompletes}
+use Rattle.pickup_command.specs.Words.{recording_named}
 use Rattle.modem_cli.specs.Modem.{is_none, Promises, Answers, Completes}
 
 pub record OthersNone (words : List (List ℕ)) : Type 0 where
@@ -20,6 +25,7 @@ pub record OthersNone (words : List (List ℕ)) : Type 0 where
   pub frames : frames_names words ≡ None
   pub xid : digits_named words ≡ None
   pub soak : seed_named words ≡ None
+  pub pickup : recording_named words ≡ None
 
 run-alone : (words : List (List ℕ)) (n : RunNames) → run_names words ≡ Some n → OthersNone words
 run-alone [] n e = absurd cc
@@ -29,7 +35,7 @@ run-alone (a ∷ b ∷ d ∷ []) n e = absurd cc
 run-alone (a ∷ b ∷ d ∷ f ∷ []) n e = absurd cc
 run-alone (a ∷ b ∷ d ∷ f ∷ h ∷ []) n e = absurd cc
 run-alone (a ∷ b ∷ d ∷ f ∷ h ∷ i ∷ []) n e = absurd cc
-run-alone (a ∷ b ∷ d ∷ f ∷ h ∷ i ∷ j ∷ []) n e = record { encode = refl; decode = refl; frames = refl; xid = refl; soak = refl }
+run-alone (a ∷ b ∷ d ∷ f ∷ h ∷ i ∷ j ∷ []) n e = record { encode = refl; decode = refl; frames = refl; xid = refl; soak = refl; pickup = refl }
 run-alone (a ∷ b ∷ d ∷ f ∷ h ∷ i ∷ j ∷ k ∷ more) n e = absurd cc
 
 never : {A : Type 0} (o : Option A) (a : A) → o ≡ None → o ≡ Some a → ⊥
@@ -60,6 +66,7 @@ run-promises words old new n s e h =
       frames = λ m f. absurd (never (frames_names words) m o.frames f);
       xid = λ m f. absurd (never (digits_named words) m o.xid f);
       soak = λ m f. absurd (never (seed_named words) m o.soak f);
+      pickup = λ m f. absurd (never (recording_named words) m o.pickup f);
       other = λ none. absurd (never-none (run_names words) n e none.0);
     }
 
@@ -73,6 +80,7 @@ run-answers words old new n s e a =
       frames = λ m f. absurd (never (frames_names words) m o.frames f);
       xid = λ m f. absurd (never (digits_named words) m o.xid f);
       soak = λ m f. absurd (never (seed_named words) m o.soak f);
+      pickup = λ m f. absurd (never (recording_named words) m o.pickup f);
       other = λ none. absurd (never-none (run_names words) n e none.0);
     }
 
@@ -86,4 +94,59 @@ run-completes words old new n s e k =
       frames = λ m f. absurd (never (frames_names words) m o.frames f);
       xid = λ m f. absurd (never (digits_named words) m o.xid f);
       soak = λ m f. absurd (never (seed_named words) m o.soak f);
+      pickup = λ m f. absurd (never (recording_named words) m o.pickup f);
     }
+
+-- ---- words of `soak`, which are none of the commands before it
+
+soak-alone : (words : List (List ℕ)) (seed : ℕ) → seed_named words ≡ Some seed → recording_named words ≡ None
+soak-alone [] seed e = absurd cc
+soak-alone (a ∷ []) seed e = absurd cc
+soak-alone (a ∷ b ∷ []) seed e = by (bytes_eq a (codes "soak")) refl
+  where
+    none : bytes_eq a (codes "soak") ≡ false → seed_named (a ∷ b ∷ []) ≡ None
+    none q = rw q refl
+
+    by : (t : Bool) → bytes_eq a (codes "soak") ≡ t → recording_named (a ∷ b ∷ []) ≡ None
+    by true q = subst (λ (xs : List ℕ). recording_named (xs ∷ b ∷ []) ≡ None) (sym ((bytes_eq-Decides a (codes "soak")).0 q)) refl
+    by false q = absurd (never (seed_named (a ∷ b ∷ [])) seed (none q) e)
+soak-alone (a ∷ b ∷ d ∷ more) seed e = absurd cc
+
+same-seed : (o : Option ℕ) (n m : ℕ) → o ≡ Some n → o ≡ Some m → n ≡ m
+same-seed (Some found) n m e f = ap value (sym e ∙ f)
+  where
+    value : Option ℕ → ℕ
+    value (Some x) = x
+    value None = n
+same-seed None n m e f = absurd cc
+
+-- the words are none of the commands that are looked for before `soak`
+pub record NoneBefore (words : List (List ℕ)) : Type 0 where
+  pub run : run_names words ≡ None
+  pub encode : encode_names words ≡ None
+  pub decode : decode_names words ≡ None
+  pub frames : frames_names words ≡ None
+  pub xid : digits_named words ≡ None
+
+pub soak-promises : (words : List (List ℕ)) (old new : FolderState) (seed : ℕ) (s : Status) → NoneBefore words → seed_named words ≡ Some seed → SoakHeadline old new seed s → Promises words old new s
+soak-promises words old new seed s o e h = record {
+  run = λ m f. absurd (never (run_names words) m o.run f);
+  encode = λ m f. absurd (never (encode_names words) m o.encode f);
+  decode = λ m f. absurd (never (decode_names words) m o.decode f);
+  frames = λ m f. absurd (never (frames_names words) m o.frames f);
+  xid = λ m f. absurd (never (digits_named words) m o.xid f);
+  soak = λ m f. subst (λ (x : ℕ). SoakHeadline old new x s) (same-seed (seed_named words) seed m e f) h;
+  pickup = λ m f. absurd (never (recording_named words) m (soak-alone words seed e) f);
+  other = λ none. absurd (never-none (seed_named words) seed e none.1.1.1.1.1.0);
+}
+
+pub soak-completes : (words : List (List ℕ)) (old new : FolderState) (seed : ℕ) (s : Status) → NoneBefore words → seed_named words ≡ Some seed → SoakCompletes old new seed s → Completes words old new s
+soak-completes words old new seed s o e k = record {
+  run = λ m f. absurd (never (run_names words) m o.run f);
+  encode = λ m f. absurd (never (encode_names words) m o.encode f);
+  decode = λ m f. absurd (never (decode_names words) m o.decode f);
+  frames = λ m f. absurd (never (frames_names words) m o.frames f);
+  xid = λ m f. absurd (never (digits_named words) m o.xid f);
+  soak = λ m f. subst (λ (x : ℕ). SoakCompletes old new x s) (same-seed (seed_named words) seed m e f) k;
+  pickup = λ m f. absurd (never (recording_named words) m (soak-alone words seed e) f);
+}

@@ -17,13 +17,13 @@ use Rattle.picked_up_lines.proofs.Quads.{fours-drop}
 use Rattle.picked_up_lines.proofs.Late.{late}
 
 -- the bits that a line is descrambled to
-abbrev descrambled_at : ℕ → List Bool → ℕ → Bool
+abbrev pub descrambled_at : ℕ → List Bool → ℕ → Bool
 descrambled_at tap line i = xor (xor (bit_at_place line i) (earlier line i tap)) (earlier line i 23)
 
-abbrev descrambled : ℕ → List Bool → List Bool
+abbrev pub descrambled : ℕ → List Bool → List Bool
 descrambled tap line = map (descrambled_at tap line) (range_with_len 0 (length line))
 
-descrambles : (tap : ℕ) (line : List Bool) → Descrambles tap line (descrambled tap line)
+pub descrambles : (tap : ℕ) (line : List Bool) → Descrambles tap line (descrambled tap line)
 descrambles tap line = record {
   lengths = length-map-range_with_len (descrambled_at tap line) 0 (length line);
   each = λ i within. get_or-map-range_with_len (descrambled_at tap line) 0 (length line) i i false within (omega arith);

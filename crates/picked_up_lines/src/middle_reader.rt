@@ -1,5 +1,5 @@
 // Samples from the middle of a line become bits.
-ghost use Rattle.std.specs.Prelude.{◌≡◌, ℕ, ◌+◌, ◌<◌, ◌≤◌, ◌^◌, Bool, List, [], ◌∷◌, ◌++◌, Some, None, length, IfOk, MatchOption, MatchResult};
+ghost use Rattle.std.specs.Prelude.{◌≡◌, ℕ, ◌+◌, ◌<◌, ◌≤◌, ◌^◌, Bool, List, [], ◌∷◌, ◌++◌, Some, None, length, drop, IfOk, MatchOption, MatchResult};
 ghost use Rattle.scramblers.specs.declared.mode.Mode.{Mode};
 ghost use Rattle.symbol_map.specs.declared.sample.Sample.{Sample};
 ghost use Rattle.picked_up_lines.specs.Reading.{MiddleRead, bits_taken};
@@ -80,6 +80,7 @@ impl<const DEPTH: usize> MiddleReader<DEPTH> {
             → MiddleRead mode DEPTH self.new samples (bits ++ bits_taken result) }
         ensures first { MatchOption result (self.old.reading.decoder.pending ≡ [])
             (λ _. length self.old.reading.decoder.pending ≡ length self.new.reading.decoder.pending + 1) }
+        ensures pending { self.new.reading.decoder.pending ≡ drop 1 self.old.reading.decoder.pending }
         ensures count { self.new.reading.decoder.count ≡ self.old.reading.decoder.count }
         ensures lost { self.new.reading.decoder.lost ≡ self.old.reading.decoder.lost }
     {

@@ -3,7 +3,7 @@ use Rattle.std.proofs.Common.{◌≡◌, ◌∙◌, ℕ, ◌+◌, ◌/◌, ◌^�
 use Rattle.std.specs.Option.{option_map, option_map_or}
 use Rattle.std.proofs.lemmas.List.{take_more, take-append-drop}
 use Rattle.std.proofs.lemmas.Nat.{and_mask}
-use Rattle.outside_core.specs.Folder.{FolderState, OnlySays, Said, PartlySaid}
+use Rattle.outside_core.specs.Folder.{FolderState, OnlyReads, OnlySays, Said, PartlySaid}
 use Rattle.outside_core.specs.Steps.{GoesOn-trans, KeepsName-trans}
 use Rattle.plain_lists.specs.Bits.{low_bits, octet_bits, bits_of}
 use Rattle.frame_check.proofs.BitLists.{length-low_bits, get_or-low_bits, bits_of-snoc, bits_of-append}
@@ -171,3 +171,10 @@ said-nothing f = go f.said
     go : (said : Option (List ℕ)) → said ≡ option_map (λ s. s ++ []) said
     go None = refl
     go (Some s) = ap Some (sym (append-nil s))
+
+-- a read leaves what was said
+pub said-after : (start old mid : FolderState) (lines : List ℕ) → OnlyReads old mid → Said start old lines → Said start mid lines
+said-after start old mid lines r said = r.said ∙ said
+
+pub heard-after : (start old mid : FolderState) (l : Listening) (bits : List Bool) → OnlyReads old mid → Heard start old l bits → Heard start mid l bits
+heard-after start old mid l bits reads h = record { stands = h.stands; lines = h.lines; are_lines = h.are_lines; said = said-after start old mid h.lines reads h.said; count = h.count }

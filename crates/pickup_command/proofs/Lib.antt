@@ -1,0 +1,4 @@
+pub mod Longer
+pub mod Playings
+pub mod Parts
+pub mod Headline

@@ -1,0 +1,12 @@
+-- A law of what samples give.
+use Rattle.std.specs.Prelude.{List, ◌++◌}
+use Rattle.scramblers.specs.declared.mode.Mode.{Mode}
+use Rattle.symbol_map.specs.declared.sample.Sample.{Sample}
+use Rattle.bit_stuffing.specs.Found.{Found}
+use Rattle.plain_lists.specs.Prefix.{IsPrefixOf}
+use Rattle.pickup_command.specs.Gives.{GivesPieces}
+
+-- what samples give begins what they give with others behind them
+abbrev pub LaterPiecesStandBehind : Type 0
+LaterPiecesStandBehind = (mode : Mode) (samples more : List Sample) (pieces later : List Found)
+    → GivesPieces mode samples pieces → GivesPieces mode (samples ++ more) later → IsPrefixOf pieces later

@@ -1,0 +1,7 @@
+pub mod Words
+pub mod Gives
+pub mod Playing
+pub mod Ends
+pub mod Completes
+pub mod Headline
+pub mod Laws
