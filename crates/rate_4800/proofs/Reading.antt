@@ -67,7 +67,8 @@ cut (x ∷ labels) (suc place) low =
 abbrev far : ℕ → Sample → ℕ
 far label sample = distance_of (point_of label) sample
 
-cost-append : (labels more : List ℕ) (before after : List Sample) → length labels ≡ length before → cost far (labels ++ more) (before ++ after) ≡ cost far labels before + cost far more after
+cost-append : (labels more : List ℕ) (before after : List Sample) → length labels ≡ length before
+    → cost far (labels ++ more) (before ++ after) ≡ cost far labels before + cost far more after
 cost-append [] more [] after e = omega arith
 cost-append [] more (s ∷ before) after e = absurd (omega arith)
 cost-append (x ∷ labels) more [] after e = absurd (omega arith)
@@ -78,7 +79,8 @@ cost-append (x ∷ labels) more (s ∷ before) after e =
     omega (arith, rest, sum, own)
 
 -- each label may stand at each place
-leads-on : (from : ℕ) (earlier : List ℕ) (here : ℕ) (later : List ℕ) (label to : ℕ) → label < 4 → Leads next_state from (earlier ++ here ∷ later) to → Leads next_state from (earlier ++ label ∷ later) to
+leads-on : (from : ℕ) (earlier : List ℕ) (here : ℕ) (later : List ℕ) (label to : ℕ) → label < 4
+    → Leads next_state from (earlier ++ here ∷ later) to → Leads next_state from (earlier ++ label ∷ later) to
 leads-on from earlier here later label to low leads =
     let s = Leads-split next_state from earlier (here ∷ later) to leads in
     let mid = s.0 in
@@ -90,14 +92,16 @@ leads-on from earlier here later label to low leads =
     Leads-append next_state from earlier (label ∷ later) mid to s.1 (step.0, moves, step.2)
 
 -- what is nearer than half the way to one point is farther from each other one
-nearer : (label here : ℕ) (sample : Sample) → label < 4 → here < 4 → (label ≡ here → ⊥) → far label sample < 20971520 → far label sample < far here sample
+nearer : (label here : ℕ) (sample : Sample) → label < 4 → here < 4 → (label ≡ here → ⊥) → far label sample < 20971520
+    → far label sample < far here sample
 nearer label here sample in_label in_here differ near =
     let wide : 83886080 ≤ distance_of (point_of label) (point_of here) = points_lie_apart label here in_label in_here differ in
     let both : distance_of (point_of label) (point_of here) ≤ 2 * distance_of (point_of label) sample + 2 * distance_of sample (point_of here) = near_is_near (point_of label) sample (point_of here) in
     let swap : distance_of sample (point_of here) ≡ far here sample = distance_of-swap sample (point_of here) in
     omega (arith, wide, both, swap, near)
 
-pub near-read : (before after : List Sample) (sample : Sample) (label : ℕ) (front : List ℕ) → label < 4 → distance_of (point_of label) sample < 20971520
+pub near-read : (before after : List Sample) (sample : Sample) (label : ℕ) (front : List ℕ) → label < 4
+    → distance_of (point_of label) sample < 20971520
     → IsReleased quarters (before ++ sample ∷ after) front
     → (earlier : List ℕ) × (later : List ℕ) × (front ≡ earlier ++ label ∷ later) × (length earlier ≡ length before)
 near-read before after sample label front low near released = elim (cases_eq label c.here) [

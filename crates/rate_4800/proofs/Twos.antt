@@ -9,7 +9,8 @@ use Rattle.differential.specs.Turned.{turned}
 use Rattle.differential.proofs.Inverses.{unturned-turned}
 use Rattle.rate_4800.specs.Demodulates.{Demodulates}
 
-pub twos-more : (line : List Bool) (turns : List ℕ) (turn : ℕ) → line ≡ flat_map (low_bits 2) turns → line ++ low_bits 2 turn ≡ flat_map (low_bits 2) (turns ++ turn ∷ [])
+pub twos-more : (line : List Bool) (turns : List ℕ) (turn : ℕ) → line ≡ flat_map (low_bits 2) turns
+    → line ++ low_bits 2 turn ≡ flat_map (low_bits 2) (turns ++ turn ∷ [])
 twos-more line turns turn e =
     ap (λ xs. xs ++ low_bits 2 turn) e ∙ ap (λ ys. flat_map (low_bits 2) turns ++ ys) (sym (append-nil (low_bits 2 turn))) ∙ sym (flat_map-append (low_bits 2) turns (turn ∷ []))
 
