@@ -6,6 +6,8 @@
 #[cfg(test)]
 mod choosing;
 #[cfg(test)]
+mod cutting;
+#[cfg(test)]
 mod decoding;
 #[cfg(test)]
 mod encoding;
