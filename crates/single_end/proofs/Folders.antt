@@ -1,5 +1,5 @@
 -- What the steps of a turn leave of the folder, in a row.
-use Rattle.std.proofs.Common.{◌≡◌, ◌≢◌, inl, inr, ℕ, ◌++◌, List, [], length, take, IsTrue, refl, sym, ◌∙◌, ap, subst, Some, Ok, Err, Result}
+use Rattle.std.proofs.Common.{◌≡◌, inl, inr, ℕ, ◌≤◌, ◌++◌, List, [], length, take, IsTrue, refl, sym, ◌∙◌, ap, subst, Some, Ok, Err, Result}
 use Rattle.outside_core.specs.Folder.{FolderState, KeepsName, GoesOn, OnlyReads, OnlyWrites, Adds, Appended, PartlyAppended, FaultsStand, CountsStand, Rose}
 use Rattle.outside_core.specs.Steps.{GoesOn-trans, told_later, KeepsName-trans, octets-kept, Adds-kept, PartlyAppended-none, PartlyAppended-all, kept-PartlyAppended, FaultsStand-trans, CountsStand-trans}
 use Rattle.stations.specs.Station.{file_at, ReadsOn}

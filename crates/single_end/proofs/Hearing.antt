@@ -1,7 +1,8 @@
 -- What is heard, one more bit at a time.
-use Rattle.std.proofs.Common.{◌≡◌, ◌⊎◌, inl, inr, ◌∙◌, ℕ, ◌+◌, ◌-◌, ◌/◌, ◌^◌, ◌<◌, ◌≤◌, Bool, false, List, [], ◌∷◌, ◌++◌, length, take, get_or, nat_eq, bit_and}
-use Rattle.std.proofs.Common.{replicate, refl, sym, ap, subst, arith, append-nil, append_assoc, length-append, cases_lt, Option, Some, None}
-use Rattle.std.proofs.lemmas.List.{take_more, take_all, take-append-le, get_or_append_left, get_or-append_right}
+use Rattle.std.proofs.Common.{◌≡◌, inl, inr, ◌∙◌, ℕ, zero, suc, ◌+◌, ◌-◌, ◌/◌, ◌^◌, ◌<◌, ◌≤◌, Bool, false, List, [], ◌∷◌, ◌++◌, length, take, get_or, nat_eq, bit_and}
+use Rattle.std.proofs.Common.{replicate, refl, sym, ap, subst, arith, append-nil, append_assoc, length-append}
+use Rattle.std.proofs.lemmas.List.{take_more, take_all, take-append-le, get_or_append_left, get_or-append_right, length-replicate, get_or-replicate}
+use Rattle.std.proofs.lemmas.Bool.{cases_lt}
 use Rattle.std.proofs.lemmas.Nat.{and_mask}
 use Rattle.plain_lists.specs.Bits.{octet_bits, bits_of}
 use Rattle.frame_check.proofs.BitLists.{length-low_bits, get_or-low_bits, bits_of-snoc}
@@ -43,7 +44,8 @@ nothing-ends peer bits octets one unseen lent none (arrivals.Frame frame) e =
 quiet-more : (peer : Role) (earlier bits : List Bool) (bit : Bool) → AreQuiet peer earlier bits → IsQuiet peer (earlier ++ bits ++ bit ∷ []) → AreQuiet peer earlier (bits ++ bit ∷ [])
 quiet-more peer earlier bits bit before now n low = elim (cases_lt n (length bits)) [
   | inl less ↦ subst (λ (b : List Bool). IsQuiet peer (earlier ++ b)) (sym (take-append-le (n + 1) bits (bit ∷ []) (omega (arith, less)))) (before n less)
-  | inr more ↦ subst (λ (b : List Bool). IsQuiet peer (earlier ++ b)) (sym (take_all (n + 1) (bits ++ bit ∷ []) (omega (arith, more, length-append bits (bit ∷ []))))) now
+  | inr more ↦ subst (λ (b : List Bool). IsQuiet peer (earlier ++ b)) (sym (take_all (n + 1) (bits ++ bit ∷ []) (omega (arith, more, length-append bits (bit ∷ [])))))
+      (subst (IsQuiet peer) (append_assoc earlier bits (bit ∷ [])) now)
 ]
 
 first-more : (peer : Role) (earlier bits : List Bool) (bit : Bool) (a : Arrived) → IsFirst peer earlier bits a → IsFirst peer earlier (bits ++ bit ∷ []) a
@@ -59,19 +61,13 @@ first-more peer earlier bits bit a f = record {
 first-now : (peer : Role) (earlier bits : List Bool) (bit : Bool) (a : Arrived) → AreQuiet peer earlier bits → EndsWith peer (earlier ++ bits ++ bit ∷ []) a → IsFirst peer earlier (bits ++ bit ∷ []) a
 first-now peer earlier bits bit a before now = record { quiet = bits; last = bit; rest = []; bits_are = refl; before = before; ends = now }
 
-heard-more : (peer : Role) (earlier bits : List Bool) (bit : Bool) (heard next : Arrived) → IsHeard peer earlier bits heard → EndsSo peer (earlier ++ bits ++ bit ∷ []) next
+pub heard-more : (peer : Role) (earlier bits : List Bool) (bit : Bool) (heard next : Arrived) → IsHeard peer earlier bits heard → EndsSo peer (earlier ++ bits ++ bit ∷ []) next
     → IsHeard peer earlier (bits ++ bit ∷ []) (first heard next)
 heard-more peer earlier bits bit arrivals.Nothing arrivals.Nothing h e = quiet-more peer earlier bits bit h e
 heard-more peer earlier bits bit arrivals.Nothing (arrivals.Pattern seen) h e = first-now peer earlier bits bit (arrivals.Pattern seen) h e
 heard-more peer earlier bits bit arrivals.Nothing (arrivals.Frame frame) h e = first-now peer earlier bits bit (arrivals.Frame frame) h e
 heard-more peer earlier bits bit (arrivals.Pattern seen) next h e = first-more peer earlier bits bit (arrivals.Pattern seen) h
 heard-more peer earlier bits bit (arrivals.Frame frame) next h e = first-more peer earlier bits bit (arrivals.Frame frame) h
-
--- the same, where the bits so far are one list
-pub heard-next : (peer : Role) (earlier bits : List Bool) (bit : Bool) (heard next : Arrived) → IsHeard peer earlier bits heard → EndsSo peer ((earlier ++ bits) ++ bit ∷ []) next
-    → IsHeard peer earlier (bits ++ bit ∷ []) (first heard next)
-heard-next peer earlier bits bit heard next h e =
-    heard-more peer earlier bits bit heard next h (subst (λ (b : List Bool). EndsSo peer b next) (append_assoc earlier bits (bit ∷ [])) e)
 
 -- ---- bits of an octet, octets of a slot
 
@@ -87,19 +83,25 @@ octet-more bits octets i h =
     append_assoc bits (bits_of (take i octets)) (octet_bits (get_or octets i 0))
     ∙ ap (λ xs. bits ++ xs) (sym (bits_of-snoc (take i octets) (get_or octets i 0)) ∙ sym (ap bits_of (take_more octets i 0 h)))
 
-length-replicate-octets : (n : ℕ) → length (replicate n 0xff) ≡ n
-length-replicate-octets n = grind (arith, common_steps)
-
 pub filled-length : (slot : List ℕ) → length slot ≤ slot_octets → length (filled slot) ≡ slot_octets
-filled-length slot short = omega (arith, length-append slot (replicate (slot_octets - length slot) 0xff), length-replicate-octets (slot_octets - length slot))
+filled-length slot short = omega (arith, length-append slot (replicate (slot_octets - length slot) 0xff), length-replicate {A = ℕ} (slot_octets - length slot) 0xff)
 
 pub own-octet : (slot : List ℕ) (place : ℕ) → place < length slot → get_or (filled slot) place 0 ≡ get_or slot place 0
 own-octet slot place low = get_or_append_left slot (replicate (slot_octets - length slot) 0xff) 0 place low
 
-ones-octet : (n place : ℕ) → place < n → get_or (replicate n 0xff) place 0 ≡ 0xff
-ones-octet n place low = grind (arith, common_steps)
-
 pub filling-octet : (slot : List ℕ) (place : ℕ) → length slot ≤ place → place < slot_octets → get_or (filled slot) place 0 ≡ 0xff
 filling-octet slot place from low =
-    get_or-append_right slot (replicate (slot_octets - length slot) 0xff) place (length slot) 0 refl from
-    ∙ ones-octet (slot_octets - length slot) (place - length slot) (omega arith)
+    get_or-append_right slot (replicate (slot_octets - length slot) 0xff) (length slot) place 0 refl from
+    ∙ get_or-replicate {A = ℕ} (slot_octets - length slot) (place - length slot) 0xff 0 (omega (arith, from, low))
+
+pub append-again : (a b d : List Bool) → (a ++ b) ++ d ≡ a ++ (b ++ d)
+append-again a b d = append_assoc a b d
+
+-- all octets of a slot
+pub slot-whole : (slot : List ℕ) → length slot ≤ slot_octets → take slot_octets (filled slot) ≡ filled slot
+slot-whole slot short = take_all slot_octets (filled slot) (omega (arith, filled-length slot short))
+
+-- an octet more of a slot, behind nothing
+pub slot-more : (slot : List ℕ) (place octet : ℕ) → length slot ≤ slot_octets → place < slot_octets → octet ≡ get_or (filled slot) place 0
+    → bits_of (take place (filled slot)) ++ octet_bits octet ≡ bits_of (take (place + 1) (filled slot))
+slot-more slot place octet short low e = ap (λ o. bits_of (take place (filled slot)) ++ octet_bits o) e ∙ octet-more [] (filled slot) place (omega (arith, low, filled-length slot short))

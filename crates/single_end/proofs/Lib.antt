@@ -1,3 +1,3 @@
 mod Hearing
-mod Turning
 mod Folders
+mod Turning

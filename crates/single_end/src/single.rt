@@ -223,7 +223,10 @@ impl Single {
             sent: None,
             given,
         };
-        self.write(folder, trace, words)
+        match self.write(folder, trace, words) {
+            Ok(()) => Ok(()),
+            Err(fault) => Err(fault),
+        }
     }
 
     /// The end speaks, and the turn's line goes out. An originator that needs the link no more takes it down. Where the end breaks nothing is

@@ -7,7 +7,7 @@ use Rattle.single_end.proofs.ear.Ear.hear.Given as goal
 
 abbrev pub invariant-loop-place : goal.invariant-loop-place
 invariant-loop-place l = record {
-  stands : (bits : List Bool) → HasHeard l.fn.self bits → HasHeard l.self (bits ++ bits_of (take l.place (filled l.slot.now)));
-  heard : (bits : List Bool) → HasHeard l.fn.self bits → IsHeard l.peer bits (bits_of (take l.place (filled l.slot.now))) l.heard;
+  stands : (bits : List Bool) → HasHeard l.fn.self bits → HasHeard l.self (bits ++ bits_of (take l.place (filled l.slot)));
+  heard : (bits : List Bool) → HasHeard l.fn.self bits → IsHeard l.peer bits (bits_of (take l.place (filled l.slot))) l.heard;
   numbers : IsNumbered l.heard;
 }
