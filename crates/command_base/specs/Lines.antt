@@ -2,8 +2,10 @@
 use Rattle.std.specs.Prelude.{ℕ, ◌≤◌, List, [], ◌∷◌, ◌++◌, length, codes, decimal, slice_index_or}
 use Rattle.xid_params.specs.declared.fault.XidFault.{XidFault}
 use Rattle.xid_params.specs.declared.fault.XidFault.TheVariants as xid
+use Rattle.link_faults.specs.declared.fault.LinkFault.{LinkFault}
+use Rattle.link_faults.specs.declared.fault.LinkFault.TheVariants.{BadAck, PeerReset, PeerRefused}
 use Rattle.command_base.specs.declared.status.Status.{Status}
-use Rattle.command_base.specs.declared.status.Status.TheVariants.{BadScript, BadRecording, BadHex, BadXid, TooLong, ReadFault, WriteFault, LineLost, NotDetected, LinkLost, ChanceMatch, NoMemory}
+use Rattle.command_base.specs.declared.status.Status.TheVariants.{BadScript, BadRecording, BadHex, BadXid, TooLong, ReadFault, WriteFault, LineLost, NotDetected, LinkLost, ChanceMatch, NoMemory, PeerFault}
 use Rattle.roles.specs.Role.{role_word}
 use Rattle.script_causes.specs.Cause.{cause_word}
 
@@ -14,6 +16,13 @@ xid_words (xid.Group at) = codes "group" ++ codes " at " ++ decimal at
 xid_words (xid.Length at) = codes "length" ++ codes " at " ++ decimal at
 xid_words (xid.Value at) = codes "value" ++ codes " at " ++ decimal at
 xid_words (xid.Repeated at) = codes "repeated" ++ codes " at " ++ decimal at
+
+-- what an end can't take of its peer; that it has no answer is no fault of the peer, and has no words here
+abbrev pub peer_words : LinkFault → List ℕ
+peer_words (BadAck nr va high) = codes "bad ack nr " ++ decimal nr ++ codes " va " ++ decimal va ++ codes " high " ++ decimal high
+peer_words (PeerReset va vr) = codes "reset va " ++ decimal va ++ codes " vr " ++ decimal vr
+peer_words PeerRefused = codes "refused"
+peer_words fault = []
 
 -- ---- commands that are done
 
@@ -74,6 +83,7 @@ short_line (NotDetected turn) = codes "not detected: turn " ++ decimal turn ++ c
 short_line (LinkLost role segment turn) = codes "link lost: " ++ role_word role ++ codes " segment " ++ decimal segment ++ codes " turn " ++ decimal turn ++ codes "\n"
 short_line (ChanceMatch role turn) = codes "chance match: " ++ role_word role ++ codes " turn " ++ decimal turn ++ codes "\n"
 short_line NoMemory = codes "no memory\n"
+short_line (PeerFault fault turn) = codes "peer fault: " ++ peer_words fault ++ codes " turn " ++ decimal turn ++ codes "\n"
 short_line status = []
 
 -- the line of an answer that is neither Done nor Usage, to these words

@@ -2,7 +2,7 @@
 use Rattle.std.specs.Prelude.{◌⊎◌, ℕ}
 use Rattle.outside_core.specs.Folder.{FolderState, CountsStand}
 use Rattle.command_base.specs.declared.status.Status.{Status}
-use Rattle.command_base.specs.declared.status.Status.TheVariants.{Done, Usage, BadScript, BadRecording, BadHex, BadXid, TooLong, ReadFault, WriteFault, LineLost, NotDetected, LinkLost, ChanceMatch, NoMemory}
+use Rattle.command_base.specs.declared.status.Status.TheVariants.{Done, Usage, BadScript, BadRecording, BadHex, BadXid, TooLong, ReadFault, WriteFault, LineLost, NotDetected, LinkLost, ChanceMatch, NoMemory, PeerFault}
 
 abbrev pub code_of : Status → ℕ
 code_of Done = 0
@@ -19,6 +19,7 @@ code_of (NotDetected turn) = 8
 code_of (LinkLost role segment turn) = 9
 code_of (ChanceMatch role turn) = 10
 code_of NoMemory = 11
+code_of (PeerFault fault turn) = 12
 
 -- input that is refused before anything is written
 abbrev pub IsRefusal : Status → Type 0

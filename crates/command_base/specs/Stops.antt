@@ -35,6 +35,7 @@ IsOwn (status.LineLost role symbol) = Unit {0}
 IsOwn (status.NotDetected turn) = Unit {0}
 IsOwn (status.LinkLost role segment turn) = Unit {0}
 IsOwn (status.ChanceMatch role turn) = Unit {0}
+IsOwn (status.PeerFault fault turn) = Unit {0}
 IsOwn answer = ⊥
 
 -- of one of these names the count rose, or stands at its last value

@@ -1,12 +1,13 @@
 // The lines that answers say.
 ghost use Rattle.std.specs.Prelude.{◌≡◌, ◌<◌, ◌≤◌, ◌+◌, ◌*◌, ◌++◌, map, length, decimal, codes};
 ghost use Rattle.roles.specs.Role.{role_word};
-ghost use Rattle.command_base.specs.Lines.{xid_words, count_line, done_line, samples_line, octets_line, pieces_line, soak_line, listed_behind, usage_line, AreShort, short_line};
+ghost use Rattle.command_base.specs.Lines.{xid_words, count_line, done_line, samples_line, octets_line, pieces_line, soak_line, listed_behind, usage_line, AreShort, peer_words, short_line};
 ghost use Rattle.script_causes.specs.Cause.{cause_word};
 
 use crate::Status;
 use frame_check::Octets;
 use line_texts::put_decimal;
+use link_faults::LinkFault;
 use roles::Role;
 use script_causes::Cause;
 use xid_params::XidFault;
@@ -40,6 +41,27 @@ fn put_xid_fault(line: &mut Line, fault: XidFault)
         XidFault::Length { at } => put_place(line, "length", at),
         XidFault::Value { at } => put_place(line, "value", at),
         XidFault::Repeated { at } => put_place(line, "repeated", at),
+    }
+}
+
+/// Puts what an end can't take of its peer.
+fn put_peer_fault(line: &mut Line, fault: LinkFault)
+    requires { length line.old + 90 ≤ LINE }
+    ensures text { line.new ≡ line.old ++ peer_words fault }
+    ensures room { length line.new ≤ length line.old + 90 }
+{
+    match fault {
+        LinkFault::BadAck { nr, va, high } => {
+            put_number(line, b"bad ack nr ", u64::from(nr));
+            put_number(line, b" va ", u64::from(va));
+            put_number(line, b" high ", u64::from(high));
+        }
+        LinkFault::PeerReset { va, vr } => {
+            put_number(line, b"reset va ", va);
+            put_number(line, b" vr ", vr);
+        }
+        LinkFault::PeerRefused => line.extend(b"refused"),
+        LinkFault::NotDetected | LinkFault::Spent { .. } => {}
     }
 }
 
@@ -210,6 +232,12 @@ pub(crate) fn write_short(status: Status) -> Line
             line.extend(b"\n");
         }
         Status::NoMemory => line.extend(b"no memory\n"),
+        Status::PeerFault { fault, turn } => {
+            line.extend(b"peer fault: ");
+            put_peer_fault(&mut line, fault);
+            put_number(&mut line, b" turn ", turn);
+            line.extend(b"\n");
+        }
     }
     line
 }

@@ -1,6 +1,7 @@
 // How a command ends.
 ghost use Rattle.std.specs.Prelude.{◌≡◌};
 
+use link_faults::LinkFault;
 use roles::Role;
 use script_causes::Cause;
 use xid_params::XidFault;
@@ -32,6 +33,8 @@ pub enum Status {
     /// That end received in that turn what was not sent, by a chance of the noise.
     ChanceMatch { role: Role, turn: u64 },
     NoMemory,
+    /// In that turn the end heard what no peer may send, or was refused.
+    PeerFault { fault: LinkFault, turn: u64 },
 }
 
 impl Status {
@@ -56,6 +59,7 @@ impl Status {
             Status::LinkLost { .. } => 9,
             Status::ChanceMatch { .. } => 10,
             Status::NoMemory => 11,
+            Status::PeerFault { .. } => 12,
         }
     }
 }

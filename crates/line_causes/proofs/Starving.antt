@@ -6,7 +6,7 @@ use Rattle.roles.specs.Role.{same_role}
 use Rattle.roles.specs.Both.{Both, of}
 use Rattle.noise_script.specs.declared.entry.Break.{Break}
 use Rattle.noise_script.specs.Script.{ScriptValue, IsInLimits, delay_of}
-use Rattle.link_account.specs.declared.fault.LinkFault.TheVariants as faults
+use Rattle.link_faults.specs.declared.fault.LinkFault.TheVariants as faults
 use Rattle.link_run.specs.Run.{Ends, Turn}
 use Rattle.link_run.specs.Laws.{RunsOver}
 use Rattle.turn_periods.specs.Losses.{OriginatorWantsPattern, StarvedLosesMany}

@@ -21,8 +21,8 @@ use Rattle.sample_line.specs.Recorded.{Records}
 use Rattle.sample_line.specs.Received.{line_trellis, line_depth}
 use Rattle.line_laws.specs.Fitting.{AreFit}
 use Rattle.line_laws.specs.Laws.{SlotsAreRecorded}
-use Rattle.link_account.specs.declared.fault.LinkFault.{LinkFault}
-use Rattle.link_account.specs.declared.fault.LinkFault.TheVariants as faults
+use Rattle.link_faults.specs.declared.fault.LinkFault.{LinkFault}
+use Rattle.link_faults.specs.declared.fault.LinkFault.TheVariants as faults
 use Rattle.link_account.specs.Account.{check_of}
 use Rattle.link_run.specs.Run.{Ends, Spoken, Turn, start}
 use Rattle.link_run.specs.Carried.{sent_ago}

@@ -22,7 +22,7 @@ use Rattle.slot_contents.specs.declared.arrived.Arrived.{Arrived}
 use Rattle.slot_contents.specs.declared.arrived.Arrived.TheVariants as arrivals
 use Rattle.link_account.specs.declared.phase.Phase.{Phase}
 use Rattle.link_account.specs.declared.phase.Phase.TheVariants.{Detecting, Negotiating, Establishing, Connected, Releasing, Closed}
-use Rattle.link_account.specs.declared.fault.LinkFault.{LinkFault}
+use Rattle.link_faults.specs.declared.fault.LinkFault.{LinkFault}
 use Rattle.link_account.specs.declared.answer.Answer.TheVariants as answers
 use Rattle.link_account.specs.Account.{Account}
 use Rattle.link_account.specs.Hear.{hear, on_frame, on_seen, on_pattern, on_detecting, on_negotiating, on_establishing, on_connected, on_releasing, on_closed, on_xid_command, on_xid_response, on_number, on_disc, on_word, then_in, taking, replying, hurrying, ends_wait, owing, peer_reset, pausing}

@@ -14,8 +14,8 @@ use Rattle.slot_contents.specs.Sendable.{IsSendable}
 use Rattle.line_texts.specs.LineText.{line_text, trace_line}
 use Rattle.line_texts.specs.declared.trace_line.TraceLine.{TraceLine}
 use Rattle.sample_line.specs.Signals.{IsCodable}
-use Rattle.link_account.specs.declared.fault.LinkFault.{LinkFault}
-use Rattle.link_account.specs.declared.fault.LinkFault.TheVariants as faults
+use Rattle.link_faults.specs.declared.fault.LinkFault.{LinkFault}
+use Rattle.link_faults.specs.declared.fault.LinkFault.TheVariants as faults
 use Rattle.link_account.specs.Account.{given_break, check_of}
 use Rattle.link_account.specs.Speak.{Said, speak}
 use Rattle.link_run.specs.Run.{Ends, Side, Spoken, Turn, GoingTurn, LastTurn, BrokenTurn, IsBroken, SpeaksAt, spoken, said_at, releases, served_at}

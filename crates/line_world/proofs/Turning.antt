@@ -8,8 +8,8 @@ use Rattle.roles.specs.Both.{Both, of}
 use Rattle.noise_script.specs.Script.{ScriptValue, IsInLimits, delay_of}
 use Rattle.slot_contents.specs.declared.heard.Heard.{Heard}
 use Rattle.link_account.specs.Account.{Account}
-use Rattle.link_account.specs.declared.fault.LinkFault.{LinkFault}
-use Rattle.link_account.specs.declared.fault.LinkFault.TheVariants as faults
+use Rattle.link_faults.specs.declared.fault.LinkFault.{LinkFault}
+use Rattle.link_faults.specs.declared.fault.LinkFault.TheVariants as faults
 use Rattle.link_account.specs.Hear.{hear}
 use Rattle.link_run.specs.Run.{Ends, Turn, Hears, arrival}
 use Rattle.link_run.specs.End.{is_closed}

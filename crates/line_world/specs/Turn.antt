@@ -9,7 +9,7 @@ use Rattle.roles.specs.declared.role.Role.TheVariants.{Originator}
 use Rattle.roles.specs.Both.{Both}
 use Rattle.noise_script.specs.Script.{ScriptValue}
 use Rattle.line_texts.specs.LineText.{chance_line}
-use Rattle.link_account.specs.declared.fault.LinkFault.TheVariants as faults
+use Rattle.link_faults.specs.declared.fault.LinkFault.TheVariants as faults
 use Rattle.link_run.specs.End.{deliveries}
 use Rattle.link_run.specs.Run.{Ends, Turn, GoingTurn}
 use Rattle.link_run.specs.Outcomes.{Outcome, Done, Broken, TurnIs}

@@ -22,8 +22,8 @@ use Rattle.slot_contents.specs.declared.seen.Seen.{Seen}
 use Rattle.slot_contents.specs.declared.seen.Seen.TheVariants as seen
 use Rattle.slot_contents.specs.declared.sent.Sent.{Sent}
 use Rattle.slot_contents.specs.declared.sent.Sent.TheVariants as slots
-use Rattle.link_account.specs.declared.fault.LinkFault.{LinkFault}
-use Rattle.link_account.specs.declared.fault.LinkFault.TheVariants.{NotDetected}
+use Rattle.link_faults.specs.declared.fault.LinkFault.{LinkFault}
+use Rattle.link_faults.specs.declared.fault.LinkFault.TheVariants.{NotDetected}
 use Rattle.link_account.specs.declared.phase.Phase.{Phase}
 use Rattle.link_account.specs.declared.phase.Phase.TheVariants.{Detecting, Negotiating, Establishing, Connected, Releasing, Closed}
 use Rattle.link_account.specs.declared.answer.Answer.{Answer}

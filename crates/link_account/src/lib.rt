@@ -6,14 +6,13 @@
 #![tactic(auto)]
 
 mod answer;
-mod fault;
 pub mod laws;
 mod owes;
 mod phase;
 mod setup;
 
 pub use answer::Answer;
-pub use fault::LinkFault;
+pub use link_faults::LinkFault;
 pub use owes::Owes;
 pub use phase::Phase;
 pub use setup::Setup;

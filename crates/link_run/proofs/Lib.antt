@@ -14,6 +14,7 @@ mod Only
 mod Faulting
 mod Delivering
 mod Lone
+mod LoneReading
 mod Counting
 mod Joining
 mod Taking

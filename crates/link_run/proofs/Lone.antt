@@ -1,6 +1,6 @@
 -- What arrives determines the run of one end.
 use Rattle.std.proofs.Common.{◌≡◌, Bool, true, false, Result, Ok, Err, List, [], ◌∷◌, length, map, arith, refl, sym, ◌∙◌, ap, subst, Some}
-use Rattle.link_account.specs.Account.{Account}
+use Rattle.link_account.specs.Account.{Account, given_break}
 use Rattle.link_account.specs.Hear.{hear}
 use Rattle.link_account.specs.Speak.{Said}
 use Rattle.link_run.specs.End.{speaks_alone}
@@ -9,7 +9,7 @@ use Rattle.link_run.specs.Alone.{LoneTurn, lone_served, LoneGoing, OneLoneRun}
 use Rattle.link_run.proofs.Only.{one-ok, one-head}
 use Rattle.xid_params.specs.Offers.{ReadsAllowed}
 use Rattle.lapm_receiver.specs.Incoming.{KeepsTaken}
-use Rattle.link_account.specs.declared.fault.LinkFault.{LinkFault}
+use Rattle.link_faults.specs.declared.fault.LinkFault.{LinkFault}
 use Rattle.link_run.specs.End.{has_finished}
 use Rattle.link_run.specs.Alone.{LoneRun, LoneNext, Goes_on, Is_last, Is_faulty, Is_broken, hangs_up, LoneHearingsDeliver, LoneSpeakingTakesNothing, EachLoneTurnIsMade}
 use Rattle.link_run.proofs.Keeping.{stage, hears}
@@ -21,8 +21,11 @@ one-going : (party : Party) (ts : List LoneTurn) (before : Account) (t u : LoneT
 one-going party ts before t u a b g k e =
     let turn = length ts in
     let m = one-ok g.hears (ap (λ x. hear turn x before) e ∙ k.hears) in
-    let s = one-ok g.says (ap (λ x. speaks_alone party.user turn (lone_served party turn x)) m ∙ k.says) in
-    (ap (λ z. record { arrived = z; sent = t.sent }) e ∙ ap (λ z. record { arrived = u.arrived; sent = z }) (g.sent ∙ ap (λ x. Some (spoken x)) s ∙ sym k.sent), g.after_is ∙ ap (λ (x : Said). x.account) s ∙ sym k.after_is)
+    let s = one-ok g.says (ap (λ x. speaks_alone party.user turn (lone_served party turn x)) m ∙ k.says) in (
+      ap (λ z. record { arrived = z; sent = t.sent; given = t.given }) e ∙ ap (λ z. record { arrived = u.arrived; sent = z; given = t.given }) (g.sent ∙ ap (λ x. Some (spoken x)) s ∙ sym k.sent)
+          ∙ ap (λ z. record { arrived = u.arrived; sent = u.sent; given = z }) (g.given ∙ ap given_break m ∙ sym k.given),
+      g.after_is ∙ ap (λ (x : Said). x.account) s ∙ sym k.after_is,
+    )
 
 pub one_lone_run : OneLoneRun
 one_lone_run party [] [] a b h k e = (refl, h ∙ sym k)
@@ -67,13 +70,13 @@ pub each_lone_turn_is_made : EachLoneTurnIsMade
 each_lone_turn_is_made party ts a arrived = heard (hear (length ts) arrived a) refl
   where
     said : (mid : Account) → hear (length ts) arrived a ≡ Ok mid → hangs_up mid ≡ false → (r : Result Said LinkFault) → speaks_alone party.user (length ts) (lone_served party (length ts) mid) ≡ r → LoneNext party ts a arrived
-    said mid e n (Ok s) q = Goes_on (Some (spoken s)) s.account (record { mid = mid; hears = e; going = n; said = s; says = q; sent = refl; after_is = refl })
-    said mid e n (Err fault) q = Is_broken mid fault (record { hears = e; going = n; says = q; sent = refl })
+    said mid e n (Ok s) q = Goes_on (Some (spoken s)) (given_break mid) s.account (record { mid = mid; hears = e; going = n; said = s; says = q; sent = refl; given = refl; after_is = refl })
+    said mid e n (Err fault) q = Is_broken (given_break mid) mid fault (record { hears = e; going = n; says = q; sent = refl; given = refl })
 
     closed : (mid : Account) → hear (length ts) arrived a ≡ Ok mid → (b : Bool) → hangs_up mid ≡ b → LoneNext party ts a arrived
-    closed mid e true q = Is_last mid (record { hears = e; closed = q; sent = refl })
+    closed mid e true q = Is_last (given_break mid) mid (record { hears = e; closed = q; sent = refl; given = refl })
     closed mid e false q = said mid e q (speaks_alone party.user (length ts) (lone_served party (length ts) mid)) refl
 
     heard : (r : Result Account LinkFault) → hear (length ts) arrived a ≡ r → LoneNext party ts a arrived
     heard (Ok mid) e = closed mid e (hangs_up mid) refl
-    heard (Err fault) e = Is_faulty fault (record { hears = e; sent = refl })
+    heard (Err fault) e = Is_faulty fault (record { hears = e; sent = refl; given = refl })

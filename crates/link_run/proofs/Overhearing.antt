@@ -28,7 +28,7 @@ use Rattle.slot_contents.specs.declared.heard.Heard.TheVariants.{Passed}
 use Rattle.link_account.specs.declared.setup.Setup.{Setup}
 use Rattle.link_account.specs.declared.phase.Phase.{Phase}
 use Rattle.link_account.specs.declared.phase.Phase.TheVariants.{Detecting, Negotiating, Establishing, Connected, Releasing, Closed}
-use Rattle.link_account.specs.declared.fault.LinkFault.{LinkFault}
+use Rattle.link_faults.specs.declared.fault.LinkFault.{LinkFault}
 use Rattle.link_account.specs.Account.{Account, check_of, first_terms}
 use Rattle.link_account.specs.Hear.{hear, on_frame, on_detecting, on_negotiating}
 use Rattle.link_account.specs.Play.{Slot, Play}

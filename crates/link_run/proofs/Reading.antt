@@ -243,7 +243,7 @@ offered-same (suc n) file others a h s = go (wants a) refl (λ b. offered-same n
         ap (λ q. offered_times n others (after_offer q a)) t.0 ∙ ih b (offered-cuts-at file a (Some m) e h) s
 
 -- what serving makes of such files
-served-same : (u : User) (file others : List ℕ) (turn : ℕ) (released : Bool) (a : Account) → IsOffered file a
+pub served-same : (u : User) (file others : List ℕ) (turn : ℕ) (released : Bool) (a : Account) → IsOffered file a
     → SameSoFar (served (record u { file = file }) turn released a).account.outgoing file others
     → served (record u { file = others }) turn released a ≡ served (record u { file = file }) turn released a
 served-same u file others turn released a h s =
@@ -261,7 +261,7 @@ served-same u file others turn released a h s =
     }) (offered-same (room_for x) file others x g now)
 
 -- speaking offers nothing
-same-spoken : (file others : List ℕ) (release : Bool) (a b : Account) → Speaks release a b → SameSoFar b.outgoing file others
+pub same-spoken : (file others : List ℕ) (release : Bool) (a b : Account) → Speaks release a b → SameSoFar b.outgoing file others
     → SameSoFar a.outgoing file others
 same-spoken file others release a b (Keeps_on e) s =
     let pieces = ap (λ (l : Ledger). l.books.pieces) e in
@@ -273,7 +273,7 @@ same-spoken file others release a b (Releases on role linked e k) s =
     (λ z. ap (λ (l : Ledger). l.books.ended) e ∙ z) s
 
 -- serving offers no less
-same-served : (u : User) (file others : List ℕ) (turn : ℕ) (released : Bool) (a : Account)
+pub same-served : (u : User) (file others : List ℕ) (turn : ℕ) (released : Bool) (a : Account)
     → SameSoFar (served u turn released a).account.outgoing file others → SameSoFar a.outgoing file others
 same-served u file others turn released a s =
     let x = after_given (delivered a) in
@@ -285,7 +285,7 @@ same-served u file others turn released a s =
     subst (λ o. SameSoFar o file others) (delivered-out a) at-x
 
 -- an end that becomes Connected was offered nothing before
-same-heard : (file others : List ℕ) (a b : Account) → Unoffered a → GoesOn a b → SameSoFar b.outgoing file others
+pub same-heard : (file others : List ℕ) (a b : Account) → Unoffered a → GoesOn a b → SameSoFar b.outgoing file others
     → SameSoFar a.outgoing file others
 same-heard file others a b un (inl g) s =
     same-earlier file others a.outgoing b.outgoing (sym g.size) (omega (arith, ap (λ (k : Books). length k.pieces) g.books_are))

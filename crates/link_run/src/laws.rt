@@ -1,5 +1,5 @@
 //! What holds of all runs. The functions do nothing but name the laws that they rest on: each law is a contract.
-ghost use Rattle.link_run.specs.Alone.{OneLoneRun, LoneHearingsDeliver, LoneSpeakingTakesNothing, EachLoneTurnIsMade};
+ghost use Rattle.link_run.specs.Alone.{OneLoneRun, LoneHearingsDeliver, LoneSpeakingTakesNothing, EachLoneTurnIsMade, LoneRunsByWhatIsReadOn, LoneRunsKeepTheirSetup};
 ghost use Rattle.link_run.specs.Counts.{CountsByNumber, SentBelowHigh};
 ghost use Rattle.link_run.specs.Laws.{RunsArePlays, HearingsArePlays, TakesPrefixes, HearsPrefixes, DoneIsWhole, HearingsAreWell, BrokenForWant};
 ghost use Rattle.link_run.specs.Laws.{OneRun, OneOutcome, HearingsDeliver, SpeakingTakesNothing, GivesAllBreaks};
@@ -113,6 +113,16 @@ pub fn one_lone_run()
 pub fn lone_turns_deliver_what_came()
     ensures hearing { LoneHearingsDeliver }
     ensures speaking { LoneSpeakingTakesNothing }
+{
+    reads_allowed();
+    keeps_taken();
+}
+
+/// The user's file of one end alone counts as far as it was read: a run is one of any other file that is the same up to there. The end keeps
+/// its setup.
+pub fn the_file_of_one_counts_as_far_as_it_was_read()
+    ensures file { LoneRunsByWhatIsReadOn }
+    ensures setup { LoneRunsKeepTheirSetup }
 {
     reads_allowed();
     keeps_taken();

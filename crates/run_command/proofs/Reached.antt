@@ -9,7 +9,7 @@ use Rattle.roles.specs.declared.role.Role.{Role}
 use Rattle.roles.specs.declared.role.Role.TheVariants.{Originator, Answerer}
 use Rattle.roles.specs.Both.{Both, of}
 use Rattle.noise_script.specs.Script.{ScriptValue}
-use Rattle.link_account.specs.declared.fault.LinkFault.TheVariants as causes
+use Rattle.link_faults.specs.declared.fault.LinkFault.TheVariants as causes
 use Rattle.line_texts.specs.LineText.{chance_line}
 use Rattle.link_run.specs.Counts.{lost_slots, sent_again}
 use Rattle.link_run.specs.End.{deliveries}

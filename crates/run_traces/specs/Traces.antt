@@ -3,8 +3,8 @@ use Rattle.std.specs.Prelude.{◌≡◌, ℕ, ◌-◌, if◌then◌else◌, Bool
 use Rattle.std.specs.List.{concat}
 use Rattle.roles.specs.declared.role.Role.{Role}
 use Rattle.roles.specs.declared.role.Role.TheVariants.{Originator, Answerer}
-use Rattle.link_account.specs.declared.fault.LinkFault.{LinkFault}
-use Rattle.link_account.specs.declared.fault.LinkFault.TheVariants.{NotDetected, Spent}
+use Rattle.link_faults.specs.declared.fault.LinkFault.{LinkFault}
+use Rattle.link_faults.specs.declared.fault.LinkFault.TheVariants.{NotDetected, Spent}
 use Rattle.link_run.specs.Outcomes.{Done, Broken}
 use Rattle.frame_check.specs.declared.check.Check.{Check}
 use Rattle.frame_check.specs.declared.check.Check.TheVariants.{Sixteen, ThirtyTwo}

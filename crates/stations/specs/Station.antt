@@ -3,7 +3,7 @@ use Rattle.std.specs.Prelude.{◌≡◌, ℕ, ◌*◌, ◌≤◌, IsTrue, List, 
 use Rattle.outside_core.specs.Folder.{FolderState, octets_at}
 use Rattle.slot_contents.specs.declared.sent.Sent.{Sent}
 use Rattle.lapm_link.specs.Stands.{StandsFor, taken_of, undelivered_of, waiting_of}
-use Rattle.link_account.specs.declared.fault.LinkFault.{LinkFault}
+use Rattle.link_faults.specs.declared.fault.LinkFault.{LinkFault}
 use Rattle.link_account.specs.Account.{Account}
 use Rattle.link_account.specs.Speak.{Said}
 use Rattle.link_run.specs.End.{BreakLine, offered}

@@ -8,7 +8,7 @@ use Rattle.slot_contents.specs.declared.sent.Sent.TheVariants as slots
 use Rattle.slot_contents.specs.declared.arrived.Arrived.{Arrived}
 use Rattle.link_account.specs.declared.phase.Phase.{Phase}
 use Rattle.link_account.specs.declared.phase.Phase.TheVariants.{Detecting, Negotiating, Establishing, Connected, Releasing, Closed}
-use Rattle.link_account.specs.declared.fault.LinkFault.{LinkFault}
+use Rattle.link_faults.specs.declared.fault.LinkFault.{LinkFault}
 use Rattle.link_account.specs.Account.{Account, is_connected}
 use Rattle.link_account.specs.Hear.{hear, trying}
 use Rattle.link_account.specs.Speak.{Said, says, says_frame, else_says, where_says, spent, trying_again, tries_frame, u_try, speak_linked, speak, speak_in, speak_releasing}

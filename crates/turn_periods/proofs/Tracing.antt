@@ -6,7 +6,7 @@ use Rattle.roles.specs.Role.{other}
 use Rattle.slot_contents.specs.declared.arrived.Arrived.{Arrived}
 use Rattle.link_account.specs.declared.phase.Phase.{Phase}
 use Rattle.link_account.specs.declared.phase.Phase.TheVariants.{Detecting, Negotiating, Establishing, Connected, Releasing, Closed}
-use Rattle.link_account.specs.declared.fault.LinkFault.{LinkFault}
+use Rattle.link_faults.specs.declared.fault.LinkFault.{LinkFault}
 use Rattle.link_account.specs.Account.{Account, is_connected}
 use Rattle.link_account.specs.Hear.{hear}
 use Rattle.link_account.specs.Speak.{Said, speak}

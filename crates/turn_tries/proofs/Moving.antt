@@ -22,8 +22,8 @@ use Rattle.slot_contents.specs.declared.arrived.Arrived.{Arrived}
 use Rattle.slot_contents.specs.declared.arrived.Arrived.TheVariants as arrivals
 use Rattle.link_account.specs.declared.phase.Phase.{Phase}
 use Rattle.link_account.specs.declared.phase.Phase.TheVariants.{Detecting, Negotiating, Establishing, Connected, Releasing, Closed}
-use Rattle.link_account.specs.declared.fault.LinkFault.{LinkFault}
-use Rattle.link_account.specs.declared.fault.LinkFault.TheVariants.{NotDetected}
+use Rattle.link_faults.specs.declared.fault.LinkFault.{LinkFault}
+use Rattle.link_faults.specs.declared.fault.LinkFault.TheVariants.{NotDetected}
 use Rattle.link_account.specs.declared.answer.Answer.TheVariants as answers
 use Rattle.link_account.specs.Account.{Account}
 use Rattle.link_account.specs.Hear.{hear, on_frame, on_seen, on_nothing, on_pattern, on_detecting, on_negotiating, on_establishing, on_releasing, on_closed, on_connected, on_number, then_in, replying, taking, hurrying, pausing, ends_wait, on_disc, on_word, peer_reset, owing, on_xid_response, trying, timer_after, connected}

@@ -10,7 +10,7 @@ use Rattle.xid_params.proofs.Exact.{never-both}
 use Rattle.command_base.specs.declared.limits.TheConstants.{HEX_LIMIT}
 use Rattle.command_base.specs.declared.status.Status.{Status}
 use Rattle.command_base.specs.declared.status.Status.TheVariants.{Done, Usage, BadScript, BadRecording, BadHex, BadXid, TooLong, ReadFault, WriteFault}
-use Rattle.command_base.specs.declared.status.Status.TheVariants.{LineLost, NotDetected, LinkLost, ChanceMatch, NoMemory}
+use Rattle.command_base.specs.declared.status.Status.TheVariants.{LineLost, NotDetected, LinkLost, ChanceMatch, NoMemory, PeerFault}
 use Rattle.command_base.specs.declared.stop.Stop.TheVariants.{Own}
 use Rattle.command_base.specs.Stops.{IsOwn}
 use Rattle.command_base.specs.Job.{SaysStop, Answers}
@@ -47,6 +47,7 @@ never-refused digits (NotDetected turn) r why = why
 never-refused digits (LinkLost role segment turn) r why = why
 never-refused digits (ChanceMatch role turn) r why = why
 never-refused digits NoMemory r why = why
+never-refused digits (PeerFault fault turn) r why = why
 
 -- what digits are refused for is the command's own answer
 refuses-own : (digits : List ℕ) (answer : Status) → Refuses digits answer → IsOwn answer
@@ -64,6 +65,7 @@ refuses-own digits (NotDetected turn) why = tt
 refuses-own digits (LinkLost role segment turn) why = tt
 refuses-own digits (ChanceMatch role turn) why = tt
 refuses-own digits NoMemory why = why
+refuses-own digits (PeerFault fault turn) why = tt
 
 -- the offer was explained
 pub explained : (words : List (List ℕ)) (old new : FolderState) (digits : List ℕ) (offer : Offer) (s : Status) → Explains digits offer → Tells old new (offer_line offer) Done s → Answers (xid_job digits) words old new s

@@ -1,0 +1,127 @@
+-- From every answer to what the command promises.
+use Rattle.std.proofs.Common.{◌≡◌, ◌≢◌, ◌∙◌, inl, inr, ℕ, Bool, true, false, List, [], ◌++◌, length, ◌≤◌, ◌<◌, Result, Ok, Err, refl, sym, ap, subst, arith}
+use Rattle.std.proofs.lemmas.Bool.{false≢true}
+use Rattle.std.specs.Option.{option_map}
+use Rattle.outside_core.specs.Folder.{FolderState, octets_at, GoesOn, KeepsName}
+use Rattle.outside_core.specs.declared.folder.FolderFault.{FolderFault}
+use Rattle.outside_core.specs.declared.folder.FolderFault.TheVariants as folder
+use Rattle.roles.specs.declared.role.Role.{Role}
+use Rattle.link_faults.specs.declared.fault.LinkFault.{LinkFault}
+use Rattle.link_faults.specs.declared.fault.LinkFault.TheVariants as faults
+use Rattle.command_base.specs.declared.limits.TheConstants.{FILE_LIMIT}
+use Rattle.command_base.specs.declared.status.Status.{Status}
+use Rattle.command_base.specs.declared.status.Status.TheVariants.{Done, TooLong, ReadFault, WriteFault, NotDetected, LinkLost, PeerFault}
+use Rattle.command_base.specs.declared.stop.Stop.{Stop}
+use Rattle.command_base.specs.declared.stop.Stop.TheVariants as stops
+use Rattle.command_base.specs.Job.{Answers}
+use Rattle.command_base.specs.Status.{IsRefusal}
+use Rattle.command_base.specs.Stops.{IsOwn, end_status, fault_status}
+use Rattle.command_base.specs.Lines.{done_line}
+use Rattle.command_base.specs.Outputs.{KeepsAll, OnlyOutputs}
+use Rattle.command_base.proofs.Answering.{IsPlain}
+use Rattle.command_base.proofs.Holding.{Holds-kept}
+use Rattle.command_base.proofs.Jobs.{refusal-own, last-only, last-plain, done-of, shared-of, done-unless-memory}
+use Rattle.peer_command.specs.Words.{Names}
+use Rattle.peer_command.specs.Runs.{Left, PeerEnd, IsDone, GivesUp, RunsTo}
+use Rattle.peer_command.specs.Ends.{Ends, EndsBy, HoldLeft, IsTooLong, RanTo, peer_job, status_of}
+use Rattle.peer_command.specs.Ends as ends
+use Rattle.peer_command.specs.Headline.{Ran, GaveUp, RanBy, Headline}
+use Rattle.peer_command.specs.Completes.{IsRight, Completes}
+
+-- an end that gives its link up is no refusal of the words or the inputs
+no-refusal : (role : Role) (fault : LinkFault) (turn : ℕ) → IsRefusal (status_of role fault turn) → ⊥
+no-refusal role faults.NotDetected turn r = r
+no-refusal role (faults.Spent segment since) turn r = r
+no-refusal role (faults.BadAck nr va high) turn r = r
+no-refusal role (faults.PeerReset va vr) turn r = r
+no-refusal role faults.PeerRefused turn r = r
+
+own-refused : (old before : FolderState) (n : Names) (answer : Status) → IsRefusal answer → EndsBy old before n (stops.Own answer) → KeepsAll old before
+own-refused old before n answer r (inl refused) = refused.0
+own-refused old before n answer r (inr e) = absurd (no-refusal n.role e.0 e.1 (subst IsRefusal e.2 r))
+
+pub refused-by : (old before : FolderState) (n : Names) (end : Result ℕ Stop) → Ends old before n end → IsRefusal (end_status end) → KeepsAll old before
+refused-by old before n end e = refusal-own end (KeepsAll old before) (λ answer is r. own-refused old before n answer r (subst (Ends old before n) is e))
+
+-- ---- the headline
+
+ran-of : (old before new : FolderState) (n : Names) (end : PeerEnd) → OnlyOutputs before new [] → RanTo old before n end → Ran old new n end
+ran-of old before new n end last r = record {
+  file = r.file;
+  octets = r.octets;
+  file_is = r.takes.file_is;
+  bits_are = r.takes.bits_are;
+  left = r.left;
+  run = r.run;
+  holds = record {
+    got = Holds-kept before new n.got r.left.got last.goes_on r.holds.got (last.names n.got tt);
+    trace = Holds-kept before new n.trace r.left.trace last.goes_on r.holds.trace (last.names n.trace tt);
+  };
+}
+
+-- answers of an end that gives its link up
+abbrev is_given_up : Status → Bool
+is_given_up (NotDetected turn) = true
+is_given_up (LinkLost role segment turn) = true
+is_given_up (PeerFault fault turn) = true
+is_given_up answer = false
+
+plain-end : (s : Status) → is_given_up s ≡ true → IsPlain s
+plain-end s e = record { write = λ f. false≢true (ap is_given_up (sym f) ∙ e); memory = λ f. false≢true (ap is_given_up (sym f) ∙ e) }
+
+no-fault : (failed : Status) (fault : FolderFault) → is_given_up failed ≡ false → is_given_up (fault_status failed fault) ≡ true → ⊥
+no-fault failed folder.Failed f e = false≢true (sym f ∙ e)
+no-fault failed folder.NoMemory f e = false≢true e
+
+own-end : (end : Result ℕ Stop) (s : Status) → is_given_up s ≡ true → end_status end ≡ s → end ≡ Err (stops.Own s)
+own-end (Ok turns) s e f = absurd (false≢true (ap is_given_up f ∙ e))
+own-end (Err (stops.Own answer)) s e f = ap (λ x. Err (stops.Own x)) f
+own-end (Err (stops.Read fault)) s e f = absurd (no-fault ReadFault fault refl (ap is_given_up f ∙ e))
+own-end (Err (stops.Write fault)) s e f = absurd (no-fault WriteFault fault refl (ap is_given_up f ∙ e))
+own-end (Err (stops.Say fault)) s e f = absurd (no-fault WriteFault fault refl (ap is_given_up f ∙ e))
+own-end (Err stops.NoMemory) s e f = absurd (false≢true (ap is_given_up f ∙ e))
+
+-- it is none of an input's length
+not-long : (old : FolderState) (n : Names) (t : Status) → is_given_up t ≡ true → IsTooLong old n t → ⊥
+not-long old n t e (inl long) = false≢true (sym (ap is_given_up long.0) ∙ e)
+not-long old n t e (inr long) = false≢true (sym (ap is_given_up long.0) ∙ e)
+
+gave-up : (words : List (List ℕ)) (old new : FolderState) (n : Names) (s t : Status) (a : Answers (peer_job n) words old new s) → OnlyOutputs a.before new [] → is_given_up t ≡ true → s ≡ t → GaveUp old new n t
+gave-up words old new n s t a last e f =
+    by (subst (Ends old a.before n) (own-end a.end t e (last-plain done_line words a.before new a.end s t a.says f (plain-end t e))) a.ends.0)
+  where
+    by : EndsBy old a.before n (stops.Own t) → GaveUp old new n t
+    by (inl refused) = absurd (not-long old n t e refused.1)
+    by (inr r) = (r.0, r.1, r.2, ran-of old a.before new n (GivesUp r.0 r.1) last r.3)
+
+ran-by : (words : List (List ℕ)) (old new : FolderState) (n : Names) (s t : Status) (a : Answers (peer_job n) words old new s) → OnlyOutputs a.before new [] → s ≡ t → RanBy old new n t
+ran-by words old new n s Done a last e =
+    let d = done-of (peer_job n) words old new s a e in
+    (d.done, d.said ∙ ap (option_map (λ x. x ++ done_line d.done)) d.ends.1, ran-of old a.before new n (IsDone d.done) last d.ends.0)
+ran-by words old new n s (NotDetected turn) a last e = gave-up words old new n s (NotDetected turn) a last refl e
+ran-by words old new n s (LinkLost role segment turn) a last e = gave-up words old new n s (LinkLost role segment turn) a last refl e
+ran-by words old new n s (PeerFault fault turn) a last e = gave-up words old new n s (PeerFault fault turn) a last refl e
+ran-by words old new n s t a last e = tt
+
+-- what the command promises holds of every answer
+pub headline-of : (words : List (List ℕ)) (old new : FolderState) (n : Names) (s : Status) → Answers (peer_job n) words old new s → Headline old new n s
+headline-of words old new n s a = record {
+  shared = shared-of (peer_job n) words old new s a;
+  ran = ran-by words old new n s s a (last-only done_line words a.before new a.end s a.says) refl;
+}
+
+-- ---- when it is done
+
+never-longer : (count : ℕ) → count ≤ 1048576 → FILE_LIMIT < count → ⊥
+never-longer count within longer = omega (arith, within, longer)
+
+never-own : (old before : FolderState) (n : Names) (answer : Status) → IsRight old n → EndsBy old before n (stops.Own answer) → ⊥
+never-own old before n answer r (inl (keeps, inl long)) = never-longer (length (octets_at old n.bits)) r.bits_within (long.1 r.bits_told)
+never-own old before n answer r (inl (keeps, inr long)) = never-longer (length (octets_at old n.file)) r.file_within (long.2 r.file_told)
+never-own old before n answer r (inr e) =
+    r.stays e.0 e.1 e.3.left
+    (subst (λ (file : List ℕ). RunsTo n.role file (octets_at old n.bits) (GivesUp e.0 e.1) e.3.left) (e.3.takes.file_is r.file_told)
+    (subst (λ (octets : List ℕ). RunsTo n.role e.3.file octets (GivesUp e.0 e.1) e.3.left) (e.3.takes.bits_are r.bits_told) e.3.run))
+
+pub completes-of : (words : List (List ℕ)) (old new : FolderState) (n : Names) (s : Status) → Answers (peer_job n) words old new s → Completes old new n s
+completes-of words old new n s a sound r = done-unless-memory (peer_job n) words old new s a sound (λ answer e. never-own old a.before n answer r e.0)

@@ -1,0 +1,4 @@
+mod Slots
+mod Reaching
+mod Starting
+mod Headline

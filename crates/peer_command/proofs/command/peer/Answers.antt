@@ -1,0 +1,12 @@
+use Rattle.std.proofs.Common.{map, string_bytes}
+use Rattle.peer_command.specs.Words.{named}
+use Rattle.peer_command.proofs.Headline.{headline-of, completes-of}
+use Rattle.peer_command.proofs.command.peer.Goals as goal
+
+pub returns-clause-headline : goal.returns-clause-headline
+returns-clause-headline g c =
+    headline-of (map string_bytes c.args.words.now) (g.F.Folder.state c.args.folder.now) (g.F.Folder.state c.meet_and_tell.new.folder) (named c.args.names.now) c.meet_and_tell.result c.meet_and_tell.ensures
+
+pub returns-clause-completes : goal.returns-clause-completes
+returns-clause-completes g c =
+    completes-of (map string_bytes c.args.words.now) (g.F.Folder.state c.args.folder.now) (g.F.Folder.state c.meet_and_tell.new.folder) (named c.args.names.now) c.meet_and_tell.result c.meet_and_tell.ensures

@@ -1,0 +1,107 @@
+-- How the job of the command ends, before its line is said. What is said of a name's octets holds where the folder tells that name.
+use Rattle.std.specs.Prelude.{◌≡◌, ◌⊎◌, ℕ, IsTrue, List, [], ◌∷◌, Result, Ok, Err}
+use Rattle.outside_core.specs.Folder.{FolderState, octets_at}
+use Rattle.outside_core.specs.declared.folder.FolderFault.TheVariants as folder
+use Rattle.roles.specs.declared.role.Role.{Role}
+use Rattle.link_faults.specs.declared.fault.LinkFault.{LinkFault}
+use Rattle.link_faults.specs.declared.fault.LinkFault.TheVariants as faults
+use Rattle.command_base.specs.declared.limits.TheConstants.{FILE_LIMIT}
+use Rattle.command_base.specs.declared.status.Status.{Status}
+use Rattle.command_base.specs.declared.status.Status.TheVariants.{TooLong, NotDetected, LinkLost, PeerFault}
+use Rattle.command_base.specs.declared.stop.Stop.{Stop}
+use Rattle.command_base.specs.declared.stop.Stop.TheVariants.{Own, Read, Write, Say, NoMemory}
+use Rattle.command_base.specs.Inputs.{IsWithin, IsLonger}
+use Rattle.command_base.specs.Job.{Job}
+use Rattle.command_base.specs.Lines.{done_line}
+use Rattle.command_base.specs.Outputs.{Holds, HoldsPart, KeepsAll, CreatesPart, SaysNothing}
+use Rattle.std.specs.List.{concat}
+use Rattle.single_end.specs.Peer.{Past, Outcome, trace_of, turn_line}
+use Rattle.peer_command.specs.Words.{Names, inputs_of, outputs_of}
+use Rattle.peer_command.specs.Runs.{Left, PeerEnd, IsDone, GivesUp, IsPast, MakesTurn, RunsTo, left_of}
+
+-- The inputs are within their limits, and these are their octets.
+pub record Takes (old : FolderState) (n : Names) (file octets : List ℕ) : Type 0 where
+  pub bits_within : IsWithin old n.bits FILE_LIMIT
+  pub file_within : IsWithin old n.file FILE_LIMIT
+  pub file_is : IsTrue (old.tells n.file) → file ≡ octets_at old n.file
+  pub bits_are : IsTrue (old.tells n.bits) → octets ≡ octets_at old n.bits
+
+-- The outputs hold what is left.
+pub record HoldLeft (f : FolderState) (n : Names) (left : Left) : Type 0 where
+  pub got : Holds f n.got left.got
+  pub trace : Holds f n.trace left.trace
+
+-- The run of the inputs ended so, and the outputs hold what it left.
+pub record RanTo (old new : FolderState) (n : Names) (end : PeerEnd) : Type 0 where
+  pub file : List ℕ
+  pub octets : List ℕ
+  pub takes : Takes old n file octets
+  pub left : Left
+  pub run : RunsTo n.role file octets end left
+  pub holds : HoldLeft new n left
+
+-- The folder failed before a turn was made: the outputs hold what those before it left.
+pub record StopsBetween (new : FolderState) (n : Names) (file octets : List ℕ) : Type 0 where
+  pub past : Past
+  pub is_past : IsPast n.role file octets past
+  pub holds : HoldLeft new n (left_of n.role past)
+
+-- It failed in a turn: they hold that, and a part of what this turn adds, whatever it comes to.
+pub record StopsWithin (new : FolderState) (n : Names) (file octets : List ℕ) : Type 0 where
+  pub turn : ℕ
+  pub outcome : Outcome
+  pub left : Left
+  pub makes : MakesTurn n.role file octets turn outcome left
+  pub got : HoldsPart new n.got (concat makes.past.account.incoming.taken) makes.given
+  pub trace : HoldsPart new n.trace (trace_of n.role makes.past.turns) (turn_line n.role turn makes.last)
+
+-- The folder failed once the outputs were created.
+pub record StopsRunning (old new : FolderState) (n : Names) : Type 0 where
+  pub file : List ℕ
+  pub octets : List ℕ
+  pub takes : Takes old n file octets
+  pub stops : StopsBetween new n file octets ⊎ StopsWithin new n file octets
+
+-- or as they were
+pub record StopsCreating (old new : FolderState) (n : Names) : Type 0 where
+  pub bits_within : IsWithin old n.bits FILE_LIMIT
+  pub file_within : IsWithin old n.file FILE_LIMIT
+  pub creates : CreatesPart old new (outputs_of n)
+
+-- Word 3 names the bits, and word 2 the file: the bits' length is looked at first.
+abbrev pub IsTooLong : FolderState → Names → Status → Type 0
+IsTooLong old n answer =
+    ((answer ≡ TooLong 3) × IsLonger old n.bits FILE_LIMIT)
+    ⊎ ((answer ≡ TooLong 2) × IsWithin old n.bits FILE_LIMIT × IsLonger old n.file FILE_LIMIT)
+
+-- the answer of an end that gives its link up: a pattern of the answerer's never came, its tries are spent, or the peer is at fault
+abbrev pub status_of : Role → LinkFault → ℕ → Status
+status_of role faults.NotDetected turn = NotDetected turn
+status_of role (faults.Spent segment since) turn = LinkLost role segment turn
+status_of role fault turn = PeerFault fault turn
+
+-- the run ended as the end gave its link up
+abbrev pub RanBy : FolderState → FolderState → Names → Status → Type 0
+RanBy old new n answer = (fault : LinkFault) × (turn : ℕ) × (answer ≡ status_of n.role fault turn) × RanTo old new n (GivesUp fault turn)
+
+-- why the job is not done: for the inputs' lengths, for what becomes of the run, or for the folder
+abbrev pub EndsBy : FolderState → FolderState → Names → Stop → Type 0
+EndsBy old new n (Own answer) = (KeepsAll old new × IsTooLong old n answer) ⊎ RanBy old new n answer
+EndsBy old new n (Read fault) = KeepsAll old new ⊎ StopsRunning old new n
+EndsBy old new n (Write fault) = StopsCreating old new n ⊎ StopsRunning old new n
+EndsBy old new n (Say fault) = ⊥
+EndsBy old new n NoMemory = KeepsAll old new × IsWithin old n.bits FILE_LIMIT × IsWithin old n.file FILE_LIMIT
+
+-- how the job ends: done in so many turns, or before
+abbrev pub Ends : FolderState → FolderState → Names → Result ℕ Stop → Type 0
+Ends old new n (Ok turns) = RanTo old new n (IsDone turns)
+Ends old new n (Err stop) = EndsBy old new n stop
+
+-- The job of the command: done, its line says the number of turns.
+abbrev pub peer_job : Names → Job ℕ
+peer_job n = record {
+  inputs = inputs_of n;
+  outputs = outputs_of n;
+  Ends = λ old new end. Ends old new n end × SaysNothing old new;
+  line_of = done_line;
+}

@@ -1,0 +1,6 @@
+pub mod Words
+pub mod Runs
+pub mod Ends
+pub mod Turns
+pub mod Completes
+pub mod Headline

@@ -1,0 +1,44 @@
+-- How far a run has come, and why it stops in a turn.
+use Rattle.std.specs.Prelude.{◌≡◌, ℕ, ◌*◌, List, length}
+use Rattle.outside_core.specs.Folder.{FolderState, KeepsName, OnlyReads}
+use Rattle.outside_core.specs.declared.folder.FolderFault.TheVariants as folder
+use Rattle.roles.specs.declared.role.Role.{Role}
+use Rattle.command_base.specs.declared.limits.TheConstants.{FILE_LIMIT}
+use Rattle.command_base.specs.declared.stop.Stop.{Stop}
+use Rattle.command_base.specs.declared.stop.Stop.TheVariants.{Own, Read, Write}
+use Rattle.command_base.specs.Inputs.{IsWithin, ReadTo}
+use Rattle.single_end.specs.declared.single.Single.{Single}
+use Rattle.single_end.specs.declared.step.SingleFault.{SingleFault}
+use Rattle.single_end.specs.declared.step.SingleFault.TheVariants as faults
+use Rattle.single_end.specs.Heard.{slot_octets}
+use Rattle.single_end.specs.Peer.{Past}
+use Rattle.single_end.specs.Single.{KnowsFile, SingleAfter, role_of}
+use Rattle.peer_command.specs.Words.{Names}
+use Rattle.peer_command.specs.Runs.{left_of, slots_before}
+use Rattle.peer_command.specs.Ends.{HoldLeft, status_of}
+
+-- Both inputs are within their limits, and nothing was written.
+pub record IsBegun (old now : FolderState) (n : Names) : Type 0 where
+  pub bits_within : IsWithin old n.bits FILE_LIMIT
+  pub file_within : IsWithin old n.file FILE_LIMIT
+  pub reads : OnlyReads old now
+
+-- Turns were made against the slots of all that was read of the bits, and the outputs hold what they left.
+pub record Reached (start now : FolderState) (n : Names) (s : Single) : Type 0 where
+  pub past : Past
+  pub after : SingleAfter s past
+  pub role_is : role_of s ≡ n.role
+  pub octets : List ℕ
+  pub read : ReadTo start now n.bits FILE_LIMIT (slot_octets * length past.turns) octets
+  pub slots_are : past.slots ≡ slots_before octets (length past.turns)
+  pub file_within : IsWithin start n.file FILE_LIMIT
+  pub file_kept : KeepsName start now n.file
+  pub knows : KnowsFile now n.file past.file
+  pub holds : HoldLeft now n (left_of n.role past)
+
+-- why a run stops where there is this fault in its turn of that number
+abbrev pub fault_stop : Role → ℕ → SingleFault → Stop
+fault_stop role turn faults.ReadFault = Read folder.Failed
+fault_stop role turn faults.WriteFault = Write folder.Failed
+fault_stop role turn (faults.Link fault) = Own (status_of role fault turn)
+fault_stop role turn faults.NoMemory = Write folder.NoMemory

@@ -1,0 +1,6 @@
+pub mod Heard
+pub mod Peer
+pub mod Ear
+pub mod Single
+pub mod Turn
+pub mod Mid

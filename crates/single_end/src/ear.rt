@@ -1,0 +1,123 @@
+// What is heard in a stream of bits.
+ghost use Rattle.std.specs.Prelude.{◌≡◌, ◌≤◌, ◌<◌, ◌+◌, ℕ, Bool, List, [], ◌∷◌, ◌++◌, length, slice_index_or, IfSome, IfNone};
+ghost use Rattle.plain_lists.specs.Bits.{octet_bits, bits_of};
+ghost use Rattle.frame_check.specs.declared.check.Check.TheVariants.{Sixteen};
+ghost use Rattle.lapm_frames.specs.declared.frame.Frame.{Frame};
+ghost use Rattle.lapm_frames.specs.Checked.{SpellsFrame};
+ghost use Rattle.link_account.specs.Numbers.{IsNumbered, HasNumbers};
+ghost use Rattle.single_end.specs.declared.limits.TheConstants.{SLOT_OCTETS};
+ghost use Rattle.single_end.specs.Heard.{EndsSo, IsHeard, filled, first, slot_bits};
+ghost use Rattle.single_end.specs.Ear.{HasHeard};
+
+use crate::limits::SLOT_OCTETS;
+use bit_stuffing::Deframer;
+use bit_stuffing::laws::one_lent;
+use detection::PatternReader;
+use frame_check::Check;
+use lapm_frames::{Frame, read_checked};
+use roles::Role;
+use slot_contents::Arrived;
+
+/// The frame of the peer that these octets are, where they pass the check of 16 bits.
+fn frame_in(whole: &[u8], peer: Role) -> Option<Frame>
+    ensures some { IfSome result (λ frame. SpellsFrame Sixteen peer 0 whole.now frame) }
+    ensures none { IfNone result ((frame : Frame) → SpellsFrame Sixteen peer 0 whole.now frame → ⊥) }
+    ensures numbers { IfSome result HasNumbers }
+{
+    match read_checked(whole, Check::Sixteen, peer, 0) {
+        Ok(frame) => Some(frame),
+        Err(_) => None,
+    }
+}
+
+/// The first of two things that are heard in a row.
+fn first(earlier: Arrived, later: Arrived) -> Arrived
+    ensures value { result ≡ first earlier later }
+    ensures numbers { IsNumbered earlier → IsNumbered later → IsNumbered result }
+{
+    match earlier {
+        Arrived::Nothing => later,
+        heard => heard,
+    }
+}
+
+/// The octet of a slot at that place: a short slot is filled with ones.
+fn octet_at(slot: &[u8], place: usize) -> u8
+    requires place { place < SLOT_OCTETS }
+    requires short { length slot.now ≤ SLOT_OCTETS }
+    ensures { result ≡ slice_index_or (filled slot.now) place 0 }
+{
+    match slot.get(place) {
+        Some(octet) => *octet,
+        None => 0xff,
+    }
+}
+
+/// Hears a stream of bits.
+#[derive(Drop)]
+pub(crate) struct Ear {
+    deframer: Deframer,
+    reader: PatternReader,
+}
+
+impl Ear {
+    ghost use Rattle.single_end.specs.declared.ear.Ear.{Ear};
+
+    /// An ear before the first bit.
+    pub fn new() -> Ear
+        ensures { HasHeard result [] }
+    {
+        Ear {
+            deframer: Deframer::new(),
+            reader: PatternReader::new(),
+        }
+    }
+
+    /// What ends with the next bit.
+    fn hear_bit(&mut self, bit: bool, peer: Role) -> Arrived
+        ensures stands { (bits : List Bool) → HasHeard self.old bits → HasHeard self.new (bits ++ bit ∷ []) }
+        ensures ends { (bits : List Bool) → HasHeard self.old bits → EndsSo peer (bits ++ bit ∷ []) result }
+        ensures numbers { IsNumbered result }
+    {
+        one_lent();
+        let pattern = self.reader.push(bit);
+        self.deframer.push(bit);
+        if let Some(seen) = pattern {
+            return Arrived::Pattern(seen);
+        }
+        match frame_in(self.deframer.whole(), peer) {
+            Some(frame) => Arrived::Frame(frame),
+            None => Arrived::Nothing,
+        }
+    }
+
+    /// What was heard first, once the bits of an octet came behind what was heard before.
+    fn hear_octet(&mut self, octet: u8, peer: Role, heard: Arrived) -> Arrived
+        requires { IsNumbered heard }
+        ensures stands { (bits : List Bool) → HasHeard self.old bits → HasHeard self.new (bits ++ octet_bits octet) }
+        ensures heard { (earlier bits : List Bool) → HasHeard self.old (earlier ++ bits) → IsHeard peer earlier bits heard
+            → IsHeard peer earlier (bits ++ octet_bits octet) result }
+        ensures numbers { IsNumbered result }
+    {
+        let mut heard = heard;
+        for place in 0..8u32 {
+            let next = self.hear_bit((octet >> place) & 1 == 1, peer);
+            heard = first(heard, next);
+        }
+        heard
+    }
+
+    /// What is heard in a slot of these octets, or fewer.
+    pub fn hear(&mut self, slot: &[u8], peer: Role) -> Arrived
+        requires { length slot.now ≤ SLOT_OCTETS }
+        ensures stands { (bits : List Bool) → HasHeard self.old bits → HasHeard self.new (bits ++ slot_bits slot.now) }
+        ensures heard { (bits : List Bool) → HasHeard self.old bits → IsHeard peer bits (slot_bits slot.now) result }
+        ensures numbers { IsNumbered result }
+    {
+        let mut heard = Arrived::Nothing;
+        for place in 0..SLOT_OCTETS {
+            heard = self.hear_octet(octet_at(slot, place), peer, heard);
+        }
+        heard
+    }
+}

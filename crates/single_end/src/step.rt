@@ -1,0 +1,24 @@
+// What a turn answers.
+
+use link_faults::LinkFault;
+
+/// What comes after a turn.
+#[derive(Clone, Copy, Debug, PartialEq, Eq)]
+pub enum SingleStep {
+    Going,
+    /// The link was taken down. An originator alone is told.
+    Closed,
+}
+
+/// Why there is no further turn.
+#[derive(Clone, Copy, Debug, PartialEq, Eq)]
+pub enum SingleFault {
+    /// The user's file was not read.
+    ReadFault,
+    /// An output was not written.
+    WriteFault,
+    /// The end gave the link up.
+    Link(LinkFault),
+    /// The folder had no memory.
+    NoMemory,
+}
