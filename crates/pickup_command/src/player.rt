@@ -55,7 +55,8 @@ fn hear_taken<F: Folder>(
 {
     match taken {
         Taken::Nothing => Ok(()),
-        Taken::LastBit(bit) => listener.hear_bit(folder, bit),
+        Taken::LastBit(false) => listener.hear_low(folder, 0, 1),
+        Taken::LastBit(true) => listener.hear_low(folder, 1, 1),
         Taken::Four(four) => listener.hear_low(folder, four, 4),
     }
 }

@@ -51,7 +51,7 @@ impl Listener {
     }
 
     /// Hears a bit, and says the line of the piece that ends with it, if one does.
-    pub fn hear_bit<F: Folder>(&mut self, folder: &mut F, bit: bool) -> Result<(), FolderFault>
+    fn hear_bit<F: Folder>(&mut self, folder: &mut F, bit: bool) -> Result<(), FolderFault>
         requires { self.old.pieces < 2 ^ 63 }
         ensures ok { (start : FolderState) (bits : List Bool) → Heard start (F.state folder.old) self.old bits
             → OnOk result (Heard start (F.state folder.new) self.new (bits ++ bit ∷ [])) }
