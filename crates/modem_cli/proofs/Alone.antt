@@ -12,6 +12,7 @@ use Rattle.decode_command.specs.Words.{names_of as decode_names}
 use Rattle.frames_command.specs.Words.{names_of as frames_names}
 use Rattle.xid_command.specs.Words.{digits_named}
 use Rattle.soak_command.specs.Words.{seed_named}
+use Rattle.peer_command.specs.Words.{names_of as peer_names}
 use Rattle.modem_cli.specs.Modem.{is_none, Promises, Answers, Completes}
 
 pub record OthersNone (words : List (List ℕ)) : Type 0 where
@@ -20,6 +21,7 @@ pub record OthersNone (words : List (List ℕ)) : Type 0 where
   pub frames : frames_names words ≡ None
   pub xid : digits_named words ≡ None
   pub soak : seed_named words ≡ None
+  pub peer : peer_names words ≡ None
 
 run-alone : (words : List (List ℕ)) (n : RunNames) → run_names words ≡ Some n → OthersNone words
 run-alone [] n e = absurd cc
@@ -29,7 +31,7 @@ run-alone (a ∷ b ∷ d ∷ []) n e = absurd cc
 run-alone (a ∷ b ∷ d ∷ f ∷ []) n e = absurd cc
 run-alone (a ∷ b ∷ d ∷ f ∷ h ∷ []) n e = absurd cc
 run-alone (a ∷ b ∷ d ∷ f ∷ h ∷ i ∷ []) n e = absurd cc
-run-alone (a ∷ b ∷ d ∷ f ∷ h ∷ i ∷ j ∷ []) n e = record { encode = refl; decode = refl; frames = refl; xid = refl; soak = refl }
+run-alone (a ∷ b ∷ d ∷ f ∷ h ∷ i ∷ j ∷ []) n e = record { encode = refl; decode = refl; frames = refl; xid = refl; soak = refl; peer = refl }
 run-alone (a ∷ b ∷ d ∷ f ∷ h ∷ i ∷ j ∷ k ∷ more) n e = absurd cc
 
 never : {A : Type 0} (o : Option A) (a : A) → o ≡ None → o ≡ Some a → ⊥
@@ -60,6 +62,7 @@ run-promises words old new n s e h =
       frames = λ m f. absurd (never (frames_names words) m o.frames f);
       xid = λ m f. absurd (never (digits_named words) m o.xid f);
       soak = λ m f. absurd (never (seed_named words) m o.soak f);
+      peer = λ m f. absurd (never (peer_names words) m o.peer f);
       other = λ none. absurd (never-none (run_names words) n e none.0);
     }
 
@@ -73,6 +76,7 @@ run-answers words old new n s e a =
       frames = λ m f. absurd (never (frames_names words) m o.frames f);
       xid = λ m f. absurd (never (digits_named words) m o.xid f);
       soak = λ m f. absurd (never (seed_named words) m o.soak f);
+      peer = λ m f. absurd (never (peer_names words) m o.peer f);
       other = λ none. absurd (never-none (run_names words) n e none.0);
     }
 
@@ -86,4 +90,5 @@ run-completes words old new n s e k =
       frames = λ m f. absurd (never (frames_names words) m o.frames f);
       xid = λ m f. absurd (never (digits_named words) m o.xid f);
       soak = λ m f. absurd (never (seed_named words) m o.soak f);
+      peer = λ m f. absurd (never (peer_names words) m o.peer f);
     }

@@ -31,6 +31,10 @@ use Rattle.soak_command.specs.Words.{seed_named}
 use Rattle.soak_command.specs.Ends.{soak_job}
 use Rattle.soak_command.specs.Headline.{Headline as SoakHeadline}
 use Rattle.soak_command.specs.Completes.{Completes as SoakCompletes}
+use Rattle.peer_command.specs.Words.{Names as PeerNames, names_of as peer_names}
+use Rattle.peer_command.specs.Ends.{peer_job}
+use Rattle.peer_command.specs.Headline.{Headline as PeerHeadline}
+use Rattle.peer_command.specs.Completes.{Completes as PeerCompletes}
 
 -- A command: its word, and whether words are not its own.
 pub record Command : Type 0 where
@@ -50,6 +54,7 @@ commands =
     ∷ record { word = codes "frames"; refuses = λ words. is_none (frames_names words) }
     ∷ record { word = codes "xid"; refuses = λ words. is_none (digits_named words) }
     ∷ record { word = codes "soak"; refuses = λ words. is_none (seed_named words) }
+    ∷ record { word = codes "peer"; refuses = λ words. is_none (peer_names words) }
     ∷ []
 
 -- the words are those of none of these
@@ -73,6 +78,7 @@ pub record Promises (words : List (List ℕ)) (old new : FolderState) (s : Statu
   pub frames : (n : FramesNames) → frames_names words ≡ Some n → FramesHeadline old new n s
   pub xid : (digits : List ℕ) → digits_named words ≡ Some digits → Shared [] [] old new s
   pub soak : (seed : ℕ) → seed_named words ≡ Some seed → SoakHeadline old new seed s
+  pub peer : (n : PeerNames) → peer_names words ≡ Some n → PeerHeadline old new n s
   pub other : IsNoCommand words → KeepsAll old new
 
 -- The answer to any words.
@@ -83,6 +89,7 @@ pub record Answers (words : List (List ℕ)) (old new : FolderState) (s : Status
   pub frames : (n : FramesNames) → frames_names words ≡ Some n → AnswersOf (frames_job n) words old new s
   pub xid : (digits : List ℕ) → digits_named words ≡ Some digits → AnswersOf (xid_job digits) words old new s
   pub soak : (seed : ℕ) → seed_named words ≡ Some seed → AnswersOf (soak_job seed) words old new s
+  pub peer : (n : PeerNames) → peer_names words ≡ Some n → AnswersOf (peer_job n) words old new s
   pub other : IsNoCommand words → Tells old new usage Usage s
 
 -- When words of a command are done, but for want of memory.
@@ -93,3 +100,4 @@ pub record Completes (words : List (List ℕ)) (old new : FolderState) (s : Stat
   pub frames : (n : FramesNames) → frames_names words ≡ Some n → FramesCompletes old new n s
   pub xid : (digits : List ℕ) → digits_named words ≡ Some digits → XidCompletes old new digits s
   pub soak : (seed : ℕ) → seed_named words ≡ Some seed → SoakCompletes old new seed s
+  pub peer : (n : PeerNames) → peer_names words ≡ Some n → PeerCompletes old new n s

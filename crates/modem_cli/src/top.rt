@@ -8,6 +8,7 @@ use decode_command::{decode, decode_words};
 use encode_command::{encode, encode_words};
 use frames_command::{frames, frames_words};
 use outside_core::Folder;
+use peer_command::{peer, peer_words};
 use run_command::{run, run_words};
 use soak_command::{soak, soak_words};
 use std::alloc::Global;
@@ -17,14 +18,15 @@ use xid_command::{xid, xid_words};
 fn usage() -> Line
     ensures { result ≡ usage }
 {
-    write_usage(&["run", "encode", "decode", "frames", "xid", "soak"])
+    write_usage(&["run", "encode", "decode", "frames", "xid", "soak", "peer"])
 }
 
 /// Does what the words of a command line say, and answers how it ended. Each answer's line is said last.
 pub fn modem<F: Folder>(alloc: Global, words: &[String], folder: &mut F) -> Status
     // Each end of a run receives a prefix of the other's file, and done means that both are whole. What `encode` writes is
     // the file's recording, or the beginning of it. What `decode` writes is carried by a code sequence that is no farther from the
-    // recording than any other, or is the beginning of that. What `frames` says are the pieces of the file's bits.
+    // recording than any other, or is the beginning of that. What `frames` says are the pieces of the file's bits. What `peer` leaves is
+    // what an end's run against the file's bits gives.
     ensures promises { Promises (map string_bytes words.now) (F.state folder.old) (F.state folder.new) result }
 
     // Each answer comes where it has to, with its line.
@@ -56,6 +58,9 @@ pub fn modem<F: Folder>(alloc: Global, words: &[String], folder: &mut F) -> Stat
     }
     if let Some(seed) = soak_words(words) {
         return soak(alloc, folder, words, seed);
+    }
+    if let Some(names) = peer_words(words) {
+        return peer(alloc, folder, words, &names);
     }
     tell(folder, usage().as_slice(), Status::Usage)
 }
