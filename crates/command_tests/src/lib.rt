@@ -18,6 +18,8 @@ mod limits;
 #[cfg(test)]
 mod listing;
 #[cfg(test)]
+mod meeting;
+#[cfg(test)]
 mod opening;
 #[cfg(test)]
 mod picking;

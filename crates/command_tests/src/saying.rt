@@ -1,6 +1,6 @@
 // The lines that answers say, and single steps over a folder in memory.
 use command_base::{
-    Status, Stop, append_output, create_output, create_outputs, read_file, read_piece, say_line,
+    LinkFault, Status, Stop, append_output, create_output, create_outputs, read_file, read_piece, say_line,
     tell_stop, within_limit, write_done, write_octets, write_pieces, write_samples, write_usage,
 };
 use lapm_frames::FrameFault;
@@ -30,6 +30,11 @@ fn says(
     assert!(rt; status.code() == code);
     assert!(rt; folder.said() == said.as_bytes());
     Ok(())
+}
+
+/// The answer to a peer's fault in turn 7.
+fn peer_fault(fault: LinkFault) -> Status {
+    Status::PeerFault { fault, turn: 7 }
 }
 
 #[test]
@@ -81,6 +86,25 @@ fn each_status_says_its_line(rt: HostRuntime) -> Result<(), Fail> {
             },
             10,
             "chance match: orig turn 1\n",
+        ),
+        (
+            peer_fault(LinkFault::BadAck {
+                nr: 5,
+                va: 0,
+                high: 127,
+            }),
+            12,
+            "peer fault: bad ack nr 5 va 0 high 127 turn 7\n",
+        ),
+        (
+            peer_fault(LinkFault::PeerReset { va: 1, vr: 200 }),
+            12,
+            "peer fault: reset va 1 vr 200 turn 7\n",
+        ),
+        (
+            peer_fault(LinkFault::PeerRefused),
+            12,
+            "peer fault: refused turn 7\n",
         ),
     ];
     for (status, code, said) in lines {

@@ -16,6 +16,7 @@ use Rattle.xid_command.specs.Words.{digits_named}
 use Rattle.soak_command.specs.Words.{seed_named}
 use Rattle.soak_command.specs.Headline.{Headline as SoakHeadline}
 use Rattle.soak_command.specs.Completes.{Completes as SoakCompletes}
+use Rattle.peer_command.specs.Words.{names_of as peer_names}
 use Rattle.pickup_command.specs.Words.{recording_named}
 use Rattle.modem_cli.specs.Modem.{is_none, Promises, Answers, Completes}
 
@@ -25,6 +26,7 @@ pub record OthersNone (words : List (List ℕ)) : Type 0 where
   pub frames : frames_names words ≡ None
   pub xid : digits_named words ≡ None
   pub soak : seed_named words ≡ None
+  pub peer : peer_names words ≡ None
   pub pickup : recording_named words ≡ None
 
 run-alone : (words : List (List ℕ)) (n : RunNames) → run_names words ≡ Some n → OthersNone words
@@ -35,7 +37,7 @@ run-alone (a ∷ b ∷ d ∷ []) n e = absurd cc
 run-alone (a ∷ b ∷ d ∷ f ∷ []) n e = absurd cc
 run-alone (a ∷ b ∷ d ∷ f ∷ h ∷ []) n e = absurd cc
 run-alone (a ∷ b ∷ d ∷ f ∷ h ∷ i ∷ []) n e = absurd cc
-run-alone (a ∷ b ∷ d ∷ f ∷ h ∷ i ∷ j ∷ []) n e = record { encode = refl; decode = refl; frames = refl; xid = refl; soak = refl; pickup = refl }
+run-alone (a ∷ b ∷ d ∷ f ∷ h ∷ i ∷ j ∷ []) n e = record { encode = refl; decode = refl; frames = refl; xid = refl; soak = refl; peer = refl; pickup = refl }
 run-alone (a ∷ b ∷ d ∷ f ∷ h ∷ i ∷ j ∷ k ∷ more) n e = absurd cc
 
 never : {A : Type 0} (o : Option A) (a : A) → o ≡ None → o ≡ Some a → ⊥
@@ -66,6 +68,7 @@ run-promises words old new n s e h =
       frames = λ m f. absurd (never (frames_names words) m o.frames f);
       xid = λ m f. absurd (never (digits_named words) m o.xid f);
       soak = λ m f. absurd (never (seed_named words) m o.soak f);
+      peer = λ m f. absurd (never (peer_names words) m o.peer f);
       pickup = λ m f. absurd (never (recording_named words) m o.pickup f);
       other = λ none. absurd (never-none (run_names words) n e none.0);
     }
@@ -80,6 +83,7 @@ run-answers words old new n s e a =
       frames = λ m f. absurd (never (frames_names words) m o.frames f);
       xid = λ m f. absurd (never (digits_named words) m o.xid f);
       soak = λ m f. absurd (never (seed_named words) m o.soak f);
+      peer = λ m f. absurd (never (peer_names words) m o.peer f);
       pickup = λ m f. absurd (never (recording_named words) m o.pickup f);
       other = λ none. absurd (never-none (run_names words) n e none.0);
     }
@@ -94,6 +98,7 @@ run-completes words old new n s e k =
       frames = λ m f. absurd (never (frames_names words) m o.frames f);
       xid = λ m f. absurd (never (digits_named words) m o.xid f);
       soak = λ m f. absurd (never (seed_named words) m o.soak f);
+      peer = λ m f. absurd (never (peer_names words) m o.peer f);
       pickup = λ m f. absurd (never (recording_named words) m o.pickup f);
     }
 
@@ -111,6 +116,12 @@ soak-alone (a ∷ b ∷ []) seed e = by (bytes_eq a (codes "soak")) refl
     by true q = subst (λ (xs : List ℕ). recording_named (xs ∷ b ∷ []) ≡ None) (sym ((bytes_eq-Decides a (codes "soak")).0 q)) refl
     by false q = absurd (never (seed_named (a ∷ b ∷ [])) seed (none q) e)
 soak-alone (a ∷ b ∷ d ∷ more) seed e = absurd cc
+
+soak-not-peer : (words : List (List ℕ)) (seed : ℕ) → seed_named words ≡ Some seed → peer_names words ≡ None
+soak-not-peer [] seed e = absurd cc
+soak-not-peer (a ∷ []) seed e = absurd cc
+soak-not-peer (a ∷ b ∷ []) seed e = refl
+soak-not-peer (a ∷ b ∷ d ∷ more) seed e = absurd cc
 
 same-seed : (o : Option ℕ) (n m : ℕ) → o ≡ Some n → o ≡ Some m → n ≡ m
 same-seed (Some found) n m e f = ap value (sym e ∙ f)
@@ -136,6 +147,7 @@ soak-promises words old new seed s o e h = record {
   frames = λ m f. absurd (never (frames_names words) m o.frames f);
   xid = λ m f. absurd (never (digits_named words) m o.xid f);
   soak = λ m f. subst (λ (x : ℕ). SoakHeadline old new x s) (same-seed (seed_named words) seed m e f) h;
+  peer = λ m f. absurd (never (peer_names words) m (soak-not-peer words seed e) f);
   pickup = λ m f. absurd (never (recording_named words) m (soak-alone words seed e) f);
   other = λ none. absurd (never-none (seed_named words) seed e none.1.1.1.1.1.0);
 }
@@ -148,5 +160,6 @@ soak-completes words old new seed s o e k = record {
   frames = λ m f. absurd (never (frames_names words) m o.frames f);
   xid = λ m f. absurd (never (digits_named words) m o.xid f);
   soak = λ m f. subst (λ (x : ℕ). SoakCompletes old new x s) (same-seed (seed_named words) seed m e f) k;
+  peer = λ m f. absurd (never (peer_names words) m (soak-not-peer words seed e) f);
   pickup = λ m f. absurd (never (recording_named words) m (soak-alone words seed e) f);
 }

@@ -31,6 +31,10 @@ use Rattle.soak_command.specs.Words.{seed_named}
 use Rattle.soak_command.specs.Ends.{soak_job}
 use Rattle.soak_command.specs.Headline.{Headline as SoakHeadline}
 use Rattle.soak_command.specs.Completes.{Completes as SoakCompletes}
+use Rattle.peer_command.specs.Words.{Names as PeerNames, names_of as peer_names}
+use Rattle.peer_command.specs.Ends.{peer_job}
+use Rattle.peer_command.specs.Headline.{Headline as PeerHeadline}
+use Rattle.peer_command.specs.Completes.{Completes as PeerCompletes}
 use Rattle.pickup_command.specs.Words.{recording_named}
 use Rattle.pickup_command.specs.Ends.{pickup_job}
 use Rattle.pickup_command.specs.Headline.{Headline as PickupHeadline}
@@ -54,6 +58,7 @@ commands =
     ∷ record { word = codes "frames"; refuses = λ words. is_none (frames_names words) }
     ∷ record { word = codes "xid"; refuses = λ words. is_none (digits_named words) }
     ∷ record { word = codes "soak"; refuses = λ words. is_none (seed_named words) }
+    ∷ record { word = codes "peer"; refuses = λ words. is_none (peer_names words) }
     ∷ record { word = codes "pickup"; refuses = λ words. is_none (recording_named words) }
     ∷ []
 
@@ -78,6 +83,7 @@ pub record Promises (words : List (List ℕ)) (old new : FolderState) (s : Statu
   pub frames : (n : FramesNames) → frames_names words ≡ Some n → FramesHeadline old new n s
   pub xid : (digits : List ℕ) → digits_named words ≡ Some digits → Shared [] [] old new s
   pub soak : (seed : ℕ) → seed_named words ≡ Some seed → SoakHeadline old new seed s
+  pub peer : (n : PeerNames) → peer_names words ≡ Some n → PeerHeadline old new n s
   pub pickup : (rec : List ℕ) → recording_named words ≡ Some rec → PickupHeadline old new rec s
   pub other : IsNoCommand words → KeepsAll old new
 
@@ -89,6 +95,7 @@ pub record Answers (words : List (List ℕ)) (old new : FolderState) (s : Status
   pub frames : (n : FramesNames) → frames_names words ≡ Some n → AnswersOf (frames_job n) words old new s
   pub xid : (digits : List ℕ) → digits_named words ≡ Some digits → AnswersOf (xid_job digits) words old new s
   pub soak : (seed : ℕ) → seed_named words ≡ Some seed → AnswersOf (soak_job seed) words old new s
+  pub peer : (n : PeerNames) → peer_names words ≡ Some n → AnswersOf (peer_job n) words old new s
   pub pickup : (rec : List ℕ) → recording_named words ≡ Some rec → AnswersOf (pickup_job rec) words old new s
   pub other : IsNoCommand words → Tells old new usage Usage s
 
@@ -100,4 +107,5 @@ pub record Completes (words : List (List ℕ)) (old new : FolderState) (s : Stat
   pub frames : (n : FramesNames) → frames_names words ≡ Some n → FramesCompletes old new n s
   pub xid : (digits : List ℕ) → digits_named words ≡ Some digits → XidCompletes old new digits s
   pub soak : (seed : ℕ) → seed_named words ≡ Some seed → SoakCompletes old new seed s
+  pub peer : (n : PeerNames) → peer_names words ≡ Some n → PeerCompletes old new n s
   pub pickup : (rec : List ℕ) → recording_named words ≡ Some rec → PickupCompletes old new rec s

@@ -8,6 +8,7 @@ use decode_command::{decode, decode_words};
 use encode_command::{encode, encode_words};
 use frames_command::{frames, frames_words};
 use outside_core::Folder;
+use peer_command::{peer, peer_words};
 use pickup_command::{pickup, pickup_words};
 use run_command::{run, run_words};
 use soak_command::{soak, soak_words};
@@ -18,7 +19,7 @@ use xid_command::{xid, xid_words};
 fn usage() -> Line
     ensures { result ≡ usage }
 {
-    write_usage(&["run", "encode", "decode", "frames", "xid", "soak", "pickup"])
+    write_usage(&["run", "encode", "decode", "frames", "xid", "soak", "peer", "pickup"])
 }
 
 /// Does what the words of a command line say, and answers how it ended. Each answer's line is said last.
@@ -26,7 +27,8 @@ pub fn modem<F: Folder>(alloc: Global, words: &[String], folder: &mut F) -> Stat
     // Each end of a run receives a prefix of the other's file, and done means that both are whole. What `encode` writes is
     // the file's recording, or the beginning of it. What `decode` writes is carried by a code sequence that is no farther from the
     // recording than any other, or is the beginning of that. What `frames` says are the pieces of the file's bits, and what `pickup` says
-    // those that a recording gives from whatever state its line began in.
+    // those that a recording gives from whatever state its line began in. What `peer` leaves is what an end's run against the file's bits
+    // gives.
     ensures promises { Promises (map string_bytes words.now) (F.state folder.old) (F.state folder.new) result }
 
     // Each answer comes where it has to, with its line.
@@ -58,6 +60,9 @@ pub fn modem<F: Folder>(alloc: Global, words: &[String], folder: &mut F) -> Stat
     }
     if let Some(seed) = soak_words(words) {
         return soak(alloc, folder, words, seed);
+    }
+    if let Some(names) = peer_words(words) {
+        return peer(alloc, folder, words, &names);
     }
     if let Some(rec) = pickup_words(words) {
         return pickup(alloc, folder, words, rec);
