@@ -154,13 +154,17 @@ pub broken : (s : Single) (p : Past) (slot : List ℕ) (arrived : Arrived) (mid 
 broken s p slot arrived mid given fault h up g e = record {
   run = h.run;
   hears = h.heard;
-  is = inr (mid, record {
-    hears = h.hears;
-    going = up;
-    says = says-so s.role p.file (length p.turns) mid ∙ subst (λ n. speak n (finishes n (served_with p.file mid)) (served_with p.file mid) ≡ Err fault) h.turn e;
-    sent = refl;
-    given = g;
-  }, refl);
+  is = inr (
+    mid,
+    record {
+      hears = h.hears;
+      going = up;
+      says = says-so s.role p.file (length p.turns) mid ∙ subst (λ n. speak n (finishes n (served_with p.file mid)) (served_with p.file mid) ≡ Err fault) h.turn e;
+      sent = refl;
+      given = g;
+    },
+    refl,
+  );
 }
 
 pub closing : (s : Single) (p : Past) (slot : List ℕ) (arrived : Arrived) (mid now : Account) (given : Option ℕ) → InTurn s p slot arrived mid now → hangs_up mid ≡ true → given ≡ given_break mid
