@@ -1,4 +1,4 @@
--- Words of `run` are no other command's.
+-- Words of `run` are no other command's, and neither are those of `soak`.
 use Rattle.std.proofs.Common.{◌≡◌, ◌∙◌, true, ℕ, List, [], ◌∷◌, Option, Some, None, refl, sym, ap, subst}
 use Rattle.outside_core.specs.Folder.{FolderState}
 use Rattle.command_base.specs.declared.status.Status.{Status}
@@ -12,6 +12,7 @@ use Rattle.decode_command.specs.Words.{names_of as decode_names}
 use Rattle.frames_command.specs.Words.{names_of as frames_names}
 use Rattle.xid_command.specs.Words.{digits_named}
 use Rattle.soak_command.specs.Words.{seed_named}
+use Rattle.soak_command.specs.Headline.{Headline as SoakHeadline}
 use Rattle.peer_command.specs.Words.{names_of as peer_names}
 use Rattle.modem_cli.specs.Modem.{is_none, Promises, Answers, Completes}
 
@@ -91,4 +92,39 @@ run-completes words old new n s e k =
       xid = λ m f. absurd (never (digits_named words) m o.xid f);
       soak = λ m f. absurd (never (seed_named words) m o.soak f);
       peer = λ m f. absurd (never (peer_names words) m o.peer f);
+    }
+
+-- no other command but `xid` has two words
+pub record OthersLonger (words : List (List ℕ)) : Type 0 where
+  pub run : run_names words ≡ None
+  pub encode : encode_names words ≡ None
+  pub decode : decode_names words ≡ None
+  pub frames : frames_names words ≡ None
+  pub peer : peer_names words ≡ None
+
+soak-alone : (words : List (List ℕ)) (seed : ℕ) → seed_named words ≡ Some seed → OthersLonger words
+soak-alone [] seed e = absurd cc
+soak-alone (a ∷ []) seed e = absurd cc
+soak-alone (a ∷ b ∷ []) seed e = record { run = refl; encode = refl; decode = refl; frames = refl; peer = refl }
+soak-alone (a ∷ b ∷ d ∷ more) seed e = absurd cc
+
+abbrev seed-or : ℕ → Option ℕ → ℕ
+seed-or seed None = seed
+seed-or seed (Some found) = found
+
+same-seed : (o : Option ℕ) (n m : ℕ) → o ≡ Some n → o ≡ Some m → n ≡ m
+same-seed o n m e f = sym (ap (seed-or n) e) ∙ ap (seed-or n) f
+
+pub soak-promises : (words : List (List ℕ)) (old new : FolderState) (seed : ℕ) (s : Status) → seed_named words ≡ Some seed → digits_named words ≡ None → SoakHeadline old new seed s → Promises words old new s
+soak-promises words old new seed s e none h =
+    let o : OthersLonger words = soak-alone words seed e in
+    record {
+      run = λ m f. absurd (never (run_names words) m o.run f);
+      encode = λ m f. absurd (never (encode_names words) m o.encode f);
+      decode = λ m f. absurd (never (decode_names words) m o.decode f);
+      frames = λ m f. absurd (never (frames_names words) m o.frames f);
+      xid = λ m f. absurd (never (digits_named words) m none f);
+      soak = λ m f. subst (λ (x : ℕ). SoakHeadline old new x s) (same-seed (seed_named words) seed m e f) h;
+      peer = λ m f. absurd (never (peer_names words) m o.peer f);
+      other = λ other. absurd (never-none (seed_named words) seed e other.1.1.1.1.1.0);
     }
