@@ -45,6 +45,8 @@ fn each_command_is_done(rt: HostRuntime) -> Result<(), Fail> {
     answers(&rt, rt.alloc(), &frames, Status::Done, "pieces 0\n")?;
     let offer = "window tx=15 rx=15 length tx=128 rx=128 srej=0 check32=0\n";
     answers(&rt, rt.alloc(), &["xid", "82"], Status::Done, offer)?;
+    let peer = ["peer", "answ", "o", "s", "g", "t"];
+    answers(&rt, rt.alloc(), &peer, Status::Done, "done 0\n")?;
     let pickup = ["pickup", "r"];
     answers(&rt, rt.alloc(), &pickup, Status::Done, "pieces 0\n")?;
     Ok(())

@@ -14,13 +14,21 @@ const SLOT: usize = 232;
 
 /// Frames of a peer with their checks, as bits with zeros put in, between flags.
 const SABME: [u8; 7] = [0x7e, 0x03, 0xdf, 0x3e, 0xb9, 0xfa, 0xf9];
+
 const POLL: [u8; 8] = [0x7e, 0x03, 0x01, 0x01, 0xf9, 0x42, 0xfc, 0xfe];
+
 const FIRST: [u8; 8] = [0x7e, 0x03, 0x00, 0x00, 0x61, 0x9c, 0xab, 0x7e];
+
 const SECOND: [u8; 9] = [0x7e, 0x03, 0x02, 0x00, 0x62, 0x5f, 0x59, 0xfc, 0xfe];
+
 const BREAK: [u8; 10] = [0x7e, 0x03, 0x03, 0x40, 0x00, 0x1e, 0xdf, 0x11, 0xfc, 0xfe];
+
 const BAD_ACK: [u8; 8] = [0x7e, 0x03, 0x00, 0x0a, 0x61, 0xec, 0x56, 0x7e];
+
 const UA: [u8; 6] = [0x7e, 0x03, 0x73, 0x33, 0x64, 0x7e];
+
 const DM: [u8; 6] = [0x7e, 0x03, 0x0f, 0xd8, 0xdd, 0x7e];
+
 const XID_RESPONSE: [u8; 29] = [
     0x7e, 0x03, 0xaf, 0x82, 0x80, 0x00, 0x13, 0x03, 0x03, 0x8a, 0x89, 0x00, 0x05, 0x02, 0x04, 0x00,
     0x06, 0x02, 0x04, 0x00, 0x07, 0x01, 0x0f, 0x08, 0x01, 0x0f, 0x9b, 0x23, 0x7e,
@@ -85,7 +93,10 @@ fn leaves(rt: &impl Abort, ran: &Ran, status: Status, said: &str, got: &[u8], tr
 /// How many lines the trace has, and whether it ends with this one.
 fn ends_with(rt: &impl Abort, ran: &Ran, lines: usize, last: &str) {
     let trace = ran.folder.get("t").unwrap_or_default();
-    assert!(rt; trace.iter().filter(|octet| **octet == b'\n').count() == lines, "{last}");
+    assert!(rt;
+        trace.iter().filter(|octet| **octet == b'\n').count() == lines,
+        "{last}"
+    );
     assert!(rt; trace.ends_with(last.as_bytes()), "{last}");
 }
 
@@ -115,9 +126,15 @@ fn a_number_that_was_never_sent_is_the_peers_fault(rt: HostRuntime) -> Result<()
         high: 0,
     };
     let said = "peer fault: bad ack nr 5 va 0 high 0 turn 1\n";
-    let trace =
-        "0 answ sabme cmd p=1 > ua rsp p=1\n1 answ i s=0 r=5 p=0 n=1 > none\n";
-    leaves(&rt, &ran, Status::PeerFault { fault, turn: 1 }, said, b"", trace);
+    let trace = "0 answ sabme cmd p=1 > ua rsp p=1\n1 answ i s=0 r=5 p=0 n=1 > none\n";
+    leaves(
+        &rt,
+        &ran,
+        Status::PeerFault { fault, turn: 1 },
+        said,
+        b"",
+        trace,
+    );
     assert!(&rt; ran.status.code() == 12);
     Ok(())
 }
@@ -129,14 +146,29 @@ fn a_peer_that_begins_anew_or_refuses_is_at_fault(rt: HostRuntime) -> Result<(),
     let ran = meet(alloc, "answ", b"", &bits)?;
     let fault = LinkFault::PeerReset { va: 0, vr: 0 };
     let said = "peer fault: reset va 0 vr 0 turn 2\n";
-    let trace = "0 answ sabme cmd p=1 > ua rsp p=1\n1 answ rr cmd r=0 p=1 > rr rsp r=0 p=1\n2 answ sabme cmd p=1 > none\n";
-    leaves(&rt, &ran, Status::PeerFault { fault, turn: 2 }, said, b"", trace);
+    let trace =
+        "0 answ sabme cmd p=1 > ua rsp p=1\n1 answ rr cmd r=0 p=1 > rr rsp r=0 p=1\n2 answ sabme cmd p=1 > none\n";
+    leaves(
+        &rt,
+        &ran,
+        Status::PeerFault { fault, turn: 2 },
+        said,
+        b"",
+        trace,
+    );
     let bits = slots(alloc, &[&ADP, &DM])?;
     let ran = meet(alloc, "orig", b"", &bits)?;
     let fault = LinkFault::PeerRefused;
     let said = "peer fault: refused turn 1\n";
     let trace = "0 orig adp > xid cmd p=0 n=23\n1 orig dm rsp p=0 > none\n";
-    leaves(&rt, &ran, Status::PeerFault { fault, turn: 1 }, said, b"", trace);
+    leaves(
+        &rt,
+        &ran,
+        Status::PeerFault { fault, turn: 1 },
+        said,
+        b"",
+        trace,
+    );
     Ok(())
 }
 
@@ -145,7 +177,8 @@ fn segments_and_breaks_are_given_in_order(rt: HostRuntime) -> Result<(), Fail> {
     let alloc = rt.alloc();
     let bits = slots(alloc, &[&SABME, &FIRST, &SECOND, &BREAK])?;
     let ran = meet(alloc, "answ", b"", &bits)?;
-    let trace = "0 answ sabme cmd p=1 > ua rsp p=1\n1 answ i s=0 r=0 p=0 n=1 > rr rsp r=1 p=0\n2 answ i s=1 r=0 p=0 n=1 > rr rsp r=2 p=0\n3 answ ui cmd p=0 brk 0 30 > ui cmd p=0 brkack 0 30 break=30\n";
+    let trace =
+        "0 answ sabme cmd p=1 > ua rsp p=1\n1 answ i s=0 r=0 p=0 n=1 > rr rsp r=1 p=0\n2 answ i s=1 r=0 p=0 n=1 > rr rsp r=2 p=0\n3 answ ui cmd p=0 brk 0 30 > ui cmd p=0 brkack 0 30 break=30\n";
     leaves(&rt, &ran, Status::Done, "done 4\n", b"ab", trace);
     Ok(())
 }
@@ -155,7 +188,8 @@ fn the_users_file_is_sent_once_the_peer_is_heard(rt: HostRuntime) -> Result<(), 
     let alloc = rt.alloc();
     let bits = slots(alloc, &[&SABME, &POLL, b""])?;
     let ran = meet(alloc, "answ", b"xyz", &bits)?;
-    let trace = "0 answ sabme cmd p=1 > ua rsp p=1\n1 answ rr cmd r=0 p=1 > rr rsp r=0 p=1\n2 answ - > i s=0 r=0 p=0 n=3\n";
+    let trace =
+        "0 answ sabme cmd p=1 > ua rsp p=1\n1 answ rr cmd r=0 p=1 > rr rsp r=0 p=1\n2 answ - > i s=0 r=0 p=0 n=3\n";
     leaves(&rt, &ran, Status::Done, "done 3\n", b"", trace);
     Ok(())
 }
@@ -180,7 +214,8 @@ fn an_originator_that_needs_the_link_no_more_takes_it_down(rt: HostRuntime) -> R
     let alloc = rt.alloc();
     let bits = slots(alloc, &[&ADP, &XID_RESPONSE, &UA, &UA, &UA])?;
     let ran = meet(alloc, "orig", b"", &bits)?;
-    let trace = "0 orig adp > xid cmd p=0 n=23\n1 orig xid rsp p=0 n=23 > sabme cmd p=1\n2 orig ua rsp p=1 > disc cmd p=1\n3 orig ua rsp p=1 > none\n";
+    let trace =
+        "0 orig adp > xid cmd p=0 n=23\n1 orig xid rsp p=0 n=23 > sabme cmd p=1\n2 orig ua rsp p=1 > disc cmd p=1\n3 orig ua rsp p=1 > none\n";
     leaves(&rt, &ran, Status::Done, "done 4\n", b"", trace);
     Ok(())
 }
@@ -195,7 +230,12 @@ fn an_originator_that_is_never_answered_gives_up(rt: HostRuntime) -> Result<(), 
     assert!(&rt; ran.status == Status::NotDetected { turn: 120 });
     assert!(&rt; ran.folder.said() == b"not detected: turn 120\n".as_slice());
     ends_with(&rt, &ran, 121, "119 orig - > odp\n120 orig - > none\n");
-    let shorter = meet(alloc, "orig", b"a", bits.get(..SLOT * 120).unwrap_or_default())?;
+    let shorter = meet(
+        alloc,
+        "orig",
+        b"a",
+        bits.get(..SLOT * 120).unwrap_or_default(),
+    )?;
     assert!(&rt; shorter.status == Status::Done);
     assert!(&rt; shorter.folder.said() == b"done 120\n".as_slice());
     contents[0] = &ADP;

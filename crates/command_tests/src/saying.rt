@@ -1,7 +1,8 @@
 // The lines that answers say, and single steps over a folder in memory.
 use command_base::{
-    LinkFault, Status, Stop, append_output, create_output, create_outputs, read_file, read_piece, say_line,
-    tell_stop, within_limit, write_done, write_octets, write_pieces, write_samples, write_usage,
+    LinkFault, Status, Stop, append_output, create_output, create_outputs, read_file, read_piece,
+    say_line, tell_stop, within_limit, write_done, write_octets, write_pieces, write_samples,
+    write_usage,
 };
 use lapm_frames::FrameFault;
 use outside_core::{FolderFault, MemoryFolder, NoMemory};

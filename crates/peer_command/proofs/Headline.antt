@@ -1,8 +1,8 @@
 -- From every answer to what the command promises.
-use Rattle.std.proofs.Common.{◌≡◌, ◌≢◌, ◌∙◌, inl, inr, ℕ, Bool, true, false, List, [], ◌++◌, length, ◌≤◌, ◌<◌, Result, Ok, Err, refl, sym, ap, subst, arith}
+use Rattle.std.proofs.Common.{◌≡◌, ◌∙◌, inl, inr, ℕ, Bool, true, false, List, [], ◌++◌, length, ◌≤◌, ◌<◌, Result, Ok, Err, refl, sym, ap, subst, arith}
 use Rattle.std.proofs.lemmas.Bool.{false≢true}
 use Rattle.std.specs.Option.{option_map}
-use Rattle.outside_core.specs.Folder.{FolderState, octets_at, GoesOn, KeepsName}
+use Rattle.outside_core.specs.Folder.{FolderState, octets_at}
 use Rattle.outside_core.specs.declared.folder.FolderFault.{FolderFault}
 use Rattle.outside_core.specs.declared.folder.FolderFault.TheVariants as folder
 use Rattle.roles.specs.declared.role.Role.{Role}
@@ -10,21 +10,20 @@ use Rattle.link_faults.specs.declared.fault.LinkFault.{LinkFault}
 use Rattle.link_faults.specs.declared.fault.LinkFault.TheVariants as faults
 use Rattle.command_base.specs.declared.limits.TheConstants.{FILE_LIMIT}
 use Rattle.command_base.specs.declared.status.Status.{Status}
-use Rattle.command_base.specs.declared.status.Status.TheVariants.{Done, TooLong, ReadFault, WriteFault, NotDetected, LinkLost, PeerFault}
+use Rattle.command_base.specs.declared.status.Status.TheVariants.{Done, ReadFault, WriteFault, NotDetected, LinkLost, PeerFault}
 use Rattle.command_base.specs.declared.stop.Stop.{Stop}
 use Rattle.command_base.specs.declared.stop.Stop.TheVariants as stops
 use Rattle.command_base.specs.Job.{Answers}
 use Rattle.command_base.specs.Status.{IsRefusal}
-use Rattle.command_base.specs.Stops.{IsOwn, end_status, fault_status}
+use Rattle.command_base.specs.Stops.{end_status, fault_status}
 use Rattle.command_base.specs.Lines.{done_line}
 use Rattle.command_base.specs.Outputs.{KeepsAll, OnlyOutputs}
 use Rattle.command_base.proofs.Answering.{IsPlain}
 use Rattle.command_base.proofs.Holding.{Holds-kept}
 use Rattle.command_base.proofs.Jobs.{refusal-own, last-only, last-plain, done-of, shared-of, done-unless-memory}
 use Rattle.peer_command.specs.Words.{Names}
-use Rattle.peer_command.specs.Runs.{Left, PeerEnd, IsDone, GivesUp, RunsTo}
-use Rattle.peer_command.specs.Ends.{Ends, EndsBy, HoldLeft, IsTooLong, RanTo, peer_job, status_of}
-use Rattle.peer_command.specs.Ends as ends
+use Rattle.peer_command.specs.Runs.{PeerEnd, IsDone, GivesUp, RunsTo}
+use Rattle.peer_command.specs.Ends.{Ends, EndsBy, IsTooLong, RanTo, peer_job, status_of}
 use Rattle.peer_command.specs.Headline.{Ran, GaveUp, RanBy, Headline}
 use Rattle.peer_command.specs.Completes.{IsRight, Completes}
 

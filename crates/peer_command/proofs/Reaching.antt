@@ -1,14 +1,12 @@
 -- From one turn to the next, and to the end of a run.
-use Rattle.std.proofs.Common.{◌≡◌, ◌≢◌, inl, inr, ◌∙◌, ℕ, suc, ◌+◌, ◌*◌, ◌<◌, ◌≤◌, Bool, true, false, IsTrue, List, [], ◌∷◌, ◌++◌, length, take, drop, refl, sym, ap, subst, arith, append-nil, append_assoc, length-append}
+use Rattle.std.proofs.Common.{◌≡◌, ◌≢◌, inl, inr, ◌∙◌, ℕ, suc, ◌+◌, ◌*◌, ◌<◌, ◌≤◌, Bool, true, false, IsTrue, List, [], ◌∷◌, ◌++◌, length, take, refl, sym, ap, subst, arith, append-nil, append_assoc, length-append}
 use Rattle.std.proofs.lemmas.Bool.{false≢true, cases_lt}
 use Rattle.std.proofs.lemmas.List.{take_all}
 use Rattle.std.proofs.lemmas.List.Folds.{concat-append}
 use Rattle.std.specs.List.{concat}
-use Rattle.outside_core.specs.Folder.{FolderState, octets_at, GoesOn, KeepsName, OnlyReads, Adds, Appended, PartlyAppended}
+use Rattle.outside_core.specs.Folder.{FolderState, octets_at, GoesOn, KeepsName, OnlyReads}
 use Rattle.outside_core.specs.Steps.{GoesOn-trans, KeepsName-trans, octets-kept, told_later}
 use Rattle.roles.specs.declared.role.Role.{Role}
-use Rattle.link_faults.specs.declared.fault.LinkFault.{LinkFault}
-use Rattle.link_account.specs.Account.{Account}
 use Rattle.link_run.specs.End.{deliveries}
 use Rattle.link_run.specs.Alone.{LoneTurn, LoneHearingsDeliver, LoneSpeakingTakesNothing}
 use Rattle.single_end.specs.declared.single.Single.{Single}
@@ -16,16 +14,15 @@ use Rattle.single_end.specs.declared.step.SingleFault.{SingleFault}
 use Rattle.single_end.specs.declared.step.SingleFault.TheVariants as faults
 use Rattle.single_end.specs.Heard.{slot_octets}
 use Rattle.single_end.specs.Peer.{Past, PeerRun, PeerTurn, Outcome, Going, Closed, Broken, party_of, after, over, trace_of, turn_line}
-use Rattle.single_end.specs.Single.{PeerNames, KnowsFile, OnlyOutputs, SingleAfter, file_limit}
-use Rattle.single_end.specs.Turn.{Makes, GoesOnBy, Stops, EndsBy as TurnEndsBy}
+use Rattle.single_end.specs.Single.{KnowsFile, OnlyOutputs, SingleAfter, file_limit}
+use Rattle.single_end.specs.Turn.{Makes, Stops, EndsBy as TurnEndsBy}
 use Rattle.command_base.specs.declared.limits.TheConstants.{FILE_LIMIT}
-use Rattle.command_base.specs.declared.stop.Stop.{Stop}
 use Rattle.command_base.specs.Inputs.{IsWithin, ReadTo}
 use Rattle.command_base.specs.Outputs.{Holds, HoldsPart}
 use Rattle.command_base.proofs.Holding.{Holds-kept, Holds-more, Holds-add, HoldsPart-more}
 use Rattle.command_base.proofs.Reading.{ReadTo-begins, ReadTo-kept}
 use Rattle.peer_command.specs.Words.{Names, turn_names}
-use Rattle.peer_command.specs.Runs.{Left, PeerEnd, IsDone, GivesUp, IsPast, HearsAll, MakesTurn, RunsTo, left_of, left_after, slot_at, slots_before}
+use Rattle.peer_command.specs.Runs.{Left, PeerEnd, IsDone, GivesUp, MakesTurn, RunsTo, left_of, left_after, slot_at, slots_before}
 use Rattle.peer_command.specs.Ends.{Takes, HoldLeft, RanTo, StopsRunning, EndsBy}
 use Rattle.peer_command.specs.Turns.{Reached, fault_stop}
 use Rattle.peer_command.proofs.Slots.{slots-front, slot-behind, full-slot, short-slot, slots-whole, slots-short, slots-more}

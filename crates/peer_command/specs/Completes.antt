@@ -1,5 +1,5 @@
 -- When nothing but want of memory keeps the command from being done.
-use Rattle.std.specs.Prelude.{ℕ, ◌≤◌, IsTrue, List, length}
+use Rattle.std.specs.Prelude.{ℕ, ◌≤◌, IsTrue, length}
 use Rattle.outside_core.specs.Folder.{FolderState, octets_at}
 use Rattle.link_faults.specs.declared.fault.LinkFault.{LinkFault}
 use Rattle.command_base.specs.declared.status.Status.{Status}

@@ -16,7 +16,9 @@ ghost use Rattle.peer_command.specs.Completes.{Completes};
 
 use crate::turns::run_turns;
 use crate::words::PeerWords;
-use command_base::{FILE_LIMIT, Status, Stop, create_outputs, tell, tell_stop, within_limit, write_done};
+use command_base::{
+    FILE_LIMIT, Status, Stop, create_outputs, tell, tell_stop, within_limit, write_done,
+};
 use line_world::Single;
 use outside_core::Folder;
 use run_inputs::laws::apart_names_differ;
@@ -24,6 +26,7 @@ use std::alloc::Global;
 
 /// The places of the inputs' names among the words.
 const FILE: usize = 2;
+
 const BITS: usize = 3;
 
 /// The run of an end, once its inputs are looked at: the outputs are made, and turns follow to its end.

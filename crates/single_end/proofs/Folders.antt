@@ -1,12 +1,12 @@
 -- What the steps of a turn leave of the folder, in a row.
-use Rattle.std.proofs.Common.{◌≡◌, inl, inr, ℕ, ◌≤◌, ◌++◌, List, [], length, take, IsTrue, refl, sym, ◌∙◌, ap, subst, Some, Ok, Err, Result}
-use Rattle.outside_core.specs.Folder.{FolderState, KeepsName, GoesOn, OnlyReads, OnlyWrites, Adds, Appended, PartlyAppended, FaultsStand, CountsStand, Rose}
-use Rattle.outside_core.specs.Steps.{GoesOn-trans, told_later, KeepsName-trans, octets-kept, Adds-kept, PartlyAppended-none, PartlyAppended-all, kept-PartlyAppended, FaultsStand-trans, CountsStand-trans}
+use Rattle.std.proofs.Common.{◌≡◌, inl, inr, ℕ, ◌≤◌, ◌++◌, List, length, take, IsTrue, sym, ◌∙◌, ap, subst, Some, Err}
+use Rattle.outside_core.specs.Folder.{FolderState, KeepsName, GoesOn, OnlyReads, OnlyWrites, Adds, Appended, PartlyAppended, CountsStand, Rose}
+use Rattle.outside_core.specs.Steps.{GoesOn-trans, told_later, KeepsName-trans, octets-kept, Adds-kept, PartlyAppended-all, kept-PartlyAppended, FaultsStand-trans, CountsStand-trans}
 use Rattle.stations.specs.Station.{file_at, ReadsOn}
 use Rattle.link_account.specs.Account.{Account}
 use Rattle.single_end.specs.declared.step.SingleFault.{SingleFault}
 use Rattle.single_end.specs.declared.step.SingleFault.TheVariants as faults
-use Rattle.single_end.specs.Single.{PeerNames, AreApart, OnlyOutputs, KnowsFile, StaysKnown, file_limit}
+use Rattle.single_end.specs.Single.{PeerNames, AreApart, OnlyOutputs, StaysKnown, file_limit}
 use Rattle.single_end.specs.Turn.{WritesTurn, WritesPart, FaultCounts}
 use Rattle.single_end.specs.Mid.{WriteCounts, ReadCounts}
 

@@ -1,6 +1,6 @@
 -- What is heard, one more bit at a time.
-use Rattle.std.proofs.Common.{◌≡◌, inl, inr, ◌∙◌, ℕ, zero, suc, ◌+◌, ◌-◌, ◌/◌, ◌^◌, ◌<◌, ◌≤◌, Bool, false, List, [], ◌∷◌, ◌++◌, length, take, get_or, nat_eq, bit_and}
-use Rattle.std.proofs.Common.{replicate, refl, sym, ap, subst, arith, append-nil, append_assoc, length-append}
+use Rattle.std.proofs.Common.{◌≡◌, inl, inr, ◌∙◌, ℕ, ◌+◌, ◌-◌, ◌/◌, ◌^◌, ◌<◌, ◌≤◌, Bool, false, List, [], ◌∷◌, ◌++◌, length, take, get_or, nat_eq, bit_and}
+use Rattle.std.proofs.Common.{replicate, refl, sym, ap, subst, arith, append_assoc, length-append}
 use Rattle.std.proofs.lemmas.List.{take_more, take_all, take-append-le, get_or_append_left, get_or-append_right, length-replicate, get_or-replicate}
 use Rattle.std.proofs.lemmas.Bool.{cases_lt}
 use Rattle.std.proofs.lemmas.Nat.{and_mask}
@@ -8,7 +8,7 @@ use Rattle.plain_lists.specs.Bits.{octet_bits, bits_of}
 use Rattle.frame_check.proofs.BitLists.{length-low_bits, get_or-low_bits, bits_of-snoc}
 use Rattle.frame_check.specs.declared.check.Check.TheVariants.{Sixteen}
 use Rattle.roles.specs.declared.role.Role.{Role}
-use Rattle.bit_stuffing.specs.Pieces.{EndsWhole, IsLent}
+use Rattle.bit_stuffing.specs.Pieces.{IsLent}
 use Rattle.bit_stuffing.specs.Found.{lent_of}
 use Rattle.detection.specs.Patterns.{EndsPattern}
 use Rattle.lapm_frames.specs.declared.frame.Frame.{Frame}

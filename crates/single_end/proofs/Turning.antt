@@ -1,5 +1,5 @@
 -- The steps of a turn.
-use Rattle.std.proofs.Common.{◌≡◌, ◌⊎◌, inl, inr, ◌∙◌, ℕ, zero, suc, ◌+◌, ◌≤◌, Bool, true, false, cond, not, ◌&&◌, ◌||◌, List, [], ◌∷◌, ◌++◌, length, refl, sym, ap, subst, arith, Option, Some, None, Result, Ok, Err}
+use Rattle.std.proofs.Common.{◌≡◌, inl, inr, ◌∙◌, ℕ, zero, suc, ◌+◌, ◌≤◌, Bool, true, false, cond, not, ◌&&◌, ◌||◌, List, [], ◌∷◌, length, refl, sym, ap, subst, arith, Option, Some, None, Result, Ok, Err}
 use Rattle.std.specs.List.{concat}
 use Rattle.std.proofs.lemmas.Bool.{false≢true}
 use Rattle.std.specs.Prelude.{slice_get, is_ok}
@@ -15,11 +15,10 @@ use Rattle.slot_contents.specs.declared.arrived.Arrived.{Arrived}
 use Rattle.slot_contents.specs.declared.sent.Sent.{Sent}
 use Rattle.link_faults.specs.declared.fault.LinkFault.{LinkFault}
 use Rattle.link_account.specs.declared.setup.Setup.{Setup}
-use Rattle.link_account.specs.declared.phase.Phase.{Phase}
-use Rattle.link_account.specs.Account.{Account, is_connected, is_done, break_waits, given_break, after_given, after_busy}
+use Rattle.link_account.specs.Account.{Account, is_connected, is_done, break_waits, given_break, after_given}
 use Rattle.link_account.specs.Hear.{hear}
 use Rattle.link_account.specs.Speak.{Said, speak}
-use Rattle.link_run.specs.End.{BreakLine, Served, deliveries, delivered, offered, asked_at, is_closed, is_ready, has_finished, speaks_alone}
+use Rattle.link_run.specs.End.{BreakLine, deliveries, asked_at, is_closed, is_ready, has_finished, speaks_alone}
 use Rattle.link_run.specs.Run.{spoken}
 use Rattle.link_run.specs.Alone.{LoneTurn, LoneGoing, LoneNext, Goes_on, Is_last, Is_faulty, Is_broken, hangs_up, lone_served, LoneRunsByWhatIsReadOn, LoneRunsKeepTheirSetup, EachLoneTurnIsMade}
 use Rattle.stations.specs.declared.station.Station.{Station}
@@ -27,8 +26,8 @@ use Rattle.stations.specs.Station.{Stands, HearsAs, SpeaksAs, Supplies, IsCounte
 use Rattle.line_texts.specs.LineText.{trace_line}
 use Rattle.single_end.specs.Heard.{IsHeard, stream, slot_bits}
 use Rattle.single_end.specs.Ear.{HasHeard}
-use Rattle.single_end.specs.Peer.{Past, PeerRun, PeerTurn, TurnIs, Outcome, Going, Closed, Broken, setup_of, party_of, after, over, heard_as, turn_line}
-use Rattle.single_end.specs.Single.{PeerNames, AreApart, SingleAfter, StaysKnown, file_limit}
+use Rattle.single_end.specs.Peer.{Past, PeerRun, PeerTurn, Outcome, Going, Closed, Broken, party_of, over, heard_as, turn_line}
+use Rattle.single_end.specs.Single.{PeerNames, AreApart, StaysKnown, file_limit}
 use Rattle.single_end.specs.Turn.{Makes, Stops, GoesOnBy, EndsBy}
 use Rattle.single_end.specs.Mid.{InTurn, BreaksOff, Serves, AddsLine, AddsPart, HasGone, EndsLine, IsWriting, ReadCounts, handed, served_with}
 use Rattle.single_end.proofs.Folders.{got-only, trace-only, reads-only, then-only, writes-turn, writes-part, stays-known}
@@ -154,13 +153,17 @@ pub broken : (s : Single) (p : Past) (slot : List ℕ) (arrived : Arrived) (mid 
 broken s p slot arrived mid given fault h up g e = record {
   run = h.run;
   hears = h.heard;
-  is = inr (mid, record {
-    hears = h.hears;
-    going = up;
-    says = says-so s.role p.file (length p.turns) mid ∙ subst (λ n. speak n (finishes n (served_with p.file mid)) (served_with p.file mid) ≡ Err fault) h.turn e;
-    sent = refl;
-    given = g;
-  }, refl);
+  is = inr (
+    mid,
+    record {
+      hears = h.hears;
+      going = up;
+      says = says-so s.role p.file (length p.turns) mid ∙ subst (λ n. speak n (finishes n (served_with p.file mid)) (served_with p.file mid) ≡ Err fault) h.turn e;
+      sent = refl;
+      given = g;
+    },
+    refl,
+  );
 }
 
 pub closing : (s : Single) (p : Past) (slot : List ℕ) (arrived : Arrived) (mid now : Account) (given : Option ℕ) → InTurn s p slot arrived mid now → hangs_up mid ≡ true → given ≡ given_break mid

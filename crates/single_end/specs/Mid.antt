@@ -1,13 +1,12 @@
 -- A turn of a single end in its middle: the end has heard, and the rest of the turn is to come.
-use Rattle.std.specs.Prelude.{◌≡◌, ℕ, false, List, ◌∷◌, length, Option, Result, Ok, Err}
-use Rattle.std.specs.List.{concat}
+use Rattle.std.specs.Prelude.{◌≡◌, ℕ, false, List, ◌∷◌, length, Result, Ok, Err}
 use Rattle.outside_core.specs.Folder.{FolderState, Appended, PartlyAppended, Rose, FaultsStand, CountsStand}
 use Rattle.roles.specs.Role.{other}
 use Rattle.slot_contents.specs.declared.arrived.Arrived.{Arrived}
 use Rattle.link_faults.specs.declared.fault.LinkFault.{LinkFault}
 use Rattle.link_account.specs.Account.{Account, after_given, after_busy}
 use Rattle.link_account.specs.Hear.{hear}
-use Rattle.link_run.specs.End.{deliveries, delivered, offered}
+use Rattle.link_run.specs.End.{delivered, offered}
 use Rattle.link_run.specs.Alone.{LoneTurn}
 use Rattle.stations.specs.Station.{Stands, ReadsOn}
 use Rattle.single_end.specs.Heard.{IsHeard, stream, slot_bits}

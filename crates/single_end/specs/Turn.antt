@@ -1,5 +1,5 @@
 -- What a turn answers, what it adds to both outputs, and what is left where the folder doesn't take that.
-use Rattle.std.specs.Prelude.{◌≡◌, ◌⊎◌, ℕ, List, ◌∷◌, length, Result, Ok, Err}
+use Rattle.std.specs.Prelude.{◌⊎◌, ℕ, List, length, Result, Ok, Err}
 use Rattle.outside_core.specs.Folder.{FolderState, Adds, Appended, PartlyAppended, Rose, FaultsStand, CountsStand}
 use Rattle.outside_core.specs.declared.folder.FolderFault.{FolderFault}
 use Rattle.outside_core.specs.declared.folder.FolderFault.TheVariants as folder

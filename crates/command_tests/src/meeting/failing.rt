@@ -24,8 +24,14 @@ fn each_call_that_fails_is_the_answer(rt: HostRuntime) -> Result<(), Fail> {
     for number in 1..=whole.folder.calls() {
         let ran = meet_failing(alloc, "answ", b"xyz", &bits, &[number])?;
         assert!(&rt; blames_the_folder(&ran), "{number}");
-        assert!(&rt; got.starts_with(ran.folder.get("g").unwrap_or_default()), "{number}");
-        assert!(&rt; trace.starts_with(ran.folder.get("t").unwrap_or_default()), "{number}");
+        assert!(&rt;
+            got.starts_with(ran.folder.get("g").unwrap_or_default()),
+            "{number}"
+        );
+        assert!(&rt;
+            trace.starts_with(ran.folder.get("t").unwrap_or_default()),
+            "{number}"
+        );
     }
     Ok(())
 }
@@ -40,7 +46,10 @@ fn a_fault_of_the_peer_waits_for_its_line(rt: HostRuntime) -> Result<(), Fail> {
     for number in 1..=whole.folder.calls() {
         let ran = meet_failing(alloc, "answ", b"", &bits, &[number])?;
         assert!(&rt; blames_the_folder(&ran), "{number}");
-        assert!(&rt; trace.starts_with(ran.folder.get("t").unwrap_or_default()), "{number}");
+        assert!(&rt;
+            trace.starts_with(ran.folder.get("t").unwrap_or_default()),
+            "{number}"
+        );
     }
     Ok(())
 }

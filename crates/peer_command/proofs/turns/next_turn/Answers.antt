@@ -1,16 +1,14 @@
-use Rattle.std.proofs.Common.{◌≡◌, ◌∙◌, inr, ℕ, ◌+◌, ◌*◌, ◌<◌, ◌≤◌, IsTrue, List, [], ◌++◌, length, take, refl, sym, ap, subst, arith}
+use Rattle.std.proofs.Common.{◌≡◌, ◌∙◌, inr, ℕ, ◌*◌, ◌<◌, IsTrue, List, ◌++◌, length, take, sym, subst, arith}
 use Rattle.std.proofs.lemmas.List.{append-nil, length-take-le}
 use Rattle.outside_core.specs.Folder.{FolderState, octets_at}
 use Rattle.roles.specs.declared.role.Role.{Role}
 use Rattle.command_base.specs.declared.limits.TheConstants.{FILE_LIMIT}
 use Rattle.command_base.specs.Inputs.{ReadTo}
 use Rattle.single_end.specs.Heard.{slot_octets}
-use Rattle.single_end.specs.Peer.{Past, Closed, Going, after, over}
-use Rattle.single_end.specs.Single.{SingleAfter}
-use Rattle.single_end.specs.Turn.{Makes, GoesOnBy, EndsBy as TurnEndsBy}
+use Rattle.single_end.specs.Peer.{Closed}
+use Rattle.single_end.specs.Turn.{Makes, EndsBy as TurnEndsBy}
 use Rattle.peer_command.specs.Words.{Names, named, turn_names, inputs_of, outputs_of}
 use Rattle.peer_command.specs.Ends.{EndsBy}
-use Rattle.peer_command.specs.Turns.{Reached}
 use Rattle.peer_command.proofs.Starting.{distinct, goes-by, ends-short-by}
 use Rattle.peer_command.proofs.Reaching.{Around, Distinct, around, fault-ends, closed-ends, ends-whole, not-read}
 use Rattle.peer_command.proofs.turns.next_turn.Goals as goal

@@ -1,4 +1,4 @@
-use Rattle.std.proofs.Common.{◌≡◌, Result, Ok, Err}
+use Rattle.std.proofs.Common.{◌≡◌, Ok, Err}
 use Rattle.single_end.proofs.ear.frame_in.Goals as goal
 
 apart : {T E : Type 0} {x : T} {e : E} → Err e ≡ Ok x → ⊥

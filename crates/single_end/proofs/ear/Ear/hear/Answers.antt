@@ -1,8 +1,8 @@
-use Rattle.std.proofs.Common.{◌+◌, Bool, List, [], ◌∷◌, ◌++◌, take, ap, sym, ◌∙◌, subst, arith, append-nil}
+use Rattle.std.proofs.Common.{Bool, List, ◌++◌, take, ap, sym, ◌∙◌, subst, arith, append-nil}
 use Rattle.plain_lists.specs.Bits.{octet_bits, bits_of}
 use Rattle.single_end.specs.Heard.{IsHeard, filled}
 use Rattle.single_end.specs.Ear.{HasHeard}
-use Rattle.single_end.proofs.Hearing.{append-again, slot-more, slot-whole}
+use Rattle.single_end.proofs.Hearing.{append-again, slot-more}
 use Rattle.single_end.proofs.ear.Ear.hear.Goals as goal
 
 pub loop-place-init : goal.loop-place-init

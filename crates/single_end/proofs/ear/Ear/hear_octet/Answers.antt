@@ -1,4 +1,4 @@
-use Rattle.std.proofs.Common.{◌+◌, ◌/◌, ◌^◌, Bool, List, [], ◌∷◌, ◌++◌, take, nat_eq, bit_and, ap, sym, ◌∙◌, subst, arith}
+use Rattle.std.proofs.Common.{◌+◌, ◌/◌, ◌^◌, Bool, List, ◌++◌, take, nat_eq, bit_and, sym, subst, arith}
 use Rattle.plain_lists.specs.Bits.{octet_bits}
 use Rattle.slot_contents.specs.declared.arrived.Arrived.{Arrived}
 use Rattle.single_end.specs.Heard.{IsHeard, first}

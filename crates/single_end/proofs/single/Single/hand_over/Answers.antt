@@ -1,4 +1,4 @@
-use Rattle.std.proofs.Common.{◌∙◌, subst, sym, ap, arith}
+use Rattle.std.proofs.Common.{arith}
 use Rattle.single_end.proofs.single.Single.hand_over.Goals as goal
 
 pub returns-in-Ok-clause-counted : goal.returns-in-Ok-clause-counted
