@@ -16,6 +16,8 @@ mod limits;
 #[cfg(test)]
 mod listing;
 #[cfg(test)]
+mod measuring;
+#[cfg(test)]
 mod opening;
 #[cfg(test)]
 mod picking;

@@ -1,4 +1,4 @@
--- Words of `run` are no other command's, and those of `soak` aren't those of `pickup`.
+-- Words of `run` are no other command's, and those of `soak` aren't those of a command behind it.
 use Rattle.std.proofs.Common.{◌≡◌, ◌∙◌, Bool, true, false, ℕ, List, [], ◌∷◌, Option, Some, None, codes, refl, sym, ap, subst}
 use Rattle.std.specs.Str.{bytes_eq}
 use Rattle.std.proofs.lemmas.Slice.Eq.{bytes_eq-Decides}
@@ -17,6 +17,7 @@ use Rattle.soak_command.specs.Words.{seed_named}
 use Rattle.soak_command.specs.Headline.{Headline as SoakHeadline}
 use Rattle.soak_command.specs.Completes.{Completes as SoakCompletes}
 use Rattle.pickup_command.specs.Words.{recording_named}
+use Rattle.margin_command.specs.Words.{names_of as margin_names}
 use Rattle.modem_cli.specs.Modem.{is_none, Promises, Answers, Completes}
 
 pub record OthersNone (words : List (List ℕ)) : Type 0 where
@@ -26,6 +27,7 @@ pub record OthersNone (words : List (List ℕ)) : Type 0 where
   pub xid : digits_named words ≡ None
   pub soak : seed_named words ≡ None
   pub pickup : recording_named words ≡ None
+  pub margin : margin_names words ≡ None
 
 run-alone : (words : List (List ℕ)) (n : RunNames) → run_names words ≡ Some n → OthersNone words
 run-alone [] n e = absurd cc
@@ -35,7 +37,7 @@ run-alone (a ∷ b ∷ d ∷ []) n e = absurd cc
 run-alone (a ∷ b ∷ d ∷ f ∷ []) n e = absurd cc
 run-alone (a ∷ b ∷ d ∷ f ∷ h ∷ []) n e = absurd cc
 run-alone (a ∷ b ∷ d ∷ f ∷ h ∷ i ∷ []) n e = absurd cc
-run-alone (a ∷ b ∷ d ∷ f ∷ h ∷ i ∷ j ∷ []) n e = record { encode = refl; decode = refl; frames = refl; xid = refl; soak = refl; pickup = refl }
+run-alone (a ∷ b ∷ d ∷ f ∷ h ∷ i ∷ j ∷ []) n e = record { encode = refl; decode = refl; frames = refl; xid = refl; soak = refl; pickup = refl; margin = refl }
 run-alone (a ∷ b ∷ d ∷ f ∷ h ∷ i ∷ j ∷ k ∷ more) n e = absurd cc
 
 never : {A : Type 0} (o : Option A) (a : A) → o ≡ None → o ≡ Some a → ⊥
@@ -67,6 +69,7 @@ run-promises words old new n s e h =
       xid = λ m f. absurd (never (digits_named words) m o.xid f);
       soak = λ m f. absurd (never (seed_named words) m o.soak f);
       pickup = λ m f. absurd (never (recording_named words) m o.pickup f);
+      margin = λ m f. absurd (never (margin_names words) m o.margin f);
       other = λ none. absurd (never-none (run_names words) n e none.0);
     }
 
@@ -81,6 +84,7 @@ run-answers words old new n s e a =
       xid = λ m f. absurd (never (digits_named words) m o.xid f);
       soak = λ m f. absurd (never (seed_named words) m o.soak f);
       pickup = λ m f. absurd (never (recording_named words) m o.pickup f);
+      margin = λ m f. absurd (never (margin_names words) m o.margin f);
       other = λ none. absurd (never-none (run_names words) n e none.0);
     }
 
@@ -95,6 +99,7 @@ run-completes words old new n s e k =
       xid = λ m f. absurd (never (digits_named words) m o.xid f);
       soak = λ m f. absurd (never (seed_named words) m o.soak f);
       pickup = λ m f. absurd (never (recording_named words) m o.pickup f);
+      margin = λ m f. absurd (never (margin_names words) m o.margin f);
     }
 
 -- ---- words of `soak`, which are none of the commands before it
@@ -111,6 +116,12 @@ soak-alone (a ∷ b ∷ []) seed e = by (bytes_eq a (codes "soak")) refl
     by true q = subst (λ (xs : List ℕ). recording_named (xs ∷ b ∷ []) ≡ None) (sym ((bytes_eq-Decides a (codes "soak")).0 q)) refl
     by false q = absurd (never (seed_named (a ∷ b ∷ [])) seed (none q) e)
 soak-alone (a ∷ b ∷ d ∷ more) seed e = absurd cc
+
+soak-no-margin : (words : List (List ℕ)) (seed : ℕ) → seed_named words ≡ Some seed → margin_names words ≡ None
+soak-no-margin [] seed e = absurd cc
+soak-no-margin (a ∷ []) seed e = absurd cc
+soak-no-margin (a ∷ b ∷ []) seed e = refl
+soak-no-margin (a ∷ b ∷ d ∷ more) seed e = absurd cc
 
 same-seed : (o : Option ℕ) (n m : ℕ) → o ≡ Some n → o ≡ Some m → n ≡ m
 same-seed (Some found) n m e f = ap value (sym e ∙ f)
@@ -137,6 +148,7 @@ soak-promises words old new seed s o e h = record {
   xid = λ m f. absurd (never (digits_named words) m o.xid f);
   soak = λ m f. subst (λ (x : ℕ). SoakHeadline old new x s) (same-seed (seed_named words) seed m e f) h;
   pickup = λ m f. absurd (never (recording_named words) m (soak-alone words seed e) f);
+  margin = λ m f. absurd (never (margin_names words) m (soak-no-margin words seed e) f);
   other = λ none. absurd (never-none (seed_named words) seed e none.1.1.1.1.1.0);
 }
 
@@ -149,4 +161,5 @@ soak-completes words old new seed s o e k = record {
   xid = λ m f. absurd (never (digits_named words) m o.xid f);
   soak = λ m f. subst (λ (x : ℕ). SoakCompletes old new x s) (same-seed (seed_named words) seed m e f) k;
   pickup = λ m f. absurd (never (recording_named words) m (soak-alone words seed e) f);
+  margin = λ m f. absurd (never (margin_names words) m (soak-no-margin words seed e) f);
 }

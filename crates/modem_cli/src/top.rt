@@ -7,6 +7,7 @@ use command_base::{Line, Status, tell, write_usage};
 use decode_command::{decode, decode_words};
 use encode_command::{encode, encode_words};
 use frames_command::{frames, frames_words};
+use margin_command::{margin, margin_words};
 use outside_core::Folder;
 use pickup_command::{pickup, pickup_words};
 use run_command::{run, run_words};
@@ -18,7 +19,9 @@ use xid_command::{xid, xid_words};
 fn usage() -> Line
     ensures { result ≡ usage }
 {
-    write_usage(&["run", "encode", "decode", "frames", "xid", "soak", "pickup"])
+    write_usage(&[
+        "run", "encode", "decode", "frames", "xid", "soak", "pickup", "margin",
+    ])
 }
 
 /// Does what the words of a command line say, and answers how it ended. Each answer's line is said last.
@@ -26,7 +29,8 @@ pub fn modem<F: Folder>(alloc: Global, words: &[String], folder: &mut F) -> Stat
     // Each end of a run receives a prefix of the other's file, and done means that both are whole. What `encode` writes is
     // the file's recording, or the beginning of it. What `decode` writes is carried by a code sequence that is no farther from the
     // recording than any other, or is the beginning of that. What `frames` says are the pieces of the file's bits, and what `pickup` says
-    // those that a recording gives from whatever state its line began in.
+    // those that a recording gives from whatever state its line began in. Where `margin` says that it is sure, what a recording releases
+    // begins the labels of the file.
     ensures promises { Promises (map string_bytes words.now) (F.state folder.old) (F.state folder.new) result }
 
     // Each answer comes where it has to, with its line.
@@ -61,6 +65,9 @@ pub fn modem<F: Folder>(alloc: Global, words: &[String], folder: &mut F) -> Stat
     }
     if let Some(rec) = pickup_words(words) {
         return pickup(alloc, folder, words, rec);
+    }
+    if let Some(names) = margin_words(words) {
+        return margin(folder, words, &names);
     }
     tell(folder, usage().as_slice(), Status::Usage)
 }
