@@ -1,5 +1,5 @@
 -- From single steps to how the measuring of a recording ends.
-use Rattle.std.proofs.Common.{◌≡◌, ◌≢◌, ◌∙◌, inl, inr, ℕ, ◌+◌, ◌*◌, ◌≤◌, ◌<◌, min, IsTrue, List, [], ◌∷◌, ◌++◌, length, take, refl, sym, ap, subst, arith, append-nil, append_assoc, length-append}
+use Rattle.std.proofs.Common.{◌≡◌, ◌≢◌, ◌∙◌, inl, inr, ℕ, ◌+◌, ◌*◌, ◌≤◌, ◌<◌, min, IsTrue, List, [], ◌∷◌, ◌++◌, length, take, refl, sym, ap, subst, arith, append-nil, append_assoc}
 use Rattle.std.proofs.lemmas.Bool.{cases_lt}
 use Rattle.std.proofs.lemmas.List.{length-take, take_all}
 use Rattle.outside_core.specs.Folder.{FolderState, octets_at, OnlyReads}

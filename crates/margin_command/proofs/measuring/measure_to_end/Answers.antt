@@ -1,4 +1,4 @@
-use Rattle.std.proofs.Common.{ℕ, ◌+◌, arith}
+use Rattle.std.proofs.Common.{◌+◌, arith}
 use Rattle.outside_core.specs.Folder.{FolderState}
 use Rattle.outside_core.specs.Steps.{OnlyReads-refl, OnlyReads-trans, CountsStand-refl, CountsStand-trans}
 use Rattle.margin_command.specs.Words.{MarginNames, named}

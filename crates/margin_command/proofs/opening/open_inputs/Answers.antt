@@ -1,4 +1,4 @@
-use Rattle.std.proofs.Common.{◌∙◌, ◌<◌, ℕ, List, [], IsTrue, ◌≡◌, refl, sym, subst, take}
+use Rattle.std.proofs.Common.{◌∙◌, ℕ, List, [], refl, sym, subst, take}
 use Rattle.outside_core.specs.Folder.{FolderState, OnlyReads}
 use Rattle.outside_core.specs.Steps.{OnlyReads-trans}
 use Rattle.command_base.specs.declared.limits.TheConstants.{FILE_LIMIT, RECORDING_LIMIT}
