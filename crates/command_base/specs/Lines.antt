@@ -1,5 +1,5 @@
 -- The line that each answer says.
-use Rattle.std.specs.Prelude.{ℕ, ◌≤◌, List, [], ◌∷◌, ◌++◌, length, codes, decimal, slice_index_or}
+use Rattle.std.specs.Prelude.{ℕ, ◌≤◌, Bool, if◌then◌else◌, List, [], ◌∷◌, ◌++◌, length, codes, decimal, slice_index_or}
 use Rattle.xid_params.specs.declared.fault.XidFault.{XidFault}
 use Rattle.xid_params.specs.declared.fault.XidFault.TheVariants as xid
 use Rattle.link_faults.specs.declared.fault.LinkFault.{LinkFault}
@@ -45,6 +45,10 @@ pieces_line pieces = count_line (codes "pieces") pieces
 abbrev pub soak_line : ℕ → ℕ → ℕ → ℕ → List ℕ
 soak_line seed turn lost again =
     codes "soak " ++ decimal seed ++ codes " done " ++ decimal turn ++ codes " lost " ++ decimal lost ++ codes " again " ++ decimal again ++ codes "\n"
+
+-- octets that were held against a recording: what they cost, and 1 where that is so little that they are told for certain, else 0
+abbrev pub margin_line : ℕ → Bool → List ℕ
+margin_line cost sure = codes "cost " ++ decimal cost ++ (if sure then codes " sure 1\n" else codes " sure 0\n")
 
 -- ---- how the program is used
 

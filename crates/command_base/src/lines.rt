@@ -1,7 +1,7 @@
 // The lines that answers say.
 ghost use Rattle.std.specs.Prelude.{◌≡◌, ◌<◌, ◌≤◌, ◌+◌, ◌*◌, ◌++◌, map, length, decimal, codes};
 ghost use Rattle.roles.specs.Role.{role_word};
-ghost use Rattle.command_base.specs.Lines.{xid_words, count_line, done_line, samples_line, octets_line, pieces_line, soak_line, listed_behind, usage_line, AreShort, peer_words, short_line};
+ghost use Rattle.command_base.specs.Lines.{xid_words, count_line, done_line, samples_line, octets_line, pieces_line, soak_line, margin_line, listed_behind, usage_line, AreShort, peer_words, short_line};
 ghost use Rattle.script_causes.specs.Cause.{cause_word};
 
 use crate::Status;
@@ -126,6 +126,20 @@ pub fn write_soak(seed: u64, turn: u64, lost: u64, again: u64) -> Line
     put_number(&mut line, b" lost ", lost);
     put_number(&mut line, b" again ", again);
     line.extend(b"\n");
+    line
+}
+
+/// The line of octets that were held against a recording: what they cost, and whether that is so little that they are told for certain.
+pub fn write_margin(cost: u64, sure: bool) -> Line
+    ensures { result ≡ margin_line cost sure }
+{
+    let mut line = Line::new();
+    put_number(&mut line, b"cost ", cost);
+    if sure {
+        line.extend(b" sure 1\n");
+    } else {
+        line.extend(b" sure 0\n");
+    }
     line
 }
 

@@ -11,7 +11,7 @@ const RECORDING: [u8; 16] = [
     0x56, 0x33, 0x32, 0x52, 0, 0, 0, 0, 0x00, 0xe0, 0x00, 0x08, 0x00, 0xe0, 0x00, 0x08,
 ];
 
-/// Does what the words say, with four small files, and looks at the answer and at what was said.
+/// Does what the words say, with five small files, and looks at the answer and at what was said.
 fn answers(
     rt: &impl Abort,
     alloc: Global,
@@ -28,6 +28,7 @@ fn answers(
     folder.put("a", b"b")?;
     folder.put("s", b"")?;
     folder.put("r", &RECORDING)?;
+    folder.put("z", b"\0")?;
     assert!(rt; modem(alloc, &words, &mut folder) == status);
     assert!(rt; folder.said() == said.as_bytes());
     Ok(())
@@ -49,6 +50,8 @@ fn each_command_is_done(rt: HostRuntime) -> Result<(), Fail> {
     answers(&rt, rt.alloc(), &peer, Status::Done, "done 0\n")?;
     let pickup = ["pickup", "r"];
     answers(&rt, rt.alloc(), &pickup, Status::Done, "pieces 0\n")?;
+    let margin = ["margin", "r", "z"];
+    answers(&rt, rt.alloc(), &margin, Status::Done, "cost 0 sure 1\n")?;
     Ok(())
 }
 
@@ -113,7 +116,7 @@ fn samples_at_the_origin_are_followed_as_far_as_the_depth(rt: HostRuntime) -> Re
 
 #[test]
 fn other_words_are_told_the_usage(rt: HostRuntime) -> Result<(), Fail> {
-    let usage = "usage: modem run, encode, decode, frames, xid, soak, peer, pickup\n";
+    let usage = "usage: modem run, encode, decode, frames, xid, soak, peer, pickup, margin\n";
     let runs = [
         ["run", "o", "a", "s", "go", "go", "t"],
         ["run", "o", "a", "s", "go", "ga", "s"],
@@ -141,6 +144,8 @@ fn other_words_are_told_the_usage(rt: HostRuntime) -> Result<(), Fail> {
     answers(&rt, rt.alloc(), &["pickup"], Status::Usage, usage)?;
     answers(&rt, rt.alloc(), &["pick", "r"], Status::Usage, usage)?;
     answers(&rt, rt.alloc(), &["pickup", "r", "f"], Status::Usage, usage)?;
+    answers(&rt, rt.alloc(), &["margin", "r"], Status::Usage, usage)?;
+    answers(&rt, rt.alloc(), &["margins", "r", "z"], Status::Usage, usage)?;
     answers(&rt, rt.alloc(), &[], Status::Usage, usage)?;
     Ok(())
 }

@@ -18,6 +18,8 @@ mod limits;
 #[cfg(test)]
 mod listing;
 #[cfg(test)]
+mod measuring;
+#[cfg(test)]
 mod meeting;
 #[cfg(test)]
 mod opening;

@@ -24,7 +24,7 @@ fn answers(
 }
 
 #[test]
-fn files_of_the_limit_are_recorded_and_decoded_and_picked_up(rt: HostRuntime) -> Result<(), Fail> {
+fn files_of_the_limit_are_recorded_and_decoded_and_picked_up_and_measured(rt: HostRuntime) -> Result<(), Fail> {
     let alloc = rt.alloc();
     let mut folder = MemoryFolder::new(alloc);
     let file = vec![in alloc; 7u8; 1_048_576]?;
@@ -38,11 +38,20 @@ fn files_of_the_limit_are_recorded_and_decoded_and_picked_up(rt: HostRuntime) ->
     assert!(&rt; folder.get("g") == Some(file.as_slice()));
     let pickup = ["pickup", "r"];
     answers(&rt, alloc, &mut folder, &pickup, Status::Done, "pieces 0\n")?;
+    let margin = ["margin", "r", "f"];
+    answers(&rt, alloc, &mut folder, &margin, Status::Done, "cost 0 sure 1\n")?;
+    let longer = vec![in alloc; 7u8; 1_048_577]?;
+    folder.put("g", &longer)?;
+    let other = ["margin", "r", "g"];
+    let status = Status::TooLong { word: 2 };
+    answers(&rt, alloc, &mut folder, &other, status, "too long: g\n")?;
     let long = vec![in alloc; 7u8; 8_388_617]?;
     folder.put("r", &long)?;
     let status = Status::TooLong { word: 1 };
     answers(&rt, alloc, &mut folder, &decode, status, "too long: r\n")?;
     answers(&rt, alloc, &mut folder, &pickup, status, "too long: r\n")?;
+    answers(&rt, alloc, &mut folder, &margin, status, "too long: r\n")?;
+    answers(&rt, alloc, &mut folder, &other, status, "too long: r\n")?;
     Ok(())
 }
 

@@ -39,6 +39,10 @@ use Rattle.pickup_command.specs.Words.{recording_named}
 use Rattle.pickup_command.specs.Ends.{pickup_job}
 use Rattle.pickup_command.specs.Headline.{Headline as PickupHeadline}
 use Rattle.pickup_command.specs.Completes.{Completes as PickupCompletes}
+use Rattle.margin_command.specs.Words.{MarginNames, names_of as margin_names}
+use Rattle.margin_command.specs.Ends.{margin_job}
+use Rattle.margin_command.specs.Headline.{Headline as MarginHeadline}
+use Rattle.margin_command.specs.Completes.{Completes as MarginCompletes}
 
 -- A command: its word, and whether words are not its own.
 pub record Command : Type 0 where
@@ -60,6 +64,7 @@ commands =
     ∷ record { word = codes "soak"; refuses = λ words. is_none (seed_named words) }
     ∷ record { word = codes "peer"; refuses = λ words. is_none (peer_names words) }
     ∷ record { word = codes "pickup"; refuses = λ words. is_none (recording_named words) }
+    ∷ record { word = codes "margin"; refuses = λ words. is_none (margin_names words) }
     ∷ []
 
 -- the words are those of none of these
@@ -85,6 +90,7 @@ pub record Promises (words : List (List ℕ)) (old new : FolderState) (s : Statu
   pub soak : (seed : ℕ) → seed_named words ≡ Some seed → SoakHeadline old new seed s
   pub peer : (n : PeerNames) → peer_names words ≡ Some n → PeerHeadline old new n s
   pub pickup : (rec : List ℕ) → recording_named words ≡ Some rec → PickupHeadline old new rec s
+  pub margin : (n : MarginNames) → margin_names words ≡ Some n → MarginHeadline old new n s
   pub other : IsNoCommand words → KeepsAll old new
 
 -- The answer to any words.
@@ -97,6 +103,7 @@ pub record Answers (words : List (List ℕ)) (old new : FolderState) (s : Status
   pub soak : (seed : ℕ) → seed_named words ≡ Some seed → AnswersOf (soak_job seed) words old new s
   pub peer : (n : PeerNames) → peer_names words ≡ Some n → AnswersOf (peer_job n) words old new s
   pub pickup : (rec : List ℕ) → recording_named words ≡ Some rec → AnswersOf (pickup_job rec) words old new s
+  pub margin : (n : MarginNames) → margin_names words ≡ Some n → AnswersOf (margin_job n) words old new s
   pub other : IsNoCommand words → Tells old new usage Usage s
 
 -- When words of a command are done, but for want of memory.
@@ -109,3 +116,4 @@ pub record Completes (words : List (List ℕ)) (old new : FolderState) (s : Stat
   pub soak : (seed : ℕ) → seed_named words ≡ Some seed → SoakCompletes old new seed s
   pub peer : (n : PeerNames) → peer_names words ≡ Some n → PeerCompletes old new n s
   pub pickup : (rec : List ℕ) → recording_named words ≡ Some rec → PickupCompletes old new rec s
+  pub margin : (n : MarginNames) → margin_names words ≡ Some n → MarginCompletes old new n s

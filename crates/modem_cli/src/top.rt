@@ -7,6 +7,7 @@ use command_base::{Line, Status, tell, write_usage};
 use decode_command::{decode, decode_words};
 use encode_command::{encode, encode_words};
 use frames_command::{frames, frames_words};
+use margin_command::{margin, margin_words};
 use outside_core::Folder;
 use peer_command::{peer, peer_words};
 use pickup_command::{pickup, pickup_words};
@@ -19,7 +20,9 @@ use xid_command::{xid, xid_words};
 fn usage() -> Line
     ensures { result ≡ usage }
 {
-    write_usage(&["run", "encode", "decode", "frames", "xid", "soak", "peer", "pickup"])
+    write_usage(&[
+        "run", "encode", "decode", "frames", "xid", "soak", "peer", "pickup", "margin",
+    ])
 }
 
 /// Does what the words of a command line say, and answers how it ended. Each answer's line is said last.
@@ -28,7 +31,7 @@ pub fn modem<F: Folder>(alloc: Global, words: &[String], folder: &mut F) -> Stat
     // the file's recording, or the beginning of it. What `decode` writes is carried by a code sequence that is no farther from the
     // recording than any other, or is the beginning of that. What `frames` says are the pieces of the file's bits, and what `pickup` says
     // those that a recording gives from whatever state its line began in. What `peer` leaves is what an end's run against the file's bits
-    // gives.
+    // gives. Where `margin` says that it is sure, what a recording releases begins the labels of the file.
     ensures promises { Promises (map string_bytes words.now) (F.state folder.old) (F.state folder.new) result }
 
     // Each answer comes where it has to, with its line.
@@ -66,6 +69,9 @@ pub fn modem<F: Folder>(alloc: Global, words: &[String], folder: &mut F) -> Stat
     }
     if let Some(rec) = pickup_words(words) {
         return pickup(alloc, folder, words, rec);
+    }
+    if let Some(names) = margin_words(words) {
+        return margin(folder, words, &names);
     }
     tell(folder, usage().as_slice(), Status::Usage)
 }

@@ -60,8 +60,9 @@ impl Margin {
 
     /// What the octets cost.
     pub fn cost(&self) -> u64
-        ensures { (mode : Mode) (octets : List ℕ) (samples : List Sample) → MarginStands mode self.now octets samples
+        ensures cost { (mode : Mode) (octets : List ℕ) (samples : List Sample) → MarginStands mode self.now octets samples
             → IsCostOf mode octets samples result }
+        ensures kept { result ≡ self.now.cost }
     {
         self.cost
     }

@@ -1,0 +1,5 @@
+pub mod Words
+pub mod Ends
+pub mod Measuring
+pub mod Completes
+pub mod Headline
