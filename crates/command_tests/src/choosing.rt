@@ -116,7 +116,7 @@ fn samples_at_the_origin_are_followed_as_far_as_the_depth(rt: HostRuntime) -> Re
 
 #[test]
 fn other_words_are_told_the_usage(rt: HostRuntime) -> Result<(), Fail> {
-    let usage = "usage: modem run, encode, decode, frames, xid, soak, peer, pickup, margin\n";
+    let usage = "usage: modem run, encode, decode, frames, xid, soak, peer, pickup, margin, encode4\n";
     let runs = [
         ["run", "o", "a", "s", "go", "go", "t"],
         ["run", "o", "a", "s", "go", "ga", "s"],

@@ -6,9 +6,9 @@ use std::alloc::{AllocError, Global};
 use std::process::Abort;
 use std::test::Fail;
 
-fn words(alloc: Global, mode: &str) -> Result<Vec<String>, AllocError> {
+fn words(alloc: Global, command: &str, mode: &str) -> Result<Vec<String>, AllocError> {
     let mut words = Vec::new(alloc);
-    for text in ["encode", mode, "f", "r"] {
+    for text in [command, mode, "f", "r"] {
         words.push(String::from_str(alloc, text)?)?;
     }
     Ok(words)
@@ -18,12 +18,13 @@ fn words(alloc: Global, mode: &str) -> Result<Vec<String>, AllocError> {
 fn records(
     rt: &impl Abort,
     alloc: Global,
+    command: &str,
     mode: &str,
     file: &[u8],
     said: &str,
     recording: &[u8],
 ) -> Result<(), Fail> {
-    let words = words(alloc, mode)?;
+    let words = words(alloc, command, mode)?;
     let mut folder = MemoryFolder::new(alloc);
     folder.put("f", file)?;
     match encode_words(&words) {
@@ -38,19 +39,89 @@ fn records(
 #[test]
 fn files_become_recordings(rt: HostRuntime) -> Result<(), Fail> {
     let header = [0x56, 0x33, 0x32, 0x52, 0, 0, 0, 0];
-    records(&rt, rt.alloc(), "call", b"", "samples 0\n", &header)?;
+    records(
+        &rt,
+        rt.alloc(),
+        "encode",
+        "call",
+        b"",
+        "samples 0\n",
+        &header,
+    )?;
     let zero = [
         0x56, 0x33, 0x32, 0x52, 0, 0, 0, 0, 0x00, 0xe0, 0x00, 0x08, 0x00, 0xe0, 0x00, 0x08,
     ];
-    records(&rt, rt.alloc(), "call", &[0x00], "samples 2\n", &zero)?;
+    records(
+        &rt,
+        rt.alloc(),
+        "encode",
+        "call",
+        &[0x00],
+        "samples 2\n",
+        &zero,
+    )?;
     let one = [
         0x56, 0x33, 0x32, 0x52, 0, 0, 0, 0, 0x00, 0xf0, 0x00, 0x18, 0x00, 0xf0, 0x00, 0x18,
     ];
-    records(&rt, rt.alloc(), "call", &[0x01], "samples 2\n", &one)?;
+    records(
+        &rt,
+        rt.alloc(),
+        "encode",
+        "call",
+        &[0x01],
+        "samples 2\n",
+        &one,
+    )?;
     let answer = [
         0x56, 0x33, 0x32, 0x52, 1, 0, 0, 0, 0x00, 0xf0, 0x00, 0x18, 0x00, 0x10, 0x00, 0xe8,
     ];
-    records(&rt, rt.alloc(), "answer", &[0x01], "samples 2\n", &answer)?;
+    records(
+        &rt,
+        rt.alloc(),
+        "encode",
+        "answer",
+        &[0x01],
+        "samples 2\n",
+        &answer,
+    )?;
+    Ok(())
+}
+
+#[test]
+fn files_become_recordings_at_the_second_rate(rt: HostRuntime) -> Result<(), Fail> {
+    let header = [0x56, 0x33, 0x32, 0x52, 2, 0, 0, 0];
+    records(
+        &rt,
+        rt.alloc(),
+        "encode4",
+        "call",
+        b"",
+        "samples 0\n",
+        &header,
+    )?;
+    let one = [
+        0x56, 0x33, 0x32, 0x52, 2, 0, 0, 0, 0x00, 0x08, 0x00, 0xe8, 0x00, 0x08, 0x00, 0xe8, 0x00,
+        0x08, 0x00, 0xe8, 0x00, 0x08, 0x00, 0xe8,
+    ];
+    records(
+        &rt,
+        rt.alloc(),
+        "encode4",
+        "call",
+        &[0x01],
+        "samples 4\n",
+        &one,
+    )?;
+    let header = [0x56, 0x33, 0x32, 0x52, 3, 0, 0, 0];
+    records(
+        &rt,
+        rt.alloc(),
+        "encode4",
+        "answer",
+        b"",
+        "samples 0\n",
+        &header,
+    )?;
     Ok(())
 }
 
@@ -60,7 +131,7 @@ fn files_become_recordings(rt: HostRuntime) -> Result<(), Fail> {
 fn each_call_that_fails_is_named_by_its_kind(rt: HostRuntime) -> Result<(), Fail> {
     let alloc = rt.alloc();
     let file = vec![in alloc; 7u8; 300]?;
-    let words = words(alloc, "call")?;
+    let words = words(alloc, "encode", "call")?;
     for number in 1..=11u64 {
         let kind = match number {
             1 | 4 | 6 | 8 | 10 => Status::ReadFault,
@@ -81,7 +152,7 @@ fn each_call_that_fails_is_named_by_its_kind(rt: HostRuntime) -> Result<(), Fail
 fn a_file_that_is_too_long_is_named(rt: HostRuntime) -> Result<(), Fail> {
     let alloc = rt.alloc();
     let long = vec![in alloc; 7u8; 1_048_577]?;
-    let words = words(alloc, "call")?;
+    let words = words(alloc, "encode", "call")?;
     let mut folder = MemoryFolder::new(alloc);
     folder.put("f", &long)?;
     match encode_words(&words) {

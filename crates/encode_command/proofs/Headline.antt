@@ -23,7 +23,7 @@ use Rattle.encode_command.specs.Headline.{HoldsBeginning, HoldsWhole, Headline}
 left-part : (old before : FolderState) (n : EncodeNames) → LeavesPart old before n → KeepsName old before n.rec ⊎ HoldsBeginning old before n
 left-part old before n (inl kept) = inl kept
 left-part old before n (inr w) =
-    inr (λ file rec. (w.recording, w.samples, subst (λ (xs : List ℕ). IsRecordingOf n.mode xs w.recording w.samples) (w.records.read file) w.records.recorded, w.rec))
+    inr (λ file rec. (w.recording, w.samples, subst (λ (xs : List ℕ). IsRecordingOf n.rate n.mode xs w.recording w.samples) (w.records.read file) w.records.recorded, w.rec))
 
 left-by : (old before : FolderState) (n : EncodeNames) (end : Result ℕ Stop) → Ends old before n end → KeepsName old before n.rec ⊎ HoldsBeginning old before n
 left-by old before n (Ok samples) w = left-part old before n (inr (record { recording = w.recording; samples = samples; records = w.records; rec = HoldsFront-all before n.rec w.recording w.rec }))
@@ -48,7 +48,7 @@ whole-of old before new n last d =
       d.said ∙ ap (option_map (λ x. x ++ samples_line d.done)) d.ends.1,
       λ file rec. (
         w.recording,
-        subst (λ (xs : List ℕ). IsRecordingOf n.mode xs w.recording d.done) (w.records.read file) w.records.recorded,
+        subst (λ (xs : List ℕ). IsRecordingOf n.rate n.mode xs w.recording d.done) (w.records.read file) w.records.recorded,
         Holds-kept before new n.rec w.recording last.goes_on w.rec (last.names n.rec tt),
       ),
     )

@@ -1,3 +1,4 @@
+pub mod Quarters
 pub mod Longer
 pub mod Making
 pub mod Headline

@@ -9,8 +9,6 @@ use Rattle.plain_lists.specs.Bits.{low_bits, octet_bits, bits_of, number}
 use Rattle.scramblers.specs.declared.mode.Mode.{Mode}
 use Rattle.scramblers.specs.declared.mode.Mode.TheVariants.{Call, Answer}
 use Rattle.scramblers.specs.Mode.{tap_of}
-use Rattle.scramblers.specs.Stream.{earlier}
-use Rattle.plain_lists.specs.Xor.{xor}
 use Rattle.scramblers.specs.Scrambles.{Scrambles}
 use Rattle.scramblers.proofs.Streams.{Scrambles-more}
 use Rattle.differential.proofs.Places.{turned-snoc}
@@ -25,7 +23,11 @@ use Rattle.trellis_tables.proofs.Codings.{Encodes-more}
 use Rattle.line_coding.specs.Modulates.{Modulates}
 use Rattle.scramblers.proofs.Streams.{four-behind}
 use Rattle.line_coding.proofs.Fours.{fours-more}
-use Rattle.recordings.specs.Recording.{header_of, sample_octets, recording_octets, IsRecordingOf}
+use Rattle.rate_4800.specs.Modulates.{Modulates as QuarterModulates}
+use Rattle.recordings.specs.declared.rate.Rate.{Rate}
+use Rattle.recordings.specs.declared.rate.Rate.TheVariants.{Trellis, Quarters}
+use Rattle.recordings.specs.Recording.{header_at, sample_octets, recording_octets, ModulatesAt, IsRecordingOf}
+use Rattle.encode_command.proofs.Quarters.{sent_for, bit-lt, two-more, twos-behind}
 
 -- a code sequence stays among the states
 end-lt : (from : ℕ) (labels : List ℕ) (end : ℕ) → from < 8 → Leads next_state from labels end → end < 8
@@ -55,16 +57,8 @@ quad-bits_of false false true false = refl
 quad-bits_of false false false true = refl
 quad-bits_of false false false false = refl
 
-bit-lt : (b : Bool) → number b < 2
-bit-lt true = omega arith
-bit-lt false = omega arith
-
 quad-lt : (a b c d : Bool) → quad_of a b c d < 16
 quad-lt a b c d = omega (arith, bit-lt a, bit-lt b, bit-lt c, bit-lt d)
-
--- what is sent for a bit
-abbrev sent_for : ℕ → Bool → List Bool → Bool
-sent_for tap bit line = xor (xor bit (earlier line (length line) tap)) (earlier line (length line) 23)
 
 -- one sample more
 pub record Longer (tap : ℕ) (bits : List Bool) (samples : List Sample) : Type 0 where
@@ -105,61 +99,85 @@ tap-low : (mode : Mode) → 1 ≤ tap_of mode
 tap-low Call = omega arith
 tap-low Answer = omega arith
 
+-- the samples of one octet more
+record LongerAt (rate : Rate) (tap : ℕ) (bits : List Bool) (samples : List Sample) : Type 0 where
+  pub more : List Sample
+  pub modulated : ModulatesAt rate tap bits (samples ++ more)
+
+octet-longer : (rate : Rate) (tap : ℕ) (bits : List Bool) (samples : List Sample) (n : ℕ) → 1 ≤ tap → ModulatesAt rate tap bits samples → LongerAt rate tap (bits ++ octet_bits n) samples
+octet-longer Trellis tap bits samples n low h =
+    let one = Modulates-more tap bits samples (nat_eq (n % 2) 1) (nat_eq (n / 2 % 2) 1) (nat_eq (n / 2 / 2 % 2) 1) (nat_eq (n / 2 / 2 / 2 % 2) 1) low h in
+    let m : ℕ = n / 2 / 2 / 2 / 2 in
+    let two = Modulates-more tap _ (samples ++ one.sample ∷ []) (nat_eq (m % 2) 1) (nat_eq (m / 2 % 2) 1) (nat_eq (m / 2 / 2 % 2) 1) (nat_eq (m / 2 / 2 / 2 % 2) 1) low one.modulated in
+    record {
+      more = one.sample ∷ two.sample ∷ [];
+      modulated = subst (λ (p : List Bool × List Sample). Modulates tap p.0 p.1)
+          (λ i. (append_assoc bits (low_bits 4 n) (low_bits 4 m) i, append_assoc samples (one.sample ∷ []) (two.sample ∷ []) i)) two.modulated;
+    }
+octet-longer Quarters tap bits samples n low h =
+    let bit : ℕ → Bool = λ m. nat_eq (m % 2) 1 in
+    let p : ℕ = n / 2 / 2 in
+    let q : ℕ = p / 2 / 2 in
+    let r : ℕ = q / 2 / 2 in
+    let one = two-more tap bits samples (bit n) (bit (n / 2)) low h in
+    let two = two-more tap _ (samples ++ one.sample ∷ []) (bit p) (bit (p / 2)) low one.modulated in
+    let three = two-more tap _ ((samples ++ one.sample ∷ []) ++ two.sample ∷ []) (bit q) (bit (q / 2)) low two.modulated in
+    let four = two-more tap _ (((samples ++ one.sample ∷ []) ++ two.sample ∷ []) ++ three.sample ∷ []) (bit r) (bit (r / 2)) low three.modulated in
+    record {
+      more = one.sample ∷ two.sample ∷ three.sample ∷ four.sample ∷ [];
+      modulated = subst (λ (p : List Bool × List Sample). QuarterModulates tap p.0 p.1)
+          (λ i. (twos-behind bits (bit n) (bit (n / 2)) (bit p) (bit (p / 2)) (bit q) (bit (q / 2)) (bit r) (bit (r / 2)) i, four-behind samples one.sample two.sample three.sample four.sample i)) four.modulated;
+    }
+
 -- the recording of more octets begins with this one
-pub record GoesOn (mode : Mode) (octets recording : List ℕ) : Type 0 where
+pub record GoesOn (rate : Rate) (mode : Mode) (octets recording : List ℕ) : Type 0 where
   pub whole : List ℕ
   pub samples : ℕ
-  pub recorded : IsRecordingOf mode octets whole samples
+  pub recorded : IsRecordingOf rate mode octets whole samples
   pub front : IsPrefixOf recording whole
 
 octet-bits-more : (octets : List ℕ) (octet : ℕ) → bits_of octets ++ octet_bits octet ≡ bits_of (octets ++ octet ∷ [])
 octet-bits-more octets octet = ap (λ bits. bits_of octets ++ bits) (sym (append-nil (octet_bits octet))) ∙ sym (flat_map-append octet_bits octets (octet ∷ []))
 
-samples-front : (mode : Mode) (samples more : List Sample) → IsPrefixOf (recording_octets mode samples) (recording_octets mode (samples ++ more))
-samples-front mode samples more =
-    (flat_map sample_octets more, append_assoc (header_of mode) (flat_map sample_octets samples) (flat_map sample_octets more) ∙ ap (λ xs. header_of mode ++ xs) (sym (flat_map-append sample_octets samples more)))
+samples-front : (rate : Rate) (mode : Mode) (samples more : List Sample) → IsPrefixOf (recording_octets rate mode samples) (recording_octets rate mode (samples ++ more))
+samples-front rate mode samples more =
+    (flat_map sample_octets more, append_assoc (header_at rate mode) (flat_map sample_octets samples) (flat_map sample_octets more) ∙ ap (λ xs. header_at rate mode ++ xs) (sym (flat_map-append sample_octets samples more)))
 
 pub prefix-trans : (a b c : List ℕ) → IsPrefixOf a b → IsPrefixOf b c → IsPrefixOf a c
 prefix-trans a b c (left, e) (more, f) = (left ++ more, sym (append_assoc a left more) ∙ ap (λ xs. xs ++ more) e ∙ f)
 
 -- one octet more
-octet-more : (mode : Mode) (octets recording : List ℕ) (samples octet : ℕ) → IsRecordingOf mode octets recording samples → GoesOn mode (octets ++ octet ∷ []) recording
-octet-more mode octets recording samples octet h =
+octet-more : (rate : Rate) (mode : Mode) (octets recording : List ℕ) (samples octet : ℕ) → IsRecordingOf rate mode octets recording samples → GoesOn rate mode (octets ++ octet ∷ []) recording
+octet-more rate mode octets recording samples octet h =
     let tap = tap_of mode in
-    let low = tap-low mode in
-    let n : ℕ = octet in
-    let one = Modulates-more tap (bits_of octets) h.samples (nat_eq (n % 2) 1) (nat_eq (n / 2 % 2) 1) (nat_eq (n / 2 / 2 % 2) 1) (nat_eq (n / 2 / 2 / 2 % 2) 1) low h.modulated in
-    let m : ℕ = n / 2 / 2 / 2 / 2 in
-    let two = Modulates-more tap _ (h.samples ++ one.sample ∷ []) (nat_eq (m % 2) 1) (nat_eq (m / 2 % 2) 1) (nat_eq (m / 2 / 2 % 2) 1) (nat_eq (m / 2 / 2 / 2 % 2) 1) low one.modulated in
-    let all : List Sample = (h.samples ++ one.sample ∷ []) ++ two.sample ∷ [] in
+    let longer = octet-longer rate tap (bits_of octets) h.samples octet (tap-low mode) h.modulated in
+    let all : List Sample = h.samples ++ longer.more in
     record {
-      whole = recording_octets mode all;
+      whole = recording_octets rate mode all;
       samples = length all;
       recorded = record {
         samples = all;
-        modulated = subst (λ (bits : List Bool). Modulates tap bits all) (append_assoc (bits_of octets) (low_bits 4 n) (low_bits 4 m) ∙ octet-bits-more octets octet) two.modulated;
+        modulated = subst (λ (bits : List Bool). ModulatesAt rate tap bits all) (octet-bits-more octets octet) longer.modulated;
         count_is = refl;
         recording_is = refl;
       };
-      front = subst (λ (r : List ℕ). IsPrefixOf r (recording_octets mode all)) (sym h.recording_is)
-          (subst (λ (xs : List Sample). IsPrefixOf (recording_octets mode h.samples) (recording_octets mode xs)) (sym (append_assoc h.samples (one.sample ∷ []) (two.sample ∷ [])))
-          (samples-front mode h.samples (one.sample ∷ two.sample ∷ [])));
+      front = subst (λ (r : List ℕ). IsPrefixOf r (recording_octets rate mode all)) (sym h.recording_is) (samples-front rate mode h.samples longer.more);
     }
 
 -- any octets more
-pub goes_on : (mode : Mode) (octets recording : List ℕ) (samples : ℕ) (more : List ℕ) → IsRecordingOf mode octets recording samples → GoesOn mode (octets ++ more) recording
-goes_on mode octets recording samples [] h = record {
+pub goes_on : (rate : Rate) (mode : Mode) (octets recording : List ℕ) (samples : ℕ) (more : List ℕ) → IsRecordingOf rate mode octets recording samples → GoesOn rate mode (octets ++ more) recording
+goes_on rate mode octets recording samples [] h = record {
   whole = recording;
   samples = samples;
-  recorded = subst (λ (xs : List ℕ). IsRecordingOf mode xs recording samples) (sym (append-nil octets)) h;
+  recorded = subst (λ (xs : List ℕ). IsRecordingOf rate mode xs recording samples) (sym (append-nil octets)) h;
   front = ([], append-nil recording);
 }
-goes_on mode octets recording samples (octet ∷ more) h =
-    let next = octet-more mode octets recording samples octet h in
-    let rest = goes_on mode (octets ++ octet ∷ []) next.whole next.samples more next.recorded in
+goes_on rate mode octets recording samples (octet ∷ more) h =
+    let next = octet-more rate mode octets recording samples octet h in
+    let rest = goes_on rate mode (octets ++ octet ∷ []) next.whole next.samples more next.recorded in
     record {
       whole = rest.whole;
       samples = rest.samples;
-      recorded = subst (λ (xs : List ℕ). IsRecordingOf mode xs rest.whole rest.samples) (append_assoc octets (octet ∷ []) more) rest.recorded;
+      recorded = subst (λ (xs : List ℕ). IsRecordingOf rate mode xs rest.whole rest.samples) (append_assoc octets (octet ∷ []) more) rest.recorded;
       front = prefix-trans recording next.whole rest.whole next.front rest.front;
     }

@@ -18,7 +18,7 @@ pub record RecordsFile (old : FolderState) (n : EncodeNames) (recording : List �
   pub octets : List ℕ
   pub within : IsWithin old n.file FILE_LIMIT
   pub read : IsTrue (old.tells n.file) → octets ≡ octets_at old n.file
-  pub recorded : IsRecordingOf n.mode octets recording samples
+  pub recorded : IsRecordingOf n.rate n.mode octets recording samples
 
 -- The output holds the file's recording, of so many samples.
 pub record WritesAll (old new : FolderState) (n : EncodeNames) (samples : ℕ) : Type 0 where

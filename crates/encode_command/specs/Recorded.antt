@@ -2,7 +2,7 @@
 use Rattle.std.specs.Prelude.{ℕ, List, [], ◌++◌}
 use Rattle.outside_core.specs.Folder.{FolderState}
 use Rattle.recordings.specs.declared.recorder.Recorder.{Recorder}
-use Rattle.recordings.specs.Recording.{header_of, RecorderStands}
+use Rattle.recordings.specs.Recording.{header_at, RecorderStands}
 use Rattle.command_base.specs.declared.limits.TheConstants.{FILE_LIMIT}
 use Rattle.command_base.specs.Inputs.{IsWithin, ReadTo}
 use Rattle.command_base.specs.Outputs.{Holds, OnlyOutput}
@@ -18,7 +18,7 @@ pub record Begun (old now : FolderState) (n : EncodeNames) : Type 0 where
 pub record RecordedTo (old now : FolderState) (n : EncodeNames) (recorder : Recorder) (at : ℕ) : Type 0 where
   pub octets : List ℕ
   pub recorded : List ℕ
-  pub stands : RecorderStands n.mode recorder octets recorded
+  pub stands : RecorderStands n.rate n.mode recorder octets recorded
   pub read : ReadTo old now n.file FILE_LIMIT at octets
   pub only : OnlyOutput old now n.rec
-  pub rec : Holds now n.rec (header_of n.mode ++ recorded)
+  pub rec : Holds now n.rec (header_at n.rate n.mode ++ recorded)

@@ -4,13 +4,23 @@ use Rattle.std.specs.Option.{option_map}
 use Rattle.std.specs.Str.{bytes_eq}
 use Rattle.scramblers.specs.declared.mode.Mode.{Mode}
 use Rattle.scramblers.specs.declared.mode.Mode.TheVariants.{Call, Answer}
+use Rattle.recordings.specs.declared.rate.Rate.{Rate}
+use Rattle.recordings.specs.declared.rate.Rate.TheVariants.{Trellis, Quarters}
 use Rattle.encode_command.specs.declared.words.EncodeWords.{EncodeWords}
 
--- the mode and the names of a recording that is to be made
+-- the rate, the mode and the names of a recording that is to be made
 pub record EncodeNames : Type 0 where
+  pub rate : Rate
   pub mode : Mode
   pub file : List ℕ
   pub rec : List ℕ
+
+-- the rate that a command's word names
+abbrev pub rate_named : List ℕ → Option Rate
+rate_named word =
+    if bytes_eq word (codes "encode") then Some Trellis
+    else if bytes_eq word (codes "encode4") then Some Quarters
+    else None
 
 -- the mode that a word names
 abbrev pub mode_named : List ℕ → Option Mode
@@ -23,13 +33,15 @@ mode_named word =
 abbrev pub are_apart : EncodeNames → Bool
 are_apart n = not (bytes_eq n.rec n.file)
 
--- the words `encode MODE FILE REC`, and no others
+-- where there are both, a rate and a mode with these names
+abbrev pub names_with : List ℕ → List ℕ → Option Rate → Option Mode → Option EncodeNames
+names_with file rec None mode = None
+names_with file rec (Some rate) mode = option_map (λ m. record { rate = rate; mode = m; file = file; rec = rec }) mode
+
+-- the words `encode MODE FILE REC` and `encode4 MODE FILE REC`, and no others
 abbrev pub names_of : List (List ℕ) → Option EncodeNames
-names_of (command ∷ mode ∷ file ∷ rec ∷ []) =
-    if bytes_eq command (codes "encode") && not (bytes_eq rec file)
-    then option_map (λ m. record { mode = m; file = file; rec = rec }) (mode_named mode)
-    else None
+names_of (command ∷ mode ∷ file ∷ rec ∷ []) = if bytes_eq rec file then None else names_with file rec (rate_named command) (mode_named mode)
 names_of words = None
 
 abbrev pub named : EncodeWords → EncodeNames
-named w = record { mode = w.mode; file = w.file.now; rec = w.rec.now }
+named w = record { rate = w.rate; mode = w.mode; file = w.file.now; rec = w.rec.now }

@@ -2,7 +2,8 @@
 ghost use Rattle.std.specs.Prelude.{◌≡◌, ◌≤◌, ◌+◌, ◌*◌, ◌++◌, ℕ, List, [], ◌∷◌, IfOk, IfErr, length, true};
 ghost use Rattle.outside_core.specs.Folder.{FolderState};
 ghost use Rattle.scramblers.specs.declared.mode.Mode.{Mode};
-ghost use Rattle.recordings.specs.Recording.{RecorderStands};
+ghost use Rattle.recordings.specs.declared.rate.Rate.{Rate};
+ghost use Rattle.recordings.specs.Recording.{samples_each, RecorderStands};
 ghost use Rattle.command_base.specs.declared.limits.TheConstants.{FILE_LIMIT};
 ghost use Rattle.command_base.specs.Outputs.{OnlyOutput};
 ghost use Rattle.command_base.specs.Stops.{EndCounts};
@@ -22,14 +23,14 @@ const FILE: usize = 2;
 /// How many octets are read at a time.
 const PIECE: usize = 128;
 
-/// How many octets of a recording a piece becomes, eight for each of its own.
-const RECORDED_PIECE: usize = 1024;
+/// How many octets of a recording a piece becomes at most, sixteen for each of its own.
+const RECORDED_PIECE: usize = 2048;
 
 /// The octets of the samples of a piece.
 fn record_piece(recorder: &mut Recorder, piece: &[u8]) -> Octets<RECORDED_PIECE>
     requires { length piece.now ≤ PIECE }
-    ensures { (mode : Mode) (octets recorded : List ℕ) → RecorderStands mode recorder.old octets recorded
-        → RecorderStands mode recorder.new (octets ++ piece.now) (recorded ++ result) }
+    ensures { (rate : Rate) (mode : Mode) (octets recorded : List ℕ) → RecorderStands rate mode recorder.old octets recorded
+        → RecorderStands rate mode recorder.new (octets ++ piece.now) (recorded ++ result) }
 {
     let mut recorded = Octets::new();
     for octet in piece {
@@ -50,7 +51,7 @@ fn record_next<F: Folder>(
     ensures ok { (start : FolderState) → RecordedTo start (F.state folder.old) (named names.now) recorder.old at
         → IfOk result (λ count. RecordedTo start (F.state folder.new) (named names.now) recorder.new (at + count)) }
     ensures end { (start : FolderState) → RecordedTo start (F.state folder.old) (named names.now) recorder.old at
-        → IfOk result (λ count. count ≡ 0 → WritesAll start (F.state folder.new) (named names.now) (2 * at)) }
+        → IfOk result (λ count. count ≡ 0 → WritesAll start (F.state folder.new) (named names.now) (samples_each names.now.rate * at)) }
     ensures err { (start : FolderState) → RecordedTo start (F.state folder.old) (named names.now) recorder.old at
         → IfErr result (EndsBy start (F.state folder.new) (named names.now)) }
     ensures bound { IfOk result (λ count. at + count ≤ FILE_LIMIT) }
@@ -78,15 +79,15 @@ fn record_file<F: Folder>(folder: &mut F, names: &EncodeWords<'_>) -> Result<u64
     ensures only { OnlyOutput (F.state folder.old) (F.state folder.new) names.now.rec.now }
     ensures counts { EndCounts (F.state folder.old) (F.state folder.new) (names.now.file.now ∷ []) (names.now.rec.now ∷ []) result }
 {
-    let mut recorder = Recorder::new(names.mode);
-    match append_output(folder, names.rec, header_octets(names.mode).as_slice()) {
+    let mut recorder = Recorder::new(names.rate, names.mode);
+    match append_output(folder, names.rec, header_octets(names.rate, names.mode).as_slice()) {
         Ok(()) => {}
         Err(fault) => return Err(Stop::Write(fault)),
     }
     let mut at: u64 = 0;
     loop {
         match record_next(folder, names, &mut recorder, at) {
-            Ok(0) => return Ok(2 * at),
+            Ok(0) => return Ok(names.rate.samples(at)),
             Ok(count) => at += count as u64,
             Err(fault) => return Err(fault),
         }

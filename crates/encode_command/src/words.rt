@@ -1,19 +1,35 @@
 // The words of the command.
 ghost use Rattle.std.specs.Prelude.{◌≡◌, true, IfSome, string_bytes, map};
 ghost use Rattle.std.specs.Option.{option_map};
-ghost use Rattle.encode_command.specs.Words.{mode_named, names_of, named, are_apart};
+ghost use Rattle.encode_command.specs.Words.{rate_named, mode_named, names_of, named, are_apart};
 
+use recordings::Rate;
 use scramblers::Mode;
 
 /// A recording that is to be made.
 #[derive(Clone, Copy)]
 pub struct EncodeWords<'a> {
+    /// How fast it is sent.
+    pub rate: Rate,
     /// The mode of the modem that sends.
     pub mode: Mode,
     /// The octets to be sent.
     pub file: &'a str,
     /// The recording that is made.
     pub rec: &'a str,
+}
+
+/// The rate that a command's word names, where it names one.
+fn rate_of(word: &str) -> Option<Rate>
+    ensures { result ≡ rate_named word.now }
+{
+    if word == "encode" {
+        Some(Rate::Trellis)
+    } else if word == "encode4" {
+        Some(Rate::Quarters)
+    } else {
+        None
+    }
 }
 
 /// The mode that a word names, where it names one.
@@ -29,7 +45,7 @@ fn mode_of(word: &str) -> Option<Mode>
     }
 }
 
-/// The words of `encode`, where these are such words.
+/// The words of `encode` or `encode4`, where these are such words.
 pub fn encode_words(words: &[String]) -> Option<EncodeWords<'_>>
     ensures names { option_map named result ≡ names_of (map string_bytes words.now) }
     ensures apart { IfSome result (λ names. are_apart (named names) ≡ true) }
@@ -37,15 +53,16 @@ pub fn encode_words(words: &[String]) -> Option<EncodeWords<'_>>
     let [command, mode, file, rec] = words else {
         return None;
     };
-    if command.as_str() != "encode" || rec.as_str() == file.as_str() {
+    if rec.as_str() == file.as_str() {
         return None;
     }
-    match mode_of(mode.as_str()) {
-        Some(mode) => Some(EncodeWords {
+    match (rate_of(command.as_str()), mode_of(mode.as_str())) {
+        (Some(rate), Some(mode)) => Some(EncodeWords {
+            rate,
             mode,
             file: file.as_str(),
             rec: rec.as_str(),
         }),
-        None => None,
+        _ => None,
     }
 }

@@ -65,6 +65,7 @@ commands =
     ∷ record { word = codes "peer"; refuses = λ words. is_none (peer_names words) }
     ∷ record { word = codes "pickup"; refuses = λ words. is_none (recording_named words) }
     ∷ record { word = codes "margin"; refuses = λ words. is_none (margin_names words) }
+    ∷ record { word = codes "encode4"; refuses = λ words. is_none (encode_names words) }
     ∷ []
 
 -- the words are those of none of these

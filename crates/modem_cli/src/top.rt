@@ -21,7 +21,7 @@ fn usage() -> Line
     ensures { result ≡ usage }
 {
     write_usage(&[
-        "run", "encode", "decode", "frames", "xid", "soak", "peer", "pickup", "margin",
+        "run", "encode", "decode", "frames", "xid", "soak", "peer", "pickup", "margin", "encode4",
     ])
 }
 

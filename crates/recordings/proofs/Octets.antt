@@ -1,5 +1,5 @@
 -- The bits of an octet more, in two fours.
-use Rattle.std.proofs.Common.{◌≡◌, ◌∙◌, ℕ, ◌*◌, ◌/◌, ◌%◌, ◌<◌, List, [], ◌∷◌, ◌++◌, length, refl, sym, ap, arith, append-nil, append_assoc, length-append}
+use Rattle.std.proofs.Common.{◌≡◌, ◌∙◌, ℕ, ◌+◌, ◌*◌, ◌/◌, ◌%◌, ◌<◌, Bool, List, [], ◌∷◌, ◌++◌, length, refl, sym, ap, arith, append-nil, append_assoc, length-append}
 use Rattle.std.specs.List.{flat_map}
 use Rattle.std.proofs.lemmas.Grind.{flat_map-append}
 use Rattle.plain_lists.specs.Bits.{low_bits, octet_bits, bits_of}
@@ -23,15 +23,45 @@ bits-more octets octet h =
     ∙ ap (λ bits. bits_of octets ++ bits) (two-fours octet h ∙ sym (append-nil (octet_bits octet)))
     ∙ sym (flat_map-append octet_bits octets (octet ∷ []))
 
--- two samples more
-pub samples-more : {X : Type 0} (octets_of : X → List ℕ) (samples : List X) (a b : X) (recorded first second : List ℕ) → recorded ≡ flat_map octets_of samples → first ≡ octets_of a → second ≡ octets_of b →
-    recorded ++ (([] ++ first) ++ second) ≡ flat_map octets_of ((samples ++ a ∷ []) ++ b ∷ [])
-samples-more {X = X} octets_of samples a b recorded first second r e f =
-    (λ i. r i ++ (e i ++ f i)) ∙ sym (append_assoc (flat_map octets_of samples) (octets_of a) (octets_of b))
-    ∙ sym (more (samples ++ a ∷ []) b ∙ ap (λ xs. xs ++ octets_of b) (more samples a))
-  where
-    more : (xs : List X) (x : X) → flat_map octets_of (xs ++ x ∷ []) ≡ flat_map octets_of xs ++ octets_of x
-    more xs x = flat_map-append octets_of xs (x ∷ []) ∙ ap (λ ys. flat_map octets_of xs ++ ys) (append-nil (octets_of x))
+-- eight bits are four twos
+four-twos : (octet : ℕ) → octet < 256 → ((low_bits 2 (octet % 4) ++ low_bits 2 (octet / 4 % 4)) ++ low_bits 2 (octet / 16 % 4)) ++ low_bits 2 (octet / 64) ≡ octet_bits octet
+four-twos octet h =
+    let a : octet % 4 % 2 ≡ octet % 2 = omega arith in
+    let b : octet % 4 / 2 % 2 ≡ octet / 2 % 2 = omega arith in
+    let c : octet / 4 % 4 % 2 ≡ octet / 2 / 2 % 2 = omega arith in
+    let d : octet / 4 % 4 / 2 % 2 ≡ octet / 2 / 2 / 2 % 2 = omega arith in
+    let e : octet / 16 % 4 % 2 ≡ octet / 2 / 2 / 2 / 2 % 2 = omega arith in
+    let f : octet / 16 % 4 / 2 % 2 ≡ octet / 2 / 2 / 2 / 2 / 2 % 2 = omega arith in
+    let i : octet / 64 % 2 ≡ octet / 2 / 2 / 2 / 2 / 2 / 2 % 2 = omega arith in
+    let j : octet / 64 / 2 % 2 ≡ octet / 2 / 2 / 2 / 2 / 2 / 2 / 2 % 2 = omega arith in
+    rw (a, b, c, d, e, f, i, j) refl
 
-pub two-more : {X : Type 0} (samples : List X) (a b : X) (octets : List ℕ) (octet : ℕ) → length samples ≡ 2 * length octets → length ((samples ++ a ∷ []) ++ b ∷ []) ≡ 2 * length (octets ++ octet ∷ [])
-two-more samples a b octets octet e = omega (arith, e, length-append (samples ++ a ∷ []) (b ∷ []), length-append samples (a ∷ []), length-append octets (octet ∷ []))
+pub bits-by-twos : (octets : List ℕ) (octet : ℕ) → octet < 256
+    → (((bits_of octets ++ low_bits 2 (octet % 4)) ++ low_bits 2 (octet / 4 % 4)) ++ low_bits 2 (octet / 16 % 4)) ++ low_bits 2 (octet / 64) ≡ bits_of (octets ++ octet ∷ [])
+bits-by-twos octets octet h =
+    let a : List Bool = low_bits 2 (octet % 4) in
+    let b : List Bool = low_bits 2 (octet / 4 % 4) in
+    let c : List Bool = low_bits 2 (octet / 16 % 4) in
+    let d : List Bool = low_bits 2 (octet / 64) in
+    ap (λ xs. (xs ++ c) ++ d) (append_assoc (bits_of octets) a b)
+    ∙ ap (λ xs. xs ++ d) (append_assoc (bits_of octets) (a ++ b) c)
+    ∙ append_assoc (bits_of octets) ((a ++ b) ++ c) d
+    ∙ ap (λ bits. bits_of octets ++ bits) (four-twos octet h ∙ sym (append-nil (octet_bits octet)))
+    ∙ sym (flat_map-append octet_bits octets (octet ∷ []))
+
+-- one sample more
+pub sample-more : {X : Type 0} (octets_of : X → List ℕ) (samples : List X) (x : X) (recorded one : List ℕ) → recorded ≡ flat_map octets_of samples → one ≡ octets_of x →
+    recorded ++ one ≡ flat_map octets_of (samples ++ x ∷ [])
+sample-more octets_of samples x recorded one r e =
+    (λ i. r i ++ e i) ∙ ap (λ ys. flat_map octets_of samples ++ ys) (sym (append-nil (octets_of x))) ∙ sym (flat_map-append octets_of samples (x ∷ []))
+
+pub count-more : {X : Type 0} (samples : List X) (x : X) → length (samples ++ x ∷ []) ≡ length samples + 1
+count-more samples x = length-append samples (x ∷ [])
+
+pub length-more : (octets : List ℕ) (octet : ℕ) → length (octets ++ octet ∷ []) ≡ length octets + 1
+length-more octets octet = length-append octets (octet ∷ [])
+
+pub four-behind : (recorded a b c d : List ℕ) → recorded ++ (((a ++ b) ++ c) ++ d) ≡ (((recorded ++ a) ++ b) ++ c) ++ d
+four-behind recorded a b c d =
+    sym (append_assoc recorded ((a ++ b) ++ c) d)
+    ∙ ap (λ xs. xs ++ d) (sym (append_assoc recorded (a ++ b) c) ∙ ap (λ xs. xs ++ c) (sym (append_assoc recorded a b)))

@@ -7,7 +7,7 @@ use frame_check::{Check, INFO, Octets, SLOT, WHOLE, append, passes};
 use lapm_frames::{FrameFault, read};
 use line_texts::{FrameText, write_frame_text};
 use noise_script::{BREAK_LINES, BUSY_LINES, HIT_LINES, LOSE_LINES, NOISE_LINES, SCRIPT_OCTETS};
-use recordings::{Recorder, header_octets};
+use recordings::{Rate, Recorder, header_octets};
 use roles::Role;
 use scramblers::{ANSWER_TAP, CALL_TAP, Mode, Scrambler};
 use std::process::Abort;
@@ -84,8 +84,8 @@ fn scrambled_octets(rt: HostRuntime) -> Result<(), Fail> {
 
 /// The recording of one octet: the header, and two samples.
 fn assert_recording(rt: &impl Abort, mode: Mode, octet: u8, recording: &[u8; 16]) {
-    let mut recorder = Recorder::new(mode);
-    let header = header_octets(mode);
+    let mut recorder = Recorder::new(Rate::Trellis, mode);
+    let header = header_octets(Rate::Trellis, mode);
     let samples = recorder.push(octet);
     assert_eq!(rt; header.as_slice(), &recording[..8]);
     assert_eq!(rt; samples.as_slice(), &recording[8..]);

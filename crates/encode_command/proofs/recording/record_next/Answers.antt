@@ -22,7 +22,7 @@ returns-in-Ok-append_output-clause-ok g c = λ start r.
     let old : FolderState = g.F.Folder.state c.args.folder.now in let mid : FolderState = g.F.Folder.state c.read_piece.new.folder in let new : FolderState = g.F.Folder.state c.append_output.new.folder in
     let n : EncodeNames = named c.args.names.now in let made : List ℕ = c.record_piece-recorded.result in let piece : List ℕ = take c.in-Ok.count c.read_piece.new.piece in
     let next : Recorder = c.record_piece-recorded.new.recorder in
-    let stands : RecorderStands n.mode next (r.octets ++ piece) (r.recorded ++ made) = c.record_piece-recorded.ensures n.mode r.octets r.recorded r.stands in
+    let stands : RecorderStands n.rate n.mode next (r.octets ++ piece) (r.recorded ++ made) = c.record_piece-recorded.ensures n.rate n.mode r.octets r.recorded r.stands in
     recorded-more start old mid new n c.args.recorder.now next c.args.at c.in-Ok.count piece made r c.requires.apart (c.in-Ok.ensures.more start r.octets r.read)
     stands c.in-Ok.ensures.reads c.in-Ok-append_output.ensures.only (subst (λ (xs : List ℕ). Appended mid new n.rec xs) c.as_slice.ensures.items c.in-Ok-append_output.ensures.ok)
 
@@ -31,7 +31,7 @@ returns-in-Err-append_output-clause-err g c = λ start r.
     let old : FolderState = g.F.Folder.state c.args.folder.now in let mid : FolderState = g.F.Folder.state c.read_piece.new.folder in let new : FolderState = g.F.Folder.state c.append_output.new.folder in
     let n : EncodeNames = named c.args.names.now in let made : List ℕ = c.record_piece-recorded.result in let piece : List ℕ = take c.in-Ok.count c.read_piece.new.piece in
     let next : Recorder = c.record_piece-recorded.new.recorder in
-    let stands : RecorderStands n.mode next (r.octets ++ piece) (r.recorded ++ made) = c.record_piece-recorded.ensures n.mode r.octets r.recorded r.stands in (
+    let stands : RecorderStands n.rate n.mode next (r.octets ++ piece) (r.recorded ++ made) = c.record_piece-recorded.ensures n.rate n.mode r.octets r.recorded r.stands in (
       r.read.within,
       piece-part start old mid new n c.args.recorder.now next c.args.at c.in-Ok.count piece made r (c.in-Ok.ensures.more start r.octets r.read)
           stands c.in-Ok.ensures.reads c.in-Err-append_output.ensures.only (subst (λ (xs : List ℕ). PartlyAppended mid new n.rec xs) c.as_slice.ensures.items c.in-Err-append_output.ensures.err),
