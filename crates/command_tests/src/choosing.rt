@@ -116,7 +116,8 @@ fn samples_at_the_origin_are_followed_as_far_as_the_depth(rt: HostRuntime) -> Re
 
 #[test]
 fn other_words_are_told_the_usage(rt: HostRuntime) -> Result<(), Fail> {
-    let usage = "usage: modem run, encode, decode, frames, xid, soak, peer, pickup, margin, encode4\n";
+    let usage =
+        "usage: modem run, encode, decode, frames, xid, soak, peer, pickup, margin, encode4\n";
     let runs = [
         ["run", "o", "a", "s", "go", "go", "t"],
         ["run", "o", "a", "s", "go", "ga", "s"],
@@ -145,7 +146,13 @@ fn other_words_are_told_the_usage(rt: HostRuntime) -> Result<(), Fail> {
     answers(&rt, rt.alloc(), &["pick", "r"], Status::Usage, usage)?;
     answers(&rt, rt.alloc(), &["pickup", "r", "f"], Status::Usage, usage)?;
     answers(&rt, rt.alloc(), &["margin", "r"], Status::Usage, usage)?;
-    answers(&rt, rt.alloc(), &["margins", "r", "z"], Status::Usage, usage)?;
+    answers(
+        &rt,
+        rt.alloc(),
+        &["margins", "r", "z"],
+        Status::Usage,
+        usage,
+    )?;
     answers(&rt, rt.alloc(), &[], Status::Usage, usage)?;
     Ok(())
 }

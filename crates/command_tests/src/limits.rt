@@ -24,7 +24,9 @@ fn answers(
 }
 
 #[test]
-fn files_of_the_limit_are_recorded_and_decoded_and_picked_up_and_measured(rt: HostRuntime) -> Result<(), Fail> {
+fn files_of_the_limit_are_recorded_and_decoded_and_picked_up_and_measured(
+    rt: HostRuntime,
+) -> Result<(), Fail> {
     let alloc = rt.alloc();
     let mut folder = MemoryFolder::new(alloc);
     let file = vec![in alloc; 7u8; 1_048_576]?;
@@ -39,7 +41,14 @@ fn files_of_the_limit_are_recorded_and_decoded_and_picked_up_and_measured(rt: Ho
     let pickup = ["pickup", "r"];
     answers(&rt, alloc, &mut folder, &pickup, Status::Done, "pieces 0\n")?;
     let margin = ["margin", "r", "f"];
-    answers(&rt, alloc, &mut folder, &margin, Status::Done, "cost 0 sure 1\n")?;
+    answers(
+        &rt,
+        alloc,
+        &mut folder,
+        &margin,
+        Status::Done,
+        "cost 0 sure 1\n",
+    )?;
     let longer = vec![in alloc; 7u8; 1_048_577]?;
     folder.put("g", &longer)?;
     let other = ["margin", "r", "g"];

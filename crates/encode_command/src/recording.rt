@@ -80,7 +80,11 @@ fn record_file<F: Folder>(folder: &mut F, names: &EncodeWords<'_>) -> Result<u64
     ensures counts { EndCounts (F.state folder.old) (F.state folder.new) (names.now.file.now ∷ []) (names.now.rec.now ∷ []) result }
 {
     let mut recorder = Recorder::new(names.rate, names.mode);
-    match append_output(folder, names.rec, header_octets(names.rate, names.mode).as_slice()) {
+    match append_output(
+        folder,
+        names.rec,
+        header_octets(names.rate, names.mode).as_slice(),
+    ) {
         Ok(()) => {}
         Err(fault) => return Err(Stop::Write(fault)),
     }

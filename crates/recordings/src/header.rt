@@ -38,7 +38,8 @@ fn fits(place: usize, octet: u8) -> bool
     requires { place < HEADER }
     ensures { result ≡ fits place octet }
 {
-    octet == header_octets(Rate::Trellis, Mode::Call).as_slice()[place] || (place == MODE && octet == ANSWER)
+    octet == header_octets(Rate::Trellis, Mode::Call).as_slice()[place]
+        || (place == MODE && octet == ANSWER)
 }
 
 /// The mode that the first octets of a recording with the trellis code tell, or the first place where they are no header of one.
