@@ -17,8 +17,11 @@ use crate::words::MarginWords;
 use command_base::{FILE_LIMIT, RECORDING_LIMIT, Status, Stop, read_piece};
 use noise_bound::Margin;
 use outside_core::Folder;
-use recordings::{HEADER, RECORDED, sample_at};
+use recordings::{HEADER, SAMPLE, sample_at};
 use scramblers::Mode;
+
+/// How many octets of the recording an octet of the file has: two samples.
+const RECORDED: usize = 2 * SAMPLE;
 
 /// How many octets of the file are read at a time.
 const PIECE: usize = 512;
