@@ -60,7 +60,7 @@ fn read_draft(alloc: Global, text: &[u8]) -> Result<Draft, ScriptFault>
 ///
 /// Lines end with a line feed, which the last may lack, and one carriage return before it is dropped. Words are separated by
 /// spaces and tabs. A line without words, or whose first word begins with `#`, is passed over. The others are
-/// `delay D1 D2`, `k ROLE N`, `n401 ROLE N`, `n400 N`, `srej ROLE`, `check32 ROLE`, `lose ROLE FROM COUNT`,
+/// `delay THERE BACK`, `k ROLE N`, `n401 ROLE N`, `n400 N`, `srej ROLE`, `check32 ROLE`, `lose ROLE FROM COUNT`,
 /// `hit ROLE FROM COUNT RE IM`, `noise ROLE FROM COUNT AMP SEED`, `break ROLE TURN LENGTH` and `busy ROLE FROM COUNT`,
 /// where ROLE is `orig` or `answ`.
 pub fn read_script(alloc: Global, text: &[u8]) -> Result<Script, ScriptFault>
