@@ -1,11 +1,16 @@
 -- A code of two states and two labels, one of which changes the state: from each state each list of labels is a sequence. The tests
 -- try decoders that start in any state at it. Nothing else speaks of it.
-use Rattle.std.proofs.Common.{◌≡◌, ℕ, ◌+◌, ◌*◌, ◌%◌, ◌<◌, Bool, true, false, ◌&&◌, if◌then◌else◌, nat_lt, [], ◌∷◌, Option, Some, None, refl, ap, arith}
-use Rattle.std.proofs.lemmas.Bool.{ltb-true, lt-ltb, and_parts, and_from}
-use Rattle.trellis_tables.specs.Codes.{IsBounded, StaysWithin, EntersOnce, Reaches, AreWays, AreAllWays}
+use Rattle.std.proofs.Common.{◌≡◌, ℕ, ◌+◌, ◌*◌, ◌%◌, ◌<◌, Bool, true, false, ◌&&◌, if◌then◌else◌, nat_eq, nat_lt, [], ◌∷◌, inl, inr, Option, Some, None, refl, sym, ◌∙◌, ap, arith}
+use Rattle.std.proofs.lemmas.Bool.{ltb-true, lt-ltb, and_parts, and_from, cases_eq, cases_lt}
+use Rattle.std.specs.Prelude.{pos, neg_ℤ, ◌-ℤ◌, unsigned_abs}
+use Rattle.symbol_map.specs.declared.sample.Sample.{Sample}
+use Rattle.trellis_tables.specs.Codes.{IsBounded, StaysWithin, EntersOnce, Reaches, AreWays, AreAllWays, PointsDiffer}
 
 abbrev pub flips_next : ℕ → ℕ → Option ℕ
 flips_next state label = if nat_lt state 2 && nat_lt label 2 then Some ((state + label) % 2) else None
+
+abbrev pub flips_point : ℕ → Sample
+flips_point label = if nat_eq label 0 then record { re = neg_ℤ (pos 1000); im = pos 0 } else record { re = pos 1000; im = pos 0 }
 
 some_if : (b : Bool) (n to : ℕ) → (if b then Some n else None) ≡ Some to → (b ≡ true) × (n ≡ to)
 some_if true n to h = (refl, cc)
@@ -62,3 +67,24 @@ flips_ways_all s label to e =
     let there = leads_there s label to e in
     let same : (to + label) % 2 ≡ s = omega (arith, in_table.0, in_table.1) in
     (label, 0, in_table.1, omega arith, same, omega arith)
+
+pub flips_differ : PointsDiffer flips_point 2
+flips_differ a b in_a in_b e = elim (cases_eq a b) [
+  | inl same ↦ same
+  | inr differ ↦ elim (cases_eq a 0) [
+    | inl first ↦ let other : b ≡ 1 = omega (arith, between b in_b (λ same. differ (first ∙ sym same))) in absurd (apart (rw (first, other) at e))
+    | inr second ↦ let one : a ≡ 1 = omega (arith, between a in_a second) in let other : b ≡ 0 = elim (cases_eq b 0) [ inl z ↦ z | inr o ↦ absurd (differ (one ∙ sym (between b in_b o))) ] in absurd (apart (sym (rw (one, other) at e)))
+  ]
+]
+  where
+    between : (n : ℕ) → n < 2 → (n ≡ 0 → ⊥) → n ≡ 1
+    between n low some = elim (cases_eq n 0) [ inl z ↦ absurd (some z) | inr o ↦ elim (cases_lt n 1) [ inl l ↦ let z : n ≡ 0 = omega arith in absurd (some z) | inr l ↦ omega arith ] ]
+
+    differs : (m n : ℕ) → m ≡ 2000 → n ≡ 0 → m ≡ n → ⊥
+    differs m n e f g = omega arith
+
+    right_of : Sample → ℕ
+    right_of p = unsigned_abs (p.re -ℤ pos 1000)
+
+    apart : flips_point 0 ≡ flips_point 1 → ⊥
+    apart q = differs (right_of (flips_point 0)) (right_of (flips_point 1)) refl refl (ap right_of q)

@@ -13,6 +13,5 @@ pub mod Kept
 pub mod Memory
 pub mod Decoder
 pub mod Laws
-pub mod Signs
 pub mod Flips
 pub mod Laps

@@ -81,116 +81,13 @@ fn lost_with_the_symbol_after_the_depth(rt: HostRuntime) -> Result<(), NoMemory>
     Ok(())
 }
 
-/// A code of one state, whose two labels tell nothing of each other.
-#[derive(Clone, Copy, Debug)]
-struct Signs;
-
-impl TrellisCode<1, 2> for Signs {
-    ghost use Rattle.std.proofs.Common.{lit≤, refl};
-    ghost use Rattle.exact_decoder.specs.Signs.{signs_next, signs_point, signs_bounded, signs_within, signs_enters_once, signs_reaches, signs_before, signs_subset, signs_ways_within, signs_ways_lead, signs_ways_all, signs_differ};
-
-    const REACH: usize = 1;
-
-    ghost REACH = { 1 };
-
-    const PARALLEL: usize = 1;
-
-    ghost PARALLEL = { 1 };
-
-    const SUBSETS: usize = 2;
-
-    ghost SUBSETS = { 2 };
-
-    const WAYS: usize = 2;
-
-    ghost WAYS = { 2 };
-
-    ghost way_before = { signs_before };
-
-    ghost way_subset = { signs_subset };
-
-    ghost table = { signs_next };
-
-    ghost points = { signs_point };
-
-    fn next(&self, _state: u8, _label: u8) -> Option<u8> {
-        Some(0)
-    }
-
-    fn before(&self, _state: u8, _label: u8) -> Option<u8> {
-        Some(0)
-    }
-
-    fn point(&self, label: u8) -> Sample {
-        if label == 0 {
-            Sample { re: -1000, im: 0 }
-        } else {
-            Sample { re: 1000, im: 0 }
-        }
-    }
-
-    fn way(&self, _state: u8, place: u8) -> Way {
-        Way {
-            before: 0,
-            subset: place,
-        }
-    }
-
-    ghost states_few = { (lit≤ tt, lit≤ tt) };
-
-    ghost labels_few = { (lit≤ tt, lit≤ tt) };
-
-    ghost reach_some = { lit≤ tt };
-
-    ghost reach_few = { lit≤ tt };
-
-    ghost bounded = { signs_bounded };
-
-    ghost within = { signs_within };
-
-    ghost enters_once = { signs_enters_once };
-
-    ghost reaches = { signs_reaches };
-
-    ghost points_differ = { signs_differ };
-
-    ghost parallel_some = { lit≤ tt };
-
-    ghost ways_some = { lit≤ tt };
-
-    ghost ways_few = { lit≤ tt };
-
-    ghost subsets_fill = { refl };
-
-    ghost ways_within = { signs_ways_within };
-
-    ghost ways_lead = { signs_ways_lead };
-
-    ghost ways_all = { signs_ways_all };
-}
-
-#[test]
-fn one_state_releases_each_label(rt: HostRuntime) -> Result<(), NoMemory> {
-    let mut decoder: Decoder<Signs, 1, 2, 1> = Decoder::new(rt.alloc(), Signs, 0)?;
-    assert!(&rt; decoder.push(Sample { re: 7, im: 500 }).is_ok());
-    assert_eq!(&rt; decoder.take(), Some(1));
-    assert_eq!(&rt; decoder.take(), None);
-    assert!(&rt; decoder.push(MIDDLE).is_ok());
-    assert_eq!(&rt; decoder.pending(), 1);
-    assert_eq!(&rt; decoder.take(), Some(0));
-    assert_eq!(&rt; decoder.pending(), 0);
-    assert_eq!(&rt; decoder.finish().as_slice().len(), 0);
-    Ok(())
-}
-
 /// A code of two states, one of whose two labels changes the state.
 #[derive(Clone, Copy, Debug)]
 struct Flips;
 
 impl TrellisCode<2, 2> for Flips {
     ghost use Rattle.std.proofs.Common.{lit≤, refl};
-    ghost use Rattle.exact_decoder.specs.Signs.{signs_point, signs_differ};
-    ghost use Rattle.exact_decoder.specs.Flips.{flips_next, flips_bounded, flips_within, flips_enters_once, flips_reaches, flips_before, flips_subset, flips_ways_within, flips_ways_lead, flips_ways_all};
+    ghost use Rattle.exact_decoder.specs.Flips.{flips_next, flips_point, flips_differ, flips_bounded, flips_within, flips_enters_once, flips_reaches, flips_before, flips_subset, flips_ways_within, flips_ways_lead, flips_ways_all};
 
     const REACH: usize = 1;
 
@@ -214,7 +111,7 @@ impl TrellisCode<2, 2> for Flips {
 
     ghost table = { flips_next };
 
-    ghost points = { signs_point };
+    ghost points = { flips_point };
 
     fn next(&self, state: u8, label: u8) -> Option<u8> {
         Some((state + label) % 2)
@@ -225,7 +122,11 @@ impl TrellisCode<2, 2> for Flips {
     }
 
     fn point(&self, label: u8) -> Sample {
-        Signs.point(label)
+        if label == 0 {
+            Sample { re: -1000, im: 0 }
+        } else {
+            Sample { re: 1000, im: 0 }
+        }
     }
 
     fn way(&self, state: u8, place: u8) -> Way {
@@ -251,7 +152,7 @@ impl TrellisCode<2, 2> for Flips {
 
     ghost reaches = { flips_reaches };
 
-    ghost points_differ = { signs_differ };
+    ghost points_differ = { flips_differ };
 
     ghost parallel_some = { lit≤ tt };
 
