@@ -134,6 +134,7 @@ inputs-run old before n end t r =
 -- it is the one end that the run has
 answered : OneResult → (old before new : FolderState) (n : Names) (s : Status) (found end : PeerEnd) (left : Left) → OnlyOutputs before new []
     → AreTold old n → RanTo old before n found → InputsRunTo old n end left → s ≡ answer_of n.role found → Answered new n end left s
+unfolding ran-of
 answered law old before new n s found end left last t r run e =
     let one = law n.role (octets_at old n.file) (octets_at old n.bits) found end r.left left (inputs-run old before n found t r) run in
     record { answer = e ∙ ap (answer_of n.role) one.0; holds = subst (HoldLeft new n) one.1 (ran-of old before new n found last r).holds }

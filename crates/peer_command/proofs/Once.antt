@@ -82,25 +82,25 @@ never-all laws role file octets turns turn outcome left others h m not =
     never-on laws role file octets turn outcome others h.past m not h.is_past (omega (arith, h.turns_are, h.all, m.has_slot))
 
 -- two last turns are one
-record OneEnd (n m : ℕ) (outcome other : Outcome) (left others : Left) : Type 0 where
+record OneEnd (n m : ℕ) (outcome result : Outcome) (left others : Left) : Type 0 where
   turns : n ≡ m
-  outcomes : outcome ≡ other
+  outcomes : outcome ≡ result
   lefts : left ≡ others
 
-one-end : RunLaws → (role : Role) (file octets : List ℕ) (n m : ℕ) (outcome other : Outcome) (left others : Left)
-    → MakesTurn role file octets n outcome left → MakesTurn role file octets m other others → outcome ≢ Going → other ≢ Going
-    → OneEnd n m outcome other left others
-one-end laws role file octets n m outcome other left others h k not no = elim (cases_lt n m) [
+one-end : RunLaws → (role : Role) (file octets : List ℕ) (n m : ℕ) (outcome result : Outcome) (left others : Left)
+    → MakesTurn role file octets n outcome left → MakesTurn role file octets m result others → outcome ≢ Going → result ≢ Going
+    → OneEnd n m outcome result left others
+one-end laws role file octets n m outcome result left others h k not never = elim (cases_lt n m) [
   | inl less ↦ absurd (never-on laws role file octets n outcome left k.past h not k.is_past (omega (arith, less, k.turn_is)))
   | inr more ↦ elim (cases_lt m n) [
-    | inl less ↦ absurd (never-on laws role file octets m other others h.past k no h.is_past (omega (arith, less, h.turn_is)))
+    | inl less ↦ absurd (never-on laws role file octets m result others h.past k never h.is_past (omega (arith, less, h.turn_is)))
     | inr most ↦
         let turns : n ≡ m = omega (arith, more, most) in
         let same : h.past ≡ k.past = one-past laws role file octets h.past k.past h.is_past k.is_past (sym h.turn_is ∙ turns ∙ k.turn_is) in
         let here : PeerTurn role k.past (slot_at octets m) h.last h.given outcome =
             subst (λ x. PeerTurn role k.past (slot_at octets x) h.last h.given outcome) turns
             (subst (λ (p : Past). PeerTurn role p (slot_at octets n) h.last h.given outcome) same h.is) in
-        let one = laws.turn role k.past (slot_at octets m) h.last k.last h.given k.given outcome other here k.is in
+        let one = laws.turn role k.past (slot_at octets m) h.last k.last h.given k.given outcome result here k.is in
         record {
           turns = turns;
           outcomes = one.2;
@@ -139,6 +139,6 @@ one-result laws role file octets a b left others h k = by (ended role file octet
         (e ∙ ap IsDone count ∙ sym f, x.left_is ∙ ap (left_of role) same ∙ sym y.left_is)
     by (all turns x e) (in_turn turn outcome m not f) = absurd (never-all laws role file octets turns turn outcome left others x m not)
     by (in_turn turn outcome m not e) (all turns y f) = absurd (never-all laws role file octets turns turn outcome others left y m not)
-    by (in_turn n outcome x not e) (in_turn m other y no f) =
-        let one = one-end laws role file octets n m outcome other left others x y not no in
+    by (in_turn n outcome x not e) (in_turn m result y never f) =
+        let one = one-end laws role file octets n m outcome result left others x y not never in
         (e ∙ ap (λ z. end_of z outcome) one.turns ∙ ap (end_of m) one.outcomes ∙ sym f, one.lefts)
