@@ -56,6 +56,17 @@ tells-fault old new line answer s tells e = elim tells.said [
     memory : NoMemory ≡ WriteFault → ⊥
     memory e = cc
 
+-- want of memory is the answer's own, or the say's
+pub tells-memory : (old new : FolderState) (line : List ℕ) (answer s : Status) → Tells old new line answer s → s ≡ NoMemory
+    → (answer ≡ NoMemory) ⊎ Rose old.refusals new.refusals
+tells-memory old new line answer s tells e = elim tells.said [
+  | inl h ↦ inl (sym h.0 ∙ e)
+  | inr h ↦ elim h [ inl f ↦ absurd (write (sym f.0 ∙ e)) | inr f ↦ inr f.1 ]
+]
+  where
+    write : WriteFault ≡ NoMemory → ⊥
+    write e = cc
+
 pub tells-refusal : (old new : FolderState) (line : List ℕ) (answer s : Status) → Tells old new line answer s → IsRefusal s → IsRefusal answer
 tells-refusal old new line answer s tells r = elim tells.said [
   | inl h ↦ subst IsRefusal h.0 r

@@ -9,13 +9,13 @@ use Rattle.command_base.specs.declared.status.Status.TheVariants as status
 use Rattle.command_base.specs.declared.stop.Stop.{Stop}
 use Rattle.command_base.specs.declared.stop.Stop.TheVariants.{Own, Read, Write, Say, NoMemory}
 use Rattle.command_base.specs.Status.{IsRefusal, IsFolderFault, PassesNoneOver}
-use Rattle.command_base.specs.Outputs.{OnlyOutputs}
+use Rattle.command_base.specs.Outputs.{KeepsAll, OnlyOutputs}
 use Rattle.command_base.specs.Stops.{SomeRose, IsOwn, ReadFails, WriteFails, SayFails, StopCounts, EndCounts, fault_status, stop_status, end_status}
 use Rattle.command_base.specs.Job.{Job, SaysLast, Answers, Shared}
 use Rattle.command_base.specs.Sound.{NoneRose, IsSound, DoneUnlessMemory}
 use Rattle.command_base.specs.Tells.{Tells}
 use Rattle.command_base.proofs.OnlyOutputs.{OnlyOutputs-refl, OnlyOutputs-says}
-use Rattle.command_base.proofs.Answering.{IsPlain, done-plain, read-plain, usage-plain, tells-plain, tells-fault, tells-refusal, told-or-memory, stand-later}
+use Rattle.command_base.proofs.Answering.{IsPlain, done-plain, read-plain, usage-plain, tells-plain, tells-fault, tells-memory, tells-refusal, told-or-memory, stand-later}
 
 -- ---- counts over several steps
 
@@ -234,6 +234,46 @@ shared-of j words old new s a = record {
     last : OnlyOutputs a.before new []
     last = last-only j.line_of words a.before new a.end s a.says
 
+-- ---- when want of memory is the answer
+
+last-memory : {D : Type 0} (line_of : D → List ℕ) (words : List (List ℕ)) (before new : FolderState) (end : Result D Stop) (s : Status)
+    → SaysLast line_of words before new end s → s ≡ status.NoMemory → (end_status end ≡ status.NoMemory) ⊎ Rose before.refusals new.refusals
+last-memory line_of words before new (Ok done) s l e = tells-memory before new _ _ s l e
+last-memory line_of words before new (Err (Own answer)) s l e = tells-memory before new _ _ s l e
+last-memory line_of words before new (Err (Read fault)) s l e = tells-memory before new _ _ s l e
+last-memory line_of words before new (Err (Write fault)) s l e = tells-memory before new _ _ s l e
+last-memory line_of words before new (Err (Say fault)) s l e = inl (sym l.1 ∙ e)
+last-memory line_of words before new (Err NoMemory) s l e = tells-memory before new _ _ s l e
+
+own-memory : (answer : Status) → IsOwn answer → answer ≡ status.NoMemory → ⊥
+own-memory answer own e = subst IsOwn e own
+
+end-memory : {D : Type 0} (old new : FolderState) (inputs outputs : List (List ℕ)) (end : Result D Stop) → EndCounts old new inputs outputs end
+    → end_status end ≡ status.NoMemory → (end ≡ Err NoMemory) ⊎ Rose old.refusals new.refusals
+end-memory old new inputs outputs (Err NoMemory) counts e = inl refl
+end-memory old new inputs outputs (Err (Read folder.NoMemory)) counts e = inr counts.1
+end-memory old new inputs outputs (Err (Write folder.NoMemory)) counts e = inr counts
+end-memory old new inputs outputs (Err (Say folder.NoMemory)) counts e = inr counts
+end-memory old new inputs outputs (Err (Own answer)) counts e = absurd (own-memory answer counts.0 e)
+end-memory old new inputs outputs (Ok done) counts e = absurd cc
+end-memory old new inputs outputs (Err (Read folder.Failed)) counts e = absurd cc
+end-memory old new inputs outputs (Err (Write folder.Failed)) counts e = absurd cc
+end-memory old new inputs outputs (Err (Say folder.Failed)) counts e = absurd cc
+
+-- The folder refused memory, or the job had none for what it holds: then no name has changed where it stops so before any does.
+pub memory-of : {D : Type 0} (j : Job D) (words : List (List ℕ)) (old new : FolderState) (s : Status) (a : Answers j words old new s)
+    → (a.end ≡ Err NoMemory → KeepsAll old a.before) → s ≡ status.NoMemory → Rose old.refusals new.refusals ⊎ KeepsAll old new
+memory-of j words old new s a keeps e = elim (last-memory j.line_of words a.before new a.end s a.says e) [
+  | inl own ↦ elim (end-memory old a.before j.inputs j.outputs a.end a.counts own) [
+    | inl is ↦ inr (λ name. KeepsName-trans old a.before new name a.only.goes_on (keeps is name) (last.names name tt))
+    | inr rose ↦ inl (Rose-later _ _ a.before.refusals new.refusals (omega arith) rose last.goes_on.refused)
+  ]
+  | inr rose ↦ inl (Rose-later old.refusals a.before.refusals new.refusals new.refusals a.only.goes_on.refused rose (omega arith))
+]
+  where
+    last : OnlyOutputs a.before new []
+    last = last-only j.line_of words a.before new a.end s a.says
+
 -- ---- when a command is done
 
 NoneRose-some : (before mid now : List ℕ → ℕ) (names : List (List ℕ)) → NoneRose before now names → ((name : List ℕ) → mid name ≤ now name) → SomeRose before mid names → ⊥
@@ -262,3 +302,31 @@ done-unless-memory {D} j words old new s a sound never = elim (last-or-memory j.
     by (Err (Say folder.Failed)) ends counts e = absurd (sound.says (Rose-later _ _ a.before.say_faults new.say_faults (omega arith) counts on.says))
     by (Err (Say folder.NoMemory)) ends counts e = inr e
     by (Err NoMemory) ends counts e = inr e
+
+-- What a job comes to where the folder is sound: it is done, it has an answer of its own, or there was no memory.
+pub data Comes {D : Type 0} (end : Result D Stop) (s : Status) : Type 0 where
+  is_done : (done : D) → end ≡ Ok done → s ≡ status.Done → Comes end s
+  is_own : (answer : Status) → end ≡ Err (Own answer) → s ≡ answer → Comes end s
+  is_memory : s ≡ status.NoMemory → Comes end s
+
+pub comes-to : {D : Type 0} (j : Job D) (words : List (List ℕ)) (old new : FolderState) (s : Status) (a : Answers j words old new s)
+    → IsSound old new j.inputs j.outputs → Comes a.end s
+comes-to {D} j words old new s a sound = elim (last-or-memory j.line_of words old a.before new a.end s a.only.goes_on sound.says a.says) [
+  | inl e ↦ by a.end a.counts e
+  | inr memory ↦ is_memory memory
+]
+  where
+    on : GoesOn a.before new
+    on = (last-only j.line_of words a.before new a.end s a.says).goes_on
+
+    by : (end : Result D Stop) → EndCounts old a.before j.inputs j.outputs end → s ≡ end_status end → Comes end s
+    by (Ok done) counts e = is_done done refl e
+    by (Err (Own answer)) counts e = is_own answer refl e
+    by (Err (Read folder.Failed)) counts e = absurd (NoneRose-some _ _ _ j.inputs sound.reads on.reads counts)
+    by (Err (Read folder.NoMemory)) counts e = is_memory e
+    by (Err (Write folder.Failed)) counts e = absurd (NoneRose-some _ _ _ j.outputs sound.writes on.writes counts)
+    by (Err (Write folder.NoMemory)) counts e = is_memory e
+    by (Err (Say folder.Failed)) counts e =
+        absurd (sound.says (Rose-later _ _ a.before.say_faults new.say_faults (omega arith) counts on.says))
+    by (Err (Say folder.NoMemory)) counts e = is_memory e
+    by (Err NoMemory) counts e = is_memory e

@@ -1,5 +1,5 @@
 -- From every answer to what the command promises.
-use Rattle.std.proofs.Common.{◌≡◌, ◌∙◌, inl, inr, ℕ, Bool, true, false, List, [], ◌++◌, length, ◌≤◌, ◌<◌, Result, Ok, Err, refl, sym, ap, subst, arith}
+use Rattle.std.proofs.Common.{◌≡◌, ◌∙◌, ◌⊎◌, inl, inr, ℕ, Bool, true, false, List, [], ◌++◌, length, ◌≤◌, ◌<◌, Result, Ok, Err, refl, sym, ap, subst, arith}
 use Rattle.std.proofs.lemmas.Bool.{false≢true}
 use Rattle.std.specs.Option.{option_map}
 use Rattle.outside_core.specs.Folder.{FolderState, octets_at}
@@ -10,7 +10,7 @@ use Rattle.link_faults.specs.declared.fault.LinkFault.{LinkFault}
 use Rattle.link_faults.specs.declared.fault.LinkFault.TheVariants as faults
 use Rattle.command_base.specs.declared.limits.TheConstants.{FILE_LIMIT}
 use Rattle.command_base.specs.declared.status.Status.{Status}
-use Rattle.command_base.specs.declared.status.Status.TheVariants.{Done, ReadFault, WriteFault, NotDetected, LinkLost, PeerFault}
+use Rattle.command_base.specs.declared.status.Status.TheVariants.{Done, ReadFault, WriteFault, NotDetected, LinkLost, NoMemory, PeerFault}
 use Rattle.command_base.specs.declared.stop.Stop.{Stop}
 use Rattle.command_base.specs.declared.stop.Stop.TheVariants as stops
 use Rattle.command_base.specs.Job.{Answers}
@@ -20,12 +20,15 @@ use Rattle.command_base.specs.Lines.{done_line}
 use Rattle.command_base.specs.Outputs.{KeepsAll, OnlyOutputs}
 use Rattle.command_base.proofs.Answering.{IsPlain}
 use Rattle.command_base.proofs.Holding.{Holds-kept}
-use Rattle.command_base.proofs.Jobs.{refusal-own, last-only, last-plain, done-of, shared-of, done-unless-memory}
-use Rattle.peer_command.specs.Words.{Names}
-use Rattle.peer_command.specs.Runs.{PeerEnd, IsDone, GivesUp, RunsTo}
-use Rattle.peer_command.specs.Ends.{Ends, EndsBy, IsTooLong, RanTo, peer_job, status_of}
+use Rattle.command_base.proofs.Jobs.{refusal-own, last-only, last-plain, done-of, shared-of, memory-of}
+use Rattle.command_base.proofs.Jobs.{done-unless-memory, Comes, is_done, is_own, is_memory, comes-to}
+use Rattle.command_base.specs.Sound.{IsSound}
+use Rattle.peer_command.specs.Words.{Names, inputs_of, outputs_of}
+use Rattle.peer_command.specs.Runs.{Left, PeerEnd, IsDone, GivesUp, RunsTo}
+use Rattle.peer_command.specs.Ends.{Ends, EndsBy, HoldLeft, IsTooLong, RanTo, answer_of, peer_job, status_of}
 use Rattle.peer_command.specs.Headline.{Ran, GaveUp, RanBy, Headline}
-use Rattle.peer_command.specs.Completes.{IsRight, Completes}
+use Rattle.peer_command.specs.Completes.{AreTold, InputsRunTo, Answered, Completes}
+use Rattle.peer_command.specs.Laws.{OneResult}
 
 -- an end that gives its link up is no refusal of the words or the inputs
 no-refusal : (role : Role) (fault : LinkFault) (turn : ℕ) → IsRefusal (status_of role fault turn) → ⊥
@@ -102,25 +105,68 @@ ran-by words old new n s (LinkLost role segment turn) a last e = gave-up words o
 ran-by words old new n s (PeerFault fault turn) a last e = gave-up words old new n s (PeerFault fault turn) a last refl e
 ran-by words old new n s t a last e = tt
 
+none-changed : (old before : FolderState) (n : Names) (end : Result ℕ Stop) → Ends old before n end → end ≡ Err stops.NoMemory → KeepsAll old before
+none-changed old before n end e is = (subst (λ (x : Result ℕ Stop). Ends old before n x) is e).0
+
 -- what the command promises holds of every answer
-pub headline-of : (words : List (List ℕ)) (old new : FolderState) (n : Names) (s : Status) → Answers (peer_job n) words old new s → Headline old new n s
+pub headline-of : (words : List (List ℕ)) (old new : FolderState) (n : Names) (s : Status) → Answers (peer_job n) words old new s
+    → Headline old new n s
 headline-of words old new n s a = record {
   shared = shared-of (peer_job n) words old new s a;
   ran = ran-by words old new n s s a (last-only done_line words a.before new a.end s a.says) refl;
+  memory = memory-of (peer_job n) words old new s a (none-changed old a.before n a.end a.ends.0);
 }
 
--- ---- when it is done
+-- ---- over a sound folder
 
 never-longer : (count : ℕ) → count ≤ 1048576 → FILE_LIMIT < count → ⊥
 never-longer count within longer = omega (arith, within, longer)
 
-never-own : (old before : FolderState) (n : Names) (answer : Status) → IsRight old n → EndsBy old before n (stops.Own answer) → ⊥
-never-own old before n answer r (inl (keeps, inl long)) = never-longer (length (octets_at old n.bits)) r.bits_within (long.1 r.bits_told)
-never-own old before n answer r (inl (keeps, inr long)) = never-longer (length (octets_at old n.file)) r.file_within (long.2 r.file_told)
-never-own old before n answer r (inr e) =
-    r.stays e.0 e.1 e.3.left
-    (subst (λ (file : List ℕ). RunsTo n.role file (octets_at old n.bits) (GivesUp e.0 e.1) e.3.left) (e.3.takes.file_is r.file_told)
-    (subst (λ (octets : List ℕ). RunsTo n.role e.3.file octets (GivesUp e.0 e.1) e.3.left) (e.3.takes.bits_are r.bits_told) e.3.run))
+never-long : (old : FolderState) (n : Names) (answer : Status) → AreTold old n → IsTooLong old n answer → ⊥
+never-long old n answer t (inl long) = never-longer (length (octets_at old n.bits)) t.bits_within (long.1 t.bits_told)
+never-long old n answer t (inr long) = never-longer (length (octets_at old n.file)) t.file_within (long.2 t.file_told)
 
-pub completes-of : (words : List (List ℕ)) (old new : FolderState) (n : Names) (s : Status) → Answers (peer_job n) words old new s → Completes old new n s
-completes-of words old new n s a sound r = done-unless-memory (peer_job n) words old new s a sound (λ answer e. never-own old a.before n answer r e.0)
+inputs-run : (old before : FolderState) (n : Names) (end : PeerEnd) → AreTold old n → (r : RanTo old before n end) → InputsRunTo old n end r.left
+inputs-run old before n end t r =
+    subst (λ (file : List ℕ). RunsTo n.role file (octets_at old n.bits) end r.left) (r.takes.file_is t.file_told)
+    (subst (λ (octets : List ℕ). RunsTo n.role r.file octets end r.left) (r.takes.bits_are t.bits_told) r.run)
+
+-- it is the one end that the run has
+answered : OneResult → (old before new : FolderState) (n : Names) (s : Status) (found end : PeerEnd) (left : Left) → OnlyOutputs before new []
+    → AreTold old n → RanTo old before n found → InputsRunTo old n end left → s ≡ answer_of n.role found → Answered new n end left s
+unfolding ran-of
+answered law old before new n s found end left last t r run e =
+    let one = law n.role (octets_at old n.file) (octets_at old n.bits) found end r.left left (inputs-run old before n found t r) run in
+    record { answer = e ∙ ap (answer_of n.role) one.0; holds = subst (HoldLeft new n) one.1 (ran-of old before new n found last r).holds }
+
+exact-of : OneResult → (words : List (List ℕ)) (old new : FolderState) (n : Names) (s : Status) → Answers (peer_job n) words old new s
+    → IsSound old new (inputs_of n) (outputs_of n) → AreTold old n → (end : PeerEnd) (left : Left) → InputsRunTo old n end left
+    → Answered new n end left s ⊎ (s ≡ NoMemory)
+exact-of law words old new n s a sound t end left run = by (comes-to (peer_job n) words old new s a sound)
+  where
+    last : OnlyOutputs a.before new []
+    last = last-only done_line words a.before new a.end s a.says
+
+    own : (answer : Status) → s ≡ answer → EndsBy old a.before n (stops.Own answer) → Answered new n end left s ⊎ (s ≡ NoMemory)
+    own answer e (inl refused) = absurd (never-long old n answer t refused.1)
+    own answer e (inr r) = inl (answered law old a.before new n s (GivesUp r.0 r.1) end left last t r.3 run (e ∙ r.2))
+
+    by : Comes a.end s → Answered new n end left s ⊎ (s ≡ NoMemory)
+    by (is_done turns is e) =
+        inl (answered law old a.before new n s (IsDone turns) end left last t (subst (λ (x : Result ℕ Stop). Ends old a.before n x) is a.ends.0) run e)
+    by (is_own answer is e) = own answer e (subst (λ (x : Result ℕ Stop). Ends old a.before n x) is a.ends.0)
+    by (is_memory e) = inr e
+
+never-own : (old before : FolderState) (n : Names) (answer : Status) → AreTold old n
+    → ((fault : LinkFault) (turn : ℕ) (left : Left) → InputsRunTo old n (GivesUp fault turn) left → ⊥)
+    → EndsBy old before n (stops.Own answer) → ⊥
+never-own old before n answer t stays (inl refused) = never-long old n answer t refused.1
+never-own old before n answer t stays (inr e) = stays e.0 e.1 e.3.left (inputs-run old before n (GivesUp e.0 e.1) t e.3)
+
+pub completes-of : OneResult → (words : List (List ℕ)) (old new : FolderState) (n : Names) (s : Status) → Answers (peer_job n) words old new s
+    → Completes old new n s
+completes-of law words old new n s a = record {
+  exact = exact-of law words old new n s a;
+  done = λ sound t stays.
+      done-unless-memory (peer_job n) words old new s a sound (λ answer e. never-own old a.before n answer t stays e.0);
+}

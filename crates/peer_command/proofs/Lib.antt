@@ -2,3 +2,4 @@ mod Slots
 mod Reaching
 mod Starting
 mod Headline
+mod Once

@@ -15,7 +15,8 @@ use Rattle.single_end.specs.declared.step.SingleFault.TheVariants as faults
 use Rattle.single_end.specs.Heard.{slot_octets}
 use Rattle.single_end.specs.Peer.{Past, PeerRun, PeerTurn, Outcome, Going, Closed, Broken, party_of, after, over, trace_of, turn_line}
 use Rattle.single_end.specs.Single.{KnowsFile, OnlyOutputs, SingleAfter, file_limit}
-use Rattle.single_end.specs.Turn.{Makes, Stops, EndsBy as TurnEndsBy}
+use Rattle.single_end.specs.Turn.{Makes, Stops, WritesPart, EndsBy as TurnEndsBy}
+use Rattle.single_end.specs.Turn as turns
 use Rattle.command_base.specs.declared.limits.TheConstants.{FILE_LIMIT}
 use Rattle.command_base.specs.Inputs.{IsWithin, ReadTo}
 use Rattle.command_base.specs.Outputs.{Holds, HoldsPart}
@@ -23,7 +24,7 @@ use Rattle.command_base.proofs.Holding.{Holds-kept, Holds-more, Holds-add, Holds
 use Rattle.command_base.proofs.Reading.{ReadTo-begins, ReadTo-kept}
 use Rattle.peer_command.specs.Words.{Names, turn_names}
 use Rattle.peer_command.specs.Runs.{Left, PeerEnd, IsDone, GivesUp, MakesTurn, RunsTo, left_of, left_after, slot_at, slots_before}
-use Rattle.peer_command.specs.Ends.{Takes, HoldLeft, RanTo, StopsRunning, EndsBy}
+use Rattle.peer_command.specs.Ends.{Takes, HoldLeft, HoldPart, of_octets, of_line, RanTo, StopsRunning, EndsBy}
 use Rattle.peer_command.specs.Turns.{Reached, fault_stop}
 use Rattle.peer_command.proofs.Slots.{slots-front, slot-behind, full-slot, short-slot, slots-whole, slots-short, slots-more}
 
@@ -159,6 +160,16 @@ ends-in start mid next n p octets slot turn outcome end a number m by =
       holds = made-holds mid next n p slot outcome a.only.goes_on a.holds m;
     }
 
+-- or a part of that
+stopped-holds : (mid next : FolderState) (n : Names) (p : Past) (octets line : List ℕ) → GoesOn mid next → HoldLeft mid n (left_of n.role p)
+    → WritesPart mid next (turn_names n) octets line → HoldPart next n (left_of n.role p) octets line
+stopped-holds mid next n p octets line on h (turns.of_octets got trace) =
+    of_octets (HoldsPart-more mid next n.got (concat p.account.incoming.taken) octets on h.got got)
+    (Holds-kept mid next n.trace (trace_of n.role p.turns) on h.trace trace)
+stopped-holds mid next n p octets line on h (turns.of_line got trace) =
+    of_line (Holds-add mid next n.got (concat p.account.incoming.taken) octets on h.got got)
+    (HoldsPart-more mid next n.trace (trace_of n.role p.turns) line on h.trace trace)
+
 -- the folder fails in it
 pub stops-in : (start mid next : FolderState) (n : Names) (p : Past) (octets slot : List ℕ) (turn : ℕ) → Around start mid next n p octets slot → turn ≡ length p.turns
     → Stops n.role mid next (turn_names n) p slot → StopsRunning start next n
@@ -175,9 +186,8 @@ stops-in start mid next n p octets slot turn a number s =
         outcome = s.outcome;
         left = left_after n.role (over s.others p) s.turn s.octets;
         makes = makes-turn n.role (over s.others p) octets slot k.rest turn s.outcome s.turn s.octets number a.count a.slots_are a.some k.cut s.is;
-        got = HoldsPart-more mid next n.got (concat p.account.incoming.taken) s.octets a.only.goes_on a.holds.got s.writes.got;
-        trace = subst (λ m. HoldsPart next n.trace (trace_of n.role p.turns) (turn_line n.role m s.turn)) (sym number)
-            (HoldsPart-more mid next n.trace (trace_of n.role p.turns) (turn_line n.role (length p.turns) s.turn) a.only.goes_on a.holds.trace s.writes.trace);
+        holds = subst (λ m. HoldPart next n (left_of n.role p) s.octets (turn_line n.role m s.turn)) (sym number)
+            (stopped-holds mid next n p s.octets (turn_line n.role (length p.turns) s.turn) a.only.goes_on a.holds s.writes);
       });
     }
 

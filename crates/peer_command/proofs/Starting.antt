@@ -1,7 +1,7 @@
 -- Before the first turn, and what a turn's answer says of a run.
 use Rattle.std.proofs.Common.{◌≡◌, ◌∙◌, inl, inr, ℕ, ◌<◌, ◌≤◌, ◌+◌, List, [], ◌∷◌, length, take, refl, sym, subst, arith}
 use Rattle.std.proofs.lemmas.List.{length-take}
-use Rattle.outside_core.specs.Folder.{FolderState, octets_at, GoesOn, KeepsName, OnlyReads}
+use Rattle.outside_core.specs.Folder.{FolderState, octets_at, GoesOn, KeepsName, OnlyReads, CountsStand}
 use Rattle.outside_core.specs.Steps.{GoesOn-trans, KeepsName-trans, octets-kept, told_later}
 use Rattle.roles.specs.declared.role.Role.{Role}
 use Rattle.link_account.specs.Account.{fresh}
@@ -16,9 +16,10 @@ use Rattle.command_base.specs.declared.limits.TheConstants.{FILE_LIMIT}
 use Rattle.command_base.specs.declared.stop.Stop.{Stop}
 use Rattle.command_base.specs.declared.stop.Stop.TheVariants.{Own, Read, Write, Say, NoMemory}
 use Rattle.command_base.specs.Inputs.{IsWithin, IsLonger, IsNotWithin}
-use Rattle.command_base.specs.Outputs.{AreApart, CreatesPart, Creates, IsNoneOf, KeepsEach, OnlyOutputs}
+use Rattle.command_base.specs.Outputs.{KeepsAll, AreApart, CreatesPart, Creates, IsNoneOf, KeepsEach, OnlyOutputs}
 use Rattle.command_base.proofs.Creating.{CreatesPart-earlier}
 use Rattle.command_base.proofs.Reading.{ReadTo-none}
+use Rattle.command_base.proofs.Jobs.{stop-earlier}
 use Rattle.run_inputs.specs.Words.{AreNoneOf}
 use Rattle.peer_command.specs.Words.{Names, turn_names, inputs_of, outputs_of}
 use Rattle.peer_command.specs.Runs.{IsDone}
@@ -85,7 +86,7 @@ reached-first begin mid now n s b only c d role first = record {
 
 pub bits-refused : (old new : FolderState) (n : Names) (stop : Stop) → OnlyReads old new → IsNotWithin old new n.bits FILE_LIMIT 3 stop → EndsBy old new n stop
 bits-refused old new n (Own answer) reads why = inl (reads.names, inl (why.0, why.1))
-bits-refused old new n (Read fault) reads why = inl reads.names
+bits-refused old new n (Read fault) reads why = inl (reads.names, inl why)
 bits-refused old new n (Write fault) reads never = absurd never
 bits-refused old new n (Say fault) reads never = absurd never
 bits-refused old new n NoMemory reads never = absurd never
@@ -96,10 +97,15 @@ longer-earlier old mid name limit reads longer told = subst (λ (o : List ℕ). 
 pub within-earlier : (old mid : FolderState) (name : List ℕ) (limit : ℕ) → OnlyReads old mid → IsWithin mid name limit → IsWithin old name limit
 within-earlier old mid name limit reads within told = subst (λ (o : List ℕ). length o ≤ limit) (octets-kept old mid name (reads.names name) told) (within (told_later reads.goes_on name told))
 
-pub file-refused : (old mid new : FolderState) (n : Names) (stop : Stop) → OnlyReads old mid → OnlyReads mid new → IsWithin old n.bits FILE_LIMIT → IsNotWithin mid new n.file FILE_LIMIT 2 stop → EndsBy old new n stop
-file-refused old mid new n (Own answer) first reads within why =
-    inl (λ name. KeepsName-trans old mid new name first.goes_on (first.names name) (reads.names name), inr (why.0, within, longer-earlier old mid n.file FILE_LIMIT first why.1))
-file-refused old mid new n (Read fault) first reads within why = inl (λ name. KeepsName-trans old mid new name first.goes_on (first.names name) (reads.names name))
-file-refused old mid new n (Write fault) first reads within never = absurd never
-file-refused old mid new n (Say fault) first reads within never = absurd never
-file-refused old mid new n NoMemory first reads within never = absurd never
+keeps-both : (old mid new : FolderState) → OnlyReads old mid → OnlyReads mid new → KeepsAll old new
+keeps-both old mid new first reads name = KeepsName-trans old mid new name first.goes_on (first.names name) (reads.names name)
+
+pub file-refused : (old mid new : FolderState) (n : Names) (stop : Stop) → OnlyReads old mid → CountsStand old mid → OnlyReads mid new
+    → IsWithin old n.bits FILE_LIMIT → IsNotWithin mid new n.file FILE_LIMIT 2 stop → EndsBy old new n stop
+file-refused old mid new n (Own answer) first stand reads within why =
+    inl (keeps-both old mid new first reads, inr (why.0, within, longer-earlier old mid n.file FILE_LIMIT first why.1))
+file-refused old mid new n (Read fault) first stand reads within why =
+    inl (keeps-both old mid new first reads, inr (within, stop-earlier old mid new (n.file ∷ []) [] (Read fault) stand why))
+file-refused old mid new n (Write fault) first stand reads within never = absurd never
+file-refused old mid new n (Say fault) first stand reads within never = absurd never
+file-refused old mid new n NoMemory first stand reads within never = absurd never

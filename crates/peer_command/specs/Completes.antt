@@ -1,20 +1,34 @@
--- When nothing but want of memory keeps the command from being done.
-use Rattle.std.specs.Prelude.{ℕ, ◌≤◌, IsTrue, length}
+-- Which answer the inputs have over a sound folder, and when it is that the command is done.
+use Rattle.std.specs.Prelude.{◌≡◌, ◌⊎◌, ℕ, ◌≤◌, IsTrue, length}
 use Rattle.outside_core.specs.Folder.{FolderState, octets_at}
 use Rattle.link_faults.specs.declared.fault.LinkFault.{LinkFault}
 use Rattle.command_base.specs.declared.status.Status.{Status}
+use Rattle.command_base.specs.declared.status.Status.TheVariants.{NoMemory}
 use Rattle.command_base.specs.Sound.{IsSound, DoneUnlessMemory}
 use Rattle.peer_command.specs.Words.{Names, inputs_of, outputs_of}
-use Rattle.peer_command.specs.Runs.{Left, GivesUp, RunsTo}
+use Rattle.peer_command.specs.Runs.{Left, PeerEnd, GivesUp, RunsTo}
+use Rattle.peer_command.specs.Ends.{HoldLeft, answer_of}
 
--- The inputs are told and have at most 1,048,576 octets each, and the end doesn't give its link up.
-pub record IsRight (old : FolderState) (n : Names) : Type 0 where
+-- The inputs are told, and have at most 1,048,576 octets each.
+pub record AreTold (old : FolderState) (n : Names) : Type 0 where
   pub file_told : IsTrue (old.tells n.file)
   pub bits_told : IsTrue (old.tells n.bits)
   pub file_within : length (octets_at old n.file) ≤ 1048576
   pub bits_within : length (octets_at old n.bits) ≤ 1048576
-  pub stays : (fault : LinkFault) (turn : ℕ) (left : Left) → RunsTo n.role (octets_at old n.file) (octets_at old n.bits) (GivesUp fault turn) left → ⊥
 
--- and the folder is sound
-abbrev pub Completes : FolderState → FolderState → Names → Status → Type 0
-Completes old new n s = IsSound old new (inputs_of n) (outputs_of n) → IsRight old n → DoneUnlessMemory s
+-- the run of the folder's file and bits ends so, and leaves this
+abbrev pub InputsRunTo : FolderState → Names → PeerEnd → Left → Type 0
+InputsRunTo old n end left = RunsTo n.role (octets_at old n.file) (octets_at old n.bits) end left
+
+-- The answer is that to this end of a run, and the outputs hold what it leaves.
+pub record Answered (new : FolderState) (n : Names) (end : PeerEnd) (left : Left) (s : Status) : Type 0 where
+  pub answer : s ≡ answer_of n.role end
+  pub holds : HoldLeft new n left
+
+-- Over a sound folder, however the run of the inputs ends, that is the answer, or there was no memory; and where the end doesn't give its
+-- link up in it, the command is done.
+pub record Completes (old new : FolderState) (n : Names) (s : Status) : Type 0 where
+  pub exact : IsSound old new (inputs_of n) (outputs_of n) → AreTold old n → (end : PeerEnd) (left : Left) → InputsRunTo old n end left
+      → Answered new n end left s ⊎ (s ≡ NoMemory)
+  pub done : IsSound old new (inputs_of n) (outputs_of n) → AreTold old n
+      → ((fault : LinkFault) (turn : ℕ) (left : Left) → InputsRunTo old n (GivesUp fault turn) left → ⊥) → DoneUnlessMemory s

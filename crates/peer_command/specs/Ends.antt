@@ -1,20 +1,21 @@
 -- How the job of the command ends, before its line is said. What is said of a name's octets holds where the folder tells that name.
-use Rattle.std.specs.Prelude.{◌≡◌, ◌⊎◌, ℕ, IsTrue, List, Result, Ok, Err}
+use Rattle.std.specs.Prelude.{◌≡◌, ◌⊎◌, ℕ, IsTrue, List, [], ◌∷◌, ◌++◌, Result, Ok, Err}
 use Rattle.outside_core.specs.Folder.{FolderState, octets_at}
+use Rattle.outside_core.specs.declared.folder.FolderFault.{FolderFault}
 use Rattle.roles.specs.declared.role.Role.{Role}
 use Rattle.link_faults.specs.declared.fault.LinkFault.{LinkFault}
 use Rattle.link_faults.specs.declared.fault.LinkFault.TheVariants as faults
 use Rattle.command_base.specs.declared.limits.TheConstants.{FILE_LIMIT}
 use Rattle.command_base.specs.declared.status.Status.{Status}
-use Rattle.command_base.specs.declared.status.Status.TheVariants.{TooLong, NotDetected, LinkLost, PeerFault}
+use Rattle.command_base.specs.declared.status.Status.TheVariants.{Done, TooLong, NotDetected, LinkLost, PeerFault}
 use Rattle.command_base.specs.declared.stop.Stop.{Stop}
 use Rattle.command_base.specs.declared.stop.Stop.TheVariants.{Own, Read, Write, Say, NoMemory}
 use Rattle.command_base.specs.Inputs.{IsWithin, IsLonger}
 use Rattle.command_base.specs.Job.{Job}
 use Rattle.command_base.specs.Lines.{done_line}
+use Rattle.command_base.specs.Stops.{ReadFails}
 use Rattle.command_base.specs.Outputs.{Holds, HoldsPart, KeepsAll, CreatesPart, SaysNothing}
-use Rattle.std.specs.List.{concat}
-use Rattle.single_end.specs.Peer.{Past, Outcome, trace_of, turn_line}
+use Rattle.single_end.specs.Peer.{Past, Outcome, turn_line}
 use Rattle.peer_command.specs.Words.{Names, inputs_of, outputs_of}
 use Rattle.peer_command.specs.Runs.{Left, PeerEnd, IsDone, GivesUp, IsPast, MakesTurn, RunsTo, left_of}
 
@@ -45,14 +46,19 @@ pub record StopsBetween (new : FolderState) (n : Names) (file octets : List ℕ)
   pub is_past : IsPast n.role file octets past
   pub holds : HoldLeft new n (left_of n.role past)
 
+-- The outputs hold what turns left, and a part of what the next one adds: one of its octets, and nothing of its line; or one of its line,
+-- behind all its octets.
+pub data HoldPart (f : FolderState) (n : Names) (before : Left) (octets line : List ℕ) : Type 0 where
+  of_octets : HoldsPart f n.got before.got octets → Holds f n.trace before.trace → HoldPart f n before octets line
+  of_line : Holds f n.got (before.got ++ octets) → HoldsPart f n.trace before.trace line → HoldPart f n before octets line
+
 -- It failed in a turn: they hold that, and a part of what this turn adds, whatever it comes to.
 pub record StopsWithin (new : FolderState) (n : Names) (file octets : List ℕ) : Type 0 where
   pub turn : ℕ
   pub outcome : Outcome
   pub left : Left
   pub makes : MakesTurn n.role file octets turn outcome left
-  pub got : HoldsPart new n.got (concat makes.past.account.incoming.taken) makes.given
-  pub trace : HoldsPart new n.trace (trace_of n.role makes.past.turns) (turn_line n.role turn makes.last)
+  pub holds : HoldPart new n (left_of n.role makes.past) makes.given (turn_line n.role turn makes.last)
 
 -- The folder failed once the outputs were created.
 pub record StopsRunning (old new : FolderState) (n : Names) : Type 0 where
@@ -73,11 +79,21 @@ IsTooLong old n answer =
     ((answer ≡ TooLong 3) × IsLonger old n.bits FILE_LIMIT)
     ⊎ ((answer ≡ TooLong 2) × IsWithin old n.bits FILE_LIMIT × IsLonger old n.file FILE_LIMIT)
 
+-- why the length of an input is not known: that of the bits, or, once they are within their limit, that of the file
+abbrev pub FailsToLook : FolderState → FolderState → Names → FolderFault → Type 0
+FailsToLook old new n fault =
+    ReadFails old new (n.bits ∷ []) fault ⊎ (IsWithin old n.bits FILE_LIMIT × ReadFails old new (n.file ∷ []) fault)
+
 -- the answer of an end that gives its link up: a pattern of the answerer's never came, its tries are spent, or the peer is at fault
 abbrev pub status_of : Role → LinkFault → ℕ → Status
 status_of role faults.NotDetected turn = NotDetected turn
 status_of role (faults.Spent segment since) turn = LinkLost role segment turn
 status_of role fault turn = PeerFault fault turn
+
+-- the answer to how a run ends
+abbrev pub answer_of : Role → PeerEnd → Status
+answer_of role (IsDone turns) = Done
+answer_of role (GivesUp fault turn) = status_of role fault turn
 
 -- the run ended as the end gave its link up
 abbrev pub RanBy : FolderState → FolderState → Names → Status → Type 0
@@ -86,7 +102,7 @@ RanBy old new n answer = (fault : LinkFault) × (turn : ℕ) × (answer ≡ stat
 -- why the job is not done: for the inputs' lengths, for what becomes of the run, or for the folder
 abbrev pub EndsBy : FolderState → FolderState → Names → Stop → Type 0
 EndsBy old new n (Own answer) = (KeepsAll old new × IsTooLong old n answer) ⊎ RanBy old new n answer
-EndsBy old new n (Read fault) = KeepsAll old new ⊎ StopsRunning old new n
+EndsBy old new n (Read fault) = (KeepsAll old new × FailsToLook old new n fault) ⊎ StopsRunning old new n
 EndsBy old new n (Write fault) = StopsCreating old new n ⊎ StopsRunning old new n
 EndsBy old new n (Say fault) = ⊥
 EndsBy old new n NoMemory = KeepsAll old new × IsWithin old n.bits FILE_LIMIT × IsWithin old n.file FILE_LIMIT

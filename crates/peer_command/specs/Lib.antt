@@ -4,3 +4,4 @@ pub mod Ends
 pub mod Turns
 pub mod Completes
 pub mod Headline
+pub mod Laws

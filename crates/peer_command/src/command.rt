@@ -14,14 +14,15 @@ ghost use Rattle.peer_command.specs.Turns.{IsBegun};
 ghost use Rattle.peer_command.specs.Headline.{Headline};
 ghost use Rattle.peer_command.specs.Completes.{Completes};
 
+use crate::laws::one_result;
 use crate::turns::run_turns;
 use crate::words::PeerWords;
 use command_base::{
     FILE_LIMIT, Status, Stop, create_outputs, tell, tell_stop, within_limit, write_done,
 };
-use line_world::Single;
 use outside_core::Folder;
 use run_inputs::laws::apart_names_differ;
+use single_end::Single;
 use std::alloc::Global;
 
 /// The places of the inputs' names among the words.
@@ -104,12 +105,12 @@ pub fn peer<F: Folder>(
     // The run of the file and the bits is made to its end, whatever the peer sent, and the outputs hold what it leaves.
     ensures headline { Headline (F.state folder.old) (F.state folder.new) (named names.now) result }
 
-    // Where the inputs are short enough, the folder is sound and the end doesn't give its link up, nothing but want of memory keeps it from
-    // being done.
+    // Over a sound folder, however the run of the inputs ends, that is the answer, but for want of memory.
     ensures completes { Completes (F.state folder.old) (F.state folder.new) (named names.now) result }
 
     // Each answer comes where it has to, with its line.
     ensures answer { Answers (peer_job (named names.now)) (map string_bytes words.now) (F.state folder.old) (F.state folder.new) result }
 {
+    one_result();
     meet_and_tell(alloc, folder, words, names)
 }

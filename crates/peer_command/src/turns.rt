@@ -14,11 +14,11 @@ ghost use Rattle.peer_command.specs.Turns.{Reached, fault_stop};
 
 use crate::words::PeerWords;
 use command_base::{FILE_LIMIT, LinkFault, Status, Stop, read_piece};
-use line_world::{SLOT_OCTETS, Single, SingleFault, SingleStep};
 use link_run::laws::lone_turns_deliver_what_came;
 use outside_core::{Folder, FolderFault};
 use roles::Role;
 use run_inputs::laws::apart_names_differ;
+use single_end::{SLOT_OCTETS, Single, SingleFault, SingleStep};
 
 /// The answer of an end that gives its link up in this turn.
 fn status_of(role: Role, fault: LinkFault, turn: u64) -> Status

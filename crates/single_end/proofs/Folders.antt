@@ -1,13 +1,13 @@
 -- What the steps of a turn leave of the folder, in a row.
 use Rattle.std.proofs.Common.{◌≡◌, inl, inr, ℕ, ◌≤◌, ◌++◌, List, length, take, IsTrue, sym, ◌∙◌, ap, subst, Some, Err}
 use Rattle.outside_core.specs.Folder.{FolderState, KeepsName, GoesOn, OnlyReads, OnlyWrites, Adds, Appended, PartlyAppended, CountsStand, Rose}
-use Rattle.outside_core.specs.Steps.{GoesOn-trans, told_later, KeepsName-trans, octets-kept, Adds-kept, PartlyAppended-all, kept-PartlyAppended, FaultsStand-trans, CountsStand-trans}
+use Rattle.outside_core.specs.Steps.{GoesOn-trans, told_later, KeepsName-trans, octets-kept, Adds-kept, kept-PartlyAppended, FaultsStand-trans, CountsStand-trans}
 use Rattle.stations.specs.Station.{file_at, ReadsOn}
 use Rattle.link_account.specs.Account.{Account}
 use Rattle.single_end.specs.declared.step.SingleFault.{SingleFault}
 use Rattle.single_end.specs.declared.step.SingleFault.TheVariants as faults
 use Rattle.single_end.specs.Single.{PeerNames, AreApart, OnlyOutputs, StaysKnown, file_limit}
-use Rattle.single_end.specs.Turn.{WritesTurn, WritesPart, FaultCounts}
+use Rattle.single_end.specs.Turn.{WritesTurn, WritesPart, of_line, FaultCounts}
 use Rattle.single_end.specs.Mid.{WriteCounts, ReadCounts}
 
 -- ---- what was touched
@@ -74,10 +74,8 @@ writes-turn a b c n octets text apart g d k w t = record {
 -- or a part of it
 pub writes-part : (a b c : FolderState) (n : PeerNames) (octets text : List ℕ) → AreApart n → GoesOn a b → Adds a b n.got octets → KeepsName a b n.trace → OnlyWrites b c n.trace
     → PartlyAppended b c n.trace text → WritesPart a c n octets text
-writes-part a b c n octets text apart g d k w t = record {
-  got = PartlyAppended-all a c n.got octets (Adds-kept a b c n.got octets g d (w.names n.got apart.got_trace));
-  trace = kept-PartlyAppended a b c n.trace text g k t;
-}
+writes-part a b c n octets text apart g d k w t =
+    of_line (Adds-kept a b c n.got octets g d (w.names n.got apart.got_trace)) (kept-PartlyAppended a b c n.trace text g k t)
 
 -- ---- which file is known
 

@@ -1,3 +1,5 @@
 mod Hearing
 mod Folders
 mod Turning
+mod Breaking
+mod Once

@@ -5,7 +5,7 @@ use Rattle.std.proofs.lemmas.Bool.{false≢true}
 use Rattle.std.specs.Prelude.{slice_get, is_ok}
 use Rattle.std.specs.Option.{option_map}
 use Rattle.outside_core.specs.Folder.{FolderState, KeepsName, GoesOn, OnlyReads, OnlyWrites, Adds, Appended, PartlyAppended}
-use Rattle.outside_core.specs.Steps.{GoesOn-refl, KeepsName-trans, Adds-kept, PartlyAppended-none, PartlyAppended-all}
+use Rattle.outside_core.specs.Steps.{GoesOn-refl, KeepsName-trans, Adds-kept, PartlyAppended-none}
 use Rattle.roles.specs.declared.role.Role.{Role}
 use Rattle.roles.specs.declared.role.Role.TheVariants.{Originator, Answerer}
 use Rattle.roles.specs.Role.{is_originator, other}
@@ -28,7 +28,7 @@ use Rattle.single_end.specs.Heard.{IsHeard, stream, slot_bits}
 use Rattle.single_end.specs.Ear.{HasHeard}
 use Rattle.single_end.specs.Peer.{Past, PeerRun, PeerTurn, Outcome, Going, Closed, Broken, party_of, over, heard_as, turn_line}
 use Rattle.single_end.specs.Single.{PeerNames, AreApart, StaysKnown, file_limit}
-use Rattle.single_end.specs.Turn.{Makes, Stops, GoesOnBy, EndsBy}
+use Rattle.single_end.specs.Turn.{Makes, Stops, GoesOnBy, EndsBy, of_octets, of_line}
 use Rattle.single_end.specs.Mid.{InTurn, BreaksOff, Serves, AddsLine, AddsPart, HasGone, EndsLine, IsWriting, ReadCounts, handed, served_with}
 use Rattle.single_end.proofs.Folders.{got-only, trace-only, reads-only, then-only, writes-turn, writes-part, stays-known}
 use Rattle.single_end.specs.declared.single.Single.{Single}
@@ -380,7 +380,7 @@ not-handed law s a b n p slot arrived mid apart within h w part =
       octets = concat (deliveries mid);
       outcome = m.outcome;
       is = m.is;
-      writes = record { got = part; trace = PartlyAppended-none a b n.trace _ (w.names n.trace (λ e. apart.got_trace (sym e))) };
+      writes = of_octets part (w.names n.trace (λ e. apart.got_trace (sym e)));
     }
 
 -- or the file isn't read
@@ -396,10 +396,9 @@ not-read law s a b d n p slot arrived mid now apart within h w adds r =
       octets = concat (deliveries mid);
       outcome = m.outcome;
       is = m.is;
-      writes = record {
-        got = PartlyAppended-all a d n.got _ (Adds-kept a b d n.got _ w.goes_on adds (r.names n.got));
-        trace = PartlyAppended-none a d n.trace _ (KeepsName-trans a b d n.trace w.goes_on (w.names n.trace (λ e. apart.got_trace (sym e))) (r.names n.trace));
-      };
+      writes = of_line (Adds-kept a b d n.got _ w.goes_on adds (r.names n.got))
+          (PartlyAppended-none a d n.trace _
+          (KeepsName-trans a b d n.trace w.goes_on (w.names n.trace (λ e. apart.got_trace (sym e))) (r.names n.trace)));
     }
 
 pub reading-ends : (role : Role) (a b d : FolderState) (n : PeerNames) (p : Past) (slot : List ℕ) (fault : SingleFault) → ReadCounts {T = Unit {0}} b d n.file (Err fault) → Stops role a d n p slot

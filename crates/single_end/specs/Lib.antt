@@ -4,3 +4,4 @@ pub mod Ear
 pub mod Single
 pub mod Turn
 pub mod Mid
+pub mod Laws

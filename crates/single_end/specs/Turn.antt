@@ -1,6 +1,6 @@
 -- What a turn answers, what it adds to both outputs, and what is left where the folder doesn't take that.
 use Rattle.std.specs.Prelude.{◌⊎◌, ℕ, List, length, Result, Ok, Err}
-use Rattle.outside_core.specs.Folder.{FolderState, Adds, Appended, PartlyAppended, Rose, FaultsStand, CountsStand}
+use Rattle.outside_core.specs.Folder.{FolderState, KeepsName, Adds, Appended, PartlyAppended, Rose, FaultsStand, CountsStand}
 use Rattle.outside_core.specs.declared.folder.FolderFault.{FolderFault}
 use Rattle.outside_core.specs.declared.folder.FolderFault.TheVariants as folder
 use Rattle.roles.specs.declared.role.Role.{Role}
@@ -18,10 +18,10 @@ pub record WritesTurn (old new : FolderState) (n : PeerNames) (octets text : Lis
   pub got : Adds old new n.got octets
   pub trace : Appended old new n.trace text
 
--- A part of that does, where the folder took no more.
-pub record WritesPart (old new : FolderState) (n : PeerNames) (octets text : List ℕ) : Type 0 where
-  pub got : PartlyAppended old new n.got octets
-  pub trace : PartlyAppended old new n.trace text
+-- A part of that does, where the folder took no more: one of the octets, and nothing of the line; or one of the line, behind all octets.
+pub data WritesPart (old new : FolderState) (n : PeerNames) (octets text : List ℕ) : Type 0 where
+  of_octets : PartlyAppended old new n.got octets → KeepsName old new n.trace → WritesPart old new n octets text
+  of_line : Adds old new n.got octets → PartlyAppended old new n.trace text → WritesPart old new n octets text
 
 -- The turn after this past was made against this slot, with that outcome.
 pub record Makes (role : Role) (old new : FolderState) (n : PeerNames) (p : Past) (slot : List ℕ) (outcome : Outcome) : Type 0 where

@@ -3,6 +3,7 @@
 #![tactic(auto)]
 
 mod ear;
+pub mod laws;
 mod limits;
 mod line;
 mod single;
