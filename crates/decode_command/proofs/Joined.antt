@@ -14,14 +14,15 @@ doubled : (a b : ℕ) → a * (2 * b) ≡ 2 * (a * b)
 doubled a b = grind arith
 
 -- a number of some bits with those of another above them
-record IsAbove (count more low high : ℕ) : Type 0 where
+pub record IsAbove (count more low high : ℕ) : Type 0 where
   pub bits : low_bits count low ++ low_bits more high ≡ low_bits (count + more) (low + high * 2 ^ count)
   pub small : low + high * 2 ^ count < 2 ^ (count + more)
 
 pub above : (count more low high : ℕ) → low < 2 ^ count → high < 2 ^ more → IsAbove count more low high
 above zero more low high l h =
     let none : low + high * 2 ^ 0 ≡ high = omega (arith, l) in
-    record { bits = ap (low_bits more) (sym none); small = rw none h }
+    let size : 0 + more ≡ more = omega arith in
+    record { bits = rw (size, none) refl; small = rw (size, none) h }
 above (suc count) more low high l h =
     let product : high * 2 ^ suc count ≡ 2 * (high * 2 ^ count) = ap (λ n. high * n) (twice count) ∙ doubled high (2 ^ count) in
     let first : (low + high * 2 ^ suc count) % 2 ≡ low % 2 = omega (arith, product) in
@@ -33,12 +34,10 @@ above (suc count) more low high l h =
       small = rw size (omega (arith, rest.small, twice (count + more), product));
     }
 
--- so few bits are a small number
-pub few-small : (count number : ℕ) → count ≤ 4 → number < 2 ^ count → number < 16
-few-small count number few h = let base : 0 < 2 = omega arith in omega (arith, h, pow-le-pow_right base few)
-
-pub octet-small : (count number : ℕ) → count < 8 → number < 2 ^ count → number < 256
-octet-small count number few h = let base : 0 < 2 = omega arith in let most : count ≤ 7 = omega arith in omega (arith, h, pow-le-pow_right base most)
+-- they have room in 16 bits
+pub not-wrapped : (count more low high : ℕ) → count < 8 → more ≤ 4 → low < 2 ^ count → high < 2 ^ more → high * 2 ^ count % 65536 ≡ high * 2 ^ count
+not-wrapped count more low high few few_more l h =
+    let base : 0 < 2 = omega arith in let most : count + more ≤ 11 = omega arith in omega (arith, (above count more low high l h).small, pow-le-pow_right base most)
 
 -- what is above an octet
 pub rest-small : (count number : ℕ) → number < 2 ^ (8 + count) → number / 256 < 2 ^ count
@@ -61,16 +60,7 @@ bits-behind : (waiting bits : Bits) (before : List Bool) (octets : List ℕ) (n 
     → OctetsJoined waiting before octets → before ++ bits_in bits ≡ bits_of octets ++ low_bits (waiting.count + bits.count) n
 bits-behind waiting bits before octets n e j = ap (λ xs. xs ++ bits_in bits) j.bits_are ∙ append_assoc (bits_of octets) (bits_in waiting) (bits_in bits) ∙ ap (λ xs. bits_of octets ++ xs) e
 
--- no octet is whole with them
-pub joined-few : (waiting bits : Bits) (before : List Bool) (octets : List ℕ) (n : ℕ) → bits_in waiting ++ bits_in bits ≡ low_bits (waiting.count + bits.count) n
-    → waiting.count + bits.count < 8 → OctetsJoined waiting before octets
-    → OctetsJoined (record { count = waiting.count + bits.count; number = n }) (before ++ bits_in bits) (octets ++ [])
-joined-few waiting bits before octets n e few j =
-    let same : octets ≡ octets ++ [] = sym (append-nil octets) in
-    subst (OctetsJoined (record { count = waiting.count + bits.count; number = n }) (before ++ bits_in bits)) same
-    (record { bits_are = bits-behind waiting bits before octets n e j; few = few; small = j.small })
-
--- an octet is
+-- an octet is whole with them
 pub joined-octet : (waiting bits : Bits) (before : List Bool) (octets : List ℕ) (n : ℕ) → bits_in waiting ++ bits_in bits ≡ low_bits (waiting.count + bits.count) n
     → n < 2 ^ (waiting.count + bits.count) → bits.count ≤ 4 → 8 ≤ waiting.count + bits.count → OctetsJoined waiting before octets
     → OctetsJoined (record { count = waiting.count + bits.count - 8; number = n / 256 }) (before ++ bits_in bits) (octets ++ n % 256 ∷ [])

@@ -54,6 +54,14 @@ impl OctetJoiner {
         }
     }
 
+    /// How many bits wait for the others of their octet.
+    pub fn waiting(&self) -> u8
+        ensures value { result ≡ self.now.count }
+        ensures few { result < 8 }
+    {
+        self.waiting.count
+    }
+
     /// The octet that is whole with these bits, if one is.
     pub fn push(&mut self, bits: Bits) -> Option<u8>
         requires { AreFew bits }

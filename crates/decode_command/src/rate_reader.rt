@@ -1,5 +1,5 @@
 // The readers of the two rates as one.
-ghost use Rattle.std.specs.Prelude.{◌≡◌, ◌×◌, ◌+◌, ◌<◌, ◌≤◌, ◌^◌, ◌++◌, ◌∷◌, [], ℕ, Bool, List, Some, None, length, drop, IfOk, MatchOption, MatchResult};
+ghost use Rattle.std.specs.Prelude.{◌≡◌, ◌+◌, ◌<◌, ◌≤◌, ◌^◌, ◌++◌, ◌∷◌, [], ℕ, Bool, List, Some, None, length, drop, IfOk, MatchOption, MatchResult};
 ghost use Rattle.std.specs.Option.{option_map};
 ghost use Rattle.scramblers.specs.declared.mode.Mode.{Mode};
 ghost use Rattle.symbol_map.specs.declared.sample.Sample.{Sample};
@@ -47,9 +47,7 @@ impl RateReader {
         ensures ready { IfOk result (λ r. IsReady r 0) }
     {
         match rate {
-            Rate::Trellis => Ok(RateReader::Trellis(LineReader::new(
-                alloc, V32Code, 0, mode,
-            )?)),
+            Rate::Trellis => Ok(RateReader::Trellis(LineReader::new(alloc, V32Code, 0, mode)?)),
             Rate::Quarters => Ok(RateReader::Quarters(QuarterReader::new(
                 alloc, Rate4800, 0, mode,
             )?)),
