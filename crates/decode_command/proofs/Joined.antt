@@ -35,7 +35,8 @@ above (suc count) more low high l h =
     }
 
 -- they have room in 16 bits
-pub not-wrapped : (count more low high : ℕ) → count < 8 → more ≤ 4 → low < 2 ^ count → high < 2 ^ more → high * 2 ^ count % 65536 ≡ high * 2 ^ count
+pub not-wrapped : (count more low high : ℕ) → count < 8 → more ≤ 4 → low < 2 ^ count → high < 2 ^ more
+    → high * 2 ^ count % 65536 ≡ high * 2 ^ count
 not-wrapped count more low high few few_more l h =
     let base : 0 < 2 = omega arith in let most : count + more ≤ 11 = omega arith in omega (arith, (above count more low high l h).small, pow-le-pow_right base most)
 
@@ -43,11 +44,14 @@ not-wrapped count more low high few few_more l h =
 pub rest-small : (count number : ℕ) → number < 2 ^ (8 + count) → number / 256 < 2 ^ count
 rest-small count number h =
     let size : 8 + count ≡ suc (suc (suc (suc (suc (suc (suc (suc count))))))) = omega arith in
-    let power : 2 ^ (8 + count) ≡ 256 * 2 ^ count = rw size (omega (arith, twice count, twice (count + 1), twice (count + 2), twice (count + 3), twice (count + 4), twice (count + 5), twice (count + 6), twice (count + 7))) in
+    let four : 2 ^ (count + 4) ≡ 16 * 2 ^ count = omega (arith, twice count, twice (count + 1), twice (count + 2), twice (count + 3)) in
+    let power : 2 ^ (8 + count) ≡ 256 * 2 ^ count =
+    rw size (omega (arith, four, twice (count + 4), twice (count + 5), twice (count + 6), twice (count + 7))) in
     omega (arith, h, power)
 
 octet-behind : (octets : List ℕ) (octet : ℕ) → bits_of octets ++ octet_bits octet ≡ bits_of (octets ++ octet ∷ [])
-octet-behind octets octet = ap (λ bits. bits_of octets ++ bits) (sym (append-nil (octet_bits octet))) ∙ sym (flat_map-append octet_bits octets (octet ∷ []))
+octet-behind octets octet =
+    ap (λ bits. bits_of octets ++ bits) (sym (append-nil (octet_bits octet))) ∙ sym (flat_map-append octet_bits octets (octet ∷ []))
 
 -- the lowest octet of a number, and the bits above it
 lowest-octet : (count n : ℕ) → n < 2 ^ (8 + count) → low_bits (8 + count) n ≡ octet_bits (n % 256) ++ low_bits count (n / 256)
@@ -56,12 +60,16 @@ lowest-octet count n small =
     ap (low_bits (8 + count)) (sym parts) ∙ sym (above 8 count (n % 256) (n / 256) (omega arith) (rest-small count n small)).bits
 
 -- bits behind those that wait, which are those of a number
-bits-behind : (waiting bits : Bits) (before : List Bool) (octets : List ℕ) (n : ℕ) → bits_in waiting ++ bits_in bits ≡ low_bits (waiting.count + bits.count) n
+bits-behind : (waiting bits : Bits) (before : List Bool) (octets : List ℕ) (n : ℕ)
+    → bits_in waiting ++ bits_in bits ≡ low_bits (waiting.count + bits.count) n
     → OctetsJoined waiting before octets → before ++ bits_in bits ≡ bits_of octets ++ low_bits (waiting.count + bits.count) n
-bits-behind waiting bits before octets n e j = ap (λ xs. xs ++ bits_in bits) j.bits_are ∙ append_assoc (bits_of octets) (bits_in waiting) (bits_in bits) ∙ ap (λ xs. bits_of octets ++ xs) e
+bits-behind waiting bits before octets n e j =
+    ap (λ xs. xs ++ bits_in bits) j.bits_are ∙ append_assoc (bits_of octets) (bits_in waiting) (bits_in bits)
+    ∙ ap (λ xs. bits_of octets ++ xs) e
 
 -- an octet is whole with them
-pub joined-octet : (waiting bits : Bits) (before : List Bool) (octets : List ℕ) (n : ℕ) → bits_in waiting ++ bits_in bits ≡ low_bits (waiting.count + bits.count) n
+pub joined-octet : (waiting bits : Bits) (before : List Bool) (octets : List ℕ) (n : ℕ)
+    → bits_in waiting ++ bits_in bits ≡ low_bits (waiting.count + bits.count) n
     → n < 2 ^ (waiting.count + bits.count) → bits.count ≤ 4 → 8 ≤ waiting.count + bits.count → OctetsJoined waiting before octets
     → OctetsJoined (record { count = waiting.count + bits.count - 8; number = n / 256 }) (before ++ bits_in bits) (octets ++ n % 256 ∷ [])
 joined-octet waiting bits before octets n e small most many j =
@@ -71,8 +79,8 @@ joined-octet waiting bits before octets n e small most many j =
     let parts : low_bits (waiting.count + bits.count) n ≡ octet_bits (n % 256) ++ rest =
     ap (λ (k : ℕ). low_bits k n) size ∙ lowest-octet count n (subst (λ (k : ℕ). n < 2 ^ k) size small) in
     record {
-      bits_are = bits-behind waiting bits before octets n e j ∙ ap (λ xs. bits_of octets ++ xs) parts ∙ sym (append_assoc (bits_of octets) (octet_bits (n % 256)) rest)
-          ∙ ap (λ xs. xs ++ rest) (octet-behind octets (n % 256));
+      bits_are = bits-behind waiting bits before octets n e j ∙ ap (λ xs. bits_of octets ++ xs) parts
+          ∙ sym (append_assoc (bits_of octets) (octet_bits (n % 256)) rest) ∙ ap (λ xs. xs ++ rest) (octet-behind octets (n % 256));
       few = omega (arith, most, j.few);
       small = All-push (λ octet. octet < 256) octets (n % 256) j.small (omega arith);
     }

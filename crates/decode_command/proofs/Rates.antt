@@ -52,21 +52,25 @@ code_at rates.Trellis = record {
 code_at rates.Quarters = record { states = 1; labels = 4; steps = 1; laws = quarters_have_laws }
 
 -- a line of four points is never lost
-pub lost-at : (rate : Rate) (samples : List Sample) (symbol : ℕ) → LostIs (trellis_at rate) line_depth samples (Some symbol) → rate ≡ rates.Trellis
+pub lost-at : (rate : Rate) (samples : List Sample) (symbol : ℕ) → LostIs (trellis_at rate) line_depth samples (Some symbol)
+    → rate ≡ rates.Trellis
 lost-at rates.Trellis samples symbol lost = refl
 lost-at rates.Quarters samples symbol lost =
-    let all : length lost.over.front ≡ length (take (symbol + 1) samples) = all-released (take (symbol + 1) samples) lost.over.front lost.over.released in
+    let first : List Sample = take (symbol + 1) samples in
+    let all : length lost.over.front ≡ length first = all-released first lost.over.front lost.over.released in
     absurd (omega (arith, all, length-take (symbol + 1) samples, lost.over.over))
 
 -- the bits of what labels are turned into begin those of more labels
-turns-longer : (width : ℕ) (turns_of : List ℕ → List ℕ) → ((labels : List ℕ) (n : ℕ) → turns_of (take n labels) ≡ take n (turns_of labels)) → (labels rest : List ℕ)
+turns-longer : (width : ℕ) (turns_of : List ℕ → List ℕ) → ((labels : List ℕ) (n : ℕ) → turns_of (take n labels) ≡ take n (turns_of labels))
+    → (labels rest : List ℕ)
     → (more : List Bool) × (flat_map (low_bits width) (turns_of (labels ++ rest)) ≡ flat_map (low_bits width) (turns_of labels) ++ more)
 turns-longer width turns_of stay labels rest =
     let all : List ℕ = turns_of (labels ++ rest) in
     let n : ℕ = length labels in
     let front : take n all ≡ turns_of labels = sym (stay (labels ++ rest) n) ∙ ap turns_of (take-append_seam labels rest) in
     let split : all ≡ turns_of labels ++ drop n all = sym (take-append-drop n all) ∙ ap (λ (xs : List ℕ). xs ++ drop n all) front in
-    (flat_map (low_bits width) (drop n all), ap (flat_map (low_bits width)) split ∙ flat_map-append (low_bits width) (turns_of labels) (drop n all))
+    let bits : List ℕ → List Bool = flat_map (low_bits width) in
+    (bits (drop n all), ap bits split ∙ flat_map-append (low_bits width) (turns_of labels) (drop n all))
 
 -- and so do the scrambled bits
 pub line-longer : (rate : Rate) (labels rest : List ℕ) → (more : List Bool) × (line_at rate (labels ++ rest) ≡ line_at rate labels ++ more)
@@ -80,7 +84,8 @@ pub record TakesLabels (rate : Rate) (mode : Mode) (d : Decoding) (samples : Lis
   pub released : IsReleased (trellis_at rate) (heard d.lost samples) (labels ++ d.pending)
   pub read : DemodulatesAt rate (tap_of mode) labels bits
 
-pub takes-labels : (rate : Rate) (mode : Mode) (r : RateReader) (samples : List Sample) (bits : List Bool) → ReadsAt rate mode r samples bits → TakesLabels rate mode (decoding_of r) samples bits
+pub takes-labels : (rate : Rate) (mode : Mode) (r : RateReader) (samples : List Sample) (bits : List Bool)
+    → ReadsAt rate mode r samples bits → TakesLabels rate mode (decoding_of r) samples bits
 takes-labels rates.Trellis mode (readers.Trellis r) samples bits h = record {
   labels = h.labels;
   lost = h.decoder.lost;

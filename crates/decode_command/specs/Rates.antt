@@ -1,10 +1,11 @@
 -- What the rates differ in: the code, and the bits that its labels carry.
-use Rattle.std.specs.Prelude.{ℕ, nat_eq, Bool, List}
+use Rattle.std.specs.Prelude.{ℕ, Bool, List}
 use Rattle.symbol_map.specs.declared.sample.Sample.{Sample}
 use Rattle.symbol_map.specs.Points.{point_of}
 use Rattle.trellis_tables.specs.Table.{next_state}
 use Rattle.scramblers.specs.Scrambles.{Descrambles}
 use Rattle.survivors.specs.Trellises.{Trellis, trellis_of}
+use Rattle.line_decoding.specs.V32.{at_beginning}
 use Rattle.line_coding.specs.Demodulates.{line_of}
 use Rattle.rate_4800.specs.Demodulates.{line_of as quarter_line_of}
 use Rattle.rate_4800.specs.Laws.{quarters}
@@ -13,7 +14,7 @@ use Rattle.recordings.specs.declared.rate.Rate.TheVariants as rates
 
 -- the code of a line, whose sequences start in state 0
 abbrev pub trellis_at : Rate → Trellis Sample
-trellis_at rates.Trellis = trellis_of next_state point_of (λ state. nat_eq state 0)
+trellis_at rates.Trellis = trellis_of next_state point_of at_beginning
 trellis_at rates.Quarters = quarters
 
 -- the most labels that may be unreleased

@@ -115,7 +115,8 @@ run-asked words n e = subst (λ (word : List ℕ). asked_by word words ≡ Run n
 
 -- of two commands one is named, where there are names
 either : {A : Type 0} (made : Option Rate → Option A) (a : A) (same here there : Bool) → made None ≡ None
-    → (if same then None else made (if here then Some Trellis else if there then Some Quarters else None)) ≡ Some a → (here ≡ true) ⊎ (there ≡ true)
+    → (if same then None else made (if here then Some Trellis else if there then Some Quarters else None)) ≡ Some a
+    → (here ≡ true) ⊎ (there ≡ true)
 either made a true here there none e = absurd cc
 either made a false true there none e = inl refl
 either made a false false true none e = inr refl
@@ -138,7 +139,8 @@ encode-asked words n e = elim (encode-first words n e) [
   | inr there ↦ subst (λ (word : List ℕ). asked_by word words ≡ Encode n) (sym there) (ap (of Encode) e)
 ]
 
-decode-first : (words : List (List ℕ)) (n : DecodeNames) → decode_names words ≡ Some n → (first words ≡ codes "decode") ⊎ (first words ≡ codes "decode4")
+decode-first : (words : List (List ℕ)) (n : DecodeNames) → decode_names words ≡ Some n
+    → (first words ≡ codes "decode") ⊎ (first words ≡ codes "decode4")
 decode-first [] n e = absurd cc
 decode-first (a ∷ []) n e = absurd cc
 decode-first (a ∷ b ∷ []) n e = absurd cc

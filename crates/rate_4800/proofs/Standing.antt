@@ -22,7 +22,8 @@ scrambled-as Answer (scramblers.Answer s) input line h = h.scrambled
 scrambled-as Call (scramblers.Answer s) input line h = absurd h
 scrambled-as Answer (scramblers.Call s) input line h = absurd h
 
-descrambled-as : (mode : Mode) (d : ModeDescrambler) (line output : List Bool) → DescramblesAs mode d line output → Descrambles (tap_of mode) line output
+descrambled-as : (mode : Mode) (d : ModeDescrambler) (line output : List Bool) → DescramblesAs mode d line output
+    → Descrambles (tap_of mode) line output
 descrambled-as Call (descramblers.Call d) line output h = h.descrambled
 descrambled-as Answer (descramblers.Answer d) line output h = h.descrambled
 descrambled-as Call (descramblers.Answer d) line output h = absurd h
@@ -40,5 +41,6 @@ modulated mode m bits samples h = record {
 }
 
 -- a demodulator's bits are those that its labels carry
-pub demodulated : (mode : Mode) (d : Demodulator) (labels : List ℕ) (bits : List Bool) → DemodulatorStands mode d labels bits → Demodulates (tap_of mode) labels bits
+pub demodulated : (mode : Mode) (d : Demodulator) (labels : List ℕ) (bits : List Bool) → DemodulatorStands mode d labels bits
+    → Demodulates (tap_of mode) labels bits
 demodulated mode d labels bits h = descrambled-as mode d.descrambler _ bits h.descrambler

@@ -12,7 +12,8 @@ use Rattle.command_base.proofs.Reading.{ReadTo-kept}
 use Rattle.recording_inputs.specs.Recordings.{ReadsRecording, Opened, ReadBehind, IsAtEnd}
 
 -- the header is read
-pub behind-none : (start old now : FolderState) (name : List ℕ) (rate : Rate) (mode : Mode) → Opened start old name rate mode → GoesOn start now → KeepsName start now name → ReadBehind start now name rate mode [] HEADER
+pub behind-none : (start old now : FolderState) (name : List ℕ) (rate : Rate) (mode : Mode) → Opened start old name rate mode
+    → GoesOn start now → KeepsName start now name → ReadBehind start now name rate mode [] HEADER
 behind-none start old now name rate mode o on kept = record {
   at_is = refl;
   read = record {
@@ -25,15 +26,19 @@ behind-none start old now name rate mode o on kept = record {
 }
 
 -- one piece more is
-pub behind-more : (start now : FolderState) (name : List ℕ) (rate : Rate) (mode : Mode) (content piece : List ℕ) (at count : ℕ) → at ≡ HEADER + length content → length piece ≡ count →
-    ReadTo start now name RECORDING_LIMIT (at + count) ((header_at rate mode ++ content) ++ piece) → ReadBehind start now name rate mode (content ++ piece) (at + count)
+pub behind-more : (start now : FolderState) (name : List ℕ) (rate : Rate) (mode : Mode) (content piece : List ℕ) (at count : ℕ)
+    → at ≡ HEADER + length content → length piece ≡ count →
+    ReadTo start now name RECORDING_LIMIT (at + count) ((header_at rate mode ++ content) ++ piece)
+    → ReadBehind start now name rate mode (content ++ piece) (at + count)
 behind-more start now name rate mode content piece at count at_is long r = record {
   at_is = omega (arith, at_is, long, length-append content piece);
   read = subst (ReadTo start now name RECORDING_LIMIT (at + count)) (append_assoc (header_at rate mode) content piece) r;
 }
 
 -- what was read stays read, as long as the recording is as it was
-pub behind-kept : (start now later : FolderState) (name : List ℕ) (rate : Rate) (mode : Mode) (content : List ℕ) (at : ℕ) → ReadBehind start now name rate mode content at → GoesOn now later → KeepsName now later name → ReadBehind start later name rate mode content at
+pub behind-kept : (start now later : FolderState) (name : List ℕ) (rate : Rate) (mode : Mode) (content : List ℕ) (at : ℕ)
+    → ReadBehind start now name rate mode content at → GoesOn now later → KeepsName now later name
+    → ReadBehind start later name rate mode content at
 behind-kept start now later name rate mode content at b on kept = record { at_is = b.at_is; read = ReadTo-kept start now later name RECORDING_LIMIT at (header_at rate mode ++ content) b.read on kept }
 
 -- fewer octets than there was room for, or none: the recording is at its end
@@ -46,7 +51,8 @@ at-end start now name at count octets piece r few all end told = omega (arith, r
     short (inr none) = omega (arith, none)
 
 -- then it is the header and what was read
-pub reads-all : (start now : FolderState) (name : List ℕ) (rate : Rate) (mode : Mode) (content : List ℕ) (at : ℕ) → ReadBehind start now name rate mode content at → IsAtEnd start name at → ReadsRecording start name rate mode content
+pub reads-all : (start now : FolderState) (name : List ℕ) (rate : Rate) (mode : Mode) (content : List ℕ) (at : ℕ)
+    → ReadBehind start now name rate mode content at → IsAtEnd start name at → ReadsRecording start name rate mode content
 reads-all start now name rate mode content at b end = record {
   within = b.read.within;
   read = λ told. sym (b.read.front told ∙ take_all at (octets_at start name) (end told));
@@ -67,7 +73,8 @@ pub record GoesOnBy (start : FolderState) (name : List ℕ) (rate : Rate) (mode 
   pub rest : List ℕ
   pub reads : ReadsRecording start name rate mode (content ++ rest)
 
-pub reads-first : (start now : FolderState) (name : List ℕ) (rate : Rate) (mode : Mode) (content : List ℕ) (at : ℕ) → ReadBehind start now name rate mode content at → GoesOnBy start name rate mode content
+pub reads-first : (start now : FolderState) (name : List ℕ) (rate : Rate) (mode : Mode) (content : List ℕ) (at : ℕ)
+    → ReadBehind start now name rate mode content at → GoesOnBy start name rate mode content
 reads-first start now name rate mode content at b =
     let octets : List ℕ = octets_at start name in
     let rest : List ℕ = rest_of (start.tells name) (drop at octets) in

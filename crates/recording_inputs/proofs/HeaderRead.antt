@@ -19,7 +19,8 @@ header-octets start new name count piece few r all told = elim (cases_lt count 8
 ]
 
 -- the recording is too long, or no octet was read at its limit
-pub not-within : (old new : FolderState) (name : List ℕ) (rate : Rate) (word : ℕ) (stop : Stop) → IsNotWithin old new name RECORDING_LIMIT word stop → IsNotOpened old new name rate word stop
+pub not-within : (old new : FolderState) (name : List ℕ) (rate : Rate) (word : ℕ) (stop : Stop)
+    → IsNotWithin old new name RECORDING_LIMIT word stop → IsNotOpened old new name rate word stop
 not-within old new name rate word (Own answer) long = (inl (long.0, long.1), long.2)
 not-within old new name rate word (Read fault) fails = fails
 not-within old new name rate word (Write fault) never = never

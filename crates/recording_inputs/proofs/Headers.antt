@@ -34,5 +34,6 @@ pub never-bad : (rate : Rate) (mode : Mode) (at : ℕ) → IsBadHeader rate (hea
 never-bad rate mode at bad = elim bad.here [ inl short ↦ omega (arith, bad.within, short) | inr other ↦ cc (sym (header-fits rate mode at bad.within) ∙ other.1) ]
 
 -- what stands behind the header is one
-pub content-same : (rate : Rate) (mode other : Mode) (content rest : List ℕ) → header_at rate mode ++ content ≡ header_at rate other ++ rest → content ≡ rest
+pub content-same : (rate : Rate) (mode other : Mode) (content rest : List ℕ) → header_at rate mode ++ content ≡ header_at rate other ++ rest
+    → content ≡ rest
 content-same rate mode other content rest e = ap (λ (xs : List ℕ). drop 8 xs) e
