@@ -1,6 +1,7 @@
 -- Bits are joined to octets.
 use Rattle.std.proofs.Common.{◌≡◌, ◌∙◌, ℕ, zero, suc, ◌+◌, ◌-◌, ◌*◌, ◌/◌, ◌%◌, ◌^◌, ◌<◌, ◌≤◌, Bool, List, [], ◌∷◌, ◌++◌, refl, sym, ap, subst, arith, append-nil, append_assoc, nat_eq}
 use Rattle.std.proofs.Math.Nat.{pow-suc, pow-le-pow_right}
+use Rattle.std.proofs.lemmas.Nat.{pow-add}
 use Rattle.std.proofs.lemmas.Grind.{flat_map-append}
 use Rattle.std.proofs.lemmas.List.Elements.{All-push}
 use Rattle.plain_lists.specs.Bits.{low_bits, octet_bits, bits_of}
@@ -38,16 +39,13 @@ above (suc count) more low high l h =
 pub not-wrapped : (count more low high : ℕ) → count < 8 → more ≤ 4 → low < 2 ^ count → high < 2 ^ more
     → high * 2 ^ count % 65536 ≡ high * 2 ^ count
 not-wrapped count more low high few few_more l h =
-    let base : 0 < 2 = omega arith in let most : count + more ≤ 11 = omega arith in omega (arith, (above count more low high l h).small, pow-le-pow_right base most)
+    let base : 0 < 2 = omega arith in
+    let most : count + more ≤ 11 = omega arith in
+    omega (arith, (above count more low high l h).small, pow-le-pow_right base most)
 
 -- what is above an octet
 pub rest-small : (count number : ℕ) → number < 2 ^ (8 + count) → number / 256 < 2 ^ count
-rest-small count number h =
-    let size : 8 + count ≡ suc (suc (suc (suc (suc (suc (suc (suc count))))))) = omega arith in
-    let four : 2 ^ (count + 4) ≡ 16 * 2 ^ count = omega (arith, twice count, twice (count + 1), twice (count + 2), twice (count + 3)) in
-    let power : 2 ^ (8 + count) ≡ 256 * 2 ^ count =
-    rw size (omega (arith, four, twice (count + 4), twice (count + 5), twice (count + 6), twice (count + 7))) in
-    omega (arith, h, power)
+rest-small count number h = let power : 2 ^ (8 + count) ≡ 256 * 2 ^ count = pow-add 2 8 count in omega (arith, h, power)
 
 octet-behind : (octets : List ℕ) (octet : ℕ) → bits_of octets ++ octet_bits octet ≡ bits_of (octets ++ octet ∷ [])
 octet-behind octets octet =

@@ -1,4 +1,4 @@
-use Rattle.std.proofs.Common.{◌≡◌, ◌+◌, ◌*◌, ◌%◌, ◌^◌, rules}
+use Rattle.std.proofs.Common.{◌≡◌, rules}
 use Rattle.decode_command.specs.declared.octet_joiner.Bits.{Bits}
 use Rattle.decode_command.proofs.Joined.{above, not-wrapped}
 use Rattle.decode_command.proofs.octet_joiner.joined.Goals as goal
