@@ -117,7 +117,7 @@ fn samples_at_the_origin_are_followed_as_far_as_the_depth(rt: HostRuntime) -> Re
 #[test]
 fn other_words_are_told_the_usage(rt: HostRuntime) -> Result<(), Fail> {
     let usage =
-        "usage: modem run, encode, decode, frames, xid, soak, peer, pickup, margin, encode4\n";
+        "usage: modem run, encode, decode, frames, xid, soak, peer, pickup, margin, encode4, decode4\n";
     let runs = [
         ["run", "o", "a", "s", "go", "go", "t"],
         ["run", "o", "a", "s", "go", "ga", "s"],
@@ -138,6 +138,8 @@ fn other_words_are_told_the_usage(rt: HostRuntime) -> Result<(), Fail> {
         ["frames", "originator", "o"],
         ["frame", "orig", "o"],
         ["decode", "r", "r"],
+        ["decode4", "r", "r"],
+        ["decode5", "r", "f"],
     ];
     for words in three {
         answers(&rt, rt.alloc(), &words, Status::Usage, usage)?;

@@ -3,6 +3,7 @@ use command_base::Status;
 use decode_command::{DecodeWords, decode};
 use frames_command::{FramesWords, frames};
 use outside_core::MemoryFolder;
+use recordings::Rate;
 use roles::Role;
 use std::alloc::Global;
 use std::test::Fail;
@@ -19,6 +20,7 @@ fn decoded(alloc: Global, rec: &[u8], fails: u64) -> Result<(Status, MemoryFolde
     folder.put("r", rec)?;
     folder.fail_at(&[fails])?;
     let names = DecodeWords {
+        rate: Rate::Trellis,
         rec: "r",
         file: "f",
     };

@@ -32,7 +32,7 @@ fn a_seed_is_soaked(rt: HostRuntime) -> Result<(), Fail> {
 #[test]
 fn other_words_are_no_seed(rt: HostRuntime) -> Result<(), Fail> {
     let usage =
-        "usage: modem run, encode, decode, frames, xid, soak, peer, pickup, margin, encode4\n";
+        "usage: modem run, encode, decode, frames, xid, soak, peer, pickup, margin, encode4, decode4\n";
     for seed in ["07", "x", "", "18446744073709551616"] {
         soaks(&rt, rt.alloc(), &["soak", seed], Status::Usage, usage)?;
     }

@@ -1,52 +1,87 @@
-// Fours of bits become octets.
-ghost use Rattle.std.specs.Prelude.{◌≡◌, ◌<◌, ◌≤◌, ◌+◌, ◌*◌, ◌++◌, ◌∷◌, [], ℕ, Bool, List, None, length, option_to_list};
+// Bits become octets.
+ghost use Rattle.std.specs.Prelude.{◌≡◌, ◌<◌, ◌≤◌, ◌+◌, ◌*◌, ◌^◌, ◌++◌, [], ℕ, Bool, List, length, option_to_list};
 ghost use Rattle.plain_lists.specs.Bits.{low_bits};
-ghost use Rattle.decode_command.specs.Octets.{OctetsJoined};
+ghost use Rattle.decode_command.specs.Octets.{AreFew, bits_in, OctetsJoined};
 
 use std::marker::Model;
 
-/// Puts octets together of fours of bits, the low ones first.
+/// Some bits in order, as a number that has the first one lowest.
+#[derive(Clone, Copy)]
+pub(crate) struct Bits {
+    pub count: u8,
+    pub number: u8,
+}
+
+/// The number of some bits with others above them.
+fn joined(low: Bits, high: Bits) -> u16
+    requires count { low.count < 8 }
+    requires low { low.number < 2 ^ low.count }
+    requires few { AreFew high }
+    ensures bits { bits_in low ++ bits_in high ≡ low_bits (low.count + high.count) result }
+    ensures small { result < 2 ^ (low.count + high.count) }
+{
+    u16::from(low.number) + (u16::from(high.number) << low.count)
+}
+
+/// Puts octets together of bits, the first ones lowest.
 #[derive(Drop)]
 pub(crate) struct OctetJoiner {
-    /// The low four bits of an octet whose others are not there yet.
-    half: Option<u8>,
+    /// Those of an octet whose others are not there yet.
+    waiting: Bits,
 }
 
 impl Model for OctetJoiner {
-    ghost use Rattle.std.specs.Prelude.{ℕ, Option};
-    ghost use Rattle.decode_command.specs.Octets.{IsHalf};
+    ghost use Rattle.std.specs.Prelude.{◌<◌, ◌^◌};
+    ghost use Rattle.decode_command.specs.declared.octet_joiner.Bits.{Bits};
 
-    ghost Value = { Option ℕ };
+    ghost Value = { Bits };
 
-    ghost view = { λ j. j.half };
+    ghost view = { λ j. j.waiting };
 
-    ghost invariant = { λ j. IsHalf j.half };
+    ghost invariant = { λ j. (j.waiting.count < 8) × (j.waiting.number < 2 ^ j.waiting.count) };
 }
 
 impl OctetJoiner {
-    /// Before the first four bits.
+    /// Before the first bit.
     pub fn new() -> OctetJoiner
-        ensures { result ≡ None }
+        ensures { OctetsJoined result [] [] }
     {
-        OctetJoiner { half: None }
+        OctetJoiner {
+            waiting: Bits {
+                count: 0,
+                number: 0,
+            },
+        }
     }
 
-    /// The octet that is whole with these four bits, if one is.
-    pub fn push(&mut self, four: u8) -> Option<u8>
-        requires { four < 16 }
-        ensures joined { (bits : List Bool) (octets : List ℕ) → OctetsJoined self.old bits octets
-            → OctetsJoined self.new (bits ++ low_bits 4 four) (octets ++ option_to_list result) }
-        ensures fours { 2 * length (option_to_list result) + length (option_to_list self.new) ≡ length (option_to_list self.old) + 1 }
+    /// How many bits wait for the others of their octet.
+    pub fn waiting(&self) -> u8
+        ensures value { result ≡ self.now.count }
+        ensures few { result < 8 }
     {
-        match self.half {
-            None => {
-                self.half = Some(four);
-                None
-            }
-            Some(low) => {
-                self.half = None;
-                Some(low + 16 * four)
-            }
+        self.waiting.count
+    }
+
+    /// The octet that is whole with these bits, if one is.
+    pub fn push(&mut self, bits: Bits) -> Option<u8>
+        requires { AreFew bits }
+        ensures joined { (before : List Bool) (octets : List ℕ) → OctetsJoined self.old before octets
+            → OctetsJoined self.new (before ++ bits_in bits) (octets ++ option_to_list result) }
+        ensures count { 8 * length (option_to_list result) + self.new.count ≡ self.old.count + bits.count }
+    {
+        let number = joined(self.waiting, bits);
+        let count = self.waiting.count + bits.count;
+        if count < 8 {
+            self.waiting = Bits {
+                count,
+                number: number as u8,
+            };
+            return None;
         }
+        self.waiting = Bits {
+            count: count - 8,
+            number: (number / 256) as u8,
+        };
+        Some((number % 256) as u8)
     }
 }

@@ -3,11 +3,12 @@ ghost use Rattle.std.specs.Prelude.{◌≡◌, ◌≤◌, ◌<◌, ◌+◌, ◌*
 ghost use Rattle.symbol_map.specs.declared.sample.Sample.{Sample};
 ghost use Rattle.outside_core.specs.Folder.{FolderState};
 ghost use Rattle.scramblers.specs.declared.mode.Mode.{Mode};
+ghost use Rattle.recordings.specs.declared.rate.Rate.{Rate};
 ghost use Rattle.command_base.specs.declared.limits.TheConstants.{RECORDING_LIMIT};
 ghost use Rattle.command_base.specs.Outputs.{OnlyOutput};
 ghost use Rattle.command_base.specs.Stops.{EndCounts};
 ghost use Rattle.decode_command.specs.Words.{named, are_apart};
-ghost use Rattle.decode_command.specs.Playing.{Hears, IsReady};
+ghost use Rattle.decode_command.specs.Playing.{decoding_of, Hears, IsReady};
 ghost use Rattle.decode_command.specs.Played.{PlayedTo, PlaysPiece};
 ghost use Rattle.decode_command.specs.Ends.{EndsBy, Ends};
 ghost use Rattle.recordings.specs.declared.header.TheConstants.{HEADER};
@@ -27,11 +28,11 @@ use scramblers::Mode;
 fn play_piece(playback: &mut Playback, piece: &[u8], octets: &mut Octets<ROOM>) -> Result<(), Lost>
     requires few { length piece.now ≤ PIECE }
     requires empty { octets.old ≡ [] }
-    requires ready { IsReady playback.old RECORDING_LIMIT }
-    ensures plays { (mode : Mode) (samples : List Sample) (before : List ℕ) → Hears mode playback.old samples before
-        → PlaysPiece mode playback.new samples piece.now (before ++ octets.new) result }
-    ensures taken { playback.new.decoder.pending ≡ [] }
-    ensures ready { (most : ℕ) → IsReady playback.old most → OnOk result (IsReady playback.new (most + length piece.now)) }
+    requires ready { IsReady playback.old.reader RECORDING_LIMIT }
+    ensures plays { (rate : Rate) (mode : Mode) (samples : List Sample) (before : List ℕ) → Hears rate mode playback.old samples before
+        → PlaysPiece rate mode playback.new samples piece.now (before ++ octets.new) result }
+    ensures taken { (decoding_of playback.new.reader).pending ≡ [] }
+    ensures ready { (most : ℕ) → IsReady playback.old.reader most → OnOk result (IsReady playback.new.reader (most + length piece.now)) }
 {
     for place in 0..piece.len() / SAMPLE {
         match playback.push(sample_at(piece, place), octets) {
@@ -63,7 +64,7 @@ pub(crate) fn play_next<F: Folder>(
     requires apart { are_apart (named names.now) ≡ true }
     requires size { length piece.old ≡ PIECE }
     requires within { at ≤ RECORDING_LIMIT }
-    requires ready { IsReady playback.old at }
+    requires ready { IsReady playback.old.reader at }
     ensures size { length piece.new ≡ PIECE }
     ensures ok { (start : FolderState) (written : ℕ) → PlayedTo start (F.state folder.old) (named names.now) mode playback.old at written
         → IfOk result (λ step. PlayedTo start (F.state folder.new) (named names.now) mode playback.new (at + step.read) (written + step.given)) }
@@ -71,7 +72,7 @@ pub(crate) fn play_next<F: Folder>(
         → IfOk result (λ step. step.read ≡ 0 → IsAtEnd start names.now.rec.now at) }
     ensures err { (start : FolderState) (written : ℕ) → PlayedTo start (F.state folder.old) (named names.now) mode playback.old at written
         → IfErr result (EndsBy start (F.state folder.new) (named names.now)) }
-    ensures ready { IfOk result (λ step. IsReady playback.new (at + step.read)) }
+    ensures ready { IfOk result (λ step. IsReady playback.new.reader (at + step.read)) }
     ensures bound { IfOk result (λ step. at + step.read ≤ RECORDING_LIMIT) }
     ensures given { IfOk result (λ step. step.given ≤ ROOM) }
     ensures only { OnlyOutput (F.state folder.old) (F.state folder.new) names.now.file.now }
@@ -110,12 +111,12 @@ pub(crate) fn play_to_end<F: Folder>(
     playback: &mut Playback,
 ) -> Result<u64, Stop>
     requires apart { are_apart (named names.now) ≡ true }
-    requires ready { IsReady playback.old 0 }
+    requires ready { IsReady playback.old.reader 0 }
     ensures ok { (start : FolderState) → PlayedTo start (F.state folder.old) (named names.now) mode playback.old HEADER 0
         → IfOk result (λ written. (at : ℕ) × PlayedTo start (F.state folder.new) (named names.now) mode playback.new at written × IsAtEnd start names.now.rec.now at) }
     ensures err { (start : FolderState) → PlayedTo start (F.state folder.old) (named names.now) mode playback.old HEADER 0
         → IfErr result (EndsBy start (F.state folder.new) (named names.now)) }
-    ensures ready { IfOk result (λ written. IsReady playback.new RECORDING_LIMIT) }
+    ensures ready { IfOk result (λ written. IsReady playback.new.reader RECORDING_LIMIT) }
     ensures bound { IfOk result (λ written. written ≤ 2 ^ 60) }
     ensures only { OnlyOutput (F.state folder.old) (F.state folder.new) names.now.file.now }
     ensures counts { EndCounts (F.state folder.old) (F.state folder.new) (names.now.rec.now ∷ []) (names.now.file.now ∷ []) result }
@@ -144,8 +145,8 @@ pub(crate) fn write_rest<F: Folder>(
     written: u64,
 ) -> Result<u64, Stop>
     requires apart { are_apart (named names.now) ≡ true }
-    requires taken { playback.decoder.pending ≡ [] }
-    requires not_lost { playback.decoder.lost ≡ None }
+    requires taken { (decoding_of playback.reader).pending ≡ [] }
+    requires not_lost { (decoding_of playback.reader).lost ≡ None }
     requires room { written ≤ 2 ^ 60 }
     ensures ends { (start : FolderState) (mode : Mode) (at : ℕ) → PlayedTo start (F.state folder.old) (named names.now) mode playback at written
         → IsAtEnd start names.now.rec.now at → Ends start (F.state folder.new) (named names.now) result }

@@ -15,6 +15,7 @@ use Rattle.command_base.specs.Outputs.{KeepsAll, OnlyOutputs}
 use Rattle.command_base.specs.Status.{IsRefusal}
 use Rattle.command_base.specs.Stops.{end_status}
 use Rattle.command_base.proofs.Jobs.{IsDone, done-of, shared-of, done-unless-memory}
+use Rattle.recordings.specs.declared.rate.Rate.TheVariants as rates
 use Rattle.recordings.specs.Headers.{IsBadHeader}
 use Rattle.recordings.specs.Recording.{header_of}
 use Rattle.recordings.specs.Samples.{samples_in}
@@ -64,7 +65,7 @@ own-never old n answer rec file r (rec_is_long e longer) =
     let long = recorded-length (octets_at old n.rec) (octets_at old n.file) r in
     never-longer (length (octets_at old n.rec)) (omega (arith, long, r.within)) (longer rec)
 own-never old n answer rec file r (file_is_long e within longer) = file-never-longer (length (octets_at old n.file)) r.within (longer file)
-own-never old n answer rec file r (is_other at e within bad) = never-bad r.mode at (subst (λ (xs : List ℕ). IsBadHeader (take 8 xs) at) r.recording_is (bad.bad rec))
+own-never old n answer rec file r (is_other at e within bad) = never-bad rates.Trellis r.mode at (subst (λ (xs : List ℕ). IsBadHeader rates.Trellis (take 8 xs) at) r.recording_is (bad.bad rec))
 own-never old n answer rec file r (is_misfit at e other) = other.other rec file (recorded-length (octets_at old n.rec) (octets_at old n.file) r)
 
 -- and when it is done

@@ -9,6 +9,7 @@ use Rattle.scramblers.specs.declared.mode.Mode.TheVariants.{Call, Answer}
 use Rattle.symbol_map.specs.declared.sample.Sample.{Sample}
 use Rattle.noise_bound.specs.Margins.{Measured, MarginStands}
 use Rattle.noise_bound.proofs.Margins.{measured}
+use Rattle.recordings.specs.declared.rate.Rate.TheVariants as rates
 use Rattle.recordings.specs.declared.header.TheConstants.{HEADER}
 use Rattle.recordings.specs.Recording.{header_of}
 use Rattle.recordings.specs.Samples.{sample_at, samples_in}
@@ -82,7 +83,7 @@ measured-more start old mid new n mode m next at count read piece recorded h fir
       content = h.content ++ recorded;
       stands = subst (λ (xs : List Sample). MarginStands mode next (h.octets ++ piece) xs) (sym (samples_in-append h.content recorded (omega (arith, h.rec.at_is)))) stands;
       file = ReadTo-kept start mid new n.file FILE_LIMIT (at + count) (h.octets ++ piece) file second.goes_on (second.names n.file);
-      rec = subst (λ (place : ℕ). ReadBehind start new n.rec mode (h.content ++ recorded) place) same (behind-more start new n.rec mode h.content recorded (HEADER + 8 * at) read h.rec.at_is long rec);
+      rec = subst (λ (place : ℕ). ReadBehind start new n.rec rates.Trellis mode (h.content ++ recorded) place) same (behind-more start new n.rec rates.Trellis mode h.content recorded (HEADER + 8 * at) read h.rec.at_is long rec);
     }
 
 -- no octet was read where there was room: the input is at its end
@@ -95,7 +96,7 @@ pub measures-all : (start now : FolderState) (n : MarginNames) (mode : Mode) (m 
 measures-all start now n mode m at h file_end rec_end = record {
   mode = mode;
   content = h.content;
-  reads = reads-all start now n.rec mode h.content (HEADER + 8 * at) h.rec rec_end;
+  reads = reads-all start now n.rec rates.Trellis mode h.content (HEADER + 8 * at) h.rec rec_end;
   octets = h.octets;
   within = h.file.within;
   file_is = λ told. h.file.front told ∙ take_all at (octets_at start n.file) (file_end told);

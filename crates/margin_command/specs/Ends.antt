@@ -5,6 +5,7 @@ use Rattle.scramblers.specs.declared.mode.Mode.{Mode}
 use Rattle.outside_core.specs.Folder.{FolderState, octets_at}
 use Rattle.noisy_line.specs.Near.{sure}
 use Rattle.noise_bound.specs.Margins.{IsCostOf, Measured}
+use Rattle.recordings.specs.declared.rate.Rate.TheVariants as rates
 use Rattle.recordings.specs.declared.header.TheConstants.{HEADER}
 use Rattle.recordings.specs.Recording.{header_of}
 use Rattle.recordings.specs.Samples.{samples_in}
@@ -24,7 +25,7 @@ use Rattle.margin_command.specs.Words.{MarginNames, inputs_of}
 pub record Measures (old : FolderState) (n : MarginNames) (m : Measured) : Type 0 where
   pub mode : Mode
   pub content : List ℕ
-  pub reads : ReadsRecording old n.rec mode content
+  pub reads : ReadsRecording old n.rec rates.Trellis mode content
   pub octets : List ℕ
   pub within : IsWithin old n.file FILE_LIMIT
   pub file_is : IsTrue (old.tells n.file) → octets ≡ octets_at old n.file
@@ -53,7 +54,7 @@ pub record HasOtherLength (old : FolderState) (n : MarginNames) (at : ℕ) : Typ
 pub data EndsOwn (old : FolderState) (n : MarginNames) (answer : Status) : Type 0 where
   rec_is_long : answer ≡ TooLong 1 → IsLonger old n.rec RECORDING_LIMIT → EndsOwn old n answer
   file_is_long : answer ≡ TooLong 2 → IsWithin old n.rec RECORDING_LIMIT → IsLonger old n.file FILE_LIMIT → EndsOwn old n answer
-  is_other : (at : ℕ) → answer ≡ BadRecording at → IsWithin old n.file FILE_LIMIT → HasNoHeader old n.rec at → EndsOwn old n answer
+  is_other : (at : ℕ) → answer ≡ BadRecording at → IsWithin old n.file FILE_LIMIT → HasNoHeader old n.rec rates.Trellis at → EndsOwn old n answer
   is_misfit : (at : ℕ) → answer ≡ BadRecording at → HasOtherLength old n at → EndsOwn old n answer
 
 -- why a recording is not measured; no memory is taken, and no line is said before the last one

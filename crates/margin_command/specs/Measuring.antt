@@ -3,6 +3,7 @@ use Rattle.std.specs.Prelude.{ℕ, ◌+◌, ◌*◌, List}
 use Rattle.scramblers.specs.declared.mode.Mode.{Mode}
 use Rattle.outside_core.specs.Folder.{FolderState, OnlyReads}
 use Rattle.noise_bound.specs.Margins.{Measured, MarginStands}
+use Rattle.recordings.specs.declared.rate.Rate.TheVariants as rates
 use Rattle.recordings.specs.declared.header.TheConstants.{HEADER}
 use Rattle.recordings.specs.Samples.{samples_in}
 use Rattle.recording_inputs.specs.Recordings.{ReadBehind}
@@ -23,4 +24,4 @@ pub record MeasuredTo (start now : FolderState) (n : MarginNames) (mode : Mode) 
   pub content : List ℕ
   pub stands : MarginStands mode m octets (samples_in content)
   pub file : ReadTo start now n.file FILE_LIMIT at octets
-  pub rec : ReadBehind start now n.rec mode content (HEADER + 8 * at)
+  pub rec : ReadBehind start now n.rec rates.Trellis mode content (HEADER + 8 * at)

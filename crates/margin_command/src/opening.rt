@@ -8,7 +8,7 @@ ghost use Rattle.margin_command.specs.Ends.{AreOpen, EndsBy};
 use crate::words::MarginWords;
 use command_base::{FILE_LIMIT, RECORDING_LIMIT, Status, Stop, read_piece, within_limit};
 use outside_core::Folder;
-use recordings::{HEADER, read_header};
+use recordings::{HEADER, Rate, read_header};
 use scramblers::Mode;
 
 /// The place of the recording's name among the words.
@@ -34,7 +34,7 @@ pub(crate) fn open_inputs<F: Folder>(folder: &mut F, names: &MarginWords<'_>) ->
     }
     let mut header = [0u8; HEADER];
     match read_piece(folder, names.rec, RECORDING_LIMIT, 0, &mut header) {
-        Ok(count) => match read_header(&header[..count]) {
+        Ok(count) => match read_header(Rate::Trellis, &header[..count]) {
             Ok(mode) => Ok(mode),
             Err(at) => Err(Stop::Own(Status::BadRecording { at })),
         },

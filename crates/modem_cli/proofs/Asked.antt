@@ -1,9 +1,9 @@
 -- Which command words ask for. Their first word tells, so that no words are those of two commands.
 use Rattle.std.proofs.Common.{◌≡◌, ◌∙◌, ◌⊎◌, inl, inr, ℕ, Bool, true, false, ◌&&◌, List, [], ◌∷◌, Option, Some, None, codes, if◌then◌else◌, refl, sym, ap, subst}
 use Rattle.std.proofs.lemmas.Bool.{and_parts}
+use Rattle.std.specs.Option.{option_map}
 use Rattle.std.specs.Str.{bytes_eq}
 use Rattle.std.proofs.lemmas.Slice.Eq.{bytes_eq-Decides}
-use Rattle.scramblers.specs.declared.mode.Mode.{Mode}
 use Rattle.outside_core.specs.Folder.{FolderState}
 use Rattle.command_base.specs.declared.status.Status.{Status}
 use Rattle.command_base.specs.declared.status.Status.TheVariants.{Usage}
@@ -14,6 +14,7 @@ use Rattle.run_inputs.specs.Words.{RunNames, names_of as run_names}
 use Rattle.run_command.specs.Ends.{run_job}
 use Rattle.run_command.specs.Headline.{Headline as RunHeadline}
 use Rattle.run_command.specs.Completes.{Completes as RunCompletes}
+use Rattle.recordings.specs.declared.rate.Rate.{Rate}
 use Rattle.recordings.specs.declared.rate.Rate.TheVariants.{Trellis, Quarters}
 use Rattle.encode_command.specs.Words.{EncodeNames, mode_named, names_with, names_of as encode_names}
 use Rattle.encode_command.specs.Ends.{encode_job}
@@ -77,6 +78,7 @@ asked_by word words =
     else if bytes_eq word (codes "encode") then of Encode (encode_names words)
     else if bytes_eq word (codes "encode4") then of Encode (encode_names words)
     else if bytes_eq word (codes "decode") then of Decode (decode_names words)
+    else if bytes_eq word (codes "decode4") then of Decode (decode_names words)
     else if bytes_eq word (codes "frames") then of Frames (frames_names words)
     else if bytes_eq word (codes "xid") then of Xid (digits_named words)
     else if bytes_eq word (codes "soak") then of Soak (seed_named words)
@@ -112,19 +114,20 @@ pub run-asked : (words : List (List ℕ)) (n : RunNames) → run_names words ≡
 run-asked words n e = subst (λ (word : List ℕ). asked_by word words ≡ Run n) (sym (run-first words n e)) (ap (of Run) e)
 
 -- of two commands one is named, where there are names
-either : (d f : List ℕ) (m : Option Mode) (n : EncodeNames) (same here there : Bool)
-    → (if same then None else names_with d f (if here then Some Trellis else if there then Some Quarters else None) m) ≡ Some n → (here ≡ true) ⊎ (there ≡ true)
-either d f m n true here there e = absurd cc
-either d f m n false true there e = inl refl
-either d f m n false false true e = inr refl
-either d f m n false false false e = absurd cc
+either : {A : Type 0} (made : Option Rate → Option A) (a : A) (same here there : Bool) → made None ≡ None
+    → (if same then None else made (if here then Some Trellis else if there then Some Quarters else None)) ≡ Some a
+    → (here ≡ true) ⊎ (there ≡ true)
+either made a true here there none e = absurd cc
+either made a false true there none e = inl refl
+either made a false false true none e = inr refl
+either made a false false false none e = (let never : ⊥ = cc (sym none ∙ e) in absurd never)
 
 encode-first : (words : List (List ℕ)) (n : EncodeNames) → encode_names words ≡ Some n → (first words ≡ codes "encode") ⊎ (first words ≡ codes "encode4")
 encode-first [] n e = absurd cc
 encode-first (a ∷ []) n e = absurd cc
 encode-first (a ∷ b ∷ []) n e = absurd cc
 encode-first (a ∷ b ∷ d ∷ []) n e = absurd cc
-encode-first (a ∷ b ∷ d ∷ f ∷ []) n e = elim (either d f (mode_named b) n (bytes_eq f d) (bytes_eq a (codes "encode")) (bytes_eq a (codes "encode4")) e) [
+encode-first (a ∷ b ∷ d ∷ f ∷ []) n e = elim (either (λ (rate : Option Rate). names_with d f rate (mode_named b)) n (bytes_eq f d) (bytes_eq a (codes "encode")) (bytes_eq a (codes "encode4")) refl e) [
   | inl here ↦ inl (is-word a (codes "encode") here)
   | inr there ↦ inr (is-word a (codes "encode4") there)
 ]
@@ -136,15 +139,22 @@ encode-asked words n e = elim (encode-first words n e) [
   | inr there ↦ subst (λ (word : List ℕ). asked_by word words ≡ Encode n) (sym there) (ap (of Encode) e)
 ]
 
-decode-first : (words : List (List ℕ)) (n : DecodeNames) → decode_names words ≡ Some n → first words ≡ codes "decode"
+decode-first : (words : List (List ℕ)) (n : DecodeNames) → decode_names words ≡ Some n
+    → (first words ≡ codes "decode") ⊎ (first words ≡ codes "decode4")
 decode-first [] n e = absurd cc
 decode-first (a ∷ []) n e = absurd cc
 decode-first (a ∷ b ∷ []) n e = absurd cc
-decode-first (a ∷ b ∷ d ∷ []) n e = is-word a (codes "decode") (and_parts (bytes_eq a (codes "decode")) _ (if-some (bytes_eq a (codes "decode") && _) _ n e)).0
+decode-first (a ∷ b ∷ d ∷ []) n e = elim (either (option_map (λ r. record { rate = r; rec = b; file = d })) n (bytes_eq d b) (bytes_eq a (codes "decode")) (bytes_eq a (codes "decode4")) refl e) [
+  | inl here ↦ inl (is-word a (codes "decode") here)
+  | inr there ↦ inr (is-word a (codes "decode4") there)
+]
 decode-first (a ∷ b ∷ d ∷ f ∷ more) n e = absurd cc
 
 pub decode-asked : (words : List (List ℕ)) (n : DecodeNames) → decode_names words ≡ Some n → asked words ≡ Decode n
-decode-asked words n e = subst (λ (word : List ℕ). asked_by word words ≡ Decode n) (sym (decode-first words n e)) (ap (of Decode) e)
+decode-asked words n e = elim (decode-first words n e) [
+  | inl here ↦ subst (λ (word : List ℕ). asked_by word words ≡ Decode n) (sym here) (ap (of Decode) e)
+  | inr there ↦ subst (λ (word : List ℕ). asked_by word words ≡ Decode n) (sym there) (ap (of Decode) e)
+]
 
 frames-first : (words : List (List ℕ)) (n : FramesNames) → frames_names words ≡ Some n → first words ≡ codes "frames"
 frames-first [] n e = absurd cc
@@ -222,13 +232,14 @@ none-asked words none =
     (nothing-if (bytes_eq (first words) (codes "encode")) _ _ (of-none Encode (encode_names words) none.1.0)
     (nothing-if (bytes_eq (first words) (codes "encode4")) _ _ (of-none Encode (encode_names words) none.1.0)
     (nothing-if (bytes_eq (first words) (codes "decode")) _ _ (of-none Decode (decode_names words) none.1.1.0)
+    (nothing-if (bytes_eq (first words) (codes "decode4")) _ _ (of-none Decode (decode_names words) none.1.1.0)
     (nothing-if (bytes_eq (first words) (codes "frames")) _ _ (of-none Frames (frames_names words) none.1.1.1.0)
     (nothing-if (bytes_eq (first words) (codes "xid")) _ _ (of-none Xid (digits_named words) none.1.1.1.1.0)
     (nothing-if (bytes_eq (first words) (codes "soak")) _ _ (of-none Soak (seed_named words) none.1.1.1.1.1.0)
     (nothing-if (bytes_eq (first words) (codes "peer")) _ _ (of-none Peer (peer_names words) none.1.1.1.1.1.1.0)
     (nothing-if (bytes_eq (first words) (codes "pickup")) _ _ (of-none Pickup (recording_named words) none.1.1.1.1.1.1.1.0)
     (nothing-if (bytes_eq (first words) (codes "margin")) _ _ (of-none Margin (margin_names words) none.1.1.1.1.1.1.1.1.0)
-    (refl))))))))))
+    (refl)))))))))))
 
 -- ---- what holds by what is asked for, and so of each command
 

@@ -66,6 +66,7 @@ commands =
     ∷ record { word = codes "pickup"; refuses = λ words. is_none (recording_named words) }
     ∷ record { word = codes "margin"; refuses = λ words. is_none (margin_names words) }
     ∷ record { word = codes "encode4"; refuses = λ words. is_none (encode_names words) }
+    ∷ record { word = codes "decode4"; refuses = λ words. is_none (decode_names words) }
     ∷ []
 
 -- the words are those of none of these

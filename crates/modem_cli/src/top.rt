@@ -22,6 +22,7 @@ fn usage() -> Line
 {
     write_usage(&[
         "run", "encode", "decode", "frames", "xid", "soak", "peer", "pickup", "margin", "encode4",
+        "decode4",
     ])
 }
 

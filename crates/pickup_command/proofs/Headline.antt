@@ -15,6 +15,7 @@ use Rattle.command_base.specs.Status.{IsRefusal}
 use Rattle.command_base.specs.Stops.{end_status}
 use Rattle.command_base.proofs.Jobs.{IsDone, done-of, shared-of, done-unless-memory}
 use Rattle.command_base.proofs.Saying.{Said-Said}
+use Rattle.recordings.specs.declared.rate.Rate.TheVariants as rates
 use Rattle.recordings.specs.Headers.{IsBadHeader}
 use Rattle.recordings.specs.Samples.{samples_in}
 use Rattle.recording_inputs.proofs.Headers.{never-longer, never-bad, content-same}
@@ -65,12 +66,12 @@ never-lost content symbol f lost = f.not_lost (symbol + 1) (omega (arith, lost.w
 
 own-never : (old before : FolderState) (rec : List ℕ) (answer : Status) → IsTrue (old.tells rec) → IsRecording (octets_at old rec) → EndsOwn old before rec answer → ⊥
 own-never old before rec answer told r (is_long e nothing longer) = never-longer (length (octets_at old rec)) r.within (longer told)
-own-never old before rec answer told r (is_other at e nothing bad) = never-bad r.mode at (subst (λ (xs : List ℕ). IsBadHeader (take 8 xs) at) r.octets_are (bad.bad told))
+own-never old before rec answer told r (is_other at e nothing bad) = never-bad rates.Trellis r.mode at (subst (λ (xs : List ℕ). IsBadHeader rates.Trellis (take 8 xs) at) r.octets_are (bad.bad told))
 own-never old before rec answer told r (is_cut at e cut) =
-    let same = content-same r.mode cut.mode r.content cut.content (sym r.octets_are ∙ cut.reads.read told) in
+    let same = content-same rates.Trellis r.mode cut.mode r.content cut.content (sym r.octets_are ∙ cut.reads.read told) in
     cut.cut (subst (λ (xs : List ℕ). length xs % 4 ≡ 0) same r.followed.whole)
 own-never old before rec answer told r (is_lost role symbol e lost) =
-    let same = content-same r.mode lost.mode r.content lost.content (sym r.octets_are ∙ lost.reads.read told) in
+    let same = content-same rates.Trellis r.mode lost.mode r.content lost.content (sym r.octets_are ∙ lost.reads.read told) in
     never-lost r.content symbol r.followed (subst (λ (xs : List ℕ). LostIs any_trellis any_depth (samples_in xs) (Some symbol)) (sym same) lost.lost)
 
 -- and when it is done

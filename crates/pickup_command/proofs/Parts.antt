@@ -7,6 +7,7 @@ use Rattle.survivors.specs.Survivors.{LostIs}
 use Rattle.exact_decoder.specs.Decoder.{heard}
 use Rattle.command_base.specs.declared.stop.Stop.{Stop}
 use Rattle.command_base.specs.declared.stop.Stop.TheVariants.{Own, Read, Write, Say, NoMemory}
+use Rattle.recordings.specs.declared.rate.Rate.TheVariants as rates
 use Rattle.recordings.specs.declared.header.TheConstants.{HEADER}
 use Rattle.recordings.specs.Samples.{samples_in}
 use Rattle.recordings.proofs.Samples.{samples_in-front}
@@ -28,7 +29,8 @@ pub says-all : (start now : FolderState) (mode : Mode) (p : Playing) (samples : 
 says-all start now mode p samples h lost taken = subst (λ (l : Option ℕ). SaysPieces start now mode (heard l samples)) lost (says-pieces start now mode p samples h taken)
 
 -- a read fails behind these samples
-pub front-part : (start now : FolderState) (rec : List ℕ) (mode : Mode) (p : Playing) (content : List ℕ) → GoesOnBy start rec mode content → Plays start now mode p (samples_in content) → p.reader.reading.decoder.lost ≡ None
+pub front-part : (start now : FolderState) (rec : List ℕ) (mode : Mode) (p : Playing) (content : List ℕ)
+    → GoesOnBy start rec rates.Trellis mode content → Plays start now mode p (samples_in content) → p.reader.reading.decoder.lost ≡ None
     → p.reader.reading.decoder.pending ≡ [] → PicksUpFront start now rec
 front-part start now rec mode p content w h lost taken =
     let s = samples_in-front content w.rest in
@@ -43,7 +45,8 @@ front-part start now rec mode p content w h lost taken =
     }
 
 -- the samples are not all played
-pub stops-by : (start now : FolderState) (rec : List ℕ) (mode : Mode) (content : List ℕ) (stop : Stop) → GoesOnBy start rec mode content → StopsPlay start now mode (samples_in content) stop → EndsBy start now rec stop
+pub stops-by : (start now : FolderState) (rec : List ℕ) (mode : Mode) (content : List ℕ) (stop : Stop)
+    → GoesOnBy start rec rates.Trellis mode content → StopsPlay start now mode (samples_in content) stop → EndsBy start now rec stop
 stops-by start now rec mode content (Own answer) w h =
     let s = samples_in-front content w.rest in
     let more : StopsPlay start now mode (samples_in (content ++ w.rest)) (Own answer) =
@@ -64,7 +67,8 @@ stops-by start now rec mode content (Write fault) w never = never
 stops-by start now rec mode content NoMemory w never = absurd never
 
 -- the last sample is cut
-pub cut-by : (start now : FolderState) (rec : List ℕ) (mode : Mode) (p : Playing) (content : List ℕ) (at : ℕ) → ReadsRecording start rec mode content → length content % 4 ≢ 0 → at + length content % 4 ≡ HEADER + length content
+pub cut-by : (start now : FolderState) (rec : List ℕ) (mode : Mode) (p : Playing) (content : List ℕ) (at : ℕ)
+    → ReadsRecording start rec rates.Trellis mode content → length content % 4 ≢ 0 → at + length content % 4 ≡ HEADER + length content
     → Plays start now mode p (samples_in content) → p.reader.reading.decoder.lost ≡ None → p.reader.reading.decoder.pending ≡ [] → SampleCut start now rec at
 cut-by start now rec mode p content at reads cut at_is h lost taken = record {
   mode = mode;
@@ -77,7 +81,8 @@ cut-by start now rec mode p content at reads cut at_is h lost taken = record {
 }
 
 -- all of them are played
-pub all-by : (start now : FolderState) (rec : List ℕ) (mode : Mode) (p : Playing) (content : List ℕ) → ReadsRecording start rec mode content → length content % 4 ≡ 0 → Plays start now mode p (samples_in content)
+pub all-by : (start now : FolderState) (rec : List ℕ) (mode : Mode) (p : Playing) (content : List ℕ)
+    → ReadsRecording start rec rates.Trellis mode content → length content % 4 ≡ 0 → Plays start now mode p (samples_in content)
     → p.reader.reading.decoder.lost ≡ None → p.reader.reading.decoder.pending ≡ [] → PicksUpAll start now rec p.listener.pieces
 all-by start now rec mode p content reads whole h lost taken =
     let s : SaysCounted start now mode (samples_in content) p.listener.pieces =
@@ -92,7 +97,8 @@ all-by start now rec mode p content reads whole h lost taken =
     }
 
 -- the recording is not opened
-pub not-opened : (old new : FolderState) (rec : List ℕ) (stop : Stop) → OnlyReads old new → IsNotOpened old new rec 1 stop → EndsBy old new rec stop
+pub not-opened : (old new : FolderState) (rec : List ℕ) (stop : Stop) → OnlyReads old new → IsNotOpened old new rec rates.Trellis 1 stop
+    → EndsBy old new rec stop
 not-opened old new rec (Own answer) reads (inl long, stand) = is_long long.0 (said-after old old new [] reads (said-nothing old)) long.1
 not-opened old new rec (Own answer) reads (inr bad, stand) = is_other bad.0 bad.1 (said-after old old new [] reads (said-nothing old)) bad.2
 not-opened old new rec (Read fault) reads fails = inl (said-after old old new [] reads (said-nothing old))

@@ -14,6 +14,7 @@ use Rattle.command_base.specs.declared.stop.Stop.TheVariants.{Own, Read, Write, 
 use Rattle.command_base.specs.Inputs.{IsLonger}
 use Rattle.command_base.specs.Job.{Job}
 use Rattle.command_base.specs.Lines.{pieces_line}
+use Rattle.recordings.specs.declared.rate.Rate.TheVariants as rates
 use Rattle.recordings.specs.declared.header.TheConstants.{HEADER}
 use Rattle.recordings.specs.Samples.{samples_in}
 use Rattle.recording_inputs.specs.Recordings.{hearer_of, ReadsRecording, HasNoHeader, Opened}
@@ -28,7 +29,7 @@ pub record IsFollowed (content : List ℕ) : Type 0 where
 pub record PicksUpAll (old new : FolderState) (rec : List ℕ) (count : ℕ) : Type 0 where
   pub mode : Mode
   pub content : List ℕ
-  pub reads : ReadsRecording old rec mode content
+  pub reads : ReadsRecording old rec rates.Trellis mode content
   pub followed : IsFollowed content
   pub says : SaysPieces old new mode (samples_in content)
   pub count_is : count ≡ length says.pieces
@@ -37,7 +38,7 @@ pub record PicksUpAll (old new : FolderState) (rec : List ℕ) (count : ℕ) : T
 pub record SampleCut (old new : FolderState) (rec : List ℕ) (at : ℕ) : Type 0 where
   pub mode : Mode
   pub content : List ℕ
-  pub reads : ReadsRecording old rec mode content
+  pub reads : ReadsRecording old rec rates.Trellis mode content
   pub cut : length content % 4 ≢ 0
   pub at_is : at + length content % 4 ≡ HEADER + length content
   pub not_lost : LostIs any_trellis any_depth (samples_in content) None
@@ -47,7 +48,7 @@ pub record SampleCut (old new : FolderState) (rec : List ℕ) (at : ℕ) : Type 
 pub record RecordingLost (old new : FolderState) (rec : List ℕ) (role : Role) (symbol : ℕ) : Type 0 where
   pub mode : Mode
   pub content : List ℕ
-  pub reads : ReadsRecording old rec mode content
+  pub reads : ReadsRecording old rec rates.Trellis mode content
   pub role_is : role ≡ hearer_of mode
   pub lost : LostIs any_trellis any_depth (samples_in content) (Some symbol)
   pub says : SaysPieces old new mode (take (symbol + 1) (samples_in content))
@@ -56,7 +57,7 @@ pub record RecordingLost (old new : FolderState) (rec : List ℕ) (role : Role) 
 pub record PicksUpFront (old new : FolderState) (rec : List ℕ) : Type 0 where
   pub mode : Mode
   pub content : List ℕ
-  pub reads : ReadsRecording old rec mode content
+  pub reads : ReadsRecording old rec rates.Trellis mode content
   pub first : List Sample
   pub followed : AreFollowed (samples_in content) first
   pub says : SaysPieces old new mode first
@@ -65,7 +66,7 @@ pub record PicksUpFront (old new : FolderState) (rec : List ℕ) : Type 0 where
 pub record PicksUpPart (old new : FolderState) (rec : List ℕ) : Type 0 where
   pub mode : Mode
   pub content : List ℕ
-  pub reads : ReadsRecording old rec mode content
+  pub reads : ReadsRecording old rec rates.Trellis mode content
   pub first : List Sample
   pub followed : AreFollowed (samples_in content) first
   pub says : SaysPart old new mode first
@@ -73,13 +74,13 @@ pub record PicksUpPart (old new : FolderState) (rec : List ℕ) : Type 0 where
 -- What ends it but a fault: the recording is too long, begins with no header, ends within a sample, or is lost. Word 1 names it.
 pub data EndsOwn (old new : FolderState) (rec : List ℕ) (answer : Status) : Type 0 where
   is_long : answer ≡ TooLong 1 → Said old new [] → IsLonger old rec RECORDING_LIMIT → EndsOwn old new rec answer
-  is_other : (at : ℕ) → answer ≡ BadRecording at → Said old new [] → HasNoHeader old rec at → EndsOwn old new rec answer
+  is_other : (at : ℕ) → answer ≡ BadRecording at → Said old new [] → HasNoHeader old rec rates.Trellis at → EndsOwn old new rec answer
   is_cut : (at : ℕ) → answer ≡ BadRecording at → SampleCut old new rec at → EndsOwn old new rec answer
   is_lost : (role : Role) (symbol : ℕ) → answer ≡ LineLost role symbol → RecordingLost old new rec role symbol → EndsOwn old new rec answer
 
 -- There is no memory for a decoder. Nothing was said, and the folder counted no fault.
 abbrev pub WantsMemory : FolderState → FolderState → List ℕ → Type 0
-WantsMemory old new rec = (mode : Mode) × Opened old new rec mode
+WantsMemory old new rec = (mode : Mode) × Opened old new rec rates.Trellis mode
 
 -- why a recording is not picked up, or not to its end
 abbrev pub EndsBy : FolderState → FolderState → List ℕ → Stop → Type 0

@@ -11,6 +11,7 @@ use Rattle.command_base.specs.declared.stop.Stop.TheVariants.{Own, Say}
 use Rattle.command_base.specs.Outputs.{OnlyOutputs}
 use Rattle.picked_up_lines.specs.Reading.{Middle, MiddleRead}
 use Rattle.piece_listener.specs.Heard.{Listening, Heard}
+use Rattle.recordings.specs.declared.rate.Rate.TheVariants as rates
 use Rattle.recordings.specs.Samples.{samples_in}
 use Rattle.recording_inputs.specs.Recordings.{sender_of, hearer_of, ReadBehind}
 use Rattle.pickup_command.specs.Gives.{any_trellis, any_depth, AreFollowed, SaysPieces, SaysPart}
@@ -60,5 +61,5 @@ pub record PlayedTo (start now : FolderState) (rec : List ℕ) (mode : Mode) (p 
   pub content : List ℕ
   pub plays : Plays start now mode p (samples_in content)
   pub whole : length content % 4 ≡ 0
-  pub behind : ReadBehind start now rec mode content at
+  pub behind : ReadBehind start now rec rates.Trellis mode content at
   pub only : OnlyOutputs start now []

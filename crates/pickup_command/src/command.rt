@@ -4,6 +4,7 @@ ghost use Rattle.outside_core.specs.Folder.{FolderState};
 ghost use Rattle.command_base.specs.Job.{Answers};
 ghost use Rattle.command_base.specs.Outputs.{OnlyOutputs};
 ghost use Rattle.command_base.specs.Stops.{EndCounts};
+ghost use Rattle.recordings.specs.declared.rate.Rate.TheVariants as rates;
 ghost use Rattle.recording_inputs.specs.Recordings.{Opened};
 ghost use Rattle.pickup_command.specs.Ends.{Ends, pickup_job};
 ghost use Rattle.pickup_command.specs.Completes.{Completes};
@@ -14,6 +15,7 @@ use crate::playing::play_to_end;
 use command_base::{Status, Stop, tell, tell_stop, write_pieces};
 use outside_core::Folder;
 use recording_inputs::open_recording;
+use recordings::Rate;
 use scramblers::Mode;
 use std::alloc::Global;
 
@@ -27,7 +29,7 @@ fn pick_up_samples<F: Folder>(
     rec: &str,
     mode: Mode,
 ) -> Result<u64, Stop>
-    ensures ends { (start : FolderState) → Opened start (F.state folder.old) rec.now mode → Ends start (F.state folder.new) rec.now result }
+    ensures ends { (start : FolderState) → Opened start (F.state folder.old) rec.now rates.Trellis mode → Ends start (F.state folder.new) rec.now result }
     ensures only { OnlyOutputs (F.state folder.old) (F.state folder.new) [] }
     ensures counts { EndCounts (F.state folder.old) (F.state folder.new) (rec.now ∷ []) [] result }
 {
@@ -43,7 +45,7 @@ fn pick_up<F: Folder>(alloc: Global, folder: &mut F, rec: &str) -> Result<u64, S
     ensures only { OnlyOutputs (F.state folder.old) (F.state folder.new) [] }
     ensures counts { EndCounts (F.state folder.old) (F.state folder.new) (rec.now ∷ []) [] result }
 {
-    match open_recording(folder, rec, REC) {
+    match open_recording(folder, rec, Rate::Trellis, REC) {
         Ok(mode) => pick_up_samples(alloc, folder, rec, mode),
         Err(stop) => Err(stop),
     }

@@ -16,8 +16,8 @@ use Rattle.rate_4800.specs.Code.{next_state, point_of}
 use Rattle.rate_4800.specs.CodeLaws.{some_if, bounded, within, enters_once, reaches, points_lie_apart}
 use Rattle.rate_4800.specs.Laws.{quarters}
 
-laws : HasLaws quarters 1 4 1
-laws = record {
+pub quarters_have_laws : HasLaws quarters 1 4 1
+quarters_have_laws = record {
   bounded = bounded;
   within = within;
   enters_once = enters_once;
@@ -35,10 +35,10 @@ record Survives (samples : List Sample) (front : List ℕ) : Type 0 where
 
 released-survives : (samples : List Sample) (front : List ℕ) → IsReleased quarters samples front → Survives samples front
 released-survives samples front released =
-    let s = some-survives quarters 1 4 1 samples laws in
+    let s = some-survives quarters 1 4 1 samples quarters_have_laws in
     let one : (state : ℕ) (labels : List ℕ) → IsSurvivor quarters samples labels state → s.0 ≡ labels = λ state labels h.
-    let low : state < 1 = ends-within quarters 1 4 1 samples labels state laws h.sequence in
-    let also : s.1 < 1 = ends-within quarters 1 4 1 samples s.0 s.1 laws s.2.sequence in
+    let low : state < 1 = ends-within quarters 1 4 1 samples labels state quarters_have_laws h.sequence in
+    let also : s.1 < 1 = ends-within quarters 1 4 1 samples s.0 s.1 quarters_have_laws s.2.sequence in
     let same : state ≡ s.1 = omega (arith, low, also) in
     survivor-one quarters samples s.0 labels s.1 s.2 (subst (λ e. IsSurvivor quarters samples labels e) same h) in
     let common : IsCommon quarters samples s.0 = λ state labels h. ([], append-nil s.0 ∙ one state labels h) in

@@ -3,42 +3,43 @@ use Rattle.std.proofs.Common.{◌≡◌, ◌≢◌, ◌∙◌, ◌⊎◌, inl, i
 use Rattle.std.proofs.lemmas.List.{take_all, take-append-drop}
 use Rattle.outside_core.specs.Folder.{FolderState, octets_at, GoesOn, KeepsName}
 use Rattle.scramblers.specs.declared.mode.Mode.{Mode}
-use Rattle.scramblers.specs.declared.mode.Mode.TheVariants.{Call, Answer}
 use Rattle.recordings.specs.declared.header.TheConstants.{HEADER}
-use Rattle.recordings.specs.Recording.{header_of}
+use Rattle.recordings.specs.declared.rate.Rate.{Rate}
+use Rattle.recordings.specs.Recording.{header_at}
 use Rattle.command_base.specs.declared.limits.TheConstants.{RECORDING_LIMIT}
 use Rattle.command_base.specs.Inputs.{ReadTo}
 use Rattle.command_base.proofs.Reading.{ReadTo-kept}
 use Rattle.recording_inputs.specs.Recordings.{ReadsRecording, Opened, ReadBehind, IsAtEnd}
 
 -- the header is read
-pub behind-none : (start old now : FolderState) (name : List ℕ) (mode : Mode) → Opened start old name mode → GoesOn start now → KeepsName start now name → ReadBehind start now name mode [] HEADER
-behind-none start old now name mode o on kept = record {
+pub behind-none : (start old now : FolderState) (name : List ℕ) (rate : Rate) (mode : Mode) → Opened start old name rate mode
+    → GoesOn start now → KeepsName start now name → ReadBehind start now name rate mode [] HEADER
+behind-none start old now name rate mode o on kept = record {
   at_is = refl;
   read = record {
     within = o.within;
-    count = eight mode;
-    front = λ told. append-nil (header_of mode) ∙ o.header told;
+    count = refl;
+    front = λ told. append-nil (header_at rate mode) ∙ o.header told;
     goes_on = on;
     kept = kept;
   };
 }
-  where
-    eight : (mode : Mode) → HEADER ≡ length (header_of mode ++ [])
-    eight Call = refl
-    eight Answer = refl
 
 -- one piece more is
-pub behind-more : (start now : FolderState) (name : List ℕ) (mode : Mode) (content piece : List ℕ) (at count : ℕ) → at ≡ HEADER + length content → length piece ≡ count →
-    ReadTo start now name RECORDING_LIMIT (at + count) ((header_of mode ++ content) ++ piece) → ReadBehind start now name mode (content ++ piece) (at + count)
-behind-more start now name mode content piece at count at_is long r = record {
+pub behind-more : (start now : FolderState) (name : List ℕ) (rate : Rate) (mode : Mode) (content piece : List ℕ) (at count : ℕ)
+    → at ≡ HEADER + length content → length piece ≡ count →
+    ReadTo start now name RECORDING_LIMIT (at + count) ((header_at rate mode ++ content) ++ piece)
+    → ReadBehind start now name rate mode (content ++ piece) (at + count)
+behind-more start now name rate mode content piece at count at_is long r = record {
   at_is = omega (arith, at_is, long, length-append content piece);
-  read = subst (ReadTo start now name RECORDING_LIMIT (at + count)) (append_assoc (header_of mode) content piece) r;
+  read = subst (ReadTo start now name RECORDING_LIMIT (at + count)) (append_assoc (header_at rate mode) content piece) r;
 }
 
 -- what was read stays read, as long as the recording is as it was
-pub behind-kept : (start now later : FolderState) (name : List ℕ) (mode : Mode) (content : List ℕ) (at : ℕ) → ReadBehind start now name mode content at → GoesOn now later → KeepsName now later name → ReadBehind start later name mode content at
-behind-kept start now later name mode content at b on kept = record { at_is = b.at_is; read = ReadTo-kept start now later name RECORDING_LIMIT at (header_of mode ++ content) b.read on kept }
+pub behind-kept : (start now later : FolderState) (name : List ℕ) (rate : Rate) (mode : Mode) (content : List ℕ) (at : ℕ)
+    → ReadBehind start now name rate mode content at → GoesOn now later → KeepsName now later name
+    → ReadBehind start later name rate mode content at
+behind-kept start now later name rate mode content at b on kept = record { at_is = b.at_is; read = ReadTo-kept start now later name RECORDING_LIMIT at (header_at rate mode ++ content) b.read on kept }
 
 -- fewer octets than there was room for, or none: the recording is at its end
 pub at-end : (start now : FolderState) (name : List ℕ) (at count : ℕ) (octets piece : List ℕ) → ReadTo start now name RECORDING_LIMIT (at + count) (octets ++ piece) → count ≤ 4096 →
@@ -50,8 +51,9 @@ at-end start now name at count octets piece r few all end told = omega (arith, r
     short (inr none) = omega (arith, none)
 
 -- then it is the header and what was read
-pub reads-all : (start now : FolderState) (name : List ℕ) (mode : Mode) (content : List ℕ) (at : ℕ) → ReadBehind start now name mode content at → IsAtEnd start name at → ReadsRecording start name mode content
-reads-all start now name mode content at b end = record {
+pub reads-all : (start now : FolderState) (name : List ℕ) (rate : Rate) (mode : Mode) (content : List ℕ) (at : ℕ)
+    → ReadBehind start now name rate mode content at → IsAtEnd start name at → ReadsRecording start name rate mode content
+reads-all start now name rate mode content at b end = record {
   within = b.read.within;
   read = λ told. sym (b.read.front told ∙ take_all at (octets_at start name) (end told));
 }
@@ -67,19 +69,20 @@ rest-told true rest told = refl
 rest-told false rest told = cc told
 
 -- A recording that begins with what was read, and the rest of it.
-pub record GoesOnBy (start : FolderState) (name : List ℕ) (mode : Mode) (content : List ℕ) : Type 0 where
+pub record GoesOnBy (start : FolderState) (name : List ℕ) (rate : Rate) (mode : Mode) (content : List ℕ) : Type 0 where
   pub rest : List ℕ
-  pub reads : ReadsRecording start name mode (content ++ rest)
+  pub reads : ReadsRecording start name rate mode (content ++ rest)
 
-pub reads-first : (start now : FolderState) (name : List ℕ) (mode : Mode) (content : List ℕ) (at : ℕ) → ReadBehind start now name mode content at → GoesOnBy start name mode content
-reads-first start now name mode content at b =
+pub reads-first : (start now : FolderState) (name : List ℕ) (rate : Rate) (mode : Mode) (content : List ℕ) (at : ℕ)
+    → ReadBehind start now name rate mode content at → GoesOnBy start name rate mode content
+reads-first start now name rate mode content at b =
     let octets : List ℕ = octets_at start name in
     let rest : List ℕ = rest_of (start.tells name) (drop at octets) in
     record {
       rest = rest;
       reads = record {
         within = b.read.within;
-        read = λ told. sym (take-append-drop at octets) ∙ ap (λ (xs : List ℕ). xs ++ drop at octets) (sym (b.read.front told)) ∙ append_assoc (header_of mode) content (drop at octets)
-            ∙ ap (λ (xs : List ℕ). header_of mode ++ (content ++ xs)) (sym (rest-told (start.tells name) (drop at octets) told));
+        read = λ told. sym (take-append-drop at octets) ∙ ap (λ (xs : List ℕ). xs ++ drop at octets) (sym (b.read.front told)) ∙ append_assoc (header_at rate mode) content (drop at octets)
+            ∙ ap (λ (xs : List ℕ). header_at rate mode ++ (content ++ xs)) (sym (rest-told (start.tells name) (drop at octets) told));
       };
     }

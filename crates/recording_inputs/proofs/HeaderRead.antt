@@ -3,6 +3,7 @@ use Rattle.std.proofs.Common.{◌≡◌, ◌∙◌, inl, inr, ℕ, ◌+◌, ◌�
 use Rattle.std.proofs.lemmas.List.{take_all}
 use Rattle.std.proofs.lemmas.Bool.{cases_lt}
 use Rattle.outside_core.specs.Folder.{FolderState, octets_at}
+use Rattle.recordings.specs.declared.rate.Rate.{Rate}
 use Rattle.command_base.specs.declared.limits.TheConstants.{RECORDING_LIMIT}
 use Rattle.command_base.specs.declared.stop.Stop.{Stop}
 use Rattle.command_base.specs.declared.stop.Stop.TheVariants.{Own, Read, Write, Say, NoMemory}
@@ -18,9 +19,10 @@ header-octets start new name count piece few r all told = elim (cases_lt count 8
 ]
 
 -- the recording is too long, or no octet was read at its limit
-pub not-within : (old new : FolderState) (name : List ℕ) (word : ℕ) (stop : Stop) → IsNotWithin old new name RECORDING_LIMIT word stop → IsNotOpened old new name word stop
-not-within old new name word (Own answer) long = (inl (long.0, long.1), long.2)
-not-within old new name word (Read fault) fails = fails
-not-within old new name word (Write fault) never = never
-not-within old new name word (Say fault) never = never
-not-within old new name word NoMemory never = never
+pub not-within : (old new : FolderState) (name : List ℕ) (rate : Rate) (word : ℕ) (stop : Stop)
+    → IsNotWithin old new name RECORDING_LIMIT word stop → IsNotOpened old new name rate word stop
+not-within old new name rate word (Own answer) long = (inl (long.0, long.1), long.2)
+not-within old new name rate word (Read fault) fails = fails
+not-within old new name rate word (Write fault) never = never
+not-within old new name rate word (Say fault) never = never
+not-within old new name rate word NoMemory never = never

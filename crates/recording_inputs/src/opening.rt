@@ -6,13 +6,18 @@ ghost use Rattle.recording_inputs.specs.Recordings.{Opened, IsNotOpened};
 
 use command_base::{RECORDING_LIMIT, Status, Stop, read_piece, within_limit};
 use outside_core::Folder;
-use recordings::{HEADER, read_header};
+use recordings::{HEADER, Rate, read_header};
 use scramblers::Mode;
 
-/// Looks at the recording's length and reads its header. Where it is too long, the answer names this word.
-pub fn open_recording<F: Folder>(folder: &mut F, name: &str, word: usize) -> Result<Mode, Stop>
-    ensures ok { IfOk result (Opened (F.state folder.old) (F.state folder.new) name.now) }
-    ensures err { IfErr result (IsNotOpened (F.state folder.old) (F.state folder.new) name.now word) }
+/// Looks at the recording's length and reads its header, at this rate. Where it is too long, the answer names this word.
+pub fn open_recording<F: Folder>(
+    folder: &mut F,
+    name: &str,
+    rate: Rate,
+    word: usize,
+) -> Result<Mode, Stop>
+    ensures ok { IfOk result (Opened (F.state folder.old) (F.state folder.new) name.now rate) }
+    ensures err { IfErr result (IsNotOpened (F.state folder.old) (F.state folder.new) name.now rate word) }
     ensures reads { OnlyReads (F.state folder.old) (F.state folder.new) }
     ensures counts { (outputs : List (List ℕ)) → IfErr result (StopCounts (F.state folder.old) (F.state folder.new) (name.now ∷ []) outputs) }
 {
@@ -22,7 +27,7 @@ pub fn open_recording<F: Folder>(folder: &mut F, name: &str, word: usize) -> Res
     }
     let mut header = [0u8; HEADER];
     match read_piece(folder, name, RECORDING_LIMIT, 0, &mut header) {
-        Ok(count) => match read_header(&header[..count]) {
+        Ok(count) => match read_header(rate, &header[..count]) {
             Ok(mode) => Ok(mode),
             Err(at) => Err(Stop::Own(Status::BadRecording { at })),
         },

@@ -3,6 +3,7 @@ ghost use Rattle.std.specs.Prelude.{◌≡◌, ◌≢◌, ◌⊎◌, ◌≤◌, 
 ghost use Rattle.scramblers.specs.declared.mode.Mode.{Mode};
 ghost use Rattle.outside_core.specs.Folder.{FolderState, OnlyReads, CountsStand};
 ghost use Rattle.command_base.specs.Stops.{ReadFails};
+ghost use Rattle.recordings.specs.declared.rate.Rate.{Rate};
 ghost use Rattle.recording_inputs.specs.Recordings.{ReadBehind, IsAtEnd};
 
 use command_base::{RECORDING_LIMIT, read_piece};
@@ -21,9 +22,9 @@ pub fn read_samples<F: Folder>(
 ) -> Result<usize, FolderFault>
     requires size { length piece.old ≡ PIECE }
     requires within { at ≤ RECORDING_LIMIT }
-    ensures more { (start : FolderState) (mode : Mode) (content : List ℕ) → ReadBehind start (F.state folder.old) name.now mode content at
-        → IfOk result (λ count. ReadBehind start (F.state folder.new) name.now mode (content ++ take count piece.new) (at + count)) }
-    ensures end { (start : FolderState) (mode : Mode) (content : List ℕ) → ReadBehind start (F.state folder.old) name.now mode content at
+    ensures more { (start : FolderState) (rate : Rate) (mode : Mode) (content : List ℕ) → ReadBehind start (F.state folder.old) name.now rate mode content at
+        → IfOk result (λ count. ReadBehind start (F.state folder.new) name.now rate mode (content ++ take count piece.new) (at + count)) }
+    ensures end { (start : FolderState) (rate : Rate) (mode : Mode) (content : List ℕ) → ReadBehind start (F.state folder.old) name.now rate mode content at
         → IfOk result (λ count. (count % 4 ≢ 0) ⊎ (count ≡ 0) → IsAtEnd start name.now (at + count)) }
     ensures bound { IfOk result (λ count. count ≤ PIECE) }
     ensures within { IfOk result (λ count. at + count ≤ RECORDING_LIMIT) }

@@ -4,6 +4,7 @@ use Rattle.outside_core.specs.Steps.{OnlyReads-trans}
 use Rattle.command_base.specs.declared.limits.TheConstants.{FILE_LIMIT, RECORDING_LIMIT}
 use Rattle.command_base.specs.Inputs.{ReadTo}
 use Rattle.command_base.proofs.Reading.{ReadTo-none}
+use Rattle.recordings.specs.declared.rate.Rate.TheVariants as rates
 use Rattle.recordings.specs.Headers.{IsBadHeader}
 use Rattle.recording_inputs.proofs.HeaderRead.{header-octets}
 use Rattle.margin_command.specs.Ends.EndsOwn.{is_other}
@@ -37,7 +38,7 @@ returns-in-Err-read_header-clause-err g c =
     let none : ReadTo old n2 rec RECORDING_LIMIT 0 [] = ReadTo-none old n2 rec RECORDING_LIMIT c.in-Ok.ensures.within looked.goes_on (looked.names rec) in
     is_other c.in-Err-read_header.at refl (within-earlier old n1 c.args.names.now.file.now FILE_LIMIT c.within_limit.ensures.reads c.in-Ok-within_limit.ensures.within) (record {
       within = c.in-Ok.ensures.within;
-      bad = λ told. subst (λ (xs : List ℕ). IsBadHeader xs c.in-Err-read_header.at)
+      bad = λ told. subst (λ (xs : List ℕ). IsBadHeader rates.Trellis xs c.in-Err-read_header.at)
           (header-octets old n3 rec c.in-Ok-read_piece.count (take c.in-Ok-read_piece.count c.read_piece.new.piece) c.in-Ok-read_piece.ensures.bound (c.in-Ok-read_piece.ensures.more old [] none) (c.in-Ok-read_piece.ensures.end old [] none) told)
           c.in-Err-read_header.ensures.err;
     })

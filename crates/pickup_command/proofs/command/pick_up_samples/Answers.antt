@@ -1,6 +1,7 @@
 use Rattle.std.proofs.Common.{[], refl}
 use Rattle.outside_core.specs.Folder.{FolderState}
 use Rattle.command_base.proofs.OnlyOutputs.{OnlyOutputs-reads}
+use Rattle.recordings.specs.declared.rate.Rate.TheVariants as rates
 use Rattle.recording_inputs.proofs.Behind.{behind-none}
 use Rattle.pickup_command.proofs.Playings.{plays-after}
 use Rattle.pickup_command.proofs.command.pick_up_samples.Goals as goal
@@ -12,6 +13,6 @@ returns-in-Ok-clause-ends g c start o =
       content = [];
       plays = plays-after start start old c.args.mode c.in-Ok.player [] o.reads (c.in-Ok.ensures.plays start);
       whole = refl;
-      behind = behind-none start old old c.args.rec.now c.args.mode o o.reads.goes_on (o.reads.names c.args.rec.now);
+      behind = behind-none start old old c.args.rec.now rates.Trellis c.args.mode o o.reads.goes_on (o.reads.names c.args.rec.now);
       only = OnlyOutputs-reads [] o.reads;
     })

@@ -5,6 +5,7 @@ use Rattle.outside_core.specs.Steps.{CountsStand-trans}
 use Rattle.symbol_map.specs.declared.sample.Sample.{Sample}
 use Rattle.command_base.proofs.Jobs.{stop-earlier}
 use Rattle.command_base.proofs.OnlyOutputs.{OnlyOutputs-reads, OnlyOutputs-says, OnlyOutputs-trans}
+use Rattle.recordings.specs.declared.rate.Rate.TheVariants as rates
 use Rattle.recordings.specs.Samples.{samples_in}
 use Rattle.recordings.proofs.Samples.{samples_in-append}
 use Rattle.recording_inputs.specs.Recordings.{ReadBehind}
@@ -19,7 +20,7 @@ pub returns-in-Err-clause-err : goal.returns-in-Err-clause-err
 returns-in-Err-clause-err g c start h =
     let old : FolderState = g.F.Folder.state c.args.folder.now in
     let n1 : FolderState = g.F.Folder.state c.read_samples.new.folder in
-    inr (front-part start n1 c.args.rec.now c.args.mode c.args.player.now h.content (reads-first start old c.args.rec.now c.args.mode h.content c.args.at h.behind)
+    inr (front-part start n1 c.args.rec.now c.args.mode c.args.player.now h.content (reads-first start old c.args.rec.now rates.Trellis c.args.mode h.content c.args.at h.behind)
     (plays-after start old n1 c.args.mode c.args.player.now (samples_in h.content) c.read_samples.ensures.reads h.plays) c.requires.ready.not_lost c.requires.ready.all_taken)
 
 pub returns-in-Err-play_piece-clause-err : goal.returns-in-Err-play_piece-clause-err
@@ -28,8 +29,8 @@ returns-in-Err-play_piece-clause-err g c start h =
     let n1 : FolderState = g.F.Folder.state c.read_samples.new.folder in
     let n2 : FolderState = g.F.Folder.state c.play_piece.new.folder in
     let piece : List ℕ = take c.in-Ok.read c.read_samples.new.piece in
-    let behind : ReadBehind start n1 c.args.rec.now c.args.mode (h.content ++ piece) (c.args.at + c.in-Ok.read) = c.in-Ok.ensures.more start c.args.mode h.content h.behind in
-    stops-by start n2 c.args.rec.now c.args.mode (h.content ++ piece) c.in-Err-play_piece.stop (reads-first start n1 c.args.rec.now c.args.mode (h.content ++ piece) (c.args.at + c.in-Ok.read) behind)
+    let behind : ReadBehind start n1 c.args.rec.now rates.Trellis c.args.mode (h.content ++ piece) (c.args.at + c.in-Ok.read) = c.in-Ok.ensures.more start rates.Trellis c.args.mode h.content h.behind in
+    stops-by start n2 c.args.rec.now c.args.mode (h.content ++ piece) c.in-Err-play_piece.stop (reads-first start n1 c.args.rec.now rates.Trellis c.args.mode (h.content ++ piece) (c.args.at + c.in-Ok.read) behind)
     (subst (λ (xs : List Sample). StopsPlay start n2 c.args.mode xs c.in-Err-play_piece.stop) (sym (samples_in-append h.content piece h.whole))
     (c.in-Err-play_piece.ensures.err start (samples_in h.content) (plays-after start old n1 c.args.mode c.args.player.now (samples_in h.content) c.read_samples.ensures.reads h.plays)))
 
@@ -45,13 +46,13 @@ returns-then-read-ne0-clause-err g c start h =
     let n2 : FolderState = g.F.Folder.state c.play_piece.new.folder in
     let piece : List ℕ = take c.in-Ok.read c.read_samples.new.piece in
     let long : length piece ≡ c.in-Ok.read = length-take c.in-Ok.read c.read_samples.new.piece ∙ omega (arith, c.in-Ok.ensures.bound, c.read_samples.ensures.kept) in
-    let behind : ReadBehind start n1 c.args.rec.now c.args.mode (h.content ++ piece) (c.args.at + c.in-Ok.read) = c.in-Ok.ensures.more start c.args.mode h.content h.behind in
+    let behind : ReadBehind start n1 c.args.rec.now rates.Trellis c.args.mode (h.content ++ piece) (c.args.at + c.in-Ok.read) = c.in-Ok.ensures.more start rates.Trellis c.args.mode h.content h.behind in
     let cut : c.in-Ok.read % 4 ≢ 0 = c.if-read-ne0.true in
     let content_cut : length (h.content ++ piece) % 4 ≡ c.in-Ok.read % 4 = omega (arith, h.whole, length-append h.content piece, long) in
     let ready = c.in-Ok-play_piece.ensures.ready c.args.at c.requires.ready in
     is_cut (c.args.at + (c.in-Ok.read - c.in-Ok.read % 4)) refl
     (cut-by start n2 c.args.rec.now c.args.mode c.play_piece.new.player (h.content ++ piece) (c.args.at + (c.in-Ok.read - c.in-Ok.read % 4))
-    (reads-all start n1 c.args.rec.now c.args.mode (h.content ++ piece) (c.args.at + c.in-Ok.read) behind (c.in-Ok.ensures.end start c.args.mode h.content h.behind (inl cut)))
+    (reads-all start n1 c.args.rec.now rates.Trellis c.args.mode (h.content ++ piece) (c.args.at + c.in-Ok.read) behind (c.in-Ok.ensures.end start rates.Trellis c.args.mode h.content h.behind (inl cut)))
     (λ e. cut (sym content_cut ∙ e)) (omega (arith, behind.at_is, content_cut))
     (subst (λ (xs : List Sample). Plays start n2 c.args.mode c.play_piece.new.player xs) (sym (samples_in-append h.content piece h.whole))
     (c.in-Ok-play_piece.ensures.ok start (samples_in h.content) (plays-after start old n1 c.args.mode c.args.player.now (samples_in h.content) c.read_samples.ensures.reads h.plays)))
@@ -67,19 +68,19 @@ returns-clause-ok g c start h =
     let n2 : FolderState = g.F.Folder.state c.play_piece.new.folder in
     let piece : List ℕ = take c.in-Ok.read c.read_samples.new.piece in
     let long : length piece ≡ c.in-Ok.read = length-take c.in-Ok.read c.read_samples.new.piece ∙ omega (arith, c.in-Ok.ensures.bound, c.read_samples.ensures.kept) in
-    let behind : ReadBehind start n1 c.args.rec.now c.args.mode (h.content ++ piece) (c.args.at + c.in-Ok.read) = c.in-Ok.ensures.more start c.args.mode h.content h.behind in
+    let behind : ReadBehind start n1 c.args.rec.now rates.Trellis c.args.mode (h.content ++ piece) (c.args.at + c.in-Ok.read) = c.in-Ok.ensures.more start rates.Trellis c.args.mode h.content h.behind in
     record {
       content = h.content ++ piece;
       plays = subst (λ (xs : List Sample). Plays start n2 c.args.mode c.play_piece.new.player xs) (sym (samples_in-append h.content piece h.whole))
           (c.in-Ok-play_piece.ensures.ok start (samples_in h.content) (plays-after start old n1 c.args.mode c.args.player.now (samples_in h.content) c.read_samples.ensures.reads h.plays));
       whole = omega (arith, h.whole, length-append h.content piece, long, c.if-read-ne0.false);
-      behind = behind-kept start n1 n2 c.args.rec.now c.args.mode (h.content ++ piece) (c.args.at + c.in-Ok.read) behind c.play_piece.ensures.only.goes_on (c.play_piece.ensures.only.names c.args.rec.now);
+      behind = behind-kept start n1 n2 c.args.rec.now rates.Trellis c.args.mode (h.content ++ piece) (c.args.at + c.in-Ok.read) behind c.play_piece.ensures.only.goes_on (c.play_piece.ensures.only.names c.args.rec.now);
       only = OnlyOutputs-trans [] h.only (OnlyOutputs-trans [] (OnlyOutputs-reads [] c.read_samples.ensures.reads) (OnlyOutputs-says [] c.play_piece.ensures.only));
     }
 
 pub returns-clause-end : goal.returns-clause-end
 returns-clause-end g c start h none told =
-    let e = c.in-Ok.ensures.end start c.args.mode h.content h.behind (inr none) told in
+    let e = c.in-Ok.ensures.end start rates.Trellis c.args.mode h.content h.behind (inr none) told in
     omega (arith, e, none)
 
 pub returns-clause-ready : goal.returns-clause-ready

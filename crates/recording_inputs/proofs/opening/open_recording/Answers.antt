@@ -10,7 +10,7 @@ use Rattle.recording_inputs.proofs.opening.open_recording.Goals as goal
 
 pub returns-in-Err-clause-err : goal.returns-in-Err-clause-err
 returns-in-Err-clause-err g c =
-    not-within (g.F.Folder.state c.args.folder.now) (g.F.Folder.state c.within_limit.new.folder) c.args.name.now c.args.word c.in-Err.stop c.in-Err.ensures.refused
+    not-within (g.F.Folder.state c.args.folder.now) (g.F.Folder.state c.within_limit.new.folder) c.args.name.now c.args.rate c.args.word c.in-Err.stop c.in-Err.ensures.refused
 
 pub returns-in-Ok-read_header-clause-ok : goal.returns-in-Ok-read_header-clause-ok
 returns-in-Ok-read_header-clause-ok g c =
@@ -41,7 +41,7 @@ returns-in-Err-read_header-clause-err g c =
         refl,
         record {
           within = c.in-Ok.ensures.within;
-          bad = λ told. subst (λ (xs : List ℕ). IsBadHeader xs c.in-Err-read_header.at)
+          bad = λ told. subst (λ (xs : List ℕ). IsBadHeader c.args.rate xs c.in-Err-read_header.at)
               (header-octets old n2 name c.in-Ok-read_piece.count (take c.in-Ok-read_piece.count c.read_piece.new.piece) c.in-Ok-read_piece.ensures.bound (c.in-Ok-read_piece.ensures.more old [] none) (c.in-Ok-read_piece.ensures.end old [] none) told)
               c.in-Err-read_header.ensures.err;
         },

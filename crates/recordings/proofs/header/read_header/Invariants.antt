@@ -6,5 +6,5 @@ use Rattle.recordings.proofs.header.read_header.Given as goal
 abbrev pub invariant-loop-place : goal.invariant-loop-place
 invariant-loop-place l = record {
   front : l.place ≤ length l.octets;
-  before : (place : ℕ) → place < l.place → fits place (slice_index l.octets place) ≡ true;
+  before : (place : ℕ) → place < l.place → fits l.rate place (slice_index l.octets place) ≡ true;
 }
