@@ -214,28 +214,7 @@ done-by j words old before new (Err stop) s ends counts l e = absurd (never stop
 pub done-of : {D : Type 0} (j : Job D) (words : List (List ℕ)) (old new : FolderState) (s : Status) (a : Answers j words old new s) → s ≡ status.Done → IsDone j old a.before new
 done-of j words old new s a e = done-by j words old a.before new a.end s a.ends a.counts a.says e
 
-pub shared-of : {D : Type 0} (j : Job D) (words : List (List ℕ)) (old new : FolderState) (s : Status) → Answers j words old new s → Shared j.inputs j.outputs old new s
-shared-of j words old new s a = record {
-  names = λ other apart. KeepsName-trans old a.before new other a.only.goes_on (a.only.names other apart) (last.names other tt);
-  refused = λ r name. KeepsName-trans old a.before new name a.only.goes_on (a.refused (last-refusal j.line_of words a.before new a.end s a.says r) name) (last.names name tt);
-  read = λ e.
-      SomeRose-later _ _ _ j.inputs last.goes_on.reads (end-read old a.before j.inputs j.outputs a.end a.counts (last-plain j.line_of words a.before new a.end s status.ReadFault a.says e read-plain));
-  write = λ e. elim (last-fault j.line_of words a.before new a.end s a.says e) [
-    | inl own ↦ elim (end-write old a.before j.inputs j.outputs a.end a.counts own) [
-      | inl rose ↦ inl (SomeRose-later _ _ _ j.outputs last.goes_on.writes rose)
-      | inr rose ↦ inr (Rose-later _ _ a.before.say_faults new.say_faults (omega arith) rose last.goes_on.says)
-    ]
-    | inr rose ↦ inr (Rose-later old.say_faults a.before.say_faults new.say_faults new.say_faults a.only.goes_on.says rose (omega arith))
-  ];
-  known = λ e. end-usage old a.before j.inputs j.outputs a.end a.counts (last-plain j.line_of words a.before new a.end s status.Usage a.says e usage-plain);
-  stand = last-stand j.line_of words old a.before new a.end s (end-stand old a.before j.inputs j.outputs a.end a.counts) a.says;
-}
-  where
-    last : OnlyOutputs a.before new []
-    last = last-only j.line_of words a.before new a.end s a.says
-
--- ---- when want of memory is the answer
-
+-- want of memory is the folder's, or the job's own
 last-memory : {D : Type 0} (line_of : D → List ℕ) (words : List (List ℕ)) (before new : FolderState) (end : Result D Stop) (s : Status)
     → SaysLast line_of words before new end s → s ≡ status.NoMemory → (end_status end ≡ status.NoMemory) ⊎ Rose before.refusals new.refusals
 last-memory line_of words before new (Ok done) s l e = tells-memory before new _ _ s l e
@@ -260,16 +239,39 @@ end-memory old new inputs outputs (Err (Read folder.Failed)) counts e = absurd c
 end-memory old new inputs outputs (Err (Write folder.Failed)) counts e = absurd cc
 end-memory old new inputs outputs (Err (Say folder.Failed)) counts e = absurd cc
 
--- The folder refused memory, or the job had none for what it holds: then no name has changed where it stops so before any does.
-pub memory-of : {D : Type 0} (j : Job D) (words : List (List ℕ)) (old new : FolderState) (s : Status) (a : Answers j words old new s)
-    → (a.end ≡ Err NoMemory → KeepsAll old a.before) → s ≡ status.NoMemory → Rose old.refusals new.refusals ⊎ KeepsAll old new
+memory-of : {D : Type 0} (j : Job D) (words : List (List ℕ)) (old new : FolderState) (s : Status) (a : Answers j words old new s)
+    → (j.Ends old a.before (Err NoMemory) → KeepsAll old a.before) → s ≡ status.NoMemory → Rose old.refusals new.refusals ⊎ KeepsAll old new
 memory-of j words old new s a keeps e = elim (last-memory j.line_of words a.before new a.end s a.says e) [
   | inl own ↦ elim (end-memory old a.before j.inputs j.outputs a.end a.counts own) [
-    | inl is ↦ inr (λ name. KeepsName-trans old a.before new name a.only.goes_on (keeps is name) (last.names name tt))
+    | inl is ↦ inr (λ name. KeepsName-trans old a.before new name a.only.goes_on
+          (keeps (subst (j.Ends old a.before) is a.ends) name) (last.names name tt))
     | inr rose ↦ inl (Rose-later _ _ a.before.refusals new.refusals (omega arith) rose last.goes_on.refused)
   ]
   | inr rose ↦ inl (Rose-later old.refusals a.before.refusals new.refusals new.refusals a.only.goes_on.refused rose (omega arith))
 ]
+  where
+    last : OnlyOutputs a.before new []
+    last = last-only j.line_of words a.before new a.end s a.says
+
+-- From how a command answers to what every command promises, where it stops for want of memory of its own before any name has changed.
+pub shared-of : {D : Type 0} (j : Job D) (words : List (List ℕ)) (old new : FolderState) (s : Status) (a : Answers j words old new s)
+    → (j.Ends old a.before (Err NoMemory) → KeepsAll old a.before) → Shared j.inputs j.outputs old new s
+shared-of j words old new s a keeps = record {
+  names = λ other apart. KeepsName-trans old a.before new other a.only.goes_on (a.only.names other apart) (last.names other tt);
+  refused = λ r name. KeepsName-trans old a.before new name a.only.goes_on (a.refused (last-refusal j.line_of words a.before new a.end s a.says r) name) (last.names name tt);
+  read = λ e.
+      SomeRose-later _ _ _ j.inputs last.goes_on.reads (end-read old a.before j.inputs j.outputs a.end a.counts (last-plain j.line_of words a.before new a.end s status.ReadFault a.says e read-plain));
+  write = λ e. elim (last-fault j.line_of words a.before new a.end s a.says e) [
+    | inl own ↦ elim (end-write old a.before j.inputs j.outputs a.end a.counts own) [
+      | inl rose ↦ inl (SomeRose-later _ _ _ j.outputs last.goes_on.writes rose)
+      | inr rose ↦ inr (Rose-later _ _ a.before.say_faults new.say_faults (omega arith) rose last.goes_on.says)
+    ]
+    | inr rose ↦ inr (Rose-later old.say_faults a.before.say_faults new.say_faults new.say_faults a.only.goes_on.says rose (omega arith))
+  ];
+  memory = memory-of j words old new s a keeps;
+  known = λ e. end-usage old a.before j.inputs j.outputs a.end a.counts (last-plain j.line_of words a.before new a.end s status.Usage a.says e usage-plain);
+  stand = last-stand j.line_of words old a.before new a.end s (end-stand old a.before j.inputs j.outputs a.end a.counts) a.says;
+}
   where
     last : OnlyOutputs a.before new []
     last = last-only j.line_of words a.before new a.end s a.says

@@ -38,11 +38,12 @@ pub record Answers {D : Type 0} (j : Job D) (words : List (List ℕ)) (old new :
   pub counts : EndCounts old before j.inputs j.outputs end
   pub says : SaysLast j.line_of words before new end s
 
--- What every command promises that reads and writes these names alone.
+-- What every command promises that reads and writes these names alone. Memory that the folder didn't refuse is wanted before any name has changed.
 pub record Shared (inputs outputs : List (List ℕ)) (old new : FolderState) (s : Status) : Type 0 where
   pub names : (other : List ℕ) → IsNoneOf other outputs → KeepsName old new other
   pub refused : IsRefusal s → KeepsAll old new
   pub read : s ≡ status.ReadFault → SomeRose old.read_faults new.read_faults inputs
   pub write : s ≡ status.WriteFault → SomeRose old.write_faults new.write_faults outputs ⊎ Rose old.say_faults new.say_faults
+  pub memory : s ≡ status.NoMemory → Rose old.refusals new.refusals ⊎ KeepsAll old new
   pub known : s ≢ status.Usage
   pub stand : PassesNoneOver old new s

@@ -58,7 +58,7 @@ pub headline-of : (words : List (List ℕ)) (old new : FolderState) (n : EncodeN
 headline-of words old new n s a =
     let last : OnlyOutputs a.before new [] = last-only samples_line words a.before new a.end s a.says in
     record {
-      shared = shared-of (encode_job n) words old new s a;
+      shared = shared-of (encode_job n) words old new s a (λ e. absurd e.0);
       rec = left-later old a.before new n a.only.goes_on last.goes_on (last.names n.rec tt) (left-by old a.before n a.end a.ends.0);
       whole = λ e. whole-of old a.before new n last (done-of (encode_job n) words old new s a e);
     }

@@ -31,7 +31,7 @@ lists-of old before new n d = record {
 
 -- what the command promises holds of every answer
 pub headline-of : (words : List (List ℕ)) (old new : FolderState) (n : FramesNames) (s : Status) → Answers (frames_job n) words old new s → Headline old new n s
-headline-of words old new n s a = record { shared = shared-of (frames_job n) words old new s a; lists = λ e. lists-of old a.before new n (done-of (frames_job n) words old new s a e) }
+headline-of words old new n s a = record { shared = shared-of (frames_job n) words old new s a (λ e name. a.only.names name tt); lists = λ e. lists-of old a.before new n (done-of (frames_job n) words old new s a e) }
 
 never-longer : (count : ℕ) → count ≤ 1048576 → FILE_LIMIT < count → ⊥
 never-longer count within longer = omega (arith, within, longer)

@@ -20,7 +20,7 @@ use Rattle.command_base.specs.Lines.{done_line}
 use Rattle.command_base.specs.Outputs.{KeepsAll, OnlyOutputs}
 use Rattle.command_base.proofs.Answering.{IsPlain}
 use Rattle.command_base.proofs.Holding.{Holds-kept}
-use Rattle.command_base.proofs.Jobs.{refusal-own, last-only, last-plain, done-of, shared-of, memory-of}
+use Rattle.command_base.proofs.Jobs.{refusal-own, last-only, last-plain, done-of, shared-of}
 use Rattle.command_base.proofs.Jobs.{done-unless-memory, Comes, is_done, is_own, is_memory, comes-to}
 use Rattle.command_base.specs.Sound.{IsSound}
 use Rattle.peer_command.specs.Words.{Names, inputs_of, outputs_of}
@@ -105,16 +105,12 @@ ran-by words old new n s (LinkLost role segment turn) a last e = gave-up words o
 ran-by words old new n s (PeerFault fault turn) a last e = gave-up words old new n s (PeerFault fault turn) a last refl e
 ran-by words old new n s t a last e = tt
 
-none-changed : (old before : FolderState) (n : Names) (end : Result ℕ Stop) → Ends old before n end → end ≡ Err stops.NoMemory → KeepsAll old before
-none-changed old before n end e is = (subst (λ (x : Result ℕ Stop). Ends old before n x) is e).0
-
 -- what the command promises holds of every answer
 pub headline-of : (words : List (List ℕ)) (old new : FolderState) (n : Names) (s : Status) → Answers (peer_job n) words old new s
     → Headline old new n s
 headline-of words old new n s a = record {
-  shared = shared-of (peer_job n) words old new s a;
+  shared = shared-of (peer_job n) words old new s a (λ e. e.0.0);
   ran = ran-by words old new n s s a (last-only done_line words a.before new a.end s a.says) refl;
-  memory = memory-of (peer_job n) words old new s a (none-changed old a.before n a.end a.ends.0);
 }
 
 -- ---- over a sound folder

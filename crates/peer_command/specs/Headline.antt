@@ -1,12 +1,11 @@
 -- What the command promises, over the folder before and after it. What is said of a name's octets holds where the folder tells that name.
-use Rattle.std.specs.Prelude.{◌≡◌, ◌⊎◌, ℕ, IsTrue, List}
-use Rattle.outside_core.specs.Folder.{FolderState, octets_at, Said, Rose}
+use Rattle.std.specs.Prelude.{◌≡◌, ℕ, IsTrue, List}
+use Rattle.outside_core.specs.Folder.{FolderState, octets_at, Said}
 use Rattle.link_faults.specs.declared.fault.LinkFault.{LinkFault}
 use Rattle.command_base.specs.declared.status.Status.{Status}
-use Rattle.command_base.specs.declared.status.Status.TheVariants.{Done, NotDetected, LinkLost, NoMemory, PeerFault}
+use Rattle.command_base.specs.declared.status.Status.TheVariants.{Done, NotDetected, LinkLost, PeerFault}
 use Rattle.command_base.specs.Job.{Shared}
 use Rattle.command_base.specs.Lines.{done_line}
-use Rattle.command_base.specs.Outputs.{KeepsAll}
 use Rattle.peer_command.specs.Words.{Names, inputs_of, outputs_of}
 use Rattle.peer_command.specs.Ends.{HoldLeft, status_of}
 use Rattle.peer_command.specs.Runs.{Left, PeerEnd, IsDone, GivesUp, RunsTo}
@@ -34,8 +33,6 @@ RanBy old new n (PeerFault fault turn) = GaveUp old new n (PeerFault fault turn)
 RanBy old new n status = Unit {0}
 
 -- The run of the folder's file and bits is made to its end, and nothing else than that ends it but a fault of the folder or want of memory.
--- Memory that the folder didn't refuse is wanted before any name has changed.
 pub record Headline (old new : FolderState) (n : Names) (s : Status) : Type 0 where
   pub shared : Shared (inputs_of n) (outputs_of n) old new s
   pub ran : RanBy old new n s
-  pub memory : s ≡ NoMemory → Rose old.refusals new.refusals ⊎ KeepsAll old new

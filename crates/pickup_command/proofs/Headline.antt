@@ -58,7 +58,7 @@ lists-of old before new rec d = record {
 
 -- what the command promises holds of every answer
 pub headline-of : (words : List (List ℕ)) (old new : FolderState) (rec : List ℕ) (s : Status) → Answers (pickup_job rec) words old new s → Headline old new rec s
-headline-of words old new rec s a = record { shared = shared-of (pickup_job rec) words old new s a; lists = λ e. lists-of old a.before new rec (done-of (pickup_job rec) words old new s a e) }
+headline-of words old new rec s a = record { shared = shared-of (pickup_job rec) words old new s a (λ e name. a.only.names name tt); lists = λ e. lists-of old a.before new rec (done-of (pickup_job rec) words old new s a e) }
 
 -- a line is not lost and followed to its end at once
 never-lost : (content : List ℕ) (symbol : ℕ) → IsFollowed content → LostIs any_trellis any_depth (samples_in content) (Some symbol) → ⊥

@@ -115,7 +115,7 @@ ran-by laws words old new n s t a last e = tt
 -- the headline holds of every answer
 pub headline-of : RunLaws → (words : List (List ℕ)) (old new : FolderState) (n : RunNames) (s : Status) → Answers (run_job n) words old new s → Headline old new n s
 headline-of laws words old new n s a = record {
-  shared = shared-of (run_job n) words old new s a;
+  shared = shared-of (run_job n) words old new s a (λ e. e.0.0);
   got_o = prefix-later old a.before new n.got_o n.answ a.only.goes_on (kept n.got_o) both.got_o;
   got_a = prefix-later old a.before new n.got_a n.orig a.only.goes_on (kept n.got_a) both.got_a;
   whole_o = λ e. let d = done-of (run_job n) words old new s a e in (whole-of laws old a.before new n d.done a.only.goes_on kept d.ends.0).0;

@@ -127,7 +127,7 @@ ran-by laws words old new seed s (ChanceMatch role turn) a e = soaks-of laws see
 ran-by laws words old new seed s t a e = tt
 
 pub headline-of : SoakLaws → (words : List (List ℕ)) (old new : FolderState) (seed : ℕ) (s : Status) → Answers (soak_job seed) words old new s → Headline old new seed s
-headline-of laws words old new seed s a = record { shared = shared-of (soak_job seed) words old new s a; ran = ran-by laws words old new seed s s a refl }
+headline-of laws words old new seed s a = record { shared = shared-of (soak_job seed) words old new s a (λ e name. a.only.names name tt); ran = ran-by laws words old new seed s s a refl }
 
 -- ---- when a soak is done
 
