@@ -1,5 +1,6 @@
 -- From every answer to what the command promises.
-use Rattle.std.proofs.Common.{◌≡◌, ◌∙◌, ◌⊎◌, inl, inr, ℕ, Bool, true, false, List, [], ◌++◌, length, ◌≤◌, ◌<◌, Result, Ok, Err, refl, sym, ap, subst, arith}
+use Rattle.std.proofs.Common.{◌≡◌, ◌∙◌, ◌⊎◌, inl, inr, ℕ, Bool, true, false, List, [], ◌++◌, length, ◌≤◌, ◌<◌, Result, Ok, Err, refl, sym}
+use Rattle.std.proofs.Common.{ap, subst, arith}
 use Rattle.std.proofs.lemmas.Bool.{false≢true}
 use Rattle.std.specs.Option.{option_map}
 use Rattle.outside_core.specs.Folder.{FolderState, octets_at}
@@ -38,12 +39,15 @@ no-refusal role (faults.BadAck nr va high) turn r = r
 no-refusal role (faults.PeerReset va vr) turn r = r
 no-refusal role faults.PeerRefused turn r = r
 
-own-refused : (old before : FolderState) (n : Names) (answer : Status) → IsRefusal answer → EndsBy old before n (stops.Own answer) → KeepsAll old before
+own-refused : (old before : FolderState) (n : Names) (answer : Status) → IsRefusal answer → EndsBy old before n (stops.Own answer)
+    → KeepsAll old before
 own-refused old before n answer r (inl refused) = refused.0
 own-refused old before n answer r (inr e) = absurd (no-refusal n.role e.0 e.1 (subst IsRefusal e.2 r))
 
-pub refused-by : (old before : FolderState) (n : Names) (end : Result ℕ Stop) → Ends old before n end → IsRefusal (end_status end) → KeepsAll old before
-refused-by old before n end e = refusal-own end (KeepsAll old before) (λ answer is r. own-refused old before n answer r (subst (Ends old before n) is e))
+pub refused-by : (old before : FolderState) (n : Names) (end : Result ℕ Stop) → Ends old before n end → IsRefusal (end_status end)
+    → KeepsAll old before
+refused-by old before n end e =
+    refusal-own end (KeepsAll old before) (λ answer is r. own-refused old before n answer r (subst (Ends old before n) is e))
 
 -- ---- the headline
 
@@ -88,15 +92,18 @@ not-long : (old : FolderState) (n : Names) (t : Status) → is_given_up t ≡ tr
 not-long old n t e (inl long) = false≢true (sym (ap is_given_up long.0) ∙ e)
 not-long old n t e (inr long) = false≢true (sym (ap is_given_up long.0) ∙ e)
 
-gave-up : (words : List (List ℕ)) (old new : FolderState) (n : Names) (s t : Status) (a : Answers (peer_job n) words old new s) → OnlyOutputs a.before new [] → is_given_up t ≡ true → s ≡ t → GaveUp old new n t
+gave-up : (words : List (List ℕ)) (old new : FolderState) (n : Names) (s t : Status) (a : Answers (peer_job n) words old new s)
+    → OnlyOutputs a.before new [] → is_given_up t ≡ true → s ≡ t → GaveUp old new n t
 gave-up words old new n s t a last e f =
-    by (subst (Ends old a.before n) (own-end a.end t e (last-plain done_line words a.before new a.end s t a.says f (plain-end t e))) a.ends.0)
+    by (subst (Ends old a.before n)
+    (own-end a.end t e (last-plain done_line words a.before new a.end s t a.says f (plain-end t e))) a.ends.0)
   where
     by : EndsBy old a.before n (stops.Own t) → GaveUp old new n t
     by (inl refused) = absurd (not-long old n t e refused.1)
     by (inr r) = (r.0, r.1, r.2, ran-of old a.before new n (GivesUp r.0 r.1) last r.3)
 
-ran-by : (words : List (List ℕ)) (old new : FolderState) (n : Names) (s t : Status) (a : Answers (peer_job n) words old new s) → OnlyOutputs a.before new [] → s ≡ t → RanBy old new n t
+ran-by : (words : List (List ℕ)) (old new : FolderState) (n : Names) (s t : Status) (a : Answers (peer_job n) words old new s)
+    → OnlyOutputs a.before new [] → s ≡ t → RanBy old new n t
 ran-by words old new n s Done a last e =
     let d = done-of (peer_job n) words old new s a e in
     (d.done, d.said ∙ ap (option_map (λ x. x ++ done_line d.done)) d.ends.1, ran-of old a.before new n (IsDone d.done) last d.ends.0)
@@ -122,13 +129,15 @@ never-long : (old : FolderState) (n : Names) (answer : Status) → AreTold old n
 never-long old n answer t (inl long) = never-longer (length (octets_at old n.bits)) t.bits_within (long.1 t.bits_told)
 never-long old n answer t (inr long) = never-longer (length (octets_at old n.file)) t.file_within (long.2 t.file_told)
 
-inputs-run : (old before : FolderState) (n : Names) (end : PeerEnd) → AreTold old n → (r : RanTo old before n end) → InputsRunTo old n end r.left
+inputs-run : (old before : FolderState) (n : Names) (end : PeerEnd) → AreTold old n → (r : RanTo old before n end)
+    → InputsRunTo old n end r.left
 inputs-run old before n end t r =
     subst (λ (file : List ℕ). RunsTo n.role file (octets_at old n.bits) end r.left) (r.takes.file_is t.file_told)
     (subst (λ (octets : List ℕ). RunsTo n.role r.file octets end r.left) (r.takes.bits_are t.bits_told) r.run)
 
 -- it is the one end that the run has
-answered : OneResult → (old before new : FolderState) (n : Names) (s : Status) (found end : PeerEnd) (left : Left) → OnlyOutputs before new []
+answered : OneResult → (old before new : FolderState) (n : Names) (s : Status) (found end : PeerEnd) (left : Left)
+    → OnlyOutputs before new []
     → AreTold old n → RanTo old before n found → InputsRunTo old n end left → s ≡ answer_of n.role found → Answered new n end left s
 unfolding ran-of
 answered law old before new n s found end left last t r run e =
@@ -149,7 +158,8 @@ exact-of law words old new n s a sound t end left run = by (comes-to (peer_job n
 
     by : Comes a.end s → Answered new n end left s ⊎ (s ≡ NoMemory)
     by (is_done turns is e) =
-        inl (answered law old a.before new n s (IsDone turns) end left last t (subst (λ (x : Result ℕ Stop). Ends old a.before n x) is a.ends.0) run e)
+        inl (answered law old a.before new n s (IsDone turns) end left last t
+        (subst (λ (x : Result ℕ Stop). Ends old a.before n x) is a.ends.0) run e)
     by (is_own answer is e) = own answer e (subst (λ (x : Result ℕ Stop). Ends old a.before n x) is a.ends.0)
     by (is_memory e) = inr e
 
@@ -159,7 +169,8 @@ never-own : (old before : FolderState) (n : Names) (answer : Status) → AreTold
 never-own old before n answer t stays (inl refused) = never-long old n answer t refused.1
 never-own old before n answer t stays (inr e) = stays e.0 e.1 e.3.left (inputs-run old before n (GivesUp e.0 e.1) t e.3)
 
-pub completes-of : OneResult → (words : List (List ℕ)) (old new : FolderState) (n : Names) (s : Status) → Answers (peer_job n) words old new s
+pub completes-of : OneResult → (words : List (List ℕ)) (old new : FolderState) (n : Names) (s : Status)
+    → Answers (peer_job n) words old new s
     → Completes old new n s
 completes-of law words old new n s a = record {
   exact = exact-of law words old new n s a;

@@ -7,7 +7,8 @@ use Rattle.link_account.specs.Account.{Account}
 use Rattle.link_run.specs.Alone.{LoneTurn, LoneRun}
 use Rattle.single_end.specs.Peer.{Past, PeerRun, PeerTurn, Outcome, Going, Closed, Broken, HearsSlots, party_of}
 use Rattle.single_end.specs.Laws.{OnePeerRun, OnePeerTurn}
-use Rattle.peer_command.specs.Runs.{Left, PeerEnd, IsDone, GivesUp, HearsAll, IsPast, MakesTurn, RunsTo, left_of, left_after, slot_at, slots_before, slots_in}
+use Rattle.peer_command.specs.Runs.{Left, PeerEnd, IsDone, GivesUp, HearsAll, IsPast, MakesTurn, RunsTo, left_of, left_after, slot_at}
+use Rattle.peer_command.specs.Runs.{slots_before, slots_in}
 use Rattle.peer_command.specs.Laws.{OneResult}
 
 pub record RunLaws : Type 0 where
@@ -70,9 +71,9 @@ never-on laws role file octets turn outcome left q m not k less =
     let c = cut role file octets q turn k less in
     let same : c.past ≡ m.past = one-past laws role file octets c.past m.past c.is_past m.is_past (c.count ∙ m.turn_is) in
     let going : PeerTurn role m.past (slot_at octets (length m.past.turns)) c.turn c.given Going =
-        subst (λ (p : Past). PeerTurn role p (slot_at octets (length p.turns)) c.turn c.given Going) same c.is in
+    subst (λ (p : Past). PeerTurn role p (slot_at octets (length p.turns)) c.turn c.given Going) same c.is in
     let made : PeerTurn role m.past (slot_at octets (length m.past.turns)) m.last m.given outcome =
-        subst (λ n. PeerTurn role m.past (slot_at octets n) m.last m.given outcome) m.turn_is m.is in
+    subst (λ n. PeerTurn role m.past (slot_at octets n) m.last m.given outcome) m.turn_is m.is in
     not (sym (laws.turn role m.past (slot_at octets (length m.past.turns)) c.turn m.last c.given m.given Going outcome going made).2)
 
 -- all slots are heard in no run that ends in a turn
@@ -98,8 +99,8 @@ one-end laws role file octets n m outcome result left others h k not never = eli
         let turns : n ≡ m = omega (arith, more, most) in
         let same : h.past ≡ k.past = one-past laws role file octets h.past k.past h.is_past k.is_past (sym h.turn_is ∙ turns ∙ k.turn_is) in
         let here : PeerTurn role k.past (slot_at octets m) h.last h.given outcome =
-            subst (λ x. PeerTurn role k.past (slot_at octets x) h.last h.given outcome) turns
-            (subst (λ (p : Past). PeerTurn role p (slot_at octets n) h.last h.given outcome) same h.is) in
+        subst (λ x. PeerTurn role k.past (slot_at octets x) h.last h.given outcome) turns
+        (subst (λ (p : Past). PeerTurn role p (slot_at octets n) h.last h.given outcome) same h.is) in
         let one = laws.turn role k.past (slot_at octets m) h.last k.last h.given k.given outcome result here k.is in
         record {
           turns = turns;
@@ -123,7 +124,8 @@ data Ended (role : Role) (file octets : List ℕ) (end : PeerEnd) (left : Left) 
   in_turn : (turn : ℕ) (outcome : Outcome) → MakesTurn role file octets turn outcome left → outcome ≢ Going → end ≡ end_of turn outcome
       → Ended role file octets end left
 
-ended : (role : Role) (file octets : List ℕ) (end : PeerEnd) (left : Left) → RunsTo role file octets end left → Ended role file octets end left
+ended : (role : Role) (file octets : List ℕ) (end : PeerEnd) (left : Left) → RunsTo role file octets end left
+    → Ended role file octets end left
 ended role file octets (IsDone turns) left (inl h) = all turns h refl
 ended role file octets (IsDone turns) left (inr (turn, e, m)) = in_turn turn Closed m closed-not (ap IsDone e)
 ended role file octets (GivesUp fault turn) left m = in_turn turn (Broken fault) m (broken-not fault) refl
@@ -135,7 +137,7 @@ one-result laws role file octets a b left others h k = by (ended role file octet
     by (all turns x e) (all more y f) =
         let count : turns ≡ more = x.all ∙ sym y.all in
         let same : x.past ≡ y.past =
-            one-past laws role file octets x.past y.past x.is_past y.is_past (sym x.turns_are ∙ count ∙ y.turns_are) in
+        one-past laws role file octets x.past y.past x.is_past y.is_past (sym x.turns_are ∙ count ∙ y.turns_are) in
         (e ∙ ap IsDone count ∙ sym f, x.left_is ∙ ap (left_of role) same ∙ sym y.left_is)
     by (all turns x e) (in_turn turn outcome m not f) = absurd (never-all laws role file octets turns turn outcome left others x m not)
     by (in_turn turn outcome m not e) (all turns y f) = absurd (never-all laws role file octets turns turn outcome others left y m not)

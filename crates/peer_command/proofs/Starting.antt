@@ -31,18 +31,28 @@ pub distinct : (n : Names) → AreApart (outputs_of n) → AreNoneOf (outputs_of
 distinct n d i = record { got_file = i.0.0; got_bits = i.0.1.0; trace_file = i.1.0.0; trace_bits = i.1.0.1.0; got_trace = d.0.0 }
 
 -- the end's role is that of the words
-pub goes-by : LoneHearingsDeliver → LoneSpeakingTakesNothing → (start mid next : FolderState) (n : Names) (old new : Single) (p : Past) (octets slot : List ℕ) → Around start mid next n p octets slot
-    → old.role ≡ n.role → new.role ≡ old.role → GoesOnBy new mid next (turn_names n) p slot → length slot ≡ slot_octets → Reached start next n new
+pub goes-by : LoneHearingsDeliver → LoneSpeakingTakesNothing
+    → (start mid next : FolderState) (n : Names) (old new : Single) (p : Past) (octets slot : List ℕ)
+    → Around start mid next n p octets slot
+    → old.role ≡ n.role → new.role ≡ old.role → GoesOnBy new mid next (turn_names n) p slot → length slot ≡ slot_octets
+    → Reached start next n new
 goes-by hearing speaking start mid next n old new p octets slot a role same g full = by new.role (same ∙ role) g.makes g.single
   where
-    by : (r : Role) → r ≡ n.role → (m : Makes r mid next (turn_names n) p slot Going) → SingleAfter new (after slot m.turn m.is.is.0 (over m.others p)) → Reached start next n new
-    by r e m s = (subst (λ x. (k : Makes x mid next (turn_names n) p slot Going) → SingleAfter new (after slot k.turn k.is.is.0 (over k.others p)) → Reached start next n new) (sym e)
+    by : (r : Role) → r ≡ n.role → (m : Makes r mid next (turn_names n) p slot Going)
+        → SingleAfter new (after slot m.turn m.is.is.0 (over m.others p)) → Reached start next n new
+    by r e m s =
+        (subst (λ x. (k : Makes x mid next (turn_names n) p slot Going) → SingleAfter new (after slot k.turn k.is.is.0 (over k.others p))
+        → Reached start next n new) (sym e)
         (λ k t. goes-on hearing speaking start mid next n new p octets slot a (same ∙ role) k t full)) m s
 
-pub ends-short-by : LoneHearingsDeliver → LoneSpeakingTakesNothing → (start mid next : FolderState) (n : Names) (old new : Single) (p : Past) (octets slot : List ℕ) (turn : ℕ) → Around start mid next n p octets slot
-    → turn ≡ length p.turns → SingleAfter old p → old.role ≡ n.role → new.role ≡ old.role → GoesOnBy new mid next (turn_names n) p slot → length slot < slot_octets → RanTo start next n (IsDone (turn + 1))
+pub ends-short-by : LoneHearingsDeliver → LoneSpeakingTakesNothing
+    → (start mid next : FolderState) (n : Names) (old new : Single) (p : Past) (octets slot : List ℕ) (turn : ℕ)
+    → Around start mid next n p octets slot
+    → turn ≡ length p.turns → SingleAfter old p → old.role ≡ n.role → new.role ≡ old.role → GoesOnBy new mid next (turn_names n) p slot
+    → length slot < slot_octets → RanTo start next n (IsDone (turn + 1))
 ends-short-by hearing speaking start mid next n old new p octets slot turn a number after-is role same g short =
-    ends-short hearing speaking start mid next n p octets slot turn a number (subst (λ (r : Role). Makes r mid next (turn_names n) p slot Going) (same ∙ role) g.makes)
+    ends-short hearing speaking start mid next n p octets slot turn a number
+    (subst (λ (r : Role). Makes r mid next (turn_names n) p slot Going) (same ∙ role) g.makes)
     (subst (λ (r : Role). PeerRun r p) role after-is.run) short
 
 -- ---- the outputs are created
@@ -51,7 +61,8 @@ keeps-each : (old new : FolderState) (names : List (List ℕ)) → OnlyReads old
 keeps-each old new [] reads = tt
 keeps-each old new (name ∷ names) reads = (reads.names name, keeps-each old new names reads)
 
-pub ends-creating : (begin mid now : FolderState) (n : Names) → IsBegun begin mid n → CreatesPart mid now (outputs_of n) → StopsCreating begin now n
+pub ends-creating : (begin mid now : FolderState) (n : Names) → IsBegun begin mid n → CreatesPart mid now (outputs_of n)
+    → StopsCreating begin now n
 ends-creating begin mid now n b c = record {
   bits_within = b.bits_within;
   file_within = b.file_within;
@@ -61,8 +72,10 @@ ends-creating begin mid now n b c = record {
 few : (octets : List ℕ) → length (take file_limit octets) ≤ file_limit
 few octets = omega (arith, length-take file_limit octets)
 
-pub reached-first : (begin mid now : FolderState) (n : Names) (s : Single) → IsBegun begin mid n → OnlyOutputs mid now (outputs_of n) → Creates now (outputs_of n) → Distinct n → s.role ≡ n.role
-    → ((file : List ℕ) → SingleAfter s (record { file = file; slots = []; turns = []; account = fresh (setup_of n.role) })) → Reached begin now n s
+pub reached-first : (begin mid now : FolderState) (n : Names) (s : Single) → IsBegun begin mid n → OnlyOutputs mid now (outputs_of n)
+    → Creates now (outputs_of n) → Distinct n → s.role ≡ n.role
+    → ((file : List ℕ) → SingleAfter s (record { file = file; slots = []; turns = []; account = fresh (setup_of n.role) }))
+    → Reached begin now n s
 reached-first begin mid now n s b only c d role first = record {
   past = record { file = file_at now n.file file_limit; slots = []; turns = []; account = fresh (setup_of n.role) };
   after = first (file_at now n.file file_limit);
@@ -84,7 +97,8 @@ reached-first begin mid now n s b only c d role first = record {
 
 -- ---- the inputs are looked at
 
-pub bits-refused : (old new : FolderState) (n : Names) (stop : Stop) → OnlyReads old new → IsNotWithin old new n.bits FILE_LIMIT 3 stop → EndsBy old new n stop
+pub bits-refused : (old new : FolderState) (n : Names) (stop : Stop) → OnlyReads old new → IsNotWithin old new n.bits FILE_LIMIT 3 stop
+    → EndsBy old new n stop
 bits-refused old new n (Own answer) reads why = inl (reads.names, inl (why.0, why.1))
 bits-refused old new n (Read fault) reads why = inl (reads.names, inl why)
 bits-refused old new n (Write fault) reads never = absurd never
@@ -92,10 +106,15 @@ bits-refused old new n (Say fault) reads never = absurd never
 bits-refused old new n NoMemory reads never = absurd never
 
 longer-earlier : (old mid : FolderState) (name : List ℕ) (limit : ℕ) → OnlyReads old mid → IsLonger mid name limit → IsLonger old name limit
-longer-earlier old mid name limit reads longer told = subst (λ (o : List ℕ). limit < length o) (octets-kept old mid name (reads.names name) told) (longer (told_later reads.goes_on name told))
+longer-earlier old mid name limit reads longer told =
+    subst (λ (o : List ℕ). limit < length o) (octets-kept old mid name (reads.names name) told)
+    (longer (told_later reads.goes_on name told))
 
-pub within-earlier : (old mid : FolderState) (name : List ℕ) (limit : ℕ) → OnlyReads old mid → IsWithin mid name limit → IsWithin old name limit
-within-earlier old mid name limit reads within told = subst (λ (o : List ℕ). length o ≤ limit) (octets-kept old mid name (reads.names name) told) (within (told_later reads.goes_on name told))
+pub within-earlier : (old mid : FolderState) (name : List ℕ) (limit : ℕ) → OnlyReads old mid → IsWithin mid name limit
+    → IsWithin old name limit
+within-earlier old mid name limit reads within told =
+    subst (λ (o : List ℕ). length o ≤ limit) (octets-kept old mid name (reads.names name) told)
+    (within (told_later reads.goes_on name told))
 
 keeps-both : (old mid new : FolderState) → OnlyReads old mid → OnlyReads mid new → KeepsAll old new
 keeps-both old mid new first reads name = KeepsName-trans old mid new name first.goes_on (first.names name) (reads.names name)

@@ -1,4 +1,5 @@
-// The command: the inputs' lengths are looked at, all memory is taken, the outputs are made, turns follow to the run's end, and its line is said.
+// The command: the inputs' lengths are looked at, all memory is taken, the outputs are made, turns follow to the run's end, and its line
+// is said.
 ghost use Rattle.std.specs.Prelude.{◌≡◌, ℕ, [], List, true, map, string_bytes};
 ghost use Rattle.outside_core.specs.Folder.{FolderState};
 ghost use Rattle.command_base.specs.Job.{Answers};
@@ -40,11 +41,14 @@ fn run_single<F: Folder>(
     requires ready { IsReady single.old }
     requires turn { turn_of single.old ≡ 0 }
     requires role { role_of single.old ≡ words.now.role }
-    requires first { (file : List ℕ) → SingleAfter single.old (record { file = file; slots = []; turns = []; account = fresh (setup_of words.now.role) }) }
-    ensures ends { (begin : FolderState) → IsBegun begin (F.state folder.old) (named words.now) → Ends begin (F.state folder.new) (named words.now) result }
+    requires first { (file : List ℕ)
+        → SingleAfter single.old (record { file = file; slots = []; turns = []; account = fresh (setup_of words.now.role) }) }
+    ensures ends { (begin : FolderState) → IsBegun begin (F.state folder.old) (named words.now)
+        → Ends begin (F.state folder.new) (named words.now) result }
     ensures only { OnlyOutputs (F.state folder.old) (F.state folder.new) (outputs_of (named words.now)) }
     ensures said { SaysNothing (F.state folder.old) (F.state folder.new) }
-    ensures counts { EndCounts (F.state folder.old) (F.state folder.new) (inputs_of (named words.now)) (outputs_of (named words.now)) result }
+    ensures counts { EndCounts (F.state folder.old) (F.state folder.new) (inputs_of (named words.now))
+        (outputs_of (named words.now)) result }
 {
     apart_names_differ();
     match create_outputs(folder, &[words.got, words.trace]) {
@@ -60,7 +64,8 @@ fn meet_peer<F: Folder>(alloc: Global, folder: &mut F, words: &PeerWords<'_>) ->
     ensures ends { Ends (F.state folder.old) (F.state folder.new) (named words.now) result }
     ensures only { OnlyOutputs (F.state folder.old) (F.state folder.new) (outputs_of (named words.now)) }
     ensures said { SaysNothing (F.state folder.old) (F.state folder.new) }
-    ensures counts { EndCounts (F.state folder.old) (F.state folder.new) (inputs_of (named words.now)) (outputs_of (named words.now)) result }
+    ensures counts { EndCounts (F.state folder.old) (F.state folder.new) (inputs_of (named words.now))
+        (outputs_of (named words.now)) result }
 {
     match within_limit(folder, words.bits, FILE_LIMIT, BITS) {
         Ok(()) => {}

@@ -69,7 +69,8 @@ fn next_turn<F: Folder>(
     ensures number { result ≡ Ok None → turn_of single.new ≡ turn_of single.old + 1 }
     ensures only { OnlyOutputs (F.state folder.old) (F.state folder.new) (outputs_of (named words.now)) }
     ensures said { SaysNothing (F.state folder.old) (F.state folder.new) }
-    ensures counts { EndCounts (F.state folder.old) (F.state folder.new) (inputs_of (named words.now)) (outputs_of (named words.now)) result }
+    ensures counts { EndCounts (F.state folder.old) (F.state folder.new) (inputs_of (named words.now))
+        (outputs_of (named words.now)) result }
 {
     lone_turns_deliver_what_came();
     apart_names_differ();
@@ -107,7 +108,8 @@ pub(crate) fn run_turns<F: Folder>(
         → Ends start (F.state folder.new) (named words.now) result }
     ensures only { OnlyOutputs (F.state folder.old) (F.state folder.new) (outputs_of (named words.now)) }
     ensures said { SaysNothing (F.state folder.old) (F.state folder.new) }
-    ensures counts { EndCounts (F.state folder.old) (F.state folder.new) (inputs_of (named words.now)) (outputs_of (named words.now)) result }
+    ensures counts { EndCounts (F.state folder.old) (F.state folder.new) (inputs_of (named words.now))
+        (outputs_of (named words.now)) result }
 {
     loop {
         match next_turn(single, folder, words) {

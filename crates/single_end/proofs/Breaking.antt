@@ -1,5 +1,6 @@
 -- As an end hears it gives its link up for its peer's faults alone, and as it is to speak for none of these.
-use Rattle.std.proofs.Common.{◌≡◌, ◌&&◌, ℕ, Bool, true, false, if◌then◌else◌, nat_eq, nat_le, List, Option, Some, None, Result, Ok, Err, subst}
+use Rattle.std.proofs.Common.{◌≡◌, ◌&&◌, ℕ, Bool, true, false, if◌then◌else◌, nat_eq, nat_le, List, Option, Some, None, Result, Ok, Err}
+use Rattle.std.proofs.Common.{subst}
 use Rattle.std.specs.Option.{option_map}
 use Rattle.roles.specs.declared.role.Role.{Role}
 use Rattle.roles.specs.declared.role.Role.TheVariants.{Originator, Answerer}
@@ -121,7 +122,8 @@ tries : (turn : ℕ) (frame : Frame) (a : Account) → IfWants (u_try turn frame
 tries turn frame a = go (expires a.wait.try_set a.setup.period turn) (nat_eq a.wait.try_count a.setup.tries)
   where
     go : (late last : Bool)
-        → IfWants (if late then (if last then Err (spent turn a) else Ok (tries_frame frame (trying_again turn a))) else Ok (tries_frame frame a))
+        → IfWants (if late then (if last then Err (spent turn a) else Ok (tries_frame frame (trying_again turn a))) else Ok
+        (tries_frame frame a))
     go true true = λ peers. peers
     go true false = tt
     go false last = tt

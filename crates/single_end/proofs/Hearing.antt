@@ -1,7 +1,9 @@
 -- What is heard, one more bit at a time.
-use Rattle.std.proofs.Common.{◌≡◌, inl, inr, ◌∙◌, ℕ, ◌+◌, ◌-◌, ◌/◌, ◌^◌, ◌<◌, ◌≤◌, Bool, false, List, [], ◌∷◌, ◌++◌, length, take, get_or, nat_eq, bit_and}
+use Rattle.std.proofs.Common.{◌≡◌, inl, inr, ◌∙◌, ℕ, ◌+◌, ◌-◌, ◌/◌, ◌^◌, ◌<◌, ◌≤◌, Bool, false, List, [], ◌∷◌, ◌++◌, length, take, get_or}
+use Rattle.std.proofs.Common.{nat_eq, bit_and}
 use Rattle.std.proofs.Common.{replicate, refl, sym, ap, subst, arith, append_assoc, length-append}
-use Rattle.std.proofs.lemmas.List.{take_more, take_all, take-append-le, get_or_append_left, get_or-append_right, length-replicate, get_or-replicate}
+use Rattle.std.proofs.lemmas.List.{take_more, take_all, take-append-le, get_or_append_left, get_or-append_right, length-replicate}
+use Rattle.std.proofs.lemmas.List.{get_or-replicate}
 use Rattle.std.proofs.lemmas.Bool.{cases_lt}
 use Rattle.std.proofs.lemmas.Nat.{and_mask}
 use Rattle.plain_lists.specs.Bits.{octet_bits, bits_of}
@@ -27,11 +29,14 @@ no-frame peer frame s = none (s.passes.whole_is ∙ ap (λ o. o ++ s.passes.chec
     none : {x : ℕ} {xs : List ℕ} → [] ≡ x ∷ xs → ⊥
     none e = absurd cc
 
-pub frame-ends : (peer : Role) (bits : List Bool) (octets : List ℕ) (frame : Frame) → IsLent bits octets → SpellsFrame Sixteen peer 0 octets frame → EndsWith peer bits (arrivals.Frame frame)
+pub frame-ends : (peer : Role) (bits : List Bool) (octets : List ℕ) (frame : Frame) → IsLent bits octets
+    → SpellsFrame Sixteen peer 0 octets frame → EndsWith peer bits (arrivals.Frame frame)
 frame-ends peer bits octets frame (inl e) s = (octets, e, s)
-frame-ends peer bits octets frame (inr none) s = absurd (no-frame peer frame (subst (λ (o : List ℕ). SpellsFrame Sixteen peer 0 o frame) none.0 s))
+frame-ends peer bits octets frame (inr none) s =
+    absurd (no-frame peer frame (subst (λ (o : List ℕ). SpellsFrame Sixteen peer 0 o frame) none.0 s))
 
-pub nothing-ends : (peer : Role) (bits : List Bool) (octets : List ℕ) → ((b : List Bool) (o : List ℕ) → IsLent b o → o ≡ lent_of b) → ((seen : Seen) → EndsPattern seen bits → ⊥)
+pub nothing-ends : (peer : Role) (bits : List Bool) (octets : List ℕ) → ((b : List Bool) (o : List ℕ) → IsLent b o → o ≡ lent_of b)
+    → ((seen : Seen) → EndsPattern seen bits → ⊥)
     → IsLent bits octets → ((frame : Frame) → SpellsFrame Sixteen peer 0 octets frame → ⊥) → IsQuiet peer bits
 nothing-ends peer bits octets one unseen lent none arrivals.Nothing e = e
 nothing-ends peer bits octets one unseen lent none (arrivals.Pattern seen) e = unseen seen e
@@ -41,14 +46,20 @@ nothing-ends peer bits octets one unseen lent none (arrivals.Frame frame) e =
 
 -- ---- what is heard of one bit more
 
-quiet-more : (peer : Role) (earlier bits : List Bool) (bit : Bool) → AreQuiet peer earlier bits → IsQuiet peer (earlier ++ bits ++ bit ∷ []) → AreQuiet peer earlier (bits ++ bit ∷ [])
+quiet-more : (peer : Role) (earlier bits : List Bool) (bit : Bool) → AreQuiet peer earlier bits → IsQuiet peer (earlier ++ bits ++ bit ∷ [])
+    → AreQuiet peer earlier (bits ++ bit ∷ [])
 quiet-more peer earlier bits bit before now n low = elim (cases_lt n (length bits)) [
-  | inl less ↦ subst (λ (b : List Bool). IsQuiet peer (earlier ++ b)) (sym (take-append-le (n + 1) bits (bit ∷ []) (omega (arith, less)))) (before n less)
-  | inr more ↦ subst (λ (b : List Bool). IsQuiet peer (earlier ++ b)) (sym (take_all (n + 1) (bits ++ bit ∷ []) (omega (arith, more, length-append bits (bit ∷ [])))))
+  | inl less ↦
+      subst (λ (b : List Bool). IsQuiet peer (earlier ++ b)) (sym (take-append-le (n + 1) bits (bit ∷ []) (omega (arith, less))))
+      (before n less)
+  | inr more ↦
+      subst (λ (b : List Bool). IsQuiet peer (earlier ++ b))
+      (sym (take_all (n + 1) (bits ++ bit ∷ []) (omega (arith, more, length-append bits (bit ∷ [])))))
       (subst (IsQuiet peer) (append_assoc earlier bits (bit ∷ [])) now)
 ]
 
-first-more : (peer : Role) (earlier bits : List Bool) (bit : Bool) (a : Arrived) → IsFirst peer earlier bits a → IsFirst peer earlier (bits ++ bit ∷ []) a
+first-more : (peer : Role) (earlier bits : List Bool) (bit : Bool) (a : Arrived) → IsFirst peer earlier bits a
+    → IsFirst peer earlier (bits ++ bit ∷ []) a
 first-more peer earlier bits bit a f = record {
   quiet = f.quiet;
   last = f.last;
@@ -58,10 +69,12 @@ first-more peer earlier bits bit a f = record {
   ends = f.ends;
 }
 
-first-now : (peer : Role) (earlier bits : List Bool) (bit : Bool) (a : Arrived) → AreQuiet peer earlier bits → EndsWith peer (earlier ++ bits ++ bit ∷ []) a → IsFirst peer earlier (bits ++ bit ∷ []) a
+first-now : (peer : Role) (earlier bits : List Bool) (bit : Bool) (a : Arrived) → AreQuiet peer earlier bits
+    → EndsWith peer (earlier ++ bits ++ bit ∷ []) a → IsFirst peer earlier (bits ++ bit ∷ []) a
 first-now peer earlier bits bit a before now = record { quiet = bits; last = bit; rest = []; bits_are = refl; before = before; ends = now }
 
-pub heard-more : (peer : Role) (earlier bits : List Bool) (bit : Bool) (heard next : Arrived) → IsHeard peer earlier bits heard → EndsSo peer (earlier ++ bits ++ bit ∷ []) next
+pub heard-more : (peer : Role) (earlier bits : List Bool) (bit : Bool) (heard next : Arrived) → IsHeard peer earlier bits heard
+    → EndsSo peer (earlier ++ bits ++ bit ∷ []) next
     → IsHeard peer earlier (bits ++ bit ∷ []) (first heard next)
 heard-more peer earlier bits bit arrivals.Nothing arrivals.Nothing h e = quiet-more peer earlier bits bit h e
 heard-more peer earlier bits bit arrivals.Nothing (arrivals.Pattern seen) h e = first-now peer earlier bits bit (arrivals.Pattern seen) h e
@@ -71,20 +84,29 @@ heard-more peer earlier bits bit (arrivals.Frame frame) next h e = first-more pe
 
 -- ---- bits of an octet, octets of a slot
 
-pub bit-more : (bits : List Bool) (n i : ℕ) → i < 8 → (bits ++ take i (octet_bits n)) ++ nat_eq (bit_and (n / 2 ^ i) 1) 1 ∷ [] ≡ bits ++ take (i + 1) (octet_bits n)
+pub bit-more : (bits : List Bool) (n i : ℕ) → i < 8
+    → (bits ++ take i (octet_bits n)) ++ nat_eq (bit_and (n / 2 ^ i) 1) 1 ∷ [] ≡ bits ++ take (i + 1) (octet_bits n)
 bit-more bits n i h =
     let within : i < length (octet_bits n) = omega (arith, length-low_bits 8 n) in
-    let bit : get_or (octet_bits n) i false ≡ nat_eq (bit_and (n / 2 ^ i) 1) 1 = get_or-low_bits 8 n i false h ∙ ap (λ x. nat_eq x 1) (sym (and_mask (n / 2 ^ i) 1)) in
+    let bit : get_or (octet_bits n) i false ≡ nat_eq (bit_and (n / 2 ^ i) 1) 1 =
+    get_or-low_bits 8 n i false h ∙ ap (λ x. nat_eq x 1) (sym (and_mask (n / 2 ^ i) 1)) in
     append_assoc bits (take i (octet_bits n)) (nat_eq (bit_and (n / 2 ^ i) 1) 1 ∷ [])
     ∙ ap (λ xs. bits ++ xs) (sym (take_more (octet_bits n) i false within ∙ ap (λ b. take i (octet_bits n) ++ b ∷ []) bit))
 
-pub octet-more : (bits : List Bool) (octets : List ℕ) (i : ℕ) → i < length octets → (bits ++ bits_of (take i octets)) ++ octet_bits (get_or octets i 0) ≡ bits ++ bits_of (take (i + 1) octets)
+pub octet-more : (bits : List Bool) (octets : List ℕ) (i : ℕ) → i < length octets
+    → (bits ++ bits_of (take i octets)) ++ octet_bits (get_or octets i 0) ≡ bits ++ bits_of (take (i + 1) octets)
 octet-more bits octets i h =
     append_assoc bits (bits_of (take i octets)) (octet_bits (get_or octets i 0))
     ∙ ap (λ xs. bits ++ xs) (sym (bits_of-snoc (take i octets) (get_or octets i 0)) ∙ sym (ap bits_of (take_more octets i 0 h)))
 
 pub filled-length : (slot : List ℕ) → length slot ≤ slot_octets → length (filled slot) ≡ slot_octets
-filled-length slot short = omega (arith, length-append slot (replicate (slot_octets - length slot) 0xff), length-replicate {A = ℕ} (slot_octets - length slot) 0xff)
+filled-length slot short =
+    omega (
+      arith,
+      length-append slot (replicate (slot_octets - length slot) 0xff),
+      length-replicate {A = ℕ}
+          (slot_octets - length slot) 0xff,
+    )
 
 pub own-octet : (slot : List ℕ) (place : ℕ) → place < length slot → get_or (filled slot) place 0 ≡ get_or slot place 0
 own-octet slot place low = get_or_append_left slot (replicate (slot_octets - length slot) 0xff) 0 place low
@@ -104,4 +126,6 @@ slot-whole slot short = take_all slot_octets (filled slot) (omega (arith, filled
 -- an octet more of a slot, behind nothing
 pub slot-more : (slot : List ℕ) (place octet : ℕ) → length slot ≤ slot_octets → place < slot_octets → octet ≡ get_or (filled slot) place 0
     → bits_of (take place (filled slot)) ++ octet_bits octet ≡ bits_of (take (place + 1) (filled slot))
-slot-more slot place octet short low e = ap (λ o. bits_of (take place (filled slot)) ++ octet_bits o) e ∙ octet-more [] (filled slot) place (omega (arith, low, filled-length slot short))
+slot-more slot place octet short low e =
+    ap (λ o. bits_of (take place (filled slot)) ++ octet_bits o) e
+    ∙ octet-more [] (filled slot) place (omega (arith, low, filled-length slot short))

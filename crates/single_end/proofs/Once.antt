@@ -94,10 +94,11 @@ quiet-before : (peer : Role) (earlier bits : List Bool) (a : Arrived) (f : IsFir
     → IsQuiet peer (earlier ++ take (n + 1) bits)
 quiet-before peer earlier bits a f n less =
     let upto : take (n + 1) bits ≡ take (n + 1) f.quiet =
-        ap (take (n + 1)) f.bits_are ∙ take-append-le (n + 1) f.quiet (f.last ∷ f.rest) (omega (arith, less)) in
+    ap (take (n + 1)) f.bits_are ∙ take-append-le (n + 1) f.quiet (f.last ∷ f.rest) (omega (arith, less)) in
     subst (λ (b : List Bool). IsQuiet peer (earlier ++ b)) (sym upto) (f.before n less)
 
-one-first : EarLaws → (peer : Role) (earlier bits : List Bool) (a b : Arrived) → IsFirst peer earlier bits a → IsFirst peer earlier bits b → a ≡ b
+one-first : EarLaws → (peer : Role) (earlier bits : List Bool) (a b : Arrived) → IsFirst peer earlier bits a → IsFirst peer earlier bits b
+    → a ≡ b
 one-first laws peer earlier bits a b f g = elim (cases_lt (length f.quiet) (length g.quiet)) [
   | inl less ↦ absurd (quiet-before peer earlier bits b g (length f.quiet) less a (first-here peer earlier bits a f))
   | inr more ↦ elim (cases_lt (length g.quiet) (length f.quiet)) [
@@ -105,7 +106,7 @@ one-first laws peer earlier bits a b f g = elim (cases_lt (length f.quiet) (leng
     | inr most ↦
         let same : length f.quiet ≡ length g.quiet = omega (arith, more, most) in
         let here : EndsWith peer (earlier ++ take (length g.quiet + 1) bits) a =
-            subst (λ n. EndsWith peer (earlier ++ take (n + 1) bits) a) same (first-here peer earlier bits a f) in
+        subst (λ n. EndsWith peer (earlier ++ take (n + 1) bits) a) same (first-here peer earlier bits a f) in
         one-ends laws peer (earlier ++ take (length g.quiet + 1) bits) a b here (first-here peer earlier bits b g)
   ]
 ]
@@ -130,7 +131,8 @@ one-heard laws peer earlier bits (arrivals.Frame f) (arrivals.Frame g) h k =
 
 -- ---- the turns so far
 
-same-arrived : OneIsHeard → (peer : Role) (slots : List (List ℕ)) (ts us : List LoneTurn) → HearsSlots peer slots ts → HearsSlots peer slots us
+same-arrived : OneIsHeard → (peer : Role) (slots : List (List ℕ)) (ts us : List LoneTurn) → HearsSlots peer slots ts
+    → HearsSlots peer slots us
     → map (λ (t : LoneTurn). t.arrived) ts ≡ map (λ (t : LoneTurn). t.arrived) us
 same-arrived one peer [] [] [] h k = refl
 same-arrived one peer [] [] (u ∷ us) h k = absurd k
@@ -144,9 +146,9 @@ same-arrived one peer (slot ∷ slots) (t ∷ ts) (u ∷ us) h k =
 pub one-run : OneIsHeard → OneLoneRun → OnePeerRun
 one-run one lone role p q h k file slots =
     let heard = same-arrived one (other role) q.slots p.turns q.turns
-        (subst (λ (s : List (List ℕ)). HearsSlots (other role) s p.turns) slots h.hears) k.hears in
+    (subst (λ (s : List (List ℕ)). HearsSlots (other role) s p.turns) slots h.hears) k.hears in
     let run : LoneRun (party_of role q.file) p.turns p.account =
-        subst (λ (f : List ℕ). LoneRun (party_of role f) p.turns p.account) file h.run in
+    subst (λ (f : List ℕ). LoneRun (party_of role f) p.turns p.account) file h.run in
     let same = lone (party_of role q.file) p.turns q.turns p.account q.account run k.run heard in
     ap (λ z. record { file = z; slots = p.slots; turns = p.turns; account = p.account }) file
     ∙ ap (λ z. record { file = q.file; slots = z; turns = p.turns; account = p.account }) slots
@@ -187,15 +189,18 @@ made-of party n a arrived = heard party n arrived (hear n arrived a)
 same-turn : (t : LoneTurn) (sent : Option Spoken) (given : Option ℕ) → t.sent ≡ sent → t.given ≡ given
     → t ≡ record { arrived = t.arrived; sent = sent; given = given }
 same-turn t sent given e f =
-    ap (λ z. record { arrived = t.arrived; sent = z; given = t.given }) e ∙ ap (λ z. record { arrived = t.arrived; sent = sent; given = z }) f
+    ap (λ z. record { arrived = t.arrived; sent = z; given = t.given }) e
+    ∙ ap (λ z. record { arrived = t.arrived; sent = sent; given = z }) f
 
 abbrev made : LoneTurn → List ℕ → Outcome → Made
 made turn octets outcome = record { turn = turn; octets = octets; outcome = outcome }
 
-same-made : (t u : LoneTurn) (octets others : List ℕ) (outcome : Outcome) → t ≡ u → octets ≡ others → made t octets outcome ≡ made u others outcome
+same-made : (t u : LoneTurn) (octets others : List ℕ) (outcome : Outcome) → t ≡ u → octets ≡ others
+    → made t octets outcome ≡ made u others outcome
 same-made t u octets others outcome e f = ap (λ z. made z octets outcome) e ∙ ap (λ z. made u z outcome) f
 
-made-so : (party : Party) (ts : List LoneTurn) (a : Account) (t : LoneTurn) (octets : List ℕ) (outcome : Outcome) → TurnIs party ts a t octets outcome
+made-so : (party : Party) (ts : List LoneTurn) (a : Account) (t : LoneTurn) (octets : List ℕ) (outcome : Outcome)
+    → TurnIs party ts a t octets outcome
     → made t octets outcome ≡ made-of party (length ts) a t.arrived
 made-so party ts a t octets Going (after, g, e) =
     same-made t _ octets _ Going (same-turn t (Some (spoken g.said)) (given_break g.mid) g.sent g.given) e
@@ -216,7 +221,7 @@ one-turn one role p slot t u octets others outcome other-outcome h k =
     let arrived : t.arrived ≡ u.arrived = one (other role) (stream p.slots) (slot_bits slot) t.arrived u.arrived h.hears k.hears in
     let party : Party = party_of role p.file in
     let same = made-so party p.turns p.account t octets outcome h.is ∙ ap (made-of party (length p.turns) p.account) arrived
-        ∙ sym (made-so party p.turns p.account u others other-outcome k.is) in
+    ∙ sym (made-so party p.turns p.account u others other-outcome k.is) in
     (ap (λ (m : Made). m.turn) same, ap (λ (m : Made). m.octets) same, ap (λ (m : Made). m.outcome) same)
 
 -- ---- when an end gives its link up

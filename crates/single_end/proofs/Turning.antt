@@ -1,5 +1,6 @@
 -- The steps of a turn.
-use Rattle.std.proofs.Common.{◌≡◌, inl, inr, ◌∙◌, ℕ, zero, suc, ◌+◌, ◌≤◌, Bool, true, false, cond, not, ◌&&◌, ◌||◌, List, [], ◌∷◌, length, refl, sym, ap, subst, arith, Option, Some, None, Result, Ok, Err}
+use Rattle.std.proofs.Common.{◌≡◌, inl, inr, ◌∙◌, ℕ, zero, suc, ◌+◌, ◌≤◌, Bool, true, false, cond, not, ◌&&◌, ◌||◌, List, [], ◌∷◌, length}
+use Rattle.std.proofs.Common.{refl, sym, ap, subst, arith, Option, Some, None, Result, Ok, Err}
 use Rattle.std.specs.List.{concat}
 use Rattle.std.proofs.lemmas.Bool.{false≢true}
 use Rattle.std.specs.Prelude.{slice_get, is_ok}
@@ -20,7 +21,8 @@ use Rattle.link_account.specs.Hear.{hear}
 use Rattle.link_account.specs.Speak.{Said, speak}
 use Rattle.link_run.specs.End.{BreakLine, deliveries, asked_at, is_closed, is_ready, has_finished, speaks_alone}
 use Rattle.link_run.specs.Run.{spoken}
-use Rattle.link_run.specs.Alone.{LoneTurn, LoneGoing, LoneNext, Goes_on, Is_last, Is_faulty, Is_broken, hangs_up, lone_served, LoneRunsByWhatIsReadOn, LoneRunsKeepTheirSetup, EachLoneTurnIsMade}
+use Rattle.link_run.specs.Alone.{LoneTurn, LoneGoing, LoneNext, Goes_on, Is_last, Is_faulty, Is_broken, hangs_up, lone_served}
+use Rattle.link_run.specs.Alone.{LoneRunsByWhatIsReadOn, LoneRunsKeepTheirSetup, EachLoneTurnIsMade}
 use Rattle.stations.specs.declared.station.Station.{Station}
 use Rattle.stations.specs.Station.{Stands, HearsAs, SpeaksAs, Supplies, IsCounted}
 use Rattle.line_texts.specs.LineText.{trace_line}
@@ -29,7 +31,8 @@ use Rattle.single_end.specs.Ear.{HasHeard}
 use Rattle.single_end.specs.Peer.{Past, PeerRun, PeerTurn, Outcome, Going, Closed, Broken, party_of, over, heard_as, turn_line}
 use Rattle.single_end.specs.Single.{PeerNames, AreApart, StaysKnown, file_limit}
 use Rattle.single_end.specs.Turn.{Makes, Stops, GoesOnBy, EndsBy, of_octets, of_line}
-use Rattle.single_end.specs.Mid.{InTurn, BreaksOff, Serves, AddsLine, AddsPart, HasGone, EndsLine, IsWriting, ReadCounts, handed, served_with}
+use Rattle.single_end.specs.Mid.{InTurn, BreaksOff, Serves, AddsLine, AddsPart, HasGone, EndsLine, IsWriting, ReadCounts, handed}
+use Rattle.single_end.specs.Mid.{served_with}
 use Rattle.single_end.proofs.Folders.{got-only, trace-only, reads-only, then-only, writes-turn, writes-part, stays-known}
 use Rattle.single_end.specs.declared.single.Single.{Single}
 use Rattle.single_end.specs.declared.step.SingleFault.{SingleFault}
@@ -52,20 +55,25 @@ allowed = record {
 phase-handed : (mid : Account) → (handed mid).phase ≡ mid.phase
 phase-handed mid = go (is_connected mid.phase)
   where
-    go : (b : Bool) → (after_given (cond b (record mid { incoming = record mid.incoming { given = length mid.incoming.taken } }) mid)).phase ≡ mid.phase
+    go : (b : Bool) → (after_given
+        (cond b (record mid { incoming = record mid.incoming { given = length mid.incoming.taken } }) mid)).phase ≡ mid.phase
     go true = refl
     go false = refl
 
-role-kept : LoneRunsKeepTheirSetup → (s : Single) (p : Past) (slot : List ℕ) (arrived : Arrived) (mid now : Account) → InTurn s p slot arrived mid now → is_originator mid.setup.role ≡ is_originator s.role
-role-kept law s p slot arrived mid now h = ap (λ (x : Setup). is_originator x.role) (law (party_of s.role p.file) p.turns p.account arrived mid h.run.run h.hears)
+role-kept : LoneRunsKeepTheirSetup → (s : Single) (p : Past) (slot : List ℕ) (arrived : Arrived) (mid now : Account)
+    → InTurn s p slot arrived mid now → is_originator mid.setup.role ≡ is_originator s.role
+role-kept law s p slot arrived mid now h =
+    ap (λ (x : Setup). is_originator x.role) (law (party_of s.role p.file) p.turns p.account arrived mid h.run.run h.hears)
 
-pub hangs-originator : LoneRunsKeepTheirSetup → (s : Single) (p : Past) (slot : List ℕ) (arrived : Arrived) (mid : Account) (closed : Bool) → InTurn s p slot arrived mid (handed mid)
+pub hangs-originator : LoneRunsKeepTheirSetup → (s : Single) (p : Past) (slot : List ℕ) (arrived : Arrived) (mid : Account) (closed : Bool)
+    → InTurn s p slot arrived mid (handed mid)
     → s.role ≡ Originator → closed ≡ is_closed (handed mid).phase → closed ≡ hangs_up mid
 hangs-originator law s p slot arrived mid closed h role e =
     let is : is_originator mid.setup.role ≡ true = role-kept law s p slot arrived mid (handed mid) h ∙ ap is_originator role in
     e ∙ ap is_closed (phase-handed mid) ∙ sym (ap (λ (b : Bool). b && is_closed mid.phase) is)
 
-pub hangs-answerer : LoneRunsKeepTheirSetup → (s : Single) (p : Past) (slot : List ℕ) (arrived : Arrived) (mid : Account) → InTurn s p slot arrived mid (handed mid)
+pub hangs-answerer : LoneRunsKeepTheirSetup → (s : Single) (p : Past) (slot : List ℕ) (arrived : Arrived) (mid : Account)
+    → InTurn s p slot arrived mid (handed mid)
     → s.role ≡ Answerer → false ≡ hangs_up mid
 hangs-answerer law s p slot arrived mid h role =
     let is : is_originator mid.setup.role ≡ false = role-kept law s p slot arrived mid (handed mid) h ∙ ap is_originator role in
@@ -77,8 +85,10 @@ counted-later s heard asked h = record { segments = omega (arith, h.segments); b
 -- ---- the file is read on
 
 -- the run is one of the file as it is known then
-pub reads-on : LoneRunsByWhatIsReadOn → (s t : Single) (f : FolderState) (name : List ℕ) (p : Past) (slot : List ℕ) (arrived : Arrived) (mid : Account) (now : Station)
-    → InTurn s p slot arrived mid (handed mid) → (e : Supplies f name file_limit p.file (handed mid) now) → t.role ≡ s.role → t.ear ≡ s.ear → t.turn ≡ s.turn
+pub reads-on : LoneRunsByWhatIsReadOn
+    → (s t : Single) (f : FolderState) (name : List ℕ) (p : Past) (slot : List ℕ) (arrived : Arrived) (mid : Account) (now : Station)
+    → InTurn s p slot arrived mid (handed mid) → (e : Supplies f name file_limit p.file (handed mid) now) → t.role ≡ s.role → t.ear ≡ s.ear
+    → t.turn ≡ s.turn
     → Stands t.station e.others (served_with e.others mid) → Serves t f name p slot arrived mid
 reads-on law s t f name p slot arrived mid now h e role ear turn stands = record {
   others = e.others;
@@ -111,7 +121,8 @@ no-break (suc n) = refl
 asks-none : (turn taken : ℕ) (a : Account) → asked_at turn (slice_get no-breaks taken) a ≡ a
 asks-none turn taken a = ap (λ o. asked_at turn o a) (no-break taken)
 
-lone-account : (role : Role) (file : List ℕ) (turn : ℕ) (mid : Account) → (lone_served (party_of role file) turn mid).account ≡ served_with file mid
+lone-account : (role : Role) (file : List ℕ) (turn : ℕ) (mid : Account)
+    → (lone_served (party_of role file) turn mid).account ≡ served_with file mid
 lone-account role file turn mid = asks-none turn (length (served_with file mid).own_breaks.lengths) (served_with file mid)
 
 -- whether it needs the link no more
@@ -119,10 +130,12 @@ abbrev pub finishes : ℕ → Account → Bool
 finishes turn a = is_done a && not (break_waits a || is_ready turn None)
 
 says-so : (role : Role) (file : List ℕ) (turn : ℕ) (mid : Account)
-    → speaks_alone (party_of role file).user turn (lone_served (party_of role file) turn mid) ≡ speak turn (finishes turn (served_with file mid)) (served_with file mid)
+    → speaks_alone (party_of role file).user turn (lone_served (party_of role file) turn mid) ≡ speak turn
+    (finishes turn (served_with file mid)) (served_with file mid)
 says-so role file turn mid =
     ap (λ (a : Account). speak turn (has_finished (party_of role file).user turn a) a) (lone-account role file turn mid)
-    ∙ ap (λ o. speak turn (is_done (served_with file mid) && not (break_waits (served_with file mid) || is_ready turn o)) (served_with file mid)) (no-break (length (served_with file mid).own_breaks.lengths))
+    ∙ ap (λ o. speak turn (is_done (served_with file mid) && not (break_waits (served_with file mid) || is_ready turn o))
+    (served_with file mid)) (no-break (length (served_with file mid).own_breaks.lengths))
 
 -- ---- what becomes of the turn
 
@@ -132,11 +145,13 @@ pub record SaidWell (r : Result Said LinkFault) (file : List ℕ) (sent : Sent) 
   pub sent_is : sent ≡ said.sent
   pub stands : Stands s file said.account
 
-pub said-well : (r : Result Said LinkFault) (file : List ℕ) (sent : Sent) (s : Station) (done : Unit {0}) → SpeaksAs r file sent s (Ok done) → SaidWell r file sent s
+pub said-well : (r : Result Said LinkFault) (file : List ℕ) (sent : Sent) (s : Station) (done : Unit {0}) → SpeaksAs r file sent s (Ok done)
+    → SaidWell r file sent s
 said-well (Ok said) file sent s done h = record { said = said; says = refl; sent_is = h.0; stands = h.1 }
 said-well (Err fault) file sent s done h = absurd h
 
-pub said-badly : (r : Result Said LinkFault) (file : List ℕ) (sent : Sent) (s : Station) (broken : LinkFault) → SpeaksAs r file sent s (Err broken) → r ≡ Err broken
+pub said-badly : (r : Result Said LinkFault) (file : List ℕ) (sent : Sent) (s : Station) (broken : LinkFault)
+    → SpeaksAs r file sent s (Err broken) → r ≡ Err broken
 said-badly (Ok said) file sent s broken h = absurd h
 said-badly (Err fault) file sent s broken h = ap (λ f. Err f) (sym h)
 
@@ -147,8 +162,10 @@ going-turn arrived said given = record { arrived = arrived; sent = Some (spoken 
 abbrev pub silent-turn : Arrived → Option ℕ → LoneTurn
 silent-turn arrived given = record { arrived = arrived; sent = None; given = given }
 
-pub broken : (s : Single) (p : Past) (slot : List ℕ) (arrived : Arrived) (mid : Account) (given : Option ℕ) (fault : LinkFault) → InTurn s p slot arrived mid (served_with p.file mid)
-    → hangs_up mid ≡ false → given ≡ given_break mid → speak s.turn (finishes s.turn (served_with p.file mid)) (served_with p.file mid) ≡ Err fault
+pub broken : (s : Single) (p : Past) (slot : List ℕ) (arrived : Arrived) (mid : Account) (given : Option ℕ) (fault : LinkFault)
+    → InTurn s p slot arrived mid (served_with p.file mid)
+    → hangs_up mid ≡ false → given ≡ given_break mid
+    → speak s.turn (finishes s.turn (served_with p.file mid)) (served_with p.file mid) ≡ Err fault
     → PeerTurn s.role p slot (silent-turn arrived given) (concat (deliveries mid)) (Broken fault)
 broken s p slot arrived mid given fault h up g e = record {
   run = h.run;
@@ -158,7 +175,8 @@ broken s p slot arrived mid given fault h up g e = record {
     record {
       hears = h.hears;
       going = up;
-      says = says-so s.role p.file (length p.turns) mid ∙ subst (λ n. speak n (finishes n (served_with p.file mid)) (served_with p.file mid) ≡ Err fault) h.turn e;
+      says = says-so s.role p.file (length p.turns) mid
+          ∙ subst (λ n. speak n (finishes n (served_with p.file mid)) (served_with p.file mid) ≡ Err fault) h.turn e;
       sent = refl;
       given = g;
     },
@@ -166,7 +184,8 @@ broken s p slot arrived mid given fault h up g e = record {
   );
 }
 
-pub closing : (s : Single) (p : Past) (slot : List ℕ) (arrived : Arrived) (mid now : Account) (given : Option ℕ) → InTurn s p slot arrived mid now → hangs_up mid ≡ true → given ≡ given_break mid
+pub closing : (s : Single) (p : Past) (slot : List ℕ) (arrived : Arrived) (mid now : Account) (given : Option ℕ)
+    → InTurn s p slot arrived mid now → hangs_up mid ≡ true → given ≡ given_break mid
     → PeerTurn s.role p slot (silent-turn arrived given) (concat (deliveries mid)) Closed
 closing s p slot arrived mid now given h up g = record {
   run = h.run;
@@ -176,7 +195,8 @@ closing s p slot arrived mid now given h up g = record {
 
 pub breaking-off : (s : Single) (p : Past) (slot : List ℕ) (arrived : Arrived) (fault : LinkFault) → BreaksOff s p slot arrived fault
     → PeerTurn s.role p slot (silent-turn arrived None) [] (Broken fault)
-breaking-off s p slot arrived fault b = record { run = b.run; hears = b.heard; is = inl (record { hears = b.hears; sent = refl; given = refl }, refl) }
+breaking-off s p slot arrived fault b =
+    record { run = b.run; hears = b.heard; is = inl (record { hears = b.hears; sent = refl; given = refl }, refl) }
 
 -- whatever it comes to, there is such a turn
 pub record Comes (party-role : Role) (p : Past) (slot : List ℕ) (arrived : Arrived) (octets : List ℕ) : Type 0 where
@@ -194,42 +214,69 @@ same-mid r mid once e f = sym (ap (answer-of mid) e) ∙ ap (answer-of mid) f
 never-both : (r : Result Account LinkFault) (mid : Account) (fault : LinkFault) → r ≡ Ok mid → r ≡ Err fault → ⊥
 never-both r mid fault e f = false≢true (sym (ap is_ok f) ∙ ap is_ok e)
 
-pub comes : EachLoneTurnIsMade → (s : Single) (p : Past) (slot : List ℕ) (arrived : Arrived) (mid now : Account) → InTurn s p slot arrived mid now → Comes s.role p slot arrived (concat (deliveries mid))
+pub comes : EachLoneTurnIsMade → (s : Single) (p : Past) (slot : List ℕ) (arrived : Arrived) (mid now : Account)
+    → InTurn s p slot arrived mid now → Comes s.role p slot arrived (concat (deliveries mid))
 comes law s p slot arrived mid now h = by (law (party_of s.role p.file) p.turns p.account arrived)
   where
     same : (once : Account) → hear (length p.turns) arrived p.account ≡ Ok once → concat (deliveries mid) ≡ concat (deliveries once)
     same once e = ap (λ (a : Account). concat (deliveries a)) (same-mid (hear (length p.turns) arrived p.account) mid once h.hears e)
 
     by : LoneNext (party_of s.role p.file) p.turns p.account arrived → Comes s.role p slot arrived (concat (deliveries mid))
-    by (Goes_on sent given next g) = record { turn = record { arrived = arrived; sent = sent; given = given }; outcome = Going; is = record { run = h.run; hears = h.heard; is = (next, g, same g.mid g.hears) } }
-    by (Is_last given once l) = record { turn = silent-turn arrived given; outcome = Closed; is = record { run = h.run; hears = h.heard; is = (once, l, same once l.hears) } }
+    by (Goes_on sent given next g) =
+        record {
+          turn = record { arrived = arrived; sent = sent; given = given };
+          outcome = Going;
+          is = record { run = h.run; hears = h.heard; is = (next, g, same g.mid g.hears) };
+        }
+    by (Is_last given once l) =
+        record {
+          turn = silent-turn arrived given;
+          outcome = Closed;
+          is = record { run = h.run; hears = h.heard; is = (once, l, same once l.hears) };
+        }
     by (Is_faulty fault f) = absurd (never-both (hear (length p.turns) arrived p.account) mid fault h.hears f.hears)
-    by (Is_broken given once fault b) = record { turn = silent-turn arrived given; outcome = Broken fault; is = record { run = h.run; hears = h.heard; is = inr (once, b, same once b.hears) } }
+    by (Is_broken given once fault b) =
+        record {
+          turn = silent-turn arrived given;
+          outcome = Broken fault;
+          is = record { run = h.run; hears = h.heard; is = inr (once, b, same once b.hears) };
+        }
 
 -- ---- the line of the turn
 
-pub line-is : (s : Single) (p : Past) (t : LoneTurn) (sent : Option Sent) → s.turn ≡ length p.turns → sent ≡ option_map (λ slot. slot.sent) t.sent
+pub line-is : (s : Single) (p : Past) (t : LoneTurn) (sent : Option Sent) → s.turn ≡ length p.turns
+    → sent ≡ option_map (λ slot. slot.sent) t.sent
     → trace_line s.turn s.role (heard_as t.arrived) sent t.given ≡ turn_line s.role (length p.turns) t
-line-is s p t sent e f = ap (λ n. trace_line n s.role (heard_as t.arrived) sent t.given) e ∙ ap (λ o. trace_line (length p.turns) s.role (heard_as t.arrived) o t.given) f
+line-is s p t sent e f =
+    ap (λ n. trace_line n s.role (heard_as t.arrived) sent t.given) e
+    ∙ ap (λ o. trace_line (length p.turns) s.role (heard_as t.arrived) o t.given) f
 
-pub ends-part : (s : Single) (old new : FolderState) (trace : List ℕ) (p : Past) (slot octets : List ℕ) (fault : SingleFault) → IsWriting fault → AddsPart s old new trace p slot octets
+pub ends-part : (s : Single) (old new : FolderState) (trace : List ℕ) (p : Past) (slot octets : List ℕ) (fault : SingleFault)
+    → IsWriting fault → AddsPart s old new trace p slot octets
     → EndsLine s old new trace p slot octets fault
 ends-part s old new trace p slot octets faults.WriteFault w a = a
 ends-part s old new trace p slot octets faults.NoMemory w a = a
 ends-part s old new trace p slot octets faults.ReadFault w a = absurd w
 ends-part s old new trace p slot octets (faults.Link fault) w a = absurd w
 
-pub adds-line : (s : Single) (old new : FolderState) (trace : List ℕ) (p : Past) (slot octets : List ℕ) (outcome : Outcome) (t : LoneTurn) (sent : Option Sent) → s.turn ≡ length p.turns
+pub adds-line : (s : Single) (old new : FolderState) (trace : List ℕ) (p : Past) (slot octets : List ℕ) (outcome : Outcome) (t : LoneTurn)
+    (sent : Option Sent) → s.turn ≡ length p.turns
     → sent ≡ option_map (λ slot. slot.sent) t.sent → PeerTurn s.role p slot t octets outcome
     → Appended old new trace (trace_line s.turn s.role (heard_as t.arrived) sent t.given) → AddsLine s old new trace p slot octets outcome
 adds-line s old new trace p slot octets outcome t sent e f is a =
     record { turn = t; is = is; line = subst (λ (text : List ℕ). Appended old new trace text) (line-is s p t sent e f) a }
 
-pub adds-part : (s : Single) (old new : FolderState) (trace : List ℕ) (p : Past) (slot octets : List ℕ) (outcome : Outcome) (t : LoneTurn) (sent : Option Sent) → s.turn ≡ length p.turns
+pub adds-part : (s : Single) (old new : FolderState) (trace : List ℕ) (p : Past) (slot octets : List ℕ) (outcome : Outcome) (t : LoneTurn)
+    (sent : Option Sent) → s.turn ≡ length p.turns
     → sent ≡ option_map (λ slot. slot.sent) t.sent → PeerTurn s.role p slot t octets outcome
     → PartlyAppended old new trace (trace_line s.turn s.role (heard_as t.arrived) sent t.given) → AddsPart s old new trace p slot octets
 adds-part s old new trace p slot octets outcome t sent e f is a =
-    record { outcome = outcome; turn = t; is = is; line = subst (λ (text : List ℕ). PartlyAppended old new trace text) (line-is s p t sent e f) a }
+    record {
+      outcome = outcome;
+      turn = t;
+      is = is;
+      line = subst (λ (text : List ℕ). PartlyAppended old new trace text) (line-is s p t sent e f) a;
+    }
 
 -- the single end once it has spoken, and once the turn is made
 abbrev pub spoke : Station → Single → Single
@@ -238,7 +285,8 @@ spoke now s = record { role = s.role; station = now; ear = s.ear; turn = s.turn 
 abbrev pub moved : Station → Single → Single
 moved now s = record { role = s.role; station = now; ear = s.ear; turn = s.turn + 1 }
 
-pub gone : (s : Single) (now : Station) (old new : FolderState) (trace : List ℕ) (p : Past) (slot : List ℕ) (arrived : Arrived) (mid : Account) (given : Option ℕ) (sent : Sent)
+pub gone : (s : Single) (now : Station) (old new : FolderState) (trace : List ℕ) (p : Past) (slot : List ℕ) (arrived : Arrived)
+    (mid : Account) (given : Option ℕ) (sent : Sent)
     → InTurn s p slot arrived mid (served_with p.file mid) → hangs_up mid ≡ false → given ≡ given_break mid
     → SaidWell (speak s.turn (finishes s.turn (served_with p.file mid)) (served_with p.file mid)) p.file sent now
     → Appended old new trace (trace_line s.turn s.role (heard_as arrived) (Some sent) given)
@@ -265,21 +313,24 @@ gone s now old new trace p slot arrived mid given sent h up g w text =
       hears = h.hears;
       going = up;
       said = w.said;
-      says = says-so s.role p.file (length p.turns) mid ∙ subst (λ n. speak n (finishes n (served_with p.file mid)) (served_with p.file mid) ≡ Ok w.said) h.turn w.says;
+      says = says-so s.role p.file (length p.turns) mid
+          ∙ subst (λ n. speak n (finishes n (served_with p.file mid)) (served_with p.file mid) ≡ Ok w.said) h.turn w.says;
       sent = refl;
       given = g;
       after_is = refl;
     }
 
 -- it has spoken, but the line isn't written whole
-pub gone-part : (s : Single) (now : Station) (old new : FolderState) (trace : List ℕ) (p : Past) (slot : List ℕ) (arrived : Arrived) (mid : Account) (given : Option ℕ) (sent : Sent) (fault : SingleFault)
+pub gone-part : (s : Single) (now : Station) (old new : FolderState) (trace : List ℕ) (p : Past) (slot : List ℕ) (arrived : Arrived)
+    (mid : Account) (given : Option ℕ) (sent : Sent) (fault : SingleFault)
     → InTurn s p slot arrived mid (served_with p.file mid) → hangs_up mid ≡ false → given ≡ given_break mid
     → SaidWell (speak s.turn (finishes s.turn (served_with p.file mid)) (served_with p.file mid)) p.file sent now → IsWriting fault
     → PartlyAppended old new trace (trace_line s.turn s.role (heard_as arrived) (Some sent) given)
     → EndsLine (spoke now s) old new trace p slot (concat (deliveries mid)) fault
 gone-part s now old new trace p slot arrived mid given sent fault h up g w i text =
     ends-part (spoke now s) old new trace p slot (concat (deliveries mid)) fault i
-    (adds-part (spoke now s) old new trace p slot (concat (deliveries mid)) Going (going-turn arrived w.said given) (Some sent) h.turn (ap Some w.sent_is)
+    (adds-part (spoke now s) old new trace p slot (concat (deliveries mid)) Going (going-turn arrived w.said given) (Some sent) h.turn
+    (ap Some w.sent_is)
     (record { run = h.run; hears = h.heard; is = (w.said.account, going, refl) }) text)
   where
     going : LoneGoing (party_of s.role p.file) p.turns p.account (going-turn arrived w.said given) w.said.account
@@ -288,7 +339,8 @@ gone-part s now old new trace p slot arrived mid given sent fault h up g w i tex
       hears = h.hears;
       going = up;
       said = w.said;
-      says = says-so s.role p.file (length p.turns) mid ∙ subst (λ n. speak n (finishes n (served_with p.file mid)) (served_with p.file mid) ≡ Ok w.said) h.turn w.says;
+      says = says-so s.role p.file (length p.turns) mid
+          ∙ subst (λ n. speak n (finishes n (served_with p.file mid)) (served_with p.file mid) ≡ Ok w.said) h.turn w.says;
       sent = refl;
       given = g;
       after_is = refl;
@@ -301,25 +353,38 @@ pub record HeardWell (r : Result Account LinkFault) (file : List ℕ) (s : Stati
   pub hears : r ≡ Ok mid
   pub stands : Stands s file mid
 
-pub heard-well : (r : Result Account LinkFault) (file : List ℕ) (s : Station) (done : Unit {0}) → HearsAs r file s (Ok done) → HeardWell r file s
+pub heard-well : (r : Result Account LinkFault) (file : List ℕ) (s : Station) (done : Unit {0}) → HearsAs r file s (Ok done)
+    → HeardWell r file s
 heard-well (Ok mid) file s done h = record { mid = mid; hears = refl; stands = h }
 heard-well (Err fault) file s done h = absurd h
 
-pub heard-badly : (r : Result Account LinkFault) (file : List ℕ) (s : Station) (broken : LinkFault) → HearsAs r file s (Err broken) → r ≡ Err broken
+pub heard-badly : (r : Result Account LinkFault) (file : List ℕ) (s : Station) (broken : LinkFault) → HearsAs r file s (Err broken)
+    → r ≡ Err broken
 heard-badly (Ok mid) file s broken h = absurd h
 heard-badly (Err fault) file s broken h = ap (λ f. Err f) (sym h)
 
 -- ---- the whole turn
 
 -- the line stands behind what was handed over
-pub made : (s : Single) (a b z : FolderState) (n : PeerNames) (p : Past) (slot octets others : List ℕ) (outcome : Outcome) → AreApart n → GoesOn a b → Adds a b n.got octets → KeepsName a b n.trace
-    → OnlyWrites b z n.trace → StaysKnown a z n.file p.file others → AddsLine s b z n.trace (over others p) slot octets outcome → Makes s.role a z n p slot outcome
+pub made : (s : Single) (a b z : FolderState) (n : PeerNames) (p : Past) (slot octets others : List ℕ) (outcome : Outcome) → AreApart n
+    → GoesOn a b → Adds a b n.got octets → KeepsName a b n.trace
+    → OnlyWrites b z n.trace → StaysKnown a z n.file p.file others → AddsLine s b z n.trace (over others p) slot octets outcome
+    → Makes s.role a z n p slot outcome
 made s a b z n p slot octets others outcome apart g d k w known l =
-    record { others = others; known = known; turn = l.turn; octets = octets; is = l.is; writes = writes-turn a b z n octets (turn_line s.role (length p.turns) l.turn) apart g d k w l.line }
+    record {
+      others = others;
+      known = known;
+      turn = l.turn;
+      octets = octets;
+      is = l.is;
+      writes = writes-turn a b z n octets (turn_line s.role (length p.turns) l.turn) apart g d k w l.line;
+    }
 
 -- or a part of it
-stopped : (s : Single) (a b z : FolderState) (n : PeerNames) (p : Past) (slot octets others : List ℕ) → AreApart n → GoesOn a b → Adds a b n.got octets → KeepsName a b n.trace
-    → OnlyWrites b z n.trace → StaysKnown a z n.file p.file others → AddsPart s b z n.trace (over others p) slot octets → Stops s.role a z n p slot
+stopped : (s : Single) (a b z : FolderState) (n : PeerNames) (p : Past) (slot octets others : List ℕ) → AreApart n → GoesOn a b
+    → Adds a b n.got octets → KeepsName a b n.trace
+    → OnlyWrites b z n.trace → StaysKnown a z n.file p.file others → AddsPart s b z n.trace (over others p) slot octets
+    → Stops s.role a z n p slot
 stopped s a b z n p slot octets others apart g d k w known l = record {
   others = others;
   known = known;
@@ -330,26 +395,35 @@ stopped s a b z n p slot octets others apart g d k w known l = record {
   writes = writes-part a b z n octets (turn_line s.role (length p.turns) l.turn) apart g d k w l.line;
 }
 
-pub writing-ends : (role : Role) (a b : FolderState) (n : PeerNames) (p : Past) (slot : List ℕ) (fault : SingleFault) → IsWriting fault → Stops role a b n p slot → EndsBy role a b n p slot fault
+pub writing-ends : (role : Role) (a b : FolderState) (n : PeerNames) (p : Past) (slot : List ℕ) (fault : SingleFault) → IsWriting fault
+    → Stops role a b n p slot → EndsBy role a b n p slot fault
 writing-ends role a b n p slot faults.WriteFault w s = s
 writing-ends role a b n p slot faults.NoMemory w s = s
 writing-ends role a b n p slot faults.ReadFault w s = absurd w
 writing-ends role a b n p slot (faults.Link fault) w s = absurd w
 
-pub stopped-so : (s : Single) (a b z : FolderState) (n : PeerNames) (p : Past) (slot octets others : List ℕ) (fault : SingleFault) → AreApart n → GoesOn a b → Adds a b n.got octets → KeepsName a b n.trace
-    → OnlyWrites b z n.trace → StaysKnown a z n.file p.file others → IsWriting fault → AddsPart s b z n.trace (over others p) slot octets → EndsBy s.role a z n p slot fault
-stopped-so s a b z n p slot octets others fault apart g d k w known i l = writing-ends s.role a z n p slot fault i (stopped s a b z n p slot octets others apart g d k w known l)
+pub stopped-so : (s : Single) (a b z : FolderState) (n : PeerNames) (p : Past) (slot octets others : List ℕ) (fault : SingleFault)
+    → AreApart n → GoesOn a b → Adds a b n.got octets → KeepsName a b n.trace
+    → OnlyWrites b z n.trace → StaysKnown a z n.file p.file others → IsWriting fault → AddsPart s b z n.trace (over others p) slot octets
+    → EndsBy s.role a z n p slot fault
+stopped-so s a b z n p slot octets others fault apart g d k w known i l =
+    writing-ends s.role a z n p slot fault i (stopped s a b z n p slot octets others apart g d k w known l)
 
-pub ended : (s : Single) (a b z : FolderState) (n : PeerNames) (p : Past) (slot octets others : List ℕ) (fault : SingleFault) → AreApart n → GoesOn a b → Adds a b n.got octets → KeepsName a b n.trace
-    → OnlyWrites b z n.trace → StaysKnown a z n.file p.file others → EndsLine s b z n.trace (over others p) slot octets fault → EndsBy s.role a z n p slot fault
-ended s a b z n p slot octets others (faults.Link fault) apart g d k w known l = made s a b z n p slot octets others (Broken fault) apart g d k w known l
+pub ended : (s : Single) (a b z : FolderState) (n : PeerNames) (p : Past) (slot octets others : List ℕ) (fault : SingleFault) → AreApart n
+    → GoesOn a b → Adds a b n.got octets → KeepsName a b n.trace
+    → OnlyWrites b z n.trace → StaysKnown a z n.file p.file others → EndsLine s b z n.trace (over others p) slot octets fault
+    → EndsBy s.role a z n p slot fault
+ended s a b z n p slot octets others (faults.Link fault) apart g d k w known l =
+    made s a b z n p slot octets others (Broken fault) apart g d k w known l
 ended s a b z n p slot octets others faults.WriteFault apart g d k w known l = stopped s a b z n p slot octets others apart g d k w known l
 ended s a b z n p slot octets others faults.NoMemory apart g d k w known l = stopped s a b z n p slot octets others apart g d k w known l
 ended s a b z n p slot octets others faults.ReadFault apart g d k w known l = absurd l
 
 -- the run goes on
-pub gone-on : (s : Single) (a b z : FolderState) (n : PeerNames) (p : Past) (slot octets others : List ℕ) → AreApart n → GoesOn a b → Adds a b n.got octets → KeepsName a b n.trace
-    → OnlyWrites b z n.trace → StaysKnown a z n.file p.file others → HasGone s b z n.trace (over others p) slot octets → GoesOnBy s a z n p slot
+pub gone-on : (s : Single) (a b z : FolderState) (n : PeerNames) (p : Past) (slot octets others : List ℕ) → AreApart n → GoesOn a b
+    → Adds a b n.got octets → KeepsName a b n.trace
+    → OnlyWrites b z n.trace → StaysKnown a z n.file p.file others → HasGone s b z n.trace (over others p) slot octets
+    → GoesOnBy s a z n p slot
 gone-on s a b z n p slot octets others apart g d k w known h = record {
   makes = record {
     others = others;
@@ -363,14 +437,19 @@ gone-on s a b z n p slot octets others apart g d k w known h = record {
 }
 
 -- nothing is handed over where the end breaks as it hears
-pub broke-off : (s : Single) (a z : FolderState) (n : PeerNames) (p : Past) (slot : List ℕ) (fault : SingleFault) → AreApart n → length p.file ≤ file_limit → OnlyWrites a z n.trace
+pub broke-off : (s : Single) (a z : FolderState) (n : PeerNames) (p : Past) (slot : List ℕ) (fault : SingleFault) → AreApart n
+    → length p.file ≤ file_limit → OnlyWrites a z n.trace
     → EndsLine s a z n.trace p slot [] fault → EndsBy s.role a z n p slot fault
 broke-off s a z n p slot fault apart within w l =
-    ended s a a z n p slot [] p.file fault apart (GoesOn-refl a) (inl (refl, λ told. refl)) (λ told. refl) w (stays-known a z n p.file apart (trace-only a z n w) within) l
+    ended s a a z n p slot [] p.file fault apart (GoesOn-refl a) (inl (refl, λ told. refl)) (λ told. refl) w
+    (stays-known a z n p.file apart (trace-only a z n w) within) l
 
 -- the folder doesn't take what is handed over
-pub not-handed : EachLoneTurnIsMade → (s : Single) (a b : FolderState) (n : PeerNames) (p : Past) (slot : List ℕ) (arrived : Arrived) (mid : Account) → AreApart n → length p.file ≤ file_limit
-    → InTurn s p slot arrived mid mid → OnlyWrites a b n.got → PartlyAppended a b n.got (concat (deliveries mid)) → Stops s.role a b n p slot
+pub not-handed : EachLoneTurnIsMade
+    → (s : Single) (a b : FolderState) (n : PeerNames) (p : Past) (slot : List ℕ) (arrived : Arrived) (mid : Account) → AreApart n
+    → length p.file ≤ file_limit
+    → InTurn s p slot arrived mid mid → OnlyWrites a b n.got → PartlyAppended a b n.got (concat (deliveries mid))
+    → Stops s.role a b n p slot
 not-handed law s a b n p slot arrived mid apart within h w part =
     let m = comes law s p slot arrived mid mid h in
     record {
@@ -384,8 +463,11 @@ not-handed law s a b n p slot arrived mid apart within h w part =
     }
 
 -- or the file isn't read
-pub not-read : EachLoneTurnIsMade → (s : Single) (a b d : FolderState) (n : PeerNames) (p : Past) (slot : List ℕ) (arrived : Arrived) (mid now : Account) → AreApart n → length p.file ≤ file_limit
-    → InTurn s p slot arrived mid now → OnlyWrites a b n.got → Adds a b n.got (concat (deliveries mid)) → OnlyReads b d → Stops s.role a d n p slot
+pub not-read : EachLoneTurnIsMade
+    → (s : Single) (a b d : FolderState) (n : PeerNames) (p : Past) (slot : List ℕ) (arrived : Arrived) (mid now : Account) → AreApart n
+    → length p.file ≤ file_limit
+    → InTurn s p slot arrived mid now → OnlyWrites a b n.got → Adds a b n.got (concat (deliveries mid)) → OnlyReads b d
+    → Stops s.role a d n p slot
 not-read law s a b d n p slot arrived mid now apart within h w adds r =
     let m = comes law s p slot arrived mid now h in
     let only = then-only a b d n (got-only a b n w) (reads-only b d n r) in
@@ -401,7 +483,8 @@ not-read law s a b d n p slot arrived mid now apart within h w adds r =
           (KeepsName-trans a b d n.trace w.goes_on (w.names n.trace (λ e. apart.got_trace (sym e))) (r.names n.trace)));
     }
 
-pub reading-ends : (role : Role) (a b d : FolderState) (n : PeerNames) (p : Past) (slot : List ℕ) (fault : SingleFault) → ReadCounts {T = Unit {0}} b d n.file (Err fault) → Stops role a d n p slot
+pub reading-ends : (role : Role) (a b d : FolderState) (n : PeerNames) (p : Past) (slot : List ℕ) (fault : SingleFault)
+    → ReadCounts {T = Unit {0}} b d n.file (Err fault) → Stops role a d n p slot
     → EndsBy role a d n p slot fault
 reading-ends role a b d n p slot faults.ReadFault w s = s
 reading-ends role a b d n p slot faults.NoMemory w s = s
@@ -409,7 +492,8 @@ reading-ends role a b d n p slot faults.WriteFault w s = absurd w
 reading-ends role a b d n p slot (faults.Link fault) w s = absurd w
 
 -- what is handed over stays as the file is read
-pub adds-on : (a b d : FolderState) (n : PeerNames) (octets : List ℕ) → OnlyWrites a b n.got → Adds a b n.got octets → OnlyReads b d → Adds a d n.got octets
+pub adds-on : (a b d : FolderState) (n : PeerNames) (octets : List ℕ) → OnlyWrites a b n.got → Adds a b n.got octets → OnlyReads b d
+    → Adds a d n.got octets
 adds-on a b d n octets w adds r = Adds-kept a b d n.got octets w.goes_on adds (r.names n.got)
 
 pub keeps-on : (a b d : FolderState) (n : PeerNames) → AreApart n → OnlyWrites a b n.got → OnlyReads b d → KeepsName a d n.trace

@@ -48,13 +48,15 @@ abbrev pub served_with : List ℕ → Account → Account
 served_with file mid = after_busy false (offered file (handed mid))
 
 -- The end was offered what it wants of its user's file, and is to speak.
-pub record Serves (s : Single) (f : FolderState) (name : List ℕ) (p : Past) (slot : List ℕ) (arrived : Arrived) (mid : Account) : Type 0 where
+pub record Serves (s : Single) (f : FolderState) (name : List ℕ) (p : Past) (slot : List ℕ) (arrived : Arrived)
+    (mid : Account) : Type 0 where
   pub others : List ℕ
   pub reads : ReadsOn f name file_limit p.file (handed mid) others
   pub stands : InTurn s (over others p) slot arrived mid (served_with others mid)
 
 -- The turn after the past is made with this outcome, and its line stands behind the trace.
-pub record AddsLine (s : Single) (old new : FolderState) (trace : List ℕ) (p : Past) (slot octets : List ℕ) (outcome : Outcome) : Type 0 where
+pub record AddsLine (s : Single) (old new : FolderState) (trace : List ℕ) (p : Past) (slot octets : List ℕ)
+    (outcome : Outcome) : Type 0 where
   pub turn : LoneTurn
   pub is : PeerTurn s.role p slot turn octets outcome
   pub line : Appended old new trace (turn_line s.role (length p.turns) turn)

@@ -50,10 +50,15 @@ pub(crate) fn append_line<F: Folder>(
     role: Role,
     words: TurnWords,
 ) -> Result<(), FolderFault>
-    ensures ok { OnOk result (Appended (F.state folder.old) (F.state folder.new) name.now (trace_line turn role (heard_as words.arrived) words.sent words.given)) }
-    ensures err { OnErr result (PartlyAppended (F.state folder.old) (F.state folder.new) name.now (trace_line turn role (heard_as words.arrived) words.sent words.given)) }
+    ensures ok { OnOk result
+        (Appended (F.state folder.old) (F.state folder.new) name.now
+        (trace_line turn role (heard_as words.arrived) words.sent words.given)) }
+    ensures err { OnErr result
+        (PartlyAppended (F.state folder.old) (F.state folder.new) name.now
+        (trace_line turn role (heard_as words.arrived) words.sent words.given)) }
     ensures only { OnlyWrites (F.state folder.old) (F.state folder.new) name.now }
-    ensures cause { HasCause ((F.state folder.old).write_faults name.now) ((F.state folder.new).write_faults name.now) (F.state folder.old).refusals (F.state folder.new).refusals result }
+    ensures cause { HasCause ((F.state folder.old).write_faults name.now) ((F.state folder.new).write_faults name.now)
+        (F.state folder.old).refusals (F.state folder.new).refusals result }
     ensures stand { OnOk result (CountsStand (F.state folder.old) (F.state folder.new)) }
     ensures spared { IsErrOf result FolderFault.NoMemory → FaultsStand (F.state folder.old) (F.state folder.new) }
 {

@@ -69,14 +69,16 @@ impl Single {
     ghost use Rattle.single_end.specs.declared.single.Single.{Single};
     ghost use Rattle.single_end.specs.Single.{AreApart, IsReady, OnlyOutputs, SingleAfter, file_limit, named, role_of, turn_of};
     ghost use Rattle.single_end.specs.Turn.{TurnAnswers, TurnCounts};
-    ghost use Rattle.single_end.specs.Mid.{AddsLine, AddsPart, BreaksOff, EndsLine, HearsTurn, InTurn, IsWriting, ReadCounts, Serves, SpeaksTurn, WriteCounts, handed, served_with};
+    ghost use Rattle.single_end.specs.Mid.{AddsLine, AddsPart, BreaksOff, EndsLine, HearsTurn, InTurn, IsWriting, ReadCounts};
+    ghost use Rattle.single_end.specs.Mid.{Serves, SpeaksTurn, WriteCounts, handed, served_with};
 
     /// A single end before its first turn. It takes all memory that its turns need.
     pub fn new(alloc: Global, role: Role) -> Result<Single, NoMemory>
         ensures role { IfOk result (λ s. role_of s ≡ role) }
         ensures turn { IfOk result (λ s. turn_of s ≡ 0) }
         ensures ready { IfOk result IsReady }
-        ensures single { IfOk result (λ s. (file : List ℕ) → SingleAfter s (record { file = file; slots = []; turns = []; account = fresh (setup_of role) })) }
+        ensures single { IfOk result
+            (λ s. (file : List ℕ) → SingleAfter s (record { file = file; slots = []; turns = []; account = fresh (setup_of role) })) }
     {
         Ok(Single {
             role,
@@ -112,15 +114,19 @@ impl Single {
 
     /// What the end took is handed over: octets to the user's output, and to the user the length of a break that came.
     fn hand_over<F: Folder>(&mut self, folder: &mut F, got: &str) -> Result<Option<u8>, SingleFault>
-        ensures stands { IfOk result (λ given. (p : Past) (slot : List ℕ) (arrived : Arrived) (mid : Account) → InTurn self.old p slot arrived mid mid
+        ensures stands { IfOk result
+            (λ given. (p : Past) (slot : List ℕ) (arrived : Arrived) (mid : Account) → InTurn self.old p slot arrived mid mid
             → InTurn self.new p slot arrived mid (handed mid)) }
-        ensures given { IfOk result (λ given. (p : Past) (slot : List ℕ) (arrived : Arrived) (mid : Account) → InTurn self.old p slot arrived mid mid → given ≡ given_break mid) }
+        ensures given { IfOk result
+            (λ given. (p : Past) (slot : List ℕ) (arrived : Arrived) (mid : Account) → InTurn self.old p slot arrived mid mid
+            → given ≡ given_break mid) }
         ensures adds { OnOk result ((p : Past) (slot : List ℕ) (arrived : Arrived) (mid : Account) → InTurn self.old p slot arrived mid mid
             → Adds (F.state folder.old) (F.state folder.new) got.now (concat (deliveries mid))) }
         ensures part { OnErr result ((p : Past) (slot : List ℕ) (arrived : Arrived) (mid : Account) → InTurn self.old p slot arrived mid mid
             → PartlyAppended (F.state folder.old) (F.state folder.new) got.now (concat (deliveries mid))) }
         ensures idle { OnOk result (IsIdle self.new.station) }
-        ensures counted { OnOk result ((heard asked : ℕ) → IsCounted self.old.station heard asked → IsCounted self.new.station heard asked) }
+        ensures counted { OnOk result
+            ((heard asked : ℕ) → IsCounted self.old.station heard asked → IsCounted self.new.station heard asked) }
         ensures turn { self.new.turn ≡ self.old.turn }
         ensures role { self.new.role ≡ self.old.role }
         ensures only { OnlyWrites (F.state folder.old) (F.state folder.new) got.now }
@@ -135,7 +141,8 @@ impl Single {
 
     /// Whether the end is a closed originator, which has nothing left to do.
     fn hangs_up(&self) -> bool
-        ensures { (p : Past) (slot : List ℕ) (arrived : Arrived) (mid : Account) → InTurn self.now p slot arrived mid (handed mid) → result ≡ hangs_up mid }
+        ensures { (p : Past) (slot : List ℕ) (arrived : Arrived) (mid : Account) → InTurn self.now p slot arrived mid (handed mid)
+            → result ≡ hangs_up mid }
     {
         the_file_of_one_counts_as_far_as_it_was_read();
         match self.role {
@@ -146,11 +153,14 @@ impl Single {
 
     /// The end is offered what it wants of its user's file, and told that its user is not busy: it is then to speak.
     fn serve<F: Folder>(&mut self, folder: &mut F, file: &str) -> Result<(), SingleFault>
-        requires stands { (p : Past) × (slot : List ℕ) × (arrived : Arrived) × (mid : Account) × InTurn self.old p slot arrived mid (handed mid) × (length p.file ≤ file_limit) }
-        ensures serves { OnOk result ((p : Past) (slot : List ℕ) (arrived : Arrived) (mid : Account) → InTurn self.old p slot arrived mid (handed mid)
+        requires stands { (p : Past) × (slot : List ℕ) × (arrived : Arrived) × (mid : Account) × InTurn self.old p slot arrived mid
+            (handed mid) × (length p.file ≤ file_limit) }
+        ensures serves { OnOk result
+            ((p : Past) (slot : List ℕ) (arrived : Arrived) (mid : Account) → InTurn self.old p slot arrived mid (handed mid)
             → length p.file ≤ file_limit → Serves self.new (F.state folder.old) file.now p slot arrived mid) }
         ensures idle { OnOk result (IsIdle self.old.station → IsIdle self.new.station) }
-        ensures counted { OnOk result ((heard asked : ℕ) → IsCounted self.old.station heard asked → IsCounted self.new.station heard asked) }
+        ensures counted { OnOk result
+            ((heard asked : ℕ) → IsCounted self.old.station heard asked → IsCounted self.new.station heard asked) }
         ensures turn { self.new.turn ≡ self.old.turn }
         ensures role { self.new.role ≡ self.old.role }
         ensures only { OnlyReads (F.state folder.old) (F.state folder.new) }
@@ -172,8 +182,12 @@ impl Single {
         trace: &str,
         words: TurnWords,
     ) -> Result<(), SingleFault>
-        ensures ok { OnOk result (Appended (F.state folder.old) (F.state folder.new) trace.now (trace_line self.now.turn self.now.role (heard_as words.arrived) words.sent words.given)) }
-        ensures err { OnErr result (PartlyAppended (F.state folder.old) (F.state folder.new) trace.now (trace_line self.now.turn self.now.role (heard_as words.arrived) words.sent words.given)) }
+        ensures ok { OnOk result
+            (Appended (F.state folder.old) (F.state folder.new) trace.now
+            (trace_line self.now.turn self.now.role (heard_as words.arrived) words.sent words.given)) }
+        ensures err { OnErr result
+            (PartlyAppended (F.state folder.old) (F.state folder.new) trace.now
+            (trace_line self.now.turn self.now.role (heard_as words.arrived) words.sent words.given)) }
         ensures only { OnlyWrites (F.state folder.old) (F.state folder.new) trace.now }
         ensures counts { WriteCounts (F.state folder.old) (F.state folder.new) trace.now result }
         ensures write { IfErr result IsWriting }
@@ -210,9 +224,13 @@ impl Single {
         arrived: Arrived,
         given: Option<u8>,
     ) -> Result<(), SingleFault>
-        ensures adds { OnOk result ((p : Past) (slot : List ℕ) (mid : Account) → InTurn self.now p slot arrived mid (handed mid) → hangs_up mid ≡ true → given ≡ given_break mid
+        ensures adds { OnOk result
+            ((p : Past) (slot : List ℕ) (mid : Account) → InTurn self.now p slot arrived mid (handed mid) → hangs_up mid ≡ true
+            → given ≡ given_break mid
             → AddsLine self.now (F.state folder.old) (F.state folder.new) trace.now p slot (concat (deliveries mid)) Closed) }
-        ensures part { OnErr result ((p : Past) (slot : List ℕ) (mid : Account) → InTurn self.now p slot arrived mid (handed mid) → hangs_up mid ≡ true → given ≡ given_break mid
+        ensures part { OnErr result
+            ((p : Past) (slot : List ℕ) (mid : Account) → InTurn self.now p slot arrived mid (handed mid) → hangs_up mid ≡ true
+            → given ≡ given_break mid
             → AddsPart self.now (F.state folder.old) (F.state folder.new) trace.now p slot (concat (deliveries mid))) }
         ensures only { OnlyWrites (F.state folder.old) (F.state folder.new) trace.now }
         ensures counts { WriteCounts (F.state folder.old) (F.state folder.new) trace.now result }
@@ -229,8 +247,8 @@ impl Single {
         }
     }
 
-    /// The end speaks, and the turn's line goes out. An originator that needs the link no more takes it down. Where the end breaks nothing is
-    /// sent.
+    /// The end speaks, and the turn's line goes out. An originator that needs the link no more takes it down. Where the end breaks nothing
+    /// is sent.
     fn speak<F: Folder>(
         &mut self,
         folder: &mut F,
@@ -239,10 +257,12 @@ impl Single {
         given: Option<u8>,
     ) -> Result<(), SingleFault>
         requires early { self.old.turn < 2 ^ 40 }
-        ensures speaks { (p : Past) (slot : List ℕ) (mid : Account) → InTurn self.old p slot arrived mid (served_with p.file mid) → hangs_up mid ≡ false → given ≡ given_break mid
+        ensures speaks { (p : Past) (slot : List ℕ) (mid : Account) → InTurn self.old p slot arrived mid (served_with p.file mid)
+            → hangs_up mid ≡ false → given ≡ given_break mid
             → SpeaksTurn self.new (F.state folder.old) (F.state folder.new) trace.now p slot (concat (deliveries mid)) result }
         ensures idle { OnOk result (IsIdle self.old.station → IsIdle self.new.station) }
-        ensures counted { OnOk result ((heard asked : ℕ) → IsCounted self.old.station heard asked → IsCounted self.new.station heard asked) }
+        ensures counted { OnOk result
+            ((heard asked : ℕ) → IsCounted self.old.station heard asked → IsCounted self.new.station heard asked) }
         ensures turn { OnOk result (self.new.turn ≡ self.old.turn + 1) }
         ensures role { self.new.role ≡ self.old.role }
         ensures only { OnlyWrites (F.state folder.old) (F.state folder.new) trace.now }
@@ -279,9 +299,9 @@ impl Single {
         }
     }
 
-    /// One turn, against the octets of a slot's bits: the end hears what is heard in it, what it took is written to `got`, it is offered what it
-    /// wants of `file`, it speaks, and the turn's line is written to `trace`. A slot of fewer octets is filled with ones, and the file ends at
-    /// [`FILE_LIMIT`] octets. The names of all turns are the same.
+    /// One turn, against the octets of a slot's bits: the end hears what is heard in it, what it took is written to `got`, it is offered what
+    /// it wants of `file`, it speaks, and the turn's line is written to `trace`. A slot of fewer octets is filled with ones, and the file ends
+    /// at [`FILE_LIMIT`] octets. The names of all turns are the same.
     pub fn turn<F: Folder>(
         &mut self,
         folder: &mut F,

@@ -21,7 +21,9 @@ returns-clause-ends g c =
 pub returns-clause-only : goal.returns-clause-only
 returns-clause-only g c =
     let n : Names = named c.args.words.now in
-    OnlyOutputs-trans (outputs_of n) (OnlyOutputs-reads (outputs_of n) (OnlyReads-trans c.in-Ok.ensures.reads c.in-Ok-within_limit.ensures.reads)) c.run_single.ensures.only
+    OnlyOutputs-trans (outputs_of n)
+    (OnlyOutputs-reads (outputs_of n)
+    (OnlyReads-trans c.in-Ok.ensures.reads c.in-Ok-within_limit.ensures.reads)) c.run_single.ensures.only
 
 pub returns-clause-counts : goal.returns-clause-counts
 returns-clause-counts g c =
@@ -29,4 +31,5 @@ returns-clause-counts g c =
     let old : FolderState = g.F.Folder.state c.args.folder.now in
     let mid : FolderState = g.F.Folder.state c.within_limit-2.new.folder in
     let new : FolderState = g.F.Folder.state c.run_single.new.folder in
-    end-earlier old mid new (inputs_of n) (outputs_of n) c.run_single.result (CountsStand-trans c.in-Ok.ensures.stand c.in-Ok-within_limit.ensures.stand) c.run_single.ensures.counts
+    end-earlier old mid new (inputs_of n) (outputs_of n) c.run_single.result
+    (CountsStand-trans c.in-Ok.ensures.stand c.in-Ok-within_limit.ensures.stand) c.run_single.ensures.counts

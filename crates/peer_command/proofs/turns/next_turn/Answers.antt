@@ -19,14 +19,21 @@ returns-in-Ok-eq0-clause-done g c = λ start r.
     let old : FolderState = g.F.Folder.state c.args.folder.now in
     let mid : FolderState = g.F.Folder.state c.read_piece.new.folder in
     let number : c.turn_number-turn.result ≡ length r.past.turns = c.turn_number-turn.ensures ∙ r.after.turn in
-    let read : ReadTo start old n.bits FILE_LIMIT (232 * c.turn_number-turn.result) r.octets = subst (λ x. ReadTo start old n.bits FILE_LIMIT (slot_octets * x) r.octets) (sym number) r.read in
-    let end : (count : ℕ) → count ≡ 0 → (count < 232 → IsTrue (start.tells n.bits) → r.octets ++ take count c.read_piece.new.piece ≡ octets_at start n.bits) → IsTrue (start.tells n.bits) → r.octets ≡ octets_at start n.bits =
-    λ count e h told. sym (append-nil r.octets) ∙ (subst (λ (m : ℕ). m < 232 → r.octets ++ take m c.read_piece.new.piece ≡ octets_at start n.bits) e (λ few. h few told)) (omega arith) in
-    ends-whole start old mid n c.args.single.now r c.turn_number-turn.result number c.in-Ok-eq0.ensures.reads (end c.in-Ok-eq0.field-0 c.in-Ok-eq0.field-0-test (c.in-Ok-eq0.ensures.end start r.octets read))
+    let read : ReadTo start old n.bits FILE_LIMIT (232 * c.turn_number-turn.result) r.octets =
+    subst (λ x. ReadTo start old n.bits FILE_LIMIT (slot_octets * x) r.octets) (sym number) r.read in
+    let end : (count : ℕ) → count ≡ 0
+    → (count < 232 → IsTrue (start.tells n.bits) → r.octets ++ take count c.read_piece.new.piece ≡ octets_at start n.bits)
+    → IsTrue (start.tells n.bits) → r.octets ≡ octets_at start n.bits =
+    λ count e h told. sym (append-nil r.octets)
+    ∙ (subst (λ (m : ℕ). m < 232 → r.octets ++ take m c.read_piece.new.piece ≡ octets_at start n.bits) e (λ few. h few told))
+    (omega arith) in
+    ends-whole start old mid n c.args.single.now r c.turn_number-turn.result number c.in-Ok-eq0.ensures.reads
+    (end c.in-Ok-eq0.field-0 c.in-Ok-eq0.field-0-test (c.in-Ok-eq0.ensures.end start r.octets read))
 
 pub returns-in-Err-clause-err : goal.returns-in-Err-clause-err
 returns-in-Err-clause-err g c = λ start r.
-    inr (not-read start (g.F.Folder.state c.args.folder.now) (g.F.Folder.state c.read_piece.new.folder) (named c.args.words.now) c.args.single.now r c.in-Err.ensures.reads)
+    inr (not-read start (g.F.Folder.state c.args.folder.now) (g.F.Folder.state c.read_piece.new.folder)
+    (named c.args.words.now) c.args.single.now r c.in-Err.ensures.reads)
 
 pub returns-then-count-lt-SLOT_OCTETS-clause-done : goal.returns-then-count-lt-SLOT_OCTETS-clause-done
 returns-then-count-lt-SLOT_OCTETS-clause-done g c = λ start r.
@@ -36,14 +43,23 @@ returns-then-count-lt-SLOT_OCTETS-clause-done g c = λ start r.
     let next : FolderState = g.F.Folder.state c.turn.new.folder in
     let slot : List ℕ = take c.in-Ok.count c.read_piece.new.piece in
     let number : c.turn_number-turn.result ≡ length r.past.turns = c.turn_number-turn.ensures ∙ r.after.turn in
-    let read : ReadTo start old n.bits FILE_LIMIT (232 * c.turn_number-turn.result) r.octets = subst (λ x. ReadTo start old n.bits FILE_LIMIT (slot_octets * x) r.octets) (sym number) r.read in
-    let long : length slot ≡ c.in-Ok.count = length-take-le c.in-Ok.count c.read_piece.new.piece (omega (arith, c.in-Ok.ensures.bound, c.in-Ok.ensures.kept)) in
-    let apart : Distinct n = distinct n (c.apart_names_differ.ensures.outputs (inputs_of n) (outputs_of n) c.requires.apart) (c.apart_names_differ.ensures.inputs (inputs_of n) (outputs_of n) c.requires.apart) in
+    let read : ReadTo start old n.bits FILE_LIMIT (232 * c.turn_number-turn.result) r.octets =
+    subst (λ x. ReadTo start old n.bits FILE_LIMIT (slot_octets * x) r.octets) (sym number) r.read in
+    let long : length slot ≡ c.in-Ok.count =
+    length-take-le c.in-Ok.count c.read_piece.new.piece (omega (arith, c.in-Ok.ensures.bound, c.in-Ok.ensures.kept)) in
+    let apart : Distinct n =
+    distinct n (c.apart_names_differ.ensures.outputs (inputs_of n) (outputs_of n) c.requires.apart)
+    (c.apart_names_differ.ensures.inputs (inputs_of n) (outputs_of n) c.requires.apart) in
     let a : Around start mid next n r.past r.octets slot = around start old mid next n c.args.single.now r slot apart c.in-Ok.ensures.reads
-    (subst (λ x. ReadTo start mid n.bits FILE_LIMIT x (r.octets ++ slot)) (omega (arith, number, long)) (c.in-Ok.ensures.more start r.octets read))
-    (omega (arith, long, c.in-Ok.count-test)) (omega (arith, long, c.in-Ok.ensures.bound)) (λ less. c.in-Ok.ensures.end start r.octets read (omega (arith, less, long))) c.in-Ok-Going.ensures.only in
-    ends-short-by c.lone_turns_deliver_what_came.ensures.hearing c.lone_turns_deliver_what_came.ensures.speaking start mid next n c.args.single.now c.turn.new.self r.past r.octets slot c.turn_number-turn.result a number
-    r.after r.role_is c.in-Ok-Going.ensures.role ((rw c.in-Ok-Going.field-0-is at c.in-Ok-Going.ensures.turn) r.past r.after r.knows.within) (omega (arith, long, c.if-count-lt-SLOT_OCTETS.true))
+    (subst (λ x. ReadTo start mid n.bits FILE_LIMIT x (r.octets ++ slot)) (omega (arith, number, long))
+    (c.in-Ok.ensures.more start r.octets read))
+    (omega (arith, long, c.in-Ok.count-test)) (omega (arith, long, c.in-Ok.ensures.bound))
+    (λ less. c.in-Ok.ensures.end start r.octets read (omega (arith, less, long))) c.in-Ok-Going.ensures.only in
+    ends-short-by c.lone_turns_deliver_what_came.ensures.hearing c.lone_turns_deliver_what_came.ensures.speaking
+    start mid next n c.args.single.now c.turn.new.self r.past r.octets slot c.turn_number-turn.result a number
+    r.after r.role_is c.in-Ok-Going.ensures.role
+    ((rw c.in-Ok-Going.field-0-is at c.in-Ok-Going.ensures.turn) r.past r.after r.knows.within)
+    (omega (arith, long, c.if-count-lt-SLOT_OCTETS.true))
 
 pub returns-else-count-lt-SLOT_OCTETS-clause-going : goal.returns-else-count-lt-SLOT_OCTETS-clause-going
 returns-else-count-lt-SLOT_OCTETS-clause-going g c = λ start r going.
@@ -53,14 +69,22 @@ returns-else-count-lt-SLOT_OCTETS-clause-going g c = λ start r going.
     let next : FolderState = g.F.Folder.state c.turn.new.folder in
     let slot : List ℕ = take c.in-Ok.count c.read_piece.new.piece in
     let number : c.turn_number-turn.result ≡ length r.past.turns = c.turn_number-turn.ensures ∙ r.after.turn in
-    let read : ReadTo start old n.bits FILE_LIMIT (232 * c.turn_number-turn.result) r.octets = subst (λ x. ReadTo start old n.bits FILE_LIMIT (slot_octets * x) r.octets) (sym number) r.read in
-    let long : length slot ≡ c.in-Ok.count = length-take-le c.in-Ok.count c.read_piece.new.piece (omega (arith, c.in-Ok.ensures.bound, c.in-Ok.ensures.kept)) in
-    let apart : Distinct n = distinct n (c.apart_names_differ.ensures.outputs (inputs_of n) (outputs_of n) c.requires.apart) (c.apart_names_differ.ensures.inputs (inputs_of n) (outputs_of n) c.requires.apart) in
+    let read : ReadTo start old n.bits FILE_LIMIT (232 * c.turn_number-turn.result) r.octets =
+    subst (λ x. ReadTo start old n.bits FILE_LIMIT (slot_octets * x) r.octets) (sym number) r.read in
+    let long : length slot ≡ c.in-Ok.count =
+    length-take-le c.in-Ok.count c.read_piece.new.piece (omega (arith, c.in-Ok.ensures.bound, c.in-Ok.ensures.kept)) in
+    let apart : Distinct n =
+    distinct n (c.apart_names_differ.ensures.outputs (inputs_of n) (outputs_of n) c.requires.apart)
+    (c.apart_names_differ.ensures.inputs (inputs_of n) (outputs_of n) c.requires.apart) in
     let a : Around start mid next n r.past r.octets slot = around start old mid next n c.args.single.now r slot apart c.in-Ok.ensures.reads
-    (subst (λ x. ReadTo start mid n.bits FILE_LIMIT x (r.octets ++ slot)) (omega (arith, number, long)) (c.in-Ok.ensures.more start r.octets read))
-    (omega (arith, long, c.in-Ok.count-test)) (omega (arith, long, c.in-Ok.ensures.bound)) (λ less. c.in-Ok.ensures.end start r.octets read (omega (arith, less, long))) c.in-Ok-Going.ensures.only in
-    goes-by c.lone_turns_deliver_what_came.ensures.hearing c.lone_turns_deliver_what_came.ensures.speaking start mid next n c.args.single.now c.turn.new.self r.past r.octets slot a
-    r.role_is c.in-Ok-Going.ensures.role ((rw c.in-Ok-Going.field-0-is at c.in-Ok-Going.ensures.turn) r.past r.after r.knows.within) (omega (arith, long, c.in-Ok.ensures.bound, c.if-count-lt-SLOT_OCTETS.false))
+    (subst (λ x. ReadTo start mid n.bits FILE_LIMIT x (r.octets ++ slot)) (omega (arith, number, long))
+    (c.in-Ok.ensures.more start r.octets read))
+    (omega (arith, long, c.in-Ok.count-test)) (omega (arith, long, c.in-Ok.ensures.bound))
+    (λ less. c.in-Ok.ensures.end start r.octets read (omega (arith, less, long))) c.in-Ok-Going.ensures.only in
+    goes-by c.lone_turns_deliver_what_came.ensures.hearing c.lone_turns_deliver_what_came.ensures.speaking
+    start mid next n c.args.single.now c.turn.new.self r.past r.octets slot a
+    r.role_is c.in-Ok-Going.ensures.role ((rw c.in-Ok-Going.field-0-is at c.in-Ok-Going.ensures.turn) r.past r.after r.knows.within)
+    (omega (arith, long, c.in-Ok.ensures.bound, c.if-count-lt-SLOT_OCTETS.false))
 
 pub returns-in-Ok-Closed-clause-done : goal.returns-in-Ok-Closed-clause-done
 returns-in-Ok-Closed-clause-done g c = λ start r.
@@ -70,12 +94,18 @@ returns-in-Ok-Closed-clause-done g c = λ start r.
     let next : FolderState = g.F.Folder.state c.turn.new.folder in
     let slot : List ℕ = take c.in-Ok.count c.read_piece.new.piece in
     let number : c.turn_number-turn.result ≡ length r.past.turns = c.turn_number-turn.ensures ∙ r.after.turn in
-    let read : ReadTo start old n.bits FILE_LIMIT (232 * c.turn_number-turn.result) r.octets = subst (λ x. ReadTo start old n.bits FILE_LIMIT (slot_octets * x) r.octets) (sym number) r.read in
-    let long : length slot ≡ c.in-Ok.count = length-take-le c.in-Ok.count c.read_piece.new.piece (omega (arith, c.in-Ok.ensures.bound, c.in-Ok.ensures.kept)) in
-    let apart : Distinct n = distinct n (c.apart_names_differ.ensures.outputs (inputs_of n) (outputs_of n) c.requires.apart) (c.apart_names_differ.ensures.inputs (inputs_of n) (outputs_of n) c.requires.apart) in
+    let read : ReadTo start old n.bits FILE_LIMIT (232 * c.turn_number-turn.result) r.octets =
+    subst (λ x. ReadTo start old n.bits FILE_LIMIT (slot_octets * x) r.octets) (sym number) r.read in
+    let long : length slot ≡ c.in-Ok.count =
+    length-take-le c.in-Ok.count c.read_piece.new.piece (omega (arith, c.in-Ok.ensures.bound, c.in-Ok.ensures.kept)) in
+    let apart : Distinct n =
+    distinct n (c.apart_names_differ.ensures.outputs (inputs_of n) (outputs_of n) c.requires.apart)
+    (c.apart_names_differ.ensures.inputs (inputs_of n) (outputs_of n) c.requires.apart) in
     let a : Around start mid next n r.past r.octets slot = around start old mid next n c.args.single.now r slot apart c.in-Ok.ensures.reads
-    (subst (λ x. ReadTo start mid n.bits FILE_LIMIT x (r.octets ++ slot)) (omega (arith, number, long)) (c.in-Ok.ensures.more start r.octets read))
-    (omega (arith, long, c.in-Ok.count-test)) (omega (arith, long, c.in-Ok.ensures.bound)) (λ less. c.in-Ok.ensures.end start r.octets read (omega (arith, less, long))) c.in-Ok-Closed.ensures.only in
+    (subst (λ x. ReadTo start mid n.bits FILE_LIMIT x (r.octets ++ slot)) (omega (arith, number, long))
+    (c.in-Ok.ensures.more start r.octets read))
+    (omega (arith, long, c.in-Ok.count-test)) (omega (arith, long, c.in-Ok.ensures.bound))
+    (λ less. c.in-Ok.ensures.end start r.octets read (omega (arith, less, long))) c.in-Ok-Closed.ensures.only in
     let m = (rw c.in-Ok-Closed.field-0-is at c.in-Ok-Closed.ensures.turn) r.past r.after r.knows.within in
     closed-ends start mid next n r.past r.octets slot c.turn_number-turn.result a number
     (subst (λ (x : Role). Makes x mid next (turn_names n) r.past slot Closed) (c.in-Ok-Closed.ensures.role ∙ r.role_is) m)
@@ -88,12 +118,19 @@ returns-in-Err-turn-clause-err g c = λ start r.
     let next : FolderState = g.F.Folder.state c.turn.new.folder in
     let slot : List ℕ = take c.in-Ok.count c.read_piece.new.piece in
     let number : c.turn_number-turn.result ≡ length r.past.turns = c.turn_number-turn.ensures ∙ r.after.turn in
-    let read : ReadTo start old n.bits FILE_LIMIT (232 * c.turn_number-turn.result) r.octets = subst (λ x. ReadTo start old n.bits FILE_LIMIT (slot_octets * x) r.octets) (sym number) r.read in
-    let long : length slot ≡ c.in-Ok.count = length-take-le c.in-Ok.count c.read_piece.new.piece (omega (arith, c.in-Ok.ensures.bound, c.in-Ok.ensures.kept)) in
-    let apart : Distinct n = distinct n (c.apart_names_differ.ensures.outputs (inputs_of n) (outputs_of n) c.requires.apart) (c.apart_names_differ.ensures.inputs (inputs_of n) (outputs_of n) c.requires.apart) in
+    let read : ReadTo start old n.bits FILE_LIMIT (232 * c.turn_number-turn.result) r.octets =
+    subst (λ x. ReadTo start old n.bits FILE_LIMIT (slot_octets * x) r.octets) (sym number) r.read in
+    let long : length slot ≡ c.in-Ok.count =
+    length-take-le c.in-Ok.count c.read_piece.new.piece (omega (arith, c.in-Ok.ensures.bound, c.in-Ok.ensures.kept)) in
+    let apart : Distinct n =
+    distinct n (c.apart_names_differ.ensures.outputs (inputs_of n) (outputs_of n) c.requires.apart)
+    (c.apart_names_differ.ensures.inputs (inputs_of n) (outputs_of n) c.requires.apart) in
     let a : Around start mid next n r.past r.octets slot = around start old mid next n c.args.single.now r slot apart c.in-Ok.ensures.reads
-    (subst (λ x. ReadTo start mid n.bits FILE_LIMIT x (r.octets ++ slot)) (omega (arith, number, long)) (c.in-Ok.ensures.more start r.octets read))
-    (omega (arith, long, c.in-Ok.count-test)) (omega (arith, long, c.in-Ok.ensures.bound)) (λ less. c.in-Ok.ensures.end start r.octets read (omega (arith, less, long))) c.in-Err-turn.ensures.only in
+    (subst (λ x. ReadTo start mid n.bits FILE_LIMIT x (r.octets ++ slot)) (omega (arith, number, long))
+    (c.in-Ok.ensures.more start r.octets read))
+    (omega (arith, long, c.in-Ok.count-test)) (omega (arith, long, c.in-Ok.ensures.bound))
+    (λ less. c.in-Ok.ensures.end start r.octets read (omega (arith, less, long))) c.in-Err-turn.ensures.only in
     subst (EndsBy start next n) (sym c.stop_of.ensures)
     (fault-ends start mid next n r.past r.octets slot c.turn_number-turn.result c.in-Err-turn.fault a number
-    (subst (λ (x : Role). TurnEndsBy x mid next (turn_names n) r.past slot c.in-Err-turn.fault) (c.in-Err-turn.ensures.role ∙ r.role_is) (c.in-Err-turn.ensures.turn r.past r.after r.knows.within)))
+    (subst (λ (x : Role). TurnEndsBy x mid next (turn_names n) r.past slot c.in-Err-turn.fault) (c.in-Err-turn.ensures.role ∙ r.role_is)
+    (c.in-Err-turn.ensures.turn r.past r.after r.knows.within)))

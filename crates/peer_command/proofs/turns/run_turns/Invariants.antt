@@ -10,7 +10,8 @@ use Rattle.peer_command.proofs.turns.run_turns.Given as goal
 
 abbrev pub invariant-loop-turns : goal.invariant-loop-turns
 invariant-loop-turns g l = record {
-  reached : (start : FolderState) → Reached start (g.F.Folder.state l.fn.folder) (named l.words) l.fn.single → Reached start (g.F.Folder.state l.folder) (named l.words) l.single;
+  reached : (start : FolderState) → Reached start (g.F.Folder.state l.fn.folder) (named l.words) l.fn.single
+      → Reached start (g.F.Folder.state l.folder) (named l.words) l.single;
   ready : IsReady l.single;
   within : slot_octets * turn_of l.single ≤ FILE_LIMIT;
   only : OnlyOutputs (g.F.Folder.state l.fn.folder) (g.F.Folder.state l.folder) (outputs_of (named l.words));

@@ -20,8 +20,11 @@ loop-place-preserved c =
     let i = c.loop-place.invariant in
     let more = slot-more c.args.slot.now place c.octet_at.result c.requires (omega (arith, c.loop-place-test.true)) c.octet_at.ensures in
     record {
-      stands = λ bits h. subst (λ (b : List Bool). HasHeard c.hear_octet-heard.new.self b) (append-again bits front (octet_bits c.octet_at.result) ∙ ap (λ b. bits ++ b) more)
+      stands =
+          λ bits h. subst (λ (b : List Bool). HasHeard c.hear_octet-heard.new.self b)
+          (append-again bits front (octet_bits c.octet_at.result) ∙ ap (λ b. bits ++ b) more)
           (c.hear_octet-heard.ensures.stands (bits ++ front) (i.stands bits h));
-      heard = λ bits h. subst (λ (b : List Bool). IsHeard c.args.peer bits b c.hear_octet-heard.result) more (c.hear_octet-heard.ensures.heard bits front (i.stands bits h) (i.heard bits h));
+      heard = λ bits h. subst (λ (b : List Bool). IsHeard c.args.peer bits b c.hear_octet-heard.result) more
+          (c.hear_octet-heard.ensures.heard bits front (i.stands bits h) (i.heard bits h));
       numbers = c.hear_octet-heard.ensures.numbers;
     }

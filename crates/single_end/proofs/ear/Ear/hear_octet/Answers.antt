@@ -13,12 +13,17 @@ loop-place-preserved c =
     let bit : Bool = nat_eq (bit_and (c.args.octet / 2 ^ place) 1) 1 in
     let i = c.loop-place.invariant in
     record {
-      stands = λ bits h. subst (λ (b : List Bool). HasHeard c.hear_bit-next.new.self b) (bit-more bits c.args.octet place (omega (arith, c.loop-place-test.true)))
+      stands =
+          λ bits h. subst (λ (b : List Bool). HasHeard c.hear_bit-next.new.self b)
+          (bit-more bits c.args.octet place (omega (arith, c.loop-place-test.true)))
           (c.hear_bit-next.ensures.stands (bits ++ take place all) (i.stands bits h));
       heard = λ earlier bits h e.
-          let now : HasHeard c.loop-place.self (earlier ++ (bits ++ take place all)) = subst (λ (b : List Bool). HasHeard c.loop-place.self b) (append-again earlier bits (take place all)) (i.stands (earlier ++ bits) h) in
+          let now : HasHeard c.loop-place.self (earlier ++ (bits ++ take place all)) =
+          subst (λ (b : List Bool). HasHeard c.loop-place.self b) (append-again earlier bits (take place all))
+          (i.stands (earlier ++ bits) h) in
           subst (λ (a : Arrived). IsHeard c.args.peer earlier (bits ++ take (place + 1) all) a) (sym c.first-heard.ensures.value)
-          (subst (λ (b : List Bool). IsHeard c.args.peer earlier b (first c.loop-place.heard c.hear_bit-next.result)) (bit-more bits c.args.octet place (omega (arith, c.loop-place-test.true)))
+          (subst (λ (b : List Bool). IsHeard c.args.peer earlier b (first c.loop-place.heard c.hear_bit-next.result))
+          (bit-more bits c.args.octet place (omega (arith, c.loop-place-test.true)))
           (heard-more c.args.peer earlier (bits ++ take place all) bit c.loop-place.heard c.hear_bit-next.result (i.heard earlier bits h e)
           (c.hear_bit-next.ensures.ends (earlier ++ (bits ++ take place all)) now)));
       numbers = c.first-heard.ensures.numbers i.numbers c.hear_bit-next.ensures.numbers;

@@ -8,6 +8,7 @@ use Rattle.single_end.proofs.ear.Ear.hear_octet.Given as goal
 abbrev pub invariant-loop-place : goal.invariant-loop-place
 invariant-loop-place l = record {
   stands : (bits : List Bool) → HasHeard l.fn.self bits → HasHeard l.self (bits ++ take l.place (octet_bits l.octet));
-  heard : (earlier bits : List Bool) → HasHeard l.fn.self (earlier ++ bits) → IsHeard l.peer earlier bits l.fn.heard → IsHeard l.peer earlier (bits ++ take l.place (octet_bits l.octet)) l.heard;
+  heard : (earlier bits : List Bool) → HasHeard l.fn.self (earlier ++ bits) → IsHeard l.peer earlier bits l.fn.heard
+      → IsHeard l.peer earlier (bits ++ take l.place (octet_bits l.octet)) l.heard;
   numbers : IsNumbered l.heard;
 }

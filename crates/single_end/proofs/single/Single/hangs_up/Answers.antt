@@ -6,7 +6,8 @@ use Rattle.single_end.proofs.single.Single.hangs_up.Goals as goal
 
 pub returns-in-Originator : goal.returns-in-Originator
 returns-in-Originator c = λ p slot arrived mid h.
-    hangs-originator c.the_file_of_one_counts_as_far_as_it_was_read.ensures.setup c.args.self.now p slot arrived mid c.is_closed.result h c.in-Originator.is
+    hangs-originator c.the_file_of_one_counts_as_far_as_it_was_read.ensures.setup c.args.self.now p slot arrived mid
+    c.is_closed.result h c.in-Originator.is
     (c.is_closed.ensures ∙ ap is_closed (c.phase.ensures p.file (handed mid) h.station))
 
 pub returns-in-Answerer : goal.returns-in-Answerer

@@ -7,13 +7,15 @@ use Rattle.single_end.specs.Peer.{Closed, after, over}
 use Rattle.single_end.specs.Single.{named}
 use Rattle.single_end.specs.Turn.{EndsBy}
 use Rattle.single_end.proofs.Folders.{got-only, trace-only, reads-only, then-only, stays-known, others-known}
-use Rattle.single_end.proofs.Turning.{broke-off, not-handed, not-read, writing-ends, reading-ends, made, stopped-so, ended, gone-on, counted-later, adds-on, keeps-on}
+use Rattle.single_end.proofs.Turning.{broke-off, not-handed, not-read, writing-ends, reading-ends, made, stopped-so, ended, gone-on}
+use Rattle.single_end.proofs.Turning.{counted-later, adds-on, keeps-on}
 use Rattle.single_end.specs.Mid.{handed}
 use Rattle.single_end.proofs.single.Single.turn.Goals as goal
 
 pub returns-in-Err-clause-turn : goal.returns-in-Err-clause-turn
 returns-in-Err-clause-turn g c = λ p h within.
-    broke-off c.hear.new.self (g.F.Folder.state c.args.folder.now) (g.F.Folder.state c.break_off.new.folder) (named c.args.file.now c.args.got.now c.args.trace.now) p c.args.bits.now c.break_off.result
+    broke-off c.hear.new.self (g.F.Folder.state c.args.folder.now) (g.F.Folder.state c.break_off.new.folder)
+    (named c.args.file.now c.args.got.now c.args.trace.now) p c.args.bits.now c.break_off.result
     c.requires.apart within c.break_off.ensures.only (c.break_off.ensures.ends p c.args.bits.now (c.in-Err.ensures.hears p h))
 
 pub returns-in-Err-hand_over-clause-turn : goal.returns-in-Err-hand_over-clause-turn
@@ -24,7 +26,8 @@ returns-in-Err-hand_over-clause-turn g c = λ p h within.
     let has = c.in-Ok.ensures.hears p h in
     subst (λ (r : Role). EndsBy r a b n p c.args.bits.now c.in-Err-hand_over.fault) (sym c.hand_over.ensures.role)
     (writing-ends c.hear.new.self.role a b n p c.args.bits.now c.in-Err-hand_over.fault c.in-Err-hand_over.ensures.write
-    (not-handed c.one_lone_run.ensures.made c.hear.new.self a b n p c.args.bits.now c.in-Ok.arrived has.0 c.requires.apart within has.1 c.hand_over.ensures.only
+    (not-handed c.one_lone_run.ensures.made c.hear.new.self a b n p c.args.bits.now c.in-Ok.arrived has.0 c.requires.apart within has.1
+    c.hand_over.ensures.only
     (c.in-Err-hand_over.ensures.part p c.args.bits.now c.in-Ok.arrived has.0 has.1)))
 
 pub returns-in-Ok-finish-clause-turn : goal.returns-in-Ok-finish-clause-turn
@@ -40,8 +43,10 @@ returns-in-Ok-finish-clause-turn g c = λ p h within.
     let now = c.in-Ok-hand_over.ensures.stands p slot arrived mid has.1 in
     let closed = sym (c.hangs_up.ensures p slot arrived mid now) ∙ c.if-hangs_up.true in
     let only = then-only a b z n (got-only a b n c.hand_over.ensures.only) (trace-only b z n c.finish.ensures.only) in
-    made c.hand_over.new.self a b z n p slot (concat (deliveries mid)) p.file Closed c.requires.apart c.hand_over.ensures.only.goes_on (c.in-Ok-hand_over.ensures.adds p slot arrived mid has.1)
-    (c.hand_over.ensures.only.names n.trace (λ e. c.requires.apart.got_trace (sym e))) c.finish.ensures.only (stays-known a z n p.file c.requires.apart only within)
+    made c.hand_over.new.self a b z n p slot (concat (deliveries mid)) p.file Closed c.requires.apart c.hand_over.ensures.only.goes_on
+    (c.in-Ok-hand_over.ensures.adds p slot arrived mid has.1)
+    (c.hand_over.ensures.only.names n.trace (λ e. c.requires.apart.got_trace (sym e))) c.finish.ensures.only
+    (stays-known a z n p.file c.requires.apart only within)
     (c.in-Ok-finish.ensures.adds p slot mid now closed (c.in-Ok-hand_over.ensures.given p slot arrived mid has.1))
 
 pub returns-in-Err-finish-clause-turn : goal.returns-in-Err-finish-clause-turn
@@ -57,8 +62,11 @@ returns-in-Err-finish-clause-turn g c = λ p h within.
     let now = c.in-Ok-hand_over.ensures.stands p slot arrived mid has.1 in
     let closed = sym (c.hangs_up.ensures p slot arrived mid now) ∙ c.if-hangs_up.true in
     let only = then-only a b z n (got-only a b n c.hand_over.ensures.only) (trace-only b z n c.finish.ensures.only) in
-    stopped-so c.hand_over.new.self a b z n p slot (concat (deliveries mid)) p.file c.in-Err-finish.fault c.requires.apart c.hand_over.ensures.only.goes_on (c.in-Ok-hand_over.ensures.adds p slot arrived mid has.1)
-    (c.hand_over.ensures.only.names n.trace (λ e. c.requires.apart.got_trace (sym e))) c.finish.ensures.only (stays-known a z n p.file c.requires.apart only within) c.in-Err-finish.ensures.write
+    stopped-so c.hand_over.new.self a b z n p slot
+    (concat (deliveries mid)) p.file c.in-Err-finish.fault c.requires.apart c.hand_over.ensures.only.goes_on
+    (c.in-Ok-hand_over.ensures.adds p slot arrived mid has.1)
+    (c.hand_over.ensures.only.names n.trace (λ e. c.requires.apart.got_trace (sym e))) c.finish.ensures.only
+    (stays-known a z n p.file c.requires.apart only within) c.in-Err-finish.ensures.write
     (c.in-Err-finish.ensures.part p slot mid now closed (c.in-Ok-hand_over.ensures.given p slot arrived mid has.1))
 
 pub serve-requires : goal.serve-requires
@@ -66,7 +74,16 @@ serve-requires g c =
     let r = c.requires.ready in
     let slot = c.args.bits.now in
     let has = c.in-Ok.ensures.hears r.past r.after in
-    record { stands = (r.past, slot, c.in-Ok.arrived, has.0, c.in-Ok-hand_over.ensures.stands r.past slot c.in-Ok.arrived has.0 has.1, r.within) }
+    record {
+      stands = (
+        r.past,
+        slot,
+        c.in-Ok.arrived,
+        has.0,
+        c.in-Ok-hand_over.ensures.stands r.past slot c.in-Ok.arrived has.0 has.1,
+        r.within,
+      );
+    }
 
 pub returns-in-Err-serve-clause-turn : goal.returns-in-Err-serve-clause-turn
 returns-in-Err-serve-clause-turn g c = λ p h within.
@@ -80,7 +97,8 @@ returns-in-Err-serve-clause-turn g c = λ p h within.
     let now = c.in-Ok-hand_over.ensures.stands p slot arrived has.0 has.1 in
     subst (λ (r : Role). EndsBy r a d n p slot c.in-Err-serve.fault) (sym c.serve.ensures.role)
     (reading-ends c.hand_over.new.self.role a b d n p slot c.in-Err-serve.fault c.in-Err-serve.ensures.counts
-    (not-read c.one_lone_run.ensures.made c.hand_over.new.self a b d n p slot arrived has.0 (handed has.0) c.requires.apart within now c.hand_over.ensures.only
+    (not-read c.one_lone_run.ensures.made c.hand_over.new.self a b d n p slot arrived has.0
+    (handed has.0) c.requires.apart within now c.hand_over.ensures.only
     (c.in-Ok-hand_over.ensures.adds p slot arrived has.0 has.1) c.serve.ensures.only))
 
 pub returns-in-Ok-speak-clause-turn : goal.returns-in-Ok-speak-clause-turn
@@ -101,7 +119,8 @@ returns-in-Ok-speak-clause-turn g c = λ p h within.
     let only-d = then-only a b d n first (reads-only b d n c.serve.ensures.only) in
     let only-z = then-only a d z n only-d (trace-only d z n c.speak.ensures.only) in
     gone-on c.speak.new.self a d z n p slot (concat (deliveries mid)) s.others c.requires.apart only-d.goes_on
-    (adds-on a b d n (concat (deliveries mid)) c.hand_over.ensures.only (c.in-Ok-hand_over.ensures.adds p slot arrived mid has.1) c.serve.ensures.only)
+    (adds-on a b d n (concat (deliveries mid)) c.hand_over.ensures.only
+    (c.in-Ok-hand_over.ensures.adds p slot arrived mid has.1) c.serve.ensures.only)
     (keeps-on a b d n c.requires.apart c.hand_over.ensures.only c.serve.ensures.only) c.speak.ensures.only
     (others-known a b z n p.file s.others (handed mid) c.requires.apart first only-z s.reads)
     (c.in-Ok-speak.ensures.speaks (over s.others p) slot mid s.stands still (c.in-Ok-hand_over.ensures.given p slot arrived mid has.1))
@@ -117,16 +136,20 @@ returns-in-Ok-speak-clause-ready g c = λ going.
     let now = c.in-Ok-hand_over.ensures.stands p slot arrived mid has.1 in
     let still = sym (c.hangs_up.ensures p slot arrived mid now) ∙ c.if-hangs_up.false in
     let s = c.in-Ok-serve.ensures.serves p slot arrived mid now r.within in
-    let gone = c.in-Ok-speak.ensures.speaks (over s.others p) slot mid s.stands still (c.in-Ok-hand_over.ensures.given p slot arrived mid has.1) in
+    let gone =
+    c.in-Ok-speak.ensures.speaks (over s.others p) slot mid s.stands still (c.in-Ok-hand_over.ensures.given p slot arrived mid has.1) in
     let t = c.args.self.now.turn in
-    let number : c.speak.new.self.turn ≡ t + 1 = c.in-Ok-speak.ensures.turn ∙ ap (λ x. x + 1) (c.serve.ensures.turn ∙ c.hand_over.ensures.turn ∙ c.hear.ensures.turn) in
+    let number : c.speak.new.self.turn ≡ t + 1 =
+    c.in-Ok-speak.ensures.turn ∙ ap (λ x. x + 1) (c.serve.ensures.turn ∙ c.hand_over.ensures.turn ∙ c.hear.ensures.turn) in
     record {
       past = after slot gone.adds.turn gone.adds.is.is.0 (over s.others p);
       within = s.reads.within;
       after = gone.single;
       idle = c.in-Ok-speak.ensures.idle (c.in-Ok-serve.ensures.idle c.in-Ok-hand_over.ensures.idle);
       counted = subst (λ x. IsCounted c.speak.new.self.station x x) (sym number)
-          (counted-later c.speak.new.self.station (t + 1) t (c.in-Ok-speak.ensures.counted (t + 1) t (c.in-Ok-serve.ensures.counted (t + 1) t (c.in-Ok-hand_over.ensures.counted (t + 1) t c.in-Ok.ensures.counted))));
+          (counted-later c.speak.new.self.station (t + 1) t
+          (c.in-Ok-speak.ensures.counted (t + 1) t
+          (c.in-Ok-serve.ensures.counted (t + 1) t (c.in-Ok-hand_over.ensures.counted (t + 1) t c.in-Ok.ensures.counted))));
     }
 
 pub returns-in-Err-speak-clause-turn : goal.returns-in-Err-speak-clause-turn
@@ -147,7 +170,8 @@ returns-in-Err-speak-clause-turn g c = λ p h within.
     let only-d = then-only a b d n first (reads-only b d n c.serve.ensures.only) in
     let only-z = then-only a d z n only-d (trace-only d z n c.speak.ensures.only) in
     ended c.speak.new.self a d z n p slot (concat (deliveries mid)) s.others c.in-Err-speak.fault c.requires.apart only-d.goes_on
-    (adds-on a b d n (concat (deliveries mid)) c.hand_over.ensures.only (c.in-Ok-hand_over.ensures.adds p slot arrived mid has.1) c.serve.ensures.only)
+    (adds-on a b d n (concat (deliveries mid)) c.hand_over.ensures.only
+    (c.in-Ok-hand_over.ensures.adds p slot arrived mid has.1) c.serve.ensures.only)
     (keeps-on a b d n c.requires.apart c.hand_over.ensures.only c.serve.ensures.only) c.speak.ensures.only
     (others-known a b z n p.file s.others (handed mid) c.requires.apart first only-z s.reads)
     (c.in-Err-speak.ensures.speaks (over s.others p) slot mid s.stands still (c.in-Ok-hand_over.ensures.given p slot arrived mid has.1))
