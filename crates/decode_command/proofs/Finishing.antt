@@ -36,7 +36,8 @@ finishes rate tap reads samples labels octets carries least (d, waiting, j) = re
 
 -- what is read behind a line's last sample, whose labels were read so far
 abbrev pub ToEnd : {D : Type 0} → (D → List ℕ → List Bool → Type 0) → D → Bits → List ℕ → List ℕ → List ℕ → Type 0
-ToEnd reads d waiting before tail octets = (labels : List ℕ) → LabelsJoined reads d waiting labels before → ReadToEnd reads (labels ++ tail) octets
+ToEnd reads d waiting before tail octets =
+    (labels : List ℕ) → LabelsJoined reads d waiting labels before → ReadToEnd reads (labels ++ tail) octets
 
 pub finishes-trellis : (rate : Rate) (mode : Mode) (r : Reading Demodulator) (waiting : Bits) (samples : List Sample) (bits : List Bool)
     (tail before octets : List ℕ) (d : Demodulator) → ReadsAt rate mode (readers.Trellis r) samples bits → OctetsJoined waiting bits before
@@ -50,8 +51,9 @@ finishes-trellis rates.Trellis mode r waiting samples bits tail before octets d 
     (to_end f.labels (record { bits = bits; read = f.read; joined = joined }))
 finishes-trellis rates.Quarters mode r waiting samples bits tail before octets d read joined finished to_end = absurd read
 
-pub finishes-quarters : (rate : Rate) (mode : Mode) (r : Reading QuarterDemodulator) (waiting : Bits) (samples : List Sample) (bits : List Bool)
-    (tail before octets : List ℕ) (d : QuarterDemodulator) → ReadsAt rate mode (readers.Quarters r) samples bits → OctetsJoined waiting bits before
+pub finishes-quarters : (rate : Rate) (mode : Mode) (r : Reading QuarterDemodulator) (waiting : Bits) (samples : List Sample)
+    (bits : List Bool) (tail before octets : List ℕ) (d : QuarterDemodulator) → ReadsAt rate mode (readers.Quarters r) samples bits
+    → OctetsJoined waiting bits before
     → (ReadsAt rates.Quarters mode (readers.Quarters r) samples bits
     → IsFinished next_quarter quarter_of (QuarterDemodulatorStands mode) at_beginning samples bits tail d)
     → ToEnd (QuarterDemodulatorStands mode) d waiting before tail octets → Finishes rate (tap_of mode) samples octets

@@ -5,10 +5,12 @@ ghost use Rattle.decode_command.specs.Octets.{AreFew, bits_in, OctetsJoined};
 
 use std::marker::Model;
 
-/// Some bits in order, as a number that has the first one lowest.
+/// Some bits in order.
 #[derive(Clone, Copy)]
 pub(crate) struct Bits {
+    /// How many they are.
     pub count: u8,
+    /// The number whose low bits they are, the first one lowest.
     pub number: u8,
 }
 

@@ -61,7 +61,8 @@ impl RateReader {
         requires count { (decoding_of self.old).count < 2 ^ 56 }
         ensures reads { (rate : Rate) (mode : Mode) (samples : List Sample) (bits : List Bool) → ReadsAt rate mode self.old samples bits
             → ReadsAt rate mode self.new (samples ++ sample ∷ []) bits }
-        ensures answer { MatchResult result (λ _. (decoding_of self.new).lost ≡ None) (λ lost. (decoding_of self.new).lost ≡ Some lost.symbol) }
+        ensures answer { MatchResult result (λ _. (decoding_of self.new).lost ≡ None)
+            (λ lost. (decoding_of self.new).lost ≡ Some lost.symbol) }
         ensures count { (decoding_of self.new).count ≤ (decoding_of self.old).count + 1 }
     {
         match self {
@@ -74,7 +75,8 @@ impl RateReader {
     pub fn take(&mut self) -> Option<Bits>
         ensures reads { (rate : Rate) (mode : Mode) (samples : List Sample) (bits : List Bool) → ReadsAt rate mode self.old samples bits
             → ReadsAt rate mode self.new samples (bits ++ taken_bits result) }
-        ensures first { MatchOption result ((decoding_of self.old).pending ≡ []) (λ bits. AreFew bits × (length (decoding_of self.old).pending ≡ length (decoding_of self.new).pending + 1)) }
+        ensures first { MatchOption result ((decoding_of self.old).pending ≡ [])
+            (λ bits. AreFew bits × (length (decoding_of self.old).pending ≡ length (decoding_of self.new).pending + 1)) }
         ensures pending { (decoding_of self.new).pending ≡ drop 1 (decoding_of self.old).pending }
         ensures count { (decoding_of self.new).count ≡ (decoding_of self.old).count }
         ensures lost { (decoding_of self.new).lost ≡ (decoding_of self.old).lost }
