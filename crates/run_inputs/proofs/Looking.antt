@@ -8,7 +8,7 @@ use Rattle.command_base.specs.declared.status.Status.TheVariants.{BadScript, Too
 use Rattle.command_base.specs.declared.stop.Stop.{Stop}
 use Rattle.command_base.specs.declared.stop.Stop.TheVariants.{Own, Read, Write, Say, NoMemory}
 use Rattle.command_base.specs.Inputs.{IsWithin, IsLonger, IsNotWithin}
-use Rattle.command_base.specs.Stops.{IsOwn, SomeRose, ReadFails, StopCounts, EndCounts}
+use Rattle.command_base.specs.Stops.{IsOwn, SomeRose, StopCounts, EndCounts}
 use Rattle.command_base.proofs.Jobs.{stop-earlier}
 use Rattle.noise_script.specs.Script.{ScriptValue}
 use Rattle.run_inputs.specs.declared.limits.Limits.{Limits}
