@@ -7,7 +7,7 @@ use Rattle.roles.specs.Both.{Both, of}
 use Rattle.noise_script.specs.Script.{ScriptValue, IsInLimits, delay_of}
 use Rattle.slot_contents.specs.declared.arrived.Arrived.{Arrived}
 use Rattle.slot_contents.specs.declared.heard.Heard.{Heard}
-use Rattle.slot_contents.specs.declared.heard.Heard.TheVariants.{Chance}
+use Rattle.slot_contents.specs.declared.heard.Heard.TheVariants.{Nothing, Passed, Lost, Chance}
 use Rattle.link_account.specs.Account.{Account, check_of}
 use Rattle.link_account.specs.Hear.{hear}
 use Rattle.link_run.specs.Run.{Ends, Spoken, Turn, arrival, start}
@@ -29,7 +29,7 @@ use Rattle.both_sides.specs.declared.lines.LineEnd.TheVariants as ways
 use Rattle.line_world.specs.declared.world.World.{World}
 use Rattle.line_world.specs.declared.tally.Tally.{Tally}
 use Rattle.line_world.specs.World.{IsReady, WorldAfter}
-use Rattle.line_world.specs.Tally.{Tallies, IsFew}
+use Rattle.line_world.specs.Tally.{Tallies, IsFew, HearsMore}
 use Rattle.line_world.specs.Mid.{Overhears, TalliesHeard, HasHeard, IsLineEnd, turn_in}
 
 pub few-turns : NoLineRunIsLong → (w : World) → IsReady w → w.turn < 2 ^ 40
@@ -115,6 +115,22 @@ tallies-heard old new ts ends heard h e = rw e (record {
   orig = h.orig;
   answ = h.answ;
 })
+
+lost-one : (h : Heard) → lost_in h ≤ 1
+lost-one Nothing = omega arith
+lost-one (Passed s) = omega arith
+lost-one (Lost s) = omega arith
+lost-one Chance = omega arith
+
+pub hears-more : (old new : Tally) (heard : Each Heard) → new ≡ record old { lost = old.lost + lost_in heard.orig + lost_in heard.answ } → HearsMore old new
+hears-more old new heard e = rw e (record {
+  lost_low = omega arith;
+  lost_high = omega (arith, lost-one heard.orig, lost-one heard.answ);
+  again = refl;
+})
+
+pub hears-none : (t : Tally) → HearsMore t t
+hears-none t = record { lost_low = omega arith; lost_high = omega arith; again = refl }
 
 -- the line ends the run
 pub lost-so : (script : ScriptValue) (l : Lines) (ts : List Turn) (ends : Ends) (end : LineEnd)

@@ -1,5 +1,5 @@
 -- What happens to both ends between hearing and speaking.
-use Rattle.std.proofs.Common.{◌≡◌, ◌≢◌, ℕ, zero, suc, Bool, true, false, cond, List, length, drop, refl, sym, ◌∙◌, ap, subst, Option, Some, None}
+use Rattle.std.proofs.Common.{◌≡◌, ◌≢◌, ◌-◌, ℕ, zero, suc, Bool, true, false, cond, List, length, drop, refl, sym, ◌∙◌, ap, subst, Option, Some, None}
 use Rattle.outside_core.specs.Folder.{FolderState}
 use Rattle.roles.specs.declared.role.Role.{Role}
 use Rattle.roles.specs.declared.role.Role.TheVariants.{Originator, Answerer}
@@ -15,10 +15,10 @@ use Rattle.link_run.specs.Carried.{on_line}
 use Rattle.line_run.specs.Sampled.{signals}
 use Rattle.sample_line.specs.Line.{Kept, LineStands}
 use Rattle.delayed_line.specs.declared.direction.DelayedLine.{DelayedLine}
-use Rattle.delayed_line.specs.OnWay.{WaitsFor, signals_in}
+use Rattle.delayed_line.specs.OnWay.{OnWay, signals_in}
 use Rattle.both_sides.specs.declared.lines.Lines.{Lines}
-use Rattle.both_sides.specs.Lines.{LinesWait}
-use Rattle.line_world.specs.World.{HasPassed}
+use Rattle.both_sides.specs.Lines.{LinesWait, HaveArrived}
+use Rattle.line_world.specs.World.{HasPassed, HasPassedToo}
 use Rattle.both_sides.specs.declared.each.Each.{Each}
 use Rattle.slot_contents.specs.declared.heard.Heard.{Heard}
 use Rattle.both_sides.specs.Names.{Written}
@@ -92,15 +92,24 @@ served-is script files turn mid = ap (λ r. record {
     x : Account
     x = after_given (delivered mid.orig)
 
--- the slots that have passed a direction by now
-passed-by : (d : DelayedLine) (script : ScriptValue) (role : Role) (ts : List Turn) (line : Kept) → WaitsFor d (channel_of script) ts → d.sender ≡ role → line ≡ d.line → HasPassed line script role ts
-passed-by d script role ts line h sends is =
+-- the slots that have passed a direction while so many turns are on their way
+abbrev Passes : Kept → ScriptValue → Role → ℕ → List Turn → Type 0
+Passes line script role turns ts =
+    LineStands line script (signals (channel_of script) role (drop turns ts)) (signals_in (channel_of script) role (on_line turns role ts))
+
+passed-by : (d : DelayedLine) (script : ScriptValue) (role : Role) (ts : List Turn) (line : Kept) (turns : ℕ → ℕ) → OnWay d (channel_of script) (turns d.delay) ts → d.sender ≡ role → line ≡ d.line
+    → Passes line script role (turns (delay_of script role)) ts
+passed-by d script role ts line turns h sends is =
     let delay : d.delay ≡ delay_of script role = h.delay ∙ ap (delay_of script) sends in
-    subst (λ l. HasPassed l script role ts) (sym is)
-    (subst (λ k. LineStands d.line script (signals (channel_of script) role (drop k ts)) (signals_in (channel_of script) role (on_line k role ts))) delay
-    (subst (λ r. LineStands d.line script (signals (channel_of script) r (drop d.delay ts)) (signals_in (channel_of script) r (on_line d.delay r ts))) sends h.line))
+    subst (λ l. Passes l script role (turns (delay_of script role)) ts) (sym is)
+    (subst (λ k. Passes d.line script role (turns k) ts) delay (subst (λ r. Passes d.line script r (turns d.delay) ts) sends h.line))
 
 pub passed-so : (l : Lines) (script : ScriptValue) (role : Role) (ts : List Turn) (line : Kept) → LinesWait l (channel_of script) ts
     → (role ≡ Originator → line ≡ l.from_orig.line) → (role ≡ Answerer → line ≡ l.from_answ.line) → HasPassed line script role ts
-passed-so l script Originator ts line h orig answ = passed-by l.from_orig script Originator ts line h.from_orig h.orig_sends (orig refl)
-passed-so l script Answerer ts line h orig answ = passed-by l.from_answ script Answerer ts line h.from_answ h.answ_sends (answ refl)
+passed-so l script Originator ts line h orig answ = passed-by l.from_orig script Originator ts line (λ k. k) h.from_orig h.orig_sends (orig refl)
+passed-so l script Answerer ts line h orig answ = passed-by l.from_answ script Answerer ts line (λ k. k) h.from_answ h.answ_sends (answ refl)
+
+pub passed-too : (l : Lines) (script : ScriptValue) (role : Role) (ts : List Turn) (line : Kept) → HaveArrived l (channel_of script) ts
+    → (role ≡ Originator → line ≡ l.from_orig.line) → (role ≡ Answerer → line ≡ l.from_answ.line) → HasPassedToo line script role ts
+passed-too l script Originator ts line h orig answ = passed-by l.from_orig script Originator ts line (λ k. k - 1) h.from_orig h.orig_sends (orig refl)
+passed-too l script Answerer ts line h orig answ = passed-by l.from_answ script Answerer ts line (λ k. k - 1) h.from_answ h.answ_sends (answ refl)

@@ -1,5 +1,5 @@
 -- Both ends speak, and a turn is made.
-use Rattle.std.proofs.Common.{◌≡◌, ◌≢◌, ℕ, ◌+◌, ◌<◌, Bool, true, false, is_ok, List, ◌∷◌, ◌++◌, length, arith, refl, sym, ◌∙◌, ap, subst, Option, Some, None, unwrap_or, Ok, Err}
+use Rattle.std.proofs.Common.{◌≡◌, ◌≢◌, if◌then◌else◌, nat_eq, ℕ, ◌+◌, ◌%◌, ◌<◌, ◌≤◌, Bool, true, false, is_ok, List, ◌∷◌, ◌++◌, length, arith, refl, sym, ◌∙◌, ap, subst, Option, Some, None, unwrap_or, Ok, Err}
 use Rattle.std.specs.Option.{option_map}
 use Rattle.outside_core.specs.Folder.{FolderState, Appended, PartlyAppended, CountsStand}
 use Rattle.frame_check.specs.declared.check.Check.{Check}
@@ -37,8 +37,8 @@ use Rattle.line_world.specs.declared.world.World.{World}
 use Rattle.line_world.specs.declared.tally.Tally.{Tally}
 use Rattle.line_world.specs.declared.step.RunFault.{RunFault}
 use Rattle.line_world.specs.declared.step.RunFault.TheVariants as run_faults
-use Rattle.line_world.specs.Tally.{Tallies}
-use Rattle.line_world.specs.World.{WorldAfter}
+use Rattle.line_world.specs.Tally.{Tallies, HearsMore, SendsMore}
+use Rattle.line_world.specs.World.{WorldAfter, AddsNumbers}
 use Rattle.line_world.specs.Turn.{MakesTurn, IsWriting, FaultCounts}
 use Rattle.line_world.specs.Mid.{Overhears, IsToSpeak, TalliesHeard, HasGone, AddsLines, AddsPart, SpeaksLast, fault_named, served, side_of, turn_in}
 use Rattle.line_world.proofs.Hearing.{heard-in, none-sent, runs-over}
@@ -314,4 +314,38 @@ last-turn script files ts ends heard mid o closed = record {
   hearing = hears-in script files ts ends mid heard none-sent o;
   done = closed;
   silent = silent heard ends mid;
+}
+
+-- ---- what a turn may add to the numbers
+
+again-one : (ns : Option ℕ) (sent : ℕ) → again_in ns sent ≤ 1
+again-one None sent = omega arith
+again-one (Some ns) sent = by (nat_eq ns (sent % 128))
+  where
+    by : (b : Bool) → (if b then 0 else 1) ≤ 1
+    by true = omega arith
+    by false = omega arith
+
+pub sends-more : (old new : Tally) (orig answ : Option ℕ) → new.lost ≡ old.lost → new.again ≡ old.again + again_in orig old.orig + again_in answ old.answ → SendsMore old new
+sends-more old new orig answ lost again = record {
+  lost = lost;
+  again_low = omega (arith, again);
+  again_high = omega (arith, again, again-one orig old.orig, again-one answ old.answ);
+}
+
+pub sends-none : (t : Tally) → SendsMore t t
+sends-none t = record { lost = refl; again_low = omega arith; again_high = omega arith }
+
+pub adds-heard : (old new : World) → HearsMore old.tally new.tally → AddsNumbers old new
+adds-heard old new h = record { lost_low = h.lost_low; lost_high = h.lost_high; again_low = omega (arith, h.again); again_high = omega (arith, h.again) }
+
+pub adds-kept : (old mid new : World) → HearsMore old.tally mid.tally → new.tally ≡ mid.tally → AddsNumbers old new
+adds-kept old mid new h e = adds-heard old new (subst (HearsMore old.tally) (sym e) h)
+
+pub adds-sent : (old mid now new : World) → HearsMore old.tally mid.tally → now.tally ≡ mid.tally → SendsMore now.tally new.tally → AddsNumbers old new
+adds-sent old mid now new h e s = record {
+  lost_low = omega (arith, h.lost_low, ap (λ (t : Tally). t.lost) e, s.lost);
+  lost_high = omega (arith, h.lost_high, ap (λ (t : Tally). t.lost) e, s.lost);
+  again_low = omega (arith, h.again, ap (λ (t : Tally). t.again) e, s.again_low);
+  again_high = omega (arith, h.again, ap (λ (t : Tally). t.again) e, s.again_high);
 }

@@ -132,6 +132,11 @@ TurnAnswers w old new n files ts ends (Ok steps.Going) = GoesOnBy w old new n fi
 TurnAnswers w old new n files ts ends (Ok (steps.Done turn)) = DoneIn w old new n files ts ends turn
 TurnAnswers w old new n files ts ends (Err fault) = EndsBy (script_of w) old new n files ts ends fault
 
+-- how many turns were made, once a turn is answered: one more where the run goes on
+abbrev pub turns_made : ℕ → Result Step RunFault → ℕ
+turns_made turn (Ok steps.Going) = turn + 1
+turns_made turn answer = turn
+
 -- why a run ends where a call of the folder is not done: this, where it failed
 abbrev pub fault_of : RunFault → FolderFault → RunFault
 fault_of failed Failed = failed

@@ -1,5 +1,5 @@
 -- For which run a world stands: its turns so far, over two files that are known as far as they were read.
-use Rattle.std.specs.Prelude.{◌≡◌, ◌≢◌, ℕ, ◌+◌, IsTrue, List, length, drop}
+use Rattle.std.specs.Prelude.{◌≡◌, ◌≢◌, ℕ, ◌+◌, ◌-◌, ◌≤◌, IsTrue, List, length, drop}
 use Rattle.outside_core.specs.Folder.{FolderState, GoesOn, KeepsName}
 use Rattle.roles.specs.Both.{Both}
 use Rattle.noise_script.specs.Script.{ScriptValue, IsInLimits, delay_of}
@@ -59,6 +59,19 @@ pub record WorldAfter (w : World) (files : Both (List ℕ)) (ts : List Turn) (en
 abbrev pub HasPassed : Kept → ScriptValue → Role → List Turn → Type 0
 HasPassed line script role ts =
     LineStands line script (signals (channel_of script) role (drop (delay_of script role) ts)) (signals_in (channel_of script) role (on_line (delay_of script role) role ts))
+
+-- so it does for one slot more, once that of the turn after these has arrived
+abbrev pub HasPassedToo : Kept → ScriptValue → Role → List Turn → Type 0
+HasPassedToo line script role ts =
+    LineStands line script (signals (channel_of script) role (drop (delay_of script role - 1) ts))
+    (signals_in (channel_of script) role (on_line (delay_of script role - 1) role ts))
+
+-- What a turn may add to the numbers, however it is answered: both slots that are heard may be lost, and both that are sent may go again.
+pub record AddsNumbers (old new : World) : Type 0 where
+  pub lost_low : lost_of old ≤ lost_of new
+  pub lost_high : lost_of new ≤ lost_of old + 2
+  pub again_low : again_of old ≤ again_of new
+  pub again_high : again_of new ≤ again_of old + 2
 
 -- A turn may be made: the world stands for a run of some files, and what its ends took is handed over.
 pub record IsReady (w : World) : Type 0 where

@@ -9,6 +9,7 @@ ghost use Rattle.line_run.specs.Sampled as line_ends;
 ghost use Rattle.line_run.specs.Scripted.{channel_of, link_of};
 ghost use Rattle.both_sides.specs.declared.each.Each.{Each};
 ghost use Rattle.both_sides.specs.Names.{written};
+ghost use Rattle.both_sides.specs.Lines.{HaveArrived};
 ghost use Rattle.both_sides.specs.Link.{AreCounted, AreIdle, AreWithin, LinkStands};
 ghost use Rattle.outside_core.specs.Folder.{OnlyReads, OnlyWrites};
 ghost use Rattle.link_account.specs.Account.{check_of, given_break};
@@ -59,10 +60,10 @@ fn checks(link: &Link) -> Each<Check>
 
 impl World {
     ghost use Rattle.line_world.specs.declared.world.World.{World};
-    ghost use Rattle.line_world.specs.Tally.{IsFew};
-    ghost use Rattle.line_world.specs.World.{IsReady, WorldAfter, AreApart, HasPassed, OnlyOutputs, script_of, turn_of, lost_of, again_of};
+    ghost use Rattle.line_world.specs.Tally.{IsFew, HearsMore, SendsMore};
+    ghost use Rattle.line_world.specs.World.{IsReady, WorldAfter, AreApart, HasPassed, HasPassedToo, OnlyOutputs, AddsNumbers, script_of, lines_of, turn_of, lost_of, again_of};
     ghost use Rattle.line_world.specs.Mid.{AddsPart, Finishes, HearsTurn, InTurn, HandsOver, HasPart, IsToSpeak, SameBeside, Serves, SpeaksTurn, handed};
-    ghost use Rattle.line_world.specs.Turn.{EndsBy, FaultCounts, IsReading, IsWriting, TurnAnswers, TurnCounts};
+    ghost use Rattle.line_world.specs.Turn.{EndsBy, FaultCounts, IsReading, IsWriting, TurnAnswers, TurnCounts, turns_made};
 
     /// A world before its first turn. It takes all memory of its ends and its lines.
     pub fn new(alloc: Global, script: Script) -> Result<World, NoMemory>
@@ -94,6 +95,7 @@ impl World {
         ensures hears { (files : Both (List ℕ)) (ts : List Turn) (ends : Ends) → WorldAfter self.old files ts ends → HearsTurn self.new files ts ends result }
         ensures counted { OnOk result (AreCounted self.new.link (self.old.turn + 1) self.old.turn) }
         ensures few { OnOk result (IsFew self.new.tally (self.old.turn + 1) self.old.turn) }
+        ensures tally { HearsMore self.old.tally self.new.tally }
         ensures turn { self.new.turn ≡ self.old.turn }
         ensures script { self.new.script ≡ self.old.script }
     {
@@ -180,8 +182,10 @@ impl World {
         ensures idle { OnOk result (AreIdle self.old.link → AreIdle self.new.link) }
         ensures counted { OnOk result ((heard asked : ℕ) → AreCounted self.old.link heard asked → AreCounted self.new.link heard asked) }
         ensures few { OnOk result (IsFew self.new.tally (self.old.turn + 1) (self.old.turn + 1)) }
+        ensures tally { SendsMore self.old.tally self.new.tally }
         ensures script { self.new.script ≡ self.old.script }
         ensures turn { OnOk result (self.new.turn ≡ self.old.turn + 1) }
+        ensures halts { OnErr result (self.new.turn ≡ self.old.turn) }
         ensures only { OnlyWrites (F.state folder.old) (F.state folder.new) (written names.now).trace }
         ensures counts { TurnCounts (F.state folder.old) (F.state folder.new) (written names.now) result }
     {
@@ -278,7 +282,8 @@ impl World {
             → TurnAnswers self.new (F.state folder.old) (F.state folder.new) (written names.now) files ts ends result }
         ensures script { script_of self.new ≡ script_of self.old }
         ensures ready { result ≡ Ok Step.Going → IsReady self.new }
-        ensures number { result ≡ Ok Step.Going → turn_of self.new ≡ turn_of self.old + 1 }
+        ensures number { turn_of self.new ≡ turns_made (turn_of self.old) result }
+        ensures tally { AddsNumbers self.old self.new }
 
         // It touches the outputs alone, and a fault has its cause.
         ensures only { OnlyOutputs (F.state folder.old) (F.state folder.new) (written names.now) }
@@ -316,9 +321,10 @@ impl World {
     }
 
     /// The direction in which this role sends. Its decoder has heard the samples of exactly the slots that have arrived, also of those that the
-    /// script loses.
+    /// script loses, and also once the run is done.
     pub fn line(&self, role: Role) -> &Line
-        ensures { (files : Both (List ℕ)) (ts : List Turn) (ends : Ends) → WorldAfter self.now files ts ends → HasPassed result.now (script_of self.now) role ts }
+        ensures passed { (files : Both (List ℕ)) (ts : List Turn) (ends : Ends) → WorldAfter self.now files ts ends → HasPassed result.now (script_of self.now) role ts }
+        ensures arrived { (ts : List Turn) → HaveArrived (lines_of self.now) (channel_of (script_of self.now)) ts → HasPassedToo result.now (script_of self.now) role ts }
     {
         self.lines.line(role)
     }

@@ -15,7 +15,7 @@ use Rattle.roles.specs.declared.role.Role.{Role}
 use Rattle.command_base.proofs.Saying.{Said-Said, Said-PartlySaid}
 use Rattle.piece_listener.specs.declared.reading.Reading.{Reading}
 use Rattle.piece_listener.specs.Readings.{Reads, AreLines, reading_line}
-use Rattle.piece_listener.specs.Heard.{Listening, Heard, PartlyHeard}
+use Rattle.piece_listener.specs.Heard.{Listening, Heard, PartlyHeard, LeftAt}
 use Rattle.piece_listener.proofs.PieceLines.{AreLines-more}
 
 -- what is found at the last of the bits, where a piece is answered there
@@ -107,16 +107,20 @@ heard-some start now new l next bits bit piece reading h f r stands sender piece
   count = pieces ∙ ap (λ n. n + 1) h.count ∙ sym (length-append (pieces_of bits) (f.found ∷ [])) ∙ sym (ap length (piece-more bits bit piece f));
 }
 
--- and where the say failed
-pub partly-some : (start now new : FolderState) (l : Listening) (bits : List Bool) (bit : Bool) (piece : Piece) (reading : Reading) → Heard start now l bits → (f : FoundThere (bits ++ bit ∷ []) piece) →
-    Reads l.sender f.found reading → PartlySaid now new (reading_line reading) → PartlyHeard start new l.sender (bits ++ bit ∷ [])
-partly-some start now new l bits bit piece reading h f r said = record {
-  heard = bits ++ bit ∷ [];
-  rest = [];
-  bits_are = sym (append-nil (bits ++ bit ∷ []));
-  lines = h.lines ++ reading_line reading;
-  are_lines = lines-more start now l bits bit piece reading h f r;
-  said = Said-PartlySaid start now new h.lines (reading_line reading) h.said said;
+-- and where the say failed: the listener stands for all of these bits
+pub left-some : (start now new : FolderState) (l next : Listening) (bits : List Bool) (bit : Bool) (piece : Piece) (reading : Reading) → Heard start now l bits → (f : FoundThere (bits ++ bit ∷ []) piece) →
+    Reads l.sender f.found reading → DeframerStands next.deframer (bits ++ bit ∷ []) → next.sender ≡ l.sender → next.pieces ≡ l.pieces + 1 → PartlySaid now new (reading_line reading) → LeftAt start new next (bits ++ bit ∷ [])
+left-some start now new l next bits bit piece reading h f r stands sender pieces said = record {
+  part = record {
+    heard = bits ++ bit ∷ [];
+    rest = [];
+    bits_are = sym (append-nil (bits ++ bit ∷ []));
+    lines = h.lines ++ reading_line reading;
+    are_lines = subst (λ (role : Role). AreLines role (pieces_of (bits ++ bit ∷ [])) (h.lines ++ reading_line reading)) (sym sender) (lines-more start now l bits bit piece reading h f r);
+    said = Said-PartlySaid start now new h.lines (reading_line reading) h.said said;
+  };
+  stands = stands;
+  count = pieces ∙ ap (λ n. n + 1) h.count ∙ sym (length-append (pieces_of bits) (f.found ∷ [])) ∙ sym (ap length (piece-more bits bit piece f));
 }
 
 -- of more bits too some were heard
@@ -129,6 +133,11 @@ partly-longer start now sender bits more all e h = record {
   are_lines = h.are_lines;
   said = h.said;
 }
+
+-- a fault leaves the listener at some of more bits too
+pub left-longer : (start now : FolderState) (l : Listening) (bits more all : List Bool) → bits ++ more ≡ all → LeftAt start now l bits → LeftAt start now l all
+unfolding partly-longer
+left-longer start now l bits more all e h = record { part = partly-longer start now l.sender bits more all e h.part; stands = h.stands; count = h.count }
 
 -- the low bits of an octet up to a place, and one more
 pub bit-more : (bits : List Bool) (n count i : ℕ) → i < count → (bits ++ take i (low_bits count n)) ++ nat_eq (bit_and (n / 2 ^ i) 1) 1 ∷ [] ≡ bits ++ take (i + 1) (low_bits count n)

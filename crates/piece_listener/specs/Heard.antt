@@ -28,3 +28,9 @@ pub record PartlyHeard (start now : FolderState) (sender : Role) (bits : List Bo
   pub lines : List ℕ
   pub are_lines : AreLines sender (pieces_of heard) lines
   pub said : PartlySaid start now lines
+
+-- So it is left by a fault: it stands for the bits that were heard, and has counted their pieces.
+pub record LeftAt (start now : FolderState) (listener : Listening) (bits : List Bool) : Type 0 where
+  pub part : PartlyHeard start now listener.sender bits
+  pub stands : DeframerStands listener.deframer part.heard
+  pub count : listener.pieces ≡ length (pieces_of part.heard)

@@ -3,7 +3,7 @@ ghost use Rattle.std.specs.Prelude.{◌≡◌, ◌≤◌, ◌<◌, ◌+◌, ◌*
 ghost use Rattle.outside_core.specs.Folder.{FolderState, OnlySays, CountsStand};
 ghost use Rattle.plain_lists.specs.Bits.{low_bits, octet_bits, bits_of};
 ghost use Rattle.command_base.specs.Stops.{SayFails};
-ghost use Rattle.piece_listener.specs.Heard.{Heard, PartlyHeard};
+ghost use Rattle.piece_listener.specs.Heard.{Heard, PartlyHeard, LeftAt};
 
 use crate::lines::write_reading;
 use crate::reading::read_piece;
@@ -55,8 +55,8 @@ impl Listener {
         requires { self.old.pieces < 2 ^ 63 }
         ensures ok { (start : FolderState) (bits : List Bool) → Heard start (F.state folder.old) self.old bits
             → OnOk result (Heard start (F.state folder.new) self.new (bits ++ bit ∷ [])) }
-        ensures err { (start : FolderState) (bits : List Bool) → Heard start (F.state folder.old) self.old bits
-            → OnErr result (PartlyHeard start (F.state folder.new) self.old.sender (bits ++ bit ∷ [])) }
+        ensures left { (start : FolderState) (bits : List Bool) → Heard start (F.state folder.old) self.old bits
+            → OnErr result (LeftAt start (F.state folder.new) self.new (bits ++ bit ∷ [])) }
         ensures only { OnlySays (F.state folder.old) (F.state folder.new) }
         ensures fails { IfErr result (SayFails (F.state folder.old) (F.state folder.new)) }
         ensures stand { OnOk result (CountsStand (F.state folder.old) (F.state folder.new)) }
@@ -86,6 +86,8 @@ impl Listener {
             → OnOk result (Heard start (F.state folder.new) self.new (bits ++ low_bits count octet)) }
         ensures err { (start : FolderState) (bits : List Bool) → Heard start (F.state folder.old) self.old bits
             → OnErr result (PartlyHeard start (F.state folder.new) self.old.sender (bits ++ low_bits count octet)) }
+        ensures left { (start : FolderState) (bits : List Bool) → Heard start (F.state folder.old) self.old bits
+            → OnErr result (LeftAt start (F.state folder.new) self.new (bits ++ low_bits count octet)) }
         ensures only { OnlySays (F.state folder.old) (F.state folder.new) }
         ensures fails { IfErr result (SayFails (F.state folder.old) (F.state folder.new)) }
         ensures stand { OnOk result (CountsStand (F.state folder.old) (F.state folder.new)) }
@@ -106,8 +108,8 @@ impl Listener {
         requires { self.old.pieces < 2 ^ 62 }
         ensures ok { (start : FolderState) (bits : List Bool) → Heard start (F.state folder.old) self.old bits
             → OnOk result (Heard start (F.state folder.new) self.new (bits ++ octet_bits octet)) }
-        ensures err { (start : FolderState) (bits : List Bool) → Heard start (F.state folder.old) self.old bits
-            → OnErr result (PartlyHeard start (F.state folder.new) self.old.sender (bits ++ octet_bits octet)) }
+        ensures left { (start : FolderState) (bits : List Bool) → Heard start (F.state folder.old) self.old bits
+            → OnErr result (LeftAt start (F.state folder.new) self.new (bits ++ octet_bits octet)) }
         ensures only { OnlySays (F.state folder.old) (F.state folder.new) }
         ensures fails { IfErr result (SayFails (F.state folder.old) (F.state folder.new)) }
         ensures stand { OnOk result (CountsStand (F.state folder.old) (F.state folder.new)) }
@@ -139,6 +141,8 @@ impl Listener {
             → OnOk result (Heard start (F.state folder.new) self.new (bits ++ bits_of octets.now)) }
         ensures err { (start : FolderState) (bits : List Bool) → Heard start (F.state folder.old) self.old bits
             → OnErr result (PartlyHeard start (F.state folder.new) self.old.sender (bits ++ bits_of octets.now)) }
+        ensures left { (start : FolderState) (bits : List Bool) → Heard start (F.state folder.old) self.old bits
+            → OnErr result (LeftAt start (F.state folder.new) self.new (bits ++ bits_of octets.now)) }
         ensures only { OnlySays (F.state folder.old) (F.state folder.new) }
         ensures fails { IfErr result (SayFails (F.state folder.old) (F.state folder.new)) }
         ensures stand { OnOk result (CountsStand (F.state folder.old) (F.state folder.new)) }

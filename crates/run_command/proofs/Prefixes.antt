@@ -142,7 +142,7 @@ both-own laws old before n answer g e = absurd e
 both-by : RunLaws → (old before : FolderState) (n : RunNames) (stop : Stop) → GoesOn old before → EndsBy LIMITS old before n stop → BothPrefix old before n
 both-by laws old before n (stops.Own answer) g (inl refused) = both-kept old before n refused.0
 both-by laws old before n (stops.Own answer) g (inr e) = both-own laws old before n answer g e
-both-by laws old before n (stops.Read fault) g (inl kept) = both-kept old before n kept
+both-by laws old before n (stops.Read fault) g (inl refused) = both-kept old before n refused.0
 both-by laws old before n (stops.Read fault) g (inr e) = both-stopped laws old before n g e
 both-by laws old before n stops.NoMemory g e = both-kept old before n e.0
 both-by laws old before n (stops.Write fault) g (inl c) = both-creating old before n g c.creates

@@ -26,9 +26,9 @@ use Rattle.run_command.specs.Turns.{names_written, RunEnds, RunStops, FaultEnds}
 use Rattle.run_command.specs.Ends.{IsBegun, Takes, RanTo, StopsInTurn, StopsCreating, EndsBy, fault_stop}
 
 -- the inputs were not taken
-pub ends-refused : (l : Limits) (old new : FolderState) (n : RunNames) (stop : Stop) → OnlyReads old new → Refuses l old n stop → EndsBy l old new n stop
+pub ends-refused : (l : Limits) (old new : FolderState) (n : RunNames) (stop : Stop) → OnlyReads old new → Refuses l old new n stop → EndsBy l old new n stop
 ends-refused l old new n (stops.Own answer) reads r = inl (reads.names, r)
-ends-refused l old new n (stops.Read fault) reads r = inl reads.names
+ends-refused l old new n (stops.Read fault) reads r = inl (reads.names, r)
 ends-refused l old new n stops.NoMemory reads r = (reads.names, r)
 ends-refused l old new n (stops.Write fault) reads never = absurd never
 ends-refused l old new n (stops.Say fault) reads never = never

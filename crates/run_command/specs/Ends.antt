@@ -22,7 +22,7 @@ use Rattle.command_base.specs.Outputs.{KeepsAll, SaysNothing, CreatesPart}
 use Rattle.run_inputs.specs.declared.limits.Limits.{Limits}
 use Rattle.run_inputs.specs.declared.limits.TheConstants.{LIMITS}
 use Rattle.run_inputs.specs.Words.{RunNames, inputs_of, outputs_of}
-use Rattle.run_inputs.specs.Inputs.{Opens, RefusesOwn}
+use Rattle.run_inputs.specs.Inputs.{Opens, RefusesOwn, FailsToRead}
 use Rattle.run_command.specs.Turns.{names_written, HoldLeft, StopsAfter}
 
 -- The inputs were opened, and nothing else was done: they are within their limits, and this is the script.
@@ -72,7 +72,7 @@ RanBy l old new n answer = ⊥
 -- why a run stops with less than both files: for its inputs, before any output is created, for what becomes of it, or for the folder
 abbrev pub EndsBy : Limits → FolderState → FolderState → RunNames → Stop → Type 0
 EndsBy l old new n (Own answer) = (KeepsAll old new × RefusesOwn l old n answer) ⊎ RanBy l old new n answer
-EndsBy l old new n (Read fault) = KeepsAll old new ⊎ StopsInTurn l old new n
+EndsBy l old new n (Read fault) = (KeepsAll old new × FailsToRead l old new n fault) ⊎ StopsInTurn l old new n
 EndsBy l old new n (Write fault) = StopsCreating l old new n ⊎ StopsInTurn l old new n
 EndsBy l old new n (Say fault) = ⊥
 EndsBy l old new n NoMemory = KeepsAll old new × IsWithin old n.script l.script

@@ -2,13 +2,20 @@
 use Rattle.std.proofs.Common.{inl, inr, ℕ, ◌+◌, ◌<◌, ◌≤◌, List, [], ◌∷◌, length, Result, Ok, Err, OnOk, refl, sym, subst}
 use Rattle.outside_core.specs.Folder.{FolderState, OnlyReads, CountsStand}
 use Rattle.outside_core.specs.Steps.{octets-kept, told_later, CountsStand-trans}
+use Rattle.outside_core.specs.declared.folder.FolderFault.{FolderFault}
 use Rattle.outside_core.specs.declared.folder.FolderFault.TheVariants as folder
+use Rattle.command_base.specs.declared.status.Status.TheVariants.{BadScript, TooLong}
 use Rattle.command_base.specs.declared.stop.Stop.{Stop}
 use Rattle.command_base.specs.declared.stop.Stop.TheVariants.{Own, Read, Write, Say, NoMemory}
 use Rattle.command_base.specs.Inputs.{IsWithin, IsLonger, IsNotWithin}
 use Rattle.command_base.specs.Stops.{IsOwn, SomeRose, StopCounts, EndCounts}
 use Rattle.command_base.proofs.Jobs.{stop-earlier}
-use Rattle.run_inputs.specs.Lengths.{AreWithin, IsFirstLong, RefusesLengths}
+use Rattle.noise_script.specs.Script.{ScriptValue}
+use Rattle.run_inputs.specs.declared.limits.Limits.{Limits}
+use Rattle.run_inputs.specs.Words.{RunNames, files_of}
+use Rattle.run_inputs.specs.Lengths.{AreWithin, IsFirstLong, FailsInOrder, RefusesLengths}
+use Rattle.run_inputs.specs.Scripts.{ReadsScript, RefusesScript}
+use Rattle.run_inputs.specs.Inputs.{RefusesOwn, Refuses}
 
 -- ---- a look changes nothing
 
@@ -34,18 +41,26 @@ first-kept old mid (name ∷ names) limit place word r (inr long) =
 
 -- ---- the first is within its limit, and one behind it is not
 
-pub refused-later : (old mid : FolderState) (name : List ℕ) (names : List (List ℕ)) (limit place : ℕ) (stop : Stop) → OnlyReads old mid
-    → IsWithin old name limit → RefusesLengths limit mid (place + 1) names stop → RefusesLengths limit old place (name ∷ names) stop
-refused-later old mid name names limit place (Own answer) r w long =
+fails-kept : (old mid new : FolderState) (names : List (List ℕ)) (limit : ℕ) (fault : FolderFault) → OnlyReads old mid → CountsStand old mid
+    → FailsInOrder limit mid new names fault → FailsInOrder limit old new names fault
+fails-kept old mid new [] limit fault r stand never = never
+fails-kept old mid new (name ∷ names) limit fault r stand (inl fails) = inl (stop-earlier old mid new (name ∷ []) [] (Read fault) stand fails)
+fails-kept old mid new (name ∷ names) limit fault r stand (inr fails) =
+    inr (within-kept old mid name limit r fails.0, fails-kept old mid new names limit fault r stand fails.1)
+
+pub refused-later : (old mid new : FolderState) (name : List ℕ) (names : List (List ℕ)) (limit place : ℕ) (stop : Stop) → OnlyReads old mid
+    → CountsStand old mid → IsWithin old name limit → RefusesLengths limit mid new (place + 1) names stop
+    → RefusesLengths limit old new place (name ∷ names) stop
+refused-later old mid new name names limit place (Own answer) r stand w long =
     record {
       word = long.word;
       answer_is = long.answer_is;
       first = inr (w, first-kept old mid names limit (place + 1) long.word r long.first);
     }
-refused-later old mid name names limit place (Read fault) r w why = tt
-refused-later old mid name names limit place (Write fault) r w why = why
-refused-later old mid name names limit place (Say fault) r w why = why
-refused-later old mid name names limit place NoMemory r w why = why
+refused-later old mid new name names limit place (Read fault) r stand w why = inr (w, fails-kept old mid new names limit fault r stand why)
+refused-later old mid new name names limit place (Write fault) r stand w why = why
+refused-later old mid new name names limit place (Say fault) r stand w why = why
+refused-later old mid new name names limit place NoMemory r stand w why = why
 
 -- what was counted of some inputs was counted of all that have them among them
 of-more : (old new : FolderState) (names more outputs : List (List ℕ)) (stop : Stop)
@@ -74,10 +89,10 @@ within-all old mid name names limit (Err stop) r w within = tt
 -- ---- the first is not within its limit
 
 pub refused-first : (old new : FolderState) (name : List ℕ) (names : List (List ℕ)) (limit place : ℕ) (stop : Stop)
-    → IsNotWithin old new name limit place stop → RefusesLengths limit old place (name ∷ names) stop
+    → IsNotWithin old new name limit place stop → RefusesLengths limit old new place (name ∷ names) stop
 refused-first old new name names limit place (Own answer) (is, longer, stand) =
     record { word = place; answer_is = is; first = inl (refl, longer) }
-refused-first old new name names limit place (Read fault) why = tt
+refused-first old new name names limit place (Read fault) why = inl why
 refused-first old new name names limit place (Write fault) why = absurd why
 refused-first old new name names limit place (Say fault) why = absurd why
 refused-first old new name names limit place NoMemory why = absurd why
@@ -116,3 +131,26 @@ counts-files old mid new orig answ script outputs stop stand counts =
     among (inl rose) = inl rose
     among (inr (inl rose)) = inr (inl rose)
     among (inr (inr never)) = absurd never
+
+-- the script was not taken
+pub refused-script : (l : Limits) (old new : FolderState) (n : RunNames) (stop : Stop) → RefusesScript l.script old n.script 3 stop
+    → StopCounts old new (n.script ∷ []) [] stop → Refuses l old new n stop
+refused-script l old new n (Own (TooLong word)) why counts = inl why
+refused-script l old new n (Own (BadScript line cause)) why counts = why
+refused-script l old new n (Own answer) why counts = absurd why
+refused-script l old new n (Read fault) why counts = inl counts
+refused-script l old new n (Write fault) why counts = absurd why
+refused-script l old new n (Say fault) why counts = absurd why
+refused-script l old new n NoMemory why counts = why
+
+-- it was, and a file was not
+pub refused-files : (l : Limits) (old mid new : FolderState) (n : RunNames) (script : ScriptValue) (stop : Stop) → OnlyReads old mid → CountsStand old mid
+    → ReadsScript l.script old n.script script → RefusesLengths l.file mid new 1 (files_of n) stop → Refuses l old new n stop
+refused-files l old mid new n script (Own answer) r stand reads long =
+    subst (RefusesOwn l old n) (sym long.answer_is)
+    (inr (record { script = script; reads = reads; first = first-kept old mid (files_of n) l.file 1 long.word r long.first }))
+refused-files l old mid new n script (Read fault) r stand reads why =
+    inr (record { script = script; reads = reads; fails = fails-kept old mid new (files_of n) l.file fault r stand why })
+refused-files l old mid new n script (Write fault) r stand reads why = absurd why
+refused-files l old mid new n script (Say fault) r stand reads why = absurd why
+refused-files l old mid new n script NoMemory r stand reads why = absurd why

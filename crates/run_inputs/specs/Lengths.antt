@@ -1,11 +1,13 @@
 -- Which files are short enough, and which one is not. What is said of a file holds where the folder tells its name.
 use Rattle.std.specs.Prelude.{◌≡◌, ◌⊎◌, ℕ, ◌+◌, List, [], ◌∷◌}
 use Rattle.outside_core.specs.Folder.{FolderState}
+use Rattle.outside_core.specs.declared.folder.FolderFault.{FolderFault}
 use Rattle.command_base.specs.Inputs.{IsWithin, IsLonger}
 use Rattle.command_base.specs.declared.status.Status.{Status}
 use Rattle.command_base.specs.declared.status.Status.TheVariants.{TooLong}
 use Rattle.command_base.specs.declared.stop.Stop.{Stop}
 use Rattle.command_base.specs.declared.stop.Stop.TheVariants.{Own, Read}
+use Rattle.command_base.specs.Stops.{ReadFails}
 
 -- each of these files is within the limit
 abbrev pub AreWithin : ℕ → FolderState → List (List ℕ) → Type 0
@@ -24,8 +26,14 @@ pub record NamesFirstLong (limit : ℕ) (f : FolderState) (place : ℕ) (names :
   pub answer_is : answer ≡ TooLong word
   pub first : IsFirstLong limit f place names word
 
+-- one of these files was not read, and those before it are within the limit
+abbrev pub FailsInOrder : ℕ → FolderState → FolderState → List (List ℕ) → FolderFault → Type 0
+FailsInOrder limit old new [] fault = ⊥
+FailsInOrder limit old new (name ∷ names) fault =
+    ReadFails old new (name ∷ []) fault ⊎ (IsWithin old name limit × FailsInOrder limit old new names fault)
+
 -- why they are not taken: no memory is wanted
-abbrev pub RefusesLengths : ℕ → FolderState → ℕ → List (List ℕ) → Stop → Type 0
-RefusesLengths limit f place names (Own answer) = NamesFirstLong limit f place names answer
-RefusesLengths limit f place names (Read fault) = Unit {0}
-RefusesLengths limit f place names stop = ⊥
+abbrev pub RefusesLengths : ℕ → FolderState → FolderState → ℕ → List (List ℕ) → Stop → Type 0
+RefusesLengths limit old new place names (Own answer) = NamesFirstLong limit old place names answer
+RefusesLengths limit old new place names (Read fault) = FailsInOrder limit old new names fault
+RefusesLengths limit old new place names stop = ⊥

@@ -30,7 +30,7 @@ pub fn open_inputs<F: Folder>(
 ) -> Result<Script, Stop>
     requires { limits.script ≤ SCRIPT_OCTETS }
     ensures opened { IfOk result (Opens limits (F.state folder.old) (named words.now)) }
-    ensures refused { IfErr result (Refuses limits (F.state folder.old) (named words.now)) }
+    ensures refused { IfErr result (Refuses limits (F.state folder.old) (F.state folder.new) (named words.now)) }
     ensures reads { OnlyReads (F.state folder.old) (F.state folder.new) }
     ensures counts { (outputs : List (List ℕ)) → EndCounts (F.state folder.old) (F.state folder.new) (inputs_of (named words.now)) outputs result }
 {

@@ -17,7 +17,7 @@ pub fn check_lengths<F: Folder>(
 ) -> Result<(), Stop>
     requires { word + length names.now < 2 ^ 32 }
     ensures within { OnOk result (AreWithin limit (F.state folder.old) (map (λ name. name.now) names.now)) }
-    ensures refused { IfErr result (RefusesLengths limit (F.state folder.old) word (map (λ name. name.now) names.now)) }
+    ensures refused { IfErr result (RefusesLengths limit (F.state folder.old) (F.state folder.new) word (map (λ name. name.now) names.now)) }
     ensures reads { OnlyReads (F.state folder.old) (F.state folder.new) }
     ensures counts { (outputs : List (List ℕ)) → EndCounts (F.state folder.old) (F.state folder.new) (map (λ name. name.now) names.now) outputs result }
 {

@@ -1,7 +1,23 @@
+use Rattle.std.proofs.Common.{[]}
 use Rattle.outside_core.specs.Folder.{FolderState}
 use Rattle.outside_core.specs.Steps.{CountsStand-trans}
-use Rattle.run_inputs.proofs.Looking.{counts-script, counts-files}
+use Rattle.run_inputs.specs.Words.{named}
+use Rattle.run_inputs.proofs.Looking.{counts-script, counts-files, refused-script, refused-files}
 use Rattle.run_inputs.proofs.inputs.open_inputs.Goals as goal
+
+pub returns-in-Err-clause-refused : goal.returns-in-Err-clause-refused
+returns-in-Err-clause-refused g c =
+    let old : FolderState = g.F.Folder.state c.args.folder.now in
+    let new : FolderState = g.F.Folder.state c.open_script.new.folder in
+    refused-script c.args.limits old new (named c.args.words.now) c.in-Err.stop c.in-Err.ensures.refused (c.in-Err.ensures.counts [])
+
+pub returns-in-Err-check_lengths-clause-refused : goal.returns-in-Err-check_lengths-clause-refused
+returns-in-Err-check_lengths-clause-refused g c =
+    let old : FolderState = g.F.Folder.state c.args.folder.now in
+    let mid : FolderState = g.F.Folder.state c.open_script.new.folder in
+    let new : FolderState = g.F.Folder.state c.check_lengths.new.folder in
+    refused-files c.args.limits old mid new (named c.args.words.now) c.in-Ok.script c.in-Err-check_lengths.stop c.in-Ok.ensures.reads
+    (c.in-Ok.ensures.counts []) c.in-Ok.ensures.opened c.in-Err-check_lengths.ensures.refused
 
 pub returns-in-Err-clause-counts : goal.returns-in-Err-clause-counts
 returns-in-Err-clause-counts g c = λ outputs.

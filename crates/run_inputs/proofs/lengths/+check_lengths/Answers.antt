@@ -25,12 +25,13 @@ pub returns-in-Ok-clause-refused : goal.returns-in-Ok-clause-refused
 returns-in-Ok-clause-refused g t c =
     let old : FolderState = g.F.Folder.state c.args.folder.now in
     let mid : FolderState = g.F.Folder.state c.within_limit.new.folder in
+    let new : FolderState = g.F.Folder.state c.check_lengths.new.folder in
     let name : List ℕ = c.in-Some.name.now.now in
     let names : List (List ℕ) = texts c.in-Some.others.now in
     let e : texts c.args.names.now ≡ name ∷ names = ap texts c.in-Some.ensures.cases.0 in
-    if-err-map {P = RefusesLengths c.args.limit mid (c.args.word + 1) names} c.check_lengths.result
-    (λ (stop : Stop) why. subst (λ (all : List (List ℕ)). RefusesLengths c.args.limit old c.args.word all stop) (sym e)
-    (refused-later old mid name names c.args.limit c.args.word stop c.within_limit.ensures.reads c.in-Ok.ensures.within why))
+    if-err-map {P = RefusesLengths c.args.limit mid new (c.args.word + 1) names} c.check_lengths.result
+    (λ (stop : Stop) why. subst (λ (all : List (List ℕ)). RefusesLengths c.args.limit old new c.args.word all stop) (sym e)
+    (refused-later old mid new name names c.args.limit c.args.word stop c.within_limit.ensures.reads c.in-Ok.ensures.stand c.in-Ok.ensures.within why))
     c.check_lengths.ensures.refused
 
 pub returns-in-Ok-clause-counts : goal.returns-in-Ok-clause-counts

@@ -3,7 +3,7 @@ use Rattle.line_run.specs.Scripted.{channel_of}
 use Rattle.both_sides.specs.Link.{HearsWell}
 use Rattle.both_sides.specs.Lines.{ArrivesBoth}
 use Rattle.link_run.specs.Run.{arrival}
-use Rattle.line_world.proofs.Hearing.{HearingLaws, hears-well, has-heard, tallies-heard, lost-so}
+use Rattle.line_world.proofs.Hearing.{HearingLaws, hears-well, has-heard, tallies-heard, hears-more, hears-none, lost-so}
 use Rattle.line_world.proofs.world.World.hear.Goals as goal
 
 pub returns-in-Err-clause-hears : goal.returns-in-Err-clause-hears
@@ -53,3 +53,9 @@ returns-clause-hears c = λ files ts ends h.
       hears = c.hear-2.ensures.hears files ends h.link so;
     })
     (tallies-heard c.args.self.now.tally c.hear.new.self ts ends c.in-Ok.heard h.tally c.hear.ensures)
+
+pub returns-in-Err-clause-tally : goal.returns-in-Err-clause-tally
+returns-in-Err-clause-tally c = hears-none c.args.self.now.tally
+
+pub returns-clause-tally : goal.returns-clause-tally
+returns-clause-tally c = hears-more c.args.self.now.tally c.hear.new.self c.in-Ok.heard c.hear.ensures

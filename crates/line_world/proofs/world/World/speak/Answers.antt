@@ -2,13 +2,14 @@ use Rattle.std.proofs.Common.{◌≡◌, ◌+◌, List, length, refl, sym, ◌�
 use Rattle.outside_core.specs.Folder.{Appended, PartlyAppended}
 use Rattle.slot_contents.specs.declared.sent.Sent.{Sent}
 use Rattle.link_account.specs.Account.{check_of}
+use Rattle.link_run.specs.Counts.{sequence_in}
 use Rattle.link_run.specs.Run.{spoken}
 use Rattle.link_run.specs.Outcomes.{Outcome, Going, Broken}
 use Rattle.both_sides.specs.Names.{written}
 use Rattle.both_sides.specs.Link.{SaysBoth}
 use Rattle.line_world.specs.Mid.{served, turn_in}
 use Rattle.line_world.proofs.Hearing.{none-sent}
-use Rattle.line_world.proofs.Speaking.{SpokenTurn, GoingLaws, CountsSent, sent_by, ends_of, spoken-turn, broken-turn, text-is, taken-back, all-codable, goes-on, ends-so, counts-so, stops-so, adds-part}
+use Rattle.line_world.proofs.Speaking.{SpokenTurn, GoingLaws, CountsSent, sent_by, ends_of, spoken-turn, broken-turn, text-is, taken-back, all-codable, goes-on, ends-so, counts-so, stops-so, adds-part, sends-more, sends-none}
 use Rattle.line_world.proofs.world.World.speak.Goals as goal
 
 -- the turn that both ends' words make
@@ -154,3 +155,17 @@ returns-in-Err-write_turn-2-clause-speaks g c = λ files ts ends mid h go ga.
     stops-so script f new n files ts ends mid c.in-Err-write_turn-2.fault c.in-Err-write_turn-2.ensures.write
     (adds-part script f new n files ts ends c.args.heard mid none-sent (Broken role fault) o b
     (subst (PartlyAppended f new n.trace) text c.in-Err-write_turn-2.ensures.err))
+
+pub returns-in-Err-write_turn-clause-tally : goal.returns-in-Err-write_turn-clause-tally
+returns-in-Err-write_turn-clause-tally g c =
+    sends-more c.args.self.now.tally c.send.new.self (sequence_in c.in-Ok.sent.orig) (sequence_in c.in-Ok.sent.answ) c.send.ensures.lost c.send.ensures.again
+
+pub returns-in-Ok-write_turn-clause-tally : goal.returns-in-Ok-write_turn-clause-tally
+returns-in-Ok-write_turn-clause-tally g c =
+    sends-more c.args.self.now.tally c.send.new.self (sequence_in c.in-Ok.sent.orig) (sequence_in c.in-Ok.sent.answ) c.send.ensures.lost c.send.ensures.again
+
+pub returns-in-Ok-write_turn-2-clause-tally : goal.returns-in-Ok-write_turn-2-clause-tally
+returns-in-Ok-write_turn-2-clause-tally g c = sends-none c.args.self.now.tally
+
+pub returns-in-Err-write_turn-2-clause-tally : goal.returns-in-Err-write_turn-2-clause-tally
+returns-in-Err-write_turn-2-clause-tally g c = sends-none c.args.self.now.tally

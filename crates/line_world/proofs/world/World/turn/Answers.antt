@@ -9,6 +9,7 @@ use Rattle.line_world.specs.Mid.{IsLineEnd, handed}
 use Rattle.line_world.specs.Turn.{EndsBy, GoesOnBy}
 use Rattle.line_world.proofs.Serving.{phase-delivered}
 use Rattle.line_world.proofs.Folders.{then-only, reads-only, lines-only, counts-later, delivered-kept, stay-known, others-known}
+use Rattle.line_world.proofs.Speaking.{adds-heard, adds-kept, adds-sent}
 use Rattle.line_world.proofs.Turning.{MakingLaws, writing-ends, reading-ends, stops-handing, stops-reading, stops-writing, done-in, speaks-last, goes-on-by, ready-on}
 use Rattle.line_world.proofs.world.World.turn.Goals as goal
 
@@ -228,3 +229,51 @@ returns-in-Err-speak-clause-only g c =
 pub returns-in-Err-speak-clause-counts : goal.returns-in-Err-speak-clause-counts
 returns-in-Err-speak-clause-counts g c =
     counts-later (g.F.Folder.state c.args.folder.now) (g.F.Folder.state c.serve.new.folder) (g.F.Folder.state c.speak.new.folder) (written c.args.names.now) c.in-Err-speak.fault (CountsStand-trans c.in-Ok-hand_over.ensures.counts c.in-Ok-serve.ensures.counts) c.in-Err-speak.ensures.counts
+
+pub returns-in-Err-Lost-clause-number : goal.returns-in-Err-Lost-clause-number
+returns-in-Err-Lost-clause-number g c = c.hear.ensures.turn
+
+pub returns-in-Err-Lost-clause-tally : goal.returns-in-Err-Lost-clause-tally
+returns-in-Err-Lost-clause-tally g c = adds-heard c.args.self.now c.hear.new.self c.hear.ensures.tally
+
+pub returns-in-Err-Chance-clause-number : goal.returns-in-Err-Chance-clause-number
+returns-in-Err-Chance-clause-number g c = c.hear.ensures.turn
+
+pub returns-in-Err-Chance-clause-tally : goal.returns-in-Err-Chance-clause-tally
+returns-in-Err-Chance-clause-tally g c = adds-heard c.args.self.now c.hear.new.self c.hear.ensures.tally
+
+pub returns-in-Err-clause-number : goal.returns-in-Err-clause-number
+returns-in-Err-clause-number g c = c.hand_over.ensures.beside.turn ∙ c.hear.ensures.turn
+
+pub returns-in-Err-clause-tally : goal.returns-in-Err-clause-tally
+returns-in-Err-clause-tally g c = adds-kept c.args.self.now c.hear.new.self c.hand_over.new.self c.hear.ensures.tally c.hand_over.ensures.beside.tally
+
+pub returns-in-Ok-finish-clause-number : goal.returns-in-Ok-finish-clause-number
+returns-in-Ok-finish-clause-number g c = c.hand_over.ensures.beside.turn ∙ c.hear.ensures.turn
+
+pub returns-in-Ok-finish-clause-tally : goal.returns-in-Ok-finish-clause-tally
+returns-in-Ok-finish-clause-tally g c = adds-kept c.args.self.now c.hear.new.self c.hand_over.new.self c.hear.ensures.tally c.hand_over.ensures.beside.tally
+
+pub returns-in-Err-finish-clause-number : goal.returns-in-Err-finish-clause-number
+returns-in-Err-finish-clause-number g c = c.hand_over.ensures.beside.turn ∙ c.hear.ensures.turn
+
+pub returns-in-Err-finish-clause-tally : goal.returns-in-Err-finish-clause-tally
+returns-in-Err-finish-clause-tally g c = adds-kept c.args.self.now c.hear.new.self c.hand_over.new.self c.hear.ensures.tally c.hand_over.ensures.beside.tally
+
+pub returns-in-Err-serve-clause-number : goal.returns-in-Err-serve-clause-number
+returns-in-Err-serve-clause-number g c = c.serve.ensures.beside.turn ∙ c.hand_over.ensures.beside.turn ∙ c.hear.ensures.turn
+
+pub returns-in-Err-serve-clause-tally : goal.returns-in-Err-serve-clause-tally
+returns-in-Err-serve-clause-tally g c = adds-kept c.args.self.now c.hear.new.self c.serve.new.self c.hear.ensures.tally (c.serve.ensures.beside.tally ∙ c.hand_over.ensures.beside.tally)
+
+pub returns-in-Ok-speak-clause-number : goal.returns-in-Ok-speak-clause-number
+returns-in-Ok-speak-clause-number g c = c.in-Ok-speak.ensures.turn ∙ ap (λ x. x + 1) (c.serve.ensures.beside.turn ∙ c.hand_over.ensures.beside.turn ∙ c.hear.ensures.turn)
+
+pub returns-in-Ok-speak-clause-tally : goal.returns-in-Ok-speak-clause-tally
+returns-in-Ok-speak-clause-tally g c = adds-sent c.args.self.now c.hear.new.self c.serve.new.self c.speak.new.self c.hear.ensures.tally (c.serve.ensures.beside.tally ∙ c.hand_over.ensures.beside.tally) c.speak.ensures.tally
+
+pub returns-in-Err-speak-clause-number : goal.returns-in-Err-speak-clause-number
+returns-in-Err-speak-clause-number g c = c.in-Err-speak.ensures.halts ∙ c.serve.ensures.beside.turn ∙ c.hand_over.ensures.beside.turn ∙ c.hear.ensures.turn
+
+pub returns-in-Err-speak-clause-tally : goal.returns-in-Err-speak-clause-tally
+returns-in-Err-speak-clause-tally g c = adds-sent c.args.self.now c.hear.new.self c.serve.new.self c.speak.new.self c.hear.ensures.tally (c.serve.ensures.beside.tally ∙ c.hand_over.ensures.beside.tally) c.speak.ensures.tally
