@@ -61,7 +61,7 @@ pub tells-memory : (old new : FolderState) (line : List ℕ) (answer s : Status)
     → (answer ≡ NoMemory) ⊎ Rose old.refusals new.refusals
 tells-memory old new line answer s tells e = elim tells.said [
   | inl h ↦ inl (sym h.0 ∙ e)
-  | inr h ↦ elim h [ inl f ↦ absurd (write (sym f.0 ∙ e)) | inr f ↦ inr f.1 ]
+  | inr h ↦ elim h [ inl f ↦ absurd (write (sym f.0 ∙ e)) | inr f ↦ inr f.2 ]
 ]
   where
     write : WriteFault ≡ NoMemory → ⊥

@@ -35,11 +35,13 @@ read-earlier old mid new inputs folder.NoMemory stand fails = (FaultsStand-trans
 
 pub write-earlier : (old mid new : FolderState) (outputs : List (List ℕ)) (fault : FolderFault) → CountsStand old mid → WriteFails mid new outputs fault → WriteFails old new outputs fault
 write-earlier old mid new outputs folder.Failed stand fails = SomeRose-earlier _ _ _ outputs stand.faults.writes fails
-write-earlier old mid new outputs folder.NoMemory stand fails = subst (λ (count : ℕ). Rose count new.refusals) stand.refusals fails
+write-earlier old mid new outputs folder.NoMemory stand fails =
+    (FaultsStand-trans stand.faults fails.0, subst (λ (count : ℕ). Rose count new.refusals) stand.refusals fails.1)
 
 say-earlier : (old mid new : FolderState) (fault : FolderFault) → CountsStand old mid → SayFails mid new fault → SayFails old new fault
 say-earlier old mid new folder.Failed stand fails = subst (λ (count : ℕ). Rose count new.say_faults) stand.faults.says fails
-say-earlier old mid new folder.NoMemory stand fails = subst (λ (count : ℕ). Rose count new.refusals) stand.refusals fails
+say-earlier old mid new folder.NoMemory stand fails =
+    (FaultsStand-trans stand.faults fails.0, subst (λ (count : ℕ). Rose count new.refusals) stand.refusals fails.1)
 
 -- steps that counted nothing come before the one that stops the job
 pub stop-earlier : (old mid new : FolderState) (inputs outputs : List (List ℕ)) (stop : Stop) → CountsStand old mid → StopCounts mid new inputs outputs stop → StopCounts old new inputs outputs stop
@@ -231,8 +233,8 @@ end-memory : {D : Type 0} (old new : FolderState) (inputs outputs : List (List �
     → end_status end ≡ status.NoMemory → (end ≡ Err NoMemory) ⊎ Rose old.refusals new.refusals
 end-memory old new inputs outputs (Err NoMemory) counts e = inl refl
 end-memory old new inputs outputs (Err (Read folder.NoMemory)) counts e = inr counts.1
-end-memory old new inputs outputs (Err (Write folder.NoMemory)) counts e = inr counts
-end-memory old new inputs outputs (Err (Say folder.NoMemory)) counts e = inr counts
+end-memory old new inputs outputs (Err (Write folder.NoMemory)) counts e = inr counts.1
+end-memory old new inputs outputs (Err (Say folder.NoMemory)) counts e = inr counts.1
 end-memory old new inputs outputs (Err (Own answer)) counts e = absurd (own-memory answer counts.0 e)
 end-memory old new inputs outputs (Ok done) counts e = absurd cc
 end-memory old new inputs outputs (Err (Read folder.Failed)) counts e = absurd cc

@@ -51,12 +51,12 @@ ReadFails old new inputs folder.NoMemory = FaultsStand old new × Rose old.refus
 -- why one of these outputs is not made, or not written
 abbrev pub WriteFails : FolderState → FolderState → List (List ℕ) → FolderFault → Type 0
 WriteFails old new outputs folder.Failed = SomeRose old.write_faults new.write_faults outputs
-WriteFails old new outputs folder.NoMemory = Rose old.refusals new.refusals
+WriteFails old new outputs folder.NoMemory = FaultsStand old new × Rose old.refusals new.refusals
 
 -- why a line is not said
 abbrev pub SayFails : FolderState → FolderState → FolderFault → Type 0
 SayFails old new folder.Failed = Rose old.say_faults new.say_faults
-SayFails old new folder.NoMemory = Rose old.refusals new.refusals
+SayFails old new folder.NoMemory = FaultsStand old new × Rose old.refusals new.refusals
 
 -- what was counted where a job stops: a fault of its own names, or none
 abbrev pub StopCounts : FolderState → FolderState → List (List ℕ) → List (List ℕ) → Stop → Type 0

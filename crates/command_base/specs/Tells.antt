@@ -1,6 +1,6 @@
 -- What is said last.
 use Rattle.std.specs.Prelude.{◌≡◌, ◌⊎◌, ℕ, List}
-use Rattle.outside_core.specs.Folder.{FolderState, OnlySays, Said, PartlySaid, Rose}
+use Rattle.outside_core.specs.Folder.{FolderState, OnlySays, Said, PartlySaid, Rose, FaultsStand}
 use Rattle.command_base.specs.declared.status.Status.{Status}
 use Rattle.command_base.specs.declared.status.Status.TheVariants.{WriteFault, NoMemory}
 use Rattle.command_base.specs.Status.{PassesNoneOver}
@@ -10,5 +10,5 @@ pub record Tells (old new : FolderState) (line : List ℕ) (answer s : Status) :
   pub only : OnlySays old new
   pub said : ((s ≡ answer) × Said old new line)
       ⊎ ((s ≡ WriteFault) × Rose old.say_faults new.say_faults × PartlySaid old new line)
-      ⊎ ((s ≡ NoMemory) × Rose old.refusals new.refusals × PartlySaid old new line)
+      ⊎ ((s ≡ NoMemory) × FaultsStand old new × Rose old.refusals new.refusals × PartlySaid old new line)
   pub stand : PassesNoneOver old new s

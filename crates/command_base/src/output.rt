@@ -1,6 +1,6 @@
 // Steps of an output, and of what is said.
-ghost use Rattle.std.specs.Prelude.{[], ◌∷◌, map, OnOk, OnErr, IfErr, IsErrOf};
-ghost use Rattle.outside_core.specs.Folder.{OnlyWrites, OnlySays, Appended, PartlyAppended, Said, PartlySaid, FaultsStand, CountsStand};
+ghost use Rattle.std.specs.Prelude.{[], ◌∷◌, map, OnOk, OnErr, IfErr};
+ghost use Rattle.outside_core.specs.Folder.{OnlyWrites, OnlySays, Appended, PartlyAppended, Said, PartlySaid, CountsStand};
 ghost use Rattle.command_base.specs.Outputs.{Holds, KeptOrEmpty, AreApart, Creates, CreatesPart, OnlyOutputs, SaysNothing};
 ghost use Rattle.command_base.specs.Stops.{WriteFails, SayFails};
 
@@ -13,7 +13,6 @@ pub fn create_output<F: Folder>(folder: &mut F, name: &str) -> Result<(), Folder
     ensures only { OnlyWrites (F.state folder.old) (F.state folder.new) name.now }
     ensures fails { IfErr result (WriteFails (F.state folder.old) (F.state folder.new) (name.now ∷ [])) }
     ensures stand { OnOk result (CountsStand (F.state folder.old) (F.state folder.new)) }
-    ensures spared { IsErrOf result FolderFault.NoMemory → FaultsStand (F.state folder.old) (F.state folder.new) }
 {
     match folder.create(name) {
         Ok(()) => Ok(()),
@@ -47,7 +46,6 @@ pub fn append_output<F: Folder>(folder: &mut F, name: &str, piece: &[u8]) -> Res
     ensures only { OnlyWrites (F.state folder.old) (F.state folder.new) name.now }
     ensures fails { IfErr result (WriteFails (F.state folder.old) (F.state folder.new) (name.now ∷ [])) }
     ensures stand { OnOk result (CountsStand (F.state folder.old) (F.state folder.new)) }
-    ensures spared { IsErrOf result FolderFault.NoMemory → FaultsStand (F.state folder.old) (F.state folder.new) }
 {
     match folder.append(name, piece) {
         Ok(()) => Ok(()),
@@ -62,7 +60,6 @@ pub fn say_line<F: Folder>(folder: &mut F, line: &[u8]) -> Result<(), FolderFaul
     ensures only { OnlySays (F.state folder.old) (F.state folder.new) }
     ensures fails { IfErr result (SayFails (F.state folder.old) (F.state folder.new)) }
     ensures stand { OnOk result (CountsStand (F.state folder.old) (F.state folder.new)) }
-    ensures spared { IsErrOf result FolderFault.NoMemory → FaultsStand (F.state folder.old) (F.state folder.new) }
 {
     match folder.say(line) {
         Ok(()) => Ok(()),

@@ -1,6 +1,6 @@
 // Saying the line of an answer.
-ghost use Rattle.std.specs.Prelude.{map, string_bytes, OnOk, OnErr};
-ghost use Rattle.outside_core.specs.Folder.{OnlySays, HasCause, CountsStand, Said, PartlySaid};
+ghost use Rattle.std.specs.Prelude.{map, string_bytes, OnOk, OnErr, IsErrOf};
+ghost use Rattle.outside_core.specs.Folder.{OnlySays, HasCause, FaultsStand, CountsStand, Said, PartlySaid};
 ghost use Rattle.command_base.specs.Lines.{status_line, too_long_line};
 ghost use Rattle.command_base.specs.Job.{SaysStop};
 ghost use Rattle.command_base.specs.Tells.{Tells};
@@ -27,6 +27,7 @@ fn say_too_long<F: Folder>(folder: &mut F, name: &str) -> Result<(), FolderFault
     ensures only { OnlySays (F.state folder.old) (F.state folder.new) }
     ensures cause { HasCause (F.state folder.old).say_faults (F.state folder.new).say_faults (F.state folder.old).refusals (F.state folder.new).refusals result }
     ensures stand { OnOk result (CountsStand (F.state folder.old) (F.state folder.new)) }
+    ensures spared { IsErrOf result FolderFault.NoMemory → FaultsStand (F.state folder.old) (F.state folder.new) }
 {
     folder.say(b"too long: ")?;
     folder.say(name.as_bytes())?;
