@@ -1,10 +1,19 @@
 -- An input that is read on, piece by piece.
-use Rattle.std.proofs.Common.{◌≡◌, ◌∙◌, ℕ, ◌+◌, ◌-◌, ◌≤◌, ◌<◌, min, List, [], ◌++◌, IsTrue, length, take, take-add, drop, refl, sym, ap, arith, length-append}
+use Rattle.std.proofs.Common.{◌≡◌, ◌∙◌, ℕ, ◌+◌, ◌-◌, ◌≤◌, ◌<◌, min, List, [], ◌++◌, IsTrue, length, take, take-add, drop, refl, sym, ap, subst, arith, length-append}
 use Rattle.std.proofs.lemmas.List.{take-append-drop, take_all}
 use Rattle.plain_lists.specs.Prefix.{IsPrefixOf}
 use Rattle.outside_core.specs.Folder.{FolderState, octets_at, GoesOn, KeepsName, OnlyReads}
 use Rattle.outside_core.specs.Steps.{GoesOn-trans, KeepsName-trans, told_later, octets-kept}
-use Rattle.command_base.specs.Inputs.{IsWithin, ReadTo}
+use Rattle.command_base.specs.Inputs.{IsWithin, IsLonger, ReadTo}
+
+-- an input that is within its limit, or longer, was so before others were read
+pub within-earlier : (old mid : FolderState) (name : List ℕ) (limit : ℕ) → OnlyReads old mid → IsWithin mid name limit → IsWithin old name limit
+within-earlier old mid name limit reads within told =
+    subst (λ (o : List ℕ). length o ≤ limit) (octets-kept old mid name (reads.names name) told) (within (told_later reads.goes_on name told))
+
+pub longer-earlier : (old mid : FolderState) (name : List ℕ) (limit : ℕ) → OnlyReads old mid → IsLonger mid name limit → IsLonger old name limit
+longer-earlier old mid name limit reads longer told =
+    subst (λ (o : List ℕ). limit < length o) (octets-kept old mid name (reads.names name) told) (longer (told_later reads.goes_on name told))
 
 -- nothing was read yet
 pub ReadTo-none : (start now : FolderState) (name : List ℕ) (limit : ℕ) → IsWithin start name limit → GoesOn start now → KeepsName start now name → ReadTo start now name limit 0 []

@@ -23,11 +23,6 @@ use Rattle.margin_command.specs.Words.{MarginNames}
 use Rattle.margin_command.specs.Ends.{Measures, AreOpen, HasOtherLength}
 use Rattle.margin_command.specs.Measuring.{Opened, MeasuredTo}
 
--- an input that is within its limit was so before
-pub within-earlier : (old mid : FolderState) (name : List ℕ) (limit : ℕ) → OnlyReads old mid → IsWithin mid name limit → IsWithin old name limit
-within-earlier old mid name limit reads within told =
-    subst (λ (xs : List ℕ). length xs ≤ limit) (octets-kept old mid name (reads.names name) told) (within (told_later reads.goes_on name told))
-
 -- ---- samples
 
 -- two samples more of a piece

@@ -1,8 +1,9 @@
 -- How the measuring of a recording ends, before its line is said. What is said of a name's octets holds where the folder tells that
 -- name.
-use Rattle.std.specs.Prelude.{◌≡◌, ◌≢◌, ℕ, ◌+◌, ◌*◌, min, nat_lt, IsTrue, List, [], length, take, Result, Ok, Err}
+use Rattle.std.specs.Prelude.{◌≡◌, ◌≢◌, ℕ, ◌+◌, ◌*◌, min, nat_lt, IsTrue, List, [], ◌∷◌, length, take, Result, Ok, Err}
 use Rattle.scramblers.specs.declared.mode.Mode.{Mode}
 use Rattle.outside_core.specs.Folder.{FolderState, octets_at}
+use Rattle.outside_core.specs.declared.folder.FolderFault.{FolderFault}
 use Rattle.noisy_line.specs.Near.{sure}
 use Rattle.noise_bound.specs.Margins.{IsCostOf, Measured}
 use Rattle.recordings.specs.declared.rate.Rate.TheVariants as rates
@@ -19,6 +20,7 @@ use Rattle.command_base.specs.Inputs.{IsWithin, IsLonger}
 use Rattle.command_base.specs.Job.{Job}
 use Rattle.command_base.specs.Lines.{margin_line}
 use Rattle.command_base.specs.Outputs.{SaysNothing}
+use Rattle.command_base.specs.Stops.{ReadFails}
 use Rattle.margin_command.specs.Words.{MarginNames, inputs_of}
 
 -- The recording is a header, and eight octets for each octet of the file: the file's octets cost so much against its samples.
@@ -57,22 +59,28 @@ pub data EndsOwn (old : FolderState) (n : MarginNames) (answer : Status) : Type 
   is_other : (at : ℕ) → answer ≡ BadRecording at → IsWithin old n.file FILE_LIMIT → HasNoHeader old n.rec rates.Trellis at → EndsOwn old n answer
   is_misfit : (at : ℕ) → answer ≡ BadRecording at → HasOtherLength old n at → EndsOwn old n answer
 
+-- Which input was not read: the recording; the file, once the recording is within its limit; or one of them, once both are.
+pub data FailsToRead (old new : FolderState) (n : MarginNames) (fault : FolderFault) : Type 0 where
+  rec_unread : ReadFails old new (n.rec ∷ []) fault → FailsToRead old new n fault
+  file_unread : IsWithin old n.rec RECORDING_LIMIT → ReadFails old new (n.file ∷ []) fault → FailsToRead old new n fault
+  one_unread : IsWithin old n.rec RECORDING_LIMIT → IsWithin old n.file FILE_LIMIT → FailsToRead old new n fault
+
 -- why a recording is not measured; no memory is taken, and no line is said before the last one
-abbrev pub EndsBy : FolderState → MarginNames → Stop → Type 0
-EndsBy old n (Own answer) = EndsOwn old n answer
-EndsBy old n (Read fault) = Unit {0}
-EndsBy old n stop = ⊥
+abbrev pub EndsBy : FolderState → FolderState → MarginNames → Stop → Type 0
+EndsBy old new n (Own answer) = EndsOwn old n answer
+EndsBy old new n (Read fault) = FailsToRead old new n fault
+EndsBy old new n stop = ⊥
 
 -- how the measuring of a recording ends: with this margin, or before
-abbrev pub Ends : FolderState → MarginNames → Result Measured Stop → Type 0
-Ends old n (Ok m) = Measures old n m
-Ends old n (Err stop) = EndsBy old n stop
+abbrev pub Ends : FolderState → FolderState → MarginNames → Result Measured Stop → Type 0
+Ends old new n (Ok m) = Measures old n m
+Ends old new n (Err stop) = EndsBy old new n stop
 
 -- The job of the command: it writes no file, and once it is done its line says the cost, and whether that is below the bound.
 abbrev pub margin_job : MarginNames → Job Measured
 margin_job n = record {
   inputs = inputs_of n;
   outputs = [];
-  Ends = λ old new end. Ends old n end × SaysNothing old new;
+  Ends = λ old new end. Ends old new n end × SaysNothing old new;
   line_of = λ m. margin_line m.cost (nat_lt m.cost sure);
 }

@@ -17,7 +17,7 @@ use outside_core::Folder;
 
 /// Opens both inputs, and measures the file against the recording.
 fn measure<F: Folder>(folder: &mut F, names: &MarginWords<'_>) -> Result<Margin, Stop>
-    ensures ends { Ends (F.state folder.old) (named names.now) result }
+    ensures ends { Ends (F.state folder.old) (F.state folder.new) (named names.now) result }
     ensures reads { OnlyReads (F.state folder.old) (F.state folder.new) }
     ensures counts { EndCounts (F.state folder.old) (F.state folder.new) (inputs_of (named names.now)) [] result }
 {

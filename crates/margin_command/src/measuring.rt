@@ -59,7 +59,7 @@ fn measure_next<F: Folder>(
     ensures end { (start : FolderState) (mode : Mode) → MeasuredTo start (F.state folder.old) (named names.now) mode margin.old at
         → IfOk result (λ count. count ≡ 0 → IsAtEnd start names.now.file.now at × IsAtEnd start names.now.rec.now (HEADER + 8 * at)) }
     ensures err { (start : FolderState) (mode : Mode) → MeasuredTo start (F.state folder.old) (named names.now) mode margin.old at
-        → IfErr result (EndsBy start (named names.now)) }
+        → IfErr result (EndsBy start (F.state folder.new) (named names.now)) }
     ensures bound { IfOk result (λ count. at + count ≤ FILE_LIMIT) }
     ensures count { IfOk result (λ count. margin.new.count ≡ at + count) }
     ensures reads { OnlyReads (F.state folder.old) (F.state folder.new) }
@@ -91,7 +91,7 @@ pub(crate) fn measure_to_end<F: Folder>(
     names: &MarginWords<'_>,
     mode: Mode,
 ) -> Result<Margin, Stop>
-    ensures ends { (start : FolderState) → Opened start (F.state folder.old) (named names.now) mode → Ends start (named names.now) result }
+    ensures ends { (start : FolderState) → Opened start (F.state folder.old) (named names.now) mode → Ends start (F.state folder.new) (named names.now) result }
     ensures reads { OnlyReads (F.state folder.old) (F.state folder.new) }
     ensures counts { EndCounts (F.state folder.old) (F.state folder.new) (inputs_of (named names.now)) [] result }
 {

@@ -20,7 +20,7 @@ const FILE: usize = 2;
 /// Looks at the lengths of both inputs, the recording first, and reads its header: the mode.
 pub(crate) fn open_inputs<F: Folder>(folder: &mut F, names: &MarginWords<'_>) -> Result<Mode, Stop>
     ensures ok { IfOk result (AreOpen (F.state folder.old) (named names.now)) }
-    ensures err { IfErr result (EndsBy (F.state folder.old) (named names.now)) }
+    ensures err { IfErr result (EndsBy (F.state folder.old) (F.state folder.new) (named names.now)) }
     ensures reads { OnlyReads (F.state folder.old) (F.state folder.new) }
     ensures counts { EndCounts (F.state folder.old) (F.state folder.new) (inputs_of (named names.now)) [] result }
 {

@@ -18,7 +18,7 @@ use Rattle.command_base.specs.declared.stop.Stop.TheVariants.{Own, Read, Write, 
 use Rattle.command_base.specs.Inputs.{IsWithin, IsLonger, IsNotWithin}
 use Rattle.command_base.specs.Outputs.{KeepsAll, AreApart, CreatesPart, Creates, IsNoneOf, KeepsEach, OnlyOutputs}
 use Rattle.command_base.proofs.Creating.{CreatesPart-earlier}
-use Rattle.command_base.proofs.Reading.{ReadTo-none}
+use Rattle.command_base.proofs.Reading.{ReadTo-none, longer-earlier}
 use Rattle.command_base.proofs.Jobs.{stop-earlier}
 use Rattle.run_inputs.specs.Words.{AreNoneOf}
 use Rattle.peer_command.specs.Words.{Names, turn_names, inputs_of, outputs_of}
@@ -104,17 +104,6 @@ bits-refused old new n (Read fault) reads why = inl (reads.names, inl why)
 bits-refused old new n (Write fault) reads never = absurd never
 bits-refused old new n (Say fault) reads never = absurd never
 bits-refused old new n NoMemory reads never = absurd never
-
-longer-earlier : (old mid : FolderState) (name : List ℕ) (limit : ℕ) → OnlyReads old mid → IsLonger mid name limit → IsLonger old name limit
-longer-earlier old mid name limit reads longer told =
-    subst (λ (o : List ℕ). limit < length o) (octets-kept old mid name (reads.names name) told)
-    (longer (told_later reads.goes_on name told))
-
-pub within-earlier : (old mid : FolderState) (name : List ℕ) (limit : ℕ) → OnlyReads old mid → IsWithin mid name limit
-    → IsWithin old name limit
-within-earlier old mid name limit reads within told =
-    subst (λ (o : List ℕ). length o ≤ limit) (octets-kept old mid name (reads.names name) told)
-    (within (told_later reads.goes_on name told))
 
 keeps-both : (old mid new : FolderState) → OnlyReads old mid → OnlyReads mid new → KeepsAll old new
 keeps-both old mid new first reads name = KeepsName-trans old mid new name first.goes_on (first.names name) (reads.names name)

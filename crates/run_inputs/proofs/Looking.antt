@@ -10,6 +10,7 @@ use Rattle.command_base.specs.declared.stop.Stop.TheVariants.{Own, Read, Write, 
 use Rattle.command_base.specs.Inputs.{IsWithin, IsLonger, IsNotWithin}
 use Rattle.command_base.specs.Stops.{IsOwn, SomeRose, StopCounts, EndCounts}
 use Rattle.command_base.proofs.Jobs.{stop-earlier}
+use Rattle.command_base.proofs.Reading.{within-earlier, longer-earlier}
 use Rattle.noise_script.specs.Script.{ScriptValue}
 use Rattle.run_inputs.specs.declared.limits.Limits.{Limits}
 use Rattle.run_inputs.specs.Words.{RunNames, files_of}
@@ -19,25 +20,17 @@ use Rattle.run_inputs.specs.Inputs.{RefusesOwn, Refuses}
 
 -- ---- a look changes nothing
 
-within-kept : (old mid : FolderState) (name : List ℕ) (limit : ℕ) → OnlyReads old mid → IsWithin mid name limit → IsWithin old name limit
-within-kept old mid name limit r w told =
-    subst (λ xs. length xs ≤ limit) (octets-kept old mid name (r.names name) told) (w (told_later r.goes_on name told))
-
-longer-kept : (old mid : FolderState) (name : List ℕ) (limit : ℕ) → OnlyReads old mid → IsLonger mid name limit → IsLonger old name limit
-longer-kept old mid name limit r w told =
-    subst (λ xs. limit < length xs) (octets-kept old mid name (r.names name) told) (w (told_later r.goes_on name told))
-
 all-kept : (old mid : FolderState) (names : List (List ℕ)) (limit : ℕ) → OnlyReads old mid
     → AreWithin limit mid names → AreWithin limit old names
 all-kept old mid [] limit r w = tt
-all-kept old mid (name ∷ names) limit r w = (within-kept old mid name limit r w.0, all-kept old mid names limit r w.1)
+all-kept old mid (name ∷ names) limit r w = (within-earlier old mid name limit r w.0, all-kept old mid names limit r w.1)
 
 first-kept : (old mid : FolderState) (names : List (List ℕ)) (limit place word : ℕ) → OnlyReads old mid
     → IsFirstLong limit mid place names word → IsFirstLong limit old place names word
 first-kept old mid [] limit place word r long = long
-first-kept old mid (name ∷ names) limit place word r (inl long) = inl (long.0, longer-kept old mid name limit r long.1)
+first-kept old mid (name ∷ names) limit place word r (inl long) = inl (long.0, longer-earlier old mid name limit r long.1)
 first-kept old mid (name ∷ names) limit place word r (inr long) =
-    inr (within-kept old mid name limit r long.0, first-kept old mid names limit (place + 1) word r long.1)
+    inr (within-earlier old mid name limit r long.0, first-kept old mid names limit (place + 1) word r long.1)
 
 -- ---- the first is within its limit, and one behind it is not
 
@@ -46,7 +39,7 @@ fails-kept : (old mid new : FolderState) (names : List (List ℕ)) (limit : ℕ)
 fails-kept old mid new [] limit fault r stand never = never
 fails-kept old mid new (name ∷ names) limit fault r stand (inl fails) = inl (stop-earlier old mid new (name ∷ []) [] (Read fault) stand fails)
 fails-kept old mid new (name ∷ names) limit fault r stand (inr fails) =
-    inr (within-kept old mid name limit r fails.0, fails-kept old mid new names limit fault r stand fails.1)
+    inr (within-earlier old mid name limit r fails.0, fails-kept old mid new names limit fault r stand fails.1)
 
 pub refused-later : (old mid new : FolderState) (name : List ℕ) (names : List (List ℕ)) (limit place : ℕ) (stop : Stop) → OnlyReads old mid
     → CountsStand old mid → IsWithin old name limit → RefusesLengths limit mid new (place + 1) names stop

@@ -3,13 +3,24 @@ use Rattle.outside_core.specs.Folder.{FolderState, OnlyReads}
 use Rattle.outside_core.specs.Steps.{OnlyReads-trans}
 use Rattle.command_base.specs.declared.limits.TheConstants.{FILE_LIMIT, RECORDING_LIMIT}
 use Rattle.command_base.specs.Inputs.{ReadTo}
-use Rattle.command_base.proofs.Reading.{ReadTo-none}
+use Rattle.command_base.proofs.Reading.{ReadTo-none, within-earlier}
 use Rattle.recordings.specs.declared.rate.Rate.TheVariants as rates
 use Rattle.recordings.specs.Headers.{IsBadHeader}
 use Rattle.recording_inputs.proofs.HeaderRead.{header-octets}
 use Rattle.margin_command.specs.Ends.EndsOwn.{is_other}
-use Rattle.margin_command.proofs.Measures.{within-earlier}
+use Rattle.margin_command.proofs.Opening.{rec-refused, file-refused}
+use Rattle.margin_command.specs.Words.{named}
 use Rattle.margin_command.proofs.opening.open_inputs.Goals as goal
+
+pub returns-in-Err-clause-err : goal.returns-in-Err-clause-err
+returns-in-Err-clause-err g c =
+    rec-refused (g.F.Folder.state c.args.folder.now) (g.F.Folder.state c.within_limit.new.folder) (named c.args.names.now) c.in-Err.stop c.in-Err.ensures.refused
+
+pub returns-in-Err-within_limit-clause-err : goal.returns-in-Err-within_limit-clause-err
+returns-in-Err-within_limit-clause-err g c =
+    let old : FolderState = g.F.Folder.state c.args.folder.now in
+    file-refused old (g.F.Folder.state c.within_limit.new.folder) (g.F.Folder.state c.within_limit-2.new.folder) (named c.args.names.now)
+    c.in-Err-within_limit.stop c.within_limit.ensures.reads c.in-Ok.ensures.stand c.in-Ok.ensures.within c.in-Err-within_limit.ensures.refused
 
 pub returns-in-Ok-read_header-clause-ok : goal.returns-in-Ok-read_header-clause-ok
 returns-in-Ok-read_header-clause-ok g c =
