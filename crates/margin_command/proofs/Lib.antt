@@ -1,3 +1,3 @@
-pub mod Opening
+pub mod Looking
 pub mod Measures
 pub mod Headline

@@ -8,7 +8,7 @@ use Rattle.recordings.specs.declared.rate.Rate.TheVariants as rates
 use Rattle.recordings.specs.Headers.{IsBadHeader}
 use Rattle.recording_inputs.proofs.HeaderRead.{header-octets}
 use Rattle.margin_command.specs.Ends.EndsOwn.{is_other}
-use Rattle.margin_command.proofs.Opening.{rec-refused, file-refused}
+use Rattle.margin_command.proofs.Looking.{rec-refused, file-refused}
 use Rattle.margin_command.specs.Words.{named}
 use Rattle.margin_command.proofs.opening.open_inputs.Goals as goal
 
