@@ -1,5 +1,6 @@
 -- From every answer to what the command promises.
-use Rattle.std.proofs.Common.{◌≡◌, ◌∙◌, ◌⊎◌, inl, inr, ℕ, Bool, true, false, List, [], ◌++◌, length, ◌≤◌, ◌<◌, Result, Ok, Err, refl, sym}
+use Rattle.std.proofs.Common.{◌≡◌, ◌∙◌, ◌⊎◌, inl, inr, ℕ, Bool, true, false, IsTrue, List, [], ◌++◌, length, ◌≤◌, ◌<◌, Result, Ok, Err}
+use Rattle.std.proofs.Common.{refl, sym}
 use Rattle.std.proofs.Common.{ap, subst, arith}
 use Rattle.std.proofs.lemmas.Bool.{false≢true}
 use Rattle.std.specs.Option.{option_map}
@@ -11,9 +12,11 @@ use Rattle.link_faults.specs.declared.fault.LinkFault.{LinkFault}
 use Rattle.link_faults.specs.declared.fault.LinkFault.TheVariants as faults
 use Rattle.command_base.specs.declared.limits.TheConstants.{FILE_LIMIT}
 use Rattle.command_base.specs.declared.status.Status.{Status}
-use Rattle.command_base.specs.declared.status.Status.TheVariants.{Done, ReadFault, WriteFault, NotDetected, LinkLost, NoMemory, PeerFault}
+use Rattle.command_base.specs.declared.status.Status.TheVariants.{Done, TooLong, ReadFault, WriteFault, NotDetected, LinkLost, NoMemory}
+use Rattle.command_base.specs.declared.status.Status.TheVariants.{PeerFault}
 use Rattle.command_base.specs.declared.stop.Stop.{Stop}
 use Rattle.command_base.specs.declared.stop.Stop.TheVariants as stops
+use Rattle.command_base.specs.Inputs.{IsWithin}
 use Rattle.command_base.specs.Job.{Answers}
 use Rattle.command_base.specs.Status.{IsRefusal}
 use Rattle.command_base.specs.Stops.{end_status, fault_status}
@@ -169,6 +172,45 @@ never-own : (old before : FolderState) (n : Names) (answer : Status) → AreTold
 never-own old before n answer t stays (inl refused) = never-long old n answer t refused.1
 never-own old before n answer t stays (inr e) = stays e.0 e.1 e.3.left (inputs-run old before n (GivesUp e.0 e.1) t e.3)
 
+never-short : (old : FolderState) (name : List ℕ) → IsTrue (old.tells name) → 1048576 < length (octets_at old name)
+    → IsWithin old name FILE_LIMIT → ⊥
+never-short old name told longer within = omega (arith, longer, within told)
+
+-- an answer that isn't for an input's length says that both are within their limits
+bits-long : (words : List (List ℕ)) (old new : FolderState) (n : Names) (s : Status) → Answers (peer_job n) words old new s
+    → IsSound old new (inputs_of n) (outputs_of n) → IsTrue (old.tells n.bits) → 1048576 < length (octets_at old n.bits)
+    → (s ≡ TooLong 3) ⊎ (s ≡ NoMemory)
+bits-long words old new n s a sound told longer = by (comes-to (peer_job n) words old new s a sound)
+  where
+    own : (answer : Status) → s ≡ answer → EndsBy old a.before n (stops.Own answer) → (s ≡ TooLong 3) ⊎ (s ≡ NoMemory)
+    own answer e (inl (keeps, inl long)) = inl (e ∙ long.0)
+    own answer e (inl (keeps, inr long)) = absurd (never-short old n.bits told longer long.1)
+    own answer e (inr r) = absurd (never-short old n.bits told longer r.3.takes.bits_within)
+
+    by : Comes a.end s → (s ≡ TooLong 3) ⊎ (s ≡ NoMemory)
+    by (is_done turns is e) =
+        let r : RanTo old a.before n (IsDone turns) = subst (λ (x : Result ℕ Stop). Ends old a.before n x) is a.ends.0 in
+        absurd (never-short old n.bits told longer r.takes.bits_within)
+    by (is_own answer is e) = own answer e (subst (λ (x : Result ℕ Stop). Ends old a.before n x) is a.ends.0)
+    by (is_memory e) = inr e
+
+file-long : (words : List (List ℕ)) (old new : FolderState) (n : Names) (s : Status) → Answers (peer_job n) words old new s
+    → IsSound old new (inputs_of n) (outputs_of n) → IsTrue (old.tells n.bits) → length (octets_at old n.bits) ≤ 1048576
+    → IsTrue (old.tells n.file) → 1048576 < length (octets_at old n.file) → (s ≡ TooLong 2) ⊎ (s ≡ NoMemory)
+file-long words old new n s a sound bits-told within told longer = by (comes-to (peer_job n) words old new s a sound)
+  where
+    own : (answer : Status) → s ≡ answer → EndsBy old a.before n (stops.Own answer) → (s ≡ TooLong 2) ⊎ (s ≡ NoMemory)
+    own answer e (inl (keeps, inl long)) = absurd (never-longer (length (octets_at old n.bits)) within (long.1 bits-told))
+    own answer e (inl (keeps, inr long)) = inl (e ∙ long.0)
+    own answer e (inr r) = absurd (never-short old n.file told longer r.3.takes.file_within)
+
+    by : Comes a.end s → (s ≡ TooLong 2) ⊎ (s ≡ NoMemory)
+    by (is_done turns is e) =
+        let r : RanTo old a.before n (IsDone turns) = subst (λ (x : Result ℕ Stop). Ends old a.before n x) is a.ends.0 in
+        absurd (never-short old n.file told longer r.takes.file_within)
+    by (is_own answer is e) = own answer e (subst (λ (x : Result ℕ Stop). Ends old a.before n x) is a.ends.0)
+    by (is_memory e) = inr e
+
 pub completes-of : OneResult → (words : List (List ℕ)) (old new : FolderState) (n : Names) (s : Status)
     → Answers (peer_job n) words old new s
     → Completes old new n s
@@ -176,4 +218,6 @@ completes-of law words old new n s a = record {
   exact = exact-of law words old new n s a;
   done = λ sound t stays.
       done-unless-memory (peer_job n) words old new s a sound (λ answer e. never-own old a.before n answer t stays e.0);
+  bits_long = bits-long words old new n s a;
+  file_long = file-long words old new n s a;
 }

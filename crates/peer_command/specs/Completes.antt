@@ -1,9 +1,9 @@
 -- Which answer the inputs have over a sound folder, and when it is that the command is done.
-use Rattle.std.specs.Prelude.{◌≡◌, ◌⊎◌, ℕ, ◌≤◌, IsTrue, length}
+use Rattle.std.specs.Prelude.{◌≡◌, ◌⊎◌, ℕ, ◌<◌, ◌≤◌, IsTrue, length}
 use Rattle.outside_core.specs.Folder.{FolderState, octets_at}
 use Rattle.link_faults.specs.declared.fault.LinkFault.{LinkFault}
 use Rattle.command_base.specs.declared.status.Status.{Status}
-use Rattle.command_base.specs.declared.status.Status.TheVariants.{NoMemory}
+use Rattle.command_base.specs.declared.status.Status.TheVariants.{TooLong, NoMemory}
 use Rattle.command_base.specs.Sound.{IsSound, DoneUnlessMemory}
 use Rattle.peer_command.specs.Words.{Names, inputs_of, outputs_of}
 use Rattle.peer_command.specs.Runs.{Left, PeerEnd, GivesUp, RunsTo}
@@ -25,10 +25,14 @@ pub record Answered (new : FolderState) (n : Names) (end : PeerEnd) (left : Left
   pub answer : s ≡ answer_of n.role end
   pub holds : HoldLeft new n left
 
--- Over a sound folder, however the run of the inputs ends, that is the answer, or there was no memory; and where the end doesn't give its
--- link up in it, the command is done.
+-- Over a sound folder, unless memory was not found: however the run of the inputs ends, that is the answer; where the end doesn't give its
+-- link up in it, the command is done; and an input that is longer is too long, the bits first.
 pub record Completes (old new : FolderState) (n : Names) (s : Status) : Type 0 where
   pub exact : IsSound old new (inputs_of n) (outputs_of n) → AreTold old n → (end : PeerEnd) (left : Left) → InputsRunTo old n end left
       → Answered new n end left s ⊎ (s ≡ NoMemory)
   pub done : IsSound old new (inputs_of n) (outputs_of n) → AreTold old n
       → ((fault : LinkFault) (turn : ℕ) (left : Left) → InputsRunTo old n (GivesUp fault turn) left → ⊥) → DoneUnlessMemory s
+  pub bits_long : IsSound old new (inputs_of n) (outputs_of n) → IsTrue (old.tells n.bits) → 1048576 < length (octets_at old n.bits)
+      → (s ≡ TooLong 3) ⊎ (s ≡ NoMemory)
+  pub file_long : IsSound old new (inputs_of n) (outputs_of n) → IsTrue (old.tells n.bits) → length (octets_at old n.bits) ≤ 1048576
+      → IsTrue (old.tells n.file) → 1048576 < length (octets_at old n.file) → (s ≡ TooLong 2) ⊎ (s ≡ NoMemory)

@@ -1,5 +1,5 @@
 -- As an end hears it gives its link up for its peer's faults alone, and as it is to speak for none of these.
-use Rattle.std.proofs.Common.{◌≡◌, ◌&&◌, ℕ, Bool, true, false, if◌then◌else◌, nat_eq, nat_le, List, Option, Some, None, Result, Ok, Err}
+use Rattle.std.proofs.Common.{◌≡◌, ◌&&◌, ℕ, Bool, true, false, if◌then◌else◌, nat_eq, nat_le, Option, Some, None, Result, Ok, Err}
 use Rattle.std.proofs.Common.{subst}
 use Rattle.std.specs.Option.{option_map}
 use Rattle.roles.specs.declared.role.Role.{Role}
@@ -22,9 +22,9 @@ use Rattle.link_account.specs.Account.{Account}
 use Rattle.link_account.specs.Hear.{hear, on_frame, on_detecting, on_negotiating, on_establishing, on_releasing, on_closed}
 use Rattle.link_account.specs.Hear.{on_connected, on_number, on_disc, then_in, taking, replying, hurrying, pausing, ends_wait}
 use Rattle.link_account.specs.Hear.{owing, peer_reset, trying}
-use Rattle.link_account.specs.Speak.{Said, speak, speak_in, speak_detecting, speak_negotiating, speak_connected, speak_linked, speak_answer}
-use Rattle.link_account.specs.Speak.{speak_releasing, u_try, spent, tries_frame, trying_again, polling, breaking, on_timer, on_break_timer}
-use Rattle.link_account.specs.Speak.{timer_expires, then_tries, after_timers, says, steps}
+use Rattle.link_account.specs.Speak.{Said, speak, speak_in, speak_detecting, speak_negotiating, speak_connected, speak_linked}
+use Rattle.link_account.specs.Speak.{speak_releasing, u_try, spent, tries_frame, trying_again, polling, breaking, on_timer}
+use Rattle.link_account.specs.Speak.{timer_expires, then_tries, after_timers, says}
 use Rattle.slot_contents.specs.declared.sent.Sent.TheVariants as slots
 use Rattle.single_end.specs.Laws.{IsPeers}
 

@@ -1,5 +1,5 @@
 -- One thing is heard in bits, and one run is made of it.
-use Rattle.std.proofs.Common.{◌≡◌, ◌∙◌, inl, inr, ℕ, ◌+◌, ◌-◌, ◌<◌, ◌≤◌, Bool, true, false, List, [], ◌∷◌, ◌++◌, length, map, take, get_or}
+use Rattle.std.proofs.Common.{◌≡◌, ◌∙◌, inl, inr, ℕ, ◌+◌, ◌-◌, ◌<◌, Bool, true, false, List, [], ◌∷◌, ◌++◌, length, map, take, get_or}
 use Rattle.std.proofs.Common.{Option, Some, None, Result, Ok, Err, refl, sym, ap, subst, arith, append_assoc, length-append}
 use Rattle.std.specs.List.{concat}
 use Rattle.std.proofs.lemmas.Bool.{false≢true, cases_lt}
@@ -24,9 +24,9 @@ use Rattle.link_account.specs.Hear.{hear}
 use Rattle.link_account.specs.Speak.{Said}
 use Rattle.link_run.specs.End.{deliveries, speaks_alone, has_finished}
 use Rattle.link_run.specs.Run.{Party, Spoken, spoken}
-use Rattle.link_run.specs.Alone.{LoneTurn, LoneRun, LoneGoing, LoneLast, LoneFaulty, LoneBroken, OneLoneRun, hangs_up, lone_served}
-use Rattle.single_end.specs.Heard.{EndsWith, IsQuiet, AreQuiet, IsFirst, IsHeard, stream, slot_bits}
-use Rattle.single_end.specs.Peer.{Past, PeerRun, PeerTurn, TurnIs, Outcome, Going, Closed, Broken, HearsSlots, party_of}
+use Rattle.link_run.specs.Alone.{LoneTurn, LoneRun, LoneBroken, OneLoneRun, hangs_up, lone_served}
+use Rattle.single_end.specs.Heard.{EndsWith, IsQuiet, AreQuiet, IsFirst, stream, slot_bits}
+use Rattle.single_end.specs.Peer.{Past, TurnIs, Outcome, Going, Closed, Broken, HearsSlots, party_of}
 use Rattle.single_end.specs.Laws.{OneIsHeard, OnePeerRun, OnePeerTurn, HearingBreaks, PeersFaultsAreHeard, OtherFaultsAreWants, IsPeers}
 use Rattle.single_end.proofs.Breaking.{hears-peers, speaks-wants}
 

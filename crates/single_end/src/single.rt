@@ -299,9 +299,9 @@ impl Single {
         }
     }
 
-    /// One turn, against the octets of a slot's bits: the end hears what is heard in it, what it took is written to `got`, it is offered what
-    /// it wants of `file`, it speaks, and the turn's line is written to `trace`. A slot of fewer octets is filled with ones, and the file ends
-    /// at [`FILE_LIMIT`] octets. The names of all turns are the same.
+    /// One turn, against the octets of a slot's bits: the end hears what is heard in it, what it took is written to `got`, it is offered
+    /// what it wants of `file`, it speaks, and the turn's line is written to `trace`. A slot of fewer octets is filled with ones, and the
+    /// file ends at [`FILE_LIMIT`] octets. The names of all turns are the same.
     pub fn turn<F: Folder>(
         &mut self,
         folder: &mut F,
