@@ -37,18 +37,63 @@ fn recordings_are_decoded(rt: HostRuntime) -> Result<(), Fail> {
     let zero = [
         0x56, 0x33, 0x32, 0x52, 0, 0, 0, 0, 0x00, 0xe0, 0x00, 0x08, 0x00, 0xe0, 0x00, 0x08,
     ];
-    assert!(&rt; decodes(alloc, Rate::Trellis, &zero, Status::Done, b"octets 1\n", &[0x00])?);
+    assert!(&rt;
+        decodes(
+            alloc,
+            Rate::Trellis,
+            &zero,
+            Status::Done,
+            b"octets 1\n",
+            &[0x00]
+        )?
+    );
     let noisy = [
         0x56, 0x33, 0x32, 0x52, 0, 0, 0, 0, 0x00, 0xe0, 0x00, 0x08, 0x00, 0x00, 0x00, 0x08,
     ];
-    assert!(&rt; decodes(alloc, Rate::Trellis, &noisy, Status::Done, b"octets 1\n", &[0x40])?);
+    assert!(&rt;
+        decodes(
+            alloc,
+            Rate::Trellis,
+            &noisy,
+            Status::Done,
+            b"octets 1\n",
+            &[0x40]
+        )?
+    );
     let answer = [
         0x56, 0x33, 0x32, 0x52, 1, 0, 0, 0, 0x00, 0xf0, 0x00, 0x18, 0x00, 0x10, 0x00, 0xe8,
     ];
-    assert!(&rt; decodes(alloc, Rate::Trellis, &answer, Status::Done, b"octets 1\n", &[0x01])?);
-    assert!(&rt; decodes(alloc, Rate::Trellis, &HEADER, Status::Done, b"octets 0\n", &[])?);
+    assert!(&rt;
+        decodes(
+            alloc,
+            Rate::Trellis,
+            &answer,
+            Status::Done,
+            b"octets 1\n",
+            &[0x01]
+        )?
+    );
+    assert!(&rt;
+        decodes(
+            alloc,
+            Rate::Trellis,
+            &HEADER,
+            Status::Done,
+            b"octets 0\n",
+            &[]
+        )?
+    );
     let cut = Status::BadRecording { at: 12 };
-    assert!(&rt; decodes(alloc, Rate::Trellis, &zero[..15], cut, b"bad recording: at 12\n", &[])?);
+    assert!(&rt;
+        decodes(
+            alloc,
+            Rate::Trellis,
+            &zero[..15],
+            cut,
+            b"bad recording: at 12\n",
+            &[]
+        )?
+    );
     let mode = [0x56, 0x33, 0x32, 0x52, 2, 0, 0, 0];
     assert!(&rt;
         decodes(
@@ -81,9 +126,27 @@ fn recordings_of_the_second_rate_are_decoded(rt: HostRuntime) -> Result<(), Fail
         0x56, 0x33, 0x32, 0x52, 2, 0, 0, 0, 0xb8, 0x13, 0x48, 0xf5, 0x48, 0xfc, 0xb8, 0xda, 0xe3,
         0x19, 0x00, 0xe8, 0x00, 0x08, 0xe3, 0xf9,
     ];
-    assert!(&rt; decodes(alloc, quarters, &noisy, Status::Done, b"octets 1\n", &[0x01])?);
+    assert!(&rt;
+        decodes(
+            alloc,
+            quarters,
+            &noisy,
+            Status::Done,
+            b"octets 1\n",
+            &[0x01]
+        )?
+    );
     let cut = Status::BadRecording { at: 20 };
-    assert!(&rt; decodes(alloc, quarters, &ONE[..23], cut, b"bad recording: at 20\n", &[])?);
+    assert!(&rt;
+        decodes(
+            alloc,
+            quarters,
+            &ONE[..23],
+            cut,
+            b"bad recording: at 20\n",
+            &[]
+        )?
+    );
     let other = Status::BadRecording { at: 4 };
     let said = b"bad recording: at 4\n";
     assert!(&rt; decodes(alloc, quarters, &HEADER, other, said, &[])?);
@@ -97,7 +160,16 @@ fn no_line_of_four_points_is_lost(rt: HostRuntime) -> Result<(), Fail> {
     let mut zeros = [0; 524];
     zeros[..8].copy_from_slice(&ONE[..8]);
     let zero = [0; 32];
-    assert!(&rt; decodes(rt.alloc(), Rate::Quarters, &zeros, Status::Done, b"octets 32\n", &zero)?);
+    assert!(&rt;
+        decodes(
+            rt.alloc(),
+            Rate::Quarters,
+            &zeros,
+            Status::Done,
+            b"octets 32\n",
+            &zero
+        )?
+    );
     Ok(())
 }
 
