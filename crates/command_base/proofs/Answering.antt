@@ -40,14 +40,16 @@ pub usage-plain : IsPlain Usage
 usage-plain = record { write = usage-write; memory = usage-memory }
 
 -- a plain answer is the one whose line was to be said, and it was said
-pub tells-plain : (old new : FolderState) (line : List ℕ) (answer s t : Status) → Tells old new line answer s → s ≡ t → IsPlain t → (answer ≡ t) × Said old new line
+pub tells-plain : (old new : FolderState) (line : List ℕ) (answer s t : Status) → Tells old new line answer s → s ≡ t → IsPlain t
+    → (answer ≡ t) × Said old new line
 tells-plain old new line answer s t tells e p = elim tells.said [
   | inl h ↦ (sym h.0 ∙ e, h.1)
   | inr h ↦ elim h [ inl f ↦ absurd (p.write (sym e ∙ f.0)) | inr f ↦ absurd (p.memory (sym e ∙ f.0)) ]
 ]
 
 -- a write fault is the answer's own, or the say's
-pub tells-fault : (old new : FolderState) (line : List ℕ) (answer s : Status) → Tells old new line answer s → s ≡ WriteFault → (answer ≡ WriteFault) ⊎ Rose old.say_faults new.say_faults
+pub tells-fault : (old new : FolderState) (line : List ℕ) (answer s : Status) → Tells old new line answer s → s ≡ WriteFault
+    → (answer ≡ WriteFault) ⊎ Rose old.say_faults new.say_faults
 tells-fault old new line answer s tells e = elim tells.said [
   | inl h ↦ inl (sym h.0 ∙ e)
   | inr h ↦ elim h [ inl f ↦ inr f.1 | inr f ↦ absurd (memory (sym f.0 ∙ e)) ]
@@ -67,14 +69,16 @@ tells-memory old new line answer s tells e = elim tells.said [
     write : WriteFault ≡ NoMemory → ⊥
     write e = cc
 
-pub tells-refusal : (old new : FolderState) (line : List ℕ) (answer s : Status) → Tells old new line answer s → IsRefusal s → IsRefusal answer
+pub tells-refusal : (old new : FolderState) (line : List ℕ) (answer s : Status) → Tells old new line answer s → IsRefusal s
+    → IsRefusal answer
 tells-refusal old new line answer s tells r = elim tells.said [
   | inl h ↦ subst IsRefusal h.0 r
   | inr h ↦ elim h [ inl f ↦ absurd (subst IsRefusal f.0 r) | inr f ↦ absurd (subst IsRefusal f.0 r) ]
 ]
 
 -- what was counted before the line was said, and then
-pub stand-later : (old before new : FolderState) (line : List ℕ) (answer s : Status) → PassesNoneOver old before answer → Tells before new line answer s → PassesNoneOver old new s
+pub stand-later : (old before new : FolderState) (line : List ℕ) (answer s : Status) → PassesNoneOver old before answer
+    → Tells before new line answer s → PassesNoneOver old new s
 stand-later old before new line answer s first tells = elim tells.stand [
   | inl fault ↦ inl fault
   | inr second ↦ elim tells.said [
@@ -84,7 +88,8 @@ stand-later old before new line answer s first tells = elim tells.stand [
 ]
 
 -- where saying doesn't fail the answer is the one whose line was to be said, or there was no memory
-pub told-or-memory : (old before new : FolderState) (line : List ℕ) (answer s : Status) → GoesOn old before → (Rose old.say_faults new.say_faults → ⊥) → Tells before new line answer s → (s ≡ answer) ⊎ (s ≡ NoMemory)
+pub told-or-memory : (old before new : FolderState) (line : List ℕ) (answer s : Status) → GoesOn old before
+    → (Rose old.say_faults new.say_faults → ⊥) → Tells before new line answer s → (s ≡ answer) ⊎ (s ≡ NoMemory)
 told-or-memory old before new line answer s on still tells = elim tells.said [
   | inl h ↦ inl h.0
   | inr h ↦ elim h [

@@ -10,35 +10,45 @@ use Rattle.command_base.proofs.Holding.{Holds-kept}
 use Rattle.command_base.proofs.Jobs.{write-earlier}
 
 -- a write to one name keeps each of the others
-pub KeepsEach-writes : (old new : FolderState) (name : List ℕ) (names : List (List ℕ)) → IsNoneOf name names → OnlyWrites old new name → KeepsEach old new names
+pub KeepsEach-writes : (old new : FolderState) (name : List ℕ) (names : List (List ℕ)) → IsNoneOf name names → OnlyWrites old new name
+    → KeepsEach old new names
 KeepsEach-writes old new name [] apart w = tt
-KeepsEach-writes old new name (other ∷ names) apart w = (w.names other (λ e. apart.0 (sym e)), KeepsEach-writes old new name names apart.1 w)
+KeepsEach-writes old new name (other ∷ names) apart w =
+    (w.names other (λ e. apart.0 (sym e)), KeepsEach-writes old new name names apart.1 w)
 
-KeepsEach-trans : (old mid new : FolderState) (names : List (List ℕ)) → GoesOn old mid → KeepsEach old mid names → KeepsEach mid new names → KeepsEach old new names
+KeepsEach-trans : (old mid new : FolderState) (names : List (List ℕ)) → GoesOn old mid → KeepsEach old mid names → KeepsEach mid new names
+    → KeepsEach old new names
 KeepsEach-trans old mid new [] g p q = tt
 KeepsEach-trans old mid new (name ∷ names) g p q = (KeepsName-trans old mid new name g p.0 q.0, KeepsEach-trans old mid new names g p.1 q.1)
 
-kept-earlier : (old mid new : FolderState) (name : List ℕ) → GoesOn old mid → KeepsName old mid name → KeptOrEmpty mid new name → KeptOrEmpty old new name
+kept-earlier : (old mid new : FolderState) (name : List ℕ) → GoesOn old mid → KeepsName old mid name → KeptOrEmpty mid new name
+    → KeptOrEmpty old new name
 kept-earlier old mid new name g k (inl kept) = inl (KeepsName-trans old mid new name g k kept)
 kept-earlier old mid new name g k (inr holds) = inr holds
 
 -- steps that kept each output come before they are created
-pub CreatesPart-earlier : (old mid new : FolderState) (names : List (List ℕ)) → GoesOn old mid → KeepsEach old mid names → CreatesPart mid new names → CreatesPart old new names
+pub CreatesPart-earlier : (old mid new : FolderState) (names : List (List ℕ)) → GoesOn old mid → KeepsEach old mid names
+    → CreatesPart mid new names → CreatesPart old new names
 CreatesPart-earlier old mid new [] g k c = c
-CreatesPart-earlier old mid new (name ∷ names) g k (inl c) = inl (kept-earlier old mid new name g k.0 c.0, KeepsEach-trans old mid new names g k.1 c.1)
+CreatesPart-earlier old mid new (name ∷ names) g k (inl c) =
+    inl (kept-earlier old mid new name g k.0 c.0, KeepsEach-trans old mid new names g k.1 c.1)
 CreatesPart-earlier old mid new (name ∷ names) g k (inr c) = inr (c.0, CreatesPart-earlier old mid new names g k.1 c.1)
 
 -- the first is created, and not all of the others
-pub CreatesPart-first : (old mid new : FolderState) (name : List ℕ) (names : List (List ℕ)) → IsNoneOf name names → OnlyWrites old mid name → Holds mid name [] → OnlyOutputs mid new names → CreatesPart mid new names →
+pub CreatesPart-first : (old mid new : FolderState) (name : List ℕ) (names : List (List ℕ)) → IsNoneOf name names → OnlyWrites old mid name
+    → Holds mid name [] → OnlyOutputs mid new names → CreatesPart mid new names →
     CreatesPart old new (name ∷ names)
 CreatesPart-first old mid new name names apart w holds only part =
-    inr (Holds-kept mid new name [] only.goes_on holds (only.names name apart), CreatesPart-earlier old mid new names w.goes_on (KeepsEach-writes old mid name names apart w) part)
+    inr (Holds-kept mid new name [] only.goes_on holds (only.names name apart),
+        CreatesPart-earlier old mid new names w.goes_on (KeepsEach-writes old mid name names apart w) part)
 
 -- or not even the first
-pub CreatesPart-none : (old new : FolderState) (name : List ℕ) (names : List (List ℕ)) → IsNoneOf name names → OnlyWrites old new name → KeptOrEmpty old new name → CreatesPart old new (name ∷ names)
+pub CreatesPart-none : (old new : FolderState) (name : List ℕ) (names : List (List ℕ)) → IsNoneOf name names → OnlyWrites old new name
+    → KeptOrEmpty old new name → CreatesPart old new (name ∷ names)
 CreatesPart-none old new name names apart w kept = inl (kept, KeepsEach-writes old new name names apart w)
 
-pub WriteFails-later : (old mid new : FolderState) (name : List ℕ) (names : List (List ℕ)) (fault : FolderFault) → CountsStand old mid → WriteFails mid new names fault → WriteFails old new (name ∷ names) fault
+pub WriteFails-later : (old mid new : FolderState) (name : List ℕ) (names : List (List ℕ)) (fault : FolderFault) → CountsStand old mid
+    → WriteFails mid new names fault → WriteFails old new (name ∷ names) fault
 WriteFails-later old mid new name names fault stand fails = more fault (write-earlier old mid new names fault stand fails)
   where
     more : (fault : FolderFault) → WriteFails old new names fault → WriteFails old new (name ∷ names) fault

@@ -19,21 +19,26 @@ use Rattle.command_base.proofs.Answering.{IsPlain, done-plain, read-plain, usage
 
 -- ---- counts over several steps
 
-SomeRose-later : (before mid now : List ℕ → ℕ) (names : List (List ℕ)) → ((name : List ℕ) → mid name ≤ now name) → SomeRose before mid names → SomeRose before now names
+SomeRose-later : (before mid now : List ℕ → ℕ) (names : List (List ℕ)) → ((name : List ℕ) → mid name ≤ now name) → SomeRose before mid names
+    → SomeRose before now names
 SomeRose-later before mid now [] on rose = rose
 SomeRose-later before mid now (name ∷ names) on (inl rose) = inl (Rose-later _ _ (mid name) (now name) (omega arith) rose (on name))
 SomeRose-later before mid now (name ∷ names) on (inr rose) = inr (SomeRose-later before mid now names on rose)
 
-SomeRose-earlier : (before mid now : List ℕ → ℕ) (names : List (List ℕ)) → ((name : List ℕ) → mid name ≡ before name) → SomeRose mid now names → SomeRose before now names
+SomeRose-earlier : (before mid now : List ℕ → ℕ) (names : List (List ℕ)) → ((name : List ℕ) → mid name ≡ before name)
+    → SomeRose mid now names → SomeRose before now names
 SomeRose-earlier before mid now [] same rose = rose
 SomeRose-earlier before mid now (name ∷ names) same (inl rose) = inl (subst (λ (count : ℕ). Rose count (now name)) (same name) rose)
 SomeRose-earlier before mid now (name ∷ names) same (inr rose) = inr (SomeRose-earlier before mid now names same rose)
 
-read-earlier : (old mid new : FolderState) (inputs : List (List ℕ)) (fault : FolderFault) → CountsStand old mid → ReadFails mid new inputs fault → ReadFails old new inputs fault
+read-earlier : (old mid new : FolderState) (inputs : List (List ℕ)) (fault : FolderFault) → CountsStand old mid
+    → ReadFails mid new inputs fault → ReadFails old new inputs fault
 read-earlier old mid new inputs folder.Failed stand fails = SomeRose-earlier _ _ _ inputs stand.faults.reads fails
-read-earlier old mid new inputs folder.NoMemory stand fails = (FaultsStand-trans stand.faults fails.0, subst (λ (count : ℕ). Rose count new.refusals) stand.refusals fails.1)
+read-earlier old mid new inputs folder.NoMemory stand fails =
+    (FaultsStand-trans stand.faults fails.0, subst (λ (count : ℕ). Rose count new.refusals) stand.refusals fails.1)
 
-pub write-earlier : (old mid new : FolderState) (outputs : List (List ℕ)) (fault : FolderFault) → CountsStand old mid → WriteFails mid new outputs fault → WriteFails old new outputs fault
+pub write-earlier : (old mid new : FolderState) (outputs : List (List ℕ)) (fault : FolderFault) → CountsStand old mid
+    → WriteFails mid new outputs fault → WriteFails old new outputs fault
 write-earlier old mid new outputs folder.Failed stand fails = SomeRose-earlier _ _ _ outputs stand.faults.writes fails
 write-earlier old mid new outputs folder.NoMemory stand fails =
     (FaultsStand-trans stand.faults fails.0, subst (λ (count : ℕ). Rose count new.refusals) stand.refusals fails.1)
@@ -44,7 +49,8 @@ say-earlier old mid new folder.NoMemory stand fails =
     (FaultsStand-trans stand.faults fails.0, subst (λ (count : ℕ). Rose count new.refusals) stand.refusals fails.1)
 
 -- steps that counted nothing come before the one that stops the job
-pub stop-earlier : (old mid new : FolderState) (inputs outputs : List (List ℕ)) (stop : Stop) → CountsStand old mid → StopCounts mid new inputs outputs stop → StopCounts old new inputs outputs stop
+pub stop-earlier : (old mid new : FolderState) (inputs outputs : List (List ℕ)) (stop : Stop) → CountsStand old mid
+    → StopCounts mid new inputs outputs stop → StopCounts old new inputs outputs stop
 stop-earlier old mid new inputs outputs (Own answer) stand counts = (counts.0, CountsStand-trans stand counts.1)
 stop-earlier old mid new inputs outputs (Read fault) stand counts = read-earlier old mid new inputs fault stand counts
 stop-earlier old mid new inputs outputs (Write fault) stand counts = write-earlier old mid new outputs fault stand counts
@@ -52,7 +58,8 @@ stop-earlier old mid new inputs outputs (Say fault) stand counts = say-earlier o
 stop-earlier old mid new inputs outputs NoMemory stand counts = FaultsStand-trans stand.faults counts
 
 -- or before all that is left of it
-pub end-earlier : {D : Type 0} (old mid new : FolderState) (inputs outputs : List (List ℕ)) (end : Result D Stop) → CountsStand old mid → EndCounts mid new inputs outputs end → EndCounts old new inputs outputs end
+pub end-earlier : {D : Type 0} (old mid new : FolderState) (inputs outputs : List (List ℕ)) (end : Result D Stop) → CountsStand old mid
+    → EndCounts mid new inputs outputs end → EndCounts old new inputs outputs end
 end-earlier old mid new inputs outputs (Ok done) stand counts = CountsStand-trans stand counts
 end-earlier old mid new inputs outputs (Err stop) stand counts = stop-earlier old mid new inputs outputs stop stand counts
 
@@ -62,16 +69,19 @@ says-only : (before new : FolderState) (line : List ℕ) (answer s : Status) →
 says-only before new line answer s t = OnlyOutputs-says [] t.only
 
 -- it changes no name
-pub last-only : {D : Type 0} (line_of : D → List ℕ) (words : List (List ℕ)) (before new : FolderState) (end : Result D Stop) (s : Status) → SaysLast line_of words before new end s → OnlyOutputs before new []
+pub last-only : {D : Type 0} (line_of : D → List ℕ) (words : List (List ℕ)) (before new : FolderState) (end : Result D Stop) (s : Status)
+    → SaysLast line_of words before new end s → OnlyOutputs before new []
 last-only line_of words before new (Ok done) s t = says-only before new _ _ s t
 last-only line_of words before new (Err (Own answer)) s t = says-only before new _ _ s t
 last-only line_of words before new (Err (Read fault)) s t = says-only before new _ _ s t
 last-only line_of words before new (Err (Write fault)) s t = says-only before new _ _ s t
-last-only line_of words before new (Err (Say fault)) s t = subst (λ (f : FolderState). OnlyOutputs before f []) (sym t.0) (OnlyOutputs-refl before [])
+last-only line_of words before new (Err (Say fault)) s t =
+    subst (λ (f : FolderState). OnlyOutputs before f []) (sym t.0) (OnlyOutputs-refl before [])
 last-only line_of words before new (Err NoMemory) s t = says-only before new _ _ s t
 
 -- an answer that no fault in saying gives is that of the job's end
-pub last-plain : {D : Type 0} (line_of : D → List ℕ) (words : List (List ℕ)) (before new : FolderState) (end : Result D Stop) (s t : Status) → SaysLast line_of words before new end s → s ≡ t → IsPlain t → end_status end ≡ t
+pub last-plain : {D : Type 0} (line_of : D → List ℕ) (words : List (List ℕ)) (before new : FolderState) (end : Result D Stop) (s t : Status)
+    → SaysLast line_of words before new end s → s ≡ t → IsPlain t → end_status end ≡ t
 last-plain line_of words before new (Ok done) s t l e p = (tells-plain before new _ _ s t l e p).0
 last-plain line_of words before new (Err (Own answer)) s t l e p = (tells-plain before new _ _ s t l e p).0
 last-plain line_of words before new (Err (Read fault)) s t l e p = (tells-plain before new _ _ s t l e p).0
@@ -80,7 +90,8 @@ last-plain line_of words before new (Err (Say fault)) s t l e p = sym l.1 ∙ e
 last-plain line_of words before new (Err NoMemory) s t l e p = (tells-plain before new _ _ s t l e p).0
 
 -- a write fault is the job's, or comes of saying
-last-fault : {D : Type 0} (line_of : D → List ℕ) (words : List (List ℕ)) (before new : FolderState) (end : Result D Stop) (s : Status) → SaysLast line_of words before new end s → s ≡ status.WriteFault →
+last-fault : {D : Type 0} (line_of : D → List ℕ) (words : List (List ℕ)) (before new : FolderState) (end : Result D Stop) (s : Status)
+    → SaysLast line_of words before new end s → s ≡ status.WriteFault →
     (end_status end ≡ status.WriteFault) ⊎ Rose before.say_faults new.say_faults
 last-fault line_of words before new (Ok done) s l e = tells-fault before new _ _ s l e
 last-fault line_of words before new (Err (Own answer)) s l e = tells-fault before new _ _ s l e
@@ -89,7 +100,8 @@ last-fault line_of words before new (Err (Write fault)) s l e = tells-fault befo
 last-fault line_of words before new (Err (Say fault)) s l e = inl (sym l.1 ∙ e)
 last-fault line_of words before new (Err NoMemory) s l e = tells-fault before new _ _ s l e
 
-last-refusal : {D : Type 0} (line_of : D → List ℕ) (words : List (List ℕ)) (before new : FolderState) (end : Result D Stop) (s : Status) → SaysLast line_of words before new end s → IsRefusal s → IsRefusal (end_status end)
+last-refusal : {D : Type 0} (line_of : D → List ℕ) (words : List (List ℕ)) (before new : FolderState) (end : Result D Stop) (s : Status)
+    → SaysLast line_of words before new end s → IsRefusal s → IsRefusal (end_status end)
 last-refusal line_of words before new (Ok done) s l r = tells-refusal before new _ _ s l r
 last-refusal line_of words before new (Err (Own answer)) s l r = tells-refusal before new _ _ s l r
 last-refusal line_of words before new (Err (Read fault)) s l r = tells-refusal before new _ _ s l r
@@ -98,7 +110,8 @@ last-refusal line_of words before new (Err (Say fault)) s l r = subst IsRefusal 
 last-refusal line_of words before new (Err NoMemory) s l r = tells-refusal before new _ _ s l r
 
 -- where saying doesn't fail the answer is that of the job's end, or there was no memory
-last-or-memory : {D : Type 0} (line_of : D → List ℕ) (words : List (List ℕ)) (old before new : FolderState) (end : Result D Stop) (s : Status) → GoesOn old before → (Rose old.say_faults new.say_faults → ⊥) →
+last-or-memory : {D : Type 0} (line_of : D → List ℕ) (words : List (List ℕ)) (old before new : FolderState) (end : Result D Stop)
+    (s : Status) → GoesOn old before → (Rose old.say_faults new.say_faults → ⊥) →
     SaysLast line_of words before new end s → (s ≡ end_status end) ⊎ (s ≡ status.NoMemory)
 last-or-memory line_of words old before new (Ok done) s on still l = told-or-memory old before new _ _ s on still l
 last-or-memory line_of words old before new (Err (Own answer)) s on still l = told-or-memory old before new _ _ s on still l
@@ -113,7 +126,8 @@ fault-fault : (failed : Status) (fault : FolderFault) → IsFolderFault failed �
 fault-fault failed folder.Failed f = f
 fault-fault failed folder.NoMemory f = tt
 
-end-stand : {D : Type 0} (old new : FolderState) (inputs outputs : List (List ℕ)) (end : Result D Stop) → EndCounts old new inputs outputs end → PassesNoneOver old new (end_status end)
+end-stand : {D : Type 0} (old new : FolderState) (inputs outputs : List (List ℕ)) (end : Result D Stop)
+    → EndCounts old new inputs outputs end → PassesNoneOver old new (end_status end)
 end-stand old new inputs outputs (Ok done) counts = inr counts
 end-stand old new inputs outputs (Err (Own answer)) counts = inr counts.1
 end-stand old new inputs outputs (Err (Read fault)) counts = inl (fault-fault status.ReadFault fault tt)
@@ -121,13 +135,15 @@ end-stand old new inputs outputs (Err (Write fault)) counts = inl (fault-fault s
 end-stand old new inputs outputs (Err (Say fault)) counts = inl (fault-fault status.WriteFault fault tt)
 end-stand old new inputs outputs (Err NoMemory) counts = inl tt
 
-last-stand : {D : Type 0} (line_of : D → List ℕ) (words : List (List ℕ)) (old before new : FolderState) (end : Result D Stop) (s : Status) → PassesNoneOver old before (end_status end) → SaysLast line_of words before new end s →
+last-stand : {D : Type 0} (line_of : D → List ℕ) (words : List (List ℕ)) (old before new : FolderState) (end : Result D Stop) (s : Status)
+    → PassesNoneOver old before (end_status end) → SaysLast line_of words before new end s →
     PassesNoneOver old new s
 last-stand line_of words old before new (Ok done) s first l = stand-later old before new _ _ s first l
 last-stand line_of words old before new (Err (Own answer)) s first l = stand-later old before new _ _ s first l
 last-stand line_of words old before new (Err (Read fault)) s first l = stand-later old before new _ _ s first l
 last-stand line_of words old before new (Err (Write fault)) s first l = stand-later old before new _ _ s first l
-last-stand line_of words old before new (Err (Say fault)) s first l = inl (subst IsFolderFault (sym l.1) (fault-fault status.WriteFault fault tt))
+last-stand line_of words old before new (Err (Say fault)) s first l =
+    inl (subst IsFolderFault (sym l.1) (fault-fault status.WriteFault fault tt))
 last-stand line_of words old before new (Err NoMemory) s first l = stand-later old before new _ _ s first l
 
 own-read : (answer : Status) → IsOwn answer → answer ≡ status.ReadFault → ⊥
@@ -143,7 +159,8 @@ own-done : (answer : Status) → IsOwn answer → answer ≡ status.Done → ⊥
 own-done answer own e = subst IsOwn e own
 
 -- a read fault is one of the inputs'
-end-read : {D : Type 0} (old new : FolderState) (inputs outputs : List (List ℕ)) (end : Result D Stop) → EndCounts old new inputs outputs end → end_status end ≡ status.ReadFault → SomeRose old.read_faults new.read_faults inputs
+end-read : {D : Type 0} (old new : FolderState) (inputs outputs : List (List ℕ)) (end : Result D Stop)
+    → EndCounts old new inputs outputs end → end_status end ≡ status.ReadFault → SomeRose old.read_faults new.read_faults inputs
 end-read old new inputs outputs (Err (Read folder.Failed)) counts e = counts
 end-read old new inputs outputs (Err (Own answer)) counts e = absurd (own-read answer counts.0 e)
 end-read old new inputs outputs (Ok done) counts e = absurd cc
@@ -155,7 +172,8 @@ end-read old new inputs outputs (Err (Say folder.NoMemory)) counts e = absurd cc
 end-read old new inputs outputs (Err NoMemory) counts e = absurd cc
 
 -- a write fault is one of the outputs', or comes of saying
-end-write : {D : Type 0} (old new : FolderState) (inputs outputs : List (List ℕ)) (end : Result D Stop) → EndCounts old new inputs outputs end → end_status end ≡ status.WriteFault →
+end-write : {D : Type 0} (old new : FolderState) (inputs outputs : List (List ℕ)) (end : Result D Stop)
+    → EndCounts old new inputs outputs end → end_status end ≡ status.WriteFault →
     SomeRose old.write_faults new.write_faults outputs ⊎ Rose old.say_faults new.say_faults
 end-write old new inputs outputs (Err (Write folder.Failed)) counts e = inl counts
 end-write old new inputs outputs (Err (Say folder.Failed)) counts e = inr counts
@@ -168,7 +186,8 @@ end-write old new inputs outputs (Err (Say folder.NoMemory)) counts e = absurd c
 end-write old new inputs outputs (Err NoMemory) counts e = absurd cc
 
 -- a job doesn't tell how the program is used
-end-usage : {D : Type 0} (old new : FolderState) (inputs outputs : List (List ℕ)) (end : Result D Stop) → EndCounts old new inputs outputs end → end_status end ≢ status.Usage
+end-usage : {D : Type 0} (old new : FolderState) (inputs outputs : List (List ℕ)) (end : Result D Stop)
+    → EndCounts old new inputs outputs end → end_status end ≢ status.Usage
 end-usage old new inputs outputs (Err (Own answer)) counts e = own-usage answer counts.0 e
 end-usage old new inputs outputs (Ok done) counts e = cc
 end-usage old new inputs outputs (Err (Read folder.Failed)) counts e = cc
@@ -184,7 +203,8 @@ fault-refusal failed folder.Failed never r = never r
 fault-refusal failed folder.NoMemory never r = r
 
 -- an answer that is a refusal is the command's own
-pub refusal-own : {D : Type 0} (end : Result D Stop) (P : Type 0) → ((answer : Status) → end ≡ Err (Own answer) → IsRefusal answer → P) → IsRefusal (end_status end) → P
+pub refusal-own : {D : Type 0} (end : Result D Stop) (P : Type 0) → ((answer : Status) → end ≡ Err (Own answer) → IsRefusal answer → P)
+    → IsRefusal (end_status end) → P
 refusal-own (Err (Own answer)) P by r = by answer refl r
 refusal-own (Ok done) P by r = absurd r
 refusal-own (Err (Read fault)) P by r = absurd (fault-refusal status.ReadFault fault (λ x. x) r)
@@ -198,10 +218,13 @@ pub record IsDone {D : Type 0} (j : Job D) (old before new : FolderState) : Type
   pub ends : j.Ends old before (Ok done)
   pub said : Said before new (j.line_of done)
 
-done-by : {D : Type 0} (j : Job D) (words : List (List ℕ)) (old before new : FolderState) (end : Result D Stop) (s : Status) → j.Ends old before end → EndCounts old before j.inputs j.outputs end →
+done-by : {D : Type 0} (j : Job D) (words : List (List ℕ)) (old before new : FolderState) (end : Result D Stop) (s : Status)
+    → j.Ends old before end → EndCounts old before j.inputs j.outputs end →
     SaysLast j.line_of words before new end s → s ≡ status.Done → IsDone j old before new
-done-by j words old before new (Ok done) s ends counts l e = record { done = done; ends = ends; said = (tells-plain before new _ _ s status.Done l e done-plain).1 }
-done-by j words old before new (Err stop) s ends counts l e = absurd (never stop counts (last-plain j.line_of words before new (Err stop) s status.Done l e done-plain))
+done-by j words old before new (Ok done) s ends counts l e =
+    record { done = done; ends = ends; said = (tells-plain before new _ _ s status.Done l e done-plain).1 }
+done-by j words old before new (Err stop) s ends counts l e =
+    absurd (never stop counts (last-plain j.line_of words before new (Err stop) s status.Done l e done-plain))
   where
     never : (stop : Stop) → StopCounts old before j.inputs j.outputs stop → stop_status stop ≡ status.Done → ⊥
     never (Own answer) counts e = own-done answer counts.0 e
@@ -213,7 +236,8 @@ done-by j words old before new (Err stop) s ends counts l e = absurd (never stop
     never (Say folder.NoMemory) counts e = cc
     never NoMemory counts e = cc
 
-pub done-of : {D : Type 0} (j : Job D) (words : List (List ℕ)) (old new : FolderState) (s : Status) (a : Answers j words old new s) → s ≡ status.Done → IsDone j old a.before new
+pub done-of : {D : Type 0} (j : Job D) (words : List (List ℕ)) (old new : FolderState) (s : Status) (a : Answers j words old new s)
+    → s ≡ status.Done → IsDone j old a.before new
 done-of j words old new s a e = done-by j words old a.before new a.end s a.ends a.counts a.says e
 
 -- want of memory is the folder's, or the job's own
@@ -229,7 +253,8 @@ last-memory line_of words before new (Err NoMemory) s l e = tells-memory before 
 own-memory : (answer : Status) → IsOwn answer → answer ≡ status.NoMemory → ⊥
 own-memory answer own e = subst IsOwn e own
 
-end-memory : {D : Type 0} (old new : FolderState) (inputs outputs : List (List ℕ)) (end : Result D Stop) → EndCounts old new inputs outputs end
+end-memory : {D : Type 0} (old new : FolderState) (inputs outputs : List (List ℕ)) (end : Result D Stop)
+    → EndCounts old new inputs outputs end
     → end_status end ≡ status.NoMemory → (end ≡ Err NoMemory) ⊎ Rose old.refusals new.refusals
 end-memory old new inputs outputs (Err NoMemory) counts e = inl refl
 end-memory old new inputs outputs (Err (Read folder.NoMemory)) counts e = inr counts.1
@@ -260,9 +285,12 @@ pub shared-of : {D : Type 0} (j : Job D) (words : List (List ℕ)) (old new : Fo
     → (j.Ends old a.before (Err NoMemory) → KeepsAll old a.before) → Shared j.inputs j.outputs old new s
 shared-of j words old new s a keeps = record {
   names = λ other apart. KeepsName-trans old a.before new other a.only.goes_on (a.only.names other apart) (last.names other tt);
-  refused = λ r name. KeepsName-trans old a.before new name a.only.goes_on (a.refused (last-refusal j.line_of words a.before new a.end s a.says r) name) (last.names name tt);
+  refused = λ r name. KeepsName-trans old a.before new name a.only.goes_on
+      (a.refused (last-refusal j.line_of words a.before new a.end s a.says r) name) (last.names name tt);
   read = λ e.
-      SomeRose-later _ _ _ j.inputs last.goes_on.reads (end-read old a.before j.inputs j.outputs a.end a.counts (last-plain j.line_of words a.before new a.end s status.ReadFault a.says e read-plain));
+      SomeRose-later _ _ _ j.inputs last.goes_on.reads
+          (end-read old a.before j.inputs j.outputs a.end a.counts
+          (last-plain j.line_of words a.before new a.end s status.ReadFault a.says e read-plain));
   write = λ e. elim (last-fault j.line_of words a.before new a.end s a.says e) [
     | inl own ↦ elim (end-write old a.before j.inputs j.outputs a.end a.counts own) [
       | inl rose ↦ inl (SomeRose-later _ _ _ j.outputs last.goes_on.writes rose)
@@ -271,7 +299,8 @@ shared-of j words old new s a keeps = record {
     | inr rose ↦ inr (Rose-later old.say_faults a.before.say_faults new.say_faults new.say_faults a.only.goes_on.says rose (omega arith))
   ];
   memory = memory-of j words old new s a keeps;
-  known = λ e. end-usage old a.before j.inputs j.outputs a.end a.counts (last-plain j.line_of words a.before new a.end s status.Usage a.says e usage-plain);
+  known = λ e. end-usage old a.before j.inputs j.outputs a.end a.counts
+      (last-plain j.line_of words a.before new a.end s status.Usage a.says e usage-plain);
   stand = last-stand j.line_of words old a.before new a.end s (end-stand old a.before j.inputs j.outputs a.end a.counts) a.says;
 }
   where
@@ -280,15 +309,18 @@ shared-of j words old new s a keeps = record {
 
 -- ---- when a command is done
 
-NoneRose-some : (before mid now : List ℕ → ℕ) (names : List (List ℕ)) → NoneRose before now names → ((name : List ℕ) → mid name ≤ now name) → SomeRose before mid names → ⊥
+NoneRose-some : (before mid now : List ℕ → ℕ) (names : List (List ℕ)) → NoneRose before now names → ((name : List ℕ) → mid name ≤ now name)
+    → SomeRose before mid names → ⊥
 NoneRose-some before mid now [] none on rose = rose
 NoneRose-some before mid now (name ∷ names) none on (inl rose) = none.0 (Rose-later _ _ (mid name) (now name) (omega arith) rose (on name))
 NoneRose-some before mid now (name ∷ names) none on (inr rose) = NoneRose-some before mid now names none.1 on rose
 
 -- Where the folder is sound and the command has no answer of its own to these inputs, it is done, or there was no memory.
-pub done-unless-memory : {D : Type 0} (j : Job D) (words : List (List ℕ)) (old new : FolderState) (s : Status) (a : Answers j words old new s) → IsSound old new j.inputs j.outputs →
+pub done-unless-memory : {D : Type 0} (j : Job D) (words : List (List ℕ)) (old new : FolderState) (s : Status)
+    (a : Answers j words old new s) → IsSound old new j.inputs j.outputs →
     ((answer : Status) → j.Ends old a.before (Err (Own answer)) → ⊥) → DoneUnlessMemory s
-done-unless-memory {D} j words old new s a sound never = elim (last-or-memory j.line_of words old a.before new a.end s a.only.goes_on sound.says a.says) [
+done-unless-memory {D} j words old new s a sound never =
+    elim (last-or-memory j.line_of words old a.before new a.end s a.only.goes_on sound.says a.says) [
   | inl e ↦ by a.end a.ends a.counts e
   | inr memory ↦ inr memory
 ]
@@ -296,14 +328,16 @@ done-unless-memory {D} j words old new s a sound never = elim (last-or-memory j.
     on : GoesOn a.before new
     on = (last-only j.line_of words a.before new a.end s a.says).goes_on
 
-    by : (end : Result D Stop) → j.Ends old a.before end → EndCounts old a.before j.inputs j.outputs end → s ≡ end_status end → DoneUnlessMemory s
+    by : (end : Result D Stop) → j.Ends old a.before end → EndCounts old a.before j.inputs j.outputs end → s ≡ end_status end
+        → DoneUnlessMemory s
     by (Ok done) ends counts e = inl e
     by (Err (Own answer)) ends counts e = absurd (never answer ends)
     by (Err (Read folder.Failed)) ends counts e = absurd (NoneRose-some _ _ _ j.inputs sound.reads on.reads counts)
     by (Err (Read folder.NoMemory)) ends counts e = inr e
     by (Err (Write folder.Failed)) ends counts e = absurd (NoneRose-some _ _ _ j.outputs sound.writes on.writes counts)
     by (Err (Write folder.NoMemory)) ends counts e = inr e
-    by (Err (Say folder.Failed)) ends counts e = absurd (sound.says (Rose-later _ _ a.before.say_faults new.say_faults (omega arith) counts on.says))
+    by (Err (Say folder.Failed)) ends counts e =
+        absurd (sound.says (Rose-later _ _ a.before.say_faults new.say_faults (omega arith) counts on.says))
     by (Err (Say folder.NoMemory)) ends counts e = inr e
     by (Err NoMemory) ends counts e = inr e
 

@@ -38,7 +38,8 @@ OnlyOutputs-says outputs s = record { goes_on = s.goes_on; names = λ other apar
 pub OnlyOutputs-one : {a b : FolderState} (name : List ℕ) → OnlyOutput a b name → OnlyOutputs a b (name ∷ [])
 OnlyOutputs-one name o = record { goes_on = o.goes_on; names = λ other apart. o.names other apart.0 }
 
-pub OnlyOutputs-trans : {a b c : FolderState} (outputs : List (List ℕ)) → OnlyOutputs a b outputs → OnlyOutputs b c outputs → OnlyOutputs a c outputs
+pub OnlyOutputs-trans : {a b c : FolderState} (outputs : List (List ℕ)) → OnlyOutputs a b outputs → OnlyOutputs b c outputs
+    → OnlyOutputs a c outputs
 OnlyOutputs-trans {a} {b} {c} outputs p q = record {
   goes_on = GoesOn-trans p.goes_on q.goes_on;
   names = λ other apart. KeepsName-trans a b c other p.goes_on (p.names other apart) (q.names other apart);

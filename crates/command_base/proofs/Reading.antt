@@ -7,20 +7,26 @@ use Rattle.outside_core.specs.Steps.{GoesOn-trans, KeepsName-trans, told_later, 
 use Rattle.command_base.specs.Inputs.{IsWithin, IsLonger, ReadTo}
 
 -- an input that is within its limit, or longer, was so before others were read
-pub within-earlier : (old mid : FolderState) (name : List ℕ) (limit : ℕ) → OnlyReads old mid → IsWithin mid name limit → IsWithin old name limit
+pub within-earlier : (old mid : FolderState) (name : List ℕ) (limit : ℕ) → OnlyReads old mid → IsWithin mid name limit
+    → IsWithin old name limit
 within-earlier old mid name limit reads within told =
-    subst (λ (o : List ℕ). length o ≤ limit) (octets-kept old mid name (reads.names name) told) (within (told_later reads.goes_on name told))
+    subst (λ (o : List ℕ). length o ≤ limit) (octets-kept old mid name (reads.names name) told)
+        (within (told_later reads.goes_on name told))
 
-pub longer-earlier : (old mid : FolderState) (name : List ℕ) (limit : ℕ) → OnlyReads old mid → IsLonger mid name limit → IsLonger old name limit
+pub longer-earlier : (old mid : FolderState) (name : List ℕ) (limit : ℕ) → OnlyReads old mid → IsLonger mid name limit
+    → IsLonger old name limit
 longer-earlier old mid name limit reads longer told =
-    subst (λ (o : List ℕ). limit < length o) (octets-kept old mid name (reads.names name) told) (longer (told_later reads.goes_on name told))
+    subst (λ (o : List ℕ). limit < length o) (octets-kept old mid name (reads.names name) told)
+        (longer (told_later reads.goes_on name told))
 
 -- nothing was read yet
-pub ReadTo-none : (start now : FolderState) (name : List ℕ) (limit : ℕ) → IsWithin start name limit → GoesOn start now → KeepsName start now name → ReadTo start now name limit 0 []
+pub ReadTo-none : (start now : FolderState) (name : List ℕ) (limit : ℕ) → IsWithin start name limit → GoesOn start now
+    → KeepsName start now name → ReadTo start now name limit 0 []
 ReadTo-none start now name limit within on kept = record { within = within; count = refl; front = λ told. refl; goes_on = on; kept = kept }
 
 -- what was read stays read, as long as the input is as it was
-pub ReadTo-kept : (start now later : FolderState) (name : List ℕ) (limit at : ℕ) (octets : List ℕ) → ReadTo start now name limit at octets → GoesOn now later → KeepsName now later name → ReadTo start later name limit at octets
+pub ReadTo-kept : (start now later : FolderState) (name : List ℕ) (limit at : ℕ) (octets : List ℕ) → ReadTo start now name limit at octets
+    → GoesOn now later → KeepsName now later name → ReadTo start later name limit at octets
 ReadTo-kept start now later name limit at octets r on kept = record {
   within = r.within;
   count = r.count;
@@ -30,30 +36,38 @@ ReadTo-kept start now later name limit at octets r on kept = record {
 }
 
 -- what was read begins the input
-pub ReadTo-begins : (start now : FolderState) (name : List ℕ) (limit at : ℕ) (octets : List ℕ) → ReadTo start now name limit at octets → IsTrue (start.tells name) → IsPrefixOf octets (octets_at start name)
+pub ReadTo-begins : (start now : FolderState) (name : List ℕ) (limit at : ℕ) (octets : List ℕ) → ReadTo start now name limit at octets
+    → IsTrue (start.tells name) → IsPrefixOf octets (octets_at start name)
 ReadTo-begins start now name limit at octets r told =
-    (drop at (octets_at start name), ap (λ xs. xs ++ drop at (octets_at start name)) (r.front told) ∙ take-append-drop at (octets_at start name))
+    (drop at (octets_at start name), ap (λ xs. xs ++ drop at (octets_at start name)) (r.front told)
+        ∙ take-append-drop at (octets_at start name))
 
 -- a piece more
-pub ReadTo-more : (start old new : FolderState) (name : List ℕ) (limit at count : ℕ) (octets piece : List ℕ) → ReadTo start old name limit at octets → OnlyReads old new → length piece ≡ count →
-    (IsTrue (old.tells name) → piece ≡ take count (drop at (octets_at old name))) → ReadTo start new name limit (at + count) (octets ++ piece)
+pub ReadTo-more : (start old new : FolderState) (name : List ℕ) (limit at count : ℕ) (octets piece : List ℕ)
+    → ReadTo start old name limit at octets → OnlyReads old new → length piece ≡ count →
+    (IsTrue (old.tells name) → piece ≡ take count (drop at (octets_at old name)))
+        → ReadTo start new name limit (at + count) (octets ++ piece)
 ReadTo-more start old new name limit at count octets piece r reads long is = record {
   within = r.within;
   count = omega (arith, r.count, long, length-append octets piece);
   front = λ told.
       let file : List ℕ = octets_at start name in
-      let next : piece ≡ take count (drop at file) = is (told_later r.goes_on name told) ∙ ap (λ (xs : List ℕ). take count (drop at xs)) (octets-kept start old name r.kept told) in
+      let next : piece ≡ take count (drop at file) =
+          is (told_later r.goes_on name told) ∙ ap (λ (xs : List ℕ). take count (drop at xs)) (octets-kept start old name r.kept told) in
       (λ i. r.front told i ++ next i) ∙ sym (take-add at count file);
   goes_on = GoesOn-trans r.goes_on reads.goes_on;
   kept = KeepsName-trans start old new name r.goes_on r.kept (reads.names name);
 }
 
 -- fewer octets than there was room for: the input is at its end
-pub ReadTo-end : (start old new : FolderState) (name : List ℕ) (limit at count room : ℕ) (octets piece : List ℕ) → ReadTo start old name limit at octets → OnlyReads old new → length piece ≡ count →
-    (IsTrue (old.tells name) → piece ≡ take count (drop at (octets_at old name))) → (IsTrue (old.tells name) → count ≡ min (min room (limit - at)) (length (octets_at old name) - at)) → count < room →
+pub ReadTo-end : (start old new : FolderState) (name : List ℕ) (limit at count room : ℕ) (octets piece : List ℕ)
+    → ReadTo start old name limit at octets → OnlyReads old new → length piece ≡ count →
+    (IsTrue (old.tells name) → piece ≡ take count (drop at (octets_at old name)))
+        → (IsTrue (old.tells name) → count ≡ min (min room (limit - at)) (length (octets_at old name) - at)) → count < room →
     IsTrue (start.tells name) → octets ++ piece ≡ octets_at start name
 ReadTo-end start old new name limit at count room octets piece r reads long is counts few told =
-    (ReadTo-more start old new name limit at count octets piece r reads long is).front told ∙ take_all (at + count) (octets_at start name) at_end
+    (ReadTo-more start old new name limit at count octets piece r reads long is).front told
+        ∙ take_all (at + count) (octets_at start name) at_end
   where
     least : (a b limit at count : ℕ) → b ≤ limit → count ≡ min (min a (limit - at)) (b - at) → count < a → b ≤ at + count
     least a b limit at count k e few = omega arith
@@ -62,4 +76,5 @@ ReadTo-end start old new name limit at count room octets piece r reads long is c
     same = ap (λ (xs : List ℕ). length xs) (octets-kept start old name r.kept told)
 
     at_end : length (octets_at start name) ≤ at + count
-    at_end = least room (length (octets_at start name)) limit at count (r.within told) (counts (told_later r.goes_on name told) ∙ ap (λ (m : ℕ). min (min room (limit - at)) (m - at)) same) few
+    at_end = least room (length (octets_at start name)) limit at count (r.within told) (counts (told_later r.goes_on name told)
+        ∙ ap (λ (m : ℕ). min (min room (limit - at)) (m - at)) same) few

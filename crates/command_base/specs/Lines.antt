@@ -44,7 +44,8 @@ pieces_line pieces = count_line (codes "pieces") pieces
 -- a soak that is done: its seed, the last turn, slots lost, and segments sent again
 abbrev pub soak_line : ℕ → ℕ → ℕ → ℕ → List ℕ
 soak_line seed turn lost again =
-    codes "soak " ++ decimal seed ++ codes " done " ++ decimal turn ++ codes " lost " ++ decimal lost ++ codes " again " ++ decimal again ++ codes "\n"
+    codes "soak " ++ decimal seed ++ codes " done " ++ decimal turn ++ codes " lost " ++ decimal lost ++ codes " again " ++ decimal
+        again ++ codes "\n"
 
 -- octets that were held against a recording: what they cost, and 1 where that is so little that they are told for certain, else 0
 abbrev pub margin_line : ℕ → Bool → List ℕ
@@ -84,7 +85,8 @@ short_line ReadFault = codes "read fault\n"
 short_line WriteFault = codes "write fault\n"
 short_line (LineLost role symbol) = codes "line lost: " ++ role_word role ++ codes " symbol " ++ decimal symbol ++ codes "\n"
 short_line (NotDetected turn) = codes "not detected: turn " ++ decimal turn ++ codes "\n"
-short_line (LinkLost role segment turn) = codes "link lost: " ++ role_word role ++ codes " segment " ++ decimal segment ++ codes " turn " ++ decimal turn ++ codes "\n"
+short_line (LinkLost role segment turn) =
+    codes "link lost: " ++ role_word role ++ codes " segment " ++ decimal segment ++ codes " turn " ++ decimal turn ++ codes "\n"
 short_line (ChanceMatch role turn) = codes "chance match: " ++ role_word role ++ codes " turn " ++ decimal turn ++ codes "\n"
 short_line NoMemory = codes "no memory\n"
 short_line (PeerFault fault turn) = codes "peer fault: " ++ peer_words fault ++ codes " turn " ++ decimal turn ++ codes "\n"

@@ -29,7 +29,8 @@ file-apart : (n : EncodeNames) → are_apart n ≡ true → n.file ≢ n.rec
 file-apart n e = search rules
 
 -- what a recorder made stands behind the header
-recorded-as : (rate : Rate) (mode : Mode) (kept : Recorder) (octets recorded : List ℕ) → RecorderStands rate mode kept octets recorded → IsRecordingOf rate mode octets (header_at rate mode ++ recorded) (samples_each rate * length octets)
+recorded-as : (rate : Rate) (mode : Mode) (kept : Recorder) (octets recorded : List ℕ) → RecorderStands rate mode kept octets recorded
+    → IsRecordingOf rate mode octets (header_at rate mode ++ recorded) (samples_each rate * length octets)
 recorded-as Trellis mode (recorders.Trellis m) octets recorded s = record {
   samples = s.samples;
   modulated = modulated mode m (bits_of octets) s.samples s.made;
@@ -80,7 +81,8 @@ nothing-recorded Quarters mode = record {
 -- The output holds the beginning of a recording of octets with which the file begins: so it holds the beginning of the
 -- file's recording.
 part-of : (start now : FolderState) (n : EncodeNames) (octets recording : List ℕ) (samples : ℕ) → IsWithin start n.file FILE_LIMIT →
-    (IsTrue (start.tells n.file) → IsPrefixOf octets (octets_at start n.file)) → IsRecordingOf n.rate n.mode octets recording samples → HoldsFront now n.rec recording → WritesPart start now n
+    (IsTrue (start.tells n.file) → IsPrefixOf octets (octets_at start n.file)) → IsRecordingOf n.rate n.mode octets recording samples
+        → HoldsFront now n.rec recording → WritesPart start now n
 part-of start now n octets recording samples within front recorded holds = by (start.tells n.file) refl
   where
     by : (told : Bool) → start.tells n.file ≡ told → WritesPart start now n
@@ -108,48 +110,65 @@ held-after : (old mid : FolderState) (name octets : List ℕ) → OnlyReads old 
 held-after old mid name octets r holds = Holds-kept old mid name octets r.goes_on holds (r.names name)
 
 -- what was recorded so far is left, also after a read
-pub recorded-part : (start old mid : FolderState) (n : EncodeNames) (kept : Recorder) (at : ℕ) → RecordedTo start old n kept at → OnlyReads old mid → LeavesPart start mid n
+pub recorded-part : (start old mid : FolderState) (n : EncodeNames) (kept : Recorder) (at : ℕ) → RecordedTo start old n kept at
+    → OnlyReads old mid → LeavesPart start mid n
 recorded-part start old mid n kept at r reads =
-    inr (part-of start mid n r.octets (header_at n.rate n.mode ++ r.recorded) (samples_each n.rate * length r.octets) r.read.within (ReadTo-begins start old n.file FILE_LIMIT at r.octets r.read) (recorded-as n.rate n.mode kept r.octets r.recorded r.stands)
+    inr (part-of start mid n r.octets (header_at n.rate n.mode ++ r.recorded) (samples_each n.rate * length r.octets) r.read.within
+        (ReadTo-begins start old n.file FILE_LIMIT at r.octets r.read) (recorded-as n.rate n.mode kept r.octets r.recorded r.stands)
     (HoldsFront-all mid n.rec (header_at n.rate n.mode ++ r.recorded) (held-after old mid n.rec _ reads r.rec)))
 
 -- a write failed, behind what the output held
-write-part : (start mid new : FolderState) (n : EncodeNames) (octets held piece : List ℕ) (samples : ℕ) → IsWithin start n.file FILE_LIMIT → OnlyWrites mid new n.rec →
-    (IsTrue (start.tells n.file) → IsPrefixOf octets (octets_at start n.file)) → IsRecordingOf n.rate n.mode octets (held ++ piece) samples → Holds mid n.rec held → PartlyAppended mid new n.rec piece → LeavesPart start new n
+write-part : (start mid new : FolderState) (n : EncodeNames) (octets held piece : List ℕ) (samples : ℕ) → IsWithin start n.file FILE_LIMIT
+    → OnlyWrites mid new n.rec →
+    (IsTrue (start.tells n.file) → IsPrefixOf octets (octets_at start n.file)) → IsRecordingOf n.rate n.mode octets (held ++ piece) samples
+        → Holds mid n.rec held → PartlyAppended mid new n.rec piece → LeavesPart start new n
 write-part start mid new n octets held piece samples within writes front recorded holds puts =
-    inr (part-of start new n octets (held ++ piece) samples within front recorded (HoldsFront-more mid new n.rec held piece writes.goes_on holds puts))
+    inr (part-of start new n octets (held ++ piece) samples within front recorded
+        (HoldsFront-more mid new n.rec held piece writes.goes_on holds puts))
 
 -- the output was not made
-pub create-part : (old mid new : FolderState) (n : EncodeNames) → IsWithin old n.file FILE_LIMIT → OnlyReads old mid → KeptOrEmpty mid new n.rec → LeavesPart old new n
+pub create-part : (old mid new : FolderState) (n : EncodeNames) → IsWithin old n.file FILE_LIMIT → OnlyReads old mid
+    → KeptOrEmpty mid new n.rec → LeavesPart old new n
 create-part old mid new n within reads (inl k) = inl (KeepsName-trans old mid new n.rec reads.goes_on (reads.names n.rec) k)
 create-part old mid new n within reads (inr empty) =
-    inr (part-of old new n [] (header_at n.rate n.mode ++ []) 0 within (λ told. (octets_at old n.file, refl)) (nothing-recorded n.rate n.mode) (λ told. ([], (header_at n.rate n.mode ++ [], refl), empty told)))
+    inr (part-of old new n [] (header_at n.rate n.mode ++ []) 0 within (λ told. (octets_at old n.file, refl))
+        (nothing-recorded n.rate n.mode) (λ told. ([], (header_at n.rate n.mode ++ [], refl), empty told)))
 
 -- a piece more is recorded
-pub recorded-more : (start old mid new : FolderState) (n : EncodeNames) (kept next : Recorder) (at count : ℕ) (piece made : List ℕ) (r : RecordedTo start old n kept at) → are_apart n ≡ true →
-    ReadTo start mid n.file FILE_LIMIT (at + count) (r.octets ++ piece) → RecorderStands n.rate n.mode next (r.octets ++ piece) (r.recorded ++ made) →
+pub recorded-more : (start old mid new : FolderState) (n : EncodeNames) (kept next : Recorder) (at count : ℕ) (piece made : List ℕ)
+    (r : RecordedTo start old n kept at) → are_apart n ≡ true →
+    ReadTo start mid n.file FILE_LIMIT (at + count) (r.octets ++ piece)
+        → RecorderStands n.rate n.mode next (r.octets ++ piece) (r.recorded ++ made) →
     OnlyReads old mid → OnlyWrites mid new n.rec → Appended mid new n.rec made → RecordedTo start new n next (at + count)
 recorded-more start old mid new n kept next at count piece made r apart read stands reads writes puts = record {
   octets = r.octets ++ piece;
   recorded = r.recorded ++ made;
   stands = stands;
-  read = ReadTo-kept start mid new n.file FILE_LIMIT (at + count) (r.octets ++ piece) read writes.goes_on (writes.names n.file (file-apart n apart));
+  read = ReadTo-kept start mid new n.file FILE_LIMIT (at + count) (r.octets ++ piece) read writes.goes_on
+      (writes.names n.file (file-apart n apart));
   only = OnlyOutput-trans n.rec r.only (OnlyOutput-trans n.rec (OnlyOutput-reads n.rec reads) (OnlyOutput-writes n.rec writes));
-  rec = subst (Holds new n.rec) (append_assoc (header_at n.rate n.mode) r.recorded made) (Holds-more mid new n.rec (header_at n.rate n.mode ++ r.recorded) made writes.goes_on (held-after old mid n.rec _ reads r.rec) puts);
+  rec = subst (Holds new n.rec) (append_assoc (header_at n.rate n.mode) r.recorded made)
+      (Holds-more mid new n.rec (header_at n.rate n.mode ++ r.recorded) made writes.goes_on (held-after old mid n.rec _ reads r.rec) puts);
 }
 
 -- a piece more was not wholly written
-pub piece-part : (start old mid new : FolderState) (n : EncodeNames) (kept next : Recorder) (at count : ℕ) (piece made : List ℕ) (r : RecordedTo start old n kept at) →
-    ReadTo start mid n.file FILE_LIMIT (at + count) (r.octets ++ piece) → RecorderStands n.rate n.mode next (r.octets ++ piece) (r.recorded ++ made) →
+pub piece-part : (start old mid new : FolderState) (n : EncodeNames) (kept next : Recorder) (at count : ℕ) (piece made : List ℕ)
+    (r : RecordedTo start old n kept at) →
+    ReadTo start mid n.file FILE_LIMIT (at + count) (r.octets ++ piece)
+        → RecorderStands n.rate n.mode next (r.octets ++ piece) (r.recorded ++ made) →
     OnlyReads old mid → OnlyWrites mid new n.rec → PartlyAppended mid new n.rec made → LeavesPart start new n
 piece-part start old mid new n kept next at count piece made r read stands reads writes puts =
-    write-part start mid new n (r.octets ++ piece) (header_at n.rate n.mode ++ r.recorded) made (samples_each n.rate * length (r.octets ++ piece)) r.read.within writes
+    write-part start mid new n (r.octets ++ piece) (header_at n.rate n.mode ++ r.recorded) made
+        (samples_each n.rate * length (r.octets ++ piece)) r.read.within writes
     (ReadTo-begins start mid n.file FILE_LIMIT (at + count) (r.octets ++ piece) read)
-    (subst (λ (xs : List ℕ). IsRecordingOf n.rate n.mode (r.octets ++ piece) xs (samples_each n.rate * length (r.octets ++ piece))) (sym (append_assoc (header_at n.rate n.mode) r.recorded made)) (recorded-as n.rate n.mode next (r.octets ++ piece) (r.recorded ++ made) stands))
+    (subst (λ (xs : List ℕ). IsRecordingOf n.rate n.mode (r.octets ++ piece) xs (samples_each n.rate * length (r.octets ++ piece)))
+        (sym (append_assoc (header_at n.rate n.mode) r.recorded made))
+        (recorded-as n.rate n.mode next (r.octets ++ piece) (r.recorded ++ made) stands))
     (held-after old mid n.rec (header_at n.rate n.mode ++ r.recorded) reads r.rec) puts
 
 -- the file is at its end
-pub recorded-whole : (start old mid : FolderState) (n : EncodeNames) (kept : Recorder) (at : ℕ) (r : RecordedTo start old n kept at) → OnlyReads old mid → (IsTrue (start.tells n.file) → r.octets ++ [] ≡ octets_at start n.file) →
+pub recorded-whole : (start old mid : FolderState) (n : EncodeNames) (kept : Recorder) (at : ℕ) (r : RecordedTo start old n kept at)
+    → OnlyReads old mid → (IsTrue (start.tells n.file) → r.octets ++ [] ≡ octets_at start n.file) →
     WritesAll start mid n (samples_each n.rate * at)
 recorded-whole start old mid n kept at r reads end = record {
   recording = header_at n.rate n.mode ++ r.recorded;
@@ -157,18 +176,22 @@ recorded-whole start old mid n kept at r reads end = record {
     octets = r.octets;
     within = r.read.within;
     read = λ told. sym (append-nil r.octets) ∙ end told;
-    recorded = subst (λ (x : ℕ). IsRecordingOf n.rate n.mode r.octets (header_at n.rate n.mode ++ r.recorded) (samples_each n.rate * x)) (sym r.read.count) (recorded-as n.rate n.mode kept r.octets r.recorded r.stands);
+    recorded = subst (λ (x : ℕ). IsRecordingOf n.rate n.mode r.octets (header_at n.rate n.mode ++ r.recorded) (samples_each n.rate * x))
+        (sym r.read.count) (recorded-as n.rate n.mode kept r.octets r.recorded r.stands);
   };
   rec = held-after old mid n.rec (header_at n.rate n.mode ++ r.recorded) reads r.rec;
 }
 
 -- the header was not written
-pub header-part : (start old new : FolderState) (n : EncodeNames) → Begun start old n → OnlyWrites old new n.rec → PartlyAppended old new n.rec (header_at n.rate n.mode) → LeavesPart start new n
+pub header-part : (start old new : FolderState) (n : EncodeNames) → Begun start old n → OnlyWrites old new n.rec
+    → PartlyAppended old new n.rec (header_at n.rate n.mode) → LeavesPart start new n
 header-part start old new n b writes puts =
-    write-part start old new n [] [] (header_at n.rate n.mode) 0 b.within writes (λ told. (octets_at start n.file, refl)) (nothing-recorded n.rate n.mode) b.empty puts
+    write-part start old new n [] [] (header_at n.rate n.mode) 0 b.within writes (λ told. (octets_at start n.file, refl))
+        (nothing-recorded n.rate n.mode) b.empty puts
 
 -- the file is too long, or no octet was read at its limit
-pub not-begun : (old new : FolderState) (n : EncodeNames) (stop : Stop) → OnlyReads old new → IsNotWithin old new n.file FILE_LIMIT 2 stop → EndsBy old new n stop
+pub not-begun : (old new : FolderState) (n : EncodeNames) (stop : Stop) → OnlyReads old new → IsNotWithin old new n.file FILE_LIMIT 2 stop
+    → EndsBy old new n stop
 not-begun old new n (Own answer) reads long = (long.0, reads.names, long.1)
 not-begun old new n (Read fault) reads fails = inl (reads.names n.rec)
 not-begun old new n (Write fault) reads never = absurd never

@@ -37,7 +37,8 @@ pub record OneLonger (tap : ℕ) (bits : List Bool) (samples : List Sample) : Ty
   pub sample : Sample
   pub modulated : Modulates tap bits (samples ++ sample ∷ [])
 
-pub two-more : (tap : ℕ) (bits : List Bool) (samples : List Sample) (a b : Bool) → 1 ≤ tap → Modulates tap bits samples → OneLonger tap (bits ++ a ∷ b ∷ []) samples
+pub two-more : (tap : ℕ) (bits : List Bool) (samples : List Sample) (a b : Bool) → 1 ≤ tap → Modulates tap bits samples
+    → OneLonger tap (bits ++ a ∷ b ∷ []) samples
 two-more tap bits samples a b low h =
     let a' = sent_for tap a h.line in
     let b' = sent_for tap b (h.line ++ a' ∷ []) in
@@ -50,10 +51,12 @@ two-more tap bits samples a b low h =
       modulated = record {
         line = h.line ++ a' ∷ b' ∷ [];
         turns = h.turns ++ turn ∷ [];
-        scrambled = subst (λ (p : List Bool × List Bool). Scrambles tap p.0 p.1) (λ i. (append_assoc bits (a ∷ []) (b ∷ []) i, append_assoc h.line (a' ∷ []) (b' ∷ []) i)) two;
+        scrambled = subst (λ (p : List Bool × List Bool). Scrambles tap p.0 p.1)
+            (λ i. (append_assoc bits (a ∷ []) (b ∷ []) i, append_assoc h.line (a' ∷ []) (b' ∷ []) i)) two;
         in_twos = ap (λ xs. h.line ++ xs) (sym (turn-bits a' b')) ∙ twos-more h.line h.turns turn h.in_twos;
         are_turns = All-push (λ n. n < 4) h.turns turn h.are_turns (omega (arith, bit-lt a', bit-lt b'));
-        points = ap (λ xs. xs ++ point_of label ∷ []) h.points ∙ sym (map-append point_of (turned h.turns) (label ∷ [])) ∙ ap (λ labels. map point_of labels) (sym (turned-snoc h.turns turn));
+        points = ap (λ xs. xs ++ point_of label ∷ []) h.points ∙ sym (map-append point_of (turned h.turns) (label ∷ []))
+            ∙ ap (λ labels. map point_of labels) (sym (turned-snoc h.turns turn));
       };
     }
 

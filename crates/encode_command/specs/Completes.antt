@@ -7,4 +7,5 @@ use Rattle.encode_command.specs.Words.{EncodeNames}
 
 -- the file is told and has at most 1,048,576 octets, and the folder is sound
 abbrev pub Completes : FolderState → FolderState → EncodeNames → Status → Type 0
-Completes old new n s = IsSound old new (n.file ∷ []) (n.rec ∷ []) → IsTrue (old.tells n.file) → length (octets_at old n.file) ≤ 1048576 → DoneUnlessMemory s
+Completes old new n s = IsSound old new (n.file ∷ []) (n.rec ∷ []) → IsTrue (old.tells n.file) → length (octets_at old n.file) ≤ 1048576
+    → DoneUnlessMemory s

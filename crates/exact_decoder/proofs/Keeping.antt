@@ -24,20 +24,27 @@ use Rattle.exact_decoder.proofs.Stepping.{IsCode, AreKeys, map-at, map-past, sum
 use Rattle.exact_decoder.proofs.Walking.{length-traced, traced-below}
 
 -- the labels of a state
-pub tail-at : (states : ℕ) (columns : List (List Choice)) (s : ℕ) → s < states → tail_at (map (traced columns) (range_with_len 0 states)) s ≡ traced columns s
+pub tail-at : (states : ℕ) (columns : List (List Choice)) (s : ℕ) → s < states
+    → tail_at (map (traced columns) (range_with_len 0 states)) s ≡ traced columns s
 tail-at states columns s l = get_or-map-range_with_len (traced columns) 0 states s s [] l (omega arith)
 
 -- the parts of a key are a state and a label
-pub parts-within : (table : ℕ → ℕ → Option ℕ) (points : ℕ → Sample) (states labels parallel subsets ways : ℕ) (before subset : ℕ → ℕ → ℕ) (sample : Sample) (sums nearest entered : List ℕ) (to : ℕ) → to < states → IsCode table states labels parallel subsets ways before subset
-    → AreKeys points states parallel subsets ways before subset sample sums nearest entered → (slice_index entered to % 256 < states) × (slice_index entered to / 256 % 256 < labels)
+pub parts-within : (table : ℕ → ℕ → Option ℕ) (points : ℕ → Sample) (states labels parallel subsets ways : ℕ) (before subset : ℕ → ℕ → ℕ)
+    (sample : Sample) (sums nearest entered : List ℕ) (to : ℕ) → to < states
+    → IsCode table states labels parallel subsets ways before subset
+    → AreKeys points states parallel subsets ways before subset sample sums nearest entered → (slice_index entered to % 256 < states)
+        × (slice_index entered to / 256 % 256 < labels)
 parts-within table points states labels parallel subsets ways before subset sample sums nearest entered to l code keys =
     let way = keys.into to l in
     let q = code.ways_within to way.place l way.within in
     let near = keys.near (subset to way.place) q.1 in
     let label = parallel * subset to way.place + near.place in
     let in_labels : label < labels = label-within parallel (subset to way.place) near.place subsets labels code.fill q.1 near.within in
-    let is : slice_index entered to ≡ slice_index sums (before to way.place) + (65536 * distance_of (points label) sample + 256 * label) = way.key_is ∙ ap (λ x. slice_index sums (before to way.place) + x) near.key_is in
-    let parts = key-parts (slice_index sums (before to way.place)) (before to way.place) (distance_of (points label) sample) label (slice_index entered to) (keys.states_in (before to way.place) q.0) (omega (arith, q.0, code.states_few)) (omega (arith, in_labels, code.labels_few)) is in
+    let is : slice_index entered to ≡ slice_index sums (before to way.place) + (65536 * distance_of (points label) sample + 256 * label) =
+        way.key_is ∙ ap (λ x. slice_index sums (before to way.place) + x) near.key_is in
+    let parts = key-parts (slice_index sums (before to way.place)) (before to way.place) (distance_of (points label) sample) label
+        (slice_index entered to) (keys.states_in (before to way.place) q.0) (omega (arith, q.0, code.states_few))
+        (omega (arith, in_labels, code.labels_few)) is in
     (omega (arith, parts.2, q.0), omega (arith, parts.1, in_labels))
 
 -- a key, and what it is settled as
@@ -80,14 +87,20 @@ pub record Settles (states : ℕ) (entered : List ℕ) (least : ℕ) (new_sums :
   pub choices : (to : ℕ) → to < states → choice_at column to ≡ chosen (slice_index entered to) least
 
 -- some state is reached again
-pub reached-next : (table : ℕ → ℕ → Option ℕ) (points : ℕ → Sample) (states labels steps : ℕ) (sample : Sample) (sums : List (Option ℕ)) (entries : List (Option Entry)) → (ℕ → Bool) → 1 ≤ steps → Reaches table states labels steps → AllChosen table points sample sums entries
+pub reached-next : (table : ℕ → ℕ → Option ℕ) (points : ℕ → Sample) (states labels steps : ℕ) (sample : Sample) (sums : List (Option ℕ))
+    (entries : List (Option Entry)) → (ℕ → Bool) → 1 ≤ steps → Reaches table states labels steps
+    → AllChosen table points sample sums entries
     → (s m : ℕ) → s < states → sums_at sums s ≡ Some m → (t : ℕ) × (n : ℕ) × (new_sums_at entries t ≡ Some n)
 reached-next table points states labels steps sample sums entries starts low reach h s m within reached =
     let path = reach s s within within in
     first path.0 path.1 path.2
   where
-    there : (mid label : ℕ) → table s label ≡ Some mid → (o : Option Entry) → entry_at entries mid ≡ o → Chooses (trellis_of table points starts) sample (sums_at sums) mid (option_map branch_of o) (option_map sum_of o) → (t : ℕ) × (n : ℕ) × (new_sums_at entries t ≡ Some n)
-    there mid label b None e k = absurd (k (record { before = s; label = label }) (m + distance_of (points label) sample) (record { leads = b; known = m; reached = reached; sum_is = refl }))
+    there : (mid label : ℕ) → table s label ≡ Some mid → (o : Option Entry) → entry_at entries mid ≡ o
+        → Chooses (trellis_of table points starts) sample (sums_at sums) mid (option_map branch_of o) (option_map sum_of o) → (t : ℕ)
+        × (n : ℕ) × (new_sums_at entries t ≡ Some n)
+    there mid label b None e k = absurd
+        (k (record { before = s; label = label }) (m + distance_of (points label) sample)
+        (record { leads = b; known = m; reached = reached; sum_is = refl }))
     there mid label b (Some ch) e k = (mid, ch.sum, ap (option_map sum_of) e)
 
     first : (path : List ℕ) → length path ≡ steps → Leads table s path s → (t : ℕ) × (n : ℕ) × (new_sums_at entries t ≡ Some n)
@@ -95,37 +108,52 @@ reached-next table points states labels steps sample sums entries starts low rea
     first (label ∷ rest) e (mid, b, l) = there mid label b (entry_at entries mid) refl (h starts mid)
 
 -- an entry and its sum are those of a key
-pub new_sum-known : (states : ℕ) (entered : List ℕ) (s m : ℕ) → length entered ≡ states → new_sums_at (map entry_in entered) s ≡ Some m → (s < states) × (slice_index entered s < far_key) × (slice_index entered s / 65536 ≡ m)
+pub new_sum-known : (states : ℕ) (entered : List ℕ) (s m : ℕ) → length entered ≡ states → new_sums_at (map entry_in entered) s ≡ Some m
+    → (s < states) × (slice_index entered s < far_key) × (slice_index entered s / 65536 ≡ m)
 new_sum-known states entered s m long e = elim (cases_lt s states) [
   | inl l ↦ elim (cases_lt (slice_index entered s) far_key) [
-    | inl near ↦ let is : new_sums_at (map entry_in entered) s ≡ Some (slice_index entered s / 65536) = ap (option_map sum_of) (map-at entry_in entered s (omega arith) ∙ entry-near (slice_index entered s) near) in (l, near, some_one (sym is ∙ e))
-    | inr far ↦ let is : new_sums_at (map entry_in entered) s ≡ None = ap (option_map sum_of) (map-at entry_in entered s (omega arith) ∙ entry-far (slice_index entered s) far) in absurd cc
+    | inl near ↦ let is : new_sums_at (map entry_in entered) s ≡ Some (slice_index entered s / 65536) =
+          ap (option_map sum_of) (map-at entry_in entered s (omega arith) ∙ entry-near (slice_index entered s) near) in
+          (l, near, some_one (sym is ∙ e))
+    | inr far ↦ let is : new_sums_at (map entry_in entered) s ≡ None =
+          ap (option_map sum_of) (map-at entry_in entered s (omega arith) ∙ entry-far (slice_index entered s) far) in absurd cc
   ]
-  | inr l ↦ let none : new_sums_at (map entry_in entered) s ≡ None = ap (option_map sum_of) (map-past entry_in entered s (omega arith)) in absurd cc
+  | inr l ↦ let none : new_sums_at (map entry_in entered) s ≡ None = ap (option_map sum_of) (map-past entry_in entered s (omega arith)) in
+        absurd cc
 ]
   where
     some_one : {a b : ℕ} → Some a ≡ Some b → a ≡ b
     some_one q = cc
 
-pub new_sum-near : (states : ℕ) (entered : List ℕ) (s : ℕ) → length entered ≡ states → s < states → slice_index entered s < far_key → new_sums_at (map entry_in entered) s ≡ Some (slice_index entered s / 65536)
-new_sum-near states entered s long l near = ap (option_map sum_of) (map-at entry_in entered s (omega arith) ∙ entry-near (slice_index entered s) near)
+pub new_sum-near : (states : ℕ) (entered : List ℕ) (s : ℕ) → length entered ≡ states → s < states → slice_index entered s < far_key
+    → new_sums_at (map entry_in entered) s ≡ Some (slice_index entered s / 65536)
+new_sum-near states entered s long l near =
+    ap (option_map sum_of) (map-at entry_in entered s (omega arith) ∙ entry-near (slice_index entered s) near)
 
 -- the least key is that of a state that was reached
-pub least-near : (states : ℕ) (entered : List ℕ) (least : ℕ) → length entered ≡ states → IsLeastKeyOf states entered least → ((t : ℕ) × (n : ℕ) × (new_sums_at (map entry_in entered) t ≡ Some n)) → least < far_key
-least-near states entered least long h some = let k = new_sum-known states entered some.0 some.1 long some.2 in omega (arith, h.below some.0 k.0, k.1)
+pub least-near : (states : ℕ) (entered : List ℕ) (least : ℕ) → length entered ≡ states → IsLeastKeyOf states entered least
+    → ((t : ℕ) × (n : ℕ) × (new_sums_at (map entry_in entered) t ≡ Some n)) → least < far_key
+least-near states entered least long h some = let k = new_sum-known states entered some.0 some.1 long some.2 in
+    omega (arith, h.below some.0 k.0, k.1)
 
 -- where a state's key is near, and where it is far, the new sum
-new_sums-at : (states : ℕ) (entered new_sums : List ℕ) (least : ℕ) (column : List Choice) (s : ℕ) → states ≤ 256 → length entered ≡ states → Settles states entered least new_sums column → sums_at (map sum_in new_sums) s ≡ option_map (λ n. n - least / 65536) (new_sums_at (map entry_in entered) s)
+new_sums-at : (states : ℕ) (entered new_sums : List ℕ) (least : ℕ) (column : List Choice) (s : ℕ) → states ≤ 256 → length entered ≡ states
+    → Settles states entered least new_sums column
+    → sums_at (map sum_in new_sums) s ≡ option_map (λ n. n - least / 65536) (new_sums_at (map entry_in entered) s)
 new_sums-at states entered new_sums least column s few long h = elim (cases_lt s states) [
   | inl l ↦ elim (cases_lt (slice_index entered s) far_key) [
     | inl near ↦
-        let is : slice_index new_sums s ≡ (slice_index entered s / 65536 - least / 65536) * 65536 + s = h.levels s l ∙ leveled-near (slice_index entered s) least s near in
+        let is : slice_index new_sums s ≡ (slice_index entered s / 65536 - least / 65536) * 65536 + s =
+            h.levels s l ∙ leveled-near (slice_index entered s) least s near in
         let value : slice_index new_sums s / 65536 ≡ slice_index entered s / 65536 - least / 65536 = omega (arith, is) in
-        map-at sum_in new_sums s (omega (arith, h.new_long)) ∙ sum-near (slice_index new_sums s) (omega (arith, is)) ∙ ap Some value ∙ sym (ap (option_map (λ n. n - least / 65536)) (new_sum-near states entered s long l near))
+        map-at sum_in new_sums s (omega (arith, h.new_long)) ∙ sum-near (slice_index new_sums s) (omega (arith, is)) ∙ ap Some value
+            ∙ sym (ap (option_map (λ n. n - least / 65536)) (new_sum-near states entered s long l near))
     | inr far ↦
         let is : slice_index new_sums s ≡ far_key + s = h.levels s l ∙ leveled-far (slice_index entered s) least s far in
-        let none : new_sums_at (map entry_in entered) s ≡ None = ap (option_map sum_of) (map-at entry_in entered s (omega arith) ∙ entry-far (slice_index entered s) far) in
-        map-at sum_in new_sums s (omega (arith, h.new_long)) ∙ sum-far (slice_index new_sums s) (omega (arith, is)) ∙ sym (ap (option_map (λ n. n - least / 65536)) none)
+        let none : new_sums_at (map entry_in entered) s ≡ None =
+            ap (option_map sum_of) (map-at entry_in entered s (omega arith) ∙ entry-far (slice_index entered s) far) in
+        map-at sum_in new_sums s (omega (arith, h.new_long)) ∙ sum-far (slice_index new_sums s) (omega (arith, is))
+            ∙ sym (ap (option_map (λ n. n - least / 65536)) none)
   ]
   | inr l ↦
       let none : new_sums_at (map entry_in entered) s ≡ None = ap (option_map sum_of) (map-past entry_in entered s (omega arith)) in
@@ -133,8 +161,11 @@ new_sums-at states entered new_sums least column s few long h = elim (cases_lt s
 ]
 
 -- the newest columns, with one more
-pub newest-more : (column : List Choice) (columns newer : List (List Choice)) (n : ℕ) → n < length columns → newer ≡ column ∷ take (length columns - 1) columns → take (n + 1) newer ≡ column ∷ take n columns
-newest-more column columns newer n l e = ap (take (n + 1)) e ∙ cons n (take (length columns - 1) columns) ∙ ap (λ t. column ∷ t) (take-take-less n (length columns - 1) columns (omega arith))
+pub newest-more : (column : List Choice) (columns newer : List (List Choice)) (n : ℕ) → n < length columns
+    → newer ≡ column ∷ take (length columns - 1) columns → take (n + 1) newer ≡ column ∷ take n columns
+newest-more column columns newer n l e =
+    ap (take (n + 1)) e ∙ cons n (take (length columns - 1) columns)
+    ∙ ap (λ t. column ∷ t) (take-take-less n (length columns - 1) columns (omega arith))
   where
     cons : (n : ℕ) (xs : List (List Choice)) → take (n + 1) (column ∷ xs) ≡ column ∷ take n xs
     cons n xs = rw (add-one n) refl
@@ -143,14 +174,23 @@ newest-more column columns newer n l e = ap (take (n + 1)) e ∙ cons n (take (l
     take-take-less n m xs l = grind (arith, common_steps)
 
 -- the step that keys make
-pub stepped-of : (table : ℕ → ℕ → Option ℕ) (points : ℕ → Sample) (states labels parallel subsets ways steps : ℕ) (before subset : ℕ → ℕ → ℕ) (sample : Sample) (sums nearest entered new_sums : List ℕ) (least : ℕ) (column : List Choice) (columns newer : List (List Choice)) (unreleased : ℕ)
-    → IsCode table states labels parallel subsets ways before subset → AreKeys points states parallel subsets ways before subset sample sums nearest entered → Settles states entered least new_sums column
-    → least < far_key → unreleased < length columns → newer ≡ column ∷ take (length columns - 1) columns → Stepped table points sample (kept_of states sums columns unreleased) (kept_of states new_sums newer (unreleased + 1))
-stepped-of table points states labels parallel subsets ways steps before subset sample sums nearest entered new_sums least column columns newer unreleased code keys made near room e = record {
+pub stepped-of : (table : ℕ → ℕ → Option ℕ) (points : ℕ → Sample) (states labels parallel subsets ways steps : ℕ) (before subset : ℕ → ℕ
+    → ℕ) (sample : Sample) (sums nearest entered new_sums : List ℕ) (least : ℕ) (column : List Choice) (columns newer : List (List Choice))
+    (unreleased : ℕ)
+    → IsCode table states labels parallel subsets ways before subset
+        → AreKeys points states parallel subsets ways before subset sample sums nearest entered
+        → Settles states entered least new_sums column
+    → least < far_key → unreleased < length columns → newer ≡ column ∷ take (length columns - 1) columns
+        → Stepped table points sample (kept_of states sums columns unreleased) (kept_of states new_sums newer (unreleased + 1))
+stepped-of table points states labels parallel subsets ways steps before subset sample sums nearest entered new_sums least column columns
+    newer unreleased code keys made near room e = record {
   entries = map entry_in entered;
-  chosen = λ starts to. chosen-all table points states labels parallel subsets ways before subset sample sums nearest entered starts to code keys;
+  chosen = λ starts to. chosen-all table points states labels parallel subsets ways before subset sample sums nearest entered starts to code
+      keys;
   lowered = least / 65536;
-  lowest = (made.is_least.state, new_sum-near states entered made.is_least.state keys.entered_long made.is_least.within (omega (arith, made.is_least.least_is)) ∙ ap (λ n. Some (n / 65536)) (sym made.is_least.least_is));
+  lowest = (made.is_least.state,
+      new_sum-near states entered made.is_least.state keys.entered_long made.is_least.within (omega (arith, made.is_least.least_is))
+      ∙ ap (λ n. Some (n / 65536)) (sym made.is_least.least_is));
   least = λ s m f. let k = new_sum-known states entered s m keys.entered_long f in omega (arith, made.is_least.below s k.0, k.2);
   sums = λ s. new_sums-at states entered new_sums least column s code.states_few keys.entered_long made;
   follow = λ s f g. goes s f g;
@@ -165,48 +205,68 @@ stepped-of table points states labels parallel subsets ways steps before subset 
     some_one : {a b : Entry} → Some a ≡ Some b → a ≡ b
     some_one q = cc
 
-    goes : (s : ℕ) (f : Entry) → entry_at (map entry_in entered) s ≡ Some f → tail_at (map (traced (take (unreleased + 1) newer)) (range_with_len 0 states)) s ≡ tail_at (map (traced (take unreleased columns)) (range_with_len 0 states)) f.before ++ f.label ∷ []
+    goes : (s : ℕ) (f : Entry) → entry_at (map entry_in entered) s ≡ Some f
+        → tail_at (map (traced (take (unreleased + 1) newer)) (range_with_len 0 states)) s ≡ tail_at
+        (map (traced (take unreleased columns)) (range_with_len 0 states)) f.before ++ f.label ∷ []
     goes s f g =
         let k = new_sum-known states entered s f.sum keys.entered_long (ap (option_map sum_of) g) in
         let is : entry_in (slice_index entered s) ≡ Some f = sym (map-at entry_in entered s (omega (arith, k.0, keys.entered_long))) ∙ g in
-        let same : record { before = slice_index entered s % 256; label = slice_index entered s / 256 % 256; sum = slice_index entered s / 65536 } ≡ f = some_one (sym (entry-near (slice_index entered s) k.1) ∙ is) in
-        let choice : choice_at column s ≡ choice_in (slice_index entered s) = made.choices s k.0 ∙ ap choice_in (settled-near (slice_index entered s) least k.1) in
+        let same : record { before = slice_index entered s % 256; label = slice_index entered s / 256 % 256; sum =
+            slice_index entered s / 65536 } ≡ f = some_one (sym (entry-near (slice_index entered s) k.1) ∙ is) in
+        let choice : choice_at column s ≡ choice_in (slice_index entered s) =
+            made.choices s k.0 ∙ ap choice_in (settled-near (slice_index entered s) least k.1) in
         let b : (choice_at column s).before ≡ f.before = ap (λ c. c.before) choice ∙ ap (λ x. x.before) same in
         let l : (choice_at column s).label ≡ f.label = ap (λ c. c.label) choice ∙ ap (λ x. x.label) same in
-        let within : f.before < states = omega (arith, ap (λ x. x.before) same, (parts-within table points states labels parallel subsets ways before subset sample sums nearest entered s k.0 code keys).0) in
+        let within : f.before < states =
+            omega (arith, ap (λ x. x.before) same,
+            (parts-within table points states labels parallel subsets ways before subset sample sums nearest entered s k.0 code keys).0) in
         tail-at states (take (unreleased + 1) newer) s k.0 ∙ ap (λ c. traced c s) (newest-more column columns newer unreleased room e)
-        ∙ ap (λ x. traced (take unreleased columns) x ++ (choice_at column s).label ∷ []) b ∙ ap (λ x. traced (take unreleased columns) f.before ++ x ∷ []) l
+        ∙ ap (λ x. traced (take unreleased columns) x ++ (choice_at column s).label ∷ []) b
+            ∙ ap (λ x. traced (take unreleased columns) f.before ++ x ∷ []) l
         ∙ ap (λ t. t ++ f.label ∷ []) (sym (tail-at states (take unreleased columns) f.before within))
 
 -- each state has a choice of one that was reached
-pub covered-of : (states : ℕ) (entered new_sums : List ℕ) (least : ℕ) (column : List Choice) (columns newer : List (List Choice)) (unreleased : ℕ) → states ≤ 256 → length entered ≡ states → Settles states entered least new_sums column
-    → least < far_key → unreleased < length columns → newer ≡ column ∷ take (length columns - 1) columns → Covered states (kept_of states new_sums newer (unreleased + 1))
-covered-of states entered new_sums least column columns newer unreleased few long made near room e s l = elim (cases_lt (slice_index entered s) far_key) [
+pub covered-of : (states : ℕ) (entered new_sums : List ℕ) (least : ℕ) (column : List Choice) (columns newer : List (List Choice))
+    (unreleased : ℕ) → states ≤ 256 → length entered ≡ states → Settles states entered least new_sums column
+    → least < far_key → unreleased < length columns → newer ≡ column ∷ take (length columns - 1) columns
+        → Covered states (kept_of states new_sums newer (unreleased + 1))
+covered-of states entered new_sums least column columns newer unreleased few long made near room e s l =
+    elim (cases_lt (slice_index entered s) far_key) [
   | inl here ↦ (s, slice_index entered s / 65536 - least / 65536, l, known s l here, refl)
   | inr far ↦
       let r = made.is_least.state in
       let in_r = made.is_least.within in
       let near_r : slice_index entered r < far_key = omega (arith, made.is_least.least_is) in
       let mine : choice_at column s ≡ choice_in least = made.choices s l ∙ ap choice_in (settled-far (slice_index entered s) least far) in
-      let theirs : choice_at column r ≡ choice_in least = made.choices r in_r ∙ ap choice_in (settled-near (slice_index entered r) least near_r ∙ sym made.is_least.least_is) in (
+      let theirs : choice_at column r ≡ choice_in least =
+          made.choices r in_r ∙ ap choice_in (settled-near (slice_index entered r) least near_r ∙ sym made.is_least.least_is) in (
         r,
         slice_index entered r / 65536 - least / 65536,
         in_r,
         known r in_r near_r,
         tail-at states (take (unreleased + 1) newer) s l ∙ ap (λ c. traced c s) (newest-more column columns newer unreleased room e)
             ∙ ap (λ x. traced (take unreleased columns) x.before ++ x.label ∷ []) (mine ∙ sym theirs)
-            ∙ sym (tail-at states (take (unreleased + 1) newer) r in_r ∙ ap (λ c. traced c r) (newest-more column columns newer unreleased room e)),
+            ∙ sym (tail-at states (take (unreleased + 1) newer) r in_r
+                ∙ ap (λ c. traced c r) (newest-more column columns newer unreleased room e)),
       )
 ]
   where
-    known : (s : ℕ) → s < states → slice_index entered s < far_key → sums_at (map sum_in new_sums) s ≡ Some (slice_index entered s / 65536 - least / 65536)
-    known s l here = new_sums-at states entered new_sums least column s few long made ∙ ap (option_map (λ n. n - least / 65536)) (new_sum-near states entered s long l here)
+    known : (s : ℕ) → s < states → slice_index entered s < far_key
+        → sums_at (map sum_in new_sums) s ≡ Some (slice_index entered s / 65536 - least / 65536)
+    known s l here = new_sums-at states entered new_sums least column s few long made
+        ∙ ap (option_map (λ n. n - least / 65536)) (new_sum-near states entered s long l here)
 
 -- what holds of sums and columns holds after a step
-pub holds-next : (table : ℕ → ℕ → Option ℕ) (points : ℕ → Sample) (states labels parallel subsets ways depth : ℕ) (before subset : ℕ → ℕ → ℕ) (sample : Sample) (sums nearest entered new_sums : List ℕ) (least : ℕ) (column : List Choice) (columns newer : List (List Choice)) (unreleased : ℕ)
-    → IsCode table states labels parallel subsets ways before subset → AreKeys points states parallel subsets ways before subset sample sums nearest entered → Settles states entered least new_sums column
-    → least < far_key → unreleased ≤ depth → newer ≡ column ∷ take (length columns - 1) columns → HoldsColumns states labels depth sums columns unreleased → HoldsColumns states labels depth new_sums newer (unreleased + 1)
-holds-next table points states labels parallel subsets ways depth before subset sample sums nearest entered new_sums least column columns newer unreleased code keys made near room e h = record {
+pub holds-next : (table : ℕ → ℕ → Option ℕ) (points : ℕ → Sample) (states labels parallel subsets ways depth : ℕ) (before subset : ℕ → ℕ
+    → ℕ) (sample : Sample) (sums nearest entered new_sums : List ℕ) (least : ℕ) (column : List Choice) (columns newer : List (List Choice))
+    (unreleased : ℕ)
+    → IsCode table states labels parallel subsets ways before subset
+        → AreKeys points states parallel subsets ways before subset sample sums nearest entered
+        → Settles states entered least new_sums column
+    → least < far_key → unreleased ≤ depth → newer ≡ column ∷ take (length columns - 1) columns
+        → HoldsColumns states labels depth sums columns unreleased → HoldsColumns states labels depth new_sums newer (unreleased + 1)
+holds-next table points states labels parallel subsets ways depth before subset sample sums nearest entered new_sums least column columns
+    newer unreleased code keys made near room e h = record {
   sums_long = made.new_long;
   states_in = λ s l. elim (cases_lt (slice_index entered s) far_key) [
     | inl here ↦ omega (arith, made.levels s l ∙ leveled-near (slice_index entered s) least s here, code.states_few)
@@ -219,10 +279,13 @@ holds-next table points states labels parallel subsets ways depth before subset 
   reached = (
     made.is_least.state,
     made.is_least.within,
-    omega (arith, made.levels made.is_least.state made.is_least.within ∙ leveled-near (slice_index entered made.is_least.state) least made.is_least.state (omega (arith, made.is_least.least_is)), made.is_least.least_is, made.is_least.within, code.states_few),
+    omega (arith, made.levels made.is_least.state made.is_least.within
+        ∙ leveled-near (slice_index entered made.is_least.state) least made.is_least.state (omega (arith, made.is_least.least_is)),
+        made.is_least.least_is, made.is_least.within, code.states_few),
   );
   columns_long = omega (arith, ap length e, length-take-less (length columns - 1) columns (omega arith), h.columns_long);
-  columns_fit = All-same (IsColumn states labels) newer (column ∷ take (length columns - 1) columns) e (All-cons (IsColumn states labels) column (take (length columns - 1) columns) (record {
+  columns_fit = All-same (IsColumn states labels) newer (column ∷ take (length columns - 1) columns) e
+      (All-cons (IsColumn states labels) column (take (length columns - 1) columns) (record {
     long = made.column_long;
     before = λ s l. omega (arith, ap (λ c. c.before) (made.choices s l), (fits s l).0);
     label = λ s l. omega (arith, ap (λ c. c.label) (made.choices s l), (fits s l).1);
@@ -236,14 +299,19 @@ holds-next table points states labels parallel subsets ways depth before subset 
     own : (s : ℕ) → s < states → (slice_index entered s % 256 < states) × (slice_index entered s / 256 % 256 < labels)
     own s l = parts-within table points states labels parallel subsets ways before subset sample sums nearest entered s l code keys
 
-    fits : (s : ℕ) → s < states → ((chosen (slice_index entered s) least).before < states) × ((chosen (slice_index entered s) least).label < labels)
+    fits : (s : ℕ) → s < states → ((chosen (slice_index entered s) least).before < states)
+        × ((chosen (slice_index entered s) least).label < labels)
     fits s l = elim (cases_lt (slice_index entered s) far_key) [
-      | inl here ↦ subst (λ k. ((choice_in k).before < states) × ((choice_in k).label < labels)) (sym (settled-near (slice_index entered s) least here)) (own s l)
-      | inr far ↦ subst (λ k. ((choice_in k).before < states) × ((choice_in k).label < labels)) (sym (settled-far (slice_index entered s) least far ∙ made.is_least.least_is)) (own made.is_least.state made.is_least.within)
+      | inl here ↦ subst (λ k. ((choice_in k).before < states) × ((choice_in k).label < labels))
+            (sym (settled-near (slice_index entered s) least here)) (own s l)
+      | inr far ↦ subst (λ k. ((choice_in k).before < states) × ((choice_in k).label < labels))
+            (sym (settled-far (slice_index entered s) least far ∙ made.is_least.least_is)) (own made.is_least.state made.is_least.within)
     ]
 
 -- what is released is what the columns split off
-pub released-of : (states : ℕ) (sums : List ℕ) (columns : List (List Choice)) (unreleased left : ℕ) (labels : List ℕ) → length sums ≡ states → ((s : ℕ) × (s < states) × (slice_index sums s < far_key)) → Splits states columns unreleased left labels → Covered states (kept_of states sums columns unreleased)
+pub released-of : (states : ℕ) (sums : List ℕ) (columns : List (List Choice)) (unreleased left : ℕ) (labels : List ℕ) → length sums ≡ states
+    → ((s : ℕ) × (s < states) × (slice_index sums s < far_key)) → Splits states columns unreleased left labels
+    → Covered states (kept_of states sums columns unreleased)
     → Released (kept_of states sums columns unreleased) (kept_of states sums columns left) (reverse labels)
 released-of states sums columns unreleased left labels long some split covered = record {
   count = omega (arith, split.count, length-reverse {A = ℕ} labels);
@@ -252,25 +320,36 @@ released-of states sums columns unreleased left labels long some split covered =
   parted = parts split.parted;
 }
   where
-    moved : (s : ℕ) → s < states → tail_at (map (traced (take unreleased columns)) (range_with_len 0 states)) s ≡ reverse labels ++ tail_at (map (traced (take left columns)) (range_with_len 0 states)) s
-    moved s l = tail-at states (take unreleased columns) s l ∙ split.split s l ∙ ap (λ t. reverse labels ++ t) (sym (tail-at states (take left columns) s l))
+    moved : (s : ℕ) → s < states → tail_at (map (traced (take unreleased columns)) (range_with_len 0 states)) s ≡ reverse labels ++ tail_at
+        (map (traced (take left columns)) (range_with_len 0 states)) s
+    moved s l = tail-at states (take unreleased columns) s l ∙ split.split s l
+        ∙ ap (λ t. reverse labels ++ t) (sym (tail-at states (take left columns) s l))
 
     -- a state's labels are those of one that was reached
-    like : (s x : ℕ) (a : List ℕ) → s < states → traced (take left columns) s ≡ x ∷ a → (r : ℕ) × (m : ℕ) × (sums_at (map sum_in sums) r ≡ Some m) × (tail_at (map (traced (take left columns)) (range_with_len 0 states)) r ≡ x ∷ a)
+    like : (s x : ℕ) (a : List ℕ) → s < states → traced (take left columns) s ≡ x ∷ a → (r : ℕ) × (m : ℕ)
+        × (sums_at (map sum_in sums) r ≡ Some m) × (tail_at (map (traced (take left columns)) (range_with_len 0 states)) r ≡ x ∷ a)
     like s x a l e =
         let c = covered s l in
-        let same : reverse labels ++ tail_at (map (traced (take left columns)) (range_with_len 0 states)) s ≡ reverse labels ++ tail_at (map (traced (take left columns)) (range_with_len 0 states)) c.0 = sym (moved s l) ∙ c.4 ∙ moved c.0 c.2 in
-        (c.0, c.1, c.3, sym (append_cancel_left (reverse labels) (tail_at (map (traced (take left columns)) (range_with_len 0 states)) s) (tail_at (map (traced (take left columns)) (range_with_len 0 states)) c.0) same) ∙ tail-at states (take left columns) s l ∙ e)
+        let same : reverse labels ++ tail_at (map (traced (take left columns)) (range_with_len 0 states)) s ≡ reverse labels ++ tail_at
+            (map (traced (take left columns)) (range_with_len 0 states)) c.0 = sym (moved s l) ∙ c.4 ∙ moved c.0 c.2 in
+        (c.0, c.1, c.3, sym (append_cancel_left (reverse labels) (tail_at (map (traced (take left columns)) (range_with_len 0 states)) s)
+            (tail_at (map (traced (take left columns)) (range_with_len 0 states)) c.0) same) ∙ tail-at states (take left columns) s l ∙ e)
 
-    parts : (left ≡ 0) ⊎ Part states (take left columns) → IsParted (map sum_in sums) (map (traced (take left columns)) (range_with_len 0 states))
-    parts (inl none) = inl (some.0, slice_index sums some.0 / 65536, map-at sum_in sums some.0 (omega (arith, some.1)) ∙ sum-near (slice_index sums some.0) some.2, tail-at states (take left columns) some.0 some.1 ∙ ap (λ n. traced (take n columns) some.0) none)
+    parts : (left ≡ 0) ⊎ Part states (take left columns)
+        → IsParted (map sum_in sums) (map (traced (take left columns)) (range_with_len 0 states))
+    parts (inl none) = inl (some.0, slice_index sums some.0 / 65536, map-at sum_in sums some.0 (omega (arith, some.1))
+        ∙ sum-near (slice_index sums some.0) some.2, tail-at states (take left columns) some.0 some.1
+        ∙ ap (λ n. traced (take n columns) some.0) none)
     parts (inr p) =
         let a = like p.s p.x p.a p.s_within p.s_begins in
         let b = like p.t p.y p.b p.t_within p.t_begins in
-        inr (record { s = a.0; t = b.0; s_sum = a.1; t_sum = b.1; s_reached = a.2; t_reached = b.2; x = p.x; y = p.y; a = p.a; b = p.b; s_begins = a.3; t_begins = b.3; apart = p.apart })
+        inr (record { s = a.0; t = b.0; s_sum = a.1; t_sum = b.1; s_reached = a.2; t_reached = b.2; x = p.x; y = p.y; a = p.a; b =
+            p.b; s_begins = a.3; t_begins = b.3; apart = p.apart })
 
 -- the state in the least of the sums is the first one of least sum
-pub least_sum-of : (states : ℕ) (sums : List ℕ) (least : ℕ) → states ≤ 256 → length sums ≡ states → ((s : ℕ) → s < states → slice_index sums s % 65536 ≡ s) → ((s : ℕ) × (s < states) × (slice_index sums s < far_key)) → IsLeastKeyOf states sums least
+pub least_sum-of : (states : ℕ) (sums : List ℕ) (least : ℕ) → states ≤ 256 → length sums ≡ states
+    → ((s : ℕ) → s < states → slice_index sums s % 65536 ≡ s) → ((s : ℕ) × (s < states) × (slice_index sums s < far_key))
+    → IsLeastKeyOf states sums least
     → (least % 256 < states) × IsLeastSum (map sum_in sums) (least % 256)
 least_sum-of states sums least few long states_in some h =
     let r = h.state in
@@ -279,51 +358,74 @@ least_sum-of states sums least few long states_in some h =
       omega (arith, h.within),
       record {
         sum = slice_index sums r / 65536;
-        reached = ap (λ s. sums_at (map sum_in sums) s) state ∙ map-at sum_in sums r (omega (arith, h.within)) ∙ sum-near (slice_index sums r) near;
+        reached = ap (λ s. sums_at (map sum_in sums) s) state ∙ map-at sum_in sums r (omega (arith, h.within))
+            ∙ sum-near (slice_index sums r) near;
         least = λ s m e. let k = known-at states sums s m long e in omega (arith, k.2, h.below s k.0, h.least_is);
-        first = λ s e. let k = known-at states sums s (slice_index sums r / 65536) long e in omega (arith, k.2, h.below s k.0, h.least_is, states_in s k.0, states_in r h.within, state);
+        first = λ s e. let k = known-at states sums s (slice_index sums r / 65536) long e in
+            omega (arith, k.2, h.below s k.0, h.least_is, states_in s k.0, states_in r h.within, state);
       },
     )
 
 -- all that a sample does
-pub push-all : (table : ℕ → ℕ → Option ℕ) (points : ℕ → Sample) (states labels parallel subsets ways steps depth : ℕ) (before subset : ℕ → ℕ → ℕ) (sample : Sample) (sums nearest entered new_sums : List ℕ) (least : ℕ) (columns newer : List (List Choice)) (unreleased : ℕ)
-    → IsCode table states labels parallel subsets ways before subset → 1 ≤ steps → Reaches table states labels steps → ((s m : ℕ) → sums_at (map sum_in sums) s ≡ Some m → m < 2 ^ 44) → unreleased ≤ depth → HoldsColumns states labels depth sums columns unreleased
-    → ((q : ℕ) → q < subsets → IsNearest points parallel sample q (slice_index nearest q)) → ((q : ℕ) → q < subsets → AreClose points parallel sample q)
-    → ((to : ℕ) → to < states → IsLeastWay ways before subset sums nearest to (slice_index entered to)) → length entered ≡ states → IsLeastKeyOf states entered least
+pub push-all : (table : ℕ → ℕ → Option ℕ) (points : ℕ → Sample) (states labels parallel subsets ways steps depth : ℕ) (before subset : ℕ → ℕ
+    → ℕ) (sample : Sample) (sums nearest entered new_sums : List ℕ) (least : ℕ) (columns newer : List (List Choice)) (unreleased : ℕ)
+    → IsCode table states labels parallel subsets ways before subset → 1 ≤ steps → Reaches table states labels steps
+        → ((s m : ℕ) → sums_at (map sum_in sums) s ≡ Some m → m < 2 ^ 44) → unreleased ≤ depth
+        → HoldsColumns states labels depth sums columns unreleased
+    → ((q : ℕ) → q < subsets → IsNearest points parallel sample q (slice_index nearest q))
+        → ((q : ℕ) → q < subsets → AreClose points parallel sample q)
+    → ((to : ℕ) → to < states → IsLeastWay ways before subset sums nearest to (slice_index entered to)) → length entered ≡ states
+        → IsLeastKeyOf states entered least
     → ((column : List Choice) × (newer ≡ column ∷ take (length columns - 1) columns) × AreSettled states entered least new_sums column)
-    → HoldsColumns states labels depth new_sums newer (unreleased + 1) × Stepped table points sample (kept_of states sums columns unreleased) (kept_of states new_sums newer (unreleased + 1)) × Covered states (kept_of states new_sums newer (unreleased + 1))
-push-all table points states labels parallel subsets ways steps depth before subset sample sums nearest entered new_sums least columns newer unreleased code low reach small room holds near close into long is_least (column, e, settled) = (
-  holds-next table points states labels parallel subsets ways depth before subset sample sums nearest entered new_sums least column columns newer unreleased code keys made far room e holds,
-  stepped-of table points states labels parallel subsets ways steps before subset sample sums nearest entered new_sums least column columns newer unreleased code keys made far (omega (arith, holds.columns_long)) e,
-  covered-of states entered new_sums least column columns newer unreleased code.states_few long made far (omega (arith, holds.columns_long)) e,
+    → HoldsColumns states labels depth new_sums newer (unreleased + 1)
+        × Stepped table points sample (kept_of states sums columns unreleased) (kept_of states new_sums newer (unreleased + 1))
+        × Covered states (kept_of states new_sums newer (unreleased + 1))
+push-all table points states labels parallel subsets ways steps depth before subset sample sums nearest entered new_sums least columns newer
+    unreleased code low reach small room holds near close into long is_least (column, e, settled) = (
+  holds-next table points states labels parallel subsets ways depth before subset sample sums nearest entered new_sums least column columns
+      newer unreleased code keys made far room e holds,
+  stepped-of table points states labels parallel subsets ways steps before subset sample sums nearest entered new_sums least column columns
+      newer unreleased code keys made far (omega (arith, holds.columns_long)) e,
+  covered-of states entered new_sums least column columns newer unreleased code.states_few long made far
+      (omega (arith, holds.columns_long)) e,
 )
   where
     keys : AreKeys points states parallel subsets ways before subset sample sums nearest entered
-    keys = record { sums_long = holds.sums_long; entered_long = long; states_in = holds.states_in; near = near; into = into; small = small; close = λ q i l k. close q l i k }
+    keys = record { sums_long = holds.sums_long; entered_long = long; states_in = holds.states_in; near = near; into = into; small =
+        small; close = λ q i l k. close q l i k }
 
     made : Settles states entered least new_sums column
-    made = record { new_long = settled.sums_long; column_long = settled.column_long; is_least = is_least; levels = settled.levels; choices = settled.choices }
+    made = record { new_long = settled.sums_long; column_long = settled.column_long; is_least = is_least; levels = settled.levels; choices =
+        settled.choices }
 
     far : least < far_key
-    far = least-near states entered least long is_least (reached-next table points states labels steps sample (map sum_in sums) (map entry_in entered) (λ s. true) low reach
-        (λ starts to. chosen-all table points states labels parallel subsets ways before subset sample sums nearest entered starts to code keys)
-        holds.reached.0 (slice_index sums holds.reached.0 / 65536) holds.reached.1 (map-at sum_in sums holds.reached.0 (omega (arith, holds.reached.1, holds.sums_long)) ∙ sum-near (slice_index sums holds.reached.0) holds.reached.2))
+    far = least-near states entered least long is_least
+        (reached-next table points states labels steps sample (map sum_in sums) (map entry_in entered) (λ s. true) low reach
+        (λ starts to. chosen-all table points states labels parallel subsets ways before subset sample sums nearest entered starts to code
+            keys)
+        holds.reached.0 (slice_index sums holds.reached.0 / 65536) holds.reached.1
+            (map-at sum_in sums holds.reached.0 (omega (arith, holds.reached.1, holds.sums_long))
+            ∙ sum-near (slice_index sums holds.reached.0) holds.reached.2))
 
 -- a sequence leads to each state where one led to each before
 pub near-entered : (states subsets ways : ℕ) (before subset : ℕ → ℕ → ℕ) (sums nearest entered : List ℕ)
     → ((to place : ℕ) → to < states → place < ways → (before to place < states) × (subset to place < subsets)) → length sums ≡ states
     → ((s m : ℕ) → sums_at (map sum_in sums) s ≡ Some m → m < 2 ^ 44) → ((q : ℕ) → q < subsets → slice_index nearest q < 2 ^ 50)
-    → ((to : ℕ) → to < states → IsLeastWay ways before subset sums nearest to (slice_index entered to)) → AreNear states sums → AreNear states entered
+    → ((to : ℕ) → to < states → IsLeastWay ways before subset sums nearest to (slice_index entered to)) → AreNear states sums
+        → AreNear states entered
 near-entered states subsets ways before subset sums nearest entered within long small bound into near s l =
     let way = into s l in
     let q = within s way.place l way.within in
     let from = before s way.place in
-    let known : sums_at (map sum_in sums) from ≡ Some (slice_index sums from / 65536) = map-at sum_in sums from (omega (arith, q.0)) ∙ sum-near (slice_index sums from) (near from q.0) in
+    let known : sums_at (map sum_in sums) from ≡ Some (slice_index sums from / 65536) =
+        map-at sum_in sums from (omega (arith, q.0)) ∙ sum-near (slice_index sums from) (near from q.0) in
     omega (arith, way.key_is, small from (slice_index sums from / 65536) known, bound (subset s way.place) q.1)
 
 -- and then their sums are near too
-pub near-settled : (states : ℕ) (entered new_sums : List ℕ) (least : ℕ) (column : List Choice) → states ≤ 256 → AreSettled states entered least new_sums column → AreNear states entered → AreNear states new_sums
-near-settled states entered new_sums least column few made near s l = omega (arith, made.levels s l ∙ leveled-near (slice_index entered s) least s (near s l), near s l)
+pub near-settled : (states : ℕ) (entered new_sums : List ℕ) (least : ℕ) (column : List Choice) → states ≤ 256
+    → AreSettled states entered least new_sums column → AreNear states entered → AreNear states new_sums
+near-settled states entered new_sums least column few made near s l =
+    omega (arith, made.levels s l ∙ leveled-near (slice_index entered s) least s (near s l), near s l)
 
 -- lists that are read from the last have the same labels
 pub All-reversed : (P : ℕ → Type 0) (xs : List ℕ) → All P (reverse xs) → All P xs
@@ -331,35 +433,53 @@ All-reversed P xs h = All-same P xs (reverse (reverse xs)) (sym (reverse-reverse
   where
     turned : (ys : List ℕ) → All P ys → All P (reverse ys)
     turned [] h = h
-    turned (y ∷ ys) h = All-same P (reverse (y ∷ ys)) (reverse ys ++ y ∷ []) (reverse-append (y ∷ []) ys) (All-push P (reverse ys) y (turned ys (All-tail P y ys h)) (All-head P y ys h))
+    turned (y ∷ ys) h = All-same P (reverse (y ∷ ys)) (reverse ys ++ y ∷ []) (reverse-append (y ∷ []) ys)
+        (All-push P (reverse ys) y (turned ys (All-tail P y ys h)) (All-head P y ys h))
 
 pub All-turned : (P : ℕ → Type 0) (xs : List ℕ) → All P xs → All P (reverse xs)
 All-turned P xs h = All-reversed P (reverse xs) (All-same P (reverse (reverse xs)) xs (reverse-reverse xs) h)
 
-pub released-below : (states labels : ℕ) (columns : List (List Choice)) (unreleased left : ℕ) (list : List ℕ) → 1 ≤ states → AreColumns states labels columns → Splits states columns unreleased left list → All (λ x. x < labels) list
+pub released-below : (states labels : ℕ) (columns : List (List Choice)) (unreleased left : ℕ) (list : List ℕ) → 1 ≤ states
+    → AreColumns states labels columns → Splits states columns unreleased left list → All (λ x. x < labels) list
 released-below states labels columns unreleased left list some h split =
-    let whole = traced-below states labels (take unreleased columns) 0 (omega arith) (All-take (IsColumn states labels) unreleased columns h) in
-    let both : All (λ x. x < labels) (reverse list ++ traced (take left columns) 0) = All-same (λ x. x < labels) (reverse list ++ traced (take left columns) 0) (traced (take unreleased columns) 0) (sym (split.split 0 (omega arith))) whole in
-    let front : All (λ x. x < labels) (take (length (reverse list)) (reverse list ++ traced (take left columns) 0)) = All-take (λ x. x < labels) (length (reverse list)) (reverse list ++ traced (take left columns) 0) both in
-    All-reversed (λ x. x < labels) list (All-same (λ x. x < labels) (reverse list) (take (length (reverse list)) (reverse list ++ traced (take left columns) 0)) (sym (take_at (reverse list) (traced (take left columns) 0) (length (reverse list)) refl)) front)
+    let whole = traced-below states labels (take unreleased columns) 0 (omega arith)
+        (All-take (IsColumn states labels) unreleased columns h) in
+    let both : All (λ x. x < labels) (reverse list ++ traced (take left columns) 0) =
+        All-same (λ x. x < labels) (reverse list ++ traced (take left columns) 0) (traced (take unreleased columns) 0)
+        (sym (split.split 0 (omega arith))) whole in
+    let front : All (λ x. x < labels) (take (length (reverse list)) (reverse list ++ traced (take left columns) 0)) =
+        All-take (λ x. x < labels) (length (reverse list)) (reverse list ++ traced (take left columns) 0) both in
+    All-reversed (λ x. x < labels) list
+        (All-same (λ x. x < labels) (reverse list) (take (length (reverse list)) (reverse list ++ traced (take left columns) 0))
+        (sym (take_at (reverse list) (traced (take left columns) 0) (length (reverse list)) refl)) front)
 
-pub labels-long : (columns : List (List Choice)) (unreleased from : ℕ) (list : List ℕ) → unreleased ≤ length columns → reverse list ≡ traced (take unreleased columns) from → length list ≡ unreleased
-labels-long columns unreleased from list l e = omega (arith, length-reverse {A = ℕ} list, ap length e, length-traced (take unreleased columns) from, long unreleased columns l)
+pub labels-long : (columns : List (List Choice)) (unreleased from : ℕ) (list : List ℕ) → unreleased ≤ length columns
+    → reverse list ≡ traced (take unreleased columns) from → length list ≡ unreleased
+labels-long columns unreleased from list l e =
+    omega (arith, length-reverse {A = ℕ} list, ap length e, length-traced (take unreleased columns) from, long unreleased columns l)
   where
     long : (n : ℕ) (xs : List (List Choice)) → n ≤ length xs → length (take n xs) ≡ n
     long n xs l = grind (arith, common_steps)
 
-pub labels-below : (states labels : ℕ) (columns : List (List Choice)) (unreleased from : ℕ) (list : List ℕ) → from < states → AreColumns states labels columns → reverse list ≡ traced (take unreleased columns) from → All (λ x. x < labels) list
-labels-below states labels columns unreleased from list l h e = All-reversed (λ x. x < labels) list (All-same (λ x. x < labels) (reverse list) (traced (take unreleased columns) from) e (traced-below states labels (take unreleased columns) from l (All-take (IsColumn states labels) unreleased columns h)))
+pub labels-below : (states labels : ℕ) (columns : List (List Choice)) (unreleased from : ℕ) (list : List ℕ) → from < states
+    → AreColumns states labels columns → reverse list ≡ traced (take unreleased columns) from → All (λ x. x < labels) list
+labels-below states labels columns unreleased from list l h e =
+    All-reversed (λ x. x < labels) list
+    (All-same (λ x. x < labels) (reverse list) (traced (take unreleased columns) from) e
+    (traced-below states labels (take unreleased columns) from l (All-take (IsColumn states labels) unreleased columns h)))
 
 -- before the first sample
-pub start-sums : (states start : ℕ) (sums : List ℕ) → states ≤ 256 → start < states → length sums ≡ states → ((s : ℕ) → s < states → slice_index sums s ≡ far_key + s) → map sum_in (set sums start start) ≡ set (replicate states None) start (Some 0)
+pub start-sums : (states start : ℕ) (sums : List ℕ) → states ≤ 256 → start < states → length sums ≡ states
+    → ((s : ℕ) → s < states → slice_index sums s ≡ far_key + s)
+    → map sum_in (set sums start start) ≡ set (replicate states None) start (Some 0)
 start-sums states start sums few within long far =
     same_map (set sums start start) (set (replicate states None) start (Some 0))
     (length-set sums start start ∙ long ∙ sym (length-set (replicate states None) start (Some 0) ∙ length-replicate states None))
     (λ s l. let in_states : s < states = omega (arith, length-set sums start start) in elim (cases_eq s start) [
-      | inl e ↦ ap sum_in (here sums start start s e (omega arith)) ∙ small start (omega arith) ∙ sym (set_here (replicate states None) (Some 0) start s e (omega (arith, length-replicate {A = Option ℕ} states None)))
-      | inr n ↦ ap sum_in (other sums start start s n ∙ far s in_states) ∙ sum-far (far_key + s) (omega arith) ∙ sym (set_other (replicate states None) (Some 0) start s n ∙ nowhere s)
+      | inl e ↦ ap sum_in (here sums start start s e (omega arith)) ∙ small start (omega arith)
+            ∙ sym (set_here (replicate states None) (Some 0) start s e (omega (arith, length-replicate {A = Option ℕ} states None)))
+      | inr n ↦ ap sum_in (other sums start start s n ∙ far s in_states) ∙ sum-far (far_key + s) (omega arith)
+            ∙ sym (set_other (replicate states None) (Some 0) start s n ∙ nowhere s)
     ])
   where
     here : (xs : List ℕ) (x n i : ℕ) → i ≡ n → n < length xs → slice_index (set xs n x) i ≡ x
@@ -380,24 +500,30 @@ start-sums states start sums few within long far =
     small : (n : ℕ) → n < 256 → sum_in n ≡ Some 0
     small n l = let zero_is : n / 65536 ≡ 0 = omega arith in sum-near n (omega arith) ∙ ap Some zero_is
 
-    same_map : (xs : List ℕ) (ys : List (Option ℕ)) → length xs ≡ length ys → ((s : ℕ) → s < length xs → sum_in (slice_index xs s) ≡ get_or ys s None) → map sum_in xs ≡ ys
+    same_map : (xs : List ℕ) (ys : List (Option ℕ)) → length xs ≡ length ys
+        → ((s : ℕ) → s < length xs → sum_in (slice_index xs s) ≡ get_or ys s None) → map sum_in xs ≡ ys
     same_map [] [] e h = refl
     same_map [] (y ∷ ys) e h = absurd (omega arith)
     same_map (x ∷ xs) [] e h = absurd (omega arith)
-    same_map (x ∷ xs) (y ∷ ys) e h = let a : sum_in x ≡ y = h 0 (omega arith) in ap (λ z. z ∷ map sum_in xs) a ∙ ap (λ t. y ∷ t) (same_map xs ys (omega arith) (λ s l. h (suc s) (omega arith)))
+    same_map (x ∷ xs) (y ∷ ys) e h = let a : sum_in x ≡ y = h 0 (omega arith) in
+        ap (λ z. z ∷ map sum_in xs) a ∙ ap (λ t. y ∷ t) (same_map xs ys (omega arith) (λ s l. h (suc s) (omega arith)))
 
-pub start-tails : (states : ℕ) (columns : List (List Choice)) → map (traced (take 0 columns)) (range_with_len 0 states) ≡ replicate states []
+pub start-tails : (states : ℕ) (columns : List (List Choice))
+    → map (traced (take 0 columns)) (range_with_len 0 states) ≡ replicate states []
 start-tails states columns = each 0 states
   where
     each : (first n : ℕ) → map (traced (take 0 columns)) (range_with_len first n) ≡ replicate n []
     each first zero = refl
     each first (suc n) = ap (λ t. [] ∷ t) (each (first + 1) n)
 
-pub start-are : (states start : ℕ) (sums : List ℕ) → states ≤ 256 → start < states → length sums ≡ states → ((s : ℕ) → s < states → slice_index sums s ≡ far_key + s) → AreSums states (set sums start start)
+pub start-are : (states start : ℕ) (sums : List ℕ) → states ≤ 256 → start < states → length sums ≡ states
+    → ((s : ℕ) → s < states → slice_index sums s ≡ far_key + s) → AreSums states (set sums start start)
 start-are states start sums few within long far = record {
   sums_long = length-set sums start start ∙ long;
-  states_in = λ s l. elim (cases_eq s start) [ inl e ↦ omega (arith, here sums start start s e (omega arith)) | inr n ↦ omega (arith, other sums start start s n, far s l) ];
-  bound = λ s l. elim (cases_eq s start) [ inl e ↦ omega (arith, here sums start start s e (omega arith)) | inr n ↦ omega (arith, other sums start start s n, far s l) ];
+  states_in = λ s l. elim (cases_eq s start) [ inl e ↦ omega (arith, here sums start start s e (omega arith)) | inr n ↦ omega
+      (arith, other sums start start s n, far s l) ];
+  bound = λ s l. elim (cases_eq s start) [ inl e ↦ omega (arith, here sums start start s e (omega arith)) | inr n ↦ omega
+      (arith, other sums start start s n, far s l) ];
   reached = (start, within, omega (arith, here sums start start start refl (omega arith)));
 }
   where
@@ -408,7 +534,8 @@ start-are states start sums few within long far = record {
     other xs x n i e = grind (arith, common_steps)
 
 -- the same where a sequence starts in each state
-pub any-are : (states : ℕ) (sums : List ℕ) → 1 ≤ states → states ≤ 256 → length sums ≡ states → ((s : ℕ) → s < states → slice_index sums s ≡ s) → AreSums states sums
+pub any-are : (states : ℕ) (sums : List ℕ) → 1 ≤ states → states ≤ 256 → length sums ≡ states
+    → ((s : ℕ) → s < states → slice_index sums s ≡ s) → AreSums states sums
 any-are states sums some few long own = record {
   sums_long = long;
   states_in = λ s l. omega (arith, own s l);
@@ -416,7 +543,8 @@ any-are states sums some few long own = record {
   reached = (0, omega arith, omega (arith, own 0 (omega arith)));
 }
 
-pub any-sums : (states : ℕ) (sums : List ℕ) → states ≤ 256 → length sums ≡ states → ((s : ℕ) → s < states → slice_index sums s ≡ s) → map sum_in sums ≡ replicate states (Some 0)
+pub any-sums : (states : ℕ) (sums : List ℕ) → states ≤ 256 → length sums ≡ states → ((s : ℕ) → s < states → slice_index sums s ≡ s)
+    → map sum_in sums ≡ replicate states (Some 0)
 any-sums states sums few long own = each sums states long (λ s l. omega (arith, own s l))
   where
     small : (n : ℕ) → n < 256 → sum_in n ≡ Some 0
@@ -426,4 +554,5 @@ any-sums states sums few long own = each sums states long (λ s l. omega (arith,
     each [] zero e h = refl
     each [] (suc n) e h = absurd (omega arith)
     each (x ∷ xs) zero e h = absurd (omega arith)
-    each (x ∷ xs) (suc n) e h = let a : sum_in x ≡ Some 0 = small x (h 0 (omega arith)) in ap (λ z. z ∷ map sum_in xs) a ∙ ap (λ t. Some 0 ∷ t) (each xs n (omega arith) (λ s l. h (suc s) (omega arith)))
+    each (x ∷ xs) (suc n) e h = let a : sum_in x ≡ Some 0 = small x (h 0 (omega arith)) in
+        ap (λ z. z ∷ map sum_in xs) a ∙ ap (λ t. Some 0 ∷ t) (each xs n (omega arith) (λ s l. h (suc s) (omega arith)))

@@ -86,7 +86,8 @@ get-some (x ∷ xs) (suc i) v l e = get-some xs i v (omega arith) e
 -- a new item in the place of the oldest
 pub ring-more : {A : Type 0} (xs : List A) (n place : ℕ) (v : A) → n < length xs → place ≡ place_before n (length xs)
     → from_newest place (set xs place v) ≡ v ∷ take (length xs - 1) (from_newest n xs)
-ring-more {A} xs n place v l e = elim (cases_eq n 0) [ inl first ↦ at_first first (e ∙ before_first first) | inr later ↦ at_later later (e ∙ before_later later) ]
+ring-more {A} xs n place v l e =
+    elim (cases_eq n 0) [ inl first ↦ at_first first (e ∙ before_first first) | inr later ↦ at_later later (e ∙ before_later later) ]
   where
     before_first : n ≡ 0 → place_before n (length xs) ≡ length xs - 1
     before_first e = grind (arith, nat_tests)
@@ -101,7 +102,8 @@ ring-more {A} xs n place v l e = elim (cases_eq n 0) [ inl first ↦ at_first fi
     whole e = take-drop_first n e xs
 
     put : place < length xs → from_newest place (set xs place v) ≡ v ∷ (drop (place + 1) xs ++ take place xs)
-    put l = ap (λ a. a ++ take place (set xs place v)) (drop-set xs place v l) ∙ ap (λ a. (v ∷ drop (place + 1) xs) ++ a) (take-set xs place v)
+    put l = ap (λ a. a ++ take place (set xs place v)) (drop-set xs place v l)
+        ∙ ap (λ a. (v ∷ drop (place + 1) xs) ++ a) (take-set xs place v)
 
     at_first : n ≡ 0 → place ≡ length xs - 1 → from_newest place (set xs place v) ≡ v ∷ take (length xs - 1) (from_newest n xs)
     at_first f p =
@@ -125,7 +127,8 @@ ring-more {A} xs n place v l e = elim (cases_eq n 0) [ inl first ↦ at_first fi
         take-take-less n m xs l = grind (arith, common_steps)
 
 -- an element that lies at a place
-pub ring-here : {A : Type 0} (xs : List A) (n back place : ℕ) (v : A) → n < length xs → back < length xs → place ≡ place_of n back (length xs)
+pub ring-here : {A : Type 0} (xs : List A) (n back place : ℕ) (v : A) → n < length xs → back < length xs
+    → place ≡ place_of n back (length xs)
     → v ≡ get_or xs place v → slice_get (from_newest n xs) back ≡ Some v
 ring-here xs n back place v l k e h = ring-at xs n back place l k e ∙ get-some xs place v (within (cases_lt (n + back) (length xs))) h
   where
@@ -139,7 +142,8 @@ pub columns-long : {A : Type 0} (vectors : List (Vec Choice A)) (n : ℕ) (colum
 columns-long vectors n columns l e = sym (ap length e) ∙ length-map (from_newest n vectors) (λ v. v.items) ∙ ring-long vectors n l
 
 -- a new column in the place of the oldest
-pub columns-more : {A : Type 0} (vectors : List (Vec Choice A)) (n place : ℕ) (v : Vec Choice A) (old : List (List Choice)) → n < length vectors
+pub columns-more : {A : Type 0} (vectors : List (Vec Choice A)) (n place : ℕ) (v : Vec Choice A) (old : List (List Choice))
+    → n < length vectors
     → place ≡ place_before n (length vectors) → columns_in (from_newest n vectors) ≡ old
     → columns_in (from_newest place (set vectors place v)) ≡ v.items ∷ take (length old - 1) old
 columns-more vectors n place v old l e h =

@@ -32,7 +32,8 @@ pub empty-tails : (n s : ℕ) → tail_at (replicate n []) s ≡ []
 empty-tails n s = elim (cases_lt s n) [ inl l ↦ get_or-replicate n s [] [] l | inr l ↦ replicate-past n s [] [] l ]
 
 -- the sums of a decoder that starts in one state
-pub one_start : (states start : ℕ) → start < states → (s : ℕ) → sums_at (set (replicate states None) start (Some 0)) s ≡ (if nat_eq s start then Some 0 else None)
+pub one_start : (states start : ℕ) → start < states → (s : ℕ)
+    → sums_at (set (replicate states None) start (Some 0)) s ≡ (if nat_eq s start then Some 0 else None)
 one_start states start h s = each (nat_eq s start) refl
   where
     apart : (s start : ℕ) → nat_eq s start ≡ false → s ≢ start
@@ -51,11 +52,13 @@ one_start states start h s = each (nat_eq s start) refl
     nowhere = elim (cases_lt s states) [ inl l ↦ get_or-replicate states s None None l | inr l ↦ replicate-past states s None None l ]
 
     each : (b : Bool) → nat_eq s start ≡ b → sums_at (set (replicate states None) start (Some 0)) s ≡ (if b then Some 0 else None)
-    each true e = here (replicate states None) (Some 0) start s (same s start e) (omega (arith, h, length-replicate {A = Option ℕ} states None))
+    each true e = here (replicate states None) (Some 0) start s (same s start e)
+        (omega (arith, h, length-replicate {A = Option ℕ} states None))
     each false e = other (replicate states None) (Some 0) start s (apart s start e) ∙ nowhere
 
 -- sums that are those of a start are zero
-pub start-zero : (sums : List (Option ℕ)) (starts : ℕ → Bool) → ((s : ℕ) → sums_at sums s ≡ (if starts s then Some 0 else None)) → (s m : ℕ) → sums_at sums s ≡ Some m → m ≡ 0
+pub start-zero : (sums : List (Option ℕ)) (starts : ℕ → Bool) → ((s : ℕ) → sums_at sums s ≡ (if starts s then Some 0 else None)) → (s m : ℕ)
+    → sums_at sums s ≡ Some m → m ≡ 0
 start-zero sums starts h s m e = each (starts s) (sym e ∙ h s)
   where
     each : (b : Bool) → Some m ≡ (if b then Some 0 else None) → m ≡ 0
@@ -88,7 +91,9 @@ any-small states = start-zero (replicate states (Some 0)) (λ s. nat_lt s states
 abbrev pub start_kept : ℕ → List (Option ℕ) → Kept
 start_kept states sums = record { sums = sums; tails = replicate states []; unreleased = 0 }
 
-pub start-keeps : {X : Type 0} (c : Trellis X) (states first : ℕ) (sums : List (Option ℕ)) → c.starts first ≡ true → ((s : ℕ) → sums_at sums s ≡ (if c.starts s then Some 0 else None)) → KeepsSurvivors c (start_kept states sums) [] [] × IsReleased c [] []
+pub start-keeps : {X : Type 0} (c : Trellis X) (states first : ℕ) (sums : List (Option ℕ)) → c.starts first ≡ true
+    → ((s : ℕ) → sums_at sums s ≡ (if c.starts s then Some 0 else None)) → KeepsSurvivors c (start_kept states sums) [] []
+    × IsReleased c [] []
 start-keeps {X} c states first sums there h = (
   record { base = 0; keeps = keeps; long = refl },
   released-of c [] 0 sums (replicate states []) [] keeps (inl (first, 0, h first ∙ ap start_sum there, empty-tails states first)),
@@ -97,14 +102,18 @@ start-keeps {X} c states first sums there h = (
     keeps : Keeps c [] 0 (sums_at sums) (λ s. [] ++ tail_at (replicate states []) s)
     keeps = Keeps-start c (sums_at sums) (λ s. [] ++ tail_at (replicate states []) s) (λ s. empty-tails states s) h
 
-pub start-stands : (table : ℕ → ℕ → Option ℕ) (points : ℕ → Sample) (starts : ℕ → Bool) (states depth first : ℕ) (sums : List (Option ℕ)) (d : Decoding) → starts first ≡ true → ((s : ℕ) → sums_at sums s ≡ (if starts s then Some 0 else None))
-    → opened d.memory ≡ start_kept states sums → d.count ≡ 0 → d.pending ≡ [] → d.lost ≡ None → DecoderStands table points starts depth d [] []
+pub start-stands : (table : ℕ → ℕ → Option ℕ) (points : ℕ → Sample) (starts : ℕ → Bool) (states depth first : ℕ) (sums : List (Option ℕ))
+    (d : Decoding) → starts first ≡ true → ((s : ℕ) → sums_at sums s ≡ (if starts s then Some 0 else None))
+    → opened d.memory ≡ start_kept states sums → d.count ≡ 0 → d.pending ≡ [] → d.lost ≡ None
+        → DecoderStands table points starts depth d [] []
 start-stands table points starts states depth first sums d there h kept count pending lost =
     let c = trellis_of table points starts in
     let k = start-keeps c states first sums there h in
     record {
       counted = count ∙ sym (ap (λ o. length (heard o [])) lost);
       lost = subst (LostIs c depth []) (sym lost) (λ n within o. let l = o.over in absurd (omega arith));
-      released = subst (λ s. IsReleased c s ([] ++ d.pending)) (sym (ap (λ o. heard o []) lost)) (subst (IsReleased c []) (sym pending) k.1);
-      keeps = λ _. subst (λ p. KeepsSurvivors c (opened d.memory) [] p) (sym pending) (subst (λ v. KeepsSurvivors c v [] []) (sym kept) k.0);
+      released = subst (λ s. IsReleased c s ([] ++ d.pending)) (sym (ap (λ o. heard o []) lost))
+          (subst (IsReleased c []) (sym pending) k.1);
+      keeps = λ _. subst (λ p. KeepsSurvivors c (opened d.memory) [] p) (sym pending)
+          (subst (λ v. KeepsSurvivors c v [] []) (sym kept) k.0);
     }

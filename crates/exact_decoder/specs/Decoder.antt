@@ -22,7 +22,8 @@ decoding_of survivors count labels lost = record { memory = Sealed survivors; co
 
 -- each state that this one leads to in so many steps has a sum of at most as many greatest distances
 abbrev pub IsNearAfter : (ℕ → ℕ → Option ℕ) → (ℕ → Option ℕ) → ℕ → ℕ → Type 0
-IsNearAfter table sums steps from = (path : List ℕ) (to : ℕ) → length path ≡ steps → Leads table from path to → (m : ℕ) × (sums to ≡ Some m) × (m ≤ steps * 2 ^ 33)
+IsNearAfter table sums steps from =
+    (path : List ℕ) (to : ℕ) → length path ≡ steps → Leads table from path to → (m : ℕ) × (sums to ≡ Some m) × (m ≤ steps * 2 ^ 33)
 
 -- How far sums are apart after so many samples, at most so many that each state leads to each: each is below as many greatest
 -- distances, and for each number of steps up to that there is a state from which all states that it leads to have small sums.
@@ -48,7 +49,8 @@ heard (Some symbol) samples = take (symbol + 1) samples
 
 -- The decoder stands for these samples, with these labels taken: what is taken and what is pending is what these samples
 -- release, and the line is lost where the definition says. A lost line releases no more.
-pub record DecoderStands (table : ℕ → ℕ → Option ℕ) (points : ℕ → Sample) (starts : ℕ → Bool) (depth : ℕ) (d : Decoding) (samples : List Sample) (taken : List ℕ) : Type 0 where
+pub record DecoderStands (table : ℕ → ℕ → Option ℕ) (points : ℕ → Sample) (starts : ℕ → Bool) (depth : ℕ) (d : Decoding)
+    (samples : List Sample) (taken : List ℕ) : Type 0 where
   pub counted : d.count ≡ length (heard d.lost samples)
   pub lost : LostIs (trellis_of table points starts) depth samples d.lost
   pub released : IsReleased (trellis_of table points starts) (heard d.lost samples) (taken ++ d.pending)

@@ -30,7 +30,9 @@ leads_there : (s label to : ℕ) → flips_next s label ≡ Some to → (s + lab
 leads_there s label to e = (some_if (nat_lt s 2 && nat_lt label 2) ((s + label) % 2) to e).1
 
 leads-if : (s label to : ℕ) → s < 2 → label < 2 → (s + label) % 2 ≡ to → flips_next s label ≡ Some to
-leads-if s label to in_states in_labels e = if_true (nat_lt s 2 && nat_lt label 2) ((s + label) % 2) to (and_from (nat_lt s 2) (nat_lt label 2) (lt-ltb s 2 in_states) (lt-ltb label 2 in_labels)) e
+leads-if s label to in_states in_labels e =
+    if_true (nat_lt s 2 && nat_lt label 2) ((s + label) % 2) to
+    (and_from (nat_lt s 2) (nat_lt label 2) (lt-ltb s 2 in_states) (lt-ltb label 2 in_labels)) e
 
 pub flips_within : StaysWithin flips_next 2 2
 flips_within s label to in_states in_labels e = omega (arith, leads_there s label to e)
@@ -72,13 +74,17 @@ pub flips_differ : PointsDiffer flips_point 2
 flips_differ a b in_a in_b e = elim (cases_eq a b) [
   | inl same ↦ same
   | inr differ ↦ elim (cases_eq a 0) [
-    | inl first ↦ let other : b ≡ 1 = omega (arith, between b in_b (λ same. differ (first ∙ sym same))) in absurd (apart (rw (first, other) at e))
-    | inr second ↦ let one : a ≡ 1 = omega (arith, between a in_a second) in let other : b ≡ 0 = elim (cases_eq b 0) [ inl z ↦ z | inr o ↦ absurd (differ (one ∙ sym (between b in_b o))) ] in absurd (apart (sym (rw (one, other) at e)))
+    | inl first ↦ let other : b ≡ 1 = omega (arith, between b in_b (λ same. differ (first ∙ sym same))) in
+          absurd (apart (rw (first, other) at e))
+    | inr second ↦ let one : a ≡ 1 = omega (arith, between a in_a second) in let other : b ≡ 0 =
+          elim (cases_eq b 0) [ inl z ↦ z | inr o ↦ absurd (differ (one ∙ sym (between b in_b o))) ] in
+          absurd (apart (sym (rw (one, other) at e)))
   ]
 ]
   where
     between : (n : ℕ) → n < 2 → (n ≡ 0 → ⊥) → n ≡ 1
-    between n low some = elim (cases_eq n 0) [ inl z ↦ absurd (some z) | inr o ↦ elim (cases_lt n 1) [ inl l ↦ let z : n ≡ 0 = omega arith in absurd (some z) | inr l ↦ omega arith ] ]
+    between n low some = elim (cases_eq n 0) [ inl z ↦ absurd (some z) | inr o ↦ elim (cases_lt n 1) [ inl l ↦ let z : n ≡ 0 =
+        omega arith in absurd (some z) | inr l ↦ omega arith ] ]
 
     differs : (m n : ℕ) → m ≡ 2000 → n ≡ 0 → m ≡ n → ⊥
     differs m n e f g = omega arith

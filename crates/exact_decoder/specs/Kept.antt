@@ -66,7 +66,8 @@ pub record Stepped (table : ℕ → ℕ → Option ℕ) (points : ℕ → Sample
 
 -- the labels of each state are those of one that was reached
 abbrev pub Covered : ℕ → Kept → Type 0
-Covered states k = (s : ℕ) → s < states → (r : ℕ) × (m : ℕ) × (r < states) × (sums_at k.sums r ≡ Some m) × (tail_at k.tails s ≡ tail_at k.tails r)
+Covered states k = (s : ℕ) → s < states → (r : ℕ) × (m : ℕ) × (r < states) × (sums_at k.sums r ≡ Some m)
+    × (tail_at k.tails s ≡ tail_at k.tails r)
 
 -- each state had these labels and then those that it has now
 abbrev pub IsMoved : List (Option ℕ) → List (List ℕ) → List ℕ → List (List ℕ) → Type 0

@@ -28,7 +28,9 @@ leads_there : (s label to : ℕ) → laps_next s label ≡ Some to → (s + labe
 leads_there s label to e = (some_if (nat_lt s 80 && nat_lt label 80) ((s + label) % 80) to e).1
 
 leads-if : (s label to : ℕ) → s < 80 → label < 80 → (s + label) % 80 ≡ to → laps_next s label ≡ Some to
-leads-if s label to in_states in_labels e = if_true (nat_lt s 80 && nat_lt label 80) ((s + label) % 80) to (and_from (nat_lt s 80) (nat_lt label 80) (lt-ltb s 80 in_states) (lt-ltb label 80 in_labels)) e
+leads-if s label to in_states in_labels e =
+    if_true (nat_lt s 80 && nat_lt label 80) ((s + label) % 80) to
+    (and_from (nat_lt s 80) (nat_lt label 80) (lt-ltb s 80 in_states) (lt-ltb label 80 in_labels)) e
 
 pub laps_within : StaysWithin laps_next 80 80
 laps_within s label to in_states in_labels e = omega (arith, leads_there s label to e)

@@ -18,7 +18,8 @@ abbrev pub FromAnyStarts : (ℕ → ℕ → Option ℕ) → (ℕ → Sample) →
 FromAnyStarts table points states law = (starts : ℕ → Bool) → AreStarts states starts → law (trellis_of table points starts)
 
 -- The samples are exactly the points of these labels, which are a code sequence.
-pub record AreSent (table : ℕ → ℕ → Option ℕ) (points : ℕ → Sample) (starts : ℕ → Bool) (labels : List ℕ) (samples : List Sample) : Type 0 where
+pub record AreSent (table : ℕ → ℕ → Option ℕ) (points : ℕ → Sample) (starts : ℕ → Bool) (labels : List ℕ)
+    (samples : List Sample) : Type 0 where
   pub end : ℕ
   pub code_sequence : IsCodeSequence table starts labels end
   pub exact : samples ≡ map points labels
@@ -36,7 +37,8 @@ OnlySentIsLeast table points = (starts : ℕ → Bool) (labels : List ℕ) (samp
 -- what the first n samples release was sent
 abbrev pub ReleasesSent : (ℕ → ℕ → Option ℕ) → (ℕ → Sample) → Type 0
 ReleasesSent table points = (starts : ℕ → Bool) (labels : List ℕ) (samples : List Sample) (n : ℕ) (front : List ℕ)
-    → AreSent table points starts labels samples → IsReleased (trellis_of table points starts) (take n samples) front → IsPrefixOf front labels
+    → AreSent table points starts labels samples → IsReleased (trellis_of table points starts) (take n samples) front
+        → IsPrefixOf front labels
 
 -- what a decoder released, taken or not
 abbrev pub released_by : Decoding → List ℕ → List ℕ
@@ -50,7 +52,8 @@ DecoderReleasesLeast table points states = (starts : ℕ → Bool) (depth : ℕ)
 
 -- It is a prefix of what any decoder of more samples released.
 abbrev pub DecoderReleasesStay : (ℕ → ℕ → Option ℕ) → (ℕ → Sample) → Type 0
-DecoderReleasesStay table points = (starts : ℕ → Bool) (depth : ℕ) (d later : Decoding) (samples more : List Sample) (taken later_taken : List ℕ)
+DecoderReleasesStay table points =
+    (starts : ℕ → Bool) (depth : ℕ) (d later : Decoding) (samples more : List Sample) (taken later_taken : List ℕ)
     → DecoderStands table points starts depth d samples taken → DecoderStands table points starts depth later (samples ++ more) later_taken
     → IsPrefixOf (released_by d taken) (released_by later later_taken)
 

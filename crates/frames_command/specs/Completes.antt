@@ -7,4 +7,5 @@ use Rattle.frames_command.specs.Words.{FramesNames}
 
 -- the file is told and has at most 1,048,576 octets, and the folder is sound
 abbrev pub Completes : FolderState → FolderState → FramesNames → Status → Type 0
-Completes old new n s = IsSound old new (n.bits ∷ []) [] → IsTrue (old.tells n.bits) → length (octets_at old n.bits) ≤ 1048576 → DoneUnlessMemory s
+Completes old new n s = IsSound old new (n.bits ∷ []) [] → IsTrue (old.tells n.bits) → length (octets_at old n.bits) ≤ 1048576
+    → DoneUnlessMemory s

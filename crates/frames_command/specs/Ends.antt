@@ -1,5 +1,5 @@
 -- How a listing ends, before its last line is said. What is said of a name's octets holds where the folder tells that name.
-use Rattle.std.specs.Prelude.{◌≡◌, ℕ, IsTrue, List, [], ◌∷◌, ◌++◌, length, Result, Ok, Err}
+use Rattle.std.specs.Prelude.{◌≡◌, ◌⊎◌, ℕ, IsTrue, List, [], ◌∷◌, ◌++◌, length, Result, Ok, Err}
 use Rattle.outside_core.specs.Folder.{FolderState, octets_at, Said, PartlySaid}
 use Rattle.plain_lists.specs.Bits.{bits_of}
 use Rattle.bit_stuffing.specs.Found.{Found, pieces_of}
@@ -43,7 +43,7 @@ SaysPart old new n = (lines : List ℕ) × AreFirst old n lines × PartlySaid ol
 -- why not all pieces are listed; word 2 names the file
 abbrev pub EndsBy : FolderState → FolderState → FramesNames → Stop → Type 0
 EndsBy old new n (Own answer) = (answer ≡ TooLong 2) × Said old new [] × IsLonger old n.bits FILE_LIMIT
-EndsBy old new n (Read fault) = SaysFirst old new n
+EndsBy old new n (Read fault) = Said old new [] ⊎ (IsWithin old n.bits FILE_LIMIT × SaysFirst old new n)
 EndsBy old new n (Say fault) = IsWithin old n.bits FILE_LIMIT × SaysPart old new n
 EndsBy old new n (Write fault) = ⊥
 EndsBy old new n NoMemory = ⊥

@@ -15,20 +15,23 @@ use Rattle.line_coding.specs.Modes.{ScramblesAs, DescramblesAs}
 use Rattle.line_coding.specs.Modulates.{Modulates, ModulatorStands}
 use Rattle.line_coding.specs.Demodulates.{Demodulates, DemodulatorStands}
 
-scrambled-as : (mode : Mode) (s : ModeScrambler) (input line : List Bool) → ScramblesAs mode s input line → Scrambles (tap_of mode) input line
+scrambled-as : (mode : Mode) (s : ModeScrambler) (input line : List Bool) → ScramblesAs mode s input line
+    → Scrambles (tap_of mode) input line
 scrambled-as Call (scramblers.Call s) input line h = h.scrambled
 scrambled-as Answer (scramblers.Answer s) input line h = h.scrambled
 scrambled-as Call (scramblers.Answer s) input line h = absurd h
 scrambled-as Answer (scramblers.Call s) input line h = absurd h
 
-descrambled-as : (mode : Mode) (d : ModeDescrambler) (line output : List Bool) → DescramblesAs mode d line output → Descrambles (tap_of mode) line output
+descrambled-as : (mode : Mode) (d : ModeDescrambler) (line output : List Bool) → DescramblesAs mode d line output
+    → Descrambles (tap_of mode) line output
 descrambled-as Call (descramblers.Call d) line output h = h.descrambled
 descrambled-as Answer (descramblers.Answer d) line output h = h.descrambled
 descrambled-as Call (descramblers.Answer d) line output h = absurd h
 descrambled-as Answer (descramblers.Call d) line output h = absurd h
 
 -- a modulator's samples are those of its bits
-pub modulated : (mode : Mode) (m : Modulator) (bits : List Bool) (samples : List Sample) → ModulatorStands mode m bits samples → Modulates (tap_of mode) bits samples
+pub modulated : (mode : Mode) (m : Modulator) (bits : List Bool) (samples : List Sample) → ModulatorStands mode m bits samples
+    → Modulates (tap_of mode) bits samples
 modulated mode m bits samples h = record {
   line = h.line;
   quads = h.quads;
@@ -42,5 +45,6 @@ modulated mode m bits samples h = record {
 }
 
 -- a demodulator's bits are those that its labels carry
-pub demodulated : (mode : Mode) (d : Demodulator) (labels : List ℕ) (bits : List Bool) → DemodulatorStands mode d labels bits → Demodulates (tap_of mode) labels bits
+pub demodulated : (mode : Mode) (d : Demodulator) (labels : List ℕ) (bits : List Bool) → DemodulatorStands mode d labels bits
+    → Demodulates (tap_of mode) labels bits
 demodulated mode d labels bits h = descrambled-as mode d.descrambler _ bits h.descrambler

@@ -24,7 +24,8 @@ pub record DemodulatorStands (mode : Mode) (demodulator : Demodulator) (labels :
 
 -- labels carry one list of bits
 abbrev pub OneReading : Type 0
-OneReading = (tap : ℕ) (labels : List ℕ) (bits other : List Bool) → Demodulates tap labels bits → Demodulates tap labels other → bits ≡ other
+OneReading = (tap : ℕ) (labels : List ℕ) (bits other : List Bool) → Demodulates tap labels bits → Demodulates tap labels other
+    → bits ≡ other
 
 -- four for each label
 abbrev pub IsFourTimes : Type 0

@@ -13,7 +13,8 @@ done-else (LineLost role symbol) up line = absurd (line tt)
 done-else (ChanceMatch role turn) up line = absurd (line tt)
 
 pub completes-unstarved : LostLinksWereStarved → CompletesUnstarved
-completes-unstarved starved script files end left h r fed line = done-else end (λ g. fed (starved (channel_of script) files end left h r g)) line
+completes-unstarved starved script files end left h r fed line =
+    done-else end (λ g. fed (starved (channel_of script) files end left h r g)) line
 
 pub completes-with-few : FewLossesKeepLinks → CompletesWithFewLosses
 completes-with-few keep script files end left h r few line = done-else end (λ g. keep (channel_of script) files end left h r few g) line

@@ -42,9 +42,11 @@ either : (a b : Bool) → number (a || b) ≤ number a + number b
 either true b = omega arith
 either false b = omega arith
 
-one-and-more : (loss : Loss) (losses : List Loss) (role : Role) (n : ℕ) → named_in (loss ∷ losses) role n ≤ named_by loss role n + named_in losses role n
+one-and-more : (loss : Loss) (losses : List Loss) (role : Role) (n : ℕ)
+    → named_in (loss ∷ losses) role n ≤ named_by loss role n + named_in losses role n
 one-and-more loss losses role zero = omega arith
-one-and-more loss losses role (suc n) = omega (arith, one-and-more loss losses role n, either (names role n loss) (some_names role n losses))
+one-and-more loss losses role (suc n) =
+    omega (arith, one-and-more loss losses role n, either (names role n loss) (some_names role n losses))
 
 -- a line names as many slots as it counts, and no slot of another role
 pub record Few (from count n named : ℕ) : Type 0 where
@@ -68,7 +70,8 @@ few-step from count n named h = go (nat_le from n) (nat_lt n (from + count)) ref
     go true false e f = record { within = omega (arith, h.within); behind = omega (arith, h.behind) }
     go false b e f = record { within = omega (arith, h.within); behind = omega (arith, h.behind) }
 
-few-of : (same : Bool) (from count n named : ℕ) → Few from count n named → Few from count (suc n) (named + number (same && covers from count n))
+few-of : (same : Bool) (from count n named : ℕ) → Few from count n named
+    → Few from count (suc n) (named + number (same && covers from count n))
 few-of true from count n named h = few-step from count n named h
 few-of false from count n named h = record { within = omega (arith, h.within); behind = omega (arith, h.behind) }
 
@@ -122,19 +125,22 @@ grows-lost losses sender n d l e =
     subst (λ x. named_in losses sender (n - d) + 1 ≤ named_in losses sender x) (sym next) (omega (arith, one))
 
 counts-on : (script : ScriptValue) (sender : Role) (ts : List Turn) (heard : Heard) → AsNamed script sender ts heard
-    → named_in script.losses sender (length ts - delay_of script sender) + lost_in heard ≤ named_in script.losses sender (length ts + 1 - delay_of script sender)
+    → named_in script.losses sender (length ts - delay_of script sender) + lost_in heard ≤ named_in script.losses sender
+        (length ts + 1 - delay_of script sender)
 counts-on script sender ts Nothing h = let g = grows script.losses sender (length ts) (delay_of script sender) in omega (arith, g)
 counts-on script sender ts (Passed s) h = let g = grows script.losses sender (length ts) (delay_of script sender) in omega (arith, g)
 counts-on script sender ts Chance h = let g = grows script.losses sender (length ts) (delay_of script sender) in omega (arith, g)
 counts-on script sender ts (Lost s) h = let l = h.lost tt in grows-lost script.losses sender (length ts) (delay_of script sender) l.0 l.1
 
-lost-named-to : (script : ScriptValue) (ts : List Turn) → AllNamed script ts → (role : Role) → lost_to role ts ≤ named_in script.losses (other role) (length ts - delay_of script (other role))
+lost-named-to : (script : ScriptValue) (ts : List Turn) → AllNamed script ts → (role : Role)
+    → lost_to role ts ≤ named_in script.losses (other role) (length ts - delay_of script (other role))
 lost-named-to script [] h role = omega arith
 lost-named-to script (t ∷ ts) h role =
     let before = lost-named-to script ts h.1 role in
     let d : ℕ = delay_of script (other role) in
     let longer : length ts + 1 ≡ length (t ∷ ts) = omega arith in
-    let one = subst (λ n. named_in script.losses (other role) (length ts - d) + lost_in (of role t).heard ≤ named_in script.losses (other role) (n - d)) longer
+    let one = subst (λ n. named_in script.losses (other role) (length ts - d) + lost_in (of role t).heard ≤ named_in script.losses
+        (other role) (n - d)) longer
     (counts-on script (other role) ts (of role t).heard (h.0 role)) in
     omega (arith, before, one)
 

@@ -77,9 +77,11 @@ list-decided (x ∷ xs) (y ∷ ys) = go (number-decided x y) (list-decided xs ys
 -- frames are the same where their parts are
 frame-decided : (a b : Frame) → Decided (a ≡ b)
 frame-decided a b =
-    go (bool-decided (parts_of a).command (parts_of b).command) (number-decided (control_octet (parts_of a)) (control_octet (parts_of b))) (list-decided (tail_octets (parts_of a)) (tail_octets (parts_of b)))
+    go (bool-decided (parts_of a).command (parts_of b).command) (number-decided (control_octet (parts_of a)) (control_octet (parts_of b)))
+        (list-decided (tail_octets (parts_of a)) (tail_octets (parts_of b)))
   where
-    go : Decided ((parts_of a).command ≡ (parts_of b).command) → Decided (control_octet (parts_of a) ≡ control_octet (parts_of b)) → Decided (tail_octets (parts_of a) ≡ tail_octets (parts_of b)) → Decided (a ≡ b)
+    go : Decided ((parts_of a).command ≡ (parts_of b).command) → Decided (control_octet (parts_of a) ≡ control_octet (parts_of b))
+        → Decided (tail_octets (parts_of a) ≡ tail_octets (parts_of b)) → Decided (a ≡ b)
     go (inl x) (inl y) (inl z) = inl (
         sym (frame_at-parts a) ∙ ap (λ c. frame_at c (control_octet (parts_of a)) (tail_octets (parts_of a))) x
         ∙ ap (λ n. frame_at (parts_of b).command n (tail_octets (parts_of a))) y
@@ -97,7 +99,8 @@ some-short None = inl tt
 some-short (Some info) = elim (cases_lt INFO (length info)) [ inl l ↦ inr (λ k. omega (arith, l, k)) | inr l ↦ inl l ]
 
 is-frame-decided : (frame : Frame) → Decided (IsFrame frame)
-is-frame-decided frame = three-decided (some-below (parts_of frame).ns 128) (some-below (parts_of frame).nr 128) (some-short (parts_of frame).info)
+is-frame-decided frame = three-decided (some-below (parts_of frame).ns 128) (some-below (parts_of frame).nr 128)
+    (some-short (parts_of frame).info)
 
 -- The frame of a role's command or response that octets can spell, and no other.
 abbrev candidate : Check → Bool → List ℕ → Frame
@@ -119,12 +122,14 @@ front-of check sender dlci whole frame s =
     let few : length whole - count_of (check_heard check whole) ≡ length octets = omega (arith, all, count) in
     ap (λ n. take n whole) few ∙ ap (take (length octets)) is ∙ take-append_seam octets (check_of kind octets)
 
-candidate-is : (check : Check) (sender : Role) (dlci : ℕ) (whole : List ℕ) (frame : Frame) → SpellsFrame check sender dlci whole frame → candidate check (parts_of frame).command whole ≡ frame
+candidate-is : (check : Check) (sender : Role) (dlci : ℕ) (whole : List ℕ) (frame : Frame) → SpellsFrame check sender dlci whole frame
+    → candidate check (parts_of frame).command whole ≡ frame
 candidate-is check sender dlci whole frame s =
     let front = front-of check sender dlci whole frame s in
     ap (λ (octets : List ℕ). frame_at (parts_of frame).command (slice_index_or octets 1 0) (drop 2 octets)) front ∙ frame_at-parts frame
 
-spelled-decided : (check : Check) (sender : Role) (dlci : ℕ) (whole : List ℕ) (frame : Frame) → Decided (SpellsFrame check sender dlci whole frame)
+spelled-decided : (check : Check) (sender : Role) (dlci : ℕ) (whole : List ℕ) (frame : Frame)
+    → Decided (SpellsFrame check sender dlci whole frame)
 spelled-decided check sender dlci whole frame = go (is-frame-decided frame) (list-decided (checked check sender dlci frame) whole)
   where
     go : Decided (IsFrame frame) → Decided (checked check sender dlci frame ≡ whole) → Decided (SpellsFrame check sender dlci whole frame)
@@ -133,14 +138,19 @@ spelled-decided check sender dlci whole frame = go (is-frame-decided frame) (lis
     go (inr f) e = inr (λ s. f s.spelling.0)
 
 -- octets spell a frame, or none
-spells-or-none : (check : Check) (sender : Role) (dlci : ℕ) (whole : List ℕ) → ((frame : Frame) × SpellsFrame check sender dlci whole frame) ⊎ ((frame : Frame) → SpellsFrame check sender dlci whole frame → ⊥)
+spells-or-none : (check : Check) (sender : Role) (dlci : ℕ) (whole : List ℕ) → ((frame : Frame) × SpellsFrame check sender dlci whole frame)
+    ⊎ ((frame : Frame) → SpellsFrame check sender dlci whole frame → ⊥)
 spells-or-none check sender dlci whole =
-    go (spelled-decided check sender dlci whole (candidate check true whole)) (spelled-decided check sender dlci whole (candidate check false whole))
+    go (spelled-decided check sender dlci whole (candidate check true whole))
+        (spelled-decided check sender dlci whole (candidate check false whole))
   where
-    none : (command : Bool) (frame : Frame) → (parts_of frame).command ≡ command → (SpellsFrame check sender dlci whole (candidate check command whole) → ⊥) → SpellsFrame check sender dlci whole frame → ⊥
-    none command frame e n s = n (subst (SpellsFrame check sender dlci whole) (sym (candidate-is check sender dlci whole frame s) ∙ ap (λ c. candidate check c whole) e) s)
+    none : (command : Bool) (frame : Frame) → (parts_of frame).command ≡ command
+        → (SpellsFrame check sender dlci whole (candidate check command whole) → ⊥) → SpellsFrame check sender dlci whole frame → ⊥
+    none command frame e n s = n (subst (SpellsFrame check sender dlci whole) (sym (candidate-is check sender dlci whole frame s)
+        ∙ ap (λ c. candidate check c whole) e) s)
 
-    go : Decided (SpellsFrame check sender dlci whole (candidate check true whole)) → Decided (SpellsFrame check sender dlci whole (candidate check false whole))
+    go : Decided (SpellsFrame check sender dlci whole (candidate check true whole))
+        → Decided (SpellsFrame check sender dlci whole (candidate check false whole))
         → ((frame : Frame) × SpellsFrame check sender dlci whole frame) ⊎ ((frame : Frame) → SpellsFrame check sender dlci whole frame → ⊥)
     go (inl s) q = inl (candidate check true whole, s)
     go (inr n) (inl s) = inl (candidate check false whole, s)
@@ -154,12 +164,14 @@ spells-or-none check sender dlci whole =
             by false f = none false frame f m s
 
 -- so there are frames in each list of octets
-pub some-frames : (check : Check) (sender : Role) (dlci : ℕ) (wholes : List (List ℕ)) → (frames : List Frame) × AreFrames check sender dlci wholes frames
+pub some-frames : (check : Check) (sender : Role) (dlci : ℕ) (wholes : List (List ℕ)) → (frames : List Frame)
+    × AreFrames check sender dlci wholes frames
 some-frames check sender dlci [] = ([], refl)
 some-frames check sender dlci (whole ∷ wholes) = go (spells-or-none check sender dlci whole) (some-frames check sender dlci wholes)
   where
     go : ((frame : Frame) × SpellsFrame check sender dlci whole frame) ⊎ ((frame : Frame) → SpellsFrame check sender dlci whole frame → ⊥)
-        → ((frames : List Frame) × AreFrames check sender dlci wholes frames) → (frames : List Frame) × AreFrames check sender dlci (whole ∷ wholes) frames
+        → ((frames : List Frame) × AreFrames check sender dlci wholes frames) → (frames : List Frame)
+            × AreFrames check sender dlci (whole ∷ wholes) frames
     go (inl s) r = (s.0 ∷ r.0, inr (s.0, r.0, s.1, refl, r.1))
     go (inr n) r = (r.0, inl (n, r.1))
 
@@ -202,7 +214,8 @@ one-decided frame (x ∷ []) = go (frame-decided x frame)
     go (inr n) = inr (λ e. n (ap first e))
 
 pattern-decided : (pattern : Seen) (frames : List Frame) (patterns : List Seen) → Decided (IsPattern pattern frames patterns)
-pattern-decided pattern frames patterns = three-decided (empty-decided frames) (not-decided (empty-decided patterns)) (all-decided pattern patterns)
+pattern-decided pattern frames patterns =
+    three-decided (empty-decided frames) (not-decided (empty-decided patterns)) (all-decided pattern patterns)
 
 what-was-sent : (s : Sent) (frames : List Frame) (patterns : List Seen) → Decided (IsWhatWasSent s frames patterns)
 what-was-sent slots.Mark frames patterns = inr (λ h. h)
@@ -212,15 +225,18 @@ what-was-sent slots.Adp frames patterns = pattern-decided seen.Adp frames patter
 what-was-sent (slots.Frame frame) frames patterns = both-decided (one-decided frame frames) (empty-decided patterns)
 
 -- each slot has an outcome
-pub some-outcome : (loses : Bool) (s : Sent) (frames : List Frame) (patterns : List Seen) → (heard : Heard) × IsOutcome loses s frames patterns heard
+pub some-outcome : (loses : Bool) (s : Sent) (frames : List Frame) (patterns : List Seen) → (heard : Heard)
+    × IsOutcome loses s frames patterns heard
 some-outcome true s frames patterns = go (is_message s) refl
   where
     go : (m : Bool) → is_message s ≡ m → (heard : Heard) × IsOutcome true s frames patterns heard
     go true e = (Lost s, (refl, e))
     go false e = (Nothing, e)
-some-outcome false s frames patterns = go (both-decided (empty-decided frames) (empty-decided patterns)) (what-was-sent s frames patterns) (is_message s) refl
+some-outcome false s frames patterns =
+    go (both-decided (empty-decided frames) (empty-decided patterns)) (what-was-sent s frames patterns) (is_message s) refl
   where
-    go : Decided (IsSilent frames patterns) → Decided (IsWhatWasSent s frames patterns) → (m : Bool) → is_message s ≡ m → (heard : Heard) × IsOutcome false s frames patterns heard
+    go : Decided (IsSilent frames patterns) → Decided (IsWhatWasSent s frames patterns) → (m : Bool) → is_message s ≡ m → (heard : Heard)
+        × IsOutcome false s frames patterns heard
     go (inl silent) w true e = (Lost s, (refl, e, silent))
     go (inl silent) w false e = (Nothing, (e, silent))
     go (inr n) (inl w) m e = (Passed s, (refl, w))

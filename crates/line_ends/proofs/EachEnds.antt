@@ -54,7 +54,8 @@ pub record SlotLaws : Type 0 where
   pub octets : OctetsAreSendable
 
 -- a slot that has arrived, by what is heard of it
-by-heard : (c : Channel) (sender : Role) (ts : List Turn) (hearing : Check) (heard : Heard) → IsHeardOf c sender ts hearing heard → Becomes c sender ts hearing
+by-heard : (c : Channel) (sender : Role) (ts : List Turn) (hearing : Check) (heard : Heard) → IsHeardOf c sender ts hearing heard
+    → Becomes c sender ts hearing
 by-heard c sender ts hearing Nothing h = becomes.Heard (record { heard = Nothing; is = h; well = λ e. absurd cc })
 by-heard c sender ts hearing (Passed s) h = becomes.Heard (record { heard = Passed s; is = h; well = λ e. absurd cc })
 by-heard c sender ts hearing (Lost s) h = becomes.Heard (record { heard = Lost s; is = h; well = λ e. absurd cc })
@@ -66,8 +67,10 @@ pub data Came (c : Channel) (sender : Role) (earlier : List Turn) (t : Turn) (he
       → LostIs line_trellis line_depth samples (Some symbol) → Came c sender earlier t hearing slot
   Is_heard : (heard : Heard) → Arrives c sender earlier (t ∷ earlier) hearing slot heard → Came c sender earlier t hearing slot
 
-comes : SlotLaws → (script : ScriptValue) (sender : Role) (earlier : List Turn) (t : Turn) (hearing : Check) (slot : Spoken) → IsInLimits script
-    → AreFit (bits_in script) 0 (signals (channel_of script) sender earlier) → AreFit (bits_in script) 0 (signals (channel_of script) sender (t ∷ earlier))
+comes : SlotLaws → (script : ScriptValue) (sender : Role) (earlier : List Turn) (t : Turn) (hearing : Check) (slot : Spoken)
+    → IsInLimits script
+    → AreFit (bits_in script) 0 (signals (channel_of script) sender earlier)
+        → AreFit (bits_in script) 0 (signals (channel_of script) sender (t ∷ earlier))
     → (of sender t).sent ≡ Some slot → Came (channel_of script) sender earlier t hearing slot
 comes laws script sender earlier t hearing slot h fits fit e = go (lost-or-not upto.0)
   where
@@ -84,17 +87,21 @@ comes laws script sender earlier t hearing slot h fits fit e = go (lost-or-not u
     signal = signal_of slot.check sender 0 slot.sent
 
     bits : List Bool
-    bits = slot_bits (bits_in script) (phase_after (bits_in script) (slots_of (bits_in script) (signals c sender earlier))) (slot_of (bits_in script) signal)
+    bits = slot_bits (bits_in script) (phase_after (bits_in script) (slots_of (bits_in script) (signals c sender earlier)))
+        (slot_of (bits_in script) signal)
 
     joined : lines.bits_of c sender (t ∷ earlier) ≡ lines.bits_of c sender earlier ++ bits
     joined =
-        ap (λ o. signal_bits (bits_in script) (signals c sender earlier ++ signal_in c sender o)) e ∙ ap (sent_bits (bits_in script)) (map-append (slot_of (bits_in script)) (signals c sender earlier) (signal ∷ []))
+        ap (λ o. signal_bits (bits_in script) (signals c sender earlier ++ signal_in c sender o)) e
+            ∙ ap (sent_bits (bits_in script)) (map-append (slot_of (bits_in script)) (signals c sender earlier) (signal ∷ []))
         ∙ bits-append (bits_in script) 0 (slots_of (bits_in script) (signals c sender earlier)) (slot_of (bits_in script) signal)
 
-    go : ((symbol : ℕ) × LostIs line_trellis line_depth upto.0 (Some symbol)) ⊎ LostIs line_trellis line_depth upto.0 None → Came c sender earlier t hearing slot
+    go : ((symbol : ℕ) × LostIs line_trellis line_depth upto.0 (Some symbol)) ⊎ LostIs line_trellis line_depth upto.0 None
+        → Came c sender earlier t hearing slot
     go (inl l) = Is_lost l.0 upto.0 upto.1 l.1
     go (inr n) =
-        let r = some-received laws.receives script hearing sender 0 (lines.bits_of c sender earlier) bits before.0 upto.0 before.1 (subst (λ xs. Records script sender xs upto.0) joined upto.1) in
+        let r = some-received laws.receives script hearing sender 0 (lines.bits_of c sender earlier) bits before.0 upto.0 before.1
+            (subst (λ xs. Records script sender xs upto.0) joined upto.1) in
         let o = some-outcome (loses script sender (length earlier)) slot.sent r.frames r.patterns in
         Is_heard o.0 (record {
           before = before.0;
@@ -126,21 +133,27 @@ each-slot-becomes laws script files ts ends role h o r = go (sent_ago delay send
     fits : AreFit (bits_in script) 0 (signals c sender ts)
     fits = fits-all laws.codable script files ts ends h r (laws.octets script files ts ends h o r) sender
 
-    heard-as : (o : Option Spoken) → sent_ago delay sender ts ≡ o → (heard : Heard) → ArrivesAs c sender (drop delay ts) (drop (delay - 1) ts) hearing o heard → Becomes c sender ts hearing
-    heard-as o e heard a = by-heard c sender ts hearing heard (subst (λ z. ArrivesAs c sender (drop delay ts) (drop (delay - 1) ts) hearing z heard) (sym e) a)
+    heard-as : (o : Option Spoken) → sent_ago delay sender ts ≡ o → (heard : Heard)
+        → ArrivesAs c sender (drop delay ts) (drop (delay - 1) ts) hearing o heard → Becomes c sender ts hearing
+    heard-as o e heard a = by-heard c sender ts hearing heard
+        (subst (λ z. ArrivesAs c sender (drop delay ts) (drop (delay - 1) ts) hearing z heard) (sym e) a)
 
-    came : (slot : Spoken) → sent_ago delay sender ts ≡ Some slot → (x : SentAgo sender delay ts slot) → Came c sender (drop delay ts) x.turn hearing slot → Becomes c sender ts hearing
+    came : (slot : Spoken) → sent_ago delay sender ts ≡ Some slot → (x : SentAgo sender delay ts slot)
+        → Came c sender (drop delay ts) x.turn hearing slot → Becomes c sender ts hearing
     came slot e x (Is_lost symbol samples recorded lost) = becomes.Lost symbol (record {
       arrives = ap is_some e;
-      loses = record { samples = samples; recorded = subst (λ us. Records script sender (lines.bits_of c sender us) samples) (sym x.rest) recorded; lost = lost };
+      loses = record { samples = samples; recorded =
+          subst (λ us. Records script sender (lines.bits_of c sender us) samples) (sym x.rest) recorded; lost = lost };
     })
-    came slot e x (Is_heard heard a) = heard-as (Some slot) e heard (subst (λ us. Arrives c sender (drop delay ts) us hearing slot heard) (sym x.rest) a)
+    came slot e x (Is_heard heard a) =
+        heard-as (Some slot) e heard (subst (λ us. Arrives c sender (drop delay ts) us hearing slot heard) (sym x.rest) a)
 
     go : (o : Option Spoken) → sent_ago delay sender ts ≡ o → Becomes c sender ts hearing
     go None e = heard-as None e Nothing refl
     go (Some slot) e =
         let x : SentAgo sender delay ts slot = sent-ago sender delay ts slot (laws.delays script h sender) e in
-        let fit : AreFit (bits_in script) 0 (signals c sender (x.turn ∷ drop delay ts)) = subst (λ us. AreFit (bits_in script) 0 (signals c sender us)) x.rest (fits-before script sender (delay - 1) ts fits) in
+        let fit : AreFit (bits_in script) 0 (signals c sender (x.turn ∷ drop delay ts)) =
+            subst (λ us. AreFit (bits_in script) 0 (signals c sender us)) x.rest (fits-before script sender (delay - 1) ts fits) in
         came slot e x (comes laws script sender (drop delay ts) x.turn hearing slot h (fits-before script sender delay ts fits) fit x.sent)
 
 -- by what becomes of both slots
@@ -150,11 +163,13 @@ each-turn-is-decided slots made script files ts ends h o r = first (slots script
     c : Channel
     c = channel_of script
 
-    both : IsHeardWell c Answerer ts (check_of ends.orig) → IsHeardWell c Originator ts (check_of ends.answ) → (role : Role) → IsHeardWell c (other role) ts (check_of (of role ends))
+    both : IsHeardWell c Answerer ts (check_of ends.orig) → IsHeardWell c Originator ts (check_of ends.answ) → (role : Role)
+        → IsHeardWell c (other role) ts (check_of (of role ends))
     both w v Originator = w
     both w v Answerer = v
 
-    second : IsHeardWell c Answerer ts (check_of ends.orig) → Becomes c Originator ts (check_of ends.answ) → ((end : LineEnd) × EndsLine c ts ends end) ⊎ MadeOver c files ts ends
+    second : IsHeardWell c Answerer ts (check_of ends.orig) → Becomes c Originator ts (check_of ends.answ)
+        → ((end : LineEnd) × EndsLine c ts ends end) ⊎ MadeOver c files ts ends
     second w (becomes.Lost symbol l) = inl (lines.LineLost Answerer symbol, (w, l))
     second w (becomes.Mistaken m) = inl (lines.ChanceMatch Answerer, (w, m))
     second w (becomes.Heard v) = inr (made c files ts ends h r (both w v))
@@ -182,7 +197,8 @@ pub record EndLaws : Type 0 where
   pub named : EachEndIsNamed
   pub short : NoLineRunIsLong
 
-line-end : (script : ScriptValue) (files : Both (List ℕ)) (ts : List Turn) (ends : Ends) → LineRun (channel_of script) (link_of script files) ts ends
+line-end : (script : ScriptValue) (files : Both (List ℕ)) (ts : List Turn) (ends : Ends)
+    → LineRun (channel_of script) (link_of script files) ts ends
     → (end : LineEnd) → EndsLine (channel_of script) ts ends end → HasEnd script files
 line-end script files ts ends r (lines.LineLost role symbol) e = record {
   end = LineLost role symbol;
@@ -197,7 +213,8 @@ line-end script files ts ends r (lines.ChanceMatch role) e =
       runs = record { turns = ts; ends = ends; run = r; ended = (refl, record { is = e; leaves = leaves-so ends text }) };
     }
 
-in-turn : (script : ScriptValue) (files : Both (List ℕ)) (ts : List Turn) (ends : Ends) (m : MadeOver (channel_of script) files ts ends) (o : Outcome) → m.outcome ≡ o
+in-turn : (script : ScriptValue) (files : Both (List ℕ)) (ts : List Turn) (ends : Ends) (m : MadeOver (channel_of script) files ts ends)
+    (o : Outcome) → m.outcome ≡ o
     → EndsInTurn (channel_of script) (link_of script files) ts ends o (length ts) (left-of m.mid (trace_text (m.turn ∷ ts)))
 in-turn script files ts ends m o e = record {
   number = refl;
@@ -209,10 +226,12 @@ in-turn script files ts ends m o e = record {
 }
 
 broken-end : EndLaws → (script : ScriptValue) (files : Both (List ℕ)) (ts : List Turn) (ends : Ends) → IsInLimits script
-    → LineRun (channel_of script) (link_of script files) ts ends → (m : MadeOver (channel_of script) files ts ends) (role : Role) (fault : LinkFault)
+    → LineRun (channel_of script) (link_of script files) ts ends
+        → (m : MadeOver (channel_of script) files ts ends) (role : Role) (fault : LinkFault)
     → m.outcome ≡ Broken role fault → HasEnd script files
 broken-end laws script files ts ends h r m role fault e =
-    let is : TurnIs (link_of script files) ts ends m.turn m.mid (Broken role fault) = subst (TurnIs (link_of script files) ts ends m.turn m.mid) e m.is in
+    let is : TurnIs (link_of script files) ts ends m.turn m.mid (Broken role fault) =
+        subst (TurnIs (link_of script files) ts ends m.turn m.mid) e m.is in
     go role fault e (laws.named (link_of script files) ts ends m.turn m.mid role fault (laws.play script files h) r.run is)
   where
     left : Left
@@ -222,12 +241,14 @@ broken-end laws script files ts ends h r m role fault e =
     go role (faults.Spent segment since) e n = record {
       end = LinkLost role segment (length ts);
       left = left-of m.mid (trace_text (m.turn ∷ ts));
-      runs = record { turns = ts; ends = ends; run = r; ended = (since, in-turn script files ts ends m (Broken role (faults.Spent segment since)) e) };
+      runs = record { turns = ts; ends = ends; run = r; ended =
+          (since, in-turn script files ts ends m (Broken role (faults.Spent segment since)) e) };
     }
     go role faults.NotDetected e n = record {
       end = NotDetected (length ts);
       left = left-of m.mid (trace_text (m.turn ∷ ts));
-      runs = record { turns = ts; ends = ends; run = r; ended = in-turn script files ts ends m (Broken Originator faults.NotDetected) (e ∙ ap (λ x. Broken x faults.NotDetected) n) };
+      runs = record { turns = ts; ends = ends; run = r; ended =
+          in-turn script files ts ends m (Broken Originator faults.NotDetected) (e ∙ ap (λ x. Broken x faults.NotDetected) n) };
     }
     go role (faults.BadAck nr va high) e n = absurd n
     go role (faults.PeerReset va vr) e n = absurd n
@@ -243,7 +264,8 @@ goes laws script files h ts ends r on (inr m) = made m.outcome refl
   where
     made : (o : Outcome) → m.outcome ≡ o → HasEnd script files
     made Going e =
-        let is : TurnIs (link_of script files) ts ends m.turn m.mid Going = subst (TurnIs (link_of script files) ts ends m.turn m.mid) e m.is in
+        let is : TurnIs (link_of script files) ts ends m.turn m.mid Going =
+            subst (TurnIs (link_of script files) ts ends m.turn m.mid) e m.is in
         on m.turn is.0 (record { run = (ends, r.run, is.1); heard = (m.heard, r.heard) })
     made Done e = record {
       end = IsDone (length ts);
@@ -253,11 +275,14 @@ goes laws script files h ts ends r on (inr m) = made m.outcome refl
     made (Broken role fault) e = broken-end laws script files ts ends h r m role fault e
 
 -- with so many turns to go at most
-ends-within : EndLaws → (script : ScriptValue) (files : Both (List ℕ)) → IsInLimits script → ((role : Role) → length (of role files) ≤ file_limit) → AreOfOctets script files
-    → (n : ℕ) (ts : List Turn) (ends : Ends) → LineRun (channel_of script) (link_of script files) ts ends → 2 ^ 40 ≤ length ts + n → HasEnd script files
+ends-within : EndLaws → (script : ScriptValue) (files : Both (List ℕ)) → IsInLimits script
+    → ((role : Role) → length (of role files) ≤ file_limit) → AreOfOctets script files
+    → (n : ℕ) (ts : List Turn) (ends : Ends) → LineRun (channel_of script) (link_of script files) ts ends → 2 ^ 40 ≤ length ts + n
+        → HasEnd script files
 ends-within laws script files h f o zero ts ends r l = absurd (omega (arith, l, laws.short (channel_of script) files ts ends h f r))
 ends-within laws script files h f o (suc n) ts ends r l =
-    goes laws script files h ts ends r (λ t after k. ends-within laws script files h f o n (t ∷ ts) after k (omega (arith, l))) (laws.decided script files ts ends h o r)
+    goes laws script files h ts ends r (λ t after k. ends-within laws script files h f o n (t ∷ ts) after k (omega (arith, l)))
+        (laws.decided script files ts ends h o r)
 
 pub each-run-ends : EndLaws → EachRunEnds
 each-run-ends laws script files h f o =

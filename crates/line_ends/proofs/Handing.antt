@@ -58,8 +58,10 @@ holds-delivered : (file : List ℕ) (a : Account) → Holds file a → Holds fil
 holds-delivered file a h = go (is_connected a.phase)
   where
     go : (b : Bool) → Holds file (after_given (cond b (record a { incoming = record a.incoming { given = length a.incoming.taken } }) a))
-    go true = record { offered = record { allowed = h.offered.allowed; terms = h.offered.terms; size = h.offered.size; cut = h.offered.cut }; own = h.own; owes = h.owes }
-    go false = record { offered = record { allowed = h.offered.allowed; terms = h.offered.terms; size = h.offered.size; cut = h.offered.cut }; own = h.own; owes = h.owes }
+    go true = record { offered = record { allowed = h.offered.allowed; terms = h.offered.terms; size = h.offered.size; cut =
+        h.offered.cut }; own = h.own; owes = h.owes }
+    go false = record { offered = record { allowed = h.offered.allowed; terms = h.offered.terms; size = h.offered.size; cut =
+        h.offered.cut }; own = h.own; owes = h.owes }
 
 offers-at : OfferLaws → (file : List ℕ) (a : Account) (w : Option ℕ) → wants a ≡ w → Holds file a → Holds file (offered_at file a w)
 offers-at laws file a None e h = h
@@ -67,7 +69,8 @@ offers-at laws file a (Some n) e h =
     let piece : List ℕ = piece_at (piece_size a) file n in
     let few : length piece ≤ piece_size a = omega (arith, length-take (piece_size a) (drop (piece_size a * n) file)) in
     let x = laws.next file a n piece h.offered e few in
-    record { offered = subst (λ f. IsOffered f (offered_at file a (Some n))) (laws.own (piece_size a) n file) x.offered; own = h.own; owes = h.owes }
+    record { offered = subst (λ f. IsOffered f (offered_at file a (Some n))) (laws.own (piece_size a) n file) x.offered; own = h.own; owes =
+        h.owes }
 
 offers-times : OfferLaws → (n : ℕ) (file : List ℕ) (a : Account) → Holds file a → Holds file (offered_times n file a)
 offers-times laws zero file a h = h
@@ -77,7 +80,8 @@ holds-busy : (file : List ℕ) (busy : Bool) (a : Account) → Holds file a → 
 holds-busy file busy a h = go (is_connected a.phase)
   where
     go : (c : Bool) → Holds file (cond c (record a { owes = record a.owes { busy = busy } }) a)
-    go true = record { offered = record { allowed = h.offered.allowed; terms = h.offered.terms; size = h.offered.size; cut = h.offered.cut }; own = h.own; owes = h.owes }
+    go true = record { offered = record { allowed = h.offered.allowed; terms = h.offered.terms; size = h.offered.size; cut =
+        h.offered.cut }; own = h.own; owes = h.owes }
     go false = h
 
 more-breaks : (turn l : ℕ) (b : OwnBreaks) → l < 256 → AreOctets b.lengths → AreOctets (after_ask turn l b).lengths
@@ -116,11 +120,13 @@ asks-at file turn (Some b) a s h = go (nat_le b.turn turn)
     go true = asks file turn b.length_octet a s h
     go false = h
 
-holds-asked : (file : List ℕ) (turn : ℕ) (released : Bool) (breaks : List BreakLine) (a : Account) → All IsOctetBreak breaks → Holds file a → Holds file (asked turn released breaks a)
+holds-asked : (file : List ℕ) (turn : ℕ) (released : Bool) (breaks : List BreakLine) (a : Account) → All IsOctetBreak breaks → Holds file a
+    → Holds file (asked turn released breaks a)
 holds-asked file turn true breaks a s h = h
 holds-asked file turn false breaks a s h = asks-at file turn (next_break breaks a) a (break-at breaks (length a.own_breaks.lengths) s) h
 
-pub holds-served : OfferLaws → (user : User) (turn : ℕ) (released : Bool) (a : Account) → HasOctets user → Holds user.file a → Holds user.file (served user turn released a).account
+pub holds-served : OfferLaws → (user : User) (turn : ℕ) (released : Bool) (a : Account) → HasOctets user → Holds user.file a
+    → Holds user.file (served user turn released a).account
 holds-served laws user turn released a o h =
     let given = after_given (delivered a) in
     let pieces = offers-times laws (room_for given) user.file given (holds-delivered user.file a h) in

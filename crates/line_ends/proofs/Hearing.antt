@@ -54,7 +54,8 @@ pub record HearLaws : Type 0 where
 pub over : HearLaws → (script : ScriptValue) (files : Both (List ℕ)) (ts : List Turn) (ends : Ends) → IsInLimits script
     → LineRun (channel_of script) (link_of script files) ts ends → RunsOver (link_of script files) (delay_of script) ts ends
 over laws script files ts ends h r = record
-    { may_play = laws.play script files h; delays = laws.delays script h; carried = laws.carried (channel_of script) ts r.heard; run = r.run }
+    { may_play = laws.play script files h; delays = laws.delays script h; carried = laws.carried (channel_of script) ts r.heard; run =
+        r.run }
 
 nine : (pattern : Seen) → IsPattern pattern [] (replicate 9 pattern)
 nine pattern = (refl, (λ e. absurd cc), All-replicate (λ other. other ≡ pattern) 9 pattern refl)
@@ -72,7 +73,8 @@ expected false slots.Adp = (refl, nine seen.Adp)
 expected true (slots.Frame frame) = (refl, refl)
 expected false (slots.Frame frame) = (refl, (refl, refl))
 
-agree-on : (check hearing : Check) (s : Sent) → ((frame : Frame) → s ≡ slots.Frame frame → check_for check frame ≡ check_for hearing frame) → ChecksAgree check hearing s
+agree-on : (check hearing : Check) (s : Sent) → ((frame : Frame) → s ≡ slots.Frame frame → check_for check frame ≡ check_for hearing frame)
+    → ChecksAgree check hearing s
 agree-on check hearing slots.Mark f = tt
 agree-on check hearing slots.Odp f = tt
 agree-on check hearing slots.Adp f = tt
@@ -84,22 +86,26 @@ slots-long : (script : ScriptValue) → 215 < symbols_of script
 slots-long script = omega arith
 
 -- a slot that arrives
-arrives-unhindered : HearLaws → (script : ScriptValue) (sender : Role) (earlier : List Turn) (t : Turn) (hearing : Check) (slot : Spoken) (heard : Heard)
-    → IsInLimits script → IsFaint script → (of sender t).sent ≡ Some slot → AreFit (bits_in script) 0 (signals (channel_of script) sender (t ∷ earlier)) → IsSendable slot.sent
+arrives-unhindered : HearLaws → (script : ScriptValue) (sender : Role) (earlier : List Turn) (t : Turn) (hearing : Check) (slot : Spoken)
+    (heard : Heard)
+    → IsInLimits script → IsFaint script → (of sender t).sent ≡ Some slot
+        → AreFit (bits_in script) 0 (signals (channel_of script) sender (t ∷ earlier)) → IsSendable slot.sent
     → ChecksAgree slot.check hearing slot.sent → Arrives (channel_of script) sender earlier (t ∷ earlier) hearing slot heard
     → heard ≡ unhindered (loses script sender (length earlier)) slot.sent
 arrives-unhindered laws script sender earlier t hearing slot heard h d e fit is agree a =
     let c : Channel = channel_of script in
     let before : List Signal = signals c sender earlier in
     let signal : Signal = signal_of slot.check sender 0 slot.sent in
-    let fits : AreFit (bits_in script) 0 (before ++ signal ∷ []) = subst (λ o. AreFit (bits_in script) 0 (before ++ signal_in c sender o)) e fit in
+    let fits : AreFit (bits_in script) 0 (before ++ signal ∷ []) =
+        subst (λ o. AreFit (bits_in script) 0 (before ++ signal_in c sender o)) e fit in
     let recorded : Records script sender (signal_bits (bits_in script) (before ++ signal ∷ [])) a.samples
     = subst (λ o. Records script sender (signal_bits (bits_in script) (before ++ signal_in c sender o)) a.samples) e a.recorded in
     let same = laws.received script slot.check hearing sender 0 (symbols_of script) before slot.sent a.before a.samples a.frames a.patterns
     (d sender (symbols_of script * (length before + 1))) (slots-long script) fits is agree a.recorded_before recorded a.received in
     let lose : Bool = loses script sender (length earlier) in
     laws.one lose slot.sent (frames_in slot.sent) (patterns_in slot.sent) heard (unhindered lose slot.sent)
-    (subst (λ xs. IsOutcome lose slot.sent (frames_in slot.sent) xs heard) same.1 (subst (λ xs. IsOutcome lose slot.sent xs a.patterns heard) same.0 a.outcome)) (expected lose slot.sent)
+    (subst (λ xs. IsOutcome lose slot.sent (frames_in slot.sent) xs heard) same.1
+        (subst (λ xs. IsOutcome lose slot.sent xs a.patterns heard) same.0 a.outcome)) (expected lose slot.sent)
 
 -- What is heard of a sender in the turn after these: no chance match, and lost only where the script says so.
 pub record AsNamed (script : ScriptValue) (sender : Role) (ts : List Turn) (heard : Heard) : Type 0 where
@@ -117,7 +123,8 @@ lost-named false (slots.Frame frame) h = absurd h
 nothing-named : (script : ScriptValue) (sender : Role) (ts : List Turn) → AsNamed script sender ts Nothing
 nothing-named script sender ts = record { well = λ e. absurd cc; lost = λ h. absurd h }
 
-pub heard-named : HearLaws → (script : ScriptValue) (files : Both (List ℕ)) (ts : List Turn) (ends : Ends) → IsInLimits script → IsFaint script
+pub heard-named : HearLaws → (script : ScriptValue) (files : Both (List ℕ)) (ts : List Turn) (ends : Ends) → IsInLimits script
+    → IsFaint script
     → LineRun (channel_of script) (link_of script files) ts ends → AllSendable ts → (role : Role) (heard : Heard)
     → IsHeardOf (channel_of script) (other role) ts (check_of (of role ends)) heard → AsNamed script (other role) ts heard
 heard-named laws script files ts ends h d r s role heard k = go (sent_ago delay sender ts) refl k
@@ -131,24 +138,31 @@ heard-named laws script files ts ends h d r s role heard k = go (sent_ago delay 
     hearing : Check
     hearing = check_of (of role ends)
 
-    go : (o : Option Spoken) → sent_ago delay sender ts ≡ o → ArrivesAs (channel_of script) sender (drop delay ts) (drop (delay - 1) ts) hearing o heard → AsNamed script sender ts heard
+    go : (o : Option Spoken) → sent_ago delay sender ts ≡ o
+        → ArrivesAs (channel_of script) sender (drop delay ts) (drop (delay - 1) ts) hearing o heard → AsNamed script sender ts heard
     go None e a = subst (AsNamed script sender ts) (sym a) (nothing-named script sender ts)
     go (Some slot) e a =
         let x : SentAgo sender delay ts slot = sent-ago sender delay ts slot (laws.delays script h sender) e in
         let fit : AreFit (bits_in script) 0 (signals (channel_of script) sender (x.turn ∷ drop delay ts))
-        = subst (λ us. AreFit (bits_in script) 0 (signals (channel_of script) sender us)) x.rest (fits-before script sender (delay - 1) ts (fits-all laws.codable script files ts ends h r s sender)) in
+        = subst (λ us. AreFit (bits_in script) 0 (signals (channel_of script) sender us)) x.rest
+            (fits-before script sender (delay - 1) ts (fits-all laws.codable script files ts ends h r s sender)) in
         let arrives : Arrives (channel_of script) sender (drop delay ts) (x.turn ∷ drop delay ts) hearing slot heard
         = subst (λ us. Arrives (channel_of script) sender (drop delay ts) us hearing slot heard) x.rest a in
         let checks : ChecksAgree slot.check hearing slot.sent
-        = agree-on slot.check hearing slot.sent (λ frame f. laws.judges (link_of script files) (delay_of script) ts ends (over laws script files ts ends h r) role slot frame e f) in
-        let same = arrives-unhindered laws script sender (drop delay ts) x.turn hearing slot heard h d x.sent fit (x.sendable s) checks arrives in
+        = agree-on slot.check hearing slot.sent
+            (λ frame f. laws.judges (link_of script files) (delay_of script) ts ends
+            (over laws script files ts ends h r) role slot frame e f) in
+        let same = arrives-unhindered laws script sender (drop delay ts) x.turn hearing slot heard h d x.sent fit
+            (x.sendable s) checks arrives in
         record {
           well = λ f. laws.never_chance (loses script sender (length (drop delay ts))) slot.sent (sym same ∙ f);
-          lost = λ l. (x.enough, subst (λ n. loses script sender n ≡ true) x.count (lost-named (loses script sender (length (drop delay ts))) slot.sent (subst IsLost same l)));
+          lost = λ l. (x.enough, subst (λ n. loses script sender n ≡ true) x.count
+              (lost-named (loses script sender (length (drop delay ts))) slot.sent (subst IsLost same l)));
         }
 
 -- the line isn't lost
-stays : HearLaws → (script : ScriptValue) (sender : Role) (ts : List Turn) (symbol : ℕ) → IsFaint script → LosesLine (channel_of script) sender ts symbol → ⊥
+stays : HearLaws → (script : ScriptValue) (sender : Role) (ts : List Turn) (symbol : ℕ) → IsFaint script
+    → LosesLine (channel_of script) sender ts symbol → ⊥
 stays laws script sender ts symbol d l =
     let bits : List Bool = lines.bits_of (channel_of script) sender (drop (delay_of script sender - 1) ts) in
     laws.never_lost sender script (length bits) [] bits symbol (d sender (length bits)) (omega arith)
@@ -157,5 +171,7 @@ stays laws script sender ts symbol d l =
 pub faint-go-on : HearLaws → FaintGoOn
 faint-go-on laws script files ts ends (lines.LineLost Originator symbol) h d r s e = stays laws script Answerer ts symbol d e
 faint-go-on laws script files ts ends (lines.LineLost Answerer symbol) h d r s e = stays laws script Originator ts symbol d e.1
-faint-go-on laws script files ts ends (lines.ChanceMatch Originator) h d r s e = (heard-named laws script files ts ends h d r s Originator Chance e).well refl
-faint-go-on laws script files ts ends (lines.ChanceMatch Answerer) h d r s e = (heard-named laws script files ts ends h d r s Answerer Chance e.1).well refl
+faint-go-on laws script files ts ends (lines.ChanceMatch Originator) h d r s e =
+    (heard-named laws script files ts ends h d r s Originator Chance e).well refl
+faint-go-on laws script files ts ends (lines.ChanceMatch Answerer) h d r s e =
+    (heard-named laws script files ts ends h d r s Answerer Chance e.1).well refl

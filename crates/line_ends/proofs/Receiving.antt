@@ -30,7 +30,8 @@ laws-hold : HasLaws line_trellis 8 32 2
 laws-hold = v32_has_laws 0 (omega arith)
 
 -- labels carry bits
-some-read : (tap : ℕ) → 1 ≤ tap → (done output more : List Bool) → Descrambles tap done output → (bits : List Bool) × Descrambles tap (done ++ more) bits
+some-read : (tap : ℕ) → 1 ≤ tap → (done output more : List Bool) → Descrambles tap done output → (bits : List Bool)
+    × Descrambles tap (done ++ more) bits
 some-read tap low done output [] h = (output, subst (λ l. Descrambles tap l output) (sym (append-nil done)) h)
 some-read tap low done output (bit ∷ more) h =
     let next = some-read tap low (done ++ bit ∷ []) _ more (Descrambles-more tap done output bit _ low h refl) in
@@ -54,9 +55,11 @@ over-decided samples n =
       | inr l ↦ inr (λ o. not-over front.0 front.1 l o)
     ]
   where
-    not-over : (front : List ℕ) → IsReleased line_trellis (take n samples) front → n ≤ length front + line_depth → IsOver line_trellis line_depth samples n → ⊥
+    not-over : (front : List ℕ) → IsReleased line_trellis (take n samples) front → n ≤ length front + line_depth
+        → IsOver line_trellis line_depth samples n → ⊥
     not-over front r l o =
-        let same : length o.front ≡ length front = ap (λ (xs : List ℕ). length xs) (released-once line_trellis (take n samples) o.front front o.released r) in
+        let same : length o.front ≡ length front =
+            ap (λ (xs : List ℕ). length xs) (released-once line_trellis (take n samples) o.front front o.released r) in
         omega (arith, same, l, o.over)
 
 -- the first place at which the line is over, below some place
@@ -65,32 +68,38 @@ record FirstOver (samples : List Sample) (below place : ℕ) : Type 0 where
   over : IsOver line_trellis line_depth samples place
   first : (n : ℕ) → n < place → IsOver line_trellis line_depth samples n → ⊥
 
-first-over : (samples : List Sample) (below : ℕ) → ((place : ℕ) × FirstOver samples below place) ⊎ ((n : ℕ) → n < below → IsOver line_trellis line_depth samples n → ⊥)
+first-over : (samples : List Sample) (below : ℕ) → ((place : ℕ) × FirstOver samples below place)
+    ⊎ ((n : ℕ) → n < below → IsOver line_trellis line_depth samples n → ⊥)
 first-over samples zero = inr (λ n l o. omega (arith, l))
 first-over samples (suc m) = go (first-over samples m) (over-decided samples m)
   where
-    up-to : ((n : ℕ) → n < m → IsOver line_trellis line_depth samples n → ⊥) → (IsOver line_trellis line_depth samples m → ⊥) → (n : ℕ) → n < suc m → IsOver line_trellis line_depth samples n → ⊥
+    up-to : ((n : ℕ) → n < m → IsOver line_trellis line_depth samples n → ⊥) → (IsOver line_trellis line_depth samples m → ⊥) → (n : ℕ)
+        → n < suc m → IsOver line_trellis line_depth samples n → ⊥
     up-to f g n l o = elim (cases_lt n m) [ inl k ↦ f n k o | inr k ↦ g (subst (IsOver line_trellis line_depth samples) (same n k l) o) ]
       where
         same : (n : ℕ) → m ≤ n → n < suc m → n ≡ m
         same n k l = omega (arith, k, l)
 
-    go : ((place : ℕ) × FirstOver samples m place) ⊎ ((n : ℕ) → n < m → IsOver line_trellis line_depth samples n → ⊥) → Decided (IsOver line_trellis line_depth samples m)
+    go : ((place : ℕ) × FirstOver samples m place) ⊎ ((n : ℕ) → n < m → IsOver line_trellis line_depth samples n → ⊥)
+        → Decided (IsOver line_trellis line_depth samples m)
         → ((place : ℕ) × FirstOver samples (suc m) place) ⊎ ((n : ℕ) → n < suc m → IsOver line_trellis line_depth samples n → ⊥)
     go (inl f) d = inl (f.0, record { within = omega (arith, f.1.within); over = f.1.over; first = f.1.first })
     go (inr f) (inl o) = inl (m, record { within = omega arith; over = o; first = f })
     go (inr f) (inr n) = inr (up-to f n)
 
-pub lost-or-not : (samples : List Sample) → ((symbol : ℕ) × LostIs line_trellis line_depth samples (Some symbol)) ⊎ LostIs line_trellis line_depth samples None
+pub lost-or-not : (samples : List Sample) → ((symbol : ℕ) × LostIs line_trellis line_depth samples (Some symbol))
+    ⊎ LostIs line_trellis line_depth samples None
 lost-or-not samples = go (first-over samples (length samples + 1))
   where
     at : (place : ℕ) → FirstOver samples (length samples + 1) place → (symbol : ℕ) × LostIs line_trellis line_depth samples (Some symbol)
     at zero f = absurd (omega (arith, f.over.over))
     at (suc symbol) f =
         let next : suc symbol ≡ symbol + 1 = omega arith in
-        (symbol, record { within = omega (arith, f.within); over = subst (IsOver line_trellis line_depth samples) next f.over; first = λ n l o. f.first n (omega (arith, l)) o })
+        (symbol, record { within = omega (arith, f.within); over = subst (IsOver line_trellis line_depth samples) next f.over; first =
+            λ n l o. f.first n (omega (arith, l)) o })
 
-    go : ((place : ℕ) × FirstOver samples (length samples + 1) place) ⊎ ((n : ℕ) → n < length samples + 1 → IsOver line_trellis line_depth samples n → ⊥)
+    go : ((place : ℕ) × FirstOver samples (length samples + 1) place)
+        ⊎ ((n : ℕ) → n < length samples + 1 → IsOver line_trellis line_depth samples n → ⊥)
         → ((symbol : ℕ) × LostIs line_trellis line_depth samples (Some symbol)) ⊎ LostIs line_trellis line_depth samples None
     go (inl f) = inl (at f.0 f.1)
     go (inr f) = inr (λ n l o. f n (omega (arith, l)) o)
@@ -108,17 +117,20 @@ pub record IsReceived (check : Check) (sender : Role) (dlci : ℕ) (before upto 
   pub patterns : List Seen
   pub received : Receives check sender dlci before upto frames patterns
 
-pub some-received : ReceiveLaws → (script : ScriptValue) (check : Check) (sender : Role) (dlci : ℕ) (bits more : List Bool) (before upto : List Sample)
+pub some-received : ReceiveLaws
+    → (script : ScriptValue) (check : Check) (sender : Role) (dlci : ℕ) (bits more : List Bool) (before upto : List Sample)
     → Records script sender bits before → Records script sender (bits ++ more) upto → IsReceived check sender dlci before upto
 some-received laws script check sender dlci bits more before upto old new =
     let grown = laws.grow script sender bits more before upto old new in
     let earlier = some-given sender before in
     let later = some-given sender upto in
-    let stays = laws.stays sender before grown.0 earlier.0 later.0 earlier.1 (subst (λ (xs : List Sample). Gives sender xs later.0) grown.1 later.1) in
+    let stays = laws.stays sender before grown.0 earlier.0 later.0 earlier.1
+        (subst (λ (xs : List Sample). Gives sender xs later.0) grown.1 later.1) in
     let pieces = pieces-stay earlier.0 stays.0 in
     let sights = laws.sights earlier.0 stays.0 in
     let frames = some-frames check sender dlci (wholes pieces.0) in
-    let found : FoundBetween check sender dlci earlier.0 (earlier.0 ++ stays.0) frames.0 (map (λ (sight : Sight). sight.seen) sights.0) = record {
+    let found : FoundBetween check sender dlci earlier.0 (earlier.0 ++ stays.0) frames.0 (map (λ (sight : Sight). sight.seen) sights.0) =
+        record {
       pieces = pieces.0;
       pieces_are = pieces.1.all;
       frames_are = frames.1;
@@ -134,6 +146,7 @@ some-received laws script check sender dlci bits more before upto old new =
         later = later.0;
         gave = earlier.1;
         gives = later.1;
-        found = subst (λ (xs : List Bool). FoundBetween check sender dlci earlier.0 xs frames.0 (map (λ (sight : Sight). sight.seen) sights.0)) (sym stays.1) found;
+        found = subst (λ (xs : List Bool).
+            FoundBetween check sender dlci earlier.0 xs frames.0 (map (λ (sight : Sight). sight.seen) sights.0)) (sym stays.1) found;
       };
     }

@@ -100,7 +100,8 @@ written-with f c t u r v tw rw' lf lc lt lu lr lv ltw lrw =
                             lt,
                             (
                               lu,
-                              (omega arith, (omega arith, (lr, (lv, (omega arith, (omega arith, (ltw, (omega arith, (omega arith, (lrw, tt)))))))))),
+                              (omega arith, (omega arith, (lr,
+                                  (lv, (omega arith, (omega arith, (ltw, (omega arith, (omega arith, (lrw, tt)))))))))),
                             ),
                           ),
                         ),
@@ -121,7 +122,8 @@ written-octets o h =
     let u : 8 * o.tx_len % 256 < 256 = omega arith in
     let r : 8 * o.rx_len / 256 < 256 = omega (arith, h.rx_len_high) in
     let v : 8 * o.rx_len % 256 < 256 = omega arith in
-    written-with (cond o.srej 142 138) (cond o.check32 1 0) (8 * o.tx_len / 256) (8 * o.tx_len % 256) (8 * o.rx_len / 256) (8 * o.rx_len % 256) o.tx_window o.rx_window
+    written-with (cond o.srej 142 138) (cond o.check32 1 0) (8 * o.tx_len / 256) (8 * o.tx_len % 256) (8 * o.rx_len / 256)
+        (8 * o.rx_len % 256) o.tx_window o.rx_window
     (functions-octet o.srej) (check-octet o.check32) t u r v (omega (arith, h.tx_window_high)) (omega (arith, h.rx_window_high))
 
 -- what an end holds
@@ -158,7 +160,8 @@ due (Some (answers.Dm pf)) a h = record { sent = record { ns = tt; nr = tt; octe
 
 segment : (turn : ℕ) (o : Option ℕ) (a : Account) → IsReady a → AllGood (says_segment turn o a)
 segment turn None a h = tt
-segment turn (Some i) a h = record { sent = record { ns = omega arith; nr = omega arith; octets = piece-at a.outgoing.pieces i h.pieces }; owes = h.owes }
+segment turn (Some i) a h = record { sent =
+    record { ns = omega arith; nr = omega arith; octets = piece-at a.outgoing.pieces i h.pieces }; owes = h.owes }
 
 own-break : (o : Option BreakWord) (a : Account) → OfOctets o → Owes a → AllGood (says_own o a)
 own-break None a w h = tt
@@ -193,7 +196,8 @@ asking false special (Some i) a h = record { sent = record { ns = tt; nr = omega
 asking true true (Some i) a h = tt
 asking true false (Some i) a h = record { sent = record { ns = tt; nr = omega arith; octets = All-nil Octet }; owes = h }
 
-sixth : (special news busy : Bool) (a : Account) → Owes a → AllGood (cond news (Some (tells false false a)) (cond busy None (says_asking a.incoming.srej special (asks a.incoming) a)))
+sixth : (special news busy : Bool) (a : Account) → Owes a
+    → AllGood (cond news (Some (tells false false a)) (cond busy None (says_asking a.incoming.srej special (asks a.incoming) a)))
 sixth special true busy a h = told false false a h
 sixth special false true a h = tt
 sixth special false false a h = asking a.incoming.srej special (asks a.incoming) a h
@@ -225,7 +229,8 @@ IfReady (Err fault) = Unit {0}
 timed : (turn : ℕ) (a : Account) → IsReady a → IfReady (on_timer turn a)
 timed turn a h = go (timer_expires turn a a.wait.timer) (nat_eq a.outgoing.count a.outgoing.tries)
   where
-    go : (b c : Bool) → IfReady (cond b (polling turn (cond c None (Some (record a.outgoing { count = a.outgoing.count + 1; awaited = true }))) a) (Ok a))
+    go : (b c : Bool) → IfReady (cond b
+        (polling turn (cond c None (Some (record a.outgoing { count = a.outgoing.count + 1; awaited = true }))) a) (Ok a))
     go true true = tt
     go true false = record { offer = h.offer; pieces = h.pieces; own = h.own; owes = h.owes }
     go false c = h
@@ -233,7 +238,9 @@ timed turn a h = go (timer_expires turn a a.wait.timer) (nat_eq a.outgoing.count
 broken : (turn : ℕ) (a : Account) → IsReady a → IfReady (on_break_timer turn a)
 broken turn a h = go (waits a.own_breaks && nat_eq turn (a.own_breaks.set + a.setup.period)) (nat_eq a.own_breaks.count a.setup.tries)
   where
-    go : (b c : Bool) → IfReady (breaking turn (cond b (cond c None (Some (record a.own_breaks { brk = true; set = turn; count = a.own_breaks.count + 1 }))) (Some a.own_breaks)) a)
+    go : (b c : Bool) → IfReady (breaking turn
+        (cond b (cond c None (Some (record a.own_breaks { brk = true; set = turn; count = a.own_breaks.count + 1 }))) (Some a.own_breaks))
+        a)
     go true true = tt
     go true false = record { offer = h.offer; pieces = h.pieces; own = h.own; owes = h.owes }
     go false c = record { offer = h.offer; pieces = h.pieces; own = h.own; owes = h.owes }
@@ -250,7 +257,8 @@ links : (turn : ℕ) (a : Account) → IsReady a → IfGood (speak_linked turn a
 links turn a h = go (then_tries turn (on_timer turn a)) (both-timed turn (on_timer turn a) (timed turn a h))
   where
     go : (r : Result Account LinkFault) → IfReady r → IfGood (after_timers turn a.special r)
-    go (Ok b) k = all turn a.special (record b { special = false }) (record { offer = k.offer; pieces = k.pieces; own = k.own; owes = k.owes })
+    go (Ok b) k = all turn a.special (record b { special = false })
+        (record { offer = k.offer; pieces = k.pieces; own = k.own; owes = k.owes })
     go (Err fault) k = tt
 
 -- a U try
@@ -258,9 +266,11 @@ u : (turn : ℕ) (frame : Frame) (a : Account) → IsPlain frame → Owes a → 
 u turn frame a h k = go (nat_eq turn (a.wait.try_set + a.setup.period)) (nat_eq a.wait.try_count a.setup.tries)
   where
     tried : (b : Account) → Owes b → IsGood (tries_frame frame b)
-    tried b o = else-says (where_says b.wait.try _) _ (where-says b.wait.try _ (record { sent = h; owes = o })) (record { sent = tt; owes = o })
+    tried b o = else-says (where_says b.wait.try _) _ (where-says b.wait.try _ (record { sent = h; owes = o }))
+        (record { sent = tt; owes = o })
 
-    go : (b e : Bool) → IfGood (cond b (cond e (Err (spent turn a)) (Ok (tries_frame frame (trying_again turn a)))) (Ok (tries_frame frame a)))
+    go : (b e : Bool) → IfGood (cond b (cond e (Err (spent turn a)) (Ok (tries_frame frame (trying_again turn a))))
+        (Ok (tries_frame frame a)))
     go true true = tt
     go true false = tried (trying_again turn a) k
     go false e = tried a k
@@ -271,16 +281,19 @@ detects Originator turn a h = go (nat_le ((a.setup.tries + 1) * a.setup.period) 
     go : (b : Bool) → IfGood (cond b (Err NotDetected) (Ok (says slots.Odp a)))
     go true = tt
     go false = record { sent = tt; owes = h.owes }
-detects Answerer turn a h = else-says (answering a.owes.answer a) (says slots.Mark a) (due a.owes.answer a h) (record { sent = tt; owes = h.owes })
+detects Answerer turn a h = else-says (answering a.owes.answer a) (says slots.Mark a) (due a.owes.answer a h)
+    (record { sent = tt; owes = h.owes })
 
 answers-due : (a : Account) → IsReady a → IfGood (speak_answer a)
 answers-due a h = else-says (answering a.owes.answer a) (says slots.Flags a) (due a.owes.answer a h) (record { sent = tt; owes = h.owes })
 
 negotiates : (role : Role) (turn : ℕ) (a : Account) → IsReady a → IfGood (speak_negotiating role turn a)
-negotiates Originator turn a h = u turn (Xid true false (written a.setup.offer)) a (record { ns = tt; nr = tt; octets = written-octets a.setup.offer h.offer }) h.owes
+negotiates Originator turn a h =
+    u turn (Xid true false (written a.setup.offer)) a (record { ns = tt; nr = tt; octets = written-octets a.setup.offer h.offer }) h.owes
 negotiates Answerer turn a h = answers-due a h
 
-connects : (turn : ℕ) (b : Bool) (a : Account) → IsReady a → IfGood (cond b (speak_releasing turn (trying Releasing turn a)) (speak_linked turn a))
+connects : (turn : ℕ) (b : Bool) (a : Account) → IsReady a
+    → IfGood (cond b (speak_releasing turn (trying Releasing turn a)) (speak_linked turn a))
 connects turn true a h = u turn (Disc true) (trying Releasing turn a) (record { ns = tt; nr = tt; octets = All-nil Octet }) h.owes
 connects turn false a h = links turn a h
 

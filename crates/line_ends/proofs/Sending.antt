@@ -49,17 +49,21 @@ pub record SendLaws : Type 0 where
   pub offers : OfferLaws
 
 -- what a user hands over
-breaks-octets : (script : ScriptValue) (role : Role) → All (λ (b : Break). b.length < 256) script.breaks → All IsOctetBreak (breaks_of script role)
+breaks-octets : (script : ScriptValue) (role : Role) → All (λ (b : Break). b.length < 256) script.breaks
+    → All IsOctetBreak (breaks_of script role)
 breaks-octets script role h =
     let lines : List Break = filter (λ (b : Break). same_role b.role role) script.breaks in
-    All-map IsOctetBreak break_line lines (All-filter (λ (b : Break). same_role b.role role) (λ (b : Break). b.length < 256) script.breaks h)
+    All-map IsOctetBreak break_line lines
+        (All-filter (λ (b : Break). same_role b.role role) (λ (b : Break). b.length < 256) script.breaks h)
 
-user-octets : (script : ScriptValue) (files : Both (List ℕ)) → AreOfOctets script files → (role : Role) → HasOctets (of role (link_of script files)).user
+user-octets : (script : ScriptValue) (files : Both (List ℕ)) → AreOfOctets script files → (role : Role)
+    → HasOctets (of role (link_of script files)).user
 user-octets script files o Originator = record { file = o.files_are Originator; breaks = breaks-octets script Originator o.breaks_are }
 user-octets script files o Answerer = record { file = o.files_are Answerer; breaks = breaks-octets script Answerer o.breaks_are }
 
 -- the offer that an end may send
-offers-allowed : ScriptsMayPlay → (script : ScriptValue) (files : Both (List ℕ)) → IsInLimits script → (role : Role) → IsAllowed (of role (link_of script files)).setup.offer
+offers-allowed : ScriptsMayPlay → (script : ScriptValue) (files : Both (List ℕ)) → IsInLimits script → (role : Role)
+    → IsAllowed (of role (link_of script files)).setup.offer
 offers-allowed play script files h Originator = (play script files h).offer_o
 offers-allowed play script files h Answerer = (play script files h).offer_a
 
@@ -71,7 +75,8 @@ passes-octets slots.Adp h = tt
 passes-octets slots.Flags h = tt
 passes-octets (slots.Frame frame) h = h.1
 
-crosses-octets : (o : Option Spoken) (heard : Heard) → Crosses o heard → ((slot : Spoken) → o ≡ Some slot → IsSendable slot.sent) → ArrivesInOctets (arrival heard)
+crosses-octets : (o : Option Spoken) (heard : Heard) → Crosses o heard → ((slot : Spoken) → o ≡ Some slot → IsSendable slot.sent)
+    → ArrivesInOctets (arrival heard)
 crosses-octets o Nothing c f = tt
 crosses-octets o (Lost s) c f = tt
 crosses-octets o Chance c f = tt
@@ -86,7 +91,8 @@ short-info (Some info) h = h
 frame-sendable : (frame : Frame) → IsPlain frame → length (information_of frame) ≤ INFO → IsSendable (slots.Frame frame)
 frame-sendable frame p l = ((p.ns, p.nr, short-info (parts_of frame).info l), p.octets)
 
-plain-sendable : (s : Sent) → IsPlainSent s → ((frame : Frame) → s ≡ slots.Frame frame → length (information_of frame) ≤ INFO) → IsSendable s
+plain-sendable : (s : Sent) → IsPlainSent s → ((frame : Frame) → s ≡ slots.Frame frame → length (information_of frame) ≤ INFO)
+    → IsSendable s
 plain-sendable slots.Mark p f = tt
 plain-sendable slots.Odp p f = tt
 plain-sendable slots.Adp p f = tt
@@ -94,16 +100,23 @@ plain-sendable slots.Flags p f = tt
 plain-sendable (slots.Frame frame) p f = frame-sendable frame p (f frame refl)
 
 -- what an end says as a turn's end of it
-says-good : (link : Link) (turn : ℕ) (mid : Ends) (role : Role) (said : Said) → said_at link turn mid role ≡ Ok said → (file : List ℕ) → AreOctets file → Holds file (served_at link turn mid role).account → IsGood said
-says-good link turn mid Originator said e file f h = said-good turn (releases link turn mid) (served_at link turn mid Originator).account said (ready file (served_at link turn mid Originator).account f h) e
-says-good link turn mid Answerer said e file f h = said-good turn false (served_at link turn mid Answerer).account said (ready file (served_at link turn mid Answerer).account f h) e
+says-good : (link : Link) (turn : ℕ) (mid : Ends) (role : Role) (said : Said) → said_at link turn mid role ≡ Ok said → (file : List ℕ)
+    → AreOctets file → Holds file (served_at link turn mid role).account → IsGood said
+says-good link turn mid Originator said e file f h =
+    said-good turn (releases link turn mid) (served_at link turn mid Originator).account said
+    (ready file (served_at link turn mid Originator).account f h) e
+says-good link turn mid Answerer said e file f h =
+    said-good turn false (served_at link turn mid Answerer).account said (ready file (served_at link turn mid Answerer).account f h) e
 
-stays-offered : SpeakingStaysOffered → (link : Link) (turn : ℕ) (mid : Ends) (role : Role) (said : Said) → said_at link turn mid role ≡ Ok said → (file : List ℕ) → Holds file (served_at link turn mid role).account
+stays-offered : SpeakingStaysOffered → (link : Link) (turn : ℕ) (mid : Ends) (role : Role) (said : Said)
+    → said_at link turn mid role ≡ Ok said → (file : List ℕ) → Holds file (served_at link turn mid role).account
     → StaysOffered file (served_at link turn mid role).account said.account
-stays-offered law link turn mid Originator said e file h = law file turn (releases link turn mid) (served_at link turn mid Originator).account said h.offered e
+stays-offered law link turn mid Originator said e file h =
+    law file turn (releases link turn mid) (served_at link turn mid Originator).account said h.offered e
 stays-offered law link turn mid Answerer said e file h = law file turn false (served_at link turn mid Answerer).account said h.offered e
 
-says-holds : SpeakingStaysOffered → (link : Link) (turn : ℕ) (mid : Ends) (role : Role) (said : Said) → said_at link turn mid role ≡ Ok said → (file : List ℕ) → AreOctets file → Holds file (served_at link turn mid role).account → Holds file said.account
+says-holds : SpeakingStaysOffered → (link : Link) (turn : ℕ) (mid : Ends) (role : Role) (said : Said) → said_at link turn mid role ≡ Ok said
+    → (file : List ℕ) → AreOctets file → Holds file (served_at link turn mid role).account → Holds file said.account
 says-holds law link turn mid role said e file f h =
     let good : IsGood said = says-good link turn mid role said e file f h in
     let stays = stays-offered law link turn mid role said e file h in
@@ -115,10 +128,15 @@ pub record HoldBoth (files : Role → List ℕ) (ts : List Turn) (ends : Ends) :
   pub holds : (role : Role) → Holds (files role) (of role ends)
 
 -- one turn more
-next-turn : SendLaws → (script : ScriptValue) (files : Both (List ℕ)) (ts : List Turn) (before : Ends) (t : Turn) (after : Ends) → IsInLimits script → AreOfOctets script files
-    → LineRun (channel_of script) (link_of script files) ts before → Carries (delay_of script) ts t → GoingTurn (link_of script files) ts before t after
-    → HoldBoth (λ role. (of role (link_of script files)).user.file) ts before → HoldBoth (λ role. (of role (link_of script files)).user.file) (t ∷ ts) after
-next-turn laws script files ts before t after h o r c g k = record { sendable = ((λ role slot e. sends role slot e), k.sendable); holds = λ role. subst (Holds (file role)) (sym (g.speaking role).after_is) (after-holds role) }
+next-turn : SendLaws → (script : ScriptValue) (files : Both (List ℕ)) (ts : List Turn) (before : Ends) (t : Turn) (after : Ends)
+    → IsInLimits script → AreOfOctets script files
+    → LineRun (channel_of script) (link_of script files) ts before → Carries (delay_of script) ts t
+        → GoingTurn (link_of script files) ts before t after
+    → HoldBoth (λ role. (of role (link_of script files)).user.file) ts before
+        → HoldBoth (λ role. (of role (link_of script files)).user.file) (t ∷ ts) after
+next-turn laws script files ts before t after h o r c g k =
+    record { sendable = ((λ role slot e. sends role slot e), k.sendable); holds =
+    λ role. subst (Holds (file role)) (sym (g.speaking role).after_is) (after-holds role) }
   where
     link : Link
     link = link_of script files
@@ -149,18 +167,23 @@ next-turn laws script files ts before t after h o r c g k = record { sendable = 
         }
 
     served-holds : (role : Role) → Holds (file role) (served_at link turn g.mid role).account
-    served-holds role = holds-served laws.offers (of role link).user turn (is_released g.mid.orig.phase) (of role g.mid) (octets role) (mid-holds role)
+    served-holds role = holds-served laws.offers (of role link).user turn (is_released g.mid.orig.phase) (of role g.mid) (octets role)
+        (mid-holds role)
 
     after-holds : (role : Role) → Holds (file role) (g.speaking role).said.account
-    after-holds role = says-holds laws.spoken link turn g.mid role (g.speaking role).said (g.speaking role).says (file role) (octets role).file (served-holds role)
+    after-holds role = says-holds laws.spoken link turn g.mid role (g.speaking role).said (g.speaking role).says (file role)
+        (octets role).file (served-holds role)
 
     good : (role : Role) → IsGood (g.speaking role).said
-    good role = says-good link turn g.mid role (g.speaking role).said (g.speaking role).says (file role) (octets role).file (served-holds role)
+    good role = says-good link turn g.mid role (g.speaking role).said (g.speaking role).says (file role) (octets role).file
+        (served-holds role)
 
     over : RunsOver link (delay_of script) ts before
-    over = record { may_play = laws.play script files h; delays = laws.delays script h; carried = laws.carried (channel_of script) ts r.heard; run = r.run }
+    over = record { may_play = laws.play script files h; delays = laws.delays script h; carried =
+        laws.carried (channel_of script) ts r.heard; run = r.run }
 
-    few : (role : Role) (slot : Spoken) (frame : Frame) → (of role t).sent ≡ Some slot → slot.sent ≡ slots.Frame frame → length (information_of frame) ≤ INFO
+    few : (role : Role) (slot : Spoken) (frame : Frame) → (of role t).sent ≡ Some slot → slot.sent ≡ slots.Frame frame
+        → length (information_of frame) ≤ INFO
     few role slot frame e f =
         let allowed = offers-allowed laws.play script files h role in
         omega (arith, laws.short link (delay_of script) ts before t after over c g role slot frame e f, allowed.tx_len_high)
@@ -174,24 +197,30 @@ next-turn laws script files ts before t after h o r c g k = record { sendable = 
         let same : (g.speaking role).said.sent ≡ slot.sent = ap (sent-of slot) (sym (g.speaking role).sent_is ∙ e) in
         plain-sendable slot.sent (subst IsPlainSent same (good role).sent) (λ frame f. few role slot frame e f)
 
-holds-all : SendLaws → (script : ScriptValue) (files : Both (List ℕ)) (ts : List Turn) (ends : Ends) → IsInLimits script → AreOfOctets script files
+holds-all : SendLaws → (script : ScriptValue) (files : Both (List ℕ)) (ts : List Turn) (ends : Ends) → IsInLimits script
+    → AreOfOctets script files
     → LineRun (channel_of script) (link_of script files) ts ends → HoldBoth (λ role. (of role (link_of script files)).user.file) ts ends
-holds-all laws script files [] ends h o r = record { sendable = tt; holds = λ role. subst (λ (e : Ends). Holds (of role (link_of script files)).user.file (of role e)) (sym r.run) (begins role) }
+holds-all laws script files [] ends h o r =
+    record { sendable = tt; holds =
+    λ role. subst (λ (e : Ends). Holds (of role (link_of script files)).user.file (of role e)) (sym r.run) (begins role) }
   where
     begins : (role : Role) → Holds (of role (link_of script files)).user.file (of role (start (link_of script files)))
     begins Originator = record {
-      offered = laws.begins (link_of script files).orig.user.file (link_of script files).orig.setup (offers-allowed laws.play script files h Originator);
+      offered = laws.begins (link_of script files).orig.user.file (link_of script files).orig.setup
+          (offers-allowed laws.play script files h Originator);
       own = All-nil (λ octet. octet < 256);
       owes = tt;
     }
     begins Answerer = record {
-      offered = laws.begins (link_of script files).answ.user.file (link_of script files).answ.setup (offers-allowed laws.play script files h Answerer);
+      offered = laws.begins (link_of script files).answ.user.file (link_of script files).answ.setup
+          (offers-allowed laws.play script files h Answerer);
       own = All-nil (λ octet. octet < 256);
       owes = tt;
     }
 holds-all laws script files (t ∷ ts) ends h o r =
     let before : LineRun (channel_of script) (link_of script files) ts r.run.0 = record { run = r.run.1; heard = r.heard.1 } in
-    next-turn laws script files ts r.run.0 t ends h o before (laws.one (channel_of script) ts t r.heard.0) r.run.2 (holds-all laws script files ts r.run.0 h o before)
+    next-turn laws script files ts r.run.0 t ends h o before (laws.one (channel_of script) ts t r.heard.0) r.run.2
+        (holds-all laws script files ts r.run.0 h o before)
 
 pub octets-are-sendable : SendLaws → OctetsAreSendable
 octets-are-sendable laws script files ts ends h o r = (holds-all laws script files ts ends h o r).sendable

@@ -32,7 +32,8 @@ pub record SentAgo (role : Role) (delay : ℕ) (ts : List Turn) (slot : Spoken) 
   pub enough : delay ≤ length ts
   pub sendable : AllSendable ts → IsSendable slot.sent
 
-pub sent-ago : (role : Role) (delay : ℕ) (ts : List Turn) (slot : Spoken) → 1 ≤ delay → sent_ago delay role ts ≡ Some slot → SentAgo role delay ts slot
+pub sent-ago : (role : Role) (delay : ℕ) (ts : List Turn) (slot : Spoken) → 1 ≤ delay → sent_ago delay role ts ≡ Some slot
+    → SentAgo role delay ts slot
 sent-ago role delay ts slot low e =
     let s = sent-in role (delay - 1) ts slot e in
     let d : suc (delay - 1) ≡ delay = omega (arith, low) in

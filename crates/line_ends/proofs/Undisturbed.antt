@@ -25,8 +25,10 @@ hearing-in link ts ends t mid Done h = h.hearing
 hearing-in link ts ends t mid (Broken role fault) h = h.hearing
 
 -- what is heard in a turn, and in all turns of a run
-turn-named : HearLaws → (script : ScriptValue) (files : Both (List ℕ)) (ts : List Turn) (ends : Ends) (t : Turn) (mid : Ends) → IsInLimits script → IsFaint script
-    → LineRun (channel_of script) (link_of script files) ts ends → AllSendable ts → Hears (length ts) ends t mid → HeardIn (channel_of script) ts t
+turn-named : HearLaws → (script : ScriptValue) (files : Both (List ℕ)) (ts : List Turn) (ends : Ends) (t : Turn) (mid : Ends)
+    → IsInLimits script → IsFaint script
+    → LineRun (channel_of script) (link_of script files) ts ends → AllSendable ts → Hears (length ts) ends t mid
+        → HeardIn (channel_of script) ts t
     → (role : Role) → AsNamed script (other role) ts (of role t).heard
 turn-named laws script files ts ends t mid h d r s k w role =
     heard-named laws script files ts ends h d r s role (of role t).heard
@@ -37,13 +39,16 @@ run-named : HearLaws → (script : ScriptValue) (files : Both (List ℕ)) (ts : 
 run-named laws script files [] ends h d r s = tt
 run-named laws script files (t ∷ ts) ends h d r s =
     let before : LineRun (channel_of script) (link_of script files) ts r.run.0 = record { run = r.run.1; heard = r.heard.1 } in
-    (turn-named laws script files ts r.run.0 t r.run.2.mid h d before s.1 r.run.2.hearing r.heard.0, run-named laws script files ts r.run.0 h d before s.1)
+    (turn-named laws script files ts r.run.0 t r.run.2.mid h d before s.1 r.run.2.hearing r.heard.0,
+        run-named laws script files ts r.run.0 h d before s.1)
 
-last-named : HearLaws → (script : ScriptValue) (files : Both (List ℕ)) (ts : List Turn) (ends : Ends) (o : Outcome) (turn : ℕ) (left : Left) → IsInLimits script → IsFaint script
+last-named : HearLaws → (script : ScriptValue) (files : Both (List ℕ)) (ts : List Turn) (ends : Ends) (o : Outcome) (turn : ℕ) (left : Left)
+    → IsInLimits script → IsFaint script
     → LineRun (channel_of script) (link_of script files) ts ends → AllSendable ts
     → (e : EndsInTurn (channel_of script) (link_of script files) ts ends o turn left) → AllNamed script (e.last ∷ ts)
 last-named laws script files ts ends o turn left h d r s e =
-    (turn-named laws script files ts ends e.last e.mid h d r s (hearing-in (link_of script files) ts ends e.last e.mid o e.is) e.heard, run-named laws script files ts ends h d r s)
+    (turn-named laws script files ts ends e.last e.mid h d r s (hearing-in (link_of script files) ts ends e.last e.mid o e.is) e.heard,
+        run-named laws script files ts ends h d r s)
 
 all-named : HearLaws → (script : ScriptValue) (files : Both (List ℕ)) (end : RunEnd) (left : Left) → IsInLimits script → IsFaint script
     → (r : ScriptRunsTo script files end left) → AllSendable r.turns → AllNamed script (heard_turns script files end left r)
@@ -56,12 +61,15 @@ all-named laws script files (LineLost role symbol) left h d r s = run-named laws
 all-named laws script files (ChanceMatch role turn) left h d r s = run-named laws script files r.turns r.ends h d r.run s
 
 pub loses-what-is-named : HearLaws → LosesWhatIsNamed
-loses-what-is-named laws script files end left h d r s = lost-few script (heard_turns script files end left r) (all-named laws script files end left h d r s)
+loses-what-is-named laws script files end left h d r s =
+    lost-few script (heard_turns script files end left r) (all-named laws script files end left h d r s)
 
 line-ends-not : FaintGoOn → (script : ScriptValue) (files : Both (List ℕ)) (end : RunEnd) (left : Left) → IsInLimits script → IsFaint script
     → (r : ScriptRunsTo script files end left) → AllSendable r.turns → LineEnds end → ⊥
-line-ends-not law script files (LineLost role symbol) left h d r s x = law script files r.turns r.ends (lines.LineLost role symbol) h d r.run s r.ended.is
-line-ends-not law script files (ChanceMatch role turn) left h d r s x = law script files r.turns r.ends (lines.ChanceMatch role) h d r.run s r.ended.1.is
+line-ends-not law script files (LineLost role symbol) left h d r s x =
+    law script files r.turns r.ends (lines.LineLost role symbol) h d r.run s r.ended.is
+line-ends-not law script files (ChanceMatch role turn) left h d r s x =
+    law script files r.turns r.ends (lines.ChanceMatch role) h d r.run s r.ended.1.is
 line-ends-not law script files (IsDone turn) left h d r s x = x
 line-ends-not law script files (LinkLost role segment turn) left h d r s x = x
 line-ends-not law script files (NotDetected turn) left h d r s x = x
@@ -82,10 +90,12 @@ pub displaces-none_is_faint : EmptyScriptDisplacesNone → UndisplacedIsFaint �
 displaces-none_is_faint empty faint script d = λ sender count. faint script sender count (empty script sender count d.no_hits d.no_noises)
 
 is-quiet : DisplacesNoneIsFaint → (script : ScriptValue) → script.losses ≡ [] → script.hits ≡ [] → script.noises ≡ [] → IsQuiet script
-is-quiet faint script losses hits noises = record { no_losses = losses; faint = faint script (record { no_hits = hits; no_noises = noises }) }
+is-quiet faint script losses hits noises =
+    record { no_losses = losses; faint = faint script (record { no_hits = hits; no_noises = noises }) }
 
 pub completes-undisturbed : DisplacesNoneIsFaint → CompletesQuiet → CompletesUndisturbed
-completes-undisturbed faint quiet script files end left h losses hits noises o r = quiet script files end left h (is-quiet faint script losses hits noises) o r
+completes-undisturbed faint quiet script files end left h losses hits noises o r =
+    quiet script files end left h (is-quiet faint script losses hits noises) o r
 
 -- and there is one that delivers both files
 pub quiet-deliver : ScriptsMayPlay → ScriptsHaveDelays → DoneLeavesWhole → CompletesQuiet → EachRunEnds → QuietRunsDeliver
@@ -93,7 +103,9 @@ quiet-deliver play delays whole done ends script files h f q o =
     let e : HasEnd script files = ends script files h f o in
     let d = done script files e.end e.left h q o e.runs in
     let runs : ScriptRunsTo script files (IsDone d.0) e.left = subst (λ end. ScriptRunsTo script files end e.left) d.1 e.runs in
-    record { turn = d.0; left = e.left; runs = runs; whole = λ role. is-whole role (whole (channel_of script) (link_of script files) d.0 e.left (record { may_play = play script files h; delays = delays script h }) runs role) }
+    record { turn = d.0; left = e.left; runs = runs; whole =
+        λ role. is-whole role (whole (channel_of script) (link_of script files) d.0 e.left
+        (record { may_play = play script files h; delays = delays script h }) runs role) }
   where
     is-whole : (role : Role) {got : List ℕ} → got ≡ (of (other role) (link_of script files)).user.file → got ≡ of (other role) files
     is-whole Originator e = e

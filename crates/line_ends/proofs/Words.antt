@@ -50,7 +50,8 @@ abbrev pub OnHeard : Result Account LinkFault → Type 0
 OnHeard (Ok a) = Owes a
 OnHeard (Err fault) = Unit {0}
 
-number-owes : (a : Account) (turn nr : ℕ) (o : Option Outgoing) (f : Account → Account) → Owes a → ((b : Account) → Owes b → Owes (f b)) → OnHeard (then_in f (on_number turn nr o a))
+number-owes : (a : Account) (turn nr : ℕ) (o : Option Outgoing) (f : Account → Account) → Owes a → ((b : Account) → Owes b → Owes (f b))
+    → OnHeard (then_in f (on_number turn nr o a))
 number-owes a turn nr None f h k = tt
 number-owes a turn nr (Some o) f h k = k _ h
 
@@ -101,21 +102,27 @@ sabme-owes a pf true h = tt
 sabme-owes a pf false h = h
 
 -- a word
-word-owes : IsSpelledBack → (a : Account) (turn : ℕ) (info : List ℕ) (w : Result BreakWord BreakFault) → word_in info ≡ w → AreOctets info → Owes a → Owes (on_word turn w a)
+word-owes : IsSpelledBack → (a : Account) (turn : ℕ) (info : List ℕ) (w : Result BreakWord BreakFault) → word_in info ≡ w → AreOctets info
+    → Owes a → Owes (on_word turn w a)
 word-owes back a turn info (Ok (Brk number length_octet)) e i h =
     let all : AreOctets (64 ∷ number ∷ length_octet ∷ []) = subst AreOctets (sym (back info (Brk number length_octet) e)) i in
-    All-cons (λ octet. octet < 256) 96 (number ∷ length_octet ∷ []) (omega arith) (All-tail (λ octet. octet < 256) 64 (number ∷ length_octet ∷ []) all)
+    All-cons (λ octet. octet < 256) 96 (number ∷ length_octet ∷ []) (omega arith)
+        (All-tail (λ octet. octet < 256) 64 (number ∷ length_octet ∷ []) all)
 word-owes back a turn info (Ok (Ack number length_octet)) e i h = h
 word-owes back a turn info (Err fault) e i h = h
 
 connected-owes : IsSpelledBack → (a : Account) (turn : ℕ) (frame : Frame) → InOctets frame → Owes a → OnHeard (on_connected frame turn a)
-connected-owes back a turn (I ns nr pf info) i h = number-owes a turn nr (acknowledged nr a.outgoing) (λ b. replying pf (taking ns info b)) h (λ b k. k)
+connected-owes back a turn (I ns nr pf info) i h =
+    number-owes a turn nr (acknowledged nr a.outgoing) (λ b. replying pf (taking ns info b)) h (λ b k. k)
 connected-owes back a turn (Rr command nr pf) i h =
-    number-owes a turn nr (option_map resumed (cond (ends_wait command pf a) (replied nr a.outgoing) (acknowledged nr a.outgoing))) (λ b. hurrying (ends_wait command pf a) (replying (command && pf) b)) h (λ b k. k)
+    number-owes a turn nr (option_map resumed (cond (ends_wait command pf a) (replied nr a.outgoing) (acknowledged nr a.outgoing)))
+        (λ b. hurrying (ends_wait command pf a) (replying (command && pf) b)) h (λ b k. k)
 connected-owes back a turn (Rnr command nr pf) i h =
-    number-owes a turn nr (option_map paused_at (cond (ends_wait command pf a) (replied nr a.outgoing) (acknowledged nr a.outgoing))) (λ b. pausing turn (replying (command && pf) b)) h (λ b k. k)
+    number-owes a turn nr (option_map paused_at (cond (ends_wait command pf a) (replied nr a.outgoing) (acknowledged nr a.outgoing)))
+        (λ b. pausing turn (replying (command && pf) b)) h (λ b k. k)
 connected-owes back a turn (Rej command nr pf) i h =
-    number-owes a turn nr (option_map resumed (cond (ends_wait command pf a) (replied nr a.outgoing) (rejected nr a.outgoing))) (λ b. hurrying (ends_wait command pf a) (replying (command && pf) b)) h (λ b k. k)
+    number-owes a turn nr (option_map resumed (cond (ends_wait command pf a) (replied nr a.outgoing) (rejected nr a.outgoing)))
+        (λ b. hurrying (ends_wait command pf a) (replying (command && pf) b)) h (λ b k. k)
 connected-owes back a turn (Srej command nr pf) i h = one-owes a turn nr (selected nr a.outgoing) h
 connected-owes back a turn (Sabme pf) i h = sabme-owes a pf (a.numbered || is_originator a.setup.role) h
 connected-owes back a turn (Disc pf) i h = disc-owes a pf a.setup.role h
@@ -124,7 +131,8 @@ connected-owes back a turn (Frmr pf info) i h = tt
 connected-owes back a turn (Ui command pf info) i h = word-owes back a turn info (word_in info) refl i h
 connected-owes back a turn frame i h = h
 
-frame-owes : IsSpelledBack → (p : Phase) (a : Account) (turn : ℕ) (frame : Frame) → InOctets frame → Owes a → OnHeard (on_frame p frame turn a)
+frame-owes : IsSpelledBack → (p : Phase) (a : Account) (turn : ℕ) (frame : Frame) → InOctets frame → Owes a
+    → OnHeard (on_frame p frame turn a)
 frame-owes back Detecting a turn frame i h = detecting-owes a turn a.setup.role frame h
 frame-owes back Negotiating a turn frame i h = negotiating-owes a turn a.setup.role frame h
 frame-owes back Establishing a turn frame i h = establishing-owes a turn frame h
@@ -151,5 +159,6 @@ all-owe back turn arrivals.Nothing a i h = h
 all-owe back turn (arrivals.Pattern seen) a i h = seen-owes a.phase a turn seen h
 all-owe back turn (arrivals.Frame frame) a i h = frame-owes back a.phase a turn frame i h
 
-pub heard-owes : IsSpelledBack → (turn : ℕ) (arrived : Arrived) (a b : Account) → ArrivesInOctets arrived → Owes a → hear turn arrived a ≡ Ok b → Owes b
+pub heard-owes : IsSpelledBack → (turn : ℕ) (arrived : Arrived) (a b : Account) → ArrivesInOctets arrived → Owes a
+    → hear turn arrived a ≡ Ok b → Owes b
 heard-owes back turn arrived a b i h e = subst OnHeard e (all-owe back turn arrived a i h)

@@ -19,7 +19,8 @@ abbrev pub ScriptRunsTo : ScriptValue → Both (List ℕ) → RunEnd → Left �
 ScriptRunsTo script files end left = RunsTo (channel_of script) (link_of script files) end left
 
 -- the turns in which something was heard in it
-abbrev pub heard_turns : (script : ScriptValue) (files : Both (List ℕ)) (end : RunEnd) (left : Left) → ScriptRunsTo script files end left → List Turn
+abbrev pub heard_turns : (script : ScriptValue) (files : Both (List ℕ)) (end : RunEnd) (left : Left) → ScriptRunsTo script files end left
+    → List Turn
 heard_turns script files end left r = turns_heard (channel_of script) (link_of script files) r.turns r.ends end left r.ended
 
 -- both files are whole, and the link is released

@@ -53,10 +53,12 @@ pub record IsDelivered (script : ScriptValue) (files : Both (List ℕ)) : Type 0
 
 -- So a quiet script delivers each two files of octets within their limits,
 abbrev pub QuietRunsDeliver : Type 0
-QuietRunsDeliver = (script : ScriptValue) (files : Both (List ℕ)) → IsInLimits script → ((role : Role) → length (of role files) ≤ file_limit)
+QuietRunsDeliver = (script : ScriptValue) (files : Both (List ℕ)) → IsInLimits script
+    → ((role : Role) → length (of role files) ≤ file_limit)
     → IsQuiet script → AreOfOctets script files → IsDelivered script files
 
 -- and so does a script without lines that lose, hit or displace.
 abbrev pub UndisturbedRunsDeliver : Type 0
-UndisturbedRunsDeliver = (script : ScriptValue) (files : Both (List ℕ)) → IsInLimits script → ((role : Role) → length (of role files) ≤ file_limit)
+UndisturbedRunsDeliver = (script : ScriptValue) (files : Both (List ℕ)) → IsInLimits script
+    → ((role : Role) → length (of role files) ≤ file_limit)
     → script.losses ≡ [] → script.hits ≡ [] → script.noises ≡ [] → AreOfOctets script files → IsDelivered script files

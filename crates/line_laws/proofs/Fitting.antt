@@ -24,30 +24,37 @@ use Rattle.slot_contents.specs.Sendable.{IsSendable}
 use Rattle.line_laws.specs.Fitting.{Fits, AreFit, OfOctets}
 use Rattle.line_laws.proofs.Patterns.{ArePlain}
 
-pub fit-slot : (plain : ArePlain) (size phase : ℕ) (signal : Signal) → 552 < size → phase < 8 → Fits size phase signal → IsSlot size phase (slot_of size signal)
+pub fit-slot : (plain : ArePlain) (size phase : ℕ) (signal : Signal) → 552 < size → phase < 8 → Fits size phase signal
+    → IsSlot size phase (slot_of size signal)
 fit-slot plain size phase (PatternSlot seen) long low h = plain.patterns size seen long
 fit-slot plain size phase MarkSlot long low h = plain.marks size long
 fit-slot plain size phase (FlagSlot None) long low h = omega (arith, length-empty phase low)
 fit-slot plain size phase (FlagSlot (Some octets)) long low h = (h.0, omega (arith, h.1))
 
-pub fit-slots : (plain : ArePlain) (size phase : ℕ) (signals : List Signal) → 552 < size → phase < 8 → AreFit size phase signals → AreSlots size phase (slots_of size signals)
+pub fit-slots : (plain : ArePlain) (size phase : ℕ) (signals : List Signal) → 552 < size → phase < 8 → AreFit size phase signals
+    → AreSlots size phase (slots_of size signals)
 fit-slots plain size phase [] long low h = tt
 fit-slots plain size phase (signal ∷ signals) long low h =
-    (fit-slot plain size phase signal long low h.0, fit-slots plain size (next_phase size phase (slot_of size signal)) signals long (next-low size phase (slot_of size signal)) h.1)
+    (fit-slot plain size phase signal long low h.0,
+        fit-slots plain size (next_phase size phase (slot_of size signal)) signals long (next-low size phase (slot_of size signal)) h.1)
 
 pub fit-front : (size phase : ℕ) (before more : List Signal) → AreFit size phase (before ++ more) → AreFit size phase before
 fit-front size phase [] more h = tt
 fit-front size phase (signal ∷ before) more h = (h.0, fit-front size (next_phase size phase (slot_of size signal)) before more h.1)
 
-pub fit-last : (size phase : ℕ) (before : List Signal) (signal : Signal) → AreFit size phase (before ++ signal ∷ []) → Fits size (phase_from size phase (slots_of size before)) signal
+pub fit-last : (size phase : ℕ) (before : List Signal) (signal : Signal) → AreFit size phase (before ++ signal ∷ [])
+    → Fits size (phase_from size phase (slots_of size before)) signal
 fit-last size phase [] signal h = h.0
 fit-last size phase (first ∷ before) signal h = fit-last size (next_phase size phase (slot_of size first)) before signal h.1
 
-pub fit-more : (size phase : ℕ) (before : List Signal) (signal : Signal) → AreFit size phase before → Fits size (phase_from size phase (slots_of size before)) signal → AreFit size phase (before ++ signal ∷ [])
+pub fit-more : (size phase : ℕ) (before : List Signal) (signal : Signal) → AreFit size phase before
+    → Fits size (phase_from size phase (slots_of size before)) signal → AreFit size phase (before ++ signal ∷ [])
 fit-more size phase [] signal h fits = (fits, tt)
-fit-more size phase (first ∷ before) signal h fits = (h.0, fit-more size (next_phase size phase (slot_of size first)) before signal h.1 fits)
+fit-more size phase (first ∷ before) signal h fits =
+    (h.0, fit-more size (next_phase size phase (slot_of size first)) before signal h.1 fits)
 
-pub length-fit : (plain : ArePlain) (size phase : ℕ) (signals : List Signal) → 552 < size → phase < 8 → AreFit size phase signals → length (bits_from size phase (slots_of size signals)) ≡ size * length signals
+pub length-fit : (plain : ArePlain) (size phase : ℕ) (signals : List Signal) → 552 < size → phase < 8 → AreFit size phase signals
+    → length (bits_from size phase (slots_of size signals)) ≡ size * length signals
 length-fit plain size phase [] long low h = omega arith
 length-fit plain size phase (signal ∷ signals) long low h =
     let slot = slot_of size signal in
@@ -62,17 +69,21 @@ count-two : (check : Check) → (2 ≤ count_of check) × (count_of check ≤ 4)
 count-two Sixteen = (omega arith, omega arith)
 count-two ThirtyTwo = (omega arith, omega arith)
 
-length-whole : (check : Check) (sender : Role) (dlci : ℕ) (frame : Frame) → length (checked check sender dlci frame) ≡ length (spelled frame sender dlci) + count_of (check_for check frame)
+length-whole : (check : Check) (sender : Role) (dlci : ℕ) (frame : Frame)
+    → length (checked check sender dlci frame) ≡ length (spelled frame sender dlci) + count_of (check_for check frame)
 length-whole check sender dlci frame =
     length-append {A = ℕ} (spelled frame sender dlci) (check_of (check_for check frame) (spelled frame sender dlci))
     ∙ ap (λ n. length (spelled frame sender dlci) + n) (length-check_of (check_for check frame) (spelled frame sender dlci))
 
-pub few-besides : (check : Check) (sender : Role) (dlci : ℕ) (frame : Frame) → length (checked check sender dlci frame) ≤ 7 + length (information_of frame)
-few-besides check sender dlci frame = omega (arith, length-whole check sender dlci frame, (length-spelled frame sender dlci).1, (count-two (check_for check frame)).1)
+pub few-besides : (check : Check) (sender : Role) (dlci : ℕ) (frame : Frame)
+    → length (checked check sender dlci frame) ≤ 7 + length (information_of frame)
+few-besides check sender dlci frame =
+    omega (arith, length-whole check sender dlci frame, (length-spelled frame sender dlci).1, (count-two (check_for check frame)).1)
 
 -- frames that can be coded
 
-pub short-codable : (check : Check) (sender : Role) (dlci symbols phase most : ℕ) (frame : Frame) → phase < 8 → IsSendable (sent.Frame frame)
+pub short-codable : (check : Check) (sender : Role) (dlci symbols phase most : ℕ) (frame : Frame) → phase < 8
+    → IsSendable (sent.Frame frame)
     → length (checked check sender dlci frame) ≤ most → 47 + 8 * most + 8 * most / 5 ≤ 4 * (symbols - TAIL)
     → IsCodable check sender dlci symbols phase (sent.Frame frame)
 short-codable check sender dlci symbols phase most frame low is few room =
@@ -81,13 +92,16 @@ short-codable check sender dlci symbols phase most frame low is few room =
 
 -- the octets of a frame
 
-checked-small : (check : Check) (sender : Role) (dlci : ℕ) (frame : Frame) → dlci < 64 → IsFrame frame → All (λ octet. octet < 256) (information_of frame) → All (λ octet. octet < 256) (checked check sender dlci frame)
+checked-small : (check : Check) (sender : Role) (dlci : ℕ) (frame : Frame) → dlci < 64 → IsFrame frame
+    → All (λ octet. octet < 256) (information_of frame) → All (λ octet. octet < 256) (checked check sender dlci frame)
 checked-small check sender dlci frame low is h =
     let octets : List ℕ = spelled frame sender dlci in
     let kind : Check = check_for check frame in
-    All-append (λ octet. octet < 256) octets (check_of kind octets) (spelled-small frame sender dlci low is h) (check_of-is kind octets).are_octets
+    All-append (λ octet. octet < 256) octets (check_of kind octets) (spelled-small frame sender dlci low is h)
+        (check_of-is kind octets).are_octets
 
-pub spelled-octets : (check : Check) (sender : Role) (dlci : ℕ) (s : Sent) → dlci < 64 → IsSendable s → OfOctets (signal_of check sender dlci s)
+pub spelled-octets : (check : Check) (sender : Role) (dlci : ℕ) (s : Sent) → dlci < 64 → IsSendable s
+    → OfOctets (signal_of check sender dlci s)
 spelled-octets check sender dlci sent.Mark low is = tt
 spelled-octets check sender dlci sent.Odp low is = tt
 spelled-octets check sender dlci sent.Adp low is = tt
@@ -95,22 +109,27 @@ spelled-octets check sender dlci sent.Flags low is = tt
 spelled-octets check sender dlci (sent.Frame frame) low is = checked-small check sender dlci frame low is.0 is.1
 
 some-flags : (count : ℕ) (before behind : List Bool) → 8 * count ≤ length (before ++ flags count ++ behind)
-some-flags count before behind = omega (arith, length-append {A = Bool} (before ++ flags count) behind, length-append {A = Bool} before (flags count), length-flags count)
+some-flags count before behind =
+    omega (arith, length-append {A = Bool} (before ++ flags count) behind, length-append {A = Bool} before (flags count),
+    length-flags count)
 
 some-opening : (phase : ℕ) (frame : List ℕ) → 32 ≤ length (opening phase (Some frame))
 some-opening phase frame = some-flags 4 (rest_of_flag phase) (framed (Some frame))
 
 -- what can be coded fits
 
-pub codable-sendable : (check : Check) (sender : Role) (dlci symbols phase : ℕ) (s : Sent) → IsCodable check sender dlci symbols phase s → IsSendable s
+pub codable-sendable : (check : Check) (sender : Role) (dlci symbols phase : ℕ) (s : Sent) → IsCodable check sender dlci symbols phase s
+    → IsSendable s
 codable-sendable check sender dlci symbols phase sent.Mark k = tt
 codable-sendable check sender dlci symbols phase sent.Odp k = tt
 codable-sendable check sender dlci symbols phase sent.Adp k = tt
 codable-sendable check sender dlci symbols phase sent.Flags k = tt
 codable-sendable check sender dlci symbols phase (sent.Frame frame) k = k.sendable
 
-frame-fits : (check : Check) (sender : Role) (dlci symbols phase : ℕ) (frame : Frame) → All (λ octet. octet < 256) (checked check sender dlci frame) → IsFrame frame
-    → length (opening phase (Some (checked check sender dlci frame))) ≤ 4 * (symbols - TAIL) → Fits (4 * symbols) phase (FlagSlot (Some (checked check sender dlci frame)))
+frame-fits : (check : Check) (sender : Role) (dlci symbols phase : ℕ) (frame : Frame)
+    → All (λ octet. octet < 256) (checked check sender dlci frame) → IsFrame frame
+    → length (opening phase (Some (checked check sender dlci frame))) ≤ 4 * (symbols - TAIL)
+        → Fits (4 * symbols) phase (FlagSlot (Some (checked check sender dlci frame)))
 frame-fits check sender dlci symbols phase frame small is room = (
   record {
     small = small;
@@ -120,9 +139,11 @@ frame-fits check sender dlci symbols phase frame small is room = (
   omega (arith, room, some-opening phase (checked check sender dlci frame)),
 )
 
-pub codable-fits : (check : Check) (sender : Role) (dlci symbols phase : ℕ) (s : Sent) → OfOctets (signal_of check sender dlci s) → IsCodable check sender dlci symbols phase s → Fits (4 * symbols) phase (signal_of check sender dlci s)
+pub codable-fits : (check : Check) (sender : Role) (dlci symbols phase : ℕ) (s : Sent) → OfOctets (signal_of check sender dlci s)
+    → IsCodable check sender dlci symbols phase s → Fits (4 * symbols) phase (signal_of check sender dlci s)
 codable-fits check sender dlci symbols phase sent.Mark small k = tt
 codable-fits check sender dlci symbols phase sent.Odp small k = tt
 codable-fits check sender dlci symbols phase sent.Adp small k = tt
 codable-fits check sender dlci symbols phase sent.Flags small k = tt
-codable-fits check sender dlci symbols phase (sent.Frame frame) small k = frame-fits check sender dlci symbols phase frame small k.sendable.0 k.room
+codable-fits check sender dlci symbols phase (sent.Frame frame) small k =
+    frame-fits check sender dlci symbols phase frame small k.sendable.0 k.room

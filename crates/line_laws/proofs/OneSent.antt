@@ -22,7 +22,8 @@ octets_in MarkSlot = []
 octets_in (FlagSlot None) = []
 octets_in (FlagSlot (Some octets)) = octets
 
-signals-tell : (check : Check) (sender : Role) (dlci : ℕ) (s other : Sent) → IsSendable s → IsSendable other → signal_of check sender dlci s ≡ signal_of check sender dlci other → s ≡ other
+signals-tell : (check : Check) (sender : Role) (dlci : ℕ) (s other : Sent) → IsSendable s → IsSendable other
+    → signal_of check sender dlci s ≡ signal_of check sender dlci other → s ≡ other
 signals-tell check sender dlci sent.Mark sent.Mark is others e = refl
 signals-tell check sender dlci sent.Mark sent.Odp is others e = absurd cc
 signals-tell check sender dlci sent.Mark sent.Adp is others e = absurd cc
@@ -50,7 +51,8 @@ signals-tell check sender dlci (sent.Frame frame) sent.Flags is others e = absur
 signals-tell check sender dlci (sent.Frame frame) (sent.Frame other) is others e =
     let same : checked check sender dlci frame ≡ checked check sender dlci other = ap octets_in e in
     ap sent.Frame (spells-one check sender dlci (checked check sender dlci other) frame other
-    (subst (λ (whole : List ℕ). SpellsFrame check sender dlci whole frame) same (spells check sender dlci frame is.0)) (spells check sender dlci other others.0))
+    (subst (λ (whole : List ℕ). SpellsFrame check sender dlci whole frame) same (spells check sender dlci frame is.0))
+        (spells check sender dlci other others.0))
 
 pub one-sent : ArePlain → SlotsTellWhatWasSent
 one-sent plain check sender dlci symbols phase s other channel few long codable codable_other e =
@@ -58,6 +60,8 @@ one-sent plain check sender dlci symbols phase s other channel few long codable 
     let others = codable-sendable check sender dlci symbols phase other codable_other in
     signals-tell check sender dlci s other is others
     (one-signal (4 * symbols) phase (signal_of check sender dlci s) (signal_of check sender dlci other) (omega arith) few
-    (fit-slot plain (4 * symbols) phase (signal_of check sender dlci s) (omega arith) few (codable-fits check sender dlci symbols phase s (spelled-octets check sender dlci s channel is) codable))
-    (fit-slot plain (4 * symbols) phase (signal_of check sender dlci other) (omega arith) few (codable-fits check sender dlci symbols phase other (spelled-octets check sender dlci other channel others) codable_other))
+    (fit-slot plain (4 * symbols) phase (signal_of check sender dlci s) (omega arith) few
+        (codable-fits check sender dlci symbols phase s (spelled-octets check sender dlci s channel is) codable))
+    (fit-slot plain (4 * symbols) phase (signal_of check sender dlci other) (omega arith) few
+        (codable-fits check sender dlci symbols phase other (spelled-octets check sender dlci other channel others) codable_other))
     e)

@@ -40,7 +40,8 @@ tap-some Answerer = omega arith
 
 -- bits are scrambled
 
-scrambled-from : (tap : ℕ) (done bits line : List Bool) → 1 ≤ tap → Scrambles tap done line → (whole : List Bool) × Scrambles tap (done ++ bits) whole
+scrambled-from : (tap : ℕ) (done bits line : List Bool) → 1 ≤ tap → Scrambles tap done line → (whole : List Bool)
+    × Scrambles tap (done ++ bits) whole
 scrambled-from tap done [] line low h = (line, subst (λ (xs : List Bool). Scrambles tap xs line) (sym (append-nil done)) h)
 scrambled-from tap done (bit ∷ bits) line low h =
     let sent : Bool = xor (xor bit (earlier line (length line) tap)) (earlier line (length line) 23) in
@@ -110,15 +111,19 @@ pub record AreCoded (quads : List ℕ) : Type 0 where
   pub end : ℕ
   pub encoded : Encodes quads labels end
 
-coded-from : (done quads labels : List ℕ) (state : ℕ) → state < 8 → All (λ quad. quad < 16) quads → Encodes done labels state → AreCoded (done ++ quads)
-coded-from done [] labels state low are h = record { labels = labels; end = state; encoded = subst (λ (xs : List ℕ). Encodes xs labels state) (sym (append-nil done)) h }
+coded-from : (done quads labels : List ℕ) (state : ℕ) → state < 8 → All (λ quad. quad < 16) quads → Encodes done labels state
+    → AreCoded (done ++ quads)
+coded-from done [] labels state low are h =
+    record { labels = labels; end = state; encoded = subst (λ (xs : List ℕ). Encodes xs labels state) (sym (append-nil done)) h }
 coded-from done (quad ∷ quads) labels state low are h =
     let y : ℕ = (sum (map turn_of done) + turn_of quad) % 4 in
     let small : y < 4 = omega arith in
-    let here : map y_of labels ++ y ∷ [] ≡ turned (map turn_of done ++ turn_of quad ∷ []) = ap (λ ys. ys ++ y ∷ []) h.turned_is ∙ sym (turned-snoc (map turn_of done) (turn_of quad)) in
+    let here : map y_of labels ++ y ∷ [] ≡ turned (map turn_of done ++ turn_of quad ∷ []) =
+        ap (λ ys. ys ++ y ∷ []) h.turned_is ∙ sym (turned-snoc (map turn_of done) (turn_of quad)) in
     let next = Encodes-more done labels state y quad low small (All-head (λ q. q < 16) quad quads are) h here in
     subst AreCoded (append_assoc done (quad ∷ []) quads)
-    (coded-from (done ++ quad ∷ []) quads _ (next_by_y state y) (next_by_y-lt state y low small) (All-tail (λ q. q < 16) quad quads are) next)
+    (coded-from (done ++ quad ∷ []) quads _ (next_by_y state y) (next_by_y-lt state y low small)
+        (All-tail (λ q. q < 16) quad quads are) next)
 
 coded-none : Encodes [] [] 0
 coded-none = record { leads = refl; turned_is = refl; uncoded_is = refl }
@@ -126,7 +131,8 @@ coded-none = record { leads = refl; turned_is = refl; uncoded_is = refl }
 are-coded : (quads : List ℕ) → All (λ quad. quad < 16) quads → AreCoded quads
 are-coded quads are = coded-from [] quads [] 0 (omega arith) are coded-none
 
-recorded-of : (script : ScriptValue) (sender : Role) (bits line : List Bool) → Scrambles (tap_of (mode_of sender)) bits line → (fours : AreFours line) → (coded : AreCoded fours.quads)
+recorded-of : (script : ScriptValue) (sender : Role) (bits line : List Bool) → Scrambles (tap_of (mode_of sender)) bits line
+    → (fours : AreFours line) → (coded : AreCoded fours.quads)
     → Records script sender bits (displaced_from script sender 0 (map point_of coded.labels))
 recorded-of script sender bits line scrambled fours coded = record {
   points = map point_of coded.labels;
@@ -144,7 +150,8 @@ recorded-of script sender bits line scrambled fours coded = record {
   samples_are = refl;
 }
 
-pub recorded-some : (script : ScriptValue) (sender : Role) (bits : List Bool) → length bits % 4 ≡ 0 → (samples : List Sample) × Records script sender bits samples
+pub recorded-some : (script : ScriptValue) (sender : Role) (bits : List Bool) → length bits % 4 ≡ 0 → (samples : List Sample)
+    × Records script sender bits samples
 recorded-some script sender bits whole =
     let line = some-line (tap_of (mode_of sender)) bits (tap-some sender) in
     let fours = are-fours (length bits / 4) line.0 (omega (arith, whole, line.1.lengths)) in
@@ -153,30 +160,38 @@ recorded-some script sender bits whole =
 
 -- slots of so many symbols have bits in fours
 
-slots-fours : (plain : ArePlain) (symbols : ℕ) (signals : List Signal) → 138 < symbols → AreFit (4 * symbols) 0 signals → length (signal_bits (4 * symbols) signals) % 4 ≡ 0
+slots-fours : (plain : ArePlain) (symbols : ℕ) (signals : List Signal) → 138 < symbols → AreFit (4 * symbols) 0 signals
+    → length (signal_bits (4 * symbols) signals) % 4 ≡ 0
 slots-fours plain symbols signals long h =
     let whole = length-fit plain (4 * symbols) 0 signals (omega arith) (omega arith) h in
     let fours : 4 * symbols * length signals ≡ 4 * (symbols * length signals) = mul_assoc 4 symbols (length signals) in
     omega (arith, whole, fours)
 
-pub slots-recorded : (plain : ArePlain) (script : ScriptValue) (sender : Role) (symbols : ℕ) (signals : List Signal) → 138 < symbols → AreFit (4 * symbols) 0 signals
+pub slots-recorded : (plain : ArePlain) (script : ScriptValue) (sender : Role) (symbols : ℕ) (signals : List Signal) → 138 < symbols
+    → AreFit (4 * symbols) 0 signals
     → (samples : List Sample) × Records script sender (signal_bits (4 * symbols) signals) samples
-slots-recorded plain script sender symbols signals long h = recorded-some script sender (signal_bits (4 * symbols) signals) (slots-fours plain symbols signals long h)
+slots-recorded plain script sender symbols signals long h =
+    recorded-some script sender (signal_bits (4 * symbols) signals) (slots-fours plain symbols signals long h)
 
 -- losses stay
 
 loss-goes_on : (sender : Role) (script : ScriptValue) (first rest : List Bool) (symbol : ℕ) (samples : List Sample)
-    → LosesAt sender script first symbol → Records script sender (first ++ rest) samples → LostIs line_trellis line_depth samples (Some symbol)
+    → LosesAt sender script first symbol → Records script sender (first ++ rest) samples
+        → LostIs line_trellis line_depth samples (Some symbol)
 loss-goes_on sender script first rest symbol samples l r =
     let grown = recordings-grow script sender first rest l.samples samples l.recorded r in
-    subst (λ (xs : List Sample). LostIs line_trellis line_depth xs (Some symbol)) (sym grown.1) (lost-stays line_trellis line_depth l.samples grown.0 symbol l.lost)
+    subst (λ (xs : List Sample). LostIs line_trellis line_depth xs (Some symbol)) (sym grown.1)
+        (lost-stays line_trellis line_depth l.samples grown.0 symbol l.lost)
 
 pub loss-in_each : (sender : Role) (script : ScriptValue) (before bits more : List Bool) (symbol : ℕ) (samples : List Sample)
-    → LosesWithin sender script before bits symbol → Records script sender ((before ++ bits) ++ more) samples → LostIs line_trellis line_depth samples (Some symbol)
+    → LosesWithin sender script before bits symbol → Records script sender ((before ++ bits) ++ more) samples
+        → LostIs line_trellis line_depth samples (Some symbol)
 loss-in_each sender script before bits more symbol samples l r =
     let split : (before ++ bits) ++ more ≡ (before ++ l.first) ++ (l.rest ++ more)
-    = ap (λ xs. (before ++ xs) ++ more) l.bits_are ∙ ap (λ xs. xs ++ more) (sym (append_assoc before l.first l.rest)) ∙ append_assoc (before ++ l.first) l.rest more in
-    loss-goes_on sender script (before ++ l.first) (l.rest ++ more) symbol samples l.loses (subst (λ (xs : List Bool). Records script sender xs samples) split r)
+    = ap (λ xs. (before ++ xs) ++ more) l.bits_are ∙ ap (λ xs. xs ++ more) (sym (append_assoc before l.first l.rest))
+        ∙ append_assoc (before ++ l.first) l.rest more in
+    loss-goes_on sender script (before ++ l.first) (l.rest ++ more) symbol samples l.loses
+        (subst (λ (xs : List Bool). Records script sender xs samples) split r)
 
 pub loss-stays : (sender : Role) (script : ScriptValue) (before bits : List Bool) (symbol : ℕ) → length (before ++ bits) % 4 ≡ 0
     → LosesWithin sender script before bits symbol → LosesAt sender script (before ++ bits) symbol
@@ -185,5 +200,6 @@ loss-stays sender script before bits symbol whole l =
     record {
       samples = some.0;
       recorded = some.1;
-      lost = loss-in_each sender script before bits [] symbol some.0 l (subst (λ (xs : List Bool). Records script sender xs some.0) (sym (append-nil (before ++ bits))) some.1);
+      lost = loss-in_each sender script before bits [] symbol some.0 l
+          (subst (λ (xs : List Bool). Records script sender xs some.0) (sym (append-nil (before ++ bits))) some.1);
     }

@@ -32,12 +32,15 @@ use Rattle.line_laws.specs.Faint.{IsFaintBefore}
 
 -- a script displaces no symbol before the first that its hit lines and noise lines for the role name
 abbrev pub LaterLinesDisplaceNone : Type 0
-LaterLinesDisplaceNone = (script : ScriptValue) (sender : Role) (count : ℕ) → All (λ (hit : Hit). same_role hit.role sender ≡ true → count ≤ hit.from) script.hits
-    → All (λ (noise : Noise). same_role noise.role sender ≡ true → count ≤ noise.from) script.noises → DisplacesNoneBefore script sender count
+LaterLinesDisplaceNone = (script : ScriptValue) (sender : Role) (count : ℕ)
+    → All (λ (hit : Hit). same_role hit.role sender ≡ true → count ≤ hit.from) script.hits
+    → All (λ (noise : Noise). same_role noise.role sender ≡ true → count ≤ noise.from) script.noises
+        → DisplacesNoneBefore script sender count
 
 -- and none at all where it has neither hit lines nor noise lines
 abbrev pub EmptyScriptDisplacesNone : Type 0
-EmptyScriptDisplacesNone = (script : ScriptValue) (sender : Role) (count : ℕ) → script.hits ≡ [] → script.noises ≡ [] → DisplacesNoneBefore script sender count
+EmptyScriptDisplacesNone = (script : ScriptValue) (sender : Role) (count : ℕ) → script.hits ≡ [] → script.noises ≡ []
+    → DisplacesNoneBefore script sender count
 
 -- slots that fit
 
@@ -50,10 +53,12 @@ OneMoreFits = (size : ℕ) (before : List Signal) (signal : Signal)
     → AreFit size 0 before → Fits size (phase_after size (slots_of size before)) signal → AreFit size 0 (before ++ signal ∷ [])
 
 abbrev pub SlotsThatFitAreSlots : Type 0
-SlotsThatFitAreSlots = (size : ℕ) (signals : List Signal) → 4 * (HEAD + TAIL) < size → AreFit size 0 signals → AreSlots size 0 (slots_of size signals)
+SlotsThatFitAreSlots = (size : ℕ) (signals : List Signal) → 4 * (HEAD + TAIL) < size → AreFit size 0 signals
+    → AreSlots size 0 (slots_of size signals)
 
 abbrev pub SlotsHaveSize : Type 0
-SlotsHaveSize = (size : ℕ) (signals : List Signal) → 4 * (HEAD + TAIL) < size → AreFit size 0 signals → length (signal_bits size signals) ≡ size * length signals
+SlotsHaveSize = (size : ℕ) (signals : List Signal) → 4 * (HEAD + TAIL) < size → AreFit size 0 signals
+    → length (signal_bits size signals) ≡ size * length signals
 
 -- what can be coded in slots of so many symbols fits them
 abbrev pub CodableFits : Type 0
@@ -61,11 +66,13 @@ CodableFits = (check : Check) (sender : Role) (dlci symbols phase : ℕ) (s : Se
     → IsCodable check sender dlci symbols phase s → Fits (4 * symbols) phase (signal_of check sender dlci s)
 
 abbrev pub CodableIsSendable : Type 0
-CodableIsSendable = (check : Check) (sender : Role) (dlci symbols phase : ℕ) (s : Sent) → IsCodable check sender dlci symbols phase s → IsSendable s
+CodableIsSendable = (check : Check) (sender : Role) (dlci symbols phase : ℕ) (s : Sent) → IsCodable check sender dlci symbols phase s
+    → IsSendable s
 
 -- what can be sent is written in octets
 abbrev pub SpelledInOctets : Type 0
-SpelledInOctets = (check : Check) (sender : Role) (dlci : ℕ) (s : Sent) → dlci < 64 → IsSendable s → OfOctets (signal_of check sender dlci s)
+SpelledInOctets = (check : Check) (sender : Role) (dlci : ℕ) (s : Sent) → dlci < 64 → IsSendable s
+    → OfOctets (signal_of check sender dlci s)
 
 -- a frame has at most seven octets besides its information: an address, two of control and four of check
 abbrev pub FewOctetsBesidesInformation : Type 0
@@ -85,7 +92,8 @@ EachIsRecorded = (script : ScriptValue) (sender : Role) (bits : List Bool) → l
     → (samples : List Sample) × Records script sender bits samples
 
 abbrev pub SlotsAreRecorded : Type 0
-SlotsAreRecorded = (script : ScriptValue) (sender : Role) (symbols : ℕ) (signals : List Signal) → HEAD + TAIL < symbols → AreFit (4 * symbols) 0 signals
+SlotsAreRecorded = (script : ScriptValue) (sender : Role) (symbols : ℕ) (signals : List Signal) → HEAD + TAIL < symbols
+    → AreFit (4 * symbols) 0 signals
     → (samples : List Sample) × Records script sender (signal_bits (4 * symbols) signals) samples
 
 -- a line that is lost within a slot is lost, with the same symbol, in the recording of the slot
@@ -109,25 +117,32 @@ NeverLostWhere Holds = (sender : Role) (script : ScriptValue) (count : ℕ) (bef
 -- nothing but what was sent in a slot is received in it, and all of that is: the end that sends has one check, the end that hears another, which
 -- agree on what is sent
 abbrev pub ReceivedIsSentWhere : (ScriptValue → Role → ℕ → Type 0) → ℕ → Type 0
-ReceivedIsSentWhere Holds most = (script : ScriptValue) (check hearing : Check) (sender : Role) (dlci symbols : ℕ) (passed : List Signal) (s : Sent)
+ReceivedIsSentWhere Holds most =
+    (script : ScriptValue) (check hearing : Check) (sender : Role) (dlci symbols : ℕ) (passed : List Signal) (s : Sent)
     (before upto : List Sample) (frames : List Frame) (patterns : List Seen)
-    → Holds script sender (symbols * (length passed + 1)) → most < symbols → AreFit (4 * symbols) 0 (passed ++ signal_of check sender dlci s ∷ []) → IsSendable s → ChecksAgree check hearing s
+    → Holds script sender (symbols * (length passed + 1)) → most < symbols
+        → AreFit (4 * symbols) 0 (passed ++ signal_of check sender dlci s ∷ []) → IsSendable s → ChecksAgree check hearing s
     → Records script sender (signal_bits (4 * symbols) passed) before
     → Records script sender (signal_bits (4 * symbols) (passed ++ signal_of check sender dlci s ∷ [])) upto
     → Receives hearing sender dlci before upto frames patterns
     → (frames ≡ frames_in s) × (patterns ≡ patterns_in s)
 
 abbrev pub SentIsReceivedWhere : (ScriptValue → Role → ℕ → Type 0) → ℕ → Type 0
-SentIsReceivedWhere Holds most = (script : ScriptValue) (check hearing : Check) (sender : Role) (dlci symbols : ℕ) (passed : List Signal) (s : Sent) (before upto : List Sample)
-    → Holds script sender (symbols * (length passed + 1)) → most < symbols → AreFit (4 * symbols) 0 (passed ++ signal_of check sender dlci s ∷ []) → IsSendable s → ChecksAgree check hearing s
+SentIsReceivedWhere Holds most =
+    (script : ScriptValue) (check hearing : Check) (sender : Role) (dlci symbols : ℕ) (passed : List Signal) (s : Sent)
+    (before upto : List Sample)
+    → Holds script sender (symbols * (length passed + 1)) → most < symbols
+        → AreFit (4 * symbols) 0 (passed ++ signal_of check sender dlci s ∷ []) → IsSendable s → ChecksAgree check hearing s
     → Records script sender (signal_bits (4 * symbols) passed) before
     → Records script sender (signal_bits (4 * symbols) (passed ++ signal_of check sender dlci s ∷ [])) upto
     → Receives hearing sender dlci before upto (frames_in s) (patterns_in s)
 
 -- so it is what is heard
 abbrev pub HeardIsSentWhere : (ScriptValue → Role → ℕ → Type 0) → ℕ → Type 0
-HeardIsSentWhere Holds most = (line : Kept) (script : ScriptValue) (passed waiting : List Signal) (signal : Signal) (check hearing : Check) (dlci : ℕ) (loses : Bool) (s : Sent) (h : Heard)
-    → Holds script (sender_of line) (line.writer.symbols * (length passed + 1)) → most < line.writer.symbols → AreFit (size_of line) 0 (passed ++ signal ∷ [])
+HeardIsSentWhere Holds most = (line : Kept) (script : ScriptValue) (passed waiting : List Signal) (signal : Signal) (check hearing : Check)
+    (dlci : ℕ) (loses : Bool) (s : Sent) (h : Heard)
+    → Holds script (sender_of line) (line.writer.symbols * (length passed + 1)) → most < line.writer.symbols
+        → AreFit (size_of line) 0 (passed ++ signal ∷ [])
     → signal ≡ signal_of check (sender_of line) dlci s → IsSendable s → ChecksAgree check hearing s
     → PassesSlot line script passed signal waiting hearing dlci loses s h → h ≡ unhindered loses s
 
@@ -137,8 +152,11 @@ NeverChance = (loses : Bool) (s : Sent) → unhindered loses s ≡ heard.Chance 
 
 -- and the slot does pass
 abbrev pub PassesUnhinderedWhere : (ScriptValue → Role → ℕ → Type 0) → ℕ → Type 0
-PassesUnhinderedWhere Holds most = (line : Kept) (script : ScriptValue) (passed waiting : List Signal) (signal : Signal) (check hearing : Check) (dlci : ℕ) (loses : Bool) (s : Sent) (result : Result Heard Lost)
-    → Holds script (sender_of line) (line.writer.symbols * (length passed + 1)) → most < line.writer.symbols → AreFit (size_of line) 0 (passed ++ signal ∷ [])
+PassesUnhinderedWhere Holds most =
+    (line : Kept) (script : ScriptValue) (passed waiting : List Signal) (signal : Signal) (check hearing : Check) (dlci : ℕ) (loses : Bool)
+    (s : Sent) (result : Result Heard Lost)
+    → Holds script (sender_of line) (line.writer.symbols * (length passed + 1)) → most < line.writer.symbols
+        → AreFit (size_of line) 0 (passed ++ signal ∷ [])
     → signal ≡ signal_of check (sender_of line) dlci s → IsSendable s → ChecksAgree check hearing s
     → Passes line script passed signal waiting hearing dlci loses s result → result ≡ Ok (unhindered loses s)
 
@@ -178,11 +196,14 @@ FaintPassesUnhindered = PassesUnhinderedWhere IsFaintBefore 215
 
 -- nothing is fainter than what displaces no symbol
 abbrev pub UndisplacedIsFaint : Type 0
-UndisplacedIsFaint = (script : ScriptValue) (sender : Role) (count : ℕ) → DisplacesNoneBefore script sender count → IsFaintBefore script sender count
+UndisplacedIsFaint = (script : ScriptValue) (sender : Role) (count : ℕ) → DisplacesNoneBefore script sender count
+    → IsFaintBefore script sender count
 
 -- The bits of a slot tell what was sent in it, among all that can be coded at its size and flag phase with this check, by this sender on this channel.
 abbrev pub SlotsTellWhatWasSent : Type 0
-SlotsTellWhatWasSent = (check : Check) (sender : Role) (dlci symbols phase : ℕ) (s other : Sent) → dlci < 64 → phase < 8 → HEAD + TAIL < symbols
+SlotsTellWhatWasSent = (check : Check) (sender : Role) (dlci symbols phase : ℕ) (s other : Sent) → dlci < 64 → phase < 8
+    → HEAD + TAIL < symbols
     → IsCodable check sender dlci symbols phase s → IsCodable check sender dlci symbols phase other
-    → slot_bits (4 * symbols) phase (slot_of (4 * symbols) (signal_of check sender dlci s)) ≡ slot_bits (4 * symbols) phase (slot_of (4 * symbols) (signal_of check sender dlci other))
+    → slot_bits (4 * symbols) phase (slot_of (4 * symbols) (signal_of check sender dlci s)) ≡ slot_bits (4 * symbols) phase
+        (slot_of (4 * symbols) (signal_of check sender dlci other))
     → s ≡ other

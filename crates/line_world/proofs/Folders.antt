@@ -33,12 +33,15 @@ lines-only a b n p = record { goes_on = p.goes_on; names = λ other o a' t. p.na
 -- ---- what was counted
 
 -- a fault behind steps that counted nothing
-pub counts-later : (a b c : FolderState) (n : Written) (fault : RunFault) → CountsStand a b → FaultCounts b c n fault → FaultCounts a c n fault
+pub counts-later : (a b c : FolderState) (n : Written) (fault : RunFault) → CountsStand a b → FaultCounts b c n fault
+    → FaultCounts a c n fault
 counts-later a b c n run_faults.ReadFault s (inl h) = inl (subst (λ x. Rose x (c.read_faults n.orig)) (s.faults.reads n.orig) h)
 counts-later a b c n run_faults.ReadFault s (inr h) = inr (subst (λ x. Rose x (c.read_faults n.answ)) (s.faults.reads n.answ) h)
 counts-later a b c n run_faults.WriteFault s (inl h) = inl (subst (λ x. Rose x (c.write_faults n.got_o)) (s.faults.writes n.got_o) h)
-counts-later a b c n run_faults.WriteFault s (inr (inl h)) = inr (inl (subst (λ x. Rose x (c.write_faults n.got_a)) (s.faults.writes n.got_a) h))
-counts-later a b c n run_faults.WriteFault s (inr (inr h)) = inr (inr (subst (λ x. Rose x (c.write_faults n.trace)) (s.faults.writes n.trace) h))
+counts-later a b c n run_faults.WriteFault s (inr (inl h)) =
+    inr (inl (subst (λ x. Rose x (c.write_faults n.got_a)) (s.faults.writes n.got_a) h))
+counts-later a b c n run_faults.WriteFault s (inr (inr h)) =
+    inr (inr (subst (λ x. Rose x (c.write_faults n.trace)) (s.faults.writes n.trace) h))
 counts-later a b c n run_faults.NoMemory s h = (FaultsStand-trans s.faults h.0, subst (λ x. Rose x c.refusals) s.refusals h.1)
 counts-later a b c n (run_faults.LineLost role symbol) s h = CountsStand-trans s h
 counts-later a b c n (run_faults.ChanceMatch role turn) s h = CountsStand-trans s h
@@ -48,7 +51,8 @@ counts-later a b c n (run_faults.LinkLost role segment turn) s h = CountsStand-t
 -- ---- what was written
 
 -- reading changes none of it
-pub delivered-kept : (a b c : FolderState) (n : Written) (mid : Ends) → GoesOn a b → OnlyReads b c → HasDelivered a b n mid → HasDelivered a c n mid
+pub delivered-kept : (a b c : FolderState) (n : Written) (mid : Ends) → GoesOn a b → OnlyReads b c → HasDelivered a b n mid
+    → HasDelivered a c n mid
 delivered-kept a b c n mid g r d = record {
   got_o = Adds-kept a b c n.got_o _ g d.got_o (r.names n.got_o);
   got_a = Adds-kept a b c n.got_a _ g d.got_a (r.names n.got_a);
@@ -60,7 +64,8 @@ appended-behind : (a b c : FolderState) (n xs : List ℕ) → GoesOn a b → Kee
 appended-behind a b c n xs g k p told = p (told_later g n told) ∙ ap (λ o. Some (o ++ xs)) (octets-kept a b n k told)
 
 -- the lines go out behind it
-pub writes-turn : (a b c : FolderState) (n : Written) (mid : Ends) (text : List ℕ) → AreApart n → GoesOn a b → HasDelivered a b n mid → OnlyWrites b c n.trace
+pub writes-turn : (a b c : FolderState) (n : Written) (mid : Ends) (text : List ℕ) → AreApart n → GoesOn a b → HasDelivered a b n mid
+    → OnlyWrites b c n.trace
     → Appended b c n.trace text → WritesTurn a c n mid text
 writes-turn a b c n mid text apart g d w t = record {
   got_o = Adds-kept a b c n.got_o _ g d.got_o (w.names n.got_o apart.got_o_trace);
@@ -69,7 +74,8 @@ writes-turn a b c n mid text apart g d w t = record {
 }
 
 -- or a part of them
-pub writes-part : (a b c : FolderState) (n : Written) (mid : Ends) (text : List ℕ) → AreApart n → GoesOn a b → HasDelivered a b n mid → OnlyWrites b c n.trace
+pub writes-part : (a b c : FolderState) (n : Written) (mid : Ends) (text : List ℕ) → AreApart n → GoesOn a b → HasDelivered a b n mid
+    → OnlyWrites b c n.trace
     → PartlyAppended b c n.trace text → WritesPart a c n mid text
 writes-part a b c n mid text apart g d w t = record {
   got_o = PartlyAppended-all a c n.got_o _ (Adds-kept a b c n.got_o _ g d.got_o (w.names n.got_o apart.got_o_trace));
@@ -95,7 +101,8 @@ receives-none a b n apart w = record { got_o = w.names n.got_o apart.got_o_trace
 -- ---- which files are known
 
 one-known : (a b c : FolderState) (name file others : List ℕ) → GoesOn a b → GoesOn a c → KeepsName a b name → KeepsName a c name
-    → (IsTrue (b.tells name) → file ≡ file_at b name file_limit → others ≡ file) → (IsTrue (a.tells name) → file ≡ file_at a name file_limit)
+    → (IsTrue (b.tells name) → file ≡ file_at b name file_limit → others ≡ file)
+        → (IsTrue (a.tells name) → file ≡ file_at a name file_limit)
     → IsTrue (c.tells name) → others ≡ file_at c name file_limit
 one-known a b c name file others gb gc kb kc told known tells =
     let here : IsTrue (a.tells name) = subst IsTrue (gc.tells name) tells in
@@ -111,24 +118,30 @@ answ-kept : (a b : FolderState) (n : Written) → AreApart n → OnlyOutputs a b
 answ-kept a b n apart p = p.names n.answ (λ e. apart.got_o_answ (sym e)) (λ e. apart.got_a_answ (sym e)) (λ e. apart.trace_answ (sym e))
 
 -- where nothing more was read they are the same
-pub stay-known : (a b : FolderState) (n : Written) (files : Both (List ℕ)) → AreApart n → OnlyOutputs a b n → AreWithin files → StayKnown a b n files files
+pub stay-known : (a b : FolderState) (n : Written) (files : Both (List ℕ)) → AreApart n → OnlyOutputs a b n → AreWithin files
+    → StayKnown a b n files files
 stay-known a b n files apart p within = record {
   within = within;
   known = λ k. record {
     within = within;
-    orig = one-known a b b n.orig files.orig files.orig p.goes_on p.goes_on (orig-kept a b n apart p) (orig-kept a b n apart p) (λ t e. refl) k.orig;
-    answ = one-known a b b n.answ files.answ files.answ p.goes_on p.goes_on (answ-kept a b n apart p) (answ-kept a b n apart p) (λ t e. refl) k.answ;
+    orig = one-known a b b n.orig files.orig files.orig p.goes_on p.goes_on (orig-kept a b n apart p) (orig-kept a b n apart p)
+        (λ t e. refl) k.orig;
+    answ = one-known a b b n.answ files.answ files.answ p.goes_on p.goes_on (answ-kept a b n apart p) (answ-kept a b n apart p)
+        (λ t e. refl) k.answ;
   };
 }
 
-pub others-known : (a b c : FolderState) (n : Written) (files others : Both (List ℕ)) (mid : Ends) → AreApart n → OnlyOutputs a b n → OnlyOutputs a c n
+pub others-known : (a b c : FolderState) (n : Written) (files others : Both (List ℕ)) (mid : Ends) → AreApart n → OnlyOutputs a b n
+    → OnlyOutputs a c n
     → ReadsBoth b n files (handed mid) others → StayKnown a c n files others
 others-known a b c n files others mid apart p q r = record {
   within = within;
   known = λ k. record {
     within = within;
-    orig = one-known a b c n.orig files.orig others.orig p.goes_on q.goes_on (orig-kept a b n apart p) (orig-kept a c n apart q) r.orig.told k.orig;
-    answ = one-known a b c n.answ files.answ others.answ p.goes_on q.goes_on (answ-kept a b n apart p) (answ-kept a c n apart q) r.answ.told k.answ;
+    orig = one-known a b c n.orig files.orig others.orig p.goes_on q.goes_on (orig-kept a b n apart p)
+        (orig-kept a c n apart q) r.orig.told k.orig;
+    answ = one-known a b c n.answ files.answ others.answ p.goes_on q.goes_on (answ-kept a b n apart p)
+        (answ-kept a c n apart q) r.answ.told k.answ;
   };
 }
   where

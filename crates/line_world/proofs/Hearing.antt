@@ -33,7 +33,8 @@ use Rattle.line_world.specs.Tally.{Tallies, IsFew, HearsMore}
 use Rattle.line_world.specs.Mid.{Overhears, TalliesHeard, HasHeard, IsLineEnd, turn_in}
 
 pub few-turns : NoLineRunIsLong → (w : World) → IsReady w → w.turn < 2 ^ 40
-few-turns law w h = subst (λ n. n < 2 ^ 40) (sym h.after.turn) (law (channel_of w.script) h.files h.turns h.ends h.limits within h.after.run)
+few-turns law w h = subst (λ n. n < 2 ^ 40) (sym h.after.turn)
+    (law (channel_of w.script) h.files h.turns h.ends h.limits within h.after.run)
   where
     within : (role : Role) → length (of role h.files) ≤ file_limit
     within Originator = h.within.orig
@@ -47,7 +48,8 @@ pub record HearingLaws : Type 0 where
   pub one : OneIsCarried
   pub well : HearingsAreWell
 
-pub runs-over : ScriptsMayPlay → ScriptsHaveDelays → SamplesAreCarried → (script : ScriptValue) (files : Both (List ℕ)) (ts : List Turn) (ends : Ends) → IsInLimits script
+pub runs-over : ScriptsMayPlay → ScriptsHaveDelays → SamplesAreCarried
+    → (script : ScriptValue) (files : Both (List ℕ)) (ts : List Turn) (ends : Ends) → IsInLimits script
     → LineRun (channel_of script) (link_of script files) ts ends → RunsOver (link_of script files) (delay_of script) ts ends
 runs-over play delays carried script files ts ends limits run = record {
   may_play = play script files limits;
@@ -57,7 +59,8 @@ runs-over play delays carried script files ts ends limits run = record {
 }
 
 pub heard-in : (script : ScriptValue) (ts : List Turn) (ends mid : Ends) (heard : Each Heard) (sent : Both (Option Spoken))
-    → IsHeardOf (channel_of script) Answerer ts (check_of ends.orig) heard.orig → IsHeardOf (channel_of script) Originator ts (check_of ends.answ) heard.answ
+    → IsHeardOf (channel_of script) Answerer ts (check_of ends.orig) heard.orig
+        → IsHeardOf (channel_of script) Originator ts (check_of ends.answ) heard.answ
     → heard.orig ≢ Chance → heard.answ ≢ Chance → HeardIn (channel_of script) ts (turn_in heard ends mid sent)
 heard-in script ts ends mid heard sent o a wo wa Originator = record { heard_of = o; well = wo }
 heard-in script ts ends mid heard sent o a wo wa Answerer = record { heard_of = a; well = wa }
@@ -66,7 +69,8 @@ abbrev pub none-sent : Both (Option Spoken)
 none-sent = record { orig = None; answ = None }
 
 -- what arrives of own slots breaks no end
-pub hears-well : HearingLaws → (script : ScriptValue) (files : Both (List ℕ)) (l : Lines) (ts : List Turn) (ends : Ends) (heard : Each Heard) → IsInLimits script
+pub hears-well : HearingLaws → (script : ScriptValue) (files : Both (List ℕ)) (l : Lines) (ts : List Turn) (ends : Ends)
+    (heard : Each Heard) → IsInLimits script
     → LineRun (channel_of script) (link_of script files) ts ends → ArrivesBoth l (channel_of script) ts ends heard
     → HearsWell ends (length ts) (arrival heard.orig) (arrival heard.answ)
 hears-well laws script files l ts ends heard limits run a =
@@ -76,13 +80,15 @@ hears-well laws script files l ts ends heard limits run a =
     let well = laws.well (link_of script files) (delay_of script) ts ends t over carries in
     record { orig = well Originator; answ = well Answerer }
 
-pub record Hearing (w : World) (l : Link) (files : Both (List ℕ)) (ts : List Turn) (ends : Ends) (heard : Each Heard) (turn : ℕ) (to_orig to_answ : Arrived) : Type 0 where
+pub record Hearing (w : World) (l : Link) (files : Both (List ℕ)) (ts : List Turn) (ends : Ends) (heard : Each Heard) (turn : ℕ)
+    (to_orig to_answ : Arrived) : Type 0 where
   pub number : turn ≡ length ts
   pub orig_is : to_orig ≡ arrival heard.orig
   pub answ_is : to_answ ≡ arrival heard.answ
   pub hears : HearsBoth l files ends turn to_orig to_answ
 
-pub has-heard : (old w : World) (files : Both (List ℕ)) (ts : List Turn) (ends : Ends) (heard : Each Heard) (turn : ℕ) (to_orig to_answ : Arrived)
+pub has-heard : (old w : World) (files : Both (List ℕ)) (ts : List Turn) (ends : Ends) (heard : Each Heard) (turn : ℕ)
+    (to_orig to_answ : Arrived)
     → WorldAfter old files ts ends → w.script ≡ old.script → w.turn ≡ old.turn → ArrivesBoth w.lines (channel_of old.script) ts ends heard
     → Hearing w w.link files ts ends heard turn to_orig to_answ → TalliesHeard w.tally ts ends heard → HasHeard w files ts ends heard
 has-heard old w files ts ends heard turn to_orig to_answ h script number a hearing tally =
@@ -96,8 +102,10 @@ has-heard old w files ts ends heard turn to_orig to_answ h script number a heari
           answ_heard = a.answ;
           orig_well = a.orig_well;
           answ_well = a.answ_well;
-          orig_hears = ap (λ t. hear t (arrival heard.orig) ends.orig) (sym hearing.number) ∙ ap (λ x. hear turn x ends.orig) (sym hearing.orig_is) ∙ hearing.hears.orig;
-          answ_hears = ap (λ t. hear t (arrival heard.answ) ends.answ) (sym hearing.number) ∙ ap (λ x. hear turn x ends.answ) (sym hearing.answ_is) ∙ hearing.hears.answ;
+          orig_hears = ap (λ t. hear t (arrival heard.orig) ends.orig) (sym hearing.number)
+              ∙ ap (λ x. hear turn x ends.orig) (sym hearing.orig_is) ∙ hearing.hears.orig;
+          answ_hears = ap (λ t. hear t (arrival heard.answ) ends.answ) (sym hearing.number)
+              ∙ ap (λ x. hear turn x ends.answ) (sym hearing.answ_is) ∙ hearing.hears.answ;
         });
         link = hearing.hears.stands;
         lines = subst (λ s. HaveArrived w.lines (channel_of s) ts) (sym script) a.lines;
@@ -122,7 +130,8 @@ lost-one (Passed s) = omega arith
 lost-one (Lost s) = omega arith
 lost-one Chance = omega arith
 
-pub hears-more : (old new : Tally) (heard : Each Heard) → new ≡ record old { lost = old.lost + lost_in heard.orig + lost_in heard.answ } → HearsMore old new
+pub hears-more : (old new : Tally) (heard : Each Heard) → new ≡ record old { lost = old.lost + lost_in heard.orig + lost_in heard.answ }
+    → HearsMore old new
 hears-more old new heard e = rw e (record {
   lost_low = omega arith;
   lost_high = omega (arith, lost-one heard.orig, lost-one heard.answ);
@@ -142,15 +151,18 @@ lost-so script l ts ends (ways.Chance role) h = h
 abbrev pub nothing-counted : Tally
 nothing-counted = record { lost = 0; again = 0; orig = 0; answ = 0 }
 
-pub begins : (w : World) (script : ScriptValue) → w.script ≡ script → ((files : Both (List ℕ)) → LinkStands w.link files (start (link_of script files)))
+pub begins : (w : World) (script : ScriptValue) → w.script ≡ script
+    → ((files : Both (List ℕ)) → LinkStands w.link files (start (link_of script files)))
     → LinesWait w.lines (channel_of script) [] → w.turn ≡ 0 → w.tally ≡ nothing-counted
     → (files : Both (List ℕ)) → WorldAfter w files [] (start (link_of script files))
 begins w script is link lines turn tally files = record {
-  run = subst (λ s. LineRun (channel_of s) (link_of s files) [] (start (link_of script files))) (sym is) (record { run = refl; heard = tt });
+  run = subst (λ s. LineRun (channel_of s) (link_of s files) [] (start (link_of script files))) (sym is)
+      (record { run = refl; heard = tt });
   link = link files;
   lines = subst (λ s. LinesWait w.lines (channel_of s) []) (sym is) lines;
   turn = turn;
-  tally = subst (λ t. Tallies t [] (start (link_of script files))) (sym tally) (record { lost = refl; again = refl; orig = refl; answ = refl });
+  tally = subst (λ t. Tallies t [] (start (link_of script files))) (sym tally)
+      (record { lost = refl; again = refl; orig = refl; answ = refl });
 }
 
 abbrev no-files : Both (List ℕ)

@@ -32,14 +32,18 @@ given-delivered a = go _
     go true = refl
     go false = refl
 
-pub hears-in : (script : ScriptValue) (files : Both (List ℕ)) (ts : List Turn) (ends mid : Ends) (heard : Each Heard) (sent : Both (Option Spoken))
+pub hears-in : (script : ScriptValue) (files : Both (List ℕ)) (ts : List Turn) (ends mid : Ends) (heard : Each Heard)
+    (sent : Both (Option Spoken))
     → Overhears script files ts ends heard mid → Hears (length ts) ends (turn_in heard ends mid sent) mid
 hears-in script files ts ends mid heard sent o Originator = record { hears = o.orig_hears; check_is = refl; given_is = refl }
 hears-in script files ts ends mid heard sent o Answerer = record { hears = o.answ_hears; check_is = refl; given_is = refl }
 
 -- a run is one of the files as far as they are read now
-pub over-others : RunsByWhatIsReadOn → (script : ScriptValue) (files others : Both (List ℕ)) (ts : List Turn) (ends mid : Ends) (heard : Each Heard) (f : FolderState) (n : Written)
-    → IsInLimits script → Overhears script files ts ends heard mid → ReadsBoth f n files (handed mid) others → Overhears script others ts ends heard mid
+pub over-others : RunsByWhatIsReadOn
+    → (script : ScriptValue) (files others : Both (List ℕ)) (ts : List Turn) (ends mid : Ends) (heard : Each Heard) (f : FolderState)
+    (n : Written)
+    → IsInLimits script → Overhears script files ts ends heard mid → ReadsBoth f n files (handed mid) others
+        → Overhears script others ts ends heard mid
 over-others law script files others ts ends mid heard f n limits o r = record {
   orig_heard = o.orig_heard;
   answ_heard = o.answ_heard;
@@ -48,7 +52,8 @@ over-others law script files others ts ends mid heard f n limits o r = record {
   orig_hears = o.orig_hears;
   answ_hears = o.answ_hears;
   run = record {
-    run = law (link_of script files) files others ts ends (turn_in heard ends mid (record { orig = None; answ = None })) mid allowed o.run.run
+    run = law (link_of script files) files others ts ends
+        (turn_in heard ends mid (record { orig = None; answ = None })) mid allowed o.run.run
         (hears-in script files ts ends mid heard (record { orig = None; answ = None }) o) same;
     heard = o.run.heard;
   };
@@ -86,7 +91,8 @@ pub served-is : (script : ScriptValue) (files : Both (List ℕ)) (turn : ℕ) (m
     }
 served-is script files turn mid = ap (λ r. record {
   orig = asked turn r (breaks_of script Originator) (after_busy (is_busy turn (busy_of script Originator)) (offered files.orig x));
-  answ = asked turn r (breaks_of script Answerer) (after_busy (is_busy turn (busy_of script Answerer)) (offered files.answ (after_given (delivered mid.answ))));
+  answ = asked turn r (breaks_of script Answerer)
+      (after_busy (is_busy turn (busy_of script Answerer)) (offered files.answ (after_given (delivered mid.answ))));
 }) (ap is_released (phase-offered (room_for x) files.orig x ∙ phase-delivered mid.orig))
   where
     x : Account
@@ -97,7 +103,8 @@ abbrev Passes : Kept → ScriptValue → Role → ℕ → List Turn → Type 0
 Passes line script role turns ts =
     LineStands line script (signals (channel_of script) role (drop turns ts)) (signals_in (channel_of script) role (on_line turns role ts))
 
-passed-by : (d : DelayedLine) (script : ScriptValue) (role : Role) (ts : List Turn) (line : Kept) (turns : ℕ → ℕ) → OnWay d (channel_of script) (turns d.delay) ts → d.sender ≡ role → line ≡ d.line
+passed-by : (d : DelayedLine) (script : ScriptValue) (role : Role) (ts : List Turn) (line : Kept) (turns : ℕ → ℕ)
+    → OnWay d (channel_of script) (turns d.delay) ts → d.sender ≡ role → line ≡ d.line
     → Passes line script role (turns (delay_of script role)) ts
 passed-by d script role ts line turns h sends is =
     let delay : d.delay ≡ delay_of script role = h.delay ∙ ap (delay_of script) sends in
@@ -106,10 +113,14 @@ passed-by d script role ts line turns h sends is =
 
 pub passed-so : (l : Lines) (script : ScriptValue) (role : Role) (ts : List Turn) (line : Kept) → LinesWait l (channel_of script) ts
     → (role ≡ Originator → line ≡ l.from_orig.line) → (role ≡ Answerer → line ≡ l.from_answ.line) → HasPassed line script role ts
-passed-so l script Originator ts line h orig answ = passed-by l.from_orig script Originator ts line (λ k. k) h.from_orig h.orig_sends (orig refl)
-passed-so l script Answerer ts line h orig answ = passed-by l.from_answ script Answerer ts line (λ k. k) h.from_answ h.answ_sends (answ refl)
+passed-so l script Originator ts line h orig answ =
+    passed-by l.from_orig script Originator ts line (λ k. k) h.from_orig h.orig_sends (orig refl)
+passed-so l script Answerer ts line h orig answ =
+    passed-by l.from_answ script Answerer ts line (λ k. k) h.from_answ h.answ_sends (answ refl)
 
 pub passed-too : (l : Lines) (script : ScriptValue) (role : Role) (ts : List Turn) (line : Kept) → HaveArrived l (channel_of script) ts
     → (role ≡ Originator → line ≡ l.from_orig.line) → (role ≡ Answerer → line ≡ l.from_answ.line) → HasPassedToo line script role ts
-passed-too l script Originator ts line h orig answ = passed-by l.from_orig script Originator ts line (λ k. k - 1) h.from_orig h.orig_sends (orig refl)
-passed-too l script Answerer ts line h orig answ = passed-by l.from_answ script Answerer ts line (λ k. k - 1) h.from_answ h.answ_sends (answ refl)
+passed-too l script Originator ts line h orig answ =
+    passed-by l.from_orig script Originator ts line (λ k. k - 1) h.from_orig h.orig_sends (orig refl)
+passed-too l script Answerer ts line h orig answ =
+    passed-by l.from_answ script Answerer ts line (λ k. k - 1) h.from_answ h.answ_sends (answ refl)

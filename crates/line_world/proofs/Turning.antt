@@ -43,7 +43,8 @@ pub record MakingLaws : Type 0 where
   pub one : OneIsCarried
   pub made : EachTurnIsMade
 
-hearing-of : (script : ScriptValue) (files : Both (List ℕ)) (ts : List Turn) (ends : Ends) (t : Turn) (mid : Ends) (outcome : Outcome) → TurnIs (link_of script files) ts ends t mid outcome
+hearing-of : (script : ScriptValue) (files : Both (List ℕ)) (ts : List Turn) (ends : Ends) (t : Turn) (mid : Ends) (outcome : Outcome)
+    → TurnIs (link_of script files) ts ends t mid outcome
     → Hears (length ts) ends t mid
 hearing-of script files ts ends t mid Going h = subst (Hears (length ts) ends t) h.2 h.1.hearing
 hearing-of script files ts ends t mid Done h = h.hearing
@@ -65,7 +66,8 @@ pub record Making (script : ScriptValue) (files : Both (List ℕ)) (ts : List Tu
   pub outcome : Outcome
   pub makes : MakesTurn script files ts ends turn mid outcome
 
-pub making : MakingLaws → (script : ScriptValue) (files : Both (List ℕ)) (ts : List Turn) (ends : Ends) (heard : Each Heard) (mid : Ends) → IsInLimits script
+pub making : MakingLaws → (script : ScriptValue) (files : Both (List ℕ)) (ts : List Turn) (ends : Ends) (heard : Each Heard) (mid : Ends)
+    → IsInLimits script
     → Overhears script files ts ends heard mid → Making script files ts ends mid
 making laws script files ts ends heard mid limits o = record {
   turn = m.turn;
@@ -81,7 +83,8 @@ making laws script files ts ends heard mid limits o = record {
 
     m : MakesAny (link_of script files) ts ends (λ role. (of role first).heard)
     m = laws.made (link_of script files) (delay_of script) ts ends (λ role. (of role first).heard)
-        (runs-over laws.play laws.delays laws.carried script files ts ends limits o.run) (λ role. laws.one (channel_of script) ts first heard-first role)
+        (runs-over laws.play laws.delays laws.carried script files ts ends limits o.run)
+            (λ role. laws.one (channel_of script) ts first heard-first role)
 
     hears : Hears (length ts) ends m.turn m.mid
     hears = hearing-of script files ts ends m.turn m.mid m.outcome m.is
@@ -90,7 +93,8 @@ making laws script files ts ends heard mid limits o = record {
     first-hears = hears-in script files ts ends mid heard none-sent o
 
     same-at : (role : Role) → of role m.mid ≡ of role mid
-    same-at role = ok-inj (hear (length ts) (arrival (of role m.turn).heard) (of role ends)) (of role m.mid) (of role mid) (hears role).hears
+    same-at role = ok-inj (hear (length ts) (arrival (of role m.turn).heard) (of role ends)) (of role m.mid) (of role mid)
+        (hears role).hears
         (ap (λ h. hear (length ts) (arrival h) (of role ends)) (m.heard_is role) ∙ (first-hears role).hears)
 
     same : m.mid ≡ mid
@@ -101,13 +105,15 @@ making laws script files ts ends heard mid limits o = record {
         let h = heard-first role in
         record {
           heard_of = subst (λ x. IsHeardOf (channel_of script) (other role) ts (of role m.turn).check x) (sym (m.heard_is role))
-              (subst (λ x. IsHeardOf (channel_of script) (other role) ts x (of role first).heard) ((first-hears role).check_is ∙ sym (hears role).check_is) h.heard_of);
+              (subst (λ x. IsHeardOf (channel_of script) (other role) ts x (of role first).heard) ((first-hears role).check_is
+                  ∙ sym (hears role).check_is) h.heard_of);
           well = λ f. h.well (sym (m.heard_is role) ∙ f);
         }
 
 -- ---- a fault of the folder
 
-pub writing-ends : (script : ScriptValue) (a b : FolderState) (n : Written) (files : Both (List ℕ)) (ts : List Turn) (ends : Ends) (fault : RunFault) → IsWriting fault
+pub writing-ends : (script : ScriptValue) (a b : FolderState) (n : Written) (files : Both (List ℕ)) (ts : List Turn) (ends : Ends)
+    (fault : RunFault) → IsWriting fault
     → Stops script a b n files ts ends → EndsBy script a b n files ts ends fault
 writing-ends script a b n files ts ends run_faults.WriteFault w h = h
 writing-ends script a b n files ts ends run_faults.NoMemory w h = h
@@ -117,7 +123,8 @@ writing-ends script a b n files ts ends (run_faults.ChanceMatch role turn) w h =
 writing-ends script a b n files ts ends (run_faults.NotDetected turn) w h = absurd w
 writing-ends script a b n files ts ends (run_faults.LinkLost role segment turn) w h = absurd w
 
-pub reading-ends : (script : ScriptValue) (a b : FolderState) (n : Written) (files : Both (List ℕ)) (ts : List Turn) (ends : Ends) (fault : RunFault) → IsReading fault
+pub reading-ends : (script : ScriptValue) (a b : FolderState) (n : Written) (files : Both (List ℕ)) (ts : List Turn) (ends : Ends)
+    (fault : RunFault) → IsReading fault
     → Stops script a b n files ts ends → EndsBy script a b n files ts ends fault
 reading-ends script a b n files ts ends run_faults.ReadFault w h = h
 reading-ends script a b n files ts ends run_faults.NoMemory w h = h
@@ -128,8 +135,11 @@ reading-ends script a b n files ts ends (run_faults.NotDetected turn) w h = absu
 reading-ends script a b n files ts ends (run_faults.LinkLost role segment turn) w h = absurd w
 
 -- as what both took is handed over,
-pub stops-handing : MakingLaws → (script : ScriptValue) (a b : FolderState) (n : Written) (files : Both (List ℕ)) (ts : List Turn) (ends : Ends) (heard : Each Heard) (mid : Ends)
-    → IsInLimits script → AreApart n → AreWithin files → OnlyOutputs a b n → Overhears script files ts ends heard mid → HasPart a b n mid → Stops script a b n files ts ends
+pub stops-handing : MakingLaws
+    → (script : ScriptValue) (a b : FolderState) (n : Written) (files : Both (List ℕ)) (ts : List Turn) (ends : Ends) (heard : Each Heard)
+    (mid : Ends)
+    → IsInLimits script → AreApart n → AreWithin files → OnlyOutputs a b n → Overhears script files ts ends heard mid → HasPart a b n mid
+        → Stops script a b n files ts ends
 stops-handing laws script a b n files ts ends heard mid limits apart within only o part =
     let m = making laws script files ts ends heard mid limits o in
     inl (record {
@@ -143,8 +153,11 @@ stops-handing laws script a b n files ts ends heard mid limits apart within only
     })
 
 -- as the files are read,
-pub stops-reading : MakingLaws → (script : ScriptValue) (a b : FolderState) (n : Written) (files : Both (List ℕ)) (ts : List Turn) (ends : Ends) (heard : Each Heard) (mid : Ends)
-    → IsInLimits script → AreApart n → AreWithin files → OnlyOutputs a b n → Overhears script files ts ends heard mid → HasDelivered a b n mid → Stops script a b n files ts ends
+pub stops-reading : MakingLaws
+    → (script : ScriptValue) (a b : FolderState) (n : Written) (files : Both (List ℕ)) (ts : List Turn) (ends : Ends) (heard : Each Heard)
+    (mid : Ends)
+    → IsInLimits script → AreApart n → AreWithin files → OnlyOutputs a b n → Overhears script files ts ends heard mid
+        → HasDelivered a b n mid → Stops script a b n files ts ends
 stops-reading laws script a b n files ts ends heard mid limits apart within only o delivered =
     let m = making laws script files ts ends heard mid limits o in
     inl (record {
@@ -158,8 +171,10 @@ stops-reading laws script a b n files ts ends heard mid limits apart within only
     })
 
 -- and as the lines go out.
-pub stops-writing : (script : ScriptValue) (a b c : FolderState) (n : Written) (files others : Both (List ℕ)) (ts : List Turn) (ends mid : Ends) → AreApart n
-    → StayKnown a c n files others → OnlyOutputs a b n → HasDelivered a b n mid → OnlyWrites b c n.trace → AddsPart script b c n others ts ends mid → Stops script a c n files ts ends
+pub stops-writing : (script : ScriptValue) (a b c : FolderState) (n : Written) (files others : Both (List ℕ)) (ts : List Turn)
+    (ends mid : Ends) → AreApart n
+    → StayKnown a c n files others → OnlyOutputs a b n → HasDelivered a b n mid → OnlyWrites b c n.trace
+        → AddsPart script b c n others ts ends mid → Stops script a c n files ts ends
 stops-writing script a b c n files others ts ends mid apart known only delivered w p =
     inl (record {
       others = others;
@@ -173,7 +188,8 @@ stops-writing script a b c n files others ts ends mid apart known only delivered
 
 -- ---- the run ends in this turn
 
-pub ends-in : (script : ScriptValue) (a b c : FolderState) (n : Written) (files others : Both (List ℕ)) (ts : List Turn) (ends mid : Ends) (outcome : Outcome) (number : ℕ)
+pub ends-in : (script : ScriptValue) (a b c : FolderState) (n : Written) (files others : Both (List ℕ)) (ts : List Turn) (ends mid : Ends)
+    (outcome : Outcome) (number : ℕ)
     → AreApart n → number ≡ length ts → StayKnown a c n files others → OnlyOutputs a b n → HasDelivered a b n mid → OnlyWrites b c n.trace
     → AddsLines script b c n others ts ends mid outcome → EndsInTurn script a c n files ts ends outcome number
 ends-in script a b c n files others ts ends mid outcome number apart e known only delivered w p = record {
@@ -186,11 +202,14 @@ ends-in script a b c n files others ts ends mid outcome number apart e known onl
   writes = writes-turn a b c n mid (turn_text (length ts) p.turn) apart only.goes_on delivered w p.trace;
 }
 
-pub speaks-last : (script : ScriptValue) (a b c : FolderState) (n : Written) (files others : Both (List ℕ)) (ts : List Turn) (ends mid : Ends) (fault : RunFault)
+pub speaks-last : (script : ScriptValue) (a b c : FolderState) (n : Written) (files others : Both (List ℕ)) (ts : List Turn)
+    (ends mid : Ends) (fault : RunFault)
     → AreApart n → StayKnown a c n files others → OnlyOutputs a b n → HasDelivered a b n mid → OnlyWrites b c n.trace
     → SpeaksLast script b c n others ts ends mid fault → EndsBy script a c n files ts ends fault
-speaks-last script a b c n files others ts ends mid run_faults.WriteFault apart known only d w h = stops-writing script a b c n files others ts ends mid apart known only d w h
-speaks-last script a b c n files others ts ends mid run_faults.NoMemory apart known only d w h = stops-writing script a b c n files others ts ends mid apart known only d w h
+speaks-last script a b c n files others ts ends mid run_faults.WriteFault apart known only d w h =
+    stops-writing script a b c n files others ts ends mid apart known only d w h
+speaks-last script a b c n files others ts ends mid run_faults.NoMemory apart known only d w h =
+    stops-writing script a b c n files others ts ends mid apart known only d w h
 speaks-last script a b c n files others ts ends mid (run_faults.LinkLost role segment turn) apart known only d w h =
     (h.1, ends-in script a b c n files others ts ends mid (Broken role (faults.Spent segment h.1)) turn apart h.0 known only d w h.2)
 speaks-last script a b c n files others ts ends mid (run_faults.NotDetected turn) apart known only d w h =
@@ -235,7 +254,8 @@ goes-on-by w a b c n files others ts ends mid apart known only delivered lines h
 }
 
 -- and is ready for the next turn
-pub ready-on : (w : World) (a b c : FolderState) (n : Written) (files : Both (List ℕ)) (ts : List Turn) (ends : Ends) (number : ℕ) → IsInLimits w.script → GoesOnBy w a c n files ts ends
+pub ready-on : (w : World) (a b c : FolderState) (n : Written) (files : Both (List ℕ)) (ts : List Turn) (ends : Ends) (number : ℕ)
+    → IsInLimits w.script → GoesOnBy w a c n files ts ends
     → AreIdle w.link → AreCounted w.link number number → IsFew w.tally number number → w.turn ≡ number → IsReady w
 ready-on w a b c n files ts ends number limits h idle counted few e = record {
   limits = limits;

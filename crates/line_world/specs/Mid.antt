@@ -36,7 +36,8 @@ use Rattle.line_world.specs.World.{WorldAfter}
 use Rattle.line_world.specs.Turn.{MakesTurn}
 
 -- What both ends hear in the turn after these, and are once they have heard.
-pub record Overhears (script : ScriptValue) (files : Both (List ℕ)) (ts : List Turn) (ends : Ends) (heard : Each Heard) (mid : Ends) : Type 0 where
+pub record Overhears (script : ScriptValue) (files : Both (List ℕ)) (ts : List Turn) (ends : Ends) (heard : Each Heard)
+    (mid : Ends) : Type 0 where
   pub run : LineRun (channel_of script) (link_of script files) ts ends
   pub orig_heard : IsHeardOf (channel_of script) Answerer ts (check_of ends.orig) heard.orig
   pub answ_heard : IsHeardOf (channel_of script) Originator ts (check_of ends.answ) heard.answ
@@ -118,7 +119,8 @@ pub record HasPart (old now : FolderState) (n : Written) (mid : Ends) : Type 0 w
   pub trace : KeepsName old now n.trace
 
 -- What both ends took is handed over, segments and the lengths of breaks.
-pub record HandsOver (w : World) (old new : FolderState) (n : Written) (files : Both (List ℕ)) (ts : List Turn) (ends : Ends) (heard : Each Heard) (mid : Ends)
+pub record HandsOver (w : World) (old new : FolderState) (n : Written) (files : Both (List ℕ)) (ts : List Turn) (ends : Ends)
+    (heard : Each Heard) (mid : Ends)
     (given : Each (Option ℕ)) : Type 0 where
   pub stands : InTurn w files ts ends heard mid (handed mid)
   pub orig_given : given.orig ≡ given_break mid.orig
@@ -131,26 +133,30 @@ pub record ReadsBoth (f : FolderState) (n : Written) (files : Both (List ℕ)) (
   pub answ : ReadsOn f n.answ file_limit files.answ ends.answ others.answ
 
 -- Both ends are served, and are to speak.
-pub record Serves (w : World) (f : FolderState) (n : Written) (files : Both (List ℕ)) (ts : List Turn) (ends : Ends) (heard : Each Heard) (mid : Ends) : Type 0 where
+pub record Serves (w : World) (f : FolderState) (n : Written) (files : Both (List ℕ)) (ts : List Turn) (ends : Ends) (heard : Each Heard)
+    (mid : Ends) : Type 0 where
   pub others : Both (List ℕ)
   pub reads : ReadsBoth f n files (handed mid) others
   pub stands : InTurn w others ts ends heard mid (served w.script others (length ts) mid)
 
 -- The turn after these is made, with that outcome, and its lines stand behind the trace.
-pub record AddsLines (script : ScriptValue) (old new : FolderState) (n : Written) (files : Both (List ℕ)) (ts : List Turn) (ends mid : Ends) (outcome : Outcome) : Type 0 where
+pub record AddsLines (script : ScriptValue) (old new : FolderState) (n : Written) (files : Both (List ℕ)) (ts : List Turn) (ends mid : Ends)
+    (outcome : Outcome) : Type 0 where
   pub turn : Turn
   pub makes : MakesTurn script files ts ends turn mid outcome
   pub trace : Appended old new n.trace (turn_text (length ts) turn)
 
 -- A part of its lines does, whatever it comes to.
-pub record AddsPart (script : ScriptValue) (old new : FolderState) (n : Written) (files : Both (List ℕ)) (ts : List Turn) (ends mid : Ends) : Type 0 where
+pub record AddsPart (script : ScriptValue) (old new : FolderState) (n : Written) (files : Both (List ℕ)) (ts : List Turn)
+    (ends mid : Ends) : Type 0 where
   pub outcome : Outcome
   pub turn : Turn
   pub makes : MakesTurn script files ts ends turn mid outcome
   pub trace : PartlyAppended old new n.trace (turn_text (length ts) turn)
 
 -- The run goes on.
-pub record HasGone (w : World) (script : ScriptValue) (old new : FolderState) (n : Written) (files : Both (List ℕ)) (ts : List Turn) (ends mid : Ends) : Type 0 where
+pub record HasGone (w : World) (script : ScriptValue) (old new : FolderState) (n : Written) (files : Both (List ℕ)) (ts : List Turn)
+    (ends mid : Ends) : Type 0 where
   pub turn : Turn
   pub after : Ends
   pub going : GoingTurn (link_of script files) ts ends turn after
@@ -160,7 +166,8 @@ pub record HasGone (w : World) (script : ScriptValue) (old new : FolderState) (n
   pub trace : Appended old new n.trace (turn_text (length ts) turn)
 
 -- The run is done in this turn, and all its turns are counted.
-pub record Finishes (w : World) (old new : FolderState) (n : Written) (files : Both (List ℕ)) (ts : List Turn) (ends mid : Ends) : Type 0 where
+pub record Finishes (w : World) (old new : FolderState) (n : Written) (files : Both (List ℕ)) (ts : List Turn)
+    (ends mid : Ends) : Type 0 where
   pub adds : AddsLines w.script old new n files ts ends mid Done
   pub lost : w.tally.lost ≡ lost_slots (adds.turn ∷ ts)
   pub again : w.tally.again ≡ sent_again (adds.turn ∷ ts)
@@ -178,7 +185,8 @@ SpeaksLast script old new n files ts ends mid (run_faults.LineLost role symbol) 
 SpeaksLast script old new n files ts ends mid (run_faults.ChanceMatch role turn) = ⊥
 
 -- what speaking answers
-abbrev pub SpeaksTurn : World → FolderState → FolderState → Written → Both (List ℕ) → List Turn → Ends → Ends → Result (Unit {0}) RunFault → Type 0
+abbrev pub SpeaksTurn : World → FolderState → FolderState → Written → Both (List ℕ) → List Turn → Ends → Ends → Result (Unit {0}) RunFault
+    → Type 0
 SpeaksTurn w old new n files ts ends mid (Ok done) = HasGone w w.script old new n files ts ends mid
 SpeaksTurn w old new n files ts ends mid (Err fault) = SpeaksLast w.script old new n files ts ends mid fault
 

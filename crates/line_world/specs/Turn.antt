@@ -40,7 +40,8 @@ pub record WritesPart (old new : FolderState) (n : Written) (mid : Ends) (text :
   pub trace : PartlyAppended old new n.trace text
 
 -- The turn after these, over a script and files: what both ends hear in it, are once they have heard, and what it comes to.
-pub record MakesTurn (script : ScriptValue) (files : Both (List ℕ)) (ts : List Turn) (ends : Ends) (turn : Turn) (mid : Ends) (outcome : Outcome) : Type 0 where
+pub record MakesTurn (script : ScriptValue) (files : Both (List ℕ)) (ts : List Turn) (ends : Ends) (turn : Turn) (mid : Ends)
+    (outcome : Outcome) : Type 0 where
   pub run : LineRun (channel_of script) (link_of script files) ts ends
   pub heard : HeardIn (channel_of script) ts turn
   pub is : TurnIs (link_of script files) ts ends turn mid outcome
@@ -57,7 +58,8 @@ pub record GoesOnBy (w : World) (old new : FolderState) (n : Written) (files : B
   pub writes : WritesTurn old new n going.mid (turn_text (length ts) turn)
 
 -- The run ends in this turn, with that outcome.
-pub record EndsInTurn (script : ScriptValue) (old new : FolderState) (n : Written) (files : Both (List ℕ)) (ts : List Turn) (ends : Ends) (outcome : Outcome) (number : ℕ) : Type 0 where
+pub record EndsInTurn (script : ScriptValue) (old new : FolderState) (n : Written) (files : Both (List ℕ)) (ts : List Turn) (ends : Ends)
+    (outcome : Outcome) (number : ℕ) : Type 0 where
   pub number_is : number ≡ length ts
   pub others : Both (List ℕ)
   pub known : StayKnown old new n files others
@@ -67,7 +69,8 @@ pub record EndsInTurn (script : ScriptValue) (old new : FolderState) (n : Writte
   pub writes : WritesTurn old new n mid (turn_text (length ts) turn)
 
 -- The run is done in this turn: the lines have passed the slots that arrived in it too, and all turns are counted.
-pub record DoneIn (w : World) (old new : FolderState) (n : Written) (files : Both (List ℕ)) (ts : List Turn) (ends : Ends) (number : ℕ) : Type 0 where
+pub record DoneIn (w : World) (old new : FolderState) (n : Written) (files : Both (List ℕ)) (ts : List Turn) (ends : Ends)
+    (number : ℕ) : Type 0 where
   pub ended : EndsInTurn (script_of w) old new n files ts ends Done number
   pub lines : HaveArrived (lines_of w) (channel_of (script_of w)) ts
   pub lost : lost_of w ≡ lost_slots (ended.turn ∷ ts)
@@ -79,20 +82,23 @@ pub record KeepsReceived (old new : FolderState) (n : Written) : Type 0 where
   pub got_a : KeepsName old new n.got_a
 
 -- The line is lost as this turn begins: nothing is written.
-pub record LosesLine (script : ScriptValue) (old new : FolderState) (n : Written) (ts : List Turn) (ends : Ends) (role : Role) (symbol : ℕ) : Type 0 where
+pub record LosesLine (script : ScriptValue) (old new : FolderState) (n : Written) (ts : List Turn) (ends : Ends) (role : Role)
+    (symbol : ℕ) : Type 0 where
   pub is : EndsLine (channel_of script) ts ends (lines.LineLost role symbol)
   pub received : KeepsReceived old new n
   pub trace : KeepsName old new n.trace
 
 -- A slot is a chance match: the one line of it is written.
-pub record MeetsChance (script : ScriptValue) (old new : FolderState) (n : Written) (ts : List Turn) (ends : Ends) (role : Role) (number : ℕ) : Type 0 where
+pub record MeetsChance (script : ScriptValue) (old new : FolderState) (n : Written) (ts : List Turn) (ends : Ends) (role : Role)
+    (number : ℕ) : Type 0 where
   pub number_is : number ≡ length ts
   pub is : EndsLine (channel_of script) ts ends (lines.ChanceMatch role)
   pub received : KeepsReceived old new n
   pub trace : Appended old new n.trace (chance_line (length ts) role)
 
 -- The folder fails in this turn, and a part of what it adds is written: whatever the turn comes to,
-pub record StopsInTurn (script : ScriptValue) (old new : FolderState) (n : Written) (files : Both (List ℕ)) (ts : List Turn) (ends : Ends) : Type 0 where
+pub record StopsInTurn (script : ScriptValue) (old new : FolderState) (n : Written) (files : Both (List ℕ)) (ts : List Turn)
+    (ends : Ends) : Type 0 where
   pub others : Both (List ℕ)
   pub known : StayKnown old new n files others
   pub turn : Turn
@@ -122,7 +128,8 @@ EndsBy script old new n files ts ends run_faults.ReadFault = Stops script old ne
 EndsBy script old new n files ts ends run_faults.WriteFault = Stops script old new n files ts ends
 EndsBy script old new n files ts ends (run_faults.LineLost role symbol) = LosesLine script old new n ts ends role symbol
 EndsBy script old new n files ts ends (run_faults.ChanceMatch role turn) = MeetsChance script old new n ts ends role turn
-EndsBy script old new n files ts ends (run_faults.NotDetected turn) = EndsInTurn script old new n files ts ends (Broken Originator faults.NotDetected) turn
+EndsBy script old new n files ts ends (run_faults.NotDetected turn) =
+    EndsInTurn script old new n files ts ends (Broken Originator faults.NotDetected) turn
 EndsBy script old new n files ts ends (run_faults.LinkLost role segment turn) = LosesLink script old new n files ts ends role segment turn
 EndsBy script old new n files ts ends run_faults.NoMemory = Stops script old new n files ts ends
 

@@ -27,7 +27,8 @@ use Rattle.margin_command.specs.Completes.{AreMeasurable, Completes}
 use Rattle.margin_command.specs.Headline.{MeasuresAll, Headline}
 
 -- no file ever changes
-pub refused-by : (old before : FolderState) (end : Result Measured Stop) → OnlyOutputs old before [] → IsRefusal (end_status end) → KeepsAll old before
+pub refused-by : (old before : FolderState) (end : Result Measured Stop) → OnlyOutputs old before [] → IsRefusal (end_status end)
+    → KeepsAll old before
 refused-by old before end only r name = only.names name tt
 
 measures-of : (old before new : FolderState) (n : MarginNames) → IsDone (margin_job n) old before new → MeasuresAll old new n
@@ -43,12 +44,16 @@ measures-of old before new n d =
       price = d.done.cost;
       costs = m.costs;
       said = d.said ∙ ap (option_map (λ (x : List ℕ). x ++ margin_line d.done.cost (nat_lt d.done.cost 10485760))) d.ends.1;
-      decoded = λ low. (let r = sure-is-decoded m.mode m.octets (samples_in m.content) d.done.cost 128 m.costs low (omega arith) in record { not_lost = r.0; released = r.1 });
+      decoded = λ low. (let r = sure-is-decoded m.mode m.octets (samples_in m.content) d.done.cost 128 m.costs low (omega arith) in
+          record { not_lost = r.0; released = r.1 });
     }
 
 -- what the command promises holds of every answer
-pub headline-of : (words : List (List ℕ)) (old new : FolderState) (n : MarginNames) (s : Status) → Answers (margin_job n) words old new s → Headline old new n s
-headline-of words old new n s a = record { shared = shared-of (margin_job n) words old new s a (λ e name. a.only.names name tt); measures = λ e. measures-of old a.before new n (done-of (margin_job n) words old new s a e) }
+pub headline-of : (words : List (List ℕ)) (old new : FolderState) (n : MarginNames) (s : Status) → Answers (margin_job n) words old new s
+    → Headline old new n s
+headline-of words old new n s a =
+    record { shared = shared-of (margin_job n) words old new s a (λ e name. a.only.names name tt); measures =
+    λ e. measures-of old a.before new n (done-of (margin_job n) words old new s a e) }
 
 file-never-longer : (count : ℕ) → count ≤ 1048576 → FILE_LIMIT < count → ⊥
 file-never-longer count within longer = omega (arith, within, longer)
@@ -58,16 +63,22 @@ behind-header Call content = length-append (header_of Call) content
 behind-header Answer content = length-append (header_of Answer) content
 
 recorded-length : (recording octets : List ℕ) (r : AreMeasurable recording octets) → length recording ≡ 8 + 8 * length octets
-recorded-length recording octets r = ap (λ (xs : List ℕ). length xs) r.recording_is ∙ behind-header r.mode r.content ∙ ap (λ (count : ℕ). 8 + count) r.fits
+recorded-length recording octets r =
+    ap (λ (xs : List ℕ). length xs) r.recording_is ∙ behind-header r.mode r.content ∙ ap (λ (count : ℕ). 8 + count) r.fits
 
-own-never : (old : FolderState) (n : MarginNames) (answer : Status) → IsTrue (old.tells n.rec) → IsTrue (old.tells n.file) → AreMeasurable (octets_at old n.rec) (octets_at old n.file) → EndsOwn old n answer → ⊥
+own-never : (old : FolderState) (n : MarginNames) (answer : Status) → IsTrue (old.tells n.rec) → IsTrue (old.tells n.file)
+    → AreMeasurable (octets_at old n.rec) (octets_at old n.file) → EndsOwn old n answer → ⊥
 own-never old n answer rec file r (rec_is_long e longer) =
     let long = recorded-length (octets_at old n.rec) (octets_at old n.file) r in
     never-longer (length (octets_at old n.rec)) (omega (arith, long, r.within)) (longer rec)
 own-never old n answer rec file r (file_is_long e within longer) = file-never-longer (length (octets_at old n.file)) r.within (longer file)
-own-never old n answer rec file r (is_other at e within bad) = never-bad rates.Trellis r.mode at (subst (λ (xs : List ℕ). IsBadHeader rates.Trellis (take 8 xs) at) r.recording_is (bad.bad rec))
-own-never old n answer rec file r (is_misfit at e other) = other.other rec file (recorded-length (octets_at old n.rec) (octets_at old n.file) r)
+own-never old n answer rec file r (is_other at e within bad) =
+    never-bad rates.Trellis r.mode at (subst (λ (xs : List ℕ). IsBadHeader rates.Trellis (take 8 xs) at) r.recording_is (bad.bad rec))
+own-never old n answer rec file r (is_misfit at e other) =
+    other.other rec file (recorded-length (octets_at old n.rec) (octets_at old n.file) r)
 
 -- and when it is done
-pub completes-of : (words : List (List ℕ)) (old new : FolderState) (n : MarginNames) (s : Status) → Answers (margin_job n) words old new s → Completes old new n s
-completes-of words old new n s a sound rec file r = done-unless-memory (margin_job n) words old new s a sound (λ answer ends. own-never old n answer rec file r ends.0)
+pub completes-of : (words : List (List ℕ)) (old new : FolderState) (n : MarginNames) (s : Status) → Answers (margin_job n) words old new s
+    → Completes old new n s
+completes-of words old new n s a sound rec file r =
+    done-unless-memory (margin_job n) words old new s a sound (λ answer ends. own-never old n answer rec file r ends.0)

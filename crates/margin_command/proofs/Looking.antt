@@ -12,7 +12,8 @@ use Rattle.margin_command.specs.Ends.{EndsBy}
 use Rattle.margin_command.specs.Ends.EndsOwn.{rec_is_long, file_is_long}
 use Rattle.margin_command.specs.Ends.FailsToRead.{rec_unread, file_unread}
 
-pub rec-refused : (old new : FolderState) (n : MarginNames) (stop : Stop) → IsNotWithin old new n.rec RECORDING_LIMIT 1 stop → EndsBy old new n stop
+pub rec-refused : (old new : FolderState) (n : MarginNames) (stop : Stop) → IsNotWithin old new n.rec RECORDING_LIMIT 1 stop
+    → EndsBy old new n stop
 rec-refused old new n (Own answer) why = rec_is_long why.0 why.1
 rec-refused old new n (Read fault) why = rec_unread why
 rec-refused old new n (Write fault) why = why
@@ -21,7 +22,8 @@ rec-refused old new n NoMemory why = why
 
 pub file-refused : (old mid new : FolderState) (n : MarginNames) (stop : Stop) → OnlyReads old mid → CountsStand old mid
     → IsWithin old n.rec RECORDING_LIMIT → IsNotWithin mid new n.file FILE_LIMIT 2 stop → EndsBy old new n stop
-file-refused old mid new n (Own answer) reads stand within why = file_is_long why.0 within (longer-earlier old mid n.file FILE_LIMIT reads why.1)
+file-refused old mid new n (Own answer) reads stand within why =
+    file_is_long why.0 within (longer-earlier old mid n.file FILE_LIMIT reads why.1)
 file-refused old mid new n (Read fault) reads stand within why =
     file_unread within (stop-earlier old mid new (n.file ∷ []) [] (Read fault) stand why)
 file-refused old mid new n (Write fault) reads stand within why = why

@@ -56,7 +56,8 @@ pub record HasOtherLength (old : FolderState) (n : MarginNames) (at : ℕ) : Typ
 pub data EndsOwn (old : FolderState) (n : MarginNames) (answer : Status) : Type 0 where
   rec_is_long : answer ≡ TooLong 1 → IsLonger old n.rec RECORDING_LIMIT → EndsOwn old n answer
   file_is_long : answer ≡ TooLong 2 → IsWithin old n.rec RECORDING_LIMIT → IsLonger old n.file FILE_LIMIT → EndsOwn old n answer
-  is_other : (at : ℕ) → answer ≡ BadRecording at → IsWithin old n.file FILE_LIMIT → HasNoHeader old n.rec rates.Trellis at → EndsOwn old n answer
+  is_other : (at : ℕ) → answer ≡ BadRecording at → IsWithin old n.file FILE_LIMIT → HasNoHeader old n.rec rates.Trellis at
+      → EndsOwn old n answer
   is_misfit : (at : ℕ) → answer ≡ BadRecording at → HasOtherLength old n at → EndsOwn old n answer
 
 -- Which input was not read: the recording; the file, once the recording is within its limit; or one of them, once both are.

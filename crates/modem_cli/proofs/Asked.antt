@@ -107,7 +107,8 @@ run-first (a ∷ b ∷ d ∷ []) n e = absurd cc
 run-first (a ∷ b ∷ d ∷ f ∷ []) n e = absurd cc
 run-first (a ∷ b ∷ d ∷ f ∷ g ∷ []) n e = absurd cc
 run-first (a ∷ b ∷ d ∷ f ∷ g ∷ h ∷ []) n e = absurd cc
-run-first (a ∷ b ∷ d ∷ f ∷ g ∷ h ∷ i ∷ []) n e = is-word a (codes "run") (and_parts (bytes_eq a (codes "run")) _ (if-some (bytes_eq a (codes "run") && _) _ n e)).0
+run-first (a ∷ b ∷ d ∷ f ∷ g ∷ h ∷ i ∷ []) n e =
+    is-word a (codes "run") (and_parts (bytes_eq a (codes "run")) _ (if-some (bytes_eq a (codes "run") && _) _ n e)).0
 run-first (a ∷ b ∷ d ∷ f ∷ g ∷ h ∷ i ∷ j ∷ more) n e = absurd cc
 
 pub run-asked : (words : List (List ℕ)) (n : RunNames) → run_names words ≡ Some n → asked words ≡ Run n
@@ -122,12 +123,15 @@ either made a false true there none e = inl refl
 either made a false false true none e = inr refl
 either made a false false false none e = (let never : ⊥ = cc (sym none ∙ e) in absurd never)
 
-encode-first : (words : List (List ℕ)) (n : EncodeNames) → encode_names words ≡ Some n → (first words ≡ codes "encode") ⊎ (first words ≡ codes "encode4")
+encode-first : (words : List (List ℕ)) (n : EncodeNames) → encode_names words ≡ Some n → (first words ≡ codes "encode")
+    ⊎ (first words ≡ codes "encode4")
 encode-first [] n e = absurd cc
 encode-first (a ∷ []) n e = absurd cc
 encode-first (a ∷ b ∷ []) n e = absurd cc
 encode-first (a ∷ b ∷ d ∷ []) n e = absurd cc
-encode-first (a ∷ b ∷ d ∷ f ∷ []) n e = elim (either (λ (rate : Option Rate). names_with d f rate (mode_named b)) n (bytes_eq f d) (bytes_eq a (codes "encode")) (bytes_eq a (codes "encode4")) refl e) [
+encode-first (a ∷ b ∷ d ∷ f ∷ []) n e =
+    elim (either (λ (rate : Option Rate). names_with d f rate (mode_named b)) n (bytes_eq f d) (bytes_eq a (codes "encode"))
+    (bytes_eq a (codes "encode4")) refl e) [
   | inl here ↦ inl (is-word a (codes "encode") here)
   | inr there ↦ inr (is-word a (codes "encode4") there)
 ]
@@ -144,7 +148,9 @@ decode-first : (words : List (List ℕ)) (n : DecodeNames) → decode_names word
 decode-first [] n e = absurd cc
 decode-first (a ∷ []) n e = absurd cc
 decode-first (a ∷ b ∷ []) n e = absurd cc
-decode-first (a ∷ b ∷ d ∷ []) n e = elim (either (option_map (λ r. record { rate = r; rec = b; file = d })) n (bytes_eq d b) (bytes_eq a (codes "decode")) (bytes_eq a (codes "decode4")) refl e) [
+decode-first (a ∷ b ∷ d ∷ []) n e =
+    elim (either (option_map (λ r. record { rate = r; rec = b; file = d })) n (bytes_eq d b) (bytes_eq a (codes "decode"))
+    (bytes_eq a (codes "decode4")) refl e) [
   | inl here ↦ inl (is-word a (codes "decode") here)
   | inr there ↦ inr (is-word a (codes "decode4") there)
 ]
@@ -191,7 +197,8 @@ peer-first (a ∷ b ∷ []) n e = absurd cc
 peer-first (a ∷ b ∷ d ∷ []) n e = absurd cc
 peer-first (a ∷ b ∷ d ∷ f ∷ []) n e = absurd cc
 peer-first (a ∷ b ∷ d ∷ f ∷ g ∷ []) n e = absurd cc
-peer-first (a ∷ b ∷ d ∷ f ∷ g ∷ h ∷ []) n e = is-word a (codes "peer") (and_parts (bytes_eq a (codes "peer")) _ (if-some (bytes_eq a (codes "peer") && _) _ n e)).0
+peer-first (a ∷ b ∷ d ∷ f ∷ g ∷ h ∷ []) n e =
+    is-word a (codes "peer") (and_parts (bytes_eq a (codes "peer")) _ (if-some (bytes_eq a (codes "peer") && _) _ n e)).0
 peer-first (a ∷ b ∷ d ∷ f ∷ g ∷ h ∷ i ∷ more) n e = absurd cc
 
 pub peer-asked : (words : List (List ℕ)) (n : PeerNames) → peer_names words ≡ Some n → asked words ≡ Peer n
@@ -279,7 +286,8 @@ CompletesOf (Pickup n) old new s = PickupCompletes old new n s
 CompletesOf (Margin n) old new s = MarginCompletes old new n s
 CompletesOf Nothing old new s = Unit {0}
 
-pub promised : (words : List (List ℕ)) (old new : FolderState) (s : Status) (a : Asked) → asked words ≡ a → PromisesOf a old new s → Promises words old new s
+pub promised : (words : List (List ℕ)) (old new : FolderState) (s : Status) (a : Asked) → asked words ≡ a → PromisesOf a old new s
+    → Promises words old new s
 promised words old new s a e h = record {
   run = λ n f. to (Run n) (run-asked words n f);
   encode = λ n f. to (Encode n) (encode-asked words n f);
@@ -296,7 +304,8 @@ promised words old new s a e h = record {
     to : (b : Asked) → asked words ≡ b → PromisesOf b old new s
     to b f = subst (λ (x : Asked). PromisesOf x old new s) (sym e ∙ f) h
 
-pub answered : (words : List (List ℕ)) (old new : FolderState) (s : Status) (a : Asked) → asked words ≡ a → AnswersBy a words old new s → Answers words old new s
+pub answered : (words : List (List ℕ)) (old new : FolderState) (s : Status) (a : Asked) → asked words ≡ a → AnswersBy a words old new s
+    → Answers words old new s
 answered words old new s a e h = record {
   run = λ n f. to (Run n) (run-asked words n f);
   encode = λ n f. to (Encode n) (encode-asked words n f);
@@ -313,7 +322,8 @@ answered words old new s a e h = record {
     to : (b : Asked) → asked words ≡ b → AnswersBy b words old new s
     to b f = subst (λ (x : Asked). AnswersBy x words old new s) (sym e ∙ f) h
 
-pub completed : (words : List (List ℕ)) (old new : FolderState) (s : Status) (a : Asked) → asked words ≡ a → CompletesOf a old new s → Completes words old new s
+pub completed : (words : List (List ℕ)) (old new : FolderState) (s : Status) (a : Asked) → asked words ≡ a → CompletesOf a old new s
+    → Completes words old new s
 completed words old new s a e h = record {
   run = λ n f. to (Run n) (run-asked words n f);
   encode = λ n f. to (Encode n) (encode-asked words n f);

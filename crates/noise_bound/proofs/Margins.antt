@@ -20,7 +20,8 @@ use Rattle.noise_bound.specs.Margins.{distances, IsCostOf, Measured, MarginStand
 use Rattle.noise_bound.specs.Laws.{SureIsNear, SureIsDecoded}
 
 -- one sample more
-distances-snoc : (points samples : List Sample) (point sample : Sample) → length points ≡ length samples → distances (points ++ point ∷ []) (samples ++ sample ∷ []) ≡ distances points samples + distance_of point sample
+distances-snoc : (points samples : List Sample) (point sample : Sample) → length points ≡ length samples
+    → distances (points ++ point ∷ []) (samples ++ sample ∷ []) ≡ distances points samples + distance_of point sample
 distances-snoc [] [] point sample h = omega arith
 distances-snoc [] (s ∷ samples) point sample h = absurd (omega arith)
 distances-snoc (p ∷ points) [] point sample h = absurd (omega arith)
@@ -32,18 +33,22 @@ length-snoc : {X : Type 0} (xs : List X) (x : X) → length (xs ++ x ∷ []) ≡
 length-snoc {X} xs x = omega (arith, length-append {A = X})
 
 -- one octet more, of two samples
-pub measures-more : (mode : Mode) (old : Measured) (modulator : Modulator) (octets : List ℕ) (octet : ℕ) (samples : List Sample) (first second low high : Sample) (price count : ℕ) → (s : MarginStands mode old octets samples)
+pub measures-more : (mode : Mode) (old : Measured) (modulator : Modulator) (octets : List ℕ) (octet : ℕ) (samples : List Sample)
+    (first second low high : Sample) (price count : ℕ) → (s : MarginStands mode old octets samples)
     → ModulatorStands mode modulator (bits_of (octets ++ octet ∷ [])) ((s.points ++ low ∷ []) ++ high ∷ [])
     → price ≡ old.cost + (distance_of low first + distance_of high second) → count ≡ old.count + 1
-    → MarginStands mode (record { modulator = modulator; cost = price; count = count }) (octets ++ octet ∷ []) ((samples ++ first ∷ []) ++ second ∷ [])
+    → MarginStands mode (record { modulator = modulator; cost = price; count = count }) (octets ++ octet ∷ [])
+        ((samples ++ first ∷ []) ++ second ∷ [])
 measures-more mode old modulator octets octet samples first second low high price count s m e n =
-    let one : length (s.points ++ low ∷ []) ≡ length (samples ++ first ∷ []) = omega (arith, s.same_length, length-snoc s.points low, length-snoc samples first) in
+    let one : length (s.points ++ low ∷ []) ≡ length (samples ++ first ∷ []) =
+        omega (arith, s.same_length, length-snoc s.points low, length-snoc samples first) in
     record {
       points = (s.points ++ low ∷ []) ++ high ∷ [];
       modulator = m;
       two_each = omega (arith, s.two_each, length-snoc (samples ++ first ∷ []) second, length-snoc samples first, length-snoc octets octet);
       same_length = omega (arith, one, length-snoc (s.points ++ low ∷ []) high, length-snoc (samples ++ first ∷ []) second);
-      cost_is = omega (arith, e, s.cost_is, distances-snoc (s.points ++ low ∷ []) (samples ++ first ∷ []) high second one, distances-snoc s.points samples low first s.same_length);
+      cost_is = omega (arith, e, s.cost_is, distances-snoc (s.points ++ low ∷ []) (samples ++ first ∷ []) high second one,
+          distances-snoc s.points samples low first s.same_length);
       counted = omega (arith, n, s.counted, length-snoc octets octet);
     }
 
@@ -53,7 +58,8 @@ distances-cost [] samples = refl
 distances-cost (label ∷ labels) [] = refl
 distances-cost (label ∷ labels) (sample ∷ samples) = ap (λ n. distance_of (point_of label) sample + n) (distances-cost labels samples)
 
-pub measured : (mode : Mode) (m : Measured) (octets : List ℕ) (samples : List Sample) → MarginStands mode m octets samples → IsCostOf mode octets samples m.cost
+pub measured : (mode : Mode) (m : Measured) (octets : List ℕ) (samples : List Sample) → MarginStands mode m octets samples
+    → IsCostOf mode octets samples m.cost
 measured mode m octets samples s =
     let r = modulated mode m.modulator (bits_of octets) s.points s.modulator in
     record {
@@ -67,7 +73,8 @@ measured mode m octets samples s =
 pub sure-is-near : SureIsNear
 sure-is-near mode octets samples price c low = record {
   end = c.modulated.end;
-  sequence = record { code_sequence = record { from = 0; starts_there = refl; leads = c.modulated.encoded.leads }; same_length = c.same_length };
+  sequence = record { code_sequence = record { from = 0; starts_there = refl; leads = c.modulated.encoded.leads }; same_length =
+      c.same_length };
   near = omega (arith, c.price_is);
 }
 
@@ -75,4 +82,6 @@ pub sure-is-decoded : SureIsDecoded
 sure-is-decoded mode octets samples price depth c low deep =
     let near = sure-is-near mode octets samples price c low in
     let all : take (length samples) samples ≡ samples = take_all (length samples) samples (omega arith) in
-    (never-lost 0 depth c.modulated.labels samples near deep, λ front r. releases-near 0 (length samples) c.modulated.labels front samples near (subst (λ k. IsReleased (code_from (only 0)) k front) (sym all) r))
+    (never-lost 0 depth c.modulated.labels samples near deep,
+        λ front r. releases-near 0 (length samples) c.modulated.labels front samples near
+        (subst (λ k. IsReleased (code_from (only 0)) k front) (sym all) r))

@@ -33,10 +33,12 @@ use Rattle.noise_bound.proofs.Quads.{behind-grows}
 earlier-front : (line more : List Bool) (i k : ℕ) → i < length line → earlier line i k ≡ earlier (line ++ more) i k
 earlier-front line more i k within = elim (cases_lt i k) [
   | inl less ↦ grind (arith, nat_tests)
-  | inr past ↦ let no : nat_lt i k ≡ false = grind (arith, nat_tests) in rw no (sym (get_or_append_left line more false (i - k) (omega arith)))
+  | inr past ↦ let no : nat_lt i k ≡ false = grind (arith, nat_tests) in
+        rw no (sym (get_or_append_left line more false (i - k) (omega arith)))
 ]
 
-output-grows : (tap : ℕ) (line more output longer : List Bool) → Descrambles tap line output → Descrambles tap (line ++ more) longer → IsPrefixOf output longer
+output-grows : (tap : ℕ) (line more output longer : List Bool) → Descrambles tap line output → Descrambles tap (line ++ more) longer
+    → IsPrefixOf output longer
 output-grows tap line more output longer d e =
     (drop (length output) longer, ap (λ k. k ++ drop (length output) longer) same ∙ take-append-drop (length output) longer)
   where
@@ -44,9 +46,11 @@ output-grows tap line more output longer d e =
     total = length-append {A = Bool} line more
 
     same : output ≡ take (length output) longer
-    same = ext_get_or false output (take (length output) longer) (sym (length-take-le (length output) longer (omega (arith, total, d.lengths, e.lengths)))) (λ i within.
+    same = ext_get_or false output (take (length output) longer)
+        (sym (length-take-le (length output) longer (omega (arith, total, d.lengths, e.lengths)))) (λ i within.
         let inside : i < length line = omega (arith, d.lengths) in
-        depends_on_three tap line (line ++ more) output longer i i inside (omega (arith, total)) d e (earlier-front line more i 0 inside) (earlier-front line more i tap inside) (earlier-front line more i 23 inside)
+        depends_on_three tap line (line ++ more) output longer i i inside (omega (arith, total)) d e (earlier-front line more i 0 inside)
+            (earlier-front line more i tap inside) (earlier-front line more i 23 inside)
         ∙ sym (get_or-take (length output) longer i false within))
 
 drop-front : (n : ℕ) (a b : List Bool) → IsPrefixOf a b → IsPrefixOf (drop n a) (drop n b)
@@ -58,10 +62,12 @@ drop-front n a b (rest, e) = subst (λ k. IsPrefixOf (drop n a) (drop n k)) e (g
     go (suc n) (x ∷ a) rest = go n a rest
 
 -- labels that begin others give bits that begin theirs
-begins : (tap : ℕ) (a b : List ℕ) (bits longer : List Bool) → IsPickedUp tap a bits → IsPickedUp tap (a ++ b) longer → IsPrefixOf bits longer
+begins : (tap : ℕ) (a b : List ℕ) (bits longer : List Bool) → IsPickedUp tap a bits → IsPickedUp tap (a ++ b) longer
+    → IsPrefixOf bits longer
 begins tap a b bits longer h k =
     let line = behind-grows a b in
-    let p = output-grows tap (line_behind a) line.0 h.all k.all h.descrambled (subst (λ (xs : List Bool). Descrambles tap xs k.all) (sym line.1) k.descrambled) in
+    let p = output-grows tap (line_behind a) line.0 h.all k.all h.descrambled
+        (subst (λ (xs : List Bool). Descrambles tap xs k.all) (sym line.1) k.descrambled) in
     subst (λ xs. IsPrefixOf xs longer) (sym h.bits_are) (subst (IsPrefixOf (drop 23 h.all)) (sym k.bits_are) (drop-front 23 h.all k.all p))
 
 -- turned labels give what these give
@@ -86,18 +92,27 @@ cut-at n front labels within p = ap (take n) (sym p.1) ∙ take-append-le n fron
 whole-at : (front labels : List ℕ) → IsPrefixOf front labels → take (length front) labels ≡ front
 whole-at front labels p = ap (take (length front)) (sym p.1) ∙ take_at front p.0 (length front) refl
 
-pub one-begins : (tap : ℕ) (labels front turned_front : List ℕ) (bits turned_bits : List Bool) → BothBegin labels front turned_front → IsPickedUp tap front bits → IsPickedUp tap turned_front turned_bits → OneBegins bits turned_bits
+pub one-begins : (tap : ℕ) (labels front turned_front : List ℕ) (bits turned_bits : List Bool) → BothBegin labels front turned_front
+    → IsPickedUp tap front bits → IsPickedUp tap turned_front turned_bits → OneBegins bits turned_bits
 one-begins tap labels front turned_front bits turned_bits h mine theirs = elim (cases_lt (length front) (length turned_front)) [
   | inl less ↦
       let n = length front in
-      let cut : take n turned_front ≡ map turned_label front = sym (cut-at n turned_front (map turned_label labels) (omega arith) h.turned_begins) ∙ take-map turned_label n labels ∙ ap (map turned_label) (whole-at front labels h.begins) in
-      let joined : turned_front ≡ map turned_label front ++ drop n turned_front = sym (take-append-drop n turned_front) ∙ ap (λ k. k ++ drop n turned_front) cut in
-      inl (begins tap (map turned_label front) (drop n turned_front) bits turned_bits (turned tap front bits mine) (subst (λ k. IsPickedUp tap k turned_bits) joined theirs))
+      let cut : take n turned_front ≡ map turned_label front =
+          sym (cut-at n turned_front (map turned_label labels) (omega arith) h.turned_begins) ∙ take-map turned_label n labels
+          ∙ ap (map turned_label) (whole-at front labels h.begins) in
+      let joined : turned_front ≡ map turned_label front ++ drop n turned_front =
+          sym (take-append-drop n turned_front) ∙ ap (λ k. k ++ drop n turned_front) cut in
+      inl (begins tap (map turned_label front) (drop n turned_front) bits turned_bits (turned tap front bits mine)
+          (subst (λ k. IsPickedUp tap k turned_bits) joined theirs))
   | inr more ↦
       let n = length turned_front in
-      let cut : map turned_label (take n front) ≡ turned_front = ap (map turned_label) (sym (cut-at n front labels (omega arith) h.begins)) ∙ sym (take-map turned_label n labels) ∙ whole-at turned_front (map turned_label labels) h.turned_begins in
-      let few : IsPickedUp tap (take n front) turned_bits = unturned tap (take n front) turned_bits (subst (λ k. IsPickedUp tap k turned_bits) (sym cut) theirs) in
-      inr (begins tap (take n front) (drop n front) turned_bits bits few (subst (λ k. IsPickedUp tap k bits) (sym (take-append-drop n front)) mine))
+      let cut : map turned_label (take n front) ≡ turned_front =
+          ap (map turned_label) (sym (cut-at n front labels (omega arith) h.begins)) ∙ sym (take-map turned_label n labels)
+          ∙ whole-at turned_front (map turned_label labels) h.turned_begins in
+      let few : IsPickedUp tap (take n front) turned_bits =
+          unturned tap (take n front) turned_bits (subst (λ k. IsPickedUp tap k turned_bits) (sym cut) theirs) in
+      inr (begins tap (take n front) (drop n front) turned_bits bits few
+          (subst (λ k. IsPickedUp tap k bits) (sym (take-append-drop n front)) mine))
 ]
 
 -- the pieces of bits that begin others begin theirs
@@ -109,14 +124,16 @@ one-of_pieces a b (inl p) = inl (pieces-begin a b p)
 one-of_pieces a b (inr p) = inr (pieces-begin b a p)
 
 pub one-picked-up-begins : OnePickedUpBegins
-one-picked-up-begins tap labels front turned_front samples bits turned_bits h r mine theirs = one-begins tap labels front turned_front bits turned_bits (begin-from_any labels front turned_front samples h r) mine theirs
+one-picked-up-begins tap labels front turned_front samples bits turned_bits h r mine theirs =
+    one-begins tap labels front turned_front bits turned_bits (begin-from_any labels front turned_front samples h r) mine theirs
 
 pub one-list-of-pieces-begins : OneListOfPiecesBegins
 one-list-of-pieces-begins tap labels front turned_front samples bits turned_bits h r mine theirs =
     one-of_pieces bits turned_bits (one-picked-up-begins tap labels front turned_front samples bits turned_bits h r mine theirs)
 
 -- what a reader took begins what was released
-taken-begins : (labels : List ℕ) (samples : List Sample) (count : ℕ) (mode : Mode) (depth : ℕ) (m : Middle) (bits : List Bool) → IsNear sure_of_any all_states labels samples
+taken-begins : (labels : List ℕ) (samples : List Sample) (count : ℕ) (mode : Mode) (depth : ℕ) (m : Middle) (bits : List Bool)
+    → IsNear sure_of_any all_states labels samples
     → (r : ReadsMiddle mode depth m (take count samples) bits) → IsPrefixOf r.labels labels
 taken-begins labels samples count mode depth m bits h r =
     let pending = m.reading.decoder.pending in
@@ -130,6 +147,8 @@ readers-pieces-begin mode depth turned_depth count turned_count m other labels s
     let near = near-turns sure_of_any all_states all_states labels samples all_states_turn h in
     let both : BothBegin labels mine.labels theirs.labels = record {
       begins = taken-begins labels samples count mode depth m bits h mine;
-      turned_begins = taken-begins (map turned_label labels) (map quarter_turned samples) turned_count mode turned_depth other turned_bits near theirs;
+      turned_begins = taken-begins (map turned_label labels)
+          (map quarter_turned samples) turned_count mode turned_depth other turned_bits near theirs;
     } in
-    one-of_pieces bits turned_bits (one-begins (tap_of mode) labels mine.labels theirs.labels bits turned_bits both mine.picked_up theirs.picked_up)
+    one-of_pieces bits turned_bits
+        (one-begins (tap_of mode) labels mine.labels theirs.labels bits turned_bits both mine.picked_up theirs.picked_up)

@@ -41,26 +41,34 @@ pub record BothBegin (labels front turned_front : List ℕ) : Type 0 where
   pub begins : IsPrefixOf front labels
   pub turned_begins : IsPrefixOf turned_front (map turned_label labels)
 
-pub begin-from_one : (start : ℕ) (labels front turned_front : List ℕ) (samples : List Sample) → start < 8 → IsNear sure (only start) labels samples → BothRelease (only start) (only (rotated start)) samples front turned_front
+pub begin-from_one : (start : ℕ) (labels front turned_front : List ℕ) (samples : List Sample) → start < 8
+    → IsNear sure (only start) labels samples → BothRelease (only start) (only (rotated start)) samples front turned_front
     → BothBegin labels front turned_front
 begin-from_one start labels front turned_front samples low h r =
     let turned = near-turns sure (only start) (only (rotated start)) labels samples (one-turns start low) h in
     record {
       begins = releases-near start r.count labels front samples h r.released;
-      turned_begins = releases-near (rotated start) r.turned_count (map turned_label labels) turned_front (map quarter_turned samples) turned r.turned_released;
+      turned_begins = releases-near (rotated start) r.turned_count (map turned_label labels) turned_front
+          (map quarter_turned samples) turned r.turned_released;
     }
 
-pub begin-from_any : (labels front turned_front : List ℕ) (samples : List Sample) → IsNear sure_of_any all_states labels samples → BothRelease all_states all_states samples front turned_front → BothBegin labels front turned_front
+pub begin-from_any : (labels front turned_front : List ℕ) (samples : List Sample) → IsNear sure_of_any all_states labels samples
+    → BothRelease all_states all_states samples front turned_front → BothBegin labels front turned_front
 begin-from_any labels front turned_front samples h r =
     let turned = near-turns sure_of_any all_states all_states labels samples all_states_turn h in
     record {
       begins = releases-near_of_any all_states r.count labels front samples h r.released;
-      turned_begins = releases-near_of_any all_states r.turned_count (map turned_label labels) turned_front (map quarter_turned samples) turned r.turned_released;
+      turned_begins = releases-near_of_any all_states r.turned_count (map turned_label labels) turned_front
+          (map quarter_turned samples) turned r.turned_released;
     }
 
 -- what is heard up to a loss is released of the first samples
-pub heard-begins : (labels front : List ℕ) (samples : List Sample) (count : ℕ) (lost : Option ℕ) → IsNear sure_of_any all_states labels samples → IsReleased (code_from all_states) (heard lost (take count samples)) front → IsPrefixOf front labels
+pub heard-begins : (labels front : List ℕ) (samples : List Sample) (count : ℕ) (lost : Option ℕ)
+    → IsNear sure_of_any all_states labels samples → IsReleased (code_from all_states) (heard lost (take count samples)) front
+    → IsPrefixOf front labels
 heard-begins labels front samples count None h r = releases-near_of_any all_states count labels front samples h r
 heard-begins labels front samples count (Some symbol) h r =
-    let p = releases-near_of_any all_states (symbol + 1) (take count labels) front (take count samples) (near-front sure_of_any all_states labels samples count h) r in
-    (p.0 ++ drop count labels, sym (append_assoc front p.0 (drop count labels)) ∙ ap (λ k. k ++ drop count labels) p.1 ∙ take-append-drop count labels)
+    let p = releases-near_of_any all_states (symbol + 1) (take count labels) front (take count samples)
+        (near-front sure_of_any all_states labels samples count h) r in
+    (p.0 ++ drop count labels, sym (append_assoc front p.0 (drop count labels)) ∙ ap (λ k. k ++ drop count labels) p.1
+        ∙ take-append-drop count labels)

@@ -25,8 +25,10 @@ SureIsNear = (mode : Mode) (octets : List ℕ) (samples : List Sample) (price : 
 
 -- so the line isn't lost, and what is released was sent
 abbrev pub SureIsDecoded : Type 0
-SureIsDecoded = (mode : Mode) (octets : List ℕ) (samples : List Sample) (price depth : ℕ) → (c : IsCostOf mode octets samples price) → price < sure → 126 ≤ depth
-    → LostIs (code_from (only 0)) depth samples None × ((front : List ℕ) → IsReleased (code_from (only 0)) samples front → IsPrefixOf front c.modulated.labels)
+SureIsDecoded = (mode : Mode) (octets : List ℕ) (samples : List Sample) (price depth : ℕ) → (c : IsCostOf mode octets samples price)
+    → price < sure → 126 ≤ depth
+    → LostIs (code_from (only 0)) depth samples None
+        × ((front : List ℕ) → IsReleased (code_from (only 0)) samples front → IsPrefixOf front c.modulated.labels)
 
 -- turned samples are near the turned labels
 abbrev pub NearTurns : Type 0
@@ -35,13 +37,16 @@ NearTurns = (bound : ℕ) (starts turned_starts : ℕ → Bool) (labels : List �
 
 -- the quads behind the first one are the same
 abbrev pub QuadsAreAlikeFrom : ℕ → (ℕ → Bool) → (ℕ → Bool) → Type 0
-QuadsAreAlikeFrom bound starts turned_starts = (i : ℕ) (labels front turned_front : List ℕ) (samples : List Sample) → IsNear bound starts labels samples
+QuadsAreAlikeFrom bound starts turned_starts =
+    (i : ℕ) (labels front turned_front : List ℕ) (samples : List Sample) → IsNear bound starts labels samples
     → BothRelease starts turned_starts samples front turned_front
     → 1 ≤ i → i < length front → i < length turned_front → slice_index (quads_of turned_front) i ≡ slice_index (quads_of front) i
 
 -- bits that differ are among six
 abbrev pub FewBitsDifferFrom : ℕ → (ℕ → Bool) → (ℕ → Bool) → Type 0
-FewBitsDifferFrom bound starts turned_starts = (tap i : ℕ) (labels front turned_front : List ℕ) (samples : List Sample) (bits turned_bits : List Bool) → IsNear bound starts labels samples
+FewBitsDifferFrom bound starts turned_starts =
+    (tap i : ℕ) (labels front turned_front : List ℕ) (samples : List Sample) (bits turned_bits : List Bool)
+    → IsNear bound starts labels samples
     → BothRelease starts turned_starts samples front turned_front → Demodulates tap front bits → Demodulates tap turned_front turned_bits
     → i < length bits → i < length turned_bits → bit_at_place turned_bits i ≢ bit_at_place bits i → IsOfFirstTwo tap i
 
@@ -61,16 +66,21 @@ FewBitsDifferOfAny = FewBitsDifferFrom sure_of_any all_states all_states
 
 -- of what is picked up one begins the other
 abbrev pub OnePickedUpBegins : Type 0
-OnePickedUpBegins = (tap : ℕ) (labels front turned_front : List ℕ) (samples : List Sample) (bits turned_bits : List Bool) → IsNear sure_of_any all_states labels samples
-    → BothRelease all_states all_states samples front turned_front → IsPickedUp tap front bits → IsPickedUp tap turned_front turned_bits → OneBegins bits turned_bits
+OnePickedUpBegins = (tap : ℕ) (labels front turned_front : List ℕ) (samples : List Sample) (bits turned_bits : List Bool)
+    → IsNear sure_of_any all_states labels samples
+    → BothRelease all_states all_states samples front turned_front → IsPickedUp tap front bits → IsPickedUp tap turned_front turned_bits
+        → OneBegins bits turned_bits
 
 abbrev pub OneListOfPiecesBegins : Type 0
-OneListOfPiecesBegins = (tap : ℕ) (labels front turned_front : List ℕ) (samples : List Sample) (bits turned_bits : List Bool) → IsNear sure_of_any all_states labels samples
+OneListOfPiecesBegins = (tap : ℕ) (labels front turned_front : List ℕ) (samples : List Sample) (bits turned_bits : List Bool)
+    → IsNear sure_of_any all_states labels samples
     → BothRelease all_states all_states samples front turned_front → IsPickedUp tap front bits → IsPickedUp tap turned_front turned_bits
     → OneBegins (pieces_of bits) (pieces_of turned_bits)
 
 -- however far two readers have read
 abbrev pub ReadersPiecesBegin : Type 0
-ReadersPiecesBegin = (mode : Mode) (depth turned_depth count turned_count : ℕ) (m turned : Middle) (labels : List ℕ) (samples : List Sample) (bits turned_bits : List Bool)
+ReadersPiecesBegin = (mode : Mode) (depth turned_depth count turned_count : ℕ) (m turned : Middle) (labels : List ℕ) (samples : List Sample)
+    (bits turned_bits : List Bool)
     → IsNear sure_of_any all_states labels samples → MiddleRead mode depth m (take count samples) bits
-    → MiddleRead mode turned_depth turned (take turned_count (map quarter_turned samples)) turned_bits → OneBegins (pieces_of bits) (pieces_of turned_bits)
+    → MiddleRead mode turned_depth turned (take turned_count (map quarter_turned samples)) turned_bits
+        → OneBegins (pieces_of bits) (pieces_of turned_bits)

@@ -27,14 +27,16 @@ distance-over_samples (x ∷ a) (y ∷ b) (s ∷ samples) h k =
     omega (arith, near_is_near (point_of x) s (point_of y), distance_of-swap s (point_of y), distance-over_samples a b samples same other)
 
 -- the first labels cost no more
-pub cost-take : (n : ℕ) (labels : List ℕ) (samples : List Sample) → cost far_from (take n labels) (take n samples) ≤ cost far_from labels samples
+pub cost-take : (n : ℕ) (labels : List ℕ) (samples : List Sample)
+    → cost far_from (take n labels) (take n samples) ≤ cost far_from labels samples
 cost-take zero labels samples = omega arith
 cost-take (suc n) [] samples = omega arith
 cost-take (suc n) (x ∷ labels) [] = omega arith
 cost-take (suc n) (x ∷ labels) (s ∷ samples) = omega (arith, cost-take n labels samples)
 
 -- only their own points cost labels nothing
-pub points-of_no-cost : (labels : List ℕ) (samples : List Sample) → length labels ≡ length samples → cost far_from labels samples ≡ 0 → samples ≡ map point_of labels
+pub points-of_no-cost : (labels : List ℕ) (samples : List Sample) → length labels ≡ length samples → cost far_from labels samples ≡ 0
+    → samples ≡ map point_of labels
 points-of_no-cost [] [] h e = refl
 points-of_no-cost [] (s ∷ samples) h e = absurd (omega arith)
 points-of_no-cost (x ∷ labels) [] h e = absurd (omega arith)

@@ -39,8 +39,10 @@ makes_up least far None v = true
 makes_up least far (Some u) None = true
 makes_up least far (Some u) (Some v) = nat_le least (far + until u v)
 
-from-branches : (least far u v : ℕ) (first second : Option ℕ) → makes_up least far first second ≡ true → first ≡ Some u → second ≡ Some v → least ≤ far + until u v
-from-branches least far u v first second h e f = leb-true least (far + until u v) (sym (ap (λ a. makes_up least far a second) e ∙ ap (makes_up least far (Some u)) f) ∙ h)
+from-branches : (least far u v : ℕ) (first second : Option ℕ) → makes_up least far first second ≡ true → first ≡ Some u → second ≡ Some v
+    → least ≤ far + until u v
+from-branches least far u v first second h e f =
+    leb-true least (far + until u v) (sym (ap (λ a. makes_up least far a second) e ∙ ap (makes_up least far (Some u)) f) ∙ h)
 
 abbrev meets : ℕ → ℕ → ℕ → ℕ → Bool
 meets s t a b = makes_up (until s t) (apart a b) (next_state s a) (next_state t b)
@@ -66,21 +68,25 @@ step-meets s t a b u v e f =
     let p = branch_of s a u e in
     let q = branch_of t b v f in
     let rows = at_each_pair 8 8 (λ s t. each_below 32 (λ a. each_below 32 (meets s t a))) meets_test s t p.in_states q.in_states in
-    from-branches (until s t) (apart a b) u v (next_state s a) (next_state t b) (at_each_pair 32 32 (meets s t) rows a b p.in_labels q.in_labels) e f
+    from-branches (until s t) (apart a b) u v (next_state s a) (next_state t b)
+        (at_each_pair 32 32 (meets s t) rows a b p.in_labels q.in_labels) e f
 
 step-parts : (s a b u v : ℕ) → a ≢ b → next_state s a ≡ Some u → next_state s b ≡ Some v → 10 ≤ apart a b + until u v
 step-parts s a b u v differ e f =
     let p = branch_of s a u e in
     let q = branch_of s b v f in
     let rows = at_each 8 (λ s. each_below 32 (λ a. each_below 32 (parts s a))) parts_test s p.in_states in
-    elim (or_cases (nat_eq a b) (makes_up 10 (apart a b) (next_state s a) (next_state s b)) (at_each_pair 32 32 (parts s) rows a b p.in_labels q.in_labels)) [
+    elim (or_cases (nat_eq a b) (makes_up 10 (apart a b) (next_state s a) (next_state s b))
+        (at_each_pair 32 32 (parts s) rows a b p.in_labels q.in_labels)) [
       | inl same ↦ absurd (differ (eqb-true a b same))
       | inr far ↦ from-branches 10 (apart a b) u v (next_state s a) (next_state s b) far e f
     ]
 
 -- two sequences until they meet
-until-least : (s t end : ℕ) (a b : List ℕ) → length a ≡ length b → Leads next_state s a end → Leads next_state t b end → until s t ≤ apart_in_all a b
-until-least s t end [] [] h p q = let same : s ≡ t = p ∙ sym q in let none : until s t ≡ 0 = ap (until s) (sym same) ∙ until-met s in omega arith
+until-least : (s t end : ℕ) (a b : List ℕ) → length a ≡ length b → Leads next_state s a end → Leads next_state t b end
+    → until s t ≤ apart_in_all a b
+until-least s t end [] [] h p q = let same : s ≡ t = p ∙ sym q in let none : until s t ≡ 0 = ap (until s) (sym same) ∙ until-met s in
+    omega arith
 until-least s t end [] (y ∷ b) h p q = absurd (omega arith)
 until-least s t end (x ∷ a) [] h p q = absurd (omega arith)
 until-least s t end (x ∷ a) (y ∷ b) h (m, e, p) (n, f, q) =
@@ -101,13 +107,15 @@ meeting-is-far s t end (x ∷ a) (y ∷ b) differ h p q =
     ]
 
 -- two sequences from one state to one state are one, or far apart
-pub one-or-far : (s end : ℕ) (a b : List ℕ) → length a ≡ length b → Leads next_state s a end → Leads next_state s b end → (a ≡ b) ⊎ (10 ≤ apart_in_all a b)
+pub one-or-far : (s end : ℕ) (a b : List ℕ) → length a ≡ length b → Leads next_state s a end → Leads next_state s b end → (a ≡ b)
+    ⊎ (10 ≤ apart_in_all a b)
 one-or-far s end [] [] h p q = inl refl
 one-or-far s end [] (y ∷ b) h p q = absurd (omega arith)
 one-or-far s end (x ∷ a) [] h p q = absurd (omega arith)
 one-or-far s end (x ∷ a) (y ∷ b) h (m, e, p) (n, f, q) = elim (cases_eq x y) [
   | inr differ ↦ inr (omega (arith, step-parts s x y m n differ e f, until-least m n end a b same p q))
-  | inl one ↦ elim (one-or-far m end a b same p (subst (λ state. Leads next_state state b end) (sym (mids one)) q)) [ inl rest ↦ inl (rw (one, rest) refl) | inr far ↦ inr (omega (arith, far)) ]
+  | inl one ↦ elim (one-or-far m end a b same p (subst (λ state. Leads next_state state b end) (sym (mids one)) q)) [ inl rest ↦ inl
+        (rw (one, rest) refl) | inr far ↦ inr (omega (arith, far)) ]
 ]
   where
     same : length a ≡ length b
@@ -134,7 +142,8 @@ cost-is-distance s t u v (x ∷ a) (y ∷ b) h (m, e, p) (n, f, q) =
     omega arith
 
 -- sequences that are in different states throughout
-parted : (s t u v : ℕ) (a b : List ℕ) → length a ≡ length b → Leads next_state s a u → Leads next_state t b v → AreApartFrom 0 s t a b → Parted s a t b
+parted : (s t u v : ℕ) (a b : List ℕ) → length a ≡ length b → Leads next_state s a u → Leads next_state t b v → AreApartFrom 0 s t a b
+    → Parted s a t b
 parted s t u v [] [] h p q differ = differ 0 s t (omega arith) (omega arith) refl refl
 parted s t u v [] (y ∷ b) h p q differ = absurd (omega arith)
 parted s t u v (x ∷ a) [] h p q differ = absurd (omega arith)
@@ -148,7 +157,8 @@ parted s t u v (x ∷ a) (y ∷ b) h (m, e, p) (n, f, q) differ =
       parted m n u v a b same p q (λ i c d low within k l. differ (suc i) c d (omega arith) (omega arith) (m, e, k) (n, f, l)),
     )
 
-parted-far : (s t u v : ℕ) (a b : List ℕ) → length a ≡ length b → Leads next_state s a u → Leads next_state t b v → Parted s a t b → 2 * (length a / 3) ≤ apart_in_all a b
+parted-far : (s t u v : ℕ) (a b : List ℕ) → length a ≡ length b → Leads next_state s a u → Leads next_state t b v → Parted s a t b
+    → 2 * (length a / 3) ≤ apart_in_all a b
 parted-far s t u v a b h p q k =
     let dear = parted-cost (length a / 3) s t a b k (omega arith) in
     let units : cost far_from a (map point_of b) ≡ 4194304 * apart_in_all a b = cost-is-distance s t u v a b h p q in
@@ -164,12 +174,14 @@ parting-is-far s u v (x ∷ a) (y ∷ b) some h (m, e, p) (n, f, q) differ =
     let same : length a ≡ length b = omega arith in
     let apart_now : m ≡ n → ⊥ = differ 1 m n (omega arith) (omega arith) (m, e, refl) (n, f, refl) in
     let first = (leaves_apart s x y m n e f apart_now).far in
-    let behind : Parted m a n b = parted m n u v a b same p q (λ i c d low within k l. differ (suc i) c d (omega arith) (omega arith) (m, e, k) (n, f, l)) in
+    let behind : Parted m a n b = parted m n u v a b same p q
+        (λ i c d low within k l. differ (suc i) c d (omega arith) (omega arith) (m, e, k) (n, f, l)) in
     omega (arith, first, parted-far m n u v a b same p q behind)
 
 -- another end
 pub ends-are-near : EndsAreNear
 ends-are-near from end to labels many in_states l =
     let o = other-end from end to labels l many in_states in
-    let units : cost far_from o.other (map point_of labels) ≡ 4194304 * apart_in_all o.other labels = cost-is-distance from from to end o.other labels o.same_length o.leads l in
+    let units : cost far_from o.other (map point_of labels) ≡ 4194304 * apart_in_all o.other labels =
+        cost-is-distance from from to end o.other labels o.same_length o.leads l in
     record { other = o.other; leads = o.leads; same_length = o.same_length; near = omega (arith, o.cheap) }

@@ -26,7 +26,8 @@ NeverLost = (start depth : ℕ) (labels : List ℕ) (samples : List Sample)
     → IsNear sure (only start) labels samples → 126 ≤ depth → LostIs (code_from (only start)) depth samples None
 
 abbrev pub DecodesNear : Type 0
-DecodesNear = (start depth : ℕ) (labels taken : List ℕ) (samples : List Sample) (d : Decoding) → 126 ≤ depth → IsNear sure (only start) labels samples
+DecodesNear = (start depth : ℕ) (labels taken : List ℕ) (samples : List Sample) (d : Decoding) → 126 ≤ depth
+    → IsNear sure (only start) labels samples
     → DecoderStands next_state point_of (only start) depth d samples taken → Follows 126 d taken labels
 
 -- from whatever starts
@@ -44,7 +45,8 @@ NeverLostOfAny = (starts : ℕ → Bool) (depth : ℕ) (labels : List ℕ) (samp
     → IsNear sure_of_any starts labels samples → 116 ≤ depth → LostIs (code_from starts) depth samples None
 
 abbrev pub DecodesNearOfAny : Type 0
-DecodesNearOfAny = (starts : ℕ → Bool) (depth : ℕ) (labels taken : List ℕ) (samples : List Sample) (d : Decoding) → 116 ≤ depth → IsNear sure_of_any starts labels samples
+DecodesNearOfAny = (starts : ℕ → Bool) (depth : ℕ) (labels taken : List ℕ) (samples : List Sample) (d : Decoding) → 116 ≤ depth
+    → IsNear sure_of_any starts labels samples
     → DecoderStands next_state point_of starts depth d samples taken → Follows 116 d taken labels
 
 -- samples that cost nothing

@@ -13,9 +13,11 @@ earlier-some bits i k l = let no : nat_lt i k ≡ false = grind (arith, nat_test
 earlier-drop : (line : List Bool) (m i k : ℕ) → k ≤ i → earlier (drop m line) i k ≡ earlier line (m + i) k
 earlier-drop line m i k l =
     let place : m + (i - k) ≡ m + i - k = omega arith in
-    earlier-some (drop m line) i k l ∙ get_or-drop m line (i - k) false ∙ ap (λ n. get_or line n false) place ∙ sym (earlier-some line (m + i) k (omega arith))
+    earlier-some (drop m line) i k l ∙ get_or-drop m line (i - k) false ∙ ap (λ n. get_or line n false) place
+        ∙ sym (earlier-some line (m + i) k (omega arith))
 
-pub late : (tap m : ℕ) (line all sent : List Bool) → tap ≤ 23 → Descrambles tap line sent → Descrambles tap (drop m line) all → drop 23 all ≡ drop (m + 23) sent
+pub late : (tap m : ℕ) (line all sent : List Bool) → tap ≤ 23 → Descrambles tap line sent → Descrambles tap (drop m line) all
+    → drop 23 all ≡ drop (m + 23) sent
 late tap m line all sent high whole part = ext_get_or false (drop 23 all) (drop (m + 23) sent) long (λ i within. each i within)
   where
     long : length (drop 23 all) ≡ length (drop (m + 23) sent)
@@ -28,5 +30,6 @@ late tap m line all sent high whole part = ext_get_or false (drop 23 all) (drop 
         let place : m + (23 + i) ≡ m + 23 + i = omega arith in
         get_or-drop 23 all i false
         ∙ depends_on_three tap (drop m line) line all sent (23 + i) (m + (23 + i)) inside in_line part whole
-        (earlier-drop line m (23 + i) 0 (omega arith)) (earlier-drop line m (23 + i) tap (omega (arith, high))) (earlier-drop line m (23 + i) 23 (omega arith))
+        (earlier-drop line m (23 + i) 0 (omega arith)) (earlier-drop line m (23 + i) tap (omega (arith, high)))
+            (earlier-drop line m (23 + i) 23 (omega arith))
         ∙ ap (λ n. get_or sent n false) place ∙ sym (get_or-drop (m + 23) sent i false)

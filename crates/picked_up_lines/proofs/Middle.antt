@@ -13,7 +13,8 @@ use Rattle.picked_up_lines.proofs.Quads.{quads-turned, quads-drop, fours-drop}
 use Rattle.picked_up_lines.proofs.Late.{late}
 
 pub picked_up_once : PickedUpOnce
-picked_up_once tap labels bits other h k = h.bits_are ∙ ap (drop 23) (Descrambles_once tap (line_behind labels) h.all k.all h.descrambled k.descrambled) ∙ sym k.bits_are
+picked_up_once tap labels bits other h k =
+    h.bits_are ∙ ap (drop 23) (Descrambles_once tap (line_behind labels) h.all k.all h.descrambled k.descrambled) ∙ sym k.bits_are
 
 pub turned_are_alike : TurnedAreAlike
 turned_are_alike tap labels bits other h k =
@@ -23,6 +24,8 @@ turned_are_alike tap labels bits other h k =
 
 pub middle_is_sent : MiddleIsSent
 middle_is_sent tap n labels sent bits high whole h =
-    let same : line_behind (drop n labels) ≡ drop (4 * (n + 1)) (line_of labels) = ap (flat_map (low_bits 4)) (quads-drop labels n) ∙ fours-drop (n + 1) (quads_of labels) in
-    let part : Descrambles tap (drop (4 * (n + 1)) (line_of labels)) h.all = subst (λ (xs : List Bool). Descrambles tap xs h.all) same h.descrambled in
+    let same : line_behind (drop n labels) ≡ drop (4 * (n + 1)) (line_of labels) =
+        ap (flat_map (low_bits 4)) (quads-drop labels n) ∙ fours-drop (n + 1) (quads_of labels) in
+    let part : Descrambles tap (drop (4 * (n + 1)) (line_of labels)) h.all =
+        subst (λ (xs : List Bool). Descrambles tap xs h.all) same h.descrambled in
     h.bits_are ∙ late tap (4 * (n + 1)) (line_of labels) h.all sent high whole part

@@ -20,9 +20,11 @@ quads-turned labels = ext_get_or 0 (drop 1 (quads_of (map turned_label labels)))
     counts = length-quads_of (map turned_label labels) ∙ length-map labels turned_label
 
     long : length (drop 1 (quads_of (map turned_label labels))) ≡ length (drop 1 (quads_of labels))
-    long = omega (arith, counts, length-quads_of labels, length-drop 1 (quads_of (map turned_label labels)), length-drop 1 (quads_of labels))
+    long = omega (arith, counts, length-quads_of labels, length-drop 1 (quads_of (map turned_label labels)),
+        length-drop 1 (quads_of labels))
 
-    each : (i : ℕ) → i < length (drop 1 (quads_of (map turned_label labels))) → get_or (drop 1 (quads_of (map turned_label labels))) i 0 ≡ get_or (drop 1 (quads_of labels)) i 0
+    each : (i : ℕ) → i < length (drop 1 (quads_of (map turned_label labels)))
+        → get_or (drop 1 (quads_of (map turned_label labels))) i 0 ≡ get_or (drop 1 (quads_of labels)) i 0
     each i within =
         get_or-drop 1 (quads_of (map turned_label labels)) i 0
         ∙ quads_of-turned labels (1 + i) (omega arith) (omega (arith, counts, length-drop 1 (quads_of (map turned_label labels))))
@@ -38,7 +40,8 @@ quad-behind labels n i l =
     let more : i + 1 < length (drop n labels) = omega (arith, length-drop n labels) in
     let less : i < length (drop n labels) = omega (arith, length-drop n labels) in
     let here : get_or (map y_of (drop n labels)) (i + 1) 0 ≡ get_or (map y_of labels) (n + (i + 1)) 0 =
-    get_or-map y_of (drop n labels) (i + 1) more ∙ ap y_of (get_or-drop n labels (i + 1) 0) ∙ sym (get_or-map y_of labels (n + (i + 1)) l) in
+    get_or-map y_of (drop n labels) (i + 1) more ∙ ap y_of (get_or-drop n labels (i + 1) 0)
+        ∙ sym (get_or-map y_of labels (n + (i + 1)) l) in
     let one : i + 1 - 1 ≡ i = omega arith in
     let other : n + (i + 1) - 1 ≡ n + i = omega arith in
     let last : before (map y_of (drop n labels)) (i + 1) ≡ before (map y_of labels) (n + (i + 1)) =
@@ -59,7 +62,8 @@ quads-drop labels n = ext_get_or 0 (drop 1 (quads_of (drop n labels))) (drop (n 
     long : length (drop 1 (quads_of (drop n labels))) ≡ length (drop (n + 1) (quads_of labels))
     long = omega (arith, counts, length-quads_of labels, length-drop 1 (quads_of (drop n labels)), length-drop (n + 1) (quads_of labels))
 
-    each : (i : ℕ) → i < length (drop 1 (quads_of (drop n labels))) → get_or (drop 1 (quads_of (drop n labels))) i 0 ≡ get_or (drop (n + 1) (quads_of labels)) i 0
+    each : (i : ℕ) → i < length (drop 1 (quads_of (drop n labels)))
+        → get_or (drop 1 (quads_of (drop n labels))) i 0 ≡ get_or (drop (n + 1) (quads_of labels)) i 0
     each i within =
         let inside : n + (i + 1) < length labels = omega (arith, counts, length-drop 1 (quads_of (drop n labels))) in
         let order : 1 + i ≡ i + 1 = omega arith in

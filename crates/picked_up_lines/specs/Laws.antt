@@ -14,15 +14,18 @@ use Rattle.picked_up_lines.specs.Reading.{Middle, MiddleRead}
 
 -- labels give one list of bits
 abbrev pub PickedUpOnce : Type 0
-PickedUpOnce = (tap : ℕ) (labels : List ℕ) (bits other : List Bool) → IsPickedUp tap labels bits → IsPickedUp tap labels other → bits ≡ other
+PickedUpOnce = (tap : ℕ) (labels : List ℕ) (bits other : List Bool) → IsPickedUp tap labels bits → IsPickedUp tap labels other
+    → bits ≡ other
 
 -- turned labels give the same
 abbrev pub TurnedAreAlike : Type 0
-TurnedAreAlike = (tap : ℕ) (labels : List ℕ) (bits other : List Bool) → IsPickedUp tap labels bits → IsPickedUp tap (map turned_label labels) other → bits ≡ other
+TurnedAreAlike = (tap : ℕ) (labels : List ℕ) (bits other : List Bool) → IsPickedUp tap labels bits
+    → IsPickedUp tap (map turned_label labels) other → bits ≡ other
 
 -- The labels of a line carry these bits. Those behind the first n give what is carried behind their own first quad and 23 bits more.
 abbrev pub MiddleIsSent : Type 0
-MiddleIsSent = (tap n : ℕ) (labels : List ℕ) (sent bits : List Bool) → tap ≤ 23 → Demodulates tap labels sent → IsPickedUp tap (drop n labels) bits
+MiddleIsSent = (tap n : ℕ) (labels : List ℕ) (sent bits : List Bool) → tap ≤ 23 → Demodulates tap labels sent
+    → IsPickedUp tap (drop n labels) bits
     → bits ≡ drop (4 * (n + 1) + 23) sent
 
 -- What a reader has read of a line's middle is picked up of the labels that it took from its decoder.
@@ -32,4 +35,5 @@ pub record ReadsMiddle (mode : Mode) (depth : ℕ) (m : Middle) (samples : List 
   pub picked_up : IsPickedUp (tap_of mode) labels bits
 
 abbrev pub ReadersPickUp : Type 0
-ReadersPickUp = (mode : Mode) (depth : ℕ) (m : Middle) (samples : List Sample) (bits : List Bool) → MiddleRead mode depth m samples bits → ReadsMiddle mode depth m samples bits
+ReadersPickUp = (mode : Mode) (depth : ℕ) (m : Middle) (samples : List Sample) (bits : List Bool) → MiddleRead mode depth m samples bits
+    → ReadsMiddle mode depth m samples bits

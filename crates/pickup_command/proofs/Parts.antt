@@ -21,12 +21,16 @@ use Rattle.pickup_command.specs.Ends.EndsOwn.{is_long, is_other, is_lost}
 use Rattle.pickup_command.proofs.Playings.{followed-by, followed-longer, plays-lost, says-pieces, SaysCounted, says-counted, stops-longer}
 
 -- a line that isn't lost, with all said that its samples give
-pub not-lost : (start now : FolderState) (mode : Mode) (p : Playing) (samples : List Sample) → Plays start now mode p samples → p.reader.reading.decoder.lost ≡ None → LostIs any_trellis any_depth samples None
-not-lost start now mode p samples h lost = subst (λ (l : Option ℕ). LostIs any_trellis any_depth samples l) lost (plays-lost start now mode p samples h)
+pub not-lost : (start now : FolderState) (mode : Mode) (p : Playing) (samples : List Sample) → Plays start now mode p samples
+    → p.reader.reading.decoder.lost ≡ None → LostIs any_trellis any_depth samples None
+not-lost start now mode p samples h lost =
+    subst (λ (l : Option ℕ). LostIs any_trellis any_depth samples l) lost (plays-lost start now mode p samples h)
 
-pub says-all : (start now : FolderState) (mode : Mode) (p : Playing) (samples : List Sample) → Plays start now mode p samples → p.reader.reading.decoder.lost ≡ None → p.reader.reading.decoder.pending ≡ []
+pub says-all : (start now : FolderState) (mode : Mode) (p : Playing) (samples : List Sample) → Plays start now mode p samples
+    → p.reader.reading.decoder.lost ≡ None → p.reader.reading.decoder.pending ≡ []
     → SaysPieces start now mode samples
-says-all start now mode p samples h lost taken = subst (λ (l : Option ℕ). SaysPieces start now mode (heard l samples)) lost (says-pieces start now mode p samples h taken)
+says-all start now mode p samples h lost taken =
+    subst (λ (l : Option ℕ). SaysPieces start now mode (heard l samples)) lost (says-pieces start now mode p samples h taken)
 
 -- a read fails behind these samples
 pub front-part : (start now : FolderState) (rec : List ℕ) (mode : Mode) (p : Playing) (content : List ℕ)
@@ -34,13 +38,15 @@ pub front-part : (start now : FolderState) (rec : List ℕ) (mode : Mode) (p : P
     → p.reader.reading.decoder.pending ≡ [] → PicksUpFront start now rec
 front-part start now rec mode p content w h lost taken =
     let s = samples_in-front content w.rest in
-    let followed : AreFollowed (samples_in content) (samples_in content) = followed-by None (samples_in content) (not-lost start now mode p (samples_in content) h lost) in
+    let followed : AreFollowed (samples_in content) (samples_in content) =
+        followed-by None (samples_in content) (not-lost start now mode p (samples_in content) h lost) in
     record {
       mode = mode;
       content = content ++ w.rest;
       reads = w.reads;
       first = samples_in content;
-      followed = subst (λ (xs : List Sample). AreFollowed xs (samples_in content)) (sym s.1) (followed-longer (samples_in content) s.0 (samples_in content) followed);
+      followed = subst (λ (xs : List Sample). AreFollowed xs (samples_in content)) (sym s.1)
+          (followed-longer (samples_in content) s.0 (samples_in content) followed);
       says = says-all start now mode p (samples_in content) h lost taken;
     }
 
@@ -50,8 +56,10 @@ pub stops-by : (start now : FolderState) (rec : List ℕ) (mode : Mode) (content
 stops-by start now rec mode content (Own answer) w h =
     let s = samples_in-front content w.rest in
     let more : StopsPlay start now mode (samples_in (content ++ w.rest)) (Own answer) =
-    subst (λ (xs : List Sample). StopsPlay start now mode xs (Own answer)) (sym s.1) (stops-longer start now mode (samples_in content) s.0 (Own answer) h) in
-    is_lost more.0 more.1 more.2 (record { mode = mode; content = content ++ w.rest; reads = w.reads; role_is = more.3.role_is; lost = more.3.lost; says = more.3.says })
+    subst (λ (xs : List Sample). StopsPlay start now mode xs (Own answer)) (sym s.1)
+        (stops-longer start now mode (samples_in content) s.0 (Own answer) h) in
+    is_lost more.0 more.1 more.2 (record { mode = mode; content = content ++ w.rest; reads = w.reads; role_is = more.3.role_is; lost =
+        more.3.lost; says = more.3.says })
 stops-by start now rec mode content (Say fault) w h =
     let s = samples_in-front content w.rest in
     record {
@@ -59,7 +67,8 @@ stops-by start now rec mode content (Say fault) w h =
       content = content ++ w.rest;
       reads = w.reads;
       first = h.first;
-      followed = subst (λ (xs : List Sample). AreFollowed xs h.first) (sym s.1) (followed-longer (samples_in content) s.0 h.first h.followed);
+      followed = subst (λ (xs : List Sample). AreFollowed xs h.first) (sym s.1)
+          (followed-longer (samples_in content) s.0 h.first h.followed);
       says = h.says;
     }
 stops-by start now rec mode content (Read fault) w never = absurd never
@@ -69,7 +78,8 @@ stops-by start now rec mode content NoMemory w never = absurd never
 -- the last sample is cut
 pub cut-by : (start now : FolderState) (rec : List ℕ) (mode : Mode) (p : Playing) (content : List ℕ) (at : ℕ)
     → ReadsRecording start rec rates.Trellis mode content → length content % 4 ≢ 0 → at + length content % 4 ≡ HEADER + length content
-    → Plays start now mode p (samples_in content) → p.reader.reading.decoder.lost ≡ None → p.reader.reading.decoder.pending ≡ [] → SampleCut start now rec at
+    → Plays start now mode p (samples_in content) → p.reader.reading.decoder.lost ≡ None → p.reader.reading.decoder.pending ≡ []
+        → SampleCut start now rec at
 cut-by start now rec mode p content at reads cut at_is h lost taken = record {
   mode = mode;
   content = content;
@@ -86,7 +96,8 @@ pub all-by : (start now : FolderState) (rec : List ℕ) (mode : Mode) (p : Playi
     → p.reader.reading.decoder.lost ≡ None → p.reader.reading.decoder.pending ≡ [] → PicksUpAll start now rec p.listener.pieces
 all-by start now rec mode p content reads whole h lost taken =
     let s : SaysCounted start now mode (samples_in content) p.listener.pieces =
-    subst (λ (l : Option ℕ). SaysCounted start now mode (heard l (samples_in content)) p.listener.pieces) lost (says-counted start now mode p (samples_in content) h taken) in
+    subst (λ (l : Option ℕ). SaysCounted start now mode (heard l (samples_in content)) p.listener.pieces) lost
+        (says-counted start now mode p (samples_in content) h taken) in
     record {
       mode = mode;
       content = content;

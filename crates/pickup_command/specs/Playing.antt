@@ -52,7 +52,8 @@ pub record LosesLine (start now : FolderState) (mode : Mode) (samples : List Sam
 
 -- why not all of the samples are played
 abbrev pub StopsPlay : FolderState → FolderState → Mode → List Sample → Stop → Type 0
-StopsPlay start now mode samples (Own answer) = (role : Role) × (symbol : ℕ) × (answer ≡ LineLost role symbol) × LosesLine start now mode samples role symbol
+StopsPlay start now mode samples (Own answer) =
+    (role : Role) × (symbol : ℕ) × (answer ≡ LineLost role symbol) × LosesLine start now mode samples role symbol
 StopsPlay start now mode samples (Say fault) = SaysSome start now mode samples
 StopsPlay start now mode samples stop = ⊥
 

@@ -54,7 +54,8 @@ nothing-there bits e = go (found_at bits) refl
         some h = cc
 
 -- before the first bit
-pub heard-nothing : (start : FolderState) (l : Listening) → DeframerStands l.deframer [] → l.pieces ≡ 0 → Said start start [] → Heard start start l []
+pub heard-nothing : (start : FolderState) (l : Listening) → DeframerStands l.deframer [] → l.pieces ≡ 0 → Said start start []
+    → Heard start start l []
 heard-nothing start l stands none said = record {
   stands = stands;
   lines = [];
@@ -64,7 +65,8 @@ heard-nothing start l stands none said = record {
 }
 
 -- a bit at which no piece ends
-pub heard-none : (start now : FolderState) (l next : Listening) (bits : List Bool) (bit : Bool) → Heard start now l bits → None ≡ answer_of (bits ++ bit ∷ []) → DeframerStands next.deframer (bits ++ bit ∷ []) →
+pub heard-none : (start now : FolderState) (l next : Listening) (bits : List Bool) (bit : Bool) → Heard start now l bits
+    → None ≡ answer_of (bits ++ bit ∷ []) → DeframerStands next.deframer (bits ++ bit ∷ []) →
     next.sender ≡ l.sender → next.pieces ≡ l.pieces → Heard start now next (bits ++ bit ∷ [])
 heard-none start now l next bits bit h none stands sender pieces = record {
   stands = stands;
@@ -78,8 +80,10 @@ heard-none start now l next bits bit h none stands sender pieces = record {
     same = pieces-more bits bit ∙ ap (λ o. pieces_of bits ++ listed o) (nothing-there (bits ++ bit ∷ []) none) ∙ append-nil (pieces_of bits)
 
 -- an octet with whose bits no piece ends
-pub heard-octet : (start now : FolderState) (l next : Listening) (bits : List Bool) (octet : ℕ) → Heard start now l bits → DeframerStands next.deframer (bits ++ octet_bits octet)
-    → pieces_of (bits ++ octet_bits octet) ≡ pieces_of bits → next.sender ≡ l.sender → next.pieces ≡ l.pieces → Heard start now next (bits ++ octet_bits octet)
+pub heard-octet : (start now : FolderState) (l next : Listening) (bits : List Bool) (octet : ℕ) → Heard start now l bits
+    → DeframerStands next.deframer (bits ++ octet_bits octet)
+    → pieces_of (bits ++ octet_bits octet) ≡ pieces_of bits → next.sender ≡ l.sender → next.pieces ≡ l.pieces
+        → Heard start now next (bits ++ octet_bits octet)
 heard-octet start now l next bits octet h stands same sender pieces = record {
   stands = stands;
   lines = h.lines;
@@ -88,43 +92,55 @@ heard-octet start now l next bits octet h stands same sender pieces = record {
   count = pieces ∙ h.count ∙ sym (ap length same);
 }
 
-piece-more : (bits : List Bool) (bit : Bool) (piece : Piece) (f : FoundThere (bits ++ bit ∷ []) piece) → pieces_of (bits ++ bit ∷ []) ≡ pieces_of bits ++ f.found ∷ []
+piece-more : (bits : List Bool) (bit : Bool) (piece : Piece) (f : FoundThere (bits ++ bit ∷ []) piece)
+    → pieces_of (bits ++ bit ∷ []) ≡ pieces_of bits ++ f.found ∷ []
 piece-more bits bit piece f = pieces-more bits bit ∙ ap (λ o. pieces_of bits ++ listed o) f.found_is
 
-lines-more : (start now : FolderState) (l : Listening) (bits : List Bool) (bit : Bool) (piece : Piece) (reading : Reading) (h : Heard start now l bits) (f : FoundThere (bits ++ bit ∷ []) piece) → Reads l.sender f.found reading →
+lines-more : (start now : FolderState) (l : Listening) (bits : List Bool) (bit : Bool) (piece : Piece) (reading : Reading)
+    (h : Heard start now l bits) (f : FoundThere (bits ++ bit ∷ []) piece) → Reads l.sender f.found reading →
     AreLines l.sender (pieces_of (bits ++ bit ∷ [])) (h.lines ++ reading_line reading)
 lines-more start now l bits bit piece reading h f r =
-    subst (λ (pieces : List Found). AreLines l.sender pieces (h.lines ++ reading_line reading)) (sym (piece-more bits bit piece f)) (AreLines-more l.sender (pieces_of bits) f.found reading h.lines h.are_lines r)
+    subst (λ (pieces : List Found). AreLines l.sender pieces (h.lines ++ reading_line reading)) (sym (piece-more bits bit piece f))
+        (AreLines-more l.sender (pieces_of bits) f.found reading h.lines h.are_lines r)
 
 -- a bit at which a piece ends, whose line was said
-pub heard-some : (start now new : FolderState) (l next : Listening) (bits : List Bool) (bit : Bool) (piece : Piece) (reading : Reading) → Heard start now l bits → (f : FoundThere (bits ++ bit ∷ []) piece) →
-    Reads l.sender f.found reading → DeframerStands next.deframer (bits ++ bit ∷ []) → next.sender ≡ l.sender → next.pieces ≡ l.pieces + 1 → Said now new (reading_line reading) → Heard start new next (bits ++ bit ∷ [])
+pub heard-some : (start now new : FolderState) (l next : Listening) (bits : List Bool) (bit : Bool) (piece : Piece) (reading : Reading)
+    → Heard start now l bits → (f : FoundThere (bits ++ bit ∷ []) piece) →
+    Reads l.sender f.found reading → DeframerStands next.deframer (bits ++ bit ∷ []) → next.sender ≡ l.sender → next.pieces ≡ l.pieces + 1
+        → Said now new (reading_line reading) → Heard start new next (bits ++ bit ∷ [])
 heard-some start now new l next bits bit piece reading h f r stands sender pieces said = record {
   stands = stands;
   lines = h.lines ++ reading_line reading;
-  are_lines = subst (λ (role : Role). AreLines role (pieces_of (bits ++ bit ∷ [])) (h.lines ++ reading_line reading)) (sym sender) (lines-more start now l bits bit piece reading h f r);
+  are_lines = subst (λ (role : Role). AreLines role (pieces_of (bits ++ bit ∷ [])) (h.lines ++ reading_line reading)) (sym sender)
+      (lines-more start now l bits bit piece reading h f r);
   said = Said-Said start now new h.lines (reading_line reading) h.said said;
-  count = pieces ∙ ap (λ n. n + 1) h.count ∙ sym (length-append (pieces_of bits) (f.found ∷ [])) ∙ sym (ap length (piece-more bits bit piece f));
+  count = pieces ∙ ap (λ n. n + 1) h.count ∙ sym (length-append (pieces_of bits) (f.found ∷ []))
+      ∙ sym (ap length (piece-more bits bit piece f));
 }
 
 -- and where the say failed: the listener stands for all of these bits
-pub left-some : (start now new : FolderState) (l next : Listening) (bits : List Bool) (bit : Bool) (piece : Piece) (reading : Reading) → Heard start now l bits → (f : FoundThere (bits ++ bit ∷ []) piece) →
-    Reads l.sender f.found reading → DeframerStands next.deframer (bits ++ bit ∷ []) → next.sender ≡ l.sender → next.pieces ≡ l.pieces + 1 → PartlySaid now new (reading_line reading) → LeftAt start new next (bits ++ bit ∷ [])
+pub left-some : (start now new : FolderState) (l next : Listening) (bits : List Bool) (bit : Bool) (piece : Piece) (reading : Reading)
+    → Heard start now l bits → (f : FoundThere (bits ++ bit ∷ []) piece) →
+    Reads l.sender f.found reading → DeframerStands next.deframer (bits ++ bit ∷ []) → next.sender ≡ l.sender → next.pieces ≡ l.pieces + 1
+        → PartlySaid now new (reading_line reading) → LeftAt start new next (bits ++ bit ∷ [])
 left-some start now new l next bits bit piece reading h f r stands sender pieces said = record {
   part = record {
     heard = bits ++ bit ∷ [];
     rest = [];
     bits_are = sym (append-nil (bits ++ bit ∷ []));
     lines = h.lines ++ reading_line reading;
-    are_lines = subst (λ (role : Role). AreLines role (pieces_of (bits ++ bit ∷ [])) (h.lines ++ reading_line reading)) (sym sender) (lines-more start now l bits bit piece reading h f r);
+    are_lines = subst (λ (role : Role). AreLines role (pieces_of (bits ++ bit ∷ [])) (h.lines ++ reading_line reading)) (sym sender)
+        (lines-more start now l bits bit piece reading h f r);
     said = Said-PartlySaid start now new h.lines (reading_line reading) h.said said;
   };
   stands = stands;
-  count = pieces ∙ ap (λ n. n + 1) h.count ∙ sym (length-append (pieces_of bits) (f.found ∷ [])) ∙ sym (ap length (piece-more bits bit piece f));
+  count = pieces ∙ ap (λ n. n + 1) h.count ∙ sym (length-append (pieces_of bits) (f.found ∷ []))
+      ∙ sym (ap length (piece-more bits bit piece f));
 }
 
 -- of more bits too some were heard
-pub partly-longer : (start now : FolderState) (sender : Role) (bits more all : List Bool) → bits ++ more ≡ all → PartlyHeard start now sender bits → PartlyHeard start now sender all
+pub partly-longer : (start now : FolderState) (sender : Role) (bits more all : List Bool) → bits ++ more ≡ all
+    → PartlyHeard start now sender bits → PartlyHeard start now sender all
 partly-longer start now sender bits more all e h = record {
   heard = h.heard;
   rest = h.rest ++ more;
@@ -135,15 +151,19 @@ partly-longer start now sender bits more all e h = record {
 }
 
 -- a fault leaves the listener at some of more bits too
-pub left-longer : (start now : FolderState) (l : Listening) (bits more all : List Bool) → bits ++ more ≡ all → LeftAt start now l bits → LeftAt start now l all
+pub left-longer : (start now : FolderState) (l : Listening) (bits more all : List Bool) → bits ++ more ≡ all → LeftAt start now l bits
+    → LeftAt start now l all
 unfolding partly-longer
-left-longer start now l bits more all e h = record { part = partly-longer start now l.sender bits more all e h.part; stands = h.stands; count = h.count }
+left-longer start now l bits more all e h =
+    record { part = partly-longer start now l.sender bits more all e h.part; stands = h.stands; count = h.count }
 
 -- the low bits of an octet up to a place, and one more
-pub bit-more : (bits : List Bool) (n count i : ℕ) → i < count → (bits ++ take i (low_bits count n)) ++ nat_eq (bit_and (n / 2 ^ i) 1) 1 ∷ [] ≡ bits ++ take (i + 1) (low_bits count n)
+pub bit-more : (bits : List Bool) (n count i : ℕ) → i < count
+    → (bits ++ take i (low_bits count n)) ++ nat_eq (bit_and (n / 2 ^ i) 1) 1 ∷ [] ≡ bits ++ take (i + 1) (low_bits count n)
 bit-more bits n count i h =
     let within : i < length (low_bits count n) = omega (arith, h, length-low_bits count n) in
-    let bit : get_or (low_bits count n) i false ≡ nat_eq (bit_and (n / 2 ^ i) 1) 1 = get_or-low_bits count n i false h ∙ ap (λ x. nat_eq x 1) (sym (and_mask (n / 2 ^ i) 1)) in
+    let bit : get_or (low_bits count n) i false ≡ nat_eq (bit_and (n / 2 ^ i) 1) 1 =
+        get_or-low_bits count n i false h ∙ ap (λ x. nat_eq x 1) (sym (and_mask (n / 2 ^ i) 1)) in
     append_assoc bits (take i (low_bits count n)) (nat_eq (bit_and (n / 2 ^ i) 1) 1 ∷ [])
     ∙ ap (λ xs. bits ++ xs) (sym (take_more (low_bits count n) i false within ∙ ap (λ b. take i (low_bits count n) ++ b ∷ []) bit))
 
@@ -151,12 +171,14 @@ pub bits-left : (bits more : List Bool) (i : ℕ) → (bits ++ take i more) ++ d
 bits-left bits more i = append_assoc bits (take i more) (drop i more) ∙ ap (λ xs. bits ++ xs) (take-append-drop i more)
 
 -- the octets up to a place, and one more
-pub octet-more : (bits : List Bool) (octets : List ℕ) (i : ℕ) → i < length octets → (bits ++ bits_of (take i octets)) ++ octet_bits (get_or octets i 0) ≡ bits ++ bits_of (take (i + 1) octets)
+pub octet-more : (bits : List Bool) (octets : List ℕ) (i : ℕ) → i < length octets
+    → (bits ++ bits_of (take i octets)) ++ octet_bits (get_or octets i 0) ≡ bits ++ bits_of (take (i + 1) octets)
 octet-more bits octets i h =
     append_assoc bits (bits_of (take i octets)) (octet_bits (get_or octets i 0))
     ∙ ap (λ xs. bits ++ xs) (sym (bits_of-snoc (take i octets) (get_or octets i 0)) ∙ sym (ap bits_of (take_more octets i 0 h)))
 
-pub octets-left : (bits : List Bool) (octets : List ℕ) (i : ℕ) → (bits ++ bits_of (take i octets)) ++ bits_of (drop i octets) ≡ bits ++ bits_of octets
+pub octets-left : (bits : List Bool) (octets : List ℕ) (i : ℕ)
+    → (bits ++ bits_of (take i octets)) ++ bits_of (drop i octets) ≡ bits ++ bits_of octets
 octets-left bits octets i =
     append_assoc bits (bits_of (take i octets)) (bits_of (drop i octets))
     ∙ ap (λ xs. bits ++ xs) (sym (bits_of-append (take i octets) (drop i octets)) ∙ ap bits_of (take-append-drop i octets))
@@ -185,5 +207,8 @@ said-nothing f = go f.said
 pub said-after : (start old mid : FolderState) (lines : List ℕ) → OnlyReads old mid → Said start old lines → Said start mid lines
 said-after start old mid lines r said = r.said ∙ said
 
-pub heard-after : (start old mid : FolderState) (l : Listening) (bits : List Bool) → OnlyReads old mid → Heard start old l bits → Heard start mid l bits
-heard-after start old mid l bits reads h = record { stands = h.stands; lines = h.lines; are_lines = h.are_lines; said = said-after start old mid h.lines reads h.said; count = h.count }
+pub heard-after : (start old mid : FolderState) (l : Listening) (bits : List Bool) → OnlyReads old mid → Heard start old l bits
+    → Heard start mid l bits
+heard-after start old mid l bits reads h =
+    record { stands = h.stands; lines = h.lines; are_lines = h.are_lines; said = said-after start old mid h.lines reads h.said; count =
+    h.count }

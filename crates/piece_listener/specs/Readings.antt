@@ -59,4 +59,5 @@ reading_line readings.TooShort = codes "too short\n"
 -- the lines of these pieces, in order
 abbrev pub AreLines : Role → List Found → List ℕ → Type 0
 AreLines sender [] lines = lines ≡ []
-AreLines sender (found ∷ more) lines = (reading : Reading) × (rest : List ℕ) × Reads sender found reading × (lines ≡ reading_line reading ++ rest) × AreLines sender more rest
+AreLines sender (found ∷ more) lines =
+    (reading : Reading) × (rest : List ℕ) × Reads sender found reading × (lines ≡ reading_line reading ++ rest) × AreLines sender more rest

@@ -96,7 +96,8 @@ nearer : (label here : ℕ) (sample : Sample) → label < 4 → here < 4 → (la
     → far label sample < far here sample
 nearer label here sample in_label in_here differ near =
     let wide : 83886080 ≤ distance_of (point_of label) (point_of here) = points_lie_apart label here in_label in_here differ in
-    let both : distance_of (point_of label) (point_of here) ≤ 2 * distance_of (point_of label) sample + 2 * distance_of sample (point_of here) = near_is_near (point_of label) sample (point_of here) in
+    let both : distance_of (point_of label) (point_of here) ≤ 2 * distance_of (point_of label) sample + 2 * distance_of sample
+        (point_of here) = near_is_near (point_of label) sample (point_of here) in
     let swap : distance_of sample (point_of here) ≡ far here sample = distance_of-swap sample (point_of here) in
     omega (arith, wide, both, swap, near)
 
@@ -131,12 +132,14 @@ near-read before after sample label front low near released = elim (cases_eq lab
     leads = subst (λ l. Leads next_state s.survivor.sequence.code_sequence.from l s.end) c.parts s.survivor.sequence.code_sequence.leads
 
     in_here : c.here < 4
-    in_here = let parts = Leads-split next_state s.survivor.sequence.code_sequence.from c.earlier (c.here ∷ c.later) s.end leads in (bounded parts.0 c.here parts.2.0 parts.2.1).1
+    in_here = let parts = Leads-split next_state s.survivor.sequence.code_sequence.from c.earlier (c.here ∷ c.later) s.end leads in
+        (bounded parts.0 c.here parts.2.0 parts.2.1).1
 
     as_long : length other ≡ length samples
     as_long =
         let a : length other ≡ length c.earlier + suc (length c.later) = length-append c.earlier (label ∷ c.later) in
-        let b : length (c.earlier ++ c.here ∷ c.later) ≡ length c.earlier + suc (length c.later) = length-append c.earlier (c.here ∷ c.later) in
+        let b : length (c.earlier ++ c.here ∷ c.later) ≡ length c.earlier + suc (length c.later) =
+            length-append c.earlier (c.here ∷ c.later) in
         let d : length front ≡ length (c.earlier ++ c.here ∷ c.later) = ap length c.parts in
         omega (arith, a, b, d, long)
 
@@ -152,9 +155,12 @@ near-read before after sample label front low near released = elim (cases_eq lab
 
     beaten : (label ≡ c.here → ⊥) → ⊥
     beaten differ =
-        let least : cost far front samples ≤ cost far other samples = least_cost quarters samples front other (s.survivor.best other sequence) in
-        let own : cost far front samples ≡ cost far c.earlier before + cost far (c.here ∷ c.later) (sample ∷ after) = ap (λ l. cost far l samples) c.parts ∙ cost-append c.earlier (c.here ∷ c.later) before (sample ∷ after) c.long in
-        let others : cost far other samples ≡ cost far c.earlier before + cost far (label ∷ c.later) (sample ∷ after) = cost-append c.earlier (label ∷ c.later) before (sample ∷ after) c.long in
+        let least : cost far front samples ≤ cost far other samples =
+            least_cost quarters samples front other (s.survivor.best other sequence) in
+        let own : cost far front samples ≡ cost far c.earlier before + cost far (c.here ∷ c.later) (sample ∷ after) =
+            ap (λ l. cost far l samples) c.parts ∙ cost-append c.earlier (c.here ∷ c.later) before (sample ∷ after) c.long in
+        let others : cost far other samples ≡ cost far c.earlier before + cost far (label ∷ c.later) (sample ∷ after) =
+            cost-append c.earlier (label ∷ c.later) before (sample ∷ after) c.long in
         let a : cost far (c.here ∷ c.later) (sample ∷ after) ≡ far c.here sample + cost far c.later after = refl in
         let b : cost far (label ∷ c.later) (sample ∷ after) ≡ far label sample + cost far c.later after = refl in
         let less : far label sample < far c.here sample = nearer label c.here sample low in_here differ near in

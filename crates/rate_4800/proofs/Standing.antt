@@ -16,7 +16,8 @@ use Rattle.rate_4800.specs.Code.{point_of}
 use Rattle.rate_4800.specs.Demodulates.{Demodulates, DemodulatorStands}
 use Rattle.rate_4800.specs.Modulates.{Modulates, ModulatorStands}
 
-scrambled-as : (mode : Mode) (s : ModeScrambler) (input line : List Bool) → ScramblesAs mode s input line → Scrambles (tap_of mode) input line
+scrambled-as : (mode : Mode) (s : ModeScrambler) (input line : List Bool) → ScramblesAs mode s input line
+    → Scrambles (tap_of mode) input line
 scrambled-as Call (scramblers.Call s) input line h = h.scrambled
 scrambled-as Answer (scramblers.Answer s) input line h = h.scrambled
 scrambled-as Call (scramblers.Answer s) input line h = absurd h
@@ -30,7 +31,8 @@ descrambled-as Call (descramblers.Answer d) line output h = absurd h
 descrambled-as Answer (descramblers.Call d) line output h = absurd h
 
 -- a modulator's samples are those of its bits
-pub modulated : (mode : Mode) (m : Modulator) (bits : List Bool) (samples : List Sample) → ModulatorStands mode m bits samples → Modulates (tap_of mode) bits samples
+pub modulated : (mode : Mode) (m : Modulator) (bits : List Bool) (samples : List Sample) → ModulatorStands mode m bits samples
+    → Modulates (tap_of mode) bits samples
 modulated mode m bits samples h = record {
   line = h.line;
   turns = h.turns;

@@ -28,7 +28,8 @@ pub reaches : Reaches next_state 1 4 1
 reaches from to in_from in_to =
     let a : 0 ≡ from = omega arith in
     let b : 0 ≡ to = omega arith in
-    subst (λ s. (path : List ℕ) × (length path ≡ 1) × Leads next_state s path to) a (subst (λ s. (path : List ℕ) × (length path ≡ 1) × Leads next_state 0 path s) b (0 ∷ [], refl, (0, refl, refl)))
+    subst (λ s. (path : List ℕ) × (length path ≡ 1) × Leads next_state s path to) a
+        (subst (λ s. (path : List ℕ) × (length path ≡ 1) × Leads next_state 0 path s) b (0 ∷ [], refl, (0, refl, refl)))
 
 pub ways_within : (to place : ℕ) → to < 1 → place < 4 → (way_before to place < 1) × (way_subset to place < 4)
 ways_within to place in_states in_ways = (omega arith, in_ways)
@@ -52,14 +53,19 @@ apart_test : each_below 4 (λ a. each_below 4 (apart a)) ≡ true
 apart_test = refl
 
 pub points_lie_apart : (a b : ℕ) → a < 4 → b < 4 → (a ≡ b → ⊥) → 83886080 ≤ distance_of (point_of a) (point_of b)
-points_lie_apart a b in_a in_b differ = elim (or_cases (nat_eq a b) (nat_le 83886080 (distance_of (point_of a) (point_of b))) (at_each_pair 4 4 apart apart_test a b in_a in_b)) [
+points_lie_apart a b in_a in_b differ =
+    elim (or_cases (nat_eq a b) (nat_le 83886080 (distance_of (point_of a) (point_of b)))
+    (at_each_pair 4 4 apart apart_test a b in_a in_b)) [
   | inl same ↦ absurd (differ (eqb-true a b same))
   | inr far ↦ leb-true 83886080 (distance_of (point_of a) (point_of b)) far
 ]
 
 pub points_differ : PointsDiffer point_of 4
-points_differ a b in_a in_b e = elim (or_cases (nat_eq a b) (nat_le 83886080 (distance_of (point_of a) (point_of b))) (at_each_pair 4 4 apart apart_test a b in_a in_b)) [
+points_differ a b in_a in_b e =
+    elim (or_cases (nat_eq a b) (nat_le 83886080 (distance_of (point_of a) (point_of b)))
+    (at_each_pair 4 4 apart apart_test a b in_a in_b)) [
   | inl same ↦ eqb-true a b same
   | inr far ↦ let none : distance_of (point_of a) (point_of b) ≡ 0 = no_distance_from_equal (point_of a) (point_of b) e in
-      let least : 83886080 ≤ distance_of (point_of a) (point_of b) = leb-true 83886080 (distance_of (point_of a) (point_of b)) far in absurd (omega (none, least, arith))
+      let least : 83886080 ≤ distance_of (point_of a) (point_of b) = leb-true 83886080 (distance_of (point_of a) (point_of b)) far in
+          absurd (omega (none, least, arith))
 ]

@@ -21,7 +21,8 @@ AllAreReleased = (samples : List Sample) (front : List ℕ) → IsReleased quart
 
 -- A sample that is nearer than half the way to the point that was sent is read as that point's label, whatever the others are.
 abbrev pub NearOnesAreRead : Type 0
-NearOnesAreRead = (before after : List Sample) (sample : Sample) (label : ℕ) (front : List ℕ) → label < 4 → distance_of (point_of label) sample < 20971520
+NearOnesAreRead = (before after : List Sample) (sample : Sample) (label : ℕ) (front : List ℕ) → label < 4
+    → distance_of (point_of label) sample < 20971520
     → IsReleased quarters (before ++ sample ∷ after) front
     → (earlier : List ℕ) × (later : List ℕ) × (front ≡ earlier ++ label ∷ later) × (length earlier ≡ length before)
 

@@ -39,12 +39,16 @@ behind-more start now name rate mode content piece at count at_is long r = recor
 pub behind-kept : (start now later : FolderState) (name : List ℕ) (rate : Rate) (mode : Mode) (content : List ℕ) (at : ℕ)
     → ReadBehind start now name rate mode content at → GoesOn now later → KeepsName now later name
     → ReadBehind start later name rate mode content at
-behind-kept start now later name rate mode content at b on kept = record { at_is = b.at_is; read = ReadTo-kept start now later name RECORDING_LIMIT at (header_at rate mode ++ content) b.read on kept }
+behind-kept start now later name rate mode content at b on kept =
+    record { at_is = b.at_is; read = ReadTo-kept start now later name RECORDING_LIMIT at (header_at rate mode ++ content) b.read on kept }
 
 -- fewer octets than there was room for, or none: the recording is at its end
-pub at-end : (start now : FolderState) (name : List ℕ) (at count : ℕ) (octets piece : List ℕ) → ReadTo start now name RECORDING_LIMIT (at + count) (octets ++ piece) → count ≤ 4096 →
-    (count < 4096 → IsTrue (start.tells name) → octets ++ piece ≡ octets_at start name) → (count % 4 ≢ 0) ⊎ (count ≡ 0) → IsAtEnd start name (at + count)
-at-end start now name at count octets piece r few all end told = omega (arith, r.count, ap (λ (xs : List ℕ). length xs) (all (short end) told))
+pub at-end : (start now : FolderState) (name : List ℕ) (at count : ℕ) (octets piece : List ℕ)
+    → ReadTo start now name RECORDING_LIMIT (at + count) (octets ++ piece) → count ≤ 4096 →
+    (count < 4096 → IsTrue (start.tells name) → octets ++ piece ≡ octets_at start name) → (count % 4 ≢ 0) ⊎ (count ≡ 0)
+        → IsAtEnd start name (at + count)
+at-end start now name at count octets piece r few all end told =
+    omega (arith, r.count, ap (λ (xs : List ℕ). length xs) (all (short end) told))
   where
     short : (count % 4 ≢ 0) ⊎ (count ≡ 0) → count < 4096
     short (inl cut) = omega (arith, cut, few)
@@ -82,7 +86,8 @@ reads-first start now name rate mode content at b =
       rest = rest;
       reads = record {
         within = b.read.within;
-        read = λ told. sym (take-append-drop at octets) ∙ ap (λ (xs : List ℕ). xs ++ drop at octets) (sym (b.read.front told)) ∙ append_assoc (header_at rate mode) content (drop at octets)
+        read = λ told. sym (take-append-drop at octets) ∙ ap (λ (xs : List ℕ). xs ++ drop at octets) (sym (b.read.front told))
+            ∙ append_assoc (header_at rate mode) content (drop at octets)
             ∙ ap (λ (xs : List ℕ). header_at rate mode ++ (content ++ xs)) (sym (rest-told (start.tells name) (drop at octets) told));
       };
     }

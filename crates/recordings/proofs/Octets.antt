@@ -17,14 +17,16 @@ two-fours octet h =
     let j : octet / 16 / 2 / 2 / 2 % 2 ≡ octet / 2 / 2 / 2 / 2 / 2 / 2 / 2 % 2 = omega arith in
     rw (a, b, c, d, e, f, i, j) refl
 
-pub bits-more : (octets : List ℕ) (octet : ℕ) → octet < 256 → (bits_of octets ++ low_bits 4 (octet % 16)) ++ low_bits 4 (octet / 16) ≡ bits_of (octets ++ octet ∷ [])
+pub bits-more : (octets : List ℕ) (octet : ℕ) → octet < 256
+    → (bits_of octets ++ low_bits 4 (octet % 16)) ++ low_bits 4 (octet / 16) ≡ bits_of (octets ++ octet ∷ [])
 bits-more octets octet h =
     append_assoc (bits_of octets) (low_bits 4 (octet % 16)) (low_bits 4 (octet / 16))
     ∙ ap (λ bits. bits_of octets ++ bits) (two-fours octet h ∙ sym (append-nil (octet_bits octet)))
     ∙ sym (flat_map-append octet_bits octets (octet ∷ []))
 
 -- eight bits are four twos
-four-twos : (octet : ℕ) → octet < 256 → ((low_bits 2 (octet % 4) ++ low_bits 2 (octet / 4 % 4)) ++ low_bits 2 (octet / 16 % 4)) ++ low_bits 2 (octet / 64) ≡ octet_bits octet
+four-twos : (octet : ℕ) → octet < 256
+    → ((low_bits 2 (octet % 4) ++ low_bits 2 (octet / 4 % 4)) ++ low_bits 2 (octet / 16 % 4)) ++ low_bits 2 (octet / 64) ≡ octet_bits octet
 four-twos octet h =
     let a : octet % 4 % 2 ≡ octet % 2 = omega arith in
     let b : octet % 4 / 2 % 2 ≡ octet / 2 % 2 = omega arith in
@@ -37,7 +39,8 @@ four-twos octet h =
     rw (a, b, c, d, e, f, i, j) refl
 
 pub bits-by-twos : (octets : List ℕ) (octet : ℕ) → octet < 256
-    → (((bits_of octets ++ low_bits 2 (octet % 4)) ++ low_bits 2 (octet / 4 % 4)) ++ low_bits 2 (octet / 16 % 4)) ++ low_bits 2 (octet / 64) ≡ bits_of (octets ++ octet ∷ [])
+    → (((bits_of octets ++ low_bits 2 (octet % 4)) ++ low_bits 2 (octet / 4 % 4)) ++ low_bits 2 (octet / 16 % 4)) ++ low_bits 2
+        (octet / 64) ≡ bits_of (octets ++ octet ∷ [])
 bits-by-twos octets octet h =
     let a : List Bool = low_bits 2 (octet % 4) in
     let b : List Bool = low_bits 2 (octet / 4 % 4) in
@@ -50,10 +53,12 @@ bits-by-twos octets octet h =
     ∙ sym (flat_map-append octet_bits octets (octet ∷ []))
 
 -- one sample more
-pub sample-more : {X : Type 0} (octets_of : X → List ℕ) (samples : List X) (x : X) (recorded one : List ℕ) → recorded ≡ flat_map octets_of samples → one ≡ octets_of x →
+pub sample-more : {X : Type 0} (octets_of : X → List ℕ) (samples : List X) (x : X) (recorded one : List ℕ)
+    → recorded ≡ flat_map octets_of samples → one ≡ octets_of x →
     recorded ++ one ≡ flat_map octets_of (samples ++ x ∷ [])
 sample-more octets_of samples x recorded one r e =
-    (λ i. r i ++ e i) ∙ ap (λ ys. flat_map octets_of samples ++ ys) (sym (append-nil (octets_of x))) ∙ sym (flat_map-append octets_of samples (x ∷ []))
+    (λ i. r i ++ e i) ∙ ap (λ ys. flat_map octets_of samples ++ ys) (sym (append-nil (octets_of x)))
+        ∙ sym (flat_map-append octets_of samples (x ∷ []))
 
 pub count-more : {X : Type 0} (samples : List X) (x : X) → length (samples ++ x ∷ []) ≡ length samples + 1
 count-more samples x = length-append samples (x ∷ [])

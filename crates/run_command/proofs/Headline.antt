@@ -34,21 +34,26 @@ use Rattle.run_command.specs.Headline.{KeptOrPrefix, HoldsWhole, Ran, RanBy, Hea
 use Rattle.run_command.proofs.Prefixes.{RunLaws, BothPrefix, may-run, both-of}
 use Rattle.run_command.proofs.ReadingOff.{run-read}
 
-prefix-later : (old before new : FolderState) (got sent : List ℕ) → GoesOn old before → KeepsName before new got → KeptOrPrefix old before got sent → KeptOrPrefix old new got sent
+prefix-later : (old before new : FolderState) (got sent : List ℕ) → GoesOn old before → KeepsName before new got
+    → KeptOrPrefix old before got sent → KeptOrPrefix old new got sent
 prefix-later old before new got sent g k (inl h) = inl (KeepsName-trans old before new got g h k)
 prefix-later old before new got sent g k (inr h) = inr (λ ts tg. let p = h ts tg in (p.0, k (told_later g got tg) ∙ p.1, p.2))
 
 -- a run that is done
-whole-of : RunLaws → (old before new : FolderState) (n : RunNames) (turn : ℕ) → GoesOn old before → KeepsAll before new → RanTo LIMITS old before n (runs.IsDone turn)
+whole-of : RunLaws → (old before new : FolderState) (n : RunNames) (turn : ℕ) → GoesOn old before → KeepsAll before new
+    → RanTo LIMITS old before n (runs.IsDone turn)
     → HoldsWhole old new n.got_o n.answ × HoldsWhole old new n.got_a n.orig
 whole-of laws old before new n turn g kept e =
-    let w = laws.whole (channel_of e.script) (link_of e.script e.files) turn e.left (may-run laws e.script e.files e.takes.limits) e.run in (
-      (λ ts tg. kept n.got_o (told_later g n.got_o tg) ∙ e.holds.got_o (told_later g n.got_o tg) ∙ ap Some (w Originator ∙ e.takes.answ ts)),
+    let w = laws.whole (channel_of e.script) (link_of e.script e.files) turn e.left (may-run laws e.script e.files e.takes.limits) e.run in
+        (
+      (λ ts tg. kept n.got_o (told_later g n.got_o tg) ∙ e.holds.got_o (told_later g n.got_o tg)
+          ∙ ap Some (w Originator ∙ e.takes.answ ts)),
       (λ ts tg. kept n.got_a (told_later g n.got_a tg) ∙ e.holds.got_a (told_later g n.got_a tg) ∙ ap Some (w Answerer ∙ e.takes.orig ts)),
     )
 
 -- a run that ended by itself
-ran-of : RunLaws → (old before new : FolderState) (n : RunNames) (end : RunEnd) → OnlyOutputs before new [] → RanTo LIMITS old before n end → Ran old new n end
+ran-of : RunLaws → (old before new : FolderState) (n : RunNames) (end : RunEnd) → OnlyOutputs before new [] → RanTo LIMITS old before n end
+    → Ran old new n end
 ran-of laws old before new n end last e =
     let c = channel_of e.script in
     let link = link_of e.script e.files in
@@ -63,8 +68,10 @@ ran-of laws old before new n end last e =
       heard_is = refl;
       read_off = run-read laws.least c link e.run.turns e.run.ends end e.left e.run.run e.run.ended;
       got = record {
-        got_o = Holds-kept before new n.got_o (taken_octets (agreed_srej link) (delay_of e.script) Originator heard) last.goes_on (subst (Holds before n.got_o) (passed Originator) e.holds.got_o) (last.names n.got_o tt);
-        got_a = Holds-kept before new n.got_a (taken_octets (agreed_srej link) (delay_of e.script) Answerer heard) last.goes_on (subst (Holds before n.got_a) (passed Answerer) e.holds.got_a) (last.names n.got_a tt);
+        got_o = Holds-kept before new n.got_o (taken_octets (agreed_srej link) (delay_of e.script) Originator heard) last.goes_on
+            (subst (Holds before n.got_o) (passed Originator) e.holds.got_o) (last.names n.got_o tt);
+        got_a = Holds-kept before new n.got_a (taken_octets (agreed_srej link) (delay_of e.script) Answerer heard) last.goes_on
+            (subst (Holds before n.got_a) (passed Answerer) e.holds.got_a) (last.names n.got_a tt);
       };
       trace = Holds-kept before new n.trace e.left.trace last.goes_on e.holds.trace (last.names n.trace tt);
       few = laws.soon c e.files e.run.turns e.run.ends e.takes.limits e.run.run;
@@ -95,31 +102,47 @@ own-end (Err (stops.Say fault)) s e f = absurd (no-fault WriteFault fault refl (
 own-end (Err stops.NoMemory) s e f = absurd (false≢true (ap is_run_end f ∙ e))
 
 -- the answer is that of the run's end
-own-ends : (words : List (List ℕ)) (old new : FolderState) (n : RunNames) (s t : Status) (a : Answers (run_job n) words old new s) → is_run_end t ≡ true → s ≡ t → EndsBy LIMITS old a.before n (stops.Own t)
+own-ends : (words : List (List ℕ)) (old new : FolderState) (n : RunNames) (s t : Status) (a : Answers (run_job n) words old new s)
+    → is_run_end t ≡ true → s ≡ t → EndsBy LIMITS old a.before n (stops.Own t)
 own-ends words old new n s t a e f =
     let is = own-end a.end t e (last-plain done_line words a.before new a.end s t a.says f (plain-end t e)) in
     subst (ends.Ends LIMITS old a.before n) is a.ends.0
 
-not-refused : {P : Type 0} → (old before : FolderState) (n : RunNames) (answer : Status) → (RefusesOwn LIMITS old n answer → ⊥) → (KeepsAll old before × RefusesOwn LIMITS old n answer) ⊎ P → P
+not-refused : {P : Type 0} → (old before : FolderState) (n : RunNames) (answer : Status) → (RefusesOwn LIMITS old n answer → ⊥)
+    → (KeepsAll old before × RefusesOwn LIMITS old n answer) ⊎ P → P
 not-refused old before n answer never (inl r) = absurd (never r.1)
 not-refused old before n answer never (inr p) = p
 
-ran-by : RunLaws → (words : List (List ℕ)) (old new : FolderState) (n : RunNames) (s t : Status) (a : Answers (run_job n) words old new s) → OnlyOutputs a.before new [] → s ≡ t → RanBy old new n t
-ran-by laws words old new n s Done a last e = let d = done-of (run_job n) words old new s a e in (d.done, d.said ∙ ap (option_map (λ x. x ++ done_line d.done)) d.ends.1, ran-of laws old a.before new n (runs.IsDone d.done) last d.ends.0)
-ran-by laws words old new n s (LinkLost role segment turn) a last e = ran-of laws old a.before new n _ last (not-refused old a.before n (LinkLost role segment turn) (λ x. x) (own-ends words old new n s (LinkLost role segment turn) a refl e))
-ran-by laws words old new n s (NotDetected turn) a last e = ran-of laws old a.before new n _ last (not-refused old a.before n (NotDetected turn) (λ x. x) (own-ends words old new n s (NotDetected turn) a refl e))
-ran-by laws words old new n s (LineLost role symbol) a last e = ran-of laws old a.before new n _ last (not-refused old a.before n (LineLost role symbol) (λ x. x) (own-ends words old new n s (LineLost role symbol) a refl e))
-ran-by laws words old new n s (ChanceMatch role turn) a last e = ran-of laws old a.before new n _ last (not-refused old a.before n (ChanceMatch role turn) (λ x. x) (own-ends words old new n s (ChanceMatch role turn) a refl e))
+ran-by : RunLaws → (words : List (List ℕ)) (old new : FolderState) (n : RunNames) (s t : Status) (a : Answers (run_job n) words old new s)
+    → OnlyOutputs a.before new [] → s ≡ t → RanBy old new n t
+ran-by laws words old new n s Done a last e = let d = done-of (run_job n) words old new s a e in
+    (d.done, d.said ∙ ap (option_map (λ x. x ++ done_line d.done)) d.ends.1,
+    ran-of laws old a.before new n (runs.IsDone d.done) last d.ends.0)
+ran-by laws words old new n s (LinkLost role segment turn) a last e =
+    ran-of laws old a.before new n _ last
+    (not-refused old a.before n (LinkLost role segment turn) (λ x. x) (own-ends words old new n s (LinkLost role segment turn) a refl e))
+ran-by laws words old new n s (NotDetected turn) a last e =
+    ran-of laws old a.before new n _ last
+    (not-refused old a.before n (NotDetected turn) (λ x. x) (own-ends words old new n s (NotDetected turn) a refl e))
+ran-by laws words old new n s (LineLost role symbol) a last e =
+    ran-of laws old a.before new n _ last
+    (not-refused old a.before n (LineLost role symbol) (λ x. x) (own-ends words old new n s (LineLost role symbol) a refl e))
+ran-by laws words old new n s (ChanceMatch role turn) a last e =
+    ran-of laws old a.before new n _ last
+    (not-refused old a.before n (ChanceMatch role turn) (λ x. x) (own-ends words old new n s (ChanceMatch role turn) a refl e))
 ran-by laws words old new n s t a last e = tt
 
 -- the headline holds of every answer
-pub headline-of : RunLaws → (words : List (List ℕ)) (old new : FolderState) (n : RunNames) (s : Status) → Answers (run_job n) words old new s → Headline old new n s
+pub headline-of : RunLaws → (words : List (List ℕ)) (old new : FolderState) (n : RunNames) (s : Status)
+    → Answers (run_job n) words old new s → Headline old new n s
 headline-of laws words old new n s a = record {
   shared = shared-of (run_job n) words old new s a (λ e. e.0.0);
   got_o = prefix-later old a.before new n.got_o n.answ a.only.goes_on (kept n.got_o) both.got_o;
   got_a = prefix-later old a.before new n.got_a n.orig a.only.goes_on (kept n.got_a) both.got_a;
-  whole_o = λ e. let d = done-of (run_job n) words old new s a e in (whole-of laws old a.before new n d.done a.only.goes_on kept d.ends.0).0;
-  whole_a = λ e. let d = done-of (run_job n) words old new s a e in (whole-of laws old a.before new n d.done a.only.goes_on kept d.ends.0).1;
+  whole_o = λ e. let d = done-of (run_job n) words old new s a e in
+      (whole-of laws old a.before new n d.done a.only.goes_on kept d.ends.0).0;
+  whole_a = λ e. let d = done-of (run_job n) words old new s a e in
+      (whole-of laws old a.before new n d.done a.only.goes_on kept d.ends.0).1;
   ran = ran-by laws words old new n s s a last refl;
 }
   where

@@ -49,28 +49,37 @@ pub record RunLaws : Type 0 where
   pub starved : LostLinksWereStarved
   pub least : OfEachCode ReleasedIsLeast
 
-pub may-run : RunLaws → (script : ScriptValue) (files : Both (List ℕ)) → IsInLimits script → MayRun (channel_of script) (link_of script files)
+pub may-run : RunLaws → (script : ScriptValue) (files : Both (List ℕ)) → IsInLimits script
+    → MayRun (channel_of script) (link_of script files)
 may-run laws script files limits = record { may_play = laws.play script files limits; delays = laws.delays script limits }
 
-runs-over : RunLaws → (script : ScriptValue) (files : Both (List ℕ)) (ts : List Turn) (ends : Ends) → IsInLimits script → LineRun (channel_of script) (link_of script files) ts ends
+runs-over : RunLaws → (script : ScriptValue) (files : Both (List ℕ)) (ts : List Turn) (ends : Ends) → IsInLimits script
+    → LineRun (channel_of script) (link_of script files) ts ends
     → RunsOver (link_of script files) (delay_of script) ts ends
-runs-over laws script files ts ends limits r = record { may_play = laws.play script files limits; delays = laws.delays script limits; carried = laws.carried (channel_of script) ts r.heard; run = r.run }
+runs-over laws script files ts ends limits r =
+    record { may_play = laws.play script files limits; delays = laws.delays script limits; carried =
+    laws.carried (channel_of script) ts r.heard; run = r.run }
 
 -- what a received file holds begins the file that was read
-prefix-of : (old before : FolderState) (got sent file taken : List ℕ) → GoesOn old before → (IsTrue (old.tells sent) → file ≡ octets_at old sent) → Holds before got taken → IsPrefixOf taken file → KeptOrPrefix old before got sent
+prefix-of : (old before : FolderState) (got sent file taken : List ℕ) → GoesOn old before
+    → (IsTrue (old.tells sent) → file ≡ octets_at old sent) → Holds before got taken → IsPrefixOf taken file
+    → KeptOrPrefix old before got sent
 prefix-of old before got sent file taken g reads holds p = inr (λ ts tg. (taken, holds (told_later g got tg), (p.0, p.1 ∙ reads ts)))
 
 -- and so it does with a part of what comes behind it
-part-of : (old before : FolderState) (got sent file taken more : List ℕ) → GoesOn old before → (IsTrue (old.tells sent) → file ≡ octets_at old sent) → HoldsPart before got taken more → IsPrefixOf (taken ++ more) file
+part-of : (old before : FolderState) (got sent file taken more : List ℕ) → GoesOn old before
+    → (IsTrue (old.tells sent) → file ≡ octets_at old sent) → HoldsPart before got taken more → IsPrefixOf (taken ++ more) file
     → KeptOrPrefix old before got sent
 part-of old before got sent file taken more g reads holds p =
     inr (λ ts tg. let h = holds (told_later g got tg) in
     (taken ++ h.0, h.2, (h.1.0 ++ p.0, regroup h.0 h.1.0 h.1.1 ∙ p.1 ∙ reads ts)))
   where
     regroup : (part rest : List ℕ) → part ++ rest ≡ more → (taken ++ part) ++ (rest ++ p.0) ≡ (taken ++ more) ++ p.0
-    regroup part rest e = sym (append_assoc (taken ++ part) rest p.0) ∙ ap (λ x. x ++ p.0) (append_assoc taken part rest ∙ ap (λ x. taken ++ x) e)
+    regroup part rest e = sym (append_assoc (taken ++ part) rest p.0)
+        ∙ ap (λ x. x ++ p.0) (append_assoc taken part rest ∙ ap (λ x. taken ++ x) e)
 
-empty-of : (old before : FolderState) (got sent : List ℕ) → GoesOn old before → KeptOrEmpty old before got → KeptOrPrefix old before got sent
+empty-of : (old before : FolderState) (got sent : List ℕ) → GoesOn old before → KeptOrEmpty old before got
+    → KeptOrPrefix old before got sent
 empty-of old before got sent g (inl k) = inl k
 empty-of old before got sent g (inr h) = inr (λ ts tg. ([], h (told_later g got tg), (octets_at old sent, refl)))
 
@@ -80,23 +89,28 @@ pub record BothPrefix (old before : FolderState) (n : RunNames) : Type 0 where
   pub got_a : KeptOrPrefix old before n.got_a n.orig
 
 -- the run ended by itself
-both-ran : RunLaws → (old before : FolderState) (n : RunNames) (end : RunEnd) → GoesOn old before → RanTo LIMITS old before n end → BothPrefix old before n
+both-ran : RunLaws → (old before : FolderState) (n : RunNames) (end : RunEnd) → GoesOn old before → RanTo LIMITS old before n end
+    → BothPrefix old before n
 both-ran laws old before n end g e =
     let c = channel_of e.script in
     let link = link_of e.script e.files in
     let may = may-run laws e.script e.files e.takes.limits in record {
-      got_o = prefix-of old before n.got_o n.answ e.files.answ e.left.got.orig g e.takes.answ e.holds.got_o (laws.prefixes c link end e.left may e.run Originator);
-      got_a = prefix-of old before n.got_a n.orig e.files.orig e.left.got.answ g e.takes.orig e.holds.got_a (laws.prefixes c link end e.left may e.run Answerer);
+      got_o = prefix-of old before n.got_o n.answ e.files.answ e.left.got.orig g e.takes.answ e.holds.got_o
+          (laws.prefixes c link end e.left may e.run Originator);
+      got_a = prefix-of old before n.got_a n.orig e.files.orig e.left.got.answ g e.takes.orig e.holds.got_a
+          (laws.prefixes c link end e.left may e.run Answerer);
     }
 
-hears-of : (link : Link) (ts : List Turn) (ends : Ends) (t : Turn) (mid : Ends) (o : Outcome) → TurnIs link ts ends t mid o → Hears (length ts) ends t mid
+hears-of : (link : Link) (ts : List Turn) (ends : Ends) (t : Turn) (mid : Ends) (o : Outcome) → TurnIs link ts ends t mid o
+    → Hears (length ts) ends t mid
 hears-of link ts ends t mid Going g = subst (Hears (length ts) ends t) g.2 g.1.hearing
 hears-of link ts ends t mid Done l = l.hearing
 hears-of link ts ends t mid (Broken role fault) b = b.hearing
 
 -- what is left of some turns, and what the next one adds
 stopped-prefix : RunLaws → (script : ScriptValue) (files : Both (List ℕ)) (f : FolderState) (n : RunNames) → IsInLimits script
-    → (s : StopsAfter (channel_of script) (link_of script files) f (names_written n)) → (role : Role) → IsPrefixOf (of role s.left.got ++ of role s.more.got) (of (other role) (link_of script files)).user.file
+    → (s : StopsAfter (channel_of script) (link_of script files) f (names_written n)) → (role : Role)
+        → IsPrefixOf (of role s.left.got ++ of role s.more.got) (of (other role) (link_of script files)).user.file
 stopped-prefix laws script files f n limits s role = by s.adds
   where
     link : Link
@@ -105,41 +119,55 @@ stopped-prefix laws script files f n limits s role = by s.adds
     over : RunsOver link (delay_of script) s.turns s.ends
     over = runs-over laws script files s.turns s.ends limits s.run
 
-    by : AddsTurn (channel_of script) link s.turns s.ends s.more ⊎ AddsChance (channel_of script) s.turns s.ends s.more → IsPrefixOf (of role s.left.got ++ of role s.more.got) (of (other role) link).user.file
+    by : AddsTurn (channel_of script) link s.turns s.ends s.more ⊎ AddsChance (channel_of script) s.turns s.ends s.more
+        → IsPrefixOf (of role s.left.got ++ of role s.more.got) (of (other role) link).user.file
     by (inl a) =
         let hears = hears-of link s.turns s.ends a.turn a.mid a.outcome a.is in
-        let whole : HoldPrefixes link a.mid = laws.hears link (delay_of script) s.turns s.ends a.turn a.mid over (laws.one (channel_of script) s.turns a.turn a.heard) hears in
-        let all : of role s.left.got ++ of role s.more.got ≡ concat (of role a.mid).incoming.taken = ap (λ x. x ++ of role s.more.got) (s.leaves.got_is role) ∙ ap (λ x. concat (of role s.ends).incoming.taken ++ x) (a.got_is role)
-        ∙ sym (concat-append (of role s.ends).incoming.taken (deliveries (of role a.mid))) ∙ ap concat (sym (laws.delivers link s.turns s.ends a.turn a.mid s.run.run hears role)) in
+        let whole : HoldPrefixes link a.mid =
+            laws.hears link (delay_of script) s.turns s.ends a.turn a.mid over
+            (laws.one (channel_of script) s.turns a.turn a.heard) hears in
+        let all : of role s.left.got ++ of role s.more.got ≡ concat (of role a.mid).incoming.taken =
+            ap (λ x. x ++ of role s.more.got) (s.leaves.got_is role) ∙ ap (λ x. concat (of role s.ends).incoming.taken ++ x) (a.got_is role)
+        ∙ sym (concat-append (of role s.ends).incoming.taken (deliveries (of role a.mid)))
+            ∙ ap concat (sym (laws.delivers link s.turns s.ends a.turn a.mid s.run.run hears role)) in
         subst (λ x. IsPrefixOf x (of (other role) link).user.file) (sym all) (whole role)
     by (inr a) =
         let whole : HoldPrefixes link s.ends = laws.takes link (delay_of script) s.turns s.ends over in
-        let all : of role s.left.got ++ of role s.more.got ≡ concat (of role s.ends).incoming.taken = ap (λ x. of role s.left.got ++ x) (a.got_is role) ∙ append-nil (of role s.left.got) ∙ s.leaves.got_is role in
+        let all : of role s.left.got ++ of role s.more.got ≡ concat (of role s.ends).incoming.taken =
+            ap (λ x. of role s.left.got ++ x) (a.got_is role) ∙ append-nil (of role s.left.got) ∙ s.leaves.got_is role in
         subst (λ x. IsPrefixOf x (of (other role) link).user.file) (sym all) (whole role)
 
-both-stopped : RunLaws → (old before : FolderState) (n : RunNames) → GoesOn old before → StopsInTurn LIMITS old before n → BothPrefix old before n
+both-stopped : RunLaws → (old before : FolderState) (n : RunNames) → GoesOn old before → StopsInTurn LIMITS old before n
+    → BothPrefix old before n
 both-stopped laws old before n g e =
     let s = e.stops in record {
-      got_o = part-of old before n.got_o n.answ e.files.answ s.left.got.orig s.more.got.orig g e.takes.answ s.holds.got_o (stopped-prefix laws e.script e.files before n e.takes.limits s Originator);
-      got_a = part-of old before n.got_a n.orig e.files.orig s.left.got.answ s.more.got.answ g e.takes.orig s.holds.got_a (stopped-prefix laws e.script e.files before n e.takes.limits s Answerer);
+      got_o = part-of old before n.got_o n.answ e.files.answ s.left.got.orig s.more.got.orig g e.takes.answ s.holds.got_o
+          (stopped-prefix laws e.script e.files before n e.takes.limits s Originator);
+      got_a = part-of old before n.got_a n.orig e.files.orig s.left.got.answ s.more.got.answ g e.takes.orig s.holds.got_a
+          (stopped-prefix laws e.script e.files before n e.takes.limits s Answerer);
     }
 
-both-creating : (old before : FolderState) (n : RunNames) → GoesOn old before → CreatesPart old before (outputs_of n) → BothPrefix old before n
+both-creating : (old before : FolderState) (n : RunNames) → GoesOn old before → CreatesPart old before (outputs_of n)
+    → BothPrefix old before n
 both-creating old before n g (inl (o, (a, rest))) = record { got_o = empty-of old before n.got_o n.answ g o; got_a = inl a }
-both-creating old before n g (inr (o, inl (a, rest))) = record { got_o = empty-of old before n.got_o n.answ g (inr o); got_a = empty-of old before n.got_a n.orig g a }
-both-creating old before n g (inr (o, inr (a, rest))) = record { got_o = empty-of old before n.got_o n.answ g (inr o); got_a = empty-of old before n.got_a n.orig g (inr a) }
+both-creating old before n g (inr (o, inl (a, rest))) =
+    record { got_o = empty-of old before n.got_o n.answ g (inr o); got_a = empty-of old before n.got_a n.orig g a }
+both-creating old before n g (inr (o, inr (a, rest))) =
+    record { got_o = empty-of old before n.got_o n.answ g (inr o); got_a = empty-of old before n.got_a n.orig g (inr a) }
 
 both-kept : (old before : FolderState) (n : RunNames) → KeepsAll old before → BothPrefix old before n
 both-kept old before n kept = record { got_o = inl (kept n.got_o); got_a = inl (kept n.got_a) }
 
-both-own : RunLaws → (old before : FolderState) (n : RunNames) (answer : Status) → GoesOn old before → RanBy LIMITS old before n answer → BothPrefix old before n
+both-own : RunLaws → (old before : FolderState) (n : RunNames) (answer : Status) → GoesOn old before → RanBy LIMITS old before n answer
+    → BothPrefix old before n
 both-own laws old before n (LinkLost role segment turn) g e = both-ran laws old before n _ g e
 both-own laws old before n (NotDetected turn) g e = both-ran laws old before n _ g e
 both-own laws old before n (LineLost role symbol) g e = both-ran laws old before n _ g e
 both-own laws old before n (ChanceMatch role turn) g e = both-ran laws old before n _ g e
 both-own laws old before n answer g e = absurd e
 
-both-by : RunLaws → (old before : FolderState) (n : RunNames) (stop : Stop) → GoesOn old before → EndsBy LIMITS old before n stop → BothPrefix old before n
+both-by : RunLaws → (old before : FolderState) (n : RunNames) (stop : Stop) → GoesOn old before → EndsBy LIMITS old before n stop
+    → BothPrefix old before n
 both-by laws old before n (stops.Own answer) g (inl refused) = both-kept old before n refused.0
 both-by laws old before n (stops.Own answer) g (inr e) = both-own laws old before n answer g e
 both-by laws old before n (stops.Read fault) g (inl refused) = both-kept old before n refused.0
@@ -149,6 +177,7 @@ both-by laws old before n (stops.Write fault) g (inl c) = both-creating old befo
 both-by laws old before n (stops.Write fault) g (inr e) = both-stopped laws old before n g e
 both-by laws old before n (stops.Say fault) g never = absurd never
 
-pub both-of : RunLaws → (old before : FolderState) (n : RunNames) (end : Result ℕ Stop) → GoesOn old before → EndsSo LIMITS old before n end → BothPrefix old before n
+pub both-of : RunLaws → (old before : FolderState) (n : RunNames) (end : Result ℕ Stop) → GoesOn old before → EndsSo LIMITS old before n end
+    → BothPrefix old before n
 both-of laws old before n (Ok turn) g e = both-ran laws old before n _ g e
 both-of laws old before n (Err stop) g e = both-by laws old before n stop g e

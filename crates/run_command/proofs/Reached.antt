@@ -71,26 +71,33 @@ abbrev pub files_at : FolderState → Written → Both (List ℕ)
 files_at f n = record { orig = file_at f n.orig file_limit; answ = file_at f n.answ file_limit }
 
 pub knows-told : (f : FolderState) (n : Written) → KnowsFiles f n (files_at f n)
-knows-told f n = record { within = record { orig = few (octets_at f n.orig); answ = few (octets_at f n.answ) }; orig = λ told. refl; answ = λ told. refl }
+knows-told f n = record { within = record { orig = few (octets_at f n.orig); answ = few (octets_at f n.answ) }; orig = λ told. refl; answ =
+    λ told. refl }
   where
     few : (octets : List ℕ) → length (take file_limit octets) ≤ file_limit
     few octets = omega (arith, length-take file_limit octets)
 
 -- what is known stays so where the inputs are kept
-pub knows-later : (a b : FolderState) (n : Written) (files : Both (List ℕ)) → AreApart n → OnlyOutputs a b n → KnowsFiles a n files → KnowsFiles b n files
+pub knows-later : (a b : FolderState) (n : Written) (files : Both (List ℕ)) → AreApart n → OnlyOutputs a b n → KnowsFiles a n files
+    → KnowsFiles b n files
 knows-later a b n files apart only k = record {
   within = k.within;
   orig = λ told.
-      k.orig (earlier n.orig told) ∙ ap (take file_limit) (sym (octets-kept a b n.orig (only.names n.orig (λ e. apart.got_o_orig (sym e)) (λ e. apart.got_a_orig (sym e)) (λ e. apart.trace_orig (sym e))) (earlier n.orig told)));
+      k.orig (earlier n.orig told) ∙ ap (take file_limit)
+          (sym (octets-kept a b n.orig (only.names n.orig (λ e. apart.got_o_orig (sym e)) (λ e. apart.got_a_orig (sym e))
+          (λ e. apart.trace_orig (sym e))) (earlier n.orig told)));
   answ = λ told.
-      k.answ (earlier n.answ told) ∙ ap (take file_limit) (sym (octets-kept a b n.answ (only.names n.answ (λ e. apart.got_o_answ (sym e)) (λ e. apart.got_a_answ (sym e)) (λ e. apart.trace_answ (sym e))) (earlier n.answ told)));
+      k.answ (earlier n.answ told) ∙ ap (take file_limit)
+          (sym (octets-kept a b n.answ (only.names n.answ (λ e. apart.got_o_answ (sym e)) (λ e. apart.got_a_answ (sym e))
+          (λ e. apart.trace_answ (sym e))) (earlier n.answ told)));
 }
   where
     earlier : (name : List ℕ) → IsTrue (b.tells name) → IsTrue (a.tells name)
     earlier name told = subst IsTrue (only.goes_on.tells name) told
 
 -- before the first turn
-pub reached-start : (w : World) (n : Written) (s : FolderState) → ((files : Both (List ℕ)) → WorldAfter w files [] (start (link_of (script_of w) files)))
+pub reached-start : (w : World) (n : Written) (s : FolderState)
+    → ((files : Both (List ℕ)) → WorldAfter w files [] (start (link_of (script_of w) files)))
     → Holds s n.got_o [] → Holds s n.got_a [] → Holds s n.trace [] → Reached w (script_of w) n s s
 reached-start w n s first o a t = record {
   script_is = refl;
@@ -105,31 +112,42 @@ reached-start w n s first o a t = record {
 }
 
 -- what a received file holds once its end has heard
-held-more : (now next : FolderState) (name : List ℕ) (taken more all : List (List ℕ)) → GoesOn now next → Holds now name (concat taken) → Adds now next name (concat more) → all ≡ taken ++ more → Holds next name (concat all)
+held-more : (now next : FolderState) (name : List ℕ) (taken more all : List (List ℕ)) → GoesOn now next → Holds now name (concat taken)
+    → Adds now next name (concat more) → all ≡ taken ++ more → Holds next name (concat all)
 held-more now next name taken more all on holds adds e =
-    subst (Holds next name) (sym (concat-append taken more) ∙ ap concat (sym e)) (Holds-add now next name (concat taken) (concat more) on holds adds)
+    subst (Holds next name) (sym (concat-append taken more) ∙ ap concat (sym e))
+        (Holds-add now next name (concat taken) (concat more) on holds adds)
 
 -- a turn is heard, whatever it comes to
-hears-of : (link : Link) (ts : List Turn) (ends : Ends) (t : Turn) (mid : Ends) (o : Outcome) → TurnIs link ts ends t mid o → Hears (length ts) ends t mid
+hears-of : (link : Link) (ts : List Turn) (ends : Ends) (t : Turn) (mid : Ends) (o : Outcome) → TurnIs link ts ends t mid o
+    → Hears (length ts) ends t mid
 hears-of link ts ends t mid Going g = subst (Hears (length ts) ends t) g.2 g.1.hearing
 hears-of link ts ends t mid Done l = l.hearing
 hears-of link ts ends t mid (Broken role fault) b = b.hearing
 
 -- the outputs after a turn that is written
-pub held-turn : HearingsDeliver → (link : Link) (ts : List Turn) (ends : Ends) (t : Turn) (mid : Ends) (now next : FolderState) (n : Written) → RunOf link ts ends → Hears (length ts) ends t mid
-    → GoesOn now next → HoldLeft now n (left_of ends (trace_text ts)) → WritesTurn now next n mid (turn_text (length ts) t) → HoldLeft next n (left_of mid (trace_text (t ∷ ts)))
+pub held-turn : HearingsDeliver
+    → (link : Link) (ts : List Turn) (ends : Ends) (t : Turn) (mid : Ends) (now next : FolderState) (n : Written) → RunOf link ts ends
+    → Hears (length ts) ends t mid
+    → GoesOn now next → HoldLeft now n (left_of ends (trace_text ts)) → WritesTurn now next n mid (turn_text (length ts) t)
+        → HoldLeft next n (left_of mid (trace_text (t ∷ ts)))
 held-turn delivers link ts ends t mid now next n run hears on h w = record {
-  got_o = held-more now next n.got_o ends.orig.incoming.taken (deliveries mid.orig) mid.orig.incoming.taken on h.got_o w.got_o (delivers link ts ends t mid run hears Originator);
-  got_a = held-more now next n.got_a ends.answ.incoming.taken (deliveries mid.answ) mid.answ.incoming.taken on h.got_a w.got_a (delivers link ts ends t mid run hears Answerer);
+  got_o = held-more now next n.got_o ends.orig.incoming.taken (deliveries mid.orig) mid.orig.incoming.taken on h.got_o w.got_o
+      (delivers link ts ends t mid run hears Originator);
+  got_a = held-more now next n.got_a ends.answ.incoming.taken (deliveries mid.answ) mid.answ.incoming.taken on h.got_a w.got_a
+      (delivers link ts ends t mid run hears Answerer);
   trace = Holds-more now next n.trace (trace_text ts) (turn_text (length ts) t) on h.trace w.trace;
 }
 
 -- the run goes on
-pub reached-going : HearingsDeliver → SpeakingTakesNothing → (w w' : World) (script : ScriptValue) (n : Written) (old now next : FolderState) (r : Reached w script n old now)
-    → script_of w' ≡ script_of w → GoesOnBy w' now next n r.files r.turns r.ends → OnlyOutputs now next n → CountsStand now next → Reached w' script n old next
+pub reached-going : HearingsDeliver → SpeakingTakesNothing
+    → (w w' : World) (script : ScriptValue) (n : Written) (old now next : FolderState) (r : Reached w script n old now)
+    → script_of w' ≡ script_of w → GoesOnBy w' now next n r.files r.turns r.ends → OnlyOutputs now next n → CountsStand now next
+        → Reached w' script n old next
 reached-going delivers speaks w w' script n old now next r same g only stand =
     let mid = g.going.mid in
-    let held = held-turn delivers (link_of (script_of w) r.files) r.turns r.ends g.turn mid now next n r.world.run.run g.going.hearing only.goes_on r.holds g.writes in
+    let held = held-turn delivers (link_of (script_of w) r.files) r.turns r.ends g.turn mid now next n r.world.run.run g.going.hearing
+        only.goes_on r.holds g.writes in
     let nothing = speaks (link_of (script_of w') g.others) r.turns r.ends g.turn g.after g.going in
     record {
       script_is = same ∙ r.script_is;
@@ -148,33 +166,45 @@ reached-going delivers speaks w w' script n old now next r same g only stand =
     }
 
 -- the run ends in a turn that is written
-ended-turn : HearingsDeliver → (w : World) (script : ScriptValue) (n : Written) (old now next : FolderState) (r : Reached w script n old now) (outcome : Outcome) (number : ℕ) → OnlyOutputs now next n
+ended-turn : HearingsDeliver → (w : World) (script : ScriptValue) (n : Written) (old now next : FolderState)
+    (r : Reached w script n old now) (outcome : Outcome) (number : ℕ) → OnlyOutputs now next n
     → (e : EndsInTurn script now next n r.files r.turns r.ends outcome number)
-    → runs.EndsInTurn (channel_of script) (link_of script e.others) r.turns r.ends outcome number (left_of e.mid (trace_text (e.turn ∷ r.turns))) × HoldLeft next n (left_of e.mid (trace_text (e.turn ∷ r.turns)))
+    → runs.EndsInTurn (channel_of script) (link_of script e.others) r.turns r.ends outcome number
+        (left_of e.mid (trace_text (e.turn ∷ r.turns))) × HoldLeft next n (left_of e.mid (trace_text (e.turn ∷ r.turns)))
 ended-turn delivers w script n old now next r outcome number only e = (
-  record { number = e.number_is; last = e.turn; mid = e.mid; heard = e.makes.heard; is = e.makes.is; leaves = leaves-so e.mid (trace_text (e.turn ∷ r.turns)) },
-  held-turn delivers (link_of (script_of w) r.files) r.turns r.ends e.turn e.mid now next n r.world.run.run (hears-of (link_of script e.others) r.turns r.ends e.turn e.mid outcome e.makes.is) only.goes_on r.holds e.writes,
+  record { number = e.number_is; last = e.turn; mid = e.mid; heard = e.makes.heard; is = e.makes.is; leaves =
+      leaves-so e.mid (trace_text (e.turn ∷ r.turns)) },
+  held-turn delivers (link_of (script_of w) r.files) r.turns r.ends e.turn e.mid now next n r.world.run.run
+      (hears-of (link_of script e.others) r.turns r.ends e.turn e.mid outcome e.makes.is) only.goes_on r.holds e.writes,
 )
 
-run-ends : (script : ScriptValue) (f : FolderState) (n : Written) (end : RunEnd) (files : Both (List ℕ)) (left : Left) (ts : List Turn) (ends : Ends) → KnowsFiles f n files → LineRun (channel_of script) (link_of script files) ts ends
+run-ends : (script : ScriptValue) (f : FolderState) (n : Written) (end : RunEnd) (files : Both (List ℕ)) (left : Left) (ts : List Turn)
+    (ends : Ends) → KnowsFiles f n files → LineRun (channel_of script) (link_of script files) ts ends
     → EndsBy (channel_of script) (link_of script files) ts ends end left → HoldLeft f n left → RunEnds script f n end
-run-ends script f n end files left ts ends knows run ended holds = record { files = files; knows = knows; left = left; run = record { turns = ts; ends = ends; run = run; ended = ended }; holds = holds }
+run-ends script f n end files left ts ends knows run ended holds =
+    record { files = files; knows = knows; left = left; run = record { turns = ts; ends = ends; run = run; ended = ended }; holds = holds }
 
 -- the run is done
-pub reached-done : HearingsDeliver → (w w' : World) (script : ScriptValue) (n : Written) (old now next : FolderState) (number : ℕ) (r : Reached w script n old now)
-    → script_of w' ≡ script_of w → DoneIn w' now next n r.files r.turns r.ends number → OnlyOutputs now next n → RunEnds script next n (runs.IsDone number)
+pub reached-done : HearingsDeliver
+    → (w w' : World) (script : ScriptValue) (n : Written) (old now next : FolderState) (number : ℕ) (r : Reached w script n old now)
+    → script_of w' ≡ script_of w → DoneIn w' now next n r.files r.turns r.ends number → OnlyOutputs now next n
+        → RunEnds script next n (runs.IsDone number)
 reached-done delivers w w' script n old now next number r same d only =
-    let e : EndsInTurn script now next n r.files r.turns r.ends Done number = subst (λ s. EndsInTurn s now next n r.files r.turns r.ends Done number) (same ∙ r.script_is) d.ended in
+    let e : EndsInTurn script now next n r.files r.turns r.ends Done number =
+        subst (λ s. EndsInTurn s now next n r.files r.turns r.ends Done number) (same ∙ r.script_is) d.ended in
     let k = ended-turn delivers w script n old now next r Done number only e in
     run-ends script next n (runs.IsDone number) e.others _ r.turns r.ends (e.known.known r.knows) e.makes.run k.0 k.1
 
 -- with all its turns counted
-pub reached-counts : HearingsDeliver → (w w' : World) (script : ScriptValue) (n : Written) (old now next : FolderState) (number : ℕ) (r : Reached w script n old now)
-    → script_of w' ≡ script_of w → DoneIn w' now next n r.files r.turns r.ends number → OnlyOutputs now next n → RunCounts script next n number (lost_of w') (again_of w')
+pub reached-counts : HearingsDeliver
+    → (w w' : World) (script : ScriptValue) (n : Written) (old now next : FolderState) (number : ℕ) (r : Reached w script n old now)
+    → script_of w' ≡ script_of w → DoneIn w' now next n r.files r.turns r.ends number → OnlyOutputs now next n
+        → RunCounts script next n number (lost_of w') (again_of w')
 unfolding run-ends ended-turn
 reached-counts delivers w w' script n old now next number r same d only =
     let counted = subst
-    (λ s. (e : EndsInTurn s now next n r.files r.turns r.ends Done number) × (lost_of w' ≡ lost_slots (e.turn ∷ r.turns)) × (again_of w' ≡ sent_again (e.turn ∷ r.turns)))
+    (λ s. (e : EndsInTurn s now next n r.files r.turns r.ends Done number) × (lost_of w' ≡ lost_slots (e.turn ∷ r.turns))
+        × (again_of w' ≡ sent_again (e.turn ∷ r.turns)))
     (same ∙ r.script_is) (d.ended, d.lost, d.again) in
     let e : EndsInTurn script now next n r.files r.turns r.ends Done number = counted.0 in
     let k = ended-turn delivers w script n old now next r Done number only e in
@@ -185,7 +215,8 @@ reached-counts delivers w w' script n old now next number r same d only =
     }
 
 -- what the outputs hold where they are kept
-kept-left : (now next : FolderState) (n : Written) (left : Left) → GoesOn now next → KeepsReceived now next n → HoldLeft now n left → KeepsName now next n.trace → HoldLeft next n left
+kept-left : (now next : FolderState) (n : Written) (left : Left) → GoesOn now next → KeepsReceived now next n → HoldLeft now n left
+    → KeepsName now next n.trace → HoldLeft next n left
 kept-left now next n left on received h trace = record {
   got_o = Holds-kept now next n.got_o left.got.orig on h.got_o received.got_o;
   got_a = Holds-kept now next n.got_a left.got.answ on h.got_a received.got_a;
@@ -193,20 +224,26 @@ kept-left now next n left on received h trace = record {
 }
 
 -- the run so far, over the script
-run-so : (w : World) (script : ScriptValue) (n : Written) (old now : FolderState) (r : Reached w script n old now) → LineRun (channel_of script) (link_of script r.files) r.turns r.ends
+run-so : (w : World) (script : ScriptValue) (n : Written) (old now : FolderState) (r : Reached w script n old now)
+    → LineRun (channel_of script) (link_of script r.files) r.turns r.ends
 run-so w script n old now r = subst (λ s. LineRun (channel_of s) (link_of s r.files) r.turns r.ends) r.script_is r.world.run
 
-reached-line : (w : World) (script : ScriptValue) (n : Written) (old now next : FolderState) (role : Role) (symbol : ℕ) (r : Reached w script n old now) → AreApart n
+reached-line : (w : World) (script : ScriptValue) (n : Written) (old now next : FolderState) (role : Role) (symbol : ℕ)
+    (r : Reached w script n old now) → AreApart n
     → LosesLine script now next n r.turns r.ends role symbol → OnlyOutputs now next n → RunEnds script next n (runs.LineLost role symbol)
 reached-line w script n old now next role symbol r apart e only =
-    run-ends script next n (runs.LineLost role symbol) r.files (left_of r.ends (trace_text r.turns)) r.turns r.ends (knows-later now next n r.files apart only r.knows) (run-so w script n old now r)
+    run-ends script next n (runs.LineLost role symbol) r.files (left_of r.ends (trace_text r.turns)) r.turns r.ends
+        (knows-later now next n r.files apart only r.knows) (run-so w script n old now r)
     (record { is = e.is; leaves = leaves-so r.ends (trace_text r.turns) }) (kept-left now next n _ only.goes_on e.received r.holds e.trace)
 
-reached-chance : (w : World) (script : ScriptValue) (n : Written) (old now next : FolderState) (role : Role) (number : ℕ) (r : Reached w script n old now) → AreApart n
-    → MeetsChance script now next n r.turns r.ends role number → OnlyOutputs now next n → RunEnds script next n (runs.ChanceMatch role number)
+reached-chance : (w : World) (script : ScriptValue) (n : Written) (old now next : FolderState) (role : Role) (number : ℕ)
+    (r : Reached w script n old now) → AreApart n
+    → MeetsChance script now next n r.turns r.ends role number → OnlyOutputs now next n
+        → RunEnds script next n (runs.ChanceMatch role number)
 reached-chance w script n old now next role number r apart e only =
     let text = trace_text r.turns ++ chance_line (length r.turns) role in
-    run-ends script next n (runs.ChanceMatch role number) r.files (left_of r.ends text) r.turns r.ends (knows-later now next n r.files apart only r.knows) (run-so w script n old now r)
+    run-ends script next n (runs.ChanceMatch role number) r.files (left_of r.ends text) r.turns r.ends
+        (knows-later now next n r.files apart only r.knows) (run-so w script n old now r)
     (e.number_is, record { is = e.is; leaves = leaves-so r.ends text }) (record {
       got_o = Holds-kept now next n.got_o _ only.goes_on r.holds.got_o e.received.got_o;
       got_a = Holds-kept now next n.got_a _ only.goes_on r.holds.got_a e.received.got_a;
@@ -218,12 +255,16 @@ abbrev pub none_got : Both (List ℕ)
 none_got = record { orig = []; answ = [] }
 
 -- the folder fails
-kept-part : (now next : FolderState) (name octets : List ℕ) → GoesOn now next → Holds now name octets → KeepsName now next name → HoldsPart next name octets []
-kept-part now next name octets on holds kept = λ told. ([], ([], refl), Holds-kept now next name octets on holds kept told ∙ ap Some (sym (append-nil octets)))
+kept-part : (now next : FolderState) (name octets : List ℕ) → GoesOn now next → Holds now name octets → KeepsName now next name
+    → HoldsPart next name octets []
+kept-part now next name octets on holds kept =
+    λ told. ([], ([], refl), Holds-kept now next name octets on holds kept told ∙ ap Some (sym (append-nil octets)))
 
-reached-stops : (w : World) (script : ScriptValue) (n : Written) (old now next : FolderState) (r : Reached w script n old now) → AreApart n → Stops script now next n r.files r.turns r.ends → OnlyOutputs now next n → RunStops script next n
+reached-stops : (w : World) (script : ScriptValue) (n : Written) (old now next : FolderState) (r : Reached w script n old now) → AreApart n
+    → Stops script now next n r.files r.turns r.ends → OnlyOutputs now next n → RunStops script next n
 reached-stops w script n old now next r apart (inl s) only =
-    let added : Left = record { got = record { orig = concat (deliveries s.mid.orig); answ = concat (deliveries s.mid.answ) }; trace = turn_text (length r.turns) s.turn } in
+    let added : Left = record { got = record { orig = concat (deliveries s.mid.orig); answ = concat (deliveries s.mid.answ) }; trace =
+        turn_text (length r.turns) s.turn } in
     record {
       files = s.others;
       knows = s.known.known r.knows;
@@ -234,16 +275,19 @@ reached-stops w script n old now next r apart (inl s) only =
         left = left_of r.ends (trace_text r.turns);
         leaves = leaves-so r.ends (trace_text r.turns);
         more = added;
-        adds = inl (record { turn = s.turn; mid = s.mid; outcome = s.outcome; heard = s.makes.heard; is = s.makes.is; got_is = got; trace_is = refl });
+        adds = inl (record { turn = s.turn; mid = s.mid; outcome = s.outcome; heard = s.makes.heard; is = s.makes.is; got_is =
+            got; trace_is = refl });
         holds = record {
           got_o = HoldsPart-more now next n.got_o _ (concat (deliveries s.mid.orig)) only.goes_on r.holds.got_o s.writes.got_o;
           got_a = HoldsPart-more now next n.got_a _ (concat (deliveries s.mid.answ)) only.goes_on r.holds.got_a s.writes.got_a;
-          trace = HoldsPart-more now next n.trace (trace_text r.turns) (turn_text (length r.turns) s.turn) only.goes_on r.holds.trace s.writes.trace;
+          trace = HoldsPart-more now next n.trace (trace_text r.turns)
+              (turn_text (length r.turns) s.turn) only.goes_on r.holds.trace s.writes.trace;
         };
       };
     }
   where
-    got : (role : Role) → of role (record { orig = concat (deliveries s.mid.orig); answ = concat (deliveries s.mid.answ) }) ≡ concat (deliveries (of role s.mid))
+    got : (role : Role) → of role (record { orig = concat (deliveries s.mid.orig); answ = concat (deliveries s.mid.answ) }) ≡ concat
+        (deliveries (of role s.mid))
     got Originator = refl
     got Answerer = refl
 reached-stops w script n old now next r apart (inr s) only = record {
@@ -270,8 +314,11 @@ reached-stops w script n old now next r apart (inr s) only = record {
     none Answerer = refl
 
 -- a fault ends the run
-pub reached-fault : HearingsDeliver → (w w' : World) (script : ScriptValue) (n : Written) (old now next : FolderState) (fault : RunFault) (r : Reached w script n old now) → AreApart n
-    → script_of w' ≡ script_of w → TurnEndsBy (script_of w') now next n r.files r.turns r.ends fault → OnlyOutputs now next n → FaultEnds script next n fault
+pub reached-fault : HearingsDeliver
+    → (w w' : World) (script : ScriptValue) (n : Written) (old now next : FolderState) (fault : RunFault) (r : Reached w script n old now)
+    → AreApart n
+    → script_of w' ≡ script_of w → TurnEndsBy (script_of w') now next n r.files r.turns r.ends fault → OnlyOutputs now next n
+        → FaultEnds script next n fault
 reached-fault delivers w w' script n old now next fault r apart same e only =
     by fault (subst (λ s. TurnEndsBy s now next n r.files r.turns r.ends fault) (same ∙ r.script_is) e)
   where
@@ -286,22 +333,27 @@ reached-fault delivers w w' script n old now next fault r apart same e only =
         run-ends script next n (runs.NotDetected turn) e.others _ r.turns r.ends (e.known.known r.knows) e.makes.run k.0 k.1
     by (faults.LinkLost role segment turn) e =
         let k = ended-turn delivers w script n old now next r (Broken role (causes.Spent segment e.0)) turn only e.1 in
-        run-ends script next n (runs.LinkLost role segment turn) e.1.others _ r.turns r.ends (e.1.known.known r.knows) e.1.makes.run (e.0, k.0) k.1
+        run-ends script next n (runs.LinkLost role segment turn) e.1.others _ r.turns r.ends (e.1.known.known r.knows) e.1.makes.run
+            (e.0, k.0) k.1
 
 -- a turn more is nearer to the bound
 pub nearer : (turns next : ℕ) → turns < 2 ^ 40 → next ≡ turns + 1 → 2 ^ 40 - next < 2 ^ 40 - turns
 nearer turns next h e = omega (arith, h, e)
 
-pub next-turn : (w w' : World) (script : ScriptValue) (n : Written) (old now next : FolderState) (r : Reached w script n old now) → GoesOnBy w' now next n r.files r.turns r.ends → turn_of w' ≡ turn_of w + 1
+pub next-turn : (w w' : World) (script : ScriptValue) (n : Written) (old now next : FolderState) (r : Reached w script n old now)
+    → GoesOnBy w' now next n r.files r.turns r.ends → turn_of w' ≡ turn_of w + 1
 next-turn w w' script n old now next r g = omega (arith, g.world.turn, r.world.turn)
 
 -- what was counted, where turns before it counted nothing
-pub fault-earlier : (a b d : FolderState) (n : Written) (fault : RunFault) → CountsStand a b → FaultCounts b d n fault → FaultCounts a d n fault
+pub fault-earlier : (a b d : FolderState) (n : Written) (fault : RunFault) → CountsStand a b → FaultCounts b d n fault
+    → FaultCounts a d n fault
 fault-earlier a b d n faults.ReadFault s (inl rose) = inl (subst (λ x. Rose x (d.read_faults n.orig)) (s.faults.reads n.orig) rose)
 fault-earlier a b d n faults.ReadFault s (inr rose) = inr (subst (λ x. Rose x (d.read_faults n.answ)) (s.faults.reads n.answ) rose)
 fault-earlier a b d n faults.WriteFault s (inl rose) = inl (subst (λ x. Rose x (d.write_faults n.got_o)) (s.faults.writes n.got_o) rose)
-fault-earlier a b d n faults.WriteFault s (inr (inl rose)) = inr (inl (subst (λ x. Rose x (d.write_faults n.got_a)) (s.faults.writes n.got_a) rose))
-fault-earlier a b d n faults.WriteFault s (inr (inr rose)) = inr (inr (subst (λ x. Rose x (d.write_faults n.trace)) (s.faults.writes n.trace) rose))
+fault-earlier a b d n faults.WriteFault s (inr (inl rose)) =
+    inr (inl (subst (λ x. Rose x (d.write_faults n.got_a)) (s.faults.writes n.got_a) rose))
+fault-earlier a b d n faults.WriteFault s (inr (inr rose)) =
+    inr (inr (subst (λ x. Rose x (d.write_faults n.trace)) (s.faults.writes n.trace) rose))
 fault-earlier a b d n faults.NoMemory s (stand, rose) = (FaultsStand-trans s.faults stand, subst (λ x. Rose x d.refusals) s.refusals rose)
 fault-earlier a b d n (faults.LineLost role symbol) s stand = CountsStand-trans s stand
 fault-earlier a b d n (faults.ChanceMatch role turn) s stand = CountsStand-trans s stand

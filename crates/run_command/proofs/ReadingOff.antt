@@ -29,15 +29,19 @@ line-has-laws = record {
   starts_within = λ state e. subst (λ s. s < 8) (sym (eqb-true state 0 e)) (omega arith);
 }
 
-slot-read : OfEachCode ReleasedIsLeast → (c : Channel) (sender : Role) (earlier upto : List Turn) (hearing : Check) (slot : Spoken) (heard : Heard) → Arrives c sender earlier upto hearing slot heard
+slot-read : OfEachCode ReleasedIsLeast
+    → (c : Channel) (sender : Role) (earlier upto : List Turn) (hearing : Check) (slot : Spoken) (heard : Heard)
+    → Arrives c sender earlier upto hearing slot heard
     → IsReadOff c sender earlier upto hearing slot heard
 slot-read least c sender earlier upto hearing slot heard a = record {
   arrives = a;
   nearest = least line_trellis 8 32 2 line-has-laws a.samples a.received.gives.labels a.received.gives.released;
 }
 
-turn-read : OfEachCode ReleasedIsLeast → (c : Channel) (ts : List Turn) (t : Turn) → HeardIn c ts t → (role : Role) (slot : Spoken) → sent_ago (delay_of c.script (other role)) (other role) ts ≡ Some slot
-    → IsReadOff c (other role) (drop (delay_of c.script (other role)) ts) (drop (delay_of c.script (other role) - 1) ts) (of role t).check slot (of role t).heard
+turn-read : OfEachCode ReleasedIsLeast → (c : Channel) (ts : List Turn) (t : Turn) → HeardIn c ts t → (role : Role) (slot : Spoken)
+    → sent_ago (delay_of c.script (other role)) (other role) ts ≡ Some slot
+    → IsReadOff c (other role) (drop (delay_of c.script (other role)) ts) (drop (delay_of c.script (other role) - 1) ts)
+        (of role t).check slot (of role t).heard
 turn-read least c ts t h role slot e =
     let earlier = drop (delay_of c.script (other role)) ts in
     let upto = drop (delay_of c.script (other role) - 1) ts in
@@ -49,10 +53,12 @@ turns-read least c [] h = tt
 turns-read least c (t ∷ ts) h = (turn-read least c ts t h.0, turns-read least c ts h.1)
 
 -- of all turns in which something was heard
-pub run-read : OfEachCode ReleasedIsLeast → (c : Channel) (link : Link) (ts : List Turn) (ends : Ends) (end : RunEnd) (left : Left) → LineRun c link ts ends → (e : EndsBy c link ts ends end left)
+pub run-read : OfEachCode ReleasedIsLeast → (c : Channel) (link : Link) (ts : List Turn) (ends : Ends) (end : RunEnd) (left : Left)
+    → LineRun c link ts ends → (e : EndsBy c link ts ends end left)
     → AreReadOff c (turns_heard c link ts ends end left e)
 run-read least c link ts ends (IsDone turn) left run e = (turn-read least c ts e.last e.heard, turns-read least c ts run.heard)
-run-read least c link ts ends (LinkLost role segment turn) left run e = (turn-read least c ts e.1.last e.1.heard, turns-read least c ts run.heard)
+run-read least c link ts ends (LinkLost role segment turn) left run e =
+    (turn-read least c ts e.1.last e.1.heard, turns-read least c ts run.heard)
 run-read least c link ts ends (NotDetected turn) left run e = (turn-read least c ts e.last e.heard, turns-read least c ts run.heard)
 run-read least c link ts ends (LineLost role symbol) left run e = turns-read least c ts run.heard
 run-read least c link ts ends (ChanceMatch role turn) left run e = turns-read least c ts run.heard

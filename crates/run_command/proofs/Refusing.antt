@@ -22,9 +22,12 @@ no-refusal old new n (BadXid fault) e r = e
 no-refusal old new n (TooLong word) e r = e
 no-refusal old new n answer e r = r
 
-own-refused : (old before : FolderState) (n : RunNames) (answer : Status) → IsRefusal answer → EndsBy LIMITS old before n (stops.Own answer) → KeepsAll old before
+own-refused : (old before : FolderState) (n : RunNames) (answer : Status) → IsRefusal answer → EndsBy LIMITS old before n (stops.Own answer)
+    → KeepsAll old before
 own-refused old before n answer r (inl refused) = refused.0
 own-refused old before n answer r (inr e) = absurd (no-refusal old before n answer e r)
 
-pub refused-by : (old before : FolderState) (n : RunNames) (end : Result ℕ Stop) → Ends LIMITS old before n end → IsRefusal (end_status end) → KeepsAll old before
-refused-by old before n end ends = refusal-own end (KeepsAll old before) (λ answer e r. own-refused old before n answer r (subst (Ends LIMITS old before n) e ends))
+pub refused-by : (old before : FolderState) (n : RunNames) (end : Result ℕ Stop) → Ends LIMITS old before n end → IsRefusal (end_status end)
+    → KeepsAll old before
+refused-by old before n end ends =
+    refusal-own end (KeepsAll old before) (λ answer e r. own-refused old before n answer r (subst (Ends LIMITS old before n) e ends))

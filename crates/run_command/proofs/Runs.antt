@@ -26,7 +26,8 @@ use Rattle.run_command.specs.Turns.{names_written, RunEnds, RunStops, FaultEnds}
 use Rattle.run_command.specs.Ends.{IsBegun, Takes, RanTo, StopsInTurn, StopsCreating, EndsBy, fault_stop}
 
 -- the inputs were not taken
-pub ends-refused : (l : Limits) (old new : FolderState) (n : RunNames) (stop : Stop) → OnlyReads old new → Refuses l old new n stop → EndsBy l old new n stop
+pub ends-refused : (l : Limits) (old new : FolderState) (n : RunNames) (stop : Stop) → OnlyReads old new → Refuses l old new n stop
+    → EndsBy l old new n stop
 ends-refused l old new n (stops.Own answer) reads r = inl (reads.names, r)
 ends-refused l old new n (stops.Read fault) reads r = inl (reads.names, r)
 ends-refused l old new n stops.NoMemory reads r = (reads.names, r)
@@ -38,7 +39,8 @@ keeps-each old new [] reads = tt
 keeps-each old new (name ∷ names) reads = (reads.names name, keeps-each old new names reads)
 
 -- an output was not created
-pub ends-creating : (l : Limits) (old mid new : FolderState) (n : RunNames) (script : ScriptValue) → IsBegun l old mid n script → CreatesPart mid new (outputs_of n) → StopsCreating l old new n
+pub ends-creating : (l : Limits) (old mid new : FolderState) (n : RunNames) (script : ScriptValue) → IsBegun l old mid n script
+    → CreatesPart mid new (outputs_of n) → StopsCreating l old new n
 ends-creating l old mid new n script b c = record {
   script = script;
   opens = b.opens;
@@ -71,20 +73,24 @@ pub record Phases (l : Limits) (old mid now next : FolderState) (n : RunNames) (
   pub apart : AreApart (names_written n)
 
 -- a file as it was before all of them
-file-is : (old next : FolderState) (name file : List ℕ) (limit : ℕ) → GoesOn old next → KeepsName old next name → IsWithin old name limit → limit ≤ file_limit
+file-is : (old next : FolderState) (name file : List ℕ) (limit : ℕ) → GoesOn old next → KeepsName old next name → IsWithin old name limit
+    → limit ≤ file_limit
     → (IsTrue (next.tells name) → file ≡ take file_limit (octets_at next name)) → IsTrue (old.tells name) → file ≡ octets_at old name
 file-is old next name file limit on kept within few known told =
     let same : octets_at next name ≡ octets_at old name = octets-kept old next name kept told in
     known (told_later on name told) ∙ ap (take file_limit) same ∙ take_all file_limit (octets_at old name) (omega (arith, within told, few))
 
-takes : (old mid now next : FolderState) (n : RunNames) (script : ScriptValue) (files : Both (List ℕ)) → Phases LIMITS old mid now next n script → KnowsFiles next (names_written n) files → Takes LIMITS old n script files
+takes : (old mid now next : FolderState) (n : RunNames) (script : ScriptValue) (files : Both (List ℕ))
+    → Phases LIMITS old mid now next n script → KnowsFiles next (names_written n) files → Takes LIMITS old n script files
 takes old mid now next n script files p k =
     record {
       opens = p.begun.opens;
       limits = p.begun.limits;
       within = k.within;
-      orig = file-is old next n.orig files.orig LIMITS.file on (kept n.orig p.apart.got_o_orig p.apart.got_a_orig p.apart.trace_orig) p.begun.opens.files.0 (omega arith) k.orig;
-      answ = file-is old next n.answ files.answ LIMITS.file on (kept n.answ p.apart.got_o_answ p.apart.got_a_answ p.apart.trace_answ) p.begun.opens.files.1.0 (omega arith) k.answ;
+      orig = file-is old next n.orig files.orig LIMITS.file on
+          (kept n.orig p.apart.got_o_orig p.apart.got_a_orig p.apart.trace_orig) p.begun.opens.files.0 (omega arith) k.orig;
+      answ = file-is old next n.answ files.answ LIMITS.file on
+          (kept n.answ p.apart.got_o_answ p.apart.got_a_answ p.apart.trace_answ) p.begun.opens.files.1.0 (omega arith) k.answ;
     }
   where
     on : GoesOn old next
@@ -94,30 +100,39 @@ takes old mid now next n script files p k =
     kept name o a t =
         let other : IsNoneOf name (outputs_of n) = (λ e. o (sym e), (λ e. a (sym e), (λ e. t (sym e), tt))) in
         KeepsName-trans old mid next name p.begun.reads.goes_on (p.begun.reads.names name)
-        (KeepsName-trans mid now next name p.creates.goes_on (p.creates.names name other) (p.turns.names name other.0 other.1.0 other.1.1.0))
+        (KeepsName-trans mid now next name p.creates.goes_on (p.creates.names name other)
+            (p.turns.names name other.0 other.1.0 other.1.1.0))
 
 -- the run ended by itself
-pub ran-to : (old mid now next : FolderState) (n : RunNames) (script : ScriptValue) (end : RunEnd) → Phases LIMITS old mid now next n script → RunEnds script next (names_written n) end → RanTo LIMITS old next n end
+pub ran-to : (old mid now next : FolderState) (n : RunNames) (script : ScriptValue) (end : RunEnd) → Phases LIMITS old mid now next n script
+    → RunEnds script next (names_written n) end → RanTo LIMITS old next n end
 ran-to old mid now next n script end p r =
-    record { script = script; files = r.files; takes = takes old mid now next n script r.files p r.knows; left = r.left; run = r.run; holds = r.holds }
+    record { script = script; files = r.files; takes = takes old mid now next n script r.files p r.knows; left = r.left; run =
+        r.run; holds = r.holds }
 
 -- or for the folder
-stops-in : (old mid now next : FolderState) (n : RunNames) (script : ScriptValue) → Phases LIMITS old mid now next n script → RunStops script next (names_written n) → StopsInTurn LIMITS old next n
+stops-in : (old mid now next : FolderState) (n : RunNames) (script : ScriptValue) → Phases LIMITS old mid now next n script
+    → RunStops script next (names_written n) → StopsInTurn LIMITS old next n
 stops-in old mid now next n script p r =
     record { script = script; files = r.files; takes = takes old mid now next n script r.files p r.knows; stops = r.stops }
 
 -- a turn's fault ended the run
-pub ends-in-turn : (old mid now next : FolderState) (n : RunNames) (script : ScriptValue) (fault : RunFault) → Phases LIMITS old mid now next n script → FaultEnds script next (names_written n) fault → EndsBy LIMITS old next n (fault_stop fault)
+pub ends-in-turn : (old mid now next : FolderState) (n : RunNames) (script : ScriptValue) (fault : RunFault)
+    → Phases LIMITS old mid now next n script → FaultEnds script next (names_written n) fault → EndsBy LIMITS old next n (fault_stop fault)
 ends-in-turn old mid now next n script faults.ReadFault p e = inr (stops-in old mid now next n script p e)
 ends-in-turn old mid now next n script faults.WriteFault p e = inr (stops-in old mid now next n script p e)
 ends-in-turn old mid now next n script faults.NoMemory p e = inr (stops-in old mid now next n script p e)
-ends-in-turn old mid now next n script (faults.LineLost role symbol) p e = inr (ran-to old mid now next n script (runs.LineLost role symbol) p e)
-ends-in-turn old mid now next n script (faults.ChanceMatch role turn) p e = inr (ran-to old mid now next n script (runs.ChanceMatch role turn) p e)
+ends-in-turn old mid now next n script (faults.LineLost role symbol) p e =
+    inr (ran-to old mid now next n script (runs.LineLost role symbol) p e)
+ends-in-turn old mid now next n script (faults.ChanceMatch role turn) p e =
+    inr (ran-to old mid now next n script (runs.ChanceMatch role turn) p e)
 ends-in-turn old mid now next n script (faults.NotDetected turn) p e = inr (ran-to old mid now next n script (runs.NotDetected turn) p e)
-ends-in-turn old mid now next n script (faults.LinkLost role segment turn) p e = inr (ran-to old mid now next n script (runs.LinkLost role segment turn) p e)
+ends-in-turn old mid now next n script (faults.LinkLost role segment turn) p e =
+    inr (ran-to old mid now next n script (runs.LinkLost role segment turn) p e)
 
 -- what a turn's fault counts
-pub turn-counts : (now next : FolderState) (n : RunNames) (fault : RunFault) → FaultCounts now next (names_written n) fault → StopCounts now next (inputs_of n) (outputs_of n) (fault_stop fault)
+pub turn-counts : (now next : FolderState) (n : RunNames) (fault : RunFault) → FaultCounts now next (names_written n) fault
+    → StopCounts now next (inputs_of n) (outputs_of n) (fault_stop fault)
 turn-counts now next n faults.ReadFault (inl rose) = inl rose
 turn-counts now next n faults.ReadFault (inr rose) = inr (inl rose)
 turn-counts now next n faults.WriteFault (inl rose) = inl rose

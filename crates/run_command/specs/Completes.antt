@@ -27,7 +27,8 @@ pub record IsCarried (script : ScriptValue) (files : Both (List ℕ)) : Type 0 w
 -- The line doesn't end the run, and fewer slots are lost in it than one for each two tries.
 pub record LosesFew (script : ScriptValue) (files : Both (List ℕ)) : Type 0 where
   pub stays : LineStays script files
-  pub few : (end : RunEnd) (left : Left) (r : ScriptRunsTo script files end left) → 2 * lost_slots (heard_turns script files end left r) < script.tries
+  pub few : (end : RunEnd) (left : Left) (r : ScriptRunsTo script files end left)
+      → 2 * lost_slots (heard_turns script files end left r) < script.tries
 
 -- The files are octets, the noise of the script is faint, as it is where no symbol is displaced, and its lose lines name fewer slots than one for each two tries.
 pub record NamesFew (script : ScriptValue) (files : Both (List ℕ)) : Type 0 where
@@ -64,7 +65,8 @@ files_at f n = record { orig = octets_at f n.orig; answ = octets_at f n.answ }
 -- the folder is sound, the inputs are right, and this holds of their script and files: then the run is done, but for want of memory
 abbrev pub DoneWhere : FolderState → FolderState → RunNames → Status → (ScriptValue → Both (List ℕ) → Type 0) → Type 0
 DoneWhere old new n s Holds =
-    IsSound old new (inputs_of n) (outputs_of n) → (script : ScriptValue) → AreRight old n script → Holds script (files_at old n) → DoneUnlessMemory s
+    IsSound old new (inputs_of n) (outputs_of n) → (script : ScriptValue) → AreRight old n script → Holds script (files_at old n)
+        → DoneUnlessMemory s
 
 -- The run is done, but for want of memory: where it is carried to its end; where it loses few slots; and, whatever else its script says and
 -- its files hold, where few are named and noise is faint, so also where the script is quiet, and where nothing disturbs it.

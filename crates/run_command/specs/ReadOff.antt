@@ -18,7 +18,8 @@ abbrev pub BeginNearest : List Sample → List ℕ → Type 0
 BeginNearest samples labels = (rest : List ℕ) × IsLeast line_trellis samples (labels ++ rest)
 
 -- The last slot that this sender sent in these turns has arrived with this outcome, read off such labels.
-pub record IsReadOff (c : Channel) (sender : Role) (earlier upto : List Turn) (hearing : Check) (slot : Spoken) (heard : Heard) : Type 0 where
+pub record IsReadOff (c : Channel) (sender : Role) (earlier upto : List Turn) (hearing : Check) (slot : Spoken)
+    (heard : Heard) : Type 0 where
   pub arrives : Arrives c sender earlier upto hearing slot heard
   pub nearest : BeginNearest arrives.samples arrives.received.gives.labels
 

@@ -37,7 +37,8 @@ first-kept old mid (name ∷ names) limit place word r (inr long) =
 fails-kept : (old mid new : FolderState) (names : List (List ℕ)) (limit : ℕ) (fault : FolderFault) → OnlyReads old mid → CountsStand old mid
     → FailsInOrder limit mid new names fault → FailsInOrder limit old new names fault
 fails-kept old mid new [] limit fault r stand never = never
-fails-kept old mid new (name ∷ names) limit fault r stand (inl fails) = inl (stop-earlier old mid new (name ∷ []) [] (Read fault) stand fails)
+fails-kept old mid new (name ∷ names) limit fault r stand (inl fails) =
+    inl (stop-earlier old mid new (name ∷ []) [] (Read fault) stand fails)
 fails-kept old mid new (name ∷ names) limit fault r stand (inr fails) =
     inr (within-earlier old mid name limit r fails.0, fails-kept old mid new names limit fault r stand fails.1)
 
@@ -137,7 +138,8 @@ refused-script l old new n (Say fault) why counts = absurd why
 refused-script l old new n NoMemory why counts = why
 
 -- it was, and a file was not
-pub refused-files : (l : Limits) (old mid new : FolderState) (n : RunNames) (script : ScriptValue) (stop : Stop) → OnlyReads old mid → CountsStand old mid
+pub refused-files : (l : Limits) (old mid new : FolderState) (n : RunNames) (script : ScriptValue) (stop : Stop) → OnlyReads old mid
+    → CountsStand old mid
     → ReadsScript l.script old n.script script → RefusesLengths l.file mid new 1 (files_of n) stop → Refuses l old new n stop
 refused-files l old mid new n script (Own answer) r stand reads long =
     subst (RefusesOwn l old n) (sym long.answer_is)

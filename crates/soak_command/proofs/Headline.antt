@@ -48,7 +48,8 @@ stop-counts seed f (stops.Read fault) e = absurd e
 stop-counts seed f (stops.Write fault) e = absurd e
 stop-counts seed f (stops.Say fault) e = absurd e
 
-pub soaked : (words : List (List ℕ)) (old new : FolderState) (seed : ℕ) (counts : SoakCounts) (s : Status) → IsSoaked seed counts → Tells old new (soak_line seed counts.turn counts.lost counts.again) Done s → Answers (soak_job seed) words old new s
+pub soaked : (words : List (List ℕ)) (old new : FolderState) (seed : ℕ) (counts : SoakCounts) (s : Status) → IsSoaked seed counts
+    → Tells old new (soak_line seed counts.turn counts.lost counts.again) Done s → Answers (soak_job seed) words old new s
 soaked words old new seed counts s e tells = record {
   end = Ok counts;
   before = old;
@@ -59,7 +60,8 @@ soaked words old new seed counts s e tells = record {
   says = tells;
 }
 
-pub stopped : (words : List (List ℕ)) (old new : FolderState) (seed : ℕ) (stop : Stop) (s : Status) → Ends seed (Err stop) → SaysStop words old new stop s → Answers (soak_job seed) words old new s
+pub stopped : (words : List (List ℕ)) (old new : FolderState) (seed : ℕ) (stop : Stop) (s : Status) → Ends seed (Err stop)
+    → SaysStop words old new stop s → Answers (soak_job seed) words old new s
 stopped words old new seed stop s e says = record {
   end = Err stop;
   before = old;
@@ -82,7 +84,8 @@ pub record SoakLaws : Type 0 where
   pub starved : LostLinksWereStarved
 
 may-run : SoakLaws → (seed : ℕ) (end : RunEnd) → SoakEnds seed end → MayRun (soak_channel seed) (soak_link seed)
-may-run laws seed end e = record { may_play = laws.play (soak_script seed) (soak_files seed) e.limits; delays = laws.delays (soak_script seed) e.limits }
+may-run laws seed end e = record { may_play = laws.play (soak_script seed) (soak_files seed) e.limits; delays =
+    laws.delays (soak_script seed) e.limits }
 
 -- the file that a role's user sends
 file-of : (seed : ℕ) (role : Role) → (of role (soak_link seed)).user.file ≡ soak_file seed role
@@ -92,13 +95,15 @@ file-of seed Answerer = refl
 soaks-of : SoakLaws → (seed : ℕ) (end : RunEnd) → SoakEnds seed end → Soaks seed end
 soaks-of laws seed end e = record {
   ends = e;
-  begins = λ role. let p = laws.prefixes (soak_channel seed) (soak_link seed) end e.left (may-run laws seed end e) e.run role in (p.0, p.1 ∙ file-of seed (other role));
+  begins = λ role. let p = laws.prefixes (soak_channel seed) (soak_link seed) end e.left (may-run laws seed end e) e.run role in
+      (p.0, p.1 ∙ file-of seed (other role));
   few = laws.soon (soak_channel seed) (soak_files seed) e.run.turns e.run.ends e.limits e.run.run;
   starved = laws.starved (soak_channel seed) (soak_files seed) end e.left e.limits e.run;
 }
 
 -- the answer is that of the run's end
-own-ran : (seed : ℕ) (end : Result SoakCounts Stop) (t : Status) → IsPlain t → Done ≢ t → Ends seed end → end_status end ≡ t → ends.RanBy seed t
+own-ran : (seed : ℕ) (end : Result SoakCounts Stop) (t : Status) → IsPlain t → Done ≢ t → Ends seed end → end_status end ≡ t
+    → ends.RanBy seed t
 own-ran seed (Ok counts) t p d e f = absurd (d f)
 own-ran seed (Err (stops.Own answer)) t p d e f = subst (ends.RanBy seed) f e
 own-ran seed (Err stops.NoMemory) t p d e f = absurd (p.memory (sym f))
@@ -106,10 +111,13 @@ own-ran seed (Err (stops.Read fault)) t p d e f = absurd e
 own-ran seed (Err (stops.Write fault)) t p d e f = absurd e
 own-ran seed (Err (stops.Say fault)) t p d e f = absurd e
 
-ran-of : (words : List (List ℕ)) (old new : FolderState) (seed : ℕ) (s t : Status) → Answers (soak_job seed) words old new s → s ≡ t → IsPlain t → Done ≢ t → ends.RanBy seed t
-ran-of words old new seed s t a e p d = own-ran seed a.end t p d a.ends.0 (last-plain (soak_job seed).line_of words a.before new a.end s t a.says e p)
+ran-of : (words : List (List ℕ)) (old new : FolderState) (seed : ℕ) (s t : Status) → Answers (soak_job seed) words old new s → s ≡ t
+    → IsPlain t → Done ≢ t → ends.RanBy seed t
+ran-of words old new seed s t a e p d =
+    own-ran seed a.end t p d a.ends.0 (last-plain (soak_job seed).line_of words a.before new a.end s t a.says e p)
 
-ran-by : SoakLaws → (words : List (List ℕ)) (old new : FolderState) (seed : ℕ) (s t : Status) → Answers (soak_job seed) words old new s → s ≡ t → RanBy old new seed t
+ran-by : SoakLaws → (words : List (List ℕ)) (old new : FolderState) (seed : ℕ) (s t : Status) → Answers (soak_job seed) words old new s
+    → s ≡ t → RanBy old new seed t
 ran-by laws words old new seed s Done a e =
     let d = done-of (soak_job seed) words old new s a e in
     let i : IsSoaked seed d.done = d.ends.0 in
@@ -117,29 +125,43 @@ ran-by laws words old new seed s Done a e =
       counts = d.done;
       said = d.said ∙ ap (λ (f : FolderState). option_map (λ x. x ++ soak_line seed d.done.turn d.done.lost d.done.again) f.said) d.ends.1;
       soaked = i;
-      whole = λ role. laws.whole (soak_channel seed) (soak_link seed) d.done.turn i.ends.left (may-run laws seed _ i.ends) i.ends.run role ∙ file-of seed (other role);
+      whole = λ role. laws.whole (soak_channel seed) (soak_link seed) d.done.turn i.ends.left (may-run laws seed _ i.ends) i.ends.run role
+          ∙ file-of seed (other role);
       soaks = soaks-of laws seed (runs.IsDone d.done.turn) i.ends;
     }
-ran-by laws words old new seed s (LinkLost role segment turn) a e = soaks-of laws seed _ (ran-of words old new seed s (LinkLost role segment turn) a e (record { write = λ f. cc; memory = λ f. cc }) (λ f. cc))
-ran-by laws words old new seed s (NotDetected turn) a e = soaks-of laws seed _ (ran-of words old new seed s (NotDetected turn) a e (record { write = λ f. cc; memory = λ f. cc }) (λ f. cc))
-ran-by laws words old new seed s (LineLost role symbol) a e = soaks-of laws seed _ (ran-of words old new seed s (LineLost role symbol) a e (record { write = λ f. cc; memory = λ f. cc }) (λ f. cc))
-ran-by laws words old new seed s (ChanceMatch role turn) a e = soaks-of laws seed _ (ran-of words old new seed s (ChanceMatch role turn) a e (record { write = λ f. cc; memory = λ f. cc }) (λ f. cc))
+ran-by laws words old new seed s (LinkLost role segment turn) a e =
+    soaks-of laws seed _ (ran-of words old new seed s (LinkLost role segment turn) a e (record { write = λ f. cc; memory = λ f. cc })
+    (λ f. cc))
+ran-by laws words old new seed s (NotDetected turn) a e =
+    soaks-of laws seed _ (ran-of words old new seed s (NotDetected turn) a e (record { write = λ f. cc; memory = λ f. cc }) (λ f. cc))
+ran-by laws words old new seed s (LineLost role symbol) a e =
+    soaks-of laws seed _ (ran-of words old new seed s (LineLost role symbol) a e (record { write = λ f. cc; memory = λ f. cc }) (λ f. cc))
+ran-by laws words old new seed s (ChanceMatch role turn) a e =
+    soaks-of laws seed _ (ran-of words old new seed s (ChanceMatch role turn) a e (record { write = λ f. cc; memory = λ f. cc }) (λ f. cc))
 ran-by laws words old new seed s t a e = tt
 
-pub headline-of : SoakLaws → (words : List (List ℕ)) (old new : FolderState) (seed : ℕ) (s : Status) → Answers (soak_job seed) words old new s → Headline old new seed s
-headline-of laws words old new seed s a = record { shared = shared-of (soak_job seed) words old new s a (λ e name. a.only.names name tt); ran = ran-by laws words old new seed s s a refl }
+pub headline-of : SoakLaws → (words : List (List ℕ)) (old new : FolderState) (seed : ℕ) (s : Status)
+    → Answers (soak_job seed) words old new s → Headline old new seed s
+headline-of laws words old new seed s a =
+    record { shared = shared-of (soak_job seed) words old new s a (λ e name. a.only.names name tt); ran =
+    ran-by laws words old new seed s s a refl }
 
 -- ---- when a soak is done
 
-never-up : LostLinksWereStarved → (seed : ℕ) (end : RunEnd) → IsCarried (soak_script seed) (soak_files seed) → GivesUp end → SoakEnds seed end → ⊥
-never-up starved seed end c g e = c.not_starved end e.left e.run g (starved (soak_channel seed) (soak_files seed) end e.left e.limits e.run g)
+never-up : LostLinksWereStarved → (seed : ℕ) (end : RunEnd) → IsCarried (soak_script seed) (soak_files seed) → GivesUp end
+    → SoakEnds seed end → ⊥
+never-up starved seed end c g e =
+    c.not_starved end e.left e.run g (starved (soak_channel seed) (soak_files seed) end e.left e.limits e.run g)
 
-never-ran : LostLinksWereStarved → (seed : ℕ) (answer : Status) → IsCarried (soak_script seed) (soak_files seed) → ends.RanBy seed answer → ⊥
+never-ran : LostLinksWereStarved → (seed : ℕ) (answer : Status) → IsCarried (soak_script seed) (soak_files seed) → ends.RanBy seed answer
+    → ⊥
 never-ran starved seed (LinkLost role segment turn) c e = never-up starved seed (runs.LinkLost role segment turn) c tt e
 never-ran starved seed (NotDetected turn) c e = never-up starved seed (runs.NotDetected turn) c tt e
 never-ran starved seed (LineLost role symbol) c e = c.stays (runs.LineLost role symbol) e.left e.run tt
 never-ran starved seed (ChanceMatch role turn) c e = c.stays (runs.ChanceMatch role turn) e.left e.run tt
 never-ran starved seed answer c e = e
 
-pub completes-of : LostLinksWereStarved → (words : List (List ℕ)) (old new : FolderState) (seed : ℕ) (s : Status) → Answers (soak_job seed) words old new s → Completes old new seed s
-completes-of starved words old new seed s a sound c = done-unless-memory (soak_job seed) words old new s a sound (λ answer e. never-ran starved seed answer c e.0)
+pub completes-of : LostLinksWereStarved → (words : List (List ℕ)) (old new : FolderState) (seed : ℕ) (s : Status)
+    → Answers (soak_job seed) words old new s → Completes old new seed s
+completes-of starved words old new seed s a sound c =
+    done-unless-memory (soak_job seed) words old new s a sound (λ answer e. never-ran starved seed answer c e.0)

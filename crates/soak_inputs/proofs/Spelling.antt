@@ -38,7 +38,8 @@ both a b e f = rw (e, f) refl
 tells : IsDigitsTest AllDigits
 tells = record {
   empty = refl;
-  parts = λ c cs e. let p = and_parts (is_digit c) (list_all is_digit cs) e in let q = and_parts (nat_le 48 c) (nat_le c 57) p.0 in ((at-most 48 c q.0, at-most c 57 q.1), p.1);
+  parts = λ c cs e. let p = and_parts (is_digit c) (list_all is_digit cs) e in let q = and_parts (nat_le 48 c) (nat_le c 57) p.0 in
+      ((at-most 48 c q.0, at-most c 57 q.1), p.1);
   more = λ c cs k e. both (is_digit c) (list_all is_digit cs) (both (nat_le 48 c) (nat_le c 57) (is-most 48 c k.0) (is-most c 57 k.1)) e;
 }
 
@@ -50,16 +51,20 @@ IsSmall n = n < 2 ^ 64
 
 is-number : (n : ℕ) → IsSmall n → is_number (decimal n) ≡ true
 is-number n h =
-    both (nat_le 1 (length (decimal n))) (nat_le (length (decimal n)) 20 && list_all is_digit (decimal n)) (is-most 1 (length (decimal n)) (decimal_nonempty n h))
-    (both (nat_le (length (decimal n)) 20) (list_all is_digit (decimal n)) (is-most (length (decimal n)) 20 (length-decimal-le 20 n (omega arith) (omega (arith, h)) h)) (digits_decimal numerals n h))
+    both (nat_le 1 (length (decimal n))) (nat_le (length (decimal n)) 20 && list_all is_digit (decimal n))
+        (is-most 1 (length (decimal n)) (decimal_nonempty n h))
+    (both (nat_le (length (decimal n)) 20) (list_all is_digit (decimal n))
+        (is-most (length (decimal n)) 20 (length-decimal-le 20 n (omega arith) (omega (arith, h)) h)) (digits_decimal numerals n h))
 
 spells-number : (low high n : ℕ) → IsSmall n → low ≤ n → n ≤ high → IsNumber low high (decimal n) n
-spells-number low high n h l m = record { digits = is-number n h; value_is = sym (digits_value-decimal numerals n h); not_below = l; not_above = m }
+spells-number low high n h l m =
+    record { digits = is-number n h; value_is = sym (digits_value-decimal numerals n h); not_below = l; not_above = m }
 
 -- what holds of each digit holds of the octets of a number
 all-weaker : (test : ℕ → Bool) → ((x : ℕ) → is_digit x ≡ true → test x ≡ true) → (xs : List ℕ) → AllDigits xs → list_all test xs ≡ true
 all-weaker test f [] h = refl
-all-weaker test f (x ∷ xs) h = let p = and_parts (is_digit x) (list_all is_digit xs) h in both (test x) (list_all test xs) (f x p.0) (all-weaker test f xs p.1)
+all-weaker test f (x ∷ xs) h = let p = and_parts (is_digit x) (list_all is_digit xs) h in
+    both (test x) (list_all test xs) (f x p.0) (all-weaker test f xs p.1)
 
 abbrev is_other : ℕ → ℕ → Bool
 is_other octet x = not (nat_eq x octet)
@@ -92,16 +97,20 @@ some-digits n h e = omega (arith, decimal_nonempty n h, ap (λ (l : List ℕ). l
 number-words : (n : ℕ) → IsSmall n → (rest : List ℕ) → is_in_word rest ≡ false → words_of (decimal n ++ rest) ≡ decimal n ∷ words_of rest
 number-words n h rest e = word-cut (decimal n) rest (some-digits n h) (number-all is_no_blank digit-no-blank n h) e
 
-lose-words : (role : Role) (turn : ℕ) → IsSmall turn → words_of (lose_line role turn) ≡ codes "lose" ∷ role_word role ∷ decimal turn ∷ codes "1" ∷ []
+lose-words : (role : Role) (turn : ℕ) → IsSmall turn
+    → words_of (lose_line role turn) ≡ codes "lose" ∷ role_word role ∷ decimal turn ∷ codes "1" ∷ []
 lose-words Originator turn h = ap (λ (ws : List (List ℕ)). codes "lose" ∷ codes "orig" ∷ ws) (number-words turn h (codes " 1") refl)
 lose-words Answerer turn h = ap (λ (ws : List (List ℕ)). codes "lose" ∷ codes "answ" ∷ ws) (number-words turn h (codes " 1") refl)
 
 last-words : (n : ℕ) → IsSmall n → words_of (decimal n) ≡ decimal n ∷ []
 last-words n h = ap words_of (sym (append-nil (decimal n))) ∙ number-words n h [] refl
 
-noise-words : (role : Role) (seed : ℕ) → IsSmall seed → words_of (noise_line role seed) ≡ codes "noise" ∷ role_word role ∷ codes "0" ∷ codes "4294967295" ∷ codes "500" ∷ decimal seed ∷ []
-noise-words Originator seed h = ap (λ (ws : List (List ℕ)). codes "noise" ∷ codes "orig" ∷ codes "0" ∷ codes "4294967295" ∷ codes "500" ∷ ws) (last-words seed h)
-noise-words Answerer seed h = ap (λ (ws : List (List ℕ)). codes "noise" ∷ codes "answ" ∷ codes "0" ∷ codes "4294967295" ∷ codes "500" ∷ ws) (last-words seed h)
+noise-words : (role : Role) (seed : ℕ) → IsSmall seed
+    → words_of (noise_line role seed) ≡ codes "noise" ∷ role_word role ∷ codes "0" ∷ codes "4294967295" ∷ codes "500" ∷ decimal seed ∷ []
+noise-words Originator seed h =
+    ap (λ (ws : List (List ℕ)). codes "noise" ∷ codes "orig" ∷ codes "0" ∷ codes "4294967295" ∷ codes "500" ∷ ws) (last-words seed h)
+noise-words Answerer seed h = ap (λ (ws : List (List ℕ)). codes "noise" ∷ codes "answ" ∷ codes "0" ∷ codes "4294967295" ∷ codes "500" ∷ ws)
+    (last-words seed h)
 
 -- what each line says
 
@@ -115,15 +124,20 @@ delay-says = record {
   answ_is = record { digits = refl; value_is = refl; not_below = omega arith; not_above = omega arith };
 }
 
-all-lose : (test : ℕ → Bool) → ((x : ℕ) → is_digit x ≡ true → test x ≡ true) → (role : Role) (turn : ℕ) → IsSmall turn → list_all test (lose_head role) ≡ true → list_all test (codes " 1") ≡ true
+all-lose : (test : ℕ → Bool) → ((x : ℕ) → is_digit x ≡ true → test x ≡ true) → (role : Role) (turn : ℕ) → IsSmall turn
+    → list_all test (lose_head role) ≡ true → list_all test (codes " 1") ≡ true
     → list_all test (lose_line role turn) ≡ true
-all-lose test f role turn h a b = all-joined test (lose_head role) (decimal turn ++ codes " 1") a (all-joined test (decimal turn) (codes " 1") (number-all test f turn h) b)
+all-lose test f role turn h a b =
+    all-joined test (lose_head role) (decimal turn ++ codes " 1") a
+    (all-joined test (decimal turn) (codes " 1") (number-all test f turn h) b)
 
-all-noise : (test : ℕ → Bool) → ((x : ℕ) → is_digit x ≡ true → test x ≡ true) → (role : Role) (seed : ℕ) → IsSmall seed → list_all test (noise_head role) ≡ true → list_all test (noise_line role seed) ≡ true
+all-noise : (test : ℕ → Bool) → ((x : ℕ) → is_digit x ≡ true → test x ≡ true) → (role : Role) (seed : ℕ) → IsSmall seed
+    → list_all test (noise_head role) ≡ true → list_all test (noise_line role seed) ≡ true
 all-noise test f role seed h a = all-joined test (noise_head role) (decimal seed) a (number-all test f seed h)
 
 heads-plain : (role : Role)
-    → (list_all (is_other 10) (lose_head role) ≡ true) × (list_all (is_other 13) (lose_head role) ≡ true) × (list_all (is_other 10) (noise_head role) ≡ true) × (list_all (is_other 13) (noise_head role) ≡ true)
+    → (list_all (is_other 10) (lose_head role) ≡ true) × (list_all (is_other 13) (lose_head role) ≡ true)
+        × (list_all (is_other 10) (noise_head role) ≡ true) × (list_all (is_other 13) (noise_head role) ≡ true)
 heads-plain Originator = (refl, refl, refl, refl)
 heads-plain Answerer = (refl, refl, refl, refl)
 
@@ -137,7 +151,8 @@ loss-says seed n =
     record {
       whole = record {
         no_feed = all-lose (is_other 10) (λ x d. other-digit 10 x (omega arith) d) role turn small plain.0 refl;
-        no_return = returns-none (lose_line role turn) (all-lose (is_other 13) (λ x d. other-digit 13 x (omega arith) d) role turn small plain.1 refl);
+        no_return = returns-none (lose_line role turn)
+            (all-lose (is_other 13) (λ x d. other-digit 13 x (omega arith) d) role turn small plain.1 refl);
       };
       from = decimal turn;
       count = codes "1";
@@ -152,7 +167,8 @@ noise-says seed role small =
     record {
       whole = record {
         no_feed = all-noise (is_other 10) (λ x d. other-digit 10 x (omega arith) d) role seed small plain.2;
-        no_return = returns-none (noise_line role seed) (all-noise (is_other 13) (λ x d. other-digit 13 x (omega arith) d) role seed small plain.3);
+        no_return = returns-none (noise_line role seed)
+            (all-noise (is_other 13) (λ x d. other-digit 13 x (omega arith) d) role seed small plain.3);
       };
       from = codes "0";
       count = codes "4294967295";
@@ -165,7 +181,8 @@ noise-says seed role small =
       seed_is = spells-number 0 18446744073709551615 seed small (omega arith) (omega (arith, small));
     }
 
-one-more-says : (lines : List (List ℕ)) (losses : List Loss) (line : List ℕ) (loss : Loss) → EachSays SaysLoss lines losses → SaysLoss line loss → EachSays SaysLoss (lines ++ line ∷ []) (losses ++ loss ∷ [])
+one-more-says : (lines : List (List ℕ)) (losses : List Loss) (line : List ℕ) (loss : Loss) → EachSays SaysLoss lines losses
+    → SaysLoss line loss → EachSays SaysLoss (lines ++ line ∷ []) (losses ++ loss ∷ [])
 one-more-says [] [] line loss h s = (s, tt)
 one-more-says [] (x ∷ xs) line loss h s = absurd h
 one-more-says (l ∷ ls) [] line loss h s = absurd h
@@ -173,11 +190,13 @@ one-more-says (l ∷ ls) (x ∷ xs) line loss h s = (h.0, one-more-says ls xs li
 
 losses-say : (seed n : ℕ) → EachSays SaysLoss (lose_lines seed n) (soak_losses seed n)
 losses-say seed zero = tt
-losses-say seed (suc n) = one-more-says (lose_lines seed n) (soak_losses seed n) (lose_line (role_in_turn n) (turn_lost seed n)) (soak_loss seed n) (losses-say seed n) (loss-says seed n)
+losses-say seed (suc n) = one-more-says (lose_lines seed n) (soak_losses seed n) (lose_line (role_in_turn n) (turn_lost seed n))
+    (soak_loss seed n) (losses-say seed n) (loss-says seed n)
 
 pub text-spells : NoisyLinesSpell → (seed : ℕ) → IsSmall seed → ScriptSpelling (soak_text seed) (soak_script seed)
 unfolding soak_script
 text-spells law seed small =
     subst (λ text. ScriptSpelling text (soak_script seed)) (sym (text-is seed))
-    (law delay_line (noise_line Originator seed ∷ noise_line Answerer seed ∷ []) (lose_lines seed 12) 3 5 (soak_noise seed Originator ∷ soak_noise seed Answerer ∷ []) (soak_losses seed 12)
+    (law delay_line (noise_line Originator seed ∷ noise_line Answerer seed ∷ []) (lose_lines seed 12) 3 5
+        (soak_noise seed Originator ∷ soak_noise seed Answerer ∷ []) (soak_losses seed 12)
     delay-says (noise-says seed Originator small, (noise-says seed Answerer small, tt)) (losses-say seed 12) (omega arith) (omega arith))

@@ -15,7 +15,9 @@ drawn-more seed from n = let e : n + 1 ≡ suc n = omega arith in rw e (drawn-su
 
 pub length-drawn : (seed from n : ℕ) → length (drawn_octets seed from n) ≡ 4 * n
 length-drawn seed from zero = rw (drawn-none seed from) refl
-length-drawn seed from (suc n) = rw (drawn-suc seed from n) (omega (arith, length-append {A = ℕ} (drawn_octets seed from n) (word_octets (drawn_word seed (from + n))), length-drawn seed from n))
+length-drawn seed from (suc n) =
+    rw (drawn-suc seed from n) (omega
+    (arith, length-append {A = ℕ} (drawn_octets seed from n) (word_octets (drawn_word seed (from + n))), length-drawn seed from n))
 
 pub if-ok : {A E : Type 0} (P Q : A → Type 0) → ((a : A) → P a → Q a) → (r : Result A E) → IfOk r P → IfOk r Q
 if-ok P Q f (Ok a) h = f a h

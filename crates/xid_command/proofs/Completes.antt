@@ -68,7 +68,8 @@ refuses-own digits NoMemory why = why
 refuses-own digits (PeerFault fault turn) why = tt
 
 -- the offer was explained
-pub explained : (words : List (List ℕ)) (old new : FolderState) (digits : List ℕ) (offer : Offer) (s : Status) → Explains digits offer → Tells old new (offer_line offer) Done s → Answers (xid_job digits) words old new s
+pub explained : (words : List (List ℕ)) (old new : FolderState) (digits : List ℕ) (offer : Offer) (s : Status) → Explains digits offer
+    → Tells old new (offer_line offer) Done s → Answers (xid_job digits) words old new s
 explained words old new digits offer s explains tells = record {
   end = Ok offer;
   before = old;
@@ -80,7 +81,8 @@ explained words old new digits offer s explains tells = record {
 }
 
 -- the digits were refused
-pub not-explained : (words : List (List ℕ)) (old new : FolderState) (digits : List ℕ) (answer s : Status) → Refuses digits answer → SaysStop words old new (Own answer) s → Answers (xid_job digits) words old new s
+pub not-explained : (words : List (List ℕ)) (old new : FolderState) (digits : List ℕ) (answer s : Status) → Refuses digits answer
+    → SaysStop words old new (Own answer) s → Answers (xid_job digits) words old new s
 not-explained words old new digits answer s refuses says = record {
   end = Err (Own answer);
   before = old;
@@ -91,5 +93,7 @@ not-explained words old new digits answer s refuses says = record {
   says = says;
 }
 
-pub completes-of : (words : List (List ℕ)) (old new : FolderState) (digits : List ℕ) (s : Status) → Answers (xid_job digits) words old new s → Completes old new digits s
-completes-of words old new digits s a sound r = done-unless-memory (xid_job digits) words old new s a sound (λ answer ends. never-refused digits answer r ends.0)
+pub completes-of : (words : List (List ℕ)) (old new : FolderState) (digits : List ℕ) (s : Status) → Answers (xid_job digits) words old new s
+    → Completes old new digits s
+completes-of words old new digits s a sound r =
+    done-unless-memory (xid_job digits) words old new s a sound (λ answer ends. never-refused digits answer r ends.0)

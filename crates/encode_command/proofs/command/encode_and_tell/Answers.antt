@@ -9,7 +9,8 @@ use Rattle.encode_command.proofs.command.encode_and_tell.Goals as goal
 
 pub returns-in-Ok : goal.returns-in-Ok
 returns-in-Ok g c =
-    let before : FolderState = g.F.Folder.state c.make_recording.new.folder in let new : FolderState = g.F.Folder.state c.tell.new.folder in let n : EncodeNames = named c.args.names.now in
+    let before : FolderState = g.F.Folder.state c.make_recording.new.folder in let new : FolderState = g.F.Folder.state c.tell.new.folder in
+        let n : EncodeNames = named c.args.names.now in
     record {
       end = Ok c.in-Ok.samples;
       before = before;
@@ -17,7 +18,8 @@ returns-in-Ok g c =
       only = OnlyOutputs-one n.rec c.in-Ok.ensures.only;
       refused = λ never. absurd never;
       counts = c.in-Ok.ensures.counts;
-      says = subst (λ (line : List ℕ). Tells before new line Done c.tell.result) (c.as_slice.ensures.items ∙ c.write_samples.ensures) c.tell.ensures;
+      says = subst (λ (line : List ℕ). Tells before new line Done c.tell.result) (c.as_slice.ensures.items
+          ∙ c.write_samples.ensures) c.tell.ensures;
     }
 
 pub returns-in-Err : goal.returns-in-Err

@@ -9,7 +9,8 @@ use Rattle.encode_command.proofs.recording.record_file.Given as goal
 abbrev pub invariant-loop-count : goal.invariant-loop-count
 invariant-loop-count g l = record {
   within : l.at ≤ FILE_LIMIT;
-  recorded : (start : FolderState) → Begun start (g.F.Folder.state l.fn.folder) (named l.names) → RecordedTo start (g.F.Folder.state l.folder) (named l.names) l.recorder l.at;
+  recorded : (start : FolderState) → Begun start (g.F.Folder.state l.fn.folder) (named l.names)
+      → RecordedTo start (g.F.Folder.state l.folder) (named l.names) l.recorder l.at;
   only : OnlyOutput (g.F.Folder.state l.fn.folder) (g.F.Folder.state l.folder) l.names.rec.now;
   stand : CountsStand (g.F.Folder.state l.fn.folder) (g.F.Folder.state l.folder);
 }

@@ -4,6 +4,8 @@ use Rattle.exact_decoder.proofs.laws.lines_are_lost_once.Goals as goal
 
 pub returns : goal.returns
 returns g c = record {
-  once = λ starts are depth samples a b h k. lost-once (trellis_of g.C.TrellisCode.table g.C.TrellisCode.points starts) depth samples a b h k;
-  stays = λ starts are depth samples more symbol h. lost-stays (trellis_of g.C.TrellisCode.table g.C.TrellisCode.points starts) depth samples more symbol h;
+  once = λ starts are depth samples a b h k.
+      lost-once (trellis_of g.C.TrellisCode.table g.C.TrellisCode.points starts) depth samples a b h k;
+  stays = λ starts are depth samples more symbol h.
+      lost-stays (trellis_of g.C.TrellisCode.table g.C.TrellisCode.points starts) depth samples more symbol h;
 }

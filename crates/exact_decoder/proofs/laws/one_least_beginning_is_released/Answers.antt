@@ -7,11 +7,20 @@ use Rattle.exact_decoder.proofs.laws.one_least_beginning_is_released.Goals as go
 
 pub returns : goal.returns
 returns g c =
-    let code : IsCodeTable g.C.TrellisCode.table g.row.STATES g.row.LABELS g.C.TrellisCode.REACH = record { bounded = g.met.C.TrellisCode.bounded; within = g.met.C.TrellisCode.within; enters_once = g.met.C.TrellisCode.enters_once; some_steps = g.met.C.TrellisCode.reach_some; reaches = g.met.C.TrellisCode.reaches } in
+    let code : IsCodeTable g.C.TrellisCode.table g.row.STATES g.row.LABELS g.C.TrellisCode.REACH =
+        record { bounded = g.met.C.TrellisCode.bounded; within = g.met.C.TrellisCode.within; enters_once =
+        g.met.C.TrellisCode.enters_once; some_steps = g.met.C.TrellisCode.reach_some; reaches = g.met.C.TrellisCode.reaches } in
     record {
-      some = λ starts are samples. some-released (trellis_of g.C.TrellisCode.table g.C.TrellisCode.points starts) g.row.STATES g.row.LABELS g.C.TrellisCode.REACH samples (has-laws g.C.TrellisCode.table g.C.TrellisCode.points g.row.STATES g.row.LABELS g.C.TrellisCode.REACH code starts are);
+      some = λ starts are samples. some-released
+          (trellis_of g.C.TrellisCode.table g.C.TrellisCode.points starts) g.row.STATES g.row.LABELS g.C.TrellisCode.REACH samples
+          (has-laws g.C.TrellisCode.table g.C.TrellisCode.points g.row.STATES g.row.LABELS g.C.TrellisCode.REACH code starts are);
       once = λ starts are samples a b h k. released-once (trellis_of g.C.TrellisCode.table g.C.TrellisCode.points starts) samples a b h k;
-      stays = λ starts are samples more front later h k. stays-prefix (trellis_of g.C.TrellisCode.table g.C.TrellisCode.points starts) samples more front later h k;
-      least = λ starts are samples front h. released-is_least (trellis_of g.C.TrellisCode.table g.C.TrellisCode.points starts) g.row.STATES g.row.LABELS g.C.TrellisCode.REACH samples front (has-laws g.C.TrellisCode.table g.C.TrellisCode.points g.row.STATES g.row.LABELS g.C.TrellisCode.REACH code starts are) h;
-      first = λ starts are samples a b h k. first-least-once (trellis_of g.C.TrellisCode.table g.C.TrellisCode.points starts) samples a b h k;
+      stays = λ starts are samples more front later h k.
+          stays-prefix (trellis_of g.C.TrellisCode.table g.C.TrellisCode.points starts) samples more front later h k;
+      least = λ starts are samples front h.
+          released-is_least (trellis_of g.C.TrellisCode.table g.C.TrellisCode.points starts) g.row.STATES g.row.LABELS g.C.TrellisCode.REACH
+          samples front (has-laws g.C.TrellisCode.table g.C.TrellisCode.points g.row.STATES g.row.LABELS g.C.TrellisCode.REACH code starts
+          are) h;
+      first = λ starts are samples a b h k.
+          first-least-once (trellis_of g.C.TrellisCode.table g.C.TrellisCode.points starts) samples a b h k;
     }

@@ -3,6 +3,8 @@ use Rattle.exact_decoder.proofs.laws.sent_labels_are_decoded.Goals as goal
 
 pub returns : goal.returns
 returns g c = record {
-  least = only-sent g.C.TrellisCode.table g.C.TrellisCode.points g.row.STATES g.row.LABELS g.met.C.TrellisCode.bounded g.met.C.TrellisCode.points_differ;
-  released = releases-sent g.C.TrellisCode.table g.C.TrellisCode.points g.row.STATES g.row.LABELS g.met.C.TrellisCode.bounded g.met.C.TrellisCode.points_differ;
+  least = only-sent g.C.TrellisCode.table g.C.TrellisCode.points g.row.STATES g.row.LABELS g.met.C.TrellisCode.bounded
+      g.met.C.TrellisCode.points_differ;
+  released = releases-sent g.C.TrellisCode.table g.C.TrellisCode.points g.row.STATES g.row.LABELS g.met.C.TrellisCode.bounded
+      g.met.C.TrellisCode.points_differ;
 }

@@ -12,7 +12,8 @@ loop-listener-init g c =
     record {
       within = omega arith;
       pieces = omega (arith, c.new-listener.ensures.pieces);
-      heard = λ start b. heard-none-yet start old (named c.args.names.now) c.new-listener.result b c.new-listener.ensures.sender c.new-listener.ensures.heard;
+      heard = λ start b. heard-none-yet start old
+          (named c.args.names.now) c.new-listener.result b c.new-listener.ensures.sender c.new-listener.ensures.heard;
       only = OnlyOutputs-refl old [];
       stand = CountsStand-refl old;
     }

@@ -15,10 +15,12 @@ pub push-requires-clause-taken : goal.push-requires-clause-taken
 push-requires-clause-taken g c = let r = c.loop-place.invariant.ready RECORDING_LIMIT c.requires.ready in r.all_taken
 
 pub push-requires-clause-count : goal.push-requires-clause-count
-push-requires-clause-count g c = let r = c.loop-place.invariant.ready RECORDING_LIMIT c.requires.ready in omega (arith, r.count, c.loop-place-test.true, c.requires.few)
+push-requires-clause-count g c = let r = c.loop-place.invariant.ready RECORDING_LIMIT c.requires.ready in
+    omega (arith, r.count, c.loop-place-test.true, c.requires.few)
 
 pub push-requires-clause-pieces : goal.push-requires-clause-pieces
-push-requires-clause-pieces g c = let r = c.loop-place.invariant.ready RECORDING_LIMIT c.requires.ready in omega (arith, r.pieces, c.loop-place-test.true, c.requires.few)
+push-requires-clause-pieces g c = let r = c.loop-place.invariant.ready RECORDING_LIMIT c.requires.ready in
+    omega (arith, r.pieces, c.loop-place-test.true, c.requires.few)
 
 -- one sample more behind those of a piece
 one-more : (samples : List Sample) (piece : List ℕ) (p : ℕ) (sample : Sample) → 4 * p + 4 ≤ length piece → sample ≡ sample_at piece p
@@ -37,14 +39,17 @@ returns-in-Err-clause-err g c start samples h =
     let upto : ℕ = 4 * (place + 1) in
     let split = samples_in-split upto piece in
     let stops : StopsPlay start new c.args.mode (samples ++ samples_in (take upto piece)) c.in-Err.stop =
-    subst (λ (xs : List Sample). StopsPlay start new c.args.mode xs c.in-Err.stop) (one-more samples piece place c.sample_at.result within c.sample_at.ensures)
+    subst (λ (xs : List Sample). StopsPlay start new c.args.mode xs c.in-Err.stop)
+        (one-more samples piece place c.sample_at.result within c.sample_at.ensures)
     (c.in-Err.ensures.err start (samples ++ samples_in (take (4 * place) piece)) (c.loop-place.invariant.plays start samples h)) in
-    subst (λ (xs : List Sample). StopsPlay start new c.args.mode xs c.in-Err.stop) (append_assoc samples (samples_in (take upto piece)) split.0 ∙ ap (λ (xs : List Sample). samples ++ xs) (sym split.1))
+    subst (λ (xs : List Sample). StopsPlay start new c.args.mode xs c.in-Err.stop)
+        (append_assoc samples (samples_in (take upto piece)) split.0 ∙ ap (λ (xs : List Sample). samples ++ xs) (sym split.1))
     (stops-longer start new c.args.mode (samples ++ samples_in (take upto piece)) split.0 c.in-Err.stop stops)
 
 pub returns-in-Err-clause-counts : goal.returns-in-Err-clause-counts
 returns-in-Err-clause-counts g c inputs =
-    stop-earlier (g.F.Folder.state c.args.folder.now) (g.F.Folder.state c.loop-place.folder) (g.F.Folder.state c.push.new.folder) inputs [] c.in-Err.stop c.loop-place.invariant.stand (c.in-Err.ensures.counts inputs)
+    stop-earlier (g.F.Folder.state c.args.folder.now) (g.F.Folder.state c.loop-place.folder)
+        (g.F.Folder.state c.push.new.folder) inputs [] c.in-Err.stop c.loop-place.invariant.stand (c.in-Err.ensures.counts inputs)
 
 pub loop-place-preserved : goal.loop-place-preserved
 loop-place-preserved g c =
@@ -56,9 +61,11 @@ loop-place-preserved g c =
     let piece : List ℕ = c.args.piece.now in
     let within : 4 * place + 4 ≤ length piece = omega (arith, c.loop-place-test.true) in
     record {
-      plays = λ start samples h. subst (λ (xs : List Sample). Plays start new c.args.mode c.push.new.self xs) (one-more samples piece place c.sample_at.result within c.sample_at.ensures)
+      plays = λ start samples h. subst (λ (xs : List Sample). Plays start new c.args.mode c.push.new.self xs)
+          (one-more samples piece place c.sample_at.result within c.sample_at.ensures)
           (c.in-Ok.ensures.ok start (samples ++ samples_in (take (4 * place) piece)) (i.plays start samples h));
-      ready = λ most r. (let same : most + place + 1 ≡ most + (place + 1) = omega arith in subst (λ (m : ℕ). IsReady c.push.new.self m) same (c.in-Ok.ensures.ready (most + place) (i.ready most r)));
+      ready = λ most r. (let same : most + place + 1 ≡ most + (place + 1) = omega arith in
+          subst (λ (m : ℕ). IsReady c.push.new.self m) same (c.in-Ok.ensures.ready (most + place) (i.ready most r)));
       only = says-trans old now new i.only c.push.ensures.only;
       stand = CountsStand-trans i.stand (c.in-Ok.ensures.counts []);
     }
@@ -66,7 +73,10 @@ loop-place-preserved g c =
 pub returns-clause-ok : goal.returns-clause-ok
 returns-clause-ok g c start samples h =
     let all : length c.args.piece.now / 4 ≤ c.loop-place.place = omega (arith, c.loop-place-test.false) in
-    subst (λ (xs : List Sample). Plays start (g.F.Folder.state c.loop-place.folder) c.args.mode c.loop-place.player (samples ++ xs)) (samples_in-all c.loop-place.place c.args.piece.now all) (c.loop-place.invariant.plays start samples h)
+    subst (λ (xs : List Sample). Plays start (g.F.Folder.state c.loop-place.folder) c.args.mode c.loop-place.player (samples ++ xs))
+        (samples_in-all c.loop-place.place c.args.piece.now all) (c.loop-place.invariant.plays start samples h)
 
 pub returns-clause-ready : goal.returns-clause-ready
-returns-clause-ready g c most r = ready-later c.loop-place.player (most + c.loop-place.place) (most + length c.args.piece.now) (omega (arith, c.loop-place.auto.place-end)) (c.loop-place.invariant.ready most r)
+returns-clause-ready g c most r =
+    ready-later c.loop-place.player (most + c.loop-place.place) (most + length c.args.piece.now)
+    (omega (arith, c.loop-place.auto.place-end)) (c.loop-place.invariant.ready most r)

@@ -12,7 +12,8 @@ invariant-loop-player g l = record {
   size : length l.piece ≡ PIECE;
   within : l.at ≤ RECORDING_LIMIT;
   ready : IsReady l.player l.at;
-  played : (start : FolderState) → PlayedTo start (g.F.Folder.state l.fn.folder) l.rec l.mode l.fn.player HEADER → PlayedTo start (g.F.Folder.state l.folder) l.rec l.mode l.player l.at;
+  played : (start : FolderState) → PlayedTo start (g.F.Folder.state l.fn.folder) l.rec l.mode l.fn.player HEADER
+      → PlayedTo start (g.F.Folder.state l.folder) l.rec l.mode l.player l.at;
   only : OnlyOutputs (g.F.Folder.state l.fn.folder) (g.F.Folder.state l.folder) [];
   stand : CountsStand (g.F.Folder.state l.fn.folder) (g.F.Folder.state l.folder);
 }

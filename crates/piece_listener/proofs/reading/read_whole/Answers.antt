@@ -5,7 +5,11 @@ use Rattle.lapm_frames.specs.Checked.{IsCheckedFault}
 use Rattle.piece_listener.proofs.reading.read_whole.Goals as goal
 
 pub returns-in-Err-Refused : goal.returns-in-Err-Refused
-returns-in-Err-Refused c = subst (λ (f : CheckedFault). IsCheckedFault Sixteen c.args.sender 0 c.args.octets.now f) c.in-Err-Refused.field-0-is ((c.in-Err-Refused.ensures.fault c.in-Err-Refused.field-0).0 refl)
+returns-in-Err-Refused c = subst
+    (λ (f : CheckedFault). IsCheckedFault Sixteen c.args.sender 0 c.args.octets.now f) c.in-Err-Refused.field-0-is
+    ((c.in-Err-Refused.ensures.fault c.in-Err-Refused.field-0).0 refl)
 
 pub returns-in-Err-BadCheck : goal.returns-in-Err-BadCheck
-returns-in-Err-BadCheck c = (subst (λ (f : CheckedFault). IsCheckedFault Sixteen c.args.sender 0 c.args.octets.now f) c.in-Err-BadCheck.field-0-is ((c.in-Err-BadCheck.ensures.fault c.in-Err-BadCheck.field-0).0 refl), refl)
+returns-in-Err-BadCheck c = (subst
+    (λ (f : CheckedFault). IsCheckedFault Sixteen c.args.sender 0 c.args.octets.now f) c.in-Err-BadCheck.field-0-is
+    ((c.in-Err-BadCheck.ensures.fault c.in-Err-BadCheck.field-0).0 refl), refl)

@@ -17,8 +17,11 @@ returns c mode octets recorded s =
     let second = sample-more sample_octets before b (recorded ++ c.octets_of.result) c.octets_of-2.result first c.octets_of-2.ensures in
     record {
       samples = before ++ b ∷ [];
-      made = subst (λ (bits : List Bool). ModulatorStands mode c.push-second.new.self bits (before ++ b ∷ [])) (bits-more octets c.args.octet (omega (arith, c.ranges.octet.fits))) two;
-      recorded_is = ap (λ (xs : List ℕ). recorded ++ xs) (c.extend-2.ensures ∙ ap (λ (xs : List ℕ). xs ++ c.octets_of-2.result) (c.extend.ensures ∙ ap (λ (xs : List ℕ). xs ++ c.octets_of.result) c.new-octets.ensures))
+      made = subst (λ (bits : List Bool). ModulatorStands mode c.push-second.new.self bits (before ++ b ∷ []))
+          (bits-more octets c.args.octet (omega (arith, c.ranges.octet.fits))) two;
+      recorded_is = ap (λ (xs : List ℕ). recorded ++ xs) (c.extend-2.ensures
+          ∙ ap (λ (xs : List ℕ). xs ++ c.octets_of-2.result) (c.extend.ensures
+          ∙ ap (λ (xs : List ℕ). xs ++ c.octets_of.result) c.new-octets.ensures))
           ∙ sym (append_assoc recorded c.octets_of.result c.octets_of-2.result) ∙ second;
       count = omega (arith, s.count, count-more s.samples a, count-more before b, length-more octets c.args.octet);
     }

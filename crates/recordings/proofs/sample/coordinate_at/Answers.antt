@@ -7,4 +7,5 @@ two-octets : (low high : ℕ) → low + 256 * (high + 256 * 0) ≡ low + 256 * h
 two-octets low high = omega arith
 
 pub returns : goal.returns
-returns c = to_z-of_z w16 c.read_i16.result (record { sfits = c.read_i16.type_inv }) ∙ c.read_i16.ensures ∙ ap (cast_signed w16) (two-octets _ _)
+returns c = to_z-of_z w16 c.read_i16.result (record { sfits = c.read_i16.type_inv }) ∙ c.read_i16.ensures
+    ∙ ap (cast_signed w16) (two-octets _ _)

@@ -12,4 +12,5 @@ returns-clause-headline g c =
 
 pub returns-clause-completes : goal.returns-clause-completes
 returns-clause-completes g c =
-    completes-of (map string_bytes c.args.words.now) (g.F.Folder.state c.args.folder.now) (g.F.Folder.state c.explain_and_tell.new.folder) c.args.digits.now c.explain_and_tell.result c.explain_and_tell.ensures
+    completes-of (map string_bytes c.args.words.now) (g.F.Folder.state c.args.folder.now)
+        (g.F.Folder.state c.explain_and_tell.new.folder) c.args.digits.now c.explain_and_tell.result c.explain_and_tell.ensures

@@ -17,7 +17,8 @@ settle-requires-clause-column g c =
     ring-here items newest (length items - 1) oldest c.index_mut.result.now c.self.invariant.0 (omega (arith, c.self.invariant.0))
     (oldest-place newest (length items) oldest c.self.invariant.0 before) c.index_mut.ensures.value in
     ap length c.deref_mut.ensures.value
-    ∙ (column-fits g.row.STATES g.row.LABELS (from_newest newest items) (length items - 1) c.index_mut.result.now here (subst (AreColumns g.row.STATES g.row.LABELS) (sym c.self.view_is) c.requires.columns)).long
+    ∙ (column-fits g.row.STATES g.row.LABELS (from_newest newest items) (length items - 1) c.index_mut.result.now here
+        (subst (AreColumns g.row.STATES g.row.LABELS) (sym c.self.view_is) c.requires.columns)).long
 
 pub returns : goal.returns
 returns g c =
@@ -29,6 +30,7 @@ returns g c =
     let column = with_items c.index_mut.result.now c.settle.new.column in
     let column_is : column.items ≡ c.settle.new.column = with_items_is c.index_mut.result.now c.settle.new.column (omega arith) in (
       c.settle.new.column,
-      columns-more items newest oldest column c.args.self.now c.self.invariant.0 before c.self.view_is ∙ ap (λ l. l ∷ take (length c.args.self.now - 1) c.args.self.now) column_is,
+      columns-more items newest oldest column c.args.self.now c.self.invariant.0 before c.self.view_is
+          ∙ ap (λ l. l ∷ take (length c.args.self.now - 1) c.args.self.now) column_is,
       c.settle.ensures,
     )

@@ -22,7 +22,8 @@ returns-clause-least g c = λ starts samples taken h.
 
 pub returns-clause-bound : goal.returns-clause-bound
 unfolding opened
-returns-clause-bound g c = All-same (λ x. x < g.row.LABELS) c.of.result (reverse c.least.result) c.of.ensures (All-turned (λ x. x < g.row.LABELS) c.least.result c.least.ensures.below)
+returns-clause-bound g c = All-same (λ x. x < g.row.LABELS) c.of.result (reverse c.least.result) c.of.ensures
+    (All-turned (λ x. x < g.row.LABELS) c.least.result c.least.ensures.below)
 
 pub of-requires : goal.of-requires
 unfolding opened

@@ -17,5 +17,6 @@ returns c mode bits samples s =
       in_fours = fours-more s.line s.quads quad _ s.in_fours refl;
       are_quads = All-push (λ quad. quad < 16) s.quads quad s.are_quads c.push_four-scrambled.ensures.bound;
       encoder = c.push-label.ensures.stands s.quads s.labels s.encoder;
-      points = ap (λ xs. xs ++ c.point.result ∷ []) s.points ∙ ap (λ p. map point_of s.labels ++ p ∷ []) c.point.ensures ∙ sym (map-append point_of s.labels (c.push-label.result ∷ []));
+      points = ap (λ xs. xs ++ c.point.result ∷ []) s.points ∙ ap (λ p. map point_of s.labels ++ p ∷ []) c.point.ensures
+          ∙ sym (map-append point_of s.labels (c.push-label.result ∷ []));
     }

@@ -19,7 +19,8 @@ returns-clause-serves g c = λ files ts ends heard mid h within.
       others = s.others;
       reads = reads;
       stands = record {
-        overhears = over-others c.files_count_as_far_as_they_were_read.ensures.next script files s.others ts ends mid heard f n c.requires.limits h.overhears reads;
+        overhears = over-others c.files_count_as_far_as_they_were_read.ensures.next script files s.others ts ends mid heard f n
+            c.requires.limits h.overhears reads;
         link = subst (λ t. LinkStands c.serve.new.self s.others (served script s.others t mid)) h.turn
             (c.serve.ensures.stands s.others (supplied s.others (handed mid)) s.stands);
         lines = h.lines;

@@ -11,7 +11,8 @@ invariant-loop-taken g l = record {
       → Plays start (g.F.Folder.state l.folder) mode (playing_of l.self-inside.reader l.self-inside.listener) samples;
   lost : l.self-inside.reader.reading.decoder.lost ≡ l.fn.self.reader.reading.decoder.lost;
   count : l.self-inside.reader.reading.decoder.count ≡ l.fn.self.reader.reading.decoder.count;
-  room : l.self-inside.listener.pieces + 4 * length l.self-inside.reader.reading.decoder.pending ≤ l.fn.self.listener.pieces + 4 * length l.fn.self.reader.reading.decoder.pending;
+  room : l.self-inside.listener.pieces + 4 * length l.self-inside.reader.reading.decoder.pending ≤ l.fn.self.listener.pieces + 4 * length
+      l.fn.self.reader.reading.decoder.pending;
   only : OnlySays (g.F.Folder.state l.fn.folder) (g.F.Folder.state l.folder);
   stand : CountsStand (g.F.Folder.state l.fn.folder) (g.F.Folder.state l.folder);
 }

@@ -6,7 +6,8 @@ use Rattle.piece_listener.proofs.listener.Listener.hear.Given as goal
 
 abbrev pub invariant-loop-octet : goal.invariant-loop-octet
 invariant-loop-octet g l = record {
-  heard : (start : FolderState) (bits : List Bool) → Heard start (g.F.Folder.state l.fn.folder) l.fn.self bits → Heard start (g.F.Folder.state l.folder) l.self (bits ++ bits_of (take l.octet-index l.octets));
+  heard : (start : FolderState) (bits : List Bool) → Heard start (g.F.Folder.state l.fn.folder) l.fn.self bits
+      → Heard start (g.F.Folder.state l.folder) l.self (bits ++ bits_of (take l.octet-index l.octets));
   only : OnlySays (g.F.Folder.state l.fn.folder) (g.F.Folder.state l.folder);
   stand : CountsStand (g.F.Folder.state l.fn.folder) (g.F.Folder.state l.folder);
   sender : l.self.sender ≡ l.fn.self.sender;

@@ -6,7 +6,8 @@ use Rattle.piece_listener.proofs.listener.Listener.hear_low.Given as goal
 
 abbrev pub invariant-loop-place : goal.invariant-loop-place
 invariant-loop-place g l = record {
-  heard : (start : FolderState) (bits : List Bool) → Heard start (g.F.Folder.state l.fn.folder) l.fn.self bits → Heard start (g.F.Folder.state l.folder) l.self (bits ++ take l.place (low_bits l.count l.octet));
+  heard : (start : FolderState) (bits : List Bool) → Heard start (g.F.Folder.state l.fn.folder) l.fn.self bits
+      → Heard start (g.F.Folder.state l.folder) l.self (bits ++ take l.place (low_bits l.count l.octet));
   only : OnlySays (g.F.Folder.state l.fn.folder) (g.F.Folder.state l.folder);
   stand : CountsStand (g.F.Folder.state l.fn.folder) (g.F.Folder.state l.folder);
   sender : l.self.sender ≡ l.fn.self.sender;

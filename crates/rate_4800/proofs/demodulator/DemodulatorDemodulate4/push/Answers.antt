@@ -12,8 +12,11 @@ use Rattle.rate_4800.proofs.demodulator.DemodulatorDemodulate4.push.Goals as goa
 pub returns-clause-stands : goal.returns-clause-stands
 returns-clause-stands c mode labels bits s =
     let read = c.decode-turns.ensures.stands labels (unturned labels) s.unturner in
-    let line = twos-more (line_of labels) (unturned labels) c.decode-turns.result refl ∙ ap (λ turns. flat_map (low_bits 2) turns) read.unturned_is in
+    let line = twos-more (line_of labels) (unturned labels) c.decode-turns.result refl
+        ∙ ap (λ turns. flat_map (low_bits 2) turns) read.unturned_is in
     record {
-      unturner = subst (λ (turns : List ℕ). UnturnerStands c.decode-turns.new.self (labels ++ c.args.label ∷ []) turns) read.unturned_is read;
-      descrambler = subst (λ (line : List Bool). DescramblesAs mode c.push_two.new.self line (bits ++ low_bits 2 c.push_two.result)) line (c.push_two.ensures.stands mode (line_of labels) bits s.descrambler);
+      unturner = subst (λ (turns : List ℕ). UnturnerStands c.decode-turns.new.self (labels ++ c.args.label ∷ []) turns) read.unturned_is
+          read;
+      descrambler = subst (λ (line : List Bool). DescramblesAs mode c.push_two.new.self line (bits ++ low_bits 2 c.push_two.result)) line
+          (c.push_two.ensures.stands mode (line_of labels) bits s.descrambler);
     }

@@ -17,5 +17,6 @@ returns c mode bits samples s =
       in_twos = twos-more s.line s.turns turns s.in_twos;
       are_turns = All-push (λ n. n < 4) s.turns turns s.are_turns c.push_two-turns.ensures.bound;
       turner = c.encode-label.ensures.stands s.turns s.labels s.turner;
-      points = ap (λ xs. xs ++ c.point.result ∷ []) s.points ∙ ap (λ p. map point_of s.labels ++ p ∷ []) c.point.ensures ∙ sym (map-append point_of s.labels (c.encode-label.result ∷ []));
+      points = ap (λ xs. xs ++ c.point.result ∷ []) s.points ∙ ap (λ p. map point_of s.labels ++ p ∷ []) c.point.ensures
+          ∙ sym (map-append point_of s.labels (c.encode-label.result ∷ []));
     }
