@@ -39,8 +39,10 @@ pub CreatesPart-first : (old mid new : FolderState) (name : List ℕ) (names : L
     → Holds mid name [] → OnlyOutputs mid new names → CreatesPart mid new names →
     CreatesPart old new (name ∷ names)
 CreatesPart-first old mid new name names apart w holds only part =
-    inr (Holds-kept mid new name [] only.goes_on holds (only.names name apart),
-        CreatesPart-earlier old mid new names w.goes_on (KeepsEach-writes old mid name names apart w) part)
+    inr (
+      Holds-kept mid new name [] only.goes_on holds (only.names name apart),
+      CreatesPart-earlier old mid new names w.goes_on (KeepsEach-writes old mid name names apart w) part,
+    )
 
 -- or not even the first
 pub CreatesPart-none : (old new : FolderState) (name : List ℕ) (names : List (List ℕ)) → IsNoneOf name names → OnlyWrites old new name

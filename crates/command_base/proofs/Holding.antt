@@ -18,7 +18,7 @@ pub Holds-add : (a b : FolderState) (name octets piece : List ℕ) → GoesOn a 
     → Holds b name (octets ++ piece)
 Holds-add a b name octets piece g holds adds = elim adds [
   | inl none ↦ subst (Holds b name) (sym (append-nil octets) ∙ ap (λ xs. octets ++ xs) (sym none.0))
-        (Holds-kept a b name octets g holds none.1)
+      (Holds-kept a b name octets g holds none.1)
   | inr put ↦ Holds-more a b name octets piece g holds put
 ]
 

@@ -271,7 +271,7 @@ memory-of : {D : Type 0} (j : Job D) (words : List (List ℕ)) (old new : Folder
 memory-of j words old new s a keeps e = elim (last-memory j.line_of words a.before new a.end s a.says e) [
   | inl own ↦ elim (end-memory old a.before j.inputs j.outputs a.end a.counts own) [
     | inl is ↦ inr (λ name. KeepsName-trans old a.before new name a.only.goes_on
-          (keeps (subst (j.Ends old a.before) is a.ends) name) (last.names name tt))
+        (keeps (subst (j.Ends old a.before) is a.ends) name) (last.names name tt))
     | inr rose ↦ inl (Rose-later _ _ a.before.refusals new.refusals (omega arith) rose last.goes_on.refused)
   ]
   | inr rose ↦ inl (Rose-later old.refusals a.before.refusals new.refusals new.refusals a.only.goes_on.refused rose (omega arith))
@@ -289,8 +289,8 @@ shared-of j words old new s a keeps = record {
       (a.refused (last-refusal j.line_of words a.before new a.end s a.says r) name) (last.names name tt);
   read = λ e.
       SomeRose-later _ _ _ j.inputs last.goes_on.reads
-          (end-read old a.before j.inputs j.outputs a.end a.counts
-          (last-plain j.line_of words a.before new a.end s status.ReadFault a.says e read-plain));
+      (end-read old a.before j.inputs j.outputs a.end a.counts
+      (last-plain j.line_of words a.before new a.end s status.ReadFault a.says e read-plain));
   write = λ e. elim (last-fault j.line_of words a.before new a.end s a.says e) [
     | inl own ↦ elim (end-write old a.before j.inputs j.outputs a.end a.counts own) [
       | inl rose ↦ inl (SomeRose-later _ _ _ j.outputs last.goes_on.writes rose)
@@ -321,9 +321,9 @@ pub done-unless-memory : {D : Type 0} (j : Job D) (words : List (List ℕ)) (old
     ((answer : Status) → j.Ends old a.before (Err (Own answer)) → ⊥) → DoneUnlessMemory s
 done-unless-memory {D} j words old new s a sound never =
     elim (last-or-memory j.line_of words old a.before new a.end s a.only.goes_on sound.says a.says) [
-  | inl e ↦ by a.end a.ends a.counts e
-  | inr memory ↦ inr memory
-]
+      | inl e ↦ by a.end a.ends a.counts e
+      | inr memory ↦ inr memory
+    ]
   where
     on : GoesOn a.before new
     on = (last-only j.line_of words a.before new a.end s a.says).goes_on

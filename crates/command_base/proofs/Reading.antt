@@ -11,13 +11,13 @@ pub within-earlier : (old mid : FolderState) (name : List ℕ) (limit : ℕ) →
     → IsWithin old name limit
 within-earlier old mid name limit reads within told =
     subst (λ (o : List ℕ). length o ≤ limit) (octets-kept old mid name (reads.names name) told)
-        (within (told_later reads.goes_on name told))
+    (within (told_later reads.goes_on name told))
 
 pub longer-earlier : (old mid : FolderState) (name : List ℕ) (limit : ℕ) → OnlyReads old mid → IsLonger mid name limit
     → IsLonger old name limit
 longer-earlier old mid name limit reads longer told =
     subst (λ (o : List ℕ). limit < length o) (octets-kept old mid name (reads.names name) told)
-        (longer (told_later reads.goes_on name told))
+    (longer (told_later reads.goes_on name told))
 
 -- nothing was read yet
 pub ReadTo-none : (start now : FolderState) (name : List ℕ) (limit : ℕ) → IsWithin start name limit → GoesOn start now
@@ -38,22 +38,24 @@ ReadTo-kept start now later name limit at octets r on kept = record {
 -- what was read begins the input
 pub ReadTo-begins : (start now : FolderState) (name : List ℕ) (limit at : ℕ) (octets : List ℕ) → ReadTo start now name limit at octets
     → IsTrue (start.tells name) → IsPrefixOf octets (octets_at start name)
-ReadTo-begins start now name limit at octets r told =
-    (drop at (octets_at start name), ap (λ xs. xs ++ drop at (octets_at start name)) (r.front told)
-        ∙ take-append-drop at (octets_at start name))
+ReadTo-begins start now name limit at octets r told = (
+  drop at (octets_at start name),
+  ap (λ xs. xs ++ drop at (octets_at start name)) (r.front told)
+      ∙ take-append-drop at (octets_at start name),
+)
 
 -- a piece more
 pub ReadTo-more : (start old new : FolderState) (name : List ℕ) (limit at count : ℕ) (octets piece : List ℕ)
     → ReadTo start old name limit at octets → OnlyReads old new → length piece ≡ count →
     (IsTrue (old.tells name) → piece ≡ take count (drop at (octets_at old name)))
-        → ReadTo start new name limit (at + count) (octets ++ piece)
+    → ReadTo start new name limit (at + count) (octets ++ piece)
 ReadTo-more start old new name limit at count octets piece r reads long is = record {
   within = r.within;
   count = omega (arith, r.count, long, length-append octets piece);
   front = λ told.
       let file : List ℕ = octets_at start name in
       let next : piece ≡ take count (drop at file) =
-          is (told_later r.goes_on name told) ∙ ap (λ (xs : List ℕ). take count (drop at xs)) (octets-kept start old name r.kept told) in
+      is (told_later r.goes_on name told) ∙ ap (λ (xs : List ℕ). take count (drop at xs)) (octets-kept start old name r.kept told) in
       (λ i. r.front told i ++ next i) ∙ sym (take-add at count file);
   goes_on = GoesOn-trans r.goes_on reads.goes_on;
   kept = KeepsName-trans start old new name r.goes_on r.kept (reads.names name);
@@ -63,11 +65,11 @@ ReadTo-more start old new name limit at count octets piece r reads long is = rec
 pub ReadTo-end : (start old new : FolderState) (name : List ℕ) (limit at count room : ℕ) (octets piece : List ℕ)
     → ReadTo start old name limit at octets → OnlyReads old new → length piece ≡ count →
     (IsTrue (old.tells name) → piece ≡ take count (drop at (octets_at old name)))
-        → (IsTrue (old.tells name) → count ≡ min (min room (limit - at)) (length (octets_at old name) - at)) → count < room →
+    → (IsTrue (old.tells name) → count ≡ min (min room (limit - at)) (length (octets_at old name) - at)) → count < room →
     IsTrue (start.tells name) → octets ++ piece ≡ octets_at start name
 ReadTo-end start old new name limit at count room octets piece r reads long is counts few told =
     (ReadTo-more start old new name limit at count octets piece r reads long is).front told
-        ∙ take_all (at + count) (octets_at start name) at_end
+    ∙ take_all (at + count) (octets_at start name) at_end
   where
     least : (a b limit at count : ℕ) → b ≤ limit → count ≡ min (min a (limit - at)) (b - at) → count < a → b ≤ at + count
     least a b limit at count k e few = omega arith

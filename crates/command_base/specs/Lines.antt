@@ -45,7 +45,7 @@ pieces_line pieces = count_line (codes "pieces") pieces
 abbrev pub soak_line : ℕ → ℕ → ℕ → ℕ → List ℕ
 soak_line seed turn lost again =
     codes "soak " ++ decimal seed ++ codes " done " ++ decimal turn ++ codes " lost " ++ decimal lost ++ codes " again " ++ decimal
-        again ++ codes "\n"
+    again ++ codes "\n"
 
 -- octets that were held against a recording: what they cost, and 1 where that is so little that they are told for certain, else 0
 abbrev pub margin_line : ℕ → Bool → List ℕ

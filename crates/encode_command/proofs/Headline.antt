@@ -24,14 +24,23 @@ left-part : (old before : FolderState) (n : EncodeNames) → LeavesPart old befo
     ⊎ HoldsBeginning old before n
 left-part old before n (inl kept) = inl kept
 left-part old before n (inr w) =
-    inr (λ file rec. (w.recording, w.samples,
-        subst (λ (xs : List ℕ). IsRecordingOf n.rate n.mode xs w.recording w.samples) (w.records.read file) w.records.recorded, w.rec))
+    inr (λ file rec. (
+      w.recording,
+      w.samples,
+      subst (λ (xs : List ℕ). IsRecordingOf n.rate n.mode xs w.recording w.samples) (w.records.read file) w.records.recorded,
+      w.rec,
+    ))
 
 left-by : (old before : FolderState) (n : EncodeNames) (end : Result ℕ Stop) → Ends old before n end → KeepsName old before n.rec
     ⊎ HoldsBeginning old before n
 left-by old before n (Ok samples) w =
-    left-part old before n (inr (record { recording = w.recording; samples = samples; records = w.records; rec =
-    HoldsFront-all before n.rec w.recording w.rec }))
+    left-part old before n (inr (record {
+      recording = w.recording;
+      samples = samples;
+      records = w.records;
+      rec =
+          HoldsFront-all before n.rec w.recording w.rec;
+    }))
 left-by old before n (Err (Own answer)) e = inl (e.1 n.rec)
 left-by old before n (Err (Read fault)) e = left-part old before n e
 left-by old before n (Err (Write fault)) e = left-part old before n e.1
@@ -81,4 +90,4 @@ pub completes-of : (words : List (List ℕ)) (old new : FolderState) (n : Encode
     → Completes old new n s
 completes-of words old new n s a sound told within =
     done-unless-memory (encode_job n) words old new s a sound
-        (λ answer ends. never-longer (length (octets_at old n.file)) within (ends.0.2 told))
+    (λ answer ends. never-longer (length (octets_at old n.file)) within (ends.0.2 told))

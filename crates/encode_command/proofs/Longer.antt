@@ -75,9 +75,9 @@ Modulates-more tap bits samples a b c d low h =
     let one : Scrambles tap (bits ++ a ∷ []) (h.line ++ a' ∷ []) = Scrambles-more tap bits h.line a a' low h.scrambled refl in
     let two : Scrambles tap ((bits ++ a ∷ []) ++ b ∷ []) ((h.line ++ a' ∷ []) ++ b' ∷ []) = Scrambles-more tap _ _ b b' low one refl in
     let three : Scrambles tap (((bits ++ a ∷ []) ++ b ∷ []) ++ c ∷ []) (((h.line ++ a' ∷ []) ++ b' ∷ []) ++ c' ∷ []) =
-        Scrambles-more tap _ _ c c' low two refl in
+    Scrambles-more tap _ _ c c' low two refl in
     let four : Scrambles tap ((((bits ++ a ∷ []) ++ b ∷ []) ++ c ∷ []) ++ d ∷ [])
-        ((((h.line ++ a' ∷ []) ++ b' ∷ []) ++ c' ∷ []) ++ d' ∷ []) = Scrambles-more tap _ _ d d' low three refl in
+    ((((h.line ++ a' ∷ []) ++ b' ∷ []) ++ c' ∷ []) ++ d' ∷ []) = Scrambles-more tap _ _ d d' low three refl in
     let quad = quad_of a' b' c' d' in
     let y = (sum (map turn_of h.quads) + turn_of quad) % 4 in
     let label = label_of (h.end % 2) y (uncoded_of quad) in
@@ -113,15 +113,15 @@ octet-longer : (rate : Rate) (tap : ℕ) (bits : List Bool) (samples : List Samp
     → LongerAt rate tap (bits ++ octet_bits n) samples
 octet-longer Trellis tap bits samples n low h =
     let one = Modulates-more tap bits samples (nat_eq (n % 2) 1) (nat_eq (n / 2 % 2) 1) (nat_eq (n / 2 / 2 % 2) 1)
-        (nat_eq (n / 2 / 2 / 2 % 2) 1) low h in
+    (nat_eq (n / 2 / 2 / 2 % 2) 1) low h in
     let m : ℕ = n / 2 / 2 / 2 / 2 in
     let two = Modulates-more tap _ (samples ++ one.sample ∷ []) (nat_eq (m % 2) 1) (nat_eq (m / 2 % 2) 1) (nat_eq (m / 2 / 2 % 2) 1)
-        (nat_eq (m / 2 / 2 / 2 % 2) 1) low one.modulated in
+    (nat_eq (m / 2 / 2 / 2 % 2) 1) low one.modulated in
     record {
       more = one.sample ∷ two.sample ∷ [];
       modulated = subst (λ (p : List Bool × List Sample). Modulates tap p.0 p.1)
           (λ i. (append_assoc bits (low_bits 4 n) (low_bits 4 m) i, append_assoc samples (one.sample ∷ []) (two.sample ∷ []) i))
-              two.modulated;
+          two.modulated;
     }
 octet-longer Quarters tap bits samples n low h =
     let bit : ℕ → Bool = λ m. nat_eq (m % 2) 1 in
@@ -132,12 +132,14 @@ octet-longer Quarters tap bits samples n low h =
     let two = two-more tap _ (samples ++ one.sample ∷ []) (bit p) (bit (p / 2)) low one.modulated in
     let three = two-more tap _ ((samples ++ one.sample ∷ []) ++ two.sample ∷ []) (bit q) (bit (q / 2)) low two.modulated in
     let four = two-more tap _ (((samples ++ one.sample ∷ []) ++ two.sample ∷ []) ++ three.sample ∷ []) (bit r)
-        (bit (r / 2)) low three.modulated in
+    (bit (r / 2)) low three.modulated in
     record {
       more = one.sample ∷ two.sample ∷ three.sample ∷ four.sample ∷ [];
       modulated = subst (λ (p : List Bool × List Sample). QuarterModulates tap p.0 p.1)
-          (λ i. (twos-behind bits (bit n) (bit (n / 2)) (bit p) (bit (p / 2)) (bit q) (bit (q / 2)) (bit r) (bit (r / 2)) i,
-              four-behind samples one.sample two.sample three.sample four.sample i)) four.modulated;
+          (λ i. (
+            twos-behind bits (bit n) (bit (n / 2)) (bit p) (bit (p / 2)) (bit q) (bit (q / 2)) (bit r) (bit (r / 2)) i,
+            four-behind samples one.sample two.sample three.sample four.sample i,
+          )) four.modulated;
     }
 
 -- the recording of more octets begins with this one
@@ -153,9 +155,11 @@ octet-bits-more octets octet =
 
 samples-front : (rate : Rate) (mode : Mode) (samples more : List Sample)
     → IsPrefixOf (recording_octets rate mode samples) (recording_octets rate mode (samples ++ more))
-samples-front rate mode samples more =
-    (flat_map sample_octets more, append_assoc (header_at rate mode) (flat_map sample_octets samples) (flat_map sample_octets more)
-        ∙ ap (λ xs. header_at rate mode ++ xs) (sym (flat_map-append sample_octets samples more)))
+samples-front rate mode samples more = (
+  flat_map sample_octets more,
+  append_assoc (header_at rate mode) (flat_map sample_octets samples) (flat_map sample_octets more)
+      ∙ ap (λ xs. header_at rate mode ++ xs) (sym (flat_map-append sample_octets samples more)),
+)
 
 pub prefix-trans : (a b c : List ℕ) → IsPrefixOf a b → IsPrefixOf b c → IsPrefixOf a c
 prefix-trans a b c (left, e) (more, f) = (left ++ more, sym (append_assoc a left more) ∙ ap (λ xs. xs ++ more) e ∙ f)

@@ -82,7 +82,7 @@ nothing-recorded Quarters mode = record {
 -- file's recording.
 part-of : (start now : FolderState) (n : EncodeNames) (octets recording : List ℕ) (samples : ℕ) → IsWithin start n.file FILE_LIMIT →
     (IsTrue (start.tells n.file) → IsPrefixOf octets (octets_at start n.file)) → IsRecordingOf n.rate n.mode octets recording samples
-        → HoldsFront now n.rec recording → WritesPart start now n
+    → HoldsFront now n.rec recording → WritesPart start now n
 part-of start now n octets recording samples within front recorded holds = by (start.tells n.file) refl
   where
     by : (told : Bool) → start.tells n.file ≡ told → WritesPart start now n
@@ -114,17 +114,17 @@ pub recorded-part : (start old mid : FolderState) (n : EncodeNames) (kept : Reco
     → OnlyReads old mid → LeavesPart start mid n
 recorded-part start old mid n kept at r reads =
     inr (part-of start mid n r.octets (header_at n.rate n.mode ++ r.recorded) (samples_each n.rate * length r.octets) r.read.within
-        (ReadTo-begins start old n.file FILE_LIMIT at r.octets r.read) (recorded-as n.rate n.mode kept r.octets r.recorded r.stands)
+    (ReadTo-begins start old n.file FILE_LIMIT at r.octets r.read) (recorded-as n.rate n.mode kept r.octets r.recorded r.stands)
     (HoldsFront-all mid n.rec (header_at n.rate n.mode ++ r.recorded) (held-after old mid n.rec _ reads r.rec)))
 
 -- a write failed, behind what the output held
 write-part : (start mid new : FolderState) (n : EncodeNames) (octets held piece : List ℕ) (samples : ℕ) → IsWithin start n.file FILE_LIMIT
     → OnlyWrites mid new n.rec →
     (IsTrue (start.tells n.file) → IsPrefixOf octets (octets_at start n.file)) → IsRecordingOf n.rate n.mode octets (held ++ piece) samples
-        → Holds mid n.rec held → PartlyAppended mid new n.rec piece → LeavesPart start new n
+    → Holds mid n.rec held → PartlyAppended mid new n.rec piece → LeavesPart start new n
 write-part start mid new n octets held piece samples within writes front recorded holds puts =
     inr (part-of start new n octets (held ++ piece) samples within front recorded
-        (HoldsFront-more mid new n.rec held piece writes.goes_on holds puts))
+    (HoldsFront-more mid new n.rec held piece writes.goes_on holds puts))
 
 -- the output was not made
 pub create-part : (old mid new : FolderState) (n : EncodeNames) → IsWithin old n.file FILE_LIMIT → OnlyReads old mid
@@ -132,13 +132,13 @@ pub create-part : (old mid new : FolderState) (n : EncodeNames) → IsWithin old
 create-part old mid new n within reads (inl k) = inl (KeepsName-trans old mid new n.rec reads.goes_on (reads.names n.rec) k)
 create-part old mid new n within reads (inr empty) =
     inr (part-of old new n [] (header_at n.rate n.mode ++ []) 0 within (λ told. (octets_at old n.file, refl))
-        (nothing-recorded n.rate n.mode) (λ told. ([], (header_at n.rate n.mode ++ [], refl), empty told)))
+    (nothing-recorded n.rate n.mode) (λ told. ([], (header_at n.rate n.mode ++ [], refl), empty told)))
 
 -- a piece more is recorded
 pub recorded-more : (start old mid new : FolderState) (n : EncodeNames) (kept next : Recorder) (at count : ℕ) (piece made : List ℕ)
     (r : RecordedTo start old n kept at) → are_apart n ≡ true →
     ReadTo start mid n.file FILE_LIMIT (at + count) (r.octets ++ piece)
-        → RecorderStands n.rate n.mode next (r.octets ++ piece) (r.recorded ++ made) →
+    → RecorderStands n.rate n.mode next (r.octets ++ piece) (r.recorded ++ made) →
     OnlyReads old mid → OnlyWrites mid new n.rec → Appended mid new n.rec made → RecordedTo start new n next (at + count)
 recorded-more start old mid new n kept next at count piece made r apart read stands reads writes puts = record {
   octets = r.octets ++ piece;
@@ -155,15 +155,15 @@ recorded-more start old mid new n kept next at count piece made r apart read sta
 pub piece-part : (start old mid new : FolderState) (n : EncodeNames) (kept next : Recorder) (at count : ℕ) (piece made : List ℕ)
     (r : RecordedTo start old n kept at) →
     ReadTo start mid n.file FILE_LIMIT (at + count) (r.octets ++ piece)
-        → RecorderStands n.rate n.mode next (r.octets ++ piece) (r.recorded ++ made) →
+    → RecorderStands n.rate n.mode next (r.octets ++ piece) (r.recorded ++ made) →
     OnlyReads old mid → OnlyWrites mid new n.rec → PartlyAppended mid new n.rec made → LeavesPart start new n
 piece-part start old mid new n kept next at count piece made r read stands reads writes puts =
     write-part start mid new n (r.octets ++ piece) (header_at n.rate n.mode ++ r.recorded) made
-        (samples_each n.rate * length (r.octets ++ piece)) r.read.within writes
+    (samples_each n.rate * length (r.octets ++ piece)) r.read.within writes
     (ReadTo-begins start mid n.file FILE_LIMIT (at + count) (r.octets ++ piece) read)
     (subst (λ (xs : List ℕ). IsRecordingOf n.rate n.mode (r.octets ++ piece) xs (samples_each n.rate * length (r.octets ++ piece)))
-        (sym (append_assoc (header_at n.rate n.mode) r.recorded made))
-        (recorded-as n.rate n.mode next (r.octets ++ piece) (r.recorded ++ made) stands))
+    (sym (append_assoc (header_at n.rate n.mode) r.recorded made))
+    (recorded-as n.rate n.mode next (r.octets ++ piece) (r.recorded ++ made) stands))
     (held-after old mid n.rec (header_at n.rate n.mode ++ r.recorded) reads r.rec) puts
 
 -- the file is at its end
@@ -187,7 +187,7 @@ pub header-part : (start old new : FolderState) (n : EncodeNames) → Begun star
     → PartlyAppended old new n.rec (header_at n.rate n.mode) → LeavesPart start new n
 header-part start old new n b writes puts =
     write-part start old new n [] [] (header_at n.rate n.mode) 0 b.within writes (λ told. (octets_at start n.file, refl))
-        (nothing-recorded n.rate n.mode) b.empty puts
+    (nothing-recorded n.rate n.mode) b.empty puts
 
 -- the file is too long, or no octet was read at its limit
 pub not-begun : (old new : FolderState) (n : EncodeNames) (stop : Stop) → OnlyReads old new → IsNotWithin old new n.file FILE_LIMIT 2 stop

@@ -14,13 +14,13 @@ use Rattle.encode_command.specs.Words.{EncodeNames}
 abbrev pub HoldsBeginning : FolderState → FolderState → EncodeNames → Type 0
 HoldsBeginning old new n = IsTrue (old.tells n.file) → IsTrue (old.tells n.rec) →
     (recording : List ℕ) × (samples : ℕ) × IsRecordingOf n.rate n.mode (octets_at old n.file) recording samples
-        × HoldsFront new n.rec recording
+    × HoldsFront new n.rec recording
 
 -- the output holds the recording of the file's octets, and the number of its samples was said
 abbrev pub HoldsWhole : FolderState → FolderState → EncodeNames → Type 0
 HoldsWhole old new n = (samples : ℕ) × Said old new (samples_line samples)
     × (IsTrue (old.tells n.file) → IsTrue (old.tells n.rec) → (recording : List ℕ)
-        × IsRecordingOf n.rate n.mode (octets_at old n.file) recording samples × Holds new n.rec recording)
+    × IsRecordingOf n.rate n.mode (octets_at old n.file) recording samples × Holds new n.rec recording)
 
 -- The output becomes the file's recording, or the beginning of it where the command ends by a fault.
 pub record Headline (old new : FolderState) (n : EncodeNames) (s : Status) : Type 0 where

@@ -77,29 +77,29 @@ sent-survives table points states few starts labels end bounded differ q = recor
   where
     against : (other : List ℕ) → IsSequence (trellis_of table points starts) (map points labels) other end
         → (cost (λ label sample. distance_of (points label) sample) other (map points labels) ≡ 0)
-            ⊎ (cost (λ label sample. distance_of (points label) sample) other (map points labels) ≡ 0 → ⊥)
+        ⊎ (cost (λ label sample. distance_of (points label) sample) other (map points labels) ≡ 0 → ⊥)
         → (other ≡ labels) ⊎ Beats (λ label sample. distance_of (points label) sample) (map points labels) labels other
     against other o (inl none) = inl
         (no-cost table points states few o.code_sequence.from q.from end end other labels bounded differ o.code_sequence.leads q.leads
         (o.same_length ∙ length-points points labels) none)
     against other o (inr some) = inr
         (inl (elim (cases_lt 0 (cost (λ label sample. distance_of (points label) sample) other (map points labels))) [
-      | inl more ↦ omega (arith, cost-own points labels)
-      | inr none_more ↦ let none : cost (λ label sample. distance_of (points label) sample) other (map points labels) ≡ 0 = omega arith in
-            absurd (some none)
-    ]))
+          | inl more ↦ omega (arith, cost-own points labels)
+          | inr none_more ↦ let none : cost (λ label sample. distance_of (points label) sample) other (map points labels) ≡ 0 = omega arith in
+              absurd (some none)
+        ]))
 
 pub only-sent : (table : ℕ → ℕ → Option ℕ) (points : ℕ → Sample) (states few : ℕ) → IsBounded table states few → PointsDiffer points few
     → OnlySentIsLeast table points
 only-sent table points states few bounded differ starts labels samples h =
     subst (λ k. IsOnlyLeast (trellis_of table points starts) k labels) (sym h.exact) (record {
-  least = record { end = h.end; sequence = mine; least = λ other other_end o. omega (arith, cost-own points labels) };
-  only = λ other l.
-      let none : cost (λ label sample. distance_of (points label) sample) other (map points labels) ≡ 0 =
+      least = record { end = h.end; sequence = mine; least = λ other other_end o. omega (arith, cost-own points labels) };
+      only = λ other l.
+          let none : cost (λ label sample. distance_of (points label) sample) other (map points labels) ≡ 0 =
           omega (arith, l.least labels h.end mine, cost-own points labels) in
-      no-cost table points states few l.sequence.code_sequence.from h.code_sequence.from l.end h.end other labels bounded differ
+          no-cost table points states few l.sequence.code_sequence.from h.code_sequence.from l.end h.end other labels bounded differ
           l.sequence.code_sequence.leads h.code_sequence.leads (l.sequence.same_length ∙ length-points points labels) none;
-})
+    })
   where
     mine : IsSequence (trellis_of table points starts) (map points labels) labels h.end
     mine = record { code_sequence = h.code_sequence; same_length = sym (length-points points labels) }
@@ -110,17 +110,17 @@ releases-sent table points states few bounded differ starts labels samples n fro
     let part : take n samples ≡ map points (take n labels) = ap (take n) h.exact ∙ take-points points n labels in
     let l = Leads-take table n h.code_sequence.from labels h.end h.code_sequence.leads in
     let first : IsCodeSequence table starts (take n labels) l.0 =
-        record { from = h.code_sequence.from; starts_there = h.code_sequence.starts_there; leads = l.1 } in
+    record { from = h.code_sequence.from; starts_there = h.code_sequence.starts_there; leads = l.1 } in
     let p = (subst (λ k. IsReleased (trellis_of table points starts) k front) part r).common l.0 (take n labels)
-        (sent-survives table points states few starts (take n labels) l.0 bounded differ first) in
+    (sent-survives table points states few starts (take n labels) l.0 bounded differ first) in
     (p.0 ++ drop n labels, sym (append_assoc front p.0 (drop n labels)) ∙ ap (λ k. k ++ drop n labels) p.1 ∙ take-append-drop n labels)
 
 -- the same survivors have the same prefix released
 released-along : (table : ℕ → ℕ → Option ℕ) (points : ℕ → Sample) (a b : ℕ → Bool) (samples : List Sample) (front : List ℕ)
     → ((labels : List ℕ) (end : ℕ) → IsSequence (trellis_of table points a) samples labels end
-        → IsSequence (trellis_of table points b) samples labels end)
+    → IsSequence (trellis_of table points b) samples labels end)
     → ((labels : List ℕ) (end : ℕ) → IsSequence (trellis_of table points b) samples labels end
-        → IsSequence (trellis_of table points a) samples labels end)
+    → IsSequence (trellis_of table points a) samples labels end)
     → IsReleased (trellis_of table points a) samples front → IsReleased (trellis_of table points b) samples front
 released-along table points a b samples front to back r = record {
   common = λ state labels v. r.common state labels
@@ -142,8 +142,11 @@ some-start starts (suc n) = next (starts n) refl (some-start starts n)
         → ((s : ℕ) × (s < suc n) × (starts s ≡ true)) ⊎ ((s : ℕ) → s < suc n → starts s ≡ true → ⊥)
     next b e (inl (s, l, f)) = inl (s, omega arith, f)
     next true e (inr none) = inl (n, omega arith, e)
-    next false e (inr none) = inr (λ s l f. elim (cases_lt s n) [ inl less ↦ none s less f | inr more ↦ let same : s ≡ n = omega arith in
-        false≢true (sym e ∙ subst (λ k. starts k ≡ true) same f) ])
+    next false e (inr none) = inr (λ s l f. elim (cases_lt s n) [
+      | inl less ↦ none s less f
+      | inr more ↦ let same : s ≡ n = omega arith in
+          false≢true (sym e ∙ subst (λ k. starts k ≡ true) same f)
+    ])
 
 -- a sequence of some labels starts in a state of the code
 starts-among : (table : ℕ → ℕ → Option ℕ) (points : ℕ → Sample) (states few : ℕ) (starts : ℕ → Bool) (samples : List Sample)
@@ -160,7 +163,7 @@ starts-among table points states few starts samples labels end bounded some q =
 few-lost : (table : ℕ → ℕ → Option ℕ) (points : ℕ → Sample) (states labels steps depth : ℕ) (starts : ℕ → Bool) (samples : List Sample)
     (symbol : ℕ) (front : List ℕ) → IsCodeTable table states labels steps
     → IsLost (trellis_of table points starts) depth samples symbol
-        → IsReleased (trellis_of table points starts) (take (symbol + 1) samples) front → symbol + 1 ≤ length front + (depth + 1)
+    → IsReleased (trellis_of table points starts) (take (symbol + 1) samples) front → symbol + 1 ≤ length front + (depth + 1)
 few-lost table points states labels steps depth starts samples symbol front code lost r = elim (cases_eq symbol 0) [
   | inl none ↦ omega arith
   | inr some ↦ elim (some-start starts states) [
@@ -177,10 +180,17 @@ few-lost table points states labels steps depth starts samples symbol front code
 
     up : (xs : List Sample) (labels : List ℕ) (end : ℕ) → IsSequence (trellis_of table points (among states starts)) xs labels end
         → IsSequence (trellis_of table points starts) xs labels end
-    up xs l end q = record { code_sequence =
-        record { from = q.code_sequence.from; starts_there =
-        (and_parts (starts q.code_sequence.from) (nat_lt q.code_sequence.from states) q.code_sequence.starts_there).0; leads =
-        q.code_sequence.leads }; same_length = q.same_length }
+    up xs l end q = record {
+      code_sequence =
+          record {
+            from = q.code_sequence.from;
+            starts_there =
+                (and_parts (starts q.code_sequence.from) (nat_lt q.code_sequence.from states) q.code_sequence.starts_there).0;
+            leads =
+                q.code_sequence.leads;
+          };
+      same_length = q.same_length;
+    }
 
     down : (xs : List Sample) → 1 ≤ length xs → (labels : List ℕ) (end : ℕ) → IsSequence (trellis_of table points starts) xs labels end
         → IsSequence (trellis_of table points (among states starts)) xs labels end
@@ -197,20 +207,27 @@ few-lost table points states labels steps depth starts samples symbol front code
     before : (s : ℕ) → s < states → starts s ≡ true → (symbol ≡ 0 → ⊥) → symbol + 1 ≤ length front + (depth + 1)
     before s l e some =
         let starts_in : AreStarts states (among states starts) =
-            record { start = s; starts_there = and_from (starts s) (nat_lt s states) e (lt-ltb s states l); within =
-            λ t f. ltb-true t states (and_parts (starts t) (nat_lt t states) f).1 } in
+        record {
+          start = s;
+          starts_there = and_from (starts s) (nat_lt s states) e (lt-ltb s states l);
+          within =
+              λ t f. ltb-true t states (and_parts (starts t) (nat_lt t states) f).1;
+        } in
         let xs : List Sample = take symbol samples in
         let long : length xs ≡ symbol = length-take-le symbol samples (omega (arith, lost.within)) in
-        let many : 1 ≤ length xs = elim (cases_lt 0 symbol) [ inl m ↦ omega arith | inr m ↦ let z : symbol ≡ 0 = omega arith in
-            absurd (some z) ] in
+        let many : 1 ≤ length xs = elim (cases_lt 0 symbol) [
+          | inl m ↦ omega arith
+          | inr m ↦ let z : symbol ≡ 0 = omega arith in
+              absurd (some z)
+        ] in
         let one = some-released (trellis_of table points (among states starts)) states labels steps xs
-            (has-laws table points states labels steps code (among states starts) starts_in) in
+        (has-laws table points states labels steps code (among states starts) starts_in) in
         let old = released-along table points (among states starts) starts xs one.0 (up xs) (down xs many) one.1 in
         let cut : take (symbol + 1) samples ≡ xs ++ drop symbol (take (symbol + 1) samples) =
-            sym (ap (λ l. l ++ drop symbol (take (symbol + 1) samples)) (sym (take-take symbol (symbol + 1) samples (omega arith)))
-            ∙ take-append-drop symbol (take (symbol + 1) samples)) in
+        sym (ap (λ l. l ++ drop symbol (take (symbol + 1) samples)) (sym (take-take symbol (symbol + 1) samples (omega arith)))
+        ∙ take-append-drop symbol (take (symbol + 1) samples)) in
         let p = stays-prefix (trellis_of table points starts) xs (drop symbol (take (symbol + 1) samples)) one.0 front old
-            (subst (λ k. IsReleased (trellis_of table points starts) k front) cut r) in
+        (subst (λ k. IsReleased (trellis_of table points starts) k front) cut r) in
         let grown : length front ≡ length one.0 + length p.0 = ap length (sym p.1) ∙ length-append {A = ℕ} one.0 p.0 in
         elim (cases_lt (length one.0 + depth) symbol) [
           | inl over ↦ absurd (lost.first symbol (omega arith) (record { front = one.0; released = old; over = over }))
@@ -221,11 +238,11 @@ few-lost table points states labels steps depth starts samples symbol front code
     nothing : ((s : ℕ) → s < states → starts s ≡ true → ⊥) → ⊥
     nothing never =
         let many : 1 ≤ length (take (symbol + 1) samples) =
-            omega (arith, length-take-le (symbol + 1) samples (omega (arith, lost.within))) in
+        omega (arith, length-take-le (symbol + 1) samples (omega (arith, lost.within))) in
         let p = r.longest (0 ∷ front) (λ state l v.
-            absurd (never v.sequence.code_sequence.from
-            (starts-among table points states labels starts (take (symbol + 1) samples) l state code.bounded many v.sequence)
-            v.sequence.code_sequence.starts_there)) in
+        absurd (never v.sequence.code_sequence.from
+        (starts-among table points states labels starts (take (symbol + 1) samples) l state code.bounded many v.sequence)
+        v.sequence.code_sequence.starts_there)) in
         let e : length ((0 ∷ front) ++ p.0) ≡ length front = ap length p.1 in
         omega (arith, e, length-append {A = ℕ} (0 ∷ front) p.0)
 
@@ -237,9 +254,9 @@ few-unreleased table points states labels steps code starts depth d samples take
     each None e =
         let all : heard d.lost samples ≡ samples = ap (λ o. heard o samples) e in
         let lost : LostIs (trellis_of table points starts) depth samples None =
-            subst (LostIs (trellis_of table points starts) depth samples) e h.lost in
+        subst (LostIs (trellis_of table points starts) depth samples) e h.lost in
         let r = subst (λ k. IsReleased (trellis_of table points starts) k (taken ++ d.pending)) (all
-            ∙ sym (take_all (length samples) samples (omega arith))) h.released in
+        ∙ sym (take_all (length samples) samples (omega arith))) h.released in
         elim (cases_lt (length (taken ++ d.pending) + depth) (length samples)) [
           | inl over ↦ absurd (lost (length samples) (omega arith) (record { front = taken ++ d.pending; released = r; over = over }))
           | inr few ↦ omega (arith, ap length all)
@@ -247,16 +264,16 @@ few-unreleased table points states labels steps code starts depth d samples take
     each (Some symbol) e =
         let all : heard d.lost samples ≡ take (symbol + 1) samples = ap (λ o. heard o samples) e in
         let lost : IsLost (trellis_of table points starts) depth samples symbol =
-            subst (LostIs (trellis_of table points starts) depth samples) e h.lost in
+        subst (LostIs (trellis_of table points starts) depth samples) e h.lost in
         let few = few-lost table points states labels steps depth starts samples symbol (taken ++ d.pending) code lost
-            (subst (λ k. IsReleased (trellis_of table points starts) k (taken ++ d.pending)) all h.released) in
+        (subst (λ k. IsReleased (trellis_of table points starts) k (taken ++ d.pending)) all h.released) in
         omega (arith, few, ap length all, length-take-le (symbol + 1) samples (omega (arith, lost.within)))
 
 pub releases-least : (table : ℕ → ℕ → Option ℕ) (points : ℕ → Sample) (states labels steps : ℕ) → IsCodeTable table states labels steps
     → DecoderReleasesLeast table points states
 releases-least table points states labels steps code starts depth d samples taken are h =
     released-is_least (trellis_of table points starts) states labels steps (heard d.lost samples) (taken ++ d.pending)
-        (has-laws table points states labels steps code starts are) h.released
+    (has-laws table points states labels steps code starts are) h.released
 
 pub decoders-agree : (table : ℕ → ℕ → Option ℕ) (points : ℕ → Sample) → DecodersAgree table points
 decoders-agree table points starts depth d other samples taken other_taken h k =
@@ -286,26 +303,26 @@ releases-stay table points starts depth d later samples more taken later_taken h
     each None e None f = with-more more (ap (λ o. heard o (samples ++ more)) f ∙ ap (λ s. s ++ more) (sym (ap (λ o. heard o samples) e)))
     each None e (Some n) f =
         let lost : IsLost (trellis_of table points starts) depth (samples ++ more) n =
-            subst (LostIs (trellis_of table points starts) depth (samples ++ more)) f k.lost in
+        subst (LostIs (trellis_of table points starts) depth (samples ++ more)) f k.lost in
         let runs : LostIs (trellis_of table points starts) depth samples None =
-            subst (LostIs (trellis_of table points starts) depth samples) e h.lost in
+        subst (LostIs (trellis_of table points starts) depth samples) e h.lost in
         elim (cases_lt n (length samples)) [
           | inl less ↦ absurd (runs (n + 1) (omega arith)
-                (over-before (trellis_of table points starts) depth samples more (n + 1) (omega arith) lost.over))
+              (over-before (trellis_of table points starts) depth samples more (n + 1) (omega arith) lost.over))
           | inr more_than ↦
               let cut : take (length samples) (take (n + 1) (samples ++ more)) ≡ samples =
-                  take-take (length samples) (n + 1) (samples ++ more) (omega arith)
-                  ∙ take-append-le (length samples) samples more (omega arith) ∙ take_all (length samples) samples (omega arith) in
+              take-take (length samples) (n + 1) (samples ++ more) (omega arith)
+              ∙ take-append-le (length samples) samples more (omega arith) ∙ take_all (length samples) samples (omega arith) in
               with-more (drop (length samples) (take (n + 1) (samples ++ more)))
               (ap (λ o. heard o (samples ++ more)) f ∙ sym (take-append-drop (length samples) (take (n + 1) (samples ++ more)))
-                  ∙ ap (λ s. s ++ drop (length samples) (take (n + 1) (samples ++ more))) (cut ∙ sym (ap (λ o. heard o samples) e)))
+              ∙ ap (λ s. s ++ drop (length samples) (take (n + 1) (samples ++ more))) (cut ∙ sym (ap (λ o. heard o samples) e)))
         ]
     each (Some m) e p f =
         let lost : IsLost (trellis_of table points starts) depth samples m =
-            subst (LostIs (trellis_of table points starts) depth samples) e h.lost in
+        subst (LostIs (trellis_of table points starts) depth samples) e h.lost in
         let stays : IsLost (trellis_of table points starts) depth (samples ++ more) m =
-            lost-stays (trellis_of table points starts) depth samples more m lost in
+        lost-stays (trellis_of table points starts) depth samples more m lost in
         let same : later.lost ≡ Some m =
-            lost-once (trellis_of table points starts) depth (samples ++ more) later.lost (Some m) k.lost stays in
+        lost-once (trellis_of table points starts) depth (samples ++ more) later.lost (Some m) k.lost stays in
         with-more [] (ap (λ o. heard o (samples ++ more)) same ∙ take-append-le (m + 1) samples more (omega (arith, lost.within))
-            ∙ sym (ap (λ o. heard o samples) e) ∙ nil (heard d.lost samples))
+        ∙ sym (ap (λ o. heard o samples) e) ∙ nil (heard d.lost samples))

@@ -33,7 +33,7 @@ pub parts-within : (table : ℕ → ℕ → Option ℕ) (points : ℕ → Sample
     (sample : Sample) (sums nearest entered : List ℕ) (to : ℕ) → to < states
     → IsCode table states labels parallel subsets ways before subset
     → AreKeys points states parallel subsets ways before subset sample sums nearest entered → (slice_index entered to % 256 < states)
-        × (slice_index entered to / 256 % 256 < labels)
+    × (slice_index entered to / 256 % 256 < labels)
 parts-within table points states labels parallel subsets ways before subset sample sums nearest entered to l code keys =
     let way = keys.into to l in
     let q = code.ways_within to way.place l way.within in
@@ -41,10 +41,10 @@ parts-within table points states labels parallel subsets ways before subset samp
     let label = parallel * subset to way.place + near.place in
     let in_labels : label < labels = label-within parallel (subset to way.place) near.place subsets labels code.fill q.1 near.within in
     let is : slice_index entered to ≡ slice_index sums (before to way.place) + (65536 * distance_of (points label) sample + 256 * label) =
-        way.key_is ∙ ap (λ x. slice_index sums (before to way.place) + x) near.key_is in
+    way.key_is ∙ ap (λ x. slice_index sums (before to way.place) + x) near.key_is in
     let parts = key-parts (slice_index sums (before to way.place)) (before to way.place) (distance_of (points label) sample) label
-        (slice_index entered to) (keys.states_in (before to way.place) q.0) (omega (arith, q.0, code.states_few))
-        (omega (arith, in_labels, code.labels_few)) is in
+    (slice_index entered to) (keys.states_in (before to way.place) q.0) (omega (arith, q.0, code.states_few))
+    (omega (arith, in_labels, code.labels_few)) is in
     (omega (arith, parts.2, q.0), omega (arith, parts.1, in_labels))
 
 -- a key, and what it is settled as
@@ -113,13 +113,13 @@ pub new_sum-known : (states : ℕ) (entered : List ℕ) (s m : ℕ) → length e
 new_sum-known states entered s m long e = elim (cases_lt s states) [
   | inl l ↦ elim (cases_lt (slice_index entered s) far_key) [
     | inl near ↦ let is : new_sums_at (map entry_in entered) s ≡ Some (slice_index entered s / 65536) =
-          ap (option_map sum_of) (map-at entry_in entered s (omega arith) ∙ entry-near (slice_index entered s) near) in
-          (l, near, some_one (sym is ∙ e))
+        ap (option_map sum_of) (map-at entry_in entered s (omega arith) ∙ entry-near (slice_index entered s) near) in
+        (l, near, some_one (sym is ∙ e))
     | inr far ↦ let is : new_sums_at (map entry_in entered) s ≡ None =
-          ap (option_map sum_of) (map-at entry_in entered s (omega arith) ∙ entry-far (slice_index entered s) far) in absurd cc
+        ap (option_map sum_of) (map-at entry_in entered s (omega arith) ∙ entry-far (slice_index entered s) far) in absurd cc
   ]
   | inr l ↦ let none : new_sums_at (map entry_in entered) s ≡ None = ap (option_map sum_of) (map-past entry_in entered s (omega arith)) in
-        absurd cc
+      absurd cc
 ]
   where
     some_one : {a b : ℕ} → Some a ≡ Some b → a ≡ b
@@ -144,16 +144,16 @@ new_sums-at states entered new_sums least column s few long h = elim (cases_lt s
   | inl l ↦ elim (cases_lt (slice_index entered s) far_key) [
     | inl near ↦
         let is : slice_index new_sums s ≡ (slice_index entered s / 65536 - least / 65536) * 65536 + s =
-            h.levels s l ∙ leveled-near (slice_index entered s) least s near in
+        h.levels s l ∙ leveled-near (slice_index entered s) least s near in
         let value : slice_index new_sums s / 65536 ≡ slice_index entered s / 65536 - least / 65536 = omega (arith, is) in
         map-at sum_in new_sums s (omega (arith, h.new_long)) ∙ sum-near (slice_index new_sums s) (omega (arith, is)) ∙ ap Some value
-            ∙ sym (ap (option_map (λ n. n - least / 65536)) (new_sum-near states entered s long l near))
+        ∙ sym (ap (option_map (λ n. n - least / 65536)) (new_sum-near states entered s long l near))
     | inr far ↦
         let is : slice_index new_sums s ≡ far_key + s = h.levels s l ∙ leveled-far (slice_index entered s) least s far in
         let none : new_sums_at (map entry_in entered) s ≡ None =
-            ap (option_map sum_of) (map-at entry_in entered s (omega arith) ∙ entry-far (slice_index entered s) far) in
+        ap (option_map sum_of) (map-at entry_in entered s (omega arith) ∙ entry-far (slice_index entered s) far) in
         map-at sum_in new_sums s (omega (arith, h.new_long)) ∙ sum-far (slice_index new_sums s) (omega (arith, is))
-            ∙ sym (ap (option_map (λ n. n - least / 65536)) none)
+        ∙ sym (ap (option_map (λ n. n - least / 65536)) none)
   ]
   | inr l ↦
       let none : new_sums_at (map entry_in entered) s ≡ None = ap (option_map sum_of) (map-past entry_in entered s (omega arith)) in
@@ -178,29 +178,31 @@ pub stepped-of : (table : ℕ → ℕ → Option ℕ) (points : ℕ → Sample) 
     → ℕ) (sample : Sample) (sums nearest entered new_sums : List ℕ) (least : ℕ) (column : List Choice) (columns newer : List (List Choice))
     (unreleased : ℕ)
     → IsCode table states labels parallel subsets ways before subset
-        → AreKeys points states parallel subsets ways before subset sample sums nearest entered
-        → Settles states entered least new_sums column
+    → AreKeys points states parallel subsets ways before subset sample sums nearest entered
+    → Settles states entered least new_sums column
     → least < far_key → unreleased < length columns → newer ≡ column ∷ take (length columns - 1) columns
-        → Stepped table points sample (kept_of states sums columns unreleased) (kept_of states new_sums newer (unreleased + 1))
+    → Stepped table points sample (kept_of states sums columns unreleased) (kept_of states new_sums newer (unreleased + 1))
 stepped-of table points states labels parallel subsets ways steps before subset sample sums nearest entered new_sums least column columns
     newer unreleased code keys made near room e = record {
-  entries = map entry_in entered;
-  chosen = λ starts to. chosen-all table points states labels parallel subsets ways before subset sample sums nearest entered starts to code
-      keys;
-  lowered = least / 65536;
-  lowest = (made.is_least.state,
-      new_sum-near states entered made.is_least.state keys.entered_long made.is_least.within (omega (arith, made.is_least.least_is))
-      ∙ ap (λ n. Some (n / 65536)) (sym made.is_least.least_is));
-  least = λ s m f. let k = new_sum-known states entered s m keys.entered_long f in omega (arith, made.is_least.below s k.0, k.2);
-  sums = λ s. new_sums-at states entered new_sums least column s code.states_few keys.entered_long made;
-  follow = λ s f g. goes s f g;
-  longer_by_one = refl;
-  close = λ s label to b.
-      let w = code.all s label to b in
-      let in_table = code.bounded s label to b in
-      let q = code.ways_within to w.0 (code.within s label to in_table.0 in_table.1 b) w.2 in
-      subst (λ x. distance_of (points x) sample < 2 ^ 33) w.5 (keys.close (subset to w.0) w.1 q.1 w.3);
-}
+      entries = map entry_in entered;
+      chosen = λ starts to. chosen-all table points states labels parallel subsets ways before subset sample sums nearest entered starts to code
+          keys;
+      lowered = least / 65536;
+      lowest = (
+        made.is_least.state,
+        new_sum-near states entered made.is_least.state keys.entered_long made.is_least.within (omega (arith, made.is_least.least_is))
+            ∙ ap (λ n. Some (n / 65536)) (sym made.is_least.least_is),
+      );
+      least = λ s m f. let k = new_sum-known states entered s m keys.entered_long f in omega (arith, made.is_least.below s k.0, k.2);
+      sums = λ s. new_sums-at states entered new_sums least column s code.states_few keys.entered_long made;
+      follow = λ s f g. goes s f g;
+      longer_by_one = refl;
+      close = λ s label to b.
+          let w = code.all s label to b in
+          let in_table = code.bounded s label to b in
+          let q = code.ways_within to w.0 (code.within s label to in_table.0 in_table.1 b) w.2 in
+          subst (λ x. distance_of (points x) sample < 2 ^ 33) w.5 (keys.close (subset to w.0) w.1 q.1 w.3);
+    }
   where
     some_one : {a b : Entry} → Some a ≡ Some b → a ≡ b
     some_one q = cc
@@ -211,45 +213,52 @@ stepped-of table points states labels parallel subsets ways steps before subset 
     goes s f g =
         let k = new_sum-known states entered s f.sum keys.entered_long (ap (option_map sum_of) g) in
         let is : entry_in (slice_index entered s) ≡ Some f = sym (map-at entry_in entered s (omega (arith, k.0, keys.entered_long))) ∙ g in
-        let same : record { before = slice_index entered s % 256; label = slice_index entered s / 256 % 256; sum =
-            slice_index entered s / 65536 } ≡ f = some_one (sym (entry-near (slice_index entered s) k.1) ∙ is) in
+        let same : record {
+          before = slice_index entered s % 256;
+          label = slice_index entered s / 256 % 256;
+          sum =
+              slice_index entered s / 65536;
+        } ≡ f = some_one (sym (entry-near (slice_index entered s) k.1) ∙ is) in
         let choice : choice_at column s ≡ choice_in (slice_index entered s) =
-            made.choices s k.0 ∙ ap choice_in (settled-near (slice_index entered s) least k.1) in
+        made.choices s k.0 ∙ ap choice_in (settled-near (slice_index entered s) least k.1) in
         let b : (choice_at column s).before ≡ f.before = ap (λ c. c.before) choice ∙ ap (λ x. x.before) same in
         let l : (choice_at column s).label ≡ f.label = ap (λ c. c.label) choice ∙ ap (λ x. x.label) same in
         let within : f.before < states =
-            omega (arith, ap (λ x. x.before) same,
-            (parts-within table points states labels parallel subsets ways before subset sample sums nearest entered s k.0 code keys).0) in
+        omega (
+          arith,
+          ap (λ x. x.before) same,
+          (parts-within table points states labels parallel subsets ways before subset sample sums nearest entered s k.0 code keys).0,
+        ) in
         tail-at states (take (unreleased + 1) newer) s k.0 ∙ ap (λ c. traced c s) (newest-more column columns newer unreleased room e)
         ∙ ap (λ x. traced (take unreleased columns) x ++ (choice_at column s).label ∷ []) b
-            ∙ ap (λ x. traced (take unreleased columns) f.before ++ x ∷ []) l
+        ∙ ap (λ x. traced (take unreleased columns) f.before ++ x ∷ []) l
         ∙ ap (λ t. t ++ f.label ∷ []) (sym (tail-at states (take unreleased columns) f.before within))
 
 -- each state has a choice of one that was reached
 pub covered-of : (states : ℕ) (entered new_sums : List ℕ) (least : ℕ) (column : List Choice) (columns newer : List (List Choice))
     (unreleased : ℕ) → states ≤ 256 → length entered ≡ states → Settles states entered least new_sums column
     → least < far_key → unreleased < length columns → newer ≡ column ∷ take (length columns - 1) columns
-        → Covered states (kept_of states new_sums newer (unreleased + 1))
+    → Covered states (kept_of states new_sums newer (unreleased + 1))
 covered-of states entered new_sums least column columns newer unreleased few long made near room e s l =
     elim (cases_lt (slice_index entered s) far_key) [
-  | inl here ↦ (s, slice_index entered s / 65536 - least / 65536, l, known s l here, refl)
-  | inr far ↦
-      let r = made.is_least.state in
-      let in_r = made.is_least.within in
-      let near_r : slice_index entered r < far_key = omega (arith, made.is_least.least_is) in
-      let mine : choice_at column s ≡ choice_in least = made.choices s l ∙ ap choice_in (settled-far (slice_index entered s) least far) in
-      let theirs : choice_at column r ≡ choice_in least =
+      | inl here ↦ (s, slice_index entered s / 65536 - least / 65536, l, known s l here, refl)
+      | inr far ↦
+          let r = made.is_least.state in
+          let in_r = made.is_least.within in
+          let near_r : slice_index entered r < far_key = omega (arith, made.is_least.least_is) in
+          let mine : choice_at column s ≡ choice_in least = made.choices s l ∙ ap choice_in (settled-far (slice_index entered s) least far) in
+          let theirs : choice_at column r ≡ choice_in least =
           made.choices r in_r ∙ ap choice_in (settled-near (slice_index entered r) least near_r ∙ sym made.is_least.least_is) in (
-        r,
-        slice_index entered r / 65536 - least / 65536,
-        in_r,
-        known r in_r near_r,
-        tail-at states (take (unreleased + 1) newer) s l ∙ ap (λ c. traced c s) (newest-more column columns newer unreleased room e)
-            ∙ ap (λ x. traced (take unreleased columns) x.before ++ x.label ∷ []) (mine ∙ sym theirs)
-            ∙ sym (tail-at states (take (unreleased + 1) newer) r in_r
+            r,
+            slice_index entered r / 65536 - least / 65536,
+            in_r,
+            known r in_r near_r,
+            tail-at states (take (unreleased + 1) newer) s l ∙ ap (λ c. traced c s) (newest-more column columns newer unreleased room e)
+                ∙ ap (λ x. traced (take unreleased columns) x.before ++ x.label ∷ []) (mine ∙ sym theirs)
+                ∙ sym (tail-at states (take (unreleased + 1) newer) r in_r
                 ∙ ap (λ c. traced c r) (newest-more column columns newer unreleased room e)),
-      )
-]
+          )
+    ]
   where
     known : (s : ℕ) → s < states → slice_index entered s < far_key
         → sums_at (map sum_in new_sums) s ≡ Some (slice_index entered s / 65536 - least / 65536)
@@ -261,37 +270,42 @@ pub holds-next : (table : ℕ → ℕ → Option ℕ) (points : ℕ → Sample) 
     → ℕ) (sample : Sample) (sums nearest entered new_sums : List ℕ) (least : ℕ) (column : List Choice) (columns newer : List (List Choice))
     (unreleased : ℕ)
     → IsCode table states labels parallel subsets ways before subset
-        → AreKeys points states parallel subsets ways before subset sample sums nearest entered
-        → Settles states entered least new_sums column
+    → AreKeys points states parallel subsets ways before subset sample sums nearest entered
+    → Settles states entered least new_sums column
     → least < far_key → unreleased ≤ depth → newer ≡ column ∷ take (length columns - 1) columns
-        → HoldsColumns states labels depth sums columns unreleased → HoldsColumns states labels depth new_sums newer (unreleased + 1)
+    → HoldsColumns states labels depth sums columns unreleased → HoldsColumns states labels depth new_sums newer (unreleased + 1)
 holds-next table points states labels parallel subsets ways depth before subset sample sums nearest entered new_sums least column columns
     newer unreleased code keys made near room e h = record {
-  sums_long = made.new_long;
-  states_in = λ s l. elim (cases_lt (slice_index entered s) far_key) [
-    | inl here ↦ omega (arith, made.levels s l ∙ leveled-near (slice_index entered s) least s here, code.states_few)
-    | inr far ↦ omega (arith, made.levels s l ∙ leveled-far (slice_index entered s) least s far, code.states_few)
-  ];
-  bound = λ s l. elim (cases_lt (slice_index entered s) far_key) [
-    | inl here ↦ omega (arith, made.levels s l ∙ leveled-near (slice_index entered s) least s here, code.states_few)
-    | inr far ↦ omega (arith, made.levels s l ∙ leveled-far (slice_index entered s) least s far, code.states_few)
-  ];
-  reached = (
-    made.is_least.state,
-    made.is_least.within,
-    omega (arith, made.levels made.is_least.state made.is_least.within
-        ∙ leveled-near (slice_index entered made.is_least.state) least made.is_least.state (omega (arith, made.is_least.least_is)),
-        made.is_least.least_is, made.is_least.within, code.states_few),
-  );
-  columns_long = omega (arith, ap length e, length-take-less (length columns - 1) columns (omega arith), h.columns_long);
-  columns_fit = All-same (IsColumn states labels) newer (column ∷ take (length columns - 1) columns) e
-      (All-cons (IsColumn states labels) column (take (length columns - 1) columns) (record {
-    long = made.column_long;
-    before = λ s l. omega (arith, ap (λ c. c.before) (made.choices s l), (fits s l).0);
-    label = λ s l. omega (arith, ap (λ c. c.label) (made.choices s l), (fits s l).1);
-  }) (All-take (IsColumn states labels) (length columns - 1) columns h.columns_fit));
-  within = omega arith;
-}
+      sums_long = made.new_long;
+      states_in = λ s l. elim (cases_lt (slice_index entered s) far_key) [
+        | inl here ↦ omega (arith, made.levels s l ∙ leveled-near (slice_index entered s) least s here, code.states_few)
+        | inr far ↦ omega (arith, made.levels s l ∙ leveled-far (slice_index entered s) least s far, code.states_few)
+      ];
+      bound = λ s l. elim (cases_lt (slice_index entered s) far_key) [
+        | inl here ↦ omega (arith, made.levels s l ∙ leveled-near (slice_index entered s) least s here, code.states_few)
+        | inr far ↦ omega (arith, made.levels s l ∙ leveled-far (slice_index entered s) least s far, code.states_few)
+      ];
+      reached = (
+        made.is_least.state,
+        made.is_least.within,
+        omega (
+          arith,
+          made.levels made.is_least.state made.is_least.within
+              ∙ leveled-near (slice_index entered made.is_least.state) least made.is_least.state (omega (arith, made.is_least.least_is)),
+          made.is_least.least_is,
+          made.is_least.within,
+          code.states_few,
+        ),
+      );
+      columns_long = omega (arith, ap length e, length-take-less (length columns - 1) columns (omega arith), h.columns_long);
+      columns_fit = All-same (IsColumn states labels) newer (column ∷ take (length columns - 1) columns) e
+          (All-cons (IsColumn states labels) column (take (length columns - 1) columns) (record {
+            long = made.column_long;
+            before = λ s l. omega (arith, ap (λ c. c.before) (made.choices s l), (fits s l).0);
+            label = λ s l. omega (arith, ap (λ c. c.label) (made.choices s l), (fits s l).1);
+          }) (All-take (IsColumn states labels) (length columns - 1) columns h.columns_fit));
+      within = omega arith;
+    }
   where
     length-take-less : (n : ℕ) (xs : List (List Choice)) → n ≤ length xs → length (take n xs) ≡ n
     length-take-less n xs l = grind (arith, common_steps)
@@ -303,9 +317,9 @@ holds-next table points states labels parallel subsets ways depth before subset 
         × ((chosen (slice_index entered s) least).label < labels)
     fits s l = elim (cases_lt (slice_index entered s) far_key) [
       | inl here ↦ subst (λ k. ((choice_in k).before < states) × ((choice_in k).label < labels))
-            (sym (settled-near (slice_index entered s) least here)) (own s l)
+          (sym (settled-near (slice_index entered s) least here)) (own s l)
       | inr far ↦ subst (λ k. ((choice_in k).before < states) × ((choice_in k).label < labels))
-            (sym (settled-far (slice_index entered s) least far ∙ made.is_least.least_is)) (own made.is_least.state made.is_least.within)
+          (sym (settled-far (slice_index entered s) least far ∙ made.is_least.least_is)) (own made.is_least.state made.is_least.within)
     ]
 
 -- what is released is what the columns split off
@@ -331,20 +345,43 @@ released-of states sums columns unreleased left labels long some split covered =
     like s x a l e =
         let c = covered s l in
         let same : reverse labels ++ tail_at (map (traced (take left columns)) (range_with_len 0 states)) s ≡ reverse labels ++ tail_at
-            (map (traced (take left columns)) (range_with_len 0 states)) c.0 = sym (moved s l) ∙ c.4 ∙ moved c.0 c.2 in
-        (c.0, c.1, c.3, sym (append_cancel_left (reverse labels) (tail_at (map (traced (take left columns)) (range_with_len 0 states)) s)
-            (tail_at (map (traced (take left columns)) (range_with_len 0 states)) c.0) same) ∙ tail-at states (take left columns) s l ∙ e)
+        (map (traced (take left columns)) (range_with_len 0 states)) c.0 = sym (moved s l) ∙ c.4 ∙ moved c.0 c.2 in (
+          c.0,
+          c.1,
+          c.3,
+          sym (append_cancel_left (reverse labels) (tail_at (map (traced (take left columns)) (range_with_len 0 states)) s)
+              (tail_at (map (traced (take left columns)) (range_with_len 0 states)) c.0) same) ∙ tail-at states (take left columns) s l ∙ e,
+        )
 
     parts : (left ≡ 0) ⊎ Part states (take left columns)
         → IsParted (map sum_in sums) (map (traced (take left columns)) (range_with_len 0 states))
-    parts (inl none) = inl (some.0, slice_index sums some.0 / 65536, map-at sum_in sums some.0 (omega (arith, some.1))
-        ∙ sum-near (slice_index sums some.0) some.2, tail-at states (take left columns) some.0 some.1
-        ∙ ap (λ n. traced (take n columns) some.0) none)
+    parts (inl none) = inl (
+      some.0,
+      slice_index sums some.0 / 65536,
+      map-at sum_in sums some.0 (omega (arith, some.1))
+          ∙ sum-near (slice_index sums some.0) some.2,
+      tail-at states (take left columns) some.0 some.1
+          ∙ ap (λ n. traced (take n columns) some.0) none,
+    )
     parts (inr p) =
         let a = like p.s p.x p.a p.s_within p.s_begins in
         let b = like p.t p.y p.b p.t_within p.t_begins in
-        inr (record { s = a.0; t = b.0; s_sum = a.1; t_sum = b.1; s_reached = a.2; t_reached = b.2; x = p.x; y = p.y; a = p.a; b =
-            p.b; s_begins = a.3; t_begins = b.3; apart = p.apart })
+        inr (record {
+          s = a.0;
+          t = b.0;
+          s_sum = a.1;
+          t_sum = b.1;
+          s_reached = a.2;
+          t_reached = b.2;
+          x = p.x;
+          y = p.y;
+          a = p.a;
+          b =
+              p.b;
+          s_begins = a.3;
+          t_begins = b.3;
+          apart = p.apart;
+        })
 
 -- the state in the least of the sums is the first one of least sum
 pub least_sum-of : (states : ℕ) (sums : List ℕ) (least : ℕ) → states ≤ 256 → length sums ≡ states
@@ -370,55 +407,69 @@ least_sum-of states sums least few long states_in some h =
 pub push-all : (table : ℕ → ℕ → Option ℕ) (points : ℕ → Sample) (states labels parallel subsets ways steps depth : ℕ) (before subset : ℕ → ℕ
     → ℕ) (sample : Sample) (sums nearest entered new_sums : List ℕ) (least : ℕ) (columns newer : List (List Choice)) (unreleased : ℕ)
     → IsCode table states labels parallel subsets ways before subset → 1 ≤ steps → Reaches table states labels steps
-        → ((s m : ℕ) → sums_at (map sum_in sums) s ≡ Some m → m < 2 ^ 44) → unreleased ≤ depth
-        → HoldsColumns states labels depth sums columns unreleased
+    → ((s m : ℕ) → sums_at (map sum_in sums) s ≡ Some m → m < 2 ^ 44) → unreleased ≤ depth
+    → HoldsColumns states labels depth sums columns unreleased
     → ((q : ℕ) → q < subsets → IsNearest points parallel sample q (slice_index nearest q))
-        → ((q : ℕ) → q < subsets → AreClose points parallel sample q)
+    → ((q : ℕ) → q < subsets → AreClose points parallel sample q)
     → ((to : ℕ) → to < states → IsLeastWay ways before subset sums nearest to (slice_index entered to)) → length entered ≡ states
-        → IsLeastKeyOf states entered least
+    → IsLeastKeyOf states entered least
     → ((column : List Choice) × (newer ≡ column ∷ take (length columns - 1) columns) × AreSettled states entered least new_sums column)
     → HoldsColumns states labels depth new_sums newer (unreleased + 1)
-        × Stepped table points sample (kept_of states sums columns unreleased) (kept_of states new_sums newer (unreleased + 1))
-        × Covered states (kept_of states new_sums newer (unreleased + 1))
+    × Stepped table points sample (kept_of states sums columns unreleased) (kept_of states new_sums newer (unreleased + 1))
+    × Covered states (kept_of states new_sums newer (unreleased + 1))
 push-all table points states labels parallel subsets ways steps depth before subset sample sums nearest entered new_sums least columns newer
     unreleased code low reach small room holds near close into long is_least (column, e, settled) = (
-  holds-next table points states labels parallel subsets ways depth before subset sample sums nearest entered new_sums least column columns
-      newer unreleased code keys made far room e holds,
-  stepped-of table points states labels parallel subsets ways steps before subset sample sums nearest entered new_sums least column columns
-      newer unreleased code keys made far (omega (arith, holds.columns_long)) e,
-  covered-of states entered new_sums least column columns newer unreleased code.states_few long made far
-      (omega (arith, holds.columns_long)) e,
-)
+      holds-next table points states labels parallel subsets ways depth before subset sample sums nearest entered new_sums least column columns
+          newer unreleased code keys made far room e holds,
+      stepped-of table points states labels parallel subsets ways steps before subset sample sums nearest entered new_sums least column columns
+          newer unreleased code keys made far (omega (arith, holds.columns_long)) e,
+      covered-of states entered new_sums least column columns newer unreleased code.states_few long made far
+          (omega (arith, holds.columns_long)) e,
+    )
   where
     keys : AreKeys points states parallel subsets ways before subset sample sums nearest entered
-    keys = record { sums_long = holds.sums_long; entered_long = long; states_in = holds.states_in; near = near; into = into; small =
-        small; close = λ q i l k. close q l i k }
+    keys = record {
+      sums_long = holds.sums_long;
+      entered_long = long;
+      states_in = holds.states_in;
+      near = near;
+      into = into;
+      small =
+          small;
+      close = λ q i l k. close q l i k;
+    }
 
     made : Settles states entered least new_sums column
-    made = record { new_long = settled.sums_long; column_long = settled.column_long; is_least = is_least; levels = settled.levels; choices =
-        settled.choices }
+    made = record {
+      new_long = settled.sums_long;
+      column_long = settled.column_long;
+      is_least = is_least;
+      levels = settled.levels;
+      choices =
+          settled.choices;
+    }
 
     far : least < far_key
     far = least-near states entered least long is_least
         (reached-next table points states labels steps sample (map sum_in sums) (map entry_in entered) (λ s. true) low reach
         (λ starts to. chosen-all table points states labels parallel subsets ways before subset sample sums nearest entered starts to code
-            keys)
+        keys)
         holds.reached.0 (slice_index sums holds.reached.0 / 65536) holds.reached.1
-            (map-at sum_in sums holds.reached.0 (omega (arith, holds.reached.1, holds.sums_long))
-            ∙ sum-near (slice_index sums holds.reached.0) holds.reached.2))
+        (map-at sum_in sums holds.reached.0 (omega (arith, holds.reached.1, holds.sums_long))
+        ∙ sum-near (slice_index sums holds.reached.0) holds.reached.2))
 
 -- a sequence leads to each state where one led to each before
 pub near-entered : (states subsets ways : ℕ) (before subset : ℕ → ℕ → ℕ) (sums nearest entered : List ℕ)
     → ((to place : ℕ) → to < states → place < ways → (before to place < states) × (subset to place < subsets)) → length sums ≡ states
     → ((s m : ℕ) → sums_at (map sum_in sums) s ≡ Some m → m < 2 ^ 44) → ((q : ℕ) → q < subsets → slice_index nearest q < 2 ^ 50)
     → ((to : ℕ) → to < states → IsLeastWay ways before subset sums nearest to (slice_index entered to)) → AreNear states sums
-        → AreNear states entered
+    → AreNear states entered
 near-entered states subsets ways before subset sums nearest entered within long small bound into near s l =
     let way = into s l in
     let q = within s way.place l way.within in
     let from = before s way.place in
     let known : sums_at (map sum_in sums) from ≡ Some (slice_index sums from / 65536) =
-        map-at sum_in sums from (omega (arith, q.0)) ∙ sum-near (slice_index sums from) (near from q.0) in
+    map-at sum_in sums from (omega (arith, q.0)) ∙ sum-near (slice_index sums from) (near from q.0) in
     omega (arith, way.key_is, small from (slice_index sums from / 65536) known, bound (subset s way.place) q.1)
 
 -- and then their sums are near too
@@ -443,15 +494,15 @@ pub released-below : (states labels : ℕ) (columns : List (List Choice)) (unrel
     → AreColumns states labels columns → Splits states columns unreleased left list → All (λ x. x < labels) list
 released-below states labels columns unreleased left list some h split =
     let whole = traced-below states labels (take unreleased columns) 0 (omega arith)
-        (All-take (IsColumn states labels) unreleased columns h) in
+    (All-take (IsColumn states labels) unreleased columns h) in
     let both : All (λ x. x < labels) (reverse list ++ traced (take left columns) 0) =
-        All-same (λ x. x < labels) (reverse list ++ traced (take left columns) 0) (traced (take unreleased columns) 0)
-        (sym (split.split 0 (omega arith))) whole in
+    All-same (λ x. x < labels) (reverse list ++ traced (take left columns) 0) (traced (take unreleased columns) 0)
+    (sym (split.split 0 (omega arith))) whole in
     let front : All (λ x. x < labels) (take (length (reverse list)) (reverse list ++ traced (take left columns) 0)) =
-        All-take (λ x. x < labels) (length (reverse list)) (reverse list ++ traced (take left columns) 0) both in
+    All-take (λ x. x < labels) (length (reverse list)) (reverse list ++ traced (take left columns) 0) both in
     All-reversed (λ x. x < labels) list
-        (All-same (λ x. x < labels) (reverse list) (take (length (reverse list)) (reverse list ++ traced (take left columns) 0))
-        (sym (take_at (reverse list) (traced (take left columns) 0) (length (reverse list)) refl)) front)
+    (All-same (λ x. x < labels) (reverse list) (take (length (reverse list)) (reverse list ++ traced (take left columns) 0))
+    (sym (take_at (reverse list) (traced (take left columns) 0) (length (reverse list)) refl)) front)
 
 pub labels-long : (columns : List (List Choice)) (unreleased from : ℕ) (list : List ℕ) → unreleased ≤ length columns
     → reverse list ≡ traced (take unreleased columns) from → length list ≡ unreleased
@@ -477,9 +528,9 @@ start-sums states start sums few within long far =
     (length-set sums start start ∙ long ∙ sym (length-set (replicate states None) start (Some 0) ∙ length-replicate states None))
     (λ s l. let in_states : s < states = omega (arith, length-set sums start start) in elim (cases_eq s start) [
       | inl e ↦ ap sum_in (here sums start start s e (omega arith)) ∙ small start (omega arith)
-            ∙ sym (set_here (replicate states None) (Some 0) start s e (omega (arith, length-replicate {A = Option ℕ} states None)))
+          ∙ sym (set_here (replicate states None) (Some 0) start s e (omega (arith, length-replicate {A = Option ℕ} states None)))
       | inr n ↦ ap sum_in (other sums start start s n ∙ far s in_states) ∙ sum-far (far_key + s) (omega arith)
-            ∙ sym (set_other (replicate states None) (Some 0) start s n ∙ nowhere s)
+          ∙ sym (set_other (replicate states None) (Some 0) start s n ∙ nowhere s)
     ])
   where
     here : (xs : List ℕ) (x n i : ℕ) → i ≡ n → n < length xs → slice_index (set xs n x) i ≡ x
@@ -520,10 +571,16 @@ pub start-are : (states start : ℕ) (sums : List ℕ) → states ≤ 256 → st
     → ((s : ℕ) → s < states → slice_index sums s ≡ far_key + s) → AreSums states (set sums start start)
 start-are states start sums few within long far = record {
   sums_long = length-set sums start start ∙ long;
-  states_in = λ s l. elim (cases_eq s start) [ inl e ↦ omega (arith, here sums start start s e (omega arith)) | inr n ↦ omega
-      (arith, other sums start start s n, far s l) ];
-  bound = λ s l. elim (cases_eq s start) [ inl e ↦ omega (arith, here sums start start s e (omega arith)) | inr n ↦ omega
-      (arith, other sums start start s n, far s l) ];
+  states_in = λ s l. elim (cases_eq s start) [
+    | inl e ↦ omega (arith, here sums start start s e (omega arith))
+    | inr n ↦ omega
+        (arith, other sums start start s n, far s l)
+  ];
+  bound = λ s l. elim (cases_eq s start) [
+    | inl e ↦ omega (arith, here sums start start s e (omega arith))
+    | inr n ↦ omega
+        (arith, other sums start start s n, far s l)
+  ];
   reached = (start, within, omega (arith, here sums start start start refl (omega arith)));
 }
   where

@@ -24,8 +24,11 @@ keeps-paths {X} c samples base sums paths other same k = record { knows = λ s. 
   where
     each : (s : ℕ) (o : Option ℕ) → sums s ≡ o → KnowsState c samples base paths s o → KnowsState c samples base other s o
     each s None e h = h
-    each s (Some m) e h = (subst (λ l. IsSurvivor c samples l s) (same s m e) h.0, ap (λ l. cost c.distance l samples) (sym (same s m e))
-        ∙ h.1)
+    each s (Some m) e h = (
+      subst (λ l. IsSurvivor c samples l s) (same s m e) h.0,
+      ap (λ l. cost c.distance l samples) (sym (same s m e))
+          ∙ h.1,
+    )
 
 keeps-sums : {X : Type 0} (c : Trellis X) (samples : List X) (base : ℕ) (sums other : ℕ → Option ℕ) (paths : ℕ → List ℕ)
     → ((s : ℕ) → other s ≡ sums s) → Keeps c samples base sums paths → Keeps c samples base other paths
@@ -48,8 +51,10 @@ pub released-of : {X : Type 0} (c : Trellis X) (samples : List X) (base : ℕ) (
     (front : List ℕ) → Keeps c samples base (sums_at sums) (λ s. front ++ tail_at tails s) → IsParted sums tails
     → IsReleased c samples front
 released-of {X} c samples base sums tails front k parted = record {
-  common = λ s labels v. (tail_at tails s,
-      survivor-one c samples (front ++ tail_at tails s) labels s (mine s labels (sums_at sums s) refl v) v);
+  common = λ s labels v. (
+    tail_at tails s,
+    survivor-one c samples (front ++ tail_at tails s) labels s (mine s labels (sums_at sums s) refl v) v,
+  );
   longest = λ other every. longest other every parted;
 }
   where
@@ -66,22 +71,22 @@ released-of {X} c samples base sums tails front k parted = record {
         subst (IsPrefixOf other) (ap (λ l. front ++ l) empty ∙ append-nil front) (every s (front ++ tail_at tails s) (stands s m e))
     longest other every (inr a) = prefix-parted other front a.a a.b a.x a.y a.apart
         (subst (IsPrefixOf other) (ap (λ l. front ++ l) a.s_begins)
-            (every a.s (front ++ tail_at tails a.s) (stands a.s a.s_sum a.s_reached)))
+        (every a.s (front ++ tail_at tails a.s) (stands a.s a.s_sum a.s_reached)))
         (subst (IsPrefixOf other) (ap (λ l. front ++ l) a.t_begins)
-            (every a.t (front ++ tail_at tails a.t) (stands a.t a.t_sum a.t_reached)))
+        (every a.t (front ++ tail_at tails a.t) (stands a.t a.t_sum a.t_reached)))
 
 -- the survivors of one sample more, before any release
 pub keeps-stepped : (table : ℕ → ℕ → Option ℕ) (points : ℕ → Sample) (states labels : ℕ) (starts : ℕ → Bool) (sample : Sample)
     (k new : Kept) (samples : List Sample) (front : List ℕ) → IsBounded table states labels → EntersOnce table states labels
     → Stepped table points sample k new → KeepsSurvivors (trellis_of table points starts) k samples front
-        → KeepsSurvivors (trellis_of table points starts) new (samples ++ sample ∷ []) front
+    → KeepsSurvivors (trellis_of table points starts) new (samples ++ sample ∷ []) front
 keeps-stepped table points states labels starts sample k new samples front bounded once p h = record {
   base = h.base + p.lowered;
   keeps = keeps-sums c (samples ++ sample ∷ []) (h.base + p.lowered) (λ s. option_map (λ n. n - p.lowered) (new_sums_at p.entries s))
       (sums_at new.sums) (λ s. front ++ tail_at new.tails s) p.sums
       (keeps-lowered c (samples ++ sample ∷ []) h.base p.lowered (new_sums_at p.entries) (λ s. front ++ tail_at new.tails s) p.least
       (Keeps-more c samples sample h.base (sums_at k.sums) (new_sums_at p.entries) (λ s. front ++ tail_at k.tails s)
-          (λ s. front ++ tail_at new.tails s) (branches_at p.entries) always h.keeps (p.chosen starts) goes));
+      (λ s. front ++ tail_at new.tails s) (branches_at p.entries) always h.keeps (p.chosen starts) goes));
   long = omega (arith, h.long, p.longer_by_one, length-append {A = Sample} samples (sample ∷ []));
 }
   where
@@ -122,9 +127,9 @@ keeps-released {X} c k new samples taken pending more labels pending_is r h = (
     keeps = keeps-paths c samples h.base (sums_at new.sums) (λ s. (taken ++ pending) ++ tail_at k.tails s)
         (λ s. (taken ++ more) ++ tail_at new.tails s)
         (λ s m e. ap (λ l. (taken ++ pending) ++ l) (r.moved s m e) ∙ sym (append_assoc (taken ++ pending) labels (tail_at new.tails s))
-            ∙ ap (λ l. l ++ tail_at new.tails s) (sym front))
+        ∙ ap (λ l. l ++ tail_at new.tails s) (sym front))
         (keeps-sums c samples h.base (sums_at k.sums) (sums_at new.sums) (λ s. (taken ++ pending) ++ tail_at k.tails s)
-            (λ s. ap (λ l. sums_at l s) r.sums_stay) h.keeps)
+        (λ s. ap (λ l. sums_at l s) r.sums_stay) h.keeps)
 
 -- the line is lost with the last sample where more labels than the depth are unreleased, and else not at all
 over-last : {X : Type 0} (c : Trellis X) (depth : ℕ) (samples : List X) (front : List ℕ) (unreleased n : ℕ) → IsReleased c samples front
@@ -150,7 +155,7 @@ pub lost-some : {X : Type 0} (c : Trellis X) (depth unreleased : ℕ) (samples :
 lost-some {X} c depth unreleased samples x front before r l many =
     let n : length (samples ++ x ∷ []) ≡ length samples + 1 = length-append {A = X} samples (x ∷ []) in
     let whole : take (length samples + 1) (samples ++ x ∷ []) ≡ samples ++ x ∷ [] =
-        take_all (length samples + 1) (samples ++ x ∷ []) (omega arith) in
+    take_all (length samples + 1) (samples ++ x ∷ []) (omega arith) in
     record {
       within = omega arith;
       over = record { front = front; released = subst (λ s. IsReleased c s front) (sym whole) r; over = omega arith };
@@ -174,9 +179,9 @@ stands-goes_on table points states labels depth starts sample old new samples ta
     let c = trellis_of table points starts in
     let was = h.keeps e in
     let k = keeps-released c p.between (opened new.memory)
-        (samples ++ sample ∷ []) taken old.pending new.pending p.labels p.pending_is p.released
-        (keeps-stepped table points states labels starts sample (opened old.memory) p.between samples
-        (taken ++ old.pending) bounded once p.stepped was) in
+    (samples ++ sample ∷ []) taken old.pending new.pending p.labels p.pending_is p.released
+    (keeps-stepped table points states labels starts sample (opened old.memory) p.between samples
+    (taken ++ old.pending) bounded once p.stepped was) in
     let n = length-append {A = Sample} samples (sample ∷ []) in
     let all : heard new.lost (samples ++ sample ∷ []) ≡ samples ++ sample ∷ [] = ap (λ o. heard o (samples ++ sample ∷ [])) f in
     let counted : old.count ≡ length samples = h.counted ∙ ap (λ o. length (heard o samples)) e in
@@ -197,14 +202,14 @@ stands-lost table points states labels depth starts sample old new samples taken
     let c = trellis_of table points starts in
     let was = h.keeps e in
     let k = keeps-released c p.between (opened new.memory)
-        (samples ++ sample ∷ []) taken old.pending new.pending p.labels p.pending_is p.released
-        (keeps-stepped table points states labels starts sample (opened old.memory) p.between samples
-        (taken ++ old.pending) bounded once p.stepped was) in
+    (samples ++ sample ∷ []) taken old.pending new.pending p.labels p.pending_is p.released
+    (keeps-stepped table points states labels starts sample (opened old.memory) p.between samples
+    (taken ++ old.pending) bounded once p.stepped was) in
     let n = length-append {A = Sample} samples (sample ∷ []) in
     let counted : old.count ≡ length samples = h.counted ∙ ap (λ o. length (heard o samples)) e in
     let here : new.lost ≡ Some (length samples) = f ∙ ap Some counted in
     let whole : take (length samples + 1) (samples ++ sample ∷ []) ≡ samples ++ sample ∷ [] =
-        take_all (length samples + 1) (samples ++ sample ∷ []) (omega arith) in
+    take_all (length samples + 1) (samples ++ sample ∷ []) (omega arith) in
     let all : heard new.lost (samples ++ sample ∷ []) ≡ samples ++ sample ∷ [] = ap (λ o. heard o (samples ++ sample ∷ [])) here ∙ whole in
     record {
       counted = omega (arith, p.count, counted, n, ap length all);

@@ -43,9 +43,12 @@ sum-through table points sample sums entries mid label to m h b known = each (en
     each : (o : Option Entry) → entry_at entries to ≡ o → Chooses c sample (sums_at sums) to (option_map branch_of o) (option_map sum_of o)
         → (n : ℕ) × (new_sums_at entries to ≡ Some n) × (n ≤ m + distance_of (points label) sample)
     each None e k = absurd (k (record { before = mid; label = label }) (m + distance_of (points label) sample) by)
-    each (Some f) e k = (f.sum, ap (option_map sum_of) e,
-        elim (k.1 (record { before = mid; label = label })
-        (m + distance_of (points label) sample) by) [ inl less ↦ omega arith | inr equal ↦ omega (arith, equal.0) ])
+    each (Some f) e k = (
+      f.sum,
+      ap (option_map sum_of) e,
+      elim (k.1 (record { before = mid; label = label })
+          (m + distance_of (points label) sample) by) [ inl less ↦ omega arith | inr equal ↦ omega (arith, equal.0) ],
+    )
 
 -- one step more from a state
 near-next : (table : ℕ → ℕ → Option ℕ) (points : ℕ → Sample) (sample : Sample) (old new : Kept) (steps from : ℕ)
@@ -57,9 +60,11 @@ near-next table points sample old new steps from p near path to l leads =
     let parts = Leads-front table from cut.0 cut.1 to there in
     let n : length cut.0 ≡ steps = omega (arith, l, ap length cut.2, length-append {A = ℕ} cut.0 (cut.1 ∷ [])) in
     let was = near cut.0 parts.0 n parts.1 in
-    let now = sum-through table points sample old.sums p.entries parts.0 cut.1 to was.0 p.chosen parts.2 was.1 in
-    (now.0 - p.lowered, p.sums to ∙ ap (option_map (λ n. n - p.lowered)) now.1,
-        omega (arith, now.2, was.2, p.close parts.0 cut.1 to parts.2))
+    let now = sum-through table points sample old.sums p.entries parts.0 cut.1 to was.0 p.chosen parts.2 was.1 in (
+      now.0 - p.lowered,
+      p.sums to ∙ ap (option_map (λ n. n - p.lowered)) now.1,
+      omega (arith, now.2, was.2, p.close parts.0 cut.1 to parts.2),
+    )
 
 -- the state of the least sum
 near-least : (table : ℕ → ℕ → Option ℕ) (points : ℕ → Sample) (states labels : ℕ) (sample : Sample) (old new : Kept)
@@ -71,9 +76,12 @@ near-least table points states labels sample old new bounded within p =
     (p.lowest.0, within e.0.before e.0.label p.lowest.0 in_table.0 in_table.1 e.2.leads, here)
   where
     here : IsNearAfter table (sums_at new.sums) 0 p.lowest.0
-    here [] to l leads = (p.lowered - p.lowered,
-        subst (λ s. sums_at new.sums s ≡ Some (p.lowered - p.lowered)) leads (p.sums p.lowest.0
-        ∙ ap (option_map (λ n. n - p.lowered)) p.lowest.1), omega arith)
+    here [] to l leads = (
+      p.lowered - p.lowered,
+      subst (λ s. sums_at new.sums s ≡ Some (p.lowered - p.lowered)) leads (p.sums p.lowest.0
+          ∙ ap (option_map (λ n. n - p.lowered)) p.lowest.1),
+      omega arith,
+    )
     here (x ∷ path) to l leads = absurd (omega arith)
 
 near-each : (table : ℕ → ℕ → Option ℕ) (points : ℕ → Sample) (states labels : ℕ) (sample : Sample) (old new : Kept) (n steps : ℕ)
@@ -84,9 +92,12 @@ near-each table points states labels sample old new n zero bounded within p h l 
     near-least table points states labels sample old new bounded within p
 near-each table points states labels sample old new n (suc steps) bounded within p h l =
     let was = h.near steps (omega arith) in
-    let one : steps + 1 ≡ suc steps = omega arith in
-    (was.0, was.1, subst (λ k. IsNearAfter table (sums_at new.sums) k was.0) one
-        (near-next table points sample old new steps was.0 p was.2))
+    let one : steps + 1 ≡ suc steps = omega arith in (
+      was.0,
+      was.1,
+      subst (λ k. IsNearAfter table (sums_at new.sums) k was.0) one
+          (near-next table points sample old new steps was.0 p was.2),
+    )
 
 -- a sum after a step
 sum-after : (table : ℕ → ℕ → Option ℕ) (points : ℕ → Sample) (sample : Sample) (old new : Kept) (n s m : ℕ)
@@ -162,19 +173,19 @@ spread-start table states reach start sums within here zeros = record {
 pub sound-next : (table : ℕ → ℕ → Option ℕ) (points : ℕ → Sample) (states labels reach depth : ℕ) (sample : Sample) (old new : Decoding)
     (between : Kept) (list : List ℕ) → IsBounded table states labels → StaysWithin table states labels → Reaches table states labels reach
     → IsSound table states labels reach depth old → old.count < 2 ^ 56 → old.lost ≡ None → new.count ≡ old.count + 1
-        → Stepped table points sample (opened old.memory) between → Released between (opened new.memory) list → new.pending ≡ list
-        → All (λ label. label < labels) new.pending
+    → Stepped table points sample (opened old.memory) between → Released between (opened new.memory) list → new.pending ≡ list
+    → All (λ label. label < labels) new.pending
     → (new.lost ≡ None → (opened new.memory).unreleased ≤ depth) → IsSound table states labels reach depth new
 sound-next table points states labels reach depth sample old new between list bounded within reaches h few runs count p r pending below
     room = record {
-  low = h.low;
-  high = h.high;
-  few = omega (arith, count);
-  spread = subst (λ n. IsSpread table states (min n reach) (sums_at (opened new.memory).sums)) (sym count)
-      (subst (λ l. IsSpread table states (min (old.count + 1) reach) (sums_at l)) (sym r.sums_stay)
+      low = h.low;
+      high = h.high;
+      few = omega (arith, count);
+      spread = subst (λ n. IsSpread table states (min n reach) (sums_at (opened new.memory).sums)) (sym count)
+          (subst (λ l. IsSpread table states (min (old.count + 1) reach) (sums_at l)) (sym r.sums_stay)
           (spread-next table points states labels reach sample (opened old.memory) between old.count bounded within reaches p h.spread));
-  room = room;
-  few_unreleased = omega (arith, r.count, p.longer_by_one, h.room runs);
-  few_pending = omega (arith, ap length pending, r.count, p.longer_by_one, h.room runs);
-  pending_below = below;
-}
+      room = room;
+      few_unreleased = omega (arith, r.count, p.longer_by_one, h.room runs);
+      few_pending = omega (arith, ap length pending, r.count, p.longer_by_one, h.room runs);
+      pending_below = below;
+    }

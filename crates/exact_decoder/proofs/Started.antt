@@ -105,7 +105,7 @@ start-keeps {X} c states first sums there h = (
 pub start-stands : (table : ℕ → ℕ → Option ℕ) (points : ℕ → Sample) (starts : ℕ → Bool) (states depth first : ℕ) (sums : List (Option ℕ))
     (d : Decoding) → starts first ≡ true → ((s : ℕ) → sums_at sums s ≡ (if starts s then Some 0 else None))
     → opened d.memory ≡ start_kept states sums → d.count ≡ 0 → d.pending ≡ [] → d.lost ≡ None
-        → DecoderStands table points starts depth d [] []
+    → DecoderStands table points starts depth d [] []
 start-stands table points starts states depth first sums d there h kept count pending lost =
     let c = trellis_of table points starts in
     let k = start-keeps c states first sums there h in

@@ -16,11 +16,11 @@ pub stands-taken : (table : ℕ → ℕ → Option ℕ) (points : ℕ → Sample
     → DecoderStands table points starts depth d samples taken → DecoderStands table points starts depth new samples (taken ++ label ∷ [])
 stands-taken table points depth starts d new samples taken label e f h =
     subst (λ v. DecoderStands table points starts depth v samples (taken ++ label ∷ [])) (sym f) (record {
-  counted = h.counted;
-  lost = h.lost;
-  released = subst (IsReleased (trellis_of table points starts) (heard d.lost samples)) same h.released;
-  keeps = λ g. subst (KeepsSurvivors (trellis_of table points starts) (opened d.memory) samples) same (h.keeps g);
-})
+      counted = h.counted;
+      lost = h.lost;
+      released = subst (IsReleased (trellis_of table points starts) (heard d.lost samples)) same h.released;
+      keeps = λ g. subst (KeepsSurvivors (trellis_of table points starts) (opened d.memory) samples) same (h.keeps g);
+    })
   where
     same : taken ++ d.pending ≡ (taken ++ label ∷ []) ++ new.pending
     same = ap (λ l. taken ++ l) e ∙ sym (append_assoc taken (label ∷ []) new.pending)
@@ -46,11 +46,11 @@ sound-taken table states labels reach depth d label rest e h =
 pub stands-final : (table : ℕ → ℕ → Option ℕ) (points : ℕ → Sample) (depth : ℕ) (starts : ℕ → Bool) (d : Decoding) (samples : List Sample)
     (taken : List ℕ) (state : ℕ) → d.lost ≡ None → d.pending ≡ [] → IsLeastSum (opened d.memory).sums state
     → DecoderStands table points starts depth d samples taken
-        → IsFirstLeast (trellis_of table points starts) samples (taken ++ tail_at (opened d.memory).tails state)
+    → IsFirstLeast (trellis_of table points starts) samples (taken ++ tail_at (opened d.memory).tails state)
 stands-final table points depth starts d samples taken state e none l h =
     let front : taken ++ d.pending ≡ taken = ap (λ t. taken ++ t) none ∙ append-nil taken in
     subst (λ t. IsFirstLeast (trellis_of table points starts) samples (t ++ tail_at (opened d.memory).tails state)) front
-        (final-of (trellis_of table points starts) (opened d.memory) samples (taken ++ d.pending) state (h.keeps e) l)
+    (final-of (trellis_of table points starts) (opened d.memory) samples (taken ++ d.pending) state (h.keeps e) l)
 
 -- what taking the last label of a list gives
 abbrev pub IsPopped : List ℕ → List ℕ → Option ℕ → Type 0
@@ -66,15 +66,15 @@ sound-popped table states labels reach depth k count old new lost None p h =
     (subst (λ l. IsSound table states labels reach depth (decoding_of k count l lost)) (p.0 ∙ sym p.1) h, tt)
 sound-popped table states labels reach depth k count old new lost (Some label) p h =
     let t = sound-taken table states labels reach depth (decoding_of k count old lost) label (reverse new) (turned old new label p) h in
-        (t.1, t.0)
+    (t.1, t.0)
 
 pub stands-popped : (table : ℕ → ℕ → Option ℕ) (points : ℕ → Sample) (depth : ℕ) (starts : ℕ → Bool) (k : Kept) (count : ℕ)
     (old new : List ℕ) (lost : Option ℕ) (samples : List Sample) (taken : List ℕ) (r : Option ℕ) → IsPopped old new r
     → DecoderStands table points starts depth (decoding_of k count old lost) samples taken
-        → DecoderStands table points starts depth (decoding_of k count new lost) samples (taken ++ option_to_list r)
+    → DecoderStands table points starts depth (decoding_of k count new lost) samples (taken ++ option_to_list r)
 stands-popped table points depth starts k count old new lost samples taken None p h =
     subst (DecoderStands table points starts depth (decoding_of k count new lost) samples) (sym (append-nil taken))
-        (subst (λ l. DecoderStands table points starts depth (decoding_of k count l lost) samples taken) (p.0 ∙ sym p.1) h)
+    (subst (λ l. DecoderStands table points starts depth (decoding_of k count l lost) samples taken) (p.0 ∙ sym p.1) h)
 stands-popped table points depth starts k count old new lost samples taken (Some label) p h =
     stands-taken table points depth starts (decoding_of k count old lost) (decoding_of k count new lost) samples taken label
-        (turned old new label p) refl h
+    (turned old new label p) refl h

@@ -75,16 +75,22 @@ flips_differ a b in_a in_b e = elim (cases_eq a b) [
   | inl same ↦ same
   | inr differ ↦ elim (cases_eq a 0) [
     | inl first ↦ let other : b ≡ 1 = omega (arith, between b in_b (λ same. differ (first ∙ sym same))) in
-          absurd (apart (rw (first, other) at e))
+        absurd (apart (rw (first, other) at e))
     | inr second ↦ let one : a ≡ 1 = omega (arith, between a in_a second) in let other : b ≡ 0 =
-          elim (cases_eq b 0) [ inl z ↦ z | inr o ↦ absurd (differ (one ∙ sym (between b in_b o))) ] in
-          absurd (apart (sym (rw (one, other) at e)))
+        elim (cases_eq b 0) [ inl z ↦ z | inr o ↦ absurd (differ (one ∙ sym (between b in_b o))) ] in
+        absurd (apart (sym (rw (one, other) at e)))
   ]
 ]
   where
     between : (n : ℕ) → n < 2 → (n ≡ 0 → ⊥) → n ≡ 1
-    between n low some = elim (cases_eq n 0) [ inl z ↦ absurd (some z) | inr o ↦ elim (cases_lt n 1) [ inl l ↦ let z : n ≡ 0 =
-        omega arith in absurd (some z) | inr l ↦ omega arith ] ]
+    between n low some = elim (cases_eq n 0) [
+      | inl z ↦ absurd (some z)
+      | inr o ↦ elim (cases_lt n 1) [
+        | inl l ↦ let z : n ≡ 0 =
+            omega arith in absurd (some z)
+        | inr l ↦ omega arith
+      ]
+    ]
 
     differs : (m n : ℕ) → m ≡ 2000 → n ≡ 0 → m ≡ n → ⊥
     differs m n e f g = omega arith

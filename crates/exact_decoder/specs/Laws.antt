@@ -38,7 +38,7 @@ OnlySentIsLeast table points = (starts : ℕ → Bool) (labels : List ℕ) (samp
 abbrev pub ReleasesSent : (ℕ → ℕ → Option ℕ) → (ℕ → Sample) → Type 0
 ReleasesSent table points = (starts : ℕ → Bool) (labels : List ℕ) (samples : List Sample) (n : ℕ) (front : List ℕ)
     → AreSent table points starts labels samples → IsReleased (trellis_of table points starts) (take n samples) front
-        → IsPrefixOf front labels
+    → IsPrefixOf front labels
 
 -- what a decoder released, taken or not
 abbrev pub released_by : Decoding → List ℕ → List ℕ

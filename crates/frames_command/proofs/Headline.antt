@@ -35,8 +35,11 @@ lists-of old before new n d = record {
 pub headline-of : (words : List (List ℕ)) (old new : FolderState) (n : FramesNames) (s : Status) → Answers (frames_job n) words old new s
     → Headline old new n s
 headline-of words old new n s a =
-    record { shared = shared-of (frames_job n) words old new s a (λ e name. a.only.names name tt); lists =
-    λ e. lists-of old a.before new n (done-of (frames_job n) words old new s a e) }
+    record {
+      shared = shared-of (frames_job n) words old new s a (λ e name. a.only.names name tt);
+      lists =
+          λ e. lists-of old a.before new n (done-of (frames_job n) words old new s a e);
+    }
 
 never-longer : (count : ℕ) → count ≤ 1048576 → FILE_LIMIT < count → ⊥
 never-longer count within longer = omega (arith, within, longer)
@@ -46,4 +49,4 @@ pub completes-of : (words : List (List ℕ)) (old new : FolderState) (n : Frames
     → Completes old new n s
 completes-of words old new n s a sound told within =
     done-unless-memory (frames_job n) words old new s a sound
-        (λ answer ends. never-longer (length (octets_at old n.bits)) within (ends.2 told))
+    (λ answer ends. never-longer (length (octets_at old n.bits)) within (ends.2 told))

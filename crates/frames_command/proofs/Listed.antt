@@ -31,14 +31,21 @@ are-first start n octets heard rest lines front bits are = by (start.tells n.bit
         → AreFirst start n lines
     first all more read e =
         let added = pieces-stay heard more in
-        record { octets = all; read = read; told = pieces_of heard; rest = added.0; pieces_are = ap pieces_of e ∙ added.1.all; are_lines =
-            are }
+        record {
+          octets = all;
+          read = read;
+          told = pieces_of heard;
+          rest = added.0;
+          pieces_are = ap pieces_of e ∙ added.1.all;
+          are_lines =
+              are;
+        }
 
     by : (told : Bool) → start.tells n.bits ≡ told → AreFirst start n lines
     by true e =
         let f = front e in
         first (octets ++ f.0) (rest ++ bits_of f.0) (λ told. f.1) (bits_of-append octets f.0 ∙ ap (λ xs. xs ++ bits_of f.0) bits
-            ∙ append_assoc heard rest (bits_of f.0))
+        ∙ append_assoc heard rest (bits_of f.0))
     by false e = first octets rest (λ told. absurd (untold (sym e ∙ told))) bits
       where
         untold : false ≡ true → ⊥
@@ -48,7 +55,7 @@ heard-first : (start old : FolderState) (n : FramesNames) (l : Listening) (at : 
     → AreFirst start n h.heard.lines
 heard-first start old n l at h =
     are-first start n h.octets (bits_of h.octets) [] h.heard.lines (ReadTo-begins start old n.bits FILE_LIMIT at h.octets h.read)
-        (sym (append-nil (bits_of h.octets)))
+    (sym (append-nil (bits_of h.octets)))
     (subst (λ (role : Role). AreLines role (pieces_of (bits_of h.octets)) h.heard.lines) h.sender_is h.heard.are_lines)
 
 -- the lines of what was heard so far are said, also after a read
@@ -71,7 +78,7 @@ pub heard-more : (start old mid new : FolderState) (n : FramesNames) (l next : L
     (h : HeardTo start old n l at) →
     ReadTo start mid n.bits FILE_LIMIT (at + count) (h.octets ++ piece) → OnlyReads old mid → OnlySays mid new → next.sender ≡ l.sender →
     ((start : FolderState) (bits : List Bool) → Heard start mid l bits → Heard start new next (bits ++ bits_of piece))
-        → HeardTo start new n next (at + count)
+    → HeardTo start new n next (at + count)
 heard-more start old mid new n l next at count piece h read reads says sender hears = record {
   octets = h.octets ++ piece;
   read = ReadTo-kept start mid new n.bits FILE_LIMIT (at + count) (h.octets ++ piece) read says.goes_on (says.names n.bits);
@@ -86,10 +93,10 @@ pub say-part : (start old mid new : FolderState) (n : FramesNames) (l : Listenin
     (h : HeardTo start old n l at) →
     ReadTo start mid n.bits FILE_LIMIT (at + count) (h.octets ++ piece) → OnlyReads old mid →
     ((start : FolderState) (bits : List Bool) → Heard start mid l bits → PartlyHeard start new l.sender (bits ++ bits_of piece))
-        → SaysPart start new n
+    → SaysPart start new n
 say-part start old mid new n l at count piece h read reads hears =
     let partly : PartlyHeard start new l.sender (bits_of h.octets ++ bits_of piece) =
-        hears start (bits_of h.octets) (heard-after start old mid l (bits_of h.octets) reads h.heard) in (
+    hears start (bits_of h.octets) (heard-after start old mid l (bits_of h.octets) reads h.heard) in (
       partly.lines,
       are-first start n (h.octets ++ piece) partly.heard partly.rest partly.lines
           (ReadTo-begins start mid n.bits FILE_LIMIT (at + count) (h.octets ++ piece) read)

@@ -8,7 +8,7 @@ pub fours-more : (line : List Bool) (quads : List ℕ) (quad : ℕ) (four : List
     → low_bits 4 quad ≡ four → line ++ four ≡ flat_map (low_bits 4) (quads ++ quad ∷ [])
 fours-more line quads quad four e f =
     ap (λ xs. xs ++ four) e ∙ ap (λ ys. flat_map (low_bits 4) quads ++ ys) (sym f ∙ sym (append-nil (low_bits 4 quad)))
-        ∙ sym (flat_map-append (low_bits 4) quads (quad ∷ []))
+    ∙ sym (flat_map-append (low_bits 4) quads (quad ∷ []))
 
 -- a quad's bits, as they are taken one by one
 pub quad-bits : (quad : ℕ) → quad < 16

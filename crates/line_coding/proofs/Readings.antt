@@ -26,8 +26,8 @@ pub comes-back : (tap : ℕ) (bits line : List Bool) (quads labels : List ℕ) (
     → Demodulates tap labels bits
 comes-back tap bits line quads labels end scrambled fours are_quads encodes =
     subst (λ (xs : List Bool). Descrambles tap xs bits) (fours
-        ∙ ap (flat_map (low_bits 4)) (sym (quads_of_Encodes quads labels end are_quads encodes)))
-        (Descrambles_from_Scrambles tap bits line scrambled)
+    ∙ ap (flat_map (low_bits 4)) (sym (quads_of_Encodes quads labels end are_quads encodes)))
+    (Descrambles_from_Scrambles tap bits line scrambled)
 
 take-fours : (n : ℕ) (quads : List ℕ) → take (4 * n) (flat_map (low_bits 4) quads) ≡ flat_map (low_bits 4) (take n quads)
 take-fours zero quads = refl
@@ -35,7 +35,7 @@ take-fours (suc n) [] = take-nil (4 * suc n)
 take-fours (suc n) (quad ∷ quads) =
     let four : 4 * suc n ≡ suc (suc (suc (suc (4 * n)))) = omega arith in
     let first : take (4 * suc n) (flat_map (low_bits 4) (quad ∷ quads)) ≡ low_bits 4 quad ++ take (4 * n) (flat_map (low_bits 4) quads) =
-        ap (λ m. take m (flat_map (low_bits 4) (quad ∷ quads))) four in
+    ap (λ m. take m (flat_map (low_bits 4) (quad ∷ quads))) four in
     first ∙ ap (λ xs. low_bits 4 quad ++ xs) (take-fours n quads)
 
 pub first-stay : (tap n : ℕ) (labels : List ℕ) (bits : List Bool) → 1 ≤ tap → Demodulates tap labels bits
@@ -43,6 +43,6 @@ pub first-stay : (tap n : ℕ) (labels : List ℕ) (bits : List Bool) → 1 ≤ 
 first-stay tap n labels bits low d =
     let s = Scrambles-take tap (4 * n) bits (line_of labels) low (Scrambles_from_Descrambles tap bits (line_of labels) d) in
     let e : take (4 * n) (line_of labels) ≡ line_of (take n labels) =
-        take-fours n (quads_of labels) ∙ ap (flat_map (low_bits 4)) (sym (quads_of-take labels n)) in
+    take-fours n (quads_of labels) ∙ ap (flat_map (low_bits 4)) (sym (quads_of-take labels n)) in
     subst (λ (xs : List Bool). Descrambles tap xs (take (4 * n) bits)) e
-        (Descrambles_from_Scrambles tap (take (4 * n) bits) (take (4 * n) (line_of labels)) s)
+    (Descrambles_from_Scrambles tap (take (4 * n) bits) (take (4 * n) (line_of labels)) s)

@@ -126,7 +126,7 @@ grows-lost losses sender n d l e =
 
 counts-on : (script : ScriptValue) (sender : Role) (ts : List Turn) (heard : Heard) → AsNamed script sender ts heard
     → named_in script.losses sender (length ts - delay_of script sender) + lost_in heard ≤ named_in script.losses sender
-        (length ts + 1 - delay_of script sender)
+    (length ts + 1 - delay_of script sender)
 counts-on script sender ts Nothing h = let g = grows script.losses sender (length ts) (delay_of script sender) in omega (arith, g)
 counts-on script sender ts (Passed s) h = let g = grows script.losses sender (length ts) (delay_of script sender) in omega (arith, g)
 counts-on script sender ts Chance h = let g = grows script.losses sender (length ts) (delay_of script sender) in omega (arith, g)
@@ -140,7 +140,7 @@ lost-named-to script (t ∷ ts) h role =
     let d : ℕ = delay_of script (other role) in
     let longer : length ts + 1 ≡ length (t ∷ ts) = omega arith in
     let one = subst (λ n. named_in script.losses (other role) (length ts - d) + lost_in (of role t).heard ≤ named_in script.losses
-        (other role) (n - d)) longer
+    (other role) (n - d)) longer
     (counts-on script (other role) ts (of role t).heard (h.0 role)) in
     omega (arith, before, one)
 

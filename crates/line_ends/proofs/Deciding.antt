@@ -78,7 +78,7 @@ list-decided (x ∷ xs) (y ∷ ys) = go (number-decided x y) (list-decided xs ys
 frame-decided : (a b : Frame) → Decided (a ≡ b)
 frame-decided a b =
     go (bool-decided (parts_of a).command (parts_of b).command) (number-decided (control_octet (parts_of a)) (control_octet (parts_of b)))
-        (list-decided (tail_octets (parts_of a)) (tail_octets (parts_of b)))
+    (list-decided (tail_octets (parts_of a)) (tail_octets (parts_of b)))
   where
     go : Decided ((parts_of a).command ≡ (parts_of b).command) → Decided (control_octet (parts_of a) ≡ control_octet (parts_of b))
         → Decided (tail_octets (parts_of a) ≡ tail_octets (parts_of b)) → Decided (a ≡ b)
@@ -142,7 +142,7 @@ spells-or-none : (check : Check) (sender : Role) (dlci : ℕ) (whole : List ℕ)
     ⊎ ((frame : Frame) → SpellsFrame check sender dlci whole frame → ⊥)
 spells-or-none check sender dlci whole =
     go (spelled-decided check sender dlci whole (candidate check true whole))
-        (spelled-decided check sender dlci whole (candidate check false whole))
+    (spelled-decided check sender dlci whole (candidate check false whole))
   where
     none : (command : Bool) (frame : Frame) → (parts_of frame).command ≡ command
         → (SpellsFrame check sender dlci whole (candidate check command whole) → ⊥) → SpellsFrame check sender dlci whole frame → ⊥
@@ -171,7 +171,7 @@ some-frames check sender dlci (whole ∷ wholes) = go (spells-or-none check send
   where
     go : ((frame : Frame) × SpellsFrame check sender dlci whole frame) ⊎ ((frame : Frame) → SpellsFrame check sender dlci whole frame → ⊥)
         → ((frames : List Frame) × AreFrames check sender dlci wholes frames) → (frames : List Frame)
-            × AreFrames check sender dlci (whole ∷ wholes) frames
+        × AreFrames check sender dlci (whole ∷ wholes) frames
     go (inl s) r = (s.0 ∷ r.0, inr (s.0, r.0, s.1, refl, r.1))
     go (inr n) r = (r.0, inl (n, r.1))
 

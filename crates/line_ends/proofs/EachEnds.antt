@@ -70,7 +70,7 @@ pub data Came (c : Channel) (sender : Role) (earlier : List Turn) (t : Turn) (he
 comes : SlotLaws → (script : ScriptValue) (sender : Role) (earlier : List Turn) (t : Turn) (hearing : Check) (slot : Spoken)
     → IsInLimits script
     → AreFit (bits_in script) 0 (signals (channel_of script) sender earlier)
-        → AreFit (bits_in script) 0 (signals (channel_of script) sender (t ∷ earlier))
+    → AreFit (bits_in script) 0 (signals (channel_of script) sender (t ∷ earlier))
     → (of sender t).sent ≡ Some slot → Came (channel_of script) sender earlier t hearing slot
 comes laws script sender earlier t hearing slot h fits fit e = go (lost-or-not upto.0)
   where
@@ -93,7 +93,7 @@ comes laws script sender earlier t hearing slot h fits fit e = go (lost-or-not u
     joined : lines.bits_of c sender (t ∷ earlier) ≡ lines.bits_of c sender earlier ++ bits
     joined =
         ap (λ o. signal_bits (bits_in script) (signals c sender earlier ++ signal_in c sender o)) e
-            ∙ ap (sent_bits (bits_in script)) (map-append (slot_of (bits_in script)) (signals c sender earlier) (signal ∷ []))
+        ∙ ap (sent_bits (bits_in script)) (map-append (slot_of (bits_in script)) (signals c sender earlier) (signal ∷ []))
         ∙ bits-append (bits_in script) 0 (slots_of (bits_in script) (signals c sender earlier)) (slot_of (bits_in script) signal)
 
     go : ((symbol : ℕ) × LostIs line_trellis line_depth upto.0 (Some symbol)) ⊎ LostIs line_trellis line_depth upto.0 None
@@ -101,7 +101,7 @@ comes laws script sender earlier t hearing slot h fits fit e = go (lost-or-not u
     go (inl l) = Is_lost l.0 upto.0 upto.1 l.1
     go (inr n) =
         let r = some-received laws.receives script hearing sender 0 (lines.bits_of c sender earlier) bits before.0 upto.0 before.1
-            (subst (λ xs. Records script sender xs upto.0) joined upto.1) in
+        (subst (λ xs. Records script sender xs upto.0) joined upto.1) in
         let o = some-outcome (loses script sender (length earlier)) slot.sent r.frames r.patterns in
         Is_heard o.0 (record {
           before = before.0;
@@ -142,8 +142,12 @@ each-slot-becomes laws script files ts ends role h o r = go (sent_ago delay send
         → Came c sender (drop delay ts) x.turn hearing slot → Becomes c sender ts hearing
     came slot e x (Is_lost symbol samples recorded lost) = becomes.Lost symbol (record {
       arrives = ap is_some e;
-      loses = record { samples = samples; recorded =
-          subst (λ us. Records script sender (lines.bits_of c sender us) samples) (sym x.rest) recorded; lost = lost };
+      loses = record {
+        samples = samples;
+        recorded =
+            subst (λ us. Records script sender (lines.bits_of c sender us) samples) (sym x.rest) recorded;
+        lost = lost;
+      };
     })
     came slot e x (Is_heard heard a) =
         heard-as (Some slot) e heard (subst (λ us. Arrives c sender (drop delay ts) us hearing slot heard) (sym x.rest) a)
@@ -153,7 +157,7 @@ each-slot-becomes laws script files ts ends role h o r = go (sent_ago delay send
     go (Some slot) e =
         let x : SentAgo sender delay ts slot = sent-ago sender delay ts slot (laws.delays script h sender) e in
         let fit : AreFit (bits_in script) 0 (signals c sender (x.turn ∷ drop delay ts)) =
-            subst (λ us. AreFit (bits_in script) 0 (signals c sender us)) x.rest (fits-before script sender (delay - 1) ts fits) in
+        subst (λ us. AreFit (bits_in script) 0 (signals c sender us)) x.rest (fits-before script sender (delay - 1) ts fits) in
         came slot e x (comes laws script sender (drop delay ts) x.turn hearing slot h (fits-before script sender delay ts fits) fit x.sent)
 
 -- by what becomes of both slots
@@ -227,11 +231,11 @@ in-turn script files ts ends m o e = record {
 
 broken-end : EndLaws → (script : ScriptValue) (files : Both (List ℕ)) (ts : List Turn) (ends : Ends) → IsInLimits script
     → LineRun (channel_of script) (link_of script files) ts ends
-        → (m : MadeOver (channel_of script) files ts ends) (role : Role) (fault : LinkFault)
+    → (m : MadeOver (channel_of script) files ts ends) (role : Role) (fault : LinkFault)
     → m.outcome ≡ Broken role fault → HasEnd script files
 broken-end laws script files ts ends h r m role fault e =
     let is : TurnIs (link_of script files) ts ends m.turn m.mid (Broken role fault) =
-        subst (TurnIs (link_of script files) ts ends m.turn m.mid) e m.is in
+    subst (TurnIs (link_of script files) ts ends m.turn m.mid) e m.is in
     go role fault e (laws.named (link_of script files) ts ends m.turn m.mid role fault (laws.play script files h) r.run is)
   where
     left : Left
@@ -241,14 +245,24 @@ broken-end laws script files ts ends h r m role fault e =
     go role (faults.Spent segment since) e n = record {
       end = LinkLost role segment (length ts);
       left = left-of m.mid (trace_text (m.turn ∷ ts));
-      runs = record { turns = ts; ends = ends; run = r; ended =
-          (since, in-turn script files ts ends m (Broken role (faults.Spent segment since)) e) };
+      runs = record {
+        turns = ts;
+        ends = ends;
+        run = r;
+        ended =
+            (since, in-turn script files ts ends m (Broken role (faults.Spent segment since)) e);
+      };
     }
     go role faults.NotDetected e n = record {
       end = NotDetected (length ts);
       left = left-of m.mid (trace_text (m.turn ∷ ts));
-      runs = record { turns = ts; ends = ends; run = r; ended =
-          in-turn script files ts ends m (Broken Originator faults.NotDetected) (e ∙ ap (λ x. Broken x faults.NotDetected) n) };
+      runs = record {
+        turns = ts;
+        ends = ends;
+        run = r;
+        ended =
+            in-turn script files ts ends m (Broken Originator faults.NotDetected) (e ∙ ap (λ x. Broken x faults.NotDetected) n);
+      };
     }
     go role (faults.BadAck nr va high) e n = absurd n
     go role (faults.PeerReset va vr) e n = absurd n
@@ -265,7 +279,7 @@ goes laws script files h ts ends r on (inr m) = made m.outcome refl
     made : (o : Outcome) → m.outcome ≡ o → HasEnd script files
     made Going e =
         let is : TurnIs (link_of script files) ts ends m.turn m.mid Going =
-            subst (TurnIs (link_of script files) ts ends m.turn m.mid) e m.is in
+        subst (TurnIs (link_of script files) ts ends m.turn m.mid) e m.is in
         on m.turn is.0 (record { run = (ends, r.run, is.1); heard = (m.heard, r.heard) })
     made Done e = record {
       end = IsDone (length ts);
@@ -278,11 +292,11 @@ goes laws script files h ts ends r on (inr m) = made m.outcome refl
 ends-within : EndLaws → (script : ScriptValue) (files : Both (List ℕ)) → IsInLimits script
     → ((role : Role) → length (of role files) ≤ file_limit) → AreOfOctets script files
     → (n : ℕ) (ts : List Turn) (ends : Ends) → LineRun (channel_of script) (link_of script files) ts ends → 2 ^ 40 ≤ length ts + n
-        → HasEnd script files
+    → HasEnd script files
 ends-within laws script files h f o zero ts ends r l = absurd (omega (arith, l, laws.short (channel_of script) files ts ends h f r))
 ends-within laws script files h f o (suc n) ts ends r l =
     goes laws script files h ts ends r (λ t after k. ends-within laws script files h f o n (t ∷ ts) after k (omega (arith, l)))
-        (laws.decided script files ts ends h o r)
+    (laws.decided script files ts ends h o r)
 
 pub each-run-ends : EndLaws → EachRunEnds
 each-run-ends laws script files h f o =

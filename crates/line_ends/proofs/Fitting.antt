@@ -26,10 +26,10 @@ bits_in script = 4 * symbols_of script
 fits-one : (codable : SlotsAreCodable) (script : ScriptValue) (files : Both (List ℕ)) (ts : List Turn) (ends : Ends) (t : Turn)
     (after : Ends) → IsInLimits script
     → LineRun (channel_of script) (link_of script files) ts ends → HeardIn (channel_of script) ts t
-        → GoingTurn (link_of script files) ts ends t after
+    → GoingTurn (link_of script files) ts ends t after
     → (role : Role) → ((slot : Spoken) → (of role t).sent ≡ Some slot → IsSendable slot.sent)
     → AreFit (bits_in script) 0 (signals (channel_of script) role ts)
-        → AreFit (bits_in script) 0 (signals (channel_of script) role (t ∷ ts))
+    → AreFit (bits_in script) 0 (signals (channel_of script) role (t ∷ ts))
 fits-one codable script files ts ends t after h r k g role sendable fit =
     let size : ℕ = bits_in script in
     let before = signals (channel_of script) role ts in
@@ -40,19 +40,19 @@ fits-one codable script files ts ends t after h r k g role sendable fit =
     let can = codable script files ts ends t after h r k g role slot phase (phase-low size 0 (slots_of size before) (omega arith)) e is in
     let fits : Fits size phase (signal_of slot.check role 0 slot.sent)
     = codable-fits slot.check role 0 (symbols_of script) phase slot.sent
-        (spelled-octets slot.check role 0 slot.sent (omega arith) is) can in
+    (spelled-octets slot.check role 0 slot.sent (omega arith) is) can in
     subst (λ o. AreFit size 0 (before ++ signal_in (channel_of script) role o)) (sym e)
-        (fit-more size 0 before (signal_of slot.check role 0 slot.sent) fit fits)
+    (fit-more size 0 before (signal_of slot.check role 0 slot.sent) fit fits)
 
 -- and so all of them do
 pub fits-all : (codable : SlotsAreCodable) (script : ScriptValue) (files : Both (List ℕ)) (ts : List Turn) (ends : Ends) → IsInLimits script
     → LineRun (channel_of script) (link_of script files) ts ends → AllSendable ts → (role : Role)
-        → AreFit (bits_in script) 0 (signals (channel_of script) role ts)
+    → AreFit (bits_in script) 0 (signals (channel_of script) role ts)
 fits-all codable script files [] ends h r s role = tt
 fits-all codable script files (t ∷ ts) ends h r s role =
     let before : LineRun (channel_of script) (link_of script files) ts r.run.0 = record { run = r.run.1; heard = r.heard.1 } in
     fits-one codable script files ts r.run.0 t ends h before r.heard.0 r.run.2 role (s.0 role)
-        (fits-all codable script files ts r.run.0 h before s.1 role)
+    (fits-all codable script files ts r.run.0 h before s.1 role)
 
 -- the first ones too
 pub fits-before : (script : ScriptValue) (role : Role) (n : ℕ) (ts : List Turn)
@@ -62,4 +62,4 @@ fits-before script role zero ts h = h
 fits-before script role (suc n) [] h = h
 fits-before script role (suc n) (t ∷ ts) h =
     fits-before script role n ts (fit-front (bits_in script) 0 (signals (channel_of script) role ts)
-        (signal_in (channel_of script) role (of role t).sent) h)
+    (signal_in (channel_of script) role (of role t).sent) h)

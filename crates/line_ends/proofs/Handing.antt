@@ -58,10 +58,28 @@ holds-delivered : (file : List ℕ) (a : Account) → Holds file a → Holds fil
 holds-delivered file a h = go (is_connected a.phase)
   where
     go : (b : Bool) → Holds file (after_given (cond b (record a { incoming = record a.incoming { given = length a.incoming.taken } }) a))
-    go true = record { offered = record { allowed = h.offered.allowed; terms = h.offered.terms; size = h.offered.size; cut =
-        h.offered.cut }; own = h.own; owes = h.owes }
-    go false = record { offered = record { allowed = h.offered.allowed; terms = h.offered.terms; size = h.offered.size; cut =
-        h.offered.cut }; own = h.own; owes = h.owes }
+    go true = record {
+      offered = record {
+        allowed = h.offered.allowed;
+        terms = h.offered.terms;
+        size = h.offered.size;
+        cut =
+            h.offered.cut;
+      };
+      own = h.own;
+      owes = h.owes;
+    }
+    go false = record {
+      offered = record {
+        allowed = h.offered.allowed;
+        terms = h.offered.terms;
+        size = h.offered.size;
+        cut =
+            h.offered.cut;
+      };
+      own = h.own;
+      owes = h.owes;
+    }
 
 offers-at : OfferLaws → (file : List ℕ) (a : Account) (w : Option ℕ) → wants a ≡ w → Holds file a → Holds file (offered_at file a w)
 offers-at laws file a None e h = h
@@ -69,8 +87,12 @@ offers-at laws file a (Some n) e h =
     let piece : List ℕ = piece_at (piece_size a) file n in
     let few : length piece ≤ piece_size a = omega (arith, length-take (piece_size a) (drop (piece_size a * n) file)) in
     let x = laws.next file a n piece h.offered e few in
-    record { offered = subst (λ f. IsOffered f (offered_at file a (Some n))) (laws.own (piece_size a) n file) x.offered; own = h.own; owes =
-        h.owes }
+    record {
+      offered = subst (λ f. IsOffered f (offered_at file a (Some n))) (laws.own (piece_size a) n file) x.offered;
+      own = h.own;
+      owes =
+          h.owes;
+    }
 
 offers-times : OfferLaws → (n : ℕ) (file : List ℕ) (a : Account) → Holds file a → Holds file (offered_times n file a)
 offers-times laws zero file a h = h
@@ -80,8 +102,17 @@ holds-busy : (file : List ℕ) (busy : Bool) (a : Account) → Holds file a → 
 holds-busy file busy a h = go (is_connected a.phase)
   where
     go : (c : Bool) → Holds file (cond c (record a { owes = record a.owes { busy = busy } }) a)
-    go true = record { offered = record { allowed = h.offered.allowed; terms = h.offered.terms; size = h.offered.size; cut =
-        h.offered.cut }; own = h.own; owes = h.owes }
+    go true = record {
+      offered = record {
+        allowed = h.offered.allowed;
+        terms = h.offered.terms;
+        size = h.offered.size;
+        cut =
+            h.offered.cut;
+      };
+      own = h.own;
+      owes = h.owes;
+    }
     go false = h
 
 more-breaks : (turn l : ℕ) (b : OwnBreaks) → l < 256 → AreOctets b.lengths → AreOctets (after_ask turn l b).lengths

@@ -53,9 +53,13 @@ pub record HearLaws : Type 0 where
 -- the line of samples as any line
 pub over : HearLaws → (script : ScriptValue) (files : Both (List ℕ)) (ts : List Turn) (ends : Ends) → IsInLimits script
     → LineRun (channel_of script) (link_of script files) ts ends → RunsOver (link_of script files) (delay_of script) ts ends
-over laws script files ts ends h r = record
-    { may_play = laws.play script files h; delays = laws.delays script h; carried = laws.carried (channel_of script) ts r.heard; run =
-        r.run }
+over laws script files ts ends h r = record {
+  may_play = laws.play script files h;
+  delays = laws.delays script h;
+  carried = laws.carried (channel_of script) ts r.heard;
+  run =
+      r.run;
+}
 
 nine : (pattern : Seen) → IsPattern pattern [] (replicate 9 pattern)
 nine pattern = (refl, (λ e. absurd cc), All-replicate (λ other. other ≡ pattern) 9 pattern refl)
@@ -89,7 +93,7 @@ slots-long script = omega arith
 arrives-unhindered : HearLaws → (script : ScriptValue) (sender : Role) (earlier : List Turn) (t : Turn) (hearing : Check) (slot : Spoken)
     (heard : Heard)
     → IsInLimits script → IsFaint script → (of sender t).sent ≡ Some slot
-        → AreFit (bits_in script) 0 (signals (channel_of script) sender (t ∷ earlier)) → IsSendable slot.sent
+    → AreFit (bits_in script) 0 (signals (channel_of script) sender (t ∷ earlier)) → IsSendable slot.sent
     → ChecksAgree slot.check hearing slot.sent → Arrives (channel_of script) sender earlier (t ∷ earlier) hearing slot heard
     → heard ≡ unhindered (loses script sender (length earlier)) slot.sent
 arrives-unhindered laws script sender earlier t hearing slot heard h d e fit is agree a =
@@ -97,7 +101,7 @@ arrives-unhindered laws script sender earlier t hearing slot heard h d e fit is 
     let before : List Signal = signals c sender earlier in
     let signal : Signal = signal_of slot.check sender 0 slot.sent in
     let fits : AreFit (bits_in script) 0 (before ++ signal ∷ []) =
-        subst (λ o. AreFit (bits_in script) 0 (before ++ signal_in c sender o)) e fit in
+    subst (λ o. AreFit (bits_in script) 0 (before ++ signal_in c sender o)) e fit in
     let recorded : Records script sender (signal_bits (bits_in script) (before ++ signal ∷ [])) a.samples
     = subst (λ o. Records script sender (signal_bits (bits_in script) (before ++ signal_in c sender o)) a.samples) e a.recorded in
     let same = laws.received script slot.check hearing sender 0 (symbols_of script) before slot.sent a.before a.samples a.frames a.patterns
@@ -105,7 +109,7 @@ arrives-unhindered laws script sender earlier t hearing slot heard h d e fit is 
     let lose : Bool = loses script sender (length earlier) in
     laws.one lose slot.sent (frames_in slot.sent) (patterns_in slot.sent) heard (unhindered lose slot.sent)
     (subst (λ xs. IsOutcome lose slot.sent (frames_in slot.sent) xs heard) same.1
-        (subst (λ xs. IsOutcome lose slot.sent xs a.patterns heard) same.0 a.outcome)) (expected lose slot.sent)
+    (subst (λ xs. IsOutcome lose slot.sent xs a.patterns heard) same.0 a.outcome)) (expected lose slot.sent)
 
 -- What is heard of a sender in the turn after these: no chance match, and lost only where the script says so.
 pub record AsNamed (script : ScriptValue) (sender : Role) (ts : List Turn) (heard : Heard) : Type 0 where
@@ -145,19 +149,22 @@ heard-named laws script files ts ends h d r s role heard k = go (sent_ago delay 
         let x : SentAgo sender delay ts slot = sent-ago sender delay ts slot (laws.delays script h sender) e in
         let fit : AreFit (bits_in script) 0 (signals (channel_of script) sender (x.turn ∷ drop delay ts))
         = subst (λ us. AreFit (bits_in script) 0 (signals (channel_of script) sender us)) x.rest
-            (fits-before script sender (delay - 1) ts (fits-all laws.codable script files ts ends h r s sender)) in
+        (fits-before script sender (delay - 1) ts (fits-all laws.codable script files ts ends h r s sender)) in
         let arrives : Arrives (channel_of script) sender (drop delay ts) (x.turn ∷ drop delay ts) hearing slot heard
         = subst (λ us. Arrives (channel_of script) sender (drop delay ts) us hearing slot heard) x.rest a in
         let checks : ChecksAgree slot.check hearing slot.sent
         = agree-on slot.check hearing slot.sent
-            (λ frame f. laws.judges (link_of script files) (delay_of script) ts ends
-            (over laws script files ts ends h r) role slot frame e f) in
+        (λ frame f. laws.judges (link_of script files) (delay_of script) ts ends
+        (over laws script files ts ends h r) role slot frame e f) in
         let same = arrives-unhindered laws script sender (drop delay ts) x.turn hearing slot heard h d x.sent fit
-            (x.sendable s) checks arrives in
+        (x.sendable s) checks arrives in
         record {
           well = λ f. laws.never_chance (loses script sender (length (drop delay ts))) slot.sent (sym same ∙ f);
-          lost = λ l. (x.enough, subst (λ n. loses script sender n ≡ true) x.count
-              (lost-named (loses script sender (length (drop delay ts))) slot.sent (subst IsLost same l)));
+          lost = λ l. (
+            x.enough,
+            subst (λ n. loses script sender n ≡ true) x.count
+                (lost-named (loses script sender (length (drop delay ts))) slot.sent (subst IsLost same l)),
+          );
         }
 
 -- the line isn't lost

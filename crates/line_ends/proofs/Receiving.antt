@@ -59,7 +59,7 @@ over-decided samples n =
         → IsOver line_trellis line_depth samples n → ⊥
     not-over front r l o =
         let same : length o.front ≡ length front =
-            ap (λ (xs : List ℕ). length xs) (released-once line_trellis (take n samples) o.front front o.released r) in
+        ap (λ (xs : List ℕ). length xs) (released-once line_trellis (take n samples) o.front front o.released r) in
         omega (arith, same, l, o.over)
 
 -- the first place at which the line is over, below some place
@@ -94,9 +94,15 @@ lost-or-not samples = go (first-over samples (length samples + 1))
     at : (place : ℕ) → FirstOver samples (length samples + 1) place → (symbol : ℕ) × LostIs line_trellis line_depth samples (Some symbol)
     at zero f = absurd (omega (arith, f.over.over))
     at (suc symbol) f =
-        let next : suc symbol ≡ symbol + 1 = omega arith in
-        (symbol, record { within = omega (arith, f.within); over = subst (IsOver line_trellis line_depth samples) next f.over; first =
-            λ n l o. f.first n (omega (arith, l)) o })
+        let next : suc symbol ≡ symbol + 1 = omega arith in (
+          symbol,
+          record {
+            within = omega (arith, f.within);
+            over = subst (IsOver line_trellis line_depth samples) next f.over;
+            first =
+                λ n l o. f.first n (omega (arith, l)) o;
+          },
+        )
 
     go : ((place : ℕ) × FirstOver samples (length samples + 1) place)
         ⊎ ((n : ℕ) → n < length samples + 1 → IsOver line_trellis line_depth samples n → ⊥)
@@ -125,12 +131,12 @@ some-received laws script check sender dlci bits more before upto old new =
     let earlier = some-given sender before in
     let later = some-given sender upto in
     let stays = laws.stays sender before grown.0 earlier.0 later.0 earlier.1
-        (subst (λ (xs : List Sample). Gives sender xs later.0) grown.1 later.1) in
+    (subst (λ (xs : List Sample). Gives sender xs later.0) grown.1 later.1) in
     let pieces = pieces-stay earlier.0 stays.0 in
     let sights = laws.sights earlier.0 stays.0 in
     let frames = some-frames check sender dlci (wholes pieces.0) in
     let found : FoundBetween check sender dlci earlier.0 (earlier.0 ++ stays.0) frames.0 (map (λ (sight : Sight). sight.seen) sights.0) =
-        record {
+    record {
       pieces = pieces.0;
       pieces_are = pieces.1.all;
       frames_are = frames.1;

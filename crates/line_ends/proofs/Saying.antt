@@ -100,8 +100,16 @@ written-with f c t u r v tw rw' lf lc lt lu lr lv ltw lrw =
                             lt,
                             (
                               lu,
-                              (omega arith, (omega arith, (lr,
-                                  (lv, (omega arith, (omega arith, (ltw, (omega arith, (omega arith, (lrw, tt)))))))))),
+                              (
+                                omega arith,
+                                (
+                                  omega arith,
+                                  (
+                                    lr,
+                                    (lv, (omega arith, (omega arith, (ltw, (omega arith, (omega arith, (lrw, tt))))))),
+                                  ),
+                                ),
+                              ),
                             ),
                           ),
                         ),
@@ -123,7 +131,7 @@ written-octets o h =
     let r : 8 * o.rx_len / 256 < 256 = omega (arith, h.rx_len_high) in
     let v : 8 * o.rx_len % 256 < 256 = omega arith in
     written-with (cond o.srej 142 138) (cond o.check32 1 0) (8 * o.tx_len / 256) (8 * o.tx_len % 256) (8 * o.rx_len / 256)
-        (8 * o.rx_len % 256) o.tx_window o.rx_window
+    (8 * o.rx_len % 256) o.tx_window o.rx_window
     (functions-octet o.srej) (check-octet o.check32) t u r v (omega (arith, h.tx_window_high)) (omega (arith, h.rx_window_high))
 
 -- what an end holds
@@ -160,8 +168,11 @@ due (Some (answers.Dm pf)) a h = record { sent = record { ns = tt; nr = tt; octe
 
 segment : (turn : ℕ) (o : Option ℕ) (a : Account) → IsReady a → AllGood (says_segment turn o a)
 segment turn None a h = tt
-segment turn (Some i) a h = record { sent =
-    record { ns = omega arith; nr = omega arith; octets = piece-at a.outgoing.pieces i h.pieces }; owes = h.owes }
+segment turn (Some i) a h = record {
+  sent =
+      record { ns = omega arith; nr = omega arith; octets = piece-at a.outgoing.pieces i h.pieces };
+  owes = h.owes;
+}
 
 own-break : (o : Option BreakWord) (a : Account) → OfOctets o → Owes a → AllGood (says_own o a)
 own-break None a w h = tt

@@ -54,7 +54,7 @@ breaks-octets : (script : ScriptValue) (role : Role) → All (λ (b : Break). b.
 breaks-octets script role h =
     let lines : List Break = filter (λ (b : Break). same_role b.role role) script.breaks in
     All-map IsOctetBreak break_line lines
-        (All-filter (λ (b : Break). same_role b.role role) (λ (b : Break). b.length < 256) script.breaks h)
+    (All-filter (λ (b : Break). same_role b.role role) (λ (b : Break). b.length < 256) script.breaks h)
 
 user-octets : (script : ScriptValue) (files : Both (List ℕ)) → AreOfOctets script files → (role : Role)
     → HasOctets (of role (link_of script files)).user
@@ -131,12 +131,15 @@ pub record HoldBoth (files : Role → List ℕ) (ts : List Turn) (ends : Ends) :
 next-turn : SendLaws → (script : ScriptValue) (files : Both (List ℕ)) (ts : List Turn) (before : Ends) (t : Turn) (after : Ends)
     → IsInLimits script → AreOfOctets script files
     → LineRun (channel_of script) (link_of script files) ts before → Carries (delay_of script) ts t
-        → GoingTurn (link_of script files) ts before t after
+    → GoingTurn (link_of script files) ts before t after
     → HoldBoth (λ role. (of role (link_of script files)).user.file) ts before
-        → HoldBoth (λ role. (of role (link_of script files)).user.file) (t ∷ ts) after
+    → HoldBoth (λ role. (of role (link_of script files)).user.file) (t ∷ ts) after
 next-turn laws script files ts before t after h o r c g k =
-    record { sendable = ((λ role slot e. sends role slot e), k.sendable); holds =
-    λ role. subst (Holds (file role)) (sym (g.speaking role).after_is) (after-holds role) }
+    record {
+      sendable = ((λ role slot e. sends role slot e), k.sendable);
+      holds =
+          λ role. subst (Holds (file role)) (sym (g.speaking role).after_is) (after-holds role);
+    }
   where
     link : Link
     link = link_of script files
@@ -179,8 +182,13 @@ next-turn laws script files ts before t after h o r c g k =
         (served-holds role)
 
     over : RunsOver link (delay_of script) ts before
-    over = record { may_play = laws.play script files h; delays = laws.delays script h; carried =
-        laws.carried (channel_of script) ts r.heard; run = r.run }
+    over = record {
+      may_play = laws.play script files h;
+      delays = laws.delays script h;
+      carried =
+          laws.carried (channel_of script) ts r.heard;
+      run = r.run;
+    }
 
     few : (role : Role) (slot : Spoken) (frame : Frame) → (of role t).sent ≡ Some slot → slot.sent ≡ slots.Frame frame
         → length (information_of frame) ≤ INFO
@@ -201,8 +209,11 @@ holds-all : SendLaws → (script : ScriptValue) (files : Both (List ℕ)) (ts : 
     → AreOfOctets script files
     → LineRun (channel_of script) (link_of script files) ts ends → HoldBoth (λ role. (of role (link_of script files)).user.file) ts ends
 holds-all laws script files [] ends h o r =
-    record { sendable = tt; holds =
-    λ role. subst (λ (e : Ends). Holds (of role (link_of script files)).user.file (of role e)) (sym r.run) (begins role) }
+    record {
+      sendable = tt;
+      holds =
+          λ role. subst (λ (e : Ends). Holds (of role (link_of script files)).user.file (of role e)) (sym r.run) (begins role);
+    }
   where
     begins : (role : Role) → Holds (of role (link_of script files)).user.file (of role (start (link_of script files)))
     begins Originator = record {
@@ -220,7 +231,7 @@ holds-all laws script files [] ends h o r =
 holds-all laws script files (t ∷ ts) ends h o r =
     let before : LineRun (channel_of script) (link_of script files) ts r.run.0 = record { run = r.run.1; heard = r.heard.1 } in
     next-turn laws script files ts r.run.0 t ends h o before (laws.one (channel_of script) ts t r.heard.0) r.run.2
-        (holds-all laws script files ts r.run.0 h o before)
+    (holds-all laws script files ts r.run.0 h o before)
 
 pub octets-are-sendable : SendLaws → OctetsAreSendable
 octets-are-sendable laws script files ts ends h o r = (holds-all laws script files ts ends h o r).sendable

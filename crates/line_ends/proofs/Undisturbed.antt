@@ -28,7 +28,7 @@ hearing-in link ts ends t mid (Broken role fault) h = h.hearing
 turn-named : HearLaws → (script : ScriptValue) (files : Both (List ℕ)) (ts : List Turn) (ends : Ends) (t : Turn) (mid : Ends)
     → IsInLimits script → IsFaint script
     → LineRun (channel_of script) (link_of script files) ts ends → AllSendable ts → Hears (length ts) ends t mid
-        → HeardIn (channel_of script) ts t
+    → HeardIn (channel_of script) ts t
     → (role : Role) → AsNamed script (other role) ts (of role t).heard
 turn-named laws script files ts ends t mid h d r s k w role =
     heard-named laws script files ts ends h d r s role (of role t).heard
@@ -38,17 +38,19 @@ run-named : HearLaws → (script : ScriptValue) (files : Both (List ℕ)) (ts : 
     → LineRun (channel_of script) (link_of script files) ts ends → AllSendable ts → AllNamed script ts
 run-named laws script files [] ends h d r s = tt
 run-named laws script files (t ∷ ts) ends h d r s =
-    let before : LineRun (channel_of script) (link_of script files) ts r.run.0 = record { run = r.run.1; heard = r.heard.1 } in
-    (turn-named laws script files ts r.run.0 t r.run.2.mid h d before s.1 r.run.2.hearing r.heard.0,
-        run-named laws script files ts r.run.0 h d before s.1)
+    let before : LineRun (channel_of script) (link_of script files) ts r.run.0 = record { run = r.run.1; heard = r.heard.1 } in (
+      turn-named laws script files ts r.run.0 t r.run.2.mid h d before s.1 r.run.2.hearing r.heard.0,
+      run-named laws script files ts r.run.0 h d before s.1,
+    )
 
 last-named : HearLaws → (script : ScriptValue) (files : Both (List ℕ)) (ts : List Turn) (ends : Ends) (o : Outcome) (turn : ℕ) (left : Left)
     → IsInLimits script → IsFaint script
     → LineRun (channel_of script) (link_of script files) ts ends → AllSendable ts
     → (e : EndsInTurn (channel_of script) (link_of script files) ts ends o turn left) → AllNamed script (e.last ∷ ts)
-last-named laws script files ts ends o turn left h d r s e =
-    (turn-named laws script files ts ends e.last e.mid h d r s (hearing-in (link_of script files) ts ends e.last e.mid o e.is) e.heard,
-        run-named laws script files ts ends h d r s)
+last-named laws script files ts ends o turn left h d r s e = (
+  turn-named laws script files ts ends e.last e.mid h d r s (hearing-in (link_of script files) ts ends e.last e.mid o e.is) e.heard,
+  run-named laws script files ts ends h d r s,
+)
 
 all-named : HearLaws → (script : ScriptValue) (files : Both (List ℕ)) (end : RunEnd) (left : Left) → IsInLimits script → IsFaint script
     → (r : ScriptRunsTo script files end left) → AllSendable r.turns → AllNamed script (heard_turns script files end left r)
@@ -103,9 +105,14 @@ quiet-deliver play delays whole done ends script files h f q o =
     let e : HasEnd script files = ends script files h f o in
     let d = done script files e.end e.left h q o e.runs in
     let runs : ScriptRunsTo script files (IsDone d.0) e.left = subst (λ end. ScriptRunsTo script files end e.left) d.1 e.runs in
-    record { turn = d.0; left = e.left; runs = runs; whole =
-        λ role. is-whole role (whole (channel_of script) (link_of script files) d.0 e.left
-        (record { may_play = play script files h; delays = delays script h }) runs role) }
+    record {
+      turn = d.0;
+      left = e.left;
+      runs = runs;
+      whole =
+          λ role. is-whole role (whole (channel_of script) (link_of script files) d.0 e.left
+          (record { may_play = play script files h; delays = delays script h }) runs role);
+    }
   where
     is-whole : (role : Role) {got : List ℕ} → got ≡ (of (other role) (link_of script files)).user.file → got ≡ of (other role) files
     is-whole Originator e = e

@@ -107,7 +107,7 @@ word-owes : IsSpelledBack → (a : Account) (turn : ℕ) (info : List ℕ) (w : 
 word-owes back a turn info (Ok (Brk number length_octet)) e i h =
     let all : AreOctets (64 ∷ number ∷ length_octet ∷ []) = subst AreOctets (sym (back info (Brk number length_octet) e)) i in
     All-cons (λ octet. octet < 256) 96 (number ∷ length_octet ∷ []) (omega arith)
-        (All-tail (λ octet. octet < 256) 64 (number ∷ length_octet ∷ []) all)
+    (All-tail (λ octet. octet < 256) 64 (number ∷ length_octet ∷ []) all)
 word-owes back a turn info (Ok (Ack number length_octet)) e i h = h
 word-owes back a turn info (Err fault) e i h = h
 
@@ -116,13 +116,13 @@ connected-owes back a turn (I ns nr pf info) i h =
     number-owes a turn nr (acknowledged nr a.outgoing) (λ b. replying pf (taking ns info b)) h (λ b k. k)
 connected-owes back a turn (Rr command nr pf) i h =
     number-owes a turn nr (option_map resumed (cond (ends_wait command pf a) (replied nr a.outgoing) (acknowledged nr a.outgoing)))
-        (λ b. hurrying (ends_wait command pf a) (replying (command && pf) b)) h (λ b k. k)
+    (λ b. hurrying (ends_wait command pf a) (replying (command && pf) b)) h (λ b k. k)
 connected-owes back a turn (Rnr command nr pf) i h =
     number-owes a turn nr (option_map paused_at (cond (ends_wait command pf a) (replied nr a.outgoing) (acknowledged nr a.outgoing)))
-        (λ b. pausing turn (replying (command && pf) b)) h (λ b k. k)
+    (λ b. pausing turn (replying (command && pf) b)) h (λ b k. k)
 connected-owes back a turn (Rej command nr pf) i h =
     number-owes a turn nr (option_map resumed (cond (ends_wait command pf a) (replied nr a.outgoing) (rejected nr a.outgoing)))
-        (λ b. hurrying (ends_wait command pf a) (replying (command && pf) b)) h (λ b k. k)
+    (λ b. hurrying (ends_wait command pf a) (replying (command && pf) b)) h (λ b k. k)
 connected-owes back a turn (Srej command nr pf) i h = one-owes a turn nr (selected nr a.outgoing) h
 connected-owes back a turn (Sabme pf) i h = sabme-owes a pf (a.numbered || is_originator a.setup.role) h
 connected-owes back a turn (Disc pf) i h = disc-owes a pf a.setup.role h

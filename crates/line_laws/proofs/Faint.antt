@@ -60,7 +60,7 @@ fits_test = refl
 point-fits : (label : ℕ) → label < 32 → Fits (point_of label).re × Fits (point_of label).im
 point-fits label low =
     let both = and_parts (coordinate_fits (point_of label).re) (coordinate_fits (point_of label).im)
-        (at_each 32 point_fits fits_test label low) in
+    (at_each 32 point_fits fits_test label low) in
     (coordinate (point_of label).re both.0, coordinate (point_of label).im both.1)
 
 moved : (offset : Offset) (point : Sample) → Fits point.re → Fits point.im → distance_of point (displaced offset point) ≤ squares_of offset
@@ -81,8 +81,11 @@ moved-cost : (script : ScriptValue) (sender : Role) (symbol from to : ℕ) (labe
 moved-cost script sender symbol from to [] l = omega arith
 moved-cost script sender symbol from to (label ∷ labels) (mid, e, l) =
     let fits = point-fits label (branch_of from label mid e).in_labels in
-    omega (arith, moved (offset_of script sender symbol) (point_of label) fits.0 fits.1,
-        moved-cost script sender (symbol + 1) mid to labels l)
+    omega (
+      arith,
+      moved (offset_of script sender symbol) (point_of label) fits.0 fits.1,
+      moved-cost script sender (symbol + 1) mid to labels l,
+    )
 
 squares-more : (script : ScriptValue) (sender : Role) (symbol n m : ℕ) → n ≤ m
     → squares_from script sender symbol n ≤ squares_from script sender symbol m
@@ -103,16 +106,21 @@ recorded-near script sender count bits samples h few r =
     let labels : List ℕ = r.modulated.labels in
     let fours = four-each (tap_of (mode_of sender)) labels bits (carried script sender bits samples r) in
     let are : samples ≡ displaced_from script sender 0 (map point_of labels) =
-        r.samples_are ∙ ap (displaced_from script sender 0) r.modulated.points in
+    r.samples_are ∙ ap (displaced_from script sender 0) r.modulated.points in
     let long : length labels ≡ length samples =
-        sym (ap length are ∙ length-displaced script sender 0 (map point_of labels) ∙ length-points labels) in
+    sym (ap length are ∙ length-displaced script sender 0 (map point_of labels) ∙ length-points labels) in
     let price : cost far_from labels samples ≡ cost far_from labels (displaced_from script sender 0 (map point_of labels)) =
-        ap (cost far_from labels) are in
+    ap (cost far_from labels) are in
     record {
       end = r.modulated.end;
       sequence = record { code_sequence = record { from = 0; starts_there = refl; leads = r.modulated.encoded.leads }; same_length = long };
-      near = omega (arith, price, moved-cost script sender 0 0 r.modulated.end labels r.modulated.encoded.leads,
-          squares-more script sender 0 (length labels) count (omega (arith, few, fours)), h);
+      near = omega (
+        arith,
+        price,
+        moved-cost script sender 0 0 r.modulated.end labels r.modulated.encoded.leads,
+        squares-more script sender 0 (length labels) count (omega (arith, few, fours)),
+        h,
+      );
     }
 
 pub faint-followed : (script : ScriptValue) (sender : Role) (count : ℕ) → IsFaintBefore script sender count
@@ -120,14 +128,17 @@ pub faint-followed : (script : ScriptValue) (sender : Role) (count : ℕ) → Is
 faint-followed script sender count h = record {
   sent = λ bits samples labels few r released.
       releases-near 0 (length samples) r.modulated.labels labels samples (recorded-near script sender count bits samples h few r)
-          (all-of samples labels released);
+      (all-of samples labels released);
   few = λ bits samples labels few r released.
       let near = recorded-near script sender count bits samples h few r in
-      omega (arith, near.sequence.same_length,
-          few-unreleased 0 (length samples) r.modulated.labels labels samples (omega arith) near (all-of samples labels released));
+      omega (
+        arith,
+        near.sequence.same_length,
+        few-unreleased 0 (length samples) r.modulated.labels labels samples (omega arith) near (all-of samples labels released),
+      );
   goes_on = λ bits symbol few l.
       let never = never-lost 0 line_depth l.recorded.modulated.labels l.samples
-          (recorded-near script sender count bits l.samples h few l.recorded) (omega arith) in
+      (recorded-near script sender count bits l.samples h few l.recorded) (omega arith) in
       let both : Some symbol ≡ None = lost-once line_trellis line_depth l.samples (Some symbol) None l.lost never in
       absurd cc;
 }

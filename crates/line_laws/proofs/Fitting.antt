@@ -34,9 +34,10 @@ fit-slot plain size phase (FlagSlot (Some octets)) long low h = (h.0, omega (ari
 pub fit-slots : (plain : ArePlain) (size phase : ℕ) (signals : List Signal) → 552 < size → phase < 8 → AreFit size phase signals
     → AreSlots size phase (slots_of size signals)
 fit-slots plain size phase [] long low h = tt
-fit-slots plain size phase (signal ∷ signals) long low h =
-    (fit-slot plain size phase signal long low h.0,
-        fit-slots plain size (next_phase size phase (slot_of size signal)) signals long (next-low size phase (slot_of size signal)) h.1)
+fit-slots plain size phase (signal ∷ signals) long low h = (
+  fit-slot plain size phase signal long low h.0,
+  fit-slots plain size (next_phase size phase (slot_of size signal)) signals long (next-low size phase (slot_of size signal)) h.1,
+)
 
 pub fit-front : (size phase : ℕ) (before more : List Signal) → AreFit size phase (before ++ more) → AreFit size phase before
 fit-front size phase [] more h = tt
@@ -98,7 +99,7 @@ checked-small check sender dlci frame low is h =
     let octets : List ℕ = spelled frame sender dlci in
     let kind : Check = check_for check frame in
     All-append (λ octet. octet < 256) octets (check_of kind octets) (spelled-small frame sender dlci low is h)
-        (check_of-is kind octets).are_octets
+    (check_of-is kind octets).are_octets
 
 pub spelled-octets : (check : Check) (sender : Role) (dlci : ℕ) (s : Sent) → dlci < 64 → IsSendable s
     → OfOctets (signal_of check sender dlci s)
@@ -110,8 +111,12 @@ spelled-octets check sender dlci (sent.Frame frame) low is = checked-small check
 
 some-flags : (count : ℕ) (before behind : List Bool) → 8 * count ≤ length (before ++ flags count ++ behind)
 some-flags count before behind =
-    omega (arith, length-append {A = Bool} (before ++ flags count) behind, length-append {A = Bool} before (flags count),
-    length-flags count)
+    omega (
+      arith,
+      length-append {A = Bool} (before ++ flags count) behind,
+      length-append {A = Bool} before (flags count),
+      length-flags count,
+    )
 
 some-opening : (phase : ℕ) (frame : List ℕ) → 32 ≤ length (opening phase (Some frame))
 some-opening phase frame = some-flags 4 (rest_of_flag phase) (framed (Some frame))
@@ -129,7 +134,7 @@ codable-sendable check sender dlci symbols phase (sent.Frame frame) k = k.sendab
 frame-fits : (check : Check) (sender : Role) (dlci symbols phase : ℕ) (frame : Frame)
     → All (λ octet. octet < 256) (checked check sender dlci frame) → IsFrame frame
     → length (opening phase (Some (checked check sender dlci frame))) ≤ 4 * (symbols - TAIL)
-        → Fits (4 * symbols) phase (FlagSlot (Some (checked check sender dlci frame)))
+    → Fits (4 * symbols) phase (FlagSlot (Some (checked check sender dlci frame)))
 frame-fits check sender dlci symbols phase frame small is room = (
   record {
     small = small;

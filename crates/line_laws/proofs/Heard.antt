@@ -29,32 +29,38 @@ pub received-where : (Holds : ScriptValue → Role → ℕ → Type 0) (most lag
 received-where Holds most lag f laws script check hearing sender dlci symbols passed s before upto frames patterns h long fit is agree old
     new r =
     received-sent laws lag script check hearing sender dlci symbols passed s before upto frames patterns
-        (f.follows script sender (symbols * (length passed + 1)) h) (f.time symbols long) fit is agree old new r
+    (f.follows script sender (symbols * (length passed + 1)) h) (f.time symbols long) fit is agree old new r
 
 pub sent-where : (Holds : ScriptValue → Role → ℕ → Type 0) (most lag : ℕ) → IsFollowed Holds most lag → AreSeen
     → SentIsReceivedWhere Holds most
 sent-where Holds most lag f laws script check hearing sender dlci symbols passed s before upto h long fit is agree old new =
     sent-received laws lag script check hearing sender dlci symbols passed s before upto
-        (f.follows script sender (symbols * (length passed + 1)) h) (f.time symbols long) fit is agree old new
+    (f.follows script sender (symbols * (length passed + 1)) h) (f.time symbols long) fit is agree old new
 
 pub heard-where : (Holds : ScriptValue → Role → ℕ → Type 0) (most lag : ℕ) → IsFollowed Holds most lag → AreSeen
     → HeardIsSentWhere Holds most
 heard-where Holds most lag f laws line script passed waiting signal check hearing dlci loses s heard h long fit e is agree p =
     heard-sent laws lag line script passed waiting signal check hearing dlci loses s heard
-        (f.follows script (sender_of line) (line.writer.symbols * (length passed + 1)) h) (f.time line.writer.symbols long) fit e is agree p
+    (f.follows script (sender_of line) (line.writer.symbols * (length passed + 1)) h) (f.time line.writer.symbols long) fit e is agree p
 
 pub passes-where : (Holds : ScriptValue → Role → ℕ → Type 0) (most lag : ℕ) → IsFollowed Holds most lag → AreSeen
     → PassesUnhinderedWhere Holds most
 passes-where Holds most lag f laws line script passed waiting signal check hearing dlci loses s result h long fit e is agree p =
     passes-sent laws lag line script passed waiting signal check hearing dlci loses s result
-        (f.follows script (sender_of line) (line.writer.symbols * (length passed + 1)) h) (f.time line.writer.symbols long) fit e is agree p
+    (f.follows script (sender_of line) (line.writer.symbols * (length passed + 1)) h) (f.time line.writer.symbols long) fit e is agree p
 
 -- where no symbol is displaced, and where noise is faint
 
 pub undisplaced : IsFollowed DisplacesNoneBefore 138 96
-undisplaced = record { follows = undisplaced-followed; time =
-    λ symbols long. record { long = omega arith; frames = omega arith; patterns = omega arith } }
+undisplaced = record {
+  follows = undisplaced-followed;
+  time =
+      λ symbols long. record { long = omega arith; frames = omega arith; patterns = omega arith };
+}
 
 pub faint : IsFollowed IsFaintBefore 215 504
-faint = record { follows = faint-followed; time =
-    λ symbols long. record { long = omega arith; frames = omega arith; patterns = omega arith } }
+faint = record {
+  follows = faint-followed;
+  time =
+      λ symbols long. record { long = omega arith; frames = omega arith; patterns = omega arith };
+}

@@ -52,7 +52,7 @@ signals-tell check sender dlci (sent.Frame frame) (sent.Frame other) is others e
     let same : checked check sender dlci frame ≡ checked check sender dlci other = ap octets_in e in
     ap sent.Frame (spells-one check sender dlci (checked check sender dlci other) frame other
     (subst (λ (whole : List ℕ). SpellsFrame check sender dlci whole frame) same (spells check sender dlci frame is.0))
-        (spells check sender dlci other others.0))
+    (spells check sender dlci other others.0))
 
 pub one-sent : ArePlain → SlotsTellWhatWasSent
 one-sent plain check sender dlci symbols phase s other channel few long codable codable_other e =
@@ -61,7 +61,7 @@ one-sent plain check sender dlci symbols phase s other channel few long codable 
     signals-tell check sender dlci s other is others
     (one-signal (4 * symbols) phase (signal_of check sender dlci s) (signal_of check sender dlci other) (omega arith) few
     (fit-slot plain (4 * symbols) phase (signal_of check sender dlci s) (omega arith) few
-        (codable-fits check sender dlci symbols phase s (spelled-octets check sender dlci s channel is) codable))
+    (codable-fits check sender dlci symbols phase s (spelled-octets check sender dlci s channel is) codable))
     (fit-slot plain (4 * symbols) phase (signal_of check sender dlci other) (omega arith) few
-        (codable-fits check sender dlci symbols phase other (spelled-octets check sender dlci other channel others) codable_other))
+    (codable-fits check sender dlci symbols phase other (spelled-octets check sender dlci other channel others) codable_other))
     e)

@@ -17,7 +17,7 @@ pub record AreSeen : Type 0 where
   pub stay : (bits more : List Bool) → (added : List Sight) × SightsAdded bits more added
   pub sent : (size : ℕ) (before : List Signal) (signal : Signal) → 552 < size → AreSlots size 0 (slots_of size (before ++ signal ∷ []))
       → sights_of (signal_bits size (before ++ signal ∷ [])) ≡ sights_of (signal_bits size before) ++ seen_in
-          (length (signal_bits size before)) signal
+      (length (signal_bits size before)) signal
 
 pub none-seen : sights_of [] ≡ []
 unfolding sights_of

@@ -60,9 +60,9 @@ released-carry lag script sender count bits samples labels follows few r release
     let tap : ℕ = tap_of (mode_of sender) in
     let sent = follows.sent bits samples labels few r released in
     let first : take (length labels) r.modulated.labels ≡ labels =
-        ap (take (length labels)) (sym sent.1) ∙ take-append_seam labels sent.0 in
+    ap (take (length labels)) (sym sent.1) ∙ take-append_seam labels sent.0 in
     subst (λ (xs : List ℕ). Demodulates tap xs (take (4 * length labels) bits)) first
-        (first-stay tap (length labels) r.modulated.labels bits (tap-some sender) (carried script sender bits samples r))
+    (first-stay tap (length labels) r.modulated.labels bits (tap-some sender) (carried script sender bits samples r))
 
 -- all but the last bits were read
 lags : (lag : ℕ) (script : ScriptValue) (sender : Role) (count : ℕ) (bits read : List Bool) (samples : List Sample)
@@ -74,8 +74,8 @@ lags lag script sender count bits read samples follows within r g =
     let n : ℕ = length g.labels in
     let few = follows.few bits samples g.labels within r g.released in
     let same : take (4 * n) bits ≡ read =
-        Descrambles_once tap (line_of g.labels) (take (4 * n) bits) read
-        (released-carry lag script sender count bits samples g.labels follows within r g.released) g.read in
+    Descrambles_once tap (line_of g.labels) (take (4 * n) bits) read
+    (released-carry lag script sender count bits samples g.labels follows within r g.released) g.read in
     record {
       rest = drop (4 * n) bits;
       goes_on = sym (take-append-drop (4 * n) bits) ∙ ap (λ xs. xs ++ drop (4 * n) bits) same;
@@ -92,7 +92,7 @@ same-checked check hearing sender dlci frame agree = ap (λ (kind : Check). with
 slot-frames : (size start phase : ℕ) (behind : Bool) (check hearing : Check) (sender : Role) (dlci : ℕ) (s : Sent) (added : List Found)
     → IsSendable s → ChecksAgree check hearing s
     → FoundIn size start phase behind (slot_of size (signal_of check sender dlci s)) added
-        → AreFrames hearing sender dlci (wholes added) (frames_in s)
+    → AreFrames hearing sender dlci (wholes added) (frames_in s)
 slot-frames size start phase true check hearing sender dlci sent.Mark added is agree h =
     subst (λ (xs : List Found). AreFrames hearing sender dlci (wholes xs) []) (sym h.3) refl
 slot-frames size start phase false check hearing sender dlci sent.Mark added is agree h =
@@ -109,8 +109,14 @@ slot-frames size start phase behind check hearing sender dlci sent.Flags added i
     subst (λ (xs : List Found). AreFrames hearing sender dlci (wholes xs) []) (sym h) refl
 slot-frames size start phase behind check hearing sender dlci (sent.Frame frame) added is agree h =
     subst (λ (xs : List Found). AreFrames hearing sender dlci (wholes xs) (frame ∷ [])) (sym h)
-        (inr (frame, [], subst (λ (whole : List ℕ). SpellsFrame hearing sender dlci whole frame)
-        (same-checked check hearing sender dlci frame agree) (spells hearing sender dlci frame is.0), refl, refl))
+    (inr (
+      frame,
+      [],
+      subst (λ (whole : List ℕ). SpellsFrame hearing sender dlci whole frame)
+          (same-checked check hearing sender dlci frame agree) (spells hearing sender dlci frame is.0),
+      refl,
+      refl,
+    ))
 
 slot-patterns : (check : Check) (sender : Role) (dlci start : ℕ) (s : Sent)
     → map (λ (sight : Sight). sight.seen) (seen_in start (signal_of check sender dlci s)) ≡ patterns_in s
@@ -146,23 +152,23 @@ found-sent laws lag check hearing sender dlci size passed s earlier later time f
     let signal : Signal = signal_of check sender dlci s in
     let a = slot-adds laws size passed signal time.long fit in
     let before = settled-finds laws lag (signal_bits size passed) earlier
-        (settled-all laws lag size passed time (fit-front size 0 passed (signal ∷ []) fit)) old in
+    (settled-all laws lag size passed time (fit-front size 0 passed (signal ∷ []) fit)) old in
     let upto = settled-finds laws lag (signal_bits size (passed ++ signal ∷ [])) later
-        (settled-all laws lag size (passed ++ signal ∷ []) time fit) new in
+    (settled-all laws lag size (passed ++ signal ∷ []) time fit) new in
     let start : ℕ = length (signal_bits size passed) in
     let one_way : pieces_of (signal_bits size (passed ++ signal ∷ [])) ≡ pieces_of earlier ++ (before.added ++ a.added)
     = a.all ∙ ap (λ xs. xs ++ a.added) before.pieces ∙ append_assoc (pieces_of earlier) before.added a.added in
     let other_way : pieces_of (signal_bits size (passed ++ signal ∷ [])) ≡ pieces_of earlier ++ (f.pieces ++ upto.added)
     = upto.pieces ∙ ap (λ xs. xs ++ upto.added) f.pieces_are ∙ append_assoc (pieces_of earlier) f.pieces upto.added in
     let pieces : f.pieces ++ upto.added ≡ before.added ++ a.added =
-        same-behind (pieces_of earlier) (f.pieces ++ upto.added) (before.added ++ a.added) (sym other_way ∙ one_way) in
+    same-behind (pieces_of earlier) (f.pieces ++ upto.added) (before.added ++ a.added) (sym other_way ∙ one_way) in
     let octets : wholes f.pieces ≡ wholes a.added
     = sym (append-nil (wholes f.pieces)) ∙ ap (λ xs. wholes f.pieces ++ xs) (sym upto.none) ∙ sym (wholes-append f.pieces upto.added)
-        ∙ ap wholes pieces
+    ∙ ap wholes pieces
     ∙ wholes-append before.added a.added ∙ ap (λ xs. xs ++ wholes a.added) before.none in
     let sights : f.sights ≡ seen_in start signal
     = same-behind (sights_of earlier) f.sights (seen_in start signal) (sym f.sights_are ∙ sym upto.sights ∙ a.sights
-        ∙ ap (λ xs. xs ++ seen_in start signal) before.sights) in
+    ∙ ap (λ xs. xs ++ seen_in start signal) before.sights) in
     record {
       pieces = f.pieces;
       pieces_are = f.pieces_are;
@@ -177,11 +183,11 @@ found-sent laws lag check hearing sender dlci size passed s earlier later time f
 bounds : (laws : AreSeen) (symbols : ℕ) (passed : List Signal) (signal : Signal) → 138 < symbols
     → AreFit (4 * symbols) 0 (passed ++ signal ∷ [])
     → (length (signal_bits (4 * symbols) passed) ≤ 4 * (symbols * (length passed + 1)))
-        × (length (signal_bits (4 * symbols) (passed ++ signal ∷ [])) ≤ 4 * (symbols * (length passed + 1)))
+    × (length (signal_bits (4 * symbols) (passed ++ signal ∷ [])) ≤ 4 * (symbols * (length passed + 1)))
 bounds laws symbols passed signal long fit =
     let all = length-fit laws.plain (4 * symbols) 0 (passed ++ signal ∷ []) (omega arith) (omega arith) fit in
     let some = length-fit laws.plain (4 * symbols) 0 passed (omega arith) (omega arith)
-        (fit-front (4 * symbols) 0 passed (signal ∷ []) fit) in
+    (fit-front (4 * symbols) 0 passed (signal ∷ []) fit) in
     let one_more : length (passed ++ signal ∷ []) ≡ length passed + 1 = length-append {A = Signal} passed (signal ∷ []) in
     (rw some (by-size symbols (length passed)), rw (all, one_more) (whole-size symbols (length passed)))
   where
@@ -199,7 +205,7 @@ pub received-sent : (laws : AreSeen) (lag : ℕ) (script : ScriptValue) (check h
     (passed : List Signal) (s : Sent)
     (before upto : List Sample) (frames : List Frame) (patterns : List Seen)
     → Follows lag script sender (symbols * (length passed + 1)) → LeavesTime lag (4 * symbols)
-        → AreFit (4 * symbols) 0 (passed ++ signal_of check sender dlci s ∷ []) → IsSendable s → ChecksAgree check hearing s
+    → AreFit (4 * symbols) 0 (passed ++ signal_of check sender dlci s ∷ []) → IsSendable s → ChecksAgree check hearing s
     → Records script sender (signal_bits (4 * symbols) passed) before
     → Records script sender (signal_bits (4 * symbols) (passed ++ signal_of check sender dlci s ∷ [])) upto
     → Receives hearing sender dlci before upto frames patterns
@@ -213,9 +219,9 @@ received-sent laws lag script check hearing sender dlci symbols passed s before 
       gives = r.gives;
       found = found-sent laws lag check hearing sender dlci (4 * symbols) passed s r.earlier r.later time fit is agree
           (lags lag script sender (symbols * (length passed + 1))
-              (signal_bits (4 * symbols) passed) r.earlier before follows b.0 old r.gave)
+          (signal_bits (4 * symbols) passed) r.earlier before follows b.0 old r.gave)
           (lags lag script sender (symbols * (length passed + 1))
-              (signal_bits (4 * symbols) (passed ++ signal_of check sender dlci s ∷ [])) r.later upto follows b.1 new r.gives)
+          (signal_bits (4 * symbols) (passed ++ signal_of check sender dlci s ∷ [])) r.later upto follows b.1 new r.gives)
           (record { pieces = r.found.pieces; pieces_are = r.found.pieces_are; sights = r.found.sights; sights_are = r.found.sights_are });
     })
 
@@ -225,15 +231,20 @@ gives-some : (lag : ℕ) (script : ScriptValue) (sender : Role) (count : ℕ) (b
     → Follows lag script sender count → length bits ≤ 4 * count → Records script sender bits samples → (read : List Bool)
     × Gives sender samples read
 gives-some lag script sender count bits samples follows few r =
-    let some = some-released line_trellis 8 32 2 samples (v32_has_laws 0 (omega arith)) in
-    (take (4 * length some.0) bits,
-        record { labels = some.0; released = some.1; read =
-        released-carry lag script sender count bits samples some.0 follows few r some.1 })
+    let some = some-released line_trellis 8 32 2 samples (v32_has_laws 0 (omega arith)) in (
+      take (4 * length some.0) bits,
+      record {
+        labels = some.0;
+        released = some.1;
+        read =
+            released-carry lag script sender count bits samples some.0 follows few r some.1;
+      },
+    )
 
 -- what is given goes on where the recording does
 given-grows : (laws : AreSeen) (script : ScriptValue) (sender : Role) (bits more earlier later : List Bool) (before upto : List Sample)
     → Records script sender bits before → Records script sender (bits ++ more) upto → Gives sender before earlier → Gives sender upto later
-        → Grows earlier later
+    → Grows earlier later
 given-grows laws script sender bits more earlier later before upto old new gave gives =
     let grown = recordings-grow script sender bits more before upto old new in
     let stays = given-stays sender before grown.0 earlier later gave (subst (λ (xs : List Sample). Gives sender xs later) grown.1 gives) in
@@ -243,10 +254,10 @@ given-received : (laws : AreSeen) (lag : ℕ) (script : ScriptValue) (check hear
     (passed : List Signal) (s : Sent)
     (before upto : List Sample) (earlier later : List Bool)
     → (count : ℕ) → Follows lag script sender count → length (signal_bits size passed) ≤ 4 * count
-        → length (signal_bits size (passed ++ signal_of check sender dlci s ∷ [])) ≤ 4 * count → LeavesTime lag size
-        → AreFit size 0 (passed ++ signal_of check sender dlci s ∷ []) → IsSendable s → ChecksAgree check hearing s
+    → length (signal_bits size (passed ++ signal_of check sender dlci s ∷ [])) ≤ 4 * count → LeavesTime lag size
+    → AreFit size 0 (passed ++ signal_of check sender dlci s ∷ []) → IsSendable s → ChecksAgree check hearing s
     → Records script sender (signal_bits size passed) before
-        → Records script sender (signal_bits size (passed ++ signal_of check sender dlci s ∷ [])) upto
+    → Records script sender (signal_bits size (passed ++ signal_of check sender dlci s ∷ [])) upto
     → Gives sender before earlier → Gives sender upto later
     → Receives hearing sender dlci before upto (frames_in s) (patterns_in s)
 given-received laws lag script check hearing sender dlci size passed s before upto earlier later count follows few_before few_upto time fit
@@ -255,9 +266,9 @@ given-received laws lag script check hearing sender dlci size passed s before up
     let slot : List Bool = slot_bits size (phase_after size (slots_of size passed)) (slot_of size signal) in
     let joined : signal_bits size (passed ++ signal ∷ []) ≡ signal_bits size passed ++ slot
     = ap (sent_bits size) (map-append (slot_of size) passed (signal ∷ []))
-        ∙ bits-append size 0 (slots_of size passed) (slot_of size signal) in
+    ∙ bits-append size 0 (slots_of size passed) (slot_of size signal) in
     let added : Records script sender (signal_bits size passed ++ slot) upto =
-        subst (λ (xs : List Bool). Records script sender xs upto) joined new in
+    subst (λ (xs : List Bool). Records script sender xs upto) joined new in
     record {
       earlier = earlier;
       later = later;
@@ -273,7 +284,7 @@ pub sent-received : (laws : AreSeen) (lag : ℕ) (script : ScriptValue) (check h
     (passed : List Signal) (s : Sent)
     (before upto : List Sample)
     → Follows lag script sender (symbols * (length passed + 1)) → LeavesTime lag (4 * symbols)
-        → AreFit (4 * symbols) 0 (passed ++ signal_of check sender dlci s ∷ []) → IsSendable s → ChecksAgree check hearing s
+    → AreFit (4 * symbols) 0 (passed ++ signal_of check sender dlci s ∷ []) → IsSendable s → ChecksAgree check hearing s
     → Records script sender (signal_bits (4 * symbols) passed) before
     → Records script sender (signal_bits (4 * symbols) (passed ++ signal_of check sender dlci s ∷ [])) upto
     → Receives hearing sender dlci before upto (frames_in s) (patterns_in s)
@@ -282,9 +293,9 @@ sent-received laws lag script check hearing sender dlci symbols passed s before 
     let b = bounds laws symbols passed (signal_of check sender dlci s) (long-of lag symbols time) fit in
     let earlier = gives-some lag script sender count (signal_bits (4 * symbols) passed) before follows b.0 old in
     let later = gives-some lag script sender count
-        (signal_bits (4 * symbols) (passed ++ signal_of check sender dlci s ∷ [])) upto follows b.1 new in
+    (signal_bits (4 * symbols) (passed ++ signal_of check sender dlci s ∷ [])) upto follows b.1 new in
     given-received laws lag script check hearing sender dlci
-        (4 * symbols) passed s before upto earlier.0 later.0 count follows b.0 b.1 time fit is agree old new earlier.1 later.1
+    (4 * symbols) passed s before upto earlier.0 later.0 count follows b.0 b.1 time fit is agree old new earlier.1 later.1
 
 -- and has one outcome
 
@@ -306,20 +317,20 @@ as-expected false (sent.Frame frame) = (refl, (refl, refl))
 pub heard-sent : (laws : AreSeen) (lag : ℕ) (line : Kept) (script : ScriptValue) (passed waiting : List Signal) (signal : Signal)
     (check hearing : Check) (dlci : ℕ) (loses : Bool) (s : Sent) (heard : Heard)
     → Follows lag script (sender_of line) (line.writer.symbols * (length passed + 1)) → LeavesTime lag (4 * line.writer.symbols)
-        → AreFit (size_of line) 0 (passed ++ signal ∷ [])
+    → AreFit (size_of line) 0 (passed ++ signal ∷ [])
     → signal ≡ signal_of check (sender_of line) dlci s → IsSendable s → ChecksAgree check hearing s
     → PassesSlot line script passed signal waiting hearing dlci loses s heard → heard ≡ unhindered loses s
 heard-sent laws lag line script passed waiting signal check hearing dlci loses s heard follows time fit e is agree p =
     let sender : Role = sender_of line in
     let fit_s : AreFit (size_of line) 0 (passed ++ signal_of check sender dlci s ∷ []) =
-        subst (λ (x : Signal). AreFit (size_of line) 0 (passed ++ x ∷ [])) e fit in
+    subst (λ (x : Signal). AreFit (size_of line) 0 (passed ++ x ∷ [])) e fit in
     let recorded : Records script sender (signal_bits (size_of line) (passed ++ signal_of check sender dlci s ∷ [])) p.upto
     = subst (λ (x : Signal). Records script sender (signal_bits (size_of line) (passed ++ x ∷ [])) p.upto) e p.recorded in
     let same = received-sent laws lag script check hearing sender dlci line.writer.symbols passed s p.before p.upto p.frames p.patterns
-        follows time fit_s is agree p.recorded_before recorded p.received in
+    follows time fit_s is agree p.recorded_before recorded p.received in
     outcome-once loses s (frames_in s) (patterns_in s) heard (unhindered loses s)
     (subst (λ (xs : List Seen). IsOutcome loses s (frames_in s) xs heard) same.1
-        (subst (λ (xs : List Frame). IsOutcome loses s xs p.patterns heard) same.0 p.outcome)) (as-expected loses s)
+    (subst (λ (xs : List Frame). IsOutcome loses s xs p.patterns heard) same.0 p.outcome)) (as-expected loses s)
 
 pub never-chance : (loses : Bool) (s : Sent) → unhindered loses s ≡ Chance → ⊥
 never-chance loses sent.Mark e = absurd cc
@@ -334,18 +345,18 @@ never-chance false (sent.Frame frame) e = absurd cc
 pub passes-sent : (laws : AreSeen) (lag : ℕ) (line : Kept) (script : ScriptValue) (passed waiting : List Signal) (signal : Signal)
     (check hearing : Check) (dlci : ℕ) (loses : Bool) (s : Sent) (result : Result Heard Lost)
     → Follows lag script (sender_of line) (line.writer.symbols * (length passed + 1)) → LeavesTime lag (4 * line.writer.symbols)
-        → AreFit (size_of line) 0 (passed ++ signal ∷ [])
+    → AreFit (size_of line) 0 (passed ++ signal ∷ [])
     → signal ≡ signal_of check (sender_of line) dlci s → IsSendable s → ChecksAgree check hearing s
     → Passes line script passed signal waiting hearing dlci loses s result → result ≡ Ok (unhindered loses s)
 passes-sent laws lag line script passed waiting signal check hearing dlci loses s (Ok heard) follows time fit e is agree p =
     ap (λ (h : Heard). let r : Result Heard Lost = Ok h in
-        r) (heard-sent laws lag line script passed waiting signal check hearing dlci loses s heard follows time fit e is agree p)
+    r) (heard-sent laws lag line script passed waiting signal check hearing dlci loses s heard follows time fit e is agree p)
 passes-sent laws lag line script passed waiting signal check hearing dlci loses s (Err lost) follows time fit e is agree p =
     let size : ℕ = size_of line in
     let joined : signal_bits size (passed ++ signal ∷ []) ≡ signal_bits size passed ++ bits_behind size passed signal
     = ap (sent_bits size) (map-append (slot_of size) passed (signal ∷ []))
-        ∙ bits-append size 0 (slots_of size passed) (slot_of size signal) in
+    ∙ bits-append size 0 (slots_of size passed) (slot_of size signal) in
     let few = (bounds laws line.writer.symbols passed signal (long-of lag line.writer.symbols time) fit).1 in
     absurd (none-within lag (sender_of line) script (line.writer.symbols * (length passed + 1)) (signal_bits size passed)
-        (bits_behind size passed signal) lost.symbol follows
+    (bits_behind size passed signal) lost.symbol follows
     (subst (λ (xs : List Bool). length xs ≤ 4 * (line.writer.symbols * (length passed + 1))) joined few) p)

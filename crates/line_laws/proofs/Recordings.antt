@@ -119,11 +119,11 @@ coded-from done (quad ∷ quads) labels state low are h =
     let y : ℕ = (sum (map turn_of done) + turn_of quad) % 4 in
     let small : y < 4 = omega arith in
     let here : map y_of labels ++ y ∷ [] ≡ turned (map turn_of done ++ turn_of quad ∷ []) =
-        ap (λ ys. ys ++ y ∷ []) h.turned_is ∙ sym (turned-snoc (map turn_of done) (turn_of quad)) in
+    ap (λ ys. ys ++ y ∷ []) h.turned_is ∙ sym (turned-snoc (map turn_of done) (turn_of quad)) in
     let next = Encodes-more done labels state y quad low small (All-head (λ q. q < 16) quad quads are) h here in
     subst AreCoded (append_assoc done (quad ∷ []) quads)
     (coded-from (done ++ quad ∷ []) quads _ (next_by_y state y) (next_by_y-lt state y low small)
-        (All-tail (λ q. q < 16) quad quads are) next)
+    (All-tail (λ q. q < 16) quad quads are) next)
 
 coded-none : Encodes [] [] 0
 coded-none = record { leads = refl; turned_is = refl; uncoded_is = refl }
@@ -177,21 +177,21 @@ slots-recorded plain script sender symbols signals long h =
 
 loss-goes_on : (sender : Role) (script : ScriptValue) (first rest : List Bool) (symbol : ℕ) (samples : List Sample)
     → LosesAt sender script first symbol → Records script sender (first ++ rest) samples
-        → LostIs line_trellis line_depth samples (Some symbol)
+    → LostIs line_trellis line_depth samples (Some symbol)
 loss-goes_on sender script first rest symbol samples l r =
     let grown = recordings-grow script sender first rest l.samples samples l.recorded r in
     subst (λ (xs : List Sample). LostIs line_trellis line_depth xs (Some symbol)) (sym grown.1)
-        (lost-stays line_trellis line_depth l.samples grown.0 symbol l.lost)
+    (lost-stays line_trellis line_depth l.samples grown.0 symbol l.lost)
 
 pub loss-in_each : (sender : Role) (script : ScriptValue) (before bits more : List Bool) (symbol : ℕ) (samples : List Sample)
     → LosesWithin sender script before bits symbol → Records script sender ((before ++ bits) ++ more) samples
-        → LostIs line_trellis line_depth samples (Some symbol)
+    → LostIs line_trellis line_depth samples (Some symbol)
 loss-in_each sender script before bits more symbol samples l r =
     let split : (before ++ bits) ++ more ≡ (before ++ l.first) ++ (l.rest ++ more)
     = ap (λ xs. (before ++ xs) ++ more) l.bits_are ∙ ap (λ xs. xs ++ more) (sym (append_assoc before l.first l.rest))
-        ∙ append_assoc (before ++ l.first) l.rest more in
+    ∙ append_assoc (before ++ l.first) l.rest more in
     loss-goes_on sender script (before ++ l.first) (l.rest ++ more) symbol samples l.loses
-        (subst (λ (xs : List Bool). Records script sender xs samples) split r)
+    (subst (λ (xs : List Bool). Records script sender xs samples) split r)
 
 pub loss-stays : (sender : Role) (script : ScriptValue) (before bits : List Bool) (symbol : ℕ) → length (before ++ bits) % 4 ≡ 0
     → LosesWithin sender script before bits symbol → LosesAt sender script (before ++ bits) symbol

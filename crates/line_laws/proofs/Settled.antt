@@ -55,14 +55,14 @@ slot-early lag size start phase behind (FlagSlot None) added few fits h =
 slot-early lag size start phase behind (FlagSlot (Some octets)) added few fits h =
     subst (All (IsEarly lag (start + size))) (sym h)
     (All-cons (IsEarly lag (start + size)) (whole_at (start + length (opening phase (Some octets))) octets) [] (λ e. omega (arith, fits.1))
-        (All-nil (IsEarly lag (start + size))))
+    (All-nil (IsEarly lag (start + size))))
 
 pattern-early : (lag count start place end : ℕ) (seen : Seen) → start + place + 36 * count + lag ≤ end + 36
     → All (λ (sight : Sight). sight.place + lag ≤ end) (sights_from count start place seen)
 pattern-early lag zero start place end seen h = All-nil (λ (sight : Sight). sight.place + lag ≤ end)
 pattern-early lag (suc count) start place end seen h =
     All-cons (λ (sight : Sight). sight.place + lag ≤ end) (record { place = start + place; seen = seen })
-        (sights_from count start (place + 36) seen) (omega (arith, h))
+    (sights_from count start (place + 36) seen) (omega (arith, h))
     (pattern-early lag count start (place + 36) end seen (omega (arith, h)))
 
 sights-early : (lag size start : ℕ) (signal : Signal) → 359 + lag ≤ size
@@ -86,14 +86,14 @@ pub slot-adds : (seen : AreSeen) (size : ℕ) (before : List Signal) (signal : S
     → Adds size before signal
 slot-adds seen size before signal long h =
     let joined : slots_of size (before ++ signal ∷ []) ≡ slots_of size before ++ slot_of size signal ∷ [] =
-        map-append (slot_of size) before (signal ∷ []) in
+    map-append (slot_of size) before (signal ∷ []) in
     let are = fit-slots seen.plain size 0 (before ++ signal ∷ []) long (omega arith) h in
     let one = found-is-sent size (slots_of size before) (slot_of size signal) (subst (λ (xs : List Slot). AreSlots size 0 xs) joined are) in
     let phase : ℕ = phase_after size (slots_of size before) in
     let bits : List Bool = slot_bits size phase (slot_of size signal) in
     let full = length-slot_bits size phase (slot_of size signal)
-        (fit-slot seen.plain size phase signal long (phase-low size 0 (slots_of size before) (omega arith))
-        (fit-last size 0 before signal h)) in
+    (fit-slot seen.plain size phase signal long (phase-low size 0 (slots_of size before) (omega arith))
+    (fit-last size 0 before signal h)) in
     record {
       added = one.0;
       all = ap (λ xs. pieces_of (sent_bits size xs)) joined ∙ one.1.all;
@@ -110,19 +110,19 @@ settled-more seen lag size before signal time h s =
     let start : ℕ = length (signal_bits size before) in
     let end : ℕ = length (signal_bits size (before ++ signal ∷ [])) in
     let early = slot-early lag size start (phase_after size (slots_of size before))
-        (flags_behind false (slots_of size before)) signal a.added time.frames (fit-last size 0 before signal h) a.found in
+    (flags_behind false (slots_of size before)) signal a.added time.frames (fit-last size 0 before signal h) a.found in
     record {
       pieces = subst (All (IsEarly lag end)) (sym a.all)
           (All-append (IsEarly lag end) (pieces_of (signal_bits size before)) a.added
           (All-weaker (IsEarly lag start) (IsEarly lag end) (λ found early whole. omega (arith, early whole, a.wide))
-              (pieces_of (signal_bits size before)) s.pieces)
+          (pieces_of (signal_bits size before)) s.pieces)
           (subst (λ (n : ℕ). All (IsEarly lag n) a.added) (sym a.wide) early));
       sights = subst (All (λ (sight : Sight). sight.place + lag ≤ end)) (sym a.sights)
           (All-append (λ (sight : Sight). sight.place + lag ≤ end) (sights_of (signal_bits size before)) (seen_in start signal)
           (All-weaker (λ (sight : Sight). sight.place + lag ≤ start) (λ (sight : Sight). sight.place + lag ≤ end)
-              (λ sight early. omega (arith, early, a.wide)) (sights_of (signal_bits size before)) s.sights)
+          (λ sight early. omega (arith, early, a.wide)) (sights_of (signal_bits size before)) s.sights)
           (subst (λ (n : ℕ). All (λ (sight : Sight). sight.place + lag ≤ n) (seen_in start signal)) (sym a.wide)
-              (sights-early lag size start signal time.patterns)));
+          (sights-early lag size start signal time.patterns)));
     }
 
 settled-from : (seen : AreSeen) (lag size : ℕ) (before more : List Signal) → LeavesTime lag size → AreFit size 0 (before ++ more)
@@ -133,7 +133,7 @@ settled-from seen lag size before (signal ∷ more) time h s =
     let fit : AreFit size 0 ((before ++ signal ∷ []) ++ more) = subst (AreFit size 0) (sym split) h in
     subst (λ (xs : List Signal). Settled lag (signal_bits size xs)) split
     (settled-from seen lag size (before ++ signal ∷ []) more time fit
-        (settled-more seen lag size before signal time (fit-front size 0 (before ++ signal ∷ []) more fit) s))
+    (settled-more seen lag size before signal time (fit-front size 0 (before ++ signal ∷ []) more fit) s))
 
 settled-none : (lag : ℕ) → Settled lag []
 settled-none lag = record {
@@ -189,14 +189,14 @@ settled-finds seen lag bits read s l =
     let sights : sights_of bits ≡ sights_of read ++ g.0 = ap sights_of l.goes_on ∙ g.1.all in
     let early : All (IsEarly lag (length bits)) p.0 = subst (All (IsEarly lag (length bits))) (drop-append_seam (pieces_of read) p.0)
     (All-drop (IsEarly lag (length bits)) (length (pieces_of read)) (pieces_of read ++ p.0)
-        (subst (All (IsEarly lag (length bits))) pieces s.pieces)) in
+    (subst (All (IsEarly lag (length bits))) pieces s.pieces)) in
     let soon : All (λ (sight : Sight). sight.place + lag ≤ length bits) g.0 =
-        subst (All (λ (sight : Sight). sight.place + lag ≤ length bits)) (drop-append_seam (sights_of read) g.0)
+    subst (All (λ (sight : Sight). sight.place + lag ≤ length bits)) (drop-append_seam (sights_of read) g.0)
     (All-drop (λ (sight : Sight). sight.place + lag ≤ length bits) (length (sights_of read)) (sights_of read ++ g.0)
-        (subst (All (λ (sight : Sight). sight.place + lag ≤ length bits)) sights s.sights)) in
+    (subst (All (λ (sight : Sight). sight.place + lag ≤ length bits)) sights s.sights)) in
     let unseen : g.0 ≡ [] = none-left (λ (sight : Sight). ⊥) g.0
     (both (λ (sight : Sight). sight.place + lag ≤ length bits) (λ (sight : Sight). (length read < sight.place)
-        × (sight.place ≤ length (read ++ l.rest))) (λ (sight : Sight). ⊥) g.0 soon g.1.places
+    × (sight.place ≤ length (read ++ l.rest))) (λ (sight : Sight). ⊥) g.0 soon g.1.places
     (λ sight a b. omega (arith, a, b.0, few))) (λ sight e. e) in
     record {
       added = p.0;

@@ -42,12 +42,12 @@ hits-none : (sender : Role) (symbol count : ℕ) (hits : List Hit) → symbol < 
 hits-none sender symbol count [] within h = refl
 hits-none sender symbol count (hit ∷ hits) within h =
     let late : same_role hit.role sender ≡ true → count ≤ hit.from =
-        All-head (λ (one : Hit). same_role one.role sender ≡ true → count ≤ one.from) hit hits h in
+    All-head (λ (one : Hit). same_role one.role sender ≡ true → count ≤ one.from) hit hits h in
     let rest = hits-none sender symbol count hits within
-        (All-tail (λ (one : Hit). same_role one.role sender ≡ true → count ≤ one.from) hit hits h) in
+    (All-tail (λ (one : Hit). same_role one.role sender ≡ true → count ≤ one.from) hit hits h) in
     ap (λ offset. offsets.plus (hit_offset sender symbol hit) offset) rest
     ∙ ap (λ offset. offsets.plus offset nothing)
-        (quiet (same_role hit.role sender) hit.from hit.count symbol count (record { re = hit.re; im = hit.im }) nothing late within)
+    (quiet (same_role hit.role sender) hit.from hit.count symbol count (record { re = hit.re; im = hit.im }) nothing late within)
 
 noises-none : (sender : Role) (symbol count : ℕ) (noises : List Noise) → symbol < count
     → All (λ (noise : Noise). same_role noise.role sender ≡ true → count ≤ noise.from) noises
@@ -55,30 +55,30 @@ noises-none : (sender : Role) (symbol count : ℕ) (noises : List Noise) → sym
 noises-none sender symbol count [] within h = refl
 noises-none sender symbol count (noise ∷ noises) within h =
     let late : same_role noise.role sender ≡ true → count ≤ noise.from =
-        All-head (λ (one : Noise). same_role one.role sender ≡ true → count ≤ one.from) noise noises h in
+    All-head (λ (one : Noise). same_role one.role sender ≡ true → count ≤ one.from) noise noises h in
     let rest = noises-none sender symbol count noises within
-        (All-tail (λ (one : Noise). same_role one.role sender ≡ true → count ≤ one.from) noise noises h) in
+    (All-tail (λ (one : Noise). same_role one.role sender ≡ true → count ≤ one.from) noise noises h) in
     ap (λ offset. offsets.plus (noise_offset sender symbol noise) offset) rest
     ∙ ap (λ offset. offsets.plus offset nothing)
     (quiet (same_role noise.role sender) noise.from noise.count symbol count
-        (drawn_offset noise.amplitude (word_at noise.seed (stream_of noise.role) (symbol - noise.from))) nothing late within)
+    (drawn_offset noise.amplitude (word_at noise.seed (stream_of noise.role) (symbol - noise.from))) nothing late within)
 
 pub later-displace_none : (script : ScriptValue) (sender : Role) (count : ℕ)
     → All (λ (hit : Hit). same_role hit.role sender ≡ true → count ≤ hit.from) script.hits
     → All (λ (noise : Noise). same_role noise.role sender ≡ true → count ≤ noise.from) script.noises
-        → DisplacesNoneBefore script sender count
+    → DisplacesNoneBefore script sender count
 later-displace_none script sender count hits noises symbol within =
     ap (λ offset. offsets.plus offset (sum_of (map (noise_offset sender symbol) script.noises)))
-        (hits-none sender symbol count script.hits within hits)
+    (hits-none sender symbol count script.hits within hits)
     ∙ ap (offsets.plus nothing) (noises-none sender symbol count script.noises within noises)
 
 pub empty-displaces_none : (script : ScriptValue) (sender : Role) (count : ℕ) → script.hits ≡ [] → script.noises ≡ []
     → DisplacesNoneBefore script sender count
 empty-displaces_none script sender count hits noises = later-displace_none script sender count
     (All-same (λ (hit : Hit). same_role hit.role sender ≡ true → count ≤ hit.from) script.hits [] hits
-        (All-nil (λ (hit : Hit). same_role hit.role sender ≡ true → count ≤ hit.from)))
+    (All-nil (λ (hit : Hit). same_role hit.role sender ≡ true → count ≤ hit.from)))
     (All-same (λ (noise : Noise). same_role noise.role sender ≡ true → count ≤ noise.from) script.noises [] noises
-        (All-nil (λ (noise : Noise). same_role noise.role sender ≡ true → count ≤ noise.from)))
+    (All-nil (λ (noise : Noise). same_role noise.role sender ≡ true → count ≤ noise.from)))
 
 -- points of the map stay where they are
 
@@ -90,11 +90,61 @@ AllStay [] = Unit {0}
 AllStay (point ∷ points) = (displaced nothing (at point) ≡ at point) × AllStay points
 
 all-stay : AllStay map_points
-all-stay = (refl, (refl, (refl,
-    (refl, (refl, (refl, (refl, (refl,
-    (refl, (refl, (refl, (refl, (refl,
-    (refl, (refl, (refl, (refl, (refl,
-    (refl, (refl, (refl, (refl, (refl, (refl, (refl, (refl, (refl, (refl, (refl, (refl, (refl, (refl, tt))))))))))))))))))))))))))))))))
+all-stay = (
+  refl,
+  (
+    refl,
+    (
+      refl,
+      (
+        refl,
+        (
+          refl,
+          (
+            refl,
+            (
+              refl,
+              (
+                refl,
+                (
+                  refl,
+                  (
+                    refl,
+                    (
+                      refl,
+                      (
+                        refl,
+                        (
+                          refl,
+                          (
+                            refl,
+                            (
+                              refl,
+                              (
+                                refl,
+                                (
+                                  refl,
+                                  (
+                                    refl,
+                                    (refl, (refl, (refl, (refl, (refl, (refl, (refl, (refl, (refl, (refl, (refl, (refl, (refl, (refl, tt)))))))))))))),
+                                  ),
+                                ),
+                              ),
+                            ),
+                          ),
+                        ),
+                      ),
+                    ),
+                  ),
+                ),
+              ),
+            ),
+          ),
+        ),
+      ),
+    ),
+  ),
+)
 
 one-stays : (points : List (ℤ × ℤ)) (place : ℕ) → AllStay points
     → displaced nothing (at (slice_index_or points place (plus 0, plus 0))) ≡ at (slice_index_or points place (plus 0, plus 0))
@@ -111,7 +161,7 @@ points-stay : (script : ScriptValue) (sender : Role) (count symbol : ℕ) (label
 points-stay script sender count symbol [] h few = refl
 points-stay script sender count symbol (label ∷ labels) h few =
     ap (λ offset. displaced offset (point_of label) ∷ displaced_from script sender (symbol + 1) (map point_of labels))
-        (h symbol (omega arith))
+    (h symbol (omega arith))
     ∙ ap (λ point. point ∷ displaced_from script sender (symbol + 1) (map point_of labels)) (point-stays label)
     ∙ ap (λ points. point_of label ∷ points) (points-stay script sender count (symbol + 1) labels h (omega arith))
 
@@ -120,7 +170,7 @@ pub carried : (script : ScriptValue) (sender : Role) (bits : List Bool) (samples
     → Demodulates (tap_of (mode_of sender)) r.modulated.labels bits
 carried script sender bits samples r =
     comes-back (tap_of (mode_of sender)) bits r.modulated.line r.modulated.quads r.modulated.labels r.modulated.end r.modulated.scrambled
-        r.modulated.in_fours r.modulated.are_quads r.modulated.encoded
+    r.modulated.in_fours r.modulated.are_quads r.modulated.encoded
 
 -- what is recorded of undisplaced symbols is without noise
 pub recorded-noiseless : (script : ScriptValue) (sender : Role) (count : ℕ) (bits : List Bool) (samples : List Sample)
@@ -140,7 +190,7 @@ none-at : (sender : Role) (script : ScriptValue) (count : ℕ) (bits : List Bool
     → length bits ≤ 4 * count → LosesAt sender script bits symbol → ⊥
 none-at sender script count bits symbol h few l =
     let never = never-lost 0 line_depth l.recorded.modulated.labels l.samples
-        (recorded-noiseless script sender count bits l.samples h few l.recorded) (omega arith) in
+    (recorded-noiseless script sender count bits l.samples h few l.recorded) (omega arith) in
     let both : Some symbol ≡ None = lost-once line_trellis line_depth l.samples (Some symbol) None l.lost never in
     absurd cc
 
@@ -150,11 +200,15 @@ pub undisplaced-followed : (script : ScriptValue) (sender : Role) (count : ℕ) 
 undisplaced-followed script sender count h = record {
   sent = λ bits samples labels few r released.
       released-sent_at 0 r.modulated.labels samples (length samples) labels (recorded-noiseless script sender count bits samples h few r)
-          (all-of samples labels released);
+      (all-of samples labels released);
   few = λ bits samples labels few r released.
       let noiseless = recorded-noiseless script sender count bits samples h few r in
       let long : length samples ≡ length r.modulated.labels = ap length noiseless.exact ∙ length-points r.modulated.labels in
-      omega (arith, long, few-unreleased_at 0 r.modulated.labels samples (length samples) labels (omega arith) noiseless
-          (all-of samples labels released));
+      omega (
+        arith,
+        long,
+        few-unreleased_at 0 r.modulated.labels samples (length samples) labels (omega arith) noiseless
+            (all-of samples labels released),
+      );
   goes_on = λ bits symbol few l. none-at sender script count bits symbol h few l;
 }

@@ -35,7 +35,7 @@ abbrev pub LaterLinesDisplaceNone : Type 0
 LaterLinesDisplaceNone = (script : ScriptValue) (sender : Role) (count : ℕ)
     → All (λ (hit : Hit). same_role hit.role sender ≡ true → count ≤ hit.from) script.hits
     → All (λ (noise : Noise). same_role noise.role sender ≡ true → count ≤ noise.from) script.noises
-        → DisplacesNoneBefore script sender count
+    → DisplacesNoneBefore script sender count
 
 -- and none at all where it has neither hit lines nor noise lines
 abbrev pub EmptyScriptDisplacesNone : Type 0
@@ -121,7 +121,7 @@ ReceivedIsSentWhere Holds most =
     (script : ScriptValue) (check hearing : Check) (sender : Role) (dlci symbols : ℕ) (passed : List Signal) (s : Sent)
     (before upto : List Sample) (frames : List Frame) (patterns : List Seen)
     → Holds script sender (symbols * (length passed + 1)) → most < symbols
-        → AreFit (4 * symbols) 0 (passed ++ signal_of check sender dlci s ∷ []) → IsSendable s → ChecksAgree check hearing s
+    → AreFit (4 * symbols) 0 (passed ++ signal_of check sender dlci s ∷ []) → IsSendable s → ChecksAgree check hearing s
     → Records script sender (signal_bits (4 * symbols) passed) before
     → Records script sender (signal_bits (4 * symbols) (passed ++ signal_of check sender dlci s ∷ [])) upto
     → Receives hearing sender dlci before upto frames patterns
@@ -132,7 +132,7 @@ SentIsReceivedWhere Holds most =
     (script : ScriptValue) (check hearing : Check) (sender : Role) (dlci symbols : ℕ) (passed : List Signal) (s : Sent)
     (before upto : List Sample)
     → Holds script sender (symbols * (length passed + 1)) → most < symbols
-        → AreFit (4 * symbols) 0 (passed ++ signal_of check sender dlci s ∷ []) → IsSendable s → ChecksAgree check hearing s
+    → AreFit (4 * symbols) 0 (passed ++ signal_of check sender dlci s ∷ []) → IsSendable s → ChecksAgree check hearing s
     → Records script sender (signal_bits (4 * symbols) passed) before
     → Records script sender (signal_bits (4 * symbols) (passed ++ signal_of check sender dlci s ∷ [])) upto
     → Receives hearing sender dlci before upto (frames_in s) (patterns_in s)
@@ -142,7 +142,7 @@ abbrev pub HeardIsSentWhere : (ScriptValue → Role → ℕ → Type 0) → ℕ 
 HeardIsSentWhere Holds most = (line : Kept) (script : ScriptValue) (passed waiting : List Signal) (signal : Signal) (check hearing : Check)
     (dlci : ℕ) (loses : Bool) (s : Sent) (h : Heard)
     → Holds script (sender_of line) (line.writer.symbols * (length passed + 1)) → most < line.writer.symbols
-        → AreFit (size_of line) 0 (passed ++ signal ∷ [])
+    → AreFit (size_of line) 0 (passed ++ signal ∷ [])
     → signal ≡ signal_of check (sender_of line) dlci s → IsSendable s → ChecksAgree check hearing s
     → PassesSlot line script passed signal waiting hearing dlci loses s h → h ≡ unhindered loses s
 
@@ -156,7 +156,7 @@ PassesUnhinderedWhere Holds most =
     (line : Kept) (script : ScriptValue) (passed waiting : List Signal) (signal : Signal) (check hearing : Check) (dlci : ℕ) (loses : Bool)
     (s : Sent) (result : Result Heard Lost)
     → Holds script (sender_of line) (line.writer.symbols * (length passed + 1)) → most < line.writer.symbols
-        → AreFit (size_of line) 0 (passed ++ signal ∷ [])
+    → AreFit (size_of line) 0 (passed ++ signal ∷ [])
     → signal ≡ signal_of check (sender_of line) dlci s → IsSendable s → ChecksAgree check hearing s
     → Passes line script passed signal waiting hearing dlci loses s result → result ≡ Ok (unhindered loses s)
 
@@ -205,5 +205,5 @@ SlotsTellWhatWasSent = (check : Check) (sender : Role) (dlci symbols phase : ℕ
     → HEAD + TAIL < symbols
     → IsCodable check sender dlci symbols phase s → IsCodable check sender dlci symbols phase other
     → slot_bits (4 * symbols) phase (slot_of (4 * symbols) (signal_of check sender dlci s)) ≡ slot_bits (4 * symbols) phase
-        (slot_of (4 * symbols) (signal_of check sender dlci other))
+    (slot_of (4 * symbols) (signal_of check sender dlci other))
     → s ≡ other

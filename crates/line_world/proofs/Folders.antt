@@ -102,7 +102,7 @@ receives-none a b n apart w = record { got_o = w.names n.got_o apart.got_o_trace
 
 one-known : (a b c : FolderState) (name file others : List ℕ) → GoesOn a b → GoesOn a c → KeepsName a b name → KeepsName a c name
     → (IsTrue (b.tells name) → file ≡ file_at b name file_limit → others ≡ file)
-        → (IsTrue (a.tells name) → file ≡ file_at a name file_limit)
+    → (IsTrue (a.tells name) → file ≡ file_at a name file_limit)
     → IsTrue (c.tells name) → others ≡ file_at c name file_limit
 one-known a b c name file others gb gc kb kc told known tells =
     let here : IsTrue (a.tells name) = subst IsTrue (gc.tells name) tells in

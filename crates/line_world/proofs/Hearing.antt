@@ -60,7 +60,7 @@ runs-over play delays carried script files ts ends limits run = record {
 
 pub heard-in : (script : ScriptValue) (ts : List Turn) (ends mid : Ends) (heard : Each Heard) (sent : Both (Option Spoken))
     → IsHeardOf (channel_of script) Answerer ts (check_of ends.orig) heard.orig
-        → IsHeardOf (channel_of script) Originator ts (check_of ends.answ) heard.answ
+    → IsHeardOf (channel_of script) Originator ts (check_of ends.answ) heard.answ
     → heard.orig ≢ Chance → heard.answ ≢ Chance → HeardIn (channel_of script) ts (turn_in heard ends mid sent)
 heard-in script ts ends mid heard sent o a wo wa Originator = record { heard_of = o; well = wo }
 heard-in script ts ends mid heard sent o a wo wa Answerer = record { heard_of = a; well = wa }

@@ -43,7 +43,7 @@ pub over-others : RunsByWhatIsReadOn
     → (script : ScriptValue) (files others : Both (List ℕ)) (ts : List Turn) (ends mid : Ends) (heard : Each Heard) (f : FolderState)
     (n : Written)
     → IsInLimits script → Overhears script files ts ends heard mid → ReadsBoth f n files (handed mid) others
-        → Overhears script others ts ends heard mid
+    → Overhears script others ts ends heard mid
 over-others law script files others ts ends mid heard f n limits o r = record {
   orig_heard = o.orig_heard;
   answ_heard = o.answ_heard;

@@ -88,7 +88,7 @@ spoken-turn script files ts ends heard mid from_orig from_answ l turn number o o
     orig-says = subst (λ (e : Ends). speak (length ts) (both_finished (link_of script files) (length ts) e) e.orig ≡ Ok s.orig)
         (served-is script files (length ts) mid)
         (subst (λ t. speak t (both_finished (link_of script files) t (served script files (length ts) mid))
-            (served script files (length ts) mid).orig ≡ Ok s.orig) number s.orig_says)
+        (served script files (length ts) mid).orig ≡ Ok s.orig) number s.orig_says)
 
     answ-says : said_at (link_of script files) (length ts) mid Answerer ≡ Ok s.answ
     answ-says = subst (λ (e : Ends). speak (length ts) false e.answ ≡ Ok s.answ) (served-is script files (length ts) mid)
@@ -102,17 +102,17 @@ spoken-turn script files ts ends heard mid from_orig from_answ l turn number o o
 -- an end that breaks does so by a run's definition
 broken-so : (script : ScriptValue) (files : Both (List ℕ)) (number turn : ℕ) (mid : Ends) (role : Role) (fault : LinkFault) → turn ≡ number
     → BreaksSo (link_of script files) turn (served script files number mid) role fault
-        → IsBroken (link_of script files) number mid role fault
+    → IsBroken (link_of script files) number mid role fault
 broken-so script files number turn mid Originator fault e h =
     subst (λ (x : Ends). speak number (both_finished (link_of script files) number x) x.orig ≡ Err fault)
-        (served-is script files number mid)
+    (served-is script files number mid)
     (subst (λ t. speak t (both_finished (link_of script files) t (served script files number mid))
-        (served script files number mid).orig ≡ Err fault) e h)
+    (served script files number mid).orig ≡ Err fault) e h)
 broken-so script files number turn mid Answerer fault e h = (
   subst (λ (x : Ends). is_ok (speak number (both_finished (link_of script files) number x) x.orig) ≡ true)
       (served-is script files number mid)
       (subst (λ t. is_ok (speak t (both_finished (link_of script files) t (served script files number mid))
-          (served script files number mid).orig) ≡ true) e h.0),
+      (served script files number mid).orig) ≡ true) e h.0),
   subst (λ (x : Ends). speak number false x.answ ≡ Err fault) (served-is script files number mid)
       (subst (λ t. speak t false (served script files number mid).answ ≡ Err fault) e h.1),
 )
@@ -144,7 +144,7 @@ line-of turn role Chance sent given well = absurd (well refl)
 
 side-text : (line : TraceLine) (number t : ℕ) (role : Role) (heard : Heard) (sent : Option Sent) (given : Option ℕ) (s : Side)
     → line ≡ record { turn = number; role = role; arrived = heard; sent = sent; given = given } → heard ≢ Chance → number ≡ t
-        → heard ≡ s.heard
+    → heard ≡ s.heard
     → sent ≡ option_map (λ (slot : Spoken). slot.sent) s.sent → given ≡ s.given → line_text line ≡ side_line t role s
 side-text line number t role heard sent given s e well n h x g =
     ap line_text e ∙ line-of number role heard sent given well ∙ (λ k. trace_line (n k) role (h k) (x k) (g k))
@@ -182,13 +182,13 @@ pub all-codable : SlotsAreCodable
     → checks.orig ≡ check_of t.orig.account → checks.answ ≡ check_of t.answ.account → AreCodable l so sa checks
 all-codable law script files ts ends heard mid from_orig from_answ so sa k l checks limits o t h sendo senda eo ea co ca =
     let orig : IsCodable (check_of t.orig.account) Originator 0
-        (slot_symbols (longest_of script)) l.from_orig.line.writer.phase t.orig.sent =
+    (slot_symbols (longest_of script)) l.from_orig.line.writer.phase t.orig.sent =
     law script files ts ends (turn_in heard ends mid (sent_by t.orig t.answ))
-        (ends_of t.orig t.answ) limits o.run t.heard_in t.going Originator (spoken t.orig)
+    (ends_of t.orig t.answ) limits o.run t.heard_in t.going Originator (spoken t.orig)
     l.from_orig.line.writer.phase h.from_orig.line.writer.low refl (subst IsSendable t.orig_sent sendo) in
     let answ : IsCodable (check_of t.answ.account) Answerer 0 (slot_symbols (longest_of script)) l.from_answ.line.writer.phase t.answ.sent =
     law script files ts ends (turn_in heard ends mid (sent_by t.orig t.answ))
-        (ends_of t.orig t.answ) limits o.run t.heard_in t.going Answerer (spoken t.answ)
+    (ends_of t.orig t.answ) limits o.run t.heard_in t.going Answerer (spoken t.answ)
     l.from_answ.line.writer.phase h.from_answ.line.writer.low refl (subst IsSendable t.answ_sent senda) in
     record {
       orig = rw (co, h.orig_sends, h.from_orig.symbols, eo, t.orig_sent) orig;
@@ -214,7 +214,7 @@ pub record CountsSent (old new : Tally) (from_orig from_answ : Sent) : Type 0 wh
 pub tallies-on : GoingLaws → (script : ScriptValue) (files : Both (List ℕ)) (ts : List Turn) (ends : Ends) (heard : Each Heard) (mid : Ends)
     (from_orig from_answ : Sent) (k : Link)
     (old new : Tally) → IsInLimits script → Overhears script files ts ends heard mid
-        → (t : SpokenTurn script files ts ends heard mid from_orig from_answ k)
+    → (t : SpokenTurn script files ts ends heard mid from_orig from_answ k)
     → TalliesHeard old ts ends heard → CountsSent old new from_orig from_answ
     → Tallies new (turn_in heard ends mid (sent_by t.orig t.answ) ∷ ts) (ends_of t.orig t.answ)
 tallies-on laws script files ts ends heard mid from_orig from_answ k old new limits o t h n =
@@ -225,9 +225,9 @@ tallies-on laws script files ts ends heard mid from_orig from_answ k old new lim
     let co : CountsOn Originator ts ends turn (ends_of t.orig t.answ) = counts Originator in
     let ca : CountsOn Answerer ts ends turn (ends_of t.orig t.answ) = counts Answerer in
     let ao : again_in (sequence_in from_orig) old.orig ≡ again_in (sequence_in t.orig.sent) ends.orig.outgoing.high =
-        λ i. again_in (sequence_in (t.orig_sent i)) (h.orig i) in
+    λ i. again_in (sequence_in (t.orig_sent i)) (h.orig i) in
     let aa : again_in (sequence_in from_answ) old.answ ≡ again_in (sequence_in t.answ.sent) ends.answ.outgoing.high =
-        λ i. again_in (sequence_in (t.answ_sent i)) (h.answ i) in
+    λ i. again_in (sequence_in (t.answ_sent i)) (h.answ i) in
     record {
       lost = n.lost ∙ h.lost;
       again = omega (arith, n.again, h.again, ao, aa, co.again, ca.again);
@@ -325,13 +325,17 @@ stops-so script f new n files ts ends mid (run_faults.LinkLost role segment turn
 pub adds-part : (script : ScriptValue) (f new : FolderState) (n : Written) (files : Both (List ℕ)) (ts : List Turn) (ends : Ends)
     (heard : Each Heard) (mid : Ends) (sents : Both (Option Spoken))
     (outcome : Outcome) → Overhears script files ts ends heard mid
-        → TurnIs (link_of script files) ts ends (turn_in heard ends mid sents) mid outcome
+    → TurnIs (link_of script files) ts ends (turn_in heard ends mid sents) mid outcome
     → PartlyAppended f new n.trace (turn_text (length ts) (turn_in heard ends mid sents)) → AddsPart script f new n files ts ends mid
 adds-part script f new n files ts ends heard mid sents outcome o is trace = record {
   outcome = outcome;
   turn = turn_in heard ends mid sents;
-  makes = record { run = o.run; heard = heard-in script ts ends mid heard sents o.orig_heard o.answ_heard o.orig_well o.answ_well; is =
-      is };
+  makes = record {
+    run = o.run;
+    heard = heard-in script ts ends mid heard sents o.orig_heard o.answ_heard o.orig_well o.answ_well;
+    is =
+        is;
+  };
   trace = trace;
 }
 
@@ -368,8 +372,13 @@ pub sends-none : (t : Tally) → SendsMore t t
 sends-none t = record { lost = refl; again_low = omega arith; again_high = omega arith }
 
 pub adds-heard : (old new : World) → HearsMore old.tally new.tally → AddsNumbers old new
-adds-heard old new h = record { lost_low = h.lost_low; lost_high = h.lost_high; again_low = omega (arith, h.again); again_high =
-    omega (arith, h.again) }
+adds-heard old new h = record {
+  lost_low = h.lost_low;
+  lost_high = h.lost_high;
+  again_low = omega (arith, h.again);
+  again_high =
+      omega (arith, h.again);
+}
 
 pub adds-kept : (old mid new : World) → HearsMore old.tally mid.tally → new.tally ≡ mid.tally → AddsNumbers old new
 adds-kept old mid new h e = adds-heard old new (subst (HearsMore old.tally) (sym e) h)

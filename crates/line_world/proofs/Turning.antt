@@ -84,7 +84,7 @@ making laws script files ts ends heard mid limits o = record {
     m : MakesAny (link_of script files) ts ends (λ role. (of role first).heard)
     m = laws.made (link_of script files) (delay_of script) ts ends (λ role. (of role first).heard)
         (runs-over laws.play laws.delays laws.carried script files ts ends limits o.run)
-            (λ role. laws.one (channel_of script) ts first heard-first role)
+        (λ role. laws.one (channel_of script) ts first heard-first role)
 
     hears : Hears (length ts) ends m.turn m.mid
     hears = hearing-of script files ts ends m.turn m.mid m.outcome m.is
@@ -106,7 +106,7 @@ making laws script files ts ends heard mid limits o = record {
         record {
           heard_of = subst (λ x. IsHeardOf (channel_of script) (other role) ts (of role m.turn).check x) (sym (m.heard_is role))
               (subst (λ x. IsHeardOf (channel_of script) (other role) ts x (of role first).heard) ((first-hears role).check_is
-                  ∙ sym (hears role).check_is) h.heard_of);
+              ∙ sym (hears role).check_is) h.heard_of);
           well = λ f. h.well (sym (m.heard_is role) ∙ f);
         }
 
@@ -139,7 +139,7 @@ pub stops-handing : MakingLaws
     → (script : ScriptValue) (a b : FolderState) (n : Written) (files : Both (List ℕ)) (ts : List Turn) (ends : Ends) (heard : Each Heard)
     (mid : Ends)
     → IsInLimits script → AreApart n → AreWithin files → OnlyOutputs a b n → Overhears script files ts ends heard mid → HasPart a b n mid
-        → Stops script a b n files ts ends
+    → Stops script a b n files ts ends
 stops-handing laws script a b n files ts ends heard mid limits apart within only o part =
     let m = making laws script files ts ends heard mid limits o in
     inl (record {
@@ -157,7 +157,7 @@ pub stops-reading : MakingLaws
     → (script : ScriptValue) (a b : FolderState) (n : Written) (files : Both (List ℕ)) (ts : List Turn) (ends : Ends) (heard : Each Heard)
     (mid : Ends)
     → IsInLimits script → AreApart n → AreWithin files → OnlyOutputs a b n → Overhears script files ts ends heard mid
-        → HasDelivered a b n mid → Stops script a b n files ts ends
+    → HasDelivered a b n mid → Stops script a b n files ts ends
 stops-reading laws script a b n files ts ends heard mid limits apart within only o delivered =
     let m = making laws script files ts ends heard mid limits o in
     inl (record {
@@ -174,7 +174,7 @@ stops-reading laws script a b n files ts ends heard mid limits apart within only
 pub stops-writing : (script : ScriptValue) (a b c : FolderState) (n : Written) (files others : Both (List ℕ)) (ts : List Turn)
     (ends mid : Ends) → AreApart n
     → StayKnown a c n files others → OnlyOutputs a b n → HasDelivered a b n mid → OnlyWrites b c n.trace
-        → AddsPart script b c n others ts ends mid → Stops script a c n files ts ends
+    → AddsPart script b c n others ts ends mid → Stops script a c n files ts ends
 stops-writing script a b c n files others ts ends mid apart known only delivered w p =
     inl (record {
       others = others;

@@ -59,7 +59,7 @@ pub record WorldAfter (w : World) (files : Both (List ℕ)) (ts : List Turn) (en
 abbrev pub HasPassed : Kept → ScriptValue → Role → List Turn → Type 0
 HasPassed line script role ts =
     LineStands line script (signals (channel_of script) role (drop (delay_of script role) ts))
-        (signals_in (channel_of script) role (on_line (delay_of script role) role ts))
+    (signals_in (channel_of script) role (on_line (delay_of script role) role ts))
 
 -- so it does for one slot more, once that of the turn after these has arrived
 abbrev pub HasPassedToo : Kept → ScriptValue → Role → List Turn → Type 0

@@ -52,8 +52,11 @@ measures-of old before new n d =
 pub headline-of : (words : List (List ℕ)) (old new : FolderState) (n : MarginNames) (s : Status) → Answers (margin_job n) words old new s
     → Headline old new n s
 headline-of words old new n s a =
-    record { shared = shared-of (margin_job n) words old new s a (λ e name. a.only.names name tt); measures =
-    λ e. measures-of old a.before new n (done-of (margin_job n) words old new s a e) }
+    record {
+      shared = shared-of (margin_job n) words old new s a (λ e name. a.only.names name tt);
+      measures =
+          λ e. measures-of old a.before new n (done-of (margin_job n) words old new s a e);
+    }
 
 file-never-longer : (count : ℕ) → count ≤ 1048576 → FILE_LIMIT < count → ⊥
 file-never-longer count within longer = omega (arith, within, longer)

@@ -29,14 +29,14 @@ use Rattle.margin_command.specs.Measuring.{Opened, MeasuredTo}
 pub two-more-samples : (samples : List Sample) (recorded : List ℕ) (place : ℕ) (first second : Sample) → 8 * place + 8 ≤ length recorded
     → first ≡ sample_at recorded (2 * place) → second ≡ sample_at recorded (2 * place + 1)
     → ((samples ++ samples_in (take (4 * (2 * place)) recorded)) ++ first ∷ []) ++ second ∷ [] ≡ samples ++ samples_in
-        (take (4 * (2 * (place + 1))) recorded)
+    (take (4 * (2 * (place + 1))) recorded)
 two-more-samples samples recorded place first second within one two =
     let before : List Sample = samples_in (take (4 * (2 * place)) recorded) in
     let same : 4 * (2 * place + 1 + 1) ≡ 4 * (2 * (place + 1)) = omega arith in
     let inner : (before ++ first ∷ []) ++ second ∷ [] ≡ samples_in (take (4 * (2 * (place + 1))) recorded) =
     (λ i. (before ++ one i ∷ []) ++ two i ∷ [])
     ∙ ap (λ (xs : List Sample). xs ++ sample_at recorded (2 * place + 1) ∷ [])
-        (sym (samples_in-more (2 * place) recorded (omega (arith, within))))
+    (sym (samples_in-more (2 * place) recorded (omega (arith, within))))
     ∙ sym (samples_in-more (2 * place + 1) recorded (omega (arith, within)))
     ∙ ap (λ (count : ℕ). samples_in (take count recorded)) same in
     ap (λ (xs : List Sample). xs ++ second ∷ []) (append_assoc samples before (first ∷ []))
@@ -74,10 +74,10 @@ measured-none start now n mode m o stands = record {
 pub measured-more : (start old mid new : FolderState) (n : MarginNames) (mode : Mode) (m next : Measured) (at count read : ℕ)
     (piece recorded : List ℕ) → (h : MeasuredTo start old n mode m at) → OnlyReads old mid → OnlyReads mid new
     → ReadTo start mid n.file FILE_LIMIT (at + count) (h.octets ++ piece)
-        → ReadTo start new n.rec RECORDING_LIMIT (HEADER + 8 * at + read) ((header_of mode ++ h.content) ++ recorded)
-        → length recorded ≡ read → read ≡ 8 * count
+    → ReadTo start new n.rec RECORDING_LIMIT (HEADER + 8 * at + read) ((header_of mode ++ h.content) ++ recorded)
+    → length recorded ≡ read → read ≡ 8 * count
     → MarginStands mode next (h.octets ++ piece) (samples_in h.content ++ samples_in recorded)
-        → MeasuredTo start new n mode next (at + count)
+    → MeasuredTo start new n mode next (at + count)
 measured-more start old mid new n mode m next at count read piece recorded h first second file rec long fits stands =
     let same : HEADER + 8 * at + read ≡ HEADER + 8 * (at + count) = omega (arith, fits) in
     record {
@@ -125,7 +125,7 @@ lengths : (at count read rec file : ℕ) → at + count ≤ file → (count < 51
     → (rec ≢ 8 + 8 * file) × (8 + 8 * at + min read (8 * count) ≡ min rec (8 + 8 * file))
 lengths at count read rec file file_has file_end rec_has rec_end few most other = elim (cases_lt read (8 * count)) [
   | inl less ↦ let e : rec ≡ 8 + 8 * at + read = rec_end (omega (arith, less, few)) in
-        ((λ same. omega (arith, same, e, less, file_has)), omega (arith, e, less, file_has))
+      ((λ same. omega (arith, same, e, less, file_has)), omega (arith, e, less, file_has))
   | inr more ↦
       let longer : 8 * count < read = omega (arith, more, other) in
       let e : file ≡ at + count = file_end (omega (arith, longer, most)) in
@@ -135,17 +135,17 @@ lengths at count read rec file file_has file_end rec_has rec_end few most other 
 pub misfit : (start mid new : FolderState) (n : MarginNames) (mode : Mode) (at count read place : ℕ) (octets front piece recorded : List ℕ)
     → AreOpen start n mode
     → ReadTo start mid n.file FILE_LIMIT (at + count) (octets ++ piece)
-        → (count < 512 → IsTrue (start.tells n.file) → octets ++ piece ≡ octets_at start n.file)
+    → (count < 512 → IsTrue (start.tells n.file) → octets ++ piece ≡ octets_at start n.file)
     → ReadTo start new n.rec RECORDING_LIMIT (8 + 8 * at + read) (front ++ recorded)
-        → (read < 4096 → IsTrue (start.tells n.rec) → front ++ recorded ≡ octets_at start n.rec)
+    → (read < 4096 → IsTrue (start.tells n.rec) → front ++ recorded ≡ octets_at start n.rec)
     → count ≤ 512 → read ≤ 4096 → read ≢ 8 * count → place ≡ 8 + 8 * at + min read (8 * count) → HasOtherLength start n place
 misfit start mid new n mode at count read place octets front piece recorded begins file file_end rec rec_end few most other place_is =
     record {
-  mode = mode;
-  begins = begins;
-  other = λ rec_told file_told. (both rec_told file_told).0;
-  at_is = λ rec_told file_told. place_is ∙ (both rec_told file_told).1;
-}
+      mode = mode;
+      begins = begins;
+      other = λ rec_told file_told. (both rec_told file_told).0;
+      at_is = λ rec_told file_told. place_is ∙ (both rec_told file_told).1;
+    }
   where
     both : IsTrue (start.tells n.rec) → IsTrue (start.tells n.file)
         → (length (octets_at start n.rec) ≢ 8 + 8 * length (octets_at start n.file))

@@ -19,4 +19,4 @@ pub record AreMeasurable (recording octets : List ℕ) : Type 0 where
 abbrev pub Completes : FolderState → FolderState → MarginNames → Status → Type 0
 Completes old new n s =
     IsSound old new (inputs_of n) [] → IsTrue (old.tells n.rec) → IsTrue (old.tells n.file)
-        → AreMeasurable (octets_at old n.rec) (octets_at old n.file) → DoneUnlessMemory s
+    → AreMeasurable (octets_at old n.rec) (octets_at old n.file) → DoneUnlessMemory s

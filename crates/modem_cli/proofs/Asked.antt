@@ -132,9 +132,9 @@ encode-first (a ∷ b ∷ d ∷ []) n e = absurd cc
 encode-first (a ∷ b ∷ d ∷ f ∷ []) n e =
     elim (either (λ (rate : Option Rate). names_with d f rate (mode_named b)) n (bytes_eq f d) (bytes_eq a (codes "encode"))
     (bytes_eq a (codes "encode4")) refl e) [
-  | inl here ↦ inl (is-word a (codes "encode") here)
-  | inr there ↦ inr (is-word a (codes "encode4") there)
-]
+      | inl here ↦ inl (is-word a (codes "encode") here)
+      | inr there ↦ inr (is-word a (codes "encode4") there)
+    ]
 encode-first (a ∷ b ∷ d ∷ f ∷ g ∷ more) n e = absurd cc
 
 pub encode-asked : (words : List (List ℕ)) (n : EncodeNames) → encode_names words ≡ Some n → asked words ≡ Encode n
@@ -151,9 +151,9 @@ decode-first (a ∷ b ∷ []) n e = absurd cc
 decode-first (a ∷ b ∷ d ∷ []) n e =
     elim (either (option_map (λ r. record { rate = r; rec = b; file = d })) n (bytes_eq d b) (bytes_eq a (codes "decode"))
     (bytes_eq a (codes "decode4")) refl e) [
-  | inl here ↦ inl (is-word a (codes "decode") here)
-  | inr there ↦ inr (is-word a (codes "decode4") there)
-]
+      | inl here ↦ inl (is-word a (codes "decode") here)
+      | inr there ↦ inr (is-word a (codes "decode4") there)
+    ]
 decode-first (a ∷ b ∷ d ∷ f ∷ more) n e = absurd cc
 
 pub decode-asked : (words : List (List ℕ)) (n : DecodeNames) → decode_names words ≡ Some n → asked words ≡ Decode n

@@ -35,8 +35,11 @@ same-before i k a b same first second = elim (cases_lt i k) [
       | inr far ↦ omega arith
       | inl near ↦ elim (cases_eq i k) [
         | inl one ↦ absurd (first one)
-        | inr differ ↦ elim (cases_lt k i) [ inl less ↦ let two : i ≡ k + 1 = omega arith in
-              absurd (second two) | inr more ↦ let one : i ≡ k = omega arith in absurd (first one) ]
+        | inr differ ↦ elim (cases_lt k i) [
+          | inl less ↦ let two : i ≡ k + 1 = omega arith in
+              absurd (second two)
+          | inr more ↦ let one : i ≡ k = omega arith in absurd (first one)
+        ]
       ]
     ]
 
@@ -44,12 +47,12 @@ same-before i k a b same first second = elim (cases_lt i k) [
 unchanged : (tap i : ℕ) (labels front turned_front : List ℕ) (bits turned_bits : List Bool) → BothBegin labels front turned_front
     → Demodulates tap front bits → Demodulates tap turned_front turned_bits
     → i < length bits → i < length turned_bits → (i ≡ 0 → ⊥) → (i ≡ 1 → ⊥) → (i ≡ tap → ⊥) → (i ≡ tap + 1 → ⊥) → (i ≡ 23 → ⊥) → (i ≡ 24 → ⊥)
-        → bit_at_place turned_bits i ≡ bit_at_place bits i
+    → bit_at_place turned_bits i ≡ bit_at_place bits i
 unchanged tap i labels front turned_front bits turned_bits h d e within turned_within a0 a1 b0 b1 c0 c1 =
     let same : (j : ℕ) → 2 ≤ j → j ≤ i → get_or (line_of turned_front) j false ≡ get_or (line_of front) j false =
     λ j some last. bits-alike j labels front turned_front h some (omega (arith, d.lengths)) (omega (arith, e.lengths)) in
     depends_on_three tap (line_of turned_front) (line_of front) turned_bits bits i i (omega (arith, e.lengths))
-        (omega (arith, d.lengths)) e d
+    (omega (arith, d.lengths)) e d
     (same-before i 0 (line_of turned_front) (line_of front) same a0 a1)
     (same-before i tap (line_of turned_front) (line_of front) same b0 b1)
     (same-before i 23 (line_of turned_front) (line_of front) same c0 c1)
@@ -74,9 +77,9 @@ few-differ tap i labels front turned_front bits turned_bits begins d e within tu
 pub few-bits-differ : FewBitsDiffer
 few-bits-differ start low tap i labels front turned_front samples bits turned_bits h r d e within turned_within differ =
     few-differ tap i labels front turned_front bits turned_bits
-        (begin-from_one start labels front turned_front samples low h r) d e within turned_within differ
+    (begin-from_one start labels front turned_front samples low h r) d e within turned_within differ
 
 pub few-bits-differ_of_any : FewBitsDifferOfAny
 few-bits-differ_of_any tap i labels front turned_front samples bits turned_bits h r d e within turned_within differ =
     few-differ tap i labels front turned_front bits turned_bits
-        (begin-from_any labels front turned_front samples h r) d e within turned_within differ
+    (begin-from_any labels front turned_front samples h r) d e within turned_within differ

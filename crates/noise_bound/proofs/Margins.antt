@@ -38,17 +38,22 @@ pub measures-more : (mode : Mode) (old : Measured) (modulator : Modulator) (octe
     → ModulatorStands mode modulator (bits_of (octets ++ octet ∷ [])) ((s.points ++ low ∷ []) ++ high ∷ [])
     → price ≡ old.cost + (distance_of low first + distance_of high second) → count ≡ old.count + 1
     → MarginStands mode (record { modulator = modulator; cost = price; count = count }) (octets ++ octet ∷ [])
-        ((samples ++ first ∷ []) ++ second ∷ [])
+    ((samples ++ first ∷ []) ++ second ∷ [])
 measures-more mode old modulator octets octet samples first second low high price count s m e n =
     let one : length (s.points ++ low ∷ []) ≡ length (samples ++ first ∷ []) =
-        omega (arith, s.same_length, length-snoc s.points low, length-snoc samples first) in
+    omega (arith, s.same_length, length-snoc s.points low, length-snoc samples first) in
     record {
       points = (s.points ++ low ∷ []) ++ high ∷ [];
       modulator = m;
       two_each = omega (arith, s.two_each, length-snoc (samples ++ first ∷ []) second, length-snoc samples first, length-snoc octets octet);
       same_length = omega (arith, one, length-snoc (s.points ++ low ∷ []) high, length-snoc (samples ++ first ∷ []) second);
-      cost_is = omega (arith, e, s.cost_is, distances-snoc (s.points ++ low ∷ []) (samples ++ first ∷ []) high second one,
-          distances-snoc s.points samples low first s.same_length);
+      cost_is = omega (
+        arith,
+        e,
+        s.cost_is,
+        distances-snoc (s.points ++ low ∷ []) (samples ++ first ∷ []) high second one,
+        distances-snoc s.points samples low first s.same_length,
+      );
       counted = omega (arith, n, s.counted, length-snoc octets octet);
     }
 
@@ -73,15 +78,19 @@ measured mode m octets samples s =
 pub sure-is-near : SureIsNear
 sure-is-near mode octets samples price c low = record {
   end = c.modulated.end;
-  sequence = record { code_sequence = record { from = 0; starts_there = refl; leads = c.modulated.encoded.leads }; same_length =
-      c.same_length };
+  sequence = record {
+    code_sequence = record { from = 0; starts_there = refl; leads = c.modulated.encoded.leads };
+    same_length =
+        c.same_length;
+  };
   near = omega (arith, c.price_is);
 }
 
 pub sure-is-decoded : SureIsDecoded
 sure-is-decoded mode octets samples price depth c low deep =
     let near = sure-is-near mode octets samples price c low in
-    let all : take (length samples) samples ≡ samples = take_all (length samples) samples (omega arith) in
-    (never-lost 0 depth c.modulated.labels samples near deep,
-        λ front r. releases-near 0 (length samples) c.modulated.labels front samples near
-        (subst (λ k. IsReleased (code_from (only 0)) k front) (sym all) r))
+    let all : take (length samples) samples ≡ samples = take_all (length samples) samples (omega arith) in (
+      never-lost 0 depth c.modulated.labels samples near deep,
+      λ front r. releases-near 0 (length samples) c.modulated.labels front samples near
+          (subst (λ k. IsReleased (code_from (only 0)) k front) (sym all) r),
+    )

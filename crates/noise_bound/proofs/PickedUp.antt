@@ -34,7 +34,7 @@ earlier-front : (line more : List Bool) (i k : ℕ) → i < length line → earl
 earlier-front line more i k within = elim (cases_lt i k) [
   | inl less ↦ grind (arith, nat_tests)
   | inr past ↦ let no : nat_lt i k ≡ false = grind (arith, nat_tests) in
-        rw no (sym (get_or_append_left line more false (i - k) (omega arith)))
+      rw no (sym (get_or_append_left line more false (i - k) (omega arith)))
 ]
 
 output-grows : (tap : ℕ) (line more output longer : List Bool) → Descrambles tap line output → Descrambles tap (line ++ more) longer
@@ -50,7 +50,7 @@ output-grows tap line more output longer d e =
         (sym (length-take-le (length output) longer (omega (arith, total, d.lengths, e.lengths)))) (λ i within.
         let inside : i < length line = omega (arith, d.lengths) in
         depends_on_three tap line (line ++ more) output longer i i inside (omega (arith, total)) d e (earlier-front line more i 0 inside)
-            (earlier-front line more i tap inside) (earlier-front line more i 23 inside)
+        (earlier-front line more i tap inside) (earlier-front line more i 23 inside)
         ∙ sym (get_or-take (length output) longer i false within))
 
 drop-front : (n : ℕ) (a b : List Bool) → IsPrefixOf a b → IsPrefixOf (drop n a) (drop n b)
@@ -67,7 +67,7 @@ begins : (tap : ℕ) (a b : List ℕ) (bits longer : List Bool) → IsPickedUp t
 begins tap a b bits longer h k =
     let line = behind-grows a b in
     let p = output-grows tap (line_behind a) line.0 h.all k.all h.descrambled
-        (subst (λ (xs : List Bool). Descrambles tap xs k.all) (sym line.1) k.descrambled) in
+    (subst (λ (xs : List Bool). Descrambles tap xs k.all) (sym line.1) k.descrambled) in
     subst (λ xs. IsPrefixOf xs longer) (sym h.bits_are) (subst (IsPrefixOf (drop 23 h.all)) (sym k.bits_are) (drop-front 23 h.all k.all p))
 
 -- turned labels give what these give
@@ -98,21 +98,21 @@ one-begins tap labels front turned_front bits turned_bits h mine theirs = elim (
   | inl less ↦
       let n = length front in
       let cut : take n turned_front ≡ map turned_label front =
-          sym (cut-at n turned_front (map turned_label labels) (omega arith) h.turned_begins) ∙ take-map turned_label n labels
-          ∙ ap (map turned_label) (whole-at front labels h.begins) in
+      sym (cut-at n turned_front (map turned_label labels) (omega arith) h.turned_begins) ∙ take-map turned_label n labels
+      ∙ ap (map turned_label) (whole-at front labels h.begins) in
       let joined : turned_front ≡ map turned_label front ++ drop n turned_front =
-          sym (take-append-drop n turned_front) ∙ ap (λ k. k ++ drop n turned_front) cut in
+      sym (take-append-drop n turned_front) ∙ ap (λ k. k ++ drop n turned_front) cut in
       inl (begins tap (map turned_label front) (drop n turned_front) bits turned_bits (turned tap front bits mine)
-          (subst (λ k. IsPickedUp tap k turned_bits) joined theirs))
+      (subst (λ k. IsPickedUp tap k turned_bits) joined theirs))
   | inr more ↦
       let n = length turned_front in
       let cut : map turned_label (take n front) ≡ turned_front =
-          ap (map turned_label) (sym (cut-at n front labels (omega arith) h.begins)) ∙ sym (take-map turned_label n labels)
-          ∙ whole-at turned_front (map turned_label labels) h.turned_begins in
+      ap (map turned_label) (sym (cut-at n front labels (omega arith) h.begins)) ∙ sym (take-map turned_label n labels)
+      ∙ whole-at turned_front (map turned_label labels) h.turned_begins in
       let few : IsPickedUp tap (take n front) turned_bits =
-          unturned tap (take n front) turned_bits (subst (λ k. IsPickedUp tap k turned_bits) (sym cut) theirs) in
+      unturned tap (take n front) turned_bits (subst (λ k. IsPickedUp tap k turned_bits) (sym cut) theirs) in
       inr (begins tap (take n front) (drop n front) turned_bits bits few
-          (subst (λ k. IsPickedUp tap k bits) (sym (take-append-drop n front)) mine))
+      (subst (λ k. IsPickedUp tap k bits) (sym (take-append-drop n front)) mine))
 ]
 
 -- the pieces of bits that begin others begin theirs
@@ -151,4 +151,4 @@ readers-pieces-begin mode depth turned_depth count turned_count m other labels s
           (map quarter_turned samples) turned_count mode turned_depth other turned_bits near theirs;
     } in
     one-of_pieces bits turned_bits
-        (one-begins (tap_of mode) labels mine.labels theirs.labels bits turned_bits both mine.picked_up theirs.picked_up)
+    (one-begins (tap_of mode) labels mine.labels theirs.labels bits turned_bits both mine.picked_up theirs.picked_up)

@@ -35,19 +35,20 @@ drop-first (x ∷ xs) ys = (ys, refl)
 
 pub behind-grows : (a b : List ℕ) → IsPrefixOf (line_behind a) (line_behind (a ++ b))
 behind-grows a b =
-    let more = drop-first (quads_of a) (drop (length a) (quads_of (a ++ b))) in
-    (flat_map (low_bits 4) more.0,
-        sym (ap (λ k. flat_map (low_bits 4) (drop 1 k)) (quads-grow a b) ∙ ap (flat_map (low_bits 4)) more.1
-        ∙ flat_map-append (low_bits 4) (drop 1 (quads_of a)) more.0))
+    let more = drop-first (quads_of a) (drop (length a) (quads_of (a ++ b))) in (
+      flat_map (low_bits 4) more.0,
+      sym (ap (λ k. flat_map (low_bits 4) (drop 1 k)) (quads-grow a b) ∙ ap (flat_map (low_bits 4)) more.1
+          ∙ flat_map-append (low_bits 4) (drop 1 (quads_of a)) more.0),
+    )
 
 -- at a place in both fronts
 at-place : (front labels : List ℕ) (i : ℕ) → IsPrefixOf front labels → i < length front
     → get_or (quads_of front) i 0 ≡ get_or (quads_of labels) i 0
 at-place front labels i p within =
     let all : quads_of labels ≡ quads_of front ++ drop (length front) (quads_of (front ++ p.0)) =
-        ap quads_of (sym p.1) ∙ quads-grow front p.0 in
+    ap quads_of (sym p.1) ∙ quads-grow front p.0 in
     sym (ap (λ k. get_or k i 0) all
-        ∙ get_or_append_left (quads_of front) (drop (length front) (quads_of (front ++ p.0))) 0 i (omega (arith, length-quads_of front)))
+    ∙ get_or_append_left (quads_of front) (drop (length front) (quads_of (front ++ p.0))) 0 i (omega (arith, length-quads_of front)))
 
 pub quads-alike : (i : ℕ) (labels front turned_front : List ℕ) → BothBegin labels front turned_front → 1 ≤ i → i < length front
     → i < length turned_front
@@ -55,7 +56,7 @@ pub quads-alike : (i : ℕ) (labels front turned_front : List ℕ) → BothBegin
 quads-alike i labels front turned_front h some within turned_within =
     let total : length labels ≡ length front + length h.begins.0 = ap length (sym h.begins.1) ∙ length-append {A = ℕ} front h.begins.0 in
     at-place turned_front (map turned_label labels) i h.turned_begins turned_within ∙ quads_of-turned labels i some (omega arith)
-        ∙ sym (at-place front labels i h.begins within)
+    ∙ sym (at-place front labels i h.begins within)
 
 -- the line's bits behind the first two
 
@@ -73,8 +74,8 @@ turn-lt labels = omega arith
 two-behind : (labels : List ℕ) → 1 ≤ length labels → drop 2 (line_of labels) ≡ low_bits 2 (quad_at labels 0 / 2 / 2) ++ line_behind labels
 two-behind labels some =
     let first : quads_of labels ≡ quad_at labels 0 ∷ drop 1 (quads_of labels) =
-        head-rest (quads_of labels) (omega (arith, length-quads_of labels))
-        ∙ ap (λ q. q ∷ drop 1 (quads_of labels)) (get_or-quads_of labels 0 (omega arith)) in
+    head-rest (quads_of labels) (omega (arith, length-quads_of labels))
+    ∙ ap (λ q. q ∷ drop 1 (quads_of labels)) (get_or-quads_of labels 0 (omega arith)) in
     ap (λ k. drop 2 (flat_map (low_bits 4) k)) first
 
 same-q : (labels : List ℕ) → 1 ≤ length labels → q3q4_of (get_or (map turned_label labels) 0 0) ≡ q3q4_of (get_or labels 0 0)
@@ -87,11 +88,11 @@ lines-alike (x ∷ labels) =
     let all : List ℕ = x ∷ labels in
     let turned : List ℕ = map turned_label all in
     let high : quad_at turned 0 / 2 / 2 ≡ quad_at all 0 / 2 / 2 =
-        ap (λ q. quad_of (unturned_at (map y_of turned) 0) q / 2 / 2) (same-q all (omega arith))
-        ∙ upper (unturned_at (map y_of turned) 0) (unturned_at (map y_of all) 0) (q3q4_of (get_or all 0 0)) (turn-lt turned)
-        (turn-lt all) in
+    ap (λ q. quad_of (unturned_at (map y_of turned) 0) q / 2 / 2) (same-q all (omega arith))
+    ∙ upper (unturned_at (map y_of turned) 0) (unturned_at (map y_of all) 0) (q3q4_of (get_or all 0 0)) (turn-lt turned)
+    (turn-lt all) in
     two-behind turned (omega (arith, length-map all turned_label)) ∙ ap (λ n. low_bits 2 n ++ line_behind turned) high
-        ∙ ap (λ k. low_bits 2 (quad_at all 0 / 2 / 2) ++ flat_map (low_bits 4) k) (quads-turned all) ∙ sym (two-behind all (omega arith))
+    ∙ ap (λ k. low_bits 2 (quad_at all 0 / 2 / 2) ++ flat_map (low_bits 4) k) (quads-turned all) ∙ sym (two-behind all (omega arith))
 
 -- so the bits of both fronts are the same there
 pub bits-alike : (j : ℕ) (labels front turned_front : List ℕ) → BothBegin labels front turned_front → 2 ≤ j → j < length (line_of front)
@@ -106,7 +107,7 @@ bits-alike j labels front turned_front h some within turned_within =
     let place : 2 + (j - 2) ≡ j = omega arith in
     let behind : get_or (line_of turned) j false ≡ get_or (line_of labels) j false =
     ap (λ n. get_or (line_of turned) n false) (sym place) ∙ sym (get_or-drop 2 (line_of turned) (j - 2) false)
-        ∙ ap (λ k. get_or k (j - 2) false) (lines-alike labels)
+    ∙ ap (λ k. get_or k (j - 2) false) (lines-alike labels)
     ∙ get_or-drop 2 (line_of labels) (j - 2) false ∙ ap (λ n. get_or (line_of labels) n false) place in
     sym (get_or_append_left (line_of turned_front) q.0 false j turned_within) ∙ ap (λ k. get_or k j false) (sym theirs) ∙ behind
-        ∙ ap (λ k. get_or k j false) mine ∙ get_or_append_left (line_of front) p.0 false j within
+    ∙ ap (λ k. get_or k j false) mine ∙ get_or_append_left (line_of front) p.0 false j within

@@ -69,6 +69,8 @@ pub heard-begins : (labels front : List ℕ) (samples : List Sample) (count : �
 heard-begins labels front samples count None h r = releases-near_of_any all_states count labels front samples h r
 heard-begins labels front samples count (Some symbol) h r =
     let p = releases-near_of_any all_states (symbol + 1) (take count labels) front (take count samples)
-        (near-front sure_of_any all_states labels samples count h) r in
-    (p.0 ++ drop count labels, sym (append_assoc front p.0 (drop count labels)) ∙ ap (λ k. k ++ drop count labels) p.1
-        ∙ take-append-drop count labels)
+    (near-front sure_of_any all_states labels samples count h) r in (
+      p.0 ++ drop count labels,
+      sym (append_assoc front p.0 (drop count labels)) ∙ ap (λ k. k ++ drop count labels) p.1
+          ∙ take-append-drop count labels,
+    )

@@ -28,7 +28,7 @@ abbrev pub SureIsDecoded : Type 0
 SureIsDecoded = (mode : Mode) (octets : List ℕ) (samples : List Sample) (price depth : ℕ) → (c : IsCostOf mode octets samples price)
     → price < sure → 126 ≤ depth
     → LostIs (code_from (only 0)) depth samples None
-        × ((front : List ℕ) → IsReleased (code_from (only 0)) samples front → IsPrefixOf front c.modulated.labels)
+    × ((front : List ℕ) → IsReleased (code_from (only 0)) samples front → IsPrefixOf front c.modulated.labels)
 
 -- turned samples are near the turned labels
 abbrev pub NearTurns : Type 0
@@ -69,7 +69,7 @@ abbrev pub OnePickedUpBegins : Type 0
 OnePickedUpBegins = (tap : ℕ) (labels front turned_front : List ℕ) (samples : List Sample) (bits turned_bits : List Bool)
     → IsNear sure_of_any all_states labels samples
     → BothRelease all_states all_states samples front turned_front → IsPickedUp tap front bits → IsPickedUp tap turned_front turned_bits
-        → OneBegins bits turned_bits
+    → OneBegins bits turned_bits
 
 abbrev pub OneListOfPiecesBegins : Type 0
 OneListOfPiecesBegins = (tap : ℕ) (labels front turned_front : List ℕ) (samples : List Sample) (bits turned_bits : List Bool)
@@ -83,4 +83,4 @@ ReadersPiecesBegin = (mode : Mode) (depth turned_depth count turned_count : ℕ)
     (bits turned_bits : List Bool)
     → IsNear sure_of_any all_states labels samples → MiddleRead mode depth m (take count samples) bits
     → MiddleRead mode turned_depth turned (take turned_count (map quarter_turned samples)) turned_bits
-        → OneBegins (pieces_of bits) (pieces_of turned_bits)
+    → OneBegins (pieces_of bits) (pieces_of turned_bits)

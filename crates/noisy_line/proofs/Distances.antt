@@ -69,7 +69,7 @@ step-meets s t a b u v e f =
     let q = branch_of t b v f in
     let rows = at_each_pair 8 8 (λ s t. each_below 32 (λ a. each_below 32 (meets s t a))) meets_test s t p.in_states q.in_states in
     from-branches (until s t) (apart a b) u v (next_state s a) (next_state t b)
-        (at_each_pair 32 32 (meets s t) rows a b p.in_labels q.in_labels) e f
+    (at_each_pair 32 32 (meets s t) rows a b p.in_labels q.in_labels) e f
 
 step-parts : (s a b u v : ℕ) → a ≢ b → next_state s a ≡ Some u → next_state s b ≡ Some v → 10 ≤ apart a b + until u v
 step-parts s a b u v differ e f =
@@ -77,7 +77,7 @@ step-parts s a b u v differ e f =
     let q = branch_of s b v f in
     let rows = at_each 8 (λ s. each_below 32 (λ a. each_below 32 (parts s a))) parts_test s p.in_states in
     elim (or_cases (nat_eq a b) (makes_up 10 (apart a b) (next_state s a) (next_state s b))
-        (at_each_pair 32 32 (parts s) rows a b p.in_labels q.in_labels)) [
+    (at_each_pair 32 32 (parts s) rows a b p.in_labels q.in_labels)) [
       | inl same ↦ absurd (differ (eqb-true a b same))
       | inr far ↦ from-branches 10 (apart a b) u v (next_state s a) (next_state s b) far e f
     ]
@@ -114,8 +114,11 @@ one-or-far s end [] (y ∷ b) h p q = absurd (omega arith)
 one-or-far s end (x ∷ a) [] h p q = absurd (omega arith)
 one-or-far s end (x ∷ a) (y ∷ b) h (m, e, p) (n, f, q) = elim (cases_eq x y) [
   | inr differ ↦ inr (omega (arith, step-parts s x y m n differ e f, until-least m n end a b same p q))
-  | inl one ↦ elim (one-or-far m end a b same p (subst (λ state. Leads next_state state b end) (sym (mids one)) q)) [ inl rest ↦ inl
-        (rw (one, rest) refl) | inr far ↦ inr (omega (arith, far)) ]
+  | inl one ↦ elim (one-or-far m end a b same p (subst (λ state. Leads next_state state b end) (sym (mids one)) q)) [
+    | inl rest ↦ inl
+        (rw (one, rest) refl)
+    | inr far ↦ inr (omega (arith, far))
+  ]
 ]
   where
     same : length a ≡ length b
@@ -175,7 +178,7 @@ parting-is-far s u v (x ∷ a) (y ∷ b) some h (m, e, p) (n, f, q) differ =
     let apart_now : m ≡ n → ⊥ = differ 1 m n (omega arith) (omega arith) (m, e, refl) (n, f, refl) in
     let first = (leaves_apart s x y m n e f apart_now).far in
     let behind : Parted m a n b = parted m n u v a b same p q
-        (λ i c d low within k l. differ (suc i) c d (omega arith) (omega arith) (m, e, k) (n, f, l)) in
+    (λ i c d low within k l. differ (suc i) c d (omega arith) (omega arith) (m, e, k) (n, f, l)) in
     omega (arith, first, parted-far m n u v a b same p q behind)
 
 -- another end
@@ -183,5 +186,5 @@ pub ends-are-near : EndsAreNear
 ends-are-near from end to labels many in_states l =
     let o = other-end from end to labels l many in_states in
     let units : cost far_from o.other (map point_of labels) ≡ 4194304 * apart_in_all o.other labels =
-        cost-is-distance from from to end o.other labels o.same_length o.leads l in
+    cost-is-distance from from to end o.other labels o.same_length o.leads l in
     record { other = o.other; leads = o.leads; same_length = o.same_length; near = omega (arith, o.cheap) }

@@ -34,17 +34,17 @@ tells-from_one start from own_from end q labels there own_there h p l =
     let first = subst (λ state. Leads next_state state q end) (eqb-true from start there) p in
     let second = subst (λ state. Leads next_state state labels end) (eqb-true own_from start own_there) l in
     let units : cost far_from q (map point_of labels) ≡ 4194304 * apart_in_all q labels =
-        cost-is-distance start start end end q labels h first second in
+    cost-is-distance start start end end q labels h first second in
     elim (one-or-far start end q labels h first second) [ inl one ↦ inl one | inr far ↦ inr (omega arith) ]
 
 pub tells-from_any : (starts : ℕ → Bool) → TellsApart sure_of_any starts
 tells-from_any starts from own_from end q labels there own_there h p l =
     let units : cost far_from q (map point_of labels) ≡ 4194304 * apart_in_all q labels =
-        cost-is-distance from own_from end end q labels h p l in
+    cost-is-distance from own_from end end q labels h p l in
     elim (cases_eq from own_from) [
       | inr differ ↦ let four = meeting-is-far from own_from end q labels differ h p l in inr (omega arith)
       | inl same ↦ elim (one-or-far own_from end q labels h
-            (subst (λ state. Leads next_state state q end) same p) l) [ inl one ↦ inl one | inr far ↦ inr (omega arith) ]
+          (subst (λ state. Leads next_state state q end) same p) l) [ inl one ↦ inl one | inr far ↦ inr (omega arith) ]
     ]
 
 -- labels that are near the samples survive
@@ -71,8 +71,12 @@ near-front bound starts labels samples n h =
     record {
       end = front.0;
       sequence = record {
-        code_sequence = record { from = h.sequence.code_sequence.from; starts_there = h.sequence.code_sequence.starts_there; leads =
-            front.1 };
+        code_sequence = record {
+          from = h.sequence.code_sequence.from;
+          starts_there = h.sequence.code_sequence.starts_there;
+          leads =
+              front.1;
+        };
         same_length = omega (arith, length-take n labels, length-take n samples, h.sequence.same_length);
       };
       near = omega (arith, cost-take n labels samples, h.near);
@@ -88,8 +92,8 @@ fronts-of_near bound starts labels samples tells h = record {
   fronts = λ n mid within front.
       let part = near-front bound starts labels samples n h in
       near-survives bound starts (take n samples)
-          (take n labels) h.sequence.code_sequence.from mid tells h.sequence.code_sequence.starts_there front part.sequence.same_length
-          part.near;
+      (take n labels) h.sequence.code_sequence.from mid tells h.sequence.code_sequence.starts_there front part.sequence.same_length
+      part.near;
 }
 
 -- survivors are near them, the nearer the less noise there is
@@ -97,7 +101,7 @@ near-all : (bound k : ℕ) (starts : ℕ → Bool) (labels : List ℕ) (samples 
     → 2 ≤ length labels → IsNear bound starts labels samples → AreNear starts samples labels k
 near-all bound k starts labels samples enough many h to q s =
     let c = cheaper starts samples labels q h.sequence.code_sequence.from h.end to h.sequence.code_sequence.starts_there
-        h.sequence.code_sequence.leads h.sequence.same_length many s in
+    h.sequence.code_sequence.leads h.sequence.same_length many s in
     let over = cost-over_others c.other labels samples (c.same_length ∙ h.sequence.same_length) h.sequence.same_length in
     let apart = distance-over_samples q labels samples s.sequence.same_length h.sequence.same_length in
     omega (arith, c.best, c.cheap, h.near)
@@ -109,7 +113,7 @@ released : (bound : ℕ) (starts : ℕ → Bool) (n : ℕ) (labels front : List 
 released bound starts n labels front samples tells h r =
     let part = near-front bound starts labels samples n h in
     let p = released-begins starts part.sequence.code_sequence.from (take n samples) (take n labels) front
-        (fronts-of_near bound starts (take n labels) (take n samples) tells part) r in
+    (fronts-of_near bound starts (take n labels) (take n samples) tells part) r in
     (p.0 ++ drop n labels, sym (append_assoc front p.0 (drop n labels)) ∙ ap (λ k. k ++ drop n labels) p.1 ∙ take-append-drop n labels)
 
 pub releases-near : ReleasesNear
@@ -124,9 +128,9 @@ few-of_one start labels front samples h r = elim (cases_lt (length labels) 2) [
   | inl few ↦ omega arith
   | inr many ↦
       few-from_one (only start) h.sequence.code_sequence.from samples labels front 42
-          (fronts-of_near sure (only start) labels samples (tells-from_one start) h)
+      (fronts-of_near sure (only start) labels samples (tells-from_one start) h)
       (λ from there. eqb-true from start there ∙ sym (eqb-true h.sequence.code_sequence.from start h.sequence.code_sequence.starts_there))
-          (near-all sure 42 (only start) labels samples (omega arith) many h) r
+      (near-all sure 42 (only start) labels samples (omega arith) many h) r
 ]
 
 few-of_any : (starts : ℕ → Bool) (labels front : List ℕ) (samples : List Sample) → IsNear sure_of_any starts labels samples
@@ -135,7 +139,7 @@ few-of_any starts labels front samples h r = elim (cases_lt (length labels) 2) [
   | inl few ↦ omega arith
   | inr many ↦
       few-from_any starts h.sequence.code_sequence.from samples labels front 37
-          (fronts-of_near sure_of_any starts labels samples (tells-from_any starts) h)
+      (fronts-of_near sure_of_any starts labels samples (tells-from_any starts) h)
       (near-all sure_of_any 37 starts labels samples (omega arith) many h) r
 ]
 
@@ -146,13 +150,19 @@ long-front bound starts n labels samples within h = omega (arith, length-take n 
 
 pub few-unreleased : FewUnreleased
 few-unreleased start n labels front samples within h r =
-    omega (arith, long-front sure (only start) n labels samples within h,
-        few-of_one start (take n labels) front (take n samples) (near-front sure (only start) labels samples n h) r)
+    omega (
+      arith,
+      long-front sure (only start) n labels samples within h,
+      few-of_one start (take n labels) front (take n samples) (near-front sure (only start) labels samples n h) r,
+    )
 
 pub few-unreleased_any : FewUnreleasedOfAny
 few-unreleased_any starts n labels front samples within h r =
-    omega (arith, long-front sure_of_any starts n labels samples within h,
-        few-of_any starts (take n labels) front (take n samples) (near-front sure_of_any starts labels samples n h) r)
+    omega (
+      arith,
+      long-front sure_of_any starts n labels samples within h,
+      few-of_any starts (take n labels) front (take n samples) (near-front sure_of_any starts labels samples n h) r,
+    )
 
 pub few-without_noise : FewUnreleasedWithoutNoise
 few-without_noise starts n labels front samples within h r =
@@ -183,7 +193,7 @@ hears-all : (starts : ℕ → Bool) (depth : ℕ) (samples : List Sample) (taken
 hears-all starts depth samples taken d never s =
     let runs : d.lost ≡ None = lost-once (code_from starts) depth samples d.lost None s.lost never in
     let all : heard d.lost samples ≡ take (length samples) samples =
-        ap (λ o. heard o samples) runs ∙ sym (take_all (length samples) samples (omega arith)) in
+    ap (λ o. heard o samples) runs ∙ sym (take_all (length samples) samples (omega arith)) in
     (runs, subst (λ k. IsReleased (code_from starts) k (taken ++ d.pending)) all s.released)
 
 pub decodes-near : DecodesNear
@@ -192,8 +202,11 @@ decodes-near start depth labels taken samples d deep h s =
     record {
       never_lost = all.0;
       was_sent = releases-near start (length samples) labels (taken ++ d.pending) samples h all.1;
-      few_to_come = omega (arith, h.sequence.same_length,
-          few-unreleased start (length samples) labels (taken ++ d.pending) samples (omega arith) h all.1);
+      few_to_come = omega (
+        arith,
+        h.sequence.same_length,
+        few-unreleased start (length samples) labels (taken ++ d.pending) samples (omega arith) h all.1,
+      );
     }
 
 pub decodes-near_any : DecodesNearOfAny
@@ -202,6 +215,9 @@ decodes-near_any starts depth labels taken samples d deep h s =
     record {
       never_lost = all.0;
       was_sent = releases-near_of_any starts (length samples) labels (taken ++ d.pending) samples h all.1;
-      few_to_come = omega (arith, h.sequence.same_length,
-          few-unreleased_any starts (length samples) labels (taken ++ d.pending) samples (omega arith) h all.1);
+      few_to_come = omega (
+        arith,
+        h.sequence.same_length,
+        few-unreleased_any starts (length samples) labels (taken ++ d.pending) samples (omega arith) h all.1,
+      );
     }

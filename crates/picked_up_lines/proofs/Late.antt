@@ -14,7 +14,7 @@ earlier-drop : (line : List Bool) (m i k : ℕ) → k ≤ i → earlier (drop m 
 earlier-drop line m i k l =
     let place : m + (i - k) ≡ m + i - k = omega arith in
     earlier-some (drop m line) i k l ∙ get_or-drop m line (i - k) false ∙ ap (λ n. get_or line n false) place
-        ∙ sym (earlier-some line (m + i) k (omega arith))
+    ∙ sym (earlier-some line (m + i) k (omega arith))
 
 pub late : (tap m : ℕ) (line all sent : List Bool) → tap ≤ 23 → Descrambles tap line sent → Descrambles tap (drop m line) all
     → drop 23 all ≡ drop (m + 23) sent
@@ -31,5 +31,5 @@ late tap m line all sent high whole part = ext_get_or false (drop 23 all) (drop 
         get_or-drop 23 all i false
         ∙ depends_on_three tap (drop m line) line all sent (23 + i) (m + (23 + i)) inside in_line part whole
         (earlier-drop line m (23 + i) 0 (omega arith)) (earlier-drop line m (23 + i) tap (omega (arith, high)))
-            (earlier-drop line m (23 + i) 23 (omega arith))
+        (earlier-drop line m (23 + i) 23 (omega arith))
         ∙ ap (λ n. get_or sent n false) place ∙ sym (get_or-drop (m + 23) sent i false)

@@ -25,7 +25,7 @@ turned_are_alike tap labels bits other h k =
 pub middle_is_sent : MiddleIsSent
 middle_is_sent tap n labels sent bits high whole h =
     let same : line_behind (drop n labels) ≡ drop (4 * (n + 1)) (line_of labels) =
-        ap (flat_map (low_bits 4)) (quads-drop labels n) ∙ fours-drop (n + 1) (quads_of labels) in
+    ap (flat_map (low_bits 4)) (quads-drop labels n) ∙ fours-drop (n + 1) (quads_of labels) in
     let part : Descrambles tap (drop (4 * (n + 1)) (line_of labels)) h.all =
-        subst (λ (xs : List Bool). Descrambles tap xs h.all) same h.descrambled in
+    subst (λ (xs : List Bool). Descrambles tap xs h.all) same h.descrambled in
     h.bits_are ∙ late tap (4 * (n + 1)) (line_of labels) h.all sent high whole part

@@ -20,8 +20,13 @@ quads-turned labels = ext_get_or 0 (drop 1 (quads_of (map turned_label labels)))
     counts = length-quads_of (map turned_label labels) ∙ length-map labels turned_label
 
     long : length (drop 1 (quads_of (map turned_label labels))) ≡ length (drop 1 (quads_of labels))
-    long = omega (arith, counts, length-quads_of labels, length-drop 1 (quads_of (map turned_label labels)),
-        length-drop 1 (quads_of labels))
+    long = omega (
+      arith,
+      counts,
+      length-quads_of labels,
+      length-drop 1 (quads_of (map turned_label labels)),
+      length-drop 1 (quads_of labels),
+    )
 
     each : (i : ℕ) → i < length (drop 1 (quads_of (map turned_label labels)))
         → get_or (drop 1 (quads_of (map turned_label labels))) i 0 ≡ get_or (drop 1 (quads_of labels)) i 0
@@ -41,7 +46,7 @@ quad-behind labels n i l =
     let less : i < length (drop n labels) = omega (arith, length-drop n labels) in
     let here : get_or (map y_of (drop n labels)) (i + 1) 0 ≡ get_or (map y_of labels) (n + (i + 1)) 0 =
     get_or-map y_of (drop n labels) (i + 1) more ∙ ap y_of (get_or-drop n labels (i + 1) 0)
-        ∙ sym (get_or-map y_of labels (n + (i + 1)) l) in
+    ∙ sym (get_or-map y_of labels (n + (i + 1)) l) in
     let one : i + 1 - 1 ≡ i = omega arith in
     let other : n + (i + 1) - 1 ≡ n + i = omega arith in
     let last : before (map y_of (drop n labels)) (i + 1) ≡ before (map y_of labels) (n + (i + 1)) =

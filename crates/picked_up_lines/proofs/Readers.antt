@@ -41,10 +41,14 @@ readers_pick_up mode depth m samples bits h =
     let all : List Bool = descrambled tap (line_behind labels) in
     let behind : Descrambles tap (line_behind labels) all = descrambles tap (line_behind labels) in
     let part : Descrambles tap (drop 4 (line_of labels)) all =
-        subst (λ (xs : List Bool). Descrambles tap xs all) (fours-drop 1 (quads_of labels)) behind in
+    subst (λ (xs : List Bool). Descrambles tap xs all) (fours-drop 1 (quads_of labels)) behind in
     record {
       labels = labels;
       decoder = h.read.decoder;
-      picked_up = record { all = all; descrambled = behind; bits_are =
-          h.bits_are ∙ sym (late tap 4 (line_of labels) all h.all (tap-low mode) whole part) };
+      picked_up = record {
+        all = all;
+        descrambled = behind;
+        bits_are =
+            h.bits_are ∙ sym (late tap 4 (line_of labels) all h.all (tap-low mode) whole part);
+      };
     }

@@ -66,16 +66,21 @@ last-bit four l = let e : four / 8 ≡ four / 2 / 2 / 2 % 2 = omega (arith, l) i
 pub middle-sixth : (mode : Mode) (depth : ℕ) (old new : LineReading) (taken four : ℕ) (samples : List Sample) (bits : List Bool) → taken ≡ 6
     → four < 16 → Reads mode depth old new samples (low_bits 4 four)
     → MiddleRead mode depth (middle_of old taken) samples bits
-        → MiddleRead mode depth (middle_of new 7) samples (bits ++ nat_eq (four / 8) 1 ∷ [])
+    → MiddleRead mode depth (middle_of new 7) samples (bits ++ nat_eq (four / 8) 1 ∷ [])
 middle-sixth mode depth old new taken four samples bits six small reads h =
     let b = sixth h.all (low_bits 4 four) bits taken h.bits_are h.counted six refl in
-    record { all = h.all ++ low_bits 4 four; read = reads h.all h.read; bits_are =
-        ap (λ l. bits ++ l) (last-bit four small) ∙ b.given_is; counted = b.counted }
+    record {
+      all = h.all ++ low_bits 4 four;
+      read = reads h.all h.read;
+      bits_are =
+          ap (λ l. bits ++ l) (last-bit four small) ∙ b.given_is;
+      counted = b.counted;
+    }
 
 pub middle-later : (mode : Mode) (depth : ℕ) (old new : LineReading) (taken four : ℕ) (samples : List Sample) (bits : List Bool) → 6 < taken
     → Reads mode depth old new samples (low_bits 4 four)
     → MiddleRead mode depth (middle_of old taken) samples bits
-        → MiddleRead mode depth (middle_of new taken) samples (bits ++ low_bits 4 four)
+    → MiddleRead mode depth (middle_of new taken) samples (bits ++ low_bits 4 four)
 middle-later mode depth old new taken four samples bits l reads h =
     let b = later h.all (low_bits 4 four) bits taken h.bits_are h.counted l refl in
     record { all = h.all ++ low_bits 4 four; read = reads h.all h.read; bits_are = b.given_is; counted = b.counted }

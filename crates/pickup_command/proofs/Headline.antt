@@ -63,8 +63,11 @@ lists-of old before new rec d = record {
 pub headline-of : (words : List (List ℕ)) (old new : FolderState) (rec : List ℕ) (s : Status) → Answers (pickup_job rec) words old new s
     → Headline old new rec s
 headline-of words old new rec s a =
-    record { shared = shared-of (pickup_job rec) words old new s a (λ e name. a.only.names name tt); lists =
-    λ e. lists-of old a.before new rec (done-of (pickup_job rec) words old new s a e) }
+    record {
+      shared = shared-of (pickup_job rec) words old new s a (λ e name. a.only.names name tt);
+      lists =
+          λ e. lists-of old a.before new rec (done-of (pickup_job rec) words old new s a e);
+    }
 
 -- a line is not lost and followed to its end at once
 never-lost : (content : List ℕ) (symbol : ℕ) → IsFollowed content → LostIs any_trellis any_depth (samples_in content) (Some symbol) → ⊥
@@ -81,7 +84,7 @@ own-never old before rec answer told r (is_cut at e cut) =
 own-never old before rec answer told r (is_lost role symbol e lost) =
     let same = content-same rates.Trellis r.mode lost.mode r.content lost.content (sym r.octets_are ∙ lost.reads.read told) in
     never-lost r.content symbol r.followed
-        (subst (λ (xs : List ℕ). LostIs any_trellis any_depth (samples_in xs) (Some symbol)) (sym same) lost.lost)
+    (subst (λ (xs : List ℕ). LostIs any_trellis any_depth (samples_in xs) (Some symbol)) (sym same) lost.lost)
 
 -- and when it is done
 pub completes-of : (words : List (List ℕ)) (old new : FolderState) (rec : List ℕ) (s : Status) → Answers (pickup_job rec) words old new s

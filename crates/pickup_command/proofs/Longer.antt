@@ -32,9 +32,9 @@ line-longer : (labels rest : List ℕ) → (more : List Bool) × (line_behind (l
 line-longer labels rest =
     let quads : List ℕ = quads_of (labels ++ rest) in
     let front : take (length labels) quads ≡ quads_of labels =
-        sym (quads_of-take (labels ++ rest) (length labels)) ∙ ap quads_of (take-append_seam labels rest) in
+    sym (quads_of-take (labels ++ rest) (length labels)) ∙ ap quads_of (take-append_seam labels rest) in
     let all : quads ≡ quads_of labels ++ drop (length labels) quads =
-        sym (take-append-drop (length labels) quads) ∙ ap (λ (xs : List ℕ). xs ++ drop (length labels) quads) front in
+    sym (take-append-drop (length labels) quads) ∙ ap (λ (xs : List ℕ). xs ++ drop (length labels) quads) front in
     let d = drop-front 1 (quads_of labels) (drop (length labels) quads) in
     let behind : drop 1 quads ≡ drop 1 (quads_of labels) ++ d.0 = ap (λ (xs : List ℕ). drop 1 xs) all ∙ d.1 in
     (flat_map (low_bits 4) d.0, ap (flat_map (low_bits 4)) behind ∙ flat_map-append (low_bits 4) (drop 1 (quads_of labels)) d.0)
@@ -51,9 +51,9 @@ bits-longer tap labels rest bits low h =
     let n : ℕ = length line in
     let part : Descrambles tap (take n whole) (take n all) =
     Descrambles_from_Scrambles tap (take n all) (take n whole)
-        (Scrambles-take tap n all whole low (Scrambles_from_Descrambles tap all whole given)) in
+    (Scrambles-take tap n all whole low (Scrambles_from_Descrambles tap all whole given)) in
     let first : Descrambles tap line (take n all) =
-        subst (λ (xs : List Bool). Descrambles tap xs (take n all)) (take-append_seam line l.0) part in
+    subst (λ (xs : List Bool). Descrambles tap xs (take n all)) (take-append_seam line l.0) part in
     let same : take n all ≡ h.all = Descrambles_once tap line (take n all) h.all first h.descrambled in
     let split : all ≡ h.all ++ drop n all = sym (take-append-drop n all) ∙ ap (λ (xs : List Bool). xs ++ drop n all) same in
     let d = drop-front 23 h.all (drop n all) in
@@ -77,7 +77,7 @@ later_stand_behind mode samples more pieces later g k =
     let s = stays-prefix any_trellis samples more g.labels k.labels g.released k.released in
     let b = bits-longer tap g.labels s.0 g.bits (tap-low mode) g.picked_up in
     let same : k.bits ≡ g.bits ++ b.0 =
-        picked_up_once tap k.labels k.bits (g.bits ++ b.0) k.picked_up
-        (subst (λ (xs : List ℕ). IsPickedUp tap xs (g.bits ++ b.0)) s.1 b.1) in
+    picked_up_once tap k.labels k.bits (g.bits ++ b.0) k.picked_up
+    (subst (λ (xs : List ℕ). IsPickedUp tap xs (g.bits ++ b.0)) s.1 b.1) in
     let added = pieces-stay g.bits b.0 in
     (added.0, ap (λ (xs : List Found). xs ++ added.0) g.pieces_are ∙ sym added.1.all ∙ ap pieces_of (sym same) ∙ sym k.pieces_are)

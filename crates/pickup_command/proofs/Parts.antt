@@ -39,7 +39,7 @@ pub front-part : (start now : FolderState) (rec : List ℕ) (mode : Mode) (p : P
 front-part start now rec mode p content w h lost taken =
     let s = samples_in-front content w.rest in
     let followed : AreFollowed (samples_in content) (samples_in content) =
-        followed-by None (samples_in content) (not-lost start now mode p (samples_in content) h lost) in
+    followed-by None (samples_in content) (not-lost start now mode p (samples_in content) h lost) in
     record {
       mode = mode;
       content = content ++ w.rest;
@@ -57,9 +57,16 @@ stops-by start now rec mode content (Own answer) w h =
     let s = samples_in-front content w.rest in
     let more : StopsPlay start now mode (samples_in (content ++ w.rest)) (Own answer) =
     subst (λ (xs : List Sample). StopsPlay start now mode xs (Own answer)) (sym s.1)
-        (stops-longer start now mode (samples_in content) s.0 (Own answer) h) in
-    is_lost more.0 more.1 more.2 (record { mode = mode; content = content ++ w.rest; reads = w.reads; role_is = more.3.role_is; lost =
-        more.3.lost; says = more.3.says })
+    (stops-longer start now mode (samples_in content) s.0 (Own answer) h) in
+    is_lost more.0 more.1 more.2 (record {
+      mode = mode;
+      content = content ++ w.rest;
+      reads = w.reads;
+      role_is = more.3.role_is;
+      lost =
+          more.3.lost;
+      says = more.3.says;
+    })
 stops-by start now rec mode content (Say fault) w h =
     let s = samples_in-front content w.rest in
     record {
@@ -79,7 +86,7 @@ stops-by start now rec mode content NoMemory w never = absurd never
 pub cut-by : (start now : FolderState) (rec : List ℕ) (mode : Mode) (p : Playing) (content : List ℕ) (at : ℕ)
     → ReadsRecording start rec rates.Trellis mode content → length content % 4 ≢ 0 → at + length content % 4 ≡ HEADER + length content
     → Plays start now mode p (samples_in content) → p.reader.reading.decoder.lost ≡ None → p.reader.reading.decoder.pending ≡ []
-        → SampleCut start now rec at
+    → SampleCut start now rec at
 cut-by start now rec mode p content at reads cut at_is h lost taken = record {
   mode = mode;
   content = content;
@@ -97,7 +104,7 @@ pub all-by : (start now : FolderState) (rec : List ℕ) (mode : Mode) (p : Playi
 all-by start now rec mode p content reads whole h lost taken =
     let s : SaysCounted start now mode (samples_in content) p.listener.pieces =
     subst (λ (l : Option ℕ). SaysCounted start now mode (heard l (samples_in content)) p.listener.pieces) lost
-        (says-counted start now mode p (samples_in content) h taken) in
+    (says-counted start now mode p (samples_in content) h taken) in
     record {
       mode = mode;
       content = content;

@@ -28,10 +28,10 @@ use Rattle.pickup_command.proofs.Longer.{bits-longer, tap-low}
 pub plays-taken : (start now new : FolderState) (mode : Mode) (reader next : Middle) (listener later : Listening) (samples : List Sample)
     (taken : Taken)
     → ((bits : List Bool) → MiddleRead mode any_depth reader samples bits
-        → MiddleRead mode any_depth next samples (bits ++ bits_of_taken taken))
+    → MiddleRead mode any_depth next samples (bits ++ bits_of_taken taken))
     → ((start : FolderState) (bits : List Bool) → Heard start now listener bits → Heard start new later (bits ++ bits_of_taken taken))
     → later.sender ≡ listener.sender → Plays start now mode (playing_of reader listener) samples
-        → Plays start new mode (playing_of next later) samples
+    → Plays start new mode (playing_of next later) samples
 plays-taken start now new mode reader next listener later samples taken reads hears same h = record {
   bits = h.bits ++ bits_of_taken taken;
   read = reads h.bits h.read;
@@ -54,8 +54,13 @@ plays-after start old mid mode p samples reads h =
 
 -- who is ready for some samples is ready for more
 pub ready-later : (p : Playing) (a b : ℕ) → a ≤ b → IsReady p a → IsReady p b
-ready-later p a b l r = record { not_lost = r.not_lost; all_taken = r.all_taken; count = omega (arith, r.count, l); pieces =
-    omega (arith, r.pieces, l) }
+ready-later p a b l r = record {
+  not_lost = r.not_lost;
+  all_taken = r.all_taken;
+  count = omega (arith, r.count, l);
+  pieces =
+      omega (arith, r.pieces, l);
+}
 
 -- up to where a line is lost, it isn't lost before the last sample
 pub followed-by : (lost : Option ℕ) (samples : List Sample) → LostIs any_trellis any_depth samples lost
@@ -70,7 +75,7 @@ pub followed-longer : (samples more first : List Sample) → AreFollowed samples
 followed-longer samples more first f =
     let rest : List Sample = f.front.0 in
     let counts : length first + length rest ≡ length samples =
-        sym (length-append first rest) ∙ ap (λ (xs : List Sample). length xs) f.front.1 in
+    sym (length-append first rest) ∙ ap (λ (xs : List Sample). length xs) f.front.1 in
     record {
       front = (rest ++ more, sym (append_assoc first rest more) ∙ ap (λ (xs : List Sample). xs ++ more) f.front.1);
       not_lost = λ n l over. f.not_lost n l (over-before any_trellis any_depth samples more n (omega (arith, l, counts)) over);
@@ -124,15 +129,21 @@ says-some start now mode reader samples bits sender read sender_is p =
     let b = bits-longer (tap_of mode) r.labels pending bits (tap-low mode) r.picked_up in
     let added = pieces-stay p.heard (p.rest ++ b.0) in
     let whole : bits ++ b.0 ≡ p.heard ++ (p.rest ++ b.0) =
-        ap (λ (xs : List Bool). xs ++ b.0) p.bits_are ∙ append_assoc p.heard p.rest b.0 in
+    ap (λ (xs : List Bool). xs ++ b.0) p.bits_are ∙ append_assoc p.heard p.rest b.0 in
     record {
       first = heard reader.reading.decoder.lost samples;
       followed = followed-by reader.reading.decoder.lost samples r.decoder.lost;
       says = record {
         told = pieces_of p.heard;
         rest = added.0;
-        gives = record { labels = r.labels ++ pending; released = r.decoder.released; bits = bits ++ b.0; picked_up = b.1; pieces_are =
-            sym added.1.all ∙ ap pieces_of (sym whole) };
+        gives = record {
+          labels = r.labels ++ pending;
+          released = r.decoder.released;
+          bits = bits ++ b.0;
+          picked_up = b.1;
+          pieces_are =
+              sym added.1.all ∙ ap pieces_of (sym whole);
+        };
         lines = p.lines;
         are_lines = subst (λ (role : Role). AreLines role (pieces_of p.heard) p.lines) sender_is p.are_lines;
         said = p.said;

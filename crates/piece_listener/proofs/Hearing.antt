@@ -83,7 +83,7 @@ heard-none start now l next bits bit h none stands sender pieces = record {
 pub heard-octet : (start now : FolderState) (l next : Listening) (bits : List Bool) (octet : ℕ) → Heard start now l bits
     → DeframerStands next.deframer (bits ++ octet_bits octet)
     → pieces_of (bits ++ octet_bits octet) ≡ pieces_of bits → next.sender ≡ l.sender → next.pieces ≡ l.pieces
-        → Heard start now next (bits ++ octet_bits octet)
+    → Heard start now next (bits ++ octet_bits octet)
 heard-octet start now l next bits octet h stands same sender pieces = record {
   stands = stands;
   lines = h.lines;
@@ -101,13 +101,13 @@ lines-more : (start now : FolderState) (l : Listening) (bits : List Bool) (bit :
     AreLines l.sender (pieces_of (bits ++ bit ∷ [])) (h.lines ++ reading_line reading)
 lines-more start now l bits bit piece reading h f r =
     subst (λ (pieces : List Found). AreLines l.sender pieces (h.lines ++ reading_line reading)) (sym (piece-more bits bit piece f))
-        (AreLines-more l.sender (pieces_of bits) f.found reading h.lines h.are_lines r)
+    (AreLines-more l.sender (pieces_of bits) f.found reading h.lines h.are_lines r)
 
 -- a bit at which a piece ends, whose line was said
 pub heard-some : (start now new : FolderState) (l next : Listening) (bits : List Bool) (bit : Bool) (piece : Piece) (reading : Reading)
     → Heard start now l bits → (f : FoundThere (bits ++ bit ∷ []) piece) →
     Reads l.sender f.found reading → DeframerStands next.deframer (bits ++ bit ∷ []) → next.sender ≡ l.sender → next.pieces ≡ l.pieces + 1
-        → Said now new (reading_line reading) → Heard start new next (bits ++ bit ∷ [])
+    → Said now new (reading_line reading) → Heard start new next (bits ++ bit ∷ [])
 heard-some start now new l next bits bit piece reading h f r stands sender pieces said = record {
   stands = stands;
   lines = h.lines ++ reading_line reading;
@@ -122,7 +122,7 @@ heard-some start now new l next bits bit piece reading h f r stands sender piece
 pub left-some : (start now new : FolderState) (l next : Listening) (bits : List Bool) (bit : Bool) (piece : Piece) (reading : Reading)
     → Heard start now l bits → (f : FoundThere (bits ++ bit ∷ []) piece) →
     Reads l.sender f.found reading → DeframerStands next.deframer (bits ++ bit ∷ []) → next.sender ≡ l.sender → next.pieces ≡ l.pieces + 1
-        → PartlySaid now new (reading_line reading) → LeftAt start new next (bits ++ bit ∷ [])
+    → PartlySaid now new (reading_line reading) → LeftAt start new next (bits ++ bit ∷ [])
 left-some start now new l next bits bit piece reading h f r stands sender pieces said = record {
   part = record {
     heard = bits ++ bit ∷ [];
@@ -163,7 +163,7 @@ pub bit-more : (bits : List Bool) (n count i : ℕ) → i < count
 bit-more bits n count i h =
     let within : i < length (low_bits count n) = omega (arith, h, length-low_bits count n) in
     let bit : get_or (low_bits count n) i false ≡ nat_eq (bit_and (n / 2 ^ i) 1) 1 =
-        get_or-low_bits count n i false h ∙ ap (λ x. nat_eq x 1) (sym (and_mask (n / 2 ^ i) 1)) in
+    get_or-low_bits count n i false h ∙ ap (λ x. nat_eq x 1) (sym (and_mask (n / 2 ^ i) 1)) in
     append_assoc bits (take i (low_bits count n)) (nat_eq (bit_and (n / 2 ^ i) 1) 1 ∷ [])
     ∙ ap (λ xs. bits ++ xs) (sym (take_more (low_bits count n) i false within ∙ ap (λ b. take i (low_bits count n) ++ b ∷ []) bit))
 
@@ -210,5 +210,11 @@ said-after start old mid lines r said = r.said ∙ said
 pub heard-after : (start old mid : FolderState) (l : Listening) (bits : List Bool) → OnlyReads old mid → Heard start old l bits
     → Heard start mid l bits
 heard-after start old mid l bits reads h =
-    record { stands = h.stands; lines = h.lines; are_lines = h.are_lines; said = said-after start old mid h.lines reads h.said; count =
-    h.count }
+    record {
+      stands = h.stands;
+      lines = h.lines;
+      are_lines = h.are_lines;
+      said = said-after start old mid h.lines reads h.said;
+      count =
+          h.count;
+    }

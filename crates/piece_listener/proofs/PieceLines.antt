@@ -10,6 +10,11 @@ pub AreLines-more : (sender : Role) (pieces : List Found) (found : Found) (readi
     → AreLines sender pieces lines → Reads sender found reading → AreLines sender (pieces ++ found ∷ []) (lines ++ reading_line reading)
 AreLines-more sender [] found reading lines e r =
     (reading, [], r, ap (λ xs. xs ++ reading_line reading) e ∙ sym (append-nil (reading_line reading)), refl)
-AreLines-more sender (first ∷ pieces) found reading lines (one, rest, is, e, more) r =
-    (one, rest ++ reading_line reading, is, ap (λ xs. xs ++ reading_line reading) e
-        ∙ append_assoc (reading_line one) rest (reading_line reading), AreLines-more sender pieces found reading rest more r)
+AreLines-more sender (first ∷ pieces) found reading lines (one, rest, is, e, more) r = (
+  one,
+  rest ++ reading_line reading,
+  is,
+  ap (λ xs. xs ++ reading_line reading) e
+      ∙ append_assoc (reading_line one) rest (reading_line reading),
+  AreLines-more sender pieces found reading rest more r,
+)

@@ -97,7 +97,7 @@ nearer : (label here : ℕ) (sample : Sample) → label < 4 → here < 4 → (la
 nearer label here sample in_label in_here differ near =
     let wide : 83886080 ≤ distance_of (point_of label) (point_of here) = points_lie_apart label here in_label in_here differ in
     let both : distance_of (point_of label) (point_of here) ≤ 2 * distance_of (point_of label) sample + 2 * distance_of sample
-        (point_of here) = near_is_near (point_of label) sample (point_of here) in
+    (point_of here) = near_is_near (point_of label) sample (point_of here) in
     let swap : distance_of sample (point_of here) ≡ far here sample = distance_of-swap sample (point_of here) in
     omega (arith, wide, both, swap, near)
 
@@ -139,7 +139,7 @@ near-read before after sample label front low near released = elim (cases_eq lab
     as_long =
         let a : length other ≡ length c.earlier + suc (length c.later) = length-append c.earlier (label ∷ c.later) in
         let b : length (c.earlier ++ c.here ∷ c.later) ≡ length c.earlier + suc (length c.later) =
-            length-append c.earlier (c.here ∷ c.later) in
+        length-append c.earlier (c.here ∷ c.later) in
         let d : length front ≡ length (c.earlier ++ c.here ∷ c.later) = ap length c.parts in
         omega (arith, a, b, d, long)
 
@@ -156,11 +156,11 @@ near-read before after sample label front low near released = elim (cases_eq lab
     beaten : (label ≡ c.here → ⊥) → ⊥
     beaten differ =
         let least : cost far front samples ≤ cost far other samples =
-            least_cost quarters samples front other (s.survivor.best other sequence) in
+        least_cost quarters samples front other (s.survivor.best other sequence) in
         let own : cost far front samples ≡ cost far c.earlier before + cost far (c.here ∷ c.later) (sample ∷ after) =
-            ap (λ l. cost far l samples) c.parts ∙ cost-append c.earlier (c.here ∷ c.later) before (sample ∷ after) c.long in
+        ap (λ l. cost far l samples) c.parts ∙ cost-append c.earlier (c.here ∷ c.later) before (sample ∷ after) c.long in
         let others : cost far other samples ≡ cost far c.earlier before + cost far (label ∷ c.later) (sample ∷ after) =
-            cost-append c.earlier (label ∷ c.later) before (sample ∷ after) c.long in
+        cost-append c.earlier (label ∷ c.later) before (sample ∷ after) c.long in
         let a : cost far (c.here ∷ c.later) (sample ∷ after) ≡ far c.here sample + cost far c.later after = refl in
         let b : cost far (label ∷ c.later) (sample ∷ after) ≡ far label sample + cost far c.later after = refl in
         let less : far label sample < far c.here sample = nearer label c.here sample low in_here differ near in

@@ -13,10 +13,10 @@ pub twos-more : (line : List Bool) (turns : List ℕ) (turn : ℕ) → line ≡ 
     → line ++ low_bits 2 turn ≡ flat_map (low_bits 2) (turns ++ turn ∷ [])
 twos-more line turns turn e =
     ap (λ xs. xs ++ low_bits 2 turn) e ∙ ap (λ ys. flat_map (low_bits 2) turns ++ ys) (sym (append-nil (low_bits 2 turn)))
-        ∙ sym (flat_map-append (low_bits 2) turns (turn ∷ []))
+    ∙ sym (flat_map-append (low_bits 2) turns (turn ∷ []))
 
 pub comes-back : (tap : ℕ) (bits line : List Bool) (turns : List ℕ)
     → Scrambles tap bits line → line ≡ flat_map (low_bits 2) turns → All (λ n. n < 4) turns → Demodulates tap (turned turns) bits
 comes-back tap bits line turns scrambled twos are_turns =
     subst (λ (xs : List Bool). Descrambles tap xs bits) (twos ∙ ap (flat_map (low_bits 2)) (sym (unturned-turned turns are_turns)))
-        (Descrambles_from_Scrambles tap bits line scrambled)
+    (Descrambles_from_Scrambles tap bits line scrambled)

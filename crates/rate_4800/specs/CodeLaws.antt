@@ -29,7 +29,7 @@ reaches from to in_from in_to =
     let a : 0 ≡ from = omega arith in
     let b : 0 ≡ to = omega arith in
     subst (λ s. (path : List ℕ) × (length path ≡ 1) × Leads next_state s path to) a
-        (subst (λ s. (path : List ℕ) × (length path ≡ 1) × Leads next_state 0 path s) b (0 ∷ [], refl, (0, refl, refl)))
+    (subst (λ s. (path : List ℕ) × (length path ≡ 1) × Leads next_state 0 path s) b (0 ∷ [], refl, (0, refl, refl)))
 
 pub ways_within : (to place : ℕ) → to < 1 → place < 4 → (way_before to place < 1) × (way_subset to place < 4)
 ways_within to place in_states in_ways = (omega arith, in_ways)
@@ -56,16 +56,16 @@ pub points_lie_apart : (a b : ℕ) → a < 4 → b < 4 → (a ≡ b → ⊥) →
 points_lie_apart a b in_a in_b differ =
     elim (or_cases (nat_eq a b) (nat_le 83886080 (distance_of (point_of a) (point_of b)))
     (at_each_pair 4 4 apart apart_test a b in_a in_b)) [
-  | inl same ↦ absurd (differ (eqb-true a b same))
-  | inr far ↦ leb-true 83886080 (distance_of (point_of a) (point_of b)) far
-]
+      | inl same ↦ absurd (differ (eqb-true a b same))
+      | inr far ↦ leb-true 83886080 (distance_of (point_of a) (point_of b)) far
+    ]
 
 pub points_differ : PointsDiffer point_of 4
 points_differ a b in_a in_b e =
     elim (or_cases (nat_eq a b) (nat_le 83886080 (distance_of (point_of a) (point_of b)))
     (at_each_pair 4 4 apart apart_test a b in_a in_b)) [
-  | inl same ↦ eqb-true a b same
-  | inr far ↦ let none : distance_of (point_of a) (point_of b) ≡ 0 = no_distance_from_equal (point_of a) (point_of b) e in
-      let least : 83886080 ≤ distance_of (point_of a) (point_of b) = leb-true 83886080 (distance_of (point_of a) (point_of b)) far in
+      | inl same ↦ eqb-true a b same
+      | inr far ↦ let none : distance_of (point_of a) (point_of b) ≡ 0 = no_distance_from_equal (point_of a) (point_of b) e in
+          let least : 83886080 ≤ distance_of (point_of a) (point_of b) = leb-true 83886080 (distance_of (point_of a) (point_of b)) far in
           absurd (omega (none, least, arith))
-]
+    ]

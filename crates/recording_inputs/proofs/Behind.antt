@@ -46,7 +46,7 @@ behind-kept start now later name rate mode content at b on kept =
 pub at-end : (start now : FolderState) (name : List ℕ) (at count : ℕ) (octets piece : List ℕ)
     → ReadTo start now name RECORDING_LIMIT (at + count) (octets ++ piece) → count ≤ 4096 →
     (count < 4096 → IsTrue (start.tells name) → octets ++ piece ≡ octets_at start name) → (count % 4 ≢ 0) ⊎ (count ≡ 0)
-        → IsAtEnd start name (at + count)
+    → IsAtEnd start name (at + count)
 at-end start now name at count octets piece r few all end told =
     omega (arith, r.count, ap (λ (xs : List ℕ). length xs) (all (short end) told))
   where

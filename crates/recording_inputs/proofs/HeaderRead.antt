@@ -14,10 +14,10 @@ use Rattle.recording_inputs.specs.Recordings.{IsNotOpened}
 pub header-octets : (start new : FolderState) (name : List ℕ) (count : ℕ) (piece : List ℕ) → count ≤ 8
     → ReadTo start new name RECORDING_LIMIT (0 + count) piece →
     (count < 8 → IsTrue (start.tells name) → piece ≡ octets_at start name) → IsTrue (start.tells name)
-        → piece ≡ take 8 (octets_at start name)
+    → piece ≡ take 8 (octets_at start name)
 header-octets start new name count piece few r all told = elim (cases_lt count 8) [
   | inl short ↦ all short told ∙ sym
-        (take_all 8 (octets_at start name) (omega (arith, short, r.count, ap (λ (xs : List ℕ). length xs) (all short told))))
+      (take_all 8 (octets_at start name) (omega (arith, short, r.count, ap (λ (xs : List ℕ). length xs) (all short told))))
   | inr long ↦ let is : 0 + count ≡ 8 = omega (arith, few, long) in r.front told ∙ ap (λ m. take m (octets_at start name)) is
 ]
 

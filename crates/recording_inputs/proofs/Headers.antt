@@ -31,8 +31,11 @@ header-fits rate mode (suc (suc (suc (suc (suc (suc (suc (suc at)))))))) within 
 
 -- a header is no bad one
 pub never-bad : (rate : Rate) (mode : Mode) (at : ℕ) → IsBadHeader rate (header_at rate mode) at → ⊥
-never-bad rate mode at bad = elim bad.here [ inl short ↦ omega (arith, bad.within, short) | inr other ↦ cc
-    (sym (header-fits rate mode at bad.within) ∙ other.1) ]
+never-bad rate mode at bad = elim bad.here [
+  | inl short ↦ omega (arith, bad.within, short)
+  | inr other ↦ cc
+      (sym (header-fits rate mode at bad.within) ∙ other.1)
+]
 
 -- what stands behind the header is one
 pub content-same : (rate : Rate) (mode other : Mode) (content rest : List ℕ) → header_at rate mode ++ content ≡ header_at rate other ++ rest

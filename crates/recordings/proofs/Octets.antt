@@ -40,7 +40,7 @@ four-twos octet h =
 
 pub bits-by-twos : (octets : List ℕ) (octet : ℕ) → octet < 256
     → (((bits_of octets ++ low_bits 2 (octet % 4)) ++ low_bits 2 (octet / 4 % 4)) ++ low_bits 2 (octet / 16 % 4)) ++ low_bits 2
-        (octet / 64) ≡ bits_of (octets ++ octet ∷ [])
+    (octet / 64) ≡ bits_of (octets ++ octet ∷ [])
 bits-by-twos octets octet h =
     let a : List Bool = low_bits 2 (octet % 4) in
     let b : List Bool = low_bits 2 (octet / 4 % 4) in
@@ -58,7 +58,7 @@ pub sample-more : {X : Type 0} (octets_of : X → List ℕ) (samples : List X) (
     recorded ++ one ≡ flat_map octets_of (samples ++ x ∷ [])
 sample-more octets_of samples x recorded one r e =
     (λ i. r i ++ e i) ∙ ap (λ ys. flat_map octets_of samples ++ ys) (sym (append-nil (octets_of x)))
-        ∙ sym (flat_map-append octets_of samples (x ∷ []))
+    ∙ sym (flat_map-append octets_of samples (x ∷ []))
 
 pub count-more : {X : Type 0} (samples : List X) (x : X) → length (samples ++ x ∷ []) ≡ length samples + 1
 count-more samples x = length-append samples (x ∷ [])

@@ -29,12 +29,12 @@ samples_in-more (suc p) (a ∷ b ∷ c ∷ d ∷ xs) h =
     let three : 4 * suc p + 3 ≡ suc (suc (suc (suc (4 * p + 3)))) = omega arith in
     let octets : List ℕ = a ∷ b ∷ c ∷ d ∷ xs in
     let left : samples_in (take (4 * (suc p + 1)) octets) ≡ sample_of a b c d ∷ samples_in (take (4 * (p + 1)) xs) =
-        ap (λ n. samples_in (take n octets)) long in
+    ap (λ n. samples_in (take n octets)) long in
     let right : samples_in (take (4 * suc p) octets) ≡ sample_of a b c d ∷ samples_in (take (4 * p) xs) =
-        ap (λ n. samples_in (take n octets)) short in
+    ap (λ n. samples_in (take n octets)) short in
     let at : sample_at octets (suc p) ≡ sample_at xs p =
-        λ i. sample_of (slice_index octets (short i)) (slice_index octets (one i)) (slice_index octets (two i))
-        (slice_index octets (three i)) in
+    λ i. sample_of (slice_index octets (short i)) (slice_index octets (one i)) (slice_index octets (two i))
+    (slice_index octets (three i)) in
     left ∙ ap (λ rest. sample_of a b c d ∷ rest) (samples_in-more p xs (omega (arith, h))) ∙ sym (λ i. right i ++ at i ∷ [])
 
 -- an unfinished sample is none

@@ -61,9 +61,9 @@ carried-so : ScriptsAreOne → (old before : FolderState) (n : RunNames) (script
 carried-so law old before n script end r c e =
     let same : script ≡ e.script = law (octets_at old n.script) script e.script r.spelled (e.takes.opens.reads.spelled r.script_told) in
     let at-orig : IsCarried script (record { orig = e.files.orig; answ = octets_at old n.answ }) =
-        subst (λ (o : List ℕ). IsCarried script (record { orig = o; answ = octets_at old n.answ })) (sym (e.takes.orig r.orig_told)) c in
+    subst (λ (o : List ℕ). IsCarried script (record { orig = o; answ = octets_at old n.answ })) (sym (e.takes.orig r.orig_told)) c in
     let at-files : IsCarried script e.files =
-        subst (λ (a : List ℕ). IsCarried script (record { orig = e.files.orig; answ = a })) (sym (e.takes.answ r.answ_told)) at-orig in
+    subst (λ (a : List ℕ). IsCarried script (record { orig = e.files.orig; answ = a })) (sym (e.takes.answ r.answ_told)) at-orig in
     subst (λ (s : ScriptValue). IsCarried s e.files) same at-files
 
 -- so no end gave up
@@ -72,7 +72,7 @@ never-up : ScriptsAreOne → LostLinksWereStarved → (old before : FolderState)
     → IsCarried script (files_at old n) → GivesUp end → RanTo LIMITS old before n end → ⊥
 never-up one starved old before n script end r c g e =
     (carried-so one old before n script end r c e).not_starved end e.left e.run g
-        (starved (channel_of e.script) e.files end e.left e.takes.limits e.run g)
+    (starved (channel_of e.script) e.files end e.left e.takes.limits e.run g)
 
 -- and the line didn't end it
 never-line : ScriptsAreOne → (old before : FolderState) (n : RunNames) (script : ScriptValue) (end : RunEnd) → AreRight old n script

@@ -44,8 +44,7 @@ whole-of : RunLaws → (old before new : FolderState) (n : RunNames) (turn : ℕ
     → RanTo LIMITS old before n (runs.IsDone turn)
     → HoldsWhole old new n.got_o n.answ × HoldsWhole old new n.got_a n.orig
 whole-of laws old before new n turn g kept e =
-    let w = laws.whole (channel_of e.script) (link_of e.script e.files) turn e.left (may-run laws e.script e.files e.takes.limits) e.run in
-        (
+    let w = laws.whole (channel_of e.script) (link_of e.script e.files) turn e.left (may-run laws e.script e.files e.takes.limits) e.run in (
       (λ ts tg. kept n.got_o (told_later g n.got_o tg) ∙ e.holds.got_o (told_later g n.got_o tg)
           ∙ ap Some (w Originator ∙ e.takes.answ ts)),
       (λ ts tg. kept n.got_a (told_later g n.got_a tg) ∙ e.holds.got_a (told_later g n.got_a tg) ∙ ap Some (w Answerer ∙ e.takes.orig ts)),
@@ -115,9 +114,11 @@ not-refused old before n answer never (inr p) = p
 
 ran-by : RunLaws → (words : List (List ℕ)) (old new : FolderState) (n : RunNames) (s t : Status) (a : Answers (run_job n) words old new s)
     → OnlyOutputs a.before new [] → s ≡ t → RanBy old new n t
-ran-by laws words old new n s Done a last e = let d = done-of (run_job n) words old new s a e in
-    (d.done, d.said ∙ ap (option_map (λ x. x ++ done_line d.done)) d.ends.1,
-    ran-of laws old a.before new n (runs.IsDone d.done) last d.ends.0)
+ran-by laws words old new n s Done a last e = let d = done-of (run_job n) words old new s a e in (
+  d.done,
+  d.said ∙ ap (option_map (λ x. x ++ done_line d.done)) d.ends.1,
+  ran-of laws old a.before new n (runs.IsDone d.done) last d.ends.0,
+)
 ran-by laws words old new n s (LinkLost role segment turn) a last e =
     ran-of laws old a.before new n _ last
     (not-refused old a.before n (LinkLost role segment turn) (λ x. x) (own-ends words old new n s (LinkLost role segment turn) a refl e))

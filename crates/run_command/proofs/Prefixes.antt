@@ -57,8 +57,13 @@ runs-over : RunLaws → (script : ScriptValue) (files : Both (List ℕ)) (ts : L
     → LineRun (channel_of script) (link_of script files) ts ends
     → RunsOver (link_of script files) (delay_of script) ts ends
 runs-over laws script files ts ends limits r =
-    record { may_play = laws.play script files limits; delays = laws.delays script limits; carried =
-    laws.carried (channel_of script) ts r.heard; run = r.run }
+    record {
+      may_play = laws.play script files limits;
+      delays = laws.delays script limits;
+      carried =
+          laws.carried (channel_of script) ts r.heard;
+      run = r.run;
+    }
 
 -- what a received file holds begins the file that was read
 prefix-of : (old before : FolderState) (got sent file taken : List ℕ) → GoesOn old before
@@ -110,7 +115,7 @@ hears-of link ts ends t mid (Broken role fault) b = b.hearing
 -- what is left of some turns, and what the next one adds
 stopped-prefix : RunLaws → (script : ScriptValue) (files : Both (List ℕ)) (f : FolderState) (n : RunNames) → IsInLimits script
     → (s : StopsAfter (channel_of script) (link_of script files) f (names_written n)) → (role : Role)
-        → IsPrefixOf (of role s.left.got ++ of role s.more.got) (of (other role) (link_of script files)).user.file
+    → IsPrefixOf (of role s.left.got ++ of role s.more.got) (of (other role) (link_of script files)).user.file
 stopped-prefix laws script files f n limits s role = by s.adds
   where
     link : Link
@@ -124,17 +129,17 @@ stopped-prefix laws script files f n limits s role = by s.adds
     by (inl a) =
         let hears = hears-of link s.turns s.ends a.turn a.mid a.outcome a.is in
         let whole : HoldPrefixes link a.mid =
-            laws.hears link (delay_of script) s.turns s.ends a.turn a.mid over
-            (laws.one (channel_of script) s.turns a.turn a.heard) hears in
+        laws.hears link (delay_of script) s.turns s.ends a.turn a.mid over
+        (laws.one (channel_of script) s.turns a.turn a.heard) hears in
         let all : of role s.left.got ++ of role s.more.got ≡ concat (of role a.mid).incoming.taken =
-            ap (λ x. x ++ of role s.more.got) (s.leaves.got_is role) ∙ ap (λ x. concat (of role s.ends).incoming.taken ++ x) (a.got_is role)
+        ap (λ x. x ++ of role s.more.got) (s.leaves.got_is role) ∙ ap (λ x. concat (of role s.ends).incoming.taken ++ x) (a.got_is role)
         ∙ sym (concat-append (of role s.ends).incoming.taken (deliveries (of role a.mid)))
-            ∙ ap concat (sym (laws.delivers link s.turns s.ends a.turn a.mid s.run.run hears role)) in
+        ∙ ap concat (sym (laws.delivers link s.turns s.ends a.turn a.mid s.run.run hears role)) in
         subst (λ x. IsPrefixOf x (of (other role) link).user.file) (sym all) (whole role)
     by (inr a) =
         let whole : HoldPrefixes link s.ends = laws.takes link (delay_of script) s.turns s.ends over in
         let all : of role s.left.got ++ of role s.more.got ≡ concat (of role s.ends).incoming.taken =
-            ap (λ x. of role s.left.got ++ x) (a.got_is role) ∙ append-nil (of role s.left.got) ∙ s.leaves.got_is role in
+        ap (λ x. of role s.left.got ++ x) (a.got_is role) ∙ append-nil (of role s.left.got) ∙ s.leaves.got_is role in
         subst (λ x. IsPrefixOf x (of (other role) link).user.file) (sym all) (whole role)
 
 both-stopped : RunLaws → (old before : FolderState) (n : RunNames) → GoesOn old before → StopsInTurn LIMITS old before n

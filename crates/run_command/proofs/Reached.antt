@@ -71,8 +71,12 @@ abbrev pub files_at : FolderState → Written → Both (List ℕ)
 files_at f n = record { orig = file_at f n.orig file_limit; answ = file_at f n.answ file_limit }
 
 pub knows-told : (f : FolderState) (n : Written) → KnowsFiles f n (files_at f n)
-knows-told f n = record { within = record { orig = few (octets_at f n.orig); answ = few (octets_at f n.answ) }; orig = λ told. refl; answ =
-    λ told. refl }
+knows-told f n = record {
+  within = record { orig = few (octets_at f n.orig); answ = few (octets_at f n.answ) };
+  orig = λ told. refl;
+  answ =
+      λ told. refl;
+}
   where
     few : (octets : List ℕ) → length (take file_limit octets) ≤ file_limit
     few octets = omega (arith, length-take file_limit octets)
@@ -84,12 +88,12 @@ knows-later a b n files apart only k = record {
   within = k.within;
   orig = λ told.
       k.orig (earlier n.orig told) ∙ ap (take file_limit)
-          (sym (octets-kept a b n.orig (only.names n.orig (λ e. apart.got_o_orig (sym e)) (λ e. apart.got_a_orig (sym e))
-          (λ e. apart.trace_orig (sym e))) (earlier n.orig told)));
+      (sym (octets-kept a b n.orig (only.names n.orig (λ e. apart.got_o_orig (sym e)) (λ e. apart.got_a_orig (sym e))
+      (λ e. apart.trace_orig (sym e))) (earlier n.orig told)));
   answ = λ told.
       k.answ (earlier n.answ told) ∙ ap (take file_limit)
-          (sym (octets-kept a b n.answ (only.names n.answ (λ e. apart.got_o_answ (sym e)) (λ e. apart.got_a_answ (sym e))
-          (λ e. apart.trace_answ (sym e))) (earlier n.answ told)));
+      (sym (octets-kept a b n.answ (only.names n.answ (λ e. apart.got_o_answ (sym e)) (λ e. apart.got_a_answ (sym e))
+      (λ e. apart.trace_answ (sym e))) (earlier n.answ told)));
 }
   where
     earlier : (name : List ℕ) → IsTrue (b.tells name) → IsTrue (a.tells name)
@@ -116,7 +120,7 @@ held-more : (now next : FolderState) (name : List ℕ) (taken more all : List (L
     → Adds now next name (concat more) → all ≡ taken ++ more → Holds next name (concat all)
 held-more now next name taken more all on holds adds e =
     subst (Holds next name) (sym (concat-append taken more) ∙ ap concat (sym e))
-        (Holds-add now next name (concat taken) (concat more) on holds adds)
+    (Holds-add now next name (concat taken) (concat more) on holds adds)
 
 -- a turn is heard, whatever it comes to
 hears-of : (link : Link) (ts : List Turn) (ends : Ends) (t : Turn) (mid : Ends) (o : Outcome) → TurnIs link ts ends t mid o
@@ -130,7 +134,7 @@ pub held-turn : HearingsDeliver
     → (link : Link) (ts : List Turn) (ends : Ends) (t : Turn) (mid : Ends) (now next : FolderState) (n : Written) → RunOf link ts ends
     → Hears (length ts) ends t mid
     → GoesOn now next → HoldLeft now n (left_of ends (trace_text ts)) → WritesTurn now next n mid (turn_text (length ts) t)
-        → HoldLeft next n (left_of mid (trace_text (t ∷ ts)))
+    → HoldLeft next n (left_of mid (trace_text (t ∷ ts)))
 held-turn delivers link ts ends t mid now next n run hears on h w = record {
   got_o = held-more now next n.got_o ends.orig.incoming.taken (deliveries mid.orig) mid.orig.incoming.taken on h.got_o w.got_o
       (delivers link ts ends t mid run hears Originator);
@@ -143,11 +147,11 @@ held-turn delivers link ts ends t mid now next n run hears on h w = record {
 pub reached-going : HearingsDeliver → SpeakingTakesNothing
     → (w w' : World) (script : ScriptValue) (n : Written) (old now next : FolderState) (r : Reached w script n old now)
     → script_of w' ≡ script_of w → GoesOnBy w' now next n r.files r.turns r.ends → OnlyOutputs now next n → CountsStand now next
-        → Reached w' script n old next
+    → Reached w' script n old next
 reached-going delivers speaks w w' script n old now next r same g only stand =
     let mid = g.going.mid in
     let held = held-turn delivers (link_of (script_of w) r.files) r.turns r.ends g.turn mid now next n r.world.run.run g.going.hearing
-        only.goes_on r.holds g.writes in
+    only.goes_on r.holds g.writes in
     let nothing = speaks (link_of (script_of w') g.others) r.turns r.ends g.turn g.after g.going in
     record {
       script_is = same ∙ r.script_is;
@@ -170,10 +174,17 @@ ended-turn : HearingsDeliver → (w : World) (script : ScriptValue) (n : Written
     (r : Reached w script n old now) (outcome : Outcome) (number : ℕ) → OnlyOutputs now next n
     → (e : EndsInTurn script now next n r.files r.turns r.ends outcome number)
     → runs.EndsInTurn (channel_of script) (link_of script e.others) r.turns r.ends outcome number
-        (left_of e.mid (trace_text (e.turn ∷ r.turns))) × HoldLeft next n (left_of e.mid (trace_text (e.turn ∷ r.turns)))
+    (left_of e.mid (trace_text (e.turn ∷ r.turns))) × HoldLeft next n (left_of e.mid (trace_text (e.turn ∷ r.turns)))
 ended-turn delivers w script n old now next r outcome number only e = (
-  record { number = e.number_is; last = e.turn; mid = e.mid; heard = e.makes.heard; is = e.makes.is; leaves =
-      leaves-so e.mid (trace_text (e.turn ∷ r.turns)) },
+  record {
+    number = e.number_is;
+    last = e.turn;
+    mid = e.mid;
+    heard = e.makes.heard;
+    is = e.makes.is;
+    leaves =
+        leaves-so e.mid (trace_text (e.turn ∷ r.turns));
+  },
   held-turn delivers (link_of (script_of w) r.files) r.turns r.ends e.turn e.mid now next n r.world.run.run
       (hears-of (link_of script e.others) r.turns r.ends e.turn e.mid outcome e.makes.is) only.goes_on r.holds e.writes,
 )
@@ -188,10 +199,10 @@ run-ends script f n end files left ts ends knows run ended holds =
 pub reached-done : HearingsDeliver
     → (w w' : World) (script : ScriptValue) (n : Written) (old now next : FolderState) (number : ℕ) (r : Reached w script n old now)
     → script_of w' ≡ script_of w → DoneIn w' now next n r.files r.turns r.ends number → OnlyOutputs now next n
-        → RunEnds script next n (runs.IsDone number)
+    → RunEnds script next n (runs.IsDone number)
 reached-done delivers w w' script n old now next number r same d only =
     let e : EndsInTurn script now next n r.files r.turns r.ends Done number =
-        subst (λ s. EndsInTurn s now next n r.files r.turns r.ends Done number) (same ∙ r.script_is) d.ended in
+    subst (λ s. EndsInTurn s now next n r.files r.turns r.ends Done number) (same ∙ r.script_is) d.ended in
     let k = ended-turn delivers w script n old now next r Done number only e in
     run-ends script next n (runs.IsDone number) e.others _ r.turns r.ends (e.known.known r.knows) e.makes.run k.0 k.1
 
@@ -199,12 +210,12 @@ reached-done delivers w w' script n old now next number r same d only =
 pub reached-counts : HearingsDeliver
     → (w w' : World) (script : ScriptValue) (n : Written) (old now next : FolderState) (number : ℕ) (r : Reached w script n old now)
     → script_of w' ≡ script_of w → DoneIn w' now next n r.files r.turns r.ends number → OnlyOutputs now next n
-        → RunCounts script next n number (lost_of w') (again_of w')
+    → RunCounts script next n number (lost_of w') (again_of w')
 unfolding run-ends ended-turn
 reached-counts delivers w w' script n old now next number r same d only =
     let counted = subst
     (λ s. (e : EndsInTurn s now next n r.files r.turns r.ends Done number) × (lost_of w' ≡ lost_slots (e.turn ∷ r.turns))
-        × (again_of w' ≡ sent_again (e.turn ∷ r.turns)))
+    × (again_of w' ≡ sent_again (e.turn ∷ r.turns)))
     (same ∙ r.script_is) (d.ended, d.lost, d.again) in
     let e : EndsInTurn script now next n r.files r.turns r.ends Done number = counted.0 in
     let k = ended-turn delivers w script n old now next r Done number only e in
@@ -233,17 +244,17 @@ reached-line : (w : World) (script : ScriptValue) (n : Written) (old now next : 
     → LosesLine script now next n r.turns r.ends role symbol → OnlyOutputs now next n → RunEnds script next n (runs.LineLost role symbol)
 reached-line w script n old now next role symbol r apart e only =
     run-ends script next n (runs.LineLost role symbol) r.files (left_of r.ends (trace_text r.turns)) r.turns r.ends
-        (knows-later now next n r.files apart only r.knows) (run-so w script n old now r)
+    (knows-later now next n r.files apart only r.knows) (run-so w script n old now r)
     (record { is = e.is; leaves = leaves-so r.ends (trace_text r.turns) }) (kept-left now next n _ only.goes_on e.received r.holds e.trace)
 
 reached-chance : (w : World) (script : ScriptValue) (n : Written) (old now next : FolderState) (role : Role) (number : ℕ)
     (r : Reached w script n old now) → AreApart n
     → MeetsChance script now next n r.turns r.ends role number → OnlyOutputs now next n
-        → RunEnds script next n (runs.ChanceMatch role number)
+    → RunEnds script next n (runs.ChanceMatch role number)
 reached-chance w script n old now next role number r apart e only =
     let text = trace_text r.turns ++ chance_line (length r.turns) role in
     run-ends script next n (runs.ChanceMatch role number) r.files (left_of r.ends text) r.turns r.ends
-        (knows-later now next n r.files apart only r.knows) (run-so w script n old now r)
+    (knows-later now next n r.files apart only r.knows) (run-so w script n old now r)
     (e.number_is, record { is = e.is; leaves = leaves-so r.ends text }) (record {
       got_o = Holds-kept now next n.got_o _ only.goes_on r.holds.got_o e.received.got_o;
       got_a = Holds-kept now next n.got_a _ only.goes_on r.holds.got_a e.received.got_a;
@@ -263,8 +274,11 @@ kept-part now next name octets on holds kept =
 reached-stops : (w : World) (script : ScriptValue) (n : Written) (old now next : FolderState) (r : Reached w script n old now) → AreApart n
     → Stops script now next n r.files r.turns r.ends → OnlyOutputs now next n → RunStops script next n
 reached-stops w script n old now next r apart (inl s) only =
-    let added : Left = record { got = record { orig = concat (deliveries s.mid.orig); answ = concat (deliveries s.mid.answ) }; trace =
-        turn_text (length r.turns) s.turn } in
+    let added : Left = record {
+      got = record { orig = concat (deliveries s.mid.orig); answ = concat (deliveries s.mid.answ) };
+      trace =
+          turn_text (length r.turns) s.turn;
+    } in
     record {
       files = s.others;
       knows = s.known.known r.knows;
@@ -275,8 +289,16 @@ reached-stops w script n old now next r apart (inl s) only =
         left = left_of r.ends (trace_text r.turns);
         leaves = leaves-so r.ends (trace_text r.turns);
         more = added;
-        adds = inl (record { turn = s.turn; mid = s.mid; outcome = s.outcome; heard = s.makes.heard; is = s.makes.is; got_is =
-            got; trace_is = refl });
+        adds = inl (record {
+          turn = s.turn;
+          mid = s.mid;
+          outcome = s.outcome;
+          heard = s.makes.heard;
+          is = s.makes.is;
+          got_is =
+              got;
+          trace_is = refl;
+        });
         holds = record {
           got_o = HoldsPart-more now next n.got_o _ (concat (deliveries s.mid.orig)) only.goes_on r.holds.got_o s.writes.got_o;
           got_a = HoldsPart-more now next n.got_a _ (concat (deliveries s.mid.answ)) only.goes_on r.holds.got_a s.writes.got_a;
@@ -318,7 +340,7 @@ pub reached-fault : HearingsDeliver
     → (w w' : World) (script : ScriptValue) (n : Written) (old now next : FolderState) (fault : RunFault) (r : Reached w script n old now)
     → AreApart n
     → script_of w' ≡ script_of w → TurnEndsBy (script_of w') now next n r.files r.turns r.ends fault → OnlyOutputs now next n
-        → FaultEnds script next n fault
+    → FaultEnds script next n fault
 reached-fault delivers w w' script n old now next fault r apart same e only =
     by fault (subst (λ s. TurnEndsBy s now next n r.files r.turns r.ends fault) (same ∙ r.script_is) e)
   where
@@ -334,7 +356,7 @@ reached-fault delivers w w' script n old now next fault r apart same e only =
     by (faults.LinkLost role segment turn) e =
         let k = ended-turn delivers w script n old now next r (Broken role (causes.Spent segment e.0)) turn only e.1 in
         run-ends script next n (runs.LinkLost role segment turn) e.1.others _ r.turns r.ends (e.1.known.known r.knows) e.1.makes.run
-            (e.0, k.0) k.1
+        (e.0, k.0) k.1
 
 -- a turn more is nearer to the bound
 pub nearer : (turns next : ℕ) → turns < 2 ^ 40 → next ≡ turns + 1 → 2 ^ 40 - next < 2 ^ 40 - turns

@@ -41,7 +41,7 @@ slot-read least c sender earlier upto hearing slot heard a = record {
 turn-read : OfEachCode ReleasedIsLeast → (c : Channel) (ts : List Turn) (t : Turn) → HeardIn c ts t → (role : Role) (slot : Spoken)
     → sent_ago (delay_of c.script (other role)) (other role) ts ≡ Some slot
     → IsReadOff c (other role) (drop (delay_of c.script (other role)) ts) (drop (delay_of c.script (other role) - 1) ts)
-        (of role t).check slot (of role t).heard
+    (of role t).check slot (of role t).heard
 turn-read least c ts t h role slot e =
     let earlier = drop (delay_of c.script (other role)) ts in
     let upto = drop (delay_of c.script (other role) - 1) ts in

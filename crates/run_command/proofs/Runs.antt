@@ -101,14 +101,21 @@ takes old mid now next n script files p k =
         let other : IsNoneOf name (outputs_of n) = (λ e. o (sym e), (λ e. a (sym e), (λ e. t (sym e), tt))) in
         KeepsName-trans old mid next name p.begun.reads.goes_on (p.begun.reads.names name)
         (KeepsName-trans mid now next name p.creates.goes_on (p.creates.names name other)
-            (p.turns.names name other.0 other.1.0 other.1.1.0))
+        (p.turns.names name other.0 other.1.0 other.1.1.0))
 
 -- the run ended by itself
 pub ran-to : (old mid now next : FolderState) (n : RunNames) (script : ScriptValue) (end : RunEnd) → Phases LIMITS old mid now next n script
     → RunEnds script next (names_written n) end → RanTo LIMITS old next n end
 ran-to old mid now next n script end p r =
-    record { script = script; files = r.files; takes = takes old mid now next n script r.files p r.knows; left = r.left; run =
-        r.run; holds = r.holds }
+    record {
+      script = script;
+      files = r.files;
+      takes = takes old mid now next n script r.files p r.knows;
+      left = r.left;
+      run =
+          r.run;
+      holds = r.holds;
+    }
 
 -- or for the folder
 stops-in : (old mid now next : FolderState) (n : RunNames) (script : ScriptValue) → Phases LIMITS old mid now next n script

@@ -66,7 +66,7 @@ files_at f n = record { orig = octets_at f n.orig; answ = octets_at f n.answ }
 abbrev pub DoneWhere : FolderState → FolderState → RunNames → Status → (ScriptValue → Both (List ℕ) → Type 0) → Type 0
 DoneWhere old new n s Holds =
     IsSound old new (inputs_of n) (outputs_of n) → (script : ScriptValue) → AreRight old n script → Holds script (files_at old n)
-        → DoneUnlessMemory s
+    → DoneUnlessMemory s
 
 -- The run is done, but for want of memory: where it is carried to its end; where it loses few slots; and, whatever else its script says and
 -- its files hold, where few are named and noise is faint, so also where the script is quiet, and where nothing disturbs it.

@@ -44,9 +44,9 @@ both-put s seed held orig answ e o n a m =
     let first : Files = finite.insert held soak_names.orig orig in
     let at-orig : finite.get (finite.insert first soak_names.answ answ) soak_names.orig ≡ Some orig
     = finite.get-insert nat_list_cmp_total first soak_names.answ answ soak_names.orig
-        ∙ finite.get-insert nat_list_cmp_total held soak_names.orig orig soak_names.orig in
+    ∙ finite.get-insert nat_list_cmp_total held soak_names.orig orig soak_names.orig in
     let at-answ : finite.get (finite.insert first soak_names.answ answ) soak_names.answ ≡ Some answ =
-        finite.get-insert nat_list_cmp_total first soak_names.answ answ soak_names.answ in
+    finite.get-insert nat_list_cmp_total first soak_names.answ answ soak_names.answ in
     record {
       orig = ap (λ (h : Files). unwrap_or (finite.get h soak_names.orig) []) e ∙ ap (λ (x : Option (List ℕ)). unwrap_or x []) at-orig ∙ o;
       answ = ap (λ (h : Files). unwrap_or (finite.get h soak_names.answ) []) e ∙ ap (λ (x : Option (List ℕ)). unwrap_or x []) at-answ ∙ a;

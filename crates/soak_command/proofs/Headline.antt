@@ -84,8 +84,11 @@ pub record SoakLaws : Type 0 where
   pub starved : LostLinksWereStarved
 
 may-run : SoakLaws → (seed : ℕ) (end : RunEnd) → SoakEnds seed end → MayRun (soak_channel seed) (soak_link seed)
-may-run laws seed end e = record { may_play = laws.play (soak_script seed) (soak_files seed) e.limits; delays =
-    laws.delays (soak_script seed) e.limits }
+may-run laws seed end e = record {
+  may_play = laws.play (soak_script seed) (soak_files seed) e.limits;
+  delays =
+      laws.delays (soak_script seed) e.limits;
+}
 
 -- the file that a role's user sends
 file-of : (seed : ℕ) (role : Role) → (of role (soak_link seed)).user.file ≡ soak_file seed role
@@ -143,8 +146,11 @@ ran-by laws words old new seed s t a e = tt
 pub headline-of : SoakLaws → (words : List (List ℕ)) (old new : FolderState) (seed : ℕ) (s : Status)
     → Answers (soak_job seed) words old new s → Headline old new seed s
 headline-of laws words old new seed s a =
-    record { shared = shared-of (soak_job seed) words old new s a (λ e name. a.only.names name tt); ran =
-    ran-by laws words old new seed s s a refl }
+    record {
+      shared = shared-of (soak_job seed) words old new s a (λ e name. a.only.names name tt);
+      ran =
+          ran-by laws words old new seed s s a refl;
+    }
 
 -- ---- when a soak is done
 

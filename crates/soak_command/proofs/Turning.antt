@@ -37,7 +37,7 @@ file-is : (seed : ℕ) (a b d : SureState) (name file content : List ℕ) → Ke
     → file ≡ take file_limit (octets_at (sure_folder d) name) → file ≡ content
 file-is seed a b d name file content first next is size known =
     let same : octets_at (sure_folder d) name ≡ content =
-        octets-kept (sure_folder b) (sure_folder d) name next refl ∙ octets-kept (sure_folder a) (sure_folder b) name first refl ∙ is in
+    octets-kept (sure_folder b) (sure_folder d) name next refl ∙ octets-kept (sure_folder a) (sure_folder b) name first refl ∙ is in
     known ∙ ap (take file_limit) same ∙ take_all file_limit content (omega (arith, size))
 
 -- what the turns knew are the seed's files
@@ -46,22 +46,22 @@ files-are : (seed : ℕ) (a b d : SureState) (files : Both (List ℕ)) → Made 
 files-are seed a b d files m k =
     let orig : files.orig ≡ soak_file seed Originator
     = file-is seed a b d soak_names.orig files.orig (soak_file seed Originator)
-        (m.creates.names soak_names.orig
-        ((λ e. apart.got_o_orig (sym e)), ((λ e. apart.got_a_orig (sym e)), ((λ e. apart.trace_orig (sym e)), tt))))
+    (m.creates.names soak_names.orig
+    ((λ e. apart.got_o_orig (sym e)), ((λ e. apart.got_a_orig (sym e)), ((λ e. apart.trace_orig (sym e)), tt))))
     (m.turns.names soak_names.orig (λ e. apart.got_o_orig (sym e)) (λ e. apart.got_a_orig (sym e)) (λ e. apart.trace_orig (sym e)))
-        m.holds.orig m.holds.orig_size (k.orig refl) in
+    m.holds.orig m.holds.orig_size (k.orig refl) in
     let answ : files.answ ≡ soak_file seed Answerer
     = file-is seed a b d soak_names.answ files.answ (soak_file seed Answerer)
-        (m.creates.names soak_names.answ
-        ((λ e. apart.got_o_answ (sym e)), ((λ e. apart.got_a_answ (sym e)), ((λ e. apart.trace_answ (sym e)), tt))))
+    (m.creates.names soak_names.answ
+    ((λ e. apart.got_o_answ (sym e)), ((λ e. apart.got_a_answ (sym e)), ((λ e. apart.trace_answ (sym e)), tt))))
     (m.turns.names soak_names.answ (λ e. apart.got_o_answ (sym e)) (λ e. apart.got_a_answ (sym e)) (λ e. apart.trace_answ (sym e)))
-        m.holds.answ m.holds.answ_size (k.answ refl) in
+    m.holds.answ m.holds.answ_size (k.answ refl) in
     both files orig answ
   where
     both : (files : Both (List ℕ)) → files.orig ≡ soak_file seed Originator → files.answ ≡ soak_file seed Answerer → files ≡ soak_files seed
     both files o a =
         let first : files ≡ record { orig = soak_file seed Originator; answ = files.answ } =
-            ap (λ (x : List ℕ). record { orig = x; answ = files.answ }) o in
+        ap (λ (x : List ℕ). record { orig = x; answ = files.answ }) o in
         first ∙ ap (λ (x : List ℕ). record { orig = soak_file seed Originator; answ = x }) a
 
 ends-so : (seed : ℕ) (a b d : SureState) (end : RunEnd) → Made seed a b d → RunEnds (soak_script seed) (sure_folder d) soak_names end
@@ -81,7 +81,7 @@ soaked seed a b d turn lost again m c =
     let r = c.ran in
     let counted = subst
     (λ (files : Both (List ℕ)). (run : RunsTo (soak_channel seed) (link_of (soak_script seed) files) (runs.IsDone turn) r.left)
-        × (lost ≡ lost_slots (run.ended.last ∷ run.turns)) × (again ≡ sent_again (run.ended.last ∷ run.turns)))
+    × (lost ≡ lost_slots (run.ended.last ∷ run.turns)) × (again ≡ sent_again (run.ended.last ∷ run.turns)))
     (files-are seed a b d r.files m r.knows) (r.run, c.lost_is, c.again_is) in
     record { ends = record { limits = m.limits; left = r.left; run = counted.0 }; lost_is = counted.1; again_is = counted.2 }
 
@@ -121,13 +121,13 @@ pub soaked-over : (seed : ℕ) (a b d : SureState) (script : ScriptValue) (n : W
 soaked-over seed a b d script n turn lost again m c =
     soaked seed a b d turn lost again (made seed a b d script n m)
     (subst (λ (s : ScriptValue). RunCounts s (sure_folder d) soak_names turn lost again) m.script_is
-        (subst (λ (w : Written). RunCounts script (sure_folder d) w turn lost again) m.names_are c))
+    (subst (λ (w : Written). RunCounts script (sure_folder d) w turn lost again) m.names_are c))
 
 pub ended-over : (seed : ℕ) (a b d : SureState) (script : ScriptValue) (n : Written) (fault : RunFault) → MadeOver seed a b d script n
     → FaultCounts (sure_folder b) (sure_folder d) n fault → FaultEnds script (sure_folder d) n fault
     → Ends seed (Err (fault_stop fault))
 ended-over seed a b d script n fault m counts e =
     ended seed a b d fault (made seed a b d script n m)
-        (turn-end b d fault (subst (λ (w : Written). FaultCounts (sure_folder b) (sure_folder d) w fault) m.names_are counts))
+    (turn-end b d fault (subst (λ (w : Written). FaultCounts (sure_folder b) (sure_folder d) w fault) m.names_are counts))
     (subst (λ (s : ScriptValue). FaultEnds s (sure_folder d) soak_names fault) m.script_is
-        (subst (λ (w : Written). FaultEnds script (sure_folder d) w fault) m.names_are e))
+    (subst (λ (w : Written). FaultEnds script (sure_folder d) w fault) m.names_are e))

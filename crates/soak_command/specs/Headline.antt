@@ -25,7 +25,7 @@ pub record Soaks (seed : ℕ) (end : RunEnd) : Type 0 where
   pub few : HasFewTurns (soak_script seed) (soak_files seed) ends.run.turns ends.run.ends
   pub starved : GivesUp end
       → StarvedBy (soak_script seed)
-          (turns_heard (soak_channel seed) (soak_link seed) ends.run.turns ends.run.ends end ends.left ends.run.ended)
+      (turns_heard (soak_channel seed) (soak_link seed) ends.run.turns ends.run.ends end ends.left ends.run.ended)
 
 -- It was done, what its turns show was said, and each end received the other's file whole.
 pub record SoaksWhole (old new : FolderState) (seed : ℕ) : Type 0 where

@@ -36,18 +36,18 @@ number-short n h = length-decimal-le 20 n (omega arith) (omega (arith, h)) h
 lose-short : (role : Role) (turn : ℕ) → turn < 2 ^ 64 → length (lose_line role turn ++ 10 ∷ []) ≤ 33
 lose-short role turn h =
     let all : length (lose_line role turn ++ 10 ∷ []) ≡ length (lose_line role turn) + 1 =
-        length-append {A = ℕ} (lose_line role turn) (10 ∷ []) in
+    length-append {A = ℕ} (lose_line role turn) (10 ∷ []) in
     let line : length (lose_line role turn) ≡ length (lose_head role) + length (decimal turn ++ codes " 1") =
-        length-append {A = ℕ} (lose_head role) (decimal turn ++ codes " 1") in
+    length-append {A = ℕ} (lose_head role) (decimal turn ++ codes " 1") in
     let rest : length (decimal turn ++ codes " 1") ≡ length (decimal turn) + 2 = length-append {A = ℕ} (decimal turn) (codes " 1") in
     omega (arith, all, line, rest, (head-short role).0, number-short turn h)
 
 noise-short : (role : Role) (seed : ℕ) → seed < 2 ^ 64 → length (noise_line role seed ++ 10 ∷ []) ≤ 49
 noise-short role seed h =
     let all : length (noise_line role seed ++ 10 ∷ []) ≡ length (noise_line role seed) + 1 =
-        length-append {A = ℕ} (noise_line role seed) (10 ∷ []) in
+    length-append {A = ℕ} (noise_line role seed) (10 ∷ []) in
     let line : length (noise_line role seed) ≡ length (noise_head role) + length (decimal seed) =
-        length-append {A = ℕ} (noise_head role) (decimal seed) in
+    length-append {A = ℕ} (noise_head role) (decimal seed) in
     omega (arith, all, line, (head-short role).1, number-short seed h)
 
 pub turn-small : (seed n : ℕ) → turn_lost seed n ≤ 439
@@ -56,14 +56,14 @@ turn-small seed n = omega arith
 pub text-short : (seed n : ℕ) → seed < 2 ^ 64 → length (text_of (soak_lines seed n)) ≤ 108 + 33 * n
 text-short seed zero h =
     let all : length (((delay_line ++ 10 ∷ []) ++ (noise_line Originator seed ++ 10 ∷ [])) ++ (noise_line Answerer
-        seed ++ 10 ∷ [])) ≡ length (text_of (soak_lines seed 0))
+    seed ++ 10 ∷ [])) ≡ length (text_of (soak_lines seed 0))
     = ap (λ (t : List ℕ). length t) (first-lines delay_line (noise_line Originator seed) (noise_line Answerer seed)) in
     let two : length (((delay_line ++ 10 ∷ []) ++ (noise_line Originator seed ++ 10 ∷ [])) ++ (noise_line Answerer
-        seed ++ 10 ∷ [])) ≡ length ((delay_line ++ 10 ∷ []) ++ (noise_line Originator seed ++ 10 ∷ [])) + length
-        (noise_line Answerer seed ++ 10 ∷ [])
+    seed ++ 10 ∷ [])) ≡ length ((delay_line ++ 10 ∷ []) ++ (noise_line Originator seed ++ 10 ∷ [])) + length
+    (noise_line Answerer seed ++ 10 ∷ [])
     = length-append {A = ℕ} ((delay_line ++ 10 ∷ []) ++ (noise_line Originator seed ++ 10 ∷ [])) (noise_line Answerer seed ++ 10 ∷ []) in
     let one : length ((delay_line ++ 10 ∷ []) ++ (noise_line Originator seed ++ 10 ∷ [])) ≡ 10 + length
-        (noise_line Originator seed ++ 10 ∷ [])
+    (noise_line Originator seed ++ 10 ∷ [])
     = length-append {A = ℕ} (delay_line ++ 10 ∷ []) (noise_line Originator seed ++ 10 ∷ []) in
     omega (arith, all, two, one, noise-short Originator seed h, noise-short Answerer seed h)
 text-short seed (suc n) h =

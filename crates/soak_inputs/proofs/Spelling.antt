@@ -52,9 +52,9 @@ IsSmall n = n < 2 ^ 64
 is-number : (n : ℕ) → IsSmall n → is_number (decimal n) ≡ true
 is-number n h =
     both (nat_le 1 (length (decimal n))) (nat_le (length (decimal n)) 20 && list_all is_digit (decimal n))
-        (is-most 1 (length (decimal n)) (decimal_nonempty n h))
+    (is-most 1 (length (decimal n)) (decimal_nonempty n h))
     (both (nat_le (length (decimal n)) 20) (list_all is_digit (decimal n))
-        (is-most (length (decimal n)) 20 (length-decimal-le 20 n (omega arith) (omega (arith, h)) h)) (digits_decimal numerals n h))
+    (is-most (length (decimal n)) 20 (length-decimal-le 20 n (omega arith) (omega (arith, h)) h)) (digits_decimal numerals n h))
 
 spells-number : (low high n : ℕ) → IsSmall n → low ≤ n → n ≤ high → IsNumber low high (decimal n) n
 spells-number low high n h l m =
@@ -137,7 +137,7 @@ all-noise test f role seed h a = all-joined test (noise_head role) (decimal seed
 
 heads-plain : (role : Role)
     → (list_all (is_other 10) (lose_head role) ≡ true) × (list_all (is_other 13) (lose_head role) ≡ true)
-        × (list_all (is_other 10) (noise_head role) ≡ true) × (list_all (is_other 13) (noise_head role) ≡ true)
+    × (list_all (is_other 10) (noise_head role) ≡ true) × (list_all (is_other 13) (noise_head role) ≡ true)
 heads-plain Originator = (refl, refl, refl, refl)
 heads-plain Answerer = (refl, refl, refl, refl)
 
@@ -198,5 +198,5 @@ unfolding soak_script
 text-spells law seed small =
     subst (λ text. ScriptSpelling text (soak_script seed)) (sym (text-is seed))
     (law delay_line (noise_line Originator seed ∷ noise_line Answerer seed ∷ []) (lose_lines seed 12) 3 5
-        (soak_noise seed Originator ∷ soak_noise seed Answerer ∷ []) (soak_losses seed 12)
+    (soak_noise seed Originator ∷ soak_noise seed Answerer ∷ []) (soak_losses seed 12)
     delay-says (noise-says seed Originator small, (noise-says seed Answerer small, tt)) (losses-say seed 12) (omega arith) (omega arith))

@@ -11,7 +11,7 @@ returns-in_err-say-clause-err g c =
 pub returns-in_err-say-2-clause-err : goal.returns-in_err-say-2-clause-err
 returns-in_err-say-2-clause-err g c =
     let old : FolderState = g.F.Folder.state c.args.folder.now in let one : FolderState = g.F.Folder.state c.say.new.self in
-        let two : FolderState = g.F.Folder.state c.say-2.new.self in
+    let two : FolderState = g.F.Folder.state c.say-2.new.self in
     on-err _ (Said-PartlySaid old one two (codes "too long: ") (c.args.name.now ++ codes "\n") c.in_ok-say.ensures.ok
     (PartlySaid-longer one two c.args.name.now (codes "\n") (rw c.as_bytes.ensures.value at c.in_err-say-2.ensures.err)))
 
@@ -20,7 +20,7 @@ returns-clause-err g c =
     let old : FolderState = g.F.Folder.state c.args.folder.now in let one : FolderState = g.F.Folder.state c.say.new.self in
     let two : FolderState = g.F.Folder.state c.say-2.new.self in let three : FolderState = g.F.Folder.state c.say-3.new.self in
     let front : Said old two (codes "too long: " ++ c.args.name.now) =
-        Said-Said old one two (codes "too long: ") c.args.name.now c.in_ok-say.ensures.ok
-        (rw c.as_bytes.ensures.value at c.in_ok-say-2.ensures.ok) in
+    Said-Said old one two (codes "too long: ") c.args.name.now c.in_ok-say.ensures.ok
+    (rw c.as_bytes.ensures.value at c.in_ok-say-2.ensures.ok) in
     on-err-map {P = PartlySaid two three (codes "\n")} c.say-3.result
-        (λ p. Said-PartlySaid old two three (codes "too long: " ++ c.args.name.now) (codes "\n") front p) c.say-3.ensures.err
+    (λ p. Said-PartlySaid old two three (codes "too long: " ++ c.args.name.now) (codes "\n") front p) c.say-3.ensures.err

@@ -10,7 +10,7 @@ use Rattle.encode_command.proofs.command.encode_and_tell.Goals as goal
 pub returns-in-Ok : goal.returns-in-Ok
 returns-in-Ok g c =
     let before : FolderState = g.F.Folder.state c.make_recording.new.folder in let new : FolderState = g.F.Folder.state c.tell.new.folder in
-        let n : EncodeNames = named c.args.names.now in
+    let n : EncodeNames = named c.args.names.now in
     record {
       end = Ok c.in-Ok.samples;
       before = before;

@@ -7,7 +7,9 @@ use Rattle.encode_command.proofs.recording.record_file.Goals as goal
 pub returns-in-Err-clause-ends : goal.returns-in-Err-clause-ends
 returns-in-Err-clause-ends g c = λ start b.
     let old : FolderState = g.F.Folder.state c.args.folder.now in let new : FolderState = g.F.Folder.state c.append_output.new.folder in
-        let n : EncodeNames = named c.args.names.now in
-    (b.within, header-part start old new n b c.in-Err.ensures.only
-        (subst (λ (xs : List ℕ). PartlyAppended old new n.rec xs) (c.as_slice.ensures.items
-        ∙ c.header_octets.ensures) c.in-Err.ensures.err))
+    let n : EncodeNames = named c.args.names.now in (
+      b.within,
+      header-part start old new n b c.in-Err.ensures.only
+          (subst (λ (xs : List ℕ). PartlyAppended old new n.rec xs) (c.as_slice.ensures.items
+          ∙ c.header_octets.ensures) c.in-Err.ensures.err),
+    )

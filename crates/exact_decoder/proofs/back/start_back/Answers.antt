@@ -10,4 +10,4 @@ returns-in-None g c =
     subst (Back g.row.STATES columns 1 1 (Has c.states_before-before.result)) (sym c.requires.empty)
     (back-differ g.row.STATES columns c.column-newest.result.now 0 0
     (λ s. s < g.row.STATES) c.states_before-before.result [] c.column-newest.ensures.next c.states_before-before.ensures c.in-None.ensures
-        (back-none g.row.STATES columns))
+    (back-none g.row.STATES columns))

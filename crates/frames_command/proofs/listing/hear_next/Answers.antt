@@ -7,13 +7,13 @@ use Rattle.frames_command.proofs.listing.hear_next.Goals as goal
 pub returns-in-Ok-eq0-clause-end : goal.returns-in-Ok-eq0-clause-end
 returns-in-Ok-eq0-clause-end g c = λ start h zero.
     let end : (count : ℕ) → count ≡ 0
-        → (count < 1024 → IsTrue (start.tells c.args.names.now.bits.now)
-        → h.octets ++ take count c.read_piece.new.piece ≡ octets_at start c.args.names.now.bits.now) →
+    → (count < 1024 → IsTrue (start.tells c.args.names.now.bits.now)
+    → h.octets ++ take count c.read_piece.new.piece ≡ octets_at start c.args.names.now.bits.now) →
     IsTrue (start.tells c.args.names.now.bits.now) → h.octets ++ [] ≡ octets_at start c.args.names.now.bits.now =
-        λ count e f told. (subst (λ (m : ℕ). m < 1024
-        → h.octets ++ take m c.read_piece.new.piece ≡ octets_at start c.args.names.now.bits.now) e (λ few. f few told)) (omega arith) in
+    λ count e f told. (subst (λ (m : ℕ). m < 1024
+    → h.octets ++ take m c.read_piece.new.piece ≡ octets_at start c.args.names.now.bits.now) e (λ few. f few told)) (omega arith) in
     heard-whole start (g.F.Folder.state c.args.folder.now) (g.F.Folder.state c.read_piece.new.folder)
-        (named c.args.names.now) c.args.listener.now c.args.at h c.in-Ok-eq0.ensures.reads
+    (named c.args.names.now) c.args.listener.now c.args.at h c.in-Ok-eq0.ensures.reads
     (end c.in-Ok-eq0.field-0 c.in-Ok-eq0.field-0-test (c.in-Ok-eq0.ensures.end start h.octets h.read))
 
 pub returns-in-Err-clause-err : goal.returns-in-Err-clause-err
@@ -26,10 +26,10 @@ returns-in-Err-clause-err g c = λ start h. inr (
 pub returns-in-Ok-hear-clause-ok : goal.returns-in-Ok-hear-clause-ok
 returns-in-Ok-hear-clause-ok g c = λ start h.
     heard-more start (g.F.Folder.state c.args.folder.now) (g.F.Folder.state c.read_piece.new.folder) (g.F.Folder.state c.hear.new.folder)
-        (named c.args.names.now) c.args.listener.now c.hear.new.self c.args.at c.in-Ok.count
+    (named c.args.names.now) c.args.listener.now c.hear.new.self c.args.at c.in-Ok.count
     (take c.in-Ok.count c.read_piece.new.piece) h
-        (c.in-Ok.ensures.more start h.octets h.read) c.in-Ok.ensures.reads c.in-Ok-hear.ensures.only c.in-Ok-hear.ensures.sender
-        c.in-Ok-hear.ensures.ok
+    (c.in-Ok.ensures.more start h.octets h.read) c.in-Ok.ensures.reads c.in-Ok-hear.ensures.only c.in-Ok-hear.ensures.sender
+    c.in-Ok-hear.ensures.ok
 
 pub returns-in-Err-hear-clause-err : goal.returns-in-Err-hear-clause-err
 returns-in-Err-hear-clause-err g c = λ start h. (
@@ -37,5 +37,5 @@ returns-in-Err-hear-clause-err g c = λ start h. (
   say-part start (g.F.Folder.state c.args.folder.now) (g.F.Folder.state c.read_piece.new.folder) (g.F.Folder.state c.hear.new.folder)
       (named c.args.names.now) c.args.listener.now c.args.at c.in-Ok.count
       (take c.in-Ok.count c.read_piece.new.piece) h
-          (c.in-Ok.ensures.more start h.octets h.read) c.in-Ok.ensures.reads c.in-Err-hear.ensures.err,
+      (c.in-Ok.ensures.more start h.octets h.read) c.in-Ok.ensures.reads c.in-Err-hear.ensures.err,
 )

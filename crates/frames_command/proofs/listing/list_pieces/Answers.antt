@@ -8,4 +8,4 @@ pub returns-in-Err-clause-ends : goal.returns-in-Err-clause-ends
 returns-in-Err-clause-ends g c =
     let old : FolderState = g.F.Folder.state c.args.folder.now in
     not-begun old (g.F.Folder.state c.within_limit.new.folder) (named c.args.names.now) c.in-Err.stop
-        (said-nothing old) c.in-Err.ensures.reads c.in-Err.ensures.refused
+    (said-nothing old) c.in-Err.ensures.reads c.in-Err.ensures.refused

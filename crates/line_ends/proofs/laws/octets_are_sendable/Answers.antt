@@ -13,7 +13,10 @@ returns c =
       begins = c.segments_are_offered_as_they_are_read.ensures.begins;
       heard = c.segments_are_offered_as_they_are_read.ensures.heard;
       spoken = c.segments_are_offered_as_they_are_read.ensures.spoken;
-      offers = record { next = c.segments_are_offered_as_they_are_read.ensures.next; own =
-          c.segments_are_offered_as_they_are_read.ensures.own };
+      offers = record {
+        next = c.segments_are_offered_as_they_are_read.ensures.next;
+        own =
+            c.segments_are_offered_as_they_are_read.ensures.own;
+      };
     } in
     octets-are-sendable laws

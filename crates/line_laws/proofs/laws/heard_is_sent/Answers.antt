@@ -11,5 +11,9 @@ returns c =
       stay = c.sights_stay.ensures;
       sent = c.seen_is_sent.ensures;
     } in
-    record { heard = heard-where DisplacesNoneBefore 138 96 undisplaced seen; never_chance = never-chance; passes =
-        passes-where DisplacesNoneBefore 138 96 undisplaced seen }
+    record {
+      heard = heard-where DisplacesNoneBefore 138 96 undisplaced seen;
+      never_chance = never-chance;
+      passes =
+          passes-where DisplacesNoneBefore 138 96 undisplaced seen;
+    }

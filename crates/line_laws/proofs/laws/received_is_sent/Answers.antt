@@ -10,5 +10,8 @@ returns c =
       stay = c.sights_stay.ensures;
       sent = c.seen_is_sent.ensures;
     } in
-    record { nothing_else = received-where DisplacesNoneBefore 138 96 undisplaced seen; all =
-        sent-where DisplacesNoneBefore 138 96 undisplaced seen }
+    record {
+      nothing_else = received-where DisplacesNoneBefore 138 96 undisplaced seen;
+      all =
+          sent-where DisplacesNoneBefore 138 96 undisplaced seen;
+    }

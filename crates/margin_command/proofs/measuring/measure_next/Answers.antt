@@ -20,13 +20,13 @@ returns-then-read-count-clause-err g c start mode h =
     let front : List ℕ = header_of mode ++ h.content in
     let here : ReadTo start mid n.rec RECORDING_LIMIT (8 + 8 * c.args.at) front =
     ReadTo-kept start old mid n.rec RECORDING_LIMIT (8 + 8 * c.args.at) front h.rec.read c.read_piece.ensures.reads.goes_on
-        (c.read_piece.ensures.reads.names n.rec) in
+    (c.read_piece.ensures.reads.names n.rec) in
     let least : c.min.result ≡ min c.in-Ok-read_piece.read (8 * c.in-Ok.count) = c.min.ensures in
     is_misfit (8 + 8 * c.args.at + c.min.result) refl
     (misfit start mid new n mode c.args.at c.in-Ok.count c.in-Ok-read_piece.read (8 + 8 * c.args.at + c.min.result) h.octets front
-        (take c.in-Ok.count c.read_piece.new.piece) (take c.in-Ok-read_piece.read c.read_piece-2.new.piece) h.opened.begins
+    (take c.in-Ok.count c.read_piece.new.piece) (take c.in-Ok-read_piece.read c.read_piece-2.new.piece) h.opened.begins
     (c.in-Ok.ensures.more start h.octets h.file) (c.in-Ok.ensures.end start h.octets h.file)
-        (c.in-Ok-read_piece.ensures.more start front here) (c.in-Ok-read_piece.ensures.end start front here)
+    (c.in-Ok-read_piece.ensures.more start front here) (c.in-Ok-read_piece.ensures.end start front here)
     c.in-Ok.ensures.bound c.in-Ok-read_piece.ensures.bound c.if-read-count.true (ap (λ (fewer : ℕ). 8 + 8 * c.args.at + fewer) least))
 
 pub returns-clause-ok : goal.returns-clause-ok
@@ -38,15 +38,15 @@ returns-clause-ok g c start mode h =
     let front : List ℕ = header_of mode ++ h.content in
     let here : ReadTo start mid n.rec RECORDING_LIMIT (8 + 8 * c.args.at) front =
     ReadTo-kept start old mid n.rec RECORDING_LIMIT (8 + 8 * c.args.at) front h.rec.read c.read_piece.ensures.reads.goes_on
-        (c.read_piece.ensures.reads.names n.rec) in
+    (c.read_piece.ensures.reads.names n.rec) in
     let recorded : List ℕ = take c.in-Ok-read_piece.read c.read_piece-2.new.piece in
     let long : length recorded ≡ c.in-Ok-read_piece.read =
-        length-take c.in-Ok-read_piece.read c.read_piece-2.new.piece
-        ∙ omega (arith, c.in-Ok-read_piece.ensures.bound, c.read_piece-2.ensures.kept) in
+    length-take c.in-Ok-read_piece.read c.read_piece-2.new.piece
+    ∙ omega (arith, c.in-Ok-read_piece.ensures.bound, c.read_piece-2.ensures.kept) in
     measured-more start old mid new n mode c.args.margin.now c.measure_piece.new.margin c.args.at c.in-Ok.count c.in-Ok-read_piece.read
-        (take c.in-Ok.count c.read_piece.new.piece) recorded h c.read_piece.ensures.reads c.read_piece-2.ensures.reads
+    (take c.in-Ok.count c.read_piece.new.piece) recorded h c.read_piece.ensures.reads c.read_piece-2.ensures.reads
     (c.in-Ok.ensures.more start h.octets h.file) (c.in-Ok-read_piece.ensures.more start front here) long c.if-read-count.false
-        (c.measure_piece.ensures.stands mode h.octets (samples_in h.content) h.stands)
+    (c.measure_piece.ensures.stands mode h.octets (samples_in h.content) h.stands)
 
 pub returns-clause-end : goal.returns-clause-end
 returns-clause-end g c start mode h none =
@@ -57,7 +57,7 @@ returns-clause-end g c start mode h none =
     let front : List ℕ = header_of mode ++ h.content in
     let here : ReadTo start mid n.rec RECORDING_LIMIT (8 + 8 * c.args.at) front =
     ReadTo-kept start old mid n.rec RECORDING_LIMIT (8 + 8 * c.args.at) front h.rec.read c.read_piece.ensures.reads.goes_on
-        (c.read_piece.ensures.reads.names n.rec) in
+    (c.read_piece.ensures.reads.names n.rec) in
     let nothing : c.in-Ok-read_piece.read ≡ 0 = omega (arith, c.if-read-count.false, none) in (
       ended start mid n.file FILE_LIMIT c.args.at c.in-Ok.count 512 h.octets (take c.in-Ok.count c.read_piece.new.piece)
           (c.in-Ok.ensures.more start h.octets h.file) (c.in-Ok.ensures.end start h.octets h.file) (omega (arith, none)) none,

@@ -12,7 +12,7 @@ octet-more : (before octets : List ℕ) (place octet : ℕ) → octet ≡ slice_
     → (before ++ take place octets) ++ octet ∷ [] ≡ before ++ take (place + 1) octets
 octet-more before octets place octet is more =
     append_assoc before (take place octets) (octet ∷ []) ∙ ap (λ (x : ℕ). before ++ (take place octets ++ x ∷ [])) is
-        ∙ ap (λ (xs : List ℕ). before ++ xs) (sym more)
+    ∙ ap (λ (xs : List ℕ). before ++ xs) (sym more)
 
 pub loop-place-preserved : goal.loop-place-preserved
 loop-place-preserved c =
@@ -23,15 +23,15 @@ loop-place-preserved c =
     record {
       stands = λ mode before samples s.
           let pushed : MarginStands mode c.push.new.self ((before ++ take place octets) ++ octet ∷ [])
-              (((samples ++ samples_in (take
-              (4 * (2 * place)) recorded)) ++ c.sample_at-first.result ∷ []) ++ c.sample_at-second.result ∷ []) =
+          (((samples ++ samples_in (take
+          (4 * (2 * place)) recorded)) ++ c.sample_at-first.result ∷ []) ++ c.sample_at-second.result ∷ []) =
           c.push.ensures.stands mode (before ++ take place octets) (samples ++ samples_in (take (4 * (2 * place)) recorded))
-              (c.loop-place.invariant.stands mode before samples s) in
+          (c.loop-place.invariant.stands mode before samples s) in
           let sampled : MarginStands mode c.push.new.self ((before ++ take place octets) ++ octet ∷ [])
-              (samples ++ samples_in (take (4 * (2 * (place + 1))) recorded)) =
+          (samples ++ samples_in (take (4 * (2 * (place + 1))) recorded)) =
           subst (λ (xs : List Sample). MarginStands mode c.push.new.self ((before ++ take place octets) ++ octet ∷ []) xs)
           (two-more-samples samples recorded place c.sample_at-first.result c.sample_at-second.result
-              (omega (arith, c.requires.fits, c.loop-place-test.true)) c.sample_at-first.ensures c.sample_at-second.ensures) pushed in
+          (omega (arith, c.requires.fits, c.loop-place-test.true)) c.sample_at-first.ensures c.sample_at-second.ensures) pushed in
           subst (λ (xs : List ℕ). MarginStands mode c.push.new.self xs (samples ++ samples_in (take (4 * (2 * (place + 1))) recorded)))
           (octet-more before octets place octet (λ i. octet) (take_more octets place 0 (omega (arith, c.loop-place-test.true)))) sampled;
       count = omega (arith, c.push.ensures.count, c.loop-place.invariant.count);

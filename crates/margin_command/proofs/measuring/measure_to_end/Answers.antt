@@ -34,5 +34,5 @@ returns-in-Ok-eq0-clause-ends g c start o =
     let before = c.loop-margin.invariant.measured start o in
     let end = c.in-Ok-eq0.ensures.end start c.args.mode before c.in-Ok-eq0.field-0-test in
     measures-all start new n c.args.mode c.measure_next.new.margin (c.loop-margin.at + c.in-Ok-eq0.field-0)
-        (c.in-Ok-eq0.ensures.ok start c.args.mode before) (λ told. (let e = end.0 told in omega (arith, e)))
+    (c.in-Ok-eq0.ensures.ok start c.args.mode before) (λ told. (let e = end.0 told in omega (arith, e)))
     (λ told. (let e = end.1 told in omega (arith, e)))

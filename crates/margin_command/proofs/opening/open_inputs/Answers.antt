@@ -15,14 +15,14 @@ use Rattle.margin_command.proofs.opening.open_inputs.Goals as goal
 pub returns-in-Err-clause-err : goal.returns-in-Err-clause-err
 returns-in-Err-clause-err g c =
     rec-refused (g.F.Folder.state c.args.folder.now) (g.F.Folder.state c.within_limit.new.folder)
-        (named c.args.names.now) c.in-Err.stop c.in-Err.ensures.refused
+    (named c.args.names.now) c.in-Err.stop c.in-Err.ensures.refused
 
 pub returns-in-Err-within_limit-clause-err : goal.returns-in-Err-within_limit-clause-err
 returns-in-Err-within_limit-clause-err g c =
     let old : FolderState = g.F.Folder.state c.args.folder.now in
     file-refused old (g.F.Folder.state c.within_limit.new.folder) (g.F.Folder.state c.within_limit-2.new.folder) (named c.args.names.now)
     c.in-Err-within_limit.stop c.within_limit.ensures.reads c.in-Ok.ensures.stand c.in-Ok.ensures.within
-        c.in-Err-within_limit.ensures.refused
+    c.in-Err-within_limit.ensures.refused
 
 pub returns-in-Ok-read_header-clause-ok : goal.returns-in-Ok-read_header-clause-ok
 returns-in-Ok-read_header-clause-ok g c =
@@ -33,15 +33,15 @@ returns-in-Ok-read_header-clause-ok g c =
     let n3 : FolderState = g.F.Folder.state c.read_piece.new.folder in
     let looked : OnlyReads old n2 = OnlyReads-trans c.within_limit.ensures.reads c.within_limit-2.ensures.reads in
     let none : ReadTo old n2 rec RECORDING_LIMIT 0 [] =
-        ReadTo-none old n2 rec RECORDING_LIMIT c.in-Ok.ensures.within looked.goes_on (looked.names rec) in
+    ReadTo-none old n2 rec RECORDING_LIMIT c.in-Ok.ensures.within looked.goes_on (looked.names rec) in
     record {
       rec_within = c.in-Ok.ensures.within;
       file_within = within-earlier old n1 c.args.names.now.file.now FILE_LIMIT c.within_limit.ensures.reads
           c.in-Ok-within_limit.ensures.within;
       header = λ told. sym c.in-Ok-read_header.ensures.ok
           ∙ header-octets old n3 rec c.in-Ok-read_piece.count
-              (take c.in-Ok-read_piece.count c.read_piece.new.piece) c.in-Ok-read_piece.ensures.bound
-              (c.in-Ok-read_piece.ensures.more old [] none) (c.in-Ok-read_piece.ensures.end old [] none) told;
+          (take c.in-Ok-read_piece.count c.read_piece.new.piece) c.in-Ok-read_piece.ensures.bound
+          (c.in-Ok-read_piece.ensures.more old [] none) (c.in-Ok-read_piece.ensures.end old [] none) told;
     }
 
 pub returns-in-Err-read_header-clause-err : goal.returns-in-Err-read_header-clause-err
@@ -53,14 +53,14 @@ returns-in-Err-read_header-clause-err g c =
     let n3 : FolderState = g.F.Folder.state c.read_piece.new.folder in
     let looked : OnlyReads old n2 = OnlyReads-trans c.within_limit.ensures.reads c.within_limit-2.ensures.reads in
     let none : ReadTo old n2 rec RECORDING_LIMIT 0 [] =
-        ReadTo-none old n2 rec RECORDING_LIMIT c.in-Ok.ensures.within looked.goes_on (looked.names rec) in
+    ReadTo-none old n2 rec RECORDING_LIMIT c.in-Ok.ensures.within looked.goes_on (looked.names rec) in
     is_other c.in-Err-read_header.at refl
-        (within-earlier old n1 c.args.names.now.file.now FILE_LIMIT c.within_limit.ensures.reads c.in-Ok-within_limit.ensures.within)
-        (record {
+    (within-earlier old n1 c.args.names.now.file.now FILE_LIMIT c.within_limit.ensures.reads c.in-Ok-within_limit.ensures.within)
+    (record {
       within = c.in-Ok.ensures.within;
       bad = λ told. subst (λ (xs : List ℕ). IsBadHeader rates.Trellis xs c.in-Err-read_header.at)
           (header-octets old n3 rec c.in-Ok-read_piece.count
-              (take c.in-Ok-read_piece.count c.read_piece.new.piece) c.in-Ok-read_piece.ensures.bound
-              (c.in-Ok-read_piece.ensures.more old [] none) (c.in-Ok-read_piece.ensures.end old [] none) told)
+          (take c.in-Ok-read_piece.count c.read_piece.new.piece) c.in-Ok-read_piece.ensures.bound
+          (c.in-Ok-read_piece.ensures.more old [] none) (c.in-Ok-read_piece.ensures.end old [] none) told)
           c.in-Err-read_header.ensures.err;
     })

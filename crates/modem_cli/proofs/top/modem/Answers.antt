@@ -30,166 +30,166 @@ pub returns-in-Some-encode_words-clause-promises : goal.returns-in-Some-encode_w
 returns-in-Some-encode_words-clause-promises g c =
     let words : List (List ℕ) = map string_bytes c.args.words.now in
     promised words (g.F.Folder.state c.args.folder.now) (g.F.Folder.state c.encode.new.folder) c.encode.result
-        (Encode (encode_named c.in-Some-encode_words.names))
+    (Encode (encode_named c.in-Some-encode_words.names))
     (encode-asked words (encode_named c.in-Some-encode_words.names) (sym c.in-Some-encode_words.ensures.names)) c.encode.ensures.headline
 
 pub returns-in-Some-encode_words-clause-answer : goal.returns-in-Some-encode_words-clause-answer
 returns-in-Some-encode_words-clause-answer g c =
     let words : List (List ℕ) = map string_bytes c.args.words.now in
     answered words (g.F.Folder.state c.args.folder.now) (g.F.Folder.state c.encode.new.folder) c.encode.result
-        (Encode (encode_named c.in-Some-encode_words.names))
+    (Encode (encode_named c.in-Some-encode_words.names))
     (encode-asked words (encode_named c.in-Some-encode_words.names) (sym c.in-Some-encode_words.ensures.names)) c.encode.ensures.answer
 
 pub returns-in-Some-encode_words-clause-completes : goal.returns-in-Some-encode_words-clause-completes
 returns-in-Some-encode_words-clause-completes g c =
     let words : List (List ℕ) = map string_bytes c.args.words.now in
     completed words (g.F.Folder.state c.args.folder.now) (g.F.Folder.state c.encode.new.folder) c.encode.result
-        (Encode (encode_named c.in-Some-encode_words.names))
+    (Encode (encode_named c.in-Some-encode_words.names))
     (encode-asked words (encode_named c.in-Some-encode_words.names) (sym c.in-Some-encode_words.ensures.names)) c.encode.ensures.completes
 
 pub returns-in-Some-decode_words-clause-promises : goal.returns-in-Some-decode_words-clause-promises
 returns-in-Some-decode_words-clause-promises g c =
     let words : List (List ℕ) = map string_bytes c.args.words.now in
     promised words (g.F.Folder.state c.args.folder.now) (g.F.Folder.state c.decode.new.folder) c.decode.result
-        (Decode (decode_named c.in-Some-decode_words.names))
+    (Decode (decode_named c.in-Some-decode_words.names))
     (decode-asked words (decode_named c.in-Some-decode_words.names) (sym c.in-Some-decode_words.ensures.names)) c.decode.ensures.headline
 
 pub returns-in-Some-decode_words-clause-answer : goal.returns-in-Some-decode_words-clause-answer
 returns-in-Some-decode_words-clause-answer g c =
     let words : List (List ℕ) = map string_bytes c.args.words.now in
     answered words (g.F.Folder.state c.args.folder.now) (g.F.Folder.state c.decode.new.folder) c.decode.result
-        (Decode (decode_named c.in-Some-decode_words.names))
+    (Decode (decode_named c.in-Some-decode_words.names))
     (decode-asked words (decode_named c.in-Some-decode_words.names) (sym c.in-Some-decode_words.ensures.names)) c.decode.ensures.answer
 
 pub returns-in-Some-decode_words-clause-completes : goal.returns-in-Some-decode_words-clause-completes
 returns-in-Some-decode_words-clause-completes g c =
     let words : List (List ℕ) = map string_bytes c.args.words.now in
     completed words (g.F.Folder.state c.args.folder.now) (g.F.Folder.state c.decode.new.folder) c.decode.result
-        (Decode (decode_named c.in-Some-decode_words.names))
+    (Decode (decode_named c.in-Some-decode_words.names))
     (decode-asked words (decode_named c.in-Some-decode_words.names) (sym c.in-Some-decode_words.ensures.names)) c.decode.ensures.completes
 
 pub returns-in-Some-frames_words-clause-promises : goal.returns-in-Some-frames_words-clause-promises
 returns-in-Some-frames_words-clause-promises g c =
     let words : List (List ℕ) = map string_bytes c.args.words.now in
     promised words (g.F.Folder.state c.args.folder.now) (g.F.Folder.state c.frames.new.folder) c.frames.result
-        (Frames (frames_named c.in-Some-frames_words.names))
+    (Frames (frames_named c.in-Some-frames_words.names))
     (frames-asked words (frames_named c.in-Some-frames_words.names) (sym c.in-Some-frames_words.ensures)) c.frames.ensures.headline
 
 pub returns-in-Some-frames_words-clause-answer : goal.returns-in-Some-frames_words-clause-answer
 returns-in-Some-frames_words-clause-answer g c =
     let words : List (List ℕ) = map string_bytes c.args.words.now in
     answered words (g.F.Folder.state c.args.folder.now) (g.F.Folder.state c.frames.new.folder) c.frames.result
-        (Frames (frames_named c.in-Some-frames_words.names))
+    (Frames (frames_named c.in-Some-frames_words.names))
     (frames-asked words (frames_named c.in-Some-frames_words.names) (sym c.in-Some-frames_words.ensures)) c.frames.ensures.answer
 
 pub returns-in-Some-frames_words-clause-completes : goal.returns-in-Some-frames_words-clause-completes
 returns-in-Some-frames_words-clause-completes g c =
     let words : List (List ℕ) = map string_bytes c.args.words.now in
     completed words (g.F.Folder.state c.args.folder.now) (g.F.Folder.state c.frames.new.folder) c.frames.result
-        (Frames (frames_named c.in-Some-frames_words.names))
+    (Frames (frames_named c.in-Some-frames_words.names))
     (frames-asked words (frames_named c.in-Some-frames_words.names) (sym c.in-Some-frames_words.ensures)) c.frames.ensures.completes
 
 pub returns-in-Some-xid_words-clause-promises : goal.returns-in-Some-xid_words-clause-promises
 returns-in-Some-xid_words-clause-promises g c =
     let words : List (List ℕ) = map string_bytes c.args.words.now in
     promised words (g.F.Folder.state c.args.folder.now) (g.F.Folder.state c.xid.new.folder) c.xid.result
-        (Xid (c.in-Some-xid_words.digits.now))
+    (Xid (c.in-Some-xid_words.digits.now))
     (xid-asked words (c.in-Some-xid_words.digits.now) (sym c.in-Some-xid_words.ensures)) c.xid.ensures.headline
 
 pub returns-in-Some-xid_words-clause-answer : goal.returns-in-Some-xid_words-clause-answer
 returns-in-Some-xid_words-clause-answer g c =
     let words : List (List ℕ) = map string_bytes c.args.words.now in
     answered words (g.F.Folder.state c.args.folder.now) (g.F.Folder.state c.xid.new.folder) c.xid.result
-        (Xid (c.in-Some-xid_words.digits.now))
+    (Xid (c.in-Some-xid_words.digits.now))
     (xid-asked words (c.in-Some-xid_words.digits.now) (sym c.in-Some-xid_words.ensures)) c.xid.ensures.answer
 
 pub returns-in-Some-xid_words-clause-completes : goal.returns-in-Some-xid_words-clause-completes
 returns-in-Some-xid_words-clause-completes g c =
     let words : List (List ℕ) = map string_bytes c.args.words.now in
     completed words (g.F.Folder.state c.args.folder.now) (g.F.Folder.state c.xid.new.folder) c.xid.result
-        (Xid (c.in-Some-xid_words.digits.now))
+    (Xid (c.in-Some-xid_words.digits.now))
     (xid-asked words (c.in-Some-xid_words.digits.now) (sym c.in-Some-xid_words.ensures)) c.xid.ensures.completes
 
 pub returns-in-Some-soak_words-clause-promises : goal.returns-in-Some-soak_words-clause-promises
 returns-in-Some-soak_words-clause-promises g c =
     let words : List (List ℕ) = map string_bytes c.args.words.now in
     promised words (g.F.Folder.state c.args.folder.now) (g.F.Folder.state c.soak.new.folder) c.soak.result
-        (Soak (c.in-Some-soak_words.seed))
+    (Soak (c.in-Some-soak_words.seed))
     (soak-asked words (c.in-Some-soak_words.seed) (sym c.in-Some-soak_words.ensures)) c.soak.ensures.headline
 
 pub returns-in-Some-soak_words-clause-answer : goal.returns-in-Some-soak_words-clause-answer
 returns-in-Some-soak_words-clause-answer g c =
     let words : List (List ℕ) = map string_bytes c.args.words.now in
     answered words (g.F.Folder.state c.args.folder.now) (g.F.Folder.state c.soak.new.folder) c.soak.result
-        (Soak (c.in-Some-soak_words.seed))
+    (Soak (c.in-Some-soak_words.seed))
     (soak-asked words (c.in-Some-soak_words.seed) (sym c.in-Some-soak_words.ensures)) c.soak.ensures.answer
 
 pub returns-in-Some-soak_words-clause-completes : goal.returns-in-Some-soak_words-clause-completes
 returns-in-Some-soak_words-clause-completes g c =
     let words : List (List ℕ) = map string_bytes c.args.words.now in
     completed words (g.F.Folder.state c.args.folder.now) (g.F.Folder.state c.soak.new.folder) c.soak.result
-        (Soak (c.in-Some-soak_words.seed))
+    (Soak (c.in-Some-soak_words.seed))
     (soak-asked words (c.in-Some-soak_words.seed) (sym c.in-Some-soak_words.ensures)) c.soak.ensures.completes
 
 pub returns-in-Some-peer_words-clause-promises : goal.returns-in-Some-peer_words-clause-promises
 returns-in-Some-peer_words-clause-promises g c =
     let words : List (List ℕ) = map string_bytes c.args.words.now in
     promised words (g.F.Folder.state c.args.folder.now) (g.F.Folder.state c.peer.new.folder) c.peer.result
-        (Peer (peer_named c.in-Some-peer_words.names))
+    (Peer (peer_named c.in-Some-peer_words.names))
     (peer-asked words (peer_named c.in-Some-peer_words.names) (sym c.in-Some-peer_words.ensures.names)) c.peer.ensures.headline
 
 pub returns-in-Some-peer_words-clause-answer : goal.returns-in-Some-peer_words-clause-answer
 returns-in-Some-peer_words-clause-answer g c =
     let words : List (List ℕ) = map string_bytes c.args.words.now in
     answered words (g.F.Folder.state c.args.folder.now) (g.F.Folder.state c.peer.new.folder) c.peer.result
-        (Peer (peer_named c.in-Some-peer_words.names))
+    (Peer (peer_named c.in-Some-peer_words.names))
     (peer-asked words (peer_named c.in-Some-peer_words.names) (sym c.in-Some-peer_words.ensures.names)) c.peer.ensures.answer
 
 pub returns-in-Some-peer_words-clause-completes : goal.returns-in-Some-peer_words-clause-completes
 returns-in-Some-peer_words-clause-completes g c =
     let words : List (List ℕ) = map string_bytes c.args.words.now in
     completed words (g.F.Folder.state c.args.folder.now) (g.F.Folder.state c.peer.new.folder) c.peer.result
-        (Peer (peer_named c.in-Some-peer_words.names))
+    (Peer (peer_named c.in-Some-peer_words.names))
     (peer-asked words (peer_named c.in-Some-peer_words.names) (sym c.in-Some-peer_words.ensures.names)) c.peer.ensures.completes
 
 pub returns-in-Some-pickup_words-clause-promises : goal.returns-in-Some-pickup_words-clause-promises
 returns-in-Some-pickup_words-clause-promises g c =
     let words : List (List ℕ) = map string_bytes c.args.words.now in
     promised words (g.F.Folder.state c.args.folder.now) (g.F.Folder.state c.pickup.new.folder) c.pickup.result
-        (Pickup (c.in-Some-pickup_words.rec.now))
+    (Pickup (c.in-Some-pickup_words.rec.now))
     (pickup-asked words (c.in-Some-pickup_words.rec.now) (sym c.in-Some-pickup_words.ensures)) c.pickup.ensures.headline
 
 pub returns-in-Some-pickup_words-clause-answer : goal.returns-in-Some-pickup_words-clause-answer
 returns-in-Some-pickup_words-clause-answer g c =
     let words : List (List ℕ) = map string_bytes c.args.words.now in
     answered words (g.F.Folder.state c.args.folder.now) (g.F.Folder.state c.pickup.new.folder) c.pickup.result
-        (Pickup (c.in-Some-pickup_words.rec.now))
+    (Pickup (c.in-Some-pickup_words.rec.now))
     (pickup-asked words (c.in-Some-pickup_words.rec.now) (sym c.in-Some-pickup_words.ensures)) c.pickup.ensures.answer
 
 pub returns-in-Some-pickup_words-clause-completes : goal.returns-in-Some-pickup_words-clause-completes
 returns-in-Some-pickup_words-clause-completes g c =
     let words : List (List ℕ) = map string_bytes c.args.words.now in
     completed words (g.F.Folder.state c.args.folder.now) (g.F.Folder.state c.pickup.new.folder) c.pickup.result
-        (Pickup (c.in-Some-pickup_words.rec.now))
+    (Pickup (c.in-Some-pickup_words.rec.now))
     (pickup-asked words (c.in-Some-pickup_words.rec.now) (sym c.in-Some-pickup_words.ensures)) c.pickup.ensures.completes
 
 pub returns-in-Some-margin_words-clause-promises : goal.returns-in-Some-margin_words-clause-promises
 returns-in-Some-margin_words-clause-promises g c =
     let words : List (List ℕ) = map string_bytes c.args.words.now in
     promised words (g.F.Folder.state c.args.folder.now) (g.F.Folder.state c.margin.new.folder) c.margin.result
-        (Margin (margin_named c.in-Some-margin_words.names))
+    (Margin (margin_named c.in-Some-margin_words.names))
     (margin-asked words (margin_named c.in-Some-margin_words.names) (sym c.in-Some-margin_words.ensures)) c.margin.ensures.headline
 
 pub returns-in-Some-margin_words-clause-answer : goal.returns-in-Some-margin_words-clause-answer
 returns-in-Some-margin_words-clause-answer g c =
     let words : List (List ℕ) = map string_bytes c.args.words.now in
     answered words (g.F.Folder.state c.args.folder.now) (g.F.Folder.state c.margin.new.folder) c.margin.result
-        (Margin (margin_named c.in-Some-margin_words.names))
+    (Margin (margin_named c.in-Some-margin_words.names))
     (margin-asked words (margin_named c.in-Some-margin_words.names) (sym c.in-Some-margin_words.ensures)) c.margin.ensures.answer
 
 pub returns-in-Some-margin_words-clause-completes : goal.returns-in-Some-margin_words-clause-completes
 returns-in-Some-margin_words-clause-completes g c =
     let words : List (List ℕ) = map string_bytes c.args.words.now in
     completed words (g.F.Folder.state c.args.folder.now) (g.F.Folder.state c.margin.new.folder) c.margin.result
-        (Margin (margin_named c.in-Some-margin_words.names))
+    (Margin (margin_named c.in-Some-margin_words.names))
     (margin-asked words (margin_named c.in-Some-margin_words.names) (sym c.in-Some-margin_words.ensures)) c.margin.ensures.completes

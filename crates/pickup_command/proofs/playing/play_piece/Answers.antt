@@ -40,16 +40,16 @@ returns-in-Err-clause-err g c start samples h =
     let split = samples_in-split upto piece in
     let stops : StopsPlay start new c.args.mode (samples ++ samples_in (take upto piece)) c.in-Err.stop =
     subst (λ (xs : List Sample). StopsPlay start new c.args.mode xs c.in-Err.stop)
-        (one-more samples piece place c.sample_at.result within c.sample_at.ensures)
+    (one-more samples piece place c.sample_at.result within c.sample_at.ensures)
     (c.in-Err.ensures.err start (samples ++ samples_in (take (4 * place) piece)) (c.loop-place.invariant.plays start samples h)) in
     subst (λ (xs : List Sample). StopsPlay start new c.args.mode xs c.in-Err.stop)
-        (append_assoc samples (samples_in (take upto piece)) split.0 ∙ ap (λ (xs : List Sample). samples ++ xs) (sym split.1))
+    (append_assoc samples (samples_in (take upto piece)) split.0 ∙ ap (λ (xs : List Sample). samples ++ xs) (sym split.1))
     (stops-longer start new c.args.mode (samples ++ samples_in (take upto piece)) split.0 c.in-Err.stop stops)
 
 pub returns-in-Err-clause-counts : goal.returns-in-Err-clause-counts
 returns-in-Err-clause-counts g c inputs =
     stop-earlier (g.F.Folder.state c.args.folder.now) (g.F.Folder.state c.loop-place.folder)
-        (g.F.Folder.state c.push.new.folder) inputs [] c.in-Err.stop c.loop-place.invariant.stand (c.in-Err.ensures.counts inputs)
+    (g.F.Folder.state c.push.new.folder) inputs [] c.in-Err.stop c.loop-place.invariant.stand (c.in-Err.ensures.counts inputs)
 
 pub loop-place-preserved : goal.loop-place-preserved
 loop-place-preserved g c =
@@ -74,7 +74,7 @@ pub returns-clause-ok : goal.returns-clause-ok
 returns-clause-ok g c start samples h =
     let all : length c.args.piece.now / 4 ≤ c.loop-place.place = omega (arith, c.loop-place-test.false) in
     subst (λ (xs : List Sample). Plays start (g.F.Folder.state c.loop-place.folder) c.args.mode c.loop-place.player (samples ++ xs))
-        (samples_in-all c.loop-place.place c.args.piece.now all) (c.loop-place.invariant.plays start samples h)
+    (samples_in-all c.loop-place.place c.args.piece.now all) (c.loop-place.invariant.plays start samples h)
 
 pub returns-clause-ready : goal.returns-clause-ready
 returns-clause-ready g c most r =

@@ -17,5 +17,5 @@ returns-in-Ok-eq0-clause-ends g c start h =
     let ready = c.in-Ok-eq0.ensures.ready in
     subst (λ (count : ℕ). PicksUpAll start new rec count) (sym c.pieces.ensures)
     (all-by start new rec c.args.mode c.play_next.new.player p.content
-        (reads-all start new rec rates.Trellis c.args.mode p.content at p.behind (λ told. (let e = end told in omega (arith, e)))) p.whole
-        p.plays ready.not_lost ready.all_taken)
+    (reads-all start new rec rates.Trellis c.args.mode p.content at p.behind (λ told. (let e = end told in omega (arith, e)))) p.whole
+    p.plays ready.not_lost ready.all_taken)

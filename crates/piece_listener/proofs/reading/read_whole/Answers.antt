@@ -10,6 +10,9 @@ returns-in-Err-Refused c = subst
     ((c.in-Err-Refused.ensures.fault c.in-Err-Refused.field-0).0 refl)
 
 pub returns-in-Err-BadCheck : goal.returns-in-Err-BadCheck
-returns-in-Err-BadCheck c = (subst
-    (λ (f : CheckedFault). IsCheckedFault Sixteen c.args.sender 0 c.args.octets.now f) c.in-Err-BadCheck.field-0-is
-    ((c.in-Err-BadCheck.ensures.fault c.in-Err-BadCheck.field-0).0 refl), refl)
+returns-in-Err-BadCheck c = (
+  subst
+      (λ (f : CheckedFault). IsCheckedFault Sixteen c.args.sender 0 c.args.octets.now f) c.in-Err-BadCheck.field-0-is
+      ((c.in-Err-BadCheck.ensures.fault c.in-Err-BadCheck.field-0).0 refl),
+  refl,
+)

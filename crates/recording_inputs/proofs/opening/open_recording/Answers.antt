@@ -11,7 +11,7 @@ use Rattle.recording_inputs.proofs.opening.open_recording.Goals as goal
 pub returns-in-Err-clause-err : goal.returns-in-Err-clause-err
 returns-in-Err-clause-err g c =
     not-within (g.F.Folder.state c.args.folder.now)
-        (g.F.Folder.state c.within_limit.new.folder) c.args.name.now c.args.rate c.args.word c.in-Err.stop c.in-Err.ensures.refused
+    (g.F.Folder.state c.within_limit.new.folder) c.args.name.now c.args.rate c.args.word c.in-Err.stop c.in-Err.ensures.refused
 
 pub returns-in-Ok-read_header-clause-ok : goal.returns-in-Ok-read_header-clause-ok
 returns-in-Ok-read_header-clause-ok g c =
@@ -21,15 +21,15 @@ returns-in-Ok-read_header-clause-ok g c =
     let n2 : FolderState = g.F.Folder.state c.read_piece.new.folder in
     let first = c.within_limit.ensures.reads in
     let none : ReadTo old n1 name RECORDING_LIMIT 0 [] =
-        ReadTo-none old n1 name RECORDING_LIMIT c.in-Ok.ensures.within first.goes_on (first.names name) in
+    ReadTo-none old n1 name RECORDING_LIMIT c.in-Ok.ensures.within first.goes_on (first.names name) in
     record {
       reads = OnlyReads-trans first c.read_piece.ensures.reads;
       stand = CountsStand-trans c.in-Ok.ensures.stand c.in-Ok-read_piece.ensures.stand;
       within = c.in-Ok.ensures.within;
       header = λ told. sym c.in-Ok-read_header.ensures.ok
           ∙ header-octets old n2 name c.in-Ok-read_piece.count
-              (take c.in-Ok-read_piece.count c.read_piece.new.piece) c.in-Ok-read_piece.ensures.bound
-              (c.in-Ok-read_piece.ensures.more old [] none) (c.in-Ok-read_piece.ensures.end old [] none) told;
+          (take c.in-Ok-read_piece.count c.read_piece.new.piece) c.in-Ok-read_piece.ensures.bound
+          (c.in-Ok-read_piece.ensures.more old [] none) (c.in-Ok-read_piece.ensures.end old [] none) told;
     }
 
 pub returns-in-Err-read_header-clause-err : goal.returns-in-Err-read_header-clause-err
@@ -40,7 +40,7 @@ returns-in-Err-read_header-clause-err g c =
     let n2 : FolderState = g.F.Folder.state c.read_piece.new.folder in
     let first = c.within_limit.ensures.reads in
     let none : ReadTo old n1 name RECORDING_LIMIT 0 [] =
-        ReadTo-none old n1 name RECORDING_LIMIT c.in-Ok.ensures.within first.goes_on (first.names name) in (
+    ReadTo-none old n1 name RECORDING_LIMIT c.in-Ok.ensures.within first.goes_on (first.names name) in (
       inr (
         c.in-Err-read_header.at,
         refl,
@@ -48,8 +48,8 @@ returns-in-Err-read_header-clause-err g c =
           within = c.in-Ok.ensures.within;
           bad = λ told. subst (λ (xs : List ℕ). IsBadHeader c.args.rate xs c.in-Err-read_header.at)
               (header-octets old n2 name c.in-Ok-read_piece.count
-                  (take c.in-Ok-read_piece.count c.read_piece.new.piece) c.in-Ok-read_piece.ensures.bound
-                  (c.in-Ok-read_piece.ensures.more old [] none) (c.in-Ok-read_piece.ensures.end old [] none) told)
+              (take c.in-Ok-read_piece.count c.read_piece.new.piece) c.in-Ok-read_piece.ensures.bound
+              (c.in-Ok-read_piece.ensures.more old [] none) (c.in-Ok-read_piece.ensures.end old [] none) told)
               c.in-Err-read_header.ensures.err;
         },
       ),

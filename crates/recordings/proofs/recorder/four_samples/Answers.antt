@@ -16,7 +16,7 @@ returns c mode octets recorded s =
     let two : List Sample = one ++ x ∷ [] in
     let three : List Sample = two ++ y ∷ [] in
     let after = c.push-fourth.ensures mode _ _
-        (c.push-third.ensures mode _ _ (c.push-second.ensures mode _ _ (c.push-first.ensures mode (bits_of octets) s.samples s.made))) in
+    (c.push-third.ensures mode _ _ (c.push-second.ensures mode _ _ (c.push-first.ensures mode (bits_of octets) s.samples s.made))) in
     let a : List ℕ = c.octets_of.result in
     let b : List ℕ = c.octets_of-2.result in
     let d : List ℕ = c.octets_of-3.result in
@@ -33,6 +33,13 @@ returns c mode octets recorded s =
       made = subst (λ (bits : List Bool). ModulatorStands mode c.push-fourth.new.self bits (three ++ z ∷ []))
           (bits-by-twos octets c.args.octet (omega (arith, c.ranges.octet.fits))) after;
       recorded_is = ap (λ (xs : List ℕ). recorded ++ xs) made ∙ four-behind recorded a b d e ∙ fourth;
-      count = omega (arith, s.count, count-more s.samples w, count-more one x, count-more two y, count-more three z,
-          length-more octets c.args.octet);
+      count = omega (
+        arith,
+        s.count,
+        count-more s.samples w,
+        count-more one x,
+        count-more two y,
+        count-more three z,
+        length-more octets c.args.octet,
+      );
     }

@@ -15,7 +15,7 @@ use Rattle.run_command.proofs.command.run_to_end.Goals as goal
 pub returns-in-Err-clause-ends : goal.returns-in-Err-clause-ends
 returns-in-Err-clause-ends g c =
     ends-refused LIMITS (g.F.Folder.state c.args.folder.now) (g.F.Folder.state c.open_inputs.new.folder)
-        (named c.args.words.now) c.in-Err.stop c.in-Err.ensures.reads c.in-Err.ensures.refused
+    (named c.args.words.now) c.in-Err.stop c.in-Err.ensures.reads c.in-Err.ensures.refused
 
 pub returns-in-Err-clause-counts : goal.returns-in-Err-clause-counts
 returns-in-Err-clause-counts g c = c.in-Err.ensures.counts (outputs_of (named c.args.words.now))
@@ -26,7 +26,7 @@ returns-in-Err-new-clause-counts g c = let counts = c.in-Ok.ensures.counts (outp
 pub run_world-requires-clause-first : goal.run_world-requires-clause-first
 run_world-requires-clause-first g c = λ files.
     subst (λ (s : ScriptValue). WorldAfter c.in-Ok-new.world files [] (start (link_of s files))) (sym c.in-Ok-new.ensures.script)
-        (c.in-Ok-new.ensures.world files)
+    (c.in-Ok-new.ensures.world files)
 
 pub returns-clause-ends : goal.returns-clause-ends
 returns-clause-ends g c =
@@ -34,7 +34,7 @@ returns-clause-ends g c =
     let mid : FolderState = g.F.Folder.state c.open_inputs.new.folder in
     c.run_world.ensures.ends old
     (subst (IsBegun LIMITS old mid (named c.args.words.now)) (sym c.in-Ok-new.ensures.script)
-        (record { opens = c.in-Ok.ensures.opened; limits = c.is_in_limits.ensures; reads = c.in-Ok.ensures.reads }))
+    (record { opens = c.in-Ok.ensures.opened; limits = c.is_in_limits.ensures; reads = c.in-Ok.ensures.reads }))
 
 pub returns-clause-only : goal.returns-clause-only
 returns-clause-only g c =
@@ -48,4 +48,4 @@ returns-clause-counts g c =
     let next : FolderState = g.F.Folder.state c.run_world.new.folder in
     let n : RunNames = named c.args.words.now in
     end-earlier old mid next (inputs_of n) (outputs_of n) c.run_world.result
-        (c.in-Ok.ensures.counts (outputs_of n)) c.run_world.ensures.counts
+    (c.in-Ok.ensures.counts (outputs_of n)) c.run_world.ensures.counts

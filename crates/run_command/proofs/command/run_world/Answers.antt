@@ -18,14 +18,14 @@ use Rattle.run_command.proofs.command.run_world.Goals as goal
 pub returns-in-Err-clause-ends : goal.returns-in-Err-clause-ends
 returns-in-Err-clause-ends g c = λ begin b.
     inl (ends-creating LIMITS begin (g.F.Folder.state c.args.folder.now) (g.F.Folder.state c.create_all.new.folder) (named c.args.words.now)
-        (script_of c.args.world.now) b c.in-Err.ensures.err)
+    (script_of c.args.world.now) b c.in-Err.ensures.err)
 
 pub run_turns-requires-clause-apart : goal.run_turns-requires-clause-apart
 run_turns-requires-clause-apart g c =
     let n : RunNames = named c.args.words.now in
     subst AreApart (sym c.names_of.ensures)
-        (apart-names n (c.apart_names_differ.ensures.outputs (inputs_of n) (outputs_of n) c.requires.apart)
-        (c.apart_names_differ.ensures.inputs (inputs_of n) (outputs_of n) c.requires.apart))
+    (apart-names n (c.apart_names_differ.ensures.outputs (inputs_of n) (outputs_of n) c.requires.apart)
+    (c.apart_names_differ.ensures.inputs (inputs_of n) (outputs_of n) c.requires.apart))
 
 pub returns-in-Ok-run_turns-clause-ends : goal.returns-in-Ok-run_turns-clause-ends
 returns-in-Ok-run_turns-clause-ends g c = λ begin b.
@@ -49,7 +49,7 @@ returns-in-Ok-run_turns-clause-only g c =
     let next : FolderState = g.F.Folder.state c.run_turns.new.folder in
     let n : RunNames = named c.args.words.now in
     OnlyOutputs-trans (outputs_of n) c.in-Ok.ensures.only
-        (only-written now next n (subst (OnlyWritten now next) c.names_of.ensures c.in-Ok-run_turns.ensures.only))
+    (only-written now next n (subst (OnlyWritten now next) c.names_of.ensures c.in-Ok-run_turns.ensures.only))
 
 pub returns-in-Err-run_turns-clause-ends : goal.returns-in-Err-run_turns-clause-ends
 returns-in-Err-run_turns-clause-ends g c = λ begin b.
@@ -74,7 +74,7 @@ returns-in-Err-run_turns-clause-only g c =
     let next : FolderState = g.F.Folder.state c.run_turns.new.folder in
     let n : RunNames = named c.args.words.now in
     OnlyOutputs-trans (outputs_of n) c.in-Ok.ensures.only
-        (only-written now next n (subst (OnlyWritten now next) c.names_of.ensures c.in-Err-run_turns.ensures.only))
+    (only-written now next n (subst (OnlyWritten now next) c.names_of.ensures c.in-Err-run_turns.ensures.only))
 
 pub returns-in-Err-run_turns-clause-counts : goal.returns-in-Err-run_turns-clause-counts
 returns-in-Err-run_turns-clause-counts g c =
@@ -86,4 +86,4 @@ returns-in-Err-run_turns-clause-counts g c =
     subst (StopCounts mid next (inputs_of n) (outputs_of n)) (sym c.stop_of.ensures)
     (stop-earlier mid now next (inputs_of n) (outputs_of n) _ c.in-Ok.ensures.stand
     (turn-counts now next n fault (subst
-        (λ (w : Written). FaultCounts now next w fault) c.names_of.ensures c.in-Err-run_turns.ensures.counts)))
+    (λ (w : Written). FaultCounts now next w fault) c.names_of.ensures c.in-Err-run_turns.ensures.counts)))

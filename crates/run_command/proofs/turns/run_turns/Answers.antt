@@ -22,7 +22,7 @@ loop-turn-smaller g c =
     let r = c.loop-turn.invariant.reached in
     nearer _ _ (c.turns_are_few.ensures c.loop-turn.world c.loop-turn.invariant.ready)
     (next-turn c.loop-turn.world c.turn.new.self (script_of c.args.world.now) n old now next r
-        ((rw c.in-Ok-Going.field-0-is at c.in-Ok-Going.ensures.turn) r.files r.turns r.ends r.world r.knows.within))
+    ((rw c.in-Ok-Going.field-0-is at c.in-Ok-Going.ensures.turn) r.files r.turns r.ends r.world r.knows.within))
 
 pub loop-turn-preserved : goal.loop-turn-preserved
 loop-turn-preserved g c =
@@ -35,7 +35,7 @@ loop-turn-preserved g c =
       reached = reached-going c.turns_deliver_what_came.ensures.hearing c.turns_deliver_what_came.ensures.speaking c.loop-turn.world
           c.turn.new.self (script_of c.args.world.now) n old now next r
           c.in-Ok-Going.ensures.script ((rw c.in-Ok-Going.field-0-is at c.in-Ok-Going.ensures.turn) r.files r.turns r.ends r.world
-              r.knows.within) c.in-Ok-Going.ensures.only c.in-Ok-Going.ensures.counts;
+          r.knows.within) c.in-Ok-Going.ensures.only c.in-Ok-Going.ensures.counts;
       ready = (rw c.in-Ok-Going.field-0-is at c.in-Ok-Going.ensures.ready) refl;
     }
 
@@ -47,7 +47,7 @@ returns-in-Ok-Done-clause-run g c =
     let n : Written = written c.args.names.now in
     let r = c.loop-turn.invariant.reached in
     reached-done c.turns_deliver_what_came.ensures.hearing c.loop-turn.world c.turn.new.self
-        (script_of c.args.world.now) n old now next c.in-Ok-Done.turn r c.in-Ok-Done.ensures.script
+    (script_of c.args.world.now) n old now next c.in-Ok-Done.turn r c.in-Ok-Done.ensures.script
     ((rw c.in-Ok-Done.field-0-is at c.in-Ok-Done.ensures.turn) r.files r.turns r.ends r.world r.knows.within) c.in-Ok-Done.ensures.only
 
 pub returns-in-Ok-Done-clause-tally : goal.returns-in-Ok-Done-clause-tally
@@ -58,13 +58,13 @@ returns-in-Ok-Done-clause-tally g c =
     let n : Written = written c.args.names.now in
     let r = c.loop-turn.invariant.reached in
     reached-counts c.turns_deliver_what_came.ensures.hearing c.loop-turn.world c.turn.new.self
-        (script_of c.args.world.now) n old now next c.in-Ok-Done.turn r c.in-Ok-Done.ensures.script
+    (script_of c.args.world.now) n old now next c.in-Ok-Done.turn r c.in-Ok-Done.ensures.script
     ((rw c.in-Ok-Done.field-0-is at c.in-Ok-Done.ensures.turn) r.files r.turns r.ends r.world r.knows.within) c.in-Ok-Done.ensures.only
 
 pub returns-in-Ok-Done-clause-only : goal.returns-in-Ok-Done-clause-only
 returns-in-Ok-Done-clause-only g c =
     only-trans (g.F.Folder.state c.args.folder.now) (g.F.Folder.state c.loop-turn.folder) (g.F.Folder.state c.turn.new.folder)
-        (written c.args.names.now) c.loop-turn.invariant.reached.only c.in-Ok-Done.ensures.only
+    (written c.args.names.now) c.loop-turn.invariant.reached.only c.in-Ok-Done.ensures.only
 
 pub returns-in-Ok-Done-clause-counts : goal.returns-in-Ok-Done-clause-counts
 returns-in-Ok-Done-clause-counts g c = CountsStand-trans c.loop-turn.invariant.reached.stand c.in-Ok-Done.ensures.counts
@@ -77,15 +77,15 @@ returns-in-Err-clause-run g c =
     let n : Written = written c.args.names.now in
     let r = c.loop-turn.invariant.reached in
     reached-fault c.turns_deliver_what_came.ensures.hearing c.loop-turn.world c.turn.new.self
-        (script_of c.args.world.now) n old now next c.in-Err.fault r c.requires.apart c.in-Err.ensures.script
+    (script_of c.args.world.now) n old now next c.in-Err.fault r c.requires.apart c.in-Err.ensures.script
     (c.in-Err.ensures.turn r.files r.turns r.ends r.world r.knows.within) c.in-Err.ensures.only
 
 pub returns-in-Err-clause-only : goal.returns-in-Err-clause-only
 returns-in-Err-clause-only g c =
     only-trans (g.F.Folder.state c.args.folder.now) (g.F.Folder.state c.loop-turn.folder) (g.F.Folder.state c.turn.new.folder)
-        (written c.args.names.now) c.loop-turn.invariant.reached.only c.in-Err.ensures.only
+    (written c.args.names.now) c.loop-turn.invariant.reached.only c.in-Err.ensures.only
 
 pub returns-in-Err-clause-counts : goal.returns-in-Err-clause-counts
 returns-in-Err-clause-counts g c =
     fault-earlier (g.F.Folder.state c.args.folder.now) (g.F.Folder.state c.loop-turn.folder) (g.F.Folder.state c.turn.new.folder)
-        (written c.args.names.now) c.in-Err.fault c.loop-turn.invariant.reached.stand c.in-Err.ensures.counts
+    (written c.args.names.now) c.in-Err.fault c.loop-turn.invariant.reached.stand c.in-Err.ensures.counts

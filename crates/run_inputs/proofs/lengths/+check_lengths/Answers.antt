@@ -32,7 +32,7 @@ returns-in-Ok-clause-refused g t c =
     if-err-map {P = RefusesLengths c.args.limit mid new (c.args.word + 1) names} c.check_lengths.result
     (λ (stop : Stop) why. subst (λ (all : List (List ℕ)). RefusesLengths c.args.limit old new c.args.word all stop) (sym e)
     (refused-later old mid new name names c.args.limit c.args.word stop c.within_limit.ensures.reads c.in-Ok.ensures.stand
-        c.in-Ok.ensures.within why))
+    c.in-Ok.ensures.within why))
     c.check_lengths.ensures.refused
 
 pub returns-in-Ok-clause-counts : goal.returns-in-Ok-clause-counts

@@ -14,4 +14,4 @@ returns-in-Ok g c =
 pub returns-in-Err : goal.returns-in-Err
 returns-in-Err g c =
     stopped (map string_bytes c.args.words.now) (g.F.Folder.state c.args.folder.now)
-        (g.F.Folder.state c.tell_stop.new.folder) c.args.seed c.in-Err.stop c.tell_stop.result c.in-Err.ensures c.tell_stop.ensures
+    (g.F.Folder.state c.tell_stop.new.folder) c.args.seed c.in-Err.stop c.tell_stop.result c.in-Err.ensures c.tell_stop.ensures

@@ -8,7 +8,7 @@ use Rattle.soak_command.proofs.soaking.soak_run.Goals as goal
 pub soak_world-requires-clause-first : goal.soak_world-requires-clause-first
 soak_world-requires-clause-first c = λ files.
     subst (λ (s : ScriptValue). WorldAfter c.in-Ok-new.world files [] (start (link_of s files))) (sym c.in-Ok-new.ensures.script)
-        (c.in-Ok-new.ensures.world files)
+    (c.in-Ok-new.ensures.world files)
 
 pub returns : goal.returns
 returns c = c.soak_world.ensures c.args.seed (c.in-Ok-new.ensures.script ∙ c.in-Ok-soak_script.ensures) c.in-Ok.ensures

@@ -10,9 +10,16 @@ pub returns-in-Ok-run_turns : goal.returns-in-Ok-run_turns
 returns-in-Ok-run_turns c = λ seed same holds.
     let turn : ℕ = c.in-Ok-run_turns.turn in
     let all = soaked-over seed c.args.folder.now c.make_outputs.new.folder c.run_turns.new.folder (script_of c.args.world.now)
-        (written c.soak_names.result) turn (lost_of c.run_turns.new.world) (again_of c.run_turns.new.world)
-    (record { script_is = same; names_are = c.soak_names.ensures; limits = c.requires.limits; holds = holds; creates =
-        c.in-Ok.ensures.only; turns = c.in-Ok-run_turns.ensures.only }) c.in-Ok-run_turns.ensures.tally in
+    (written c.soak_names.result) turn (lost_of c.run_turns.new.world) (again_of c.run_turns.new.world)
+    (record {
+      script_is = same;
+      names_are = c.soak_names.ensures;
+      limits = c.requires.limits;
+      holds = holds;
+      creates =
+          c.in-Ok.ensures.only;
+      turns = c.in-Ok-run_turns.ensures.only;
+    }) c.in-Ok-run_turns.ensures.tally in
     subst (λ (x : ℕ). Ends seed (Ok (record { turn = turn; lost = c.lost.result; again = x }))) (sym c.again.ensures)
     (subst (λ (x : ℕ). Ends seed (Ok (record { turn = turn; lost = x; again = again_of c.run_turns.new.world }))) (sym c.lost.ensures) all)
 
@@ -20,6 +27,13 @@ pub returns-in-Err-run_turns : goal.returns-in-Err-run_turns
 returns-in-Err-run_turns c = λ seed same holds.
     subst (λ (stop : Stop). Ends seed (Err stop)) (sym c.stop_of.ensures)
     (ended-over seed c.args.folder.now c.make_outputs.new.folder c.run_turns.new.folder (script_of c.args.world.now)
-        (written c.soak_names.result) c.in-Err-run_turns.fault
-    (record { script_is = same; names_are = c.soak_names.ensures; limits = c.requires.limits; holds = holds; creates =
-        c.in-Ok.ensures.only; turns = c.in-Err-run_turns.ensures.only }) c.in-Err-run_turns.ensures.counts c.in-Err-run_turns.ensures.run)
+    (written c.soak_names.result) c.in-Err-run_turns.fault
+    (record {
+      script_is = same;
+      names_are = c.soak_names.ensures;
+      limits = c.requires.limits;
+      holds = holds;
+      creates =
+          c.in-Ok.ensures.only;
+      turns = c.in-Err-run_turns.ensures.only;
+    }) c.in-Err-run_turns.ensures.counts c.in-Err-run_turns.ensures.run)

@@ -17,13 +17,13 @@ pub returns-in-Ok : goal.returns-in-Ok
 returns-in-Ok c =
     let spelled : ScriptSpelling c.deref.result.now (soak_script c.args.seed)
     = subst (λ text. ScriptSpelling text (soak_script c.args.seed)) (sym (c.deref.ensures.value ∙ c.in_ok-text.ensures))
-        (text-spells c.noisy_lines_spell.ensures c.args.seed c.ranges.seed.fits) in
+    (text-spells c.noisy_lines_spell.ensures c.args.seed c.ranges.seed.fits) in
     c.in-Ok.ensures.all (soak_script c.args.seed) spelled
 
 pub unreachable-requires : goal.unreachable-requires
 unreachable-requires c =
     let spelled : ScriptSpelling c.deref.result.now (soak_script c.args.seed)
     = subst (λ text. ScriptSpelling text (soak_script c.args.seed)) (sym (c.deref.ensures.value ∙ c.in_ok-text.ensures))
-        (text-spells c.noisy_lines_spell.ensures c.args.seed c.ranges.seed.fits) in
+    (text-spells c.noisy_lines_spell.ensures c.args.seed c.ranges.seed.fits) in
     let none = sym c.in-Err-Line.field-0-is ∙ c.in-Err-Line.ensures.all (soak_script c.args.seed) spelled in
     absurd cc

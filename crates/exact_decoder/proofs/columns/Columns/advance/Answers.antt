@@ -18,7 +18,7 @@ settle-requires-clause-column g c =
     (oldest-place newest (length items) oldest c.self.invariant.0 before) c.index_mut.ensures.value in
     ap length c.deref_mut.ensures.value
     ∙ (column-fits g.row.STATES g.row.LABELS (from_newest newest items) (length items - 1) c.index_mut.result.now here
-        (subst (AreColumns g.row.STATES g.row.LABELS) (sym c.self.view_is) c.requires.columns)).long
+    (subst (AreColumns g.row.STATES g.row.LABELS) (sym c.self.view_is) c.requires.columns)).long
 
 pub returns : goal.returns
 returns g c =

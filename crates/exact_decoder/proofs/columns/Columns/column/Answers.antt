@@ -11,10 +11,10 @@ returns-clause-next g c =
     let count : c.len.result ≡ length items = c.len.ensures ∙ c.self.inside.items.ok.0 in
     let long = columns-long items newest c.args.self.now c.self.invariant.0 c.self.view_is in
     let place_is : c.place_of-place.result ≡ place_of newest c.args.back (length items) =
-        c.place_of-place.ensures.value ∙ ap (place_of newest c.args.back) count in
+    c.place_of-place.ensures.value ∙ ap (place_of newest c.args.back) count in
     let here : slice_get (from_newest newest items) c.args.back ≡ Some c.index.result.now =
     ring-here items newest c.args.back c.place_of-place.result c.index.result.now c.self.invariant.0
-        (omega (arith, long, c.requires.within)) place_is c.index.ensures in
+    (omega (arith, long, c.requires.within)) place_is c.index.ensures in
     subst (λ l. take (c.args.back + 1) l ≡ take c.args.back l ++ c.deref.result.now ∷ []) c.self.view_is
     (column-here (from_newest newest items) c.args.back c.index.result.now here
     ∙ ap (λ l. take c.args.back (columns_in (from_newest newest items)) ++ l ∷ []) (sym c.deref.ensures.value))
@@ -26,10 +26,10 @@ returns-clause-column g c =
     let count : c.len.result ≡ length items = c.len.ensures ∙ c.self.inside.items.ok.0 in
     let long = columns-long items newest c.args.self.now c.self.invariant.0 c.self.view_is in
     let place_is : c.place_of-place.result ≡ place_of newest c.args.back (length items) =
-        c.place_of-place.ensures.value ∙ ap (place_of newest c.args.back) count in
+    c.place_of-place.ensures.value ∙ ap (place_of newest c.args.back) count in
     let here : slice_get (from_newest newest items) c.args.back ≡ Some c.index.result.now =
     ring-here items newest c.args.back c.place_of-place.result c.index.result.now c.self.invariant.0
-        (omega (arith, long, c.requires.within)) place_is c.index.ensures in
+    (omega (arith, long, c.requires.within)) place_is c.index.ensures in
     subst (IsColumn g.row.STATES g.row.LABELS) (sym c.deref.ensures.value)
     (column-fits g.row.STATES g.row.LABELS (from_newest newest items) c.args.back c.index.result.now here
-        (subst (AreColumns g.row.STATES g.row.LABELS) (sym c.self.view_is) c.requires.columns))
+    (subst (AreColumns g.row.STATES g.row.LABELS) (sym c.self.view_is) c.requires.columns))

@@ -32,6 +32,6 @@ unfolding opened
 returns-clause-stands g c =
     let t = g.C.TrellisCode in
     start-stands t.table t.points (λ state. nat_eq state c.args.start) g.row.STATES g.row.DEPTH c.args.start
-        (set (replicate g.row.STATES None) c.args.start (Some 0)) (decoding_of c.in_ok-new.field-0 0 c.new-2.result None)
+    (set (replicate g.row.STATES None) c.args.start (Some 0)) (decoding_of c.in_ok-new.field-0 0 c.new-2.result None)
     (eq-eqb c.args.start c.args.start refl) (one_start g.row.STATES c.args.start c.requires.start) c.in_ok-new.ensures refl
-        (ap reverse c.new-2.ensures) refl
+    (ap reverse c.new-2.ensures) refl

@@ -34,5 +34,5 @@ returns-clause-stands g c =
     let t = g.C.TrellisCode in
     let some : 0 < g.row.STATES = omega (arith, g.met.C.TrellisCode.states_few.0) in
     start-stands t.table t.points (λ state. nat_lt state g.row.STATES) g.row.STATES g.row.DEPTH 0 (replicate g.row.STATES (Some 0))
-        (decoding_of c.in_ok-new_any.field-0 0 c.new.result None)
+    (decoding_of c.in_ok-new_any.field-0 0 c.new.result None)
     (lt-ltb 0 g.row.STATES some) (any_start g.row.STATES) c.in_ok-new_any.ensures refl (ap reverse c.new.ensures) refl

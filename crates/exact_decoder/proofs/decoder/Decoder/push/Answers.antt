@@ -11,7 +11,7 @@ pub returns-in-Some-clause-stands : goal.returns-in-Some-clause-stands
 unfolding opened
 returns-in-Some-clause-stands g c = λ starts samples taken h.
     stands-stays g.C.TrellisCode.table g.C.TrellisCode.points g.row.DEPTH starts c.args.sample c.args.self.now samples taken
-        c.in-Some.symbol (ap (λ v. v.lost) (sym c.self.view_is) ∙ c.in-Some.is) h
+    c.in-Some.symbol (ap (λ v. v.lost) (sym c.self.view_is) ∙ c.in-Some.is) h
 
 pub invariant_of-self : goal.invariant_of-self
 unfolding opened
@@ -22,9 +22,9 @@ invariant_of-self g c =
     let new = decoding_of c.release.new.self (c.self.inside.count + 1) c.release.new.labels (Some c.self.inside.count) in
     let few : c.self.inside.count < 2 ^ 56 = subst (λ v. v.count < 2 ^ 56) (sym c.self.view_is) c.requires.count in
     sound-next t.table t.points g.row.STATES g.row.LABELS t.REACH g.row.DEPTH c.args.sample old new c.push.new.self
-        (reverse c.release.new.labels) met.bounded met.within met.reaches c.self.invariant few c.in_default.is refl
+    (reverse c.release.new.labels) met.bounded met.within met.reaches c.self.invariant few c.in_default.is refl
     c.push.ensures.stepped c.release.ensures.released refl (All-turned (λ x. x < g.row.LABELS) c.release.new.labels c.release.ensures.below)
-        (λ e. absurd cc)
+    (λ e. absurd cc)
 
 pub returns-then-unreleased-clause-stands : goal.returns-then-unreleased-clause-stands
 unfolding opened
@@ -35,11 +35,18 @@ returns-then-unreleased-clause-stands g c = λ starts samples taken h.
     let new = decoding_of c.release.new.self (c.self.inside.count + 1) c.release.new.labels (Some c.self.inside.count) in
     let none : old.pending ≡ [] = subst (λ v. v.pending ≡ []) (sym c.self.view_is) c.requires.taken in
     let p : Pushed t.table t.points c.args.sample old new =
-        record { between = c.push.new.self; stepped = c.push.ensures.stepped; labels = reverse c.release.new.labels; released =
-        c.release.ensures.released; pending_is = ap (λ l. l ++ reverse c.release.new.labels) (sym none); count = refl } in
+    record {
+      between = c.push.new.self;
+      stepped = c.push.ensures.stepped;
+      labels = reverse c.release.new.labels;
+      released =
+          c.release.ensures.released;
+      pending_is = ap (λ l. l ++ reverse c.release.new.labels) (sym none);
+      count = refl;
+    } in
     let was = subst (λ v. DecoderStands t.table t.points starts g.row.DEPTH v samples taken) (sym c.self.view_is) h in
     stands-lost t.table t.points g.row.STATES g.row.LABELS g.row.DEPTH starts c.args.sample old new samples taken met.bounded
-        met.enters_once c.in_default.is refl (omega (arith, c.if-unreleased.true, c.unreleased.ensures)) p was
+    met.enters_once c.in_default.is refl (omega (arith, c.if-unreleased.true, c.unreleased.ensures)) p was
 
 pub invariant_of-self-else-unreleased : goal.invariant_of-self-else-unreleased
 unfolding opened
@@ -50,9 +57,9 @@ invariant_of-self-else-unreleased g c =
     let new = decoding_of c.release.new.self (c.self.inside.count + 1) c.release.new.labels c.self.inside.lost in
     let few : c.self.inside.count < 2 ^ 56 = subst (λ v. v.count < 2 ^ 56) (sym c.self.view_is) c.requires.count in
     sound-next t.table t.points g.row.STATES g.row.LABELS t.REACH g.row.DEPTH c.args.sample old new c.push.new.self
-        (reverse c.release.new.labels) met.bounded met.within met.reaches c.self.invariant few c.in_default.is refl
+    (reverse c.release.new.labels) met.bounded met.within met.reaches c.self.invariant few c.in_default.is refl
     c.push.ensures.stepped c.release.ensures.released refl (All-turned (λ x. x < g.row.LABELS) c.release.new.labels c.release.ensures.below)
-        (λ e. omega (arith, c.if-unreleased.false, c.unreleased.ensures))
+    (λ e. omega (arith, c.if-unreleased.false, c.unreleased.ensures))
 
 pub returns-clause-stands : goal.returns-clause-stands
 unfolding opened
@@ -63,11 +70,18 @@ returns-clause-stands g c = λ starts samples taken h.
     let new = decoding_of c.release.new.self (c.self.inside.count + 1) c.release.new.labels c.self.inside.lost in
     let none : old.pending ≡ [] = subst (λ v. v.pending ≡ []) (sym c.self.view_is) c.requires.taken in
     let p : Pushed t.table t.points c.args.sample old new =
-        record { between = c.push.new.self; stepped = c.push.ensures.stepped; labels = reverse c.release.new.labels; released =
-        c.release.ensures.released; pending_is = ap (λ l. l ++ reverse c.release.new.labels) (sym none); count = refl } in
+    record {
+      between = c.push.new.self;
+      stepped = c.push.ensures.stepped;
+      labels = reverse c.release.new.labels;
+      released =
+          c.release.ensures.released;
+      pending_is = ap (λ l. l ++ reverse c.release.new.labels) (sym none);
+      count = refl;
+    } in
     let was = subst (λ v. DecoderStands t.table t.points starts g.row.DEPTH v samples taken) (sym c.self.view_is) h in
     stands-goes_on t.table t.points g.row.STATES g.row.LABELS g.row.DEPTH starts c.args.sample old new samples taken met.bounded
-        met.enters_once c.in_default.is c.in_default.is (omega (arith, c.if-unreleased.false, c.unreleased.ensures)) p was
+    met.enters_once c.in_default.is c.in_default.is (omega (arith, c.if-unreleased.false, c.unreleased.ensures)) p was
 
 pub push-requires : goal.push-requires
 unfolding opened

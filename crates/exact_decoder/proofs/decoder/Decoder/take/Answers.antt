@@ -9,7 +9,7 @@ unfolding opened
 invariant_of-self g c =
     let t = g.C.TrellisCode in
     (sound-popped t.table g.row.STATES g.row.LABELS t.REACH g.row.DEPTH c.self.inside.survivors c.self.inside.count c.self.inside.pending
-        c.pop.new.self c.self.inside.lost c.pop.result c.pop.ensures c.self.invariant).0
+    c.pop.new.self c.self.inside.lost c.pop.result c.pop.ensures c.self.invariant).0
 
 pub returns-clause-stands : goal.returns-clause-stands
 unfolding opened
@@ -17,11 +17,11 @@ returns-clause-stands g c = λ starts samples taken h.
     let t = g.C.TrellisCode in
     let was = subst (λ v. DecoderStands t.table t.points starts g.row.DEPTH v samples taken) (sym c.self.view_is) h in
     stands-popped t.table t.points g.row.DEPTH starts c.self.inside.survivors c.self.inside.count c.self.inside.pending c.pop.new.self
-        c.self.inside.lost samples taken c.pop.result c.pop.ensures was
+    c.self.inside.lost samples taken c.pop.result c.pop.ensures was
 
 pub returns-clause-bound : goal.returns-clause-bound
 unfolding opened
 returns-clause-bound g c =
     let t = g.C.TrellisCode in
     (sound-popped t.table g.row.STATES g.row.LABELS t.REACH g.row.DEPTH c.self.inside.survivors c.self.inside.count c.self.inside.pending
-        c.pop.new.self c.self.inside.lost c.pop.result c.pop.ensures c.self.invariant).1
+    c.pop.new.self c.self.inside.lost c.pop.result c.pop.ensures c.self.invariant).1

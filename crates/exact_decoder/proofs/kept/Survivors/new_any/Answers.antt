@@ -7,8 +7,10 @@ use Rattle.exact_decoder.proofs.kept.Survivors.new_any.Goals as goal
 pub with_sums-requires : goal.with_sums-requires
 with_sums-requires g c = (
   lit< tt,
-  (any-are g.row.STATES c.in_ok-sums.sums.items c.requires.some c.requires.few c.in_ok-sums.ensures.0 c.in_ok-sums.ensures.1,
-      (c.requires.labels, c.requires.depth)),
+  (
+    any-are g.row.STATES c.in_ok-sums.sums.items c.requires.some c.requires.few c.in_ok-sums.ensures.0 c.in_ok-sums.ensures.1,
+    (c.requires.labels, c.requires.depth),
+  ),
 )
 
 pub returns : goal.returns

@@ -21,8 +21,8 @@ returns-clause-value c =
     let re_point : cast_signed w16 (cast_unsigned w16 p.re) ≡ p.re = omega (arith, ints) in
     let im_point : cast_signed w16 (cast_unsigned w16 p.im) ≡ p.im = omega (arith, ints) in
     let re = squared-fine c.squared.result c.fine_gap-re.result p.re s.re c.squared.ensures.value (c.fine_gap-re.ensures.value s.re re_fine
-        ∙ ap (λ n. 256 * unsigned_abs (n -ℤ s.re)) re_point) in
+    ∙ ap (λ n. 256 * unsigned_abs (n -ℤ s.re)) re_point) in
     let im = squared-fine c.squared-2.result c.fine_gap-im.result p.im s.im c.squared-2.ensures.value
-        (c.fine_gap-im.ensures.value s.im im_fine ∙ ap (λ n. 256 * unsigned_abs (n -ℤ s.im)) im_point) in
+    (c.fine_gap-im.ensures.value s.im im_fine ∙ ap (λ n. 256 * unsigned_abs (n -ℤ s.im)) im_point) in
     subst (λ v. c.squared.result + c.squared-2.result + 256 * c.from.result ≡ 65536 * distance_of p v + 256 * c.args.label) c.self.view_is
     (omega (arith, re, im, c.from.ensures))

@@ -17,7 +17,7 @@ returns-in-Ok-clause-adds g c = λ files ts ends mid h closed go ga.
     let new = g.F.Folder.state c.write_turn.new.folder in
     let n = written c.args.names.now in
     let text = text-is c.turn_lines-lines.result c.args.self.now.turn ts ends mid c.args.heard c.args.given.now
-        (record { orig = None; answ = None }) none-sent
+    (record { orig = None; answ = None }) none-sent
     c.turn_lines-lines.ensures o.orig_well o.answ_well h.turn go ga refl refl in
     record {
       adds = record {
@@ -41,7 +41,7 @@ returns-in-Err-clause-part g c = λ files ts ends mid h closed go ga.
     let new = g.F.Folder.state c.write_turn.new.folder in
     let n = written c.args.names.now in
     let text = text-is c.turn_lines-lines.result c.args.self.now.turn ts ends mid c.args.heard c.args.given.now
-        (record { orig = None; answ = None }) none-sent
+    (record { orig = None; answ = None }) none-sent
     c.turn_lines-lines.ensures o.orig_well o.answ_well h.turn go ga refl refl in
     adds-part script f new n files ts ends c.args.heard mid none-sent Done o (last-turn script files ts ends c.args.heard mid o closed)
     (subst (PartlyAppended f new n.trace) text c.in-Err.ensures.err)

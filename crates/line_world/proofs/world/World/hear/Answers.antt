@@ -10,7 +10,7 @@ pub returns-in-Err-clause-hears : goal.returns-in-Err-clause-hears
 returns-in-Err-clause-hears c = λ files ts ends h.
     lost-so c.args.self.now.script c.arrive.new.self ts ends c.in-Err.end
     (c.in-Err.ensures.arrives ts ends h.lines h.turn (c.checks-checks.ensures.orig files ends h.link)
-        (c.checks-checks.ensures.answ files ends h.link))
+    (c.checks-checks.ensures.answ files ends h.link))
 
 pub hear-requires-2-clause-well : goal.hear-requires-2-clause-well
 hear-requires-2-clause-well c =
@@ -26,7 +26,7 @@ hear-requires-2-clause-well c =
     } in
     let a : ArrivesBoth c.arrive.new.self (channel_of script) r.turns r.ends c.in-Ok.heard =
     c.in-Ok.ensures.arrives r.turns r.ends h.lines h.turn (c.checks-checks.ensures.orig r.files r.ends h.link)
-        (c.checks-checks.ensures.answ r.files r.ends h.link) in
+    (c.checks-checks.ensures.answ r.files r.ends h.link) in
     let well : HearsWell r.ends _ (arrival c.in-Ok.heard.orig) (arrival c.in-Ok.heard.answ) =
     hears-well laws script r.files c.arrive.new.self r.turns r.ends c.in-Ok.heard r.limits h.run a in
     (r.files, r.ends, h.link, rw (h.turn, c.arrived.ensures, c.arrived-2.ensures) well)
@@ -44,11 +44,11 @@ returns-clause-hears c = λ files ts ends h.
     } in
     let a : ArrivesBoth c.arrive.new.self (channel_of script) ts ends c.in-Ok.heard =
     c.in-Ok.ensures.arrives ts ends h.lines h.turn (c.checks-checks.ensures.orig files ends h.link)
-        (c.checks-checks.ensures.answ files ends h.link) in
+    (c.checks-checks.ensures.answ files ends h.link) in
     let well : HearsWell ends _ (arrival c.in-Ok.heard.orig) (arrival c.in-Ok.heard.answ) =
     hears-well laws script files c.arrive.new.self ts ends c.in-Ok.heard r.limits h.run a in
     let so : HearsWell ends c.args.self.now.turn c.arrived.result c.arrived-2.result =
-        rw (h.turn, c.arrived.ensures, c.arrived-2.ensures) well in
+    rw (h.turn, c.arrived.ensures, c.arrived-2.ensures) well in
     has-heard c.args.self.now _ files ts ends c.in-Ok.heard c.args.self.now.turn c.arrived.result c.arrived-2.result h refl refl a
     (record {
       number = h.turn;

@@ -22,11 +22,11 @@ returns-in-Err-write_turn-clause-speaks g c = λ files ts ends mid h go ga.
     let new = g.F.Folder.state c.write_turn.new.folder in
     let t : SpokenTurn script files ts ends c.args.heard mid c.in-Ok.sent.orig c.in-Ok.sent.answ c.speak.new.self =
     spoken-turn script files ts ends c.args.heard mid c.in-Ok.sent.orig c.in-Ok.sent.answ c.speak.new.self c.args.self.now.turn
-        h.stands.turn o h.going
+    h.stands.turn o h.going
     (c.in-Ok.ensures.speaks files (served script files (length ts) mid) h.stands.link) in
     let sents = sent_by t.orig t.answ in
     let text = text-is c.turn_lines-lines.result c.args.self.now.turn ts ends mid c.args.heard c.args.given.now
-        (record { orig = Some c.in-Ok.sent.orig; answ = Some c.in-Ok.sent.answ }) sents
+    (record { orig = Some c.in-Ok.sent.orig; answ = Some c.in-Ok.sent.answ }) sents
     c.turn_lines-lines.ensures o.orig_well o.answ_well h.stands.turn go ga (λ k. Some (t.orig_sent k)) (λ k. Some (t.answ_sent k)) in
     stops-so script f new n files ts ends mid c.in-Err-write_turn.fault c.in-Err-write_turn.ensures.write
     (adds-part script f new n files ts ends c.args.heard mid sents Going o (ends_of t.orig t.answ, t.going, t.mid_is)
@@ -43,10 +43,10 @@ send-requires-in-Ok-clause-codable g c =
     let o = h.stands.overhears in
     let t : SpokenTurn script files ts ends c.args.heard mid c.in-Ok.sent.orig c.in-Ok.sent.answ c.speak.new.self =
     spoken-turn script files ts ends c.args.heard mid c.in-Ok.sent.orig c.in-Ok.sent.answ c.speak.new.self c.args.self.now.turn
-        h.stands.turn o h.going
+    h.stands.turn o h.going
     (c.in-Ok.ensures.speaks files (served script files (length ts) mid) h.stands.link) in
     all-codable c.slots_have_room.ensures.codable script files ts ends c.args.heard mid c.in-Ok.sent.orig c.in-Ok.sent.answ
-        c.sent_in.result.orig c.sent_in.result.answ
+    c.sent_in.result.orig c.sent_in.result.answ
     c.speak.new.self c.args.self.now.lines c.checks-checks.result c.requires.limits o t h.stands.lines
     c.in-Ok.ensures.orig_sendable c.in-Ok.ensures.answ_sendable
     (taken-back c.sent_in.result.orig c.in-Ok.sent.orig _ _ c.sent_in.ensures.orig (λ k. (c.turn_lines-lines.ensures k).orig.sent) refl)
@@ -64,7 +64,7 @@ link_fault-requires g c =
     let h = c.requires.stands.4 in
     let o = h.stands.overhears in
     let b = broken-turn script files ts ends c.args.heard mid c.args.self.now.turn c.in-Err.breaking.role c.in-Err.breaking.fault
-        h.stands.turn o h.going
+    h.stands.turn o h.going
     (c.in-Err.ensures.speaks files (served script files (length ts) mid) h.stands.link) in
     c.each_turn_is_made.ensures.named _ ts ends (turn_in c.args.heard ends mid none-sent) mid c.in-Err.breaking.role c.in-Err.breaking.fault
     (c.scripts_make_links.ensures.ends script files c.requires.limits) o.run.run b
@@ -78,11 +78,11 @@ returns-in-Ok-write_turn-clause-speaks g c = λ files ts ends mid h go ga.
     let new = g.F.Folder.state c.write_turn.new.folder in
     let t : SpokenTurn script files ts ends c.args.heard mid c.in-Ok.sent.orig c.in-Ok.sent.answ c.speak.new.self =
     spoken-turn script files ts ends c.args.heard mid c.in-Ok.sent.orig c.in-Ok.sent.answ c.speak.new.self c.args.self.now.turn
-        h.stands.turn o h.going
+    h.stands.turn o h.going
     (c.in-Ok.ensures.speaks files (served script files (length ts) mid) h.stands.link) in
     let sents = sent_by t.orig t.answ in
     let text = text-is c.turn_lines-lines.result c.args.self.now.turn ts ends mid c.args.heard c.args.given.now
-        (record { orig = Some c.in-Ok.sent.orig; answ = Some c.in-Ok.sent.answ }) sents
+    (record { orig = Some c.in-Ok.sent.orig; answ = Some c.in-Ok.sent.answ }) sents
     c.turn_lines-lines.ensures o.orig_well o.answ_well h.stands.turn go ga (λ k. Some (t.orig_sent k)) (λ k. Some (t.answ_sent k)) in
     let laws : GoingLaws = record {
       play = c.scripts_make_links.ensures.ends;
@@ -96,7 +96,7 @@ returns-in-Ok-write_turn-clause-speaks g c = λ files ts ends mid h go ga.
     let sa : c.sent_in.result.answ ≡ c.in-Ok.sent.answ =
     taken-back c.sent_in.result.answ c.in-Ok.sent.answ _ _ c.sent_in.ensures.answ (λ k. (c.turn_lines-lines.ensures k).answ.sent) refl in
     goes-on laws script c.args.self.now.tally _ f new n files ts ends c.args.heard mid c.in-Ok.sent.orig c.in-Ok.sent.answ c.requires.limits
-        refl (λ k. h.stands.turn k + 1) o t h.stands.tally
+    refl (λ k. h.stands.turn k + 1) o t h.stands.tally
     (record { lost = c.send.ensures.lost; again = c.send.ensures.again; orig = c.send.ensures.orig; answ = c.send.ensures.answ })
     (c.send-in-Ok.ensures.waits _ ts (turn_in c.args.heard ends mid sents) h.stands.lines refl
     (record {
@@ -128,7 +128,7 @@ returns-in-Ok-write_turn-2-clause-speaks g c = λ files ts ends mid h go ga.
     let named = c.each_turn_is_made.ensures.named _ ts ends (turn_in c.args.heard ends mid none-sent) mid role fault
     (c.scripts_make_links.ensures.ends script files c.requires.limits) o.run.run b in
     let text = text-is c.turn_lines-lines-in-Err.result c.args.self.now.turn ts ends mid c.args.heard c.args.given.now
-        (record { orig = None; answ = None }) none-sent
+    (record { orig = None; answ = None }) none-sent
     c.turn_lines-lines-in-Err.ensures o.orig_well o.answ_well h.stands.turn go ga refl refl in
     rw c.link_fault.ensures (ends-so script f new n files ts ends c.args.heard mid c.args.self.now.turn role fault h.stands.turn named o b
     (subst (Appended f new n.trace) text c.in-Ok-write_turn-2.ensures.ok))
@@ -143,14 +143,14 @@ returns-in-Ok-write_turn-2-clause-counts g c =
     let h = c.requires.stands.4 in
     let o = h.stands.overhears in
     let b = broken-turn script files ts ends c.args.heard mid c.args.self.now.turn c.in-Err.breaking.role c.in-Err.breaking.fault
-        h.stands.turn o h.going
+    h.stands.turn o h.going
     (c.in-Err.ensures.speaks files (served script files (length ts) mid) h.stands.link) in
     let named = c.each_turn_is_made.ensures.named _ ts ends
-        (turn_in c.args.heard ends mid none-sent) mid c.in-Err.breaking.role c.in-Err.breaking.fault
+    (turn_in c.args.heard ends mid none-sent) mid c.in-Err.breaking.role c.in-Err.breaking.fault
     (c.scripts_make_links.ensures.ends script files c.requires.limits) o.run.run b in
     rw c.link_fault.ensures (counts-so _ _
-        (written c.args.names.now) c.args.self.now.turn c.in-Err.breaking.role c.in-Err.breaking.fault named
-        c.in-Ok-write_turn-2.ensures.counts)
+    (written c.args.names.now) c.args.self.now.turn c.in-Err.breaking.role c.in-Err.breaking.fault named
+    c.in-Ok-write_turn-2.ensures.counts)
 
 pub returns-in-Err-write_turn-2-clause-speaks : goal.returns-in-Err-write_turn-2-clause-speaks
 returns-in-Err-write_turn-2-clause-speaks g c = λ files ts ends mid h go ga.
@@ -164,7 +164,7 @@ returns-in-Err-write_turn-2-clause-speaks g c = λ files ts ends mid h go ga.
     let b = broken-turn script files ts ends c.args.heard mid c.args.self.now.turn role fault h.stands.turn o h.going
     (c.in-Err.ensures.speaks files (served script files (length ts) mid) h.stands.link) in
     let text = text-is c.turn_lines-lines-in-Err.result c.args.self.now.turn ts ends mid c.args.heard c.args.given.now
-        (record { orig = None; answ = None }) none-sent
+    (record { orig = None; answ = None }) none-sent
     c.turn_lines-lines-in-Err.ensures o.orig_well o.answ_well h.stands.turn go ga refl refl in
     stops-so script f new n files ts ends mid c.in-Err-write_turn-2.fault c.in-Err-write_turn-2.ensures.write
     (adds-part script f new n files ts ends c.args.heard mid none-sent (Broken role fault) o b
@@ -173,12 +173,12 @@ returns-in-Err-write_turn-2-clause-speaks g c = λ files ts ends mid h go ga.
 pub returns-in-Err-write_turn-clause-tally : goal.returns-in-Err-write_turn-clause-tally
 returns-in-Err-write_turn-clause-tally g c =
     sends-more c.args.self.now.tally c.send.new.self (sequence_in c.in-Ok.sent.orig)
-        (sequence_in c.in-Ok.sent.answ) c.send.ensures.lost c.send.ensures.again
+    (sequence_in c.in-Ok.sent.answ) c.send.ensures.lost c.send.ensures.again
 
 pub returns-in-Ok-write_turn-clause-tally : goal.returns-in-Ok-write_turn-clause-tally
 returns-in-Ok-write_turn-clause-tally g c =
     sends-more c.args.self.now.tally c.send.new.self (sequence_in c.in-Ok.sent.orig)
-        (sequence_in c.in-Ok.sent.answ) c.send.ensures.lost c.send.ensures.again
+    (sequence_in c.in-Ok.sent.answ) c.send.ensures.lost c.send.ensures.again
 
 pub returns-in-Ok-write_turn-2-clause-tally : goal.returns-in-Ok-write_turn-2-clause-tally
 returns-in-Ok-write_turn-2-clause-tally g c = sends-none c.args.self.now.tally

@@ -17,7 +17,7 @@ pub returns-in-Err-Chance-clause-turn : goal.returns-in-Err-Chance-clause-turn
 returns-in-Err-Chance-clause-turn g c = λ files ts ends h within.
     c.meet_chance.ensures.meets ts ends (c.hear.ensures.turn ∙ h.turn)
     (subst (λ (e : LineEnd). IsLineEnd c.hear.new.self.script ts ends e) c.in-Err-Chance.field-0-is
-        (c.in-Err-Chance.ensures.hears files ts ends h)) files
+    (c.in-Err-Chance.ensures.hears files ts ends h)) files
 
 pub returns-in-Err-clause-turn : goal.returns-in-Err-clause-turn
 returns-in-Err-clause-turn g c = λ files ts ends h within.
@@ -37,7 +37,7 @@ returns-in-Err-clause-turn g c = λ files ts ends h within.
     subst (λ (s : ScriptValue). EndsBy s a b n files ts ends c.in-Err.fault) (sym c.hand_over.ensures.beside.script)
     (writing-ends script a b n files ts ends c.in-Err.fault c.in-Err.ensures.write
     (stops-handing laws script a b n files ts ends c.in-Ok.heard has.mid limits c.requires.apart within c.hand_over.ensures.only
-        has.stands.overhears
+    has.stands.overhears
     (c.in-Err.ensures.part files ts ends c.in-Ok.heard has.mid has.stands)))
 
 pub returns-in-Ok-finish-clause-turn : goal.returns-in-Ok-finish-clause-turn
@@ -49,7 +49,7 @@ returns-in-Ok-finish-clause-turn g c = λ files ts ends h within.
     let has = c.in-Ok.ensures.hears files ts ends h in
     let hands = c.in-Ok-hand_over.ensures.hands files ts ends c.in-Ok.heard has.mid has.stands in
     let closed = sym (ap is_closed (phase-delivered has.mid.orig)) ∙ sym (c.is_closed.ensures files (handed has.mid) hands.stands.link)
-        ∙ c.if-is_closed.true in
+    ∙ c.if-is_closed.true in
     done-in c.hand_over.new.self a b d n files ts ends has.mid c.hand_over.new.self.turn c.requires.apart hands.stands.turn
     (stay-known a d n files c.requires.apart (then-only a b d n c.hand_over.ensures.only (lines-only b d n c.finish.ensures.only)) within)
     c.hand_over.ensures.only hands.delivered c.finish.ensures.only
@@ -72,7 +72,7 @@ returns-in-Err-finish-clause-turn g c = λ files ts ends h within.
     let has = c.in-Ok.ensures.hears files ts ends h in
     let hands = c.in-Ok-hand_over.ensures.hands files ts ends c.in-Ok.heard has.mid has.stands in
     let closed = sym (ap is_closed (phase-delivered has.mid.orig)) ∙ sym (c.is_closed.ensures files (handed has.mid) hands.stands.link)
-        ∙ c.if-is_closed.true in
+    ∙ c.if-is_closed.true in
     writing-ends script a d n files ts ends c.in-Err-finish.fault c.in-Err-finish.ensures.write
     (stops-writing script a b d n files files ts ends has.mid c.requires.apart
     (stay-known a d n files c.requires.apart (then-only a b d n c.hand_over.ensures.only (lines-only b d n c.finish.ensures.only)) within)
@@ -93,7 +93,7 @@ serve-requires-clause-counted g c =
     let t = c.args.self.now.turn in
     let e : c.hand_over.new.self.turn ≡ t = c.hand_over.ensures.beside.turn ∙ c.hear.ensures.turn in
     subst (λ x. AreCounted c.hand_over.new.self.link (x + 1) x) (sym e)
-        (c.in-Ok-hand_over.ensures.counted (t + 1) t c.in-Ok.ensures.counted)
+    (c.in-Ok-hand_over.ensures.counted (t + 1) t c.in-Ok.ensures.counted)
 
 pub serve-requires-clause-limits : goal.serve-requires-clause-limits
 serve-requires-clause-limits g c =
@@ -123,7 +123,7 @@ returns-in-Err-serve-clause-turn g c = λ files ts ends h within.
       made = c.each_turn_is_made.ensures.made;
     } in
     let limits : IsInLimits script =
-        subst IsInLimits (sym (c.hand_over.ensures.beside.script ∙ c.hear.ensures.script)) c.requires.ready.limits in
+    subst IsInLimits (sym (c.hand_over.ensures.beside.script ∙ c.hear.ensures.script)) c.requires.ready.limits in
     subst (λ (s : ScriptValue). EndsBy s a d n files ts ends c.in-Err-serve.fault) (sym c.serve.ensures.beside.script)
     (reading-ends script a d n files ts ends c.in-Err-serve.fault c.in-Err-serve.ensures.read
     (stops-reading laws script a d n files ts ends c.in-Ok.heard has.mid limits c.requires.apart within
@@ -142,17 +142,22 @@ returns-in-Err-serve-clause-counts g c =
 pub speak-requires-clause-early : goal.speak-requires-clause-early
 speak-requires-clause-early g c =
     rw (c.serve.ensures.beside.turn, c.hand_over.ensures.beside.turn, c.hear.ensures.turn)
-        (c.turns_are_few.ensures c.args.self.now c.requires.ready)
+    (c.turns_are_few.ensures c.args.self.now c.requires.ready)
 
 pub speak-requires-clause-limits : goal.speak-requires-clause-limits
 speak-requires-clause-limits g c =
     subst IsInLimits (sym (c.serve.ensures.beside.script ∙ c.hand_over.ensures.beside.script ∙ c.hear.ensures.script))
-        c.requires.ready.limits
+    c.requires.ready.limits
 
 pub speak-requires-clause-few : goal.speak-requires-clause-few
 speak-requires-clause-few g c =
-    rw (c.serve.ensures.beside.turn, c.hand_over.ensures.beside.turn, c.serve.ensures.beside.tally, c.hand_over.ensures.beside.tally,
-        c.hear.ensures.turn) c.in-Ok.ensures.few
+    rw (
+      c.serve.ensures.beside.turn,
+      c.hand_over.ensures.beside.turn,
+      c.serve.ensures.beside.tally,
+      c.hand_over.ensures.beside.tally,
+      c.hear.ensures.turn,
+    ) c.in-Ok.ensures.few
 
 pub speak-requires-clause-stands : goal.speak-requires-clause-stands
 speak-requires-clause-stands g c =
@@ -160,7 +165,7 @@ speak-requires-clause-stands g c =
     let has = c.in-Ok.ensures.hears r.files r.turns r.ends r.after in
     let hands = c.in-Ok-hand_over.ensures.hands r.files r.turns r.ends c.in-Ok.heard has.mid has.stands in
     let still = sym (ap is_closed (phase-delivered has.mid.orig)) ∙ sym (c.is_closed.ensures r.files (handed has.mid) hands.stands.link)
-        ∙ c.if-is_closed.false in
+    ∙ c.if-is_closed.false in
     let s = c.in-Ok-serve.ensures.serves r.files r.turns r.ends c.in-Ok.heard has.mid hands.stands r.within in
     (s.others, r.turns, r.ends, has.mid, record { stands = s.stands; going = still })
 
@@ -174,10 +179,10 @@ returns-in-Ok-speak-clause-turn g c = λ files ts ends h within.
     let has = c.in-Ok.ensures.hears files ts ends h in
     let hands = c.in-Ok-hand_over.ensures.hands files ts ends c.in-Ok.heard has.mid has.stands in
     let still = sym (ap is_closed (phase-delivered has.mid.orig)) ∙ sym (c.is_closed.ensures files (handed has.mid) hands.stands.link)
-        ∙ c.if-is_closed.false in
+    ∙ c.if-is_closed.false in
     let s = c.in-Ok-serve.ensures.serves files ts ends c.in-Ok.heard has.mid hands.stands within in
     let gone = c.in-Ok-speak.ensures.speaks s.others ts ends has.mid
-        (record { stands = s.stands; going = still }) hands.orig_given hands.answ_given in
+    (record { stands = s.stands; going = still }) hands.orig_given hands.answ_given in
     let only-d = then-only a b d n c.hand_over.ensures.only (reads-only b d n c.serve.ensures.only) in
     let only-z = then-only a d z n only-d (lines-only d z n c.speak.ensures.only) in
     goes-on-by c.speak.new.self a d z n files s.others ts ends has.mid c.requires.apart
@@ -198,21 +203,21 @@ returns-in-Ok-speak-clause-ready g c = λ going.
     let has = c.in-Ok.ensures.hears files ts ends r.after in
     let hands = c.in-Ok-hand_over.ensures.hands files ts ends c.in-Ok.heard has.mid has.stands in
     let still = sym (ap is_closed (phase-delivered has.mid.orig)) ∙ sym (c.is_closed.ensures files (handed has.mid) hands.stands.link)
-        ∙ c.if-is_closed.false in
+    ∙ c.if-is_closed.false in
     let s = c.in-Ok-serve.ensures.serves files ts ends c.in-Ok.heard has.mid hands.stands r.within in
     let gone = c.in-Ok-speak.ensures.speaks s.others ts ends has.mid
-        (record { stands = s.stands; going = still }) hands.orig_given hands.answ_given in
+    (record { stands = s.stands; going = still }) hands.orig_given hands.answ_given in
     let only-d = then-only a b d n c.hand_over.ensures.only (reads-only b d n c.serve.ensures.only) in
     let only-z = then-only a d z n only-d (lines-only d z n c.speak.ensures.only) in
     let by : GoesOnBy c.speak.new.self a z n files ts ends =
-        goes-on-by c.speak.new.self a d z n files s.others ts ends has.mid c.requires.apart
+    goes-on-by c.speak.new.self a d z n files s.others ts ends has.mid c.requires.apart
     (others-known a b z n files s.others has.mid c.requires.apart c.hand_over.ensures.only only-z s.reads) only-d
     (delivered-kept a b d n has.mid c.hand_over.ensures.only.goes_on c.serve.ensures.only hands.delivered) c.speak.ensures.only gone in
     let t = c.hand_over.new.self.turn + 1 in
     let same : c.serve.new.self.turn + 1 ≡ t = ap (λ x. x + 1) c.serve.ensures.beside.turn in
     ready-on c.speak.new.self a d z n files ts ends t
     (subst IsInLimits (sym (c.speak.ensures.script ∙ c.serve.ensures.beside.script ∙ c.hand_over.ensures.beside.script
-        ∙ c.hear.ensures.script)) r.limits) by
+    ∙ c.hear.ensures.script)) r.limits) by
     (c.in-Ok-speak.ensures.idle (c.in-Ok-serve.ensures.idle c.in-Ok-hand_over.ensures.idle))
     (c.in-Ok-speak.ensures.counted t t c.in-Ok-serve.ensures.counted)
     (rw (sym same) c.in-Ok-speak.ensures.few)
@@ -222,7 +227,7 @@ pub returns-in-Ok-speak-clause-only : goal.returns-in-Ok-speak-clause-only
 returns-in-Ok-speak-clause-only g c =
     let n = written c.args.names.now in
     then-only _ _ _ n (then-only _ _ _ n c.hand_over.ensures.only (reads-only _ _ n c.serve.ensures.only))
-        (lines-only _ _ n c.speak.ensures.only)
+    (lines-only _ _ n c.speak.ensures.only)
 
 pub returns-in-Ok-speak-clause-counts : goal.returns-in-Ok-speak-clause-counts
 returns-in-Ok-speak-clause-counts g c =
@@ -239,10 +244,10 @@ returns-in-Err-speak-clause-turn g c = λ files ts ends h within.
     let has = c.in-Ok.ensures.hears files ts ends h in
     let hands = c.in-Ok-hand_over.ensures.hands files ts ends c.in-Ok.heard has.mid has.stands in
     let still = sym (ap is_closed (phase-delivered has.mid.orig)) ∙ sym (c.is_closed.ensures files (handed has.mid) hands.stands.link)
-        ∙ c.if-is_closed.false in
+    ∙ c.if-is_closed.false in
     let s = c.in-Ok-serve.ensures.serves files ts ends c.in-Ok.heard has.mid hands.stands within in
     let last = c.in-Err-speak.ensures.speaks s.others ts ends has.mid
-        (record { stands = s.stands; going = still }) hands.orig_given hands.answ_given in
+    (record { stands = s.stands; going = still }) hands.orig_given hands.answ_given in
     let only-d = then-only a b d n c.hand_over.ensures.only (reads-only b d n c.serve.ensures.only) in
     let only-z = then-only a d z n only-d (lines-only d z n c.speak.ensures.only) in
     speaks-last c.speak.new.self.script a d z n files s.others ts ends has.mid c.in-Err-speak.fault c.requires.apart
@@ -253,13 +258,13 @@ pub returns-in-Err-speak-clause-only : goal.returns-in-Err-speak-clause-only
 returns-in-Err-speak-clause-only g c =
     let n = written c.args.names.now in
     then-only _ _ _ n (then-only _ _ _ n c.hand_over.ensures.only (reads-only _ _ n c.serve.ensures.only))
-        (lines-only _ _ n c.speak.ensures.only)
+    (lines-only _ _ n c.speak.ensures.only)
 
 pub returns-in-Err-speak-clause-counts : goal.returns-in-Err-speak-clause-counts
 returns-in-Err-speak-clause-counts g c =
     counts-later (g.F.Folder.state c.args.folder.now) (g.F.Folder.state c.serve.new.folder) (g.F.Folder.state c.speak.new.folder)
-        (written c.args.names.now) c.in-Err-speak.fault
-        (CountsStand-trans c.in-Ok-hand_over.ensures.counts c.in-Ok-serve.ensures.counts) c.in-Err-speak.ensures.counts
+    (written c.args.names.now) c.in-Err-speak.fault
+    (CountsStand-trans c.in-Ok-hand_over.ensures.counts c.in-Ok-serve.ensures.counts) c.in-Err-speak.ensures.counts
 
 pub returns-in-Err-Lost-clause-number : goal.returns-in-Err-Lost-clause-number
 returns-in-Err-Lost-clause-number g c = c.hear.ensures.turn

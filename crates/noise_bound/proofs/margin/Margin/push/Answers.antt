@@ -16,7 +16,7 @@ returns-clause-stands c mode octets samples s =
     let high = c.push-high.result in
     let both : ModulatorStands mode c.push-high.new.self (bits_of (octets ++ c.args.octet ∷ [])) ((here.points ++ low ∷ []) ++ high ∷ []) =
     subst (λ (bits : List Bool). ModulatorStands mode c.push-high.new.self bits ((here.points ++ low ∷ []) ++ high ∷ []))
-        (bits-more octets c.args.octet (omega (arith, c.ranges.octet.fits))) two in
+    (bits-more octets c.args.octet (omega (arith, c.ranges.octet.fits))) two in
     measures-more mode old c.push-high.new.self octets c.args.octet samples c.args.first c.args.second low high
-        (c.self.inside.cost + (c.distance.result + c.distance-2.result)) (c.self.inside.octets + 1) here both
+    (c.self.inside.cost + (c.distance.result + c.distance-2.result)) (c.self.inside.octets + 1) here both
     (omega (arith, c.distance.ensures.value, c.distance-2.ensures.value)) refl

@@ -15,7 +15,7 @@ loop-taken-preserved g c =
     record {
       plays = λ start mode samples h.
           plays-taken start now new mode c.loop-taken.self-inside.reader c.take.new.self c.loop-taken.self-inside.listener
-              c.hear_taken.new.listener samples c.in-Some.taken (c.in-Some.ensures.stands mode samples) c.in-Ok.ensures.ok
+          c.hear_taken.new.listener samples c.in-Some.taken (c.in-Some.ensures.stands mode samples) c.in-Ok.ensures.ok
           c.hear_taken.ensures.sender (i.plays start mode samples h);
       lost = c.in-Some.ensures.lost ∙ i.lost;
       count = c.in-Some.ensures.count ∙ i.count;
@@ -28,8 +28,8 @@ pub returns-in-Err-clause-err : goal.returns-in-Err-clause-err
 returns-in-Err-clause-err g c start mode samples h =
     let p = c.loop-taken.invariant.plays start mode samples h in
     says-some start (g.F.Folder.state c.hear_taken.new.folder) mode c.take.new.self samples
-        (p.bits ++ bits_of_taken c.in-Some.taken) c.loop-taken.self-inside.listener.sender
-        (c.in-Some.ensures.stands mode samples p.bits p.read)
+    (p.bits ++ bits_of_taken c.in-Some.taken) c.loop-taken.self-inside.listener.sender
+    (c.in-Some.ensures.stands mode samples p.bits p.read)
     p.sender_is (c.in-Err.ensures.err start p.bits p.heard)
 
 pub returns-clause-taken : goal.returns-clause-taken

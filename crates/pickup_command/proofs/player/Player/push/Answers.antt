@@ -10,20 +10,20 @@ returns-in-Err-clause-err g c start samples h =
     let old : FolderState = g.F.Folder.state c.args.folder.now in
     let more : List Sample = samples ++ c.args.sample ∷ [] in
     let inside : Plays start old c.args.mode (playing_of c.self.inside.reader c.self.inside.listener) samples =
-        subst (λ (p : Playing). Plays start old c.args.mode p samples) (sym c.self.view_is) h in
+    subst (λ (p : Playing). Plays start old c.args.mode p samples) (sym c.self.view_is) h in
     c.in-Err.ensures.err start c.args.mode more
-        (plays-pushed start old c.args.mode c.self.inside.reader c.push-pushed.new.self c.self.inside.listener samples more
-        (c.push-pushed.ensures.stands c.args.mode samples) inside)
+    (plays-pushed start old c.args.mode c.self.inside.reader c.push-pushed.new.self c.self.inside.listener samples more
+    (c.push-pushed.ensures.stands c.args.mode samples) inside)
 
 pub returns-in-Ok-pushed-clause-ok : goal.returns-in-Ok-pushed-clause-ok
 returns-in-Ok-pushed-clause-ok g c start samples h =
     let old : FolderState = g.F.Folder.state c.args.folder.now in
     let more : List Sample = samples ++ c.args.sample ∷ [] in
     let inside : Plays start old c.args.mode (playing_of c.self.inside.reader c.self.inside.listener) samples =
-        subst (λ (p : Playing). Plays start old c.args.mode p samples) (sym c.self.view_is) h in
+    subst (λ (p : Playing). Plays start old c.args.mode p samples) (sym c.self.view_is) h in
     c.in-Ok.ensures.ok start c.args.mode more
-        (plays-pushed start old c.args.mode c.self.inside.reader c.push-pushed.new.self c.self.inside.listener samples more
-        (c.push-pushed.ensures.stands c.args.mode samples) inside)
+    (plays-pushed start old c.args.mode c.self.inside.reader c.push-pushed.new.self c.self.inside.listener samples more
+    (c.push-pushed.ensures.stands c.args.mode samples) inside)
 
 pub returns-in-Err-pushed-clause-err : goal.returns-in-Err-pushed-clause-err
 returns-in-Err-pushed-clause-err g c start samples h =
@@ -31,11 +31,11 @@ returns-in-Err-pushed-clause-err g c start samples h =
     let new : FolderState = g.F.Folder.state c.hear_released.new.folder in
     let more : List Sample = samples ++ c.args.sample ∷ [] in
     let inside : Plays start old c.args.mode (playing_of c.self.inside.reader c.self.inside.listener) samples =
-        subst (λ (p : Playing). Plays start old c.args.mode p samples) (sym c.self.view_is) h in
+    subst (λ (p : Playing). Plays start old c.args.mode p samples) (sym c.self.view_is) h in
     let plays : Plays start new c.args.mode c.hear_released.new.self more =
     c.in-Ok.ensures.ok start c.args.mode more
-        (plays-pushed start old c.args.mode c.self.inside.reader c.push-pushed.new.self c.self.inside.listener samples more
-        (c.push-pushed.ensures.stands c.args.mode samples) inside) in (
+    (plays-pushed start old c.args.mode c.self.inside.reader c.push-pushed.new.self c.self.inside.listener samples more
+    (c.push-pushed.ensures.stands c.args.mode samples) inside) in (
       c.hearer_of.result,
       c.in-Err-pushed.lost.symbol,
       refl,

@@ -13,7 +13,7 @@ returns-in-None-clause-ok g c = λ start bits heard.
     let next : Listening = record { deframer = c.push.new.self; sender = c.self.inside.sender; pieces = c.self.inside.pieces } in
     let h : Heard start now old bits = subst (λ (l : Listening). Heard start now l bits) (sym c.self.view_is) heard in
     heard-none start now old next bits c.args.bit h (c.in-None.ensures.value bits h.stands)
-        (c.in-None.ensures.stands bits h.stands) refl refl
+    (c.in-None.ensures.stands bits h.stands) refl refl
 
 pub returns-in-Some-clause-ok : goal.returns-in-Some-clause-ok
 returns-in-Some-clause-ok g c = λ start bits heard.
@@ -25,11 +25,11 @@ returns-in-Some-clause-ok g c = λ start bits heard.
     let stands = c.in-Some.ensures.stands bits h.stands in
     let f : FoundThere all c.in-Some.piece = found-there all c.in-Some.piece (c.in-Some.ensures.value bits h.stands) in
     let reads : Reads old.sender f.found c.read_piece-reading.result =
-        c.read_piece-reading.ensures f.found f.piece_is (f.octets_are ∙ sym (c.whole.ensures.value all stands)) in
+    c.read_piece-reading.ensures f.found f.piece_is (f.octets_are ∙ sym (c.whole.ensures.value all stands)) in
     let line : c.as_slice.result.now ≡ reading_line c.read_piece-reading.result = c.as_slice.ensures.items ∙ c.write_reading.ensures in
     on-ok-map {P = Said now new c.as_slice.result.now} c.say_line.result
     (λ said. heard-some start now new old next bits c.args.bit c.in-Some.piece c.read_piece-reading.result h f reads stands refl refl
-        (subst (λ (xs : List ℕ). Said now new xs) line said)) c.say_line.ensures.ok
+    (subst (λ (xs : List ℕ). Said now new xs) line said)) c.say_line.ensures.ok
 
 pub returns-in-Some-clause-left : goal.returns-in-Some-clause-left
 returns-in-Some-clause-left g c = λ start bits heard.
@@ -41,8 +41,8 @@ returns-in-Some-clause-left g c = λ start bits heard.
     let stands = c.in-Some.ensures.stands bits h.stands in
     let f : FoundThere all c.in-Some.piece = found-there all c.in-Some.piece (c.in-Some.ensures.value bits h.stands) in
     let reads : Reads old.sender f.found c.read_piece-reading.result =
-        c.read_piece-reading.ensures f.found f.piece_is (f.octets_are ∙ sym (c.whole.ensures.value all stands)) in
+    c.read_piece-reading.ensures f.found f.piece_is (f.octets_are ∙ sym (c.whole.ensures.value all stands)) in
     let line : c.as_slice.result.now ≡ reading_line c.read_piece-reading.result = c.as_slice.ensures.items ∙ c.write_reading.ensures in
     on-err-map {P = PartlySaid now new c.as_slice.result.now} c.say_line.result
     (λ said. left-some start now new old next bits c.args.bit c.in-Some.piece c.read_piece-reading.result h f reads stands refl refl
-        (subst (λ (xs : List ℕ). PartlySaid now new xs) line said)) c.say_line.ensures.err
+    (subst (λ (xs : List ℕ). PartlySaid now new xs) line said)) c.say_line.ensures.err

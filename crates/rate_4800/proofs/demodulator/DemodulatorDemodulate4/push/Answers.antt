@@ -13,7 +13,7 @@ pub returns-clause-stands : goal.returns-clause-stands
 returns-clause-stands c mode labels bits s =
     let read = c.decode-turns.ensures.stands labels (unturned labels) s.unturner in
     let line = twos-more (line_of labels) (unturned labels) c.decode-turns.result refl
-        ∙ ap (λ turns. flat_map (low_bits 2) turns) read.unturned_is in
+    ∙ ap (λ turns. flat_map (low_bits 2) turns) read.unturned_is in
     record {
       unturner = subst (λ (turns : List ℕ). UnturnerStands c.decode-turns.new.self (labels ++ c.args.label ∷ []) turns) read.unturned_is
           read;
