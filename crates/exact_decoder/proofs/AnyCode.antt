@@ -85,7 +85,8 @@ sent-survives table points states few starts labels end bounded differ q = recor
     against other o (inr some) = inr
         (inl (elim (cases_lt 0 (cost (λ label sample. distance_of (points label) sample) other (map points labels))) [
           | inl more ↦ omega (arith, cost-own points labels)
-          | inr none_more ↦ let none : cost (λ label sample. distance_of (points label) sample) other (map points labels) ≡ 0 = omega arith in
+          | inr none_more ↦ let none : cost (λ label sample. distance_of (points label) sample) other (map points labels) ≡ 0 =
+              omega arith in
               absurd (some none)
         ]))
 

@@ -185,7 +185,8 @@ pub stepped-of : (table : ℕ → ℕ → Option ℕ) (points : ℕ → Sample) 
 stepped-of table points states labels parallel subsets ways steps before subset sample sums nearest entered new_sums least column columns
     newer unreleased code keys made near room e = record {
       entries = map entry_in entered;
-      chosen = λ starts to. chosen-all table points states labels parallel subsets ways before subset sample sums nearest entered starts to code
+      chosen = λ starts to. chosen-all table points states labels parallel subsets ways before subset sample sums nearest entered starts to
+          code
           keys;
       lowered = least / 65536;
       lowest = (
@@ -246,7 +247,8 @@ covered-of states entered new_sums least column columns newer unreleased few lon
           let r = made.is_least.state in
           let in_r = made.is_least.within in
           let near_r : slice_index entered r < far_key = omega (arith, made.is_least.least_is) in
-          let mine : choice_at column s ≡ choice_in least = made.choices s l ∙ ap choice_in (settled-far (slice_index entered s) least far) in
+          let mine : choice_at column s ≡ choice_in least =
+          made.choices s l ∙ ap choice_in (settled-far (slice_index entered s) least far) in
           let theirs : choice_at column r ≡ choice_in least =
           made.choices r in_r ∙ ap choice_in (settled-near (slice_index entered r) least near_r ∙ sym made.is_least.least_is) in (
             r,
@@ -419,9 +421,11 @@ pub push-all : (table : ℕ → ℕ → Option ℕ) (points : ℕ → Sample) (s
     × Covered states (kept_of states new_sums newer (unreleased + 1))
 push-all table points states labels parallel subsets ways steps depth before subset sample sums nearest entered new_sums least columns newer
     unreleased code low reach small room holds near close into long is_least (column, e, settled) = (
-      holds-next table points states labels parallel subsets ways depth before subset sample sums nearest entered new_sums least column columns
+      holds-next table points states labels parallel subsets ways depth before subset sample sums nearest entered new_sums least column
+          columns
           newer unreleased code keys made far room e holds,
-      stepped-of table points states labels parallel subsets ways steps before subset sample sums nearest entered new_sums least column columns
+      stepped-of table points states labels parallel subsets ways steps before subset sample sums nearest entered new_sums least column
+          columns
           newer unreleased code keys made far (omega (arith, holds.columns_long)) e,
       covered-of states entered new_sums least column columns newer unreleased code.states_few long made far
           (omega (arith, holds.columns_long)) e,
