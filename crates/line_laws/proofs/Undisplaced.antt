@@ -126,22 +126,7 @@ all-stay = (
                                   refl,
                                   (
                                     refl,
-                                    (
-                                      refl,
-                                      (
-                                        refl,
-                                        (
-                                          refl,
-                                          (
-                                            refl,
-                                            (
-                                              refl,
-                                              (refl, (refl, (refl, (refl, (refl, (refl, (refl, (refl, (refl, tt))))))))),
-                                            ),
-                                          ),
-                                        ),
-                                      ),
-                                    ),
+                                    (refl, (refl, (refl, (refl, (refl, (refl, (refl, (refl, (refl, (refl, (refl, (refl, (refl, (refl, tt)))))))))))))),
                                   ),
                                 ),
                               ),
