@@ -6,11 +6,11 @@ use Rattle.symbol_map.specs.declared.sample.Sample.{Sample}
 use Rattle.symbol_map.specs.Points.{point_of}
 use Rattle.trellis_tables.specs.Table.{next_state}
 use Rattle.survivors.specs.Survivors.{IsFirstLeast}
+use Rattle.survivors.specs.V32.{at_beginning}
 use Rattle.line_coding.specs.declared.demodulator.Demodulator.{Demodulator}
 use Rattle.line_coding.specs.Demodulates.{DemodulatorStands}
 use Rattle.line_coding.proofs.Standing.{demodulated}
 use Rattle.line_decoding.specs.Reading.{Reading, IsFinished}
-use Rattle.line_decoding.specs.V32.{at_beginning}
 use Rattle.rate_4800.specs.declared.demodulator.Demodulator.{Demodulator as QuarterDemodulator}
 use Rattle.rate_4800.specs.Code.{next_state as next_quarter, point_of as quarter_of}
 use Rattle.rate_4800.specs.Demodulates.{DemodulatorStands as QuarterDemodulatorStands}

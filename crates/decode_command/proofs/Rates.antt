@@ -1,5 +1,5 @@
 -- What holds at either rate.
-use Rattle.std.proofs.Common.{◌≡◌, ◌∙◌, ℕ, ◌+◌, ◌<◌, Bool, List, ◌++◌, length, take, drop, Some, refl, sym, ap, subst, arith, eqb-true}
+use Rattle.std.proofs.Common.{◌≡◌, ◌∙◌, ℕ, ◌+◌, ◌<◌, Bool, List, ◌++◌, length, take, drop, Some, refl, sym, ap, arith}
 use Rattle.std.specs.List.{flat_map}
 use Rattle.std.proofs.Math.Seq.{take-append_seam}
 use Rattle.std.proofs.lemmas.Grind.{flat_map-append}
@@ -11,10 +11,11 @@ use Rattle.differential.specs.Turned.{unturned}
 use Rattle.differential.proofs.Inverses.{unturned-take}
 use Rattle.symbol_map.specs.declared.sample.Sample.{Sample}
 use Rattle.trellis_tables.specs.LabelReader.{quads_of}
-use Rattle.trellis_tables.specs.V32Laws.{v32_bounded, v32_within, v32_enters_once, v32_reaches}
 use Rattle.trellis_tables.proofs.Readings.{quads_of-take}
 use Rattle.survivors.specs.Trellises.{Trellis, HasLaws}
 use Rattle.survivors.specs.Survivors.{IsReleased, LostIs}
+use Rattle.survivors.proofs.V32.{line-has-laws}
+use Rattle.survivors.specs.V32.{line_depth}
 use Rattle.exact_decoder.specs.Decoder.{Decoding, heard}
 use Rattle.line_coding.proofs.Standing.{demodulated}
 use Rattle.rate_4800.proofs.Standing.{demodulated as quarters-demodulated}
@@ -24,7 +25,7 @@ use Rattle.recordings.specs.declared.rate.Rate.TheVariants as rates
 use Rattle.decode_command.specs.declared.rate_reader.RateReader.{RateReader}
 use Rattle.decode_command.specs.declared.rate_reader.RateReader.TheVariants as readers
 use Rattle.decode_command.specs.Playing.{decoding_of, ReadsAt}
-use Rattle.decode_command.specs.Rates.{trellis_at, line_depth, line_at, DemodulatesAt}
+use Rattle.decode_command.specs.Rates.{trellis_at, line_at, DemodulatesAt}
 
 -- a code with its laws
 pub record IsCode (code : Trellis Sample) : Type 0 where
@@ -34,21 +35,7 @@ pub record IsCode (code : Trellis Sample) : Type 0 where
   pub laws : HasLaws code states labels steps
 
 pub code_at : (rate : Rate) → IsCode (trellis_at rate)
-code_at rates.Trellis = record {
-  states = 8;
-  labels = 32;
-  steps = 2;
-  laws = record {
-    bounded = v32_bounded;
-    within = v32_within;
-    enters_once = v32_enters_once;
-    some_steps = omega arith;
-    reaches = v32_reaches;
-    start = 0;
-    starts_there = refl;
-    starts_within = λ state e. subst (λ s. s < 8) (sym (eqb-true state 0 e)) (omega arith);
-  };
-}
+code_at rates.Trellis = record { states = 8; labels = 32; steps = 2; laws = line-has-laws }
 code_at rates.Quarters = record { states = 1; labels = 4; steps = 1; laws = quarters_have_laws }
 
 -- a line of four points is never lost

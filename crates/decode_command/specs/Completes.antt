@@ -3,6 +3,7 @@ use Rattle.std.specs.Prelude.{◌≡◌, ℕ, ◌%◌, ◌≤◌, IsTrue, List, 
 use Rattle.scramblers.specs.declared.mode.Mode.{Mode}
 use Rattle.outside_core.specs.Folder.{FolderState, octets_at}
 use Rattle.survivors.specs.Survivors.{LostIs}
+use Rattle.survivors.specs.V32.{line_depth}
 use Rattle.recordings.specs.declared.rate.Rate.{Rate}
 use Rattle.recordings.specs.declared.rate.Rate.TheVariants as rates
 use Rattle.recordings.specs.Recording.{header_at}
@@ -10,7 +11,7 @@ use Rattle.recordings.specs.Samples.{samples_in}
 use Rattle.command_base.specs.declared.status.Status.{Status}
 use Rattle.command_base.specs.Sound.{IsSound, DoneUnlessMemory}
 use Rattle.decode_command.specs.Words.{DecodeNames}
-use Rattle.decode_command.specs.Rates.{trellis_at, line_depth}
+use Rattle.decode_command.specs.Rates.{trellis_at}
 
 -- A recording at this rate of at most 8,388,616 octets: a header, and whole samples, with which a line of the trellis code isn't lost.
 pub record IsRecording (rate : Rate) (octets : List ℕ) : Type 0 where

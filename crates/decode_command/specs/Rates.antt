@@ -1,11 +1,9 @@
 -- What the rates differ in: the code, and the bits that its labels carry.
 use Rattle.std.specs.Prelude.{ℕ, Bool, List}
 use Rattle.symbol_map.specs.declared.sample.Sample.{Sample}
-use Rattle.symbol_map.specs.Points.{point_of}
-use Rattle.trellis_tables.specs.Table.{next_state}
 use Rattle.scramblers.specs.Scrambles.{Descrambles}
-use Rattle.survivors.specs.Trellises.{Trellis, trellis_of}
-use Rattle.line_decoding.specs.V32.{at_beginning}
+use Rattle.survivors.specs.Trellises.{Trellis}
+use Rattle.survivors.specs.V32.{line_trellis}
 use Rattle.line_coding.specs.Demodulates.{line_of}
 use Rattle.rate_4800.specs.Demodulates.{line_of as quarter_line_of}
 use Rattle.rate_4800.specs.Laws.{quarters}
@@ -14,12 +12,8 @@ use Rattle.recordings.specs.declared.rate.Rate.TheVariants as rates
 
 -- the code of a line, whose sequences start in state 0
 abbrev pub trellis_at : Rate → Trellis Sample
-trellis_at rates.Trellis = trellis_of next_state point_of at_beginning
+trellis_at rates.Trellis = line_trellis
 trellis_at rates.Quarters = quarters
-
--- the most labels that may be unreleased
-abbrev pub line_depth : ℕ
-line_depth = 128
 
 -- the scrambled bits of labels
 abbrev pub line_at : Rate → List ℕ → List Bool

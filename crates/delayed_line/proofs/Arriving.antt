@@ -13,6 +13,7 @@ use Rattle.bit_stuffing.proofs.Fill.{bits-append}
 use Rattle.detection.specs.Slots.{Signal, slot_of, slots_of, signal_bits}
 use Rattle.symbol_map.specs.declared.sample.Sample.{Sample}
 use Rattle.survivors.specs.Survivors.{LostIs}
+use Rattle.survivors.specs.V32.{line_depth, line_trellis}
 use Rattle.exact_decoder.specs.declared.decoder.Lost.{Lost}
 use Rattle.roles.specs.declared.role.Role.{Role}
 use Rattle.roles.specs.Both.{of}
@@ -25,7 +26,7 @@ use Rattle.slot_contents.specs.Sendable.{IsSendable}
 use Rattle.slot_contents.specs.declared.heard.Heard.TheVariants.{Nothing, Passed, Lost as LostSlot, Chance}
 use Rattle.noise_script.specs.Script.{ScriptValue, delay_of, loses}
 use Rattle.sample_line.specs.Recorded.{Records}
-use Rattle.sample_line.specs.Received.{line_trellis, line_depth, Receives}
+use Rattle.sample_line.specs.Received.{Receives}
 use Rattle.sample_line.specs.Outcomes.{IsOutcome}
 use Rattle.sample_line.specs.Signals.{signal_of}
 use Rattle.sample_line.specs.Path.{LosesAt, LosesWithin}

@@ -9,6 +9,7 @@ use Rattle.roles.specs.Role.{other}
 use Rattle.roles.specs.Both.{Both, of}
 use Rattle.symbol_map.specs.declared.sample.Sample.{Sample}
 use Rattle.survivors.specs.Survivors.{LostIs}
+use Rattle.survivors.specs.V32.{line_depth, line_trellis}
 use Rattle.detection.specs.Slots.{Signal, signal_bits, slots_of, slot_of}
 use Rattle.slot_contents.specs.declared.heard.Heard.{Heard}
 use Rattle.slot_contents.specs.declared.heard.Heard.TheVariants.{Nothing, Passed, Lost, Chance}
@@ -18,7 +19,6 @@ use Rattle.bit_stuffing.proofs.Fill.{bits-append}
 use Rattle.std.proofs.lemmas.List.{map-append}
 use Rattle.sample_line.specs.Signals.{signal_of}
 use Rattle.sample_line.specs.Recorded.{Records}
-use Rattle.sample_line.specs.Received.{line_trellis, line_depth}
 use Rattle.line_laws.specs.Fitting.{AreFit}
 use Rattle.line_laws.specs.Laws.{SlotsAreRecorded}
 use Rattle.link_faults.specs.declared.fault.LinkFault.{LinkFault}
@@ -31,7 +31,7 @@ use Rattle.link_run.specs.Laws.{EachEndIsNamed, IsNamed}
 use Rattle.link_run.specs.Trace.{trace_text}
 use Rattle.line_texts.specs.LineText.{chance_line}
 use Rattle.turn_bound.specs.Limits.{file_limit}
-use Rattle.line_run.specs.Sampled.{Channel, signal_in, signals, Arrives, ArrivesAs, IsHeardOf, HeardIn, LineRun, LineEnd, LosesLine, IsHeardWell, EndsLine}
+use Rattle.line_run.specs.Sampled.{Channel, signal_in, signals, Arrives, ArrivesAs, IsHeardOf, LineRun, LineEnd, IsHeardWell, EndsLine}
 use Rattle.line_run.specs.Sampled as lines
 use Rattle.line_run.specs.Scripted.{channel_of, link_of, ScriptsMayPlay, ScriptsHaveDelays, SlotsHaveRoom, SlotsAreCodable}
 use Rattle.line_run.specs.Ends.{IsDone, LinkLost, NotDetected, LineLost, ChanceMatch, Left, Leaves, EndsInTurn}

@@ -8,11 +8,11 @@ use Rattle.scramblers.specs.Mode.{tap_of}
 use Rattle.scramblers.specs.Scrambles.{Descrambles}
 use Rattle.scramblers.proofs.Streams.{Descrambles-more}
 use Rattle.symbol_map.specs.declared.sample.Sample.{Sample}
-use Rattle.survivors.specs.Trellises.{HasLaws}
 use Rattle.survivors.specs.Survivors.{IsReleased, IsOver, LostIs}
 use Rattle.survivors.proofs.Fronts.{released-once}
 use Rattle.survivors.proofs.Least.{some-released}
-use Rattle.noiseless_line.proofs.Followed.{v32_has_laws}
+use Rattle.survivors.specs.V32.{line_depth, line_trellis}
+use Rattle.survivors.proofs.V32.{line-has-laws}
 use Rattle.line_coding.specs.Demodulates.{line_of}
 use Rattle.roles.specs.declared.role.Role.{Role}
 use Rattle.roles.specs.Role.{mode_of}
@@ -21,13 +21,10 @@ use Rattle.slot_contents.specs.declared.seen.Seen.{Seen}
 use Rattle.detection.specs.Sights.{Sight, SightsAdded}
 use Rattle.noise_script.specs.Script.{ScriptValue}
 use Rattle.sample_line.specs.Recorded.{Records}
-use Rattle.sample_line.specs.Received.{line_trellis, line_depth, Gives, FoundBetween, Receives}
+use Rattle.sample_line.specs.Received.{Gives, FoundBetween, Receives}
 use Rattle.sample_line.specs.Laws.{RecordingsGrow, GivenStays}
 use Rattle.line_laws.proofs.Recordings.{tap-some}
 use Rattle.line_ends.proofs.Deciding.{Decided, some-frames}
-
-laws-hold : HasLaws line_trellis 8 32 2
-laws-hold = v32_has_laws 0 (omega arith)
 
 -- labels carry bits
 some-read : (tap : ℕ) → 1 ≤ tap → (done output more : List Bool) → Descrambles tap done output → (bits : List Bool)
@@ -42,14 +39,14 @@ none-read tap = record { lengths = refl; each = λ i l. absurd (omega (arith, l)
 
 pub some-given : (sender : Role) (samples : List Sample) → (bits : List Bool) × Gives sender samples bits
 some-given sender samples =
-    let front = some-released line_trellis 8 32 2 samples laws-hold in
+    let front = some-released line_trellis 8 32 2 samples line-has-laws in
     let read = some-read (tap_of (mode_of sender)) (tap-some sender) [] [] (line_of front.0) (none-read (tap_of (mode_of sender))) in
     (read.0, record { labels = front.0; released = front.1; read = read.1 })
 
 -- whether the line is lost by then
 over-decided : (samples : List Sample) (n : ℕ) → Decided (IsOver line_trellis line_depth samples n)
 over-decided samples n =
-    let front = some-released line_trellis 8 32 2 (take n samples) laws-hold in
+    let front = some-released line_trellis 8 32 2 (take n samples) line-has-laws in
     elim (cases_lt (length front.0 + line_depth) n) [
       | inl l ↦ inl (record { front = front.0; released = front.1; over = l })
       | inr l ↦ inr (λ o. not-over front.0 front.1 l o)

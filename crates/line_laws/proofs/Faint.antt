@@ -13,6 +13,7 @@ use Rattle.trellis_tables.specs.Sequences.{Leads, cost}
 use Rattle.trellis_tables.specs.Table.{next_state}
 use Rattle.trellis_tables.proofs.Tables.{branch_of}
 use Rattle.survivors.proofs.Fronts.{lost-once}
+use Rattle.survivors.specs.V32.{line_depth, line_trellis}
 use Rattle.noiseless_line.proofs.Costs.{length-points}
 use Rattle.noisy_line.specs.Near.{only, sure, IsNear}
 use Rattle.noisy_line.proofs.Near.{few-unreleased, never-lost, releases-near}
@@ -22,7 +23,6 @@ use Rattle.roles.specs.Role.{mode_of}
 use Rattle.noise_script.specs.declared.offset.Offset.{Offset}
 use Rattle.noise_script.specs.Script.{ScriptValue, offset_of}
 use Rattle.sample_line.specs.Recorded.{displaced, displaced_from, saturated, Records}
-use Rattle.sample_line.specs.Received.{line_trellis, line_depth}
 use Rattle.line_laws.specs.Unhindered.{DisplacesNoneBefore}
 use Rattle.line_laws.specs.Faint.{squares_of, squares_from, IsFaintBefore}
 use Rattle.line_laws.specs.Laws.{UndisplacedIsFaint}

@@ -4,10 +4,10 @@ use Rattle.std.proofs.lemmas.List.{take_all}
 use Rattle.plain_lists.specs.Prefix.{IsPrefixOf}
 use Rattle.symbol_map.specs.declared.sample.Sample.{Sample}
 use Rattle.survivors.specs.Survivors.{IsReleased}
+use Rattle.survivors.specs.V32.{line_trellis}
 use Rattle.roles.specs.declared.role.Role.{Role}
 use Rattle.noise_script.specs.Script.{ScriptValue}
 use Rattle.sample_line.specs.Recorded.{Records}
-use Rattle.sample_line.specs.Received.{line_trellis}
 use Rattle.sample_line.specs.Path.{LosesAt, LosesWithin}
 
 -- Of a sender's first symbols, so many: the labels that are released were sent, all that was sent is released but for the last bits, at most

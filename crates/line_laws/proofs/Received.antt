@@ -10,8 +10,9 @@ use Rattle.scramblers.proofs.Readings.{Descrambles_once}
 use Rattle.symbol_map.specs.declared.sample.Sample.{Sample}
 use Rattle.survivors.specs.Survivors.{IsReleased}
 use Rattle.survivors.proofs.Least.{some-released}
+use Rattle.survivors.specs.V32.{line_trellis}
 use Rattle.exact_decoder.specs.declared.decoder.Lost.{Lost}
-use Rattle.noiseless_line.proofs.Followed.{v32_has_laws}
+use Rattle.survivors.proofs.V32.{line-has-laws}
 use Rattle.line_coding.specs.Demodulates.{Demodulates, line_of}
 use Rattle.line_coding.proofs.Readings.{first-stay, four-each}
 use Rattle.bit_stuffing.specs.Found.{Found, pieces_of}
@@ -37,7 +38,7 @@ use Rattle.slot_contents.specs.declared.heard.Heard.TheVariants.{Chance}
 use Rattle.sample_line.specs.Outcomes.{IsPattern, IsOutcome}
 use Rattle.sample_line.specs.Recorded.{Records}
 use Rattle.roles.specs.Role.{mode_of}
-use Rattle.sample_line.specs.Received.{line_trellis, AreFrames, FoundBetween, Gives, Receives}
+use Rattle.sample_line.specs.Received.{AreFrames, FoundBetween, Gives, Receives}
 use Rattle.sample_line.specs.Signals.{signal_of}
 use Rattle.slot_contents.specs.Sendable.{IsSendable}
 use Rattle.sample_line.specs.Line.{bits_behind, Kept, Passes, PassesSlot, sender_of, size_of}
@@ -231,7 +232,7 @@ gives-some : (lag : ℕ) (script : ScriptValue) (sender : Role) (count : ℕ) (b
     → Follows lag script sender count → length bits ≤ 4 * count → Records script sender bits samples → (read : List Bool)
     × Gives sender samples read
 gives-some lag script sender count bits samples follows few r =
-    let some = some-released line_trellis 8 32 2 samples (v32_has_laws 0 (omega arith)) in (
+    let some = some-released line_trellis 8 32 2 samples line-has-laws in (
       take (4 * length some.0) bits,
       record {
         labels = some.0;

@@ -21,12 +21,12 @@ use Rattle.trellis_tables.proofs.Tables.{next_by_y-lt}
 use Rattle.trellis_tables.proofs.Codings.{Encodes-more}
 use Rattle.survivors.specs.Survivors.{LostIs}
 use Rattle.survivors.proofs.Fronts.{lost-stays}
+use Rattle.survivors.specs.V32.{line_depth, line_trellis}
 use Rattle.roles.specs.declared.role.Role.{Role}
 use Rattle.roles.specs.declared.role.Role.TheVariants.{Originator, Answerer}
 use Rattle.noise_script.specs.Script.{ScriptValue}
 use Rattle.sample_line.specs.Recorded.{displaced_from, Records}
 use Rattle.roles.specs.Role.{mode_of}
-use Rattle.sample_line.specs.Received.{line_trellis, line_depth}
 use Rattle.sample_line.specs.Path.{LosesAt, LosesWithin}
 use Rattle.sample_line.proofs.Once.{recordings-grow}
 use Rattle.detection.specs.Slots.{Signal, signal_bits}

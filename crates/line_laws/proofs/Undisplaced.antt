@@ -8,6 +8,7 @@ use Rattle.symbol_map.specs.Points.{map_points, point_of, plus}
 use Rattle.std.specs.Prelude.{slice_index_or}
 use Rattle.scramblers.specs.Mode.{tap_of}
 use Rattle.survivors.proofs.Fronts.{lost-once}
+use Rattle.survivors.specs.V32.{line_depth, line_trellis}
 use Rattle.noiseless_line.specs.Noiseless.{IsNoiseless}
 use Rattle.noiseless_line.proofs.Costs.{length-points}
 use Rattle.noiseless_line.proofs.Followed.{few-unreleased_at, never-lost, released-sent_at}
@@ -22,7 +23,6 @@ use Rattle.noise_script.specs.Offsets as offsets
 use Rattle.noise_script.specs.Script.{ScriptValue}
 use Rattle.sample_line.specs.Recorded.{displaced, displaced_from, Records}
 use Rattle.roles.specs.Role.{mode_of}
-use Rattle.sample_line.specs.Received.{line_trellis, line_depth}
 use Rattle.sample_line.specs.Path.{LosesAt}
 use Rattle.line_laws.specs.Unhindered.{DisplacesNoneBefore}
 use Rattle.line_laws.proofs.Following.{Follows, all-of}

@@ -3,6 +3,7 @@ use Rattle.std.specs.Prelude.{◌≡◌, ℕ, ◌+◌, ◌-◌, ◌*◌, ◌/◌
 use Rattle.frame_check.specs.declared.check.Check.{Check}
 use Rattle.symbol_map.specs.declared.sample.Sample.{Sample}
 use Rattle.survivors.specs.Survivors.{LostIs}
+use Rattle.survivors.specs.V32.{line_depth, line_trellis}
 use Rattle.exact_decoder.specs.declared.decoder.Lost.{Lost}
 use Rattle.bit_stuffing.specs.declared.slot_writer.TheConstants.{HEAD, TAIL}
 use Rattle.bit_stuffing.specs.Slots.{AreSlots, phase_after, slot_bits}
@@ -23,7 +24,7 @@ use Rattle.lapm_frames.specs.Checked.{checked}
 use Rattle.sample_line.specs.Signals.{signal_of, IsCodable}
 use Rattle.slot_contents.specs.Sendable.{IsSendable}
 use Rattle.sample_line.specs.Recorded.{Records}
-use Rattle.sample_line.specs.Received.{Receives, line_trellis, line_depth}
+use Rattle.sample_line.specs.Received.{Receives}
 use Rattle.sample_line.specs.Path.{LosesAt, LosesWithin}
 use Rattle.sample_line.specs.Line.{Kept, Passes, PassesSlot, sender_of, size_of}
 use Rattle.line_laws.specs.Fitting.{Fits, AreFit, OfOctets}

@@ -5,6 +5,7 @@ use Rattle.std.proofs.lemmas.Bool.{false≢true}
 use Rattle.frame_check.specs.declared.check.Check.{Check}
 use Rattle.survivors.specs.Survivors.{LostIs}
 use Rattle.survivors.specs.Laws.{LostOnce}
+use Rattle.survivors.specs.V32.{line_depth, line_trellis}
 use Rattle.roles.specs.declared.role.Role.{Role}
 use Rattle.roles.specs.declared.role.Role.TheVariants.{Originator, Answerer}
 use Rattle.roles.specs.Role.{other}
@@ -17,7 +18,7 @@ use Rattle.slot_contents.specs.declared.heard.Heard.{Heard}
 use Rattle.slot_contents.specs.declared.heard.Heard.TheVariants.{Nothing, Passed, Lost, Chance}
 use Rattle.noise_script.specs.Script.{delay_of}
 use Rattle.sample_line.specs.Outcomes.{is_message, IsWhatWasSent, IsOutcome}
-use Rattle.sample_line.specs.Received.{line_trellis, line_depth, Receives}
+use Rattle.sample_line.specs.Received.{Receives}
 use Rattle.sample_line.specs.Laws.{RecordedOnce, ReceivedOnce, OneOutcome}
 use Rattle.link_account.specs.Account.{check_of}
 use Rattle.link_run.specs.Run.{Link, Ends, Spoken, Turn, Hears, RunOf}

@@ -4,6 +4,7 @@ use Rattle.std.specs.Prelude.{◌≡◌, ◌≢◌, ℕ, ◌-◌, ◌*◌, is_so
 use Rattle.frame_check.specs.declared.check.Check.{Check}
 use Rattle.symbol_map.specs.declared.sample.Sample.{Sample}
 use Rattle.survivors.specs.Survivors.{LostIs}
+use Rattle.survivors.specs.V32.{line_depth, line_trellis}
 use Rattle.roles.specs.declared.role.Role.{Role}
 use Rattle.roles.specs.declared.role.Role.TheVariants.{Originator, Answerer}
 use Rattle.roles.specs.Role.{other}
@@ -16,7 +17,7 @@ use Rattle.slot_contents.specs.declared.heard.Heard.TheVariants.{Nothing, Chance
 use Rattle.noise_script.specs.Script.{ScriptValue, delay_of, loses}
 use Rattle.sample_line.specs.Signals.{signal_of}
 use Rattle.sample_line.specs.Recorded.{Records}
-use Rattle.sample_line.specs.Received.{line_trellis, line_depth, Receives}
+use Rattle.sample_line.specs.Received.{Receives}
 use Rattle.sample_line.specs.Outcomes.{IsOutcome}
 use Rattle.sample_line.specs.Path.{LosesAt}
 use Rattle.link_account.specs.Account.{check_of}

@@ -1,13 +1,11 @@
 -- What the command promises, over the folder before and after it. What is said of a name's octets holds where the folder tells that
 -- name.
-use Rattle.std.specs.Prelude.{◌≡◌, ℕ, ◌*◌, ◌<◌, nat_lt, nat_eq, IsTrue, List, [], ◌++◌, length, None}
+use Rattle.std.specs.Prelude.{◌≡◌, ℕ, ◌*◌, ◌<◌, nat_lt, IsTrue, List, [], ◌++◌, length, None}
 use Rattle.scramblers.specs.declared.mode.Mode.{Mode}
 use Rattle.symbol_map.specs.declared.sample.Sample.{Sample}
-use Rattle.symbol_map.specs.Points.{point_of}
 use Rattle.plain_lists.specs.Prefix.{IsPrefixOf}
-use Rattle.trellis_tables.specs.Table.{next_state}
-use Rattle.survivors.specs.Trellises.{Trellis, trellis_of}
 use Rattle.survivors.specs.Survivors.{IsReleased, LostIs}
+use Rattle.survivors.specs.V32.{line_trellis, line_depth}
 use Rattle.outside_core.specs.Folder.{FolderState, octets_at, Said}
 use Rattle.noise_bound.specs.Margins.{IsCostOf}
 use Rattle.recordings.specs.Recording.{header_of}
@@ -17,14 +15,6 @@ use Rattle.command_base.specs.declared.status.Status.TheVariants.{Done}
 use Rattle.command_base.specs.Job.{Shared}
 use Rattle.command_base.specs.Lines.{margin_line}
 use Rattle.margin_command.specs.Words.{MarginNames, inputs_of}
-
--- the code of the line, whose sequences start in state 0
-abbrev pub line_trellis : Trellis Sample
-line_trellis = trellis_of next_state point_of (λ state. nat_eq state 0)
-
--- the most labels that may be unreleased
-abbrev pub line_depth : ℕ
-line_depth = 128
 
 -- The samples are not lost, and what they release begins these labels.
 pub record AreDecoded (samples : List Sample) (labels : List ℕ) : Type 0 where

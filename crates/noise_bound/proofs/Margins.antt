@@ -9,7 +9,7 @@ use Rattle.symbol_map.specs.Points.{point_of}
 use Rattle.trellis_tables.specs.Laws.{far_from}
 use Rattle.trellis_tables.specs.Sequences.{cost}
 use Rattle.survivors.specs.Survivors.{IsReleased}
-use Rattle.quarter_turns.specs.Turned.{code_from}
+use Rattle.survivors.specs.V32.{v32_code}
 use Rattle.noiseless_line.proofs.Costs.{length-points}
 use Rattle.noisy_line.specs.Near.{only}
 use Rattle.noisy_line.proofs.Near.{releases-near, never-lost}
@@ -92,5 +92,5 @@ sure-is-decoded mode octets samples price depth c low deep =
     let all : take (length samples) samples ≡ samples = take_all (length samples) samples (omega arith) in (
       never-lost 0 depth c.modulated.labels samples near deep,
       λ front r. releases-near 0 (length samples) c.modulated.labels front samples near
-          (subst (λ k. IsReleased (code_from (only 0)) k front) (sym all) r),
+          (subst (λ k. IsReleased (v32_code (only 0)) k front) (sym all) r),
     )

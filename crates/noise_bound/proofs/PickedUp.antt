@@ -14,7 +14,7 @@ use Rattle.scramblers.proofs.Readings.{depends_on_three}
 use Rattle.symbol_map.specs.declared.sample.Sample.{Sample}
 use Rattle.symbol_map.specs.Distance.{quarter_turned}
 use Rattle.symbol_map.specs.Laws.{turned_label}
-use Rattle.quarter_turns.specs.Turned.{all_states}
+use Rattle.survivors.specs.V32.{at_any}
 use Rattle.quarter_turns.proofs.Least.{all_states_turn}
 use Rattle.noisy_line.specs.Near.{sure_of_any, IsNear}
 use Rattle.picked_up_lines.specs.PickedUp.{IsPickedUp, line_behind}
@@ -133,7 +133,7 @@ one-list-of-pieces-begins tap labels front turned_front samples bits turned_bits
 
 -- what a reader took begins what was released
 taken-begins : (labels : List ℕ) (samples : List Sample) (count : ℕ) (mode : Mode) (depth : ℕ) (m : Middle) (bits : List Bool)
-    → IsNear sure_of_any all_states labels samples
+    → IsNear sure_of_any at_any labels samples
     → (r : ReadsMiddle mode depth m (take count samples) bits) → IsPrefixOf r.labels labels
 taken-begins labels samples count mode depth m bits h r =
     let pending = m.reading.decoder.pending in
@@ -144,7 +144,7 @@ pub readers-pieces-begin : ReadersPiecesBegin
 readers-pieces-begin mode depth turned_depth count turned_count m other labels samples bits turned_bits h read turned_read =
     let mine = readers_pick_up mode depth m (take count samples) bits read in
     let theirs = readers_pick_up mode turned_depth other (take turned_count (map quarter_turned samples)) turned_bits turned_read in
-    let near = near-turns sure_of_any all_states all_states labels samples all_states_turn h in
+    let near = near-turns sure_of_any at_any at_any labels samples all_states_turn h in
     let both : BothBegin labels mine.labels theirs.labels = record {
       begins = taken-begins labels samples count mode depth m bits h mine;
       turned_begins = taken-begins (map turned_label labels)

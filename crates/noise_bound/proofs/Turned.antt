@@ -9,7 +9,8 @@ use Rattle.symbol_map.specs.Laws.{turned_label}
 use Rattle.trellis_tables.specs.Rotation.{rotated}
 use Rattle.trellis_tables.proofs.Rotations.{rotated-lt, one_start_turns, turn_keeps_cost}
 use Rattle.survivors.specs.Survivors.{IsReleased}
-use Rattle.quarter_turns.specs.Turned.{code_from, all_states, StartsTurn}
+use Rattle.survivors.specs.V32.{at_any, v32_code}
+use Rattle.quarter_turns.specs.Turned.{StartsTurn}
 use Rattle.quarter_turns.proofs.Lists.{labels-small, leads-within}
 use Rattle.quarter_turns.proofs.Least.{sequences_turn, all_states_turn}
 use Rattle.exact_decoder.specs.Decoder.{heard}
@@ -52,24 +53,24 @@ begin-from_one start labels front turned_front samples low h r =
           (map quarter_turned samples) turned r.turned_released;
     }
 
-pub begin-from_any : (labels front turned_front : List ℕ) (samples : List Sample) → IsNear sure_of_any all_states labels samples
-    → BothRelease all_states all_states samples front turned_front → BothBegin labels front turned_front
+pub begin-from_any : (labels front turned_front : List ℕ) (samples : List Sample) → IsNear sure_of_any at_any labels samples
+    → BothRelease at_any at_any samples front turned_front → BothBegin labels front turned_front
 begin-from_any labels front turned_front samples h r =
-    let turned = near-turns sure_of_any all_states all_states labels samples all_states_turn h in
+    let turned = near-turns sure_of_any at_any at_any labels samples all_states_turn h in
     record {
-      begins = releases-near_of_any all_states r.count labels front samples h r.released;
-      turned_begins = releases-near_of_any all_states r.turned_count (map turned_label labels) turned_front
+      begins = releases-near_of_any at_any r.count labels front samples h r.released;
+      turned_begins = releases-near_of_any at_any r.turned_count (map turned_label labels) turned_front
           (map quarter_turned samples) turned r.turned_released;
     }
 
 -- what is heard up to a loss is released of the first samples
 pub heard-begins : (labels front : List ℕ) (samples : List Sample) (count : ℕ) (lost : Option ℕ)
-    → IsNear sure_of_any all_states labels samples → IsReleased (code_from all_states) (heard lost (take count samples)) front
+    → IsNear sure_of_any at_any labels samples → IsReleased (v32_code at_any) (heard lost (take count samples)) front
     → IsPrefixOf front labels
-heard-begins labels front samples count None h r = releases-near_of_any all_states count labels front samples h r
+heard-begins labels front samples count None h r = releases-near_of_any at_any count labels front samples h r
 heard-begins labels front samples count (Some symbol) h r =
-    let p = releases-near_of_any all_states (symbol + 1) (take count labels) front (take count samples)
-    (near-front sure_of_any all_states labels samples count h) r in (
+    let p = releases-near_of_any at_any (symbol + 1) (take count labels) front (take count samples)
+    (near-front sure_of_any at_any labels samples count h) r in (
       p.0 ++ drop count labels,
       sym (append_assoc front p.0 (drop count labels)) ∙ ap (λ k. k ++ drop count labels) p.1
           ∙ take-append-drop count labels,

@@ -9,7 +9,8 @@ use Rattle.symbol_map.specs.Laws.{turned_label}
 use Rattle.trellis_tables.specs.LabelReader.{quads_of}
 use Rattle.trellis_tables.specs.Rotation.{rotated}
 use Rattle.survivors.specs.Survivors.{IsReleased, LostIs}
-use Rattle.quarter_turns.specs.Turned.{all_states, code_from, StartsTurn}
+use Rattle.survivors.specs.V32.{at_any, v32_code}
+use Rattle.quarter_turns.specs.Turned.{StartsTurn}
 use Rattle.noisy_line.specs.Near.{only, sure, sure_of_any, IsNear}
 use Rattle.line_coding.specs.Demodulates.{Demodulates}
 use Rattle.picked_up_lines.specs.PickedUp.{IsPickedUp}
@@ -27,8 +28,8 @@ SureIsNear = (mode : Mode) (octets : List ℕ) (samples : List Sample) (price : 
 abbrev pub SureIsDecoded : Type 0
 SureIsDecoded = (mode : Mode) (octets : List ℕ) (samples : List Sample) (price depth : ℕ) → (c : IsCostOf mode octets samples price)
     → price < sure → 126 ≤ depth
-    → LostIs (code_from (only 0)) depth samples None
-    × ((front : List ℕ) → IsReleased (code_from (only 0)) samples front → IsPrefixOf front c.modulated.labels)
+    → LostIs (v32_code (only 0)) depth samples None
+    × ((front : List ℕ) → IsReleased (v32_code (only 0)) samples front → IsPrefixOf front c.modulated.labels)
 
 -- turned samples are near the turned labels
 abbrev pub NearTurns : Type 0
@@ -56,31 +57,31 @@ abbrev pub QuadsAreAlike : Type 0
 QuadsAreAlike = (start : ℕ) → start < 8 → QuadsAreAlikeFrom sure (only start) (only (rotated start))
 
 abbrev pub QuadsAreAlikeOfAny : Type 0
-QuadsAreAlikeOfAny = QuadsAreAlikeFrom sure_of_any all_states all_states
+QuadsAreAlikeOfAny = QuadsAreAlikeFrom sure_of_any at_any at_any
 
 abbrev pub FewBitsDiffer : Type 0
 FewBitsDiffer = (start : ℕ) → start < 8 → FewBitsDifferFrom sure (only start) (only (rotated start))
 
 abbrev pub FewBitsDifferOfAny : Type 0
-FewBitsDifferOfAny = FewBitsDifferFrom sure_of_any all_states all_states
+FewBitsDifferOfAny = FewBitsDifferFrom sure_of_any at_any at_any
 
 -- of what is picked up one begins the other
 abbrev pub OnePickedUpBegins : Type 0
 OnePickedUpBegins = (tap : ℕ) (labels front turned_front : List ℕ) (samples : List Sample) (bits turned_bits : List Bool)
-    → IsNear sure_of_any all_states labels samples
-    → BothRelease all_states all_states samples front turned_front → IsPickedUp tap front bits → IsPickedUp tap turned_front turned_bits
+    → IsNear sure_of_any at_any labels samples
+    → BothRelease at_any at_any samples front turned_front → IsPickedUp tap front bits → IsPickedUp tap turned_front turned_bits
     → OneBegins bits turned_bits
 
 abbrev pub OneListOfPiecesBegins : Type 0
 OneListOfPiecesBegins = (tap : ℕ) (labels front turned_front : List ℕ) (samples : List Sample) (bits turned_bits : List Bool)
-    → IsNear sure_of_any all_states labels samples
-    → BothRelease all_states all_states samples front turned_front → IsPickedUp tap front bits → IsPickedUp tap turned_front turned_bits
+    → IsNear sure_of_any at_any labels samples
+    → BothRelease at_any at_any samples front turned_front → IsPickedUp tap front bits → IsPickedUp tap turned_front turned_bits
     → OneBegins (pieces_of bits) (pieces_of turned_bits)
 
 -- however far two readers have read
 abbrev pub ReadersPiecesBegin : Type 0
 ReadersPiecesBegin = (mode : Mode) (depth turned_depth count turned_count : ℕ) (m turned : Middle) (labels : List ℕ) (samples : List Sample)
     (bits turned_bits : List Bool)
-    → IsNear sure_of_any all_states labels samples → MiddleRead mode depth m (take count samples) bits
+    → IsNear sure_of_any at_any labels samples → MiddleRead mode depth m (take count samples) bits
     → MiddleRead mode turned_depth turned (take turned_count (map quarter_turned samples)) turned_bits
     → OneBegins (pieces_of bits) (pieces_of turned_bits)

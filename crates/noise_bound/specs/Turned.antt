@@ -4,14 +4,14 @@ use Rattle.plain_lists.specs.Prefix.{IsPrefixOf}
 use Rattle.symbol_map.specs.declared.sample.Sample.{Sample}
 use Rattle.symbol_map.specs.Distance.{quarter_turned}
 use Rattle.survivors.specs.Survivors.{IsReleased}
-use Rattle.quarter_turns.specs.Turned.{code_from}
+use Rattle.survivors.specs.V32.{v32_code}
 
 -- what the first samples of each release, from its own starts
 pub record BothRelease (starts turned_starts : ℕ → Bool) (samples : List Sample) (front turned_front : List ℕ) : Type 0 where
   pub count : ℕ
-  pub released : IsReleased (code_from starts) (take count samples) front
+  pub released : IsReleased (v32_code starts) (take count samples) front
   pub turned_count : ℕ
-  pub turned_released : IsReleased (code_from turned_starts) (take turned_count (map quarter_turned samples)) turned_front
+  pub turned_released : IsReleased (v32_code turned_starts) (take turned_count (map quarter_turned samples)) turned_front
 
 -- the places of the bits that the first two bits of a line go into
 abbrev pub IsOfFirstTwo : ℕ → ℕ → Type 0

@@ -10,17 +10,14 @@ use Rattle.trellis_tables.specs.Table.{next_state}
 use Rattle.trellis_tables.specs.Laws.{far_from}
 use Rattle.trellis_tables.specs.V32Laws.{v32_bounded, v32_within}
 use Rattle.trellis_tables.proofs.Sequences.{Leads-split, Leads_once}
-use Rattle.survivors.specs.Trellises.{Trellis, IsSequence, trellis_of}
+use Rattle.survivors.specs.Trellises.{Trellis, IsSequence}
 use Rattle.survivors.specs.Survivors.{IsSurvivor, IsReleased}
 use Rattle.survivors.proofs.Release.{survivor-one}
 use Rattle.survivors.proofs.Bellman.{least_cost, sequence-more, survivor-front}
+use Rattle.survivors.specs.V32.{v32_code}
 use Rattle.noiseless_line.proofs.Costs.{length-points, cost-append}
 use Rattle.noiseless_line.proofs.Meetings.{Parted, Meeting, meets, parted-now, parted-cost, behind-cost}
 use Rattle.noiseless_line.proofs.Detours.{other-end}
-
--- the eight-state code's sequences from these starts
-abbrev pub code_of : (ℕ → Bool) → Trellis Sample
-code_of starts = trellis_of next_state point_of starts
 
 -- The labels are a sequence, of which each front is the survivor at its end.
 pub record Survives (starts : ℕ → Bool) (own_from : ℕ) (samples : List Sample) (labels : List ℕ) : Type 0 where
@@ -28,11 +25,11 @@ pub record Survives (starts : ℕ → Bool) (own_from : ℕ) (samples : List Sam
   pub end : ℕ
   pub leads : Leads next_state own_from labels end
   pub same_length : length labels ≡ length samples
-  pub fronts : (n mid : ℕ) → n ≤ length labels → Leads next_state own_from (take n labels) mid → IsSurvivor (code_of starts) (take n samples) (take n labels) mid
+  pub fronts : (n mid : ℕ) → n ≤ length labels → Leads next_state own_from (take n labels) mid → IsSurvivor (v32_code starts) (take n samples) (take n labels) mid
 
 -- each survivor is near the labels' points, by how much two sequences differ that are apart for three times so many symbols
 abbrev pub AreNear : (ℕ → Bool) → List Sample → List ℕ → ℕ → Type 0
-AreNear starts samples labels k = (to : ℕ) (q : List ℕ) → IsSurvivor (code_of starts) samples q to → cost far_from q (map point_of labels) < 16777216 + 8388608 * k
+AreNear starts samples labels k = (to : ℕ) (q : List ℕ) → IsSurvivor (v32_code starts) samples q to → cost far_from q (map point_of labels) < 16777216 + 8388608 * k
 
 -- what a survivor begins with survives in the state in which the rest goes on
 pub part-survives : {X : Type 0} (t : Trellis X) (samples more : List X) (front rest : List ℕ) (mid to : ℕ)
@@ -65,30 +62,30 @@ pub record Cheaper (starts : ℕ → Bool) (samples : List Sample) (labels q : L
   pub best : cost far_from q samples ≤ cost far_from other samples
 
 pub cheaper : (starts : ℕ → Bool) (samples : List Sample) (labels q : List ℕ) (from end to : ℕ) → starts from ≡ true → Leads next_state from labels end → length labels ≡ length samples → 2 ≤ length labels
-    → IsSurvivor (code_of starts) samples q to → Cheaper starts samples labels q
+    → IsSurvivor (v32_code starts) samples q to → Cheaper starts samples labels q
 cheaper starts samples labels q from end to there l long many s =
     let in_states = end-within s.sequence.code_sequence.from to q (omega (arith, s.sequence.same_length)) s.sequence.code_sequence.leads in
     let o = other-end from end to labels l many in_states in
-    let another : IsSequence (code_of starts) samples o.other to = record { code_sequence = record { from = from; starts_there = there; leads = o.leads }; same_length = o.same_length ∙ long } in
-    record { other = o.other; same_length = o.same_length; cheap = o.cheap; best = least_cost (code_of starts) samples q o.other (s.best o.other another) }
+    let another : IsSequence (v32_code starts) samples o.other to = record { code_sequence = record { from = from; starts_there = there; leads = o.leads }; same_length = o.same_length ∙ long } in
+    record { other = o.other; same_length = o.same_length; cheap = o.cheap; best = least_cost (v32_code starts) samples q o.other (s.best o.other another) }
 
 -- a survivor agrees with the labels up to the last state that both share
-fronts-agree : (starts : ℕ → Bool) (samples : List Sample) (labels q : List ℕ) (from own_from to : ℕ) → (own : Survives starts own_from samples labels) → starts from ≡ true → Leads next_state from q to → IsSurvivor (code_of starts) samples q to
+fronts-agree : (starts : ℕ → Bool) (samples : List Sample) (labels q : List ℕ) (from own_from to : ℕ) → (own : Survives starts own_from samples labels) → starts from ≡ true → Leads next_state from q to → IsSurvivor (v32_code starts) samples q to
     → (m : Meeting from q own_from labels) → m.front ≡ m.own_front
 fronts-agree starts samples labels q from own_from to own there l s m =
     let n = length m.own_front in
     let total : length labels ≡ n + length m.own_rest = ap length m.own_joined ∙ length-append {A = ℕ} m.own_front m.own_rest in
     let part : take n labels ≡ m.own_front = ap (take n) m.own_joined ∙ take_at m.own_front m.own_rest n refl in
     let mine = own.fronts n m.mid (omega arith) (subst (λ k. Leads next_state own_from k m.mid) (sym part) m.own_leads) in
-    let survives = subst (λ k. IsSurvivor (code_of starts) (take n samples) k m.mid) part mine in
+    let survives = subst (λ k. IsSurvivor (v32_code starts) (take n samples) k m.mid) part mine in
     let split = Leads-split next_state from m.front m.rest to (subst (λ k. Leads next_state from k to) m.joined l) in
     let same : split.0 ≡ m.mid = Leads_once next_state from m.front split.0 m.mid split.1 m.leads in
     let goes_on : Leads next_state m.mid m.rest to = subst (λ state. Leads next_state state m.rest to) same split.2 in
     let few : n ≤ length samples = omega (arith, own.same_length) in
-    let sequence : IsSequence (code_of starts) (take n samples) m.front m.mid = record { code_sequence = record { from = from; starts_there = there; leads = m.leads }; same_length = m.same_length ∙ sym (length-take-le n samples few) } in
-    let cut = subst (λ k. IsSurvivor (code_of starts) k q to) (sym (take-append-drop n samples)) s in
-    let whole = subst (λ k. IsSurvivor (code_of starts) (take n samples ++ drop n samples) k to) m.joined cut in
-    survivor-one (code_of starts) (take n samples) m.front m.own_front m.mid (part-survives (code_of starts) (take n samples) (drop n samples) m.front m.rest m.mid to sequence goes_on whole) survives
+    let sequence : IsSequence (v32_code starts) (take n samples) m.front m.mid = record { code_sequence = record { from = from; starts_there = there; leads = m.leads }; same_length = m.same_length ∙ sym (length-take-le n samples few) } in
+    let cut = subst (λ k. IsSurvivor (v32_code starts) k q to) (sym (take-append-drop n samples)) s in
+    let whole = subst (λ k. IsSurvivor (v32_code starts) (take n samples ++ drop n samples) k to) m.joined cut in
+    survivor-one (v32_code starts) (take n samples) m.front m.own_front m.mid (part-survives (v32_code starts) (take n samples) (drop n samples) m.front m.rest m.mid to sequence goes_on whole) survives
 
 -- few symbols are behind that state
 few-behind : (k from own_from : ℕ) (q labels : List ℕ) → cost far_from q (map point_of labels) < 16777216 + 8388608 * k → (m : Meeting from q own_from labels) → length m.rest ≤ 3 * k
@@ -110,7 +107,7 @@ few-parted k from own_from q labels near p = elim (cases_lt (3 * k + 5) (length 
 
 -- Where so many labels are all that a sequence may be apart from them, all but so many begin each survivor.
 pub agrees : (starts : ℕ → Bool) (own_from : ℕ) (samples : List Sample) (labels q : List ℕ) (k most to : ℕ) → (own : Survives starts own_from samples labels) → AreNear starts samples labels k → 3 * k ≤ most
-    → ((from : ℕ) → starts from ≡ true → Parted from q own_from labels → length labels ≤ most) → IsSurvivor (code_of starts) samples q to → IsPrefixOf (take (length labels - most) labels) q
+    → ((from : ℕ) → starts from ≡ true → Parted from q own_from labels → length labels ≤ most) → IsSurvivor (v32_code starts) samples q to → IsPrefixOf (take (length labels - most) labels) q
 agrees starts own_from samples labels q k most to own near enough apart s =
     met (meets s.sequence.code_sequence.from own_from to own.end q labels s.sequence.code_sequence.leads own.leads (s.sequence.same_length ∙ sym own.same_length))
   where
@@ -136,31 +133,31 @@ agrees starts own_from samples labels q k most to own near enough apart s =
     met (inr m) = from-meeting m
 
 -- so all but so many are released
-pub released-all_but : (starts : ℕ → Bool) (samples : List Sample) (labels front : List ℕ) (most : ℕ) → ((to : ℕ) (q : List ℕ) → IsSurvivor (code_of starts) samples q to → IsPrefixOf (take (length labels - most) labels) q)
-    → IsReleased (code_of starts) samples front → length labels ≤ length front + most
+pub released-all_but : (starts : ℕ → Bool) (samples : List Sample) (labels front : List ℕ) (most : ℕ) → ((to : ℕ) (q : List ℕ) → IsSurvivor (v32_code starts) samples q to → IsPrefixOf (take (length labels - most) labels) q)
+    → IsReleased (v32_code starts) samples front → length labels ≤ length front + most
 released-all_but starts samples labels front most common r =
     let p = r.longest (take (length labels - most) labels) common in
     let whole : length front ≡ length (take (length labels - most) labels) + length p.0 = ap length (sym p.1) ∙ length-append {A = ℕ} (take (length labels - most) labels) p.0 in
     omega (arith, whole, length-take-le (length labels - most) labels (omega arith))
 
 -- and all that is released is among them
-pub released-begins : (starts : ℕ → Bool) (own_from : ℕ) (samples : List Sample) (labels front : List ℕ) → Survives starts own_from samples labels → IsReleased (code_of starts) samples front → IsPrefixOf front labels
+pub released-begins : (starts : ℕ → Bool) (own_from : ℕ) (samples : List Sample) (labels front : List ℕ) → Survives starts own_from samples labels → IsReleased (v32_code starts) samples front → IsPrefixOf front labels
 released-begins starts own_from samples labels front own r =
     let n = length labels in
     let all : take n labels ≡ labels = take_all n labels (omega arith) in
     let each : take n samples ≡ samples = take_all n samples (omega (arith, own.same_length)) in
     let last = own.fronts n own.end (omega arith) (subst (λ k. Leads next_state own_from k own.end) (sym all) own.leads) in
-    r.common own.end labels (subst (λ k. IsSurvivor (code_of starts) k labels own.end) each (subst (λ k. IsSurvivor (code_of starts) (take n samples) k own.end) all last))
+    r.common own.end labels (subst (λ k. IsSurvivor (v32_code starts) k labels own.end) each (subst (λ k. IsSurvivor (v32_code starts) (take n samples) k own.end) all last))
 
 -- from one start no survivor is apart throughout
 pub few-from_one : (starts : ℕ → Bool) (own_from : ℕ) (samples : List Sample) (labels front : List ℕ) (k : ℕ) → (own : Survives starts own_from samples labels) → ((from : ℕ) → starts from ≡ true → from ≡ own_from) → AreNear starts samples labels k
-    → IsReleased (code_of starts) samples front → length labels ≤ length front + 3 * k
+    → IsReleased (v32_code starts) samples front → length labels ≤ length front + 3 * k
 few-from_one starts own_from samples labels front k own one near r =
     released-all_but starts samples labels front (3 * k) (λ to q s. agrees starts own_from samples labels q k (3 * k) to own near (omega arith) (λ from there p. absurd (parted-now from own_from q labels p (one from there))) s) r
 
 -- from any starts one may be, for a while
 pub few-from_any : (starts : ℕ → Bool) (own_from : ℕ) (samples : List Sample) (labels front : List ℕ) (k : ℕ) → Survives starts own_from samples labels → AreNear starts samples labels k
-    → IsReleased (code_of starts) samples front → length labels ≤ length front + (3 * k + 5)
+    → IsReleased (v32_code starts) samples front → length labels ≤ length front + (3 * k + 5)
 few-from_any starts own_from samples labels front k own near r =
     released-all_but starts samples labels front (3 * k + 5)
     (λ to q s. agrees starts own_from samples labels q k (3 * k + 5) to own near (omega arith) (λ from there p. omega (arith, few-parted k from own_from q labels (near to q s) p, s.sequence.same_length, own.same_length)) s)

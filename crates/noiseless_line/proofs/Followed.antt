@@ -6,7 +6,6 @@ use Rattle.symbol_map.specs.declared.sample.Sample.{Sample}
 use Rattle.symbol_map.specs.Points.{point_of}
 use Rattle.trellis_tables.specs.Sequences.{Leads, cost}
 use Rattle.trellis_tables.specs.Table.{next_state}
-use Rattle.trellis_tables.specs.V32Laws.{v32_bounded, v32_within, v32_enters_once, v32_reaches}
 use Rattle.trellis_tables.specs.Laws.{far_from}
 use Rattle.trellis_tables.proofs.Sequences.{Leads-take}
 use Rattle.survivors.specs.Trellises.{IsSequence, HasLaws}
@@ -14,33 +13,27 @@ use Rattle.plain_lists.specs.Prefix.{IsPrefixOf}
 use Rattle.survivors.specs.Orders.{Beats}
 use Rattle.survivors.specs.Survivors.{IsSurvivor, IsReleased, LostIs}
 use Rattle.survivors.proofs.Fronts.{lost-once}
+use Rattle.survivors.proofs.V32.{v32-has-laws}
+use Rattle.survivors.specs.V32.{v32_code}
 use Rattle.exact_decoder.specs.Decoder.{Decoding, DecoderStands, heard}
 use Rattle.noiseless_line.specs.Noiseless.{v32_from, IsNoiseless}
 use Rattle.exact_decoder.specs.Laws.{IsOnlyLeast}
 use Rattle.noiseless_line.specs.Laws.{Follows}
 use Rattle.noiseless_line.proofs.Costs.{length-points, cost-own, no-cost-own}
-use Rattle.noiseless_line.proofs.Agreeing.{code_of, Survives, AreNear, cheaper, few-from_one, few-from_any}
+use Rattle.noiseless_line.proofs.Agreeing.{Survives, AreNear, cheaper, few-from_one, few-from_any}
 
 pub v32_has_laws : (start : ℕ) → start < 8 → HasLaws (v32_from start) 8 32 2
-v32_has_laws start low = record {
-  bounded = v32_bounded;
-  within = v32_within;
-  enters_once = v32_enters_once;
-  some_steps = omega arith;
-  reaches = v32_reaches;
-  start = start;
-  starts_there = eq-eqb start start refl;
-  starts_within = λ state e. subst (λ s. s < 8) (sym (eqb-true state start e)) low;
-}
+v32_has_laws start low =
+    v32-has-laws _ start (eq-eqb start start refl) (λ state e. subst (λ s. s < 8) (sym (eqb-true state start e)) low)
 
 -- sent labels survive at their end, from whatever states sequences start
-pub sent-survives : (starts : ℕ → Bool) (from end : ℕ) (labels : List ℕ) → starts from ≡ true → Leads next_state from labels end → IsSurvivor (code_of starts) (map point_of labels) labels end
+pub sent-survives : (starts : ℕ → Bool) (from end : ℕ) (labels : List ℕ) → starts from ≡ true → Leads next_state from labels end → IsSurvivor (v32_code starts) (map point_of labels) labels end
 sent-survives starts from end labels there l = record {
   sequence = record { code_sequence = record { from = from; starts_there = there; leads = l }; same_length = sym (length-points labels) };
   best = λ other o. against other o (cases_eq (cost far_from other (map point_of labels)) 0);
 }
   where
-    against : (other : List ℕ) → IsSequence (code_of starts) (map point_of labels) other end → (cost far_from other (map point_of labels) ≡ 0) ⊎ (cost far_from other (map point_of labels) ≡ 0 → ⊥) → (other ≡ labels) ⊎ Beats far_from (map point_of labels) labels other
+    against : (other : List ℕ) → IsSequence (v32_code starts) (map point_of labels) other end → (cost far_from other (map point_of labels) ≡ 0) ⊎ (cost far_from other (map point_of labels) ≡ 0 → ⊥) → (other ≡ labels) ⊎ Beats far_from (map point_of labels) labels other
     against other o (inl none) = inl (no-cost-own o.code_sequence.from from end end other labels o.code_sequence.leads l (o.same_length ∙ length-points labels) none)
     against other o (inr some) = inr (inl (elim (cases_lt 0 (cost far_from other (map point_of labels))) [
       | inl more ↦ omega (arith, cost-own labels)
@@ -54,7 +47,7 @@ fronts-of_sent starts from end labels there l = record {
   end = end;
   leads = l;
   same_length = sym (length-points labels);
-  fronts = λ n mid within front. subst (λ k. IsSurvivor (code_of starts) k (take n labels) mid) (sym (take-map point_of n labels)) (sent-survives starts from mid (take n labels) there front);
+  fronts = λ n mid within front. subst (λ k. IsSurvivor (v32_code starts) k (take n labels) mid) (sym (take-map point_of n labels)) (sent-survives starts from mid (take n labels) there front);
 }
 
 survives-from : (start end : ℕ) (labels : List ℕ) → Leads next_state start labels end → IsSurvivor (v32_from start) (map point_of labels) labels end
@@ -87,7 +80,7 @@ few-unreleased start end labels front l r = elim (cases_lt (length labels) 2) [
 ]
 
 -- from any states at most 29 labels are unreleased
-pub few-unreleased_of_any : (starts : ℕ → Bool) (from end : ℕ) (labels front : List ℕ) → starts from ≡ true → Leads next_state from labels end → IsReleased (code_of starts) (map point_of labels) front → length labels ≤ length front + 29
+pub few-unreleased_of_any : (starts : ℕ → Bool) (from end : ℕ) (labels front : List ℕ) → starts from ≡ true → Leads next_state from labels end → IsReleased (v32_code starts) (map point_of labels) front → length labels ≤ length front + 29
 few-unreleased_of_any starts from end labels front there l r = elim (cases_lt (length labels) 2) [
   | inl few ↦ omega arith
   | inr many ↦ few-from_any starts from (map point_of labels) labels front 8 (fronts-of_sent starts from end labels there l) (sent-near starts from end labels there l many) r

@@ -4,11 +4,12 @@ use Rattle.symbol_map.specs.declared.sample.Sample.{Sample}
 use Rattle.symbol_map.specs.Points.{point_of}
 use Rattle.trellis_tables.specs.Sequences.{Leads}
 use Rattle.trellis_tables.specs.Table.{next_state}
-use Rattle.survivors.specs.Trellises.{Trellis, trellis_of}
+use Rattle.survivors.specs.Trellises.{Trellis}
+use Rattle.survivors.specs.V32.{v32_code}
 
 -- the eight-state code's sequences from one state
 abbrev pub v32_from : ℕ → Trellis Sample
-v32_from start = trellis_of next_state point_of (λ state. nat_eq state start)
+v32_from start = v32_code (λ state. nat_eq state start)
 
 -- the samples are exactly the points of these labels, which are a code sequence from the start
 pub record IsNoiseless (start : ℕ) (labels : List ℕ) (samples : List Sample) : Type 0 where

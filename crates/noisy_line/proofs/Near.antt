@@ -13,8 +13,8 @@ use Rattle.survivors.specs.Trellises.{IsSequence}
 use Rattle.survivors.specs.Orders.{Beats}
 use Rattle.survivors.specs.Survivors.{IsSurvivor, IsReleased, LostIs}
 use Rattle.survivors.proofs.Fronts.{lost-once}
+use Rattle.survivors.specs.V32.{v32_code}
 use Rattle.exact_decoder.specs.Decoder.{Decoding, DecoderStands, heard}
-use Rattle.quarter_turns.specs.Turned.{code_from}
 use Rattle.noiseless_line.proofs.Agreeing.{Survives, AreNear, cheaper, released-begins, few-from_one, few-from_any}
 use Rattle.noiseless_line.proofs.Followed.{few-unreleased_of_any}
 use Rattle.noisy_line.specs.Distances.{apart_in_all}
@@ -50,7 +50,7 @@ tells-from_any starts from own_from end q labels there own_there h p l =
 -- labels that are near the samples survive
 near-survives : (bound : ℕ) (starts : ℕ → Bool) (samples : List Sample) (labels : List ℕ) (from end : ℕ) → TellsApart bound starts
     → starts from ≡ true → Leads next_state from labels end → length labels ≡ length samples
-    → cost far_from labels samples < bound → IsSurvivor (code_from starts) samples labels end
+    → cost far_from labels samples < bound → IsSurvivor (v32_code starts) samples labels end
 near-survives bound starts samples labels from end tells there l long near = record {
   sequence = record { code_sequence = record { from = from; starts_there = there; leads = l }; same_length = long };
   best = λ other o. against other o
@@ -58,7 +58,7 @@ near-survives bound starts samples labels from end tells there l long near = rec
       ∙ sym long) o.code_sequence.leads l);
 }
   where
-    against : (other : List ℕ) → IsSequence (code_from starts) samples other end → (other ≡ labels)
+    against : (other : List ℕ) → IsSequence (v32_code starts) samples other end → (other ≡ labels)
         ⊎ (4 * bound ≤ cost far_from other (map point_of labels)) → (other ≡ labels) ⊎ Beats far_from samples labels other
     against other o (inl one) = inl one
     against other o (inr far) = inr (inl (omega (arith, distance-over_samples other labels samples o.same_length long)))
@@ -109,7 +109,7 @@ near-all bound k starts labels samples enough many h to q s =
 -- what is released
 
 released : (bound : ℕ) (starts : ℕ → Bool) (n : ℕ) (labels front : List ℕ) (samples : List Sample) → TellsApart bound starts
-    → IsNear bound starts labels samples → IsReleased (code_from starts) (take n samples) front → IsPrefixOf front labels
+    → IsNear bound starts labels samples → IsReleased (v32_code starts) (take n samples) front → IsPrefixOf front labels
 released bound starts n labels front samples tells h r =
     let part = near-front bound starts labels samples n h in
     let p = released-begins starts part.sequence.code_sequence.from (take n samples) (take n labels) front
@@ -123,7 +123,7 @@ pub releases-near_of_any : ReleasesNearOfAny
 releases-near_of_any starts n labels front samples h r = released sure_of_any starts n labels front samples (tells-from_any starts) h r
 
 few-of_one : (start : ℕ) (labels front : List ℕ) (samples : List Sample) → IsNear sure (only start) labels samples
-    → IsReleased (code_from (only start)) samples front → length labels ≤ length front + 126
+    → IsReleased (v32_code (only start)) samples front → length labels ≤ length front + 126
 few-of_one start labels front samples h r = elim (cases_lt (length labels) 2) [
   | inl few ↦ omega arith
   | inr many ↦
@@ -134,7 +134,7 @@ few-of_one start labels front samples h r = elim (cases_lt (length labels) 2) [
 ]
 
 few-of_any : (starts : ℕ → Bool) (labels front : List ℕ) (samples : List Sample) → IsNear sure_of_any starts labels samples
-    → IsReleased (code_from starts) samples front → length labels ≤ length front + 116
+    → IsReleased (v32_code starts) samples front → length labels ≤ length front + 116
 few-of_any starts labels front samples h r = elim (cases_lt (length labels) 2) [
   | inl few ↦ omega arith
   | inr many ↦
@@ -174,7 +174,7 @@ few-without_noise starts n labels front samples within h r =
       long-front 1 starts n labels samples within h,
       few-unreleased_of_any starts part.sequence.code_sequence.from part.end
           (take n labels) front part.sequence.code_sequence.starts_there part.sequence.code_sequence.leads
-          (subst (λ k. IsReleased (code_from starts) k front) exact r),
+          (subst (λ k. IsReleased (v32_code starts) k front) exact r),
     )
 
 pub never-lost : NeverLost
@@ -188,13 +188,13 @@ never-lost_any starts depth labels samples h deep n within o =
 -- of a decoder
 
 hears-all : (starts : ℕ → Bool) (depth : ℕ) (samples : List Sample) (taken : List ℕ) (d : Decoding)
-    → LostIs (code_from starts) depth samples None → DecoderStands next_state point_of starts depth d samples taken
-    → (d.lost ≡ None) × IsReleased (code_from starts) (take (length samples) samples) (taken ++ d.pending)
+    → LostIs (v32_code starts) depth samples None → DecoderStands next_state point_of starts depth d samples taken
+    → (d.lost ≡ None) × IsReleased (v32_code starts) (take (length samples) samples) (taken ++ d.pending)
 hears-all starts depth samples taken d never s =
-    let runs : d.lost ≡ None = lost-once (code_from starts) depth samples d.lost None s.lost never in
+    let runs : d.lost ≡ None = lost-once (v32_code starts) depth samples d.lost None s.lost never in
     let all : heard d.lost samples ≡ take (length samples) samples =
     ap (λ o. heard o samples) runs ∙ sym (take_all (length samples) samples (omega arith)) in
-    (runs, subst (λ k. IsReleased (code_from starts) k (taken ++ d.pending)) all s.released)
+    (runs, subst (λ k. IsReleased (v32_code starts) k (taken ++ d.pending)) all s.released)
 
 pub decodes-near : DecodesNear
 decodes-near start depth labels taken samples d deep h s =

@@ -5,8 +5,8 @@ use Rattle.symbol_map.specs.declared.sample.Sample.{Sample}
 use Rattle.symbol_map.specs.Points.{point_of}
 use Rattle.trellis_tables.specs.Table.{next_state}
 use Rattle.survivors.specs.Survivors.{IsReleased, LostIs}
+use Rattle.survivors.specs.V32.{v32_code}
 use Rattle.exact_decoder.specs.Decoder.{Decoding, DecoderStands}
-use Rattle.quarter_turns.specs.Turned.{code_from}
 use Rattle.noisy_line.specs.Near.{only, sure, sure_of_any, IsNear, Follows}
 
 -- from one start
@@ -14,16 +14,16 @@ use Rattle.noisy_line.specs.Near.{only, sure, sure_of_any, IsNear, Follows}
 -- what the first n samples release was sent
 abbrev pub ReleasesNear : Type 0
 ReleasesNear = (start n : ℕ) (labels front : List ℕ) (samples : List Sample)
-    → IsNear sure (only start) labels samples → IsReleased (code_from (only start)) (take n samples) front → IsPrefixOf front labels
+    → IsNear sure (only start) labels samples → IsReleased (v32_code (only start)) (take n samples) front → IsPrefixOf front labels
 
 -- and all of it but the latest 126 labels
 abbrev pub FewUnreleased : Type 0
 FewUnreleased = (start n : ℕ) (labels front : List ℕ) (samples : List Sample) → n ≤ length samples
-    → IsNear sure (only start) labels samples → IsReleased (code_from (only start)) (take n samples) front → n ≤ length front + 126
+    → IsNear sure (only start) labels samples → IsReleased (v32_code (only start)) (take n samples) front → n ≤ length front + 126
 
 abbrev pub NeverLost : Type 0
 NeverLost = (start depth : ℕ) (labels : List ℕ) (samples : List Sample)
-    → IsNear sure (only start) labels samples → 126 ≤ depth → LostIs (code_from (only start)) depth samples None
+    → IsNear sure (only start) labels samples → 126 ≤ depth → LostIs (v32_code (only start)) depth samples None
 
 abbrev pub DecodesNear : Type 0
 DecodesNear = (start depth : ℕ) (labels taken : List ℕ) (samples : List Sample) (d : Decoding) → 126 ≤ depth
@@ -34,15 +34,15 @@ DecodesNear = (start depth : ℕ) (labels taken : List ℕ) (samples : List Samp
 
 abbrev pub ReleasesNearOfAny : Type 0
 ReleasesNearOfAny = (starts : ℕ → Bool) (n : ℕ) (labels front : List ℕ) (samples : List Sample)
-    → IsNear sure_of_any starts labels samples → IsReleased (code_from starts) (take n samples) front → IsPrefixOf front labels
+    → IsNear sure_of_any starts labels samples → IsReleased (v32_code starts) (take n samples) front → IsPrefixOf front labels
 
 abbrev pub FewUnreleasedOfAny : Type 0
 FewUnreleasedOfAny = (starts : ℕ → Bool) (n : ℕ) (labels front : List ℕ) (samples : List Sample) → n ≤ length samples
-    → IsNear sure_of_any starts labels samples → IsReleased (code_from starts) (take n samples) front → n ≤ length front + 116
+    → IsNear sure_of_any starts labels samples → IsReleased (v32_code starts) (take n samples) front → n ≤ length front + 116
 
 abbrev pub NeverLostOfAny : Type 0
 NeverLostOfAny = (starts : ℕ → Bool) (depth : ℕ) (labels : List ℕ) (samples : List Sample)
-    → IsNear sure_of_any starts labels samples → 116 ≤ depth → LostIs (code_from starts) depth samples None
+    → IsNear sure_of_any starts labels samples → 116 ≤ depth → LostIs (v32_code starts) depth samples None
 
 abbrev pub DecodesNearOfAny : Type 0
 DecodesNearOfAny = (starts : ℕ → Bool) (depth : ℕ) (labels taken : List ℕ) (samples : List Sample) (d : Decoding) → 116 ≤ depth
@@ -52,4 +52,4 @@ DecodesNearOfAny = (starts : ℕ → Bool) (depth : ℕ) (labels taken : List �
 -- samples that cost nothing
 abbrev pub FewUnreleasedWithoutNoise : Type 0
 FewUnreleasedWithoutNoise = (starts : ℕ → Bool) (n : ℕ) (labels front : List ℕ) (samples : List Sample) → n ≤ length samples
-    → IsNear 1 starts labels samples → IsReleased (code_from starts) (take n samples) front → n ≤ length front + 29
+    → IsNear 1 starts labels samples → IsReleased (v32_code starts) (take n samples) front → n ≤ length front + 29

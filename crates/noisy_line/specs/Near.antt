@@ -5,8 +5,8 @@ use Rattle.symbol_map.specs.declared.sample.Sample.{Sample}
 use Rattle.trellis_tables.specs.Laws.{far_from}
 use Rattle.trellis_tables.specs.Sequences.{cost}
 use Rattle.survivors.specs.Trellises.{IsSequence}
+use Rattle.survivors.specs.V32.{v32_code}
 use Rattle.exact_decoder.specs.Decoder.{Decoding}
-use Rattle.quarter_turns.specs.Turned.{code_from}
 
 -- one state alone
 abbrev pub only : ℕ → ℕ → Bool
@@ -23,7 +23,7 @@ sure_of_any = 4194304
 -- The labels are a sequence from one of the starts, and the samples are so near that they cost less than the bound.
 pub record IsNear (bound : ℕ) (starts : ℕ → Bool) (labels : List ℕ) (samples : List Sample) : Type 0 where
   pub end : ℕ
-  pub sequence : IsSequence (code_from starts) samples labels end
+  pub sequence : IsSequence (v32_code starts) samples labels end
   pub near : cost far_from labels samples < bound
 
 -- A decoder isn't lost, what it released is a prefix of the labels, and at most so many of them are to come.

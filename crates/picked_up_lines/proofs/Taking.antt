@@ -6,7 +6,8 @@ use Rattle.std.proofs.lemmas.List.{drop-append-le}
 use Rattle.plain_lists.specs.Bits.{low_bits}
 use Rattle.scramblers.specs.declared.mode.Mode.{Mode}
 use Rattle.symbol_map.specs.declared.sample.Sample.{Sample}
-use Rattle.line_decoding.specs.V32.{LineReading, LineRead, at_any}
+use Rattle.survivors.specs.V32.{at_any}
+use Rattle.line_decoding.specs.V32.{LineReading, LineRead}
 use Rattle.picked_up_lines.specs.Reading.{Middle, MiddleRead}
 
 -- what is behind the first bits once more are there, and how many labels were taken

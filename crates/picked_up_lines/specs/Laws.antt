@@ -8,7 +8,7 @@ use Rattle.symbol_map.specs.Laws.{turned_label}
 use Rattle.trellis_tables.specs.Table.{next_state}
 use Rattle.exact_decoder.specs.Decoder.{DecoderStands}
 use Rattle.line_coding.specs.Demodulates.{Demodulates}
-use Rattle.line_decoding.specs.V32.{at_any}
+use Rattle.survivors.specs.V32.{at_any}
 use Rattle.picked_up_lines.specs.PickedUp.{IsPickedUp}
 use Rattle.picked_up_lines.specs.Reading.{Middle, MiddleRead}
 

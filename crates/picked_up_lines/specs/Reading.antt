@@ -3,7 +3,8 @@ use Rattle.std.specs.Prelude.{◌≡◌, ℕ, ◌*◌, min, Bool, List, [], ◌�
 use Rattle.plain_lists.specs.Bits.{low_bits}
 use Rattle.scramblers.specs.declared.mode.Mode.{Mode}
 use Rattle.symbol_map.specs.declared.sample.Sample.{Sample}
-use Rattle.line_decoding.specs.V32.{LineReading, LineRead, at_any}
+use Rattle.survivors.specs.V32.{at_any}
+use Rattle.line_decoding.specs.V32.{LineReading, LineRead}
 use Rattle.picked_up_lines.specs.declared.middle_reader.Taken.{Taken}
 use Rattle.picked_up_lines.specs.declared.middle_reader.Taken.TheVariants as taken
 

@@ -1,11 +1,10 @@
 -- From every answer to what the command promises.
 use Rattle.std.proofs.Common.{◌≡◌, ◌∙◌, ℕ, ◌+◌, ◌%◌, IsTrue, List, [], ◌++◌, length, take, Some, Result, refl, sym, subst, arith}
-use Rattle.std.proofs.lemmas.Bool.{ltb-true}
 use Rattle.outside_core.specs.Folder.{FolderState, octets_at, Said}
-use Rattle.trellis_tables.specs.V32Laws.{v32_bounded, v32_within, v32_enters_once, v32_reaches}
-use Rattle.survivors.specs.Trellises.{HasLaws}
 use Rattle.survivors.specs.Survivors.{LostIs}
 use Rattle.survivors.proofs.Least.{released-is_least}
+use Rattle.survivors.proofs.V32.{any-has-laws}
+use Rattle.survivors.specs.V32.{any_trellis, line_depth}
 use Rattle.command_base.specs.declared.status.Status.{Status}
 use Rattle.command_base.specs.declared.stop.Stop.{Stop}
 use Rattle.command_base.specs.Job.{Answers}
@@ -19,23 +18,10 @@ use Rattle.recordings.specs.declared.rate.Rate.TheVariants as rates
 use Rattle.recordings.specs.Headers.{IsBadHeader}
 use Rattle.recordings.specs.Samples.{samples_in}
 use Rattle.recording_inputs.proofs.Headers.{never-longer, never-bad, content-same}
-use Rattle.pickup_command.specs.Gives.{any_trellis, any_depth}
 use Rattle.pickup_command.specs.Ends.{IsFollowed, EndsOwn, pickup_job}
 use Rattle.pickup_command.specs.Ends.EndsOwn.{is_long, is_other, is_cut, is_lost}
 use Rattle.pickup_command.specs.Completes.{IsRecording, Completes}
 use Rattle.pickup_command.specs.Headline.{ListsAll, Headline}
-
-any_has_laws : HasLaws any_trellis 8 32 2
-any_has_laws = record {
-  bounded = v32_bounded;
-  within = v32_within;
-  enters_once = v32_enters_once;
-  some_steps = omega arith;
-  reaches = v32_reaches;
-  start = 0;
-  starts_there = refl;
-  starts_within = λ state e. ltb-true state 8 e;
-}
 
 -- no file ever changes
 pub refused-by : (old before : FolderState) (end : Result ℕ Stop) → OnlyOutputs old before [] → IsRefusal (end_status end)
@@ -52,7 +38,7 @@ lists-of old before new rec d = record {
   pieces = d.ends.says.pieces;
   gives = d.ends.says.gives;
   nearest = released-is_least any_trellis 8 32 2
-      (samples_in d.ends.content) d.ends.says.gives.labels any_has_laws d.ends.says.gives.released;
+      (samples_in d.ends.content) d.ends.says.gives.labels any-has-laws d.ends.says.gives.released;
   lines = d.ends.says.lines;
   are_lines = d.ends.says.are_lines;
   said = subst (λ (count : ℕ). Said old new (d.ends.says.lines ++ pieces_line count)) d.ends.count_is
@@ -70,7 +56,7 @@ headline-of words old new rec s a =
     }
 
 -- a line is not lost and followed to its end at once
-never-lost : (content : List ℕ) (symbol : ℕ) → IsFollowed content → LostIs any_trellis any_depth (samples_in content) (Some symbol) → ⊥
+never-lost : (content : List ℕ) (symbol : ℕ) → IsFollowed content → LostIs any_trellis line_depth (samples_in content) (Some symbol) → ⊥
 never-lost content symbol f lost = f.not_lost (symbol + 1) (omega (arith, lost.within)) lost.over
 
 own-never : (old before : FolderState) (rec : List ℕ) (answer : Status) → IsTrue (old.tells rec) → IsRecording (octets_at old rec)
@@ -84,7 +70,7 @@ own-never old before rec answer told r (is_cut at e cut) =
 own-never old before rec answer told r (is_lost role symbol e lost) =
     let same = content-same rates.Trellis r.mode lost.mode r.content lost.content (sym r.octets_are ∙ lost.reads.read told) in
     never-lost r.content symbol r.followed
-    (subst (λ (xs : List ℕ). LostIs any_trellis any_depth (samples_in xs) (Some symbol)) (sym same) lost.lost)
+    (subst (λ (xs : List ℕ). LostIs any_trellis line_depth (samples_in xs) (Some symbol)) (sym same) lost.lost)
 
 -- and when it is done
 pub completes-of : (words : List (List ℕ)) (old new : FolderState) (rec : List ℕ) (s : Status) → Answers (pickup_job rec) words old new s

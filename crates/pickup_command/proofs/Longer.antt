@@ -13,12 +13,12 @@ use Rattle.scramblers.proofs.Readings.{Descrambles_once, Descrambles_from_Scramb
 use Rattle.trellis_tables.specs.LabelReader.{quads_of}
 use Rattle.trellis_tables.proofs.Readings.{quads_of-take}
 use Rattle.survivors.proofs.Fronts.{stays-prefix}
+use Rattle.survivors.specs.V32.{any_trellis}
 use Rattle.bit_stuffing.specs.Found.{Found, pieces_of}
 use Rattle.bit_stuffing.proofs.Sent.{pieces-stay}
 use Rattle.picked_up_lines.specs.PickedUp.{line_behind, IsPickedUp}
 use Rattle.picked_up_lines.proofs.Middle.{picked_up_once}
 use Rattle.picked_up_lines.proofs.Readers.{descrambled, descrambles}
-use Rattle.pickup_command.specs.Gives.{any_trellis}
 use Rattle.pickup_command.specs.Laws.{LaterPiecesStandBehind}
 
 -- a list without its first elements begins a longer one without them

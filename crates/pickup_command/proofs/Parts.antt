@@ -4,6 +4,7 @@ use Rattle.scramblers.specs.declared.mode.Mode.{Mode}
 use Rattle.symbol_map.specs.declared.sample.Sample.{Sample}
 use Rattle.outside_core.specs.Folder.{FolderState, OnlyReads}
 use Rattle.survivors.specs.Survivors.{LostIs}
+use Rattle.survivors.specs.V32.{any_trellis, line_depth}
 use Rattle.exact_decoder.specs.Decoder.{heard}
 use Rattle.command_base.specs.declared.stop.Stop.{Stop}
 use Rattle.command_base.specs.declared.stop.Stop.TheVariants.{Own, Read, Write, Say, NoMemory}
@@ -14,7 +15,7 @@ use Rattle.recordings.proofs.Samples.{samples_in-front}
 use Rattle.piece_listener.proofs.Hearing.{said-nothing, said-after}
 use Rattle.recording_inputs.specs.Recordings.{ReadsRecording, IsNotOpened}
 use Rattle.recording_inputs.proofs.Behind.{GoesOnBy}
-use Rattle.pickup_command.specs.Gives.{any_trellis, any_depth, AreFollowed, SaysPieces}
+use Rattle.pickup_command.specs.Gives.{AreFollowed, SaysPieces}
 use Rattle.pickup_command.specs.Playing.{Playing, Plays, StopsPlay}
 use Rattle.pickup_command.specs.Ends.{PicksUpAll, SampleCut, PicksUpFront, EndsBy}
 use Rattle.pickup_command.specs.Ends.EndsOwn.{is_long, is_other, is_lost}
@@ -22,9 +23,9 @@ use Rattle.pickup_command.proofs.Playings.{followed-by, followed-longer, plays-l
 
 -- a line that isn't lost, with all said that its samples give
 pub not-lost : (start now : FolderState) (mode : Mode) (p : Playing) (samples : List Sample) → Plays start now mode p samples
-    → p.reader.reading.decoder.lost ≡ None → LostIs any_trellis any_depth samples None
+    → p.reader.reading.decoder.lost ≡ None → LostIs any_trellis line_depth samples None
 not-lost start now mode p samples h lost =
-    subst (λ (l : Option ℕ). LostIs any_trellis any_depth samples l) lost (plays-lost start now mode p samples h)
+    subst (λ (l : Option ℕ). LostIs any_trellis line_depth samples l) lost (plays-lost start now mode p samples h)
 
 pub says-all : (start now : FolderState) (mode : Mode) (p : Playing) (samples : List Sample) → Plays start now mode p samples
     → p.reader.reading.decoder.lost ≡ None → p.reader.reading.decoder.pending ≡ []

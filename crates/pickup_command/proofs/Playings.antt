@@ -8,6 +8,7 @@ use Rattle.roles.specs.declared.role.Role.{Role}
 use Rattle.outside_core.specs.Folder.{FolderState, OnlyReads}
 use Rattle.survivors.specs.Survivors.{IsReleased, LostIs}
 use Rattle.survivors.proofs.Fronts.{lost-stays, over-before}
+use Rattle.survivors.specs.V32.{any_trellis, line_depth}
 use Rattle.exact_decoder.specs.Decoder.{heard}
 use Rattle.bit_stuffing.specs.Found.{pieces_of}
 use Rattle.bit_stuffing.proofs.Sent.{pieces-stay}
@@ -20,15 +21,15 @@ use Rattle.piece_listener.specs.Readings.{AreLines}
 use Rattle.piece_listener.specs.Heard.{Listening, Heard, PartlyHeard}
 use Rattle.piece_listener.proofs.Hearing.{heard-after}
 use Rattle.recording_inputs.specs.Recordings.{sender_of, hearer_of}
-use Rattle.pickup_command.specs.Gives.{any_trellis, any_depth, AreFollowed, SaysPieces}
+use Rattle.pickup_command.specs.Gives.{AreFollowed, SaysPieces}
 use Rattle.pickup_command.specs.Playing.{Playing, playing_of, Plays, IsReady, SaysSome, LosesLine, StopsPlay}
 use Rattle.pickup_command.proofs.Longer.{bits-longer, tap-low}
 
 -- one label more is taken, and its bits are heard
 pub plays-taken : (start now new : FolderState) (mode : Mode) (reader next : Middle) (listener later : Listening) (samples : List Sample)
     (taken : Taken)
-    → ((bits : List Bool) → MiddleRead mode any_depth reader samples bits
-    → MiddleRead mode any_depth next samples (bits ++ bits_of_taken taken))
+    → ((bits : List Bool) → MiddleRead mode line_depth reader samples bits
+    → MiddleRead mode line_depth next samples (bits ++ bits_of_taken taken))
     → ((start : FolderState) (bits : List Bool) → Heard start now listener bits → Heard start new later (bits ++ bits_of_taken taken))
     → later.sender ≡ listener.sender → Plays start now mode (playing_of reader listener) samples
     → Plays start new mode (playing_of next later) samples
@@ -41,7 +42,7 @@ plays-taken start now new mode reader next listener later samples taken reads he
 
 -- one sample more is read
 pub plays-pushed : (start now : FolderState) (mode : Mode) (reader next : Middle) (listener : Listening) (samples more : List Sample)
-    → ((bits : List Bool) → MiddleRead mode any_depth reader samples bits → MiddleRead mode any_depth next more bits)
+    → ((bits : List Bool) → MiddleRead mode line_depth reader samples bits → MiddleRead mode line_depth next more bits)
     → Plays start now mode (playing_of reader listener) samples → Plays start now mode (playing_of next listener) more
 plays-pushed start now mode reader next listener samples more reads h =
     record { bits = h.bits; read = reads h.bits h.read; heard = h.heard; sender_is = h.sender_is }
@@ -63,7 +64,7 @@ ready-later p a b l r = record {
 }
 
 -- up to where a line is lost, it isn't lost before the last sample
-pub followed-by : (lost : Option ℕ) (samples : List Sample) → LostIs any_trellis any_depth samples lost
+pub followed-by : (lost : Option ℕ) (samples : List Sample) → LostIs any_trellis line_depth samples lost
     → AreFollowed samples (heard lost samples)
 followed-by None samples h = record { front = ([], append-nil samples); not_lost = λ n l over. h n (omega (arith, l)) over }
 followed-by (Some symbol) samples h = record {
@@ -78,20 +79,20 @@ followed-longer samples more first f =
     sym (length-append first rest) ∙ ap (λ (xs : List Sample). length xs) f.front.1 in
     record {
       front = (rest ++ more, sym (append_assoc first rest more) ∙ ap (λ (xs : List Sample). xs ++ more) f.front.1);
-      not_lost = λ n l over. f.not_lost n l (over-before any_trellis any_depth samples more n (omega (arith, l, counts)) over);
+      not_lost = λ n l over. f.not_lost n l (over-before any_trellis line_depth samples more n (omega (arith, l, counts)) over);
     }
 
 -- what a player has played is lost where its decoder says
 pub plays-lost : (start now : FolderState) (mode : Mode) (p : Playing) (samples : List Sample) → Plays start now mode p samples
-    → LostIs any_trellis any_depth samples p.reader.reading.decoder.lost
-plays-lost start now mode p samples h = let r = readers_pick_up mode any_depth p.reader samples h.bits h.read in r.decoder.lost
+    → LostIs any_trellis line_depth samples p.reader.reading.decoder.lost
+plays-lost start now mode p samples h = let r = readers_pick_up mode line_depth p.reader samples h.bits h.read in r.decoder.lost
 
 -- once each label is taken, the lines were said of all that the samples give
 pub says-pieces : (start now : FolderState) (mode : Mode) (p : Playing) (samples : List Sample) → Plays start now mode p samples
     → p.reader.reading.decoder.pending ≡ []
     → SaysPieces start now mode (heard p.reader.reading.decoder.lost samples)
 says-pieces start now mode p samples h taken =
-    let r = readers_pick_up mode any_depth p.reader samples h.bits h.read in
+    let r = readers_pick_up mode line_depth p.reader samples h.bits h.read in
     let first : List Sample = heard p.reader.reading.decoder.lost samples in
     record {
       pieces = pieces_of h.bits;
@@ -121,10 +122,10 @@ says-counted start now mode p samples h taken = record { says = says-pieces star
 
 -- a line was not said
 pub says-some : (start now : FolderState) (mode : Mode) (reader : Middle) (samples : List Sample) (bits : List Bool) (sender : Role)
-    → MiddleRead mode any_depth reader samples bits → sender ≡ sender_of mode
+    → MiddleRead mode line_depth reader samples bits → sender ≡ sender_of mode
     → PartlyHeard start now sender bits → SaysSome start now mode samples
 says-some start now mode reader samples bits sender read sender_is p =
-    let r = readers_pick_up mode any_depth reader samples bits read in
+    let r = readers_pick_up mode line_depth reader samples bits read in
     let pending : List ℕ = reader.reading.decoder.pending in
     let b = bits-longer (tap_of mode) r.labels pending bits (tap-low mode) r.picked_up in
     let added = pieces-stay p.heard (p.rest ++ b.0) in
@@ -156,7 +157,7 @@ pub loses-line : (start now : FolderState) (mode : Mode) (p : Playing) (samples 
     → p.reader.reading.decoder.lost ≡ Some symbol → role ≡ hearer_of mode → LosesLine start now mode samples role symbol
 loses-line start now mode p samples role symbol h taken lost role_is = record {
   role_is = role_is;
-  lost = subst (λ (l : Option ℕ). LostIs any_trellis any_depth samples l) lost (plays-lost start now mode p samples h);
+  lost = subst (λ (l : Option ℕ). LostIs any_trellis line_depth samples l) lost (plays-lost start now mode p samples h);
   says = subst (λ (l : Option ℕ). SaysPieces start now mode (heard l samples)) lost (says-pieces start now mode p samples h taken);
 }
 
@@ -169,7 +170,7 @@ stops-longer start now mode samples more (Own answer) (role, symbol, e, l) = (
   e,
   record {
     role_is = l.role_is;
-    lost = lost-stays any_trellis any_depth samples more symbol l.lost;
+    lost = lost-stays any_trellis line_depth samples more symbol l.lost;
     says = subst (λ (xs : List Sample). SaysPieces start now mode xs)
         (sym (take-append-le (symbol + 1) samples more (omega (arith, l.lost.within)))) l.says;
   },

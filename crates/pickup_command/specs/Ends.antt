@@ -6,6 +6,7 @@ use Rattle.symbol_map.specs.declared.sample.Sample.{Sample}
 use Rattle.roles.specs.declared.role.Role.{Role}
 use Rattle.outside_core.specs.Folder.{FolderState, Said}
 use Rattle.survivors.specs.Survivors.{LostIs}
+use Rattle.survivors.specs.V32.{any_trellis, line_depth}
 use Rattle.command_base.specs.declared.limits.TheConstants.{RECORDING_LIMIT}
 use Rattle.command_base.specs.declared.status.Status.{Status}
 use Rattle.command_base.specs.declared.status.Status.TheVariants.{TooLong, BadRecording, LineLost}
@@ -18,12 +19,12 @@ use Rattle.recordings.specs.declared.rate.Rate.TheVariants as rates
 use Rattle.recordings.specs.declared.header.TheConstants.{HEADER}
 use Rattle.recordings.specs.Samples.{samples_in}
 use Rattle.recording_inputs.specs.Recordings.{hearer_of, ReadsRecording, HasNoHeader, Opened}
-use Rattle.pickup_command.specs.Gives.{any_trellis, any_depth, AreFollowed, SaysPieces, SaysPart}
+use Rattle.pickup_command.specs.Gives.{AreFollowed, SaysPieces, SaysPart}
 
 -- it ends with a whole sample, and is not lost
 pub record IsFollowed (content : List ℕ) : Type 0 where
   pub whole : length content % 4 ≡ 0
-  pub not_lost : LostIs any_trellis any_depth (samples_in content) None
+  pub not_lost : LostIs any_trellis line_depth (samples_in content) None
 
 -- The lines were said of all pieces that the recording gives, and they are so many.
 pub record PicksUpAll (old new : FolderState) (rec : List ℕ) (count : ℕ) : Type 0 where
@@ -41,7 +42,7 @@ pub record SampleCut (old new : FolderState) (rec : List ℕ) (at : ℕ) : Type 
   pub reads : ReadsRecording old rec rates.Trellis mode content
   pub cut : length content % 4 ≢ 0
   pub at_is : at + length content % 4 ≡ HEADER + length content
-  pub not_lost : LostIs any_trellis any_depth (samples_in content) None
+  pub not_lost : LostIs any_trellis line_depth (samples_in content) None
   pub says : SaysPieces old new mode (samples_in content)
 
 -- The line is lost with this symbol. The lines were said of the pieces that the samples up to it give.
@@ -50,7 +51,7 @@ pub record RecordingLost (old new : FolderState) (rec : List ℕ) (role : Role) 
   pub content : List ℕ
   pub reads : ReadsRecording old rec rates.Trellis mode content
   pub role_is : role ≡ hearer_of mode
-  pub lost : LostIs any_trellis any_depth (samples_in content) (Some symbol)
+  pub lost : LostIs any_trellis line_depth (samples_in content) (Some symbol)
   pub says : SaysPieces old new mode (take (symbol + 1) (samples_in content))
 
 -- The lines were said of the pieces that the first samples give.

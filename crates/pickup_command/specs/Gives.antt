@@ -1,26 +1,16 @@
 -- What samples give that are picked up in the middle of a line, and what is said of it.
-use Rattle.std.specs.Prelude.{◌≡◌, ℕ, ◌<◌, nat_lt, Bool, List, ◌++◌, length}
+use Rattle.std.specs.Prelude.{◌≡◌, ℕ, ◌<◌, Bool, List, ◌++◌, length}
 use Rattle.scramblers.specs.declared.mode.Mode.{Mode}
 use Rattle.scramblers.specs.Mode.{tap_of}
 use Rattle.symbol_map.specs.declared.sample.Sample.{Sample}
-use Rattle.symbol_map.specs.Points.{point_of}
 use Rattle.plain_lists.specs.Prefix.{IsPrefixOf}
-use Rattle.trellis_tables.specs.Table.{next_state}
-use Rattle.survivors.specs.Trellises.{Trellis, trellis_of}
 use Rattle.survivors.specs.Survivors.{IsReleased, IsOver}
+use Rattle.survivors.specs.V32.{any_trellis, line_depth}
 use Rattle.bit_stuffing.specs.Found.{Found, pieces_of}
 use Rattle.outside_core.specs.Folder.{FolderState, Said, PartlySaid}
 use Rattle.picked_up_lines.specs.PickedUp.{IsPickedUp}
 use Rattle.piece_listener.specs.Readings.{AreLines}
 use Rattle.recording_inputs.specs.Recordings.{sender_of}
-
--- the code of the line, whose sequences start in any of the eight states
-abbrev pub any_trellis : Trellis Sample
-any_trellis = trellis_of next_state point_of (λ state. nat_lt state 8)
-
--- the most labels that may be unreleased
-abbrev pub any_depth : ℕ
-any_depth = 128
 
 -- These samples release labels, and the bits that are picked up of these have these pieces.
 pub record GivesPieces (mode : Mode) (samples : List Sample) (pieces : List Found) : Type 0 where
@@ -33,7 +23,7 @@ pub record GivesPieces (mode : Mode) (samples : List Sample) (pieces : List Foun
 -- The first of these samples, so many: the line isn't lost before the last of them.
 pub record AreFollowed (samples first : List Sample) : Type 0 where
   pub front : IsPrefixOf first samples
-  pub not_lost : (n : ℕ) → n < length first → IsOver any_trellis any_depth samples n → ⊥
+  pub not_lost : (n : ℕ) → n < length first → IsOver any_trellis line_depth samples n → ⊥
 
 -- The lines were said of the pieces that these samples give, in order.
 pub record SaysPieces (old new : FolderState) (mode : Mode) (samples : List Sample) : Type 0 where

@@ -7,13 +7,14 @@ use Rattle.outside_core.specs.Folder.{FolderState, octets_at, Said}
 use Rattle.recordings.specs.Recording.{header_of}
 use Rattle.recordings.specs.Samples.{samples_in}
 use Rattle.survivors.specs.Survivors.{IsLeast, LostIs}
+use Rattle.survivors.specs.V32.{any_trellis, line_depth}
 use Rattle.command_base.specs.declared.status.Status.{Status}
 use Rattle.command_base.specs.declared.status.Status.TheVariants.{Done}
 use Rattle.command_base.specs.Job.{Shared}
 use Rattle.command_base.specs.Lines.{pieces_line}
 use Rattle.piece_listener.specs.Readings.{AreLines}
 use Rattle.recording_inputs.specs.Recordings.{sender_of}
-use Rattle.pickup_command.specs.Gives.{any_trellis, any_depth, GivesPieces}
+use Rattle.pickup_command.specs.Gives.{GivesPieces}
 
 -- The recording is whole samples behind a header, and is not lost. A line was said for each piece that it gives, in order, and then
 -- their number. The labels whose bits have the pieces begin a code sequence, from any state, that is no farther from the samples than
@@ -23,7 +24,7 @@ pub record ListsAll (old new : FolderState) (rec : List ℕ) : Type 0 where
   pub content : List ℕ
   pub recording_is : IsTrue (old.tells rec) → octets_at old rec ≡ header_of mode ++ content
   pub whole : length content % 4 ≡ 0
-  pub not_lost : LostIs any_trellis any_depth (samples_in content) None
+  pub not_lost : LostIs any_trellis line_depth (samples_in content) None
   pub pieces : List Found
   pub gives : GivesPieces mode (samples_in content) pieces
   pub nearest : (rest : List ℕ) × IsLeast any_trellis (samples_in content) (gives.labels ++ rest)

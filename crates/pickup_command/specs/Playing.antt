@@ -5,6 +5,7 @@ use Rattle.symbol_map.specs.declared.sample.Sample.{Sample}
 use Rattle.roles.specs.declared.role.Role.{Role}
 use Rattle.outside_core.specs.Folder.{FolderState}
 use Rattle.survivors.specs.Survivors.{LostIs}
+use Rattle.survivors.specs.V32.{any_trellis, line_depth}
 use Rattle.command_base.specs.declared.status.Status.TheVariants.{LineLost}
 use Rattle.command_base.specs.declared.stop.Stop.{Stop}
 use Rattle.command_base.specs.declared.stop.Stop.TheVariants.{Own, Say}
@@ -14,7 +15,7 @@ use Rattle.piece_listener.specs.Heard.{Listening, Heard}
 use Rattle.recordings.specs.declared.rate.Rate.TheVariants as rates
 use Rattle.recordings.specs.Samples.{samples_in}
 use Rattle.recording_inputs.specs.Recordings.{sender_of, hearer_of, ReadBehind}
-use Rattle.pickup_command.specs.Gives.{any_trellis, any_depth, AreFollowed, SaysPieces, SaysPart}
+use Rattle.pickup_command.specs.Gives.{AreFollowed, SaysPieces, SaysPart}
 
 -- what a player keeps
 pub record Playing : Type 0 where
@@ -27,7 +28,7 @@ playing_of reader listener = record { reader = reader; listener = listener }
 -- The samples are read from any state, and of the bits that they gave so far the lines of the pieces were said.
 pub record Plays (start now : FolderState) (mode : Mode) (p : Playing) (samples : List Sample) : Type 0 where
   pub bits : List Bool
-  pub read : MiddleRead mode any_depth p.reader samples bits
+  pub read : MiddleRead mode line_depth p.reader samples bits
   pub heard : Heard start now p.listener bits
   pub sender_is : p.listener.sender ≡ sender_of mode
 
@@ -47,7 +48,7 @@ pub record SaysSome (start now : FolderState) (mode : Mode) (samples : List Samp
 -- The line is lost within these samples, and the lines were said of what they give up to there.
 pub record LosesLine (start now : FolderState) (mode : Mode) (samples : List Sample) (role : Role) (symbol : ℕ) : Type 0 where
   pub role_is : role ≡ hearer_of mode
-  pub lost : LostIs any_trellis any_depth samples (Some symbol)
+  pub lost : LostIs any_trellis line_depth samples (Some symbol)
   pub says : SaysPieces start now mode (take (symbol + 1) samples)
 
 -- why not all of the samples are played

@@ -1,18 +1,7 @@
 -- Starts, labels and samples after a quarter turn.
-use Rattle.std.specs.Prelude.{◌≡◌, ℕ, ◌<◌, ℤ, pos, neg_ℤ, ◌≤ℤ◌, Bool, true, nat_lt}
+use Rattle.std.specs.Prelude.{◌≡◌, ℕ, ◌<◌, ℤ, pos, neg_ℤ, ◌≤ℤ◌, Bool, true}
 use Rattle.symbol_map.specs.declared.sample.Sample.{Sample}
-use Rattle.symbol_map.specs.Points.{point_of}
-use Rattle.trellis_tables.specs.Table.{next_state}
 use Rattle.trellis_tables.specs.Laws.{AreTurnedStarts}
-use Rattle.survivors.specs.Trellises.{Trellis, trellis_of}
-
--- the trellis of the eight-state code from these starts
-abbrev pub code_from : (ℕ → Bool) → Trellis Sample
-code_from starts = trellis_of next_state point_of starts
-
--- all eight states
-abbrev pub all_states : ℕ → Bool
-all_states state = nat_lt state 8
 
 -- starts among the eight states, and the states among them that these turn to
 pub record StartsTurn (starts turned_starts : ℕ → Bool) : Type 0 where

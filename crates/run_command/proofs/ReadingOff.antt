@@ -1,33 +1,19 @@
 -- What is received of a slot is read off labels that begin a nearest code sequence.
-use Rattle.std.proofs.Common.{◌≡◌, ◌-◌, ◌<◌, List, [], ◌∷◌, drop, Some, refl, sym, subst, arith}
-use borrow.Author.Tests.{eqb-true}
+use Rattle.std.proofs.Common.{◌≡◌, ◌-◌, ◌<◌, List, [], ◌∷◌, drop, Some, refl, subst}
 use Rattle.frame_check.specs.declared.check.Check.{Check}
 use Rattle.roles.specs.declared.role.Role.{Role}
 use Rattle.roles.specs.Role.{other}
 use Rattle.roles.specs.Both.{of}
-use Rattle.trellis_tables.specs.V32Laws.{v32_bounded, v32_within, v32_enters_once, v32_reaches}
-use Rattle.survivors.specs.Trellises.{HasLaws}
 use Rattle.survivors.specs.Laws.{ReleasedIsLeast, OfEachCode}
+use Rattle.survivors.proofs.V32.{line-has-laws}
+use Rattle.survivors.specs.V32.{line_trellis}
 use Rattle.slot_contents.specs.declared.heard.Heard.{Heard}
 use Rattle.noise_script.specs.Script.{delay_of}
-use Rattle.sample_line.specs.Received.{line_trellis}
 use Rattle.link_run.specs.Run.{Link, Ends, Spoken, Turn}
 use Rattle.link_run.specs.Carried.{sent_ago}
 use Rattle.line_run.specs.Sampled.{Channel, Arrives, ArrivesAs, HeardIn, IsHeardOver, LineRun}
 use Rattle.line_run.specs.Ends.{RunEnd, IsDone, LinkLost, NotDetected, LineLost, ChanceMatch, Left, EndsBy, turns_heard}
 use Rattle.run_command.specs.ReadOff.{IsReadOff, AreReadOff}
-
-line-has-laws : HasLaws line_trellis 8 32 2
-line-has-laws = record {
-  bounded = v32_bounded;
-  within = v32_within;
-  enters_once = v32_enters_once;
-  some_steps = omega arith;
-  reaches = v32_reaches;
-  start = 0;
-  starts_there = refl;
-  starts_within = λ state e. subst (λ s. s < 8) (sym (eqb-true state 0 e)) (omega arith);
-}
 
 slot-read : OfEachCode ReleasedIsLeast
     → (c : Channel) (sender : Role) (earlier upto : List Turn) (hearing : Check) (slot : Spoken) (heard : Heard)

@@ -3,12 +3,12 @@ use Rattle.std.specs.Prelude.{◌≡◌, ℕ, ◌-◌, List, [], ◌∷◌, ◌+
 use Rattle.frame_check.specs.declared.check.Check.{Check}
 use Rattle.symbol_map.specs.declared.sample.Sample.{Sample}
 use Rattle.survivors.specs.Survivors.{IsLeast}
+use Rattle.survivors.specs.V32.{line_trellis}
 use Rattle.roles.specs.declared.role.Role.{Role}
 use Rattle.roles.specs.Role.{other}
 use Rattle.roles.specs.Both.{of}
 use Rattle.slot_contents.specs.declared.heard.Heard.{Heard}
 use Rattle.noise_script.specs.Script.{delay_of}
-use Rattle.sample_line.specs.Received.{line_trellis}
 use Rattle.link_run.specs.Run.{Spoken, Turn}
 use Rattle.link_run.specs.Carried.{sent_ago}
 use Rattle.line_run.specs.Sampled.{Channel, Arrives}

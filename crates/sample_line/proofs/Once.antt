@@ -14,6 +14,7 @@ use Rattle.symbol_map.specs.Points.{point_of}
 use Rattle.trellis_tables.specs.Encoder.{Encodes}
 use Rattle.trellis_tables.proofs.Codings.{Encodes_once, Encodes-take}
 use Rattle.survivors.proofs.Fronts.{released-once, stays-prefix}
+use Rattle.survivors.specs.V32.{line_trellis}
 use Rattle.line_coding.specs.Modulates.{Modulates}
 use Rattle.line_coding.specs.Demodulates.{line_of, Demodulates}
 use Rattle.line_coding.proofs.Readings.{length-fours, first-stay}
@@ -33,7 +34,7 @@ use Rattle.sample_line.specs.Outcomes.{IsSilent, IsWhatWasSent, IsOutcome}
 use Rattle.sample_line.specs.Recorded.{displaced, displaced_from, Records}
 use Rattle.roles.specs.Role.{mode_of}
 use Rattle.lapm_frames.proofs.Checking.{spells-one}
-use Rattle.sample_line.specs.Received.{line_trellis, AreFrames, FoundBetween, Gives, Receives}
+use Rattle.sample_line.specs.Received.{AreFrames, FoundBetween, Gives, Receives}
 
 tap-some : (sender : Role) → 1 ≤ tap_of (mode_of sender)
 tap-some Originator = omega arith

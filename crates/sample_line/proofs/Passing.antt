@@ -19,7 +19,8 @@ use Rattle.slot_contents.specs.declared.heard.Heard.{Heard}
 use Rattle.sample_line.specs.declared.tally.Tally.{Tally}
 use Rattle.sample_line.specs.declared.path.Path.{Path}
 use Rattle.sample_line.specs.Recorded.{Records}
-use Rattle.sample_line.specs.Received.{Gives, FoundBetween, line_depth}
+use Rattle.survivors.specs.V32.{line_depth}
+use Rattle.sample_line.specs.Received.{Gives, FoundBetween}
 use Rattle.sample_line.specs.Outcomes.{IsOutcome}
 use Rattle.sample_line.specs.Tallies.{Tallies}
 use Rattle.sample_line.specs.Path.{Carries, CarriesBetween}

@@ -6,6 +6,7 @@ use Rattle.plain_lists.specs.Bits.{low_bits}
 use Rattle.bit_stuffing.specs.BitSlot.{line_bits}
 use Rattle.symbol_map.specs.declared.sample.Sample.{Sample}
 use Rattle.survivors.specs.Survivors.{IsReleased}
+use Rattle.survivors.specs.V32.{line_trellis}
 use Rattle.exact_decoder.specs.Decoder.{heard}
 use Rattle.roles.specs.declared.role.Role.{Role}
 use Rattle.noise_script.specs.Script.{ScriptValue, offset_of}
@@ -14,7 +15,7 @@ use Rattle.sample_line.specs.declared.hearer.Hearer.{Hearer}
 use Rattle.line_coding.proofs.Standing.{modulated, demodulated}
 use Rattle.sample_line.specs.Recorded.{saturated, displaced, displaced_from, Records}
 use Rattle.roles.specs.Role.{mode_of}
-use Rattle.sample_line.specs.Received.{line_trellis, Gives}
+use Rattle.sample_line.specs.Received.{Gives}
 use Rattle.sample_line.specs.Transmits.{Transmits}
 use Rattle.sample_line.specs.Hears.{Hears}
 

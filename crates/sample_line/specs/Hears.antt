@@ -4,13 +4,13 @@ use Rattle.frame_check.specs.declared.check.Check.{Check}
 use Rattle.scramblers.specs.declared.mode.Mode.{Mode}
 use Rattle.symbol_map.specs.declared.sample.Sample.{Sample}
 use Rattle.survivors.specs.Survivors.{LostIs}
-use Rattle.line_decoding.specs.V32.{LineRead, at_beginning}
+use Rattle.survivors.specs.V32.{at_beginning, line_depth, line_trellis}
+use Rattle.line_decoding.specs.V32.{LineRead}
 use Rattle.exact_decoder.specs.declared.decoder.Lost.{Lost}
 use Rattle.roles.specs.declared.role.Role.{Role}
 use Rattle.slot_contents.specs.declared.sent.Sent.{Sent}
 use Rattle.sample_line.specs.declared.hearer.Hearer.{Hearer}
 use Rattle.sample_line.specs.declared.tally.Tally.{Tally}
-use Rattle.sample_line.specs.Received.{line_trellis, line_depth}
 use Rattle.sample_line.specs.Receiver.{HasRead}
 use Rattle.sample_line.specs.Tallies.{TalliesBetween}
 

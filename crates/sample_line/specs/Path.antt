@@ -3,6 +3,7 @@ use Rattle.std.specs.Prelude.{◌≡◌, ℕ, Bool, List, ◌++◌, Result, Ok, 
 use Rattle.frame_check.specs.declared.check.Check.{Check}
 use Rattle.symbol_map.specs.declared.sample.Sample.{Sample}
 use Rattle.survivors.specs.Survivors.{LostIs}
+use Rattle.survivors.specs.V32.{line_depth, line_trellis}
 use Rattle.exact_decoder.specs.declared.decoder.Lost.{Lost}
 use Rattle.roles.specs.declared.role.Role.{Role}
 use Rattle.slot_contents.specs.declared.sent.Sent.{Sent}
@@ -11,7 +12,6 @@ use Rattle.sample_line.specs.declared.path.Path.{Path}
 use Rattle.sample_line.specs.declared.tally.Tally.{Tally}
 use Rattle.sample_line.specs.Recorded.{Records}
 use Rattle.roles.specs.Role.{mode_of}
-use Rattle.sample_line.specs.Received.{line_trellis, line_depth}
 use Rattle.sample_line.specs.Transmits.{Transmits}
 use Rattle.sample_line.specs.Hears.{Hears}
 use Rattle.sample_line.specs.Tallies.{TalliesBetween}

@@ -1,12 +1,10 @@
 -- What is received of samples: the frames and patterns in the bits of the labels that they release.
-use Rattle.std.specs.Prelude.{◌≡◌, ◌⊎◌, ℕ, Bool, nat_eq, List, [], ◌∷◌, ◌++◌, map}
+use Rattle.std.specs.Prelude.{◌≡◌, ◌⊎◌, ℕ, Bool, List, [], ◌∷◌, ◌++◌, map}
 use Rattle.frame_check.specs.declared.check.Check.{Check}
 use Rattle.scramblers.specs.Mode.{tap_of}
 use Rattle.symbol_map.specs.declared.sample.Sample.{Sample}
-use Rattle.symbol_map.specs.Points.{point_of}
-use Rattle.trellis_tables.specs.Table.{next_state}
-use Rattle.survivors.specs.Trellises.{Trellis, trellis_of}
 use Rattle.survivors.specs.Survivors.{IsReleased}
+use Rattle.survivors.specs.V32.{line_trellis}
 use Rattle.line_coding.specs.Demodulates.{Demodulates}
 use Rattle.bit_stuffing.specs.Found.{Found, pieces_of}
 use Rattle.bit_stuffing.specs.Sent.{wholes}
@@ -16,14 +14,6 @@ use Rattle.roles.specs.declared.role.Role.{Role}
 use Rattle.lapm_frames.specs.declared.frame.Frame.{Frame}
 use Rattle.lapm_frames.specs.Checked.{SpellsFrame}
 use Rattle.roles.specs.Role.{mode_of}
-
--- the code of the line, whose sequences start in state 0
-abbrev pub line_trellis : Trellis Sample
-line_trellis = trellis_of next_state point_of (λ state. nat_eq state 0)
-
--- the most labels that may be unreleased
-abbrev pub line_depth : ℕ
-line_depth = 128
 
 -- The bits that these samples give: those of the labels that they release.
 pub record Gives (sender : Role) (samples : List Sample) (bits : List Bool) : Type 0 where

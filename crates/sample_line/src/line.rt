@@ -12,7 +12,7 @@ ghost use Rattle.exact_decoder.specs.Decoder.{DecoderStands};
 ghost use Rattle.noise_script.specs.Script.{ScriptValue};
 ghost use Rattle.sample_line.specs.Signals.{signal_of, IsCodable};
 ghost use Rattle.sample_line.specs.Recorded.{Records};
-ghost use Rattle.sample_line.specs.Received.{line_depth};
+ghost use Rattle.survivors.specs.V32.{line_depth};
 ghost use Rattle.sample_line.specs.Line.{LineStands, Passes, bits_behind, size_of, sender_of, decoder_of};
 
 use crate::Heard;

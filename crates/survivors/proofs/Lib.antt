@@ -5,3 +5,4 @@ pub mod Columns
 pub mod Fronts
 pub mod Existence
 pub mod Least
+pub mod V32

@@ -1,4 +1,4 @@
-use Rattle.sample_line.specs.Received.{line_trellis}
+use Rattle.survivors.specs.V32.{line_trellis}
 use Rattle.line_run.proofs.Sampling.{SampleLaws, heard_once, one_line_run, one_line_end, ends_or_goes_on}
 use Rattle.line_run.proofs.laws.one_line_run.Goals as goal
 

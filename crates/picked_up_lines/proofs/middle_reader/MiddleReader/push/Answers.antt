@@ -1,5 +1,5 @@
 use Rattle.std.proofs.Common.{[], ◌∷◌, ◌++◌, sym, subst}
-use Rattle.line_decoding.specs.V32.{at_any}
+use Rattle.survivors.specs.V32.{at_any}
 use Rattle.picked_up_lines.specs.Reading.{Middle, MiddleRead}
 use Rattle.picked_up_lines.proofs.Taking.{middle-pushed}
 use Rattle.picked_up_lines.proofs.middle_reader.MiddleReader.push.Goals as goal

@@ -1,5 +1,5 @@
 use Rattle.std.proofs.Common.{◌<◌, arith, sym, subst}
-use Rattle.line_decoding.specs.V32.{at_any}
+use Rattle.survivors.specs.V32.{at_any}
 use Rattle.picked_up_lines.specs.Reading.{Middle, MiddleRead}
 use Rattle.picked_up_lines.proofs.Taking.{middle-early, middle-sixth, middle-later, middle-none}
 use Rattle.picked_up_lines.proofs.middle_reader.MiddleReader.take.Goals as goal

@@ -2,11 +2,10 @@ use Rattle.std.proofs.Common.{◌∙◌, List, [], ◌∷◌, ◌++◌, ℕ, Opt
 use Rattle.std.proofs.lemmas.Result.{err_from_is_err_and}
 use Rattle.symbol_map.specs.declared.sample.Sample.{Sample}
 use Rattle.survivors.specs.Survivors.{LostIs}
+use Rattle.survivors.specs.V32.{at_beginning, line_depth, line_trellis}
 use Rattle.exact_decoder.specs.declared.decoder.Lost.{Lost}
-use Rattle.line_decoding.specs.V32.{at_beginning}
 use Rattle.sample_line.specs.declared.hearer.Hearer.{Hearer}
 use Rattle.sample_line.specs.declared.tally.Tally.{Tally}
-use Rattle.sample_line.specs.Received.{line_trellis, line_depth}
 use Rattle.sample_line.specs.Hears.{HearsSample}
 use Rattle.sample_line.proofs.hearer.Hearer.hear.Goals as goal
 
