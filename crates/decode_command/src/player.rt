@@ -46,7 +46,9 @@ fn play_piece(playback: &mut Playback, piece: &[u8], octets: &mut Octets<ROOM>) 
 /// What a step has read, and the octets that it gave.
 #[derive(Clone, Copy)]
 pub(crate) struct Step {
+    /// Octets of the recording.
     pub read: usize,
+    /// Octets of the file.
     pub given: usize,
 }
 

@@ -13,7 +13,7 @@ use std::marker::Model;
 pub struct Columns {
     /// A column has a choice for each state.
     items: Vec<Vec<Choice>>,
-    // The place of the newest. The others follow it, and go on at place 0 behind the last one.
+    /// The place of the newest. The others follow it, and go on at place 0 behind the last one.
     newest: usize,
 }
 

@@ -26,7 +26,7 @@ pub struct Survivors<const STATES: usize, const LABELS: usize, const DEPTH: usiz
     ring: Columns,
     /// How many labels of each survivor are not released.
     unreleased: usize,
-    // Whether it is known that a sequence leads to each state.
+    /// Whether it is known that a sequence leads to each state.
     near: bool,
 }
 

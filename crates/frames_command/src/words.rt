@@ -10,6 +10,7 @@ use roles::Role;
 pub struct FramesWords<'a> {
     /// The end that sent the stream.
     pub sender: Role,
+    /// The file that holds the bits, eight an octet.
     pub bits: &'a str,
 }
 

@@ -6,6 +6,7 @@ ghost use Rattle.margin_command.specs.Words.{names_of, named};
 /// A recording, and the octets that it is held against.
 #[derive(Clone, Copy)]
 pub struct MarginWords<'a> {
+    /// The recording.
     pub rec: &'a str,
     /// The octets that were sent.
     pub file: &'a str,

@@ -16,8 +16,11 @@ const SURE: u64 = 10_485_760;
 /// What octets cost against the samples of a recording: the sum of the squared distances of the samples that they become.
 #[derive(Drop)]
 pub struct Margin {
+    /// Stands where the octets so far have led to.
     modulator: Modulator,
+    /// In squares of 1/2048 of a unit of the map.
     cost: u64,
+    /// How many were held against samples.
     octets: u32,
 }
 

@@ -10,6 +10,7 @@ use run_inputs::are_apart;
 /// An end that is to meet a peer.
 #[derive(Clone, Copy)]
 pub struct PeerWords<'a> {
+    /// Which end it is.
     pub role: Role,
     /// What the end's user sends.
     pub file: &'a str,
@@ -17,6 +18,7 @@ pub struct PeerWords<'a> {
     pub bits: &'a str,
     /// What the end's user is given.
     pub got: &'a str,
+    /// What it hears and sends, a line a turn.
     pub trace: &'a str,
 }
 

@@ -33,7 +33,7 @@ const SILENT: u8 = 6;
 pub struct MiddleReader<const DEPTH: usize> {
     /// From any state.
     reader: LineReader<DEPTH>,
-    // How many labels were taken, as far as that matters.
+    /// How many labels were taken, counted up to `SILENT`.
     taken: u8,
 }
 

@@ -24,7 +24,9 @@ const DEPTH: usize = 128;
 /// A recording on its way to lines: what reads its samples from the middle of a line, and what hears their bits.
 #[derive(Drop)]
 pub(crate) struct Player {
+    /// Samples become bits.
     reader: MiddleReader<DEPTH>,
+    /// Bits become lines.
     listener: Listener,
 }
 

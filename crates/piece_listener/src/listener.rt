@@ -16,8 +16,11 @@ use std::marker::Model;
 /// Hears the stream of one end, bit by bit, and says a line for each piece.
 #[derive(Drop)]
 pub struct Listener {
+    /// Holds the piece that has begun.
     deframer: Deframer,
+    /// The end that sent the stream.
     sender: Role,
+    /// How many were said.
     pieces: u64,
 }
 

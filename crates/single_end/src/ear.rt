@@ -56,7 +56,9 @@ fn octet_at(slot: &[u8], place: usize) -> u8
 /// Hears a stream of bits.
 #[derive(Drop)]
 pub(crate) struct Ear {
+    /// Finds frames, across slots too.
     deframer: Deframer,
+    /// Finds patterns.
     reader: PatternReader,
 }
 

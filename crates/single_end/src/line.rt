@@ -37,8 +37,11 @@ fn heard_as(arrived: Arrived) -> Heard
 /// What an end heard, sent and gave its user in a turn.
 #[derive(Drop)]
 pub(crate) struct TurnWords {
+    /// What the end heard.
     pub arrived: Arrived,
+    /// None in the last turn of a run, in which nothing more is sent.
     pub sent: Option<Sent>,
+    /// The length of a break, in hundredths of a second.
     pub given: Option<u8>,
 }
 

@@ -29,16 +29,22 @@ use xid_params::default_offer;
 /// One end of the link with its user, who hears recorded bits of any peer.
 #[derive(Drop)]
 pub struct Single {
+    /// Which end it is.
     role: Role,
+    /// The end, its file and its breaks.
     station: Station,
+    /// Hears the peer.
     ear: Ear,
+    /// How many turns were made.
     turn: u64,
 }
 
 /// An end that breaks as it hears: what it heard, and why.
 #[derive(Drop)]
 pub(crate) struct Breaking {
+    /// What it heard in that turn.
     pub arrived: Arrived,
+    /// Why it breaks.
     pub fault: LinkFault,
 }
 
