@@ -42,7 +42,8 @@ what-was-sent sent.Odp frames patterns h = refl
 what-was-sent sent.Adp frames patterns h = refl
 what-was-sent (sent.Frame frame) frames patterns h = refl
 
-outcome-crosses : (loses : Bool) (slot : Spoken) (frames : List Frame) (patterns : List Seen) (heard : Heard) → heard ≢ Chance → IsOutcome loses slot.sent frames patterns heard → Crosses (Some slot) heard
+outcome-crosses : (loses : Bool) (slot : Spoken) (frames : List Frame) (patterns : List Seen) (heard : Heard) → heard ≢ Chance
+    → IsOutcome loses slot.sent frames patterns heard → Crosses (Some slot) heard
 outcome-crosses true slot frames patterns Nothing well h = same-message slot.sent ∙ h
 outcome-crosses true slot frames patterns (Passed t) well h = absurd h
 outcome-crosses true slot frames patterns (Lost t) well h = (h.0, same-message slot.sent ∙ h.1)
@@ -52,12 +53,15 @@ outcome-crosses false slot frames patterns (Passed t) well h = (h.0, same-messag
 outcome-crosses false slot frames patterns (Lost t) well h = (h.0, same-message slot.sent ∙ h.1)
 outcome-crosses false slot frames patterns Chance well h = absurd (well refl)
 
-arrives-crosses : (c : Channel) (sender : Role) (earlier upto : List Turn) (hearing : Check) (o : Option Spoken) (heard : Heard) → heard ≢ Chance → ArrivesAs c sender earlier upto hearing o heard → Crosses o heard
+arrives-crosses : (c : Channel) (sender : Role) (earlier upto : List Turn) (hearing : Check) (o : Option Spoken) (heard : Heard)
+    → heard ≢ Chance → ArrivesAs c sender earlier upto hearing o heard → Crosses o heard
 arrives-crosses c sender earlier upto hearing None heard well h = subst (Crosses None) (sym h) tt
 arrives-crosses c sender earlier upto hearing (Some slot) heard well h = outcome-crosses _ slot h.frames h.patterns heard well h.outcome
 
 pub one_is_carried : OneIsCarried
-one_is_carried c ts t h role = arrives-crosses c (other role) _ _ (of role t).check (sent_ago (delay_of c.script (other role)) (other role) ts) (of role t).heard (h role).well (h role).heard_of
+one_is_carried c ts t h role =
+    arrives-crosses c (other role) _ _ (of role t).check (sent_ago (delay_of c.script (other role)) (other role) ts) (of role t).heard
+    (h role).well (h role).heard_of
 
 pub samples_are_carried : SamplesAreCarried
 samples_are_carried c [] h = tt
@@ -69,23 +73,30 @@ pub record SampleLaws : Type 0 where
   pub outcome : OneOutcome
   pub lost : LostOnce line_trellis
 
-arrives-once : (laws : SampleLaws) (c : Channel) (sender : Role) (earlier upto : List Turn) (hearing : Check) (o : Option Spoken) (heard others : Heard) → ArrivesAs c sender earlier upto hearing o heard → ArrivesAs c sender earlier upto hearing o others → heard ≡ others
+arrives-once : (laws : SampleLaws) (c : Channel) (sender : Role) (earlier upto : List Turn) (hearing : Check) (o : Option Spoken)
+    (heard others : Heard) → ArrivesAs c sender earlier upto hearing o heard → ArrivesAs c sender earlier upto hearing o others
+    → heard ≡ others
 arrives-once laws c sender earlier upto hearing None heard others h k = h ∙ sym k
 arrives-once laws c sender earlier upto hearing (Some slot) heard others h k =
     let b = laws.recorded c.script sender (bits_of c sender earlier) k.before h.before k.recorded_before h.recorded_before in
     let s = laws.recorded c.script sender (bits_of c sender upto) k.samples h.samples k.recorded h.recorded in
     let r : Receives hearing sender c.dlci h.before h.samples k.frames k.patterns =
-    subst (λ z. Receives hearing sender c.dlci h.before z k.frames k.patterns) s (subst (λ z. Receives hearing sender c.dlci z k.samples k.frames k.patterns) b k.received) in
+    subst (λ z. Receives hearing sender c.dlci h.before z k.frames k.patterns) s
+    (subst (λ z. Receives hearing sender c.dlci z k.samples k.frames k.patterns) b k.received) in
     let f = laws.received hearing sender c.dlci h.before h.samples k.frames h.frames k.patterns h.patterns r h.received in
     laws.outcome _ slot.sent h.frames h.patterns heard others h.outcome
     (subst (λ z. IsOutcome _ slot.sent h.frames z others) f.1 (subst (λ z. IsOutcome _ slot.sent z k.patterns others) f.0 k.outcome))
 
 pub heard_once : SampleLaws → HeardOnce
-heard_once laws c sender ts hearing heard others h k = arrives-once laws c sender _ _ hearing (sent_ago (delay_of c.script sender) sender ts) heard others h k
+heard_once laws c sender ts hearing heard others h k =
+    arrives-once laws c sender _ _ hearing (sent_ago (delay_of c.script sender) sender ts) heard others h k
 
 -- both ends hear the same of the same slots, where they judge by the same checks
-pub same-heard : (laws : SampleLaws) (c : Channel) (ts : List Turn) (t u : Turn) → ((role : Role) → (of role t).check ≡ (of role u).check) → HeardIn c ts t → HeardIn c ts u → heard_in t ≡ heard_in u
-same-heard laws c ts t u e h k = ap (λ z. record { orig = z; answ = t.answ.heard }) (each Originator) ∙ ap (λ z. record { orig = u.orig.heard; answ = z }) (each Answerer)
+pub same-heard : (laws : SampleLaws) (c : Channel) (ts : List Turn) (t u : Turn) → ((role : Role) → (of role t).check ≡ (of role u).check)
+    → HeardIn c ts t → HeardIn c ts u → heard_in t ≡ heard_in u
+same-heard laws c ts t u e h k =
+    ap (λ z. record { orig = z; answ = t.answ.heard }) (each Originator)
+    ∙ ap (λ z. record { orig = u.orig.heard; answ = z }) (each Answerer)
   where
     each : (role : Role) → (of role t).heard ≡ (of role u).heard
     each role =
@@ -93,10 +104,14 @@ same-heard laws c ts t u e h k = ap (λ z. record { orig = z; answ = t.answ.hear
         (subst (λ z. IsHeardOf c (other role) ts z (of role t).heard) (e role) (h role).heard_of) (k role).heard_of
 
 -- the checks of turns that the same ends hear
-pub same-checks : (turn others : ℕ) (before ends : Ends) (t u : Turn) (mid later : Ends) → before ≡ ends → Hears turn before t mid → Hears others ends u later → (role : Role) → (of role t).check ≡ (of role u).check
-same-checks turn others before ends t u mid later e h k role = (h role).check_is ∙ ap (λ (z : Ends). check_of (of role z)) e ∙ sym (k role).check_is
+pub same-checks : (turn others : ℕ) (before ends : Ends) (t u : Turn) (mid later : Ends) → before ≡ ends → Hears turn before t mid
+    → Hears others ends u later → (role : Role) → (of role t).check ≡ (of role u).check
+same-checks turn others before ends t u mid later e h k role =
+    (h role).check_is ∙ ap (λ (z : Ends). check_of (of role z)) e ∙ sym (k role).check_is
 
-same-heards : (laws : SampleLaws) (c : Channel) (link : Link) (one : OneRun) (ts us : List Turn) (ends others : Ends) → length ts ≡ length us → RunOf link ts ends → RunOf link us others → IsHeardOver c ts → IsHeardOver c us → map heard_in ts ≡ map heard_in us
+same-heards : (laws : SampleLaws) (c : Channel) (link : Link) (one : OneRun) (ts us : List Turn) (ends others : Ends)
+    → length ts ≡ length us → RunOf link ts ends → RunOf link us others → IsHeardOver c ts → IsHeardOver c us
+    → map heard_in ts ≡ map heard_in us
 same-heards laws c link one [] [] ends others e h k p q = refl
 same-heards laws c link one [] (u ∷ us) ends others e h k p q = absurd (omega (arith, e))
 same-heards laws c link one (t ∷ ts) [] ends others e h k p q = absurd (omega (arith, e))
@@ -104,56 +119,89 @@ same-heards laws c link one (t ∷ ts) (u ∷ us) ends others e h k p q =
     let ih = same-heards laws c link one ts us h.0 k.0 (omega (arith, e)) h.1 k.1 p.1 q.1 in
     let same = one link ts us h.0 k.0 h.1 k.1 ih in
     let r : HeardIn c ts u = subst (λ l. HeardIn c l u) (sym same.0) q.0 in
-    let s = same-heard laws c ts t u (same-checks (length ts) (length us) h.0 k.0 t u h.2.mid k.2.mid same.1 h.2.hearing k.2.hearing) p.0 r in
+    let s = same-heard laws c ts t u
+    (same-checks (length ts) (length us) h.0 k.0 t u h.2.mid k.2.mid same.1 h.2.hearing k.2.hearing) p.0 r in
     ap (λ x. x ∷ map heard_in ts) s ∙ ap (λ l. heard_in u ∷ l) ih
 
 pub one_line_run : SampleLaws → OneRun → OneLineRun
-one_line_run laws one c link ts us ends others e h k = one link ts us ends others h.run k.run (same-heards laws c link one ts us ends others e h.run k.run h.heard k.heard)
+one_line_run laws one c link ts us ends others e h k =
+    one link ts us ends others h.run k.run (same-heards laws c link one ts us ends others e h.run k.run h.heard k.heard)
 
 -- a line that is lost isn't heard, and is lost once
-lost-not-heard : (laws : SampleLaws) (c : Channel) (sender : Role) (ts : List Turn) (hearing : Check) (symbol : ℕ) (heard : Heard) → LosesLine c sender ts symbol → IsHeardOf c sender ts hearing heard → ⊥
+lost-not-heard : (laws : SampleLaws) (c : Channel) (sender : Role) (ts : List Turn) (hearing : Check) (symbol : ℕ) (heard : Heard)
+    → LosesLine c sender ts symbol → IsHeardOf c sender ts hearing heard → ⊥
 lost-not-heard laws c sender ts hearing symbol heard h k = go (sent_ago (delay_of c.script sender) sender ts) h.arrives k
   where
-    go : (o : Option Spoken) → is_some o ≡ true → ArrivesAs c sender (drop (delay_of c.script sender) ts) (drop (delay_of c.script sender - 1) ts) hearing o heard → ⊥
+    go : (o : Option Spoken) → is_some o ≡ true
+        → ArrivesAs c sender (drop (delay_of c.script sender) ts) (drop (delay_of c.script sender - 1) ts) hearing o heard → ⊥
     go None e a = false≢true e
     go (Some slot) e a =
-        let s = laws.recorded c.script sender (bits_of c sender (drop (delay_of c.script sender - 1) ts)) h.loses.samples a.samples h.loses.recorded a.recorded in
+        let s = laws.recorded c.script sender
+        (bits_of c sender (drop (delay_of c.script sender - 1) ts)) h.loses.samples a.samples h.loses.recorded a.recorded in
         let l = subst (λ z. LostIs line_trellis line_depth z (Some symbol)) s h.loses.lost in
         false≢true (ap is_some (laws.lost line_depth a.samples None (Some symbol) a.not_lost l))
 
-lost-once : (laws : SampleLaws) (c : Channel) (sender : Role) (ts : List Turn) (m n : ℕ) → LosesLine c sender ts m → LosesLine c sender ts n → m ≡ n
+lost-once : (laws : SampleLaws) (c : Channel) (sender : Role) (ts : List Turn) (m n : ℕ) → LosesLine c sender ts m → LosesLine c sender ts n
+    → m ≡ n
 lost-once laws c sender ts m n h k =
-    let s = laws.recorded c.script sender (bits_of c sender (drop (delay_of c.script sender - 1) ts)) h.loses.samples k.loses.samples h.loses.recorded k.loses.recorded in
+    let s = laws.recorded c.script sender
+    (bits_of c sender (drop (delay_of c.script sender - 1) ts)) h.loses.samples k.loses.samples h.loses.recorded k.loses.recorded in
     let l = subst (λ z. LostIs line_trellis line_depth z (Some m)) s h.loses.lost in
     ap (λ (o : Option ℕ). unwrap_or o 0) (laws.lost line_depth k.loses.samples (Some m) (Some n) l k.loses.lost)
 
-well-not-chance : (laws : SampleLaws) (c : Channel) (sender : Role) (ts : List Turn) (hearing : Check) → IsHeardWell c sender ts hearing → IsHeardOf c sender ts hearing Chance → ⊥
+well-not-chance : (laws : SampleLaws) (c : Channel) (sender : Role) (ts : List Turn) (hearing : Check) → IsHeardWell c sender ts hearing
+    → IsHeardOf c sender ts hearing Chance → ⊥
 well-not-chance laws c sender ts hearing h k = h.well (heard_once laws c sender ts hearing h.heard Chance h.is k)
 
 pub one_line_end : SampleLaws → OneLineEnd
-one_line_end laws c ts ends (LineLost Originator m) (LineLost Originator n) h k = ap (LineLost Originator) (lost-once laws c Answerer ts m n h k)
-one_line_end laws c ts ends (LineLost Originator m) (LineLost Answerer n) h k = absurd (lost-not-heard laws c Answerer ts (check_of ends.orig) m k.0.heard h k.0.is)
-one_line_end laws c ts ends (LineLost Originator m) (ChanceMatch Originator) h k = absurd (lost-not-heard laws c Answerer ts (check_of ends.orig) m Chance h k)
-one_line_end laws c ts ends (LineLost Originator m) (ChanceMatch Answerer) h k = absurd (lost-not-heard laws c Answerer ts (check_of ends.orig) m k.0.heard h k.0.is)
-one_line_end laws c ts ends (LineLost Answerer m) (LineLost Originator n) h k = absurd (lost-not-heard laws c Answerer ts (check_of ends.orig) n h.0.heard k h.0.is)
-one_line_end laws c ts ends (LineLost Answerer m) (LineLost Answerer n) h k = ap (LineLost Answerer) (lost-once laws c Originator ts m n h.1 k.1)
-one_line_end laws c ts ends (LineLost Answerer m) (ChanceMatch Originator) h k = absurd (well-not-chance laws c Answerer ts (check_of ends.orig) h.0 k)
-one_line_end laws c ts ends (LineLost Answerer m) (ChanceMatch Answerer) h k = absurd (lost-not-heard laws c Originator ts (check_of ends.answ) m Chance h.1 k.1)
-one_line_end laws c ts ends (ChanceMatch Originator) (LineLost Originator n) h k = absurd (lost-not-heard laws c Answerer ts (check_of ends.orig) n Chance k h)
-one_line_end laws c ts ends (ChanceMatch Originator) (LineLost Answerer n) h k = absurd (well-not-chance laws c Answerer ts (check_of ends.orig) k.0 h)
+one_line_end laws c ts ends (LineLost Originator m) (LineLost Originator n) h k =
+    ap (LineLost Originator) (lost-once laws c Answerer ts m n h k)
+one_line_end laws c ts ends (LineLost Originator m) (LineLost Answerer n) h k =
+    absurd (lost-not-heard laws c Answerer ts (check_of ends.orig) m k.0.heard h k.0.is)
+one_line_end laws c ts ends (LineLost Originator m) (ChanceMatch Originator) h k =
+    absurd (lost-not-heard laws c Answerer ts (check_of ends.orig) m Chance h k)
+one_line_end laws c ts ends (LineLost Originator m) (ChanceMatch Answerer) h k =
+    absurd (lost-not-heard laws c Answerer ts (check_of ends.orig) m k.0.heard h k.0.is)
+one_line_end laws c ts ends (LineLost Answerer m) (LineLost Originator n) h k =
+    absurd (lost-not-heard laws c Answerer ts (check_of ends.orig) n h.0.heard k h.0.is)
+one_line_end laws c ts ends (LineLost Answerer m) (LineLost Answerer n) h k =
+    ap (LineLost Answerer) (lost-once laws c Originator ts m n h.1 k.1)
+one_line_end laws c ts ends (LineLost Answerer m) (ChanceMatch Originator) h k =
+    absurd (well-not-chance laws c Answerer ts (check_of ends.orig) h.0 k)
+one_line_end laws c ts ends (LineLost Answerer m) (ChanceMatch Answerer) h k =
+    absurd (lost-not-heard laws c Originator ts (check_of ends.answ) m Chance h.1 k.1)
+one_line_end laws c ts ends (ChanceMatch Originator) (LineLost Originator n) h k =
+    absurd (lost-not-heard laws c Answerer ts (check_of ends.orig) n Chance k h)
+one_line_end laws c ts ends (ChanceMatch Originator) (LineLost Answerer n) h k =
+    absurd (well-not-chance laws c Answerer ts (check_of ends.orig) k.0 h)
 one_line_end laws c ts ends (ChanceMatch Originator) (ChanceMatch Originator) h k = refl
-one_line_end laws c ts ends (ChanceMatch Originator) (ChanceMatch Answerer) h k = absurd (well-not-chance laws c Answerer ts (check_of ends.orig) k.0 h)
-one_line_end laws c ts ends (ChanceMatch Answerer) (LineLost Originator n) h k = absurd (lost-not-heard laws c Answerer ts (check_of ends.orig) n h.0.heard k h.0.is)
-one_line_end laws c ts ends (ChanceMatch Answerer) (LineLost Answerer n) h k = absurd (lost-not-heard laws c Originator ts (check_of ends.answ) n Chance k.1 h.1)
-one_line_end laws c ts ends (ChanceMatch Answerer) (ChanceMatch Originator) h k = absurd (well-not-chance laws c Answerer ts (check_of ends.orig) h.0 k)
+one_line_end laws c ts ends (ChanceMatch Originator) (ChanceMatch Answerer) h k =
+    absurd (well-not-chance laws c Answerer ts (check_of ends.orig) k.0 h)
+one_line_end laws c ts ends (ChanceMatch Answerer) (LineLost Originator n) h k =
+    absurd (lost-not-heard laws c Answerer ts (check_of ends.orig) n h.0.heard k h.0.is)
+one_line_end laws c ts ends (ChanceMatch Answerer) (LineLost Answerer n) h k =
+    absurd (lost-not-heard laws c Originator ts (check_of ends.answ) n Chance k.1 h.1)
+one_line_end laws c ts ends (ChanceMatch Answerer) (ChanceMatch Originator) h k =
+    absurd (well-not-chance laws c Answerer ts (check_of ends.orig) h.0 k)
 one_line_end laws c ts ends (ChanceMatch Answerer) (ChanceMatch Answerer) h k = refl
 
 -- what an end hears by the check that it has
-heard-by : (c : Channel) (ts : List Turn) (ends : Ends) (t : Turn) (mid : Ends) → Hears (length ts) ends t mid → HeardIn c ts t → (role : Role) → IsHeardWell c (other role) ts (check_of (of role ends))
-heard-by c ts ends t mid h k role = record { heard = (of role t).heard; is = subst (λ z. IsHeardOf c (other role) ts z (of role t).heard) (h role).check_is (k role).heard_of; well = (k role).well }
+heard-by : (c : Channel) (ts : List Turn) (ends : Ends) (t : Turn) (mid : Ends) → Hears (length ts) ends t mid → HeardIn c ts t
+    → (role : Role) → IsHeardWell c (other role) ts (check_of (of role ends))
+heard-by c ts ends t mid h k role =
+    record {
+      heard = (of role t).heard;
+      is =
+          subst (λ z. IsHeardOf c (other role) ts z (of role t).heard) (h role).check_is (k role).heard_of;
+      well = (k role).well;
+    }
 
 pub ends_or_goes_on : SampleLaws → EndsOrGoesOn
-ends_or_goes_on laws c ts ends (LineLost Originator m) t mid h n k = let w = heard-by c ts ends t mid n k Originator in lost-not-heard laws c Answerer ts (check_of ends.orig) m w.heard h w.is
-ends_or_goes_on laws c ts ends (LineLost Answerer m) t mid h n k = let w = heard-by c ts ends t mid n k Answerer in lost-not-heard laws c Originator ts (check_of ends.answ) m w.heard h.1 w.is
-ends_or_goes_on laws c ts ends (ChanceMatch Originator) t mid h n k = well-not-chance laws c Answerer ts (check_of ends.orig) (heard-by c ts ends t mid n k Originator) h
-ends_or_goes_on laws c ts ends (ChanceMatch Answerer) t mid h n k = well-not-chance laws c Originator ts (check_of ends.answ) (heard-by c ts ends t mid n k Answerer) h.1
+ends_or_goes_on laws c ts ends (LineLost Originator m) t mid h n k = let w = heard-by c ts ends t mid n k Originator in
+    lost-not-heard laws c Answerer ts (check_of ends.orig) m w.heard h w.is
+ends_or_goes_on laws c ts ends (LineLost Answerer m) t mid h n k = let w = heard-by c ts ends t mid n k Answerer in
+    lost-not-heard laws c Originator ts (check_of ends.answ) m w.heard h.1 w.is
+ends_or_goes_on laws c ts ends (ChanceMatch Originator) t mid h n k =
+    well-not-chance laws c Answerer ts (check_of ends.orig) (heard-by c ts ends t mid n k Originator) h
+ends_or_goes_on laws c ts ends (ChanceMatch Answerer) t mid h n k =
+    well-not-chance laws c Originator ts (check_of ends.answ) (heard-by c ts ends t mid n k Answerer) h.1

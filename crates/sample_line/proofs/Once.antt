@@ -51,7 +51,8 @@ odd-same a b e = elim (cases_eq (a % 2) 1) [
     differ : (m n : ℕ) → m % 2 ≡ 1 → (n % 2 ≡ 1 → ⊥) → nat_eq (m % 2) 1 ≡ nat_eq (n % 2) 1 → ⊥
     differ m n one other q = other (eqb-true (n % 2) 1 (sym q ∙ ap (λ k. nat_eq k 1) one))
 
-quad-same : (q r : ℕ) → q < 16 → r < 16 → q % 2 ≡ r % 2 → q / 2 % 2 ≡ r / 2 % 2 → q / 2 / 2 % 2 ≡ r / 2 / 2 % 2 → q / 2 / 2 / 2 % 2 ≡ r / 2 / 2 / 2 % 2 → q ≡ r
+quad-same : (q r : ℕ) → q < 16 → r < 16 → q % 2 ≡ r % 2 → q / 2 % 2 ≡ r / 2 % 2 → q / 2 / 2 % 2 ≡ r / 2 / 2 % 2
+    → q / 2 / 2 / 2 % 2 ≡ r / 2 / 2 / 2 % 2 → q ≡ r
 quad-same q r low high a b c d = omega arith
 
 head-tail : {X : Type 0} (x y : X) (a b : List X) → x ∷ a ≡ y ∷ b → (x ≡ y) × (a ≡ b)
@@ -63,7 +64,8 @@ All-head quad quads h = h 0 0 (omega arith)
 All-tail : (quad : ℕ) (quads : List ℕ) → All (λ q. q < 16) (quad ∷ quads) → All (λ q. q < 16) quads
 All-tail quad quads h k d low = h (suc k) d (omega (arith, low))
 
-quads-once : (quads others : List ℕ) → All (λ q. q < 16) quads → All (λ q. q < 16) others → flat_map (low_bits 4) quads ≡ flat_map (low_bits 4) others → quads ≡ others
+quads-once : (quads others : List ℕ) → All (λ q. q < 16) quads → All (λ q. q < 16) others
+    → flat_map (low_bits 4) quads ≡ flat_map (low_bits 4) others → quads ≡ others
 quads-once [] [] h k e = refl
 quads-once [] (r ∷ others) h k e = absurd cc
 quads-once (q ∷ quads) [] h k e = absurd cc
@@ -72,31 +74,37 @@ quads-once (q ∷ quads) (r ∷ others) h k e =
     let second = head-tail _ _ _ _ first.1 in
     let third = head-tail _ _ _ _ second.1 in
     let fourth = head-tail _ _ _ _ third.1 in
-    let same : q ≡ r = quad-same q r (All-head q quads h) (All-head r others k) (odd-same q r first.0) (odd-same (q / 2) (r / 2) second.0) (odd-same (q / 2 / 2) (r / 2 / 2) third.0) (odd-same (q / 2 / 2 / 2) (r / 2 / 2 / 2) fourth.0) in
+    let same : q ≡ r = quad-same q r (All-head q quads h) (All-head r others k) (odd-same q r first.0) (odd-same (q / 2) (r / 2) second.0)
+    (odd-same (q / 2 / 2) (r / 2 / 2) third.0) (odd-same (q / 2 / 2 / 2) (r / 2 / 2 / 2) fourth.0) in
     let others-same : quads ≡ others = quads-once quads others (All-tail q quads h) (All-tail r others k) fourth.1 in
     rw (same, others-same) refl
 
-modulates-once : (tap : ℕ) (bits : List Bool) (samples other : List Sample) → 1 ≤ tap → Modulates tap bits samples → Modulates tap bits other → samples ≡ other
+modulates-once : (tap : ℕ) (bits : List Bool) (samples other : List Sample) → 1 ≤ tap → Modulates tap bits samples
+    → Modulates tap bits other → samples ≡ other
 modulates-once tap bits samples other low h k =
     let line : h.line ≡ k.line = Scrambles_once tap bits h.line k.line low h.scrambled k.scrambled in
     let quads : h.quads ≡ k.quads = quads-once h.quads k.quads h.are_quads k.are_quads (sym h.in_fours ∙ line ∙ k.in_fours) in
-    let labels : h.labels ≡ k.labels = Encodes_once k.quads h.labels k.labels h.end k.end (subst (λ (xs : List ℕ). Encodes xs h.labels h.end) quads h.encoded) k.encoded in
+    let labels : h.labels ≡ k.labels =
+    Encodes_once k.quads h.labels k.labels h.end k.end (subst (λ (xs : List ℕ). Encodes xs h.labels h.end) quads h.encoded) k.encoded in
     h.points ∙ ap (map point_of) labels ∙ sym k.points
 
 pub recorded-once : (script : ScriptValue) (sender : Role) (bits : List Bool) (samples other : List Sample)
     → Records script sender bits samples → Records script sender bits other → samples ≡ other
 recorded-once script sender bits samples other h k =
-    h.samples_are ∙ ap (displaced_from script sender 0) (modulates-once (tap_of (mode_of sender)) bits h.points k.points (tap-some sender) h.modulated k.modulated) ∙ sym k.samples_are
+    h.samples_are ∙ ap (displaced_from script sender 0)
+    (modulates-once (tap_of (mode_of sender)) bits h.points k.points (tap-some sender) h.modulated k.modulated) ∙ sym k.samples_are
 
 take-fours : (n : ℕ) (quads : List ℕ) → take (4 * n) (flat_map (low_bits 4) quads) ≡ flat_map (low_bits 4) (take n quads)
 take-fours zero quads = refl
 take-fours (suc n) [] = take-nil (4 * suc n)
 take-fours (suc n) (quad ∷ quads) =
     let four : 4 * suc n ≡ suc (suc (suc (suc (4 * n)))) = omega arith in
-    let first : take (4 * suc n) (flat_map (low_bits 4) (quad ∷ quads)) ≡ low_bits 4 quad ++ take (4 * n) (flat_map (low_bits 4) quads) = ap (λ m. take m (flat_map (low_bits 4) (quad ∷ quads))) four in
+    let first : take (4 * suc n) (flat_map (low_bits 4) (quad ∷ quads)) ≡ low_bits 4 quad ++ take (4 * n) (flat_map (low_bits 4) quads) =
+    ap (λ m. take m (flat_map (low_bits 4) (quad ∷ quads))) four in
     first ∙ ap (λ xs. low_bits 4 quad ++ xs) (take-fours n quads)
 
-modulates-take : (tap n : ℕ) (bits : List Bool) (samples : List Sample) → 1 ≤ tap → Modulates tap bits samples → Modulates tap (take (4 * n) bits) (take n samples)
+modulates-take : (tap n : ℕ) (bits : List Bool) (samples : List Sample) → 1 ≤ tap → Modulates tap bits samples
+    → Modulates tap (take (4 * n) bits) (take n samples)
 modulates-take tap n bits samples low h =
     let coded = Encodes-take h.quads h.labels h.end n h.encoded in
     record {
@@ -111,35 +119,46 @@ modulates-take tap n bits samples low h =
       points = ap (take n) h.points ∙ take-map point_of n h.labels;
     }
 
-displaced-take : (script : ScriptValue) (sender : Role) (symbol n : ℕ) (points : List Sample) → take n (displaced_from script sender symbol points) ≡ displaced_from script sender symbol (take n points)
+displaced-take : (script : ScriptValue) (sender : Role) (symbol n : ℕ) (points : List Sample)
+    → take n (displaced_from script sender symbol points) ≡ displaced_from script sender symbol (take n points)
 displaced-take script sender symbol zero points = refl
 displaced-take script sender symbol (suc n) [] = refl
-displaced-take script sender symbol (suc n) (point ∷ points) = ap (λ xs. displaced (offset_of script sender symbol) point ∷ xs) (displaced-take script sender (symbol + 1) n points)
+displaced-take script sender symbol (suc n) (point ∷ points) =
+    ap (λ xs. displaced (offset_of script sender symbol) point ∷ xs) (displaced-take script sender (symbol + 1) n points)
 
-recorded-take : (script : ScriptValue) (sender : Role) (n : ℕ) (bits : List Bool) (samples : List Sample) → Records script sender bits samples → Records script sender (take (4 * n) bits) (take n samples)
+recorded-take : (script : ScriptValue) (sender : Role) (n : ℕ) (bits : List Bool) (samples : List Sample)
+    → Records script sender bits samples → Records script sender (take (4 * n) bits) (take n samples)
 recorded-take script sender n bits samples h = record {
   points = take n h.points;
   modulated = modulates-take (tap_of (mode_of sender)) n bits h.points (tap-some sender) h.modulated;
   samples_are = ap (take n) h.samples_are ∙ displaced-take script sender 0 n h.points;
 }
 
-length-modulated : (tap : ℕ) (bits : List Bool) (samples : List Sample) → (h : Modulates tap bits samples) → length bits ≡ 4 * length h.quads
+length-modulated : (tap : ℕ) (bits : List Bool) (samples : List Sample) → (h : Modulates tap bits samples)
+    → length bits ≡ 4 * length h.quads
 length-modulated tap bits samples h = sym h.scrambled.lengths ∙ ap length h.in_fours ∙ length-fours h.quads
 
 pub recordings-grow : (script : ScriptValue) (sender : Role) (bits more : List Bool) (before samples : List Sample)
     → Records script sender bits before → Records script sender (bits ++ more) samples → (rest : List Sample) × (samples ≡ before ++ rest)
 recordings-grow script sender bits more before samples h k =
     let n : ℕ = length h.modulated.quads in
-    let first : take (4 * n) (bits ++ more) ≡ bits = ap (λ m. take m (bits ++ more)) (sym (length-modulated (tap_of (mode_of sender)) bits h.points h.modulated)) ∙ take-append_seam bits more in
-    let same : take n samples ≡ before = recorded-once script sender bits (take n samples) before (subst (λ (xs : List Bool). Records script sender xs (take n samples)) first (recorded-take script sender n (bits ++ more) samples k)) h in
+    let first : take (4 * n) (bits ++ more) ≡ bits =
+    ap (λ m. take m (bits ++ more)) (sym (length-modulated (tap_of (mode_of sender)) bits h.points h.modulated))
+    ∙ take-append_seam bits more in
+    let same : take n samples ≡ before =
+    recorded-once script sender bits (take n samples) before
+    (subst (λ (xs : List Bool). Records script sender xs (take n samples)) first
+    (recorded-take script sender n (bits ++ more) samples k)) h in
     (drop n samples, sym (take-append-drop n samples) ∙ ap (λ xs. xs ++ drop n samples) same)
 
 -- what samples give
 
-pub given-once : (sender : Role) (samples : List Sample) (bits other : List Bool) → Gives sender samples bits → Gives sender samples other → bits ≡ other
+pub given-once : (sender : Role) (samples : List Sample) (bits other : List Bool) → Gives sender samples bits → Gives sender samples other
+    → bits ≡ other
 given-once sender samples bits other h k =
     let labels : h.labels ≡ k.labels = released-once line_trellis samples h.labels k.labels h.released k.released in
-    Descrambles_once (tap_of (mode_of sender)) (line_of k.labels) bits other (subst (λ (xs : List ℕ). Demodulates (tap_of (mode_of sender)) xs bits) labels h.read) k.read
+    Descrambles_once (tap_of (mode_of sender)) (line_of k.labels) bits other
+    (subst (λ (xs : List ℕ). Demodulates (tap_of (mode_of sender)) xs bits) labels h.read) k.read
 
 pub given-stays : (sender : Role) (samples more : List Sample) (bits later : List Bool)
     → Gives sender samples bits → Gives sender (samples ++ more) later → (rest : List Bool) × (later ≡ bits ++ rest)
@@ -149,7 +168,8 @@ given-stays sender samples more bits later h k =
     let grown = stays-prefix line_trellis samples more h.labels k.labels h.released k.released in
     let first : take n k.labels ≡ h.labels = ap (take n) (sym grown.1) ∙ take-append_seam h.labels grown.0 in
     let same : take (4 * n) later ≡ bits = Descrambles_once tap (line_of h.labels) (take (4 * n) later) bits
-    (subst (λ (xs : List ℕ). Demodulates tap xs (take (4 * n) later)) first (first-stay tap n k.labels later (tap-some sender) k.read)) h.read in
+    (subst (λ (xs : List ℕ). Demodulates tap xs (take (4 * n) later)) first (first-stay tap n k.labels later (tap-some sender) k.read))
+    h.read in
     (drop (4 * n) later, sym (take-append-drop (4 * n) later) ∙ ap (λ xs. xs ++ drop (4 * n) later) same)
 
 -- what is received in a slot
@@ -169,17 +189,20 @@ same-behind : {X : Type 0} (front a b : List X) → front ++ a ≡ front ++ b �
 same-behind [] a b e = e
 same-behind (x ∷ front) a b e = same-behind front a b (head-tail _ _ _ _ e).1
 
-found-once : (check : Check) (sender : Role) (dlci : ℕ) (earlier later : List Bool) (frames others : List Frame) (patterns other_patterns : List Seen)
+found-once : (check : Check) (sender : Role) (dlci : ℕ) (earlier later : List Bool) (frames others : List Frame)
+    (patterns other_patterns : List Seen)
     → FoundBetween check sender dlci earlier later frames patterns → FoundBetween check sender dlci earlier later others other_patterns
     → (frames ≡ others) × (patterns ≡ other_patterns)
 found-once check sender dlci earlier later frames others patterns other_patterns h k =
     let pieces : h.pieces ≡ k.pieces = same-behind (pieces_of earlier) h.pieces k.pieces (sym h.pieces_are ∙ k.pieces_are) in
     let sights : h.sights ≡ k.sights = same-behind (sights_of earlier) h.sights k.sights (sym h.sights_are ∙ k.sights_are) in (
-      frames-once check sender dlci (wholes k.pieces) frames others (subst (λ (xs : List Found). AreFrames check sender dlci (wholes xs) frames) pieces h.frames_are) k.frames_are,
+      frames-once check sender dlci (wholes k.pieces) frames others
+          (subst (λ (xs : List Found). AreFrames check sender dlci (wholes xs) frames) pieces h.frames_are) k.frames_are,
       h.patterns_are ∙ ap (map (λ (sight : Sight). sight.seen)) sights ∙ sym k.patterns_are,
     )
 
-pub received-once : (check : Check) (sender : Role) (dlci : ℕ) (before upto : List Sample) (frames others : List Frame) (patterns other_patterns : List Seen)
+pub received-once : (check : Check) (sender : Role) (dlci : ℕ) (before upto : List Sample) (frames others : List Frame)
+    (patterns other_patterns : List Seen)
     → Receives check sender dlci before upto frames patterns → Receives check sender dlci before upto others other_patterns
     → (frames ≡ others) × (patterns ≡ other_patterns)
 received-once check sender dlci before upto frames others patterns other_patterns h k =

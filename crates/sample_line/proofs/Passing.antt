@@ -30,12 +30,14 @@ use Rattle.sample_line.proofs.Standing.{recorded, gives}
 abbrev pub kept : Writer → ℕ → Path → Kept
 kept writer n path = record { writer = writer; passed = n; path = path }
 
-slot-added : (size : ℕ) (before : List Signal) (signal : Signal) → signal_bits size (before ++ signal ∷ []) ≡ signal_bits size before ++ bits_behind size before signal
+slot-added : (size : ℕ) (before : List Signal) (signal : Signal)
+    → signal_bits size (before ++ signal ∷ []) ≡ signal_bits size before ++ bits_behind size before signal
 slot-added size before signal =
     ap (sent_bits size) (map-append (slot_of size) before (signal ∷ [])) ∙ bits-append size 0 (slots_of size before) (slot_of size signal)
 
 pub codes-bits : (script : ScriptValue) (line : Kept) (passed waiting : List Signal) (signal : Signal) (bits : List Bool)
-    → LineStands line script passed waiting → bits ≡ slot_bits (4 * line.writer.symbols) line.writer.phase (slot_of (4 * line.writer.symbols) signal)
+    → LineStands line script passed waiting
+    → bits ≡ slot_bits (4 * line.writer.symbols) line.writer.phase (slot_of (4 * line.writer.symbols) signal)
     → bits ≡ bits_behind (4 * line.writer.symbols) (passed ++ waiting) signal
 codes-bits script line passed waiting signal bits stands e =
     e ∙ ap (λ p. slot_bits (4 * line.writer.symbols) p (slot_of (4 * line.writer.symbols) signal)) stands.writer.phase_is
@@ -63,13 +65,15 @@ pub slot-passes : (script : ScriptValue) (line : Kept) (path : Path) (passed : L
     → (stands : LineStands line script passed (signal ∷ waiting))
     → bits ≡ bits_behind (4 * line.writer.symbols) passed signal
     → path.transmitter.sender ≡ line.path.transmitter.sender
-    → CarriesBetween path script (signal_bits (4 * line.writer.symbols) passed ++ bits) check line.path.transmitter.sender dlci s stands.read tally
+    → CarriesBetween path script
+    (signal_bits (4 * line.writer.symbols) passed ++ bits) check line.path.transmitter.sender dlci s stands.read tally
     → path.hearer.reader.decoder.lost ≡ None → path.hearer.reader.decoder.pending ≡ []
     → ((frames : List Frame) (patterns : List Seen) → Tallies s frames patterns tally → IsOutcome loses s frames patterns heard)
     → PassesSlot (kept line.writer (line.passed + 1) path) script passed signal waiting check dlci loses s heard
 slot-passes script line path passed signal waiting check dlci loses s bits tally heard stands e sender_is found not_lost taken outcome =
     let size : ℕ = 4 * line.writer.symbols in
-    let all : signal_bits size passed ++ bits ≡ signal_bits size (passed ++ signal ∷ []) = ap (λ xs. signal_bits size passed ++ xs) e ∙ sym (slot-added size passed signal) in
+    let all : signal_bits size passed ++ bits ≡ signal_bits size (passed ++ signal ∷ []) =
+    ap (λ xs. signal_bits size passed ++ xs) e ∙ sym (slot-added size passed signal) in
     let old : Role = line.path.transmitter.sender in
     let new : Role = path.transmitter.sender in
     record {
@@ -87,11 +91,13 @@ slot-passes script line path passed signal waiting check dlci loses s bits tally
         gave = subst (λ (r : Role). Gives r stands.carries.samples stands.read) (sym sender_is)
             (gives old line.path.hearer stands.carries.samples stands.read stands.carries.hears stands.not_lost stands.all_taken);
         gives = gives new path.hearer found.carries.samples found.read found.carries.hears not_lost taken;
-        found = subst (λ (r : Role). FoundBetween check r dlci stands.read found.read found.tallies.frames found.tallies.patterns) (sym sender_is) found.tallies.found;
+        found = subst (λ (r : Role). FoundBetween check r dlci stands.read found.read found.tallies.frames found.tallies.patterns)
+            (sym sender_is) found.tallies.found;
       };
       outcome = outcome found.tallies.frames found.tallies.patterns found.tallies.tallies;
       stands = record {
-        writer = subst (λ (xs : List Signal). WriterStands line.writer (slots_of size xs)) (sym (append_assoc passed (signal ∷ []) waiting)) stands.writer;
+        writer = subst (λ (xs : List Signal). WriterStands line.writer (slots_of size xs))
+            (sym (append_assoc passed (signal ∷ []) waiting)) stands.writer;
         slots = omega (arith, stands.slots, length-append passed (signal ∷ []));
         read = found.read;
         carries = subst (λ (xs : List Bool). Carries path script xs found.read) all found.carries;
@@ -103,7 +109,8 @@ slot-passes script line path passed signal waiting check dlci loses s bits tally
 -- the decoder has heard the samples of the slots that passed, and nothing is pending
 pub line-heard : (script : ScriptValue) (line : Kept) (passed waiting : List Signal) → LineStands line script passed waiting
     → (samples : List Sample) × (taken : List ℕ) × Records script (sender_of line) (signal_bits (size_of line) passed) samples
-    × DecoderStands next_state point_of (λ state. nat_eq state 0) line_depth (decoder_of line) samples taken × ((decoder_of line).pending ≡ [])
+    × DecoderStands next_state point_of (λ state. nat_eq state 0) line_depth (decoder_of line) samples taken
+    × ((decoder_of line).pending ≡ [])
 line-heard script line passed waiting h = (
   h.carries.samples,
   h.carries.hears.reader.labels,

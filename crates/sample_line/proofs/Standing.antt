@@ -20,20 +20,24 @@ use Rattle.sample_line.specs.Transmits.{Transmits}
 use Rattle.sample_line.specs.Hears.{Hears}
 
 pub displaced-snoc : (script : ScriptValue) (sender : Role) (symbol : ℕ) (points : List Sample) (point : Sample)
-    → displaced_from script sender symbol (points ++ point ∷ []) ≡ displaced_from script sender symbol points ++ displaced (offset_of script sender (symbol + length points)) point ∷ []
+    → displaced_from script sender symbol (points ++ point ∷ []) ≡ displaced_from script sender symbol points
+    ++ displaced (offset_of script sender (symbol + length points)) point ∷ []
 displaced-snoc script sender symbol [] point =
     let e : symbol ≡ symbol + 0 = omega arith in
     ap (λ n. displaced (offset_of script sender n) point ∷ []) e
 displaced-snoc script sender symbol (first ∷ points) point =
     let e : symbol + 1 + length points ≡ symbol + length (first ∷ points) = omega arith in
     ap (λ xs. displaced (offset_of script sender symbol) first ∷ xs)
-    (displaced-snoc script sender (symbol + 1) points point ∙ ap (λ n. displaced_from script sender (symbol + 1) points ++ displaced (offset_of script sender n) point ∷ []) e)
+    (displaced-snoc script sender (symbol + 1) points point
+    ∙ ap (λ n. displaced_from script sender (symbol + 1) points ++ displaced (offset_of script sender n) point ∷ []) e)
 
 pub displaced-behind : (script : ScriptValue) (sender : Role) (symbol : ℕ) (points : List Sample) (point : Sample) → symbol ≡ length points
-    → displaced_from script sender 0 points ++ displaced (offset_of script sender symbol) point ∷ [] ≡ displaced_from script sender 0 (points ++ point ∷ [])
+    → displaced_from script sender 0 points
+    ++ displaced (offset_of script sender symbol) point ∷ [] ≡ displaced_from script sender 0 (points ++ point ∷ [])
 displaced-behind script sender symbol points point e =
     let n : symbol ≡ 0 + length points = omega (arith, e) in
-    ap (λ m. displaced_from script sender 0 points ++ displaced (offset_of script sender m) point ∷ []) n ∙ sym (displaced-snoc script sender 0 points point)
+    ap (λ m. displaced_from script sender 0 points ++ displaced (offset_of script sender m) point ∷ []) n
+    ∙ sym (displaced-snoc script sender 0 points point)
 
 pub same-saturated : (result a b : ℤ) → result ≡ saturated a → a ≡ b → result ≡ saturated b
 same-saturated result a b e same = e ∙ ap saturated same
@@ -42,7 +46,8 @@ pub same-sample : (a b : Sample) → a.re ≡ b.re → a.im ≡ b.im → a ≡ b
 same-sample a b r i = rw (r, i) refl
 
 -- a transmitter's samples are what is recorded of its bits
-pub recorded : (transmitter : Transmitter) (script : ScriptValue) (bits : List Bool) (samples : List Sample) → Transmits transmitter script bits samples → Records script transmitter.sender bits samples
+pub recorded : (transmitter : Transmitter) (script : ScriptValue) (bits : List Bool) (samples : List Sample)
+    → Transmits transmitter script bits samples → Records script transmitter.sender bits samples
 recorded transmitter script bits samples h = record {
   points = h.points;
   modulated = modulated (mode_of transmitter.sender) transmitter.modulator bits h.points h.modulator;
@@ -55,18 +60,22 @@ pub gives : (sender : Role) (hearer : Hearer) (samples : List Sample) (read : Li
 gives sender hearer samples read h not_lost taken = record {
   labels = h.reader.labels;
   released = subst (λ (xs : List Sample). IsReleased line_trellis xs h.reader.labels) (ap (λ l. heard l samples) not_lost)
-      (subst (λ (xs : List ℕ). IsReleased line_trellis (heard hearer.reader.decoder.lost samples) xs) (ap (λ p. h.reader.labels ++ p) taken ∙ append-nil h.reader.labels) h.reader.decoder.released);
+      (subst (λ (xs : List ℕ). IsReleased line_trellis (heard hearer.reader.decoder.lost samples) xs)
+      (ap (λ p. h.reader.labels ++ p) taken ∙ append-nil h.reader.labels) h.reader.decoder.released);
   read = demodulated (mode_of sender) hearer.reader.demodulator h.reader.labels read h.reader.demodulator;
 }
 
 -- one more quad of a slot
-pub slot-part : (quads : List ℕ) (i : ℕ) → i < length quads → line_bits (take i quads) ++ low_bits 4 (get_or quads i 0) ≡ line_bits (take (i + 1) quads)
+pub slot-part : (quads : List ℕ) (i : ℕ) → i < length quads
+    → line_bits (take i quads) ++ low_bits 4 (get_or quads i 0) ≡ line_bits (take (i + 1) quads)
 slot-part quads i h =
-    ap (λ l. line_bits (take i quads) ++ l) (sym (append-nil (low_bits 4 (get_or quads i 0)))) ∙ sym (flat_map-append (low_bits 4) (take i quads) (get_or quads i 0 ∷ []))
+    ap (λ l. line_bits (take i quads) ++ l) (sym (append-nil (low_bits 4 (get_or quads i 0))))
+    ∙ sym (flat_map-append (low_bits 4) (take i quads) (get_or quads i 0 ∷ []))
     ∙ ap line_bits (sym (take_more quads i 0 h))
 
 -- and of all that was sent
 pub sent-part : (before : List Bool) (quads : List ℕ) (i quad : ℕ) → i < length quads → quad ≡ get_or quads i 0
     → (before ++ line_bits (take i quads)) ++ low_bits 4 quad ≡ before ++ line_bits (take (i + 1) quads)
 sent-part before quads i quad h e =
-    append_assoc before (line_bits (take i quads)) (low_bits 4 quad) ∙ ap (λ q. before ++ (line_bits (take i quads) ++ low_bits 4 q)) e ∙ ap (λ xs. before ++ xs) (slot-part quads i h)
+    append_assoc before (line_bits (take i quads)) (low_bits 4 quad) ∙ ap (λ q. before ++ (line_bits (take i quads) ++ low_bits 4 q)) e
+    ∙ ap (λ xs. before ++ xs) (slot-part quads i h)

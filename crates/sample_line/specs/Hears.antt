@@ -20,7 +20,8 @@ pub record Hears (mode : Mode) (hearer : Hearer) (samples : List Sample) (read :
   pub finder : HasRead hearer.finder read
 
 -- the same, with what was found behind the earlier bits tallied
-pub record HearsBetween (mode : Mode) (hearer : Hearer) (samples : List Sample) (check : Check) (sender : Role) (dlci : ℕ) (s : Sent) (earlier : List Bool) (tally : Tally) : Type 0 where
+pub record HearsBetween (mode : Mode) (hearer : Hearer) (samples : List Sample) (check : Check) (sender : Role) (dlci : ℕ) (s : Sent)
+    (earlier : List Bool) (tally : Tally) : Type 0 where
   pub read : List Bool
   pub hears : Hears mode hearer samples read
   pub tallies : TalliesBetween check sender dlci s earlier read tally

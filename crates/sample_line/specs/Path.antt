@@ -23,7 +23,8 @@ pub record Carries (path : Path) (script : ScriptValue) (bits read : List Bool) 
   pub hears : Hears (mode_of path.transmitter.sender) path.hearer samples read
 
 -- the same, with what was found behind the earlier bits tallied
-pub record CarriesBetween (path : Path) (script : ScriptValue) (bits : List Bool) (check : Check) (sender : Role) (dlci : ℕ) (s : Sent) (earlier : List Bool) (tally : Tally) : Type 0 where
+pub record CarriesBetween (path : Path) (script : ScriptValue) (bits : List Bool) (check : Check) (sender : Role) (dlci : ℕ) (s : Sent)
+    (earlier : List Bool) (tally : Tally) : Type 0 where
   pub read : List Bool
   pub carries : Carries path script bits read
   pub tallies : TalliesBetween check sender dlci s earlier read tally
@@ -48,5 +49,7 @@ pub record LosesWithin (sender : Role) (script : ScriptValue) (before bits : Lis
 
 -- a slot of bits has passed, or the line is lost within it
 abbrev pub PassesBits : Path → ScriptValue → List Bool → List Bool → Check → Role → ℕ → Sent → List Bool → Result Tally Lost → Type 0
-PassesBits path script before bits check sender dlci s earlier (Ok tally) = CarriesBetween path script (before ++ bits) check sender dlci s earlier tally
-PassesBits path script before bits check sender dlci s earlier (Err lost) = LosesWithin path.transmitter.sender script before bits lost.symbol
+PassesBits path script before bits check sender dlci s earlier (Ok tally) =
+    CarriesBetween path script (before ++ bits) check sender dlci s earlier tally
+PassesBits path script before bits check sender dlci s earlier (Err lost) =
+    LosesWithin path.transmitter.sender script before bits lost.symbol

@@ -26,10 +26,12 @@ abbrev pub AreFrames : Check → Role → ℕ → List (List ℕ) → List Frame
 AreFrames check sender dlci [] frames = frames ≡ []
 AreFrames check sender dlci (whole ∷ others) frames =
     ((frame : Frame) → SpellsFrame check sender dlci whole frame → ⊥) × AreFrames check sender dlci others frames
-    ⊎ (frame : Frame) × (rest : List Frame) × SpellsFrame check sender dlci whole frame × (frames ≡ frame ∷ rest) × AreFrames check sender dlci others rest
+    ⊎ (frame : Frame) × (rest : List Frame) × SpellsFrame check sender dlci whole frame × (frames ≡ frame ∷ rest)
+    × AreFrames check sender dlci others rest
 
 -- The frames and patterns that are found in the bits once the later ones are there: those that end behind the earlier ones.
-pub record FoundBetween (check : Check) (sender : Role) (dlci : ℕ) (earlier later : List Bool) (frames : List Frame) (patterns : List Seen) : Type 0 where
+pub record FoundBetween (check : Check) (sender : Role) (dlci : ℕ) (earlier later : List Bool) (frames : List Frame)
+    (patterns : List Seen) : Type 0 where
   pub pieces : List Found
   pub pieces_are : pieces_of later ≡ pieces_of earlier ++ pieces
   pub frames_are : AreFrames check sender dlci (wholes pieces) frames
@@ -38,7 +40,8 @@ pub record FoundBetween (check : Check) (sender : Role) (dlci : ℕ) (earlier la
   pub patterns_are : patterns ≡ map (λ (sight : Sight). sight.seen) sights
 
 -- What is received in a slot: what the samples up to its end give, without what those before it gave.
-pub record Receives (check : Check) (sender : Role) (dlci : ℕ) (before upto : List Sample) (frames : List Frame) (patterns : List Seen) : Type 0 where
+pub record Receives (check : Check) (sender : Role) (dlci : ℕ) (before upto : List Sample) (frames : List Frame)
+    (patterns : List Seen) : Type 0 where
   pub earlier : List Bool
   pub later : List Bool
   pub gave : Gives sender before earlier

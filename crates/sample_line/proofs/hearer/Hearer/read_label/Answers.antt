@@ -7,7 +7,11 @@ use Rattle.sample_line.proofs.hearer.Hearer.read_label.Goals as goal
 pub returns-in-Some-clause-stands : goal.returns-in-Some-clause-stands
 returns-in-Some-clause-stands c = λ mode samples earlier h. record {
   read = h.read ++ low_bits 4 c.in-Some.four;
-  hears = record { reader = c.in-Some.ensures.stands mode at_beginning samples h.read h.hears.reader; finder = c.push_four.ensures.stands h.read h.hears.finder };
+  hears = record {
+    reader = c.in-Some.ensures.stands mode at_beginning samples h.read h.hears.reader;
+    finder =
+        c.push_four.ensures.stands h.read h.hears.finder;
+  };
   tallies = c.push_four.ensures.tallies earlier h.read h.hears.finder h.tallies;
 }
 
@@ -15,7 +19,8 @@ pub returns-in-None-clause-stands : goal.returns-in-None-clause-stands
 returns-in-None-clause-stands c = λ mode samples earlier h. record {
   read = h.read;
   hears = record {
-    reader = subst (LineRead mode at_beginning line_depth c.take.new.self samples) (append-nil h.read) (c.in-None.ensures.stands mode at_beginning samples h.read h.hears.reader);
+    reader = subst (LineRead mode at_beginning line_depth c.take.new.self samples) (append-nil h.read)
+        (c.in-None.ensures.stands mode at_beginning samples h.read h.hears.reader);
     finder = h.hears.finder;
   };
   tallies = h.tallies;
