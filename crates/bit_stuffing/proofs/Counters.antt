@@ -65,27 +65,35 @@ still-append k [] t h g = g
 still-append k (b ∷ s) t h g = (h.0, still-append (step k b) s t h.1 g)
 
 -- a one ends no seven ones unless it is the seventh
-few-no_seven : (k : Counters) (past : List Bool) (count : ℕ) → Counts k past → k.ones ≢ 6 → CountsSince (Some count) past → SevenOnesEndAt (past ++ true ∷ []) (length past + 1) → ⊥
+few-no_seven : (k : Counters) (past : List Bool) (count : ℕ) → Counts k past → k.ones ≢ 6 → CountsSince (Some count) past
+    → SevenOnesEndAt (past ++ true ∷ []) (length past + 1) → ⊥
 few-no_seven k past count h other s e = other (omega (arith, ones-seven past k.ones h.ones e, opened-few past k.ones s.0 h.ones s.1))
 
 pub counts-step : (k : Counters) (past : List Bool) (b : Bool) → Counts k past → Counts (step k b) (past ++ b ∷ [])
 counts-step k past true h = record { ones = one-more past k.ones h.ones; since = each k.since h.since (nat_eq k.ones 6) refl }
   where
-    each : (since : Option ℕ) → CountsSince since past → (b : Bool) → nat_eq k.ones 6 ≡ b → CountsSince (since_one k.ones since) (past ++ true ∷ [])
+    each : (since : Option ℕ) → CountsSince since past → (b : Bool) → nat_eq k.ones 6 ≡ b
+        → CountsSince (since_one k.ones since) (past ++ true ∷ [])
     each None s b e = shut-stays past true (no_flag-one past) s
-    each (Some count) s true e = let six : k.ones ≡ 6 = eqb-true k.ones 6 e in rw e (seven-shuts past true (seven-ones past (rw six at h.ones)))
-    each (Some count) s false e = rw e (counts-more past true (no_flag-one past) (few-no_seven k past count h (eqb-false k.ones 6 e) s) count s)
+    each (Some count) s true e = let six : k.ones ≡ 6 = eqb-true k.ones 6 e in
+        rw e (seven-shuts past true (seven-ones past (rw six at h.ones)))
+    each (Some count) s false e =
+        rw e (counts-more past true (no_flag-one past) (few-no_seven k past count h (eqb-false k.ones 6 e) s) count s)
 counts-step k past false h = record { ones = zero-more past; since = each k.since h.since (nat_eq k.ones 6) refl }
   where
-    each : (since : Option ℕ) → CountsSince since past → (b : Bool) → nat_eq k.ones 6 ≡ b → CountsSince (since_zero k.ones since) (past ++ false ∷ [])
+    each : (since : Option ℕ) → CountsSince since past → (b : Bool) → nat_eq k.ones 6 ≡ b
+        → CountsSince (since_zero k.ones since) (past ++ false ∷ [])
     each None s true e = let six : k.ones ≡ 6 = eqb-true k.ones 6 e in rw e (flag-opens past false (flag-six past (rw six at h.ones)))
     each None s false e = rw e (shut-stays past false (λ f. eqb-false k.ones 6 e (six-flag past k.ones h.ones f)) s)
-    each (Some count) s true e = let six : k.ones ≡ 6 = eqb-true k.ones 6 e in rw e (flag-opens past false (flag-six past (rw six at h.ones)))
-    each (Some count) s false e = rw e (counts-more past false (λ f. eqb-false k.ones 6 e (six-flag past k.ones h.ones f)) (no_seven-zero past) count s)
+    each (Some count) s true e = let six : k.ones ≡ 6 = eqb-true k.ones 6 e in
+        rw e (flag-opens past false (flag-six past (rw six at h.ones)))
+    each (Some count) s false e =
+        rw e (counts-more past false (λ f. eqb-false k.ones 6 e (six-flag past k.ones h.ones f)) (no_seven-zero past) count s)
 
 pub counts-run : (k : Counters) (past s : List Bool) → Counts k past → Counts (run k s) (past ++ s)
 counts-run k past [] h = subst (Counts k) (sym (append-nil past)) h
-counts-run k past (b ∷ s) h = subst (Counts (run (step k b) s)) (append_assoc past (b ∷ []) s) (counts-run (step k b) (past ++ b ∷ []) s (counts-step k past b h))
+counts-run k past (b ∷ s) h =
+    subst (Counts (run (step k b) s)) (append_assoc past (b ∷ []) s) (counts-run (step k b) (past ++ b ∷ []) s (counts-step k past b h))
 
 -- where the counters say nothing, nothing is found
 no_abort : (k : Counters) (past : List Bool) (b : Bool) → Counts k past → speaks k b ≡ false → Aborts past (past ++ b ∷ []) → ⊥
@@ -116,13 +124,15 @@ along past (b ∷ s) = listed (found_at (past ++ b ∷ [])) ++ along (past ++ b 
 pub pieces-along : (past s : List Bool) → pieces_of (past ++ s) ≡ pieces_of past ++ along past s
 pieces-along past [] = ap pieces_of (append-nil past) ∙ sym (append-nil (pieces_of past))
 pieces-along past (b ∷ s) =
-    ap pieces_of (sym (append_assoc past (b ∷ []) s)) ∙ pieces-along (past ++ b ∷ []) s ∙ ap (λ t. t ++ along (past ++ b ∷ []) s) (pieces-more past b)
+    ap pieces_of (sym (append_assoc past (b ∷ []) s)) ∙ pieces-along (past ++ b ∷ []) s
+    ∙ ap (λ t. t ++ along (past ++ b ∷ []) s) (pieces-more past b)
     ∙ append_assoc (pieces_of past) (listed (found_at (past ++ b ∷ []))) (along (past ++ b ∷ []) s)
 
 pub along-append : (past s t : List Bool) → along past (s ++ t) ≡ along past s ++ along (past ++ s) t
 along-append past [] t = ap (λ l. along l t) (sym (append-nil past))
 along-append past (b ∷ s) t =
-    ap (λ l. listed (found_at (past ++ b ∷ [])) ++ l) (along-append (past ++ b ∷ []) s t ∙ ap (λ l. along (past ++ b ∷ []) s ++ along l t) (append_assoc past (b ∷ []) s))
+    ap (λ l. listed (found_at (past ++ b ∷ [])) ++ l)
+    (along-append (past ++ b ∷ []) s t ∙ ap (λ l. along (past ++ b ∷ []) s ++ along l t) (append_assoc past (b ∷ []) s))
     ∙ sym (append_assoc (listed (found_at (past ++ b ∷ []))) (along (past ++ b ∷ []) s) (along (past ++ b ∷ s) t))
 
 pub along-still : (k : Counters) (past s : List Bool) → Counts k past → Still k s → along past s ≡ []
@@ -153,18 +163,24 @@ below-still k (true ∷ s) h = let e = few_not k.ones h.0 in (rw e refl, below-s
 below-still k (false ∷ s) h = let e = few_not k.ones h.0 in (rw e refl, below-still (step k false) s h.1)
 
 -- what is open stays open
-open-step : (k : Counters) (past : List Bool) (b : Bool) (count p : ℕ) → Counts k past → k.ones < 6 → k.since ≡ Some count → OpenedAt past p → OpenedAt (past ++ b ∷ []) p
-open-step k past true count p h few e o = opened-stays past true p o (no_flag-one past) (few-no_seven k past count h (λ q. absurd (omega arith)) (subst (λ s. CountsSince s past) e h.since))
-open-step k past false count p h few e o = opened-stays past false p o (λ f. let q = six-flag past k.ones h.ones f in absurd (omega arith)) (no_seven-zero past)
+open-step : (k : Counters) (past : List Bool) (b : Bool) (count p : ℕ) → Counts k past → k.ones < 6 → k.since ≡ Some count → OpenedAt past p
+    → OpenedAt (past ++ b ∷ []) p
+open-step k past true count p h few e o =
+    opened-stays past true p o (no_flag-one past)
+    (few-no_seven k past count h (λ q. absurd (omega arith)) (subst (λ s. CountsSince s past) e h.since))
+open-step k past false count p h few e o =
+    opened-stays past false p o (λ f. let q = six-flag past k.ones h.ones f in absurd (omega arith)) (no_seven-zero past)
 
 since-step : (k : Counters) (b : Bool) (count : ℕ) → k.ones < 6 → k.since ≡ Some count → (step k b).since ≡ Some (min count 7 + 1)
 since-step k true count few e = let n = few_not k.ones few in rw (e, n) refl
 since-step k false count few e = let n = few_not k.ones few in rw (e, n) refl
 
-pub open-run : (k : Counters) (past s : List Bool) (count p : ℕ) → Counts k past → Below6 k s → k.since ≡ Some count → OpenedAt past p → OpenedAt (past ++ s) p
+pub open-run : (k : Counters) (past s : List Bool) (count p : ℕ) → Counts k past → Below6 k s → k.since ≡ Some count → OpenedAt past p
+    → OpenedAt (past ++ s) p
 open-run k past [] count p h below e o = subst (λ l. OpenedAt l p) (sym (append-nil past)) o
 open-run k past (b ∷ s) count p h below e o = subst (λ l. OpenedAt l p) (append_assoc past (b ∷ []) s)
-    (open-run (step k b) (past ++ b ∷ []) s (min count 7 + 1) p (counts-step k past b h) below.1 (since-step k b count below.0 e) (open-step k past b count p h below.0 e o))
+    (open-run (step k b) (past ++ b ∷ []) s (min count 7 + 1) p (counts-step k past b h) below.1 (since-step k b count below.0 e)
+    (open-step k past b count p h below.0 e o))
 
 -- the same by a test, for bits that are written out
 abbrev pub still_test : Counters → List Bool → Bool
@@ -180,7 +196,8 @@ still-of k (b ∷ s) e = each (speaks k b) refl (still-of (step k b) s)
     each false f on = (f, on (rw f at e))
 
 -- one part after another
-pub run-both : (k m e : Counters) (s t : List Bool) → (run k s ≡ m) × Still k s → (run m t ≡ e) × Still m t → (run k (s ++ t) ≡ e) × Still k (s ++ t)
+pub run-both : (k m e : Counters) (s t : List Bool) → (run k s ≡ m) × Still k s → (run m t ≡ e) × Still m t
+    → (run k (s ++ t) ≡ e) × Still k (s ++ t)
 run-both k m e s t a b = (
   run-append k s t ∙ ap (λ x. run x t) a.0 ∙ b.0,
   still-append k s t a.1 (subst (λ x. Still x t) (sym a.0) b.1),

@@ -29,7 +29,11 @@ pub record Ends (text bits : List Bool) : Type 0 where
   pub spelled : (i : ℕ) → i < length text → bit_of bits (length bits - length text + i) ≡ bit_of text i
 
 pub ends : (text bits : List Bool) → ends_with beq bits text ≡ true → Ends text bits
-ends text bits e = record { room = omega (arith, ap length same, length-drop (length bits - length text) bits); spelled = λ i l. sym (get_or-drop (length bits - length text) bits i false) ∙ ap (λ t. get_or t i false) (sym same) }
+ends text bits e = record {
+  room = omega (arith, ap length same, length-drop (length bits - length text) bits);
+  spelled =
+      λ i l. sym (get_or-drop (length bits - length text) bits i false) ∙ ap (λ t. get_or t i false) (sym same);
+}
   where
     same : text ≡ drop (length bits - length text) bits
     same = same_bits text (drop (length bits - length text) bits) e
@@ -42,7 +46,8 @@ ends-with text bits h = ap (pointwise beq text) (sym same) ∙ bits-same text
 
     same : text ≡ drop (length bits - length text) bits
     same = same_lists text (drop (length bits - length text) bits) wide
-        (λ i d l. get_or_default text i d false l ∙ sym (h.spelled i l) ∙ sym (get_or-drop (length bits - length text) bits i false) ∙ get_or_default (drop (length bits - length text) bits) i false d (omega (arith, wide)))
+        (λ i d l. get_or_default text i d false l ∙ sym (h.spelled i l) ∙ sym (get_or-drop (length bits - length text) bits i false)
+        ∙ get_or_default (drop (length bits - length text) bits) i false d (omega (arith, wide)))
 
 -- flags and aborts
 
@@ -53,10 +58,12 @@ pub flag-ends : (bits : List Bool) → FlagEndsAt bits (length bits) → ends_wi
 flag-ends bits f = ends-with flag bits (record { room = f.room; spelled = f.spelled })
 
 one_of : (i : ℕ) → i < 8 → i < 7 → bit_of seven_ones i ≡ true
-one_of = below8 (λ i. i < 7 → bit_of seven_ones i ≡ true) (λ l. refl) (λ l. refl) (λ l. refl) (λ l. refl) (λ l. refl) (λ l. refl) (λ l. refl) (λ l. absurd (omega arith))
+one_of = below8 (λ i. i < 7 → bit_of seven_ones i ≡ true) (λ l. refl) (λ l. refl) (λ l. refl) (λ l. refl) (λ l. refl) (λ l. refl)
+    (λ l. refl) (λ l. absurd (omega arith))
 
 pub ends-seven : (bits : List Bool) → ends_with beq bits seven_ones ≡ true → SevenOnesEndAt bits (length bits)
-ends-seven bits e = let h = ends seven_ones bits e in record { room = h.room; within = omega arith; ones = λ i l. h.spelled i l ∙ one_of i (omega arith) l }
+ends-seven bits e = let h = ends seven_ones bits e in
+    record { room = h.room; within = omega arith; ones = λ i l. h.spelled i l ∙ one_of i (omega arith) l }
 
 pub seven-ends : (bits : List Bool) → SevenOnesEndAt bits (length bits) → ends_with beq bits seven_ones ≡ true
 seven-ends bits s = ends-with seven_ones bits (record { room = s.room; spelled = λ i l. s.ones i l ∙ sym (one_of i (omega arith) l) })

@@ -33,17 +33,20 @@ fill-snoc n = elim (cases_lt (n % 8) 7) [ inl few ↦ same_flag few | inr last �
     same_flag few =
         let whole : (n + 1) / 8 ≡ n / 8 = omega arith in
         let cut : (n + 1) % 8 ≡ n % 8 + 1 = omega arith in
-        rw (whole, cut) (ap (λ t. flags (n / 8) ++ t) (take_more flag (n % 8) false (omega arith)) ∙ sym (append_assoc (flags (n / 8)) (take (n % 8) flag) (get_or flag (n % 8) false ∷ [])))
+        rw (whole, cut) (ap (λ t. flags (n / 8) ++ t) (take_more flag (n % 8) false (omega arith))
+        ∙ sym (append_assoc (flags (n / 8)) (take (n % 8) flag) (get_or flag (n % 8) false ∷ [])))
 
     next_flag : 7 ≤ n % 8 → fill (n + 1) ≡ fill n ++ get_or flag (n % 8) false ∷ []
     next_flag last =
         let whole : (n + 1) / 8 ≡ suc (n / 8) = omega arith in
         let cut : (n + 1) % 8 ≡ 0 = omega arith in
         let seven : n % 8 ≡ 7 = omega arith in
-        rw (whole, cut, seven) (append-nil (flags (suc (n / 8))) ∙ sym (flags-snoc (n / 8)) ∙ sym (append_assoc (flags (n / 8)) (take 7 flag) (false ∷ [])))
+        rw (whole, cut, seven)
+        (append-nil (flags (suc (n / 8))) ∙ sym (flags-snoc (n / 8)) ∙ sym (append_assoc (flags (n / 8)) (take 7 flag) (false ∷ [])))
 
 -- the phase behind slots
-pub phase-append : (size phase : ℕ) (slots : List Slot) (slot : Slot) → phase_from size phase (slots ++ slot ∷ []) ≡ next_phase size (phase_from size phase slots) slot
+pub phase-append : (size phase : ℕ) (slots : List Slot) (slot : Slot)
+    → phase_from size phase (slots ++ slot ∷ []) ≡ next_phase size (phase_from size phase slots) slot
 phase-append size phase [] slot = refl
 phase-append size phase (one ∷ slots) slot = phase-append size (next_phase size phase one) slots slot
 
@@ -55,15 +58,20 @@ pub phase-low : (size phase : ℕ) (slots : List Slot) → phase < 8 → phase_f
 phase-low size phase [] h = h
 phase-low size phase (slot ∷ slots) h = phase-low size (next_phase size phase slot) slots (next-low size phase slot)
 
-pub bits-append : (size phase : ℕ) (slots : List Slot) (slot : Slot) → bits_from size phase (slots ++ slot ∷ []) ≡ bits_from size phase slots ++ slot_bits size (phase_from size phase slots) slot
+pub bits-append : (size phase : ℕ) (slots : List Slot) (slot : Slot)
+    → bits_from size phase (slots ++ slot ∷ []) ≡ bits_from size phase slots ++ slot_bits size (phase_from size phase slots) slot
 bits-append size phase [] slot = append-nil (slot_bits size phase slot)
-bits-append size phase (x ∷ slots) slot = ap (λ l. slot_bits size phase x ++ l) (bits-append size (next_phase size phase x) slots slot) ∙ sym (append_assoc (slot_bits size phase x) (bits_from size (next_phase size phase x) slots) (slot_bits size (phase_from size (next_phase size phase x) slots) slot))
+bits-append size phase (x ∷ slots) slot =
+    ap (λ l. slot_bits size phase x ++ l) (bits-append size (next_phase size phase x) slots slot)
+    ∙ sym (append_assoc (slot_bits size phase x) (bits_from size (next_phase size phase x) slots)
+    (slot_bits size (phase_from size (next_phase size phase x) slots) slot))
 
 -- a slot is written once flags fill it up
 pub filled-up : (bits : List Bool) (size : ℕ) → length bits ≤ size → length (bits ++ fill (size - length bits)) ≡ size
 filled-up bits size h = omega (arith, length-append {A = Bool} bits (fill (size - length bits)), length-fill (size - length bits))
 
-pub slot-written : (bits : List Bool) (symbols : ℕ) (pen : Pen) (quads : List ℕ) → length bits ≤ 4 * symbols → written pen quads ≡ bits ++ fill (4 * symbols - length bits) → line_bits quads ≡ bits ++ fill (4 * symbols - length bits)
+pub slot-written : (bits : List Bool) (symbols : ℕ) (pen : Pen) (quads : List ℕ) → length bits ≤ 4 * symbols
+    → written pen quads ≡ bits ++ fill (4 * symbols - length bits) → line_bits quads ≡ bits ++ fill (4 * symbols - length bits)
 slot-written bits symbols pen quads fits e =
     let none : pen.held ≡ 0 = omega (arith, pen.few, ap length e, filled-up bits (4 * symbols) fits, length-written pen quads) in
     sym (append-nil (line_bits quads)) ∙ ap (λ n. line_bits quads ++ low_bits n pen.part) (sym none) ∙ e

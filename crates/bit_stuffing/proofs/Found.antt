@@ -23,7 +23,8 @@ abbrev pub IsOpen : Option ℕ → List Bool → Type 0
 IsOpen None bits = (p : ℕ) → OpenedAt bits p → ⊥
 IsOpen (Some p) bits = OpenedAt bits p
 
-open-step : (past : List Bool) (b : Bool) (before : Option ℕ) → IsOpen before past → (f s : Bool) → ends_with beq (past ++ b ∷ []) flag ≡ f → ends_with beq (past ++ b ∷ []) seven_ones ≡ s
+open-step : (past : List Bool) (b : Bool) (before : Option ℕ) → IsOpen before past → (f s : Bool) → ends_with beq (past ++ b ∷ []) flag ≡ f
+    → ends_with beq (past ++ b ∷ []) seven_ones ≡ s
     → IsOpen (if f then Some (length past + 1) else (if s then None else before)) (past ++ b ∷ [])
 open-step past b before o true s e g = opened-by_flag past b (at_end past b (ends-flag (past ++ b ∷ []) e))
 open-step past b before o false true e g = seven-shuts past b (seven_at_end past b (ends-seven (past ++ b ∷ []) g))
@@ -32,31 +33,38 @@ open-step past b (Some p) o false false e g = opened-stays past b p o
     (λ f. false≢true (sym e ∙ flag-ends (past ++ b ∷ []) (from_end past b f)))
     (λ s. false≢true (sym g ∙ seven-ends (past ++ b ∷ []) (seven_from_end past b s)))
 
-open-at : (past bits : List Bool) (b : Bool) (place : ℕ) (before : Option ℕ) → bits ≡ past ++ b ∷ [] → place ≡ length past + 1 → IsOpen before past
+open-at : (past bits : List Bool) (b : Bool) (place : ℕ) (before : Option ℕ) → bits ≡ past ++ b ∷ [] → place ≡ length past + 1
+    → IsOpen before past
     → IsOpen (if ends_with beq bits flag then Some place else (if ends_with beq bits seven_ones then None else before)) bits
-open-at past bits b place before e n o = rw (e, n) (open-step past b before o (ends_with beq (past ++ b ∷ []) flag) (ends_with beq (past ++ b ∷ []) seven_ones) refl refl)
+open-at past bits b place before e n o =
+    rw (e, n) (open-step past b before o (ends_with beq (past ++ b ∷ []) flag) (ends_with beq (past ++ b ∷ []) seven_ones) refl refl)
 
 pub is_open : (bits : List Bool) (n : ℕ) → n ≤ length bits → IsOpen (opened_before bits n) (take n bits)
 is_open bits zero h = λ p o. absurd (omega (arith, o.flag_ends.room, o.flag_ends.within))
 is_open bits (suc n) h =
     let e : suc n ≡ n + 1 = omega arith in
-    let more : take (suc n) bits ≡ take n bits ++ get_or bits n false ∷ [] = ap (λ m. take m bits) e ∙ take_more bits n false (omega arith) in
+    let more : take (suc n) bits ≡ take n bits ++ get_or bits n false ∷ [] =
+    ap (λ m. take m bits) e ∙ take_more bits n false (omega arith) in
     let wide : length (take n bits) ≡ n = take-length bits n (omega arith) in
-    open-at (take n bits) (take (suc n) bits) (get_or bits n false) (suc n) (opened_before bits n) more (omega arith) (is_open bits n (omega arith))
+    open-at (take n bits) (take (suc n) bits) (get_or bits n false) (suc n) (opened_before bits n) more (omega arith)
+    (is_open bits n (omega arith))
 
 -- where a flag is open before the last bit
 pub open_before : (past : List Bool) (bit : Bool) → IsOpen (opened_before (past ++ bit ∷ []) (length (past ++ bit ∷ []) - 1)) past
 open_before past bit =
     let n : length (past ++ bit ∷ []) - 1 ≡ length past = omega (arith, length-snoc past bit) in
-    let front : take (length past) (past ++ bit ∷ []) ≡ past = take-append-le (length past) past (bit ∷ []) (omega arith) ∙ take_all (length past) past (omega arith) in
-    rw n (subst (IsOpen (opened_before (past ++ bit ∷ []) (length past))) front (is_open (past ++ bit ∷ []) (length past) (omega (arith, length-snoc past bit))))
+    let front : take (length past) (past ++ bit ∷ []) ≡ past =
+    take-append-le (length past) past (bit ∷ []) (omega arith) ∙ take_all (length past) past (omega arith) in
+    rw n (subst (IsOpen (opened_before (past ++ bit ∷ []) (length past))) front
+    (is_open (past ++ bit ∷ []) (length past) (omega (arith, length-snoc past bit))))
 
 -- what is found at the last of the bits past ++ bit
 abbrev ones_found : List Bool → Found
 ones_found bits = record { place = length bits; piece = Aborted; octets = [] }
 
 abbrev closed_found : List Bool → ℕ → Found
-closed_found bits p = record { place = length bits; piece = judged (content bits p); octets = octets_in (judged (content bits p)) (content bits p) }
+closed_found bits p =
+    record { place = length bits; piece = judged (content bits p); octets = octets_in (judged (content bits p)) (content bits p) }
 
 data IsFound (past : List Bool) (bit : Bool) : Option Found → Type 0 where
   Quiet : (Aborts past (past ++ bit ∷ []) → ⊥) → (Closes past (past ++ bit ∷ []) → ⊥) → IsFound past bit None
@@ -71,18 +79,22 @@ found-from past bit (Some p) o = flags (ends_with beq (past ++ bit ∷ []) flag)
         → IsFound past bit (if t then Some (closed_found (past ++ bit ∷ []) p) else None)
     far f true e = Closed (record { opened = p; is_opened = o; closing = f; some = ltb-true (p + 8) (length (past ++ bit ∷ [])) e })
     far f false e =
-        let none = flag-near past bit (at_end past bit f) (λ q k. let same : q ≡ p = opened-once past q p k o in omega (arith, ltb-false (p + 8) (length (past ++ bit ∷ [])) e, length-snoc past bit)) in
+        let none = flag-near past bit (at_end past bit f)
+        (λ q k. let same : q ≡ p = opened-once past q p k o in
+        omega (arith, ltb-false (p + 8) (length (past ++ bit ∷ [])) e, length-snoc past bit)) in
         Quiet none.0 none.1
 
     sevens : (FlagEndsAt (past ++ bit ∷ []) (length (past ++ bit ∷ [])) → ⊥) → (t : Bool) → ends_with beq (past ++ bit ∷ []) seven_ones ≡ t
         → IsFound past bit (if t then Some (ones_found (past ++ bit ∷ [])) else None)
     sevens no_flag true e = Ones (record { opened = p; is_opened = o; seventh = ends-seven (past ++ bit ∷ []) e })
     sevens no_flag false e =
-        let none = quiet past bit (λ f. no_flag (from_end past bit f)) (λ s. false≢true (sym e ∙ seven-ends (past ++ bit ∷ []) (seven_from_end past bit s))) in
+        let none = quiet past bit (λ f. no_flag (from_end past bit f))
+        (λ s. false≢true (sym e ∙ seven-ends (past ++ bit ∷ []) (seven_from_end past bit s))) in
         Quiet none.0 none.1
 
     flags : (t : Bool) → ends_with beq (past ++ bit ∷ []) flag ≡ t
-        → IsFound past bit (if t then (if nat_lt (p + 8) (length (past ++ bit ∷ [])) then Some (closed_found (past ++ bit ∷ []) p) else None)
+        → IsFound past bit (if t then
+        (if nat_lt (p + 8) (length (past ++ bit ∷ [])) then Some (closed_found (past ++ bit ∷ []) p) else None)
         else (if ends_with beq (past ++ bit ∷ []) seven_ones then Some (ones_found (past ++ bit ∷ [])) else None))
     flags true e = far (ends-flag (past ++ bit ∷ []) e) (nat_lt (p + 8) (length (past ++ bit ∷ []))) refl
     flags false e = sevens (λ f. false≢true (sym e ∙ flag-ends (past ++ bit ∷ []) f)) (ends_with beq (past ++ bit ∷ []) seven_ones) refl
@@ -100,37 +112,51 @@ found-once past bit a b (Ones x) (Ones y) = refl
 found-once past bit a b (Ones x) (Closed y) = absurd (no_closing past bit x y)
 found-once past bit a b (Closed x) (Quiet n m) = absurd (m x)
 found-once past bit a b (Closed x) (Ones y) = absurd (no_closing past bit y x)
-found-once past bit a b (Closed x) (Closed y) = ap (λ o. Some (closed_found (past ++ bit ∷ []) o)) (opened-once past x.opened y.opened x.is_opened y.is_opened)
+found-once past bit a b (Closed x) (Closed y) =
+    ap (λ o. Some (closed_found (past ++ bit ∷ []) o)) (opened-once past x.opened y.opened x.is_opened y.is_opened)
 
 -- it is found at this place
-place-is : (past : List Bool) (bit : Bool) (found : Option Found) → IsFound past bit found → All (λ one. one.place ≡ length past + 1) (listed found)
+place-is : (past : List Bool) (bit : Bool) (found : Option Found) → IsFound past bit found
+    → All (λ one. one.place ≡ length past + 1) (listed found)
 place-is past bit found (Quiet n m) = All-nil (λ one. one.place ≡ length past + 1)
-place-is past bit found (Ones x) = All-cons (λ one. one.place ≡ length past + 1) (ones_found (past ++ bit ∷ [])) [] (length-snoc past bit) (All-nil (λ one. one.place ≡ length past + 1))
-place-is past bit found (Closed x) = All-cons (λ one. one.place ≡ length past + 1) (closed_found (past ++ bit ∷ []) x.opened) [] (length-snoc past bit) (All-nil (λ one. one.place ≡ length past + 1))
+place-is past bit found (Ones x) =
+    All-cons (λ one. one.place ≡ length past + 1) (ones_found (past ++ bit ∷ [])) [] (length-snoc past bit)
+    (All-nil (λ one. one.place ≡ length past + 1))
+place-is past bit found (Closed x) =
+    All-cons (λ one. one.place ≡ length past + 1) (closed_found (past ++ bit ∷ []) x.opened) [] (length-snoc past bit)
+    (All-nil (λ one. one.place ≡ length past + 1))
 
 pub found-place : (past : List Bool) (bit : Bool) → All (λ one. one.place ≡ length past + 1) (listed (found_at (past ++ bit ∷ [])))
 found-place past bit = place-is past bit (found_at (past ++ bit ∷ [])) (found-is past bit)
 
 -- what is found is this, once it is known what ends at the bit
-pub found-quiet : (past : List Bool) (bit : Bool) → (Aborts past (past ++ bit ∷ []) → ⊥) → (Closes past (past ++ bit ∷ []) → ⊥) → found_at (past ++ bit ∷ []) ≡ None
+pub found-quiet : (past : List Bool) (bit : Bool) → (Aborts past (past ++ bit ∷ []) → ⊥) → (Closes past (past ++ bit ∷ []) → ⊥)
+    → found_at (past ++ bit ∷ []) ≡ None
 found-quiet past bit n m = found-once past bit _ _ (found-is past bit) (Quiet n m)
 
-pub found-ones : (past : List Bool) (bit : Bool) → Aborts past (past ++ bit ∷ []) → found_at (past ++ bit ∷ []) ≡ Some (record { place = length (past ++ bit ∷ []); piece = Aborted; octets = [] })
+pub found-ones : (past : List Bool) (bit : Bool) → Aborts past (past ++ bit ∷ [])
+    → found_at (past ++ bit ∷ []) ≡ Some (record { place = length (past ++ bit ∷ []); piece = Aborted; octets = [] })
 found-ones past bit x = found-once past bit _ _ (found-is past bit) (Ones x)
 
-pub found-whole : (past : List Bool) (bit : Bool) (closes : Closes past (past ++ bit ∷ [])) (octets : List ℕ) → IsWhole (content (past ++ bit ∷ []) closes.opened) octets
+pub found-whole : (past : List Bool) (bit : Bool) (closes : Closes past (past ++ bit ∷ [])) (octets : List ℕ)
+    → IsWhole (content (past ++ bit ∷ []) closes.opened) octets
     → found_at (past ++ bit ∷ []) ≡ Some (record { place = length (past ++ bit ∷ []); piece = Whole; octets = octets })
-found-whole past bit closes octets w = found-once past bit _ _ (found-is past bit) (Closed closes) ∙ rw (piece_is, octets-whole (content (past ++ bit ∷ []) closes.opened) octets w) refl
+found-whole past bit closes octets w =
+    found-once past bit _ _ (found-is past bit) (Closed closes)
+    ∙ rw (piece_is, octets-whole (content (past ++ bit ∷ []) closes.opened) octets w) refl
   where
     piece_is : judged (content (past ++ bit ∷ []) closes.opened) ≡ Whole
-    piece_is = judged-once (content (past ++ bit ∷ []) closes.opened) (judged (content (past ++ bit ∷ []) closes.opened)) Whole (judged-is (content (past ++ bit ∷ []) closes.opened)) (octets, w)
+    piece_is = judged-once (content (past ++ bit ∷ []) closes.opened) (judged (content (past ++ bit ∷ []) closes.opened)) Whole
+        (judged-is (content (past ++ bit ∷ []) closes.opened)) (octets, w)
 
 -- the answer
 
-answer-of_found : (past : List Bool) (bit : Bool) (found : Option Found) → IsFound past bit found → IsAnswer past bit (option_map (λ one. one.piece) found)
+answer-of_found : (past : List Bool) (bit : Bool) (found : Option Found) → IsFound past bit found
+    → IsAnswer past bit (option_map (λ one. one.piece) found)
 answer-of_found past bit found (Quiet n m) = (n, m)
 answer-of_found past bit found (Ones x) = x
-answer-of_found past bit found (Closed x) = piece-answer past bit (judged (content (past ++ bit ∷ []) x.opened)) x (judged-is (content (past ++ bit ∷ []) x.opened))
+answer-of_found past bit found (Closed x) =
+    piece-answer past bit (judged (content (past ++ bit ∷ []) x.opened)) x (judged-is (content (past ++ bit ∷ []) x.opened))
 
 pub answer-is : (past : List Bool) (bit : Bool) → IsAnswer past bit (answer_of (past ++ bit ∷ []))
 answer-is past bit = answer-of_found past bit (found_at (past ++ bit ∷ [])) (found-is past bit)
@@ -139,7 +165,8 @@ answer-is past bit = answer-of_found past bit (found_at (past ++ bit ∷ [])) (f
 data IsAnswered (past : List Bool) (bit : Bool) : Option Piece → Type 0 where
   Quiet : (Aborts past (past ++ bit ∷ []) → ⊥) → (Closes past (past ++ bit ∷ []) → ⊥) → IsAnswered past bit None
   Ones : Aborts past (past ++ bit ∷ []) → IsAnswered past bit (Some Aborted)
-  Closed : (piece : Piece) (closes : Closes past (past ++ bit ∷ [])) → Judged (content (past ++ bit ∷ []) closes.opened) piece → IsAnswered past bit (Some piece)
+  Closed : (piece : Piece) (closes : Closes past (past ++ bit ∷ [])) → Judged (content (past ++ bit ∷ []) closes.opened) piece
+      → IsAnswered past bit (Some piece)
 
 answered : (past : List Bool) (bit : Bool) (answer : Option Piece) → IsAnswer past bit answer → IsAnswered past bit answer
 answered past bit None h = IsAnswered.Quiet h.0 h.1
@@ -157,12 +184,14 @@ is_answer past bit answer h = each answer (answered past bit answer h)
     each answer (IsAnswered.Quiet n m) = ap (option_map (λ one. one.piece)) (sym (found-quiet past bit n m))
     each answer (IsAnswered.Ones x) = ap (option_map (λ one. one.piece)) (sym (found-ones past bit x))
     each answer (IsAnswered.Closed piece x j) =
-        ap Some (judged-once (content (past ++ bit ∷ []) x.opened) piece (judged (content (past ++ bit ∷ []) x.opened)) j (judged-is (content (past ++ bit ∷ []) x.opened)))
+        ap Some (judged-once (content (past ++ bit ∷ []) x.opened) piece (judged (content (past ++ bit ∷ []) x.opened)) j
+        (judged-is (content (past ++ bit ∷ []) x.opened)))
         ∙ ap (option_map (λ one. one.piece)) (sym (found-once past bit _ _ (found-is past bit) (Closed x)))
 
 -- the octets that are lent
 
-lent-closed : (past : List Bool) (bit : Bool) (closes : Closes past (past ++ bit ∷ [])) (piece : Piece) → Judged (content (past ++ bit ∷ []) closes.opened) piece
+lent-closed : (past : List Bool) (bit : Bool) (closes : Closes past (past ++ bit ∷ [])) (piece : Piece)
+    → Judged (content (past ++ bit ∷ []) closes.opened) piece
     → IsLent (past ++ bit ∷ []) (octets_in piece (content (past ++ bit ∷ []) closes.opened))
 lent-closed past bit c Whole (octets, w) = inl (record {
   past = past;
@@ -176,14 +205,20 @@ lent-closed past bit c TooLong j = inr (refl, closes-other past bit c TooLong j 
 lent-closed past bit c TooShort j = inr (refl, closes-other past bit c TooShort j (λ e. absurd cc))
 lent-closed past bit c Aborted j = absurd j
 
-lent-of_found : (past : List Bool) (bit : Bool) (found : Option Found) → IsFound past bit found → IsLent (past ++ bit ∷ []) (option_map_or (λ one. one.octets) found [])
+lent-of_found : (past : List Bool) (bit : Bool) (found : Option Found) → IsFound past bit found
+    → IsLent (past ++ bit ∷ []) (option_map_or (λ one. one.octets) found [])
 lent-of_found past bit found (Quiet n m) = inr (refl, none-lent past bit m)
 lent-of_found past bit found (Ones x) = inr (refl, none-lent past bit (no_closing past bit x))
-lent-of_found past bit found (Closed x) = lent-closed past bit x (judged (content (past ++ bit ∷ []) x.opened)) (judged-is (content (past ++ bit ∷ []) x.opened))
+lent-of_found past bit found (Closed x) =
+    lent-closed past bit x (judged (content (past ++ bit ∷ []) x.opened)) (judged-is (content (past ++ bit ∷ []) x.opened))
 
 lent-start : IsLent [] (lent_of [])
 unfolding found_at
-lent-start = inr (refl, λ other w. let n : 0 ≡ length (w.past ++ w.last ∷ []) = ap length w.splits in absurd (omega (arith, n, length-snoc w.past w.last)))
+lent-start = inr (
+  refl,
+  λ other w. let n : 0 ≡ length (w.past ++ w.last ∷ []) = ap length w.splits in
+      absurd (omega (arith, n, length-snoc w.past w.last)),
+)
 
 -- a stream that has a bit has a last one
 pub last_bit : (bits : List Bool) → 0 < length bits → bits ≡ take (length bits - 1) bits ++ get_or bits (length bits - 1) false ∷ []
@@ -228,5 +263,7 @@ pub pieces-more : (bits : List Bool) (bit : Bool) → pieces_of (bits ++ bit ∷
 unfolding pieces_of
 pieces-more bits bit =
     let n : length (bits ++ bit ∷ []) ≡ suc (length bits) = omega (arith, length-snoc bits bit) in
-    let all : take (suc (length bits)) (bits ++ bit ∷ []) ≡ bits ++ bit ∷ [] = take_all (suc (length bits)) (bits ++ bit ∷ []) (omega (arith, n)) in
-    ap (found_before (bits ++ bit ∷ [])) n ∙ ap (λ t. found_before (bits ++ bit ∷ []) (length bits) ++ listed (found_at t)) all ∙ ap (λ t. t ++ listed (found_at (bits ++ bit ∷ []))) (found_before-front bits (bit ∷ []) (length bits) (omega arith))
+    let all : take (suc (length bits)) (bits ++ bit ∷ []) ≡ bits ++ bit ∷ [] =
+    take_all (suc (length bits)) (bits ++ bit ∷ []) (omega (arith, n)) in
+    ap (found_before (bits ++ bit ∷ [])) n ∙ ap (λ t. found_before (bits ++ bit ∷ []) (length bits) ++ listed (found_at t)) all
+    ∙ ap (λ t. t ++ listed (found_at (bits ++ bit ∷ []))) (found_before-front bits (bit ∷ []) (length bits) (omega arith))

@@ -17,7 +17,8 @@ use Rattle.bit_stuffing.proofs.States.{open_at, Between, run-stuffed, seven, run
 -- a frame between an open flag and the closing one
 pub record Framed (past body : List Bool) (sent : List ℕ) : Type 0 where
   pub closed : Closes (past ++ body) ((past ++ body) ++ false ∷ [])
-  pub content_is : (c : Closes (past ++ body) ((past ++ body) ++ false ∷ [])) → content ((past ++ body) ++ false ∷ []) c.opened ≡ stuffed 5 (bits_of sent)
+  pub content_is : (c : Closes (past ++ body) ((past ++ body) ++ false ∷ []))
+      → content ((past ++ body) ++ false ∷ []) c.opened ≡ stuffed 5 (bits_of sent)
 
 opened-here : (past : List Bool) → Counts (open_at 0) past → OpenedAt past (length past)
 opened-here past f =
@@ -35,7 +36,8 @@ long_enough [] h = absurd (omega arith)
 long_enough (true ∷ m) h = omega arith
 long_enough (false ∷ m) h = omega arith
 
-run-body : (m : List Bool) → 1 ≤ length m → Below6 (open_at 0) (stuffed 5 m ++ seven) × (run (open_at 0) (stuffed 5 m ++ seven) ≡ record { ones = 6; since = Some 8 })
+run-body : (m : List Bool) → 1 ≤ length m
+    → Below6 (open_at 0) (stuffed 5 m ++ seven) × (run (open_at 0) (stuffed 5 m ++ seven) ≡ record { ones = 6; since = Some 8 })
 run-body m long =
     let g = run-stuffed 5 m 0 0 refl (omega arith) in
     let r = run-seven g.1.0 (min 8 (0 + length (stuffed 5 m))) (omega (arith, g.1.1)) (omega (arith, long_enough m long)) (omega arith) in (
@@ -45,23 +47,30 @@ run-body m long =
 
 cut : (past s : List Bool) → content ((past ++ (s ++ seven)) ++ false ∷ []) (length past) ≡ s
 cut past s =
-    let e : (past ++ (s ++ seven)) ++ false ∷ [] ≡ (past ++ s) ++ flag = append_assoc past (s ++ seven) (false ∷ []) ∙ ap (λ l. past ++ l) (append_assoc s seven (false ∷ [])) ∙ sym (append_assoc past s flag) in
+    let e : (past ++ (s ++ seven)) ++ false ∷ [] ≡ (past ++ s) ++ flag =
+    append_assoc past (s ++ seven) (false ∷ []) ∙ ap (λ l. past ++ l) (append_assoc s seven (false ∷ []))
+    ∙ sym (append_assoc past s flag) in
     let n : length ((past ++ s) ++ flag) - 8 ≡ length (past ++ s) = eight_less (past ++ s) in
-    let front : take (length (past ++ s)) ((past ++ s) ++ flag) ≡ past ++ s = take-append-le (length (past ++ s)) (past ++ s) flag (omega arith) ∙ take_all (length (past ++ s)) (past ++ s) (omega arith) in
+    let front : take (length (past ++ s)) ((past ++ s) ++ flag) ≡ past ++ s =
+    take-append-le (length (past ++ s)) (past ++ s) flag (omega arith) ∙ take_all (length (past ++ s)) (past ++ s) (omega arith) in
     let none : drop (length past) past ≡ [] = drop_all (length past) past (omega arith) in
-    ap (λ l. content l (length past)) e ∙ ap (λ m. drop (length past) (take m ((past ++ s) ++ flag))) n ∙ ap (drop (length past)) front ∙ drop-append-le (length past) past s (omega arith) ∙ ap (λ l. l ++ s) none
+    ap (λ l. content l (length past)) e ∙ ap (λ m. drop (length past) (take m ((past ++ s) ++ flag))) n ∙ ap (drop (length past)) front
+    ∙ drop-append-le (length past) past s (omega arith) ∙ ap (λ l. l ++ s) none
   where
     eight_less : (l : List Bool) → length (l ++ flag) - 8 ≡ length l
     eight_less l = omega (arith, length-append {A = Bool} l flag)
 
-pub frame-found : (past : List Bool) (sent : List ℕ) → Counts (open_at 0) past → 1 ≤ length (bits_of sent) → Framed past (stuffed 5 (bits_of sent) ++ seven) sent
+pub frame-found : (past : List Bool) (sent : List ℕ) → Counts (open_at 0) past → 1 ≤ length (bits_of sent)
+    → Framed past (stuffed 5 (bits_of sent) ++ seven) sent
 frame-found past sent f long = record { closed = closed; content_is = λ c. content_is c }
   where
-    r : Below6 (open_at 0) (stuffed 5 (bits_of sent) ++ seven) × (run (open_at 0) (stuffed 5 (bits_of sent) ++ seven) ≡ record { ones = 6; since = Some 8 })
+    r : Below6 (open_at 0) (stuffed 5 (bits_of sent) ++ seven)
+        × (run (open_at 0) (stuffed 5 (bits_of sent) ++ seven) ≡ record { ones = 6; since = Some 8 })
     r = run-body (bits_of sent) long
 
     found : Counts (record { ones = 6; since = Some 8 }) (past ++ (stuffed 5 (bits_of sent) ++ seven))
-    found = subst (λ k. Counts k (past ++ (stuffed 5 (bits_of sent) ++ seven))) r.1 (counts-run (open_at 0) past (stuffed 5 (bits_of sent) ++ seven) f)
+    found = subst (λ k. Counts k (past ++ (stuffed 5 (bits_of sent) ++ seven))) r.1
+        (counts-run (open_at 0) past (stuffed 5 (bits_of sent) ++ seven) f)
 
     closed : Closes (past ++ (stuffed 5 (bits_of sent) ++ seven)) ((past ++ (stuffed 5 (bits_of sent) ++ seven)) ++ false ∷ [])
     closed = closes-here (past ++ (stuffed 5 (bits_of sent) ++ seven)) found
@@ -69,26 +78,37 @@ frame-found past sent f long = record { closed = closed; content_is = λ c. cont
     opened : OpenedAt (past ++ (stuffed 5 (bits_of sent) ++ seven)) (length past)
     opened = open-run (open_at 0) past (stuffed 5 (bits_of sent) ++ seven) 0 (length past) f r.0 refl (opened-here past f)
 
-    content_is : (c : Closes (past ++ (stuffed 5 (bits_of sent) ++ seven)) ((past ++ (stuffed 5 (bits_of sent) ++ seven)) ++ false ∷ [])) → content ((past ++ (stuffed 5 (bits_of sent) ++ seven)) ++ false ∷ []) c.opened ≡ stuffed 5 (bits_of sent)
+    content_is : (c : Closes (past ++ (stuffed 5 (bits_of sent) ++ seven)) ((past ++ (stuffed 5 (bits_of sent) ++ seven)) ++ false ∷ []))
+        → content ((past ++ (stuffed 5 (bits_of sent) ++ seven)) ++ false ∷ []) c.opened ≡ stuffed 5 (bits_of sent)
     content_is c =
-        let p : c.opened ≡ length past = opened-once (past ++ (stuffed 5 (bits_of sent) ++ seven)) c.opened (length past) c.is_opened opened in
+        let p : c.opened ≡ length past =
+        opened-once (past ++ (stuffed 5 (bits_of sent) ++ seven)) c.opened (length past) c.is_opened opened in
         ap (content ((past ++ (stuffed 5 (bits_of sent) ++ seven)) ++ false ∷ [])) p ∙ cut past (stuffed 5 (bits_of sent))
 
 -- a frame in a slot
 abbrev pub before_last : ℕ → List ℕ → List Bool
 before_last phase sent = (rest_of_flag phase ++ flags 4) ++ (stuffed 5 (bits_of sent) ++ seven)
 
-pub slot-split : (size phase : ℕ) (sent : List ℕ) → slot_bits size phase (Flags (Some sent)) ≡ before_last phase sent ++ false ∷ fill (size - length (opening phase (Some sent)))
-slot-split size phase sent = split (rest_of_flag phase ++ flags 4) (stuffed 5 (bits_of sent)) (fill (size - length (opening phase (Some sent))))
+pub slot-split : (size phase : ℕ) (sent : List ℕ)
+    → slot_bits size phase (Flags (Some sent)) ≡ before_last phase sent ++ false ∷ fill (size - length (opening phase (Some sent)))
+slot-split size phase sent =
+    split (rest_of_flag phase ++ flags 4) (stuffed 5 (bits_of sent)) (fill (size - length (opening phase (Some sent))))
   where
     split : (head s f : List Bool) → (head ++ (s ++ flag)) ++ f ≡ (head ++ (s ++ seven)) ++ false ∷ f
-    split head s f = append_assoc head (s ++ flag) f ∙ ap (λ l. head ++ l) (append_assoc s flag f ∙ sym (append_assoc s seven (false ∷ f))) ∙ sym (append_assoc head (s ++ seven) (false ∷ f))
+    split head s f = append_assoc head (s ++ flag) f ∙ ap (λ l. head ++ l) (append_assoc s flag f ∙ sym (append_assoc s seven (false ∷ f)))
+        ∙ sym (append_assoc head (s ++ seven) (false ∷ f))
 
 pub last_place : (phase : ℕ) (sent : List ℕ) → length (opening phase (Some sent)) ≡ length (before_last phase sent) + 1
 last_place phase sent = count (rest_of_flag phase ++ flags 4) (stuffed 5 (bits_of sent))
   where
     count : (head s : List Bool) → length (head ++ (s ++ flag)) ≡ length (head ++ (s ++ seven)) + 1
-    count head s = omega (arith, length-append {A = Bool} head (s ++ flag), length-append {A = Bool} head (s ++ seven), length-append {A = Bool} s flag, length-append {A = Bool} s seven)
+    count head s = omega (
+      arith,
+      length-append {A = Bool} head (s ++ flag),
+      length-append {A = Bool} head (s ++ seven),
+      length-append {A = Bool} s flag,
+      length-append {A = Bool} s seven,
+    )
 
 pub bits-some : (sent : List ℕ) → SHORTEST ≤ length sent → 1 ≤ length (bits_of sent)
 bits-some [] h = absurd (omega arith)
@@ -99,8 +119,13 @@ pub record InFrame (phase : ℕ) (k : Counters) (sent : List ℕ) : Type 0 where
   pub front : (run k (before_last phase sent) ≡ record { ones = 6; since = Some 8 }) × Still k (before_last phase sent)
   pub head : run k (rest_of_flag phase ++ flags 4) ≡ open_at 0
 
-pub in-frame : (behind : Bool) (phase : ℕ) (k : Counters) (sent : List ℕ) → Between behind k phase → SHORTEST ≤ length sent → InFrame phase k sent
+pub in-frame : (behind : Bool) (phase : ℕ) (k : Counters) (sent : List ℕ) → Between behind k phase → SHORTEST ≤ length sent
+    → InFrame phase k sent
 in-frame behind phase k sent between long =
     let h = run-opens behind k phase between in
     let r = run-body (bits_of sent) (bits-some sent long) in
-    record { front = run-both k (open_at 0) (record { ones = 6; since = Some 8 }) (rest_of_flag phase ++ flags 4) (stuffed 5 (bits_of sent) ++ seven) h (r.1, below-still (open_at 0) (stuffed 5 (bits_of sent) ++ seven) r.0); head = h.0 }
+    record {
+      front = run-both k (open_at 0) (record { ones = 6; since = Some 8 }) (rest_of_flag phase ++ flags 4)
+          (stuffed 5 (bits_of sent) ++ seven) h (r.1, below-still (open_at 0) (stuffed 5 (bits_of sent) ++ seven) r.0);
+      head = h.0;
+    }

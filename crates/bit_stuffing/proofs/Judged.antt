@@ -56,7 +56,8 @@ carries-octets line e =
     let same : stuffed 5 (removed 5 line) ≡ line = same_bits (stuffed 5 (removed 5 line)) line both.1 in
     record {
       small = octets_of-are_octets (length (removed 5 line) / 8) (removed 5 line);
-      stuffs = subst (λ content. Stuffs content line) (sym content_is) (subst (Stuffs (removed 5 line)) same (stuffs-stuffed 0 5 (removed 5 line) refl));
+      stuffs = subst (λ content. Stuffs content line) (sym content_is)
+          (subst (Stuffs (removed 5 line)) same (stuffs-stuffed 0 5 (removed 5 line) refl));
     }
 
 pub carried-test : (line : List Bool) (octets : List ℕ) → Carries line octets → are_octets line ≡ true
@@ -74,38 +75,48 @@ octets-count line = length-octets_of (length (removed 5 line) / 8) (removed 5 li
 pub judged-is : (line : List Bool) → Judged line (judged line)
 judged-is line = long (nat_lt (8 * WHOLE) (length (removed 5 line))) refl
   where
-    short : are_octets line ≡ true → length (removed 5 line) ≤ 8 * WHOLE → (s : Bool) → nat_lt (length (removed 5 line)) (8 * SHORTEST) ≡ s → Judged line (if s then TooShort else Whole)
+    short : are_octets line ≡ true → length (removed 5 line) ≤ 8 * WHOLE → (s : Bool) → nat_lt (length (removed 5 line)) (8 * SHORTEST) ≡ s
+        → Judged line (if s then TooShort else Whole)
     short o fits true e =
         let few = ltb-true (length (removed 5 line)) (8 * SHORTEST) e in
         (octets_of (length (removed 5 line) / 8) (removed 5 line), carries-octets line o, omega (arith, octets-count line))
     short o fits false e =
-        let many = ltb-false (length (removed 5 line)) (8 * SHORTEST) e in
-        (octets_of (length (removed 5 line) / 8) (removed 5 line), record { carries = carries-octets line o; low = omega (arith, octets-count line); high = omega (arith, octets-count line) })
+        let many = ltb-false (length (removed 5 line)) (8 * SHORTEST) e in (
+          octets_of (length (removed 5 line) / 8) (removed 5 line),
+          record { carries = carries-octets line o; low = omega (arith, octets-count line); high = omega (arith, octets-count line) },
+        )
 
-    octets : length (removed 5 line) ≤ 8 * WHOLE → (o : Bool) → are_octets line ≡ o → Judged line (if not o then Ragged else (if nat_lt (length (removed 5 line)) (8 * SHORTEST) then TooShort else Whole))
+    octets : length (removed 5 line) ≤ 8 * WHOLE → (o : Bool) → are_octets line ≡ o
+        → Judged line (if not o then Ragged else (if nat_lt (length (removed 5 line)) (8 * SHORTEST) then TooShort else Whole))
     octets fits true e = short e fits (nat_lt (length (removed 5 line)) (8 * SHORTEST)) refl
     octets fits false e = (fits, λ others h. false≢true (sym e ∙ carried-test line others h))
 
-    long : (l : Bool) → nat_lt (8 * WHOLE) (length (removed 5 line)) ≡ l → Judged line (if l then TooLong else (if not (are_octets line) then Ragged else (if nat_lt (length (removed 5 line)) (8 * SHORTEST) then TooShort else Whole)))
+    long : (l : Bool) → nat_lt (8 * WHOLE) (length (removed 5 line)) ≡ l
+        → Judged line (if l then TooLong else
+        (if not (are_octets line) then Ragged else (if nat_lt (length (removed 5 line)) (8 * SHORTEST) then TooShort else Whole)))
     long true e = ltb-true (8 * WHOLE) (length (removed 5 line)) e
     long false e = octets (ltb-false (8 * WHOLE) (length (removed 5 line)) e) (are_octets line) refl
 
 -- the octets of a whole piece
 pub octets-whole : (line : List Bool) (octets : List ℕ) → IsWhole line octets → octets_in Whole line ≡ octets
-octets-whole line octets h = carries_once line (octets_in Whole line) octets (carries-octets line (carried-test line octets h.carries)) h.carries
+octets-whole line octets h =
+    carries_once line (octets_in Whole line) octets (carries-octets line (carried-test line octets h.carries)) h.carries
 
 -- a line whose zeros stand where they have to carries octets, unless it has no whole ones or ends with five ones
 
-pub not-carried : (line : List Bool) (octets : List ℕ) → (length (removed 5 line) % 8 ≢ 0) ⊎ (room_after 5 line ≡ 0) → Carries line octets → ⊥
+pub not-carried : (line : List Bool) (octets : List ℕ) → (length (removed 5 line) % 8 ≢ 0) ⊎ (room_after 5 line ≡ 0) → Carries line octets
+    → ⊥
 not-carried line octets (inl part) h = part (omega (arith, carried-length line octets h))
 not-carried line octets (inr five) h = stuffs-room h.stuffs five
 
-pub fits-carries : (line : List Bool) → Fits 5 line → length (removed 5 line) % 8 ≡ 0 → room_after 5 line ≢ 0 → (octets : List ℕ) × Carries line octets
+pub fits-carries : (line : List Bool) → Fits 5 line → length (removed 5 line) % 8 ≡ 0 → room_after 5 line ≢ 0
+    → (octets : List ℕ) × Carries line octets
 fits-carries line f whole room =
     let wide : length (removed 5 line) ≡ 8 * (length (removed 5 line) / 8) = omega arith in (
       octets_of (length (removed 5 line) / 8) (removed 5 line),
       record {
         small = octets_of-are_octets (length (removed 5 line) / 8) (removed 5 line);
-        stuffs = subst (λ content. Stuffs content line) (sym (bits_of-octets_of (length (removed 5 line) / 8) (removed 5 line) wide)) (fits-stuffs line f room);
+        stuffs = subst (λ content. Stuffs content line) (sym (bits_of-octets_of (length (removed 5 line) / 8) (removed 5 line) wide))
+            (fits-stuffs line f room);
       },
     )

@@ -60,7 +60,8 @@ not-fill n content more wide some e = clash content some (sym (fill-flag n wide)
     clash (false ∷ c) s h = absurd (not-six c more (false ∷ (flags (n / 8 - 1) ++ take (n % 8) flag)) (sym (ap (drop 1) h)))
 
 -- what stands behind the flags that open a slot
-behind-opening : (phase : ℕ) (frame : Option (List ℕ)) (tail : List Bool) → opening phase frame ++ tail ≡ (rest_of_flag phase ++ flags 4) ++ (framed frame ++ tail)
+behind-opening : (phase : ℕ) (frame : Option (List ℕ)) (tail : List Bool)
+    → opening phase frame ++ tail ≡ (rest_of_flag phase ++ flags 4) ++ (framed frame ++ tail)
 behind-opening phase frame tail = append_assoc (rest_of_flag phase ++ flags 4) (framed frame) tail
 
 same-behind : (front a b : List Bool) → front ++ a ≡ front ++ b → a ≡ b
@@ -69,14 +70,29 @@ same-behind front a b e = sym (drop-append_seam front a) ∙ ap (drop (length fr
 some-bits : (octets : List ℕ) → IsFrame octets → 1 ≤ length (bits_of octets)
 some-bits octets is = omega (arith, length-bits_of octets, is.low)
 
-same-framed : (n m : ℕ) (a b : Option (List ℕ)) (size phase : ℕ) → IsSlot size phase (Flags a) → IsSlot size phase (Flags b) → framed a ++ fill n ≡ framed b ++ fill m → a ≡ b
+same-framed : (n m : ℕ) (a b : Option (List ℕ)) (size phase : ℕ) → IsSlot size phase (Flags a) → IsSlot size phase (Flags b)
+    → framed a ++ fill n ≡ framed b ++ fill m → a ≡ b
 same-framed n m None None size phase is others e = refl
 same-framed n m None (Some b) size phase is others e =
     let split : fill n ≡ stuffed 5 (bits_of b) ++ flag ++ fill m = e in
-    absurd (not-fill n (bits_of b) (fill m) (omega (arith, ap length split, length-fill n, length-append {A = Bool} (stuffed 5 (bits_of b) ++ flag) (fill m), length-append {A = Bool} (stuffed 5 (bits_of b)) flag)) (some-bits b others.0) split)
+    absurd (not-fill n (bits_of b) (fill m)
+    (omega (
+      arith,
+      ap length split,
+      length-fill n,
+      length-append {A = Bool} (stuffed 5 (bits_of b) ++ flag) (fill m),
+      length-append {A = Bool} (stuffed 5 (bits_of b)) flag,
+    )) (some-bits b others.0) split)
 same-framed n m (Some a) None size phase is others e =
     let split : fill m ≡ stuffed 5 (bits_of a) ++ flag ++ fill n = sym e in
-    absurd (not-fill m (bits_of a) (fill n) (omega (arith, ap length split, length-fill m, length-append {A = Bool} (stuffed 5 (bits_of a) ++ flag) (fill n), length-append {A = Bool} (stuffed 5 (bits_of a)) flag)) (some-bits a is.0) split)
+    absurd (not-fill m (bits_of a) (fill n)
+    (omega (
+      arith,
+      ap length split,
+      length-fill m,
+      length-append {A = Bool} (stuffed 5 (bits_of a) ++ flag) (fill n),
+      length-append {A = Bool} (stuffed 5 (bits_of a)) flag,
+    )) (some-bits a is.0) split)
 same-framed n m (Some a) (Some b) size phase is others e =
     let bits : bits_of a ≡ bits_of b
     = same-content 5 (bits_of a) (bits_of b) (fill n) (fill m) e in
@@ -88,4 +104,5 @@ one-frame size phase a b is others e =
     let n : ℕ = size - length (opening phase a) in
     let m : ℕ = size - length (opening phase b) in
     same-framed n m a b size phase is others
-    (same-behind (rest_of_flag phase ++ flags 4) (framed a ++ fill n) (framed b ++ fill m) (sym (behind-opening phase a (fill n)) ∙ e ∙ behind-opening phase b (fill m)))
+    (same-behind (rest_of_flag phase ++ flags 4) (framed a ++ fill n) (framed b ++ fill m)
+    (sym (behind-opening phase a (fill n)) ∙ e ∙ behind-opening phase b (fill m)))

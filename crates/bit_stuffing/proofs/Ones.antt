@@ -29,7 +29,10 @@ pub zero-more : (bits : List Bool) → CountsOnes 0 (bits ++ false ∷ [])
 zero-more bits = record {
   few = omega arith;
   set = λ i within reaches. absurd (omega arith);
-  zero = λ few. (omega (arith, length-snoc bits false), bit-last bits false (length (bits ++ false ∷ []) - 1 - 0) (omega (arith, length-snoc bits false)));
+  zero = λ few. (
+    omega (arith, length-snoc bits false),
+    bit-last bits false (length (bits ++ false ∷ []) - 1 - 0) (omega (arith, length-snoc bits false)),
+  );
 }
 
 -- no flag ends with a one
@@ -42,7 +45,9 @@ is_zero : (i : ℕ) → i ≤ 0 → i ≡ 0
 is_zero i h = omega arith
 
 flag-middle : (i : ℕ) → 0 < i → i < 7 → bit_of flag i ≡ true
-flag-middle i low high = below8 (λ i. 0 < i → i < 7 → bit_of flag i ≡ true) (λ l h. absurd (omega arith)) (λ l h. refl) (λ l h. refl) (λ l h. refl) (λ l h. refl) (λ l h. refl) (λ l h. refl) (λ l h. absurd (omega arith)) i (omega arith) low high
+flag-middle i low high =
+    below8 (λ i. 0 < i → i < 7 → bit_of flag i ≡ true) (λ l h. absurd (omega arith)) (λ l h. refl) (λ l h. refl) (λ l h. refl) (λ l h. refl)
+    (λ l h. refl) (λ l h. refl) (λ l h. absurd (omega arith)) i (omega arith) low high
 
 flag-end : (i : ℕ) → 7 ≤ i → i < 8 → bit_of flag i ≡ false
 flag-end i low high = let e : i ≡ 7 = omega arith in rw e refl
@@ -54,7 +59,8 @@ flag-six bits h = let z = h.zero (omega arith) in let start : length bits + 1 - 
   within = omega (arith, length-snoc bits false);
   spelled = λ i l. elim (cases_lt i 7) [
     | inl front ↦ elim (cases_lt 0 i) [
-      | inl later ↦ bit-before bits false (length bits + 1 - 8 + i) (omega (arith, z.0)) ∙ h.set (length bits + 1 - 8 + i) (omega (arith, z.0)) (omega (arith, z.0)) ∙ sym (flag-middle i later (omega arith))
+      | inl later ↦ bit-before bits false (length bits + 1 - 8 + i) (omega (arith, z.0))
+          ∙ h.set (length bits + 1 - 8 + i) (omega (arith, z.0)) (omega (arith, z.0)) ∙ sym (flag-middle i later (omega arith))
       | inr first ↦ rw (is_zero i first, start) (bit-before bits false (length bits - 1 - 6) (omega (arith, z.0)) ∙ z.1)
     ]
     | inr last ↦ bit-last bits false (length bits + 1 - 8 + i) (omega (arith, z.0)) ∙ sym (flag-end i last (omega arith))
@@ -85,7 +91,8 @@ seven-ones bits h = let z = h.zero (omega arith) in record {
   room = omega (arith, (h.zero (omega arith)).0);
   within = omega (arith, length-snoc bits true);
   ones = λ i l. elim (cases_lt i 6) [
-    | inl front ↦ bit-before bits true (length bits + 1 - 7 + i) (omega (arith, z.0)) ∙ h.set (length bits + 1 - 7 + i) (omega (arith, z.0)) (omega (arith, z.0))
+    | inl front ↦ bit-before bits true (length bits + 1 - 7 + i) (omega (arith, z.0))
+        ∙ h.set (length bits + 1 - 7 + i) (omega (arith, z.0)) (omega (arith, z.0))
     | inr last ↦ bit-last bits true (length bits + 1 - 7 + i) (omega (arith, z.0))
   ];
 }
@@ -106,7 +113,8 @@ no_seven-zero bits s = false≢true (sym (bit-last bits false (length bits + 1 -
 -- nothing is open behind seven ones
 pub ones-shut : (bits : List Bool) (p : ℕ) → ((i : ℕ) → i < length bits → length bits ≤ i + 7 → bit_of bits i ≡ true) → OpenedAt bits p → ⊥
 ones-shut bits p set o = elim (cases_lt (length bits) (p + 7)) [
-  | inl near ↦ false≢true (sym (before_open bits p o) ∙ set (p - 1) (omega (arith, o.flag_ends.room, o.flag_ends.within)) (omega (arith, o.flag_ends.room)))
+  | inl near ↦ false≢true
+      (sym (before_open bits p o) ∙ set (p - 1) (omega (arith, o.flag_ends.room, o.flag_ends.within)) (omega (arith, o.flag_ends.room)))
   | inr far ↦ o.alive (length bits) far record {
     room = omega arith;
     within = omega arith;

@@ -7,10 +7,16 @@ use Rattle.bit_stuffing.proofs.Places.{length-snoc, bit-before, flag-stays, flag
 
 -- only one flag is the latest
 pub opened-once : (bits : List Bool) (p q : ℕ) → OpenedAt bits p → OpenedAt bits q → p ≡ q
-opened-once bits p q a b = elim (cases_lt p q) [ inl l ↦ absurd (a.latest q l b.flag_ends) | inr l ↦ elim (cases_lt q p) [ inl m ↦ absurd (b.latest p m a.flag_ends) | inr m ↦ omega arith ] ]
+opened-once bits p q a b =
+    elim (cases_lt p q) [
+      | inl l ↦ absurd (a.latest q l b.flag_ends)
+      | inr l ↦
+          elim (cases_lt q p) [ inl m ↦ absurd (b.latest p m a.flag_ends) | inr m ↦ omega arith ]
+    ]
 
 -- what was opened stays so, unless a flag or seven ones end
-pub opened-stays : (bits : List Bool) (b : Bool) (p : ℕ) → OpenedAt bits p → (FlagEndsAt (bits ++ b ∷ []) (length bits + 1) → ⊥) → (SevenOnesEndAt (bits ++ b ∷ []) (length bits + 1) → ⊥) → OpenedAt (bits ++ b ∷ []) p
+pub opened-stays : (bits : List Bool) (b : Bool) (p : ℕ) → OpenedAt bits p → (FlagEndsAt (bits ++ b ∷ []) (length bits + 1) → ⊥)
+    → (SevenOnesEndAt (bits ++ b ∷ []) (length bits + 1) → ⊥) → OpenedAt (bits ++ b ∷ []) p
 opened-stays bits b p h no_flag no_seven = record {
   flag_ends = flag-stays bits b p h.flag_ends;
   latest = λ q above f. elim (cases_lt (length bits) q) [
@@ -31,7 +37,8 @@ opened-was bits b p within h = record {
 }
 
 -- a flag opens
-pub opened-by_flag : (bits : List Bool) (b : Bool) → FlagEndsAt (bits ++ b ∷ []) (length bits + 1) → OpenedAt (bits ++ b ∷ []) (length bits + 1)
+pub opened-by_flag : (bits : List Bool) (b : Bool) → FlagEndsAt (bits ++ b ∷ []) (length bits + 1)
+    → OpenedAt (bits ++ b ∷ []) (length bits + 1)
 opened-by_flag bits b f = record {
   flag_ends = f;
   latest = λ q above g. absurd (omega (arith, g.within, length-snoc bits b));
@@ -42,7 +49,8 @@ pub before_open : (bits : List Bool) (p : ℕ) → OpenedAt bits p → bit_of bi
 before_open bits p o = let e : p - 8 + 7 ≡ p - 1 = omega (arith, o.flag_ends.room) in rw e at (o.flag_ends.spelled 7 (omega arith))
 
 -- seven ones end behind the flag that opened
-pub seven_behind : (bits : List Bool) (b : Bool) (p : ℕ) → OpenedAt bits p → SevenOnesEndAt (bits ++ b ∷ []) (length bits + 1) → p + 7 ≤ length bits + 1
+pub seven_behind : (bits : List Bool) (b : Bool) (p : ℕ) → OpenedAt bits p → SevenOnesEndAt (bits ++ b ∷ []) (length bits + 1)
+    → p + 7 ≤ length bits + 1
 seven_behind bits b p o s = elim (cases_lt (length bits + 1) (p + 7)) [ inl near ↦ absurd (too_near near) | inr far ↦ far ]
   where
     too_near : length bits + 1 < p + 7 → ⊥
@@ -52,16 +60,20 @@ seven_behind bits b p o s = elim (cases_lt (length bits + 1) (p + 7)) [ inl near
         let here : bit_of (bits ++ b ∷ []) (p - 1) ≡ true = rw place at set in
         false≢true (sym (bit-before bits b (p - 1) (omega (arith, o.flag_ends.room, o.flag_ends.within)) ∙ before_open bits p o) ∙ here)
 
-pub at_end : (bits : List Bool) (b : Bool) → FlagEndsAt (bits ++ b ∷ []) (length (bits ++ b ∷ [])) → FlagEndsAt (bits ++ b ∷ []) (length bits + 1)
+pub at_end : (bits : List Bool) (b : Bool) → FlagEndsAt (bits ++ b ∷ []) (length (bits ++ b ∷ []))
+    → FlagEndsAt (bits ++ b ∷ []) (length bits + 1)
 at_end bits b f = let e = length-snoc bits b in rw e at f
 
-pub seven_at_end : (bits : List Bool) (b : Bool) → SevenOnesEndAt (bits ++ b ∷ []) (length (bits ++ b ∷ [])) → SevenOnesEndAt (bits ++ b ∷ []) (length bits + 1)
+pub seven_at_end : (bits : List Bool) (b : Bool) → SevenOnesEndAt (bits ++ b ∷ []) (length (bits ++ b ∷ []))
+    → SevenOnesEndAt (bits ++ b ∷ []) (length bits + 1)
 seven_at_end bits b f = let e = length-snoc bits b in rw e at f
 
-pub from_end : (bits : List Bool) (b : Bool) → FlagEndsAt (bits ++ b ∷ []) (length bits + 1) → FlagEndsAt (bits ++ b ∷ []) (length (bits ++ b ∷ []))
+pub from_end : (bits : List Bool) (b : Bool) → FlagEndsAt (bits ++ b ∷ []) (length bits + 1)
+    → FlagEndsAt (bits ++ b ∷ []) (length (bits ++ b ∷ []))
 from_end bits b f = rw (length-snoc bits b) f
 
-pub seven_from_end : (bits : List Bool) (b : Bool) → SevenOnesEndAt (bits ++ b ∷ []) (length bits + 1) → SevenOnesEndAt (bits ++ b ∷ []) (length (bits ++ b ∷ []))
+pub seven_from_end : (bits : List Bool) (b : Bool) → SevenOnesEndAt (bits ++ b ∷ []) (length bits + 1)
+    → SevenOnesEndAt (bits ++ b ∷ []) (length (bits ++ b ∷ []))
 seven_from_end bits b f = rw (length-snoc bits b) f
 
 -- behind an open flag there are seven bits at least
@@ -69,7 +81,8 @@ pub room-open : (bits : List Bool) (b : Bool) (count : ℕ) → CountsSince (Som
 room-open bits b count s = omega (arith, s.1.flag_ends.room, s.1.flag_ends.within, length-snoc bits b)
 
 -- nothing was open, and no flag ends: nothing is open
-pub shut-stays : (bits : List Bool) (b : Bool) → (FlagEndsAt (bits ++ b ∷ []) (length bits + 1) → ⊥) → CountsSince None bits → CountsSince None (bits ++ b ∷ [])
+pub shut-stays : (bits : List Bool) (b : Bool) → (FlagEndsAt (bits ++ b ∷ []) (length bits + 1) → ⊥) → CountsSince None bits
+    → CountsSince None (bits ++ b ∷ [])
 shut-stays bits b no_flag shut p o = elim (cases_lt (length bits) p) [
   | inl l ↦ let e : p ≡ length bits + 1 = omega (arith, o.flag_ends.within, length-snoc bits b) in no_flag (rw e at o.flag_ends)
   | inr l ↦ shut p (opened-was bits b p l o)
@@ -81,7 +94,13 @@ module _ (bits : List Bool) (b : Bool) (f : FlagEndsAt (bits ++ b ∷ []) (lengt
   flag-opens = (length bits + 1, opened-by_flag bits b f, omega (arith, length-snoc bits b))
 
   pub flag-closes : IsFar bits → Closes bits (bits ++ b ∷ [])
-  flag-closes far = record { opened = far.opened; is_opened = far.is_opened; closing = rw (length-snoc bits b) f; some = omega (arith, far.far, length-snoc bits b) }
+  flag-closes far = record {
+    opened = far.opened;
+    is_opened = far.is_opened;
+    closing = rw (length-snoc bits b) f;
+    some =
+        omega (arith, far.far, length-snoc bits b);
+  }
 
   no_abort : Aborts bits (bits ++ b ∷ []) → ⊥
   no_abort a = flag_or_seven (bits ++ b ∷ []) (length bits + 1) f (seven_at_end bits b a.seventh)
@@ -96,12 +115,14 @@ module _ (bits : List Bool) (b : Bool) (s : SevenOnesEndAt (bits ++ b ∷ []) (l
 
   pub seven-shuts : CountsSince None (bits ++ b ∷ [])
   seven-shuts p o = elim (cases_lt (length bits) p) [
-    | inl l ↦ let e : p ≡ length bits + 1 = omega (arith, o.flag_ends.within, length-snoc bits b) in flag_or_seven (bits ++ b ∷ []) (length bits + 1) (rw e at o.flag_ends) s
+    | inl l ↦ let e : p ≡ length bits + 1 = omega (arith, o.flag_ends.within, length-snoc bits b) in
+        flag_or_seven (bits ++ b ∷ []) (length bits + 1) (rw e at o.flag_ends) s
     | inr l ↦ o.alive (length bits + 1) (seven_behind bits b p (opened-was bits b p l o) s) s
   ]
 
 -- neither ends at the bit
-module _ (bits : List Bool) (b : Bool) (no_flag : FlagEndsAt (bits ++ b ∷ []) (length bits + 1) → ⊥) (no_seven : SevenOnesEndAt (bits ++ b ∷ []) (length bits + 1) → ⊥) where
+module _ (bits : List Bool) (b : Bool) (no_flag : FlagEndsAt (bits ++ b ∷ []) (length bits + 1) → ⊥)
+    (no_seven : SevenOnesEndAt (bits ++ b ∷ []) (length bits + 1) → ⊥) where
   pub quiet : (Aborts bits (bits ++ b ∷ []) → ⊥) × (Closes bits (bits ++ b ∷ []) → ⊥)
   quiet = (λ a. no_seven (seven_at_end bits b a.seventh), λ c. no_flag (at_end bits b c.closing))
 
@@ -109,7 +130,8 @@ module _ (bits : List Bool) (b : Bool) (no_flag : FlagEndsAt (bits ++ b ∷ []) 
   counts-more count s = (s.0, opened-stays bits b s.0 s.1 no_flag no_seven, omega (arith, s.2, s.1.flag_ends.within, length-snoc bits b))
 
 -- nothing is open
-pub shut-quiet : (bits : List Bool) (b : Bool) → CountsSince None bits → (Aborts bits (bits ++ b ∷ []) → ⊥) × (Closes bits (bits ++ b ∷ []) → ⊥)
+pub shut-quiet : (bits : List Bool) (b : Bool) → CountsSince None bits
+    → (Aborts bits (bits ++ b ∷ []) → ⊥) × (Closes bits (bits ++ b ∷ []) → ⊥)
 shut-quiet bits b s = (λ a. s a.opened a.is_opened, λ c. s c.opened c.is_opened)
 
 -- whether eight bits or more stand behind the flag that is open

@@ -57,7 +57,8 @@ seven-back past more s = record {
   room = omega (arith, s.room, length-append {A = Bool} past more);
   within = omega arith;
   ones = λ i l.
-      let place : length (past ++ more) - 7 + i ≡ length past + (length more - 7 + i) = omega (arith, s.room, length-append {A = Bool} past more) in
+      let place : length (past ++ more) - 7 + i ≡ length past + (length more - 7 + i) =
+      omega (arith, s.room, length-append {A = Bool} past more) in
       ap (bit_of (past ++ more)) place ∙ bit-right past more (length more - 7 + i) ∙ s.ones i l;
 }
 
@@ -67,10 +68,13 @@ pub counts-seven : (bits : List Bool) → SevenOnesEndAt bits (length bits) → 
 counts-seven bits s = record {
   ones = record {
     few = omega arith;
-    set = λ i l h. let place : length bits - 7 + (i + 7 - length bits) ≡ i = omega (arith, s.room) in ap (bit_of bits) (sym place) ∙ s.ones (i + 7 - length bits) (omega (arith, s.room));
+    set = λ i l h. let place : length bits - 7 + (i + 7 - length bits) ≡ i = omega (arith, s.room) in
+        ap (bit_of bits) (sym place) ∙ s.ones (i + 7 - length bits) (omega (arith, s.room));
     zero = λ few. absurd (omega arith);
   };
-  since = λ p o. ones-shut bits p (λ i l h. let place : length bits - 7 + (i + 7 - length bits) ≡ i = omega (arith, s.room) in ap (bit_of bits) (sym place) ∙ s.ones (i + 7 - length bits) (omega (arith, s.room))) o;
+  since = λ p o. ones-shut bits p
+      (λ i l h. let place : length bits - 7 + (i + 7 - length bits) ≡ i = omega (arith, s.room) in
+      ap (bit_of bits) (sym place) ∙ s.ones (i + 7 - length bits) (omega (arith, s.room))) o;
 }
 
 pub counts-start : Counts shut []
@@ -80,20 +84,28 @@ counts-start = record {
 }
 
 -- where no flag is open and none ends, nothing is found
-pub along-shut : (all past rest : List Bool) → all ≡ past ++ rest → ((n : ℕ) → length past < n → FlagEndsAt all n → ⊥) → CountsSince None past → along past rest ≡ []
+pub along-shut : (all past rest : List Bool) → all ≡ past ++ rest → ((n : ℕ) → length past < n → FlagEndsAt all n → ⊥)
+    → CountsSince None past → along past rest ≡ []
 along-shut all past [] e never s = refl
 along-shut all past (b ∷ rest) e never s =
     let split : all ≡ (past ++ b ∷ []) ++ rest = e ∙ sym (append_assoc past (b ∷ []) rest) in
-    let no_flag : FlagEndsAt (past ++ b ∷ []) (length past + 1) → ⊥ = λ f. never (length past + 1) (omega arith) (subst (λ l. FlagEndsAt l (length past + 1)) (sym split) (flag-front (past ++ b ∷ []) rest (length past + 1) f)) in
+    let no_flag : FlagEndsAt (past ++ b ∷ []) (length past + 1) → ⊥ =
+    λ f. never (length past + 1) (omega arith)
+    (subst (λ l. FlagEndsAt l (length past + 1)) (sym split) (flag-front (past ++ b ∷ []) rest (length past + 1) f)) in
     let none = shut-quiet past b s in
     let here : found_at (past ++ b ∷ []) ≡ None = found-quiet past b none.0 none.1 in
-    let after : along (past ++ b ∷ []) rest ≡ [] = along-shut all (past ++ b ∷ []) rest split (λ n l f. never n (omega (arith, l, length-snoc past b)) f) (shut-stays past b no_flag s) in
+    let after : along (past ++ b ∷ []) rest ≡ [] =
+    along-shut all (past ++ b ∷ []) rest split (λ n l f. never n (omega (arith, l, length-snoc past b)) f)
+    (shut-stays past b no_flag s) in
     rw (here, after) refl
 
 -- What is found where a flag is open, and each flag that still ends is no farther than eight bits behind the one before: either nothing, and a flag
 -- stays open, or one abort.
 abbrev pub OnceAborted : List Bool → List Bool → List Bool → Type 0
-OnceAborted all past rest = ((along past rest ≡ []) × ((p : ℕ) × OpenedAt all p)) ⊎ ((place : ℕ) × (length past < place) × (place ≤ length all) × (along past rest ≡ record { place = place; piece = Aborted; octets = [] } ∷ []))
+OnceAborted all past rest =
+    ((along past rest ≡ []) × ((p : ℕ) × OpenedAt all p))
+    ⊎ ((place : ℕ) × (length past < place) × (place ≤ length all)
+    × (along past rest ≡ record { place = place; piece = Aborted; octets = [] } ∷ []))
 
 -- no flag ends right behind seven ones, unless its first zero comes behind them
 late_flag : (bits : List Bool) (m n : ℕ) → SevenOnesEndAt bits m → FlagEndsAt bits n → m < n → n ≤ m + 7 → ⊥
@@ -101,9 +113,12 @@ late_flag bits m n s f later near =
     let place : m - 7 + (n - 1 - m) ≡ n - 8 + 0 = omega (arith, s.room, f.room) in
     false≢true (sym (f.spelled 0 (omega arith)) ∙ ap (bit_of bits) (sym place) ∙ s.ones (n - 1 - m) (omega arith))
 
-pub along-open : (all past rest : List Bool) → all ≡ past ++ rest → (first : ℕ) → ((n : ℕ) → length past < n → FlagEndsAt all n → n ≤ first + 8) → (p : ℕ) → first ≤ p → OpenedAt past p → OnceAborted all past rest
+pub along-open : (all past rest : List Bool) → all ≡ past ++ rest → (first : ℕ)
+    → ((n : ℕ) → length past < n → FlagEndsAt all n → n ≤ first + 8) → (p : ℕ) → first ≤ p → OpenedAt past p → OnceAborted all past rest
 along-open all past [] e first near p low o = inl (refl, (p, subst (λ l. OpenedAt l p) (sym (append-nil past) ∙ sym e) o))
-along-open all past (b ∷ rest) e first near p low o = each (ends_with beq (past ++ b ∷ []) flag) (ends_with beq (past ++ b ∷ []) seven_ones) refl refl (along-open all (past ++ b ∷ []) rest split first near_more)
+along-open all past (b ∷ rest) e first near p low o =
+    each (ends_with beq (past ++ b ∷ []) flag) (ends_with beq (past ++ b ∷ []) seven_ones) refl refl
+    (along-open all (past ++ b ∷ []) rest split first near_more)
   where
     split : all ≡ (past ++ b ∷ []) ++ rest
     split = e ∙ sym (append_assoc past (b ∷ []) rest)
@@ -119,7 +134,8 @@ along-open all past (b ∷ rest) e first near p low o = each (ends_with beq (pas
         → ((q : ℕ) → first ≤ q → OpenedAt (past ++ b ∷ []) q → OnceAborted all (past ++ b ∷ []) rest) → OnceAborted all past (b ∷ rest)
     each true s x y more =
         let f = at_end past b (ends-flag (past ++ b ∷ []) x) in
-        let close = near (length past + 1) (omega arith) (subst (λ l. FlagEndsAt l (length past + 1)) (sym split) (flag-front (past ++ b ∷ []) rest (length past + 1) f)) in
+        let close = near (length past + 1) (omega arith)
+        (subst (λ l. FlagEndsAt l (length past + 1)) (sym split) (flag-front (past ++ b ∷ []) rest (length past + 1) f)) in
         let none = flag-near past b f (λ q k. let same : q ≡ p = opened-once past q p k o in omega arith) in
         goes_on (found-quiet past b none.0 none.1) (more (length past + 1) (omega (arith, o.flag_ends.within)) (opened-by_flag past b f))
     each false true x y more =
@@ -131,10 +147,17 @@ along-open all past (b ∷ rest) e first near p low o = each (ends_with beq (pas
         let close = near n (omega (arith, l, length-snoc past b)) f in
         late_flag all (length past + 1) n s_all f (omega (arith, l, length-snoc past b)) (omega arith) in
         let after = along-shut all (past ++ b ∷ []) rest split never (seven-shuts past b s) in
-        inr (length (past ++ b ∷ []), omega (arith, length-snoc past b), omega (arith, ap length split, length-append {A = Bool} (past ++ b ∷ []) rest), rw (here, after) refl)
+        inr (
+          length (past ++ b ∷ []),
+          omega (arith, length-snoc past b),
+          omega (arith, ap length split, length-append {A = Bool} (past ++ b ∷ []) rest),
+          rw (here, after) refl,
+        )
     each false false x y more =
-        let no_flag : FlagEndsAt (past ++ b ∷ []) (length past + 1) → ⊥ = λ f. false≢true (sym x ∙ flag-ends (past ++ b ∷ []) (from_end past b f)) in
-        let no_seven : SevenOnesEndAt (past ++ b ∷ []) (length past + 1) → ⊥ = λ s. false≢true (sym y ∙ seven-ends (past ++ b ∷ []) (seven_from_end past b s)) in
+        let no_flag : FlagEndsAt (past ++ b ∷ []) (length past + 1) → ⊥ =
+        λ f. false≢true (sym x ∙ flag-ends (past ++ b ∷ []) (from_end past b f)) in
+        let no_seven : SevenOnesEndAt (past ++ b ∷ []) (length past + 1) → ⊥ =
+        λ s. false≢true (sym y ∙ seven-ends (past ++ b ∷ []) (seven_from_end past b s)) in
         let none = quiet past b no_flag no_seven in
         goes_on (found-quiet past b none.0 none.1) (more p low (opened-stays past b p o no_flag no_seven))
 
@@ -143,11 +166,13 @@ module _ (past bits : List Bool) (size : ℕ) (plain : IsPlain size bits) where
   far_flag : (n : ℕ) → length past + 8 ≤ n → FlagEndsAt (past ++ bits) n → ⊥
   far_flag n far f = plain.no_flag (n - length past) (flag-back past bits n far f)
 
-  early_flag : (n ones : ℕ) → CountsOnes ones past → length past < n → n < length past + 8 → length past ≤ n - 8 + ones → FlagEndsAt (past ++ bits) n → ⊥
+  early_flag : (n ones : ℕ) → CountsOnes ones past → length past < n → n < length past + 8 → length past ≤ n - 8 + ones
+      → FlagEndsAt (past ++ bits) n → ⊥
   early_flag n ones k later near few f =
       let zero_place : n - 8 + 0 ≡ n - 8 = omega arith in
       let within : n - 8 < length past = omega (arith, f.room) in
-      false≢true (sym (f.spelled 0 (omega arith)) ∙ ap (bit_of (past ++ bits)) zero_place ∙ bit-left past bits (n - 8) within ∙ k.set (n - 8) within few)
+      false≢true (sym (f.spelled 0 (omega arith)) ∙ ap (bit_of (past ++ bits)) zero_place ∙ bit-left past bits (n - 8) within
+      ∙ k.set (n - 8) within few)
 
   never : CountsOnes 7 past → (n : ℕ) → length past < n → FlagEndsAt (past ++ bits) n → ⊥
   never k n later f = elim (cases_lt n (length past + 8)) [
@@ -155,7 +180,8 @@ module _ (past bits : List Bool) (size : ℕ) (plain : IsPlain size bits) where
     | inr far ↦ far_flag n far f
   ]
 
-  close_by : (phase p : ℕ) → phase < 8 → CountsOnes (phase - 1) past → p ≤ length past → phase ≡ min 8 (length past - p) → (n : ℕ) → length past < n → FlagEndsAt (past ++ bits) n → n ≤ p + 8
+  close_by : (phase p : ℕ) → phase < 8 → CountsOnes (phase - 1) past → p ≤ length past → phase ≡ min 8 (length past - p) → (n : ℕ)
+      → length past < n → FlagEndsAt (past ++ bits) n → n ≤ p + 8
   close_by phase p low k within e n later f = elim (cases_lt (p + 8) n) [
     | inl over ↦ elim (cases_lt n (length past + 8)) [
       | inl near ↦ absurd (early_flag n (phase - 1) k later near (omega (arith, f.room)) f)
@@ -172,9 +198,16 @@ module _ (past bits : List Bool) (size : ℕ) (plain : IsPlain size bits) where
   plain-none k = along-shut (past ++ bits) past bits refl (never k.ones) k.since
 
   -- one abort is found where a flag is open
-  pub plain-once : (phase : ℕ) → phase < 8 → Counts (open_at phase) past → (place : ℕ) × (length past < place) × (place ≤ length past + size) × (along past bits ≡ record { place = place; piece = Aborted; octets = [] } ∷ [])
-  plain-once phase low k = each (along-open (past ++ bits) past bits refl k.since.0 (close_by phase k.since.0 low k.ones k.since.1.flag_ends.within k.since.2) k.since.0 (omega arith) k.since.1)
+  pub plain-once : (phase : ℕ) → phase < 8 → Counts (open_at phase) past
+      → (place : ℕ) × (length past < place) × (place ≤ length past + size)
+      × (along past bits ≡ record { place = place; piece = Aborted; octets = [] } ∷ [])
+  plain-once phase low k =
+      each (along-open (past ++ bits) past bits refl k.since.0
+      (close_by phase k.since.0 low k.ones k.since.1.flag_ends.within k.since.2) k.since.0 (omega arith) k.since.1)
     where
-      each : OnceAborted (past ++ bits) past bits → (place : ℕ) × (length past < place) × (place ≤ length past + size) × (along past bits ≡ record { place = place; piece = Aborted; octets = [] } ∷ [])
+      each : OnceAborted (past ++ bits) past bits
+          → (place : ℕ) × (length past < place) × (place ≤ length past + size)
+          × (along past bits ≡ record { place = place; piece = Aborted; octets = [] } ∷ [])
       each (inl (after, still)) = absurd (plain-shut.since still.0 still.1)
-      each (inr (place, later, within, after)) = (place, later, omega (arith, within, plain.full, length-append {A = Bool} past bits), after)
+      each (inr (place, later, within, after)) =
+          (place, later, omega (arith, within, plain.full, length-append {A = Bool} past bits), after)

@@ -19,10 +19,16 @@ use Rattle.bit_stuffing.proofs.Frames.{Framed, frame-found, before_last, slot-sp
 use Rattle.bit_stuffing.proofs.Plain.{counts-start, plain-shut, plain-none, plain-once}
 
 sent-whole : (sent : List ℕ) → IsFrame sent → IsWhole (stuffed 5 (bits_of sent)) sent
-sent-whole sent f = record { carries = record { small = f.small; stuffs = stuffs-stuffed 0 5 (bits_of sent) refl }; low = f.low; high = f.high }
+sent-whole sent f = record {
+  carries = record { small = f.small; stuffs = stuffs-stuffed 0 5 (bits_of sent) refl };
+  low = f.low;
+  high =
+      f.high;
+}
 
 -- the frame of a slot is found at its closing flag
-module _ (past : List Bool) (behind : Bool) (k : Counters) (phase : ℕ) (sent : List ℕ) (h : Counts k past) (between : Between behind k phase) (frame : IsFrame sent) where
+module _ (past : List Bool) (behind : Bool) (k : Counters) (phase : ℕ) (sent : List ℕ) (h : Counts k past)
+    (between : Between behind k phase) (frame : IsFrame sent) where
   states : InFrame phase k sent
   states = in-frame behind phase k sent between frame.low
 
@@ -32,19 +38,31 @@ module _ (past : List Bool) (behind : Bool) (k : Counters) (phase : ℕ) (sent :
   framed : Framed (past ++ (rest_of_flag phase ++ flags 4)) (stuffed 5 (bits_of sent) ++ seven) sent
   framed = frame-found (past ++ (rest_of_flag phase ++ flags 4)) sent opened (bits-some sent frame.low)
 
-  found-last : found_at ((past ++ before_last phase sent) ++ false ∷ []) ≡ Some (whole_at (length past + length (opening phase (Some sent))) sent)
+  found-last : found_at ((past ++ before_last phase sent) ++ false ∷ []) ≡ Some
+      (whole_at (length past + length (opening phase (Some sent))) sent)
   found-last =
-      let joined : (past ++ (rest_of_flag phase ++ flags 4)) ++ (stuffed 5 (bits_of sent) ++ seven) ≡ past ++ before_last phase sent = append_assoc past (rest_of_flag phase ++ flags 4) (stuffed 5 (bits_of sent) ++ seven) in
+      let joined : (past ++ (rest_of_flag phase ++ flags 4)) ++ (stuffed 5 (bits_of sent) ++ seven) ≡ past ++ before_last phase sent =
+      append_assoc past (rest_of_flag phase ++ flags 4) (stuffed 5 (bits_of sent) ++ seven) in
       let bits : List Bool = (past ++ (rest_of_flag phase ++ flags 4)) ++ (stuffed 5 (bits_of sent) ++ seven) in
-      let whole : IsWhole (content (bits ++ false ∷ []) framed.closed.opened) sent = subst (λ l. IsWhole l sent) (sym (framed.content_is framed.closed)) (sent-whole sent frame) in
+      let whole : IsWhole (content (bits ++ false ∷ []) framed.closed.opened) sent =
+      subst (λ l. IsWhole l sent) (sym (framed.content_is framed.closed)) (sent-whole sent frame) in
       let place : length (bits ++ false ∷ []) ≡ length past + length (opening phase (Some sent)) =
-      omega (arith, length-append {A = Bool} bits (false ∷ []), ap length joined, length-append {A = Bool} past (before_last phase sent), last_place phase sent) in
-      ap (λ l. found_at (l ++ false ∷ [])) (sym joined) ∙ found-whole bits false framed.closed sent whole ∙ ap (λ n. Some (whole_at n sent)) place
+      omega (
+        arith,
+        length-append {A = Bool} bits (false ∷ []),
+        ap length joined,
+        length-append {A = Bool} past (before_last phase sent),
+        last_place phase sent,
+      ) in
+      ap (λ l. found_at (l ++ false ∷ [])) (sym joined) ∙ found-whole bits false framed.closed sent whole
+      ∙ ap (λ n. Some (whole_at n sent)) place
 
   behind-last : Counts (open_at 0) ((past ++ before_last phase sent) ++ false ∷ [])
-  behind-last = counts-step (record { ones = 6; since = Some 8 }) (past ++ before_last phase sent) false (subst (λ x. Counts x (past ++ before_last phase sent)) states.front.0 (counts-run k past (before_last phase sent) h))
+  behind-last = counts-step (record { ones = 6; since = Some 8 }) (past ++ before_last phase sent) false
+      (subst (λ x. Counts x (past ++ before_last phase sent)) states.front.0 (counts-run k past (before_last phase sent) h))
 
-  frame-along : (n : ℕ) → along past (before_last phase sent ++ false ∷ fill n) ≡ whole_at (length past + length (opening phase (Some sent))) sent ∷ []
+  frame-along : (n : ℕ)
+      → along past (before_last phase sent ++ false ∷ fill n) ≡ whole_at (length past + length (opening phase (Some sent))) sent ∷ []
   frame-along n =
       let front = along-still k past (before_last phase sent) h states.front.1 in
       let rest = along-still (open_at 0) ((past ++ before_last phase sent) ++ false ∷ []) (fill n) behind-last (run-fill n).1 in
@@ -60,7 +78,8 @@ pub record Leaves (size : ℕ) (past : List Bool) (behind : Bool) (phase : ℕ) 
   pub counts : Counts state (past ++ slot_bits size phase slot)
   pub between : Between (flags_behind behind (slot ∷ [])) state (next_phase size phase slot)
 
-pub slot-leaves : (size : ℕ) (past : List Bool) (behind : Bool) (k : Counters) (phase : ℕ) (slot : Slot) → Counts k past → Between behind k phase → IsSlot size phase slot → Leaves size past behind phase slot
+pub slot-leaves : (size : ℕ) (past : List Bool) (behind : Bool) (k : Counters) (phase : ℕ) (slot : Slot) → Counts k past
+    → Between behind k phase → IsSlot size phase slot → Leaves size past behind phase slot
 slot-leaves size past true k phase (Plain bits) h b is = record {
   found = plain-once past bits size is phase b.1 (subst (λ x. Counts x past) b.0 h);
   state = shut;
@@ -98,39 +117,54 @@ pub record LeaveAll (size : ℕ) (past : List Bool) (behind : Bool) (phase : ℕ
   pub between : Between (flags_behind behind slots) state (phase_from size phase slots)
 
 -- the state behind one more slot
-flags_behind-more : (behind : Bool) (slot : Slot) (slots : List Slot) → flags_behind (flags_behind behind (slot ∷ [])) slots ≡ flags_behind behind (slot ∷ slots)
+flags_behind-more : (behind : Bool) (slot : Slot) (slots : List Slot)
+    → flags_behind (flags_behind behind (slot ∷ [])) slots ≡ flags_behind behind (slot ∷ slots)
 flags_behind-more behind (Plain bits) slots = refl
 flags_behind-more behind (Flags frame) slots = refl
 
-pub slots-leave : (size : ℕ) (past : List Bool) (behind : Bool) (k : Counters) (phase : ℕ) (slots : List Slot) → Counts k past → Between behind k phase → AreSlots size phase slots → LeaveAll size past behind phase slots
+pub slots-leave : (size : ℕ) (past : List Bool) (behind : Bool) (k : Counters) (phase : ℕ) (slots : List Slot) → Counts k past
+    → Between behind k phase → AreSlots size phase slots → LeaveAll size past behind phase slots
 slots-leave size past behind k phase [] h b are = record { state = k; counts = subst (Counts k) (sym (append-nil past)) h; between = b }
 slots-leave size past behind k phase (slot ∷ slots) h b are =
     let l = slot-leaves size past behind k phase slot h b are.0 in
-    let r = slots-leave size (past ++ slot_bits size phase slot) (flags_behind behind (slot ∷ [])) l.state (next_phase size phase slot) slots l.counts l.between are.1 in
+    let r = slots-leave size (past ++ slot_bits size phase slot) (flags_behind behind (slot ∷ [])) l.state
+    (next_phase size phase slot) slots l.counts l.between are.1 in
     record {
       state = r.state;
-      counts = subst (Counts r.state) (append_assoc past (slot_bits size phase slot) (bits_from size (next_phase size phase slot) slots)) r.counts;
-      between = subst (λ f. Between f r.state (phase_from size (next_phase size phase slot) slots)) (flags_behind-more behind slot slots) r.between;
+      counts = subst (Counts r.state)
+          (append_assoc past (slot_bits size phase slot) (bits_from size (next_phase size phase slot) slots)) r.counts;
+      between = subst (λ f. Between f r.state (phase_from size (next_phase size phase slot) slots))
+          (flags_behind-more behind slot slots) r.between;
     }
 
-are-split : (size phase : ℕ) (slots : List Slot) (slot : Slot) → AreSlots size phase (slots ++ slot ∷ []) → AreSlots size phase slots × IsSlot size (phase_from size phase slots) slot
+are-split : (size phase : ℕ) (slots : List Slot) (slot : Slot) → AreSlots size phase (slots ++ slot ∷ [])
+    → AreSlots size phase slots × IsSlot size (phase_from size phase slots) slot
 are-split size phase [] slot h = (tt, h.0)
 are-split size phase (x ∷ slots) slot h = let r = are-split size (next_phase size phase x) slots slot h.1 in ((h.0, r.0), r.1)
 
-pub found-is-sent : (size : ℕ) (before : List Slot) (slot : Slot) → AreSlots size 0 (before ++ slot ∷ []) → (added : List Found) × SlotAdds size before slot added
+pub found-is-sent : (size : ℕ) (before : List Slot) (slot : Slot) → AreSlots size 0 (before ++ slot ∷ [])
+    → (added : List Found) × SlotAdds size before slot added
 found-is-sent size before slot are =
     let parts = are-split size 0 before slot are in
     let all = slots-leave size [] false shut 0 before counts-start (refl, refl) parts.0 in
-    let l = slot-leaves size (sent_bits size before) (flags_behind false before) all.state (phase_after size before) slot all.counts all.between parts.1 in (
+    let l = slot-leaves size (sent_bits size before) (flags_behind false before) all.state
+    (phase_after size before) slot all.counts all.between parts.1 in (
       along (sent_bits size before) (slot_bits size (phase_after size before) slot),
-      record { all = ap pieces_of (bits-append size 0 before slot) ∙ pieces-along (sent_bits size before) (slot_bits size (phase_after size before) slot); found = l.found },
+      record {
+        all = ap pieces_of (bits-append size 0 before slot)
+            ∙ pieces-along (sent_bits size before) (slot_bits size (phase_after size before) slot);
+        found = l.found;
+      },
     )
 
 -- the pieces of bits stay
 
-within-along : (past more : List Bool) → All (λ found. (length past < found.place) × (found.place ≤ length (past ++ more))) (along past more)
+within-along : (past more : List Bool)
+    → All (λ found. (length past < found.place) × (found.place ≤ length (past ++ more))) (along past more)
 within-along past [] = All-nil (λ found. (length past < found.place) × (found.place ≤ length (past ++ [])))
-within-along past (b ∷ more) = All-append (λ found. (length past < found.place) × (found.place ≤ length (past ++ b ∷ more))) (listed (found_at (past ++ b ∷ []))) (along (past ++ b ∷ []) more)
+within-along past (b ∷ more) =
+    All-append (λ found. (length past < found.place) × (found.place ≤ length (past ++ b ∷ more))) (listed (found_at (past ++ b ∷ [])))
+    (along (past ++ b ∷ []) more)
     (λ k d h. let e = found-place past b k d h in (omega arith, omega (arith, length-append {A = Bool} past (b ∷ more))))
     (λ k d h.
     let e = within-along (past ++ b ∷ []) more k d h in
@@ -143,7 +177,9 @@ pieces-stay bits more = (along bits more, record { all = pieces-along bits more;
 
 wholes-append : (xs ys : List Found) → wholes (xs ++ ys) ≡ wholes xs ++ wholes ys
 wholes-append [] ys = refl
-wholes-append (x ∷ xs) ys = ap (λ t. octets_if_whole x.piece x.octets ++ t) (wholes-append xs ys) ∙ sym (append_assoc (octets_if_whole x.piece x.octets) (wholes xs) (wholes ys))
+wholes-append (x ∷ xs) ys =
+    ap (λ t. octets_if_whole x.piece x.octets ++ t) (wholes-append xs ys)
+    ∙ sym (append_assoc (octets_if_whole x.piece x.octets) (wholes xs) (wholes ys))
 
 frames_of-append : (slots : List Slot) (slot : Slot) → frames_of (slots ++ slot ∷ []) ≡ frames_of slots ++ frames_of (slot ∷ [])
 frames_of-append [] slot = refl
@@ -161,29 +197,42 @@ pub record AreExpected (found : List Found) (frames : List (List ℕ)) : Type 0 
 one_expected : (found : Found) → IsExpected found → All IsExpected (found ∷ [])
 one_expected found h = All-cons IsExpected found [] h (All-nil IsExpected)
 
-slot-expected : (size start phase : ℕ) (behind : Bool) (slot : Slot) (found : List Found) → FoundIn size start phase behind slot found → AreExpected found (frames_of (slot ∷ []))
-slot-expected size start phase true (Plain bits) found h = subst (λ f. AreExpected f []) (sym h.3) (record { octets = refl; pieces = one_expected (aborted_at h.0) (inr refl) })
-slot-expected size start phase false (Plain bits) found h = subst (λ f. AreExpected f []) (sym h) (record { octets = refl; pieces = All-nil IsExpected })
-slot-expected size start phase behind (Flags None) found h = subst (λ f. AreExpected f []) (sym h) (record { octets = refl; pieces = All-nil IsExpected })
+slot-expected : (size start phase : ℕ) (behind : Bool) (slot : Slot) (found : List Found) → FoundIn size start phase behind slot found
+    → AreExpected found (frames_of (slot ∷ []))
+slot-expected size start phase true (Plain bits) found h =
+    subst (λ f. AreExpected f []) (sym h.3) (record { octets = refl; pieces = one_expected (aborted_at h.0) (inr refl) })
+slot-expected size start phase false (Plain bits) found h =
+    subst (λ f. AreExpected f []) (sym h) (record { octets = refl; pieces = All-nil IsExpected })
+slot-expected size start phase behind (Flags None) found h =
+    subst (λ f. AreExpected f []) (sym h) (record { octets = refl; pieces = All-nil IsExpected })
 slot-expected size start phase behind (Flags (Some octets)) found h =
-    subst (λ f. AreExpected f (octets ∷ [])) (sym h) (record { octets = refl; pieces = one_expected (whole_at (start + length (opening phase (Some octets))) octets) (inl refl) })
+    subst (λ f. AreExpected f (octets ∷ [])) (sym h)
+    (record { octets = refl; pieces = one_expected (whole_at (start + length (opening phase (Some octets))) octets) (inl refl) })
 
-both_expected : (xs ys : List Found) (frames more : List (List ℕ)) → AreExpected xs frames → AreExpected ys more → AreExpected (xs ++ ys) (frames ++ more)
-both_expected xs ys frames more h g = record { octets = wholes-append xs ys ∙ rw (h.octets, g.octets) refl; pieces = All-append IsExpected xs ys h.pieces g.pieces }
+both_expected : (xs ys : List Found) (frames more : List (List ℕ)) → AreExpected xs frames → AreExpected ys more
+    → AreExpected (xs ++ ys) (frames ++ more)
+both_expected xs ys frames more h g =
+    record { octets = wholes-append xs ys ∙ rw (h.octets, g.octets) refl; pieces = All-append IsExpected xs ys h.pieces g.pieces }
 
 are-front : (size phase : ℕ) (slots more : List Slot) → AreSlots size phase (slots ++ more) → AreSlots size phase slots
 are-front size phase [] more h = tt
 are-front size phase (slot ∷ slots) more h = (h.0, are-front size (next_phase size phase slot) slots more h.1)
 
-expected-more : (size : ℕ) (before more : List Slot) → AreSlots size 0 (before ++ more) → AreExpected (pieces_of (sent_bits size before)) (frames_of before) → AreExpected (pieces_of (sent_bits size (before ++ more))) (frames_of (before ++ more))
+expected-more : (size : ℕ) (before more : List Slot) → AreSlots size 0 (before ++ more)
+    → AreExpected (pieces_of (sent_bits size before)) (frames_of before)
+    → AreExpected (pieces_of (sent_bits size (before ++ more))) (frames_of (before ++ more))
 expected-more size before [] are h = subst (λ s. AreExpected (pieces_of (sent_bits size s)) (frames_of s)) (sym (append-nil before)) h
 expected-more size before (slot ∷ more) are h =
     let split : (before ++ slot ∷ []) ++ more ≡ before ++ slot ∷ more = append_assoc before (slot ∷ []) more in
     let are_split : AreSlots size 0 ((before ++ slot ∷ []) ++ more) = subst (AreSlots size 0) (sym split) are in
     let one = found-is-sent size before slot (are-front size 0 (before ++ slot ∷ []) more are_split) in
-    let all = both_expected (pieces_of (sent_bits size before)) one.0 (frames_of before) (frames_of (slot ∷ [])) h (slot-expected size (length (sent_bits size before)) (phase_after size before) (flags_behind false before) slot one.0 one.1.found) in
-    let next : AreExpected (pieces_of (sent_bits size (before ++ slot ∷ []))) (frames_of (before ++ slot ∷ [])) = rw (one.1.all, frames_of-append before slot) all in
-    subst (λ s. AreExpected (pieces_of (sent_bits size s)) (frames_of s)) split (expected-more size (before ++ slot ∷ []) more are_split next)
+    let all = both_expected (pieces_of (sent_bits size before)) one.0 (frames_of before) (frames_of (slot ∷ [])) h
+    (slot-expected size (length (sent_bits size before)) (phase_after size before) (flags_behind false before) slot one.0 one.1.found)
+    in
+    let next : AreExpected (pieces_of (sent_bits size (before ++ slot ∷ []))) (frames_of (before ++ slot ∷ [])) =
+    rw (one.1.all, frames_of-append before slot) all in
+    subst (λ s. AreExpected (pieces_of (sent_bits size s)) (frames_of s)) split
+    (expected-more size (before ++ slot ∷ []) more are_split next)
 
 pub all-expected : (size : ℕ) (slots : List Slot) → AreSlots size 0 slots → AreExpected (pieces_of (sent_bits size slots)) (frames_of slots)
 all-expected size slots are = expected-more size [] slots are (rw pieces-none (record { octets = refl; pieces = All-nil IsExpected }))

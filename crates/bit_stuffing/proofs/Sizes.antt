@@ -36,9 +36,16 @@ short_rest zero h = omega arith
 short_rest (suc phase) h = omega (arith, length-drop (suc phase) flag)
 
 pub length-empty : (phase : ℕ) → phase < 8 → length (opening phase None) ≤ 39
-length-empty phase low = omega (arith, short_rest phase low, ap length (append-nil (rest_of_flag phase ++ flags 4)), length-append {A = Bool} (rest_of_flag phase) (flags 4))
+length-empty phase low =
+    omega (
+      arith,
+      short_rest phase low,
+      ap length (append-nil (rest_of_flag phase ++ flags 4)),
+      length-append {A = Bool} (rest_of_flag phase) (flags 4),
+    )
 
-pub length-opening : (phase : ℕ) (octets : List ℕ) → phase < 8 → length (opening phase (Some octets)) ≤ 47 + 8 * length octets + 8 * length octets / 5
+pub length-opening : (phase : ℕ) (octets : List ℕ) → phase < 8
+    → length (opening phase (Some octets)) ≤ 47 + 8 * length octets + 8 * length octets / 5
 length-opening phase octets low = omega (
   arith,
   short_rest phase low,
@@ -51,7 +58,13 @@ length-opening phase octets low = omega (
 
 -- given bits, followed by ones
 pub plain-grows : (size more : ℕ) (bits : List Bool) → IsPlain size bits → IsPlain (size + more) (bits ++ replicate more true)
-plain-grows size more bits is = record { full = omega (arith, is.full, wide); no_flag = no_flag; ones = record { room = omega (arith, is.ones.room, wide); within = omega arith; ones = ones } }
+plain-grows size more bits is =
+    record {
+      full = omega (arith, is.full, wide);
+      no_flag = no_flag;
+      ones =
+          record { room = omega (arith, is.ones.room, wide); within = omega arith; ones = ones };
+    }
   where
     wide : length (bits ++ replicate more true) ≡ length bits + more
     wide = omega (arith, length-append {A = Bool} bits (replicate more true), length-replicate {A = Bool} more true)
@@ -60,22 +73,31 @@ plain-grows size more bits is = record { full = omega (arith, is.full, wide); no
     one : (i : ℕ) → length bits ≤ i → i < length bits + more → bit_of (bits ++ replicate more true) i ≡ true
     one i low high =
         let place : length bits + (i - length bits) ≡ i = omega arith in
-        ap (bit_of (bits ++ replicate more true)) (sym place) ∙ bit-right bits (replicate more true) (i - length bits) ∙ get_or-replicate more (i - length bits) true false (omega arith)
+        ap (bit_of (bits ++ replicate more true)) (sym place) ∙ bit-right bits (replicate more true) (i - length bits)
+        ∙ get_or-replicate more (i - length bits) true false (omega arith)
 
     no_flag : (n : ℕ) → FlagEndsAt (bits ++ replicate more true) n → ⊥
     no_flag n f = elim (cases_lt (length bits) n) [
       | inl behind ↦
           let place : n - 8 + 7 ≡ n - 1 = omega (arith, f.room) in
-          let last : bit_of (bits ++ replicate more true) (n - 8 + 7) ≡ true = ap (bit_of (bits ++ replicate more true)) place ∙ one (n - 1) (omega arith) (omega (arith, f.within, f.room, wide)) in
+          let last : bit_of (bits ++ replicate more true) (n - 8 + 7) ≡ true =
+          ap (bit_of (bits ++ replicate more true)) place ∙ one (n - 1) (omega arith) (omega (arith, f.within, f.room, wide)) in
           false≢true (sym (f.spelled 7 (omega arith)) ∙ last)
-      | inr front ↦ is.no_flag n record { room = f.room; within = front; spelled = λ i l. sym (bit-left bits (replicate more true) (n - 8 + i) (omega (arith, f.room))) ∙ f.spelled i l }
+      | inr front ↦ is.no_flag n
+          record {
+            room = f.room;
+            within = front;
+            spelled =
+                λ i l. sym (bit-left bits (replicate more true) (n - 8 + i) (omega (arith, f.room))) ∙ f.spelled i l;
+          }
     ]
 
     ones : (i : ℕ) → i < 7 → bit_of (bits ++ replicate more true) (length (bits ++ replicate more true) - 7 + i) ≡ true
     ones i l = elim (cases_lt (length (bits ++ replicate more true) - 7 + i) (length bits)) [
       | inl front ↦
           let place : length bits - 7 + (i + more) ≡ length (bits ++ replicate more true) - 7 + i = omega (arith, wide, is.ones.room) in
-          bit-left bits (replicate more true) (length (bits ++ replicate more true) - 7 + i) front ∙ ap (bit_of bits) (sym place) ∙ is.ones.ones (i + more) (omega (arith, wide, is.ones.room))
+          bit-left bits (replicate more true) (length (bits ++ replicate more true) - 7 + i) front ∙ ap (bit_of bits) (sym place)
+          ∙ is.ones.ones (i + more) (omega (arith, wide, is.ones.room))
       | inr behind ↦ one (length (bits ++ replicate more true) - 7 + i) behind (omega (arith, wide, is.ones.room))
     ]
 
@@ -90,7 +112,8 @@ front-flag bits f = ap (pointwise beq flag) front ∙ bits-same flag
         let near : i < 8 = omega (arith, l, take-length bits 8 f.within) in
         let within : i < length bits = omega (arith, f.within) in
         let place : i ≡ 8 - 8 + i = omega arith in
-        get_or-take 8 bits i d near ∙ get_or_default bits i d false within ∙ ap (bit_of bits) place ∙ f.spelled i near ∙ get_or_default flag i false d near)
+        get_or-take 8 bits i d near ∙ get_or_default bits i d false within ∙ ap (bit_of bits) place ∙ f.spelled i near
+        ∙ get_or_default flag i false d near)
 
 -- a flag farther back stands in the rest
 rest-flag : (bit : Bool) (bits : List Bool) (n : ℕ) → 8 < n → FlagEndsAt (bit ∷ bits) n → FlagEndsAt bits (n - 1)

@@ -30,37 +30,58 @@ run-flags (suc n) =
 
 -- the states along bits in which no flag ends
 abbrev pub Goes : ℕ → ℕ → List Bool → Type 0
-Goes ones count s = Below6 (record { ones = ones; since = Some count }) s × ((e : ℕ) × (e ≤ 5) × (run (record { ones = ones; since = Some count }) s ≡ record { ones = e; since = Some (min 8 (count + length s)) }))
+Goes ones count s = Below6 (record { ones = ones; since = Some count }) s
+    × ((e : ℕ) × (e ≤ 5) ×
+    (run (record { ones = ones; since = Some count }) s ≡ record { ones = e; since = Some (min 8 (count + length s)) }))
 
-step-is : (ones count : ℕ) (b : Bool) → ones < 6 → step (record { ones = ones; since = Some count }) b ≡ record { ones = if b then min ones 6 + 1 else 0; since = Some (min count 7 + 1) }
+step-is : (ones count : ℕ) (b : Bool) → ones < 6
+    → step (record { ones = ones; since = Some count })
+    b ≡ record { ones = if b then min ones 6 + 1 else 0; since = Some (min count 7 + 1) }
 step-is ones count true few = let n = few_not ones few in rw n refl
 step-is ones count false few = let n = few_not ones few in rw n refl
 
-goes-more : (ones count next : ℕ) (b : Bool) (s : List Bool) → ones < 6 → count ≤ 8 → (if b then min ones 6 + 1 else 0) ≡ next → Goes next (min count 7 + 1) s → Goes ones count (b ∷ s)
+goes-more : (ones count next : ℕ) (b : Bool) (s : List Bool) → ones < 6 → count ≤ 8 → (if b then min ones 6 + 1 else 0) ≡ next
+    → Goes next (min count 7 + 1) s → Goes ones count (b ∷ s)
 goes-more ones count next b s few low e g =
-    let now : step (record { ones = ones; since = Some count }) b ≡ record { ones = next; since = Some (min count 7 + 1) } = step-is ones count b few ∙ ap (λ n. record { ones = n; since = Some (min count 7 + 1) }) e in
+    let now : step (record { ones = ones; since = Some count }) b ≡ record { ones = next; since = Some (min count 7 + 1) } =
+    step-is ones count b few ∙ ap (λ n. record { ones = n; since = Some (min count 7 + 1) }) e in
     let sum : min 8 (min count 7 + 1 + length s) ≡ min 8 (count + length (b ∷ s)) = omega arith in
     let k : Counters = record { ones = g.1.0; since = Some (min 8 (count + length (b ∷ s))) } in
-    let end : run (step (record { ones = ones; since = Some count }) b) s ≡ k = ap (λ x. run x s) now ∙ g.1.2 ∙ ap (λ c. record { ones = g.1.0; since = Some c }) sum in
+    let end : run (step (record { ones = ones; since = Some count }) b) s ≡ k =
+    ap (λ x. run x s) now ∙ g.1.2 ∙ ap (λ c. record { ones = g.1.0; since = Some c }) sum in
     ((few, subst (λ x. Below6 x s) (sym now) g.0), (g.1.0, g.1.1, end))
 
 -- the content of a frame
 pub run-stuffed : (room : ℕ) (m : List Bool) (ones count : ℕ) → ones + room ≡ 5 → count ≤ 8 → Goes ones count (stuffed room m)
-run-stuffed zero [] ones count sum low = goes-more ones count 0 false [] (omega arith) low refl (goes-end 0 (min count 7 + 1) (omega arith) (omega arith))
+run-stuffed zero [] ones count sum low =
+    goes-more ones count 0 false [] (omega arith) low refl (goes-end 0 (min count 7 + 1) (omega arith) (omega arith))
   where
     goes-end : (ones count : ℕ) → ones ≤ 5 → count ≤ 8 → Goes ones count []
-    goes-end ones count few low = let e : count ≡ min 8 (count + 0) = omega arith in (tt, (ones, few, ap (λ c. record { ones = ones; since = Some c }) e))
-run-stuffed zero (true ∷ m) ones count sum low = goes-more ones count 0 false (true ∷ stuffed 4 m) (omega arith) low refl (goes-more 0 (min count 7 + 1) 1 true (stuffed 4 m) (omega arith) (omega arith) refl (run-stuffed 4 m 1 (min (min count 7 + 1) 7 + 1) refl (omega arith)))
-run-stuffed zero (false ∷ m) ones count sum low = goes-more ones count 0 false (false ∷ stuffed 5 m) (omega arith) low refl (goes-more 0 (min count 7 + 1) 0 false (stuffed 5 m) (omega arith) (omega arith) refl (run-stuffed 5 m 0 (min (min count 7 + 1) 7 + 1) refl (omega arith)))
-run-stuffed (suc room) [] ones count sum low = let e : count ≡ min 8 (count + 0) = omega arith in (tt, (ones, omega arith, ap (λ c. record { ones = ones; since = Some c }) e))
-run-stuffed (suc room) (true ∷ m) ones count sum low = goes-more ones count (ones + 1) true (stuffed room m) (omega arith) low (omega arith) (run-stuffed room m (ones + 1) (min count 7 + 1) (omega arith) (omega arith))
-run-stuffed (suc room) (false ∷ m) ones count sum low = goes-more ones count 0 false (stuffed 5 m) (omega arith) low refl (run-stuffed 5 m 0 (min count 7 + 1) refl (omega arith))
+    goes-end ones count few low = let e : count ≡ min 8 (count + 0) = omega arith in
+        (tt, (ones, few, ap (λ c. record { ones = ones; since = Some c }) e))
+run-stuffed zero (true ∷ m) ones count sum low =
+    goes-more ones count 0 false (true ∷ stuffed 4 m) (omega arith) low refl
+    (goes-more 0 (min count 7 + 1) 1 true (stuffed 4 m) (omega arith) (omega arith) refl
+    (run-stuffed 4 m 1 (min (min count 7 + 1) 7 + 1) refl (omega arith)))
+run-stuffed zero (false ∷ m) ones count sum low =
+    goes-more ones count 0 false (false ∷ stuffed 5 m) (omega arith) low refl
+    (goes-more 0 (min count 7 + 1) 0 false (stuffed 5 m) (omega arith) (omega arith) refl
+    (run-stuffed 5 m 0 (min (min count 7 + 1) 7 + 1) refl (omega arith)))
+run-stuffed (suc room) [] ones count sum low = let e : count ≡ min 8 (count + 0) = omega arith in
+    (tt, (ones, omega arith, ap (λ c. record { ones = ones; since = Some c }) e))
+run-stuffed (suc room) (true ∷ m) ones count sum low =
+    goes-more ones count (ones + 1) true (stuffed room m) (omega arith) low (omega arith)
+    (run-stuffed room m (ones + 1) (min count 7 + 1) (omega arith) (omega arith))
+run-stuffed (suc room) (false ∷ m) ones count sum low =
+    goes-more ones count 0 false (stuffed 5 m) (omega arith) low refl (run-stuffed 5 m 0 (min count 7 + 1) refl (omega arith))
 
 -- a flag without its last zero
 abbrev pub seven : List Bool
 seven = false ∷ true ∷ true ∷ true ∷ true ∷ true ∷ true ∷ []
 
-pub run-seven : (ones count : ℕ) → ones < 6 → 1 ≤ count → count ≤ 8 → Below6 (record { ones = ones; since = Some count }) seven × (run (record { ones = ones; since = Some count }) seven ≡ record { ones = 6; since = Some 8 })
+pub run-seven : (ones count : ℕ) → ones < 6 → 1 ≤ count → count ≤ 8
+    → Below6 (record { ones = ones; since = Some count }) seven
+    × (run (record { ones = ones; since = Some count }) seven ≡ record { ones = 6; since = Some 8 })
 run-seven ones count few low high =
     let now = step-is ones count false few in
     let c : min (min (min (min (min (min (min count 7 + 1) 7 + 1) 7 + 1) 7 + 1) 7 + 1) 7 + 1) 7 + 1 ≡ 8 = omega arith in (
@@ -105,10 +126,15 @@ Between true k phase = (k ≡ open_at phase) × (phase < 8)
 Between false k phase = (k ≡ shut) × (phase ≡ 0)
 
 -- the flags at the head of a slot
-pub run-opens : (behind : Bool) (k : Counters) (phase : ℕ) → Between behind k phase → (run k (rest_of_flag phase ++ flags 4) ≡ open_at 0) × Still k (rest_of_flag phase ++ flags 4)
-run-opens true k phase (e, h) = rw e (run-both (open_at phase) (open_at 0) (open_at 0) (rest_of_flag phase) (flags 4) (run-rest phase h) (run-flags 4))
+pub run-opens : (behind : Bool) (k : Counters) (phase : ℕ) → Between behind k phase
+    → (run k (rest_of_flag phase ++ flags 4) ≡ open_at 0) × Still k (rest_of_flag phase ++ flags 4)
+run-opens true k phase (e, h) =
+    rw e (run-both (open_at phase) (open_at 0) (open_at 0) (rest_of_flag phase) (flags 4) (run-rest phase h) (run-flags 4))
 run-opens false k phase (e, z) = rw (e, z) (refl, still-of shut (flags 4) refl)
 
 -- a flag slot without a frame
-pub run-empty : (behind : Bool) (n phase : ℕ) (k : Counters) → Between behind k phase → (run k (rest_of_flag phase ++ flags 4 ++ [] ++ fill n) ≡ open_at (n % 8)) × Still k (rest_of_flag phase ++ flags 4 ++ [] ++ fill n)
-run-empty behind n phase k between = run-both k (open_at 0) (open_at (n % 8)) (rest_of_flag phase ++ flags 4 ++ []) (fill n) (run-both k (open_at 0) (open_at 0) (rest_of_flag phase ++ flags 4) [] (run-opens behind k phase between) (refl, tt)) (run-fill n)
+pub run-empty : (behind : Bool) (n phase : ℕ) (k : Counters) → Between behind k phase
+    → (run k (rest_of_flag phase ++ flags 4 ++ [] ++ fill n) ≡ open_at (n % 8)) × Still k (rest_of_flag phase ++ flags 4 ++ [] ++ fill n)
+run-empty behind n phase k between =
+    run-both k (open_at 0) (open_at (n % 8)) (rest_of_flag phase ++ flags 4 ++ []) (fill n)
+    (run-both k (open_at 0) (open_at 0) (rest_of_flag phase ++ flags 4) [] (run-opens behind k phase between) (refl, tt)) (run-fill n)

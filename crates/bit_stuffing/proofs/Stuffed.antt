@@ -9,7 +9,8 @@ zero_first [] = refl
 zero_first (true ∷ content) = refl
 zero_first (false ∷ content) = refl
 
-pub is_stuffed : (room : ℕ) {ones : ℕ} {content line : List Bool} → StuffsFrom ones content line → ones + room ≡ 5 → line ≡ stuffed room content
+pub is_stuffed : (room : ℕ) {ones : ℕ} {content line : List Bool} → StuffsFrom ones content line → ones + room ≡ 5
+    → line ≡ stuffed room content
 is_stuffed zero (Inserted h) e = ap (λ t. false ∷ t) (is_stuffed 5 h refl) ∙ sym (zero_first _)
 is_stuffed (suc room) (Inserted h) e = absurd (omega arith)
 is_stuffed zero (End few) e = absurd (omega arith)
@@ -24,8 +25,10 @@ after_five ones content line e h = let five : 5 ≡ ones = omega arith in subst 
 
 pub stuffs-stuffed : (ones room : ℕ) (content : List Bool) → ones + room ≡ 5 → StuffsFrom ones content (stuffed room content)
 stuffs-stuffed ones zero [] e = after_five ones [] (false ∷ []) e (Inserted (End (lit< tt)))
-stuffs-stuffed ones zero (true ∷ content) e = after_five ones (true ∷ content) (false ∷ true ∷ stuffed 4 content) e (Inserted (One (lit< tt) (stuffs-stuffed 1 4 content refl)))
-stuffs-stuffed ones zero (false ∷ content) e = after_five ones (false ∷ content) (false ∷ false ∷ stuffed 5 content) e (Inserted (Zero (lit< tt) (stuffs-stuffed 0 5 content refl)))
+stuffs-stuffed ones zero (true ∷ content) e =
+    after_five ones (true ∷ content) (false ∷ true ∷ stuffed 4 content) e (Inserted (One (lit< tt) (stuffs-stuffed 1 4 content refl)))
+stuffs-stuffed ones zero (false ∷ content) e =
+    after_five ones (false ∷ content) (false ∷ false ∷ stuffed 5 content) e (Inserted (Zero (lit< tt) (stuffs-stuffed 0 5 content refl)))
 stuffs-stuffed ones (suc room) [] e = End (omega arith)
 stuffs-stuffed ones (suc room) (true ∷ content) e = One (omega arith) (stuffs-stuffed (suc ones) room content (omega arith))
 stuffs-stuffed ones (suc room) (false ∷ content) e = Zero (omega arith) (stuffs-stuffed 0 5 content refl)

@@ -8,14 +8,22 @@ use Rattle.bit_stuffing.specs.Found.{found_at, pieces_of}
 use Rattle.bit_stuffing.specs.Slots.{sent_bits}
 use Rattle.bit_stuffing.specs.Slots.Slot.{Plain, Flags}
 
-ones_stuffed : stuffed 5 (bits_of (255 ∷ 255 ∷ [])) ≡ true ∷ true ∷ true ∷ true ∷ true ∷ false ∷ true ∷ true ∷ true ∷ true ∷ true ∷ false ∷ true ∷ true ∷ true ∷ true ∷ true ∷ false ∷ true ∷ []
+ones_stuffed : stuffed 5
+    (bits_of (255 ∷ 255 ∷ [])) ≡ true ∷ true ∷ true ∷ true ∷ true ∷ false ∷ true ∷ true ∷ true ∷ true ∷ true ∷ false ∷ true ∷ true ∷ true ∷ true ∷ true ∷ false ∷ true ∷ []
 ones_stuffed = refl
 
-ragged : pieces_of (flag ++ (true ∷ true ∷ true ∷ true ∷ true ∷ false ∷ true ∷ true ∷ true ∷ true ∷ true ∷ false ∷ true ∷ true ∷ true ∷ true ∷ true ∷ false ∷ []) ++ flag) ≡ record { place = 34; piece = Ragged; octets = [] } ∷ []
+ragged : pieces_of (flag
+    ++ (true ∷ true ∷ true ∷ true ∷ true ∷ false ∷ true ∷ true ∷ true ∷ true ∷ true ∷ false ∷ true ∷ true ∷ true ∷ true ∷ true ∷ false ∷ [])
+    ++ flag) ≡ record { place = 34; piece = Ragged; octets = [] } ∷ []
 unfolding pieces_of found_at
 ragged = refl
 
-sabme : pieces_of (bits_of (0x7e ∷ 0x03 ∷ 0xdf ∷ 0x3e ∷ 0xb9 ∷ 0xfa ∷ 0xf9 ∷ [])) ≡ record { place = 50; piece = Whole; octets = 0x03 ∷ 0x7f ∷ 0x5f ∷ 0xae ∷ [] } ∷ []
+sabme : pieces_of (bits_of (0x7e ∷ 0x03 ∷ 0xdf ∷ 0x3e ∷ 0xb9 ∷ 0xfa ∷ 0xf9 ∷ [])) ≡ record {
+  place = 50;
+  piece = Whole;
+  octets =
+      0x03 ∷ 0x7f ∷ 0x5f ∷ 0xae ∷ [];
+} ∷ []
 unfolding pieces_of found_at
 sabme = refl
 

@@ -13,10 +13,17 @@ use Rattle.bit_stuffing.proofs.Stuffed.{zero_first}
 
 pub length-line_bits : (quads : List ℕ) → length (line_bits quads) ≡ 4 * length quads
 length-line_bits [] = refl
-length-line_bits (quad ∷ quads) = omega (arith, length-append {A = Bool} (low_bits 4 quad) (line_bits quads), length-line_bits quads, length-low_bits 4 quad)
+length-line_bits (quad ∷ quads) =
+    omega (arith, length-append {A = Bool} (low_bits 4 quad) (line_bits quads), length-line_bits quads, length-low_bits 4 quad)
 
 pub length-written : (pen : Pen) (quads : List ℕ) → length (written pen quads) ≡ 4 * length quads + pen.held
-length-written pen quads = omega (arith, length-append {A = Bool} (line_bits quads) (low_bits pen.held pen.part), length-line_bits quads, length-low_bits pen.held pen.part)
+length-written pen quads =
+    omega (
+      arith,
+      length-append {A = Bool} (line_bits quads) (low_bits pen.held pen.part),
+      length-line_bits quads,
+      length-low_bits pen.held pen.part,
+    )
 
 -- the stuffing of one content behind another
 
@@ -24,12 +31,15 @@ length-written pen quads = omega (arith, length-append {A = Bool} (line_bits qua
 stuffed-zero : (content more : List Bool) → stuffed 0 (content ++ more) ≡ false ∷ stuffed 5 (content ++ more)
 stuffed-zero content more = zero_first (content ++ more)
 
-pub stuffed-append : (room : ℕ) (content more : List Bool) → 0 < room → stuffed room (content ++ more) ≡ stuffed room content ++ stuffed (room_behind room content) more
+pub stuffed-append : (room : ℕ) (content more : List Bool) → 0 < room
+    → stuffed room (content ++ more) ≡ stuffed room content ++ stuffed (room_behind room content) more
 stuffed-append zero content more h = absurd (omega arith)
 stuffed-append (suc room) [] more h = refl
-stuffed-append (suc zero) (true ∷ content) more h = ap (λ t. true ∷ t) (stuffed-zero content more ∙ ap (λ t. false ∷ t) (stuffed-append 5 content more (omega arith)) ∙ full content)
+stuffed-append (suc zero) (true ∷ content) more h =
+    ap (λ t. true ∷ t) (stuffed-zero content more ∙ ap (λ t. false ∷ t) (stuffed-append 5 content more (omega arith)) ∙ full content)
   where
-    full : (content : List Bool) → false ∷ (stuffed 5 content ++ stuffed (room_behind 5 content) more) ≡ stuffed 0 content ++ stuffed (room_behind 0 content) more
+    full : (content : List Bool)
+        → false ∷ (stuffed 5 content ++ stuffed (room_behind 5 content) more) ≡ stuffed 0 content ++ stuffed (room_behind 0 content) more
     full [] = refl
     full (true ∷ content) = refl
     full (false ∷ content) = refl
@@ -37,10 +47,12 @@ stuffed-append (suc (suc room)) (true ∷ content) more h = ap (λ t. true ∷ t
 stuffed-append (suc room) (false ∷ content) more h = ap (λ t. false ∷ t) (stuffed-append 5 content more (omega arith))
 
 -- and how many ones may follow
-pub room_behind-append : (room : ℕ) (content more : List Bool) → 0 < room → room_behind room (content ++ more) ≡ room_behind (room_behind room content) more
+pub room_behind-append : (room : ℕ) (content more : List Bool) → 0 < room
+    → room_behind room (content ++ more) ≡ room_behind (room_behind room content) more
 room_behind-append zero content more h = absurd (omega arith)
 room_behind-append (suc room) [] more h = refl
-room_behind-append (suc zero) (true ∷ content) more h = full content ∙ room_behind-append 5 content more (omega arith) ∙ ap (λ r. room_behind r more) (sym (behind content))
+room_behind-append (suc zero) (true ∷ content) more h =
+    full content ∙ room_behind-append 5 content more (omega arith) ∙ ap (λ r. room_behind r more) (sym (behind content))
   where
     behind : (content : List Bool) → room_behind 0 content ≡ room_behind 5 content
     behind [] = refl
@@ -61,11 +73,18 @@ room_behind-in (suc room) (true ∷ content) h = room_behind-in room content (om
 room_behind-in (suc room) (false ∷ content) h = room_behind-in 5 content (omega arith)
 
 -- of a content's front no more is written than of the whole
-pub stuffed-front : (room : ℕ) (content more : List Bool) → 0 < room → length (stuffed room content) ≤ length (stuffed room (content ++ more))
-stuffed-front room content more h = omega (arith, ap length (stuffed-append room content more h), length-append {A = Bool} (stuffed room content) (stuffed (room_behind room content) more))
+pub stuffed-front : (room : ℕ) (content more : List Bool) → 0 < room
+    → length (stuffed room content) ≤ length (stuffed room (content ++ more))
+stuffed-front room content more h =
+    omega (
+      arith,
+      ap length (stuffed-append room content more h),
+      length-append {A = Bool} (stuffed room content) (stuffed (room_behind room content) more),
+    )
 
 -- A content is written a part at a time: front is what was written, and left how many ones may follow it.
-module _ (start now front : List Bool) (room left : ℕ) (some : 0 < room) (left_is : left ≡ room_behind room front) (now_is : now ≡ start ++ stuffed room front) where
+module _ (start now front : List Bool) (room left : ℕ) (some : 0 < room) (left_is : left ≡ room_behind room front)
+    (now_is : now ≡ start ++ stuffed room front) where
   pub next-written : (next part : List Bool) → next ≡ now ++ stuffed left part → next ≡ start ++ stuffed room (front ++ part)
   next-written next part e =
       e ∙ ap (λ t. t ++ stuffed left part) now_is ∙ append_assoc start (stuffed room front) (stuffed left part)
@@ -74,10 +93,17 @@ module _ (start now front : List Bool) (room left : ℕ) (some : 0 < room) (left
   pub next-left : (part : List Bool) → room_behind left part ≡ room_behind room (front ++ part)
   next-left part = ap (λ r. room_behind r part) left_is ∙ sym (room_behind-append room front part some)
 
-  pub next-fits : (part rest : List Bool) (limit : ℕ) → length start + length (stuffed room ((front ++ part) ++ rest)) ≤ limit → length now + length (stuffed left part) ≤ limit
+  pub next-fits : (part rest : List Bool) (limit : ℕ) → length start + length (stuffed room ((front ++ part) ++ rest)) ≤ limit
+      → length now + length (stuffed left part) ≤ limit
   next-fits part rest limit h =
       let all : now ++ stuffed left part ≡ start ++ stuffed room (front ++ part) = next-written (now ++ stuffed left part) part refl in
-      omega (arith, ap length all, length-append {A = Bool} now (stuffed left part), length-append {A = Bool} start (stuffed room (front ++ part)), stuffed-front room (front ++ part) rest some)
+      omega (
+        arith,
+        ap length all,
+        length-append {A = Bool} now (stuffed left part),
+        length-append {A = Bool} start (stuffed room (front ++ part)),
+        stuffed-front room (front ++ part) rest some,
+      )
 
   pub left-in : room ≤ 5 → (0 < left) × (left ≤ 5)
   left-in few = rw left_is (room_behind-in room front few)
@@ -86,26 +112,33 @@ module _ (start now front : List Bool) (room left : ℕ) (some : 0 < room) (left
 pub octet-bit : (n i : ℕ) → i < 8 → nat_eq (bit_and (n / 2 ^ i) 1) 1 ≡ get_or (octet_bits n) i false
 octet-bit n i h = ap (λ r. nat_eq r 1) (and_mask (n / 2 ^ i) 1) ∙ sym (get_or-low_bits 8 n i false h)
 
-pub octet-part : (n i : ℕ) (b : Bool) → i < 8 → b ≡ get_or (octet_bits n) i false → take (i + 1) (octet_bits n) ≡ take i (octet_bits n) ++ b ∷ []
+pub octet-part : (n i : ℕ) (b : Bool) → i < 8 → b ≡ get_or (octet_bits n) i false
+    → take (i + 1) (octet_bits n) ≡ take i (octet_bits n) ++ b ∷ []
 octet-part n i b h e = rw e (take_more (octet_bits n) i false (omega (arith, length-low_bits 8 n)))
 
-pub octet-split : (n i : ℕ) (b : Bool) → i < 8 → b ≡ get_or (octet_bits n) i false → (take i (octet_bits n) ++ b ∷ []) ++ drop (i + 1) (octet_bits n) ≡ octet_bits n
+pub octet-split : (n i : ℕ) (b : Bool) → i < 8 → b ≡ get_or (octet_bits n) i false
+    → (take i (octet_bits n) ++ b ∷ []) ++ drop (i + 1) (octet_bits n) ≡ octet_bits n
 octet-split n i b h e = ap (λ t. t ++ drop (i + 1) (octet_bits n)) (sym (octet-part n i b h e)) ∙ take-append-drop (i + 1) (octet_bits n)
 
 -- octets, one after another
-pub octets-part : (octets : List ℕ) (i : ℕ) → i < length octets → bits_of (take (i + 1) octets) ≡ bits_of (take i octets) ++ octet_bits (get_or octets i 0)
+pub octets-part : (octets : List ℕ) (i : ℕ) → i < length octets
+    → bits_of (take (i + 1) octets) ≡ bits_of (take i octets) ++ octet_bits (get_or octets i 0)
 octets-part octets i h = ap bits_of (take_more octets i 0 h) ∙ bits_of-snoc (take i octets) (get_or octets i 0)
 
-pub octets-split : (octets : List ℕ) (i : ℕ) → i < length octets → (bits_of (take i octets) ++ octet_bits (get_or octets i 0)) ++ bits_of (drop (i + 1) octets) ≡ bits_of octets
+pub octets-split : (octets : List ℕ) (i : ℕ) → i < length octets
+    → (bits_of (take i octets) ++ octet_bits (get_or octets i 0)) ++ bits_of (drop (i + 1) octets) ≡ bits_of octets
 octets-split octets i h =
-    ap (λ t. t ++ bits_of (drop (i + 1) octets)) (sym (octets-part octets i h)) ∙ sym (bits_of-append (take (i + 1) octets) (drop (i + 1) octets)) ∙ ap bits_of (take-append-drop (i + 1) octets)
+    ap (λ t. t ++ bits_of (drop (i + 1) octets)) (sym (octets-part octets i h))
+    ∙ sym (bits_of-append (take (i + 1) octets) (drop (i + 1) octets)) ∙ ap bits_of (take-append-drop (i + 1) octets)
 
 -- the bits of a flag, one after another
-pub flag-part : (from place : ℕ) (b : Bool) → from ≤ place → place < 8 → b ≡ get_or flag place false → take (place + 1 - from) (drop from flag) ≡ take (place - from) (drop from flag) ++ b ∷ []
+pub flag-part : (from place : ℕ) (b : Bool) → from ≤ place → place < 8 → b ≡ get_or flag place false
+    → take (place + 1 - from) (drop from flag) ≡ take (place - from) (drop from flag) ++ b ∷ []
 flag-part from place b low high e =
     let n : place + 1 - from ≡ place - from + 1 = omega arith in
     let at_place : from + (place - from) ≡ place = omega arith in
-    let bit : get_or (drop from flag) (place - from) false ≡ b = get_or-drop from flag (place - from) false ∙ ap (λ i. get_or flag i false) at_place ∙ sym e in
+    let bit : get_or (drop from flag) (place - from) false ≡ b =
+    get_or-drop from flag (place - from) false ∙ ap (λ i. get_or flag i false) at_place ∙ sym e in
     rw (n, sym bit) (take_more (drop from flag) (place - from) false (omega (arith, length-drop from flag)))
 
 pub flag-all : (from : ℕ) → take (8 - from) (drop from flag) ≡ drop from flag

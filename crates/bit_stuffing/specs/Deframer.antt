@@ -75,8 +75,11 @@ pub record IsQuiet (past bits : List Bool) : Type 0 where
 
 -- Behind so many ones fewer than five, given as how many may still follow, no zero is due within an octet's bits or behind them.
 abbrev pub is_plain : ℕ → ℕ → Bool
-is_plain room octet = not (nat_eq (octet % 2 ^ room) (2 ^ room - 1)) && (not (nat_eq (octet / 2 % 32) 31) && (not (nat_eq (octet / 4 % 32) 31) && not (nat_eq (octet / 8) 31)))
+is_plain room octet =
+    not (nat_eq (octet % 2 ^ room) (2 ^ room - 1)) &&
+    (not (nat_eq (octet / 2 % 32) 31) && (not (nat_eq (octet / 4 % 32) 31) && not (nat_eq (octet / 8) 31)))
 
 -- how many ones may still follow such an octet before a zero has to
 abbrev pub room_behind_octet : ℕ → ℕ
-room_behind_octet octet = if nat_lt octet 128 then 5 else (if nat_lt octet 192 then 4 else (if nat_lt octet 224 then 3 else (if nat_lt octet 240 then 2 else 1)))
+room_behind_octet octet =
+    if nat_lt octet 128 then 5 else (if nat_lt octet 192 then 4 else (if nat_lt octet 224 then 3 else (if nat_lt octet 240 then 2 else 1)))

@@ -6,7 +6,8 @@ use Rattle.std.specs.Prelude.{◌≡◌, ℕ, zero, suc, ◌<◌, Bool, true, fa
 pub data StuffsFrom : ℕ → List Bool → List Bool → Type 0 where
   End : {ones : ℕ} → ones < 5 → StuffsFrom ones [] []
   Inserted : {content line : List Bool} → StuffsFrom 0 content line → StuffsFrom 5 content (false ∷ line)
-  One : {ones : ℕ} {content line : List Bool} → ones < 5 → StuffsFrom (suc ones) content line → StuffsFrom ones (true ∷ content) (true ∷ line)
+  One : {ones : ℕ} {content line : List Bool} → ones < 5 → StuffsFrom (suc ones) content line
+      → StuffsFrom ones (true ∷ content) (true ∷ line)
   Zero : {ones : ℕ} {content line : List Bool} → ones < 5 → StuffsFrom 0 content line → StuffsFrom ones (false ∷ content) (false ∷ line)
 
 -- the line's bits carry the content

@@ -67,7 +67,8 @@ with_given None lengths = lengths
 with_given (Some length_octet) lengths = lengths ++ length_octet ∷ []
 
 abbrev pub after_break : ℕ → ℕ → TheirBreaks → TheirBreaks
-after_break number length_octet b = record { lengths = with_given (gives number length_octet b) b.lengths; ack = Some (Ack number length_octet) }
+after_break number length_octet b =
+    record { lengths = with_given (gives number length_octet b) b.lengths; ack = Some (Ack number length_octet) }
 
 -- sent (due is ack)
 abbrev pub after_ack : TheirBreaks → TheirBreaks

@@ -27,12 +27,15 @@ same-bits (true ∷ xs) (false ∷ ys) e = absurd (false≢true e)
 same-bits (false ∷ xs) (true ∷ ys) e = absurd (false≢true e)
 
 ends-text : (bits text : List Bool) → ends_with beq bits text ≡ true → bits ≡ take (length bits - length text) bits ++ text
-ends-text bits text e = sym (take-append-drop (length bits - length text) bits) ∙ ap (λ l. take (length bits - length text) bits ++ l) (sym (same-bits text (drop (length bits - length text) bits) e))
+ends-text bits text e =
+    sym (take-append-drop (length bits - length text) bits)
+    ∙ ap (λ l. take (length bits - length text) bits ++ l) (sym (same-bits text (drop (length bits - length text) bits) e))
 
 pub text-ends : (bits before text : List Bool) → bits ≡ before ++ text → ends_with beq bits text ≡ true
 text-ends bits before text e =
     let front : length before ≡ length bits - length text = omega (arith, ap length e, length-append {A = Bool} before text) in
-    let rest : drop (length bits - length text) bits ≡ text = ap (drop (length bits - length text)) e ∙ drop_at before text (length bits - length text) front in
+    let rest : drop (length bits - length text) bits ≡ text =
+    ap (drop (length bits - length text)) e ∙ drop_at before text (length bits - length text) front in
     ap (pointwise beq text) rest ∙ bits-same text
 
 -- a test of some numbers
@@ -63,10 +66,12 @@ below-at (suc n) test i h e = elim (cases_lt i n) [
 ]
 
 gap-found : (test : ℕ → Bool) → some_gap test ≡ true → (gap : ℕ) × IsGap gap × (test gap ≡ true)
-gap-found test e = let r = below-found 10 (λ more. test (8 + more)) e in (8 + r.0, record { low = omega arith; high = omega (arith, r.1) }, r.2)
+gap-found test e = let r = below-found 10 (λ more. test (8 + more)) e in
+    (8 + r.0, record { low = omega arith; high = omega (arith, r.1) }, r.2)
 
 gap-at : (test : ℕ → Bool) (gap : ℕ) → IsGap gap → test gap ≡ true → some_gap test ≡ true
-gap-at test gap g e = let place : 8 + (gap - 8) ≡ gap = omega (arith, g.low) in below-at 10 (λ more. test (8 + more)) (gap - 8) (omega (arith, g.low, g.high)) (ap test place ∙ e)
+gap-at test gap g e = let place : 8 + (gap - 8) ≡ gap = omega (arith, g.low) in
+    below-at 10 (λ more. test (8 + more)) (gap - 8) (omega (arith, g.low, g.high)) (ap test place ∙ e)
 
 -- the test of a pattern
 
@@ -112,7 +117,8 @@ pub seen-is : (bits : List Bool) → IsSeen bits (seen_at bits)
 unfolding seen_at
 seen-is bits = each (ends_pattern Odp bits) (ends_pattern Adp bits) refl refl
   where
-    each : (o a : Bool) → ends_pattern Odp bits ≡ o → ends_pattern Adp bits ≡ a → IsSeen bits (if o then Some Odp else (if a then Some Adp else None))
+    each : (o a : Bool) → ends_pattern Odp bits ≡ o → ends_pattern Adp bits ≡ a
+        → IsSeen bits (if o then Some Odp else (if a then Some Adp else None))
     each true a x y = test-pattern Odp bits x
     each false true x y = test-pattern Adp bits y
     each false false x y = none

@@ -44,7 +44,11 @@ pub no_eight : (front bits : List Bool) → Calm (front ++ (ones 8 ++ bits)) 6 �
 no_eight front bits c = eight bits 6 (omega arith) (calm-behind front (ones 8 ++ bits) 6 (omega arith) c)
 
 pub no_eight-at : (bits : List Bool) (q : ℕ) → Calm bits 6 → q + 8 ≤ length bits → ((i : ℕ) → i < 8 → get_or bits (q + i) false ≡ true) → ⊥
-no_eight-at bits q c fits set = no_eight (take q bits) (drop 8 (drop q bits)) (subst (λ l. Calm l 6) (sym (take-append-drop q bits) ∙ ap (λ l. take q bits ++ l) (sym (take-append-drop 8 (drop q bits)) ∙ ap (λ l. l ++ drop 8 (drop q bits)) all)) c)
+no_eight-at bits q c fits set =
+    no_eight (take q bits) (drop 8 (drop q bits))
+    (subst (λ l. Calm l 6)
+    (sym (take-append-drop q bits)
+    ∙ ap (λ l. take q bits ++ l) (sym (take-append-drop 8 (drop q bits)) ∙ ap (λ l. l ++ drop 8 (drop q bits)) all)) c)
   where
     room : length (take 8 (drop q bits)) ≡ 8
     room = length-take-le 8 (drop q bits) (omega (arith, fits, length-drop q bits))
@@ -53,7 +57,8 @@ no_eight-at bits q c fits set = no_eight (take q bits) (drop 8 (drop q bits)) (s
     all = same_lists (take 8 (drop q bits)) (ones 8) room (λ i d l.
         let near : i < 8 = omega (arith, l, room) in
         let within : q + i < length bits = omega (arith, fits) in
-        get_or-take 8 (drop q bits) i d near ∙ get_or-drop q bits i d ∙ get_or_default bits (q + i) d false within ∙ set i near ∙ sym (get_or-replicate 8 i true d near))
+        get_or-take 8 (drop q bits) i d near ∙ get_or-drop q bits i d ∙ get_or_default bits (q + i) d false within ∙ set i near
+        ∙ sym (get_or-replicate 8 i true d near))
 
 -- flags
 calm-flags : (count : ℕ) (bits : List Bool) → Calm bits 6 → Calm (flags count ++ bits) 6
@@ -92,22 +97,29 @@ calm-framed (Some octets) n =
 
 -- a flag slot, with the sent bits of an unfinished flag before it
 
-slot-right : (phase n : ℕ) (frame : Option (List ℕ)) → opening phase frame ++ fill n ≡ rest_of_flag phase ++ (flags 4 ++ (framed frame ++ fill n))
+slot-right : (phase n : ℕ) (frame : Option (List ℕ))
+    → opening phase frame ++ fill n ≡ rest_of_flag phase ++ (flags 4 ++ (framed frame ++ fill n))
 slot-right phase n frame = split (rest_of_flag phase) (flags 4) (framed frame) (fill n)
   where
     split : (a b c d : List Bool) → ((a ++ b) ++ c) ++ d ≡ a ++ (b ++ (c ++ d))
     split a b c d = append_assoc (a ++ b) c d ∙ append_assoc a b (c ++ d)
 
-pub slot-begins : (size phase : ℕ) (frame : Option (List ℕ)) → (rest : List Bool) × (take phase flag ++ slot_bits size phase (Flags frame) ≡ false ∷ rest)
+pub slot-begins : (size phase : ℕ) (frame : Option (List ℕ))
+    → (rest : List Bool) × (take phase flag ++ slot_bits size phase (Flags frame) ≡ false ∷ rest)
 slot-begins size zero frame = (drop 1 (slot_bits size 0 (Flags frame)), refl)
-slot-begins size (suc phase) frame = (take phase (true ∷ true ∷ true ∷ true ∷ true ∷ true ∷ false ∷ []) ++ slot_bits size (suc phase) (Flags frame), refl)
+slot-begins size (suc phase) frame =
+    (take phase (true ∷ true ∷ true ∷ true ∷ true ∷ true ∷ false ∷ []) ++ slot_bits size (suc phase) (Flags frame), refl)
 
 pub slot-calm : (size phase : ℕ) (frame : Option (List ℕ)) → Calm (take phase flag ++ slot_bits size phase (Flags frame)) 6
-slot-calm size phase frame = subst (λ l. Calm (take phase flag ++ l) 6) (sym (slot-right phase (size - length (opening phase frame)) frame)) (each phase (size - length (opening phase frame)))
+slot-calm size phase frame =
+    subst (λ l. Calm (take phase flag ++ l) 6) (sym (slot-right phase (size - length (opening phase frame)) frame))
+    (each phase (size - length (opening phase frame)))
   where
     each : (phase n : ℕ) → Calm (take phase flag ++ (rest_of_flag phase ++ (flags 4 ++ (framed frame ++ fill n)))) 6
     each zero n = calm-framed frame n
     each (suc phase) n =
         let tail : List Bool = flags 4 ++ (framed frame ++ fill n) in
-        let joined : flag ++ tail ≡ take (suc phase) flag ++ (drop (suc phase) flag ++ tail) = ap (λ l. l ++ tail) (sym (take-append-drop (suc phase) flag)) ∙ append_assoc (take (suc phase) flag) (drop (suc phase) flag) tail in
+        let joined : flag ++ tail ≡ take (suc phase) flag ++ (drop (suc phase) flag ++ tail) =
+        ap (λ l. l ++ tail) (sym (take-append-drop (suc phase) flag))
+        ∙ append_assoc (take (suc phase) flag) (drop (suc phase) flag) tail in
         subst (λ l. Calm l 6) joined (calm-framed frame n)

@@ -47,7 +47,8 @@ at_each (suc n) test e i l = elim (cases_lt i n) [
 
 -- Where the bits of a pattern slot end with a second character and eight ones, some bits from its start, a pattern ends, if it is not too near the start.
 abbrev pub place_test : Seen → Seen → ℕ → Bool
-place_test kind seen p = not (ends_with beq (take p (patterns 10 kind ++ ones 8)) (second seen ++ ones 8)) || (nat_lt p 68 || (is_end p && same_kind kind seen))
+place_test kind seen p =
+    not (ends_with beq (take p (patterns 10 kind ++ ones 8)) (second seen ++ ones 8)) || (nat_lt p 68 || (is_end p && same_kind kind seen))
 
 all_places : (kind seen : Seen) → each_below 368 (place_test kind seen) ≡ true
 all_places Odp Odp = refl
@@ -62,7 +63,13 @@ ten_long Odp = refl
 ten_long Adp = refl
 
 pub length-pattern_bits : (size : ℕ) (kind : Seen) → 360 ≤ size → length (pattern_bits size kind) ≡ size
-length-pattern_bits size kind h = omega (arith, ten_long kind, length-append {A = Bool} (patterns 10 kind) (ones (size - 360)), length-replicate {A = Bool} (size - 360) true)
+length-pattern_bits size kind h =
+    omega (
+      arith,
+      ten_long kind,
+      length-append {A = Bool} (patterns 10 kind) (ones (size - 360)),
+      length-replicate {A = Bool} (size - 360) true,
+    )
 
 ten-split : (kind : Seen) → patterns 10 kind ≡ take 351 (patterns 10 kind) ++ ones 9
 ten-split Odp = refl
@@ -73,8 +80,11 @@ last-ones : (size : ℕ) (kind : Seen) (i : ℕ) → 360 ≤ size → 351 ≤ i 
 last-ones size kind i long low high =
     let front : List Bool = take 351 (patterns 10 kind) in
     let joined : pattern_bits size kind ≡ front ++ ones (9 + (size - 360)) =
-    ap (λ l. l ++ ones (size - 360)) (ten-split kind) ∙ append_assoc front (ones 9) (ones (size - 360)) ∙ ap (λ l. front ++ l) (ones-append 9 (size - 360)) in
-    ap (λ l. get_or l i false) joined ∙ get_or-append_right front (ones (9 + (size - 360))) 351 i false (length-take-le 351 (patterns 10 kind) (omega (arith, ten_long kind))) low
+    ap (λ l. l ++ ones (size - 360)) (ten-split kind) ∙ append_assoc front (ones 9) (ones (size - 360))
+    ∙ ap (λ l. front ++ l) (ones-append 9 (size - 360)) in
+    ap (λ l. get_or l i false) joined
+    ∙ get_or-append_right front (ones (9 + (size - 360))) 351 i false
+    (length-take-le 351 (patterns 10 kind) (omega (arith, ten_long kind))) low
     ∙ get_or-replicate (9 + (size - 360)) (i - 351) true false (omega arith)
 
 -- the first of them
@@ -82,8 +92,10 @@ first-part : (size : ℕ) (kind : Seen) (p : ℕ) → 368 ≤ size → p ≤ 368
 first-part size kind p long h =
     let count : 8 + (size - 368) ≡ size - 360 = omega arith in
     let joined : pattern_bits size kind ≡ (patterns 10 kind ++ ones 8) ++ ones (size - 368) =
-    ap (λ l. patterns 10 kind ++ l) (ap ones (sym count) ∙ sym (ones-append 8 (size - 368))) ∙ sym (append_assoc (patterns 10 kind) (ones 8) (ones (size - 368))) in
-    ap (take p) joined ∙ take-append-le p (patterns 10 kind ++ ones 8) (ones (size - 368)) (omega (arith, ten_long kind, length-append {A = Bool} (patterns 10 kind) (ones 8)))
+    ap (λ l. patterns 10 kind ++ l) (ap ones (sym count) ∙ sym (ones-append 8 (size - 368)))
+    ∙ sym (append_assoc (patterns 10 kind) (ones 8) (ones (size - 368))) in
+    ap (take p) joined ∙ take-append-le p (patterns 10 kind ++ ones 8) (ones (size - 368))
+    (omega (arith, ten_long kind, length-append {A = Bool} (patterns 10 kind) (ones 8)))
 
 -- a pattern that ends in them is the slot's, and ends at one of its places
 
@@ -108,36 +120,63 @@ not_below m n h = grind (arith, nat_tests)
 below_of : (m n : ℕ) → nat_lt m n ≡ true → m < n
 below_of m n e = grind (arith, nat_tests)
 
-pub placed : (size : ℕ) (kind seen : Seen) (p : ℕ) → 552 < size → p ≤ size → EndsPattern seen (take p (pattern_bits size kind)) → (is_end p ≡ true) × (kind ≡ seen)
+pub placed : (size : ℕ) (kind seen : Seen) (p : ℕ) → 552 < size → p ≤ size → EndsPattern seen (take p (pattern_bits size kind))
+    → (is_end p ≡ true) × (kind ≡ seen)
 placed size kind seen p long high x = elim (cases_lt p 368) [ inl early ↦ in_patterns early | inr late ↦ absurd (behind late) ]
   where
     wide : length (take p (pattern_bits size kind)) ≡ p
     wide = length-take-le p (pattern_bits size kind) (omega (arith, high, length-pattern_bits size kind (omega arith)))
 
     many : 68 ≤ p
-    many = omega (arith, wide, ap length x.ends, length-append {A = Bool} x.before (twice seen x.a x.b x.e), length-twice seen x.a x.b x.e, x.a_gap.low, x.b_gap.low, x.e_gap.low)
+    many = omega (
+      arith,
+      wide,
+      ap length x.ends,
+      length-append {A = Bool} x.before (twice seen x.a x.b x.e),
+      length-twice seen x.a x.b x.e,
+      x.a_gap.low,
+      x.b_gap.low,
+      x.e_gap.low,
+    )
 
     split : take p (pattern_bits size kind) ≡ (x.before ++ before_last seen x.a x.b x.e) ++ (second seen ++ ones 8)
-    split = x.ends ∙ ap (λ l. x.before ++ l) (twice-back seen x.a x.b x.e) ∙ sym (append_assoc x.before (before_last seen x.a x.b x.e) (second seen ++ ones 8))
+    split = x.ends ∙ ap (λ l. x.before ++ l) (twice-back seen x.a x.b x.e)
+        ∙ sym (append_assoc x.before (before_last seen x.a x.b x.e) (second seen ++ ones 8))
 
     in_patterns : p < 368 → (is_end p ≡ true) × (kind ≡ seen)
     in_patterns early =
-        let ends = text-ends (take p (patterns 10 kind ++ ones 8)) (x.before ++ before_last seen x.a x.b x.e) (second seen ++ ones 8) (sym (first-part size kind p (omega arith) (omega arith)) ∙ split) in
-        let r = both (is_end p) (same_kind kind seen) (rest_of (ends_with beq (take p (patterns 10 kind ++ ones 8)) (second seen ++ ones 8)) (nat_lt p 68) (is_end p && same_kind kind seen) (at_each 368 (place_test kind seen) (all_places kind seen) p early) ends (not_below p 68 many)) in
+        let ends = text-ends (take p (patterns 10 kind ++ ones 8)) (x.before ++ before_last seen x.a x.b x.e) (second seen ++ ones 8)
+        (sym (first-part size kind p (omega arith) (omega arith)) ∙ split) in
+        let r = both (is_end p) (same_kind kind seen)
+        (rest_of (ends_with beq (take p (patterns 10 kind ++ ones 8)) (second seen ++ ones 8)) (nat_lt p 68)
+        (is_end p && same_kind kind seen) (at_each 368 (place_test kind seen) (all_places kind seen) p early) ends
+        (not_below p 68 many)) in
         (r.0, kinds kind seen r.1)
 
     behind : 368 ≤ p → ⊥
     behind late =
         let front : List Bool = x.before ++ before_last seen x.a x.b x.e in
-        let place : length front + 0 ≡ p - 17 = omega (arith, wide, ap length split, length-append {A = Bool} front (second seen ++ ones 8), length-append {A = Bool} (second seen) (ones 8), length-second seen) in
+        let place : length front + 0 ≡ p - 17 =
+        omega (
+          arith,
+          wide,
+          ap length split,
+          length-append {A = Bool} front (second seen ++ ones 8),
+          length-append {A = Bool} (second seen) (ones 8),
+          length-second seen,
+        ) in
         let zero_there : get_or (take p (pattern_bits size kind)) (p - 17) false ≡ false =
-        ap (λ l. get_or l (p - 17) false) split ∙ ap (λ i. get_or (front ++ (second seen ++ ones 8)) i false) (sym place) ∙ get_or-append-add front (second seen ++ ones 8) 0 false ∙ second-zero seen in
-        let one_there : get_or (take p (pattern_bits size kind)) (p - 17) false ≡ true = get_or-take p (pattern_bits size kind) (p - 17) false (omega arith) ∙ last-ones size kind (p - 17) (omega arith) (omega arith) (omega arith) in
+        ap (λ l. get_or l (p - 17) false) split ∙ ap (λ i. get_or (front ++ (second seen ++ ones 8)) i false) (sym place)
+        ∙ get_or-append-add front (second seen ++ ones 8) 0 false ∙ second-zero seen in
+        let one_there : get_or (take p (pattern_bits size kind)) (p - 17) false ≡ true =
+        get_or-take p (pattern_bits size kind) (p - 17) false (omega arith)
+        ∙ last-ones size kind (p - 17) (omega arith) (omega arith) (omega arith) in
         false≢true (sym zero_there ∙ one_there)
 
 -- and its pattern ends at each of them
 
-exact_test : (kind : Seen) → each_below 9 (λ k. pointwise beq (take (71 + 36 * k) (patterns 10 kind)) (patterns k kind ++ twice kind 9 9 9)) ≡ true
+exact_test : (kind : Seen)
+    → each_below 9 (λ k. pointwise beq (take (71 + 36 * k) (patterns 10 kind)) (patterns k kind ++ twice kind 9 9 9)) ≡ true
 exact_test Odp = refl
 exact_test Adp = refl
 
@@ -151,7 +190,8 @@ ends-there size kind k low = record { before = patterns k kind; a = 9; b = 9; e 
     ends =
         take-append-le (71 + 36 * k) (patterns 10 kind) (ones (size - 360)) (omega (arith, ten_long kind))
         ∙ same-bits (take (71 + 36 * k) (patterns 10 kind)) (patterns k kind ++ twice kind 9 9 9)
-        (at_each 9 (λ k. pointwise beq (take (71 + 36 * k) (patterns 10 kind)) (patterns k kind ++ twice kind 9 9 9)) (exact_test kind) k low)
+        (at_each 9 (λ k. pointwise beq (take (71 + 36 * k) (patterns 10 kind)) (patterns k kind ++ twice kind 9 9 9))
+        (exact_test kind) k low)
 
 pub end-place : (p : ℕ) → is_end p ≡ true → (k : ℕ) × (k < 9) × (p ≡ 71 + 36 * k)
 end-place p e =

@@ -37,26 +37,44 @@ leading-second Odp rest = refl
 leading-second Adp rest = refl
 
 -- a character can be read in one way only
-character-once : (character : List Bool) (inner most most_other : ℕ) (recent rest other : List Bool) → ((l : List Bool) → leading (character ++ l) ≡ inner)
-    → (x : EndsCharacter character most recent rest) (y : EndsCharacter character most_other recent other) → (x.gap ≡ y.gap) × (rest ≡ other)
-character-once character inner most most_other recent rest other lead x y = (gaps, append_cancel_left character rest other (append_cancel_left (ones x.gap) (character ++ rest) (character ++ other) same))
+character-once : (character : List Bool) (inner most most_other : ℕ) (recent rest other : List Bool)
+    → ((l : List Bool) → leading (character ++ l) ≡ inner)
+    → (x : EndsCharacter character most recent rest) (y : EndsCharacter character most_other recent other)
+    → (x.gap ≡ y.gap) × (rest ≡ other)
+character-once character inner most most_other recent rest other lead x y =
+    (gaps, append_cancel_left character rest other (append_cancel_left (ones x.gap) (character ++ rest) (character ++ other) same))
   where
     gaps : x.gap ≡ y.gap
-    gaps = omega (arith, ap leading (sym x.ends ∙ y.ends), leading-ones x.gap (character ++ rest), leading-ones y.gap (character ++ other), lead rest, lead other)
+    gaps = omega (
+      arith,
+      ap leading (sym x.ends ∙ y.ends),
+      leading-ones x.gap (character ++ rest),
+      leading-ones y.gap (character ++ other),
+      lead rest,
+      lead other,
+    )
 
     same : ones x.gap ++ (character ++ rest) ≡ ones x.gap ++ (character ++ other)
     same = sym x.ends ∙ y.ends ∙ ap (λ g. ones g ++ (character ++ other)) (sym gaps)
 
-pub second-once : (seen : Seen) (most most_other : ℕ) (recent rest other : List Bool) (x : EndsCharacter (reverse (second seen)) most recent rest) (y : EndsCharacter (reverse (second seen)) most_other recent other) → (x.gap ≡ y.gap) × (rest ≡ other)
-second-once seen most most_other recent rest other x y = character-once (reverse (second seen)) (inner_second seen) most most_other recent rest other (leading-second seen) x y
+pub second-once : (seen : Seen) (most most_other : ℕ) (recent rest other : List Bool)
+    (x : EndsCharacter (reverse (second seen)) most recent rest) (y : EndsCharacter (reverse (second seen)) most_other recent other)
+    → (x.gap ≡ y.gap) × (rest ≡ other)
+second-once seen most most_other recent rest other x y =
+    character-once (reverse (second seen)) (inner_second seen) most most_other recent rest other (leading-second seen) x y
 
-pub first-once : (seen : Seen) (most most_other : ℕ) (recent rest other : List Bool) (x : EndsCharacter (reverse (first seen)) most recent rest) (y : EndsCharacter (reverse (first seen)) most_other recent other) → (x.gap ≡ y.gap) × (rest ≡ other)
-first-once seen most most_other recent rest other x y = character-once (reverse (first seen)) (inner_first seen) most most_other recent rest other (leading-first seen) x y
+pub first-once : (seen : Seen) (most most_other : ℕ) (recent rest other : List Bool)
+    (x : EndsCharacter (reverse (first seen)) most recent rest) (y : EndsCharacter (reverse (first seen)) most_other recent other)
+    → (x.gap ≡ y.gap) × (rest ≡ other)
+first-once seen most most_other recent rest other x y =
+    character-once (reverse (first seen)) (inner_first seen) most most_other recent rest other (leading-first seen) x y
 
-pub pattern-once : (seen : Seen) (most : ℕ) (recent rest other : List Bool) → EndsOnce seen most recent rest → EndsOnce seen most recent other → rest ≡ other
+pub pattern-once : (seen : Seen) (most : ℕ) (recent rest other : List Bool) → EndsOnce seen most recent rest
+    → EndsOnce seen most recent other → rest ≡ other
 pattern-once seen most recent rest other x y =
     let middle = second-once seen most most recent x.middle y.middle x.later y.later in
-    (first-once seen 17 17 x.middle rest other x.earlier (subst (λ m. EndsCharacter (reverse (first seen)) 17 m other) (sym middle.1) y.earlier)).1
+    (first-once seen 17 17 x.middle rest other x.earlier
+    (subst (λ m. EndsCharacter (reverse (first seen)) 17 m other) (sym middle.1) y.earlier)).1
 
 -- two whole patterns from their end
 
@@ -68,21 +86,27 @@ reverse-ones (suc n) =
 
 abbrev pub backwards : Seen → ℕ → ℕ → ℕ → List Bool → List Bool
 backwards seen a b e rest =
-    ones 8 ++ (reverse (second seen) ++ (ones e ++ (reverse (first seen) ++ (ones b ++ (reverse (second seen) ++ (ones a ++ (reverse (first seen) ++ rest)))))))
+    ones 8 ++ (reverse (second seen)
+    ++ (ones e ++ (reverse (first seen) ++ (ones b ++ (reverse (second seen) ++ (ones a ++ (reverse (first seen) ++ rest)))))))
 
 reversed : (f n s m k t x : List Bool) → reverse (x ++ (((((((f ++ n) ++ s) ++ m) ++ f) ++ k) ++ s) ++ t))
     ≡ reverse t ++ (reverse s ++ (reverse k ++ (reverse f ++ (reverse m ++ (reverse s ++ (reverse n ++ (reverse f ++ reverse x)))))))
 reversed f n s m k t x = simp (reverse-append, append_assoc) refl
 
-pub reverse-twice : (seen : Seen) (a b e : ℕ) (before : List Bool) → reverse (before ++ twice seen a b e) ≡ backwards seen a b e (reverse before)
-reverse-twice seen a b e before = reversed (first seen) (ones a) (second seen) (ones b) (ones e) (ones 8) before ∙ rw (reverse-ones a, reverse-ones b, reverse-ones e) refl
+pub reverse-twice : (seen : Seen) (a b e : ℕ) (before : List Bool)
+    → reverse (before ++ twice seen a b e) ≡ backwards seen a b e (reverse before)
+reverse-twice seen a b e before =
+    reversed (first seen) (ones a) (second seen) (ones b) (ones e) (ones 8) before
+    ∙ rw (reverse-ones a, reverse-ones b, reverse-ones e) refl
 
-pub pattern-chain : (seen : Seen) (bits : List Bool) → EndsPattern seen bits → (middle : List Bool) × (rest : List Bool) × EndsOnce seen 8 (reverse bits) middle × EndsOnce seen 17 middle rest
+pub pattern-chain : (seen : Seen) (bits : List Bool) → EndsPattern seen bits
+    → (middle : List Bool) × (rest : List Bool) × EndsOnce seen 8 (reverse bits) middle × EndsOnce seen 17 middle rest
 pattern-chain seen bits p = (
   ones p.b ++ (reverse (second seen) ++ (ones p.a ++ (reverse (first seen) ++ reverse p.before))),
   reverse p.before,
   record {
-    middle = ones p.e ++ (reverse (first seen) ++ (ones p.b ++ (reverse (second seen) ++ (ones p.a ++ (reverse (first seen) ++ reverse p.before)))));
+    middle = ones p.e ++ (reverse (first seen)
+        ++ (ones p.b ++ (reverse (second seen) ++ (ones p.a ++ (reverse (first seen) ++ reverse p.before)))));
     later = record { gap = 8; low = omega arith; high = omega arith; ends = ap reverse p.ends ∙ reverse-twice seen p.a p.b p.e p.before };
     earlier = record { gap = p.e; low = p.e_gap.low; high = p.e_gap.high; ends = refl };
   },
@@ -93,7 +117,8 @@ pattern-chain seen bits p = (
   },
 )
 
-pub chain-pattern : (seen : Seen) (bits middle rest : List Bool) → EndsOnce seen 8 (reverse bits) middle → EndsOnce seen 17 middle rest → EndsPattern seen bits
+pub chain-pattern : (seen : Seen) (bits middle rest : List Bool) → EndsOnce seen 8 (reverse bits) middle → EndsOnce seen 17 middle rest
+    → EndsPattern seen bits
 chain-pattern seen bits middle rest x y = record {
   before = reverse rest;
   a = y.earlier.gap;
@@ -111,17 +136,22 @@ chain-pattern seen bits middle rest x y = record {
     all : reverse bits ≡ reverse (reverse rest ++ twice seen y.earlier.gap y.later.gap x.earlier.gap)
     all =
         x.later.ends ∙ ap (λ g. ones g ++ (reverse (second seen) ++ x.middle)) last
-        ∙ ap (λ l. ones 8 ++ (reverse (second seen) ++ l)) (x.earlier.ends ∙ ap (λ l. ones x.earlier.gap ++ (reverse (first seen) ++ l)) (y.later.ends ∙ ap (λ l. ones y.later.gap ++ (reverse (second seen) ++ l)) y.earlier.ends))
+        ∙ ap (λ l. ones 8 ++ (reverse (second seen) ++ l))
+        (x.earlier.ends ∙ ap (λ l. ones x.earlier.gap ++ (reverse (first seen) ++ l))
+        (y.later.ends ∙ ap (λ l. ones y.later.gap ++ (reverse (second seen) ++ l)) y.earlier.ends))
         ∙ ap (backwards seen y.earlier.gap y.later.gap x.earlier.gap) (sym (reverse-reverse rest))
         ∙ sym (reverse-twice seen y.earlier.gap y.later.gap x.earlier.gap (reverse rest))
 
 -- what the code answers
 
-pub none-once : (width : ℕ) (seen : Seen) (most : ℕ) (recent : List Bool) → LeftBehind width (reverse (second seen)) most recent None → LeftBehindOnce width seen most recent None
+pub none-once : (width : ℕ) (seen : Seen) (most : ℕ) (recent : List Bool) → LeftBehind width (reverse (second seen)) most recent None
+    → LeftBehindOnce width seen most recent None
 none-once width seen most recent h = λ rest x. h x.middle x.later
 
-pub some-once : (width : ℕ) (seen : Seen) (most left : ℕ) (recent : List Bool) (answer : Option ℕ) → most + 35 ≤ width → LeftBehind width (reverse (second seen)) most recent (Some left)
-    → ((wide : ℕ) (middle : List Bool) → 26 ≤ wide → Holds wide left middle → LeftBehind wide (reverse (first seen)) 17 middle answer) → LeftBehindOnce width seen most recent answer
+pub some-once : (width : ℕ) (seen : Seen) (most left : ℕ) (recent : List Bool) (answer : Option ℕ) → most + 35 ≤ width
+    → LeftBehind width (reverse (second seen)) most recent (Some left)
+    → ((wide : ℕ) (middle : List Bool) → 26 ≤ wide → Holds wide left middle → LeftBehind wide (reverse (first seen)) 17 middle answer)
+    → LeftBehindOnce width seen most recent answer
 some-once width seen most left recent None fits h g = λ rest x.
     let same = second-once seen most most recent h.0 x.middle h.1 x.later in
     g (width - (most + 9)) h.0 (omega arith) h.2 rest (subst (λ m. EndsCharacter (reverse (first seen)) 17 m rest) (sym same.1) x.earlier)
@@ -135,7 +165,8 @@ pub none-twice : (latest : ℕ) (seen : Seen) (bits : List Bool) → LeftBehindO
 none-twice latest seen bits h p = let c = pattern-chain seen bits p in h c.0 c.2
 
 pub some-twice : (seen : Seen) (left : ℕ) (bits : List Bool) (answer : Option ℕ) → LeftBehindOnce 128 seen 8 (reverse bits) (Some left)
-    → ((wide : ℕ) (middle : List Bool) → 52 ≤ wide → Holds wide left middle → LeftBehindOnce wide seen 17 middle answer) → (IsTrue (is_some answer) → EndsPattern seen bits) × (EndsPattern seen bits → IsTrue (is_some answer))
+    → ((wide : ℕ) (middle : List Bool) → 52 ≤ wide → Holds wide left middle → LeftBehindOnce wide seen 17 middle answer)
+    → (IsTrue (is_some answer) → EndsPattern seen bits) × (EndsPattern seen bits → IsTrue (is_some answer))
 some-twice seen left bits None h g = (
   λ t. absurd (false≢true t),
   λ p.
@@ -156,20 +187,27 @@ at_first seen gap rest = ones gap ++ (reverse (first seen) ++ rest)
 abbrev pub at_second : Seen → ℕ → List Bool → List Bool
 at_second seen gap rest = ones gap ++ (reverse (second seen) ++ rest)
 
-first-gap : (seen : Seen) (g h : ℕ) (rest other : List Bool) → IsGap g → IsGap h → at_first seen g rest ≡ at_first seen h other → (g ≡ h) × (rest ≡ other)
+first-gap : (seen : Seen) (g h : ℕ) (rest other : List Bool) → IsGap g → IsGap h → at_first seen g rest ≡ at_first seen h other
+    → (g ≡ h) × (rest ≡ other)
 first-gap seen g h rest other g_in h_in same =
-    first-once seen 17 17 (at_first seen g rest) rest other (record { gap = g; low = g_in.low; high = g_in.high; ends = refl }) (record { gap = h; low = h_in.low; high = h_in.high; ends = same })
+    first-once seen 17 17 (at_first seen g rest) rest other (record { gap = g; low = g_in.low; high = g_in.high; ends = refl })
+    (record { gap = h; low = h_in.low; high = h_in.high; ends = same })
 
-second-gap : (seen : Seen) (g h : ℕ) (rest other : List Bool) → IsGap g → IsGap h → at_second seen g rest ≡ at_second seen h other → (g ≡ h) × (rest ≡ other)
+second-gap : (seen : Seen) (g h : ℕ) (rest other : List Bool) → IsGap g → IsGap h → at_second seen g rest ≡ at_second seen h other
+    → (g ≡ h) × (rest ≡ other)
 second-gap seen g h rest other g_in h_in same =
-    second-once seen 17 17 (at_second seen g rest) rest other (record { gap = g; low = g_in.low; high = g_in.high; ends = refl }) (record { gap = h; low = h_in.low; high = h_in.high; ends = same })
+    second-once seen 17 17 (at_second seen g rest) rest other (record { gap = g; low = g_in.low; high = g_in.high; ends = refl })
+    (record { gap = h; low = h_in.low; high = h_in.high; ends = same })
 
 pub gaps-once : (seen : Seen) (bits : List Bool) (x y : EndsPattern seen bits) → (x.a ≡ y.a) × (x.b ≡ y.b) × (x.e ≡ y.e)
 gaps-once seen bits x y =
     let eight : IsGap 8 = record { low = lit≤ tt; high = lit≤ tt } in
     let same : backwards seen x.a x.b x.e (reverse x.before) ≡ backwards seen y.a y.b y.e (reverse y.before) =
     sym (reverse-twice seen x.a x.b x.e x.before) ∙ ap reverse (sym x.ends ∙ y.ends) ∙ reverse-twice seen y.a y.b y.e y.before in
-    let last = second-gap seen 8 8 (at_first seen x.e (at_second seen x.b (at_first seen x.a (reverse x.before)))) (at_first seen y.e (at_second seen y.b (at_first seen y.a (reverse y.before)))) eight eight same in
-    let third = first-gap seen x.e y.e (at_second seen x.b (at_first seen x.a (reverse x.before))) (at_second seen y.b (at_first seen y.a (reverse y.before))) x.e_gap y.e_gap last.1 in
-    let next = second-gap seen x.b y.b (at_first seen x.a (reverse x.before)) (at_first seen y.a (reverse y.before)) x.b_gap y.b_gap third.1 in
+    let last = second-gap seen 8 8 (at_first seen x.e (at_second seen x.b (at_first seen x.a (reverse x.before))))
+    (at_first seen y.e (at_second seen y.b (at_first seen y.a (reverse y.before)))) eight eight same in
+    let third = first-gap seen x.e y.e (at_second seen x.b (at_first seen x.a (reverse x.before)))
+    (at_second seen y.b (at_first seen y.a (reverse y.before))) x.e_gap y.e_gap last.1 in
+    let next = second-gap seen x.b y.b (at_first seen x.a (reverse x.before))
+    (at_first seen y.a (reverse y.before)) x.b_gap y.b_gap third.1 in
     let front = first-gap seen x.a y.a (reverse x.before) (reverse y.before) x.a_gap y.a_gap next.1 in (front.0, next.0, third.0)

@@ -41,10 +41,12 @@ ones_below n i fits h low = elim (cases_lt (n + 1) (2 ^ 128)) [
 pub ones_up_to : (n k : ℕ) → n < 2 ^ 128 → k < 128 → bit_at n k ≡ 0 → ((i : ℕ) → i < k → bit_at n i ≡ 1) → trailing_ones w128 n ≡ k
 ones_up_to n k fits low zero_at set = elim (cases_lt (n + 1) (2 ^ 128)) [
   | inl less ↦ same (bit_at-trailing_ones w128 n less)
-  | inr most ↦ let e : n ≡ 2 ^ 128 - 1 = omega arith in let one : bit_at n k ≡ 1 = ap (λ m. bit_at m k) e ∙ bit_at_ones 128 k low in absurd (omega (arith, one, zero_at))
+  | inr most ↦ let e : n ≡ 2 ^ 128 - 1 = omega arith in let one : bit_at n k ≡ 1 = ap (λ m. bit_at m k) e ∙ bit_at_ones 128 k low in
+      absurd (omega (arith, one, zero_at))
 ]
   where
-    same : (trailing_ones w128 n < 128) × (bit_at n (trailing_ones w128 n) ≡ 0) × ((i : ℕ) → i < trailing_ones w128 n → bit_at n i ≡ 1) → trailing_ones w128 n ≡ k
+    same : (trailing_ones w128 n < 128) × (bit_at n (trailing_ones w128 n) ≡ 0) × ((i : ℕ) → i < trailing_ones w128 n → bit_at n i ≡ 1)
+        → trailing_ones w128 n ≡ k
     same h = each (trailing_ones w128 n) h.1 h.2
       where
         each : (t : ℕ) → bit_at n t ≡ 0 → ((i : ℕ) → i < t → bit_at n i ≡ 1) → t ≡ k
@@ -62,7 +64,8 @@ module _ (character : List Bool) (nine : length character ≡ 9) (gap : ℕ) (re
   recent = ones gap ++ (character ++ rest)
 
   at_gap : (i : ℕ) → i < gap → get_or (ones gap ++ (character ++ rest)) i true ≡ true
-  at_gap i h = get_or_append_left (ones gap) (character ++ rest) true i (omega (arith, h, length-replicate {A = Bool} gap true)) ∙ get_or-replicate gap i true true h
+  at_gap i h = get_or_append_left (ones gap) (character ++ rest) true i (omega (arith, h, length-replicate {A = Bool} gap true))
+      ∙ get_or-replicate gap i true true h
 
   at_character : (i : ℕ) → i < 9 → get_or (ones gap ++ (character ++ rest)) (gap + i) true ≡ get_or character i true
   at_character i h =
@@ -96,7 +99,15 @@ split-character character recent gap nine start set spells = same_lists recent (
     ]
 
     long : length recent ≡ length (ones gap ++ (character ++ drop (gap + 9) recent))
-    long = omega (arith, room, nine, length-append {A = Bool} (ones gap) (character ++ drop (gap + 9) recent), length-append {A = Bool} character (drop (gap + 9) recent), length-replicate {A = Bool} gap true, length-drop (gap + 9) recent)
+    long = omega (
+      arith,
+      room,
+      nine,
+      length-append {A = Bool} (ones gap) (character ++ drop (gap + 9) recent),
+      length-append {A = Bool} character (drop (gap + 9) recent),
+      length-replicate {A = Bool} gap true,
+      length-drop (gap + 9) recent,
+    )
 
     each : (i : ℕ) → get_or recent i true ≡ get_or (ones gap ++ (character ++ drop (gap + 9) recent)) i true
     each i = elim (cases_lt i gap) [
@@ -104,20 +115,24 @@ split-character character recent gap nine start set spells = same_lists recent (
       | inr behind ↦ elim (cases_lt i (gap + 9)) [
         | inl here ↦
             let place : gap + (i - gap) ≡ i = omega arith in
-            ap (λ j. get_or recent j true) (sym place) ∙ spells (i - gap) (omega arith) ∙ sym (at_character character nine gap (drop (gap + 9) recent) (i - gap) (omega arith))
+            ap (λ j. get_or recent j true) (sym place) ∙ spells (i - gap) (omega arith)
+            ∙ sym (at_character character nine gap (drop (gap + 9) recent) (i - gap) (omega arith))
             ∙ ap (λ j. get_or (ones gap ++ (character ++ drop (gap + 9) recent)) j true) place
         | inr later ↦
             let place : gap + 9 + (i - (gap + 9)) ≡ i = omega arith in
-            ap (λ j. get_or recent j true) (sym place) ∙ sym (get_or-drop (gap + 9) recent (i - (gap + 9)) true) ∙ sym (at_rest character nine gap (drop (gap + 9) recent) (i - (gap + 9)))
+            ap (λ j. get_or recent j true) (sym place) ∙ sym (get_or-drop (gap + 9) recent (i - (gap + 9)) true)
+            ∙ sym (at_rest character nine gap (drop (gap + 9) recent) (i - (gap + 9)))
             ∙ ap (λ j. get_or (ones gap ++ (character ++ drop (gap + 9) recent)) j true) place
       ]
     ]
 
     same : (i : ℕ) (d : Bool) → i < length recent → get_or recent i d ≡ get_or (ones gap ++ (character ++ drop (gap + 9) recent)) i d
-    same i d h = get_or_default recent i d true h ∙ each i ∙ get_or_default (ones gap ++ (character ++ drop (gap + 9) recent)) i true d (omega (arith, h, long))
+    same i d h = get_or_default recent i d true h ∙ each i
+        ∙ get_or_default (ones gap ++ (character ++ drop (gap + 9) recent)) i true d (omega (arith, h, long))
 
 -- a number that has the bits behind these
-pub holds-behind : (width skipped latest : ℕ) (recent rest : List Bool) → skipped ≤ width → ((i : ℕ) → get_or recent (skipped + i) true ≡ get_or rest i true)
+pub holds-behind : (width skipped latest : ℕ) (recent rest : List Bool) → skipped ≤ width
+    → ((i : ℕ) → get_or recent (skipped + i) true ≡ get_or rest i true)
     → (room : ℕ) → room + skipped ≤ width → Holds width latest recent → Holds room (latest / 2 ^ skipped) rest
 holds-behind width skipped latest recent rest within follows room fits h = record { each = each }
   where
@@ -126,13 +141,15 @@ holds-behind width skipped latest recent rest within follows room fits h = recor
 
 -- the low bits of a number are those of its remainder
 bit_at-rem : (n k i : ℕ) → i < k → bit_at (n % 2 ^ k) i ≡ bit_at n i
-bit_at-rem n k i h = let e : n ≡ n / 2 ^ k * 2 ^ k + n % 2 ^ k = sym (shr_split n k) in sym (ap (λ x. bit_at x i) e ∙ bit_at_cat_low (n / 2 ^ k) k (n % 2 ^ k) i h)
+bit_at-rem n k i h = let e : n ≡ n / 2 ^ k * 2 ^ k + n % 2 ^ k = sym (shr_split n k) in
+    sym (ap (λ x. bit_at x i) e ∙ bit_at_cat_low (n / 2 ^ k) k (n % 2 ^ k) i h)
 
 bit_at-part : (n gap i : ℕ) → i < 9 → bit_at (n / 2 ^ gap % 512) i ≡ bit_at n (gap + i)
 bit_at-part n gap i h = bit_at-rem (n / 2 ^ gap) 9 i h ∙ ap (λ m. m % 2) (shr-shr n gap i)
 
 -- what the code reads, in the terms of the definition
-module _ (width latest character most : ℕ) (recent : List Bool) (start : character < 256) (few : most ≤ 17) (wide : most + 9 ≤ width) (fits : latest < 2 ^ 128) (h : Holds width latest recent) where
+module _ (width latest character most : ℕ) (recent : List Bool) (start : character < 256) (few : most ≤ 17) (wide : most + 9 ≤ width)
+    (fits : latest < 2 ^ 128) (h : Holds width latest recent) where
   nine : length (low_bits 9 character) ≡ 9
   nine = length-low_bits 9 character
 
@@ -143,7 +160,8 @@ module _ (width latest character most : ℕ) (recent : List Bool) (start : chara
   start_bit = same_number (get_or (low_bits 9 character) 8 true) false (sym (spelled 9 character 8 (omega arith)) ∙ no_start)
 
   -- the ones at the character's end, before its start bit
-  inner : (trailing_ones w128 character < 128) × (bit_at character (trailing_ones w128 character) ≡ 0) × ((i : ℕ) → i < trailing_ones w128 character → bit_at character i ≡ 1)
+  inner : (trailing_ones w128 character < 128) × (bit_at character (trailing_ones w128 character) ≡ 0)
+      × ((i : ℕ) → i < trailing_ones w128 character → bit_at character i ≡ 1)
   inner = bit_at-trailing_ones w128 character (omega arith)
 
   inner_few : trailing_ones w128 character ≤ 8
@@ -155,40 +173,55 @@ module _ (width latest character most : ℕ) (recent : List Bool) (start : chara
   -- a character that stands there is read
 
   in_gap : (rest : List Bool) (e : EndsCharacter (low_bits 9 character) most recent rest) (i : ℕ) → i < e.gap → bit_at latest i ≡ 1
-  in_gap rest e i l = h.each i (omega (arith, e.high)) ∙ ap (λ r. number (get_or r i true)) e.ends ∙ ap number (at_gap (low_bits 9 character) nine e.gap rest i l)
+  in_gap rest e i l = h.each i (omega (arith, e.high)) ∙ ap (λ r. number (get_or r i true)) e.ends
+      ∙ ap number (at_gap (low_bits 9 character) nine e.gap rest i l)
 
-  in_character : (rest : List Bool) (e : EndsCharacter (low_bits 9 character) most recent rest) (i : ℕ) → i < 9 → bit_at latest (e.gap + i) ≡ bit_at character i
+  in_character : (rest : List Bool) (e : EndsCharacter (low_bits 9 character) most recent rest) (i : ℕ) → i < 9
+      → bit_at latest (e.gap + i) ≡ bit_at character i
   in_character rest e i l =
-      h.each (e.gap + i) (omega (arith, e.high)) ∙ ap (λ r. number (get_or r (e.gap + i) true)) e.ends ∙ ap number (at_character (low_bits 9 character) nine e.gap rest i l) ∙ sym (spelled 9 character i l)
+      h.each (e.gap + i) (omega (arith, e.high)) ∙ ap (λ r. number (get_or r (e.gap + i) true)) e.ends
+      ∙ ap number (at_character (low_bits 9 character) nine e.gap rest i l) ∙ sym (spelled 9 character i l)
 
-  pub gap-read : (rest : List Bool) (e : EndsCharacter (low_bits 9 character) most recent rest) → trailing_ones w128 latest - trailing_ones w128 character ≡ e.gap
+  pub gap-read : (rest : List Bool) (e : EndsCharacter (low_bits 9 character) most recent rest)
+      → trailing_ones w128 latest - trailing_ones w128 character ≡ e.gap
   gap-read rest e = each (trailing_ones w128 character) inner.1 inner.2 inner_few
     where
       each : (t : ℕ) → bit_at character t ≡ 0 → ((i : ℕ) → i < t → bit_at character i ≡ 1) → t ≤ 8 → trailing_ones w128 latest - t ≡ e.gap
-      each t z o low = let all : trailing_ones w128 latest ≡ e.gap + t = ones_up_to latest (e.gap + t) fits (omega (arith, e.high)) (in_character rest e t (omega arith) ∙ z) set in omega (arith, all)
+      each t z o low = let all : trailing_ones w128 latest ≡ e.gap + t =
+          ones_up_to latest (e.gap + t) fits (omega (arith, e.high)) (in_character rest e t (omega arith) ∙ z) set in omega (arith, all)
         where
           set : (i : ℕ) → i < e.gap + t → bit_at latest i ≡ 1
           set i l = elim (cases_lt i e.gap) [
             | inl early ↦ in_gap rest e i early
-            | inr behind ↦ let place : e.gap + (i - e.gap) ≡ i = omega arith in ap (bit_at latest) (sym place) ∙ in_character rest e (i - e.gap) (omega arith) ∙ o (i - e.gap) (omega arith)
+            | inr behind ↦ let place : e.gap + (i - e.gap) ≡ i = omega arith in
+                ap (bit_at latest) (sym place) ∙ in_character rest e (i - e.gap) (omega arith) ∙ o (i - e.gap) (omega arith)
           ]
 
   pub character-read : (rest : List Bool) (e : EndsCharacter (low_bits 9 character) most recent rest) → latest / 2 ^ e.gap % 512 ≡ character
-  character-read rest e = same_from_bits_below 9 (latest / 2 ^ e.gap % 512) character (omega arith) (omega arith) (λ i l. bit_at-part latest e.gap i l ∙ in_character rest e i l)
+  character-read rest e =
+      same_from_bits_below 9 (latest / 2 ^ e.gap % 512) character (omega arith) (omega arith)
+      (λ i l. bit_at-part latest e.gap i l ∙ in_character rest e i l)
 
   -- what is read stands there, and the bits before it are left
-  left-holds : (gap : ℕ) (rest : List Bool) → gap ≤ most → recent ≡ ones gap ++ (low_bits 9 character ++ rest) → Holds (width - (most + 9)) (latest / 2 ^ gap / 512) rest
+  left-holds : (gap : ℕ) (rest : List Bool) → gap ≤ most → recent ≡ ones gap ++ (low_bits 9 character ++ rest)
+      → Holds (width - (most + 9)) (latest / 2 ^ gap / 512) rest
   left-holds gap rest high ends =
       let all : latest / 2 ^ gap / 512 ≡ latest / 2 ^ (gap + 9) = shr-shr latest gap 9 in
       subst (λ n. Holds (width - (most + 9)) n rest) (sym all)
-      (holds-behind width (gap + 9) latest recent rest (omega arith) (λ i. ap (λ r. get_or r (gap + 9 + i) true) ends ∙ at_rest (low_bits 9 character) nine gap rest i) (width - (most + 9)) (omega arith) h)
+      (holds-behind width (gap + 9) latest recent rest (omega arith)
+      (λ i. ap (λ r. get_or r (gap + 9 + i) true) ends ∙ at_rest (low_bits 9 character) nine gap rest i) (width - (most + 9))
+      (omega arith) h)
 
-  pub read-leaves : (gap : ℕ) → gap ≡ trailing_ones w128 latest - trailing_ones w128 character → 8 ≤ gap → gap ≤ most → latest / 2 ^ gap % 512 ≡ character
-      → (rest : List Bool) × EndsCharacter (low_bits 9 character) most recent rest × Holds (width - (most + 9)) (latest / 2 ^ gap / 512) rest
-  read-leaves gap e low high same = (drop (gap + 9) recent, record { gap = gap; low = low; high = high; ends = ends }, left-holds gap (drop (gap + 9) recent) high ends)
+  pub read-leaves : (gap : ℕ) → gap ≡ trailing_ones w128 latest - trailing_ones w128 character → 8 ≤ gap → gap ≤ most
+      → latest / 2 ^ gap % 512 ≡ character
+      → (rest : List Bool) × EndsCharacter (low_bits 9 character) most recent rest
+      × Holds (width - (most + 9)) (latest / 2 ^ gap / 512) rest
+  read-leaves gap e low high same =
+      (drop (gap + 9) recent, record { gap = gap; low = low; high = high; ends = ends }, left-holds gap (drop (gap + 9) recent) high ends)
     where
       set : (i : ℕ) → i < gap → get_or recent i true ≡ true
-      set i l = same_number (get_or recent i true) true (sym (h.each i (omega arith)) ∙ ones_below latest i fits (omega arith) (omega arith))
+      set i l = same_number (get_or recent i true) true
+          (sym (h.each i (omega arith)) ∙ ones_below latest i fits (omega arith) (omega arith))
 
       spells : (i : ℕ) → i < 9 → get_or recent (gap + i) true ≡ get_or (low_bits 9 character) i true
       spells i l = same_number (get_or recent (gap + i) true) (get_or (low_bits 9 character) i true)
@@ -204,8 +237,11 @@ shifted-is r n h =
     let e : r * 2 % 2 ^ 128 ≡ r % 2 ^ 127 * 2 ^ 1 = omega arith in
     ap (λ x. bit_or x n) e ∙ or_shifted (r % 2 ^ 127) 1 n h
 
-pub reader-shifted : (r n : ℕ) (past : List Bool) (bit : Bool) → n ≡ number bit → ReaderStands r past → ReaderStands (bit_or (r * 2 % 2 ^ 128) n) (past ++ bit ∷ [])
-reader-shifted r n past bit e h = subst (λ x. Holds 128 x (reverse (past ++ bit ∷ []))) (sym (shifted-is r n small)) (subst (Holds 128 (r % 2 ^ 127 * 2 + n)) (sym (reverse-append past (bit ∷ []))) record { each = each })
+pub reader-shifted : (r n : ℕ) (past : List Bool) (bit : Bool) → n ≡ number bit → ReaderStands r past
+    → ReaderStands (bit_or (r * 2 % 2 ^ 128) n) (past ++ bit ∷ [])
+reader-shifted r n past bit e h =
+    subst (λ x. Holds 128 x (reverse (past ++ bit ∷ []))) (sym (shifted-is r n small))
+    (subst (Holds 128 (r % 2 ^ 127 * 2 + n)) (sym (reverse-append past (bit ∷ []))) record { each = each })
   where
     small : n < 2
     small = rw e (number-lt bit)
@@ -214,7 +250,8 @@ reader-shifted r n past bit e h = subst (λ x. Holds 128 x (reverse (past ++ bit
     each zero l = let lowest : (r % 2 ^ 127 * 2 + n) % 2 ≡ n = omega (arith, small) in bit_at_lowest (r % 2 ^ 127 * 2 + n) ∙ lowest ∙ e
     each (suc place) l =
         let half : (r % 2 ^ 127 * 2 + n) / 2 ≡ r % 2 ^ 127 = omega (arith, small) in
-        bit_at-suc (r % 2 ^ 127 * 2 + n) place ∙ ap (λ x. bit_at x place) half ∙ bit_at-rem r 127 place (omega arith) ∙ h.each place (omega arith)
+        bit_at-suc (r % 2 ^ 127 * 2 + n) place ∙ ap (λ x. bit_at x place) half ∙ bit_at-rem r 127 place (omega arith)
+        ∙ h.each place (omega arith)
 
 -- before the first bit
 pub reader-starts : ReaderStands (2 ^ 128 - 1) []

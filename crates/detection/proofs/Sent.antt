@@ -19,18 +19,23 @@ use Rattle.detection.proofs.Inside.{is_end, own, placed, ends-there, end-place, 
 
 -- one more slot
 
-pub slot-added : (size : ℕ) (before : List Signal) (signal : Signal) → signal_bits size (before ++ signal ∷ []) ≡ signal_bits size before ++ slot_bits size (phase_after size (slots_of size before)) (slot_of size signal)
+pub slot-added : (size : ℕ) (before : List Signal) (signal : Signal)
+    → signal_bits size (before ++ signal ∷ []) ≡ signal_bits size before
+    ++ slot_bits size (phase_after size (slots_of size before)) (slot_of size signal)
 slot-added size before signal =
     ap (sent_bits size) (map-append (slot_of size) before (signal ∷ [])) ∙ bits-append size 0 (slots_of size before) (slot_of size signal)
 
 take-past : (past bits : List Bool) (p : ℕ) → take (length past + p) (past ++ bits) ≡ past ++ take p bits
 take-past [] bits p = let e : 0 + p ≡ p = omega arith in ap (λ n. take n bits) e
-take-past (b ∷ past) bits p = let e : length (b ∷ past) + p ≡ suc (length past + p) = omega arith in ap (λ n. take n (b ∷ (past ++ bits))) e ∙ ap (λ l. b ∷ l) (take-past past bits p)
+take-past (b ∷ past) bits p = let e : length (b ∷ past) + p ≡ suc (length past + p) = omega arith in
+    ap (λ n. take n (b ∷ (past ++ bits))) e ∙ ap (λ l. b ∷ l) (take-past past bits p)
 
-pub place-added : (size : ℕ) (before : List Signal) (signal : Signal) (p : ℕ) → take (length (signal_bits size before) + p) (signal_bits size (before ++ signal ∷ []))
+pub place-added : (size : ℕ) (before : List Signal) (signal : Signal) (p : ℕ)
+    → take (length (signal_bits size before) + p) (signal_bits size (before ++ signal ∷ []))
     ≡ signal_bits size before ++ take p (slot_bits size (phase_after size (slots_of size before)) (slot_of size signal))
 place-added size before signal p =
-    ap (take (length (signal_bits size before) + p)) (slot-added size before signal) ∙ take-past (signal_bits size before) (slot_bits size (phase_after size (slots_of size before)) (slot_of size signal)) p
+    ap (take (length (signal_bits size before) + p)) (slot-added size before signal)
+    ∙ take-past (signal_bits size before) (slot_bits size (phase_after size (slots_of size before)) (slot_of size signal)) p
 
 -- whatever came before
 behind-more : (past bits : List Bool) (seen : Seen) → EndsPattern seen bits → EndsPattern seen (past ++ bits)
@@ -46,7 +51,9 @@ behind-more past bits seen x = record {
 }
 
 pub found-first : (size : ℕ) (before : List Signal) (seen : Seen) → EndsInSlot size before (PatternSlot seen) seen 71
-found-first size before seen = subst (EndsPattern seen) (sym (place-added size before (PatternSlot seen) 71)) (behind-more (signal_bits size before) (take 71 (pattern_bits size seen)) seen (ends-there size seen 0 (omega arith)))
+found-first size before seen =
+    subst (EndsPattern seen) (sym (place-added size before (PatternSlot seen) 71))
+    (behind-more (signal_bits size before) (take 71 (pattern_bits size seen)) seen (ends-there size seen 0 (omega arith)))
 
 -- the answer at each place of a slot
 
@@ -55,25 +62,30 @@ own_of (PatternSlot kind) p = own kind p
 own_of MarkSlot p = None
 own_of (FlagSlot frame) p = None
 
-pub seen-in_slot : (size phase : ℕ) (past : List Bool) (signal : Signal) → 552 < size → Ended past phase → IsSlot size phase (slot_of size signal) → (p : ℕ) → 0 < p → p ≤ length (slot_bits size phase (slot_of size signal))
+pub seen-in_slot : (size phase : ℕ) (past : List Bool) (signal : Signal) → 552 < size → Ended past phase
+    → IsSlot size phase (slot_of size signal) → (p : ℕ) → 0 < p → p ≤ length (slot_bits size phase (slot_of size signal))
     → IsSeen (past ++ take p (slot_bits size phase (slot_of size signal))) (own_of signal p)
 seen-in_slot size phase past (FlagSlot frame) long h is p low high = λ seen x. none-in_flags size phase frame past h p low high seen x
-seen-in_slot size phase past MarkSlot long h is p low high = λ seen x. none-in_marks size phase past h p low (omega (arith, high, length-replicate {A = Bool} size true)) seen x
+seen-in_slot size phase past MarkSlot long h is p low high =
+    λ seen x. none-in_marks size phase past h p low (omega (arith, high, length-replicate {A = Bool} size true)) seen x
 seen-in_slot size phase past (PatternSlot kind) long h is p low high = each (is_end p) refl
   where
     each : (b : Bool) → is_end p ≡ b → IsSeen (past ++ take p (pattern_bits size kind)) (if b then Some kind else None)
     each true e =
         let k = end-place p e in
-        behind-more past (take p (pattern_bits size kind)) kind (subst (λ n. EndsPattern kind (take n (pattern_bits size kind))) (sym k.2) (ends-there size kind k.0 k.1))
+        behind-more past (take p (pattern_bits size kind)) kind
+        (subst (λ n. EndsPattern kind (take n (pattern_bits size kind))) (sym k.2) (ends-there size kind k.0 k.1))
     each false e = λ seen x.
         let inside = inside-patterns size phase kind past h p low high seen x in
         false≢true (sym e ∙ (placed size kind seen p long (omega (arith, high, length-pattern_bits size kind (omega arith))) inside).0)
 
 -- the slots before
 
-module _ (size : ℕ) (before : List Signal) (signal : Signal) (long : 552 < size) (are : AreSlots size 0 (slots_of size (before ++ signal ∷ []))) where
+module _ (size : ℕ) (before : List Signal) (signal : Signal) (long : 552 < size)
+    (are : AreSlots size 0 (slots_of size (before ++ signal ∷ []))) where
   parts : AreSlots size 0 (slots_of size before) × IsSlot size (phase_after size (slots_of size before)) (slot_of size signal)
-  parts = are-split size 0 (slots_of size before) (slot_of size signal) (subst (AreSlots size 0) (map-append (slot_of size) before (signal ∷ [])) are)
+  parts = are-split size 0 (slots_of size before) (slot_of size signal)
+      (subst (AreSlots size 0) (map-append (slot_of size) before (signal ∷ [])) are)
 
   ended : Ended (signal_bits size before) (phase_after size (slots_of size before))
   ended = ended-all size 0 [] before long parts.0 ended-start
@@ -84,10 +96,15 @@ module _ (size : ℕ) (before : List Signal) (signal : Signal) (long : 552 < siz
   wide : length (slot_bits size (phase_after size (slots_of size before)) (slot_of size signal)) ≡ size
   wide = length-slot_bits size (phase_after size (slots_of size before)) (slot_of size signal) parts.1
 
-  pub sent-only : (seen : Seen) (place : ℕ) → 0 < place → place ≤ size → EndsInSlot size before signal seen place → IsSent size signal seen place
-  sent-only seen place low high x = each signal (phase_after size (slots_of size before)) (signal_bits size before) ended (omega (arith, high, wide)) (subst (EndsPattern seen) (place-added size before signal place) x)
+  pub sent-only : (seen : Seen) (place : ℕ) → 0 < place → place ≤ size → EndsInSlot size before signal seen place
+      → IsSent size signal seen place
+  sent-only seen place low high x =
+      each signal (phase_after size (slots_of size before)) (signal_bits size before) ended (omega (arith, high, wide))
+      (subst (EndsPattern seen) (place-added size before signal place) x)
     where
-      each : (signal : Signal) (phase : ℕ) (past : List Bool) → Ended past phase → place ≤ length (slot_bits size phase (slot_of size signal)) → EndsPattern seen (past ++ take place (slot_bits size phase (slot_of size signal))) → IsSent size signal seen place
+      each : (signal : Signal) (phase : ℕ) (past : List Bool) → Ended past phase
+          → place ≤ length (slot_bits size phase (slot_of size signal))
+          → EndsPattern seen (past ++ take place (slot_bits size phase (slot_of size signal))) → IsSent size signal seen place
       each (FlagSlot frame) phase past h fits x = absurd (none-in_flags size phase frame past h place low fits seen x)
       each MarkSlot phase past h fits x = absurd (none-in_marks size phase past h place low high seen x)
       each (PatternSlot kind) phase past h fits x =
@@ -103,22 +120,26 @@ module _ (size : ℕ) (before : List Signal) (signal : Signal) (long : 552 < siz
       each MarkSlot = ranged-none (λ p. None) start size (λ p low high. refl)
       each (PatternSlot kind) = own-sights start size kind (omega arith)
 
-  pub seen-sent : sights_of (signal_bits size (before ++ signal ∷ [])) ≡ sights_of (signal_bits size before) ++ seen_in (length (signal_bits size before)) signal
+  pub seen-sent : sights_of (signal_bits size (before ++ signal ∷ [])) ≡ sights_of (signal_bits size before)
+      ++ seen_in (length (signal_bits size before)) signal
   seen-sent =
       let past : List Bool = signal_bits size before in
       ap sights_of (slot-added size before signal)
       ∙ sights-ranged past (slot_bits size (phase_after size (slots_of size before)) (slot_of size signal)) (own_of signal) (λ p low high.
       ap seen_at (take-past past (slot_bits size (phase_after size (slots_of size before)) (slot_of size signal)) p)
-      ∙ sym (seen-once (past ++ take p (slot_bits size (phase_after size (slots_of size before)) (slot_of size signal))) (own_of signal p) (seen-in_slot size (phase_after size (slots_of size before)) past signal long ended parts.1 p low high)))
+      ∙ sym (seen-once (past ++ take p (slot_bits size (phase_after size (slots_of size before)) (slot_of size signal))) (own_of signal p)
+      (seen-in_slot size (phase_after size (slots_of size before)) past signal long ended parts.1 p low high)))
       ∙ ap (λ n. sights_of past ++ ranged (own_of signal) (length past) n) wide
       ∙ ap (λ l. sights_of past ++ l) (own-all (length past))
 
 -- slots of any kinds
-pub can-follow : (size phase : ℕ) (signals : List Signal) → 552 < size → phase < 8 → All (CanCarry size) signals → AreSlots size phase (slots_of size signals)
+pub can-follow : (size phase : ℕ) (signals : List Signal) → 552 < size → phase < 8 → All (CanCarry size) signals
+    → AreSlots size phase (slots_of size signals)
 can-follow size phase [] long low all = tt
 can-follow size phase (signal ∷ signals) long low all = (
   fits signal (All-head (CanCarry size) signal signals all),
-  can-follow size (next_phase size phase (slot_of size signal)) signals long (next-low size phase (slot_of size signal)) (All-tail (CanCarry size) signal signals all),
+  can-follow size (next_phase size phase (slot_of size signal)) signals long (next-low size phase (slot_of size signal))
+      (All-tail (CanCarry size) signal signals all),
 )
   where
     fits : (signal : Signal) → CanCarry size signal → IsSlot size phase (slot_of size signal)

@@ -13,7 +13,8 @@ pub length-second : (seen : Seen) → length (second seen) ≡ 9
 length-second Odp = refl
 length-second Adp = refl
 
-length-eight : (f n s m k t : List Bool) → length (((((((f ++ n) ++ s) ++ m) ++ f) ++ k) ++ s) ++ t) ≡ 2 * length f + 2 * length s + length n + length m + length k + length t
+length-eight : (f n s m k t : List Bool)
+    → length (((((((f ++ n) ++ s) ++ m) ++ f) ++ k) ++ s) ++ t) ≡ 2 * length f + 2 * length s + length n + length m + length k + length t
 length-eight f n s m k t = omega (
   arith,
   length-append {A = Bool} ((((((f ++ n) ++ s) ++ m) ++ f) ++ k) ++ s) t,
@@ -38,7 +39,8 @@ length-twice seen a b e = omega (
 
 -- from the front
 
-front-right : (f n s m k t : List Bool) → ((((((f ++ n) ++ s) ++ m) ++ f) ++ k) ++ s) ++ t ≡ f ++ (n ++ (s ++ (m ++ (f ++ (k ++ (s ++ t))))))
+front-right : (f n s m k t : List Bool)
+    → ((((((f ++ n) ++ s) ++ m) ++ f) ++ k) ++ s) ++ t ≡ f ++ (n ++ (s ++ (m ++ (f ++ (k ++ (s ++ t))))))
 front-right f n s m k t = simp append_assoc refl
 
 abbrev pub behind_second : Seen → ℕ → ℕ → List Bool
@@ -102,11 +104,19 @@ tail-of e = ap (drop 1) e
 head-of : (x y : Bool) (xs ys : List Bool) → x ∷ xs ≡ y ∷ ys → x ≡ y
 head-of x y xs ys e = ap (λ l. get_or l 0 false) e
 
-pub split-ends : (past bits before text : List Bool) → past ++ bits ≡ before ++ text → Longer past bits before text ⊎ Over past bits before text
+pub split-ends : (past bits before text : List Bool) → past ++ bits ≡ before ++ text
+    → Longer past bits before text ⊎ Over past bits before text
 split-ends [] bits before text e = inl (record { more = before; bits_is = e })
 split-ends (x ∷ past) bits [] text e = inr (record { lead = x ∷ past; some = omega arith; text_is = sym e; past_is = refl })
 split-ends (x ∷ past) bits (y ∷ before) text e = each (split-ends past bits before text (tail-of e))
   where
-    each : Longer past bits before text ⊎ Over past bits before text → Longer (x ∷ past) bits (y ∷ before) text ⊎ Over (x ∷ past) bits (y ∷ before) text
+    each : Longer past bits before text ⊎ Over past bits before text
+        → Longer (x ∷ past) bits (y ∷ before) text ⊎ Over (x ∷ past) bits (y ∷ before) text
     each (inl l) = inl (record { more = l.more; bits_is = l.bits_is })
-    each (inr o) = inr (record { lead = o.lead; some = o.some; text_is = o.text_is; past_is = ap (λ l. x ∷ l) o.past_is ∙ ap (λ h. h ∷ (before ++ o.lead)) (head-of x y (past ++ bits) (before ++ text) e) })
+    each (inr o) = inr (record {
+      lead = o.lead;
+      some = o.some;
+      text_is = o.text_is;
+      past_is =
+          ap (λ l. x ∷ l) o.past_is ∙ ap (λ h. h ∷ (before ++ o.lead)) (head-of x y (past ++ bits) (before ++ text) e);
+    })

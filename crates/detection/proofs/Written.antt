@@ -12,7 +12,8 @@ use Rattle.detection.specs.Slots.{pattern, patterns, pattern_bits}
 
 pub line_bits-append : (quads more : List ℕ) → line_bits (quads ++ more) ≡ line_bits quads ++ line_bits more
 line_bits-append [] more = refl
-line_bits-append (quad ∷ quads) more = ap (λ l. low_bits 4 quad ++ l) (line_bits-append quads more) ∙ sym (append_assoc (low_bits 4 quad) (line_bits quads) (line_bits more))
+line_bits-append (quad ∷ quads) more =
+    ap (λ l. low_bits 4 quad ++ l) (line_bits-append quads more) ∙ sym (append_assoc (low_bits 4 quad) (line_bits quads) (line_bits more))
 
 pub ones-append : (m n : ℕ) → ones m ++ ones n ≡ ones (m + n)
 ones-append m n = replicate-append-replicate m n true
@@ -36,4 +37,6 @@ pattern-plain size seen h =
 pub mark-plain : (size : ℕ) → 7 ≤ size → IsPlain size (ones size)
 mark-plain size h =
     let e : 7 + (size - 7) ≡ size = omega arith in
-    subst (λ n. IsPlain n (ones size)) e (subst (IsPlain (7 + (size - 7))) (ones-append 7 (size - 7) ∙ ap ones e) (plain-grows 7 (size - 7) (ones 7) (plain-by_tests (ones 7) refl refl)))
+    subst (λ n. IsPlain n (ones size)) e
+    (subst (IsPlain (7 + (size - 7))) (ones-append 7 (size - 7) ∙ ap ones e)
+    (plain-grows 7 (size - 7) (ones 7) (plain-by_tests (ones 7) refl refl)))

@@ -29,9 +29,11 @@ pub record EndsOnce (seen : Seen) (most : ℕ) (recent rest : List Bool) : Type 
 -- What is left behind a character, if the bits begin with it: a number that has the bits that follow.
 abbrev pub LeftBehind : ℕ → List Bool → ℕ → List Bool → Option ℕ → Type 0
 LeftBehind width character most recent None = (rest : List Bool) → EndsCharacter character most recent rest → ⊥
-LeftBehind width character most recent (Some left) = (rest : List Bool) × EndsCharacter character most recent rest × Holds (width - (most + 9)) left rest
+LeftBehind width character most recent (Some left) =
+    (rest : List Bool) × EndsCharacter character most recent rest × Holds (width - (most + 9)) left rest
 
 -- the same for a whole pattern
 abbrev pub LeftBehindOnce : ℕ → Seen → ℕ → List Bool → Option ℕ → Type 0
 LeftBehindOnce width seen most recent None = (rest : List Bool) → EndsOnce seen most recent rest → ⊥
-LeftBehindOnce width seen most recent (Some left) = (rest : List Bool) × EndsOnce seen most recent rest × Holds (width - (most + 35)) left rest
+LeftBehindOnce width seen most recent (Some left) =
+    (rest : List Bool) × EndsOnce seen most recent rest × Holds (width - (most + 35)) left rest

@@ -38,7 +38,8 @@ seen_in start (FlagSlot frame) = []
 
 -- a pattern that ends at this place of a slot, behind the slots before
 abbrev pub EndsInSlot : ℕ → List Signal → Signal → Seen → ℕ → Type 0
-EndsInSlot size before signal seen place = EndsPattern seen (take (length (signal_bits size before) + place) (signal_bits size (before ++ signal ∷ [])))
+EndsInSlot size before signal seen place =
+    EndsPattern seen (take (length (signal_bits size before) + place) (signal_bits size (before ++ signal ∷ [])))
 
 -- Where one does, the slot is a pattern slot of its kind, and both whole patterns stand in this slot.
 pub record IsSent (size : ℕ) (signal : Signal) (seen : Seen) (place : ℕ) : Type 0 where

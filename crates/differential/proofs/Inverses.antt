@@ -46,7 +46,8 @@ unturned-turned q small = ext_get_or 0 (unturned (turned q)) q (length-unturned 
     each n within =
         let inside : n < length q = omega (arith, length-unturned (turned q), length-turned q) in
         get_or-unturned (turned q) n (omega (arith, length-turned q))
-        ∙ rw (get_or-turned q n inside, before-turned q n (omega arith), sum-take_more q n inside) (back_mod (sum (take n q)) (get_or q n 0) (small n 0 inside))
+        ∙ rw (get_or-turned q n inside, before-turned q n (omega arith), sum-take_more q n inside)
+        (back_mod (sum (take n q)) (get_or q n 0) (small n 0 inside))
 
 -- the sum of what was read is where the line stands
 sum-unturned : (y : List ℕ) (n : ℕ) → AreTurns y → n ≤ length y → sum (take n (unturned y)) % 4 ≡ before y n
@@ -67,7 +68,8 @@ sum-unturned y (suc n) small within =
     next so_far =
         ap (λ s. s % 4) (sum-take_more (unturned y) n (omega (arith, length-unturned y)))
         ∙ more_mod (sum (take n (unturned y))) (get_or (unturned y) n 0)
-        ∙ rw (so_far, get_or-unturned y n inside, before-suc y n) (again_mod (before y n) (get_or y n 0) (before_small n inside) (small n 0 inside))
+        ∙ rw (so_far, get_or-unturned y n inside, before-suc y n)
+        (again_mod (before y n) (get_or y n 0) (before_small n inside) (small n 0 inside))
 
 pub turned-unturned : (y : List ℕ) → AreTurns y → turned (unturned y) ≡ y
 turned-unturned y small = ext_get_or 0 (turned (unturned y)) y (length-turned (unturned y) ∙ length-unturned y) each
@@ -89,7 +91,8 @@ turned-take q n = ext_get_or 0 (turned (take n q)) (take n (turned q)) long each
         let short : i < length (take n q) = omega (arith, length-turned (take n q)) in
         let below : i < n = omega (arith, length-take n q) in
         let inside : i < length q = omega (arith, length-take n q) in
-        get_or-turned (take n q) i short ∙ ap (λ l. sum l % 4) (take-take (i + 1) n q (omega arith)) ∙ sym (get_or-turned q i inside) ∙ sym (get_or-take n (turned q) i 0 below)
+        get_or-turned (take n q) i short ∙ ap (λ l. sum l % 4) (take-take (i + 1) n q (omega arith)) ∙ sym (get_or-turned q i inside)
+        ∙ sym (get_or-take n (turned q) i 0 below)
 
 before-take : (y : List ℕ) (n i : ℕ) → i ≤ n → before (take n y) i ≡ before y i
 before-take y n i within = grind (arith, common_steps, nat_tests)
@@ -105,16 +108,19 @@ unturned-take y n = ext_get_or 0 (unturned (take n y)) (take n (unturned y)) lon
         let short : i < length (take n y) = omega (arith, length-unturned (take n y)) in
         let below : i < n = omega (arith, length-take n y) in
         let inside : i < length y = omega (arith, length-take n y) in
-        get_or-unturned (take n y) i short ∙ rw (get_or-take n y i 0 below, before-take y n i (omega arith)) refl ∙ sym (get_or-unturned y i inside) ∙ sym (get_or-take n (unturned y) i 0 below)
+        get_or-unturned (take n y) i short ∙ rw (get_or-take n y i 0 below, before-take y n i (omega arith)) refl
+        ∙ sym (get_or-unturned y i inside) ∙ sym (get_or-take n (unturned y) i 0 below)
 
 -- the difference of two numbers that were both turned
-pub forgets : (y : List ℕ) (k n : ℕ) → AreTurns y → 1 ≤ n → n < length y → get_or (unturned (map (λ v. (v + k) % 4) y)) n 0 ≡ get_or (unturned y) n 0
+pub forgets : (y : List ℕ) (k n : ℕ) → AreTurns y → 1 ≤ n → n < length y
+    → get_or (unturned (map (λ v. (v + k) % 4) y)) n 0 ≡ get_or (unturned y) n 0
 forgets y k zero small some within = absurd (omega arith)
 forgets y k (suc m) small some within =
     let place : m + 1 < length y = omega arith in
     let e : suc m ≡ m + 1 = sym (add-one m) in
     rw e (get_or-unturned (map (λ v. (v + k) % 4) y) (m + 1) (omega (arith, length-map y (λ v. (v + k) % 4)))
-    ∙ rw (mapped (m + 1) place, before-suc (map (λ v. (v + k) % 4) y) m, mapped m (omega arith), ← before-suc y m) (both_mod (before y (m + 1)) (get_or y (m + 1) 0) k (rw (before-suc y m) (small m 0 (omega arith))) (small (m + 1) 0 place))
+    ∙ rw (mapped (m + 1) place, before-suc (map (λ v. (v + k) % 4) y) m, mapped m (omega arith), ← before-suc y m)
+    (both_mod (before y (m + 1)) (get_or y (m + 1) 0) k (rw (before-suc y m) (small m 0 (omega arith))) (small (m + 1) 0 place))
     ∙ sym (get_or-unturned y (m + 1) place))
   where
     mapped : (i : ℕ) → i < length y → get_or (map (λ v. (v + k) % 4) y) i 0 ≡ (get_or y i 0 + k) % 4

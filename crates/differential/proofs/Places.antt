@@ -48,12 +48,15 @@ end xs x n e = grind (arith, common_steps)
 
 pub turned-snoc : (q : List ℕ) (turn : ℕ) → turned (q ++ turn ∷ []) ≡ turned q ++ ((sum q + turn) % 4) ∷ []
 turned-snoc q turn =
-    ext_get_or 0 (turned (q ++ turn ∷ [])) (turned q ++ ((sum q + turn) % 4) ∷ []) long (λ n within. each n (omega (arith, length-turned (q ++ turn ∷ []), length_push q turn)) (cases_lt n (length q)))
+    ext_get_or 0 (turned (q ++ turn ∷ [])) (turned q ++ ((sum q + turn) % 4) ∷ []) long
+    (λ n within. each n (omega (arith, length-turned (q ++ turn ∷ []), length_push q turn)) (cases_lt n (length q)))
   where
     long : length (turned (q ++ turn ∷ [])) ≡ length (turned q ++ ((sum q + turn) % 4) ∷ [])
-    long = length-turned (q ++ turn ∷ []) ∙ length_push q turn ∙ ap (λ n. n + 1) (sym (length-turned q)) ∙ sym (length_push (turned q) ((sum q + turn) % 4))
+    long = length-turned (q ++ turn ∷ []) ∙ length_push q turn ∙ ap (λ n. n + 1) (sym (length-turned q))
+        ∙ sym (length_push (turned q) ((sum q + turn) % 4))
 
-    each : (n : ℕ) → n ≤ length q → (n < length q) ⊎ (length q ≤ n) → get_or (turned (q ++ turn ∷ [])) n 0 ≡ get_or (turned q ++ ((sum q + turn) % 4) ∷ []) n 0
+    each : (n : ℕ) → n ≤ length q → (n < length q) ⊎ (length q ≤ n)
+        → get_or (turned (q ++ turn ∷ [])) n 0 ≡ get_or (turned q ++ ((sum q + turn) % 4) ∷ []) n 0
     each n within (inl less) =
         get_or-turned (q ++ turn ∷ []) n (omega (arith, length_push q turn)) ∙ turned_at-append q turn n less ∙ sym (get_or-turned q n less)
         ∙ sym (front (turned q) ((sum q + turn) % 4) n (omega (arith, length-turned q)))
@@ -64,14 +67,18 @@ turned-snoc q turn =
 
 pub unturned-snoc : (y : List ℕ) (last : ℕ) → unturned (y ++ last ∷ []) ≡ unturned y ++ ((last + 4 - before y (length y)) % 4) ∷ []
 unturned-snoc y last =
-    ext_get_or 0 (unturned (y ++ last ∷ [])) (unturned y ++ ((last + 4 - before y (length y)) % 4) ∷ []) long (λ n within. each n (omega (arith, length-unturned (y ++ last ∷ []), length_push y last)) (cases_lt n (length y)))
+    ext_get_or 0 (unturned (y ++ last ∷ [])) (unturned y ++ ((last + 4 - before y (length y)) % 4) ∷ []) long
+    (λ n within. each n (omega (arith, length-unturned (y ++ last ∷ []), length_push y last)) (cases_lt n (length y)))
   where
     long : length (unturned (y ++ last ∷ [])) ≡ length (unturned y ++ ((last + 4 - before y (length y)) % 4) ∷ [])
-    long = length-unturned (y ++ last ∷ []) ∙ length_push y last ∙ ap (λ n. n + 1) (sym (length-unturned y)) ∙ sym (length_push (unturned y) ((last + 4 - before y (length y)) % 4))
+    long = length-unturned (y ++ last ∷ []) ∙ length_push y last ∙ ap (λ n. n + 1) (sym (length-unturned y))
+        ∙ sym (length_push (unturned y) ((last + 4 - before y (length y)) % 4))
 
-    each : (n : ℕ) → n ≤ length y → (n < length y) ⊎ (length y ≤ n) → get_or (unturned (y ++ last ∷ [])) n 0 ≡ get_or (unturned y ++ ((last + 4 - before y (length y)) % 4) ∷ []) n 0
+    each : (n : ℕ) → n ≤ length y → (n < length y) ⊎ (length y ≤ n)
+        → get_or (unturned (y ++ last ∷ [])) n 0 ≡ get_or (unturned y ++ ((last + 4 - before y (length y)) % 4) ∷ []) n 0
     each n within (inl less) =
-        get_or-unturned (y ++ last ∷ []) n (omega (arith, length_push y last)) ∙ unturned_at-append y last n less ∙ sym (get_or-unturned y n less)
+        get_or-unturned (y ++ last ∷ []) n (omega (arith, length_push y last)) ∙ unturned_at-append y last n less
+        ∙ sym (get_or-unturned y n less)
         ∙ sym (front (unturned y) ((last + 4 - before y (length y)) % 4) n (omega (arith, length-unturned y)))
     each n within (inr past) =
         let place : n ≡ length y = omega arith in

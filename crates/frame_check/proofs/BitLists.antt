@@ -24,7 +24,8 @@ get_or-low_bits (suc k) n zero d h = ap (λ x. nat_eq x 1) (sym (bit_at_lowest n
 get_or-low_bits (suc k) n (suc i) d h = get_or-low_bits k (n / 2) i d (omega arith) ∙ ap (λ x. nat_eq x 1) (sym (bit_at-suc n i))
 
 -- bits of this number at these places are the list
-pub low_bits-by_place : (k n : ℕ) (bits : List Bool) → length bits ≡ k → ((i : ℕ) (d : Bool) → i < k → nat_eq (bit_at n i) 1 ≡ get_or bits i d) → low_bits k n ≡ bits
+pub low_bits-by_place : (k n : ℕ) (bits : List Bool) → length bits ≡ k
+    → ((i : ℕ) (d : Bool) → i < k → nat_eq (bit_at n i) 1 ≡ get_or bits i d) → low_bits k n ≡ bits
 low_bits-by_place k n bits wide each = same_lists (low_bits k n) bits (length-low_bits k n ∙ sym wide)
     (λ i d l. let within : i < k = omega (arith, length-low_bits k n) in get_or-low_bits k n i d within ∙ each i d within)
 
@@ -63,16 +64,20 @@ bit_is n m i e = grind (arith, nat_tests, bit_at-lt n i, bit_at-lt m i)
 
 -- an octet is given by its bits
 same_octet : (n m : ℕ) → n < 256 → m < 256 → octet_bits n ≡ octet_bits m → n ≡ m
-same_octet n m low_n low_m e = same_from_bits_below 8 n m low_n low_m (λ i l. bit_is n m i (sym (get_or-low_bits 8 n i false l) ∙ ap (λ bits. get_or bits i false) e ∙ get_or-low_bits 8 m i false l))
+same_octet n m low_n low_m e =
+    same_from_bits_below 8 n m low_n low_m
+    (λ i l. bit_is n m i (sym (get_or-low_bits 8 n i false l) ∙ ap (λ bits. get_or bits i false) e ∙ get_or-low_bits 8 m i false l))
 
 -- octets are given by their bits
-pub same_octets : (octets others : List ℕ) → All (λ n. n < 256) octets → All (λ n. n < 256) others → bits_of octets ≡ bits_of others → octets ≡ others
+pub same_octets : (octets others : List ℕ) → All (λ n. n < 256) octets → All (λ n. n < 256) others → bits_of octets ≡ bits_of others
+    → octets ≡ others
 same_octets [] [] low_n low_m e = refl
 same_octets [] (m ∷ others) low_n low_m e = absurd (omega (arith, ap length e, length-bits_of others))
 same_octets (n ∷ octets) [] low_n low_m e = absurd (omega (arith, ap length e, length-bits_of octets))
 same_octets (n ∷ octets) (m ∷ others) low_n low_m e =
     let first : n ≡ m = same_octet n m (low_n 0 0 (omega arith)) (low_m 0 0 (omega arith)) (ap (take 8) e) in
-    let rest : octets ≡ others = same_octets octets others (λ k d h. low_n (suc k) d (omega arith)) (λ k d h. low_m (suc k) d (omega arith)) (ap (drop 8) e) in
+    let rest : octets ≡ others =
+    same_octets octets others (λ k d h. low_n (suc k) d (omega arith)) (λ k d h. low_m (suc k) d (omega arith)) (ap (drop 8) e) in
     rw (first, rest) refl
 
 -- the octets of bits
@@ -87,7 +92,8 @@ octets_of-are_octets (suc count) bits =
     let less : number_of (take 8 bits) < 2 ^ length (take 8 bits) = number_of-less (take 8 bits) in
     let short : length (take 8 bits) ≤ 8 = grind (arith, common_steps) in
     let most : 2 ^ length (take 8 bits) ≤ 2 ^ 8 = pow-le-pow_right (lit< tt) short in
-    All-cons (λ n. n < 256) (number_of (take 8 bits)) (octets_of count (drop 8 bits)) (omega arith) (octets_of-are_octets count (drop 8 bits))
+    All-cons (λ n. n < 256) (number_of (take 8 bits)) (octets_of count (drop 8 bits)) (omega arith)
+    (octets_of-are_octets count (drop 8 bits))
 
 pub bits_of-octets_of : (count : ℕ) (bits : List Bool) → length bits ≡ 8 * count → bits_of (octets_of count bits) ≡ bits
 bits_of-octets_of zero [] wide = refl
@@ -102,7 +108,8 @@ bits_of-octets_of (suc count) bits wide =
 -- the low octets of a number
 
 octet_bits-rem : (n : ℕ) → octet_bits (n % 256) ≡ octet_bits n
-octet_bits-rem n = low_bits-by_place 8 (n % 256) (octet_bits n) (length-low_bits 8 n) (λ i d l. ap (λ x. nat_eq x 1) (bit_at-rem i l) ∙ sym (get_or-low_bits 8 n i d l))
+octet_bits-rem n = low_bits-by_place 8 (n % 256) (octet_bits n) (length-low_bits 8 n)
+    (λ i d l. ap (λ x. nat_eq x 1) (bit_at-rem i l) ∙ sym (get_or-low_bits 8 n i d l))
   where
     bit_at-rem : (i : ℕ) → i < 8 → bit_at (n % 256) i ≡ bit_at n i
     bit_at-rem i l = sym (ap (λ x. bit_at x i) (sym (shr_split n 8)) ∙ bit_at_cat_low (n / 256) 8 (n % 256) i l)
@@ -120,7 +127,9 @@ low_bits-octet k n = low_bits-by_place (8 + k) n (octet_bits n ++ low_bits k (n 
     each : (i : ℕ) (d : Bool) → i < 8 + k → nat_eq (bit_at n i) 1 ≡ get_or (octet_bits n ++ low_bits k (n / 256)) i d
     each i d l = elim (cases_lt i 8) [
       | inl low ↦ sym (get_or_append_left (octet_bits n) (low_bits k (n / 256)) d i low ∙ get_or-low_bits 8 n i d low)
-      | inr h ↦ ap (λ x. nat_eq x 1) (high i h) ∙ sym (get_or-append_right (octet_bits n) (low_bits k (n / 256)) 8 i d refl h ∙ get_or-low_bits k (n / 256) (i - 8) d (omega arith))
+      | inr h ↦ ap (λ x. nat_eq x 1) (high i h)
+          ∙ sym (get_or-append_right (octet_bits n) (low_bits k (n / 256)) 8 i d refl h
+          ∙ get_or-low_bits k (n / 256) (i - 8) d (omega arith))
     ]
 
 -- an octet in front of the others
@@ -134,8 +143,10 @@ pub bits_of-four : (n : ℕ) → bits_of (n % 256 ∷ (n / 256 % 256) ∷ (n / 6
 bits_of-four n =
     let third : n / 65536 ≡ n / 256 / 256 = omega arith in
     let fourth : n / 16777216 ≡ n / 256 / 256 / 256 = omega arith in
-    let same : bits_of (n % 256 ∷ (n / 256 % 256) ∷ (n / 65536 % 256) ∷ (n / 16777216 % 256) ∷ []) ≡ bits_of (n % 256 ∷ (n / 256 % 256) ∷ (n / 256 / 256 % 256) ∷ (n / 256 / 256 / 256 % 256) ∷ []) =
-    ap (λ x. bits_of (n % 256 ∷ (n / 256 % 256) ∷ x % 256 ∷ (n / 16777216 % 256) ∷ [])) third ∙ ap (λ x. bits_of (n % 256 ∷ (n / 256 % 256) ∷ (n / 256 / 256 % 256) ∷ x % 256 ∷ [])) fourth in
+    let same : bits_of (n % 256 ∷ (n / 256 % 256) ∷ (n / 65536 % 256) ∷ (n / 16777216 % 256) ∷ []) ≡ bits_of
+    (n % 256 ∷ (n / 256 % 256) ∷ (n / 256 / 256 % 256) ∷ (n / 256 / 256 / 256 % 256) ∷ []) =
+    ap (λ x. bits_of (n % 256 ∷ (n / 256 % 256) ∷ x % 256 ∷ (n / 16777216 % 256) ∷ [])) third
+    ∙ ap (λ x. bits_of (n % 256 ∷ (n / 256 % 256) ∷ (n / 256 / 256 % 256) ∷ x % 256 ∷ [])) fourth in
     same ∙ bits_of-low 24 n (n / 256 % 256 ∷ (n / 256 / 256 % 256) ∷ (n / 256 / 256 / 256 % 256) ∷ [])
     (bits_of-low 16 (n / 256) (n / 256 / 256 % 256 ∷ (n / 256 / 256 / 256 % 256) ∷ [])
     (bits_of-low 8 (n / 256 / 256) (n / 256 / 256 / 256 % 256 ∷ []) (bits_of-low 0 (n / 256 / 256 / 256) [] refl)))

@@ -20,20 +20,41 @@ both false b h = absurd (false≢true h)
 
 at_each : (n : ℕ) (test : ℕ → Bool) → each_below n test ≡ true → (i : ℕ) → i < n → test i ≡ true
 at_each zero test h i l = absurd (omega arith)
-at_each (suc n) test h i l = let b = both (test n) (each_below n test) h in elim (cases_lt i n) [ inl less ↦ at_each n test b.1 i less | inr last ↦ let e : i ≡ n = omega arith in rw e b.0 ]
+at_each (suc n) test h i l = let b = both (test n) (each_below n test) h in
+    elim (cases_lt i n) [ inl less ↦ at_each n test b.1 i less | inr last ↦ let e : i ≡ n = omega arith in rw e b.0 ]
 
 -- whether a register has a polynomial's coefficients, mirrored
 abbrev is_mirror : ℕ → ℕ → List Bool → ℕ → Bool
 is_mirror width register p power = nat_eq (bit_at register (width - 1 - power)) (number (coefficient p power))
 
-mirrors : (width register : ℕ) (p : List Bool) → register < 2 ^ width → each_below width (is_mirror width register p) ≡ true → Mirrors width register p
-mirrors width register p low h = record { low = low; each = λ j l. eqb-true (bit_at register (width - 1 - j)) (number (coefficient p j)) (at_each width (is_mirror width register p) h j l) }
+mirrors : (width register : ℕ) (p : List Bool) → register < 2 ^ width → each_below width (is_mirror width register p) ≡ true
+    → Mirrors width register p
+mirrors width register p low h =
+    record {
+      low = low;
+      each =
+          λ j l. eqb-true (bit_at register (width - 1 - j)) (number (coefficient p j)) (at_each width (is_mirror width register p) h j l);
+    }
 
 pub divides16 : Divides 16 0x8408 (generator_of Sixteen)
-divides16 = record { positive = lit< tt; small = omega arith; wide = refl; top = refl; mirrors = mirrors 16 0x8408 (generator_of Sixteen) (lit< tt) refl }
+divides16 = record {
+  positive = lit< tt;
+  small = omega arith;
+  wide = refl;
+  top = refl;
+  mirrors =
+      mirrors 16 0x8408 (generator_of Sixteen) (lit< tt) refl;
+}
 
 pub divides32 : Divides 32 0xedb88320 (generator_of ThirtyTwo)
-divides32 = record { positive = lit< tt; small = omega arith; wide = refl; top = refl; mirrors = mirrors 32 0xedb88320 (generator_of ThirtyTwo) (lit< tt) refl }
+divides32 = record {
+  positive = lit< tt;
+  small = omega arith;
+  wide = refl;
+  top = refl;
+  mirrors =
+      mirrors 32 0xedb88320 (generator_of ThirtyTwo) (lit< tt) refl;
+}
 
 pub starts16 : Holds 16 0xffff (all_ones 16)
 starts16 = record { wide = refl; mirrors = mirrors 16 0xffff (all_ones 16) (lit< tt) refl }

@@ -44,8 +44,10 @@ xor_twice a b = xor_assoc b a a ∙ ap (xor b) (xor_itself a) ∙ xor_false b
 -- the sum of five terms in another order, where one of them stands twice
 pub regroup : (x a y z f : Bool) → xor (xor (xor x a) y) (xor (xor z f) a) ≡ xor f (xor (xor x y) z)
 regroup x a y z f =
-    let together : xor (xor (xor x a) y) (xor (xor z f) a) ≡ xor (xor (xor x y) a) (xor (xor z f) a) = ap (λ t. xor t (xor (xor z f) a)) (xor_assoc x a y ∙ ap (xor x) (xor_comm a y) ∙ sym (xor_assoc x y a)) in
-    let apart : xor (xor (xor x y) a) (xor (xor z f) a) ≡ xor (xor x y) (xor z f) = xor_assoc (xor x y) a (xor (xor z f) a) ∙ ap (xor (xor x y)) (xor_comm a (xor (xor z f) a) ∙ xor_twice a (xor z f)) in
+    let together : xor (xor (xor x a) y) (xor (xor z f) a) ≡ xor (xor (xor x y) a) (xor (xor z f) a) =
+    ap (λ t. xor t (xor (xor z f) a)) (xor_assoc x a y ∙ ap (xor x) (xor_comm a y) ∙ sym (xor_assoc x y a)) in
+    let apart : xor (xor (xor x y) a) (xor (xor z f) a) ≡ xor (xor x y) (xor z f) =
+    xor_assoc (xor x y) a (xor (xor z f) a) ∙ ap (xor (xor x y)) (xor_comm a (xor (xor z f) a) ∙ xor_twice a (xor z f)) in
     together ∙ apart ∙ sym (xor_assoc (xor x y) z f) ∙ xor_comm (xor (xor x y) z) f
 
 -- coefficients
@@ -104,23 +106,31 @@ pub at_power-same : (i w : ℕ) (b : Bool) → w ≡ i → at_power i w b ≡ b
 at_power-same i w b e = grind (arith, nat_tests)
 
 -- x^w·(b + x·p) is x·(x^w·p) with the bit at the power w
-pub raised-cons : (w : ℕ) (p : List Bool) (b : Bool) (i : ℕ) → coefficient (raised w (b ∷ p)) i ≡ xor (coefficient (false ∷ raised w p) i) (at_power i w b)
+pub raised-cons : (w : ℕ) (p : List Bool) (b : Bool) (i : ℕ)
+    → coefficient (raised w (b ∷ p)) i ≡ xor (coefficient (false ∷ raised w p) i) (at_power i w b)
 raised-cons w p b i = elim (cases_lt i w) [ inl h ↦ below h | inr h ↦ elim (eq-or-lt_of_le h) [ inl e ↦ at e | inr l ↦ above l ] ]
   where
     none : i ≤ w → coefficient (false ∷ raised w p) i ≡ false
-    none h = elim (cases_lt 0 i) [ inl l ↦ coefficient-behind false (raised w p) i l ∙ raised-low w p (i - 1) (omega arith) | inr z ↦ coefficient-lowest false (raised w p) i z ]
+    none h = elim (cases_lt 0 i) [
+      | inl l ↦ coefficient-behind false (raised w p) i l ∙ raised-low w p (i - 1) (omega arith)
+      | inr z ↦
+          coefficient-lowest false (raised w p) i z
+    ]
 
     below : i < w → coefficient (raised w (b ∷ p)) i ≡ xor (coefficient (false ∷ raised w p) i) (at_power i w b)
     below h = rw (raised-low w (b ∷ p) i h, none (omega arith), at_power-other i w b (λ e. omega arith)) refl
 
     at : w ≡ i → coefficient (raised w (b ∷ p)) i ≡ xor (coefficient (false ∷ raised w p) i) (at_power i w b)
     at e =
-        let here : coefficient (raised w (b ∷ p)) i ≡ b = raised-high w (b ∷ p) i (omega arith) ∙ coefficient-lowest b p (i - w) (omega arith) in
+        let here : coefficient (raised w (b ∷ p)) i ≡ b =
+        raised-high w (b ∷ p) i (omega arith) ∙ coefficient-lowest b p (i - w) (omega arith) in
         rw (here, none (omega arith), at_power-same i w b e) (sym (false_xor b))
 
     above : w < i → coefficient (raised w (b ∷ p)) i ≡ xor (coefficient (false ∷ raised w p) i) (at_power i w b)
     above l =
-        let here : coefficient (raised w (b ∷ p)) i ≡ coefficient p (i - w - 1) = raised-high w (b ∷ p) i (omega arith) ∙ coefficient-behind b p (i - w) (omega arith) in
-        let there : coefficient (false ∷ raised w p) i ≡ coefficient p (i - 1 - w) = coefficient-behind false (raised w p) i (omega arith) ∙ raised-high w p (i - 1) (omega arith) in
+        let here : coefficient (raised w (b ∷ p)) i ≡ coefficient p (i - w - 1) =
+        raised-high w (b ∷ p) i (omega arith) ∙ coefficient-behind b p (i - w) (omega arith) in
+        let there : coefficient (false ∷ raised w p) i ≡ coefficient p (i - 1 - w) =
+        coefficient-behind false (raised w p) i (omega arith) ∙ raised-high w p (i - 1) (omega arith) in
         let same : i - w - 1 ≡ i - 1 - w = omega arith in
         rw (here, there, at_power-other i w b (λ e. omega arith), same) (sym (xor_false (coefficient p (i - 1 - w))))

@@ -26,7 +26,8 @@ tested true = refl
 tested false = refl
 
 -- half the register has x times the polynomial below the width
-halved : (w r : ℕ) (p : List Bool) → 0 < w → Mirrors w r p → (j : ℕ) → j < w → bit_at (r / 2) (w - 1 - j) ≡ number (coefficient (false ∷ p) j)
+halved : (w r : ℕ) (p : List Bool) → 0 < w → Mirrors w r p → (j : ℕ) → j < w
+    → bit_at (r / 2) (w - 1 - j) ≡ number (coefficient (false ∷ p) j)
 halved w r p positive h j within = elim (cases_lt 0 j) [ inl later ↦ other later | inr z ↦ first z ]
   where
     first : j ≤ 0 → bit_at (r / 2) (w - 1 - j) ≡ number (coefficient (false ∷ p) j)
@@ -59,7 +60,8 @@ next_below w g p b wide_p wide_g top j within =
     ∙ ap (λ x. xor (coefficient (false ∷ p) j) x) (coefficient-chosen (is_taken w p b) g j)
 
 -- the register after a bit at which nothing is taken away
-pub Holds-kept : (w reversed register : ℕ) (g r : List Bool) (bit : Bool) → Divides w reversed g → Holds w register r → not (beq (nat_eq (bit_and register 1) 1) bit) ≡ false → Holds w (register / 2) (next_remainder w g r bit)
+pub Holds-kept : (w reversed register : ℕ) (g r : List Bool) (bit : Bool) → Divides w reversed g → Holds w register r
+    → not (beq (nat_eq (bit_and register 1) 1) bit) ≡ false → Holds w (register / 2) (next_remainder w g r bit)
 Holds-kept w reversed register g r bit d s h = record {
   wide = length-next w g r bit s.wide;
   mirrors = record {
@@ -75,7 +77,8 @@ Holds-kept w reversed register g r bit d s h = record {
 }
 
 -- and after one at which the generator is taken away
-pub Holds-taken : (w reversed register : ℕ) (g r : List Bool) (bit : Bool) → Divides w reversed g → Holds w register r → not (beq (nat_eq (bit_and register 1) 1) bit) ≡ true → Holds w (bit_xor (register / 2) reversed) (next_remainder w g r bit)
+pub Holds-taken : (w reversed register : ℕ) (g r : List Bool) (bit : Bool) → Divides w reversed g → Holds w register r
+    → not (beq (nat_eq (bit_and register 1) 1) bit) ≡ true → Holds w (bit_xor (register / 2) reversed) (next_remainder w g r bit)
 Holds-taken w reversed register g r bit d s h = record {
   wide = length-next w g r bit s.wide;
   mirrors = record {
@@ -86,23 +89,30 @@ Holds-taken w reversed register g r bit d s h = record {
         next_below w g r bit s.wide d.wide d.top j within
         ∙ ap (λ t. xor (coefficient (false ∷ r) j) (cond t (coefficient g j) false)) taken in
         let half = halved w register r d.positive s.mirrors j within in
-        bit_at_xor (register / 2) reversed (w - 1 - j) ∙ rw (half, d.mirrors.each j within, same) (number-xor (coefficient (false ∷ r) j) (coefficient g j));
+        bit_at_xor (register / 2) reversed (w - 1 - j)
+        ∙ rw (half, d.mirrors.each j within, same) (number-xor (coefficient (false ∷ r) j) (coefficient g j));
   };
 }
 
 -- the bits so far, and one more
 
-remainder_from-snoc : (w : ℕ) (g r bits : List Bool) (b : Bool) → remainder_from w g r (bits ++ b ∷ []) ≡ next_remainder w g (remainder_from w g r bits) b
+remainder_from-snoc : (w : ℕ) (g r bits : List Bool) (b : Bool)
+    → remainder_from w g r (bits ++ b ∷ []) ≡ next_remainder w g (remainder_from w g r bits) b
 remainder_from-snoc w g r bits b = remainder_from-append w g r bits (b ∷ [])
 
-pub remainder_from-next_bit : (w : ℕ) (g r : List Bool) (n i : ℕ) → i < 8 → remainder_from w g r (take (i + 1) (octet_bits n)) ≡ next_remainder w g (remainder_from w g r (take i (octet_bits n))) (nat_eq (bit_and (n / 2 ^ i) 1) 1)
+pub remainder_from-next_bit : (w : ℕ) (g r : List Bool) (n i : ℕ) → i < 8
+    → remainder_from w g r (take (i + 1) (octet_bits n)) ≡ next_remainder w g (remainder_from w g r (take i (octet_bits n)))
+    (nat_eq (bit_and (n / 2 ^ i) 1) 1)
 remainder_from-next_bit w g r n i h =
     let within : i < length (octet_bits n) = omega (arith, length-low_bits 8 n) in
-    let bit : get_or (octet_bits n) i false ≡ nat_eq (bit_and (n / 2 ^ i) 1) 1 = get_or-low_bits 8 n i false h ∙ ap (λ x. nat_eq x 1) (sym (and_mask (n / 2 ^ i) 1)) in
+    let bit : get_or (octet_bits n) i false ≡ nat_eq (bit_and (n / 2 ^ i) 1) 1 =
+    get_or-low_bits 8 n i false h ∙ ap (λ x. nat_eq x 1) (sym (and_mask (n / 2 ^ i) 1)) in
     ap (remainder_from w g r) (take_more (octet_bits n) i false within ∙ ap (λ b. take i (octet_bits n) ++ b ∷ []) bit)
     ∙ remainder_from-snoc w g r (take i (octet_bits n)) (nat_eq (bit_and (n / 2 ^ i) 1) 1)
 
-pub remainder_from-next_octet : (w : ℕ) (g r : List Bool) (octets : List ℕ) (i : ℕ) → i < length octets → remainder_from w g r (bits_of (take (i + 1) octets)) ≡ remainder_from w g (remainder_from w g r (bits_of (take i octets))) (octet_bits (get_or octets i 0))
+pub remainder_from-next_octet : (w : ℕ) (g r : List Bool) (octets : List ℕ) (i : ℕ) → i < length octets
+    → remainder_from w g r (bits_of (take (i + 1) octets)) ≡ remainder_from w g (remainder_from w g r (bits_of (take i octets)))
+    (octet_bits (get_or octets i 0))
 remainder_from-next_octet w g r octets i h =
     ap (λ x. remainder_from w g r (bits_of x)) (take_more octets i 0 h)
     ∙ ap (remainder_from w g r) (bits_of-snoc (take i octets) (get_or octets i 0))

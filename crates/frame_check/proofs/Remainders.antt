@@ -41,25 +41,34 @@ cancels false false = refl
 
 -- the coefficients of the next remainder
 pub coefficient-next : (w : ℕ) (g r : List Bool) (b : Bool) → length r ≡ w → length g ≡ w + 1 → coefficient g w ≡ true → (i : ℕ)
-    → coefficient (next_remainder w g r b) i ≡ xor (xor (coefficient (false ∷ r) i) (coefficient (if is_taken w r b then g else []) i)) (at_power i w b)
-coefficient-next w g r b wide_r wide_g top i = elim (cases_lt i w) [ inl h ↦ below h | inr h ↦ elim (eq-or-lt_of_le h) [ inl e ↦ at e | inr l ↦ above l ] ]
+    → coefficient (next_remainder w g r b) i ≡ xor (xor (coefficient (false ∷ r) i) (coefficient (if is_taken w r b then g else []) i))
+    (at_power i w b)
+coefficient-next w g r b wide_r wide_g top i =
+    elim (cases_lt i w) [ inl h ↦ below h | inr h ↦ elim (eq-or-lt_of_le h) [ inl e ↦ at e | inr l ↦ above l ] ]
   where
-    below : i < w → coefficient (next_remainder w g r b) i ≡ xor (xor (coefficient (false ∷ r) i) (coefficient (if is_taken w r b then g else []) i)) (at_power i w b)
+    below : i < w → coefficient (next_remainder w g r b) i ≡ xor
+        (xor (coefficient (false ∷ r) i) (coefficient (if is_taken w r b then g else []) i)) (at_power i w b)
     below h =
         coefficient-take w (less w g r b) i h
         ∙ coefficient-plus (false ∷ r) (if is_taken w r b then g else []) i
-        ∙ rw (at_power-other i w b (λ e. omega arith)) (sym (xor_false (xor (coefficient (false ∷ r) i) (coefficient (if is_taken w r b then g else []) i))))
+        ∙ rw (at_power-other i w b (λ e. omega arith))
+        (sym (xor_false (xor (coefficient (false ∷ r) i) (coefficient (if is_taken w r b then g else []) i))))
 
-    at : w ≡ i → coefficient (next_remainder w g r b) i ≡ xor (xor (coefficient (false ∷ r) i) (coefficient (if is_taken w r b then g else []) i)) (at_power i w b)
+    at : w ≡ i → coefficient (next_remainder w g r b) i ≡ xor
+        (xor (coefficient (false ∷ r) i) (coefficient (if is_taken w r b then g else []) i)) (at_power i w b)
     at e =
-        let taken : coefficient (if is_taken w r b then g else []) i ≡ is_taken w r b = coefficient-chosen (is_taken w r b) g i ∙ rw (← e) (rw top (itself (is_taken w r b))) in
+        let taken : coefficient (if is_taken w r b then g else []) i ≡ is_taken w r b =
+        coefficient-chosen (is_taken w r b) g i ∙ rw (← e) (rw top (itself (is_taken w r b))) in
         coefficient-past_take w (less w g r b) i (omega arith)
         ∙ rw (at_power-same i w b e, taken, ← e) (cancels (coefficient (false ∷ r) w) b)
 
-    above : w < i → coefficient (next_remainder w g r b) i ≡ xor (xor (coefficient (false ∷ r) i) (coefficient (if is_taken w r b then g else []) i)) (at_power i w b)
+    above : w < i → coefficient (next_remainder w g r b) i ≡ xor
+        (xor (coefficient (false ∷ r) i) (coefficient (if is_taken w r b then g else []) i)) (at_power i w b)
     above l =
-        let none : coefficient (false ∷ r) i ≡ false = coefficient-behind false r i (omega arith) ∙ coefficient-past r (i - 1) (omega (arith, wide_r)) in
-        let nor : coefficient (if is_taken w r b then g else []) i ≡ false = coefficient-chosen (is_taken w r b) g i ∙ rw (coefficient-past g i (omega (arith, wide_g))) (neither (is_taken w r b)) in
+        let none : coefficient (false ∷ r) i ≡ false =
+        coefficient-behind false r i (omega arith) ∙ coefficient-past r (i - 1) (omega (arith, wide_r)) in
+        let nor : coefficient (if is_taken w r b then g else []) i ≡ false =
+        coefficient-chosen (is_taken w r b) g i ∙ rw (coefficient-past g i (omega (arith, wide_g))) (neither (is_taken w r b)) in
         coefficient-past_take w (less w g r b) i (omega arith)
         ∙ rw (at_power-other i w b (λ e. omega arith), none, nor) refl
 
@@ -69,31 +78,40 @@ length-next w g r b h =
     grind (arith, common_steps)
 
 -- the equation, times x
-shifted_equation : (m a r t : List Bool) → Same (plus (plus m a) r) t → (i : ℕ) → xor (xor (coefficient (false ∷ m) i) (coefficient (false ∷ a) i)) (coefficient (false ∷ r) i) ≡ coefficient (false ∷ t) i
+shifted_equation : (m a r t : List Bool) → Same (plus (plus m a) r) t → (i : ℕ)
+    → xor (xor (coefficient (false ∷ m) i) (coefficient (false ∷ a) i)) (coefficient (false ∷ r) i) ≡ coefficient (false ∷ t) i
 shifted_equation m a r t h zero = refl
-shifted_equation m a r t h (suc i) = sym (coefficient-plus (plus m a) r i ∙ ap (λ x. xor x (coefficient r i)) (coefficient-plus m a i)) ∙ h i
+shifted_equation m a r t h (suc i) =
+    sym (coefficient-plus (plus m a) r i ∙ ap (λ x. xor x (coefficient r i)) (coefficient-plus m a i)) ∙ h i
 
 reverse-snoc : (p : List Bool) (b : Bool) → reverse (p ++ b ∷ []) ≡ b ∷ reverse p
 reverse-snoc p b = reverse-append p (b ∷ [])
 
 -- the equation of one bit more
-Leaves-more : (w : ℕ) (g past r : List Bool) (b : Bool) → length g ≡ w + 1 → coefficient g w ≡ true → Leaves w g past r → Leaves w g (past ++ b ∷ []) (next_remainder w g r b)
+Leaves-more : (w : ℕ) (g past r : List Bool) (b : Bool) → length g ≡ w + 1 → coefficient g w ≡ true → Leaves w g past r
+    → Leaves w g (past ++ b ∷ []) (next_remainder w g r b)
 Leaves-more w g past r b wide top h = record {
   quotient = is_taken w r b ∷ h.quotient;
   wide = length-next w g r b h.wide;
   equation = moved;
 }
   where
-    moved : (i : ℕ) → coefficient (plus (plus (raised w (reverse (past ++ b ∷ []))) (raised (length (past ++ b ∷ [])) (all_ones w))) (next_remainder w g r b)) i ≡ coefficient (times (is_taken w r b ∷ h.quotient) g) i
+    moved : (i : ℕ) → coefficient
+        (plus (plus (raised w (reverse (past ++ b ∷ []))) (raised (length (past ++ b ∷ [])) (all_ones w))) (next_remainder w g r b))
+        i ≡ coefficient (times (is_taken w r b ∷ h.quotient) g) i
     moved i =
         let longer : length (past ++ b ∷ []) ≡ length past + 1 = omega (arith, length-append {A = Bool}) in
         let f = if is_taken w r b then g else [] in
         let m = raised w (reverse past) in
         let a = raised (length past) (all_ones w) in
-        let sums = coefficient-plus (plus (raised w (b ∷ reverse past)) (false ∷ a)) (next_remainder w g r b) i ∙ ap (λ x. xor x (coefficient (next_remainder w g r b) i)) (coefficient-plus (raised w (b ∷ reverse past)) (false ∷ a) i) in
-        let highest = ap (λ x. xor (xor x (coefficient (false ∷ a) i)) (coefficient (next_remainder w g r b) i)) (raised-cons w (reverse past) b i) in
-        let rest = ap (λ x. xor (xor (xor (coefficient (false ∷ m) i) (at_power i w b)) (coefficient (false ∷ a) i)) x) (coefficient-next w g r b h.wide wide top i) in
-        let order = regroup (coefficient (false ∷ m) i) (at_power i w b) (coefficient (false ∷ a) i) (coefficient (false ∷ r) i) (coefficient f i) in
+        let sums = coefficient-plus (plus (raised w (b ∷ reverse past)) (false ∷ a)) (next_remainder w g r b) i
+        ∙ ap (λ x. xor x (coefficient (next_remainder w g r b) i)) (coefficient-plus (raised w (b ∷ reverse past)) (false ∷ a) i) in
+        let highest = ap (λ x. xor (xor x (coefficient (false ∷ a) i)) (coefficient (next_remainder w g r b) i))
+        (raised-cons w (reverse past) b i) in
+        let rest = ap (λ x. xor (xor (xor (coefficient (false ∷ m) i) (at_power i w b)) (coefficient (false ∷ a) i)) x)
+        (coefficient-next w g r b h.wide wide top i) in
+        let order = regroup (coefficient (false ∷ m) i) (at_power i w b) (coefficient (false ∷ a) i) (coefficient (false ∷ r) i)
+        (coefficient f i) in
         let before = ap (λ x. xor (coefficient f i) x) (shifted_equation m a r (times h.quotient g) h.equation i) in
         let product = sym (coefficient-plus f (false ∷ times h.quotient g) i) in
         rw (reverse-snoc past b, longer, raised-suc (length past) (all_ones w)) (sums ∙ highest ∙ rest ∙ order ∙ before ∙ product)
@@ -112,15 +130,19 @@ Leaves-none w g = record {
 
 -- the division
 
-Leaves-from : (w : ℕ) (g past r bits : List Bool) → length g ≡ w + 1 → coefficient g w ≡ true → Leaves w g past r → Leaves w g (past ++ bits) (remainder_from w g r bits)
+Leaves-from : (w : ℕ) (g past r bits : List Bool) → length g ≡ w + 1 → coefficient g w ≡ true → Leaves w g past r
+    → Leaves w g (past ++ bits) (remainder_from w g r bits)
 Leaves-from w g past r [] wide top h = subst (λ p. Leaves w g p r) (grind (arith, common_steps)) h
-Leaves-from w g past r (b ∷ bits) wide top h = subst (λ p. Leaves w g p (remainder_from w g (next_remainder w g r b) bits)) (append_assoc past (b ∷ []) bits)
+Leaves-from w g past r (b ∷ bits) wide top h =
+    subst (λ p. Leaves w g p (remainder_from w g (next_remainder w g r b) bits)) (append_assoc past (b ∷ []) bits)
     (Leaves-from w g (past ++ b ∷ []) (next_remainder w g r b) bits wide top (Leaves-more w g past r b wide top h))
 
 -- the bits leave what the division from the ones gives
-pub Leaves-all : (w : ℕ) (g bits : List Bool) → length g ≡ w + 1 → coefficient g w ≡ true → Leaves w g bits (remainder_from w g (all_ones w) bits)
+pub Leaves-all : (w : ℕ) (g bits : List Bool) → length g ≡ w + 1 → coefficient g w ≡ true
+    → Leaves w g bits (remainder_from w g (all_ones w) bits)
 Leaves-all w g bits wide top = Leaves-from w g [] (all_ones w) bits wide top (Leaves-none w g)
 
-pub remainder_from-append : (w : ℕ) (g r bits more : List Bool) → remainder_from w g r (bits ++ more) ≡ remainder_from w g (remainder_from w g r bits) more
+pub remainder_from-append : (w : ℕ) (g r bits more : List Bool)
+    → remainder_from w g r (bits ++ more) ≡ remainder_from w g (remainder_from w g r bits) more
 remainder_from-append w g r [] more = refl
 remainder_from-append w g r (b ∷ bits) more = remainder_from-append w g (next_remainder w g r b) bits more

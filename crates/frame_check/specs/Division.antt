@@ -7,7 +7,8 @@ use Rattle.plain_lists.specs.Xor.{xor}
 
 -- the remainder that is left once one more bit follows: where x·R and x^width·bit have the power x^width, the generator is taken away
 abbrev pub next_remainder : ℕ → List Bool → List Bool → Bool → List Bool
-next_remainder width generator remainder bit = take width (plus (false ∷ remainder) (if xor (coefficient (false ∷ remainder) width) bit then generator else []))
+next_remainder width generator remainder bit =
+    take width (plus (false ∷ remainder) (if xor (coefficient (false ∷ remainder) width) bit then generator else []))
 
 -- the remainder once all these bits follow
 abbrev pub remainder_from : ℕ → List Bool → List Bool → List Bool → List Bool

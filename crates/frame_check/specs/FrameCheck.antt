@@ -54,7 +54,8 @@ generator_of ThirtyTwo = powers (32 ∷ 26 ∷ 23 ∷ 22 ∷ 16 ∷ 12 ∷ 11 �
 pub record Leaves (width : ℕ) (generator bits remainder : List Bool) : Type 0 where
   pub quotient : List Bool
   pub wide : length remainder ≡ width
-  pub equation : Same (plus (plus (raised width (reverse bits)) (raised (length bits) (all_ones width))) remainder) (times quotient generator)
+  pub equation : Same (plus (plus (raised width (reverse bits)) (raised (length bits) (all_ones width))) remainder)
+      (times quotient generator)
 
 -- These octets are the check of those: their bits are the complement of the remainder, the coefficient of the highest power first.
 pub record IsCheckOf (check : Check) (octets check_octets : List ℕ) : Type 0 where

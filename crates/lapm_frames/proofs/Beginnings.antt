@@ -28,12 +28,21 @@ second : (a b c d : ℕ) (xs ys : List ℕ) → a ∷ b ∷ xs ≡ c ∷ d ∷ y
 second a b c d xs ys e = (cc, cc, cc)
 
 -- octets with an address and a control octet begin a frame where some frame has these and goes on so
-pub begins-goes : (sender : Role) (dlci : ℕ) (command : Bool) (control : ℕ) (tail : List ℕ) → Begins sender dlci (address_of command sender dlci ∷ control ∷ tail) → Goes command control tail
+pub begins-goes : (sender : Role) (dlci : ℕ) (command : Bool) (control : ℕ) (tail : List ℕ)
+    → Begins sender dlci (address_of command sender dlci ∷ control ∷ tail) → Goes command control tail
 begins-goes sender dlci command control tail h =
-    let e = second (address_of (parts_of h.frame).command sender dlci) (control_octet (parts_of h.frame)) (address_of command sender dlci) control (tail_octets (parts_of h.frame)) (tail ++ h.rest) h.goes_on in
-    record { frame = h.frame; has = record { is_frame = h.is_frame; command_is = address-one (parts_of h.frame).command command sender dlci e.0; control_is = e.1 }; rest = h.rest; tail_is = e.2 }
+    let e = second (address_of (parts_of h.frame).command sender dlci) (control_octet (parts_of h.frame))
+    (address_of command sender dlci) control (tail_octets (parts_of h.frame)) (tail ++ h.rest) h.goes_on in
+    record {
+      frame = h.frame;
+      has =
+          record { is_frame = h.is_frame; command_is = address-one (parts_of h.frame).command command sender dlci e.0; control_is = e.1 };
+      rest = h.rest;
+      tail_is = e.2;
+    }
 
-pub goes-begins : (sender : Role) (dlci : ℕ) (command : Bool) (control : ℕ) (tail : List ℕ) → Goes command control tail → Begins sender dlci (address_of command sender dlci ∷ control ∷ tail)
+pub goes-begins : (sender : Role) (dlci : ℕ) (command : Bool) (control : ℕ) (tail : List ℕ) → Goes command control tail
+    → Begins sender dlci (address_of command sender dlci ∷ control ∷ tail)
 goes-begins sender dlci command control tail g = record {
   frame = g.frame;
   is_frame = g.has.is_frame;
@@ -42,7 +51,10 @@ goes-begins sender dlci command control tail g = record {
 }
 
 -- likewise for whole spellings
-pub spelling-has : (frame : Frame) (sender : Role) (dlci : ℕ) (command : Bool) (control : ℕ) (tail : List ℕ) → FrameSpelling frame sender dlci (address_of command sender dlci ∷ control ∷ tail) → Has command control frame × (tail ≡ tail_octets (parts_of frame))
+pub spelling-has : (frame : Frame) (sender : Role) (dlci : ℕ) (command : Bool) (control : ℕ) (tail : List ℕ)
+    → FrameSpelling frame sender dlci (address_of command sender dlci ∷ control ∷ tail)
+    → Has command control frame × (tail ≡ tail_octets (parts_of frame))
 spelling-has frame sender dlci command control tail h =
-    let e = second (address_of (parts_of frame).command sender dlci) (control_octet (parts_of frame)) (address_of command sender dlci) control (tail_octets (parts_of frame)) tail (sym h.1) in
+    let e = second (address_of (parts_of frame).command sender dlci) (control_octet (parts_of frame))
+    (address_of command sender dlci) control (tail_octets (parts_of frame)) tail (sym h.1) in
     (record { is_frame = h.0; command_is = address-one (parts_of frame).command command sender dlci e.0; control_is = e.1 }, sym e.2)

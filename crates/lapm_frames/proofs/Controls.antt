@@ -71,6 +71,7 @@ unnumbered-at = by_form (λ parts. AreParts parts → control_octet parts % 4 �
       longest = short info control k.informs f.2;
     })
   where
-    short : (info : Option (List ℕ)) (control : ℕ) → is_some info ≡ is_informed control → IfSome info (λ info. length info ≤ INFO) → length (unwrap_or info []) ≤ longest_of control
+    short : (info : Option (List ℕ)) (control : ℕ) → is_some info ≡ is_informed control → IfSome info (λ info. length info ≤ INFO)
+        → length (unwrap_or info []) ≤ longest_of control
     short None control e low = omega arith
     short (Some info) control e low = rw (sym e) low

@@ -36,22 +36,32 @@ pub record IsUnnumberedKind (control : ℕ) (command informed : Bool) : Type 0 w
 -- what holds of the parts of each form holds of the parts of each frame
 pub by_form : (P : FrameParts → Type 0)
     → ((ns nr : ℕ) (pf : Bool) (info : List ℕ) → P (information ns nr pf info))
-    → ((name : List ℕ) (control : ℕ) (command : Bool) (nr : ℕ) (pf : Bool) → IsSupervisoryKind control → P (supervisory name control command nr pf))
-    → ((name : List ℕ) (control : ℕ) (command pf : Bool) (info : Option (List ℕ)) → IsUnnumberedKind control command (is_some info) → P (unnumbered name control command pf info))
+    → ((name : List ℕ) (control : ℕ) (command : Bool) (nr : ℕ) (pf : Bool) → IsSupervisoryKind control
+    → P (supervisory name control command nr pf))
+    → ((name : List ℕ) (control : ℕ) (command pf : Bool) (info : Option (List ℕ)) → IsUnnumberedKind control command (is_some info)
+    → P (unnumbered name control command pf info))
     → (frame : Frame) → P (parts_of frame)
 by_form P i s u (I ns nr pf info) = i ns nr pf info
 by_form P i s u (Rr command nr pf) = s (codes "rr") 0x01 command nr pf (record { known = refl; low = lit< tt; odd = refl })
 by_form P i s u (Rnr command nr pf) = s (codes "rnr") 0x05 command nr pf (record { known = refl; low = lit< tt; odd = refl })
 by_form P i s u (Rej command nr pf) = s (codes "rej") 0x09 command nr pf (record { known = refl; low = lit< tt; odd = refl })
 by_form P i s u (Srej command nr pf) = s (codes "srej") 0x0d command nr pf (record { known = refl; low = lit< tt; odd = refl })
-by_form P i s u (Sabme pf) = u (codes "sabme") 0x6f true pf None (record { allowed = refl; informs = refl; low = lit< tt; odd = refl; unmarked = refl })
-by_form P i s u (Disc pf) = u (codes "disc") 0x43 true pf None (record { allowed = refl; informs = refl; low = lit< tt; odd = refl; unmarked = refl })
-by_form P i s u (Ua pf) = u (codes "ua") 0x63 false pf None (record { allowed = refl; informs = refl; low = lit< tt; odd = refl; unmarked = refl })
-by_form P i s u (Dm pf) = u (codes "dm") 0x0f false pf None (record { allowed = refl; informs = refl; low = lit< tt; odd = refl; unmarked = refl })
-by_form P i s u (Frmr pf info) = u (codes "frmr") 0x87 false pf (Some info) (record { allowed = refl; informs = refl; low = lit< tt; odd = refl; unmarked = refl })
-by_form P i s u (Ui command pf info) = u (codes "ui") 0x03 command pf (Some info) (record { allowed = refl; informs = refl; low = lit< tt; odd = refl; unmarked = refl })
-by_form P i s u (Xid command pf info) = u (codes "xid") 0xaf command pf (Some info) (record { allowed = refl; informs = refl; low = lit< tt; odd = refl; unmarked = refl })
-by_form P i s u (Test command pf info) = u (codes "test") 0xe3 command pf (Some info) (record { allowed = refl; informs = refl; low = lit< tt; odd = refl; unmarked = refl })
+by_form P i s u (Sabme pf) =
+    u (codes "sabme") 0x6f true pf None (record { allowed = refl; informs = refl; low = lit< tt; odd = refl; unmarked = refl })
+by_form P i s u (Disc pf) =
+    u (codes "disc") 0x43 true pf None (record { allowed = refl; informs = refl; low = lit< tt; odd = refl; unmarked = refl })
+by_form P i s u (Ua pf) =
+    u (codes "ua") 0x63 false pf None (record { allowed = refl; informs = refl; low = lit< tt; odd = refl; unmarked = refl })
+by_form P i s u (Dm pf) =
+    u (codes "dm") 0x0f false pf None (record { allowed = refl; informs = refl; low = lit< tt; odd = refl; unmarked = refl })
+by_form P i s u (Frmr pf info) =
+    u (codes "frmr") 0x87 false pf (Some info) (record { allowed = refl; informs = refl; low = lit< tt; odd = refl; unmarked = refl })
+by_form P i s u (Ui command pf info) =
+    u (codes "ui") 0x03 command pf (Some info) (record { allowed = refl; informs = refl; low = lit< tt; odd = refl; unmarked = refl })
+by_form P i s u (Xid command pf info) =
+    u (codes "xid") 0xaf command pf (Some info) (record { allowed = refl; informs = refl; low = lit< tt; odd = refl; unmarked = refl })
+by_form P i s u (Test command pf info) =
+    u (codes "test") 0xe3 command pf (Some info) (record { allowed = refl; informs = refl; low = lit< tt; odd = refl; unmarked = refl })
 
 -- names are short
 pub short-name : (frame : Frame) → length (parts_of frame).name ≤ 5
@@ -108,7 +118,8 @@ odd_at command control tail =
     else unnumbered_at command control false tail))))
 
 pub frame_at : Bool → ℕ → List ℕ → Frame
-frame_at command control tail = if nat_eq (control % 2) 0 then I (control / 2) (nr_of tail) (final_of tail) (rest_of tail) else odd_at command control tail
+frame_at command control tail =
+    if nat_eq (control % 2) 0 then I (control / 2) (nr_of tail) (final_of tail) (rest_of tail) else odd_at command control tail
 
 nr_of-numbered : (nr : ℕ) (pf : Bool) (rest : List ℕ) → nr_of (numbered nr pf ∷ rest) ≡ nr
 unfolding nr_of
@@ -121,7 +132,8 @@ final_of-numbered nr true rest = let e : (2 * nr + 1) % 2 ≡ 1 = omega arith in
 final_of-numbered nr false rest = let e : (2 * nr + 0) % 2 ≡ 0 = omega arith in rw e refl
 
 -- a frame is that of its octets
-pub frame_at-parts : (frame : Frame) → frame_at (parts_of frame).command (control_octet (parts_of frame)) (tail_octets (parts_of frame)) ≡ frame
+pub frame_at-parts : (frame : Frame)
+    → frame_at (parts_of frame).command (control_octet (parts_of frame)) (tail_octets (parts_of frame)) ≡ frame
 unfolding frame_at odd_at unnumbered_at marked_of rest_of
 frame_at-parts (I ns nr pf info) =
     let even : (2 * ns) % 2 ≡ 0 = omega arith in

@@ -19,7 +19,8 @@ few = by_form (λ parts. length (tail_octets parts) ≤ 1 + length (unwrap_or pa
     (λ name control command nr pf k. omega arith)
     (λ name control command pf info k. omega arith)
 
-pub length-spelled : (frame : Frame) (sender : Role) (dlci : ℕ) → (2 ≤ length (spelled frame sender dlci)) × (length (spelled frame sender dlci) ≤ 3 + length (information_of frame))
+pub length-spelled : (frame : Frame) (sender : Role) (dlci : ℕ)
+    → (2 ≤ length (spelled frame sender dlci)) × (length (spelled frame sender dlci) ≤ 3 + length (information_of frame))
 length-spelled frame sender dlci = let most = few frame in (omega arith, omega (arith, most))
 
 within : (info : Option (List ℕ)) → IfSome info (λ info. length info ≤ INFO) → length (unwrap_or info []) ≤ INFO
@@ -55,11 +56,16 @@ SmallBehind parts = (control_octet parts < 256) × AreOctets (tail_octets parts)
 behind : (frame : Frame) → IsFrame frame → AreOctets (information_of frame) → SmallBehind (parts_of frame)
 behind = by_form (λ parts. AreParts parts → AreOctets (unwrap_or parts.info []) → SmallBehind parts)
     (λ ns nr pf info is h. (omega (arith, is.0), All-cons (λ octet. octet < 256) (numbered nr pf) info (numbered-small nr pf is.1) h))
-    (λ name control command nr pf k is h. (omega (arith, k.low), All-cons (λ octet. octet < 256) (numbered nr pf) [] (numbered-small nr pf is.1) (All-nil (λ octet. octet < 256))))
+    (λ name control command nr pf k is h. (
+      omega (arith, k.low),
+      All-cons (λ octet. octet < 256) (numbered nr pf) [] (numbered-small nr pf is.1) (All-nil (λ octet. octet < 256)),
+    ))
     (λ name control command pf info k is h. (marked-small control pf k.low, h))
 
-pub spelled-small : (frame : Frame) (sender : Role) (dlci : ℕ) → dlci < 64 → IsFrame frame → AreOctets (information_of frame) → AreOctets (spelled frame sender dlci)
+pub spelled-small : (frame : Frame) (sender : Role) (dlci : ℕ) → dlci < 64 → IsFrame frame → AreOctets (information_of frame)
+    → AreOctets (spelled frame sender dlci)
 spelled-small frame sender dlci low is h =
     let b = behind frame is h in
-    All-cons (λ octet. octet < 256) (address_of (parts_of frame).command sender dlci) (control_octet (parts_of frame) ∷ tail_octets (parts_of frame)) (address-small (parts_of frame).command sender dlci low)
+    All-cons (λ octet. octet < 256) (address_of (parts_of frame).command sender dlci)
+    (control_octet (parts_of frame) ∷ tail_octets (parts_of frame)) (address-small (parts_of frame).command sender dlci low)
     (All-cons (λ octet. octet < 256) (control_octet (parts_of frame)) (tail_octets (parts_of frame)) b.0 b.1)

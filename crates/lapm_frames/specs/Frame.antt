@@ -45,7 +45,8 @@ spelled frame sender dlci = address_of (parts_of frame).command sender dlci ∷ 
 
 -- numbers are below 128, and information has at most INFO octets
 abbrev pub IsFrame : Frame → Type 0
-IsFrame frame = IfSome (parts_of frame).ns (λ ns. ns < 128) × IfSome (parts_of frame).nr (λ nr. nr < 128) × IfSome (parts_of frame).info (λ info. length info ≤ INFO)
+IsFrame frame = IfSome (parts_of frame).ns (λ ns. ns < 128) × IfSome (parts_of frame).nr (λ nr. nr < 128)
+    × IfSome (parts_of frame).info (λ info. length info ≤ INFO)
 
 -- the octets spell the frame
 abbrev pub FrameSpelling : Frame → Role → ℕ → List ℕ → Type 0

@@ -15,15 +15,18 @@ pub record FrameParts : Type 0 where
 
 -- I frames have both numbers and information,
 abbrev pub information : ℕ → ℕ → Bool → List ℕ → FrameParts
-information ns nr pf info = record { name = codes "i"; command = true; control = 0x00; ns = Some ns; nr = Some nr; pf = pf; info = Some info }
+information ns nr pf info =
+    record { name = codes "i"; command = true; control = 0x00; ns = Some ns; nr = Some nr; pf = pf; info = Some info }
 
 -- S frames N(R) alone,
 abbrev pub supervisory : List ℕ → ℕ → Bool → ℕ → Bool → FrameParts
-supervisory name control command nr pf = record { name = name; command = command; control = control; ns = None; nr = Some nr; pf = pf; info = None }
+supervisory name control command nr pf =
+    record { name = name; command = command; control = control; ns = None; nr = Some nr; pf = pf; info = None }
 
 -- and U frames no number
 abbrev pub unnumbered : List ℕ → ℕ → Bool → Bool → Option (List ℕ) → FrameParts
-unnumbered name control command pf info = record { name = name; command = command; control = control; ns = None; nr = None; pf = pf; info = info }
+unnumbered name control command pf info =
+    record { name = name; command = command; control = control; ns = None; nr = None; pf = pf; info = info }
 
 abbrev pub parts_of : Frame → FrameParts
 parts_of (I ns nr pf info) = information ns nr pf info

@@ -47,5 +47,6 @@ by_role Answerer own theirs tries period h k = record {
   selective = λ e. few (theirs.srej && own.srej) (min theirs.tx_window own.rx_window) e;
 }
 
-pub fits : (setup : Setup) (theirs : Offer) → IsAllowed setup.offer → IsAllowed theirs → Fits setup (agreed_by setup.role setup.offer theirs)
+pub fits : (setup : Setup) (theirs : Offer) → IsAllowed setup.offer → IsAllowed theirs
+    → Fits setup (agreed_by setup.role setup.offer theirs)
 fits setup theirs h k = by_role setup.role setup.offer theirs setup.tries setup.period h k

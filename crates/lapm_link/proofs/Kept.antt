@@ -8,7 +8,8 @@ use Rattle.link_account.specs.Account.{Account}
 use Rattle.lapm_link.specs.Stands.{IsUnlinked}
 
 -- phase, terms and tries may change
-pub moved : {setup : Setup} {answer : Option Answer} {a : Account} (p : Phase) (t : Terms) (due : Bool) (set count : ℕ) → IsUnlinked setup answer a
+pub moved : {setup : Setup} {answer : Option Answer} {a : Account} (p : Phase) (t : Terms) (due : Bool) (set count : ℕ)
+    → IsUnlinked setup answer a
     → IsUnlinked setup answer (record a { phase = p; terms = t; wait = record a.wait { try = due; try_set = set; try_count = count } })
 moved p t due set count h = record {
   setup_is = h.setup_is;
@@ -26,5 +27,6 @@ moved p t due set count h = record {
 }
 
 -- the same setup and answer
-pub as_kept : {setup setup' : Setup} {answer answer' : Option Answer} (a : Account) → setup' ≡ setup → answer' ≡ answer → IsUnlinked setup answer a → IsUnlinked setup' answer' a
+pub as_kept : {setup setup' : Setup} {answer answer' : Option Answer} (a : Account) → setup' ≡ setup → answer' ≡ answer
+    → IsUnlinked setup answer a → IsUnlinked setup' answer' a
 as_kept a s e h = rw (s, e) h

@@ -18,62 +18,89 @@ use Rattle.link_account.specs.Hear.{trying}
 use Rattle.link_account.specs.Speak.{Said, where_says, else_says, steps, on_break_timer, then_tries, after_timers, speak_connected, speak_releasing}
 use Rattle.lapm_link.specs.Stands.{Gives, SaysLinked, Links, LinksBeside, Becomes, SpeaksLinked, Speaks}
 
-pub gives_where : {end : Connected} {sent : Sent} (b : Bool) (said : Said) (a : Account) → b ≡ true → SaysLinked said end sent → Gives (where_says b said) a end (Some sent)
+pub gives_where : {end : Connected} {sent : Sent} (b : Bool) (said : Said) (a : Account) → b ≡ true → SaysLinked said end sent
+    → Gives (where_says b said) a end (Some sent)
 gives_where b said a e h = rw e h
 
 -- the poll is no longer due
-pub polled : {setup : Setup} {terms : Terms} {receiver : Taking} {breaks : Breaks} {owes : Owes} {wait : Wait} {numbered special : Bool} {a : Account}
+pub polled : {setup : Setup} {terms : Terms} {receiver : Taking} {breaks : Breaks} {owes : Owes} {wait : Wait} {numbered
+    special : Bool} {a : Account}
     → LinksBeside setup terms receiver breaks owes wait numbered special a
-    → LinksBeside setup terms receiver breaks owes (record wait { poll = false }) numbered special (record a { wait = record a.wait { poll = false } })
+    → LinksBeside setup terms receiver breaks owes (record wait { poll = false }) numbered special
+    (record a { wait = record a.wait { poll = false } })
 polled h = record {
   phase_is = h.phase_is;
   setup_is = h.setup_is;
   terms_are = h.terms_are;
   numbered_is = h.numbered_is;
   receiver_stands = h.receiver_stands;
-  breaks_stand = record { own = h.breaks_stand.own; their = h.breaks_stand.their; told_within = h.breaks_stand.told_within; given_is = h.breaks_stand.given_is };
+  breaks_stand = record {
+    own = h.breaks_stand.own;
+    their = h.breaks_stand.their;
+    told_within = h.breaks_stand.told_within;
+    given_is =
+        h.breaks_stand.given_is;
+  };
   owes_is = h.owes_is;
   waits = record { poll_is = refl; urgent_is = h.waits.urgent_is; timer_is = h.waits.timer_is };
   special_is = h.special_is;
 }
 
 -- the reply is no longer due
-pub replied : {setup : Setup} {terms : Terms} {receiver : Taking} {breaks : Breaks} {owes : Owes} {wait : Wait} {numbered special : Bool} {a : Account}
+pub replied : {setup : Setup} {terms : Terms} {receiver : Taking} {breaks : Breaks} {owes : Owes} {wait : Wait} {numbered
+    special : Bool} {a : Account}
     → LinksBeside setup terms receiver breaks owes wait numbered special a
-    → LinksBeside setup terms receiver breaks (record owes { reply = false }) wait numbered special (record a { owes = record a.owes { reply = false } })
+    → LinksBeside setup terms receiver breaks (record owes { reply = false }) wait numbered special
+    (record a { owes = record a.owes { reply = false } })
 replied h = record {
   phase_is = h.phase_is;
   setup_is = h.setup_is;
   terms_are = h.terms_are;
   numbered_is = h.numbered_is;
   receiver_stands = h.receiver_stands;
-  breaks_stand = record { own = h.breaks_stand.own; their = h.breaks_stand.their; told_within = h.breaks_stand.told_within; given_is = h.breaks_stand.given_is };
+  breaks_stand = record {
+    own = h.breaks_stand.own;
+    their = h.breaks_stand.their;
+    told_within = h.breaks_stand.told_within;
+    given_is =
+        h.breaks_stand.given_is;
+  };
   owes_is = ap (λ (owes : Owes). record owes { reply = false }) h.owes_is;
   waits = record { poll_is = h.waits.poll_is; urgent_is = h.waits.urgent_is; timer_is = h.waits.timer_is };
   special_is = h.special_is;
 }
 
 -- the last speaking is forgotten
-pub forgotten : {setup : Setup} {terms : Terms} {receiver : Taking} {breaks : Breaks} {owes : Owes} {wait : Wait} {numbered special : Bool} {a : Account}
-    → LinksBeside setup terms receiver breaks owes wait numbered special a → LinksBeside setup terms receiver breaks owes wait numbered false (record a { special = false })
+pub forgotten : {setup : Setup} {terms : Terms} {receiver : Taking} {breaks : Breaks} {owes : Owes} {wait : Wait} {numbered
+    special : Bool} {a : Account}
+    → LinksBeside setup terms receiver breaks owes wait numbered special a
+    → LinksBeside setup terms receiver breaks owes wait numbered false (record a { special = false })
 forgotten h = record {
   phase_is = h.phase_is;
   setup_is = h.setup_is;
   terms_are = h.terms_are;
   numbered_is = h.numbered_is;
   receiver_stands = h.receiver_stands;
-  breaks_stand = record { own = h.breaks_stand.own; their = h.breaks_stand.their; told_within = h.breaks_stand.told_within; given_is = h.breaks_stand.given_is };
+  breaks_stand = record {
+    own = h.breaks_stand.own;
+    their = h.breaks_stand.their;
+    told_within = h.breaks_stand.told_within;
+    given_is =
+        h.breaks_stand.given_is;
+  };
   owes_is = h.owes_is;
   waits = record { poll_is = h.waits.poll_is; urgent_is = h.waits.urgent_is; timer_is = h.waits.timer_is };
   special_is = refl;
 }
 
 -- The first step that gives something is what is said.
-pub first : (end : Connected) (sent : Sent) (o : Option Said) (rest : Said) (a : Account) → Gives o a end (Some sent) → SaysLinked (else_says o rest) end sent
+pub first : (end : Connected) (sent : Sent) (o : Option Said) (rest : Said) (a : Account) → Gives o a end (Some sent)
+    → SaysLinked (else_says o rest) end sent
 first end sent None rest a h = absurd h
 first end sent (Some said) rest a h = h
 
-pub next : (end end' : Connected) (sent : Sent) (o : Option Said) (rest : Said) (a : Account) → Gives o a end None → (Links end a → SaysLinked rest end' sent)
+pub next : (end end' : Connected) (sent : Sent) (o : Option Said) (rest : Said) (a : Account) → Gives o a end None
+    → (Links end a → SaysLinked rest end' sent)
     → SaysLinked (else_says o rest) end' sent
 next end end' sent None rest a h k = k h
 next end end' sent (Some said) rest a h k = absurd h
@@ -84,30 +111,46 @@ breaks_off : (end : Connected) (broken : LinkFault) (turn : ℕ) (special : Bool
 breaks_off end broken turn special (Ok b) h = absurd h
 breaks_off end broken turn special (Err fault) h = h
 
-pub second_breaks : (end1 end2 : Connected) (broken : LinkFault) (turn : ℕ) (special : Bool) (r : Result Account LinkFault) → Becomes r end1 (Ok tt)
-    → ((b : Account) → Links end1 b → Becomes (on_break_timer turn b) end2 (Err broken)) → SpeaksLinked (after_timers turn special (then_tries turn r)) end2 (Err broken)
+pub second_breaks : (end1 end2 : Connected) (broken : LinkFault) (turn : ℕ) (special : Bool) (r : Result Account LinkFault)
+    → Becomes r end1 (Ok tt)
+    → ((b : Account) → Links end1 b → Becomes (on_break_timer turn b) end2 (Err broken))
+    → SpeaksLinked (after_timers turn special (then_tries turn r)) end2 (Err broken)
 second_breaks end1 end2 broken turn special (Err fault) h k = absurd h
 second_breaks end1 end2 broken turn special (Ok b) h k = breaks_off end2 broken turn special (on_break_timer turn b) (k b h)
 
 goes_on : (end end' : Connected) (sent : Sent) (turn : ℕ) (special : Bool) (r : Result Account LinkFault) → Becomes r end (Ok tt)
-    → ((b : Account) → Links end b → SaysLinked (steps turn special (record b { special = false })) end' sent) → SpeaksLinked (after_timers turn special r) end' (Ok sent)
+    → ((b : Account) → Links end b → SaysLinked (steps turn special (record b { special = false })) end' sent)
+    → SpeaksLinked (after_timers turn special r) end' (Ok sent)
 goes_on end end' sent turn special (Ok b) h k = k b h
 goes_on end end' sent turn special (Err fault) h k = absurd h
 
-pub timers_pass : (end1 end2 end3 : Connected) (sent : Sent) (turn : ℕ) (special : Bool) (r : Result Account LinkFault) → Becomes r end1 (Ok tt)
+pub timers_pass : (end1 end2 end3 : Connected) (sent : Sent) (turn : ℕ) (special : Bool) (r : Result Account LinkFault)
+    → Becomes r end1 (Ok tt)
     → ((b : Account) → Links end1 b → Becomes (on_break_timer turn b) end2 (Ok tt))
-    → ((b : Account) → Links end2 b → SaysLinked (steps turn special (record b { special = false })) end3 sent) → SpeaksLinked (after_timers turn special (then_tries turn r)) end3 (Ok sent)
+    → ((b : Account) → Links end2 b → SaysLinked (steps turn special (record b { special = false })) end3 sent)
+    → SpeaksLinked (after_timers turn special (then_tries turn r)) end3 (Ok sent)
 timers_pass end1 end2 end3 sent turn special (Err fault) h k l = absurd h
 timers_pass end1 end2 end3 sent turn special (Ok b) h k l = goes_on end2 end3 sent turn special (on_break_timer turn b) (k b h) l
 
 -- An originator that is told to release speaks as one that releases.
-as_before : (before sent : Sent) (r : Result Said LinkFault) (result : Result AnyEnd Broken) (turn : ℕ) (a : Account) → Speaks r (trying phases.Releasing turn a) before sent result
+as_before : (before sent : Sent) (r : Result Said LinkFault) (result : Result AnyEnd Broken) (turn : ℕ) (a : Account)
+    → Speaks r (trying phases.Releasing turn a) before sent result
     → Speaks r a before sent result
 as_before before sent (Ok said) (Ok end) turn a h = h
-as_before before sent (Err fault) (Err broken) turn a h = (h.0, record { fault_is = h.1.fault_is; over = record { setup_is = h.1.over.setup_is; answer_is = h.1.over.answer_is; terms_are = h.1.over.terms_are } })
+as_before before sent (Err fault) (Err broken) turn a h = (
+  h.0,
+  record {
+    fault_is = h.1.fault_is;
+    over =
+        record { setup_is = h.1.over.setup_is; answer_is = h.1.over.answer_is; terms_are = h.1.over.terms_are };
+  },
+)
 as_before before sent (Ok said) (Err broken) turn a h = absurd h
 as_before before sent (Err fault) (Ok end) turn a h = absurd h
 
-pub releases : (before sent : Sent) (result : Result AnyEnd Broken) (turn : ℕ) (release : Bool) (a : Account) → release ≡ true → is_originator a.setup.role ≡ true
-    → Speaks (speak_releasing turn (trying phases.Releasing turn a)) (trying phases.Releasing turn a) before sent result → Speaks (speak_connected turn release a) a before sent result
-releases before sent result turn release a e f h = rw (e, f) (as_before before sent (speak_releasing turn (trying phases.Releasing turn a)) result turn a h)
+pub releases : (before sent : Sent) (result : Result AnyEnd Broken) (turn : ℕ) (release : Bool) (a : Account) → release ≡ true
+    → is_originator a.setup.role ≡ true
+    → Speaks (speak_releasing turn (trying phases.Releasing turn a)) (trying phases.Releasing turn a) before sent result
+    → Speaks (speak_connected turn release a) a before sent result
+releases before sent result turn release a e f h =
+    rw (e, f) (as_before before sent (speak_releasing turn (trying phases.Releasing turn a)) result turn a h)

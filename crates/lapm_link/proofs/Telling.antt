@@ -9,13 +9,17 @@ use Rattle.lapm_link.specs.Stands.{Negotiates}
 use Rattle.lapm_link.specs.EndLaws.{Tells, AccountTells}
 
 negotiating : (end : Negotiating) (talk : Talk) (a : Account) → Negotiates talk a → Tells (ends.Negotiating end) a
-negotiating end (talks.Asking asking) a h = record { phase = sym h.phase_is; taken = omega arith; undelivered = omega arith; waiting = rw h.phase_is refl }
-negotiating end (talks.Answering answering) a h = record { phase = sym h.phase_is; taken = omega arith; undelivered = omega arith; waiting = rw h.phase_is refl }
+negotiating end (talks.Asking asking) a h =
+    record { phase = sym h.phase_is; taken = omega arith; undelivered = omega arith; waiting = rw h.phase_is refl }
+negotiating end (talks.Answering answering) a h =
+    record { phase = sym h.phase_is; taken = omega arith; undelivered = omega arith; waiting = rw h.phase_is refl }
 
 pub account_tells : AccountTells
-account_tells (ends.Detecting end) a h = record { phase = sym h.phase_is; taken = omega arith; undelivered = omega arith; waiting = rw h.phase_is refl }
+account_tells (ends.Detecting end) a h =
+    record { phase = sym h.phase_is; taken = omega arith; undelivered = omega arith; waiting = rw h.phase_is refl }
 account_tells (ends.Negotiating end) a h = negotiating end end.talk a h
-account_tells (ends.Establishing end) a h = record { phase = sym h.0; taken = omega arith; undelivered = omega arith; waiting = rw h.0 refl }
+account_tells (ends.Establishing end) a h =
+    record { phase = sym h.0; taken = omega arith; undelivered = omega arith; waiting = rw h.0 refl }
 account_tells (ends.Connected end) a h = record {
   phase = sym h.beside.phase_is;
   taken = omega (arith, h.beside.receiver_stands.taken_is);

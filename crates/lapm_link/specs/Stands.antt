@@ -98,7 +98,8 @@ pub record WaitStands (wait : Wait) (a : Account) : Type 0 where
   pub timer_is : wait.timer ≡ a.wait.timer
 
 -- a link that is up, but for its sender
-pub record LinksBeside (setup : Setup) (terms : Terms) (receiver : Taking) (breaks : Breaks) (owes : Owes) (wait : Wait) (numbered special : Bool) (a : Account) : Type 0 where
+pub record LinksBeside (setup : Setup) (terms : Terms) (receiver : Taking) (breaks : Breaks) (owes : Owes) (wait : Wait)
+    (numbered special : Bool) (a : Account) : Type 0 where
   pub phase_is : a.phase ≡ phases.Connected
   pub setup_is : setup ≡ a.setup
   pub terms_are : terms ≡ a.terms

@@ -38,7 +38,8 @@ ready-count ss o e = rw e (by (nat_lt (position_or_len is_empty ss) (length ss))
     within : position_or_len is_empty ss ≤ length ss
     within = prefix_len-le-length (λ x. not (is_empty x)) ss
 
-    by : (t : Bool) → nat_lt (position_or_len is_empty ss) (length ss) ≡ t → unwrap_or (cond t (Some (position_or_len is_empty ss)) None) (length ss) ≡ length (ready_of ss)
+    by : (t : Bool) → nat_lt (position_or_len is_empty ss) (length ss) ≡ t
+        → unwrap_or (cond t (Some (position_or_len is_empty ss)) None) (length ss) ≡ length (ready_of ss)
     by true e = sym (ready-length ss)
     by false e = let same : length ss ≡ position_or_len is_empty ss = grind (arith, nat_tests, e, within) in same ∙ sym (ready-length ss)
 
@@ -64,7 +65,8 @@ rest-later n m (Some info ∷ ss) l = let other : nat_eq m n ≡ false = grind (
 pub run-ready : (n : ℕ) (ss : Row) → run_from n (held_from n ss) ≡ ready_of ss
 run-ready n [] = refl
 run-ready n (None ∷ ss) = run-later n (n + 1) ss (omega arith)
-run-ready n (Some info ∷ ss) = let same : nat_eq n n ≡ true = grind (arith, nat_tests) in rw same (ap (λ xs. info ∷ xs) (run-ready (n + 1) ss))
+run-ready n (Some info ∷ ss) = let same : nat_eq n n ≡ true = grind (arith, nat_tests) in
+    rw same (ap (λ xs. info ∷ xs) (run-ready (n + 1) ss))
 
 pub rest-after : (n k : ℕ) (ss : Row) → k ≡ n + length (ready_of ss) → rest_from n (held_from n ss) ≡ held_after k ss
 rest-after n k [] e = refl
@@ -82,7 +84,8 @@ held-at m n k [] e = refl
 held-at m n zero (None ∷ ss) e = before-first m (n + 1) ss (omega arith)
 held-at m n zero (Some info ∷ ss) e = let same : nat_eq n m ≡ true = grind (arith, nat_tests) in rw same refl
 held-at m n (suc k) (None ∷ ss) e = held-at m (n + 1) k ss (omega arith)
-held-at m n (suc k) (Some info ∷ ss) e = let other : nat_eq n m ≡ false = grind (arith, nat_tests) in rw other (held-at m (n + 1) k ss (omega arith))
+held-at m n (suc k) (Some info ∷ ss) e = let other : nat_eq n m ≡ false = grind (arith, nat_tests) in
+    rw other (held-at m (n + 1) k ss (omega arith))
 
 -- a slot is filled
 with-first : (m n : ℕ) (info : List ℕ) (ss : Row) → m < n
@@ -130,30 +133,37 @@ none-missing low n [] e = refl
 none-missing low n (None ∷ ss) e = rw e (none-missing low (n + 1) ss e)
 none-missing low n (Some info ∷ ss) e = cc
 
-missing-next : (n m : ℕ) (ss : Row) → n < m → any_held ss ≡ true → missing_from n (held_from m ss) ≡ n ∷ missing_from (n + 1) (held_from m ss)
+missing-next : (n m : ℕ) (ss : Row) → n < m → any_held ss ≡ true
+    → missing_from n (held_from m ss) ≡ n ∷ missing_from (n + 1) (held_from m ss)
 missing-next n m [] l e = cc
 missing-next n m (None ∷ ss) l e = missing-next n (m + 1) ss (omega arith) e
 missing-next n m (Some info ∷ ss) l e =
     let one : m - n ≡ suc (m - (n + 1)) = omega arith in
     rw one refl
 
-missing-full : (n : ℕ) (info : List ℕ) (hs : List Held) → missing_from n ((record { number = n; info = info }) ∷ hs) ≡ missing_from (n + 1) hs
+missing-full : (n : ℕ) (info : List ℕ) (hs : List Held)
+    → missing_from n ((record { number = n; info = info }) ∷ hs) ≡ missing_from (n + 1) hs
 missing-full n info hs = let none : n - n ≡ 0 = omega arith in rw none refl
 
 pub find-missing : (low n : ℕ) (ss : Row) → find (λ m. nat_le low m) (missing_from n (held_from n ss)) ≡ missing_among low n ss
 find-missing low n [] = refl
 find-missing low n (Some info ∷ ss) =
-    let same : missing_from n ((record { number = n; info = info }) ∷ held_from (n + 1) ss) ≡ missing_from (n + 1) (held_from (n + 1) ss) = missing-full n info (held_from (n + 1) ss) in
+    let same : missing_from n ((record { number = n; info = info }) ∷ held_from (n + 1) ss) ≡ missing_from (n + 1) (held_from (n + 1) ss) =
+    missing-full n info (held_from (n + 1) ss) in
     rw same (find-missing low (n + 1) ss)
 find-missing low n (None ∷ ss) = by (any_held ss) refl (find-missing low (n + 1) ss)
   where
-    by : (t : Bool) → any_held ss ≡ t → find (λ m. nat_le low m) (missing_from (n + 1) (held_from (n + 1) ss)) ≡ missing_among low (n + 1) ss
-        → find (λ m. nat_le low m) (missing_from n (held_from (n + 1) ss)) ≡ cond (t && nat_le low n) (Some n) (missing_among low (n + 1) ss)
+    by : (t : Bool) → any_held ss ≡ t
+        → find (λ m. nat_le low m) (missing_from (n + 1) (held_from (n + 1) ss)) ≡ missing_among low (n + 1) ss
+        → find (λ m. nat_le low m) (missing_from n (held_from (n + 1) ss)) ≡ cond (t && nat_le low n) (Some n)
+        (missing_among low (n + 1) ss)
     by true e rest =
-        let next : missing_from n (held_from (n + 1) ss) ≡ n ∷ missing_from (n + 1) (held_from (n + 1) ss) = missing-next n (n + 1) ss (omega arith) e in
+        let next : missing_from n (held_from (n + 1) ss) ≡ n ∷ missing_from (n + 1) (held_from (n + 1) ss) =
+        missing-next n (n + 1) ss (omega arith) e in
         rw next (within (nat_le low n))
       where
-        within : (u : Bool) → cond u (Some n) (find (λ m. nat_le low m) (missing_from (n + 1) (held_from (n + 1) ss))) ≡ cond u (Some n) (missing_among low (n + 1) ss)
+        within : (u : Bool) → cond u (Some n) (find (λ m. nat_le low m) (missing_from (n + 1) (held_from (n + 1) ss))) ≡ cond u (Some n)
+            (missing_among low (n + 1) ss)
         within true = refl
         within false = rest
     by false e rest =
@@ -174,21 +184,48 @@ same-seen room taken ss ready held r h =
 -- The calls, of a view of slots. The next segment is taken.
 pub seen-take : (room taken : ℕ) (ss : Row) (info : List ℕ) (v : Arrived) → seen room taken ss ≡ v → v.ready ≡ [] → 0 < length ss
     → seen room (taken + length (ready_of (set ss 0 (Some info)))) (set ss 0 (Some info))
-    ≡ record v { taken = v.taken + length (info ∷ run_from (v.taken + 1) v.held); ready = info ∷ run_from (v.taken + 1) v.held; held = rest_from (v.taken + 1) v.held }
-seen-take room taken ss info v e = subst (λ v. v.ready ≡ [] → 0 < length ss → seen room (taken + length (ready_of (set ss 0 (Some info)))) (set ss 0 (Some info))
-    ≡ record v { taken = v.taken + length (info ∷ run_from (v.taken + 1) v.held); ready = info ∷ run_from (v.taken + 1) v.held; held = rest_from (v.taken + 1) v.held }) e (core ss)
+    ≡ record v {
+      taken = v.taken + length (info ∷ run_from (v.taken + 1) v.held);
+      ready = info ∷ run_from (v.taken + 1) v.held;
+      held =
+          rest_from (v.taken + 1) v.held;
+    }
+seen-take room taken ss info v e =
+    subst (λ v. v.ready ≡ [] → 0 < length ss → seen room (taken + length (ready_of (set ss 0 (Some info)))) (set ss 0 (Some info))
+    ≡ record v {
+      taken = v.taken + length (info ∷ run_from (v.taken + 1) v.held);
+      ready = info ∷ run_from (v.taken + 1) v.held;
+      held =
+          rest_from (v.taken + 1) v.held;
+    }) e (core ss)
   where
-    core : (ss : Row) → ready_of ss ≡ [] → 0 < length ss → seen room (taken + length (ready_of (set ss 0 (Some info)))) (set ss 0 (Some info))
-        ≡ record { room = room; taken = taken + length (info ∷ run_from (taken + 1) (held_after taken ss)); ready = info ∷ run_from (taken + 1) (held_after taken ss); held = rest_from (taken + 1) (held_after taken ss) }
+    core : (ss : Row) → ready_of ss ≡ [] → 0 < length ss
+        → seen room (taken + length (ready_of (set ss 0 (Some info)))) (set ss 0 (Some info))
+        ≡ record {
+          room = room;
+          taken = taken + length (info ∷ run_from (taken + 1) (held_after taken ss));
+          ready =
+              info ∷ run_from (taken + 1) (held_after taken ss);
+          held = rest_from (taken + 1) (held_after taken ss);
+        }
     core [] r l = absurd (omega (arith, l))
     core (Some other ∷ rest) r l = cc
     core (None ∷ rest) r l = subst (λ xs. seen room (taken + suc (length (ready_of rest))) (Some info ∷ rest)
-        ≡ record { room = room; taken = taken + suc (length xs); ready = info ∷ run_from (taken + 1) (held_from (taken + 1) rest); held = rest_from (taken + 1) (held_from (taken + 1) rest) }) (sym (run-ready (taken + 1) rest)) (same-seen room (taken + suc (length (ready_of rest))) (Some info ∷ rest) (info ∷ run_from (taken + 1) (held_from (taken + 1) rest)) (rest_from (taken + 1) (held_from (taken + 1) rest))
+        ≡ record {
+          room = room;
+          taken = taken + suc (length xs);
+          ready = info ∷ run_from (taken + 1) (held_from (taken + 1) rest);
+          held =
+              rest_from (taken + 1) (held_from (taken + 1) rest);
+        }) (sym (run-ready (taken + 1) rest))
+        (same-seen room (taken + suc (length (ready_of rest))) (Some info ∷ rest)
+        (info ∷ run_from (taken + 1) (held_from (taken + 1) rest)) (rest_from (taken + 1) (held_from (taken + 1) rest))
         (ap (λ xs. info ∷ xs) (sym (run-ready (taken + 1) rest)))
         (sym (rest-after (taken + 1) (taken + suc (length (ready_of rest))) rest (omega arith))))
 
 -- a segment ahead is held
-pub seen-held : (room taken k : ℕ) (ss : Row) (v : Arrived) → seen room taken ss ≡ v → v.ready ≡ [] → 1 ≤ k → is_held (v.taken + k) v.held ≡ full (slice_get ss k)
+pub seen-held : (room taken k : ℕ) (ss : Row) (v : Arrived) → seen room taken ss ≡ v → v.ready ≡ [] → 1 ≤ k
+    → is_held (v.taken + k) v.held ≡ full (slice_get ss k)
 seen-held room taken k ss v e = subst (λ v. v.ready ≡ [] → 1 ≤ k → is_held (v.taken + k) v.held ≡ full (slice_get ss k)) e (core k ss)
   where
     core : (k : ℕ) (ss : Row) → ready_of ss ≡ [] → 1 ≤ k → is_held (taken + k) (held_after taken ss) ≡ full (slice_get ss k)
@@ -197,18 +234,24 @@ seen-held room taken k ss v e = subst (λ v. v.ready ≡ [] → 1 ≤ k → is_h
     core zero (None ∷ rest) r l = absurd (omega (arith, l))
     core (suc k) (None ∷ rest) r l = held-at (taken + suc k) (taken + 1) k rest (omega arith)
 
-pub seen-keep : (room taken k : ℕ) (ss : Row) (info : List ℕ) (v : Arrived) → seen room taken ss ≡ v → v.ready ≡ [] → 1 ≤ k → k < length ss → is_held (v.taken + k) v.held ≡ false
+pub seen-keep : (room taken k : ℕ) (ss : Row) (info : List ℕ) (v : Arrived) → seen room taken ss ≡ v → v.ready ≡ [] → 1 ≤ k → k < length ss
+    → is_held (v.taken + k) v.held ≡ false
     → seen room taken (set ss k (Some info)) ≡ record v { held = with_held (record { number = v.taken + k; info = info }) v.held }
 seen-keep room taken k ss info v e = subst (λ v. v.ready ≡ [] → 1 ≤ k → k < length ss → is_held (v.taken + k) v.held ≡ false
-    → seen room taken (set ss k (Some info)) ≡ record v { held = with_held (record { number = v.taken + k; info = info }) v.held }) e (core k ss)
+    → seen room taken (set ss k (Some info)) ≡ record v { held = with_held (record { number = v.taken + k; info = info }) v.held }) e
+    (core k ss)
   where
     core : (k : ℕ) (ss : Row) → ready_of ss ≡ [] → 1 ≤ k → k < length ss → is_held (taken + k) (held_after taken ss) ≡ false
-        → seen room taken (set ss k (Some info)) ≡ record (seen room taken ss) { held = with_held (record { number = taken + k; info = info }) (held_after taken ss) }
+        → seen room taken (set ss k (Some info)) ≡ record
+        (seen room taken ss) { held = with_held (record { number = taken + k; info = info }) (held_after taken ss) }
     core k [] r l w f = absurd (omega (arith, w))
     core k (Some other ∷ rest) r l w f = cc
     core zero (None ∷ rest) r l w f = absurd (omega (arith, l))
-    core (suc k) (None ∷ rest) r l w f = same-seen room taken (None ∷ set rest k (Some info)) [] (with_held (record { number = taken + suc k; info = info }) (held_from (taken + 1) rest)) refl
-        (held-set (taken + suc k) (taken + 1) k info rest (omega arith) (omega (arith, w)) (sym (held-at (taken + suc k) (taken + 1) k rest (omega arith)) ∙ f))
+    core (suc k) (None ∷ rest) r l w f =
+        same-seen room taken (None ∷ set rest k (Some info)) []
+        (with_held (record { number = taken + suc k; info = info }) (held_from (taken + 1) rest)) refl
+        (held-set (taken + suc k) (taken + 1) k info rest (omega arith) (omega (arith, w))
+        (sym (held-at (taken + suc k) (taken + 1) k rest (omega arith)) ∙ f))
 
 -- the first segment is delivered
 pub next-row : (room : ℕ) (info : List ℕ) (ss : Row) → length ss ≡ room → Some info ≡ info_at (slice_get ss 0)
@@ -220,12 +263,15 @@ next-row room info (s ∷ rest) l e =
 
 pub seen-deliver : (room taken : ℕ) (info : List ℕ) (ss : Row) (v : Arrived) → seen room taken ss ≡ v → Some info ≡ info_at (slice_get ss 0)
     → seen room taken (drop 1 ss ++ None ∷ []) ≡ record v { ready = drop 1 v.ready }
-seen-deliver room taken info ss v e first = subst (λ v. seen room taken (drop 1 ss ++ None ∷ []) ≡ record v { ready = drop 1 v.ready }) e (core ss first)
+seen-deliver room taken info ss v e first =
+    subst (λ v. seen room taken (drop 1 ss ++ None ∷ []) ≡ record v { ready = drop 1 v.ready }) e (core ss first)
   where
-    core : (ss : Row) → Some info ≡ info_at (slice_get ss 0) → seen room taken (drop 1 ss ++ None ∷ []) ≡ record (seen room taken ss) { ready = drop 1 (ready_of ss) }
+    core : (ss : Row) → Some info ≡ info_at (slice_get ss 0)
+        → seen room taken (drop 1 ss ++ None ∷ []) ≡ record (seen room taken ss) { ready = drop 1 (ready_of ss) }
     core [] first = cc
     core (None ∷ rest) first = cc
-    core (Some other ∷ rest) first = same-seen room taken (rest ++ None ∷ []) (ready_of rest) (held_after taken rest) (ready-snoc rest) (held_after-snoc taken rest)
+    core (Some other ∷ rest) first =
+        same-seen room taken (rest ++ None ∷ []) (ready_of rest) (held_after taken rest) (ready-snoc rest) (held_after-snoc taken rest)
 
 pub ready-first : (room taken : ℕ) (info : List ℕ) (ss : Row) (v : Arrived) → seen room taken ss ≡ v → Some info ≡ info_at (slice_get ss 0)
     → v.ready ≡ info ∷ ready_of (drop 1 ss ++ None ∷ [])
@@ -248,7 +294,8 @@ none-ready room taken ss v e first = subst (λ v. v.ready ≡ []) e (core ss fir
 pub after-first : (taken : ℕ) (ss : Row) → held_after taken ss ≡ held_from taken (drop (position_or_len is_empty ss) ss)
 after-first taken [] = refl
 after-first taken (None ∷ ss) = refl
-after-first taken (Some info ∷ ss) = let one : 1 + position_or_len is_empty ss ≡ suc (position_or_len is_empty ss) = omega arith in rw one (after-first taken ss)
+after-first taken (Some info ∷ ss) = let one : 1 + position_or_len is_empty ss ≡ suc (position_or_len is_empty ss) = omega arith in
+    rw one (after-first taken ss)
 
 -- a slot within is there
 pub slot-there : (ss : Row) (k : ℕ) → None ≡ slice_get ss k → k < length ss → ⊥
@@ -282,39 +329,48 @@ pub record Scans (low first start : ℕ) (ss : Row) (later : Bool) (missing : Op
   pub missing_is : missing ≡ missing_among low (first + (place - start)) (drop place ss)
 
 -- it goes on at the slot below
-scans-full : (low n : ℕ) (slot : Option (List ℕ)) (ss : Row) → is_some slot ≡ true → (true ≡ any_held (slot ∷ ss)) × (missing_among low (n + 1) ss ≡ missing_among low n (slot ∷ ss))
+scans-full : (low n : ℕ) (slot : Option (List ℕ)) (ss : Row) → is_some slot ≡ true
+    → (true ≡ any_held (slot ∷ ss)) × (missing_among low (n + 1) ss ≡ missing_among low n (slot ∷ ss))
 scans-full low n None ss e = cc
 scans-full low n (Some info) ss e = (refl, refl)
 
 scans-empty : (low n : ℕ) (slot : Option (List ℕ)) (ss : Row) → is_some slot ≡ false
-    → (any_held ss ≡ any_held (slot ∷ ss)) × (cond (any_held ss && nat_le low n) (Some n) (missing_among low (n + 1) ss) ≡ missing_among low n (slot ∷ ss))
+    → (any_held ss ≡ any_held (slot ∷ ss))
+    × (cond (any_held ss && nat_le low n) (Some n) (missing_among low (n + 1) ss) ≡ missing_among low n (slot ∷ ss))
 scans-empty low n None ss e = (refl, refl)
 scans-empty low n (Some info) ss e = cc
 
 row-next : (k place : ℕ) (ss : Row) → place ≡ suc k → k < length ss → drop k ss ≡ info_at (slice_get ss k) ∷ drop place ss
 row-next k place ss is l = subst (λ p. drop k ss ≡ info_at (slice_get ss k) ∷ drop p ss) (sym is) (row-at k ss l)
 
-pub full-slot : (low first start place k : ℕ) (ss : Row) (later : Bool) (missing : Option ℕ) → place ≡ suc k → Scans low first start ss later missing place → start < place → place ≤ length ss
+pub full-slot : (low first start place k : ℕ) (ss : Row) (later : Bool) (missing : Option ℕ) → place ≡ suc k
+    → Scans low first start ss later missing place → start < place → place ≤ length ss
     → is_some (info_at (slice_get ss k)) ≡ true → Scans low first start ss true missing k
 full-slot low first start place k ss later missing is h s l e =
     let at : drop k ss ≡ info_at (slice_get ss k) ∷ drop place ss = row-next k place ss is (omega (arith, is, l)) in
     let number : first + (place - start) ≡ first + (k - start) + 1 = omega (arith, is, s) in
-    let step : (true ≡ any_held (info_at (slice_get ss k) ∷ drop place ss)) × (missing_among low (first + (k - start) + 1) (drop place ss) ≡ missing_among low (first + (k - start)) (info_at (slice_get ss k) ∷ drop place ss)) = scans-full low (first + (k - start)) (info_at (slice_get ss k)) (drop place ss) e in
+    let step : (true ≡ any_held (info_at (slice_get ss k) ∷ drop place ss))
+    × (missing_among low (first + (k - start) + 1) (drop place ss) ≡ missing_among low (first + (k - start))
+    (info_at (slice_get ss k) ∷ drop place ss)) = scans-full low (first + (k - start)) (info_at (slice_get ss k)) (drop place ss) e in
     record {
       above = omega (arith, is, s);
       later_is = rw at step.0;
       missing_is = rw at (h.missing_is ∙ ap (λ n. missing_among low n (drop place ss)) number ∙ step.1);
     }
 
-pub empty-slot : (low first start place k : ℕ) (ss : Row) (later : Bool) (missing : Option ℕ) → place ≡ suc k → Scans low first start ss later missing place → start < place → place ≤ length ss
+pub empty-slot : (low first start place k : ℕ) (ss : Row) (later : Bool) (missing : Option ℕ) → place ≡ suc k
+    → Scans low first start ss later missing place → start < place → place ≤ length ss
     → is_some (info_at (slice_get ss k)) ≡ false
     → Scans low first start ss later (cond (later && nat_le low (first + (k - start))) (Some (first + (k - start))) missing) k
 empty-slot low first start place k ss later missing is h s l e =
     let at : drop k ss ≡ info_at (slice_get ss k) ∷ drop place ss = row-next k place ss is (omega (arith, is, l)) in
     let number : first + (place - start) ≡ first + (k - start) + 1 = omega (arith, is, s) in
-    let next : missing ≡ missing_among low (first + (k - start) + 1) (drop place ss) = h.missing_is ∙ ap (λ n. missing_among low n (drop place ss)) number in
+    let next : missing ≡ missing_among low (first + (k - start) + 1) (drop place ss) =
+    h.missing_is ∙ ap (λ n. missing_among low n (drop place ss)) number in
     let step : (any_held (drop place ss) ≡ any_held (info_at (slice_get ss k) ∷ drop place ss))
-    × (cond (any_held (drop place ss) && nat_le low (first + (k - start))) (Some (first + (k - start))) (missing_among low (first + (k - start) + 1) (drop place ss)) ≡ missing_among low (first + (k - start)) (info_at (slice_get ss k) ∷ drop place ss))
+    × (cond (any_held (drop place ss) && nat_le low (first + (k - start))) (Some (first + (k - start)))
+    (missing_among low (first + (k - start) + 1) (drop place ss)) ≡ missing_among low (first + (k - start))
+    (info_at (slice_get ss k) ∷ drop place ss))
     = scans-empty low (first + (k - start)) (info_at (slice_get ss k)) (drop place ss) e in
     record {
       above = omega (arith, is, s);
@@ -325,21 +381,26 @@ empty-slot low first start place k ss later missing is h s l e =
           ∙ ap (λ xs. missing_among low (first + (k - start)) xs) (sym at);
     }
 
-pub found-slot : (low first start place k : ℕ) (ss : Row) (later : Bool) (missing : Option ℕ) → place ≡ suc k → Scans low first start ss later missing place → start < place → place ≤ length ss
-    → is_some (info_at (slice_get ss k)) ≡ false → later ≡ true → low ≤ first + (k - start) → Scans low first start ss later (Some (first + (k - start))) k
+pub found-slot : (low first start place k : ℕ) (ss : Row) (later : Bool) (missing : Option ℕ) → place ≡ suc k
+    → Scans low first start ss later missing place → start < place → place ≤ length ss
+    → is_some (info_at (slice_get ss k)) ≡ false → later ≡ true → low ≤ first + (k - start)
+    → Scans low first start ss later (Some (first + (k - start))) k
 found-slot low first start place k ss later missing is h s l e t high =
     let test : nat_le low (first + (k - start)) ≡ true = grind (arith, nat_tests, high) in
-    let chosen : cond (later && nat_le low (first + (k - start))) (Some (first + (k - start))) missing ≡ Some (first + (k - start)) = rw (t, test) refl in
+    let chosen : cond (later && nat_le low (first + (k - start))) (Some (first + (k - start))) missing ≡ Some (first + (k - start)) =
+    rw (t, test) refl in
     subst (λ m. Scans low first start ss later m k) chosen (empty-slot low first start place k ss later missing is h s l e)
 
-pub low-slot : (low first start place k : ℕ) (ss : Row) (later : Bool) (missing : Option ℕ) → place ≡ suc k → Scans low first start ss later missing place → start < place → place ≤ length ss
+pub low-slot : (low first start place k : ℕ) (ss : Row) (later : Bool) (missing : Option ℕ) → place ≡ suc k
+    → Scans low first start ss later missing place → start < place → place ≤ length ss
     → is_some (info_at (slice_get ss k)) ≡ false → later ≡ true → first + (k - start) < low → Scans low first start ss later missing k
 low-slot low first start place k ss later missing is h s l e t less =
     let test : nat_le low (first + (k - start)) ≡ false = grind (arith, nat_tests, less) in
     let chosen : cond (later && nat_le low (first + (k - start))) (Some (first + (k - start))) missing ≡ missing = rw (t, test) refl in
     subst (λ m. Scans low first start ss later m k) chosen (empty-slot low first start place k ss later missing is h s l e)
 
-pub last-slot : (low first start place k : ℕ) (ss : Row) (later : Bool) (missing : Option ℕ) → place ≡ suc k → Scans low first start ss later missing place → start < place → place ≤ length ss
+pub last-slot : (low first start place k : ℕ) (ss : Row) (later : Bool) (missing : Option ℕ) → place ≡ suc k
+    → Scans low first start ss later missing place → start < place → place ≤ length ss
     → is_some (info_at (slice_get ss k)) ≡ false → later ≡ false → Scans low first start ss later missing k
 last-slot low first start place k ss later missing is h s l e t =
     let chosen : cond (later && nat_le low (first + (k - start))) (Some (first + (k - start))) missing ≡ missing = rw t refl in
@@ -361,8 +422,12 @@ missing-within low n (None ∷ ss) = by (any_held ss && nat_le low n) (missing_a
     by false (Some m) h = omega (arith, h)
 
 -- no number is found where all slots are full
-pub none-found : (low room taken : ℕ) (ss : Row) (v : Arrived) → seen room taken ss ≡ v → None ≡ position is_empty ss → None ≡ find (λ n. nat_le low n) (missing_from v.taken v.held)
-none-found low room taken ss v e none = subst (λ v. None ≡ find (λ n. nat_le low n) (missing_from v.taken v.held)) e (subst (λ hs. None ≡ find (λ n. nat_le low n) (missing_from taken hs)) (sym (after-first taken ss)) (by (nat_lt (position_or_len is_empty ss) (length ss)) refl none))
+pub none-found : (low room taken : ℕ) (ss : Row) (v : Arrived) → seen room taken ss ≡ v → None ≡ position is_empty ss
+    → None ≡ find (λ n. nat_le low n) (missing_from v.taken v.held)
+none-found low room taken ss v e none =
+    subst (λ v. None ≡ find (λ n. nat_le low n) (missing_from v.taken v.held)) e
+    (subst (λ hs. None ≡ find (λ n. nat_le low n) (missing_from taken hs)) (sym (after-first taken ss))
+    (by (nat_lt (position_or_len is_empty ss) (length ss)) refl none))
   where
     by : (t : Bool) → nat_lt (position_or_len is_empty ss) (length ss) ≡ t → None ≡ cond t (Some (position_or_len is_empty ss)) None
         → None ≡ find (λ n. nat_le low n) (missing_from taken (held_from taken (drop (position_or_len is_empty ss) ss)))
@@ -375,11 +440,14 @@ none-found low room taken ss v e none = subst (λ v. None ≡ find (λ n. nat_le
 -- else it is found from the first empty slot on
 pub found-from : (low room taken start : ℕ) (ss : Row) (v : Arrived) → seen room taken ss ≡ v → Some start ≡ position is_empty ss
     → missing_among low taken (drop start ss) ≡ find (λ n. nat_le low n) (missing_from v.taken v.held)
-found-from low room taken start ss v e some = subst (λ v. missing_among low taken (drop start ss) ≡ find (λ n. nat_le low n) (missing_from v.taken v.held)) e
-    (subst (λ hs. missing_among low taken (drop start ss) ≡ find (λ n. nat_le low n) (missing_from taken hs)) (sym (after-first taken ss)) (by (nat_lt (position_or_len is_empty ss) (length ss)) refl some))
+found-from low room taken start ss v e some =
+    subst (λ v. missing_among low taken (drop start ss) ≡ find (λ n. nat_le low n) (missing_from v.taken v.held)) e
+    (subst (λ hs. missing_among low taken (drop start ss) ≡ find (λ n. nat_le low n) (missing_from taken hs)) (sym (after-first taken ss))
+    (by (nat_lt (position_or_len is_empty ss) (length ss)) refl some))
   where
     by : (t : Bool) → nat_lt (position_or_len is_empty ss) (length ss) ≡ t → Some start ≡ cond t (Some (position_or_len is_empty ss)) None
-        → missing_among low taken (drop start ss) ≡ find (λ n. nat_le low n) (missing_from taken (held_from taken (drop (position_or_len is_empty ss) ss)))
+        → missing_among low taken (drop start ss) ≡ find (λ n. nat_le low n)
+        (missing_from taken (held_from taken (drop (position_or_len is_empty ss) ss)))
     by true t e =
         let same : start ≡ position_or_len is_empty ss = cc in
         rw same (sym (find-missing low taken (drop (position_or_len is_empty ss) ss)))
@@ -396,14 +464,19 @@ rising-from n (None ∷ ss) = rising-lower n (n + 1) (held_from (n + 1) ss) (ome
 rising-from n (Some info ∷ ss) = (omega arith, rising-from (n + 1) ss)
 
 pub seen-rising : (room taken : ℕ) (ss : Row) (v : Arrived) → seen room taken ss ≡ v → IsRising v.taken v.held
-seen-rising room taken ss v e = subst (λ v. IsRising v.taken v.held) e (subst (λ hs. IsRising taken hs) (sym (after-first taken ss)) (lift (drop (position_or_len is_empty ss) ss)))
+seen-rising room taken ss v e =
+    subst (λ v. IsRising v.taken v.held) e
+    (subst (λ hs. IsRising taken hs) (sym (after-first taken ss)) (lift (drop (position_or_len is_empty ss) ss)))
   where
     lift : (xs : Row) → IsRising taken (held_from taken xs)
     lift xs = rising-from taken xs
 
 -- what is found is small
-pub found-small : (low taken start : ℕ) (ss : Row) (o : Option ℕ) → o ≡ missing_among low taken (drop start ss) → taken < 2 ^ 57 → length ss < 2 ^ 8 → IfSome o (λ n. n < 2 ^ 58)
-found-small low taken start ss o e few room = subst (λ o. IfSome o (λ n. n < 2 ^ 58)) (sym e) (by (missing_among low taken (drop start ss)) (missing-within low taken (drop start ss)))
+pub found-small : (low taken start : ℕ) (ss : Row) (o : Option ℕ) → o ≡ missing_among low taken (drop start ss) → taken < 2 ^ 57
+    → length ss < 2 ^ 8 → IfSome o (λ n. n < 2 ^ 58)
+found-small low taken start ss o e few room =
+    subst (λ o. IfSome o (λ n. n < 2 ^ 58)) (sym e)
+    (by (missing_among low taken (drop start ss)) (missing-within low taken (drop start ss)))
   where
     by : (o : Option ℕ) → IfSome o (λ n. n < taken + length (drop start ss)) → IfSome o (λ n. n < 2 ^ 58)
     by None h = tt

@@ -28,9 +28,17 @@ rest-held n r (h ∷ hs) l = by (nat_eq h.number r) refl l (rest-held n (r + 1) 
 
 -- the next segment is taken
 pub stands-next : (t : Taking) (i : Incoming) (info : List ℕ) → StandsIn t i → length t.ready ≡ 0
-    → StandsIn (record t { taken = t.taken + length (info ∷ run_from (t.taken + 1) t.held); ready = info ∷ run_from (t.taken + 1) t.held; held = rest_from (t.taken + 1) t.held; gapped = false; owed = true }) (with_segment info i)
+    → StandsIn (record t {
+      taken = t.taken + length (info ∷ run_from (t.taken + 1) t.held);
+      ready =
+          info ∷ run_from (t.taken + 1) t.held;
+      held = rest_from (t.taken + 1) t.held;
+      gapped = false;
+      owed = true;
+    }) (with_segment info i)
 stands-next t i info h none =
-    let more : length (i.taken ++ (info ∷ run_from (length i.taken + 1) i.held)) ≡ length i.taken + length (info ∷ run_from (length i.taken + 1) i.held) = length-append i.taken (info ∷ run_from (length i.taken + 1) i.held) in
+    let more : length (i.taken ++ (info ∷ run_from (length i.taken + 1) i.held)) ≡ length i.taken + length
+    (info ∷ run_from (length i.taken + 1) i.held) = length-append i.taken (info ∷ run_from (length i.taken + 1) i.held) in
     let left : length (drop i.given i.taken) ≡ length i.taken - i.given = length-drop i.given i.taken in
     let given : i.given ≡ length i.taken = omega (arith, none, ap (λ xs. length xs) h.ready_is, left, h.given_within) in
     record {
@@ -58,7 +66,8 @@ with-held : (n : ℕ) (s : Held) (hs : List Held) → is_held n hs ≡ true → 
 with-held n s [] e = cc
 with-held n s (h ∷ hs) e = by (nat_lt s.number h.number) (inner (nat_eq h.number n) refl e (with-held n s hs))
   where
-    inner : (u : Bool) → nat_eq h.number n ≡ u → u || is_held n hs ≡ true → (is_held n hs ≡ true → is_held n (with_held s hs) ≡ true) → nat_eq h.number n || is_held n (with_held s hs) ≡ true
+    inner : (u : Bool) → nat_eq h.number n ≡ u → u || is_held n hs ≡ true → (is_held n hs ≡ true → is_held n (with_held s hs) ≡ true)
+        → nat_eq h.number n || is_held n (with_held s hs) ≡ true
     inner true w e rest = rw w refl
     inner false w e rest = rw w (rest e)
 
@@ -101,7 +110,8 @@ drop-next (suc n) (x ∷ xs) = let one : suc n + 1 ≡ suc (n + 1) = omega arith
 pub stands-delivered : (t : Taking) (i : Incoming) → StandsIn t i → StandsIn (record t { ready = drop 1 t.ready }) (after_delivered i)
 stands-delivered t i h = by (nat_lt i.given (length i.taken)) refl
   where
-    by : (u : Bool) → nat_lt i.given (length i.taken) ≡ u → StandsIn (record t { ready = drop 1 t.ready }) (cond u (record i { given = i.given + 1 }) i)
+    by : (u : Bool) → nat_lt i.given (length i.taken) ≡ u
+        → StandsIn (record t { ready = drop 1 t.ready }) (cond u (record i { given = i.given + 1 }) i)
     by true e = record {
       window_is = h.window_is;
       srej_is = h.srej_is;
@@ -142,14 +152,16 @@ abbrev Told : ℕ → List ℕ → ℕ → Type 0
 Told low asked m = is_among m asked ≡ nat_lt m low
 
 -- one that wasn't is the first that doesn't lie below it
-told-first : (low m : ℕ) (asked : List ℕ) (o p : Option ℕ) → Told low asked m → o ≡ p → cond (is_among m asked) o (Some m) ≡ cond (nat_le low m) (Some m) p
+told-first : (low m : ℕ) (asked : List ℕ) (o p : Option ℕ) → Told low asked m → o ≡ p
+    → cond (is_among m asked) o (Some m) ≡ cond (nat_le low m) (Some m) p
 told-first low m asked o p told same = by (nat_lt m low) refl told
   where
     by : (u : Bool) → nat_lt m low ≡ u → is_among m asked ≡ u → cond (is_among m asked) o (Some m) ≡ cond (nat_le low m) (Some m) p
     by true e told = let t : nat_le low m ≡ false = grind (arith, nat_tests, e) in rw (told, t) same
     by false e told = let t : nat_le low m ≡ true = grind (arith, nat_tests, e) in rw (told, t) refl
 
-outside-found : (low : ℕ) (asked : List ℕ) (r : ℕ) (hs : List Held) → IsRising r hs → ((m : ℕ) → r ≤ m → is_held m hs ≡ false → Told low asked m)
+outside-found : (low : ℕ) (asked : List ℕ) (r : ℕ) (hs : List Held) → IsRising r hs
+    → ((m : ℕ) → r ≤ m → is_held m hs ≡ false → Told low asked m)
     → first_outside asked (missing_from r hs) ≡ find (λ m. nat_le low m) (missing_from r hs)
 outside-found low asked r [] rising told = refl
 outside-found low asked r (h ∷ hs) rising told = up (h.number - r) r (omega (arith, rising.0)) (λ m low_m. told m low_m)
@@ -158,12 +170,14 @@ outside-found low asked r (h ∷ hs) rising told = up (h.number - r) r (omega (a
   where
     up : (k r : ℕ) → r + k ≡ h.number → ((m : ℕ) → r ≤ m → nat_eq h.number m || is_held m hs ≡ false → Told low asked m)
         → first_outside asked (missing_from (h.number + 1) hs) ≡ find (λ m. nat_le low m) (missing_from (h.number + 1) hs)
-        → first_outside asked (range_with_len r k ++ missing_from (h.number + 1) hs) ≡ find (λ m. nat_le low m) (range_with_len r k ++ missing_from (h.number + 1) hs)
+        → first_outside asked (range_with_len r k ++ missing_from (h.number + 1) hs) ≡ find (λ m. nat_le low m)
+        (range_with_len r k ++ missing_from (h.number + 1) hs)
     up zero r e told rest = rest
     up (suc k) r e told rest =
         let other : nat_eq h.number r ≡ false = grind (arith, nat_tests, e) in
         let free : nat_eq h.number r || is_held r hs ≡ false = rw other (below-held r (h.number + 1) hs rising.1 (omega (arith, e))) in
-        told-first low r asked _ _ (told r (omega arith) free) (up k (r + 1) (omega (arith, e)) (λ m low_m. told m (omega (arith, low_m))) rest)
+        told-first low r asked _ _ (told r (omega arith) free)
+        (up k (r + 1) (omega (arith, e)) (λ m low_m. told m (omega (arith, low_m))) rest)
 
 -- where a missing number is told by the limit
 told-by : (t : Taking) (i : Incoming) → StandsIn t i → (m : ℕ) → t.taken ≤ m → is_held m t.held ≡ false → Told t.asked_below i.asked m
@@ -181,11 +195,14 @@ told-by t i h m low free = by (nat_lt m t.asked_below) refl (is_among m i.asked)
         ]
 
 -- by SREJ what is asked for is the first missing number from the limit on
-pub asks-found : (t : Taking) (i : Incoming) → StandsIn t i → IsRising t.taken t.held → t.srej ≡ true → find (λ n. nat_le t.asked_below n) (missing_from t.taken t.held) ≡ asks i
+pub asks-found : (t : Taking) (i : Incoming) → StandsIn t i → IsRising t.taken t.held → t.srej ≡ true
+    → find (λ n. nat_le t.asked_below n) (missing_from t.taken t.held) ≡ asks i
 asks-found t i h rising srej =
     let is_srej : i.srej ≡ true = sym h.srej_is ∙ srej in
-    let same : first_outside i.asked (missing_from t.taken t.held) ≡ find (λ n. nat_le t.asked_below n) (missing_from t.taken t.held) = outside-found t.asked_below i.asked t.taken t.held rising (told-by t i h) in
-    rw is_srej (sym same ∙ ap (λ n. first_outside i.asked (missing_from n t.held)) h.taken_is ∙ ap (λ hs. first_outside i.asked (missing_from (length i.taken) hs)) h.held_is)
+    let same : first_outside i.asked (missing_from t.taken t.held) ≡ find (λ n. nat_le t.asked_below n) (missing_from t.taken t.held) =
+    outside-found t.asked_below i.asked t.taken t.held rising (told-by t i h) in
+    rw is_srej (sym same ∙ ap (λ n. first_outside i.asked (missing_from n t.held)) h.taken_is
+    ∙ ap (λ hs. first_outside i.asked (missing_from (length i.taken) hs)) h.held_is)
 
 -- what is found among missing numbers: it isn't below the limit, and all before it from the limit on are held
 pub record IsLeast (low r n : ℕ) (hs : List Held) : Type 0 where
@@ -210,7 +227,8 @@ least-up low n h hs zero r e next f =
     at m false w low_m less high = (next f).held_before m (grind (arith, nat_tests, w, e, low_m)) less high
 least-up low n h hs (suc k) r e next f = by (nat_le low r) refl f (least-up low n h hs k (r + 1) (omega (arith, e)) next)
   where
-    by : (u : Bool) → nat_le low r ≡ u → cond u (Some r) (find (λ m. nat_le low m) (range_with_len (r + 1) k ++ missing_from (h.number + 1) hs)) ≡ Some n
+    by : (u : Bool) → nat_le low r ≡ u
+        → cond u (Some r) (find (λ m. nat_le low m) (range_with_len (r + 1) k ++ missing_from (h.number + 1) hs)) ≡ Some n
         → (find (λ m. nat_le low m) (range_with_len (r + 1) k ++ missing_from (h.number + 1) hs) ≡ Some n → IsLeast low (r + 1) n (h ∷ hs))
         → IsLeast low r n (h ∷ hs)
     by true w f rest =
@@ -231,7 +249,8 @@ least-up low n h hs (suc k) r e next f = by (nat_le low r) refl f (least-up low 
 
 found-least : (low r n : ℕ) (hs : List Held) → IsRising r hs → find (λ m. nat_le low m) (missing_from r hs) ≡ Some n → IsLeast low r n hs
 found-least low r n [] rising e = cc
-found-least low r n (h ∷ hs) rising e = least-up low n h hs (h.number - r) r (omega (arith, rising.0)) (found-least low (h.number + 1) n hs rising.1) e
+found-least low r n (h ∷ hs) rising e =
+    least-up low n h hs (h.number - r) r (omega (arith, rising.0)) (found-least low (h.number + 1) n hs rising.1) e
 
 -- one more number was asked for
 among-snoc : (m n : ℕ) (xs : List ℕ) → is_among m (xs ++ n ∷ []) ≡ is_among m xs || nat_eq n m
@@ -242,12 +261,14 @@ among-snoc m n [] = by (nat_eq n m)
     by false = refl
 among-snoc m n (x ∷ xs) = by (nat_eq x m) (among-snoc m n xs)
   where
-    by : (u : Bool) → is_among m (xs ++ n ∷ []) ≡ is_among m xs || nat_eq n m → u || is_among m (xs ++ n ∷ []) ≡ u || is_among m xs || nat_eq n m
+    by : (u : Bool) → is_among m (xs ++ n ∷ []) ≡ is_among m xs || nat_eq n m
+        → u || is_among m (xs ++ n ∷ []) ≡ u || is_among m xs || nat_eq n m
     by true rest = refl
     by false rest = rest
 
 pub stands-asked : (t : Taking) (i : Incoming) (found n : ℕ) → StandsIn t i → IsRising t.taken t.held → t.srej ≡ true
-    → Some found ≡ find (λ m. nat_le t.asked_below m) (missing_from t.taken t.held) → asks i ≡ Some n → StandsIn (record t { asked_below = found + 1 }) (after_asked n i)
+    → Some found ≡ find (λ m. nat_le t.asked_below m) (missing_from t.taken t.held) → asks i ≡ Some n
+    → StandsIn (record t { asked_below = found + 1 }) (after_asked n i)
 stands-asked t i found n h rising srej e a =
     let is_srej : i.srej ≡ true = sym h.srej_is ∙ srej in
     let both : Some found ≡ Some n = e ∙ asks-found t i h rising srej ∙ a in
@@ -279,10 +300,12 @@ stands-asked t i found n h rising srej e a =
     more : (m : ℕ) (u : Bool) → is_among m i.asked ≡ u → u ≡ true → is_among m (i.asked ++ n ∷ []) ≡ true
     more m u w t = rw (among-snoc m n i.asked, w, t) refl
 
-    asked : IsLeast t.asked_below t.taken n t.held → (m : ℕ) → length i.taken ≤ m → m < n + 1 → (is_held m i.held ≡ true) ⊎ (is_among m (i.asked ++ n ∷ []) ≡ true)
+    asked : IsLeast t.asked_below t.taken n t.held → (m : ℕ) → length i.taken ≤ m → m < n + 1
+        → (is_held m i.held ≡ true) ⊎ (is_among m (i.asked ++ n ∷ []) ≡ true)
     asked least m low less = by (nat_eq n m) refl (nat_lt m t.asked_below) refl
       where
-        by : (u : Bool) → nat_eq n m ≡ u → (v : Bool) → nat_lt m t.asked_below ≡ v → (is_held m i.held ≡ true) ⊎ (is_among m (i.asked ++ n ∷ []) ≡ true)
+        by : (u : Bool) → nat_eq n m ≡ u → (v : Bool) → nat_lt m t.asked_below ≡ v
+            → (is_held m i.held ≡ true) ⊎ (is_among m (i.asked ++ n ∷ []) ≡ true)
         by true w v x = inr (rw (among-snoc m n i.asked, w) (last (is_among m i.asked)))
           where
             last : (b : Bool) → b || true ≡ true

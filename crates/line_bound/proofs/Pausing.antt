@@ -11,7 +11,8 @@ use Rattle.turn_bound.specs.Limits as limits
 
 -- those of both roles together
 pub parted : {X Y : Type 0} (f : X → Y) (role_of : X → Role) (lines : List X)
-    → length (map f (filter (λ (x : X). same_role (role_of x) Originator) lines)) + length (map f (filter (λ (x : X). same_role (role_of x) Answerer) lines)) ≡ length lines
+    → length (map f (filter (λ (x : X). same_role (role_of x) Originator) lines)) + length
+    (map f (filter (λ (x : X). same_role (role_of x) Answerer) lines)) ≡ length lines
 parted {X = X} f role_of [] = refl
 parted {X = X} f role_of (x ∷ lines) = go (role_of x) (parted f role_of lines)
   where
@@ -22,18 +23,21 @@ parted {X = X} f role_of (x ∷ lines) = go (role_of x) (parted f role_of lines)
     answ = filter (λ (y : X). same_role (role_of y) Answerer) lines
 
     go : (r : Role) → length (map f orig) + length (map f answ) ≡ length lines
-        → length (map f (cond (same_role r Originator) (x ∷ orig) orig)) + length (map f (cond (same_role r Answerer) (x ∷ answ) answ)) ≡ length (x ∷ lines)
+        → length (map f (cond (same_role r Originator) (x ∷ orig) orig)) + length
+        (map f (cond (same_role r Answerer) (x ∷ answ) answ)) ≡ length (x ∷ lines)
     go Originator e = omega (arith, e)
     go Answerer e = omega (arith, e)
 
 -- a role's pauses are as short as all
-pub shorts : (role : Role) (lines : List Pause) → AllByRecursion IsShort lines → AllByRecursion limits.IsShort (map busy_line (filter (λ (p : Pause). same_role p.role role) lines))
+pub shorts : (role : Role) (lines : List Pause) → AllByRecursion IsShort lines
+    → AllByRecursion limits.IsShort (map busy_line (filter (λ (p : Pause). same_role p.role role) lines))
 shorts role [] all = tt
 shorts role (p ∷ lines) all = go (same_role p.role role) (shorts role lines all.1)
   where
     rest : List Pause
     rest = filter (λ (q : Pause). same_role q.role role) lines
 
-    go : (b : Bool) → AllByRecursion limits.IsShort (map busy_line rest) → AllByRecursion limits.IsShort (map busy_line (cond b (p ∷ rest) rest))
+    go : (b : Bool) → AllByRecursion limits.IsShort (map busy_line rest)
+        → AllByRecursion limits.IsShort (map busy_line (cond b (p ∷ rest) rest))
     go true more = (all.0, more)
     go false more = more

@@ -29,15 +29,28 @@ scripts-keep-time script files h = record { roles = roles; timed = timed; some_t
     roles Answerer = refl
 
     timed : (role : Role) → IsTimed script.tries (period_of script) (of role (link_of script files)).setup
-    timed Originator = record { tries_are = refl; period_is = refl; tx_window = h.offer_orig_allowed.tx_window_low; rx_window = h.offer_orig_allowed.rx_window_low }
-    timed Answerer = record { tries_are = refl; period_is = refl; tx_window = h.offer_answ_allowed.tx_window_low; rx_window = h.offer_answ_allowed.rx_window_low }
+    timed Originator = record {
+      tries_are = refl;
+      period_is = refl;
+      tx_window = h.offer_orig_allowed.tx_window_low;
+      rx_window =
+          h.offer_orig_allowed.rx_window_low;
+    }
+    timed Answerer = record {
+      tries_are = refl;
+      period_is = refl;
+      tx_window = h.offer_answ_allowed.tx_window_low;
+      rx_window =
+          h.offer_answ_allowed.rx_window_low;
+    }
 
     delays : (role : Role) → 1 ≤ delay_of script role
     delays Originator = h.delay_orig_some
     delays Answerer = h.delay_answ_some
 
 -- the files of the link are those
-same-hold : (script : ScriptValue) (files : Both (List ℕ)) (ends : Ends) (segments : Role → ℕ) → ((role : Role) → HoldsFile (of role files) (of role ends).outgoing (segments role))
+same-hold : (script : ScriptValue) (files : Both (List ℕ)) (ends : Ends) (segments : Role → ℕ)
+    → ((role : Role) → HoldsFile (of role files) (of role ends).outgoing (segments role))
     → (role : Role) → HoldsFile (of role (link_of script files)).user.file (of role ends).outgoing (segments role)
 same-hold script files ends segments h Originator = h Originator
 same-hold script files ends segments h Answerer = h Answerer
@@ -48,7 +61,8 @@ line-runs-end-soon carried soon by_files by_octets c files ts ends h run =
     let all : IsCarried (delay_of c.script) ts = carried c ts run.heard in
     record {
       offered = soon c.script.tries (period_of c.script) (delay_of c.script) (link_of c.script files) ts ends k run.run all;
-      told = λ segments holds. by_files c.script.tries (period_of c.script) (delay_of c.script) (link_of c.script files) ts ends segments k run.run all (same-hold c.script files ends segments holds);
+      told = λ segments holds. by_files c.script.tries (period_of c.script) (delay_of c.script)
+          (link_of c.script files) ts ends segments k run.run all (same-hold c.script files ends segments holds);
       octets = by_octets c.script.tries (period_of c.script) (delay_of c.script) (link_of c.script files) ts ends k run.run all;
     }
 
@@ -58,10 +72,12 @@ never-busy script files e Answerer = ap (λ (l : List Pause). map busy_line (fil
 
 pub line-runs-advance : SamplesAreCarried → AdvancesSoon → LineRunsAdvance
 line-runs-advance carried advances c files ts us before after role h none run may goes heard unwhole same =
-    advances c.script.tries (period_of c.script) (delay_of c.script) (link_of c.script files) ts us before after role (scripts-keep-time c.script files h) (never-busy c.script files none) run.run may goes
+    advances c.script.tries (period_of c.script) (delay_of c.script) (link_of c.script files) ts us before after role
+    (scripts-keep-time c.script files h) (never-busy c.script files none) run.run may goes
     (carried c (us ++ ts) heard) unwhole same
 
-limited : (script : ScriptValue) (files : Both (List ℕ)) → IsInLimits script → ((role : Role) → length (of role files) ≤ file_limit) → IsLimited script.tries (delay_of script) (link_of script files)
+limited : (script : ScriptValue) (files : Both (List ℕ)) → IsInLimits script → ((role : Role) → length (of role files) ≤ file_limit)
+    → IsLimited script.tries (delay_of script) (link_of script files)
 limited script files h short = record {
   tries_few = h.tries_few;
   delays_few = delays;
@@ -85,4 +101,5 @@ limited script files h short = record {
 
 pub no-line-run-is-long : SamplesAreCarried → NoRunIsLong → NoLineRunIsLong
 no-line-run-is-long carried long c files ts ends h few run =
-    long c.script.tries (period_of c.script) (delay_of c.script) (link_of c.script files) ts ends (scripts-keep-time c.script files h) (limited c.script files h few) run.run (carried c ts run.heard)
+    long c.script.tries (period_of c.script) (delay_of c.script) (link_of c.script files) ts ends (scripts-keep-time c.script files h)
+    (limited c.script files h few) run.run (carried c ts run.heard)

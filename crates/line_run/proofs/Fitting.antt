@@ -20,14 +20,24 @@ use Rattle.line_run.proofs.Sampling.{samples_are_carried, one_is_carried}
 use Rattle.line_run.proofs.Scripting.{scripts_may_play, scripts_have_delays}
 
 pub slots_have_room : SlotsHaveRoom
-slots_have_room script h =
-    (omega arith, omega (arith, h.offer_orig_allowed.tx_len_high, h.offer_orig_allowed.rx_len_high, h.offer_answ_allowed.tx_len_high, h.offer_answ_allowed.rx_len_high))
+slots_have_room script h = (
+  omega arith,
+  omega (
+    arith,
+    h.offer_orig_allowed.tx_len_high,
+    h.offer_orig_allowed.rx_len_high,
+    h.offer_answ_allowed.tx_len_high,
+    h.offer_answ_allowed.rx_len_high,
+  ),
+)
 
 -- a slot has room for the longest stuffing
 room : (n most : ℕ) → most ≡ n + 7 → 47 + 8 * most + 8 * most / 5 ≤ 4 * (slot_symbols n - TAIL)
 room n most e = omega (arith, e)
 
-codable-in : (few : FewOctetsBesidesInformation) (short : ShortIsCodable) (check : Check) (role : Role) (n phase : ℕ) (s : Sent) → phase < 8 → ((frame : Frame) → s ≡ sent.Frame frame → length (information_of frame) ≤ n) → IsSendable s → IsCodable check role 0 (slot_symbols n) phase s
+codable-in : (few : FewOctetsBesidesInformation) (short : ShortIsCodable) (check : Check) (role : Role) (n phase : ℕ) (s : Sent) → phase < 8
+    → ((frame : Frame) → s ≡ sent.Frame frame → length (information_of frame) ≤ n) → IsSendable s
+    → IsCodable check role 0 (slot_symbols n) phase s
 codable-in few short check role n phase sent.Mark l f h = tt
 codable-in few short check role n phase sent.Odp l f h = tt
 codable-in few short check role n phase sent.Adp l f h = tt
@@ -40,11 +50,19 @@ pub slots_are_codable : FewOctetsBesidesInformation → ShortIsCodable → Sends
 slots_are_codable few short sends script files ts ends t after h r k g role slot phase l e s =
     codable-in few short slot.check role (longest_of script) phase slot.sent l (λ frame f. at-role role frame e f) s
   where
-    all : (role : Role) (frame : Frame) → (of role t).sent ≡ Some slot → slot.sent ≡ sent.Frame frame → length (information_of frame) ≤ max 23 (of role (link_of script files)).setup.offer.tx_len
+    all : (role : Role) (frame : Frame) → (of role t).sent ≡ Some slot → slot.sent ≡ sent.Frame frame
+        → length (information_of frame) ≤ max 23 (of role (link_of script files)).setup.offer.tx_len
     all role frame e f =
         sends (link_of script files) (delay_of script) ts ends t after
-        (record { may_play = scripts_may_play script files h; delays = scripts_have_delays script h; carried = samples_are_carried _ ts r.heard; run = r.run }) (one_is_carried _ ts t k) g role slot frame e f
+        (record {
+          may_play = scripts_may_play script files h;
+          delays = scripts_have_delays script h;
+          carried =
+              samples_are_carried _ ts r.heard;
+          run = r.run;
+        }) (one_is_carried _ ts t k) g role slot frame e f
 
-    at-role : (role : Role) (frame : Frame) → (of role t).sent ≡ Some slot → slot.sent ≡ sent.Frame frame → length (information_of frame) ≤ longest_of script
+    at-role : (role : Role) (frame : Frame) → (of role t).sent ≡ Some slot → slot.sent ≡ sent.Frame frame
+        → length (information_of frame) ≤ longest_of script
     at-role Originator frame e f = let n = all Originator frame e f in omega (arith, n)
     at-role Answerer frame e f = let n = all Answerer frame e f in omega (arith, n)

@@ -30,24 +30,32 @@ ArePrefixes link left = (role : Role) → IsPrefixOf (of role left.got) (of (oth
 abbrev ArePassed : Channel → Link → List Turn → Left → Type 0
 ArePassed c link ts left = (role : Role) → of role left.got ≡ taken_octets (agreed_srej link) (delay_of c.script) role ts
 
-left-prefixes : (link : Link) (ends : Ends) (text : List ℕ) (left : Left) → HoldPrefixes link ends → Leaves ends text left → ArePrefixes link left
+left-prefixes : (link : Link) (ends : Ends) (text : List ℕ) (left : Left) → HoldPrefixes link ends → Leaves ends text left
+    → ArePrefixes link left
 left-prefixes link ends text left h l role = subst (λ g. IsPrefixOf g (of (other role) link).user.file) (sym (l.got_is role)) (h role)
 
 -- the line of samples as any line
-over : (laws : RunLaws) (c : Channel) (link : Link) (ts : List Turn) (ends : Ends) → MayRun c link → LineRun c link ts ends → RunsOver link (delay_of c.script) ts ends
+over : (laws : RunLaws) (c : Channel) (link : Link) (ts : List Turn) (ends : Ends) → MayRun c link → LineRun c link ts ends
+    → RunsOver link (delay_of c.script) ts ends
 over laws c link ts ends m r = record { may_play = m.may_play; delays = m.delays; carried = laws.carried c ts r.heard; run = r.run }
 
-pub hearing-in : (link : Link) (ts : List Turn) (ends : Ends) (t : Turn) (mid : Ends) (o : Outcome) → TurnIs link ts ends t mid o → Hears (length ts) ends t mid
+pub hearing-in : (link : Link) (ts : List Turn) (ends : Ends) (t : Turn) (mid : Ends) (o : Outcome) → TurnIs link ts ends t mid o
+    → Hears (length ts) ends t mid
 hearing-in link ts ends t mid Going h = subst (Hears (length ts) ends t) h.2 h.1.hearing
 hearing-in link ts ends t mid Done h = h.hearing
 hearing-in link ts ends t mid (Broken role fault) h = h.hearing
 
-in-turn : (laws : RunLaws) (c : Channel) (link : Link) (ts : List Turn) (ends : Ends) (o : Outcome) (turn : ℕ) (left : Left) → MayRun c link → LineRun c link ts ends → EndsInTurn c link ts ends o turn left → ArePrefixes link left
+in-turn : (laws : RunLaws) (c : Channel) (link : Link) (ts : List Turn) (ends : Ends) (o : Outcome) (turn : ℕ) (left : Left) → MayRun c link
+    → LineRun c link ts ends → EndsInTurn c link ts ends o turn left → ArePrefixes link left
 in-turn laws c link ts ends o turn left m r e =
-    left-prefixes link e.mid _ left (laws.hears link (delay_of c.script) ts ends e.last e.mid (over laws c link ts ends m r) (laws.one c ts e.last e.heard) (hearing-in link ts ends e.last e.mid o e.is)) e.leaves
+    left-prefixes link e.mid _ left
+    (laws.hears link (delay_of c.script) ts ends e.last e.mid (over laws c link ts ends m r) (laws.one c ts e.last e.heard)
+    (hearing-in link ts ends e.last e.mid o e.is)) e.leaves
 
-on-line : (laws : RunLaws) (c : Channel) (link : Link) (ts : List Turn) (ends : Ends) (end : LineEnd) (text : List ℕ) (left : Left) → MayRun c link → LineRun c link ts ends → EndsOnLine c ts ends end text left → ArePrefixes link left
-on-line laws c link ts ends end text left m r e = left-prefixes link ends text left (laws.takes link (delay_of c.script) ts ends (over laws c link ts ends m r)) e.leaves
+on-line : (laws : RunLaws) (c : Channel) (link : Link) (ts : List Turn) (ends : Ends) (end : LineEnd) (text : List ℕ) (left : Left)
+    → MayRun c link → LineRun c link ts ends → EndsOnLine c ts ends end text left → ArePrefixes link left
+on-line laws c link ts ends end text left m r e =
+    left-prefixes link ends text left (laws.takes link (delay_of c.script) ts ends (over laws c link ts ends m r)) e.leaves
 
 pub leave_prefixes : RunLaws → RunsLeavePrefixes
 leave_prefixes laws c link (IsDone turn) left m r = in-turn laws c link r.turns r.ends Done turn left m r.run r.ended
@@ -59,18 +67,26 @@ leave_prefixes laws c link (ChanceMatch role turn) left m r = on-line laws c lin
 pub leaves_whole : RunLaws → DoneLeavesWhole
 leaves_whole laws c link turn left m r role =
     let e = r.ended in
-    e.leaves.got_is role ∙ (laws.whole link (delay_of c.script) r.turns r.ends e.last e.mid (over laws c link r.turns r.ends m r.run) (laws.one c r.turns e.last e.heard) e.is role).file_is
+    e.leaves.got_is role ∙
+    (laws.whole link (delay_of c.script) r.turns r.ends e.last e.mid (over laws c link r.turns r.ends m r.run)
+    (laws.one c r.turns e.last e.heard) e.is role).file_is
 
-passed-in-turn : (laws : RunLaws) (c : Channel) (link : Link) (ts : List Turn) (ends : Ends) (o : Outcome) (turn : ℕ) (left : Left) → MayRun c link → LineRun c link ts ends → (e : EndsInTurn c link ts ends o turn left) → ArePassed c link (e.last ∷ ts) left
+passed-in-turn : (laws : RunLaws) (c : Channel) (link : Link) (ts : List Turn) (ends : Ends) (o : Outcome) (turn : ℕ) (left : Left)
+    → MayRun c link → LineRun c link ts ends → (e : EndsInTurn c link ts ends o turn left) → ArePassed c link (e.last ∷ ts) left
 passed-in-turn laws c link ts ends o turn left m r e role =
-    e.leaves.got_is role ∙ sym (laws.heard link (delay_of c.script) ts ends e.last e.mid (over laws c link ts ends m r) (laws.one c ts e.last e.heard) (hearing-in link ts ends e.last e.mid o e.is) role)
+    e.leaves.got_is role ∙ sym
+    (laws.heard link (delay_of c.script) ts ends e.last e.mid (over laws c link ts ends m r) (laws.one c ts e.last e.heard)
+    (hearing-in link ts ends e.last e.mid o e.is) role)
 
-passed-on-line : (laws : RunLaws) (c : Channel) (link : Link) (ts : List Turn) (ends : Ends) (end : LineEnd) (text : List ℕ) (left : Left) → MayRun c link → LineRun c link ts ends → EndsOnLine c ts ends end text left → ArePassed c link ts left
-passed-on-line laws c link ts ends end text left m r e role = e.leaves.got_is role ∙ sym (laws.took link (delay_of c.script) ts ends (over laws c link ts ends m r) role)
+passed-on-line : (laws : RunLaws) (c : Channel) (link : Link) (ts : List Turn) (ends : Ends) (end : LineEnd) (text : List ℕ) (left : Left)
+    → MayRun c link → LineRun c link ts ends → EndsOnLine c ts ends end text left → ArePassed c link ts left
+passed-on-line laws c link ts ends end text left m r e role =
+    e.leaves.got_is role ∙ sym (laws.took link (delay_of c.script) ts ends (over laws c link ts ends m r) role)
 
 pub leave_what_passed : RunLaws → RunsLeaveWhatPassed
 leave_what_passed laws c link (IsDone turn) left m r = passed-in-turn laws c link r.turns r.ends Done turn left m r.run r.ended
-leave_what_passed laws c link (LinkLost role segment turn) left m r = passed-in-turn laws c link r.turns r.ends _ turn left m r.run r.ended.1
+leave_what_passed laws c link (LinkLost role segment turn) left m r =
+    passed-in-turn laws c link r.turns r.ends _ turn left m r.run r.ended.1
 leave_what_passed laws c link (NotDetected turn) left m r = passed-in-turn laws c link r.turns r.ends _ turn left m r.run r.ended
 leave_what_passed laws c link (LineLost role symbol) left m r = passed-on-line laws c link r.turns r.ends _ _ left m r.run r.ended
 leave_what_passed laws c link (ChanceMatch role turn) left m r = passed-on-line laws c link r.turns r.ends _ _ left m r.run r.ended.1

@@ -70,7 +70,8 @@ number Going = 0
 number Done = 1
 number (Broken role fault) = 2
 
-in-turn : (c : Channel) (link : Link) (ts : List Turn) (es : Ends) (o : Outcome) (turn : ℕ) (left : Left) → o ≢ Going → EndsInTurn c link ts es o turn left → TurnEnds c link ts es o left
+in-turn : (c : Channel) (link : Link) (ts : List Turn) (es : Ends) (o : Outcome) (turn : ℕ) (left : Left) → o ≢ Going
+    → EndsInTurn c link ts es o turn left → TurnEnds c link ts es o left
 in-turn c link ts es o turn left n e = record { last = e.last; mid = e.mid; heard = e.heard; is = e.is; not_going = n; leaves = e.leaves }
 
 done-not : Done ≢ Going
@@ -79,8 +80,10 @@ done-not z = omega (arith, ap number z)
 broken-not : (role : Role) (fault : LinkFault) → Broken role fault ≢ Going
 broken-not role fault z = omega (arith, ap number z)
 
-caused : (c : Channel) (link : Link) (ts : List Turn) (es : Ends) (end : RunEnd) (left : Left) → EndsBy c link ts es end left → Caused c link ts es end left
-caused c link ts es (IsDone turn) left e = record { cause = In_turn Done; ends = in-turn c link ts es Done turn left done-not e; is = ap IsDone (sym e.number) }
+caused : (c : Channel) (link : Link) (ts : List Turn) (es : Ends) (end : RunEnd) (left : Left) → EndsBy c link ts es end left
+    → Caused c link ts es end left
+caused c link ts es (IsDone turn) left e =
+    record { cause = In_turn Done; ends = in-turn c link ts es Done turn left done-not e; is = ap IsDone (sym e.number) }
 caused c link ts es (LinkLost role segment turn) left e = record {
   cause = In_turn (Broken role (Spent segment e.0));
   ends = in-turn c link ts es (Broken role (Spent segment e.0)) turn left (broken-not role (Spent segment e.0)) e.1;
@@ -91,31 +94,47 @@ caused c link ts es (ends.NotDetected turn) left e = record {
   ends = in-turn c link ts es (Broken Originator NotDetected) turn left (broken-not Originator NotDetected) e;
   is = ap ends.NotDetected (sym e.number);
 }
-caused c link ts es (LineLost role symbol) left e = record { cause = On_line (lines.LineLost role symbol); ends = (e.is, e.leaves); is = refl }
-caused c link ts es (ChanceMatch role turn) left e = record { cause = On_line (lines.ChanceMatch role); ends = (e.1.is, e.1.leaves); is = ap (ChanceMatch role) (sym e.0) }
+caused c link ts es (LineLost role symbol) left e =
+    record { cause = On_line (lines.LineLost role symbol); ends = (e.is, e.leaves); is = refl }
+caused c link ts es (ChanceMatch role turn) left e =
+    record { cause = On_line (lines.ChanceMatch role); ends = (e.1.is, e.1.leaves); is = ap (ChanceMatch role) (sym e.0) }
 
 same-left : (es fs : Ends) (text others : List ℕ) (a b : Left) → Leaves es text a → Leaves fs others b → es ≡ fs → text ≡ others → a ≡ b
 same-left es fs text others a b h k e t =
-    let got : (role : Role) → of role a.got ≡ of role b.got = λ role. h.got_is role ∙ ap (λ (x : Ends). concat (of role x).incoming.taken) e ∙ sym (k.got_is role) in
-    let both : a.got ≡ b.got = ap (λ z. record { orig = z; answ = a.got.answ }) (got Originator) ∙ ap (λ z. record { orig = b.got.orig; answ = z }) (got Answerer) in
+    let got : (role : Role) → of role a.got ≡ of role b.got =
+    λ role. h.got_is role ∙ ap (λ (x : Ends). concat (of role x).incoming.taken) e ∙ sym (k.got_is role) in
+    let both : a.got ≡ b.got =
+    ap (λ z. record { orig = z; answ = a.got.answ }) (got Originator)
+    ∙ ap (λ z. record { orig = b.got.orig; answ = z }) (got Answerer) in
     ap (λ z. record { got = z; trace = a.trace }) both ∙ ap (λ z. record { got = b.got; trace = z }) (h.trace_is ∙ t ∙ sym k.trace_is)
 
 -- two turns after the same ones, which the same is heard in
-both-heard : (laws : ResultLaws) (c : Channel) (ts : List Turn) (es : Ends) (t u : Turn) (mid later : Ends) → Hears (length ts) es t mid → Hears (length ts) es u later → HeardIn c ts t → HeardIn c ts u → heard_in t ≡ heard_in u
-both-heard laws c ts es t u mid later h k p q = ap (λ z. record { orig = z; answ = t.answ.heard }) (each Originator) ∙ ap (λ z. record { orig = u.orig.heard; answ = z }) (each Answerer)
+both-heard : (laws : ResultLaws) (c : Channel) (ts : List Turn) (es : Ends) (t u : Turn) (mid later : Ends) → Hears (length ts) es t mid
+    → Hears (length ts) es u later → HeardIn c ts t → HeardIn c ts u → heard_in t ≡ heard_in u
+both-heard laws c ts es t u mid later h k p q =
+    ap (λ z. record { orig = z; answ = t.answ.heard }) (each Originator)
+    ∙ ap (λ z. record { orig = u.orig.heard; answ = z }) (each Answerer)
   where
     each : (role : Role) → (of role t).heard ≡ (of role u).heard
     each role =
         laws.heard c (other role) ts (of role u).check (of role t).heard (of role u).heard
-        (subst (λ z. IsHeardOf c (other role) ts z (of role t).heard) (same-checks (length ts) (length ts) es es t u mid later refl h k role) (p role).heard_of) (q role).heard_of
+        (subst (λ z. IsHeardOf c (other role) ts z (of role t).heard)
+        (same-checks (length ts) (length ts) es es t u mid later refl h k role) (p role).heard_of) (q role).heard_of
 
-same-cause : (laws : ResultLaws) (c : Channel) (link : Link) (ts : List Turn) (es : Ends) (k q : Cause) (a b : Left) → EndsWith c link ts es k a → EndsWith c link ts es q b → (k ≡ q) × (a ≡ b)
+same-cause : (laws : ResultLaws) (c : Channel) (link : Link) (ts : List Turn) (es : Ends) (k q : Cause) (a b : Left)
+    → EndsWith c link ts es k a → EndsWith c link ts es q b → (k ≡ q) × (a ≡ b)
 same-cause laws c link ts es (In_turn o) (In_turn p) a b h w =
-    let e = both-heard laws c ts es h.last w.last h.mid w.mid (hearing-in link ts es h.last h.mid o h.is) (hearing-in link ts es w.last w.mid p w.is) h.heard w.heard in
-    let s = laws.outcome link ts es h.last w.last h.mid w.mid o p h.is w.is e in
-    (ap In_turn s.2, same-left h.mid w.mid (trace_text (h.last ∷ ts)) (trace_text (w.last ∷ ts)) a b h.leaves w.leaves s.1 (ap (λ t. trace_text (t ∷ ts)) s.0))
-same-cause laws c link ts es (In_turn o) (On_line e) a b h w = absurd (laws.either c ts es e h.last h.mid w.0 (hearing-in link ts es h.last h.mid o h.is) h.heard)
-same-cause laws c link ts es (On_line e) (In_turn o) a b h w = absurd (laws.either c ts es e w.last w.mid h.0 (hearing-in link ts es w.last w.mid o w.is) w.heard)
+    let e = both-heard laws c ts es h.last w.last h.mid w.mid (hearing-in link ts es h.last h.mid o h.is)
+    (hearing-in link ts es w.last w.mid p w.is) h.heard w.heard in
+    let s = laws.outcome link ts es h.last w.last h.mid w.mid o p h.is w.is e in (
+      ap In_turn s.2,
+      same-left h.mid w.mid (trace_text (h.last ∷ ts)) (trace_text (w.last ∷ ts)) a b h.leaves w.leaves s.1
+          (ap (λ t. trace_text (t ∷ ts)) s.0),
+    )
+same-cause laws c link ts es (In_turn o) (On_line e) a b h w =
+    absurd (laws.either c ts es e h.last h.mid w.0 (hearing-in link ts es h.last h.mid o h.is) h.heard)
+same-cause laws c link ts es (On_line e) (In_turn o) a b h w =
+    absurd (laws.either c ts es e w.last w.mid h.0 (hearing-in link ts es w.last w.mid o w.is) w.heard)
 same-cause laws c link ts es (On_line e) (On_line f) a b h w =
     let s = laws.end c ts es e f h.0 w.0 in
     (ap On_line s, same-left es es (line_text ts e) (line_text ts f) a b h.1 w.1 refl (ap (line_text ts) s))
@@ -146,21 +165,36 @@ cut c link n (t ∷ ts) es h k l = go (n-or n (length ts) (omega (arith, l))) (c
         up (inr e) = inr (omega (arith, e))
 
     go : (length ts ≡ n) ⊎ (n < length ts) → (n < length ts → Cut c link n) → Cut c link n
-    go (inl e) f = record { turns = ts; before = h.0; count = e; run = record { run = h.1; heard = k.1 }; turn = t; after = es; going = h.2; heard = k.0 }
+    go (inl e) f = record {
+      turns = ts;
+      before = h.0;
+      count = e;
+      run = record { run = h.1; heard = k.1 };
+      turn = t;
+      after = es;
+      going =
+          h.2;
+      heard = k.0;
+    }
     go (inr e) f = f e
 
 -- a run that ended doesn't go on
-ended-stays : (laws : ResultLaws) (c : Channel) (link : Link) (end : RunEnd) (left : Left) (r : RunsTo c link end left) (ts : List Turn) (es : Ends) → LineRun c link ts es → length r.turns < length ts → ⊥
+ended-stays : (laws : ResultLaws) (c : Channel) (link : Link) (end : RunEnd) (left : Left) (r : RunsTo c link end left) (ts : List Turn)
+    (es : Ends) → LineRun c link ts es → length r.turns < length ts → ⊥
 ended-stays laws c link end left r ts es h less =
     let k = cut c link (length r.turns) ts es h.run h.heard less in
     let same = laws.run c link r.turns k.turns r.ends k.before (sym k.count) r.run k.run in
     let w = caused c link r.turns r.ends end left r.ended in
-    let ends-there : EndsWith c link k.turns k.before w.cause left = subst (λ ts. EndsWith c link ts k.before w.cause left) same.0 (subst (λ es. EndsWith c link r.turns es w.cause left) same.1 w.ends) in
+    let ends-there : EndsWith c link k.turns k.before w.cause left =
+    subst (λ ts. EndsWith c link ts k.before w.cause left) same.0
+    (subst (λ es. EndsWith c link r.turns es w.cause left) same.1 w.ends) in
     against c link k w.cause left ends-there laws
   where
-    against : (c : Channel) (link : Link) {n : ℕ} (k : Cut c link n) (q : Cause) (left : Left) → EndsWith c link k.turns k.before q left → ResultLaws → ⊥
+    against : (c : Channel) (link : Link) {n : ℕ} (k : Cut c link n) (q : Cause) (left : Left) → EndsWith c link k.turns k.before q left
+        → ResultLaws → ⊥
     against c link k (In_turn o) left e laws =
-        let same = both-heard laws c k.turns k.before k.turn e.last k.going.mid e.mid k.going.hearing (hearing-in link k.turns k.before e.last e.mid o e.is) k.heard e.heard in
+        let same = both-heard laws c k.turns k.before k.turn e.last k.going.mid e.mid k.going.hearing
+        (hearing-in link k.turns k.before e.last e.mid o e.is) k.heard e.heard in
         let s = laws.outcome link k.turns k.before k.turn e.last k.going.mid e.mid Going o (k.after, k.going, refl) e.is same in
         e.not_going (sym s.2)
     against c link k (On_line f) left e laws = laws.either c k.turns k.before f k.turn k.going.mid e.0 k.going.hearing k.heard
@@ -179,12 +213,15 @@ one_result laws c link a b left others r q = go (compare (length r.turns) (lengt
         up (inr (inl e)) = inr (inl (omega (arith, e)))
         up (inr (inr e)) = inr (inr (omega (arith, e)))
 
-    go : (length r.turns ≡ length q.turns) ⊎ ((length r.turns < length q.turns) ⊎ (length q.turns < length r.turns)) → (a ≡ b) × (left ≡ others)
+    go : (length r.turns ≡ length q.turns) ⊎ ((length r.turns < length q.turns) ⊎ (length q.turns < length r.turns))
+        → (a ≡ b) × (left ≡ others)
     go (inl e) =
         let same = laws.run c link r.turns q.turns r.ends q.ends e r.run q.run in
         let x = caused c link r.turns r.ends a left r.ended in
         let y = caused c link q.turns q.ends b others q.ended in
-        let there : EndsWith c link q.turns q.ends x.cause left = subst (λ ts. EndsWith c link ts q.ends x.cause left) same.0 (subst (λ es. EndsWith c link r.turns es x.cause left) same.1 x.ends) in
+        let there : EndsWith c link q.turns q.ends x.cause left =
+        subst (λ ts. EndsWith c link ts q.ends x.cause left) same.0
+        (subst (λ es. EndsWith c link r.turns es x.cause left) same.1 x.ends) in
         let s = same-cause laws c link q.turns q.ends x.cause y.cause left others there y.ends in
         (sym x.is ∙ ap (λ n. end_of n x.cause) e ∙ ap (end_of (length q.turns)) s.0 ∙ y.is, s.1)
     go (inr (inl e)) = absurd (ended-stays laws c link a left r q.turns q.ends q.run e)

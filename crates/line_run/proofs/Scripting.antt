@@ -12,7 +12,8 @@ use Rattle.link_run.specs.End.{BreakLine, is_busy}
 use Rattle.line_run.specs.Scripted.{break_line, busy_line, ScriptsMayPlay, ScriptsHaveDelays, BreaksAreTheScripts, PausesAreTheScripts}
 
 pub scripts_may_play : ScriptsMayPlay
-scripts_may_play script files h = record { originates = refl; answers = refl; offer_o = h.offer_orig_allowed; offer_a = h.offer_answ_allowed }
+scripts_may_play script files h =
+    record { originates = refl; answers = refl; offer_o = h.offer_orig_allowed; offer_a = h.offer_answ_allowed }
 
 pub scripts_have_delays : ScriptsHaveDelays
 scripts_have_delays script h Originator = h.delay_orig_some
@@ -22,7 +23,8 @@ abbrev as_line : ℕ × ℕ → BreakLine
 as_line b = record { turn = b.0; length_octet = b.1 }
 
 -- an entry of mapped lists
-same-entry : (lines : List Break) (index : ℕ) → slice_get (map break_line lines) index ≡ option_map as_line (slice_get (map (λ (line : Break). (line.turn, line.length)) lines) index)
+same-entry : (lines : List Break) (index : ℕ)
+    → slice_get (map break_line lines) index ≡ option_map as_line (slice_get (map (λ (line : Break). (line.turn, line.length)) lines) index)
 same-entry [] index = refl
 same-entry (line ∷ lines) zero = refl
 same-entry (line ∷ lines) (suc index) = same-entry lines index
@@ -31,7 +33,9 @@ pub breaks_are_the_scripts : BreaksAreTheScripts
 breaks_are_the_scripts script role index = same-entry (filter (λ (line : Break). same_role line.role role) script.breaks) index
 
 -- being busy by some of the lines
-busy-by : (turn : ℕ) (role : Role) (lines : List Pause) → is_busy turn (map busy_line (filter (λ (p : Pause). same_role p.role role) lines)) ≡ list_any (λ (p : Pause). same_role p.role role && covers p.from p.count turn) lines
+busy-by : (turn : ℕ) (role : Role) (lines : List Pause)
+    → is_busy turn (map busy_line (filter (λ (p : Pause). same_role p.role role) lines)) ≡ list_any
+    (λ (p : Pause). same_role p.role role && covers p.from p.count turn) lines
 busy-by turn role [] = refl
 busy-by turn role (p ∷ lines) = go (same_role p.role role) (busy-by turn role lines)
   where
@@ -41,7 +45,8 @@ busy-by turn role (p ∷ lines) = go (same_role p.role role) (busy-by turn role 
     any : Bool
     any = list_any (λ (q : Pause). same_role q.role role && covers q.from q.count turn) lines
 
-    go : (b : Bool) → is_busy turn (map busy_line rest) ≡ any → is_busy turn (map busy_line (cond b (p ∷ rest) rest)) ≡ ((b && covers p.from p.count turn) || any)
+    go : (b : Bool) → is_busy turn (map busy_line rest) ≡ any
+        → is_busy turn (map busy_line (cond b (p ∷ rest) rest)) ≡ ((b && covers p.from p.count turn) || any)
     go true e = ap (λ z. covers p.from p.count turn || z) e
     go false e = e
 

@@ -66,7 +66,8 @@ pub record AreAcks (answered given : ℕ) (acks : List AckOn) : Type 0 where
   pub in_order : AcksInOrder acks
 
 -- breaks of one end, what the other was given, and both kinds of words on the lines
-pub record BreaksGo (lengths : List ℕ) (answered : ℕ) (brk : Bool) (given : List ℕ) (ack : Option BreakWord) (forward : List BrkOn) (back : List AckOn) : Type 0 where
+pub record BreaksGo (lengths : List ℕ) (answered : ℕ) (brk : Bool) (given : List ℕ) (ack : Option BreakWord) (forward : List BrkOn)
+    (back : List AckOn) : Type 0 where
   pub given_are : AreGiven lengths answered given
   pub due : brk ≡ true → answered < length lengths
   pub pending : IsPending (length given) ack
@@ -88,7 +89,8 @@ number-append : (lengths : List ℕ) (l n : ℕ) → n < length lengths → slic
 number-append lengths l n h = grind (arith, common_steps)
 
 -- a break is taken
-pub go-asked : (b : OwnBreaks) (t : TheirBreaks) (brks : List BrkOn) (acks : List AckOn) (turn l : ℕ) → Go b t brks acks → Go (after_ask turn l b) t brks acks
+pub go-asked : (b : OwnBreaks) (t : TheirBreaks) (brks : List BrkOn) (acks : List AckOn) (turn l : ℕ) → Go b t brks acks
+    → Go (after_ask turn l b) t brks acks
 go-asked b t brks acks turn l h = go (nat_lt b.answered (length b.lengths)) refl (nat_le b.rest turn)
   where
     more : length b.lengths ≤ b.answered → Go (record b { lengths = b.lengths ++ l ∷ []; brk = true; set = turn; count = 0 }) t brks acks
@@ -105,29 +107,41 @@ go-asked b t brks acks turn l h = go (nat_lt b.answered (length b.lengths)) refl
       pending = h.pending;
       brks = record {
         each = all_weaker (IsBrk b.lengths b.answered (length t.lengths)) (IsBrk (b.lengths ++ l ∷ []) b.answered (length t.lengths)) brks
-            (λ e o. record { within = omega (arith, o.within, length-append {A = ℕ}); low = o.low; high = o.high; number = o.number; is = o.is ∙ sym (number-append b.lengths l e.place o.within) }) h.brks.each;
+            (λ e o. record {
+              within = omega (arith, o.within, length-append {A = ℕ});
+              low = o.low;
+              high = o.high;
+              number = o.number;
+              is =
+                  o.is ∙ sym (number-append b.lengths l e.place o.within);
+            }) h.brks.each;
         in_order = h.brks.in_order;
       };
       acks = h.acks;
     }
 
-    go : (w : Bool) → nat_lt b.answered (length b.lengths) ≡ w → (r : Bool) → Go (cond (not w && r) (record b { lengths = b.lengths ++ l ∷ []; brk = true; set = turn; count = 0 }) b) t brks acks
+    go : (w : Bool) → nat_lt b.answered (length b.lengths) ≡ w → (r : Bool)
+        → Go (cond (not w && r) (record b { lengths = b.lengths ++ l ∷ []; brk = true; set = turn; count = 0 }) b) t brks acks
     go true e r = h
     go false e true = more (ltb-false b.answered (length b.lengths) e)
     go false e false = h
 
 -- whether a BRK is due changes
-pub go-due : (b : OwnBreaks) (t : TheirBreaks) (brks : List BrkOn) (acks : List AckOn) (brk : Bool) → Go b t brks acks → (brk ≡ true → b.answered < length b.lengths) → BreaksGo b.lengths b.answered brk t.lengths t.ack brks acks
+pub go-due : (b : OwnBreaks) (t : TheirBreaks) (brks : List BrkOn) (acks : List AckOn) (brk : Bool) → Go b t brks acks
+    → (brk ≡ true → b.answered < length b.lengths) → BreaksGo b.lengths b.answered brk t.lengths t.ack brks acks
 go-due b t brks acks brk h due = record { given_are = h.given_are; due = due; pending = h.pending; brks = h.brks; acks = h.acks }
 
 abbrev pub OnTicked : TheirBreaks → List BrkOn → List AckOn → Option OwnBreaks → Type 0
 OnTicked t brks acks None = Unit {0}
 OnTicked t brks acks (Some b) = Go b t brks acks
 
-pub go-ticked : (b : OwnBreaks) (t : TheirBreaks) (brks : List BrkOn) (acks : List AckOn) (turn period tries : ℕ) → Go b t brks acks → OnTicked t brks acks (ticked turn period tries b)
-go-ticked b t brks acks turn period tries h = go (nat_lt b.answered (length b.lengths)) refl (nat_eq turn (b.set + period)) (nat_eq b.count tries)
+pub go-ticked : (b : OwnBreaks) (t : TheirBreaks) (brks : List BrkOn) (acks : List AckOn) (turn period tries : ℕ) → Go b t brks acks
+    → OnTicked t brks acks (ticked turn period tries b)
+go-ticked b t brks acks turn period tries h =
+    go (nat_lt b.answered (length b.lengths)) refl (nat_eq turn (b.set + period)) (nat_eq b.count tries)
   where
-    go : (w : Bool) → nat_lt b.answered (length b.lengths) ≡ w → (r c : Bool) → OnTicked t brks acks (cond (w && r) (cond c None (Some (record b { brk = true; set = turn; count = b.count + 1 }))) (Some b))
+    go : (w : Bool) → nat_lt b.answered (length b.lengths) ≡ w → (r c : Bool)
+        → OnTicked t brks acks (cond (w && r) (cond c None (Some (record b { brk = true; set = turn; count = b.count + 1 }))) (Some b))
     go true e true true = tt
     go true e true false = go-due b t brks acks true h (λ z. ltb-true b.answered (length b.lengths) e)
     go true e false c = h
@@ -135,14 +149,17 @@ go-ticked b t brks acks turn period tries h = go (nat_lt b.answered (length b.le
 
 -- a BRK goes on the line
 pub go-brk : (b : OwnBreaks) (t : TheirBreaks) (brks : List BrkOn) (acks : List AckOn) → b.brk ≡ true → Go b t brks acks
-    → Go (after_brk b) t (brks ++ (record { place = b.answered; number = b.answered % 2; length_octet = slice_index_or b.lengths b.answered 0 }) ∷ []) acks
+    → Go (after_brk b) t (brks
+    ++ (record { place = b.answered; number = b.answered % 2; length_octet = slice_index_or b.lengths b.answered 0 }) ∷ []) acks
 go-brk b t brks acks e h = record {
   given_are = h.given_are;
   due = λ z. absurd (false≢true z);
   pending = h.pending;
   brks = record {
-    each = all_snoc (IsBrk b.lengths b.answered (length t.lengths)) brks new h.brks.each (record { within = h.due e; low = h.given_are.high; high = omega arith; number = refl; is = refl });
-    in_order = brks-snoc brks new h.brks.in_order (all_weaker (IsBrk b.lengths b.answered (length t.lengths)) (λ r. r.place ≤ b.answered) brks (λ r o. o.high) h.brks.each);
+    each = all_snoc (IsBrk b.lengths b.answered (length t.lengths)) brks new h.brks.each
+        (record { within = h.due e; low = h.given_are.high; high = omega arith; number = refl; is = refl });
+    in_order = brks-snoc brks new h.brks.in_order
+        (all_weaker (IsBrk b.lengths b.answered (length t.lengths)) (λ r. r.place ≤ b.answered) brks (λ r o. o.high) h.brks.each);
   };
   acks = h.acks;
 }
@@ -151,7 +168,8 @@ go-brk b t brks acks e h = record {
     new = record { place = b.answered; number = b.answered % 2; length_octet = slice_index_or b.lengths b.answered 0 }
 
 -- a BRKACK goes on the line
-pub go-ack : (b : OwnBreaks) (t : TheirBreaks) (brks : List BrkOn) (acks : List AckOn) (number length_octet : ℕ) → t.ack ≡ Some (Ack number length_octet) → Go b t brks acks
+pub go-ack : (b : OwnBreaks) (t : TheirBreaks) (brks : List BrkOn) (acks : List AckOn) (number length_octet : ℕ)
+    → t.ack ≡ Some (Ack number length_octet) → Go b t brks acks
     → Go b (after_ack t) brks (acks ++ (record { place = length t.lengths - 1; number = number }) ∷ [])
 go-ack b t brks acks number length_octet e h =
     let pending : (1 ≤ length t.lengths) × (number ≡ (length t.lengths - 1) % 2) = subst (IsPending (length t.lengths)) e h.pending in
@@ -161,8 +179,11 @@ go-ack b t brks acks number length_octet e h =
       pending = tt;
       brks = h.brks;
       acks = record {
-        each = all_snoc (IsAck b.answered (length t.lengths)) acks new h.acks.each (record { high = omega (arith, pending.0); low = omega (arith, h.given_are.low, pending.0); number = pending.1 });
-        in_order = acks-snoc acks new h.acks.in_order (all_weaker (IsAck b.answered (length t.lengths)) (λ r. r.place ≤ length t.lengths - 1) acks (λ r o. omega (arith, o.high)) h.acks.each);
+        each = all_snoc (IsAck b.answered (length t.lengths)) acks new h.acks.each
+            (record { high = omega (arith, pending.0); low = omega (arith, h.given_are.low, pending.0); number = pending.1 });
+        in_order = acks-snoc acks new h.acks.in_order
+            (all_weaker (IsAck b.answered (length t.lengths)) (λ r. r.place ≤ length t.lengths - 1) acks
+            (λ r o. omega (arith, o.high)) h.acks.each);
       };
     }
   where
@@ -170,24 +191,45 @@ go-ack b t brks acks number length_octet e h =
     new = record { place = length t.lengths - 1; number = number }
 
 -- words are lost, or pass unheard
-pub go-brk-lost : (b : OwnBreaks) (t : TheirBreaks) (e : BrkOn) (brks : List BrkOn) (acks : List AckOn) → Go b t (e ∷ brks) acks → Go b t brks acks
-go-brk-lost b t e brks acks h = record { given_are = h.given_are; due = h.due; pending = h.pending; brks = record { each = h.brks.each.1; in_order = h.brks.in_order.1 }; acks = h.acks }
+pub go-brk-lost : (b : OwnBreaks) (t : TheirBreaks) (e : BrkOn) (brks : List BrkOn) (acks : List AckOn) → Go b t (e ∷ brks) acks
+    → Go b t brks acks
+go-brk-lost b t e brks acks h =
+    record {
+      given_are = h.given_are;
+      due = h.due;
+      pending = h.pending;
+      brks =
+          record { each = h.brks.each.1; in_order = h.brks.in_order.1 };
+      acks = h.acks;
+    }
 
-pub go-ack-lost : (b : OwnBreaks) (t : TheirBreaks) (e : AckOn) (brks : List BrkOn) (acks : List AckOn) → Go b t brks (e ∷ acks) → Go b t brks acks
-go-ack-lost b t e brks acks h = record { given_are = h.given_are; due = h.due; pending = h.pending; brks = h.brks; acks = record { each = h.acks.each.1; in_order = h.acks.in_order.1 } }
+pub go-ack-lost : (b : OwnBreaks) (t : TheirBreaks) (e : AckOn) (brks : List BrkOn) (acks : List AckOn) → Go b t brks (e ∷ acks)
+    → Go b t brks acks
+go-ack-lost b t e brks acks h =
+    record {
+      given_are = h.given_are;
+      due = h.due;
+      pending = h.pending;
+      brks = h.brks;
+      acks =
+          record { each = h.acks.each.1; in_order = h.acks.in_order.1 };
+    }
 
 -- a BRK is heard
 pub go-brk-heard : (b : OwnBreaks) (t : TheirBreaks) (place number length_octet : ℕ) (brks : List BrkOn) (acks : List AckOn)
-    → Go b t ((record { place = place; number = number; length_octet = length_octet }) ∷ brks) acks → Go b (after_break number length_octet t) brks acks
+    → Go b t ((record { place = place; number = number; length_octet = length_octet }) ∷ brks) acks
+    → Go b (after_break number length_octet t) brks acks
 go-brk-heard b t place number length_octet brks acks h = go (nat_eq number (length t.lengths % 2)) refl
   where
     same_place : number ≡ length t.lengths % 2 → place ≡ length t.lengths
     same_place e = omega (arith, e, h.brks.each.0.number, h.brks.each.0.low, h.brks.each.0.high, h.given_are.low)
 
     other_place : number ≢ length t.lengths % 2 → place + 1 ≡ length t.lengths
-    other_place e = let k : place ≢ length t.lengths = (λ z. e (h.brks.each.0.number ∙ ap (λ m. m % 2) z)) in omega (arith, k, h.brks.each.0.low, h.brks.each.0.high, h.given_are.low)
+    other_place e = let k : place ≢ length t.lengths = (λ z. e (h.brks.each.0.number ∙ ap (λ m. m % 2) z)) in
+        omega (arith, k, h.brks.each.0.low, h.brks.each.0.high, h.given_are.low)
 
-    given : place ≡ length t.lengths → BreaksGo b.lengths b.answered b.brk (t.lengths ++ length_octet ∷ []) (Some (Ack number length_octet)) brks acks
+    given : place ≡ length t.lengths
+        → BreaksGo b.lengths b.answered b.brk (t.lengths ++ length_octet ∷ []) (Some (Ack number length_octet)) brks acks
     given e =
         let longer : length (t.lengths ++ length_octet ∷ []) ≡ length t.lengths + 1 = omega (arith, length-append {A = ℕ}) in
         let within : length t.lengths < length b.lengths = omega (arith, h.brks.each.0.within, e) in
@@ -199,17 +241,21 @@ go-brk-heard b t place number length_octet brks acks h = go (nat_eq number (leng
             taken = omega (arith, within, longer);
             waits_low = h.given_are.waits_low;
             waits_high = h.given_are.waits_high;
-            is = rw (longer, take_more b.lengths (length t.lengths) 0 within, ← h.given_are.is) (ap (λ x. t.lengths ++ x ∷ []) (h.brks.each.0.is ∙ ap (λ m. slice_index_or b.lengths m 0) e));
+            is = rw (longer, take_more b.lengths (length t.lengths) 0 within, ← h.given_are.is)
+                (ap (λ x. t.lengths ++ x ∷ []) (h.brks.each.0.is ∙ ap (λ m. slice_index_or b.lengths m 0) e));
           };
           due = h.due;
           pending = (omega (arith, longer), h.brks.each.0.number ∙ ap (λ m. m % 2) (sym (ap (λ m. m - 1) longer ∙ less)));
           brks = record {
-            each = all_both (IsBrk b.lengths b.answered (length t.lengths)) (λ c. place ≤ c.place) (IsBrk b.lengths b.answered (length (t.lengths ++ length_octet ∷ []))) brks
-                (λ c o q. record { within = o.within; low = omega (arith, q, e, longer); high = o.high; number = o.number; is = o.is }) h.brks.each.1 h.brks.in_order.0;
+            each = all_both (IsBrk b.lengths b.answered (length t.lengths)) (λ c. place ≤ c.place)
+                (IsBrk b.lengths b.answered (length (t.lengths ++ length_octet ∷ []))) brks
+                (λ c o q. record { within = o.within; low = omega (arith, q, e, longer); high = o.high; number = o.number; is = o.is })
+                h.brks.each.1 h.brks.in_order.0;
             in_order = h.brks.in_order.1;
           };
           acks = record {
-            each = all_weaker (IsAck b.answered (length t.lengths)) (IsAck b.answered (length (t.lengths ++ length_octet ∷ []))) acks (λ c o. record { high = omega (arith, o.high, longer); low = o.low; number = o.number }) h.acks.each;
+            each = all_weaker (IsAck b.answered (length t.lengths)) (IsAck b.answered (length (t.lengths ++ length_octet ∷ []))) acks
+                (λ c o. record { high = omega (arith, o.high, longer); low = o.low; number = o.number }) h.acks.each;
             in_order = h.acks.in_order;
           };
         }
@@ -225,7 +271,9 @@ go-brk-heard b t place number length_octet brks acks h = go (nat_eq number (leng
           acks = h.acks;
         }
 
-    go : (w : Bool) → nat_eq number (length t.lengths % 2) ≡ w → BreaksGo b.lengths b.answered b.brk (with_given (cond w (Some length_octet) None) t.lengths) (Some (Ack number length_octet)) brks acks
+    go : (w : Bool) → nat_eq number (length t.lengths % 2) ≡ w
+        → BreaksGo b.lengths b.answered b.brk (with_given (cond w (Some length_octet) None) t.lengths)
+        (Some (Ack number length_octet)) brks acks
     go true e = given (same_place (eqb-true number (length t.lengths % 2) e))
     go false e = again (other_place (eqb-false number (length t.lengths % 2) e))
 

@@ -64,47 +64,66 @@ Goes w srej o i forward back = Sound (flow w srej o i forward back)
 
 segments_in-snoc : (line : List Slot) (slot : Slot) → segments_in (line ++ slot ∷ []) ≡ segments_in line ++ segment_of slot.sent slot.number
 segments_in-snoc [] slot = append-nil (segment_of slot.sent slot.number)
-segments_in-snoc (s ∷ line) slot = ap (λ l. segment_of s.sent s.number ++ l) (segments_in-snoc line slot) ∙ sym (append_assoc (segment_of s.sent s.number) (segments_in line) (segment_of slot.sent slot.number))
+segments_in-snoc (s ∷ line) slot =
+    ap (λ l. segment_of s.sent s.number ++ l) (segments_in-snoc line slot)
+    ∙ sym (append_assoc (segment_of s.sent s.number) (segments_in line) (segment_of slot.sent slot.number))
 
-replies_in-snoc : (line : List Slot) (slot : Slot) → replies_in (line ++ slot ∷ []) ≡ replies_in line ++ (record { told = slot.told; asked = asked_of slot.sent slot.number }) ∷ []
+replies_in-snoc : (line : List Slot) (slot : Slot)
+    → replies_in (line ++ slot ∷ []) ≡ replies_in line ++ (record { told = slot.told; asked = asked_of slot.sent slot.number }) ∷ []
 replies_in-snoc [] slot = refl
 replies_in-snoc (s ∷ line) slot = ap (λ l. (record { told = s.told; asked = asked_of s.sent s.number }) ∷ l) (replies_in-snoc line slot)
 
 -- A sender hears the oldest slot of the line back.
 
-pub back-forgotten : (w : ℕ) (srej : Bool) (o : Outgoing) (i : Incoming) (forward : List Slot) (slot : Slot) (rest : List Slot) → Goes w srej o i forward (slot ∷ rest) → Goes w srej o i forward rest
-back-forgotten w srej o i forward slot rest h = keeps-forgotten (flow w srej o i forward rest) (record { told = slot.told; asked = asked_of slot.sent slot.number }) (replies_in rest) h
+pub back-forgotten : (w : ℕ) (srej : Bool) (o : Outgoing) (i : Incoming) (forward : List Slot) (slot : Slot) (rest : List Slot)
+    → Goes w srej o i forward (slot ∷ rest) → Goes w srej o i forward rest
+back-forgotten w srej o i forward slot rest h =
+    keeps-forgotten (flow w srej o i forward rest) (record { told = slot.told; asked = asked_of slot.sent slot.number }) (replies_in rest) h
 
 -- its N(R) is found
-pub ack-found : (w : ℕ) (srej : Bool) (o : Outgoing) (i : Incoming) (forward : List Slot) (slot : Slot) (rest : List Slot) → Goes w srej o i forward (slot ∷ rest) → meant o.front o.high (slot.told % 128) ≡ Some slot.told
-ack-found w srej o i forward slot rest h = meant-found o.front o.high slot.told h.told.each.0.low (omega (arith, h.told.each.0.high, h.range.nexts)) (omega (arith, h.range.highs, h.width.high))
+pub ack-found : (w : ℕ) (srej : Bool) (o : Outgoing) (i : Incoming) (forward : List Slot) (slot : Slot) (rest : List Slot)
+    → Goes w srej o i forward (slot ∷ rest) → meant o.front o.high (slot.told % 128) ≡ Some slot.told
+ack-found w srej o i forward slot rest h =
+    meant-found o.front o.high slot.told h.told.each.0.low (omega (arith, h.told.each.0.high, h.range.nexts))
+    (omega (arith, h.range.highs, h.width.high))
 
-pub back-advanced : (w : ℕ) (srej : Bool) (o : Outgoing) (i : Incoming) (forward : List Slot) (slot : Slot) (rest : List Slot) → Goes w srej o i forward (slot ∷ rest) → Goes w srej (advanced o slot.told) i forward rest
+pub back-advanced : (w : ℕ) (srej : Bool) (o : Outgoing) (i : Incoming) (forward : List Slot) (slot : Slot) (rest : List Slot)
+    → Goes w srej o i forward (slot ∷ rest) → Goes w srej (advanced o slot.told) i forward rest
 back-advanced w srej o i forward slot rest h =
-    keeps-acked (flow w srej o i forward rest) (record { told = slot.told; asked = asked_of slot.sent slot.number }) (replies_in rest) (max o.from slot.told) (from_number slot.told o.chosen) h
-    (omega arith) (omega (arith, h.to_send.high, h.told.each.0.high, h.range.nexts)) (from_number-choices o.front o.high slot.told o.chosen h.to_send.choices)
+    keeps-acked (flow w srej o i forward rest) (record { told = slot.told; asked = asked_of slot.sent slot.number }) (replies_in rest)
+    (max o.from slot.told) (from_number slot.told o.chosen) h
+    (omega arith) (omega (arith, h.to_send.high, h.told.each.0.high, h.range.nexts))
+    (from_number-choices o.front o.high slot.told o.chosen h.to_send.choices)
 
-pub back-rejected : (w : ℕ) (srej : Bool) (o : Outgoing) (i : Incoming) (forward : List Slot) (slot : Slot) (rest : List Slot) → Goes w srej o i forward (slot ∷ rest) → Goes w srej (gone_back (advanced o slot.told)) i forward rest
+pub back-rejected : (w : ℕ) (srej : Bool) (o : Outgoing) (i : Incoming) (forward : List Slot) (slot : Slot) (rest : List Slot)
+    → Goes w srej o i forward (slot ∷ rest) → Goes w srej (gone_back (advanced o slot.told)) i forward rest
 back-rejected w srej o i forward slot rest h =
-    keeps-acked (flow w srej o i forward rest) (record { told = slot.told; asked = asked_of slot.sent slot.number }) (replies_in rest) slot.told (from_number slot.told o.chosen) h
-    (omega arith) (omega (arith, h.told.each.0.high, h.range.nexts)) (from_number-choices o.front o.high slot.told o.chosen h.to_send.choices)
+    keeps-acked (flow w srej o i forward rest) (record { told = slot.told; asked = asked_of slot.sent slot.number })
+    (replies_in rest) slot.told (from_number slot.told o.chosen) h
+    (omega arith) (omega (arith, h.told.each.0.high, h.range.nexts))
+    (from_number-choices o.front o.high slot.told o.chosen h.to_send.choices)
 
-pub back-replied : (w : ℕ) (srej : Bool) (o : Outgoing) (i : Incoming) (forward : List Slot) (slot : Slot) (rest : List Slot) → Goes w srej o i forward (slot ∷ rest) → Goes w srej (wait_ended (advanced o slot.told)) i forward rest
+pub back-replied : (w : ℕ) (srej : Bool) (o : Outgoing) (i : Incoming) (forward : List Slot) (slot : Slot) (rest : List Slot)
+    → Goes w srej o i forward (slot ∷ rest) → Goes w srej (wait_ended (advanced o slot.told)) i forward rest
 back-replied w srej o i forward slot rest h =
-    keeps-acked (flow w srej o i forward rest) (record { told = slot.told; asked = asked_of slot.sent slot.number }) (replies_in rest) slot.told [] h
+    keeps-acked (flow w srej o i forward rest) (record { told = slot.told; asked = asked_of slot.sent slot.number })
+    (replies_in rest) slot.told [] h
     (omega arith) (omega (arith, h.told.each.0.high, h.range.nexts)) tt
 
 -- an SREJ's number is found
 pub chosen_with : ℕ → Outgoing → Outgoing
 chosen_with n o = record o { chosen = with_number n o.chosen }
 
-pub back-selected : (w : ℕ) (srej : Bool) (o : Outgoing) (i : Incoming) (forward : List Slot) (command pf : Bool) (nr n told : ℕ) (rest : List Slot)
+pub back-selected : (w : ℕ) (srej : Bool) (o : Outgoing) (i : Incoming) (forward : List Slot) (command pf : Bool) (nr n told : ℕ)
+    (rest : List Slot)
     → Goes w srej o i forward ((record { sent = slots.Frame (Srej command nr pf); number = n; told = told }) ∷ rest) → nr ≡ n % 128
-    → (selected nr o ≡ Some (record o { chosen = with_number n o.chosen })) × Goes w srej (record o { chosen = with_number n o.chosen }) i forward rest
+    → (selected nr o ≡ Some (record o { chosen = with_number n o.chosen }))
+    × Goes w srej (record o { chosen = with_number n o.chosen }) i forward rest
 back-selected w srej o i forward command pf nr n told rest h e =
     let in_range : (told ≤ n) × (n < o.high) = h.told.each.0.askable in
     let low : o.front ≤ n = omega (arith, h.told.each.0.low, in_range.0) in
-    let found : meant o.front (o.high - 1) (n % 128) ≡ Some n = meant-found o.front (o.high - 1) n low (omega (arith, in_range.1)) (omega (arith, h.range.highs, h.width.high)) in
+    let found : meant o.front (o.high - 1) (n % 128) ≡ Some n =
+    meant-found o.front (o.high - 1) n low (omega (arith, in_range.1)) (omega (arith, h.range.highs, h.width.high)) in
     let some : nat_lt o.front o.high ≡ true = grind (arith, nat_tests, low, in_range.1) in (
       rw (some, e, found) refl,
       keeps-chosen (flow w srej o i forward rest) o.from (with_number n o.chosen)
@@ -115,28 +134,36 @@ back-selected w srej o i forward command pf nr n told rest h e =
 -- A receiver hears the oldest slot of the line to it.
 
 -- nothing but an I frame is a segment
-pub line-passed : (w : ℕ) (srej : Bool) (o : Outgoing) (i : Incoming) (slot : Slot) (rest back : List Slot) → segment_of slot.sent slot.number ≡ [] → Goes w srej o i (slot ∷ rest) back → Goes w srej o i rest back
+pub line-passed : (w : ℕ) (srej : Bool) (o : Outgoing) (i : Incoming) (slot : Slot) (rest back : List Slot)
+    → segment_of slot.sent slot.number ≡ [] → Goes w srej o i (slot ∷ rest) back → Goes w srej o i rest back
 line-passed w srej o i slot rest back e h = subst (λ l. Sound (record (flow w srej o i rest back) { segments = l ++ segments_in rest })) e h
 
 segments-dropped : (p : Flow) (l rest : List Segment) → Sound (record p { segments = l ++ rest }) → Sound (record p { segments = rest })
 segments-dropped p [] rest h = h
 segments-dropped p (s ∷ l) rest h = segments-dropped p l rest (keeps-dropped p s (l ++ rest) h)
 
-pub line-lost : (w : ℕ) (srej : Bool) (o : Outgoing) (i : Incoming) (slot : Slot) (rest back : List Slot) → Goes w srej o i (slot ∷ rest) back → Goes w srej o i rest back
+pub line-lost : (w : ℕ) (srej : Bool) (o : Outgoing) (i : Incoming) (slot : Slot) (rest back : List Slot)
+    → Goes w srej o i (slot ∷ rest) back → Goes w srej o i rest back
 line-lost w srej o i slot rest back h = segments-dropped (flow w srej o i rest back) (segment_of slot.sent slot.number) (segments_in rest) h
 
 -- how far a segment lies from the next one expected says which it is
-distance-0 : (n r w front high : ℕ) → n < high → r ≤ n + w → high ≤ front + w → front ≤ r → w ≤ 127 → (n % 128 + 128 - r % 128) % 128 ≡ 0 → n ≡ r
+distance-0 : (n r w front high : ℕ) → n < high → r ≤ n + w → high ≤ front + w → front ≤ r → w ≤ 127 → (n % 128 + 128 - r % 128) % 128 ≡ 0
+    → n ≡ r
 distance-0 n r w front high a b c d few e = omega arith
 
-distance-of : (n r w front high : ℕ) → n < high → r ≤ n + w → high ≤ front + w → front ≤ r → w ≤ 64 → (n % 128 + 128 - r % 128) % 128 < w → n ≡ r + (n % 128 + 128 - r % 128) % 128
+distance-of : (n r w front high : ℕ) → n < high → r ≤ n + w → high ≤ front + w → front ≤ r → w ≤ 64 → (n % 128 + 128 - r % 128) % 128 < w
+    → n ≡ r + (n % 128 + 128 - r % 128) % 128
 distance-of n r w front high a b c d few e = omega arith
 
 -- the oldest slot is an I frame, and the receiver takes it
-pub line-taken : (w : ℕ) (srej : Bool) (o : Outgoing) (i : Incoming) (ns nr : ℕ) (pf : Bool) (info : List ℕ) (n told : ℕ) (rest back : List Slot)
-    → Goes w srej o i ((record { sent = slots.Frame (I ns nr pf info); number = n; told = told }) ∷ rest) back → ns ≡ n % 128 → i.window ≡ w → i.srej ≡ srej
+pub line-taken : (w : ℕ) (srej : Bool) (o : Outgoing) (i : Incoming) (ns nr : ℕ) (pf : Bool) (info : List ℕ) (n told : ℕ)
+    (rest back : List Slot)
+    → Goes w srej o i ((record { sent = slots.Frame (I ns nr pf info); number = n; told = told }) ∷ rest) back → ns ≡ n % 128 → i.window ≡ w
+    → i.srej ≡ srej
     → Goes w srej o (after_take ns info i) rest back
-line-taken w srej o i ns nr pf info n told rest back h spelled window same = subst (λ m. Goes w srej o (after_take m info i) rest back) (sym spelled) (go (nat_eq d 0) refl (nat_lt d i.window) refl i.srej refl (is_held (r + d) i.held) refl)
+line-taken w srej o i ns nr pf info n told rest back h spelled window same =
+    subst (λ m. Goes w srej o (after_take m info i) rest back) (sym spelled)
+    (go (nat_eq d 0) refl (nat_lt d i.window) refl i.srej refl (is_held (r + d) i.held) refl)
   where
     r : ℕ
     r = length i.taken
@@ -150,22 +177,28 @@ line-taken w srej o i ns nr pf info n told rest back h spelled window same = sub
     s : Segment
     s = record { number = n; info = info }
 
-    go : (z : Bool) → nat_eq d 0 ≡ z → (l : Bool) → nat_lt d i.window ≡ l → (y : Bool) → i.srej ≡ y → (k : Bool) → is_held (r + d) i.held ≡ k
+    go : (z : Bool) → nat_eq d 0 ≡ z → (l : Bool) → nat_lt d i.window ≡ l → (y : Bool) → i.srej ≡ y → (k : Bool)
+        → is_held (r + d) i.held ≡ k
         → Goes w srej o (after_kind (cond z InOrder (cond l (cond y (cond k Repeat Kept) Gap) Repeat)) d info i) rest back
-    go true z l t y u k v = keeps-taken p s (segments_in rest) h (distance-0 n r w o.front o.high h.line.each.0.below h.line.each.0.near h.range.highs h.range.fronts h.width.high (eqb-true d 0 z))
+    go true z l t y u k v =
+        keeps-taken p s (segments_in rest) h
+        (distance-0 n r w o.front o.high h.line.each.0.below h.line.each.0.near h.range.highs h.range.fronts h.width.high (eqb-true d 0 z))
     go false z false t y u k v = keeps-dropped p s (segments_in rest) h
     go false z true t false u k v = keeps-dropped p s (segments_in rest) h
     go false z true t true u true v = keeps-dropped p s (segments_in rest) h
     go false z true t true u false v =
         let near : d < w = subst (λ x. d < x) window (ltb-true d i.window t) in
-        let at : n ≡ r + d = distance-of n r w o.front o.high h.line.each.0.below h.line.each.0.near h.range.highs h.range.fronts (h.width.selective (sym same ∙ u)) near in
+        let at : n ≡ r + d = distance-of n r w o.front o.high h.line.each.0.below h.line.each.0.near h.range.highs h.range.fronts
+        (h.width.selective (sym same ∙ u)) near in
         let far : d ≢ 0 = eqb-false d 0 z in
         subst (λ m. Sound (record p { segments = segments_in rest; held = with_held (record { number = m; info = info }) i.held })) at
         (keeps-kept p s (segments_in rest) h (omega (arith, at, far)) (ap (λ m. is_held m i.held) at ∙ v))
 
 -- InOrder comes exactly where the meant number is the next one expected
-pub order-exact : (w : ℕ) (srej : Bool) (o : Outgoing) (i : Incoming) (nr : ℕ) (pf : Bool) (info : List ℕ) (n told : ℕ) (rest back : List Slot)
-    → Goes w srej o i ((record { sent = slots.Frame (I (n % 128) nr pf info); number = n; told = told }) ∷ rest) back → i.window ≡ w → i.srej ≡ srej
+pub order-exact : (w : ℕ) (srej : Bool) (o : Outgoing) (i : Incoming) (nr : ℕ) (pf : Bool) (info : List ℕ) (n told : ℕ)
+    (rest back : List Slot)
+    → Goes w srej o i ((record { sent = slots.Frame (I (n % 128) nr pf info); number = n; told = told }) ∷ rest) back → i.window ≡ w
+    → i.srej ≡ srej
     → (kind_of (n % 128) i ≡ InOrder → n ≡ next_expected i) × (n ≡ next_expected i → kind_of (n % 128) i ≡ InOrder)
     × (kind_of (n % 128) i ≡ Kept → (next_expected i + 1 ≤ n) × (n + 1 ≤ next_expected i + w))
 order-exact w srej o i nr pf info n told rest back h window same = (
@@ -183,53 +216,75 @@ order-exact w srej o i nr pf info n told rest back h window same = (
     back_to : n ≡ r → nat_eq d 0 ≡ true
     back_to e = let z : d ≡ 0 = omega arith in grind (arith, nat_tests)
 
-    there : (z : Bool) → nat_eq d 0 ≡ z → (l y k : Bool) → cond z InOrder (cond l (cond y (cond k Repeat Kept) Gap) Repeat) ≡ InOrder → n ≡ r
-    there true z l y k e = distance-0 n r w o.front o.high h.line.each.0.below h.line.each.0.near h.range.highs h.range.fronts h.width.high (eqb-true d 0 z)
+    there : (z : Bool) → nat_eq d 0 ≡ z → (l y k : Bool) → cond z InOrder (cond l (cond y (cond k Repeat Kept) Gap) Repeat) ≡ InOrder
+        → n ≡ r
+    there true z l y k e =
+        distance-0 n r w o.front o.high h.line.each.0.below h.line.each.0.near h.range.highs h.range.fronts h.width.high (eqb-true d 0 z)
     there false z true true true e = cc
     there false z true true false e = cc
     there false z true false k e = cc
     there false z false y k e = cc
 
-    kept : (z : Bool) → nat_eq d 0 ≡ z → (l : Bool) → nat_lt d i.window ≡ l → (y : Bool) → i.srej ≡ y → (k : Bool) → cond z InOrder (cond l (cond y (cond k Repeat Kept) Gap) Repeat) ≡ Kept → (r + 1 ≤ n) × (n + 1 ≤ r + w)
+    kept : (z : Bool) → nat_eq d 0 ≡ z → (l : Bool) → nat_lt d i.window ≡ l → (y : Bool) → i.srej ≡ y → (k : Bool)
+        → cond z InOrder (cond l (cond y (cond k Repeat Kept) Gap) Repeat) ≡ Kept → (r + 1 ≤ n) × (n + 1 ≤ r + w)
     kept true z l t y u k e = cc
     kept false z false t y u k e = cc
     kept false z true t false u k e = cc
     kept false z true t true u true e = cc
     kept false z true t true u false e =
         let near : d < w = subst (λ x. d < x) window (ltb-true d i.window t) in
-        let at : n ≡ r + d = distance-of n r w o.front o.high h.line.each.0.below h.line.each.0.near h.range.highs h.range.fronts (h.width.selective (sym same ∙ u)) near in
+        let at : n ≡ r + d = distance-of n r w o.front o.high h.line.each.0.below h.line.each.0.near h.range.highs h.range.fronts
+        (h.width.selective (sym same ∙ u)) near in
         let far : d ≢ 0 = eqb-false d 0 z in
         (omega (arith, at, far), omega (arith, at, near))
 
 -- An end speaks.
 
 -- what it sends is no segment
-pub line-quiet : (w : ℕ) (srej : Bool) (o : Outgoing) (i : Incoming) (line back : List Slot) (slot : Slot) → segment_of slot.sent slot.number ≡ [] → Goes w srej o i line back → Goes w srej o i (line ++ slot ∷ []) back
+pub line-quiet : (w : ℕ) (srej : Bool) (o : Outgoing) (i : Incoming) (line back : List Slot) (slot : Slot)
+    → segment_of slot.sent slot.number ≡ [] → Goes w srej o i line back → Goes w srej o i (line ++ slot ∷ []) back
 line-quiet w srej o i line back slot e h =
-    let same : segments_in (line ++ slot ∷ []) ≡ segments_in line = segments_in-snoc line slot ∙ ap (λ l. segments_in line ++ l) e ∙ append-nil (segments_in line) in
+    let same : segments_in (line ++ slot ∷ []) ≡ segments_in line =
+    segments_in-snoc line slot ∙ ap (λ l. segments_in line ++ l) e ∙ append-nil (segments_in line) in
     subst (λ l. Sound (record (flow w srej o i line back) { segments = l })) (sym same) h
 
 -- or it is the next segment
-pub line-sent : (w : ℕ) (srej : Bool) (o : Outgoing) (i : Incoming) (line back : List Slot) (n ns nr told : ℕ) (pf : Bool) → Goes w srej o i line back → o.window ≡ w → next_number o ≡ Some n
-    → Goes w srej (after_next o) i (line ++ (record { sent = slots.Frame (I ns nr pf (slice_index_or o.pieces n [])); number = n; told = told }) ∷ []) back
+pub line-sent : (w : ℕ) (srej : Bool) (o : Outgoing) (i : Incoming) (line back : List Slot) (n ns nr told : ℕ) (pf : Bool)
+    → Goes w srej o i line back → o.window ≡ w → next_number o ≡ Some n
+    → Goes w srej (after_next o) i
+    (line ++ (record { sent = slots.Frame (I ns nr pf (slice_index_or o.pieces n [])); number = n; told = told }) ∷ []) back
 line-sent w srej o i line back n ns nr told pf h window e =
-    subst (λ l. Sound (record (flow w srej (after_next o) i line back) { segments = l })) (sym (segments_in-snoc line (record { sent = slots.Frame (I ns nr pf (slice_index_or o.pieces n [])); number = n; told = told })))
+    subst (λ l. Sound (record (flow w srej (after_next o) i line back) { segments = l }))
+    (sym (segments_in-snoc line (record { sent = slots.Frame (I ns nr pf (slice_index_or o.pieces n [])); number = n; told = told })))
     (awaits (o.awaited || o.paused) o.chosen refl e)
   where
     p : Flow
     p = flow w srej o i line back
 
     q : Outgoing → Flow
-    q b = record (flow w srej b i line back) { segments = segments_in line ++ (record { number = n; info = slice_index_or o.pieces n [] }) ∷ [] }
+    q b = record (flow w srej b i line back) {
+      segments =
+          segments_in line ++ (record { number = n; info = slice_index_or o.pieces n [] }) ∷ [];
+    }
 
-    fresh_one : (t u : Bool) → nat_lt o.from (length o.pieces) ≡ t → nat_lt o.from (o.front + o.window) ≡ u → [] ≡ o.chosen → cond (t && u) (Some o.from) None ≡ Some n → Sound (q (sent_among [] o))
+    fresh_one : (t u : Bool) → nat_lt o.from (length o.pieces) ≡ t → nat_lt o.from (o.front + o.window) ≡ u → [] ≡ o.chosen
+        → cond (t && u) (Some o.from) None ≡ Some n → Sound (q (sent_among [] o))
     fresh_one true true t u c e =
         let at : o.from ≡ n = cc in
         let some : o.from < length o.pieces = ltb-true o.from (length o.pieces) t in
         let free : o.from < o.front + o.window = ltb-true o.from (o.front + o.window) u in
-        subst (λ m. Sound (record p { segments = segments_in line ++ (record { number = n; info = slice_index_or o.pieces n [] }) ∷ []; high = max o.high (m + 1); from = m + 1; chosen = o.chosen })) (sym at)
-        (keeps-sent p n (n + 1) o.chosen h (omega (arith, h.to_send.low, at)) (omega (arith, some, at)) (omega (arith, free, at, window)) (omega (arith, h.to_send.low, at)) (omega arith)
-        (all_weaker (IsChoice o.front o.high) (IsChoice o.front (max o.high (n + 1))) o.chosen (λ m (a, b). (a, omega (arith, b))) h.to_send.choices))
+        subst (λ m. Sound (record
+        p {
+          segments = segments_in line ++ (record { number = n; info = slice_index_or o.pieces n [] }) ∷ [];
+          high =
+              max o.high (m + 1);
+          from = m + 1;
+          chosen = o.chosen;
+        })) (sym at)
+        (keeps-sent p n (n + 1) o.chosen h (omega (arith, h.to_send.low, at)) (omega (arith, some, at)) (omega (arith, free, at, window))
+        (omega (arith, h.to_send.low, at)) (omega arith)
+        (all_weaker (IsChoice o.front o.high) (IsChoice o.front (max o.high (n + 1))) o.chosen
+        (λ m (a, b). (a, omega (arith, b))) h.to_send.choices))
     fresh_one true false t u c e = cc
     fresh_one false u t v c e = cc
 
@@ -238,8 +293,16 @@ line-sent w srej o i line back n ns nr told pf h window e =
     picks (m ∷ rest) c e =
         let at : m ≡ n = cc in
         let all = subst (AllByRecursion (IsChoice o.front o.high)) (sym c) h.to_send.choices in
-        subst (λ m. Sound (record p { segments = segments_in line ++ (record { number = n; info = slice_index_or o.pieces n [] }) ∷ []; high = max o.high (m + 1); from = o.from; chosen = rest })) (sym at)
-        (keeps-sent p n o.from rest h (omega (arith, all.0.0, at)) (omega (arith, all.0.1, at, h.range.offers)) (omega (arith, all.0.1, at, h.range.highs)) h.to_send.low (omega (arith, h.to_send.high))
+        subst (λ m. Sound (record
+        p {
+          segments = segments_in line ++ (record { number = n; info = slice_index_or o.pieces n [] }) ∷ [];
+          high =
+              max o.high (m + 1);
+          from = o.from;
+          chosen = rest;
+        })) (sym at)
+        (keeps-sent p n o.from rest h (omega (arith, all.0.0, at)) (omega (arith, all.0.1, at, h.range.offers))
+        (omega (arith, all.0.1, at, h.range.highs)) h.to_send.low (omega (arith, h.to_send.high))
         (all_weaker (IsChoice o.front o.high) (IsChoice o.front (max o.high (n + 1))) rest (λ m (a, b). (a, omega (arith, b))) all.1))
 
     awaits : (t : Bool) (l : List ℕ) → l ≡ o.chosen → cond t None (next_among l o) ≡ Some n → Sound (q (sent_among l o))
@@ -247,10 +310,12 @@ line-sent w srej o i line back n ns nr told pf h window e =
     awaits false l c e = picks l c e
 
 -- and it tells what its receiver expects
-pub back-told : (w : ℕ) (srej : Bool) (o : Outgoing) (i : Incoming) (forward back : List Slot) (sent : Sent) (n : ℕ) → Goes w srej o i forward back → IsAskable (length i.taken) o.high (asked_of sent n)
+pub back-told : (w : ℕ) (srej : Bool) (o : Outgoing) (i : Incoming) (forward back : List Slot) (sent : Sent) (n : ℕ)
+    → Goes w srej o i forward back → IsAskable (length i.taken) o.high (asked_of sent n)
     → Goes w srej o i forward (back ++ (record { sent = sent; number = n; told = next_expected i }) ∷ [])
 back-told w srej o i forward back sent n h askable =
-    subst (λ l. Sound (record (flow w srej o i forward back) { replies = l })) (sym (replies_in-snoc back (record { sent = sent; number = n; told = next_expected i })))
+    subst (λ l. Sound (record (flow w srej o i forward back) { replies = l }))
+    (sym (replies_in-snoc back (record { sent = sent; number = n; told = next_expected i })))
     (keeps-told (flow w srej o i forward back) (asked_of sent n) h askable)
 
 -- the number that an SREJ asks for
@@ -262,7 +327,8 @@ all_append : (P : ℕ → Type 0) (xs ys : List ℕ) → AllByRecursion P xs →
 all_append P [] ys h k = k
 all_append P (x ∷ xs) ys h k = (h.0, all_append P xs ys h.1 k)
 
-missing-lies : (low r high : ℕ) (hs : List Held) → low ≤ r → IsRising r hs → AllByRecursion (λ h. h.number < high) hs → AllByRecursion (λ n. (low ≤ n) × (n < high)) (missing_from r hs)
+missing-lies : (low r high : ℕ) (hs : List Held) → low ≤ r → IsRising r hs → AllByRecursion (λ h. h.number < high) hs
+    → AllByRecursion (λ n. (low ≤ n) × (n < high)) (missing_from r hs)
 missing-lies low r high [] e rising all = tt
 missing-lies low r high (k ∷ ks) e rising all =
     all_append (λ n. (low ≤ n) × (n < high)) (range_with_len r (k.number - r)) (missing_from (k.number + 1) ks)
@@ -277,10 +343,15 @@ outside-lies P others (m ∷ ms) n all e = go (is_among m others) e (λ f. outsi
     go true f more = more f
     go false f more = let same : m ≡ n = cc in subst P same all.0
 
-pub asked-lies : (w : ℕ) (srej : Bool) (o : Outgoing) (i : Incoming) (forward back : List Slot) (n : ℕ) → Goes w srej o i forward back → i.srej ≡ true → asks i ≡ Some n → (next_expected i ≤ n) × (n < o.high)
+pub asked-lies : (w : ℕ) (srej : Bool) (o : Outgoing) (i : Incoming) (forward back : List Slot) (n : ℕ) → Goes w srej o i forward back
+    → i.srej ≡ true → asks i ≡ Some n → (next_expected i ≤ n) × (n < o.high)
 asked-lies w srej o i forward back n h used e = go i.srej used e
   where
-    go : (b : Bool) → b ≡ true → cond b (first_outside i.asked (missing_from (next_expected i) i.held)) (cond i.rej (Some (next_expected i)) None) ≡ Some n → (next_expected i ≤ n) × (n < o.high)
+    go : (b : Bool) → b ≡ true
+        → cond b (first_outside i.asked (missing_from (next_expected i) i.held)) (cond i.rej (Some (next_expected i)) None) ≡ Some n
+        → (next_expected i ≤ n) × (n < o.high)
     go true t f = outside-lies (λ n. (next_expected i ≤ n) × (n < o.high)) i.asked (missing_from (next_expected i) i.held) n
-        (missing-lies (next_expected i) (next_expected i) o.high i.held (omega arith) (rising-lower (next_expected i + 1) (next_expected i) i.held (omega arith) h.held.rising) (all_weaker (IsHeldRight o.high o.pieces) (λ k. k.number < o.high) i.held (λ k q. q.below) h.held.right)) f
+        (missing-lies (next_expected i) (next_expected i) o.high i.held (omega arith)
+        (rising-lower (next_expected i + 1) (next_expected i) i.held (omega arith) h.held.rising)
+        (all_weaker (IsHeldRight o.high o.pieces) (λ k. k.number < o.high) i.held (λ k q. q.below) h.held.right)) f
     go false t f = absurd (false≢true t)

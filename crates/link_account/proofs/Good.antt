@@ -136,7 +136,8 @@ from_o-later so k m (slots.Frame (Disc pf)) n told e h = omega (arith, h)
 from_o-later so k m (slots.Frame (Xid true pf info)) n told e h = h
 from_o-later so k m sent n told e h = h
 
-pub from_a-later : (sa : Setup) (k m k' m' : ℕ) (sent : Sent) (n told : ℕ) → k ≤ k' → m ≤ m' → FromA sa k m sent n told → FromA sa k' m' sent n told
+pub from_a-later : (sa : Setup) (k m k' m' : ℕ) (sent : Sent) (n told : ℕ) → k ≤ k' → m ≤ m' → FromA sa k m sent n told
+    → FromA sa k' m' sent n told
 from_a-later sa k m k' m' (slots.Frame (Dm pf)) n told e f h = omega (arith, h)
 from_a-later sa k m k' m' (slots.Frame (Xid false pf info)) n told e f h = (h.0, omega (arith, h.1))
 from_a-later sa k m k' m' sent n told e f h = h
@@ -149,11 +150,13 @@ due-later k m k' m' (Some (answers.Ua pf)) e f h = tt
 due-later k m k' m' (Some (answers.Dm pf)) e f h = omega (arith, h)
 
 -- the two ends as linked ends
-pub linked-o : (so sa : Setup) (o a : Account) (lo la : List Slot) → Good so sa o a lo la → IsBegun (terms_of so sa).window_o (terms_of so sa).window_a (terms_of so sa).srej o
+pub linked-o : (so sa : Setup) (o a : Account) (lo la : List Slot) → Good so sa o a lo la
+    → IsBegun (terms_of so sa).window_o (terms_of so sa).window_a (terms_of so sa).srej o
     → Linked (terms_of so sa).window_o (terms_of so sa).window_a (terms_of so sa).srej o a.outgoing a.incoming lo la
 linked-o so sa o a lo la h b = record { own = h.flow_oa; theirs = h.flow_ao; own_window = b.0; their_window = b.1; srej_is = b.2 }
 
-pub linked-a : (so sa : Setup) (o a : Account) (lo la : List Slot) → Good so sa o a lo la → IsBegun (terms_of so sa).window_a (terms_of so sa).window_o (terms_of so sa).srej a
+pub linked-a : (so sa : Setup) (o a : Account) (lo la : List Slot) → Good so sa o a lo la
+    → IsBegun (terms_of so sa).window_a (terms_of so sa).window_o (terms_of so sa).srej a
     → Linked (terms_of so sa).window_a (terms_of so sa).window_o (terms_of so sa).srej a o.outgoing o.incoming la lo
 linked-a so sa o a lo la h b = record { own = h.flow_ao; theirs = h.flow_oa; own_window = b.0; their_window = b.1; srej_is = b.2 }
 
@@ -197,9 +200,11 @@ lost-a so sa o a slot lo la h = record {
 }
 
 -- an end changes, in its phase or a later one, with the lines as they are
-pub changed-o : (so sa : Setup) (o a : Account) (lo la : List Slot) → Good so sa o a lo la → (b : Account) → b.setup ≡ o.setup → b.owes.answer ≡ o.owes.answer → rank o.phase ≤ rank b.phase
+pub changed-o : (so sa : Setup) (o a : Account) (lo la : List Slot) → Good so sa o a lo la → (b : Account) → b.setup ≡ o.setup
+    → b.owes.answer ≡ o.owes.answer → rank o.phase ≤ rank b.phase
     → PlaceO (terms_of so sa) b.phase b → (rank a.phase ≡ 0 → rank b.phase ≤ 1)
-    → Goes (terms_of so sa).window_o (terms_of so sa).srej b.outgoing a.incoming lo la → Goes (terms_of so sa).window_a (terms_of so sa).srej a.outgoing b.incoming la lo → Good so sa b a lo la
+    → Goes (terms_of so sa).window_o (terms_of so sa).srej b.outgoing a.incoming lo la
+    → Goes (terms_of so sa).window_a (terms_of so sa).srej a.outgoing b.incoming la lo → Good so sa b a lo la
 changed-o so sa o a lo la h b setup answer later place met oa ao = record {
   deal = h.deal;
   setup_o = setup ∙ h.setup_o;
@@ -208,9 +213,12 @@ changed-o so sa o a lo la h b setup answer later place met oa ao = record {
   place_a = h.place_a;
   answer_o = answer ∙ h.answer_o;
   answer_a = due-later (rank o.phase) (rank a.phase) (rank b.phase) (rank a.phase) a.owes.answer later (omega arith) h.answer_a;
-  line_o = all_weaker (λ s. FromO so (rank o.phase) s.sent s.number s.told) (λ s. FromO so (rank b.phase) s.sent s.number s.told) lo (λ s. from_o-later so (rank o.phase) (rank b.phase) s.sent s.number s.told later) h.line_o;
-  line_a = all_weaker (λ s. FromA sa (rank o.phase) (rank a.phase) s.sent s.number s.told) (λ s. FromA sa (rank b.phase) (rank a.phase) s.sent s.number s.told) la
-      (λ s. from_a-later sa (rank o.phase) (rank a.phase) (rank b.phase) (rank a.phase) s.sent s.number s.told later (omega arith)) h.line_a;
+  line_o = all_weaker (λ s. FromO so (rank o.phase) s.sent s.number s.told) (λ s. FromO so (rank b.phase) s.sent s.number s.told) lo
+      (λ s. from_o-later so (rank o.phase) (rank b.phase) s.sent s.number s.told later) h.line_o;
+  line_a = all_weaker (λ s. FromA sa (rank o.phase) (rank a.phase) s.sent s.number s.told)
+      (λ s. FromA sa (rank b.phase) (rank a.phase) s.sent s.number s.told) la
+      (λ s. from_a-later sa (rank o.phase) (rank a.phase) (rank b.phase) (rank a.phase) s.sent s.number s.told later (omega arith))
+      h.line_a;
   sabme_first = h.sabme_first;
   early = λ e. h.early (omega (arith, e, later));
   numbered = h.numbered;
@@ -219,9 +227,11 @@ changed-o so sa o a lo la h b setup answer later place met oa ao = record {
   flow_ao = ao;
 }
 
-pub changed-a : (so sa : Setup) (o a : Account) (lo la : List Slot) → Good so sa o a lo la → (b : Account) → b.setup ≡ a.setup → DueA (rank o.phase) (rank b.phase) b.owes.answer → rank a.phase ≤ rank b.phase
+pub changed-a : (so sa : Setup) (o a : Account) (lo la : List Slot) → Good so sa o a lo la → (b : Account) → b.setup ≡ a.setup
+    → DueA (rank o.phase) (rank b.phase) b.owes.answer → rank a.phase ≤ rank b.phase
     → PlaceA (terms_of so sa) b.phase b → (rank o.phase ≤ 2 → b.numbered ≡ false) → (b.numbered ≡ true → NoSabme lo)
-    → Goes (terms_of so sa).window_o (terms_of so sa).srej o.outgoing b.incoming lo la → Goes (terms_of so sa).window_a (terms_of so sa).srej b.outgoing o.incoming la lo → Good so sa o b lo la
+    → Goes (terms_of so sa).window_o (terms_of so sa).srej o.outgoing b.incoming lo la
+    → Goes (terms_of so sa).window_a (terms_of so sa).srej b.outgoing o.incoming la lo → Good so sa o b lo la
 changed-a so sa o a lo la h b setup answer later place early numbered oa ao = record {
   deal = h.deal;
   setup_o = h.setup_o;
@@ -231,8 +241,10 @@ changed-a so sa o a lo la h b setup answer later place early numbered oa ao = re
   answer_o = h.answer_o;
   answer_a = answer;
   line_o = h.line_o;
-  line_a = all_weaker (λ s. FromA sa (rank o.phase) (rank a.phase) s.sent s.number s.told) (λ s. FromA sa (rank o.phase) (rank b.phase) s.sent s.number s.told) la
-      (λ s. from_a-later sa (rank o.phase) (rank a.phase) (rank o.phase) (rank b.phase) s.sent s.number s.told (omega arith) later) h.line_a;
+  line_a = all_weaker (λ s. FromA sa (rank o.phase) (rank a.phase) s.sent s.number s.told)
+      (λ s. FromA sa (rank o.phase) (rank b.phase) s.sent s.number s.told) la
+      (λ s. from_a-later sa (rank o.phase) (rank a.phase) (rank o.phase) (rank b.phase) s.sent s.number s.told (omega arith) later)
+      h.line_a;
   sabme_first = h.sabme_first;
   early = λ e. ((h.early e).0, early e);
   numbered = numbered;

@@ -60,8 +60,10 @@ asking true false (Some n) a = omega arith
 all : (turn : ℕ) (special : Bool) (a : Account) → IsHeard (steps turn special a)
 all turn special a =
     else-says IsHeard (step1 a) _ (answer a.owes.answer a)
-    (else-says IsHeard (step2 a) _ (where-says IsHeard a.owes.reply _ (ready a.owes.busy false true (record a { owes = record a.owes { reply = false } })))
-    (else-says IsHeard (step3 a) _ (where-says IsHeard a.wait.poll _ (ready a.owes.busy true true (record a { wait = record a.wait { poll = false } })))
+    (else-says IsHeard (step2 a) _
+    (where-says IsHeard a.owes.reply _ (ready a.owes.busy false true (record a { owes = record a.owes { reply = false } })))
+    (else-says IsHeard (step3 a) _
+    (where-says IsHeard a.wait.poll _ (ready a.owes.busy true true (record a { wait = record a.wait { poll = false } })))
     (else-says IsHeard (step4 turn a) _ (urgent a.wait.urgent)
     (else-says IsHeard (step5 special a) _ (breaks special)
     (else-says IsHeard (step6 special a) _ (sixth (has_news a) a.owes.busy)
@@ -72,7 +74,9 @@ all turn special a =
     ready false command pf b = omega arith
     ready true command pf b = omega arith
 
-    sixth : (news busy : Bool) → AllSaid IsHeard (cond news (Some (tells false false a)) (cond busy None (says_asking a.incoming.srej special (asks a.incoming) a)))
+    sixth : (news busy : Bool)
+        → AllSaid IsHeard (cond news (Some (tells false false a))
+        (cond busy None (says_asking a.incoming.srej special (asks a.incoming) a)))
     sixth true busy = ready a.owes.busy false false a
     sixth false true = tt
     sixth false false = asking a.incoming.srej special (asks a.incoming) a
@@ -96,9 +100,11 @@ tried : (turn : ℕ) (frame : Frame) (a : Account) → HasNumbers frame → OnHe
 tried turn frame a h = go (nat_eq turn (a.wait.try_set + a.setup.period)) (nat_eq a.wait.try_count a.setup.tries)
   where
     once : (b : Account) → IsHeard (tries_frame frame b)
-    once b = else-says IsHeard (where_says b.wait.try (says_frame frame (record b { wait = record b.wait { try = false } }))) (says slots.Flags b) (where-says IsHeard b.wait.try _ h) tt
+    once b = else-says IsHeard (where_says b.wait.try (says_frame frame (record b { wait = record b.wait { try = false } })))
+        (says slots.Flags b) (where-says IsHeard b.wait.try _ h) tt
 
-    go : (b c : Bool) → OnHeard (cond b (cond c (Err (spent turn a)) (Ok (tries_frame frame (trying_again turn a)))) (Ok (tries_frame frame a)))
+    go : (b c : Bool) → OnHeard
+        (cond b (cond c (Err (spent turn a)) (Ok (tries_frame frame (trying_again turn a)))) (Ok (tries_frame frame a)))
     go true true = tt
     go true false = once (trying_again turn a)
     go false c = once a

@@ -43,7 +43,8 @@ slot_of said told = record { sent = said.sent; number = said.number; told = told
 
 -- The timers come first.
 
-pub record Timed (wo wi : ℕ) (srej : Bool) (a : Account) (po : Outgoing) (pi : Incoming) (line back : List Slot) (b : Account) : Type 0 where
+pub record Timed (wo wi : ℕ) (srej : Bool) (a : Account) (po : Outgoing) (pi : Incoming) (line back : List Slot)
+    (b : Account) : Type 0 where
   pub linked : Linked wo wi srej b po pi line back
   pub same : Same a b
   pub numbered : b.numbered ≡ a.numbered
@@ -53,10 +54,12 @@ abbrev pub OnTimed : (Account → Type 0) → Result Account LinkFault → Type 
 OnTimed P (Ok b) = P b
 OnTimed P (Err fault) = IsHarmless fault
 
-timed : (wo wi : ℕ) (srej : Bool) (a : Account) (po : Outgoing) (pi : Incoming) (line back : List Slot) → Linked wo wi srej a po pi line back → (turn : ℕ) → OnTimed (Timed wo wi srej a po pi line back) (on_timer turn a)
+timed : (wo wi : ℕ) (srej : Bool) (a : Account) (po : Outgoing) (pi : Incoming) (line back : List Slot)
+    → Linked wo wi srej a po pi line back → (turn : ℕ) → OnTimed (Timed wo wi srej a po pi line back) (on_timer turn a)
 timed wo wi srej a po pi line back h turn = go (timer_expires turn a a.wait.timer) (nat_eq a.outgoing.count a.outgoing.tries)
   where
-    go : (b c : Bool) → OnTimed (Timed wo wi srej a po pi line back) (cond b (polling turn (cond c None (Some (record a.outgoing { count = a.outgoing.count + 1; awaited = true }))) a) (Ok a))
+    go : (b c : Bool) → OnTimed (Timed wo wi srej a po pi line back)
+        (cond b (polling turn (cond c None (Some (record a.outgoing { count = a.outgoing.count + 1; awaited = true }))) a) (Ok a))
     go true true = tt
     go true false = record {
       linked = record { own = h.own; theirs = h.theirs; own_window = h.own_window; their_window = h.their_window; srej_is = h.srej_is };
@@ -66,38 +69,58 @@ timed wo wi srej a po pi line back h turn = go (timer_expires turn a a.wait.time
     }
     go false c = record { linked = h; same = record { setup = refl; phase = refl; answer = refl }; numbered = refl; incoming = refl }
 
-break-timed : (wo wi : ℕ) (srej : Bool) (a : Account) (po : Outgoing) (pi : Incoming) (line back : List Slot) (b : Account) → Timed wo wi srej a po pi line back b → (turn : ℕ) → OnTimed (Timed wo wi srej a po pi line back) (on_break_timer turn b)
+break-timed : (wo wi : ℕ) (srej : Bool) (a : Account) (po : Outgoing) (pi : Incoming) (line back : List Slot) (b : Account)
+    → Timed wo wi srej a po pi line back b → (turn : ℕ) → OnTimed (Timed wo wi srej a po pi line back) (on_break_timer turn b)
 break-timed wo wi srej a po pi line back b h turn = go (ticked turn b.setup.period b.setup.tries b.own_breaks)
   where
     go : (o : Option OwnBreaks) → OnTimed (Timed wo wi srej a po pi line back) (breaking turn o b)
     go None = tt
     go (Some breaks) = record {
-      linked = record { own = h.linked.own; theirs = h.linked.theirs; own_window = h.linked.own_window; their_window = h.linked.their_window; srej_is = h.linked.srej_is };
+      linked = record {
+        own = h.linked.own;
+        theirs = h.linked.theirs;
+        own_window = h.linked.own_window;
+        their_window =
+            h.linked.their_window;
+        srej_is = h.linked.srej_is;
+      };
       same = record { setup = h.same.setup; phase = h.same.phase; answer = h.same.answer };
       numbered = h.numbered;
       incoming = h.incoming;
     }
 
-unspecial : (wo wi : ℕ) (srej : Bool) (a : Account) (po : Outgoing) (pi : Incoming) (line back : List Slot) (b : Account) → Timed wo wi srej a po pi line back b → Timed wo wi srej a po pi line back (record b { special = false })
+unspecial : (wo wi : ℕ) (srej : Bool) (a : Account) (po : Outgoing) (pi : Incoming) (line back : List Slot) (b : Account)
+    → Timed wo wi srej a po pi line back b → Timed wo wi srej a po pi line back (record b { special = false })
 unspecial wo wi srej a po pi line back b h = record {
-  linked = record { own = h.linked.own; theirs = h.linked.theirs; own_window = h.linked.own_window; their_window = h.linked.their_window; srej_is = h.linked.srej_is };
+  linked = record {
+    own = h.linked.own;
+    theirs = h.linked.theirs;
+    own_window = h.linked.own_window;
+    their_window =
+        h.linked.their_window;
+    srej_is = h.linked.srej_is;
+  };
   same = record { setup = h.same.setup; phase = h.same.phase; answer = h.same.answer };
   numbered = h.numbered;
   incoming = h.incoming;
 }
 
-linked-speaks : (wo wi : ℕ) (srej : Bool) (a : Account) (po : Outgoing) (pi : Incoming) (line back : List Slot) (turn : ℕ) (P : Said → Type 0) → Linked wo wi srej a po pi line back
+linked-speaks : (wo wi : ℕ) (srej : Bool) (a : Account) (po : Outgoing) (pi : Incoming) (line back : List Slot) (turn : ℕ)
+    (P : Said → Type 0) → Linked wo wi srej a po pi line back
     → ((b : Account) → Timed wo wi srej a po pi line back b → AllSaid P (step1 b))
-    → ((b : Account) (said : Said) → Timed wo wi srej a po pi line back b → SaysWell wo wi srej b po pi line back (next_expected b.incoming) said → P said) → OnSaid P (speak_linked turn a)
+    → ((b : Account) (said : Said) → Timed wo wi srej a po pi line back b
+    → SaysWell wo wi srej b po pi line back (next_expected b.incoming) said → P said) → OnSaid P (speak_linked turn a)
 linked-speaks wo wi srej a po pi line back turn P h first f = go (on_timer turn a) (timed wo wi srej a po pi line back h turn)
   where
     last : (r : Result Account LinkFault) → OnTimed (Timed wo wi srej a po pi line back) r → OnSaid P (after_timers turn a.special r)
     last (Err fault) w = w
     last (Ok b) w =
         let w2 = unspecial wo wi srej a po pi line back b w in
-        steps-well wo wi srej (record b { special = false }) po pi line back turn a.special P w2.linked (first (record b { special = false }) w2) (λ said s. f (record b { special = false }) said w2 s)
+        steps-well wo wi srej (record b { special = false }) po pi line back turn a.special P w2.linked
+        (first (record b { special = false }) w2) (λ said s. f (record b { special = false }) said w2 s)
 
-    go : (r : Result Account LinkFault) → OnTimed (Timed wo wi srej a po pi line back) r → OnSaid P (after_timers turn a.special (then_tries turn r))
+    go : (r : Result Account LinkFault) → OnTimed (Timed wo wi srej a po pi line back) r
+        → OnSaid P (after_timers turn a.special (then_tries turn r))
     go (Err fault) w = w
     go (Ok b) w = last (on_break_timer turn b) (break-timed wo wi srej a po pi line back b w turn)
 
@@ -105,13 +128,17 @@ linked-speaks wo wi srej a po pi line back turn P h first f = go (on_timer turn 
 
 first-snoc : (line : List Slot) (slot : Slot) → SabmeFirst line → NotSabme slot.sent ⊎ NoneNumbered line → SabmeFirst (line ++ slot ∷ [])
 first-snoc [] slot h e = (λ n. tt, tt)
-first-snoc (s ∷ line) slot h (inl no_sabme) = (λ n. all_snoc (λ t. NotSabme t.sent) line slot (h.0 n) no_sabme, first-snoc line slot h.1 (inl no_sabme))
+first-snoc (s ∷ line) slot h (inl no_sabme) =
+    (λ n. all_snoc (λ t. NotSabme t.sent) line slot (h.0 n) no_sabme, first-snoc line slot h.1 (inl no_sabme))
 first-snoc (s ∷ line) slot h (inr none) = (λ n. absurd (none.0 n), first-snoc line slot h.1 (inr none.1))
 
-said-o : (so sa : Setup) (o a : Account) (lo la : List Slot) → Good so sa o a lo la → (b : Account) (sent : Sent) (n told : ℕ) → b.setup ≡ o.setup → b.owes.answer ≡ o.owes.answer → b.phase ≡ o.phase → PlaceO (terms_of so sa) b.phase b
+said-o : (so sa : Setup) (o a : Account) (lo la : List Slot) → Good so sa o a lo la → (b : Account) (sent : Sent) (n told : ℕ)
+    → b.setup ≡ o.setup → b.owes.answer ≡ o.owes.answer → b.phase ≡ o.phase → PlaceO (terms_of so sa) b.phase b
     → FromO so (rank o.phase) sent n told → NotSabme sent ⊎ (rank o.phase ≤ 2) → (rank o.phase ≤ 2 → IsNumbered sent → ⊥)
-    → Goes (terms_of so sa).window_o (terms_of so sa).srej b.outgoing a.incoming (lo ++ (record { sent = sent; number = n; told = told }) ∷ []) la
-    → Goes (terms_of so sa).window_a (terms_of so sa).srej a.outgoing b.incoming la (lo ++ (record { sent = sent; number = n; told = told }) ∷ [])
+    → Goes (terms_of so sa).window_o (terms_of so sa).srej b.outgoing a.incoming
+    (lo ++ (record { sent = sent; number = n; told = told }) ∷ []) la
+    → Goes (terms_of so sa).window_a (terms_of so sa).srej a.outgoing b.incoming la
+    (lo ++ (record { sent = sent; number = n; told = told }) ∷ [])
     → Good so sa b a (lo ++ (record { sent = sent; number = n; told = told }) ∷ []) la
 said-o so sa o a lo la h b sent n told setup answer phase place from sabme unnumbered oa ao = record {
   deal = h.deal;
@@ -121,11 +148,14 @@ said-o so sa o a lo la h b sent n told setup answer phase place from sabme unnum
   place_a = h.place_a;
   answer_o = answer ∙ h.answer_o;
   answer_a = subst (λ k. DueA k (rank a.phase) a.owes.answer) ranks h.answer_a;
-  line_o = subst (λ k. LineO so k (lo ++ slot ∷ [])) ranks (all_snoc (λ s. FromO so (rank o.phase) s.sent s.number s.told) lo slot h.line_o from);
+  line_o = subst (λ k. LineO so k (lo ++ slot ∷ [])) ranks
+      (all_snoc (λ s. FromO so (rank o.phase) s.sent s.number s.told) lo slot h.line_o from);
   line_a = subst (λ k. LineA sa k (rank a.phase) la) ranks h.line_a;
   sabme_first = first-snoc lo slot h.sabme_first (elim sabme [ inl no_sabme ↦ inl no_sabme | inr low ↦ inr (h.early low).0 ]);
-  early = λ e. let low : rank o.phase ≤ 2 = omega (arith, e, ranks) in (all_snoc (λ s. IsNumbered s.sent → ⊥) lo slot (h.early low).0 (unnumbered low), (h.early low).1);
-  numbered = λ e. all_snoc (λ s. NotSabme s.sent) lo slot (h.numbered e) (elim sabme [ inl no_sabme ↦ no_sabme | inr low ↦ absurd (false≢true (sym (h.early low).1 ∙ e)) ]);
+  early = λ e. let low : rank o.phase ≤ 2 = omega (arith, e, ranks) in
+      (all_snoc (λ s. IsNumbered s.sent → ⊥) lo slot (h.early low).0 (unnumbered low), (h.early low).1);
+  numbered = λ e. all_snoc (λ s. NotSabme s.sent) lo slot (h.numbered e)
+      (elim sabme [ inl no_sabme ↦ no_sabme | inr low ↦ absurd (false≢true (sym (h.early low).1 ∙ e)) ]);
   met = λ z. omega (arith, h.met z, ranks);
   flow_oa = oa;
   flow_ao = ao;
@@ -141,19 +171,25 @@ abbrev pub SaidO : Setup → Setup → ℕ → Account → List Slot → List Sl
 SaidO so sa told a lo la said = Good so sa said.account a (lo ++ slot_of said told ∷ []) la
 
 -- what is no segment, from an account that is already as it is to be
-quiet-o : (so sa : Setup) (o a : Account) (lo la : List Slot) → Good so sa o a lo la → (sent : Sent) → segment_of sent 0 ≡ [] → asked_of sent 0 ≡ None
-    → FromO so (rank o.phase) sent 0 (next_expected o.incoming) → NotSabme sent ⊎ (rank o.phase ≤ 2) → (rank o.phase ≤ 2 → IsNumbered sent → ⊥) → SaidO so sa (next_expected o.incoming) a lo la (says sent o)
+quiet-o : (so sa : Setup) (o a : Account) (lo la : List Slot) → Good so sa o a lo la → (sent : Sent) → segment_of sent 0 ≡ []
+    → asked_of sent 0 ≡ None
+    → FromO so (rank o.phase) sent 0 (next_expected o.incoming) → NotSabme sent ⊎ (rank o.phase ≤ 2)
+    → (rank o.phase ≤ 2 → IsNumbered sent → ⊥) → SaidO so sa (next_expected o.incoming) a lo la (says sent o)
 quiet-o so sa o a lo la h sent none unasked from sabme unnumbered =
     said-o so sa o a lo la h o sent 0 (next_expected o.incoming) refl refl refl h.place_o from sabme unnumbered
-    (line-quiet (terms_of so sa).window_o (terms_of so sa).srej o.outgoing a.incoming lo la (record { sent = sent; number = 0; told = next_expected o.incoming }) none h.flow_oa)
-    (back-told (terms_of so sa).window_a (terms_of so sa).srej a.outgoing o.incoming la lo sent 0 h.flow_ao (askable (asked_of sent 0) unasked))
+    (line-quiet (terms_of so sa).window_o (terms_of so sa).srej o.outgoing a.incoming lo la
+    (record { sent = sent; number = 0; told = next_expected o.incoming }) none h.flow_oa)
+    (back-told (terms_of so sa).window_a (terms_of so sa).srej a.outgoing o.incoming la lo sent 0 h.flow_ao
+    (askable (asked_of sent 0) unasked))
   where
     askable : (m : Option ℕ) → m ≡ None → IsAskable (length o.incoming.taken) a.outgoing.high m
     askable None e = tt
     askable (Some m) e = cc
 
-o-waits : (so sa : Setup) (o a : Account) (lo la : List Slot) → Good so sa o a lo la → (w : Wait) → Good so sa (record o { wait = w }) a lo la
-o-waits so sa o a lo la g w = changed-o so sa o a lo la g (record o { wait = w }) refl refl (omega arith) (place o.phase g.place_o) g.met g.flow_oa g.flow_ao
+o-waits : (so sa : Setup) (o a : Account) (lo la : List Slot) → Good so sa o a lo la → (w : Wait)
+    → Good so sa (record o { wait = w }) a lo la
+o-waits so sa o a lo la g w =
+    changed-o so sa o a lo la g (record o { wait = w }) refl refl (omega arith) (place o.phase g.place_o) g.met g.flow_oa g.flow_ao
   where
     place : (p : Phase) → PlaceO (terms_of so sa) p o → PlaceO (terms_of so sa) p (record o { wait = w })
     place Detecting k = k
@@ -163,18 +199,24 @@ o-waits so sa o a lo la g w = changed-o so sa o a lo la g (record o { wait = w }
     place Releasing k = k
     place Closed k = k
 
-o-tries : (so sa : Setup) (o a : Account) (lo la : List Slot) → Good so sa o a lo la → (turn : ℕ) (frame : Frame) → segment_of (slots.Frame frame) 0 ≡ [] → asked_of (slots.Frame frame) 0 ≡ None
-    → FromO so (rank o.phase) (slots.Frame frame) 0 (next_expected o.incoming) → NotSabme (slots.Frame frame) ⊎ (rank o.phase ≤ 2) → (rank o.phase ≤ 2 → IsNumbered (slots.Frame frame) → ⊥)
+o-tries : (so sa : Setup) (o a : Account) (lo la : List Slot) → Good so sa o a lo la → (turn : ℕ) (frame : Frame)
+    → segment_of (slots.Frame frame) 0 ≡ [] → asked_of (slots.Frame frame) 0 ≡ None
+    → FromO so (rank o.phase) (slots.Frame frame) 0 (next_expected o.incoming) → NotSabme (slots.Frame frame) ⊎ (rank o.phase ≤ 2)
+    → (rank o.phase ≤ 2 → IsNumbered (slots.Frame frame) → ⊥)
     → OnSaid (SaidO so sa (next_expected o.incoming) a lo la) (u_try turn frame o)
-o-tries so sa o a lo la g turn frame none unasked from sabme unnumbered = go (nat_eq turn (o.wait.try_set + o.setup.period)) (nat_eq o.wait.try_count o.setup.tries)
+o-tries so sa o a lo la g turn frame none unasked from sabme unnumbered =
+    go (nat_eq turn (o.wait.try_set + o.setup.period)) (nat_eq o.wait.try_count o.setup.tries)
   where
     tried : (w : Wait) → SaidO so sa (next_expected o.incoming) a lo la (tries_frame frame (record o { wait = w }))
-    tried w = else-says (SaidO so sa (next_expected o.incoming) a lo la) (where_says w.try (says_frame frame (record o { wait = record w { try = false } }))) (says slots.Flags (record o { wait = w }))
+    tried w = else-says (SaidO so sa (next_expected o.incoming) a lo la)
+        (where_says w.try (says_frame frame (record o { wait = record w { try = false } }))) (says slots.Flags (record o { wait = w }))
         (where-says (SaidO so sa (next_expected o.incoming) a lo la) w.try (says_frame frame (record o { wait = record w { try = false } }))
-        (quiet-o so sa (record o { wait = record w { try = false } }) a lo la (o-waits so sa o a lo la g (record w { try = false })) (slots.Frame frame) none unasked from sabme unnumbered))
+        (quiet-o so sa (record o { wait = record w { try = false } }) a lo la (o-waits so sa o a lo la g (record w { try = false }))
+        (slots.Frame frame) none unasked from sabme unnumbered))
         (quiet-o so sa (record o { wait = w }) a lo la (o-waits so sa o a lo la g w) slots.Flags refl refl tt (inl tt) (λ low n. n))
 
-    go : (b c : Bool) → OnSaid (SaidO so sa (next_expected o.incoming) a lo la) (cond b (cond c (Err (spent turn o)) (Ok (tries_frame frame (trying_again turn o)))) (Ok (tries_frame frame o)))
+    go : (b c : Bool) → OnSaid (SaidO so sa (next_expected o.incoming) a lo la)
+        (cond b (cond c (Err (spent turn o)) (Ok (tries_frame frame (trying_again turn o)))) (Ok (tries_frame frame o)))
     go true true = tt
     go true false = tried (record o.wait { try = true; try_set = turn; try_count = o.wait.try_count + 1 })
     go false c = tried o.wait
@@ -193,9 +235,11 @@ linked-no-sabme : (sent : Sent) (n told : ℕ) → IsLinked sent n told → NotS
 linked-no-sabme (slots.Frame (Sabme pf)) n told h = h
 linked-no-sabme sent n told h = tt
 
-o-linked-speaks : (so sa : Setup) (o a : Account) (lo la : List Slot) → Good so sa o a lo la → o.phase ≡ Connected → (turn : ℕ) → OnSaid (SaidO so sa (next_expected o.incoming) a lo la) (speak_linked turn o)
+o-linked-speaks : (so sa : Setup) (o a : Account) (lo la : List Slot) → Good so sa o a lo la → o.phase ≡ Connected → (turn : ℕ)
+    → OnSaid (SaidO so sa (next_expected o.incoming) a lo la) (speak_linked turn o)
 o-linked-speaks so sa o a lo la g e turn =
-    linked-speaks wo wi srej o a.outgoing a.incoming lo la turn (SaidO so sa (next_expected o.incoming) a lo la) (linked-o so sa o a lo la g (subst (λ p. PlaceO (terms_of so sa) p o) e g.place_o))
+    linked-speaks wo wi srej o a.outgoing a.incoming lo la turn (SaidO so sa (next_expected o.incoming) a lo la)
+    (linked-o so sa o a lo la g (subst (λ p. PlaceO (terms_of so sa) p o) e g.place_o))
     (λ b w. subst (λ d. AllSaid (SaidO so sa (next_expected o.incoming) a lo la) (answering d b)) (sym (sym w.same.answer ∙ g.answer_o)) tt)
     (λ b said w s. subst (λ i. SaidO so sa (next_expected i) a lo la said) w.incoming (well b said w s))
   where
@@ -208,52 +252,72 @@ o-linked-speaks so sa o a lo la g e turn =
     srej : Bool
     srej = (terms_of so sa).srej
 
-    well : (b : Account) (said : Said) → Timed wo wi srej o a.outgoing a.incoming lo la b → SaysWell wo wi srej b a.outgoing a.incoming lo la (next_expected b.incoming) said → SaidO so sa (next_expected b.incoming) a lo la said
+    well : (b : Account) (said : Said) → Timed wo wi srej o a.outgoing a.incoming lo la b
+        → SaysWell wo wi srej b a.outgoing a.incoming lo la (next_expected b.incoming) said
+        → SaidO so sa (next_expected b.incoming) a lo la said
     well b said w s =
         let at : b.phase ≡ Connected = sym w.same.phase ∙ e in
         let then : said.account.phase ≡ Connected = sym s.same.phase ∙ at in
-        let now : Good so sa b a lo la = changed-o so sa o a lo la g b (sym w.same.setup) (sym w.same.answer) (omega (arith, ap rank w.same.phase))
-        (subst (λ p. PlaceO (terms_of so sa) p b) (sym at) (w.linked.own_window, w.linked.their_window, w.linked.srej_is)) (λ z. omega (arith, g.met z, ap rank w.same.phase)) w.linked.own w.linked.theirs in
-        said-o so sa b a lo la now said.account said.sent said.number (next_expected b.incoming) (sym s.same.setup) (sym s.same.answer) (sym s.same.phase)
+        let now : Good so sa b a lo la =
+        changed-o so sa o a lo la g b (sym w.same.setup) (sym w.same.answer) (omega (arith, ap rank w.same.phase))
+        (subst (λ p. PlaceO (terms_of so sa) p b) (sym at) (w.linked.own_window, w.linked.their_window, w.linked.srej_is))
+        (λ z. omega (arith, g.met z, ap rank w.same.phase)) w.linked.own w.linked.theirs in
+        said-o so sa b a lo la now said.account said.sent said.number (next_expected b.incoming) (sym s.same.setup) (sym s.same.answer)
+        (sym s.same.phase)
         (subst (λ p. PlaceO (terms_of so sa) p said.account) (sym then) (s.linked.own_window, s.linked.their_window, s.linked.srej_is))
-        (linked-from-o so (rank b.phase) said.sent said.number (next_expected b.incoming) s.spelled) (inl (linked-no-sabme said.sent said.number (next_expected b.incoming) s.spelled))
+        (linked-from-o so (rank b.phase) said.sent said.number (next_expected b.incoming) s.spelled)
+        (inl (linked-no-sabme said.sent said.number (next_expected b.incoming) s.spelled))
         (λ low n. omega (arith, low, ap rank at)) s.linked.own s.linked.theirs
 
-o-releases : (so sa : Setup) (o a : Account) (lo la : List Slot) → Good so sa o a lo la → o.phase ≡ Connected → (turn : ℕ) → OnSaid (SaidO so sa (next_expected o.incoming) a lo la) (speak_releasing turn (trying Releasing turn o))
+o-releases : (so sa : Setup) (o a : Account) (lo la : List Slot) → Good so sa o a lo la → o.phase ≡ Connected → (turn : ℕ)
+    → OnSaid (SaidO so sa (next_expected o.incoming) a lo la) (speak_releasing turn (trying Releasing turn o))
 o-releases so sa o a lo la g e turn =
     o-tries so sa (trying Releasing turn o) a lo la
-    (changed-o so sa o a lo la g (trying Releasing turn o) refl refl (omega (arith, ap rank e)) (subst (λ p. PlaceO (terms_of so sa) p o) e g.place_o) (λ z. absurd (omega (arith, g.met z, ap rank e))) g.flow_oa g.flow_ao)
+    (changed-o so sa o a lo la g (trying Releasing turn o) refl refl (omega (arith, ap rank e))
+    (subst (λ p. PlaceO (terms_of so sa) p o) e g.place_o) (λ z. absurd (omega (arith, g.met z, ap rank e))) g.flow_oa g.flow_ao)
     turn (Disc true) refl refl (omega arith) (inl tt) (λ low n. n)
 
-o-in-phase : (so sa : Setup) (o a : Account) (lo la : List Slot) → Good so sa o a lo la → (turn : ℕ) (release : Bool) (p : Phase) → o.phase ≡ p → OnSaid (SaidO so sa (next_expected o.incoming) a lo la) (speak_in p turn release o)
+o-in-phase : (so sa : Setup) (o a : Account) (lo la : List Slot) → Good so sa o a lo la → (turn : ℕ) (release : Bool) (p : Phase)
+    → o.phase ≡ p → OnSaid (SaidO so sa (next_expected o.incoming) a lo la) (speak_in p turn release o)
 o-in-phase so sa o a lo la g turn release Detecting e =
-    subst (λ r. OnSaid (SaidO so sa (next_expected o.incoming) a lo la) (speak_detecting r turn o)) (sym (ap (λ s. s.role) g.setup_o ∙ g.deal.role_o)) (go (nat_le ((o.setup.tries + 1) * o.setup.period) turn))
+    subst (λ r. OnSaid (SaidO so sa (next_expected o.incoming) a lo la) (speak_detecting r turn o))
+    (sym (ap (λ s. s.role) g.setup_o ∙ g.deal.role_o)) (go (nat_le ((o.setup.tries + 1) * o.setup.period) turn))
   where
     go : (b : Bool) → OnSaid (SaidO so sa (next_expected o.incoming) a lo la) (cond b (Err NotDetected) (Ok (says slots.Odp o)))
     go true = tt
     go false = quiet-o so sa o a lo la g slots.Odp refl refl tt (inl tt) (λ low n. n)
 o-in-phase so sa o a lo la g turn release Negotiating e =
-    subst (λ r. OnSaid (SaidO so sa (next_expected o.incoming) a lo la) (speak_negotiating r turn o)) (sym (ap (λ s. s.role) g.setup_o ∙ g.deal.role_o))
-    (o-tries so sa o a lo la g turn (Xid true false (written o.setup.offer)) refl refl (ap (λ s. written s.offer) g.setup_o) (inl tt) (λ low n. n))
-o-in-phase so sa o a lo la g turn release Establishing e = o-tries so sa o a lo la g turn (Sabme true) refl refl (omega (arith, ap rank e)) (inr (omega (arith, ap rank e))) (λ low n. n)
+    subst (λ r. OnSaid (SaidO so sa (next_expected o.incoming) a lo la) (speak_negotiating r turn o))
+    (sym (ap (λ s. s.role) g.setup_o ∙ g.deal.role_o))
+    (o-tries so sa o a lo la g turn (Xid true false (written o.setup.offer)) refl refl (ap (λ s. written s.offer) g.setup_o) (inl tt)
+    (λ low n. n))
+o-in-phase so sa o a lo la g turn release Establishing e =
+    o-tries so sa o a lo la g turn (Sabme true) refl refl (omega (arith, ap rank e)) (inr (omega (arith, ap rank e))) (λ low n. n)
 o-in-phase so sa o a lo la g turn release Connected e = go (release && is_originator o.setup.role)
   where
-    go : (b : Bool) → OnSaid (SaidO so sa (next_expected o.incoming) a lo la) (cond b (speak_releasing turn (trying Releasing turn o)) (speak_linked turn o))
+    go : (b : Bool) → OnSaid (SaidO so sa (next_expected o.incoming) a lo la)
+        (cond b (speak_releasing turn (trying Releasing turn o)) (speak_linked turn o))
     go true = o-releases so sa o a lo la g e turn
     go false = o-linked-speaks so sa o a lo la g e turn
-o-in-phase so sa o a lo la g turn release Releasing e = o-tries so sa o a lo la g turn (Disc true) refl refl (omega (arith, ap rank e)) (inl tt) (λ low n. n)
+o-in-phase so sa o a lo la g turn release Releasing e =
+    o-tries so sa o a lo la g turn (Disc true) refl refl (omega (arith, ap rank e)) (inl tt) (λ low n. n)
 o-in-phase so sa o a lo la g turn release Closed e =
-    subst (λ d. OnSaid (SaidO so sa (next_expected o.incoming) a lo la) (Ok (else_says (answering d o) (says slots.Flags o)))) (sym g.answer_o) (quiet-o so sa o a lo la g slots.Flags refl refl tt (inl tt) (λ low n. n))
+    subst (λ d. OnSaid (SaidO so sa (next_expected o.incoming) a lo la) (Ok (else_says (answering d o) (says slots.Flags o))))
+    (sym g.answer_o) (quiet-o so sa o a lo la g slots.Flags refl refl tt (inl tt) (λ low n. n))
 
-pub o-speaks : (so sa : Setup) (o a : Account) (lo la : List Slot) → Good so sa o a lo la → (turn : ℕ) (release : Bool) → OnSaid (SaidO so sa (next_expected o.incoming) a lo la) (speak turn release o)
+pub o-speaks : (so sa : Setup) (o a : Account) (lo la : List Slot) → Good so sa o a lo la → (turn : ℕ) (release : Bool)
+    → OnSaid (SaidO so sa (next_expected o.incoming) a lo la) (speak turn release o)
 o-speaks so sa o a lo la g turn release = o-in-phase so sa o a lo la g turn release o.phase refl
 
 -- An answerer speaks.
 
-said-a : (so sa : Setup) (o a : Account) (lo la : List Slot) → Good so sa o a lo la → (b : Account) (sent : Sent) (n told : ℕ) → b.setup ≡ a.setup → DueA (rank o.phase) (rank a.phase) b.owes.answer → b.phase ≡ a.phase → b.numbered ≡ a.numbered
+said-a : (so sa : Setup) (o a : Account) (lo la : List Slot) → Good so sa o a lo la → (b : Account) (sent : Sent) (n told : ℕ)
+    → b.setup ≡ a.setup → DueA (rank o.phase) (rank a.phase) b.owes.answer → b.phase ≡ a.phase → b.numbered ≡ a.numbered
     → PlaceA (terms_of so sa) b.phase b → FromA sa (rank o.phase) (rank a.phase) sent n told
-    → Goes (terms_of so sa).window_o (terms_of so sa).srej o.outgoing b.incoming lo (la ++ (record { sent = sent; number = n; told = told }) ∷ [])
-    → Goes (terms_of so sa).window_a (terms_of so sa).srej b.outgoing o.incoming (la ++ (record { sent = sent; number = n; told = told }) ∷ []) lo
+    → Goes (terms_of so sa).window_o (terms_of so sa).srej o.outgoing b.incoming lo
+    (la ++ (record { sent = sent; number = n; told = told }) ∷ [])
+    → Goes (terms_of so sa).window_a (terms_of so sa).srej b.outgoing o.incoming
+    (la ++ (record { sent = sent; number = n; told = told }) ∷ []) lo
     → Good so sa o b lo (la ++ (record { sent = sent; number = n; told = told }) ∷ [])
 said-a so sa o a lo la h b sent n told setup answer phase numbered place from oa ao = record {
   deal = h.deal;
@@ -264,7 +328,8 @@ said-a so sa o a lo la h b sent n told setup answer phase numbered place from oa
   answer_o = h.answer_o;
   answer_a = subst (λ k. DueA (rank o.phase) k b.owes.answer) ranks answer;
   line_o = h.line_o;
-  line_a = subst (λ k. LineA sa (rank o.phase) k (la ++ slot ∷ [])) ranks (all_snoc (λ s. FromA sa (rank o.phase) (rank a.phase) s.sent s.number s.told) la slot h.line_a from);
+  line_a = subst (λ k. LineA sa (rank o.phase) k (la ++ slot ∷ [])) ranks
+      (all_snoc (λ s. FromA sa (rank o.phase) (rank a.phase) s.sent s.number s.told) la slot h.line_a from);
   sabme_first = h.sabme_first;
   early = λ e. ((h.early e).0, numbered ∙ (h.early e).1);
   numbered = λ e. h.numbered (sym numbered ∙ e);
@@ -282,20 +347,27 @@ said-a so sa o a lo la h b sent n told setup answer phase numbered place from oa
 abbrev pub SaidA : Setup → Setup → ℕ → Account → List Slot → List Slot → Said → Type 0
 SaidA so sa told o lo la said = Good so sa o said.account lo (la ++ slot_of said told ∷ [])
 
-quiet-a : (so sa : Setup) (o a : Account) (lo la : List Slot) → Good so sa o a lo la → (sent : Sent) → segment_of sent 0 ≡ [] → asked_of sent 0 ≡ None
-    → FromA sa (rank o.phase) (rank a.phase) sent 0 (next_expected a.incoming) → SaidA so sa (next_expected a.incoming) o lo la (says sent a)
+quiet-a : (so sa : Setup) (o a : Account) (lo la : List Slot) → Good so sa o a lo la → (sent : Sent) → segment_of sent 0 ≡ []
+    → asked_of sent 0 ≡ None
+    → FromA sa (rank o.phase) (rank a.phase) sent 0 (next_expected a.incoming)
+    → SaidA so sa (next_expected a.incoming) o lo la (says sent a)
 quiet-a so sa o a lo la h sent none unasked from =
     said-a so sa o a lo la h a sent 0 (next_expected a.incoming) refl h.answer_a refl refl h.place_a from
-    (back-told (terms_of so sa).window_o (terms_of so sa).srej o.outgoing a.incoming lo la sent 0 h.flow_oa (askable (asked_of sent 0) unasked))
-    (line-quiet (terms_of so sa).window_a (terms_of so sa).srej a.outgoing o.incoming la lo (record { sent = sent; number = 0; told = next_expected a.incoming }) none h.flow_ao)
+    (back-told (terms_of so sa).window_o (terms_of so sa).srej o.outgoing a.incoming lo la sent 0 h.flow_oa
+    (askable (asked_of sent 0) unasked))
+    (line-quiet (terms_of so sa).window_a (terms_of so sa).srej a.outgoing o.incoming la lo
+    (record { sent = sent; number = 0; told = next_expected a.incoming }) none h.flow_ao)
   where
     askable : (m : Option ℕ) → m ≡ None → IsAskable (length a.incoming.taken) o.outgoing.high m
     askable None e = tt
     askable (Some m) e = cc
 
 -- nothing is due any more
-a-answered : (so sa : Setup) (o a : Account) (lo la : List Slot) → Good so sa o a lo la → Good so sa o (record a { owes = record a.owes { answer = None } }) lo la
-a-answered so sa o a lo la g = changed-a so sa o a lo la g (record a { owes = record a.owes { answer = None } }) refl tt (omega arith) (place a.phase g.place_a) (λ e. (g.early e).1) g.numbered g.flow_oa g.flow_ao
+a-answered : (so sa : Setup) (o a : Account) (lo la : List Slot) → Good so sa o a lo la
+    → Good so sa o (record a { owes = record a.owes { answer = None } }) lo la
+a-answered so sa o a lo la g =
+    changed-a so sa o a lo la g (record a { owes = record a.owes { answer = None } }) refl tt (omega arith) (place a.phase g.place_a)
+    (λ e. (g.early e).1) g.numbered g.flow_oa g.flow_ao
   where
     place : (p : Phase) → PlaceA (terms_of so sa) p a → PlaceA (terms_of so sa) p (record a { owes = record a.owes { answer = None } })
     place Detecting k = k
@@ -305,12 +377,20 @@ a-answered so sa o a lo la g = changed-a so sa o a lo la g (record a { owes = re
     place Releasing k = k
     place Closed k = k
 
-a-answers : (so sa : Setup) (o a : Account) (lo la : List Slot) → Good so sa o a lo la → (d : Option Answer) → DueA (rank o.phase) (rank a.phase) d → AllSaid (SaidA so sa (next_expected a.incoming) o lo la) (answering d a)
+a-answers : (so sa : Setup) (o a : Account) (lo la : List Slot) → Good so sa o a lo la → (d : Option Answer)
+    → DueA (rank o.phase) (rank a.phase) d → AllSaid (SaidA so sa (next_expected a.incoming) o lo la) (answering d a)
 a-answers so sa o a lo la g None due = tt
-a-answers so sa o a lo la g (Some answers.Adp) due = quiet-a so sa o (record a { owes = record a.owes { answer = None } }) lo la (a-answered so sa o a lo la g) slots.Adp refl refl tt
-a-answers so sa o a lo la g (Some answers.Xid) due = quiet-a so sa o (record a { owes = record a.owes { answer = None } }) lo la (a-answered so sa o a lo la g) (slots.Frame (Xid false false (written a.setup.offer))) refl refl (ap (λ s. written s.offer) g.setup_a, due)
-a-answers so sa o a lo la g (Some (answers.Ua pf)) due = quiet-a so sa o (record a { owes = record a.owes { answer = None } }) lo la (a-answered so sa o a lo la g) (slots.Frame (Ua pf)) refl refl tt
-a-answers so sa o a lo la g (Some (answers.Dm pf)) due = quiet-a so sa o (record a { owes = record a.owes { answer = None } }) lo la (a-answered so sa o a lo la g) (slots.Frame (Dm pf)) refl refl due
+a-answers so sa o a lo la g (Some answers.Adp) due =
+    quiet-a so sa o (record a { owes = record a.owes { answer = None } }) lo la (a-answered so sa o a lo la g) slots.Adp refl refl tt
+a-answers so sa o a lo la g (Some answers.Xid) due =
+    quiet-a so sa o (record a { owes = record a.owes { answer = None } }) lo la (a-answered so sa o a lo la g)
+    (slots.Frame (Xid false false (written a.setup.offer))) refl refl (ap (λ s. written s.offer) g.setup_a, due)
+a-answers so sa o a lo la g (Some (answers.Ua pf)) due =
+    quiet-a so sa o (record a { owes = record a.owes { answer = None } }) lo la (a-answered so sa o a lo la g)
+    (slots.Frame (Ua pf)) refl refl tt
+a-answers so sa o a lo la g (Some (answers.Dm pf)) due =
+    quiet-a so sa o (record a { owes = record a.owes { answer = None } }) lo la (a-answered so sa o a lo la g)
+    (slots.Frame (Dm pf)) refl refl due
 
 linked-from-a : (sa : Setup) (k m : ℕ) (sent : Sent) (n told : ℕ) → IsLinked sent n told → FromA sa k m sent n told
 linked-from-a sa k m (slots.Frame (Xid false pf info)) n told h = absurd h
@@ -322,10 +402,13 @@ linked-from-a sa k m slots.Mark n told h = tt
 linked-from-a sa k m slots.Odp n told h = h
 linked-from-a sa k m slots.Adp n told h = tt
 
-a-linked-speaks : (so sa : Setup) (o a : Account) (lo la : List Slot) → Good so sa o a lo la → a.phase ≡ Connected → (turn : ℕ) → OnSaid (SaidA so sa (next_expected a.incoming) o lo la) (speak_linked turn a)
+a-linked-speaks : (so sa : Setup) (o a : Account) (lo la : List Slot) → Good so sa o a lo la → a.phase ≡ Connected → (turn : ℕ)
+    → OnSaid (SaidA so sa (next_expected a.incoming) o lo la) (speak_linked turn a)
 a-linked-speaks so sa o a lo la g e turn =
-    linked-speaks wo wi srej a o.outgoing o.incoming la lo turn (SaidA so sa (next_expected a.incoming) o lo la) (linked-a so sa o a lo la g (subst (λ p. PlaceA (terms_of so sa) p a) e g.place_a))
-    (λ b w. subst (λ i. AllSaid (SaidA so sa (next_expected i) o lo la) (step1 b)) w.incoming (a-answers so sa o b lo la (now b w) b.owes.answer (now b w).answer_a))
+    linked-speaks wo wi srej a o.outgoing o.incoming la lo turn (SaidA so sa (next_expected a.incoming) o lo la)
+    (linked-a so sa o a lo la g (subst (λ p. PlaceA (terms_of so sa) p a) e g.place_a))
+    (λ b w. subst (λ i. AllSaid (SaidA so sa (next_expected i) o lo la) (step1 b)) w.incoming
+    (a-answers so sa o b lo la (now b w) b.owes.answer (now b w).answer_a))
     (λ b said w s. subst (λ i. SaidA so sa (next_expected i) o lo la said) w.incoming (well b said w s))
   where
     wo : ℕ
@@ -340,35 +423,51 @@ a-linked-speaks so sa o a lo la g e turn =
     now : (b : Account) → Timed wo wi srej a o.outgoing o.incoming la lo b → Good so sa o b lo la
     now b w =
         let at : b.phase ≡ Connected = sym w.same.phase ∙ e in
-        changed-a so sa o a lo la g b (sym w.same.setup) (subst (λ d. DueA (rank o.phase) (rank b.phase) d) w.same.answer (subst (λ p. DueA (rank o.phase) (rank p) a.owes.answer) w.same.phase g.answer_a)) (omega (arith, ap rank w.same.phase))
-        (subst (λ p. PlaceA (terms_of so sa) p b) (sym at) (w.linked.own_window, w.linked.their_window, w.linked.srej_is)) (λ low. w.numbered ∙ (g.early low).1) (λ t. g.numbered (sym w.numbered ∙ t)) w.linked.theirs w.linked.own
+        changed-a so sa o a lo la g b (sym w.same.setup)
+        (subst (λ d. DueA (rank o.phase) (rank b.phase) d) w.same.answer
+        (subst (λ p. DueA (rank o.phase) (rank p) a.owes.answer) w.same.phase g.answer_a)) (omega (arith, ap rank w.same.phase))
+        (subst (λ p. PlaceA (terms_of so sa) p b) (sym at) (w.linked.own_window, w.linked.their_window, w.linked.srej_is))
+        (λ low. w.numbered ∙ (g.early low).1) (λ t. g.numbered (sym w.numbered ∙ t)) w.linked.theirs w.linked.own
 
-    well : (b : Account) (said : Said) → Timed wo wi srej a o.outgoing o.incoming la lo b → SaysWell wo wi srej b o.outgoing o.incoming la lo (next_expected b.incoming) said → SaidA so sa (next_expected b.incoming) o lo la said
+    well : (b : Account) (said : Said) → Timed wo wi srej a o.outgoing o.incoming la lo b
+        → SaysWell wo wi srej b o.outgoing o.incoming la lo (next_expected b.incoming) said
+        → SaidA so sa (next_expected b.incoming) o lo la said
     well b said w s =
         let then : said.account.phase ≡ Connected = sym s.same.phase ∙ (sym w.same.phase ∙ e) in
-        said-a so sa o b lo la (now b w) said.account said.sent said.number (next_expected b.incoming) (sym s.same.setup) (subst (λ d. DueA (rank o.phase) (rank b.phase) d) s.same.answer (now b w).answer_a) (sym s.same.phase) s.numbered
+        said-a so sa o b lo la (now b w) said.account said.sent said.number (next_expected b.incoming) (sym s.same.setup)
+        (subst (λ d. DueA (rank o.phase) (rank b.phase) d) s.same.answer (now b w).answer_a) (sym s.same.phase) s.numbered
         (subst (λ p. PlaceA (terms_of so sa) p said.account) (sym then) (s.linked.own_window, s.linked.their_window, s.linked.srej_is))
-        (linked-from-a sa (rank o.phase) (rank b.phase) said.sent said.number (next_expected b.incoming) s.spelled) s.linked.theirs s.linked.own
+        (linked-from-a sa (rank o.phase) (rank b.phase) said.sent said.number (next_expected b.incoming) s.spelled) s.linked.theirs
+        s.linked.own
 
-a-says-answer : (so sa : Setup) (o a : Account) (lo la : List Slot) → Good so sa o a lo la → (sent : Sent) → segment_of sent 0 ≡ [] → asked_of sent 0 ≡ None → FromA sa (rank o.phase) (rank a.phase) sent 0 (next_expected a.incoming)
+a-says-answer : (so sa : Setup) (o a : Account) (lo la : List Slot) → Good so sa o a lo la → (sent : Sent) → segment_of sent 0 ≡ []
+    → asked_of sent 0 ≡ None → FromA sa (rank o.phase) (rank a.phase) sent 0 (next_expected a.incoming)
     → SaidA so sa (next_expected a.incoming) o lo la (else_says (answering a.owes.answer a) (says sent a))
 a-says-answer so sa o a lo la g sent none unasked from =
-    else-says (SaidA so sa (next_expected a.incoming) o lo la) (answering a.owes.answer a) (says sent a) (a-answers so sa o a lo la g a.owes.answer g.answer_a) (quiet-a so sa o a lo la g sent none unasked from)
+    else-says (SaidA so sa (next_expected a.incoming) o lo la) (answering a.owes.answer a) (says sent a)
+    (a-answers so sa o a lo la g a.owes.answer g.answer_a) (quiet-a so sa o a lo la g sent none unasked from)
 
-a-in-phase : (so sa : Setup) (o a : Account) (lo la : List Slot) → Good so sa o a lo la → (turn : ℕ) (release : Bool) (p : Phase) → a.phase ≡ p → OnSaid (SaidA so sa (next_expected a.incoming) o lo la) (speak_in p turn release a)
+a-in-phase : (so sa : Setup) (o a : Account) (lo la : List Slot) → Good so sa o a lo la → (turn : ℕ) (release : Bool) (p : Phase)
+    → a.phase ≡ p → OnSaid (SaidA so sa (next_expected a.incoming) o lo la) (speak_in p turn release a)
 a-in-phase so sa o a lo la g turn release Detecting e =
-    subst (λ r. OnSaid (SaidA so sa (next_expected a.incoming) o lo la) (speak_detecting r turn a)) (sym (ap (λ s. s.role) g.setup_a ∙ g.deal.role_a)) (a-says-answer so sa o a lo la g slots.Mark refl refl tt)
+    subst (λ r. OnSaid (SaidA so sa (next_expected a.incoming) o lo la) (speak_detecting r turn a))
+    (sym (ap (λ s. s.role) g.setup_a ∙ g.deal.role_a)) (a-says-answer so sa o a lo la g slots.Mark refl refl tt)
 a-in-phase so sa o a lo la g turn release Negotiating e =
-    subst (λ r. OnSaid (SaidA so sa (next_expected a.incoming) o lo la) (speak_negotiating r turn a)) (sym (ap (λ s. s.role) g.setup_a ∙ g.deal.role_a)) (a-says-answer so sa o a lo la g slots.Flags refl refl tt)
+    subst (λ r. OnSaid (SaidA so sa (next_expected a.incoming) o lo la) (speak_negotiating r turn a))
+    (sym (ap (λ s. s.role) g.setup_a ∙ g.deal.role_a)) (a-says-answer so sa o a lo la g slots.Flags refl refl tt)
 a-in-phase so sa o a lo la g turn release Establishing e = absurd (subst (λ p. PlaceA (terms_of so sa) p a) e g.place_a)
 a-in-phase so sa o a lo la g turn release Connected e =
-    subst (λ r. OnSaid (SaidA so sa (next_expected a.incoming) o lo la) (cond (release && is_originator r) (speak_releasing turn (trying Releasing turn a)) (speak_linked turn a))) (sym (ap (λ s. s.role) g.setup_a ∙ g.deal.role_a)) (go release)
+    subst (λ r. OnSaid (SaidA so sa (next_expected a.incoming) o lo la)
+    (cond (release && is_originator r) (speak_releasing turn (trying Releasing turn a)) (speak_linked turn a)))
+    (sym (ap (λ s. s.role) g.setup_a ∙ g.deal.role_a)) (go release)
   where
-    go : (b : Bool) → OnSaid (SaidA so sa (next_expected a.incoming) o lo la) (cond (b && false) (speak_releasing turn (trying Releasing turn a)) (speak_linked turn a))
+    go : (b : Bool) → OnSaid (SaidA so sa (next_expected a.incoming) o lo la)
+        (cond (b && false) (speak_releasing turn (trying Releasing turn a)) (speak_linked turn a))
     go true = a-linked-speaks so sa o a lo la g e turn
     go false = a-linked-speaks so sa o a lo la g e turn
 a-in-phase so sa o a lo la g turn release Releasing e = absurd (subst (λ p. PlaceA (terms_of so sa) p a) e g.place_a)
 a-in-phase so sa o a lo la g turn release Closed e = a-says-answer so sa o a lo la g slots.Flags refl refl tt
 
-pub a-speaks : (so sa : Setup) (o a : Account) (lo la : List Slot) → Good so sa o a lo la → (turn : ℕ) (release : Bool) → OnSaid (SaidA so sa (next_expected a.incoming) o lo la) (speak turn release a)
+pub a-speaks : (so sa : Setup) (o a : Account) (lo la : List Slot) → Good so sa o a lo la → (turn : ℕ) (release : Bool)
+    → OnSaid (SaidA so sa (next_expected a.incoming) o lo la) (speak turn release a)
 a-speaks so sa o a lo la g turn release = a-in-phase so sa o a lo la g turn release a.phase refl

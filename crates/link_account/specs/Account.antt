@@ -102,14 +102,17 @@ abbrev pub takes_own : ℕ → Account → Bool
 takes_own turn a = if is_connected a.phase then takes_break turn a.own_breaks else false
 
 abbrev pub after_break_asked : ℕ → ℕ → Account → Account
-after_break_asked turn length_octet a = if is_connected a.phase then record a { own_breaks = after_ask turn length_octet a.own_breaks } else a
+after_break_asked turn length_octet a =
+    if is_connected a.phase then record a { own_breaks = after_ask turn length_octet a.own_breaks } else a
 
 abbrev pub break_waits : Account → Bool
 break_waits a = if is_connected a.phase then waits a.own_breaks else false
 
 abbrev pub given_break : Account → Option ℕ
 given_break a =
-    if is_connected a.phase then (if nat_lt a.breaks_told (length a.their_breaks.lengths) then Some (slice_index_or a.their_breaks.lengths a.breaks_told 0) else None) else None
+    if is_connected a.phase then
+    (if nat_lt a.breaks_told (length a.their_breaks.lengths) then Some
+    (slice_index_or a.their_breaks.lengths a.breaks_told 0) else None) else None
 
 abbrev pub after_given : Account → Account
 after_given a = record a { breaks_told = length a.their_breaks.lengths }

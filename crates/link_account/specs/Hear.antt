@@ -85,7 +85,8 @@ on_xid_response (Some offer) turn a = trying Establishing turn (record a { terms
 -- each phase before Connected: role and frame
 abbrev pub on_detecting : Role → Frame → ℕ → Account → Result Account LinkFault
 on_detecting Answerer (Xid true pf info) turn a = Ok (on_xid_command (offer_in info) a)
-on_detecting Answerer (Sabme pf) turn a = Ok (owing (answers.Ua pf) (connected turn (record a { terms = agree default_offer a.setup.offer })))
+on_detecting Answerer (Sabme pf) turn a =
+    Ok (owing (answers.Ua pf) (connected turn (record a { terms = agree default_offer a.setup.offer })))
 on_detecting role frame turn a = Ok a
 
 abbrev pub on_negotiating : Role → Frame → ℕ → Account → Result Account LinkFault
@@ -116,7 +117,8 @@ on_closed frame a = Ok a
 -- are outstanding, a poll is awaited or the other end counts as busy, and else stops.
 abbrev pub timer_after : ℕ → Outgoing → Outgoing → Option ℕ → Option ℕ
 timer_after turn old new timer =
-    if ((old.awaited && not new.awaited) || (old.paused && not new.paused)) && not (is_outstanding new || (new.awaited || new.paused)) then None
+    if ((old.awaited && not new.awaited) || (old.paused && not new.paused)) && not
+    (is_outstanding new || (new.awaited || new.paused)) then None
     else if nat_lt old.front new.front then (if is_outstanding new || (new.awaited || new.paused) then Some turn else None)
     else timer
 
@@ -126,7 +128,8 @@ bad_ack nr a = BadAck nr (a.outgoing.front % 128) (a.outgoing.high % 128)
 -- what an N(R) or an SREJ makes of the account, where the sender's part takes it
 abbrev pub on_number : ℕ → ℕ → Option Outgoing → Account → Result Account LinkFault
 on_number turn nr None a = Err (bad_ack nr a)
-on_number turn nr (Some new) a = Ok (record a { numbered = true; outgoing = new; wait = record a.wait { timer = timer_after turn a.outgoing new a.wait.timer } })
+on_number turn nr (Some new) a =
+    Ok (record a { numbered = true; outgoing = new; wait = record a.wait { timer = timer_after turn a.outgoing new a.wait.timer } })
 
 -- and then
 abbrev pub then_in : (Account → Account) → Result Account LinkFault → Result Account LinkFault

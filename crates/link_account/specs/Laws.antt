@@ -62,12 +62,15 @@ IsTakenBy i ns n =
 -- what is next to be heard at a Connected end
 abbrev pub NextIsTaken : Side → Side → Type 0
 NextIsTaken from to =
-    (ns nr : ℕ) (pf : Bool) (info : List ℕ) (n told : ℕ) (rest : List Slot) → from.line ≡ (record { sent = slots.Frame (I ns nr pf info); number = n; told = told }) ∷ rest → to.account.phase ≡ Connected → IsTakenBy to.account.incoming ns n
+    (ns nr : ℕ) (pf : Bool) (info : List ℕ) (n told : ℕ) (rest : List Slot)
+    → from.line ≡ (record { sent = slots.Frame (I ns nr pf info); number = n; told = told }) ∷ rest → to.account.phase ≡ Connected
+    → IsTakenBy to.account.incoming ns n
 
 -- An I frame that a Connected end hears is InOrder exactly where its meant number is the next one expected, and Kept only within the window behind it.
 abbrev pub TakesByNumber : Type 0
 TakesByNumber = (so sa : Setup) (events : List Event) → MayPlay so sa →
-    NextIsTaken (played so sa events).originator (played so sa events).answerer × NextIsTaken (played so sa events).answerer (played so sa events).originator
+    NextIsTaken (played so sa events).originator (played so sa events).answerer
+    × NextIsTaken (played so sa events).answerer (played so sa events).originator
 
 -- The break lengths given at an end are a prefix of those taken at the other.
 abbrev pub GivesBreaksInOrder : Type 0
@@ -94,20 +97,25 @@ AnswersGiven = (so sa : Setup) (events : List Event) →
 -- what is next to be heard, where it is an I frame: its segment was offered under its meant number, and lies less than a window ahead of what is expected
 abbrev pub NextWasOffered : Side → Side → Type 0
 NextWasOffered from to =
-    (ns nr : ℕ) (pf : Bool) (info : List ℕ) (n told : ℕ) (rest : List Slot) → from.line ≡ (record { sent = slots.Frame (I ns nr pf info); number = n; told = told }) ∷ rest
+    (ns nr : ℕ) (pf : Bool) (info : List ℕ) (n told : ℕ) (rest : List Slot)
+    → from.line ≡ (record { sent = slots.Frame (I ns nr pf info); number = n; told = told }) ∷ rest
     → (ns ≡ n % 128) × (n < length from.account.outgoing.pieces) × (info ≡ slice_index_or from.account.outgoing.pieces n [])
-    × (to.account.phase ≡ Connected → (n < next_expected to.account.incoming + to.account.incoming.window) × (to.account.incoming.window ≤ 127))
+    × (to.account.phase ≡ Connected
+    → (n < next_expected to.account.incoming + to.account.incoming.window) × (to.account.incoming.window ≤ 127))
 
 -- Each I frame on the line carries what was offered under its meant number.
 abbrev pub SendsWhatWasOffered : Type 0
 SendsWhatWasOffered = (so sa : Setup) (events : List Event) → MayPlay so sa →
-    NextWasOffered (played so sa events).originator (played so sa events).answerer × NextWasOffered (played so sa events).answerer (played so sa events).originator
+    NextWasOffered (played so sa events).originator (played so sa events).answerer
+    × NextWasOffered (played so sa events).answerer (played so sa events).originator
 
 -- An end that is Connected asks by SREJ where both ends offer it.
 abbrev pub AgreesOnSrej : Type 0
 AgreesOnSrej = (so sa : Setup) (events : List Event) → MayPlay so sa →
-    ((played so sa events).originator.account.phase ≡ Connected → (played so sa events).originator.account.incoming.srej ≡ (agree so.offer sa.offer).srej)
-    × ((played so sa events).answerer.account.phase ≡ Connected → (played so sa events).answerer.account.incoming.srej ≡ (agree so.offer sa.offer).srej)
+    ((played so sa events).originator.account.phase ≡ Connected
+    → (played so sa events).originator.account.incoming.srej ≡ (agree so.offer sa.offer).srej)
+    × ((played so sa events).answerer.account.phase ≡ Connected
+    → (played so sa events).answerer.account.incoming.srej ≡ (agree so.offer sa.offer).srej)
 
 -- an end is Connected, or was
 abbrev pub has_begun : Phase → Bool
@@ -121,13 +129,15 @@ has_begun Closed = true
 -- what is next to be heard at an end that has begun, where it is an I frame, is known by its number: also where the end takes nothing any more
 abbrev pub NextIsKnown : Side → Side → Type 0
 NextIsKnown from to =
-    (ns nr : ℕ) (pf : Bool) (info : List ℕ) (n told : ℕ) (rest : List Slot) → from.line ≡ (record { sent = slots.Frame (I ns nr pf info); number = n; told = told }) ∷ rest
+    (ns nr : ℕ) (pf : Bool) (info : List ℕ) (n told : ℕ) (rest : List Slot)
+    → from.line ≡ (record { sent = slots.Frame (I ns nr pf info); number = n; told = told }) ∷ rest
     → has_begun to.account.phase ≡ true → IsTakenBy to.account.incoming ns n
 
 -- An I frame that an end hears once it has begun is InOrder exactly where its meant number is the next one expected.
 abbrev pub KnownByNumber : Type 0
 KnownByNumber = (so sa : Setup) (events : List Event) → MayPlay so sa →
-    NextIsKnown (played so sa events).originator (played so sa events).answerer × NextIsKnown (played so sa events).answerer (played so sa events).originator
+    NextIsKnown (played so sa events).originator (played so sa events).answerer
+    × NextIsKnown (played so sa events).answerer (played so sa events).originator
 
 -- a BRK by its meant number: it is of the last break that was given at the other end, or of the next
 pub record IsBreakOf (own : OwnBreaks) (their : TheirBreaks) (number length_octet n : ℕ) : Type 0 where
@@ -139,13 +149,15 @@ pub record IsBreakOf (own : OwnBreaks) (their : TheirBreaks) (number length_octe
 -- what is next to be heard, where it is a BRK
 abbrev pub NextIsBreak : Side → Side → Type 0
 NextIsBreak from to =
-    (command pf : Bool) (info : List ℕ) (number length_octet n told : ℕ) (rest : List Slot) → from.line ≡ (record { sent = slots.Frame (Ui command pf info); number = n; told = told }) ∷ rest
+    (command pf : Bool) (info : List ℕ) (number length_octet n told : ℕ) (rest : List Slot)
+    → from.line ≡ (record { sent = slots.Frame (Ui command pf info); number = n; told = told }) ∷ rest
     → word_in info ≡ Ok (Brk number length_octet) → IsBreakOf from.account.own_breaks to.account.their_breaks number length_octet n
 
 -- Each BRK on the line is of a break that was taken, and of none before the last one that was given.
 abbrev pub SendsBreaksTaken : Type 0
 SendsBreaksTaken = (so sa : Setup) (events : List Event) →
-    NextIsBreak (played so sa events).originator (played so sa events).answerer × NextIsBreak (played so sa events).answerer (played so sa events).originator
+    NextIsBreak (played so sa events).originator (played so sa events).answerer
+    × NextIsBreak (played so sa events).answerer (played so sa events).originator
 
 -- What is sent next lies between what is acknowledged and what was sent, and that is no more than a window.
 pub record IsInRange (o : Outgoing) : Type 0 where

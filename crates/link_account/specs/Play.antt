@@ -78,7 +78,8 @@ heard (Ok a) s = record s { account = a }
 
 abbrev pub passes : ℕ → List Slot → Pair → Pair
 passes turn [] q = q
-passes turn (slot ∷ rest) q = record { own = record q.own { line = rest }; peer = heard (hear turn (arrives slot.sent) q.peer.account) q.peer }
+passes turn (slot ∷ rest) q =
+    record { own = record q.own { line = rest }; peer = heard (hear turn (arrives slot.sent) q.peer.account) q.peer }
 
 abbrev pub is_lost : List Slot → Pair → Pair
 is_lost [] q = q
@@ -86,7 +87,8 @@ is_lost (slot ∷ rest) q = record q { own = record q.own { line = rest } }
 
 -- a piece may be offered where one is wanted, up to the agreed length
 abbrev pub is_offered : List ℕ → Side → Side
-is_offered piece s = if is_some (wants s.account) && nat_le (length piece) (piece_size s.account) then record s { account = after_offer piece s.account } else s
+is_offered piece s = if is_some (wants s.account) && nat_le (length piece)
+    (piece_size s.account) then record s { account = after_offer piece s.account } else s
 
 abbrev pub at_own : (Side → Side) → Pair → Pair
 at_own f q = record q { own = f q.own }

@@ -67,7 +67,8 @@ abbrev pub trying_again : ℕ → Account → Account
 trying_again turn a = record a { wait = record a.wait { try = true; try_set = turn; try_count = a.wait.try_count + 1 } }
 
 abbrev pub tries_frame : Frame → Account → Said
-tries_frame frame a = else_says (where_says a.wait.try (says_frame frame (record a { wait = record a.wait { try = false } }))) (says slots.Flags a)
+tries_frame frame a =
+    else_says (where_says a.wait.try (says_frame frame (record a { wait = record a.wait { try = false } }))) (says slots.Flags a)
 
 abbrev pub u_try : ℕ → Frame → Account → Result Said LinkFault
 u_try turn frame a =
@@ -130,7 +131,11 @@ says_segment turn None a = None
 says_segment turn (Some n) a = Some (record {
   sent = slots.Frame (I (n % 128) (nr_of a) false (slice_index_or a.outgoing.pieces n []));
   number = n;
-  account = record (telling a) { outgoing = after_next a.outgoing; wait = record a.wait { urgent = false; timer = running turn a.wait.timer } };
+  account = record (telling a) {
+    outgoing = after_next a.outgoing;
+    wait =
+        record a.wait { urgent = false; timer = running turn a.wait.timer };
+  };
 })
 
 -- a break's word
@@ -148,9 +153,17 @@ says_break (Some word) a = Some (says_word (length a.their_breaks.lengths - 1) w
 -- REJ, which carries the next number expected and tells that the end isn't busy, or SREJ of a number; SREJ not in the turn after a special frame
 abbrev pub says_asking : Bool → Bool → Option ℕ → Account → Option Said
 says_asking srej special None a = None
-says_asking false special (Some n) a = Some (says_frame (Rej false (nr_of a) false) (telling (record a { incoming = after_asked n a.incoming; owes = record a.owes { busy_told = false } })))
+says_asking false special (Some n) a =
+    Some (says_frame (Rej false (nr_of a) false)
+    (telling (record a { incoming = after_asked n a.incoming; owes = record a.owes { busy_told = false } })))
 says_asking true true (Some n) a = None
-says_asking true false (Some n) a = Some (record { sent = slots.Frame (Srej false (n % 128) false); number = n; account = record a { incoming = after_asked n a.incoming; special = true } })
+says_asking true false (Some n) a =
+    Some (record {
+      sent = slots.Frame (Srej false (n % 128) false);
+      number = n;
+      account =
+          record a { incoming = after_asked n a.incoming; special = true };
+    })
 
 -- RR, or RNR where the end is busy, with the next number expected: it tells which
 abbrev pub ready_frame : Bool → Bool → ℕ → Bool → Frame
@@ -158,7 +171,8 @@ ready_frame false command nr pf = Rr command nr pf
 ready_frame true command nr pf = Rnr command nr pf
 
 abbrev pub tells : Bool → Bool → Account → Said
-tells command pf a = says_frame (ready_frame a.owes.busy command (nr_of a) pf) (telling (record a { owes = record a.owes { busy_told = a.owes.busy } }))
+tells command pf a = says_frame (ready_frame a.owes.busy command (nr_of a) pf)
+    (telling (record a { owes = record a.owes { busy_told = a.owes.busy } }))
 
 abbrev pub differs : Bool → Bool → Bool
 differs true b = not b
@@ -230,7 +244,8 @@ abbrev pub speak_releasing : ℕ → Account → Result Said LinkFault
 speak_releasing turn a = u_try turn (Disc true) a
 
 abbrev pub speak_connected : ℕ → Bool → Account → Result Said LinkFault
-speak_connected turn release a = if release && is_originator a.setup.role then speak_releasing turn (trying Releasing turn a) else speak_linked turn a
+speak_connected turn release a =
+    if release && is_originator a.setup.role then speak_releasing turn (trying Releasing turn a) else speak_linked turn a
 
 abbrev pub speak_in : Phase → ℕ → Bool → Account → Result Said LinkFault
 speak_in Detecting turn release a = speak_detecting a.setup.role turn a

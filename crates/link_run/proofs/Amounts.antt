@@ -50,7 +50,8 @@ offered-alike : (n : ℕ) (file : List ℕ) (a : Account) → Alike a (offered_t
 offered-alike zero file a = record { range = λ r. r; high = refl }
 offered-alike (suc n) file a = go (wants a) (offered-alike n file (offered_at file a (wants a)))
   where
-    go : (w : Option ℕ) → Alike (offered_at file a w) (offered_times n file (offered_at file a w)) → Alike a (offered_times n file (offered_at file a w))
+    go : (w : Option ℕ) → Alike (offered_at file a w) (offered_times n file (offered_at file a w))
+        → Alike a (offered_times n file (offered_at file a w))
     go None h = h
     go (Some m) h =
         let k = piece-alike (piece_at (piece_size a) file m) a.outgoing in
@@ -60,7 +61,8 @@ served-alike : (u : User) (turn : ℕ) (released : Bool) (a : Account) → Alike
 served-alike u turn released a =
     let x = after_given (delivered a) in
     let h = offered-alike (room_for x) u.file x in
-    let is : (served u turn released a).account.outgoing ≡ (offered_times (room_for x) u.file x).outgoing = ap (λ (b : Account). b.outgoing) (served-alone u turn released a) in
+    let is : (served u turn released a).account.outgoing ≡ (offered_times (room_for x) u.file x).outgoing =
+    ap (λ (b : Account). b.outgoing) (served-alone u turn released a) in
     let out : x.outgoing ≡ a.outgoing = delivered-out a in
     record {
       range = λ r. subst IsInRange (sym is) (h.range (subst IsInRange (sym out) r));
@@ -81,12 +83,16 @@ heard-high a b s (inl g) = g.high
 heard-high a b s (inr g) = ap (λ o. o.high) g.outgoing_is ∙ sym (s.unsent (not-begun a.phase g.was))
 
 -- both ends of a play
-both-in-order : SendsInRange → (link : Link) → MayPlay link.orig.setup link.answ.setup → (ends : Ends) (line : Role → List (Option Spoken)) → IsPlayed link ends line → (r : Role) → SendsInOrder (of r ends)
-both-in-order sends link m ends line p Originator = subst SendsInOrder (p.is_at Originator).account_is (sends link.orig.setup link.answ.setup p.events m).0
-both-in-order sends link m ends line p Answerer = subst SendsInOrder (p.is_at Answerer).account_is (sends link.orig.setup link.answ.setup p.events m).1
+both-in-order : SendsInRange → (link : Link) → MayPlay link.orig.setup link.answ.setup → (ends : Ends) (line : Role → List (Option Spoken))
+    → IsPlayed link ends line → (r : Role) → SendsInOrder (of r ends)
+both-in-order sends link m ends line p Originator =
+    subst SendsInOrder (p.is_at Originator).account_is (sends link.orig.setup link.answ.setup p.events m).0
+both-in-order sends link m ends line p Answerer =
+    subst SendsInOrder (p.is_at Answerer).account_is (sends link.orig.setup link.answ.setup p.events m).1
 
 -- what an end sends in a turn
-said-sends : (link : Link) (turn : ℕ) (mid : Ends) (r : Role) (said : Said) → IsInRange (of r mid).outgoing → said_at link turn mid r ≡ Ok said → SentAs (sequence_in said.sent) said.number (of r mid).outgoing.high said.account.outgoing.high
+said-sends : (link : Link) (turn : ℕ) (mid : Ends) (r : Role) (said : Said) → IsInRange (of r mid).outgoing
+    → said_at link turn mid r ≡ Ok said → SentAs (sequence_in said.sent) said.number (of r mid).outgoing.high said.account.outgoing.high
 said-sends link turn mid Originator said h e =
     let k = served-alike link.orig.user turn (is_released mid.orig.phase) mid.orig in
     subst (λ n. SentAs (sequence_in said.sent) said.number n said.account.outgoing.high) k.high
@@ -102,14 +108,16 @@ pub record Goes (numbers : List ℕ) (old : ℕ) (slot : Option Spoken) (new : �
   pub again : repeated (segment_number slot ++ numbers) ≡ repeated numbers + again_in (sequence_of slot) old
   pub below : (n : ℕ) → is_number n (segment_number slot ++ numbers) ≡ nat_lt n new
 
-goes-on : (numbers : List ℕ) (old new number ns : ℕ) → ((n : ℕ) → is_number n numbers ≡ nat_lt n old) → ns ≡ number % 128 → number ≤ old → old ≤ number + 127 → new ≡ max old (number + 1)
+goes-on : (numbers : List ℕ) (old new number ns : ℕ) → ((n : ℕ) → is_number n numbers ≡ nat_lt n old) → ns ≡ number % 128 → number ≤ old
+    → old ≤ number + 127 → new ≡ max old (number + 1)
     → (new ≡ cond (nat_eq ns (old % 128)) (old + 1) old)
     × (cond (is_number number numbers) (repeated numbers + 1) (repeated numbers) ≡ repeated numbers + cond (nat_eq ns (old % 128)) 0 1)
     × ((n : ℕ) → (nat_eq number n || is_number n numbers) ≡ nat_lt n new)
 goes-on numbers old new number ns below is low high max-is = go (nat_eq ns (old % 128)) refl
   where
     go : (b : Bool) → nat_eq ns (old % 128) ≡ b
-        → (new ≡ cond b (old + 1) old) × (cond (is_number number numbers) (repeated numbers + 1) (repeated numbers) ≡ repeated numbers + cond b 0 1)
+        → (new ≡ cond b (old + 1) old)
+        × (cond (is_number number numbers) (repeated numbers + 1) (repeated numbers) ≡ repeated numbers + cond b 0 1)
         × ((n : ℕ) → (nat_eq number n || is_number n numbers) ≡ nat_lt n new)
     go true e =
         let same : ns ≡ old % 128 = grind (arith, nat_tests) in
@@ -127,7 +135,8 @@ goes-on numbers old new number ns below is low high max-is = go (nat_eq ns (old 
         next : (n : ℕ) → number ≡ old → new ≡ old + 1 → (nat_eq number n || nat_lt n old) ≡ nat_lt n new
         next n at up = grind (arith, nat_tests)
     go false e =
-        let apart : number ≢ old = λ z. false≢true (sym e ∙ ap (λ m. nat_eq ns (m % 128)) (sym z) ∙ ap (λ m. nat_eq m (number % 128)) is ∙ same (number % 128)) in
+        let apart : number ≢ old =
+        λ z. false≢true (sym e ∙ ap (λ m. nat_eq ns (m % 128)) (sym z) ∙ ap (λ m. nat_eq m (number % 128)) is ∙ same (number % 128)) in
         let less : nat_lt number old ≡ true = grind (arith, nat_tests) in
         let stays : new ≡ old = omega (arith, apart, low, max-is) in (
           stays,
@@ -141,7 +150,8 @@ goes-on numbers old new number ns below is low high max-is = go (nat_eq ns (old 
         among : (n : ℕ) → nat_lt number old ≡ true → new ≡ old → (nat_eq number n || nat_lt n old) ≡ nat_lt n new
         among n less stays = grind (arith, nat_tests)
 
-slot-goes : (numbers : List ℕ) (old new : ℕ) (slot : Spoken) → ((n : ℕ) → is_number n numbers ≡ nat_lt n old) → SentAs (sequence_in slot.sent) slot.number old new → Goes numbers old (Some slot) new
+slot-goes : (numbers : List ℕ) (old new : ℕ) (slot : Spoken) → ((n : ℕ) → is_number n numbers ≡ nat_lt n old)
+    → SentAs (sequence_in slot.sent) slot.number old new → Goes numbers old (Some slot) new
 slot-goes numbers old new slot below s = go (sequence_in slot.sent) refl s
   where
     go : (o : Option ℕ) → sequence_in slot.sent ≡ o → SentAs o slot.number old new → Goes numbers old (Some slot) new
@@ -165,18 +175,25 @@ slot-goes numbers old new slot below s = go (sequence_in slot.sent) refl s
         }
 
 -- a turn of a run
-turn-goes : ReadsAllowed → KeepsTaken → SendsInRange → (link : Link) (delay : Role → ℕ) (ts : List Turn) (ends : Ends) (t : Turn) (after : Ends) → RunsOver link delay ts ends → Carries delay ts t → GoingTurn link ts ends t after → (r : Role)
+turn-goes : ReadsAllowed → KeepsTaken → SendsInRange
+    → (link : Link) (delay : Role → ℕ) (ts : List Turn) (ends : Ends) (t : Turn) (after : Ends) → RunsOver link delay ts ends
+    → Carries delay ts t → GoingTurn link ts ends t after → (r : Role)
     → ((n : ℕ) → is_number n (numbers_sent r ts) ≡ nat_lt n (of r ends).outgoing.high)
     → Goes (numbers_sent r ts) (of r ends).outgoing.high (of r t).sent (of r after).outgoing.high
 turn-goes reads keeps sends link delay ts ends t after v n g r below =
     let turn = length ts in
     let before = both-in-order sends link v.may_play ends _ (runs_are_plays reads keeps link delay ts ends v.delays v.carried v.run) r in
-    let at = both-in-order sends link v.may_play g.mid _ (hearings_are_plays reads keeps link delay ts ends turn t g.mid v.delays v.carried v.run n g.hearing) r in
-    let high : (of r g.mid).outgoing.high ≡ (of r ends).outgoing.high = heard-high (of r ends) (of r g.mid) before (hears reads keeps turn (arrival (of r t).heard) (of r ends) (of r g.mid) (g.hearing r).hears) in
+    let at = both-in-order sends link v.may_play g.mid _
+    (hearings_are_plays reads keeps link delay ts ends turn t g.mid v.delays v.carried v.run n g.hearing) r in
+    let high : (of r g.mid).outgoing.high ≡ (of r ends).outgoing.high =
+    heard-high (of r ends) (of r g.mid) before
+    (hears reads keeps turn (arrival (of r t).heard) (of r ends) (of r g.mid) (g.hearing r).hears) in
     let s = g.speaking r in
-    let k = subst (λ m. SentAs (sequence_in s.said.sent) s.said.number m s.said.account.outgoing.high) high (said-sends link turn g.mid r s.said at.range s.says) in
+    let k = subst (λ m. SentAs (sequence_in s.said.sent) s.said.number m s.said.account.outgoing.high) high
+    (said-sends link turn g.mid r s.said at.range s.says) in
     subst (λ (a : Account). Goes (numbers_sent r ts) (of r ends).outgoing.high (of r t).sent a.outgoing.high) (sym s.after_is)
-    (subst (λ o. Goes (numbers_sent r ts) (of r ends).outgoing.high o s.said.account.outgoing.high) (sym s.sent_is) (slot-goes (numbers_sent r ts) (of r ends).outgoing.high s.said.account.outgoing.high _ below k))
+    (subst (λ o. Goes (numbers_sent r ts) (of r ends).outgoing.high o s.said.account.outgoing.high) (sym s.sent_is)
+    (slot-goes (numbers_sent r ts) (of r ends).outgoing.high s.said.account.outgoing.high _ below k))
 
 pub sent_below_high : ReadsAllowed → KeepsTaken → SendsInRange → SentBelowHigh
 sent_below_high reads keeps sends link delay [] ends v r n = none r ∙ ap (λ (e : Ends). nat_lt n (of r e).outgoing.high) (sym v.run)
@@ -185,8 +202,10 @@ sent_below_high reads keeps sends link delay [] ends v r n = none r ∙ ap (λ (
     none Originator = grind (arith, nat_tests)
     none Answerer = grind (arith, nat_tests)
 sent_below_high reads keeps sends link delay (t ∷ ts) ends v r n =
-    let before : RunsOver link delay ts v.run.0 = record { may_play = v.may_play; delays = v.delays; carried = v.carried.1; run = v.run.1 } in
-    (turn-goes reads keeps sends link delay ts v.run.0 t ends before v.carried.0 v.run.2 r (sent_below_high reads keeps sends link delay ts v.run.0 before r)).below n
+    let before : RunsOver link delay ts v.run.0 =
+    record { may_play = v.may_play; delays = v.delays; carried = v.carried.1; run = v.run.1 } in
+    (turn-goes reads keeps sends link delay ts v.run.0 t ends before v.carried.0 v.run.2 r
+    (sent_below_high reads keeps sends link delay ts v.run.0 before r)).below n
 
 pub counts_by_number : ReadsAllowed → KeepsTaken → SendsInRange → CountsByNumber
 counts_by_number reads keeps sends link delay ts ends t after v n g r =

@@ -42,11 +42,15 @@ run-held : (r k : ℕ) (hs : List Held) → r ≤ k → k < r + length (run_from
 run-held r k [] low high = absurd (omega (arith, low, high))
 run-held r k (x ∷ hs) low high = go (nat_eq x.number r) refl (run-held (r + 1) k hs) high
   where
-    inner : x.number ≡ r → k < r + (length (run_from (r + 1) hs) + 1) → (r + 1 ≤ k → k < r + 1 + length (run_from (r + 1) hs) → is_held k hs ≡ true) → (c : Bool) → nat_eq x.number k ≡ c → (c || is_held k hs) ≡ true
+    inner : x.number ≡ r → k < r + (length (run_from (r + 1) hs) + 1)
+        → (r + 1 ≤ k → k < r + 1 + length (run_from (r + 1) hs) → is_held k hs ≡ true) → (c : Bool) → nat_eq x.number k ≡ c
+        → (c || is_held k hs) ≡ true
     inner e h ih true z = refl
-    inner e h ih false z = let n : r ≢ k = (λ q. false≢true (sym z ∙ same-is x.number k (e ∙ q))) in ih (omega (arith, n, low)) (omega (arith, h))
+    inner e h ih false z = let n : r ≢ k = (λ q. false≢true (sym z ∙ same-is x.number k (e ∙ q))) in
+        ih (omega (arith, n, low)) (omega (arith, h))
 
-    go : (b : Bool) → nat_eq x.number r ≡ b → (r + 1 ≤ k → k < r + 1 + length (run_from (r + 1) hs) → is_held k hs ≡ true) → k < r + length (cond b (x.info ∷ run_from (r + 1) hs) []) → (nat_eq x.number k || is_held k hs) ≡ true
+    go : (b : Bool) → nat_eq x.number r ≡ b → (r + 1 ≤ k → k < r + 1 + length (run_from (r + 1) hs) → is_held k hs ≡ true)
+        → k < r + length (cond b (x.info ∷ run_from (r + 1) hs) []) → (nat_eq x.number k || is_held k hs) ≡ true
     go true e ih h = inner (eqb-true x.number r e) (omega (arith, h)) ih (nat_eq x.number k) refl
     go false e ih h = absurd (omega (arith, low, h))
 
@@ -55,13 +59,15 @@ run-stops r [] h = refl
 run-stops r (x ∷ hs) h = go (nat_eq x.number r) refl (run-stops (r + 1) hs)
   where
     go : (b : Bool) → nat_eq x.number r ≡ b → (Rises (r + 1) hs → is_held (r + 1 + length (run_from (r + 1) hs)) hs ≡ false)
-        → (nat_eq x.number (r + length (cond b (x.info ∷ run_from (r + 1) hs) [])) || is_held (r + length (cond b (x.info ∷ run_from (r + 1) hs) [])) hs) ≡ false
+        → (nat_eq x.number (r + length (cond b (x.info ∷ run_from (r + 1) hs) [])) || is_held
+        (r + length (cond b (x.info ∷ run_from (r + 1) hs) [])) hs) ≡ false
     go true e ih =
         let at = eqb-true x.number r e in
         let rest : Rises (r + 1) hs = rises-low (x.number + 1) (r + 1) hs (omega (arith, at)) h.1 in
         let m = r + length (x.info ∷ run_from (r + 1) hs) in
         let not-here : nat_eq x.number m ≡ false = same-not x.number m (λ z. omega (arith, z, at)) in
-        ap (λ b. b || is_held m hs) not-here ∙ ap (λ k. is_held k hs) (let z : m ≡ r + 1 + length (run_from (r + 1) hs) = omega arith in z) ∙ ih rest
+        ap (λ b. b || is_held m hs) not-here ∙ ap (λ k. is_held k hs) (let z : m ≡ r + 1 + length (run_from (r + 1) hs) = omega arith in z)
+        ∙ ih rest
     go false e ih =
         let other : x.number ≢ r = (λ z. false≢true (sym e ∙ same-is x.number r z)) in
         let not-here : nat_eq x.number (r + 0) ≡ false = same-not x.number (r + 0) (λ z. other (omega (arith, z))) in
@@ -72,7 +78,8 @@ rest-held r k [] h = refl
 rest-held r k (x ∷ hs) h = go (nat_eq x.number r) refl (rest-held (r + 1) k hs) h
   where
     go : (b : Bool) → nat_eq x.number r ≡ b → (r + 1 + length (run_from (r + 1) hs) ≤ k → is_held k (rest_from (r + 1) hs) ≡ is_held k hs)
-        → r + length (cond b (x.info ∷ run_from (r + 1) hs) []) ≤ k → is_held k (cond b (rest_from (r + 1) hs) (x ∷ hs)) ≡ (nat_eq x.number k || is_held k hs)
+        → r + length (cond b (x.info ∷ run_from (r + 1) hs) []) ≤ k
+        → is_held k (cond b (rest_from (r + 1) hs) (x ∷ hs)) ≡ (nat_eq x.number k || is_held k hs)
     go true e ih l =
         let at = eqb-true x.number r e in
         let not-here : nat_eq x.number k ≡ false = same-not x.number k (λ z. omega (arith, z, at, l)) in
@@ -88,7 +95,8 @@ rest-rises r (x ∷ hs) h = go (nat_eq x.number r) refl (rest-rises (r + 1) hs)
     go true e ih =
         let at = eqb-true x.number r e in
         let rest : Rises (r + 1) hs = rises-low (x.number + 1) (r + 1) hs (omega (arith, at)) h.1 in
-        rises-low (r + 1 + length (run_from (r + 1) hs) + 1) (r + length (x.info ∷ run_from (r + 1) hs) + 1) (rest_from (r + 1) hs) (omega arith) (ih rest)
+        rises-low (r + 1 + length (run_from (r + 1) hs) + 1) (r + length (x.info ∷ run_from (r + 1) hs) + 1) (rest_from (r + 1) hs)
+        (omega arith) (ih rest)
     go false e ih =
         let other : x.number ≢ r = (λ z. false≢true (sym e ∙ same-is x.number r z)) in
         (omega (arith, other, h.0), h.1)
@@ -103,7 +111,8 @@ with-held s k (x ∷ hs) = go (nat_lt s.number x.number) (with-held s k hs)
     swap true false c = refl
     swap false b c = refl
 
-    go : (b : Bool) → is_held k (with_held s hs) ≡ (nat_eq s.number k || is_held k hs) → is_held k (cond b (s ∷ x ∷ hs) (x ∷ with_held s hs)) ≡ (nat_eq s.number k || (nat_eq x.number k || is_held k hs))
+    go : (b : Bool) → is_held k (with_held s hs) ≡ (nat_eq s.number k || is_held k hs)
+        → is_held k (cond b (s ∷ x ∷ hs) (x ∷ with_held s hs)) ≡ (nat_eq s.number k || (nat_eq x.number k || is_held k hs))
     go true ih = refl
     go false ih = ap (λ b. nat_eq x.number k || b) ih ∙ swap (nat_eq x.number k) (nat_eq s.number k) (is_held k hs)
 
@@ -111,14 +120,17 @@ or-false : (b c : Bool) → (b || c) ≡ false → (b ≡ false) × (c ≡ false
 or-false true c e = absurd (false≢true (sym e))
 or-false false c e = (refl, e)
 
-with-rises : (low : ℕ) (s : Held) (hs : List Held) → Rises low hs → low ≤ s.number → is_held s.number hs ≡ false → Rises low (with_held s hs)
+with-rises : (low : ℕ) (s : Held) (hs : List Held) → Rises low hs → low ≤ s.number → is_held s.number hs ≡ false
+    → Rises low (with_held s hs)
 with-rises low s [] r l n = (l, tt)
 with-rises low s (x ∷ hs) r l n = go (nat_lt s.number x.number) refl (with-rises (x.number + 1) s hs r.1)
   where
     parts : (nat_eq x.number s.number ≡ false) × (is_held s.number hs ≡ false)
     parts = or-false (nat_eq x.number s.number) (is_held s.number hs) n
 
-    go : (b : Bool) → nat_lt s.number x.number ≡ b → (x.number + 1 ≤ s.number → is_held s.number hs ≡ false → Rises (x.number + 1) (with_held s hs)) → Rises low (cond b (s ∷ x ∷ hs) (x ∷ with_held s hs))
+    go : (b : Bool) → nat_lt s.number x.number ≡ b
+        → (x.number + 1 ≤ s.number → is_held s.number hs ≡ false → Rises (x.number + 1) (with_held s hs))
+        → Rises low (cond b (s ∷ x ∷ hs) (x ∷ with_held s hs))
     go true e ih = let less : s.number < x.number = grind (arith, nat_tests) in (l, (omega (arith, less), r.1))
     go false e ih =
         let other : x.number ≢ s.number = (λ z. false≢true (sym parts.0 ∙ same-is x.number s.number z)) in
@@ -132,7 +144,8 @@ among-more n [] s = or-last (nat_eq s.number n)
     or-last : (b : Bool) → (b || false) ≡ b
     or-last true = refl
     or-last false = refl
-among-more n (x ∷ ss) s = ap (λ b. nat_eq x.number n || b) (among-more n ss s) ∙ sym (assoc (nat_eq x.number n) (is_among n ss) (nat_eq s.number n))
+among-more n (x ∷ ss) s =
+    ap (λ b. nat_eq x.number n || b) (among-more n ss s) ∙ sym (assoc (nat_eq x.number n) (is_among n ss) (nat_eq s.number n))
   where
     assoc : (a b c : Bool) → ((a || b) || c) ≡ (a || (b || c))
     assoc true b c = refl
@@ -156,13 +169,16 @@ among-beyond : (n : ℕ) (ss : List Segment) → is_among n ss ≡ true → n < 
 among-beyond n [] e = absurd (false≢true e)
 among-beyond n (s ∷ ss) e = go (nat_eq s.number n) refl (among-beyond n ss) e
   where
-    go : (b : Bool) → nat_eq s.number n ≡ b → (is_among n ss ≡ true → n < beyond ss) → (b || is_among n ss) ≡ true → n < max (s.number + 1) (beyond ss)
+    go : (b : Bool) → nat_eq s.number n ≡ b → (is_among n ss ≡ true → n < beyond ss) → (b || is_among n ss) ≡ true
+        → n < max (s.number + 1) (beyond ss)
     go true z ih h = let at = eqb-true s.number n z in omega (arith, at)
     go false z ih h = let less = ih h in omega (arith, less)
 
-missing-at : (fuel n r : ℕ) (ss : List Segment) → n ≤ r → ((k : ℕ) → n ≤ k → k < r → is_among k ss ≡ true) → is_among r ss ≡ false → r ≤ n + fuel → missing_from fuel n ss ≡ r
+missing-at : (fuel n r : ℕ) (ss : List Segment) → n ≤ r → ((k : ℕ) → n ≤ k → k < r → is_among k ss ≡ true) → is_among r ss ≡ false
+    → r ≤ n + fuel → missing_from fuel n ss ≡ r
 missing-at zero n r ss low all stop high = omega (arith, low, high)
-missing-at (suc fuel) n r ss low all stop high = go (is_among n ss) refl (λ l. missing-at fuel (n + 1) r ss l (λ k m h. all k (omega (arith, m)) h) stop (omega (arith, high)))
+missing-at (suc fuel) n r ss low all stop high =
+    go (is_among n ss) refl (λ l. missing-at fuel (n + 1) r ss l (λ k m h. all k (omega (arith, m)) h) stop (omega (arith, high)))
   where
     go : (b : Bool) → is_among n ss ≡ b → (n + 1 ≤ r → missing_from fuel (n + 1) ss ≡ r) → cond b (missing_from fuel (n + 1) ss) n ≡ r
     go true e ih =
@@ -188,11 +204,13 @@ Tracks ss i = TracksIn ss (length i.taken) i.held i.srej
 pub none-tracks : (srej : Bool) → TracksIn [] 0 [] srej
 none-tracks srej = record { below = λ n h. absurd (omega (arith, h)); next = refl; above = λ n h. refl; rising = tt; plain = λ e. refl }
 
-pub as-tracks : (ss : List Segment) (r r' : ℕ) (held held' : List Held) (srej srej' : Bool) → r' ≡ r → held' ≡ held → srej' ≡ srej → TracksIn ss r held srej → TracksIn ss r' held' srej'
+pub as-tracks : (ss : List Segment) (r r' : ℕ) (held held' : List Held) (srej srej' : Bool) → r' ≡ r → held' ≡ held → srej' ≡ srej
+    → TracksIn ss r held srej → TracksIn ss r' held' srej'
 as-tracks ss r r' held held' srej srej' p q e t = rw (p, q, e) t
 
 pub missing-is : (ss : List Segment) (r : ℕ) (held : List Held) (srej : Bool) → TracksIn ss r held srej → missing ss ≡ r
-missing-is ss r held srej t = missing-at (beyond ss) 0 r ss (omega arith) (λ k l h. t.below k h) t.next (high r (λ k h. among-beyond k ss (t.below k h)))
+missing-is ss r held srej t =
+    missing-at (beyond ss) 0 r ss (omega arith) (λ k l h. t.below k h) t.next (high r (λ k h. among-beyond k ss (t.below k h)))
   where
     high : (q : ℕ) → ((k : ℕ) → k < q → k < beyond ss) → q ≤ 0 + beyond ss
     high zero f = omega arith
@@ -202,18 +220,23 @@ missing-is ss r held srej t = missing-at (beyond ss) 0 r ss (omega arith) (λ k 
 pub keeping-again : (srej : Bool) (ss : List Segment) (s : Segment) → is_among s.number ss ≡ true → keeping srej ss s ≡ ss
 keeping-again srej ss s e = ap (λ b. cond b ss (cond (srej || nat_eq s.number (missing ss)) (ss ++ s ∷ []) ss)) e
 
-keeping-new : (srej : Bool) (ss : List Segment) (s : Segment) → is_among s.number ss ≡ false → (srej || nat_eq s.number (missing ss)) ≡ true → keeping srej ss s ≡ ss ++ s ∷ []
-keeping-new srej ss s e f = ap (λ b. cond b ss (cond (srej || nat_eq s.number (missing ss)) (ss ++ s ∷ []) ss)) e ∙ ap (λ b. cond b (ss ++ s ∷ []) ss) f
+keeping-new : (srej : Bool) (ss : List Segment) (s : Segment) → is_among s.number ss ≡ false → (srej || nat_eq s.number (missing ss)) ≡ true
+    → keeping srej ss s ≡ ss ++ s ∷ []
+keeping-new srej ss s e f =
+    ap (λ b. cond b ss (cond (srej || nat_eq s.number (missing ss)) (ss ++ s ∷ []) ss)) e ∙ ap (λ b. cond b (ss ++ s ∷ []) ss) f
 
-keeping-none : (srej : Bool) (ss : List Segment) (s : Segment) → is_among s.number ss ≡ false → (srej || nat_eq s.number (missing ss)) ≡ false → keeping srej ss s ≡ ss
-keeping-none srej ss s e f = ap (λ b. cond b ss (cond (srej || nat_eq s.number (missing ss)) (ss ++ s ∷ []) ss)) e ∙ ap (λ b. cond b (ss ++ s ∷ []) ss) f
+keeping-none : (srej : Bool) (ss : List Segment) (s : Segment) → is_among s.number ss ≡ false
+    → (srej || nat_eq s.number (missing ss)) ≡ false → keeping srej ss s ≡ ss
+keeping-none srej ss s e f =
+    ap (λ b. cond b ss (cond (srej || nat_eq s.number (missing ss)) (ss ++ s ∷ []) ss)) e ∙ ap (λ b. cond b (ss ++ s ∷ []) ss) f
 
 pub record SameTaken (i j : Incoming) : Type 0 where
   pub taken : j.taken ≡ i.taken
   pub held : j.held ≡ i.held
   pub srej : j.srej ≡ i.srej
 
-idle-kind : (kind : Took) (o : ℕ) (info : List ℕ) (i : Incoming) → (kind ≡ InOrder → ⊥) → (kind ≡ Kept → ⊥) → SameTaken i (after_kind kind o info i)
+idle-kind : (kind : Took) (o : ℕ) (info : List ℕ) (i : Incoming) → (kind ≡ InOrder → ⊥) → (kind ≡ Kept → ⊥)
+    → SameTaken i (after_kind kind o info i)
 idle-kind InOrder o info i h k = absurd (h refl)
 idle-kind Kept o info i h k = absurd (k refl)
 idle-kind Repeat o info i h k = record { taken = refl; held = refl; srej = refl }
@@ -229,27 +252,36 @@ in-order ss r held srej s t e =
     let m = r + 1 + length (run_from (r + 1) held) in
     record {
       below = λ n h. among-more n ss s ∙ below-m n h (nat_lt n r) refl (nat_eq n r) refl;
-      next = among-more m ss s ∙ or-both-false (is_among m ss) (nat_eq s.number m) (t.above m (omega arith) ∙ run-stops (r + 1) held t.rising) (same-not s.number m (λ z. omega (arith, z, e)));
-      above = λ n h. among-more n ss s ∙ or-right-false (is_among n ss) (nat_eq s.number n) (same-not s.number n (λ z. omega (arith, z, e, h))) ∙ t.above n (omega (arith, h)) ∙ sym (rest-held (r + 1) n held (omega (arith, h)));
+      next = among-more m ss s
+          ∙ or-both-false (is_among m ss) (nat_eq s.number m) (t.above m (omega arith) ∙ run-stops (r + 1) held t.rising)
+          (same-not s.number m (λ z. omega (arith, z, e)));
+      above = λ n h. among-more n ss s
+          ∙ or-right-false (is_among n ss) (nat_eq s.number n) (same-not s.number n (λ z. omega (arith, z, e, h)))
+          ∙ t.above n (omega (arith, h)) ∙ sym (rest-held (r + 1) n held (omega (arith, h)));
       rising = rest-rises (r + 1) held t.rising;
       plain = λ z. ap (rest_from (r + 1)) (t.plain z);
     }
   where
-    below-m : (n : ℕ) → n < r + 1 + length (run_from (r + 1) held) → (b : Bool) → nat_lt n r ≡ b → (c : Bool) → nat_eq n r ≡ c → (is_among n ss || nat_eq s.number n) ≡ true
+    below-m : (n : ℕ) → n < r + 1 + length (run_from (r + 1) held) → (b : Bool) → nat_lt n r ≡ b → (c : Bool) → nat_eq n r ≡ c
+        → (is_among n ss || nat_eq s.number n) ≡ true
     below-m n h true z c y = or-true-left (is_among n ss) (nat_eq s.number n) (t.below n (grind (arith, nat_tests)))
-    below-m n h false z true y = let at = eqb-true n r y in or-true-right (is_among n ss) (nat_eq s.number n) (same-is s.number n (e ∙ sym at))
+    below-m n h false z true y = let at = eqb-true n r y in
+        or-true-right (is_among n ss) (nat_eq s.number n) (same-is s.number n (e ∙ sym at))
     below-m n h false z false y =
         let not-less : r ≤ n = grind (arith, nat_tests) in
         let other : n ≢ r = (λ q. false≢true (sym y ∙ same-is n r q)) in
-        or-true-left (is_among n ss) (nat_eq s.number n) (t.above n (omega (arith, not-less, other)) ∙ run-held (r + 1) n held (omega (arith, not-less, other)) h)
+        or-true-left (is_among n ss) (nat_eq s.number n)
+        (t.above n (omega (arith, not-less, other)) ∙ run-held (r + 1) n held (omega (arith, not-less, other)) h)
 
 -- a later one that is held
-kept-later : (ss : List Segment) (r : ℕ) (held : List Held) (s : Segment) (srej : Bool) → srej ≡ true → TracksIn ss r held srej → r < s.number → is_held s.number held ≡ false
+kept-later : (ss : List Segment) (r : ℕ) (held : List Held) (s : Segment) (srej : Bool) → srej ≡ true → TracksIn ss r held srej
+    → r < s.number → is_held s.number held ≡ false
     → TracksIn (ss ++ s ∷ []) r (with_held (record { number = s.number; info = s.info }) held) srej
 kept-later ss r held s srej on t h not = record {
   below = λ n l. among-more n ss s ∙ or-true-left (is_among n ss) (nat_eq s.number n) (t.below n l);
   next = among-more r ss s ∙ or-both-false (is_among r ss) (nat_eq s.number r) t.next (same-not s.number r (λ z. omega (arith, z, h)));
-  above = λ n l. among-more n ss s ∙ ap (λ b. b || nat_eq s.number n) (t.above n l) ∙ or-swap (is_held n held) (nat_eq s.number n) ∙ sym (with-held (record { number = s.number; info = s.info }) n held);
+  above = λ n l. among-more n ss s ∙ ap (λ b. b || nat_eq s.number n) (t.above n l) ∙ or-swap (is_held n held) (nat_eq s.number n)
+      ∙ sym (with-held (record { number = s.number; info = s.info }) n held);
   rising = with-rises (r + 1) (record { number = s.number; info = s.info }) held t.rising (omega (arith, h)) not;
   plain = λ z. absurd (false≢true (sym z ∙ on));
 }
@@ -276,13 +308,17 @@ not-kept i o e k = go (nat_eq o 0) (nat_lt o i.window) i.srej (is_held (next_exp
     go false true false d z k = omega (arith, ap number k)
     go false false c d z k = omega (arith, ap number k)
 
-kind-ahead : (i : Incoming) (o : ℕ) → 1 ≤ o → o < i.window → i.srej ≡ true → kind_at i o ≡ cond (is_held (next_expected i + o) i.held) Repeat Kept
-kind-ahead i o some near on = go (nat_eq o 0) (nat_lt o i.window) i.srej (same-not o 0 (λ z. omega (arith, z, some))) (grind (arith, nat_tests)) on
+kind-ahead : (i : Incoming) (o : ℕ) → 1 ≤ o → o < i.window → i.srej ≡ true
+    → kind_at i o ≡ cond (is_held (next_expected i + o) i.held) Repeat Kept
+kind-ahead i o some near on =
+    go (nat_eq o 0) (nat_lt o i.window) i.srej (same-not o 0 (λ z. omega (arith, z, some))) (grind (arith, nat_tests)) on
   where
     d : Took
     d = cond (is_held (next_expected i + o) i.held) Repeat Kept
 
-    go : (a b c : Bool) → a ≡ false → b ≡ true → c ≡ true → cond a InOrder (cond b (cond c (cond (is_held (next_expected i + o) i.held) Repeat Kept) Gap) Repeat) ≡ cond (is_held (next_expected i + o) i.held) Repeat Kept
+    go : (a b c : Bool) → a ≡ false → b ≡ true → c ≡ true
+        → cond a InOrder (cond b (cond c (cond (is_held (next_expected i + o) i.held) Repeat Kept) Gap) Repeat) ≡ cond
+        (is_held (next_expected i + o) i.held) Repeat Kept
     go false true true x y z = refl
     go true b c x y z = absurd (false≢true (sym x))
     go false false c x y z = absurd (false≢true y)
@@ -292,19 +328,23 @@ ahead : (i : Incoming) (n : ℕ) → next_expected i ≤ n → n < next_expected
 ahead i n low high = omega (arith, low, high)
 
 -- one segment comes
-pub one-comes : (srej : Bool) (ss : List Segment) (i : Incoming) (s : Segment) (ns : ℕ) → Tracks ss i → srej ≡ i.srej → IsTakenBy i ns s.number → ns ≡ s.number % 128 → s.number < length i.taken + i.window → i.window ≤ 127
+pub one-comes : (srej : Bool) (ss : List Segment) (i : Incoming) (s : Segment) (ns : ℕ) → Tracks ss i → srej ≡ i.srej
+    → IsTakenBy i ns s.number → ns ≡ s.number % 128 → s.number < length i.taken + i.window → i.window ≤ 127
     → Tracks (keeping srej ss s) (after_take ns s.info i)
-one-comes srej ss i s ns t on by spelled near width = go (nat_lt s.number (length i.taken)) refl (nat_eq s.number (length i.taken)) refl i.srej refl
+one-comes srej ss i s ns t on by spelled near width =
+    go (nat_lt s.number (length i.taken)) refl (nat_eq s.number (length i.taken)) refl i.srej refl
   where
     r : ℕ
     r = length i.taken
 
-    still : (s.number ≢ length i.taken) → (kind_of ns i ≡ Kept → ⊥) → keeping srej ss s ≡ ss → Tracks (keeping srej ss s) (after_take ns s.info i)
+    still : (s.number ≢ length i.taken) → (kind_of ns i ≡ Kept → ⊥) → keeping srej ss s ≡ ss
+        → Tracks (keeping srej ss s) (after_take ns s.info i)
     still other not-k same =
         subst (λ l. Tracks l (after_take ns s.info i)) (sym same)
         (same-tracks ss i (after_take ns s.info i) (idle-kind (kind_of ns i) (offset i ns) s.info i (λ z. other (by.0 z)) not-k) t)
 
-    later-held : length i.taken < s.number → i.srej ≡ true → (b : Bool) → is_held s.number i.held ≡ b → Tracks (keeping srej ss s) (after_take ns s.info i)
+    later-held : length i.taken < s.number → i.srej ≡ true → (b : Bool) → is_held s.number i.held ≡ b
+        → Tracks (keeping srej ss s) (after_take ns s.info i)
     later-held less sr true h = still (λ z. omega (arith, z, less)) not-k (keeping-again srej ss s (t.above s.number less ∙ h))
       where
         off : offset i ns ≡ s.number - length i.taken
@@ -312,7 +352,8 @@ one-comes srej ss i s ns t on by spelled near width = go (nat_lt s.number (lengt
 
         kind-is : kind_of ns i ≡ Repeat
         kind-is = kind-ahead i (offset i ns) (omega (arith, off, less)) (omega (arith, off, less, near)) sr
-            ∙ ap (λ m. cond (is_held m i.held) Repeat Kept) (let z : length i.taken + offset i ns ≡ s.number = omega (arith, off, less) in z) ∙ ap (λ b. cond b Repeat Kept) h
+            ∙ ap (λ m. cond (is_held m i.held) Repeat Kept)
+            (let z : length i.taken + offset i ns ≡ s.number = omega (arith, off, less) in z) ∙ ap (λ b. cond b Repeat Kept) h
 
         number : Took → ℕ
         number InOrder = 0
@@ -323,11 +364,15 @@ one-comes srej ss i s ns t on by spelled near width = go (nat_lt s.number (lengt
         not-k : kind_of ns i ≡ Kept → ⊥
         not-k z = omega (arith, ap number (sym kind-is ∙ z))
     later-held less sr false h =
-        let off : offset i ns ≡ s.number - length i.taken = ap (offset i) spelled ∙ ahead i s.number (omega (arith, less)) (omega (arith, near, width)) in
+        let off : offset i ns ≡ s.number - length i.taken =
+        ap (offset i) spelled ∙ ahead i s.number (omega (arith, less)) (omega (arith, near, width)) in
         let at : length i.taken + offset i ns ≡ s.number = omega (arith, off, less) in
-        let kind-is : kind_of ns i ≡ Kept = kind-ahead i (offset i ns) (omega (arith, off, less)) (omega (arith, off, less, near)) sr ∙ ap (λ m. cond (is_held m i.held) Repeat Kept) at ∙ ap (λ b. cond b Repeat Kept) h in
+        let kind-is : kind_of ns i ≡ Kept =
+        kind-ahead i (offset i ns) (omega (arith, off, less)) (omega (arith, off, less, near)) sr
+        ∙ ap (λ m. cond (is_held m i.held) Repeat Kept) at ∙ ap (λ b. cond b Repeat Kept) h in
         subst (λ k. Tracks (keeping srej ss s) (after_kind k (offset i ns) s.info i)) (sym kind-is)
-        (subst (λ m. TracksIn (keeping srej ss s) (length i.taken) (with_held (record { number = m; info = s.info }) i.held) i.srej) (sym at)
+        (subst (λ m. TracksIn (keeping srej ss s) (length i.taken) (with_held (record { number = m; info = s.info }) i.held) i.srej)
+        (sym at)
         (subst (λ l. TracksIn l (length i.taken) (with_held (record { number = s.number; info = s.info }) i.held) i.srej)
         (sym (keeping-new srej ss s (t.above s.number less ∙ h) (or-true-left srej (nat_eq s.number (missing ss)) (on ∙ sr))))
         (kept-later ss (length i.taken) i.held s i.srej sr t less h)))
@@ -336,14 +381,19 @@ one-comes srej ss i s ns t on by spelled near width = go (nat_lt s.number (lengt
     next-one e =
         let kind-is = by.1 e in
         let m = missing-is ss (length i.taken) i.held i.srej t in
-        let new = keeping-new srej ss s (ap (λ k. is_among k ss) e ∙ t.next) (or-true-right srej (nat_eq s.number (missing ss)) (same-is s.number (missing ss) (e ∙ sym m))) in
+        let new = keeping-new srej ss s (ap (λ k. is_among k ss) e ∙ t.next)
+        (or-true-right srej (nat_eq s.number (missing ss)) (same-is s.number (missing ss) (e ∙ sym m))) in
         subst (λ k. Tracks (keeping srej ss s) (after_kind k (offset i ns) s.info i)) (sym kind-is)
-        (subst (λ l. TracksIn l (length (i.taken ++ (s.info ∷ run_from (length i.taken + 1) i.held))) (rest_from (length i.taken + 1) i.held) i.srej) (sym new)
-        (as-tracks (ss ++ s ∷ []) (length i.taken + 1 + length (run_from (length i.taken + 1) i.held)) (length (i.taken ++ (s.info ∷ run_from (length i.taken + 1) i.held))) (rest_from (length i.taken + 1) i.held) (rest_from (length i.taken + 1) i.held) i.srej i.srej
+        (subst (λ l. TracksIn l (length (i.taken ++ (s.info ∷ run_from (length i.taken + 1) i.held)))
+        (rest_from (length i.taken + 1) i.held) i.srej) (sym new)
+        (as-tracks (ss ++ s ∷ []) (length i.taken + 1 + length (run_from (length i.taken + 1) i.held))
+        (length (i.taken ++ (s.info ∷ run_from (length i.taken + 1) i.held))) (rest_from (length i.taken + 1) i.held)
+        (rest_from (length i.taken + 1) i.held) i.srej i.srej
         (omega (arith, length-append i.taken (s.info ∷ run_from (length i.taken + 1) i.held))) refl refl
         (in-order ss (length i.taken) i.held i.srej s t e)))
 
-    go : (a : Bool) → nat_lt s.number (length i.taken) ≡ a → (b : Bool) → nat_eq s.number (length i.taken) ≡ b → (c : Bool) → i.srej ≡ c → Tracks (keeping srej ss s) (after_take ns s.info i)
+    go : (a : Bool) → nat_lt s.number (length i.taken) ≡ a → (b : Bool) → nat_eq s.number (length i.taken) ≡ b → (c : Bool) → i.srej ≡ c
+        → Tracks (keeping srej ss s) (after_take ns s.info i)
     go true x b y c z =
         let less : s.number < length i.taken = grind (arith, nat_tests) in
         still (λ q. omega (arith, q, less)) (λ q. omega (arith, (by.2 q).0, less)) (keeping-again srej ss s (t.below s.number less))
@@ -358,17 +408,20 @@ one-comes srej ss i s ns t on by spelled near width = go (nat_lt s.number (lengt
         let not-among : is_among s.number ss ≡ false = t.above s.number (omega (arith, low, other)) ∙ ap (is_held s.number) (t.plain z) in
         let m = missing-is ss (length i.taken) i.held i.srej t in
         still other (λ q. not-kept i (offset i ns) z q)
-        (keeping-none srej ss s not-among (or-both-false srej (nat_eq s.number (missing ss)) (on ∙ z) (same-not s.number (missing ss) (λ q. other (q ∙ m)))))
+        (keeping-none srej ss s not-among
+        (or-both-false srej (nat_eq s.number (missing ss)) (on ∙ z) (same-not s.number (missing ss) (λ q. other (q ∙ m)))))
 
 -- the octets
 abbrev pub AreRight : List (List ℕ) → List Segment → Type 0
 AreRight pieces ss = AllByRecursion (λ (s : Segment). (s.number < length pieces) × (s.info ≡ slice_index_or pieces s.number [])) ss
 
-info-right : (pieces : List (List ℕ)) (n : ℕ) (ss : List Segment) → AreRight pieces ss → is_among n ss ≡ true → info_of n ss ≡ slice_index_or pieces n []
+info-right : (pieces : List (List ℕ)) (n : ℕ) (ss : List Segment) → AreRight pieces ss → is_among n ss ≡ true
+    → info_of n ss ≡ slice_index_or pieces n []
 info-right pieces n [] h e = absurd (false≢true e)
 info-right pieces n (s ∷ ss) h e = go (nat_eq s.number n) refl (info-right pieces n ss h.1) e
   where
-    go : (b : Bool) → nat_eq s.number n ≡ b → (is_among n ss ≡ true → info_of n ss ≡ slice_index_or pieces n []) → (b || is_among n ss) ≡ true → cond b s.info (info_of n ss) ≡ slice_index_or pieces n []
+    go : (b : Bool) → nat_eq s.number n ≡ b → (is_among n ss ≡ true → info_of n ss ≡ slice_index_or pieces n [])
+        → (b || is_among n ss) ≡ true → cond b s.info (info_of n ss) ≡ slice_index_or pieces n []
     go true z ih k = h.0.1 ∙ ap (λ m. slice_index_or pieces m []) (eqb-true s.number n z)
     go false z ih k = ih k
 
@@ -381,20 +434,27 @@ among-within pieces n (s ∷ ss) h e = go (nat_eq s.number n) refl (among-within
     go false z ih k = ih k
 
 -- the first of a list from a place on
-infos-are : (taken rest : List (List ℕ)) (ss : List Segment) (n : ℕ) (done : List (List ℕ)) → length done ≡ n → ((k : ℕ) → n ≤ k → k < n + length taken → info_of k ss ≡ slice_index_or (done ++ (taken ++ rest)) k []) → infos_from (length taken) n ss ≡ taken
+infos-are : (taken rest : List (List ℕ)) (ss : List Segment) (n : ℕ) (done : List (List ℕ)) → length done ≡ n
+    → ((k : ℕ) → n ≤ k → k < n + length taken → info_of k ss ≡ slice_index_or (done ++ (taken ++ rest)) k [])
+    → infos_from (length taken) n ss ≡ taken
 infos-are [] rest ss n done e h = refl
 infos-are (x ∷ taken) rest ss n done e h =
-    let here : info_of n ss ≡ x = h n (omega arith) (omega arith) ∙ ap (λ k. slice_index_or (done ++ (x ∷ (taken ++ rest))) k []) (sym e) ∙ at-seam done x (taken ++ rest) in
+    let here : info_of n ss ≡ x =
+    h n (omega arith) (omega arith) ∙ ap (λ k. slice_index_or (done ++ (x ∷ (taken ++ rest))) k []) (sym e)
+    ∙ at-seam done x (taken ++ rest) in
     let later = infos-are taken rest ss (n + 1) (done ++ x ∷ []) (omega (arith, e, length-append done (x ∷ [])))
-    (λ k l m. h k (omega (arith, l)) (omega (arith, m)) ∙ ap (λ ys. slice_index_or ys k []) (sym (append_assoc done (x ∷ []) (taken ++ rest)))) in
+    (λ k l m. h k (omega (arith, l)) (omega (arith, m))
+    ∙ ap (λ ys. slice_index_or ys k []) (sym (append_assoc done (x ∷ []) (taken ++ rest)))) in
     ap (λ y. y ∷ infos_from (length taken) (n + 1) ss) here ∙ ap (λ ys. x ∷ ys) later
   where
     at-seam : (ys : List (List ℕ)) (z : List ℕ) (zs : List (List ℕ)) → slice_index_or (ys ++ (z ∷ zs)) (length ys) [] ≡ z
     at-seam [] z zs = refl
     at-seam (y ∷ ys) z zs = at-seam ys z zs
 
-pub octets-are : (pieces : List (List ℕ)) (ss : List Segment) (i : Incoming) (rest : List (List ℕ)) → Tracks ss i → AreRight pieces ss → i.taken ++ rest ≡ pieces → octets_in ss ≡ concat i.taken
+pub octets-are : (pieces : List (List ℕ)) (ss : List Segment) (i : Incoming) (rest : List (List ℕ)) → Tracks ss i → AreRight pieces ss
+    → i.taken ++ rest ≡ pieces → octets_in ss ≡ concat i.taken
 octets-are pieces ss i rest t h e =
     let m = missing-is ss (length i.taken) i.held i.srej t in
     ap (λ k. concat (infos_from k 0 ss)) m
-    ∙ ap concat (infos-are i.taken rest ss 0 [] refl (λ k l n. info-right pieces k ss h (t.below k (omega (arith, n))) ∙ ap (λ ys. slice_index_or ys k []) (sym e)))
+    ∙ ap concat (infos-are i.taken rest ss 0 [] refl
+    (λ k l n. info-right pieces k ss h (t.below k (omega (arith, n))) ∙ ap (λ ys. slice_index_or ys k []) (sym e)))

@@ -116,12 +116,14 @@ on-response : (o : Option Offer) (turn : ℕ) (a : Account) → OnCourse (respon
 on-response None turn a = refl
 on-response (Some offer) turn a = refl
 
-detecting : (role : Role) (frame : Frame) (turn : ℕ) (a : Account) → a.phase ≡ Detecting → OnCourse (on_frame_course role a.setup.offer Detecting frame (course a)) (on_detecting role frame turn a)
+detecting : (role : Role) (frame : Frame) (turn : ℕ) (a : Account) → a.phase ≡ Detecting
+    → OnCourse (on_frame_course role a.setup.offer Detecting frame (course a)) (on_detecting role frame turn a)
 detecting Answerer (Xid true pf info) turn a e = on-command (offer_in info) a
 detecting Answerer (Sabme pf) turn a e = refl
 detecting role frame turn a e = refl
 
-negotiating : (role : Role) (frame : Frame) (turn : ℕ) (a : Account) → a.phase ≡ Negotiating → OnCourse (on_frame_course role a.setup.offer Negotiating frame (course a)) (on_negotiating role frame turn a)
+negotiating : (role : Role) (frame : Frame) (turn : ℕ) (a : Account) → a.phase ≡ Negotiating
+    → OnCourse (on_frame_course role a.setup.offer Negotiating frame (course a)) (on_negotiating role frame turn a)
 negotiating Originator (Xid false pf info) turn a e = on-response (offer_in info) turn a
 negotiating Originator (Dm pf) turn a e = tt
 negotiating Answerer (Xid true pf info) turn a e = on-command (offer_in info) a
@@ -129,29 +131,35 @@ negotiating Answerer (Sabme pf) turn a e = refl
 negotiating Answerer (Disc pf) turn a e = refl
 negotiating role frame turn a e = refl
 
-establishing : (role : Role) (frame : Frame) (turn : ℕ) (a : Account) → OnCourse (on_frame_course role a.setup.offer Establishing frame (course a)) (on_establishing frame turn a)
+establishing : (role : Role) (frame : Frame) (turn : ℕ) (a : Account)
+    → OnCourse (on_frame_course role a.setup.offer Establishing frame (course a)) (on_establishing frame turn a)
 establishing role (Ua true) turn a = refl
 establishing role (Dm true) turn a = tt
 establishing role frame turn a = refl
 
-releasing : (role : Role) (frame : Frame) (a : Account) → OnCourse (on_frame_course role a.setup.offer Releasing frame (course a)) (on_releasing frame a)
+releasing : (role : Role) (frame : Frame) (a : Account)
+    → OnCourse (on_frame_course role a.setup.offer Releasing frame (course a)) (on_releasing frame a)
 releasing role (Ua true) a = refl
 releasing role (Dm true) a = refl
 releasing role frame a = refl
 
-closed : (role : Role) (frame : Frame) (a : Account) → OnCourse (on_frame_course role a.setup.offer Closed frame (course a)) (on_closed frame a)
+closed : (role : Role) (frame : Frame) (a : Account)
+    → OnCourse (on_frame_course role a.setup.offer Closed frame (course a)) (on_closed frame a)
 closed role (Disc pf) a = refl
 closed role frame a = refl
 
-numbered : (turn nr : ℕ) (a : Account) (o : Option Outgoing) (asked ended : Bool) → OnCourse (course a) (then_in (λ b. hurrying ended (replying asked b)) (on_number turn nr o a))
+numbered : (turn nr : ℕ) (a : Account) (o : Option Outgoing) (asked ended : Bool)
+    → OnCourse (course a) (then_in (λ b. hurrying ended (replying asked b)) (on_number turn nr o a))
 numbered turn nr a None asked ended = tt
 numbered turn nr a (Some new) asked ended = refl
 
-hushed : (turn nr : ℕ) (a : Account) (o : Option Outgoing) (asked : Bool) → OnCourse (course a) (then_in (λ b. pausing turn (replying asked b)) (on_number turn nr o a))
+hushed : (turn nr : ℕ) (a : Account) (o : Option Outgoing) (asked : Bool)
+    → OnCourse (course a) (then_in (λ b. pausing turn (replying asked b)) (on_number turn nr o a))
 hushed turn nr a None asked = tt
 hushed turn nr a (Some new) asked = refl
 
-segment : (turn ns nr : ℕ) (pf : Bool) (info : List ℕ) (a : Account) (o : Option Outgoing) → OnCourse (course a) (then_in (λ b. replying pf (taking ns info b)) (on_number turn nr o a))
+segment : (turn ns nr : ℕ) (pf : Bool) (info : List ℕ) (a : Account) (o : Option Outgoing)
+    → OnCourse (course a) (then_in (λ b. replying pf (taking ns info b)) (on_number turn nr o a))
 segment turn ns nr pf info a None = tt
 segment turn ns nr pf info a (Some new) = refl
 
@@ -162,7 +170,8 @@ chosen turn nr a (Some new) = refl
 sabme : (pf : Bool) (a : Account) → OnCourse (record (course a) { answer = Some (answers.Ua pf) }) (on_sabme pf a)
 sabme pf a = go (a.numbered || is_originator a.setup.role)
   where
-    go : (b : Bool) → OnCourse (record (course a) { answer = Some (answers.Ua pf) }) (cond b (Err (peer_reset a)) (Ok (owing (answers.Ua pf) a)))
+    go : (b : Bool) → OnCourse (record (course a) { answer = Some (answers.Ua pf) })
+        (cond b (Err (peer_reset a)) (Ok (owing (answers.Ua pf) a)))
     go true = tt
     go false = refl
 
@@ -171,18 +180,22 @@ word turn (Ok (Brk number length_octet)) a = refl
 word turn (Ok (Ack number length_octet)) a = refl
 word turn (Err fault) a = refl
 
-disc : (role : Role) (pf : Bool) (a : Account) → OnCourse (on_frame_course role a.setup.offer Connected (Disc pf) (course a)) (on_disc role pf a)
+disc : (role : Role) (pf : Bool) (a : Account)
+    → OnCourse (on_frame_course role a.setup.offer Connected (Disc pf) (course a)) (on_disc role pf a)
 disc Originator pf a = tt
 disc Answerer pf a = refl
 
-linked : (role : Role) (frame : Frame) (turn : ℕ) (a : Account) → a.setup.role ≡ role → OnCourse (on_frame_course role a.setup.offer Connected frame (course a)) (on_connected frame turn a)
+linked : (role : Role) (frame : Frame) (turn : ℕ) (a : Account) → a.setup.role ≡ role
+    → OnCourse (on_frame_course role a.setup.offer Connected frame (course a)) (on_connected frame turn a)
 linked role (I ns nr pf info) turn a r = segment turn ns nr pf info a (acknowledged nr a.outgoing)
 linked role (Rr command nr pf) turn a r = numbered turn nr a _ (command && pf) (ends_wait command pf a)
 linked role (Rnr command nr pf) turn a r = hushed turn nr a _ (command && pf)
 linked role (Rej command nr pf) turn a r = numbered turn nr a _ (command && pf) (ends_wait command pf a)
 linked role (Srej command nr pf) turn a r = chosen turn nr a (selected nr a.outgoing)
 linked role (Sabme pf) turn a r = sabme pf a
-linked role (Disc pf) turn a r = subst (λ x. OnCourse (on_frame_course x a.setup.offer Connected (Disc pf) (course a)) (on_disc a.setup.role pf a)) r (disc a.setup.role pf a)
+linked role (Disc pf) turn a r =
+    subst (λ x. OnCourse (on_frame_course x a.setup.offer Connected (Disc pf) (course a)) (on_disc a.setup.role pf a)) r
+    (disc a.setup.role pf a)
 linked role (Ua pf) turn a r = refl
 linked role (Dm pf) turn a r = tt
 linked role (Frmr pf info) turn a r = tt
@@ -190,32 +203,43 @@ linked role (Ui command pf info) turn a r = word turn (word_in info) a
 linked role (Xid command pf info) turn a r = refl
 linked role (Test command pf info) turn a r = refl
 
-framed : (p : Phase) (role : Role) (frame : Frame) (turn : ℕ) (a : Account) → a.phase ≡ p → a.setup.role ≡ role → OnCourse (on_frame_course role a.setup.offer p frame (course a)) (on_frame p frame turn a)
-framed Detecting role frame turn a e r = subst (λ x. OnCourse (on_frame_course x a.setup.offer Detecting frame (course a)) (on_detecting a.setup.role frame turn a)) r (detecting a.setup.role frame turn a e)
-framed Negotiating role frame turn a e r = subst (λ x. OnCourse (on_frame_course x a.setup.offer Negotiating frame (course a)) (on_negotiating a.setup.role frame turn a)) r (negotiating a.setup.role frame turn a e)
+framed : (p : Phase) (role : Role) (frame : Frame) (turn : ℕ) (a : Account) → a.phase ≡ p → a.setup.role ≡ role
+    → OnCourse (on_frame_course role a.setup.offer p frame (course a)) (on_frame p frame turn a)
+framed Detecting role frame turn a e r =
+    subst (λ x. OnCourse (on_frame_course x a.setup.offer Detecting frame (course a)) (on_detecting a.setup.role frame turn a)) r
+    (detecting a.setup.role frame turn a e)
+framed Negotiating role frame turn a e r =
+    subst (λ x. OnCourse (on_frame_course x a.setup.offer Negotiating frame (course a)) (on_negotiating a.setup.role frame turn a)) r
+    (negotiating a.setup.role frame turn a e)
 framed Establishing role frame turn a e r = establishing role frame turn a
 framed Connected role frame turn a e r = linked role frame turn a r
 framed Releasing role frame turn a e r = releasing role frame a
 framed Closed role frame turn a e r = closed role frame a
 
-patterned : (role : Role) (seen : Seen) (turn : ℕ) (a : Account) → course (on_pattern role seen turn a) ≡ on_seen_course role Detecting seen (course a)
+patterned : (role : Role) (seen : Seen) (turn : ℕ) (a : Account)
+    → course (on_pattern role seen turn a) ≡ on_seen_course role Detecting seen (course a)
 patterned Originator Adp turn a = refl
 patterned Originator Odp turn a = refl
 patterned Answerer Odp turn a = refl
 patterned Answerer Adp turn a = refl
 
-sighted : (p : Phase) (role : Role) (seen : Seen) (turn : ℕ) (a : Account) → a.setup.role ≡ role → course (on_seen p seen turn a) ≡ on_seen_course role p seen (course a)
-sighted Detecting role seen turn a r = subst (λ x. course (on_pattern a.setup.role seen turn a) ≡ pattern_course x seen (course a)) r (patterned a.setup.role seen turn a)
+sighted : (p : Phase) (role : Role) (seen : Seen) (turn : ℕ) (a : Account) → a.setup.role ≡ role
+    → course (on_seen p seen turn a) ≡ on_seen_course role p seen (course a)
+sighted Detecting role seen turn a r =
+    subst (λ x. course (on_pattern a.setup.role seen turn a) ≡ pattern_course x seen (course a)) r (patterned a.setup.role seen turn a)
 sighted Negotiating role seen turn a r = refl
 sighted Establishing role seen turn a r = refl
 sighted Connected role seen turn a r = refl
 sighted Releasing role seen turn a r = refl
 sighted Closed role seen turn a r = refl
 
-all-heard : (role : Role) (turn : ℕ) (arrived : Arrived) (a : Account) → a.setup.role ≡ role → OnCourse (heard_course role a.setup.offer a.phase arrived (course a)) (hear turn arrived a)
+all-heard : (role : Role) (turn : ℕ) (arrived : Arrived) (a : Account) → a.setup.role ≡ role
+    → OnCourse (heard_course role a.setup.offer a.phase arrived (course a)) (hear turn arrived a)
 all-heard role turn arrivals.Nothing a r = refl
 all-heard role turn (arrivals.Pattern seen) a r = sighted a.phase role seen turn a r
 all-heard role turn (arrivals.Frame frame) a r = framed a.phase role frame turn a refl r
 
-pub course-heard : (role : Role) (turn : ℕ) (arrived : Arrived) (a b : Account) → a.setup.role ≡ role → hear turn arrived a ≡ Ok b → course b ≡ heard_course role a.setup.offer a.phase arrived (course a)
-course-heard role turn arrived a b r e = subst (OnCourse (heard_course role a.setup.offer a.phase arrived (course a))) e (all-heard role turn arrived a r)
+pub course-heard : (role : Role) (turn : ℕ) (arrived : Arrived) (a b : Account) → a.setup.role ≡ role → hear turn arrived a ≡ Ok b
+    → course b ≡ heard_course role a.setup.offer a.phase arrived (course a)
+course-heard role turn arrived a b r e =
+    subst (OnCourse (heard_course role a.setup.offer a.phase arrived (course a))) e (all-heard role turn arrived a r)

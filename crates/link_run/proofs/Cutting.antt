@@ -37,7 +37,8 @@ concat-one pieces p = concat-append pieces (p ∷ []) ∙ ap (λ l. concat piece
 pub times-next : (s n m : ℕ) → m ≡ n + 1 → s * n + s ≡ s * m
 times-next s n m e = rw e (grind arith)
 
-pub next-cut : (file : List ℕ) (o : Outgoing) (p : List ℕ) → 1 ≤ o.size → IsCut file o.size o.pieces o.ended → p ≡ take o.size (drop (o.size * length o.pieces) file)
+pub next-cut : (file : List ℕ) (o : Outgoing) (p : List ℕ) → 1 ≤ o.size → IsCut file o.size o.pieces o.ended
+    → p ≡ take o.size (drop (o.size * length o.pieces) file)
     → IsCut file o.size (with_piece p o).pieces (with_piece p o).ended
 next-cut file o [] some h e =
     let n = o.size * length o.pieces in
@@ -46,24 +47,30 @@ next-cut file o [] some h e =
 next-cut file o (x ∷ xs) some h e =
     let n = o.size * length o.pieces in
     let p = x ∷ xs in
-    let joined : concat (o.pieces ++ p ∷ []) ≡ take (n + o.size) file = concat-one o.pieces p ∙ ap (λ l. l ++ p) h.begins ∙ ap (λ l. take n file ++ l) e ∙ sym (take-add n o.size file) in
+    let joined : concat (o.pieces ++ p ∷ []) ≡ take (n + o.size) file =
+    concat-one o.pieces p ∙ ap (λ l. l ++ p) h.begins ∙ ap (λ l. take n file ++ l) e ∙ sym (take-add n o.size file) in
     record {
-      begins = joined ∙ ap (λ m. take m file) (times-next o.size (length o.pieces) (length (o.pieces ++ p ∷ [])) (length-append o.pieces (p ∷ [])));
+      begins = joined ∙ ap (λ m. take m file)
+          (times-next o.size (length o.pieces) (length (o.pieces ++ p ∷ [])) (length-append o.pieces (p ∷ [])));
       whole = λ z.
           let less : length p < o.size = grind (arith, nat_tests) in
           let all : length (drop n file) ≤ o.size = short-take o.size (drop n file) (subst (λ l. length l < o.size) e less) in
           joined ∙ take_all (n + o.size) file (omega (arith, all, length-drop n file));
       more = λ z.
           let full : o.size ≤ length p = grind (arith, nat_tests) in
-          let has : o.size ≤ length (drop n file) = omega (arith, subst (λ l. o.size ≤ length l) e full, length-take o.size (drop n file)) in
+          let has : o.size ≤ length (drop n file) =
+          omega (arith, subst (λ l. o.size ≤ length l) e full, length-take o.size (drop n file)) in
           let reach : n + o.size ≤ length file = omega (arith, has, some, length-drop n file) in
-          subst (λ m. m ≤ length file) (times-next o.size (length o.pieces) (length (o.pieces ++ p ∷ [])) (length-append o.pieces (p ∷ []))) reach;
+          subst (λ m. m ≤ length file)
+          (times-next o.size (length o.pieces) (length (o.pieces ++ p ∷ [])) (length-append o.pieces (p ∷ []))) reach;
     }
 
 pub fresh-cuts : (file : List ℕ) (setup : Setup) → IsAllowed setup.offer → IsOffered file (fresh setup)
-fresh-cuts file setup h = record { allowed = h; terms = (omega arith, omega arith); size = λ z. absurd (false≢true z); cut = none-cut file 0 }
+fresh-cuts file setup h =
+    record { allowed = h; terms = (omega arith, omega arith); size = λ z. absurd (false≢true z); cut = none-cut file 0 }
 
-pub as-cut : (file : List ℕ) (s s' : ℕ) (ps ps' : List (List ℕ)) (e e' : Bool) → s' ≡ s → ps' ≡ ps → e' ≡ e → IsCut file s ps e → IsCut file s' ps' e'
+pub as-cut : (file : List ℕ) (s s' : ℕ) (ps ps' : List (List ℕ)) (e e' : Bool) → s' ≡ s → ps' ≡ ps → e' ≡ e → IsCut file s ps e
+    → IsCut file s' ps' e'
 as-cut file s s' ps ps' e e' p q r h = rw (p, q, r) h
 
 size-of : (r : Role) (t : Terms) → AreTerms t → 1 ≤ size_for r t
@@ -91,7 +98,8 @@ heard-cuts file a b h (inl s) = record {
   allowed = subst (λ (k : Books). IsAllowed k.setup.offer) (sym s.books_are) h.allowed;
   terms = s.terms h.allowed h.terms;
   size = λ z. subst (λ n. 1 ≤ n) (sym s.size) (h.size (stage-linked a.phase (linked (linked-stage b.phase z))));
-  cut = as-cut file a.outgoing.size b.outgoing.size a.outgoing.pieces b.outgoing.pieces a.outgoing.ended b.outgoing.ended s.size (ap (λ (k : Books). k.pieces) s.books_are) (ap (λ (k : Books). k.ended) s.books_are) h.cut;
+  cut = as-cut file a.outgoing.size b.outgoing.size a.outgoing.pieces b.outgoing.pieces a.outgoing.ended b.outgoing.ended s.size
+      (ap (λ (k : Books). k.pieces) s.books_are) (ap (λ (k : Books). k.ended) s.books_are) h.cut;
 }
   where
     go : (n m : ℕ) → n ≤ m → m ≡ 1 → (n ≡ 0 → m ≡ 0) → n ≡ 1
@@ -106,7 +114,8 @@ heard-cuts file a b h (inr e) =
       allowed = subst (λ (x : Setup). IsAllowed x.offer) (sym e.setup) h.allowed;
       terms = terms;
       size = λ z. subst (λ (o : Outgoing). 1 ≤ o.size) (sym e.outgoing_is) (size-of b.setup.role b.terms terms);
-      cut = subst (λ (o : Outgoing). IsCut file o.size o.pieces o.ended) (sym e.outgoing_is) (none-cut file (size_for b.setup.role b.terms));
+      cut = subst (λ (o : Outgoing). IsCut file o.size o.pieces o.ended) (sym e.outgoing_is)
+          (none-cut file (size_for b.setup.role b.terms));
     }
 
 wanted-is : (o : Outgoing) (n : ℕ) → wanted o ≡ Some n → n ≡ length o.pieces
@@ -149,12 +158,14 @@ offered-cuts-at file a (Some n) e h =
     let w = wants-are a n e in
     let some = h.size w.linked in
     let p = piece_at (piece_size a) file n in
-    let is : p ≡ take a.outgoing.size (drop (a.outgoing.size * length a.outgoing.pieces) file) = rw (piece-size-is a w.linked, w.number) refl in
+    let is : p ≡ take a.outgoing.size (drop (a.outgoing.size * length a.outgoing.pieces) file) =
+    rw (piece-size-is a w.linked, w.number) refl in
     record {
       allowed = h.allowed;
       terms = h.terms;
       size = λ z. subst (λ m. 1 ≤ m) (sym (piece-sizes p a.outgoing)) some;
-      cut = as-cut file a.outgoing.size (with_piece p a.outgoing).size (with_piece p a.outgoing).pieces (with_piece p a.outgoing).pieces (with_piece p a.outgoing).ended (with_piece p a.outgoing).ended
+      cut = as-cut file a.outgoing.size (with_piece p a.outgoing).size (with_piece p a.outgoing).pieces (with_piece p a.outgoing).pieces
+          (with_piece p a.outgoing).ended (with_piece p a.outgoing).ended
           (piece-sizes p a.outgoing) refl refl (next-cut file a.outgoing p some h.cut is);
     }
 
@@ -169,15 +180,18 @@ delivered-cuts file a h = go (is_connected a.phase)
     go true = record { allowed = h.allowed; terms = h.terms; size = h.size; cut = h.cut }
     go false = h
 
-pub served-cuts : (u : User) (turn : ℕ) (released : Bool) (a : Account) → IsOffered u.file a → IsOffered u.file (served u turn released a).account
+pub served-cuts : (u : User) (turn : ℕ) (released : Bool) (a : Account) → IsOffered u.file a
+    → IsOffered u.file (served u turn released a).account
 served-cuts u turn released a h =
     let d = delivered-cuts u.file a h in
     let g : IsOffered u.file (after_given (delivered a)) = record { allowed = d.allowed; terms = d.terms; size = d.size; cut = d.cut } in
     let o = offered-cuts (room_for (after_given (delivered a))) u.file (after_given (delivered a)) g in
     let c = offered u.file (after_given (delivered a)) in
     let busy = is_busy turn u.busy in
-    let b : IsOffered u.file (after_busy busy c) = subst (IsOffered u.file) (sym (busy-alone busy c)) (record { allowed = o.allowed; terms = o.terms; size = o.size; cut = o.cut }) in
-    subst (IsOffered u.file) (sym (asks-alone turn released u.breaks (after_busy busy c))) (record { allowed = b.allowed; terms = b.terms; size = b.size; cut = b.cut })
+    let b : IsOffered u.file (after_busy busy c) =
+    subst (IsOffered u.file) (sym (busy-alone busy c)) (record { allowed = o.allowed; terms = o.terms; size = o.size; cut = o.cut }) in
+    subst (IsOffered u.file) (sym (asks-alone turn released u.breaks (after_busy busy c)))
+    (record { allowed = b.allowed; terms = b.terms; size = b.size; cut = b.cut })
 
 pub spoken-cuts : (file : List ℕ) (release : Bool) (a b : Account) → IsOffered file a → Speaks release a b → IsOffered file b
 spoken-cuts file release a b h (Keeps_on e) = record {
@@ -194,9 +208,11 @@ spoken-cuts file release a b h (Releases on role linked e k) = record {
 }
 
 -- segments that begin those that were offered begin the file
-pub begins-file : (file : List ℕ) (a : Account) (taken : List (List ℕ)) → IsOffered file a → IsPrefixOf taken a.outgoing.pieces → IsPrefixOf (concat taken) file
+pub begins-file : (file : List ℕ) (a : Account) (taken : List (List ℕ)) → IsOffered file a → IsPrefixOf taken a.outgoing.pieces
+    → IsPrefixOf (concat taken) file
 begins-file file a taken h p =
     let n = a.outgoing.size * length a.outgoing.pieces in (
       concat p.0 ++ drop n file,
-      sym (append_assoc (concat taken) (concat p.0) (drop n file)) ∙ ap (λ l. l ++ drop n file) (sym (concat-append taken p.0) ∙ ap concat p.1 ∙ h.cut.begins) ∙ take-append-drop n file,
+      sym (append_assoc (concat taken) (concat p.0) (drop n file))
+          ∙ ap (λ l. l ++ drop n file) (sym (concat-append taken p.0) ∙ ap concat p.1 ∙ h.cut.begins) ∙ take-append-drop n file,
     )

@@ -48,7 +48,8 @@ abbrev AllDeclare : Phase → Account → Option Said → Type 0
 AllDeclare p a None = Unit {0}
 AllDeclare p a (Some said) = Declares p a said
 
-else-says : (p : Phase) (a : Account) (o : Option Said) (said : Said) → AllDeclare p a o → Declares p a said → Declares p a (else_says o said)
+else-says : (p : Phase) (a : Account) (o : Option Said) (said : Said) → AllDeclare p a o → Declares p a said
+    → Declares p a (else_says o said)
 else-says p a None said h k = k
 else-says p a (Some first) said h k = h
 
@@ -80,7 +81,8 @@ words p (Some w) a = record { own = tt; left = inl refl }
 told : (p : Phase) (command pf : Bool) (a b : Account) → b.owes.answer ≡ a.owes.answer → Declares p a (tells command pf b)
 told p command pf a b o = go b.owes.busy
   where
-    go : (busy : Bool) → Declares p a (says_frame (ready_frame busy command (nr_of b) pf) (telling (record b { owes = record b.owes { busy_told = busy } })))
+    go : (busy : Bool) → Declares p a
+        (says_frame (ready_frame busy command (nr_of b) pf) (telling (record b { owes = record b.owes { busy_told = busy } })))
     go true = record { own = tt; left = inl o }
     go false = record { own = tt; left = inl o }
 
@@ -91,7 +93,8 @@ asking p false special (Some n) a = record { own = tt; left = inl refl }
 asking p true true (Some n) a = tt
 asking p true false (Some n) a = record { own = tt; left = inl refl }
 
-sixth : (p : Phase) (special news busy : Bool) (a : Account) → AllDeclare p a (cond news (Some (tells false false a)) (cond busy None (says_asking a.incoming.srej special (asks a.incoming) a)))
+sixth : (p : Phase) (special news busy : Bool) (a : Account)
+    → AllDeclare p a (cond news (Some (tells false false a)) (cond busy None (says_asking a.incoming.srej special (asks a.incoming) a)))
 sixth p special true busy a = told p false false a a refl
 sixth p special false true a = tt
 sixth p special false false a = asking p a.incoming.srej special (asks a.incoming) a
@@ -107,7 +110,8 @@ fourth p turn false a = tt
 all : (p : Phase) (turn : ℕ) (special : Bool) (a : Account) → Declares p a (steps turn special a)
 all p turn special a =
     else-says p a (step1 a) _ (due p a.owes.answer a refl)
-    (else-says p a (step2 a) _ (where-says p a a.owes.reply _ (told p false true a (record a { owes = record a.owes { reply = false } }) refl))
+    (else-says p a (step2 a) _
+    (where-says p a a.owes.reply _ (told p false true a (record a { owes = record a.owes { reply = false } }) refl))
     (else-says p a (step3 a) _ (where-says p a a.wait.poll _ (told p true true a (record a { wait = record a.wait { poll = false } }) refl))
     (else-says p a (step4 turn a) _ (fourth p turn a.wait.urgent a)
     (else-says p a (step5 special a) _ (fifth p special a)
@@ -158,7 +162,8 @@ as-declared p a b said h k = record {
   left = by k.left;
 }
   where
-    by : (said.account.owes.answer ≡ b.owes.answer) ⊎ (said.account.owes.answer ≡ None) → (said.account.owes.answer ≡ a.owes.answer) ⊎ (said.account.owes.answer ≡ None)
+    by : (said.account.owes.answer ≡ b.owes.answer) ⊎ (said.account.owes.answer ≡ None)
+        → (said.account.owes.answer ≡ a.owes.answer) ⊎ (said.account.owes.answer ≡ None)
     by (inl e) = inl (e ∙ h.answer)
     by (inr e) = inr e
 
@@ -166,17 +171,20 @@ links : (p : Phase) (turn : ℕ) (a : Account) → IfDeclares p a (speak_linked 
 links p turn a = go (then_tries turn (on_timer turn a)) (both-timed turn a (on_timer turn a) (timed turn a))
   where
     go : (r : Result Account LinkFault) → IfAlike a r → IfDeclares p a (after_timers turn a.special r)
-    go (Ok b) h = as-declared p a (record b { special = false }) _ (record { answer = h.answer; setup = h.setup }) (all p turn a.special (record b { special = false }))
+    go (Ok b) h = as-declared p a (record b { special = false }) _ (record { answer = h.answer; setup = h.setup })
+        (all p turn a.special (record b { special = false }))
     go (Err fault) h = tt
 
 -- a U try
 tried : (p : Phase) (frame : Frame) (a : Account) → OwnFrame a.setup a.owes.answer p frame → Declares p a (tries_frame frame a)
-tried p frame a h = else-says p a (where_says a.wait.try _) _ (where-says p a a.wait.try _ (record { own = h; left = inl refl })) (record { own = tt; left = inl refl })
+tried p frame a h = else-says p a (where_says a.wait.try _) _ (where-says p a a.wait.try _ (record { own = h; left = inl refl }))
+    (record { own = tt; left = inl refl })
 
 u : (p : Phase) (turn : ℕ) (frame : Frame) (a : Account) → OwnFrame a.setup a.owes.answer p frame → IfDeclares p a (u_try turn frame a)
 u p turn frame a h = go (nat_eq turn (a.wait.try_set + a.setup.period)) (nat_eq a.wait.try_count a.setup.tries)
   where
-    go : (b e : Bool) → IfDeclares p a (cond b (cond e (Err (spent turn a)) (Ok (tries_frame frame (trying_again turn a)))) (Ok (tries_frame frame a)))
+    go : (b e : Bool) → IfDeclares p a
+        (cond b (cond e (Err (spent turn a)) (Ok (tries_frame frame (trying_again turn a)))) (Ok (tries_frame frame a)))
     go true true = tt
     go true false = as-declared p a (trying_again turn a) _ (record { answer = refl; setup = refl }) (tried p frame (trying_again turn a) h)
     go false e = tried p frame a h
@@ -187,10 +195,13 @@ detects Originator turn a = go (nat_le ((a.setup.tries + 1) * a.setup.period) tu
     go : (b : Bool) → IfDeclares Detecting a (cond b (Err NotDetected) (Ok (says slots.Odp a)))
     go true = tt
     go false = record { own = tt; left = inl refl }
-detects Answerer turn a = else-says Detecting a (answering a.owes.answer a) (says slots.Mark a) (due Detecting a.owes.answer a refl) (record { own = tt; left = inl refl })
+detects Answerer turn a =
+    else-says Detecting a (answering a.owes.answer a) (says slots.Mark a) (due Detecting a.owes.answer a refl)
+    (record { own = tt; left = inl refl })
 
 answers-due : (p : Phase) (a : Account) → IfDeclares p a (speak_answer a)
-answers-due p a = else-says p a (answering a.owes.answer a) (says slots.Flags a) (due p a.owes.answer a refl) (record { own = tt; left = inl refl })
+answers-due p a = else-says p a (answering a.owes.answer a) (says slots.Flags a) (due p a.owes.answer a refl)
+    (record { own = tt; left = inl refl })
 
 negotiates : (role : Role) (turn : ℕ) (a : Account) → a.setup.role ≡ role → IfDeclares Negotiating a (speak_negotiating role turn a)
 negotiates Originator turn a e = u Negotiating turn (Xid true false (written a.setup.offer)) a (refl, refl, e)
@@ -203,7 +214,8 @@ released turn a = go (speak_releasing turn (trying Releasing turn a)) (u Connect
     go (Ok said) h = as-declared Connected a (trying Releasing turn a) said (record { answer = refl; setup = refl }) h
     go (Err fault) h = tt
 
-connects : (turn : ℕ) (b : Bool) (a : Account) → IfDeclares Connected a (cond b (speak_releasing turn (trying Releasing turn a)) (speak_linked turn a))
+connects : (turn : ℕ) (b : Bool) (a : Account)
+    → IfDeclares Connected a (cond b (speak_releasing turn (trying Releasing turn a)) (speak_linked turn a))
 connects turn true a = released turn a
 connects turn false a = links Connected turn a
 

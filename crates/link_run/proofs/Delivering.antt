@@ -64,14 +64,17 @@ heard-blank a b h (inl s) = record {
 heard-blank a b h (inr e) = record { taken = λ z. absurd (omega (arith, z, ap stage e.is)) }
 
 pub spoken-blank : (release : Bool) (a b : Account) → Blank a → Speaks release a b → Blank b
-spoken-blank release a b h (Keeps_on e) = record { taken = λ z. ap (λ (l : Ledger). l.taken) e ∙ h.taken (sym (ap (λ (l : Ledger). stage l.phase) e) ∙ z) }
-spoken-blank release a b h (Releases on role linked e k) = record { taken = λ z. absurd (omega (arith, z, ap (λ (l : Ledger). stage l.phase) e)) }
+spoken-blank release a b h (Keeps_on e) =
+    record { taken = λ z. ap (λ (l : Ledger). l.taken) e ∙ h.taken (sym (ap (λ (l : Ledger). stage l.phase) e) ∙ z) }
+spoken-blank release a b h (Releases on role linked e k) =
+    record { taken = λ z. absurd (omega (arith, z, ap (λ (l : Ledger). stage l.phase) e)) }
 
 pub blank-kept : (link : Link) → IsKept IsBlank link
 blank-kept link = record {
   begins = λ r. record { taken = λ z. refl };
   hears = λ r a b h g. heard-blank a b h g;
-  serves = λ r turn released a h. let s = serving-leaves (of r link).user turn released a in record { taken = λ z. s.taken ∙ h.taken (sym (ap stage s.phase) ∙ z) };
+  serves = λ r turn released a h. let s = serving-leaves (of r link).user turn released a in
+      record { taken = λ z. s.taken ∙ h.taken (sym (ap stage s.phase) ∙ z) };
   speaks = λ r release a b h g. spoken-blank release a b h g;
 }
 
@@ -91,7 +94,10 @@ pub delivers-came : (a b : Account) → Handed a → Blank a → GoesOn a b → 
 delivers-came a b h k (inl s) = go (is_connected b.phase) refl
   where
     go : (c : Bool) → is_connected b.phase ≡ c → b.incoming.taken ≡ a.incoming.taken ++ cond c (drop b.incoming.given b.incoming.taken) []
-    go true e = s.taken_are ∙ ap (λ l. a.incoming.taken ++ l) (sym (drop-front a.incoming.taken s.taken b.incoming.taken b.incoming.given s.taken_are (ap (λ (x : Books). x.given) s.books_are ∙ h.given)))
+    go true e = s.taken_are
+        ∙ ap (λ l. a.incoming.taken ++ l)
+        (sym (drop-front a.incoming.taken s.taken b.incoming.taken b.incoming.given s.taken_are
+        (ap (λ (x : Books). x.given) s.books_are ∙ h.given)))
     go false e = s.taken_are ∙ ap (λ l. a.incoming.taken ++ l) (s.idle (unlinked-stage b.phase e)).0
 delivers-came a b h k (inr e) = go (is_connected b.phase)
   where
@@ -111,7 +117,8 @@ delivers-came a b h k (inr e) = go (is_connected b.phase)
 
 pub hearings_deliver : ReadsAllowed → KeepsTaken → HearingsDeliver
 hearings_deliver reads keeps link ts before t mid h k r =
-    delivers-came (of r before) (of r mid) (run-handed reads keeps link ts before h r) (kept-run reads keeps IsBlank link (blank-kept link) ts before h r)
+    delivers-came (of r before) (of r mid) (run-handed reads keeps link ts before h r)
+    (kept-run reads keeps IsBlank link (blank-kept link) ts before h r)
     (hears reads keeps (length ts) (arrival (of r t).heard) (of r before) (of r mid) (k r).hears)
 
 pub spoken-taken : (release : Bool) (a b : Account) → Speaks release a b → b.incoming.taken ≡ a.incoming.taken
@@ -126,7 +133,9 @@ pub speaking_takes_nothing : SpeakingTakesNothing
 speaking_takes_nothing link ts before t after g r =
     let turn = length ts in
     let k = g.speaking r in
-    ap (λ (a : Account). a.incoming.taken) k.after_is ∙ spoken-taken (told link turn g.mid r) (served_at link turn g.mid r).account k.said.account (speaks-at link turn g.mid r k.said k.says)
+    ap (λ (a : Account). a.incoming.taken) k.after_is
+    ∙ spoken-taken (told link turn g.mid r) (served_at link turn g.mid r).account k.said.account
+    (speaks-at link turn g.mid r k.said k.says)
     ∙ (serving-leaves (of r link).user turn (is_released g.mid.orig.phase) (of r g.mid)).taken
 
 -- breaks
@@ -137,7 +146,9 @@ few-cases [] told old new e k few = go (nat_lt told (length new)) (grind (arith,
     go : (b : Bool) → b ≡ false → given_in (cond b (Some (slice_index_or new told 0)) None) ≡ []
     go false z = refl
     go true z = absurd (false≢true (sym z))
-few-cases (x ∷ []) told old new e k few = go (nat_lt told (length new)) (let n : told < length new = omega (arith, k, ap length e, length-append old (x ∷ [])) in grind (arith, nat_tests))
+few-cases (x ∷ []) told old new e k few =
+    go (nat_lt told (length new))
+    (let n : told < length new = omega (arith, k, ap length e, length-append old (x ∷ [])) in grind (arith, nat_tests))
   where
     at-end : (ys : List ℕ) → slice_index_or (ys ++ x ∷ []) (length ys) 0 ≡ x
     at-end [] = refl
@@ -151,11 +162,15 @@ few-cases (x ∷ y ∷ l) told old new e k few = absurd (omega (arith, few))
 gives-came : (a b : Account) → Handed a → GoesOn a b → b.their_breaks.lengths ≡ a.their_breaks.lengths ++ given_in (given_break b)
 gives-came a b h (inl s) = go (is_connected b.phase) refl
   where
-    inner : given_in (cond (nat_lt b.breaks_told (length b.their_breaks.lengths)) (Some (slice_index_or b.their_breaks.lengths b.breaks_told 0)) None) ≡ s.theirs
-    inner = few-cases s.theirs b.breaks_told a.their_breaks.lengths b.their_breaks.lengths s.theirs_are (ap (λ (x : Books). x.told) s.books_are ∙ h.told) s.few
+    inner : given_in (cond (nat_lt b.breaks_told (length b.their_breaks.lengths))
+        (Some (slice_index_or b.their_breaks.lengths b.breaks_told 0)) None) ≡ s.theirs
+    inner = few-cases s.theirs b.breaks_told a.their_breaks.lengths b.their_breaks.lengths s.theirs_are
+        (ap (λ (x : Books). x.told) s.books_are ∙ h.told) s.few
 
     go : (c : Bool) → is_connected b.phase ≡ c
-        → b.their_breaks.lengths ≡ a.their_breaks.lengths ++ given_in (cond c (cond (nat_lt b.breaks_told (length b.their_breaks.lengths)) (Some (slice_index_or b.their_breaks.lengths b.breaks_told 0)) None) None)
+        → b.their_breaks.lengths ≡ a.their_breaks.lengths
+        ++ given_in (cond c (cond (nat_lt b.breaks_told (length b.their_breaks.lengths))
+        (Some (slice_index_or b.their_breaks.lengths b.breaks_told 0)) None) None)
     go true e = s.theirs_are ∙ ap (λ l. a.their_breaks.lengths ++ l) (sym inner)
     go false e = s.theirs_are ∙ ap (λ l. a.their_breaks.lengths ++ l) (s.idle (unlinked-stage b.phase e)).1
 gives-came a b h (inr e) = go (is_connected b.phase)
@@ -163,8 +178,11 @@ gives-came a b h (inr e) = go (is_connected b.phase)
     same : b.their_breaks.lengths ≡ a.their_breaks.lengths ++ []
     same = ap (λ (t : TheirBreaks). t.lengths) e.their ∙ sym (append-nil a.their_breaks.lengths)
 
-    go : (c : Bool) → b.their_breaks.lengths ≡ a.their_breaks.lengths ++ given_in (cond c (cond (nat_lt b.breaks_told (length b.their_breaks.lengths)) (Some (slice_index_or b.their_breaks.lengths b.breaks_told 0)) None) None)
-    go true = same ∙ ap (λ l. a.their_breaks.lengths ++ l) (sym (few-cases [] b.breaks_told a.their_breaks.lengths b.their_breaks.lengths same (e.told ∙ h.told) (omega arith)))
+    go : (c : Bool) → b.their_breaks.lengths ≡ a.their_breaks.lengths
+        ++ given_in (cond c (cond (nat_lt b.breaks_told (length b.their_breaks.lengths))
+        (Some (slice_index_or b.their_breaks.lengths b.breaks_told 0)) None) None)
+    go true = same ∙ ap (λ l. a.their_breaks.lengths ++ l)
+        (sym (few-cases [] b.breaks_told a.their_breaks.lengths b.their_breaks.lengths same (e.told ∙ h.told) (omega arith)))
     go false = same
 
 pub gives_all_breaks : ReadsAllowed → KeepsTaken → GivesAllBreaks
@@ -178,8 +196,11 @@ gives_all_breaks reads keeps link (t ∷ ts) ends h r =
     let g = h.2 in
     let k = g.speaking r in
     let turn = length ts in
-    ap (λ o. given_breaks r ts ++ given_in o) (g.hearing r).given_is ∙ ap (λ l. l ++ given_in (given_break (of r g.mid))) (gives_all_breaks reads keeps link ts before h.1 r)
-    ∙ sym (gives-came (of r before) (of r g.mid) (run-handed reads keeps link ts before h.1 r) (hears reads keeps turn (arrival (of r t).heard) (of r before) (of r g.mid) (g.hearing r).hears))
+    ap (λ o. given_breaks r ts ++ given_in o) (g.hearing r).given_is
+    ∙ ap (λ l. l ++ given_in (given_break (of r g.mid))) (gives_all_breaks reads keeps link ts before h.1 r)
+    ∙ sym (gives-came (of r before) (of r g.mid) (run-handed reads keeps link ts before h.1 r)
+    (hears reads keeps turn (arrival (of r t).heard) (of r before) (of r g.mid) (g.hearing r).hears))
     ∙ sym (ap (λ (b : TheirBreaks). b.lengths) (serving-leaves (of r link).user turn (is_released g.mid.orig.phase) (of r g.mid)).theirs)
-    ∙ sym (spoken-theirs (told link turn g.mid r) (served_at link turn g.mid r).account k.said.account (speaks-at link turn g.mid r k.said k.says))
+    ∙ sym (spoken-theirs (told link turn g.mid r) (served_at link turn g.mid r).account k.said.account
+    (speaks-at link turn g.mid r k.said k.says))
     ∙ sym (ap (λ (a : Account). a.their_breaks.lengths) k.after_is)

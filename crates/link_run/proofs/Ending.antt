@@ -30,10 +30,13 @@ pub record IsKept (P : Role → Account → Type 0) (link : Link) : Type 0 where
 abbrev pub AtBoth : (Role → Account → Type 0) → Ends → Type 0
 AtBoth P ends = (r : Role) → P r (of r ends)
 
-pub kept-heard : (reads : ReadsAllowed) (keeps : KeepsTaken) (P : Role → Account → Type 0) (link : Link) → IsKept P link → (turn : ℕ) (before : Ends) (t : Turn) (mid : Ends) → AtBoth P before → Hears turn before t mid → AtBoth P mid
-kept-heard reads keeps P link k turn before t mid h e r = k.hears r (of r before) (of r mid) (h r) (hears reads keeps turn (arrival (of r t).heard) (of r before) (of r mid) (e r).hears)
+pub kept-heard : (reads : ReadsAllowed) (keeps : KeepsTaken) (P : Role → Account → Type 0) (link : Link) → IsKept P link
+    → (turn : ℕ) (before : Ends) (t : Turn) (mid : Ends) → AtBoth P before → Hears turn before t mid → AtBoth P mid
+kept-heard reads keeps P link k turn before t mid h e r =
+    k.hears r (of r before) (of r mid) (h r) (hears reads keeps turn (arrival (of r t).heard) (of r before) (of r mid) (e r).hears)
 
-pub kept-run : (reads : ReadsAllowed) (keeps : KeepsTaken) (P : Role → Account → Type 0) (link : Link) → IsKept P link → (ts : List Turn) (ends : Ends) → RunOf link ts ends → AtBoth P ends
+pub kept-run : (reads : ReadsAllowed) (keeps : KeepsTaken) (P : Role → Account → Type 0) (link : Link) → IsKept P link
+    → (ts : List Turn) (ends : Ends) → RunOf link ts ends → AtBoth P ends
 kept-run reads keeps P link k [] ends h = subst (AtBoth P) (sym h) starts
   where
     starts : (r : Role) → P r (of r (run.start link))
@@ -46,7 +49,8 @@ kept-run reads keeps P link k (t ∷ ts) ends h =
     λ r.
     let s = g.speaking r in
     subst (P r) (sym s.after_is)
-    (k.speaks r (told link turn g.mid r) (served_at link turn g.mid r).account s.said.account (k.serves r turn (is_released g.mid.orig.phase) (of r g.mid) (m r)) (speaks-at link turn g.mid r s.said s.says))
+    (k.speaks r (told link turn g.mid r) (served_at link turn g.mid r).account s.said.account
+    (k.serves r turn (is_released g.mid.orig.phase) (of r g.mid) (m r)) (speaks-at link turn g.mid r s.said s.says))
 
 -- an end keeps its setup
 abbrev pub HasSetup : Link → Role → Account → Type 0
@@ -104,7 +108,8 @@ pub record PlayLaws : Type 0 where
   pub breaks : GivesBreaksInOrder
   pub answers : AnswersGiven
 
-pub facts : (laws : PlayLaws) (link : Link) → MayPlay link.orig.setup link.answ.setup → (ends : Ends) (line : Role → List (Option run.Spoken)) → Reaches link ends line → Facts ends.orig ends.answ
+pub facts : (laws : PlayLaws) (link : Link) → MayPlay link.orig.setup link.answ.setup
+    → (ends : Ends) (line : Role → List (Option run.Spoken)) → Reaches link ends line → Facts ends.orig ends.answ
 facts laws link m ends line p =
     let so = link.orig.setup in
     let sa = link.answ.setup in
@@ -131,10 +136,13 @@ prefixes link ends f c Answerer = begins-file link.orig.user.file ends.orig ends
 
 pub takes_prefixes : ReadsAllowed → KeepsTaken → PlayLaws → TakesPrefixes
 takes_prefixes reads keeps laws link delay ts ends v =
-    prefixes link ends (facts laws link v.may_play ends _ (run-reaches reads keeps link delay ts ends v.delays v.carried v.run)) (kept-run reads keeps (HasCut link) link (cuts-kept link (allowed-both link v.may_play)) ts ends v.run)
+    prefixes link ends (facts laws link v.may_play ends _ (run-reaches reads keeps link delay ts ends v.delays v.carried v.run))
+    (kept-run reads keeps (HasCut link) link (cuts-kept link (allowed-both link v.may_play)) ts ends v.run)
 
 pub hears_prefixes : ReadsAllowed → KeepsTaken → PlayLaws → HearsPrefixes
 hears_prefixes reads keeps laws link delay ts ends t mid v n k =
     let kept = cuts-kept link (allowed-both link v.may_play) in
-    prefixes link mid (facts laws link v.may_play mid _ (hearing-reaches link delay ts ends (length ts) t mid v.delays (run-reaches reads keeps link delay ts ends v.delays v.carried v.run) n k))
+    prefixes link mid (facts laws link v.may_play mid _
+    (hearing-reaches link delay ts ends (length ts) t mid v.delays
+    (run-reaches reads keeps link delay ts ends v.delays v.carried v.run) n k))
     (kept-heard reads keeps (HasCut link) link kept (length ts) ends t mid (kept-run reads keeps (HasCut link) link kept ts ends v.run) k)

@@ -26,32 +26,61 @@ use Rattle.roles.specs.Both.{of}
 
 -- the other end of this role breaks
 abbrev broken : Role → Account → List Slot → Account → List Slot → LinkFault → Play
-broken Originator x lx y ly fault = record { originator = record { account = x; line = lx; fault = None }; answerer = record { account = y; line = ly; fault = Some fault } }
-broken Answerer x lx y ly fault = record { originator = record { account = y; line = ly; fault = Some fault }; answerer = record { account = x; line = lx; fault = None } }
+broken Originator x lx y ly fault =
+    record {
+      originator = record { account = x; line = lx; fault = None };
+      answerer =
+          record { account = y; line = ly; fault = Some fault };
+    }
+broken Answerer x lx y ly fault =
+    record {
+      originator = record { account = y; line = ly; fault = Some fault };
+      answerer =
+          record { account = x; line = lx; fault = None };
+    }
 
-passes-breaks : (role : Role) (turn : ℕ) (x y : Account) (slot : Slot) (rest ly : List Slot) (fault : LinkFault) → hear turn (arrives slot.sent) y ≡ Err fault → happens (Passes role turn) (at role x (slot ∷ rest) y ly) ≡ broken role x rest y ly fault
+passes-breaks : (role : Role) (turn : ℕ) (x y : Account) (slot : Slot) (rest ly : List Slot) (fault : LinkFault)
+    → hear turn (arrives slot.sent) y ≡ Err fault
+    → happens (Passes role turn) (at role x (slot ∷ rest) y ly) ≡ broken role x rest y ly fault
 passes-breaks Originator turn x y slot rest ly fault e =
-    ap (λ r. record { originator = record { account = x; line = rest; fault = None }; answerer = heard r (record { account = y; line = ly; fault = None }) }) e
+    ap (λ r. record {
+      originator = record { account = x; line = rest; fault = None };
+      answerer =
+          heard r (record { account = y; line = ly; fault = None });
+    }) e
 passes-breaks Answerer turn x y slot rest ly fault e =
-    ap (λ r. record { originator = heard r (record { account = y; line = ly; fault = None }); answerer = record { account = x; line = rest; fault = None } }) e
+    ap (λ r. record {
+      originator = heard r (record { account = y; line = ly; fault = None });
+      answerer =
+          record { account = x; line = rest; fault = None };
+    }) e
 
-wants-of : (role : Role) (x y : Account) (lx ly : List Slot) (fault : LinkFault) → WantsAnswers (broken role x lx y ly fault).originator.fault × WantsAnswers (broken role x lx y ly fault).answerer.fault → WantsAnswers (Some fault)
+wants-of : (role : Role) (x y : Account) (lx ly : List Slot) (fault : LinkFault)
+    → WantsAnswers (broken role x lx y ly fault).originator.fault × WantsAnswers (broken role x lx y ly fault).answerer.fault
+    → WantsAnswers (Some fault)
 wants-of Originator x y lx ly fault h = h.1
 wants-of Answerer x y lx ly fault h = h.0
 
-pub well-heard : (reads : ReadsAllowed) (keeps : KeepsTaken) (law : BreaksForWantAlone) (link : Link) → MayPlay link.orig.setup link.answ.setup → (role : Role) (turn : ℕ) (x y : Account) (lx ly : List Slot) (t : Option Turn) (left : List (Option run.Spoken)) (h : Heard)
-    → Leads (begun link) (at role x lx y ly) → told_by_play lx ≡ map told_by_turn (made role t ++ left) → Crosses (sent_in role t) h → (r : Result Account LinkFault) → hear turn (arrival h) y ≡ r → is_ok r ≡ true
+pub well-heard : (reads : ReadsAllowed) (keeps : KeepsTaken) (law : BreaksForWantAlone) (link : Link)
+    → MayPlay link.orig.setup link.answ.setup
+    → (role : Role) (turn : ℕ) (x y : Account) (lx ly : List Slot) (t : Option Turn) (left : List (Option run.Spoken)) (h : Heard)
+    → Leads (begun link) (at role x lx y ly) → told_by_play lx ≡ map told_by_turn (made role t ++ left) → Crosses (sent_in role t) h
+    → (r : Result Account LinkFault) → hear turn (arrival h) y ≡ r → is_ok r ≡ true
 well-heard reads keeps law link m role turn x y lx ly t left h p e c (Ok b) k = refl
 well-heard reads keeps law link m role turn x y lx ly t left Nothing p e c (Err fault) k = absurd (false≢true (sym (ap is_ok k)))
 well-heard reads keeps law link m role turn x y lx ly t left (Lost s) p e c (Err fault) k = absurd (false≢true (sym (ap is_ok k)))
 well-heard reads keeps law link m role turn x y lx ly t left Chance p e c (Err fault) k = absurd (false≢true (sym (ap is_ok k)))
 well-heard reads keeps law link m role turn x y lx ly None left (Passed s) p e c (Err fault) k = absurd c
-well-heard reads keeps law link m role turn x y [] ly (Some t) left (Passed s) p e c (Err fault) k = absurd (none-is-some (told_by_turn (of role t).sent) (map told_by_turn left) e)
+well-heard reads keeps law link m role turn x y [] ly (Some t) left (Passed s) p e c (Err fault) k =
+    absurd (none-is-some (told_by_turn (of role t).sent) (map told_by_turn left) e)
 well-heard reads keeps law link m role turn x y (slot ∷ rest) ly (Some t) left (Passed s) p e c (Err fault) k =
     let parts = head-of (Some (slot.sent, slot.number)) (told_by_turn (of role t).sent) (told_by_play rest) (map told_by_turn left) e in
     let d = told-slot slot (of role t).sent parts.0 (Passed s) c Sixteen in
-    let q = then-leads (begun link) (at role x (slot ∷ rest) y ly) (broken role x rest y ly fault) p (one (Passes role turn) _ _ (passes-breaks role turn x y slot rest ly fault (subst (λ z. hear turn (arrives z) y ≡ Err fault) d.0 k))) in
-    let wants = subst (λ (z : Play). WantsAnswers z.originator.fault × WantsAnswers z.answerer.fault) q.led (law link.orig.setup link.answ.setup q.events m) in
+    let q = then-leads (begun link) (at role x (slot ∷ rest) y ly) (broken role x rest y ly fault) p
+    (one (Passes role turn) _ _
+    (passes-breaks role turn x y slot rest ly fault (subst (λ z. hear turn (arrives z) y ≡ Err fault) d.0 k))) in
+    let wants = subst (λ (z : Play). WantsAnswers z.originator.fault × WantsAnswers z.answerer.fault) q.led
+    (law link.orig.setup link.answ.setup q.events m) in
     absurd (breaks-not reads keeps turn (arrival (Passed s)) y fault k (wants-of role x y rest ly fault wants))
 
 pub hearings_are_well : ReadsAllowed → KeepsTaken → BreaksForWantAlone → HearingsAreWell
@@ -62,12 +91,18 @@ hearings_are_well reads keeps law link delay ts ends t v n role = at-role role
 
     at-role : (role : Role) → is_ok (hear (length ts) (arrival (of role t).heard) (of role ends)) ≡ true
     at-role Originator =
-        well-heard reads keeps law link v.may_play Answerer (length ts) ends.answ ends.orig p.la p.lo (slice_get ts (delay Answerer - 1)) (on_line (delay Answerer - 1) Answerer ts) t.orig.heard p.leads
-        (next-first Answerer (delay Answerer) ts p.la (v.delays Answerer) p.answ_line) (n Originator) (hear (length ts) (arrival t.orig.heard) ends.orig) refl
+        well-heard reads keeps law link v.may_play Answerer (length ts) ends.answ ends.orig p.la p.lo (slice_get ts (delay Answerer - 1))
+        (on_line (delay Answerer - 1) Answerer ts) t.orig.heard p.leads
+        (next-first Answerer (delay Answerer) ts p.la (v.delays Answerer) p.answ_line) (n Originator)
+        (hear (length ts) (arrival t.orig.heard) ends.orig) refl
     at-role Answerer =
-        well-heard reads keeps law link v.may_play Originator (length ts) ends.orig ends.answ p.lo p.la (slice_get ts (delay Originator - 1)) (on_line (delay Originator - 1) Originator ts) t.answ.heard p.leads
-        (next-first Originator (delay Originator) ts p.lo (v.delays Originator) p.orig_line) (n Answerer) (hear (length ts) (arrival t.answ.heard) ends.answ) refl
+        well-heard reads keeps law link v.may_play Originator (length ts) ends.orig ends.answ p.lo p.la
+        (slice_get ts (delay Originator - 1)) (on_line (delay Originator - 1) Originator ts) t.answ.heard p.leads
+        (next-first Originator (delay Originator) ts p.lo (v.delays Originator) p.orig_line) (n Answerer)
+        (hear (length ts) (arrival t.answ.heard) ends.answ) refl
 
 pub broken_for_want : BrokenForWant
-broken_for_want link ts before t mid Originator fault h = breaks-for-want (length ts) (releases link (length ts) mid) (served_at link (length ts) mid Originator).account fault h.broken
-broken_for_want link ts before t mid Answerer fault h = breaks-for-want (length ts) false (served_at link (length ts) mid Answerer).account fault h.broken.1
+broken_for_want link ts before t mid Originator fault h =
+    breaks-for-want (length ts) (releases link (length ts) mid) (served_at link (length ts) mid Originator).account fault h.broken
+broken_for_want link ts before t mid Answerer fault h =
+    breaks-for-want (length ts) false (served_at link (length ts) mid Answerer).account fault h.broken.1

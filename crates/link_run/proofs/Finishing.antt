@@ -53,7 +53,8 @@ finished u turn a e =
     let n = neither (break_waits a) (is_ready turn (next_break u.breaks a)) h.1 in
     go (is_connected a.phase) refl h.0 n.0
   where
-    go : (b : Bool) → is_connected a.phase ≡ b → cond b (is_whole a.outgoing) false ≡ true → cond b (waits a.own_breaks) false ≡ false → Finished a
+    go : (b : Bool) → is_connected a.phase ≡ b → cond b (is_whole a.outgoing) false ≡ true → cond b (waits a.own_breaks) false ≡ false
+        → Finished a
     go true k d w =
         let p = both-true a.outgoing.ended (nat_eq a.outgoing.front (length a.outgoing.pieces)) d in
         record { linked = k; ended = p.0; front = grind (arith, nat_tests); answered = grind (arith, nat_tests) }
@@ -113,7 +114,9 @@ offers-none (suc n) file a e = ap (λ w. offered_times n file (offered_at file a
 pub ended-wants : (a : Account) → a.outgoing.ended ≡ true → wants a ≡ None
 ended-wants a e = go (is_connected a.phase) a.outgoing.ended e
   where
-    go : (b c : Bool) → c ≡ true → cond b (cond (not c && nat_lt (length a.outgoing.pieces) (a.outgoing.front + a.outgoing.window)) (Some (length a.outgoing.pieces)) None) None ≡ None
+    go : (b c : Bool) → c ≡ true
+        → cond b (cond (not c && nat_lt (length a.outgoing.pieces) (a.outgoing.front + a.outgoing.window))
+        (Some (length a.outgoing.pieces)) None) None ≡ None
     go true true e = refl
     go true false e = absurd (false≢true e)
     go false c e = refl
@@ -138,8 +141,11 @@ served-idles u turn a e =
     let g = given-idles a in
     let b = after_given (delivered a) in
     let busy = is_busy turn u.busy in
-    let k : Idles a (after_busy busy b) = subst (Idles a) (sym (busy-alone busy b)) (record { outgoing = g.outgoing; taken = g.taken; own = g.own; theirs = g.theirs; phase = g.phase }) in
-    subst (λ c. Idles a (after_busy busy c)) (sym (offers-none (room_for b) u.file b (ended-wants b (ap (λ (o : Outgoing). o.ended) g.outgoing ∙ e)))) k
+    let k : Idles a (after_busy busy b) =
+    subst (Idles a) (sym (busy-alone busy b))
+    (record { outgoing = g.outgoing; taken = g.taken; own = g.own; theirs = g.theirs; phase = g.phase }) in
+    subst (λ c. Idles a (after_busy busy c))
+    (sym (offers-none (room_for b) u.file b (ended-wants b (ap (λ (o : Outgoing). o.ended) g.outgoing ∙ e)))) k
 
 idles-left : (a b : Account) → Idles a b → SameLeft a b
 idles-left a b i = record {
@@ -161,16 +167,20 @@ idles-over o p a b h i l = record {
   a_breaks = omega (arith, h.a_breaks, ap length (idles-left a b l).lengths, ap (λ z. length z.lengths) i.theirs);
 }
 
-over-heard : (reads : ReadsAllowed) (keeps : KeepsTaken) (turn : ℕ) (before : Ends) (t : Turn) (mid : Ends) → 2 ≤ stage before.orig.phase → Over before.orig before.answ → Hears turn before t mid → Over mid.orig mid.answ
+over-heard : (reads : ReadsAllowed) (keeps : KeepsTaken) (turn : ℕ) (before : Ends) (t : Turn) (mid : Ends) → 2 ≤ stage before.orig.phase
+    → Over before.orig before.answ → Hears turn before t mid → Over mid.orig mid.answ
 over-heard reads keeps turn before t mid s h k =
-    still-over before.orig mid.orig before.answ mid.answ h (stands-heard turn (arrival t.orig.heard) before.orig mid.orig s (k Originator).hears)
+    still-over before.orig mid.orig before.answ mid.answ h
+    (stands-heard turn (arrival t.orig.heard) before.orig mid.orig s (k Originator).hears)
     (heard-left before.answ mid.answ h.a_linked (hears reads keeps turn (arrival t.answ.heard) before.answ mid.answ (k Answerer).hears))
 
 -- both ends have been served
 abbrev pub both_served : Link → ℕ → Ends → Ends
-both_served link turn mid = record { orig = (served_at link turn mid Originator).account; answ = (served_at link turn mid Answerer).account }
+both_served link turn mid =
+    record { orig = (served_at link turn mid Originator).account; answ = (served_at link turn mid Answerer).account }
 
-served-reaches : (link : Link) (turn : ℕ) (mid : Ends) (line : Role → List (Option run.Spoken)) → Reaches link mid line → ((r : Role) → Waiting (of r mid)) → Reaches link (both_served link turn mid) line
+served-reaches : (link : Link) (turn : ℕ) (mid : Ends) (line : Role → List (Option run.Spoken)) → Reaches link mid line
+    → ((r : Role) → Waiting (of r mid)) → Reaches link (both_served link turn mid) line
 served-reaches link turn mid line p w =
     let s = both_served link turn mid in
     let r = is_released mid.orig.phase in
@@ -178,7 +188,8 @@ served-reaches link turn mid line p w =
       lo = p.lo;
       la = p.la;
       leads = then-leads (begun link) (at Originator mid.orig p.lo mid.answ p.la) (at Originator s.orig p.lo s.answ p.la) p.leads
-          (then-leads (at Originator mid.orig p.lo mid.answ p.la) (at Originator s.orig p.lo mid.answ p.la) (at Originator s.orig p.lo s.answ p.la)
+          (then-leads (at Originator mid.orig p.lo mid.answ p.la) (at Originator s.orig p.lo mid.answ p.la)
+          (at Originator s.orig p.lo s.answ p.la)
           (serves Originator link.orig.user turn r mid.orig mid.answ p.lo p.la (w Originator))
           (serves Answerer link.answ.user turn r mid.answ s.orig p.la p.lo (w Answerer)));
       orig_line = p.orig_line;
@@ -194,20 +205,27 @@ released-at Negotiating e h = absurd (omega (arith, h))
 released-at Establishing e h = absurd (omega (arith, h))
 released-at Connected e h = absurd (omega (arith, h))
 
-over-going : (link : Link) (turn : ℕ) (mid : Ends) (o a : Said) → is_closed mid.orig.phase ≡ false → (2 ≤ stage mid.orig.phase → Over mid.orig mid.answ)
+over-going : (link : Link) (turn : ℕ) (mid : Ends) (o a : Said) → is_closed mid.orig.phase ≡ false
+    → (2 ≤ stage mid.orig.phase → Over mid.orig mid.answ)
     → Facts (both_served link turn mid).orig (both_served link turn mid).answ
     → said_at link turn mid Originator ≡ Ok o → Speaks (releases link turn mid) (both_served link turn mid).orig o.account
     → Speaks false (both_served link turn mid).answ a.account
     → 2 ≤ stage o.account.phase → Over o.account a.account
 over-going link turn mid o a going h f e (Keeps_on k) l two =
     let s = both_served link turn mid in
-    let served-phase : stage s.orig.phase ≡ stage mid.orig.phase = ap (λ (b : Account). stage b.phase) (served-alone link.orig.user turn (is_released mid.orig.phase) mid.orig) ∙ ap stage (delivered-phase mid.orig) in
+    let served-phase : stage s.orig.phase ≡ stage mid.orig.phase =
+    ap (λ (b : Account). stage b.phase) (served-alone link.orig.user turn (is_released mid.orig.phase) mid.orig)
+    ∙ ap stage (delivered-phase mid.orig) in
     let before : 2 ≤ stage s.orig.phase = omega (arith, two, ap (λ (z : Ledger). stage z.phase) k) in
     let m : 2 ≤ stage mid.orig.phase = omega (arith, before, served-phase) in
     let over = h m in
     let released = released-at mid.orig.phase going m in
-    let io : Idles mid.orig s.orig = subst (λ r. Idles mid.orig (served link.orig.user turn r mid.orig).account) (sym released) (served-idles link.orig.user turn mid.orig over.o_ended) in
-    let ia : Idles mid.answ s.answ = subst (λ r. Idles mid.answ (served link.answ.user turn r mid.answ).account) (sym released) (served-idles link.answ.user turn mid.answ over.a_ended) in
+    let io : Idles mid.orig s.orig =
+    subst (λ r. Idles mid.orig (served link.orig.user turn r mid.orig).account) (sym released)
+    (served-idles link.orig.user turn mid.orig over.o_ended) in
+    let ia : Idles mid.answ s.answ =
+    subst (λ r. Idles mid.answ (served link.answ.user turn r mid.answ).account) (sym released)
+    (served-idles link.answ.user turn mid.answ over.a_ended) in
     still-over s.orig o.account s.answ a.account (idles-over mid.orig s.orig mid.answ s.answ over io ia)
     (stands-spoken turn (releases link turn mid) s.orig o before e) (spoken-left s.answ a.account l)
   where
@@ -232,23 +250,27 @@ over-going link turn mid o a going h f e (Releases on role linked k stand) l two
       a_breaks = omega (arith, y.answered, f.answered_a);
     }) stand (spoken-left s.answ a.account l)
 
-pub over-run : (reads : ReadsAllowed) (keeps : KeepsTaken) (laws : PlayLaws) (link : Link) (delay : Role → ℕ) → MayPlay link.orig.setup link.answ.setup → HasDelays delay → (ts : List Turn) (ends : Ends) → IsCarried delay ts → RunOf link ts ends
+pub over-run : (reads : ReadsAllowed) (keeps : KeepsTaken) (laws : PlayLaws) (link : Link) (delay : Role → ℕ)
+    → MayPlay link.orig.setup link.answ.setup → HasDelays delay → (ts : List Turn) (ends : Ends) → IsCarried delay ts → RunOf link ts ends
     → 2 ≤ stage ends.orig.phase → Over ends.orig ends.answ
 over-run reads keeps laws link delay m some [] ends c h two = absurd (omega (arith, two, ap (λ (e : Ends). stage e.orig.phase) h))
 over-run reads keeps laws link delay m some (t ∷ ts) ends c h two =
     let before = h.0 in
     let g = h.2 in
     let turn = length ts in
-    let reached = hearing-reaches link delay ts before turn t g.mid some (run-reaches reads keeps link delay ts before some c.1 h.1) c.0 g.hearing in
+    let reached = hearing-reaches link delay ts before turn t g.mid some
+    (run-reaches reads keeps link delay ts before some c.1 h.1) c.0 g.hearing in
     let waiting = hearing-waits reads keeps turn before t g.mid (run-handed reads keeps link ts before h.1) g.hearing in
     let f = facts laws link m (both_served link turn g.mid) _ (served-reaches link turn g.mid _ reached waiting) in
     let ko = g.speaking Originator in
     let ka = g.speaking Answerer in
     let mids : 2 ≤ stage g.mid.orig.phase → Over g.mid.orig g.mid.answ = λ z.
-    let earlier = was-released (hears reads keeps turn (arrival t.orig.heard) before.orig g.mid.orig (g.hearing Originator).hears) (not-closed g.mid.orig.phase g.going) z in
+    let earlier = was-released (hears reads keeps turn (arrival t.orig.heard) before.orig g.mid.orig (g.hearing Originator).hears)
+    (not-closed g.mid.orig.phase g.going) z in
     over-heard reads keeps turn before t g.mid earlier (over-run reads keeps laws link delay m some ts before c.1 h.1 earlier) g.hearing in
     subst (λ (e : Ends). Over e.orig e.answ) (sym (same-ends ends ko.said.account ka.said.account ko.after_is ka.after_is))
-    (over-going link turn g.mid ko.said ka.said g.going mids f ko.says (speaks-at link turn g.mid Originator ko.said ko.says) (speaks-at link turn g.mid Answerer ka.said ka.says)
+    (over-going link turn g.mid ko.said ka.said g.going mids f ko.says (speaks-at link turn g.mid Originator ko.said ko.says)
+    (speaks-at link turn g.mid Answerer ka.said ka.says)
     (subst (λ (x : Account). 2 ≤ stage x.phase) ko.after_is two))
   where
     not-closed : (p : Phase) → is_closed p ≡ false → stage p ≤ 2
@@ -276,11 +298,13 @@ whole-prefix {X} xs ys p h = go p.0 p.1
 
 whole : (link : Link) (mid : Ends) → Over mid.orig mid.answ → Facts mid.orig mid.answ → AtBoth (HasCut link) mid → HoldWhole link mid
 whole link mid h f c Originator = record {
-  file_is = ap concat (whole-prefix mid.orig.incoming.taken mid.answ.outgoing.pieces f.taken_o h.a_taken) ∙ (c Answerer).cut.whole h.a_ended;
+  file_is = ap concat (whole-prefix mid.orig.incoming.taken mid.answ.outgoing.pieces f.taken_o h.a_taken)
+      ∙ (c Answerer).cut.whole h.a_ended;
   breaks_are = whole-prefix mid.orig.their_breaks.lengths mid.answ.own_breaks.lengths f.given_o h.a_breaks;
 }
 whole link mid h f c Answerer = record {
-  file_is = ap concat (whole-prefix mid.answ.incoming.taken mid.orig.outgoing.pieces f.taken_a (omega (arith, f.acked_o, h.o_front))) ∙ (c Originator).cut.whole h.o_ended;
+  file_is = ap concat (whole-prefix mid.answ.incoming.taken mid.orig.outgoing.pieces f.taken_a (omega (arith, f.acked_o, h.o_front)))
+      ∙ (c Originator).cut.whole h.o_ended;
   breaks_are = whole-prefix mid.answ.their_breaks.lengths mid.orig.own_breaks.lengths f.given_a (omega (arith, h.o_breaks, f.answered_o));
 }
 
@@ -296,11 +320,15 @@ pub done_is_whole : ReadsAllowed → KeepsTaken → PlayLaws → DoneIsWhole
 done_is_whole reads keeps laws link delay ts ends t mid v n k =
     let turn = length ts in
     let m = v.may_play in
-    let reached = hearing-reaches link delay ts ends turn t mid v.delays (run-reaches reads keeps link delay ts ends v.delays v.carried v.run) n k.hearing in
+    let reached = hearing-reaches link delay ts ends turn t mid v.delays
+    (run-reaches reads keeps link delay ts ends v.delays v.carried v.run) n k.hearing in
     let kept = cuts-kept link (allowed-both link m) in
-    let role = ap (λ (s : Setup). s.role) (kept-run reads keeps (HasSetup link) link (setups-kept link) ts ends v.run Originator) ∙ m.originates in
-    let two = hung-up (hears reads keeps turn (arrival t.orig.heard) ends.orig mid.orig (k.hearing Originator).hears) (closed-stage mid.orig.phase k.done) role in
-    whole link mid (over-heard reads keeps turn ends t mid two (over-run reads keeps laws link delay m v.delays ts ends v.carried v.run two) k.hearing)
+    let role = ap (λ (s : Setup). s.role) (kept-run reads keeps (HasSetup link) link (setups-kept link) ts ends v.run Originator)
+    ∙ m.originates in
+    let two = hung-up (hears reads keeps turn (arrival t.orig.heard) ends.orig mid.orig (k.hearing Originator).hears)
+    (closed-stage mid.orig.phase k.done) role in
+    whole link mid (over-heard reads keeps turn ends t mid two
+    (over-run reads keeps laws link delay m v.delays ts ends v.carried v.run two) k.hearing)
     (facts laws link m mid _ reached)
     (kept-heard reads keeps (HasCut link) link kept turn ends t mid (kept-run reads keeps (HasCut link) link kept ts ends v.run) k.hearing)
   where

@@ -53,21 +53,32 @@ pub record Known (so sa : Setup) (sent heard : List Turn) (o a : Course) : Type 
   pub open_a : has_passed (opens Answerer) Answerer heard ≡ nat_le 3 (rank a.phase)
 
 -- one more turn was heard
-passed-more : (is : Frame → Bool) (role : Role) (t : Turn) (ts : List Turn) (n : Bool) (m : Bool) → has_passed is role ts ≡ n → m ≡ (brings is (arrival (of role t).heard) || n) → has_passed is role (t ∷ ts) ≡ m
-passed-more is role t ts n m h e = ap (λ b. b || has_passed is role ts) (passed-brings is (of role t).heard) ∙ ap (λ b. brings is (arrival (of role t).heard) || b) h ∙ sym e
+passed-more : (is : Frame → Bool) (role : Role) (t : Turn) (ts : List Turn) (n : Bool) (m : Bool) → has_passed is role ts ≡ n
+    → m ≡ (brings is (arrival (of role t).heard) || n) → has_passed is role (t ∷ ts) ≡ m
+passed-more is role t ts n m h e =
+    ap (λ b. b || has_passed is role ts) (passed-brings is (of role t).heard) ∙ ap (λ b. brings is (arrival (of role t).heard) || b) h
+    ∙ sym e
 
-known-heard : (so sa : Setup) → Reads so sa → (delay : Role → ℕ) (ts : List Turn) (t : Turn) (o a p b : Course) → Known so sa ts ts o a → Carries delay ts t
-    → p ≡ heard_course Originator so.offer o.phase (arrival t.orig.heard) o → b ≡ heard_course Answerer sa.offer a.phase (arrival t.answ.heard) a → Known so sa ts (t ∷ ts) p b
+known-heard : (so sa : Setup) → Reads so sa → (delay : Role → ℕ) (ts : List Turn) (t : Turn) (o a p b : Course) → Known so sa ts ts o a
+    → Carries delay ts t
+    → p ≡ heard_course Originator so.offer o.phase (arrival t.orig.heard) o
+    → b ≡ heard_course Answerer sa.offer a.phase (arrival t.answ.heard) a → Known so sa ts (t ∷ ts) p b
 known-heard so sa reads delay ts t o a p b h c eo ea =
     let x : AfterO so sa (rank a.phase) o.phase (arrival t.orig.heard) p =
     subst (AfterO so sa (rank a.phase) o.phase (arrival t.orig.heard)) (sym eo)
-    (o-hears so sa reads (rank a.phase) o.phase (arrival t.orig.heard) o.terms o.answer (came-all (SentA sa (rank o.phase) (rank a.phase)) delay Answerer ts t.orig.heard h.sent_a (c Originator)) h.due_o h.terms_o h.met) in
+    (o-hears so sa reads (rank a.phase) o.phase (arrival t.orig.heard) o.terms o.answer
+    (came-all (SentA sa (rank o.phase) (rank a.phase)) delay Answerer ts t.orig.heard h.sent_a (c Originator)) h.due_o h.terms_o h.met)
+    in
     let y : AfterA so sa (rank o.phase) a.phase (arrival t.answ.heard) b =
     subst (AfterA so sa (rank o.phase) a.phase (arrival t.answ.heard)) (sym ea)
-    (a-hears so sa reads (rank o.phase) a.phase (arrival t.answ.heard) a.terms a.answer (came-all (SentO so (rank o.phase)) delay Originator ts t.answ.heard h.sent_o (c Answerer)) h.due_a h.terms_a h.met h.never_two h.never_four h.linked) in
+    (a-hears so sa reads (rank o.phase) a.phase (arrival t.answ.heard) a.terms a.answer
+    (came-all (SentO so (rank o.phase)) delay Originator ts t.answ.heard h.sent_o (c Answerer)) h.due_a h.terms_a h.met h.never_two
+    h.never_four h.linked) in
     record {
-      sent_o = all-weaker (SentO so (rank o.phase)) (SentO so (rank p.phase)) (sent_o-later so (rank o.phase) (rank p.phase) x.later) Originator ts h.sent_o;
-      sent_a = all-weaker (SentA sa (rank o.phase) (rank a.phase)) (SentA sa (rank p.phase) (rank b.phase)) (sent_a-later sa (rank o.phase) (rank a.phase) (rank p.phase) (rank b.phase) x.later y.later) Answerer ts h.sent_a;
+      sent_o = all-weaker (SentO so (rank o.phase)) (SentO so (rank p.phase))
+          (sent_o-later so (rank o.phase) (rank p.phase) x.later) Originator ts h.sent_o;
+      sent_a = all-weaker (SentA sa (rank o.phase) (rank a.phase)) (SentA sa (rank p.phase) (rank b.phase))
+          (sent_a-later sa (rank o.phase) (rank a.phase) (rank p.phase) (rank b.phase) x.later y.later) Answerer ts h.sent_a;
       due_o = x.due;
       due_a = due_a-later (rank o.phase) (rank b.phase) (rank p.phase) (rank b.phase) x.later (omega arith) b.answer y.due;
       terms_o = x.terms;
@@ -90,10 +101,18 @@ pub record Spoke (c b : Course) : Type 0 where
   pub terms : b.terms ≡ c.terms
   pub answer : (b.answer ≡ c.answer) ⊎ (b.answer ≡ None)
 
-spoke : (release : Bool) (a : Account) (said : Said) → Speaks release a said.account → Declares a.phase a said → Spoke (course a) (course said.account)
+spoke : (release : Bool) (a : Account) (said : Said) → Speaks release a said.account → Declares a.phase a said
+    → Spoke (course a) (course said.account)
 spoke release a said (Keeps_on e) d =
     let phase = ap (λ (l : Ledger). l.phase) e in
-    record { later = omega (arith, ap rank phase); two = ap (λ q. nat_le 2 (rank q)) phase; three = ap (λ q. nat_le 3 (rank q)) phase; terms = ap (λ (l : Ledger). l.terms) e; answer = d.left }
+    record {
+      later = omega (arith, ap rank phase);
+      two = ap (λ q. nat_le 2 (rank q)) phase;
+      three =
+          ap (λ q. nat_le 3 (rank q)) phase;
+      terms = ap (λ (l : Ledger). l.terms) e;
+      answer = d.left;
+    }
 spoke release a said (Releases on role linked e k) d =
     let phase : said.account.phase ≡ Releasing = ap (λ (l : Ledger). l.phase) e in
     record {
@@ -129,7 +148,8 @@ linked-rank Releasing h = absurd (omega (arith, h))
 linked-rank Closed h = absurd (omega (arith, h))
 
 -- what an originator says
-said-o : (so : Setup) (p : Phase) (answer : Option Answer) (s : ℕ) (frame : Frame) → OwnFrame so answer p frame → DueO answer → rank p ≤ s → (is_disc frame ≡ true → 4 ≤ s) → (is_counted frame ≡ true → stage p ≡ 1) → SentO so s frame
+said-o : (so : Setup) (p : Phase) (answer : Option Answer) (s : ℕ) (frame : Frame) → OwnFrame so answer p frame → DueO answer → rank p ≤ s
+    → (is_disc frame ≡ true → 4 ≤ s) → (is_counted frame ≡ true → stage p ≡ 1) → SentO so s frame
 said-o so p answer s (Xid true pf info) own d l disc c = (refl, own.0, omega (arith, l, ap rank own.1))
 said-o so p answer s (Xid false pf info) own d l disc c = absurd (subst DueO own.1 d)
 said-o so p answer s (Sabme pf) own d l disc c = (own.0, omega (arith, l, ap rank own.1))
@@ -142,9 +162,11 @@ said-o so p answer s (Srej command nr pf) own d l disc c = omega (arith, l, link
 said-o so p answer s frame own d l disc c = tt
 
 -- what an answerer says
-said-a : (sa : Setup) (p : Phase) (answer : Option Answer) (r s : ℕ) (frame : Frame) → sa.role ≡ Answerer → OwnFrame sa answer p frame → DueA r (rank p) answer → r ≤ s → (is_counted frame ≡ true → stage p ≡ 1) → (3 ≤ rank p → 2 ≤ r) → SentA sa s (rank p) frame
+said-a : (sa : Setup) (p : Phase) (answer : Option Answer) (r s : ℕ) (frame : Frame) → sa.role ≡ Answerer → OwnFrame sa answer p frame
+    → DueA r (rank p) answer → r ≤ s → (is_counted frame ≡ true → stage p ≡ 1) → (3 ≤ rank p → 2 ≤ r) → SentA sa s (rank p) frame
 said-a sa p answer r s (Xid true pf info) role own d l c k = absurd (false≢true (ap is_originator (sym role ∙ own.2)))
-said-a sa p answer r s (Xid false pf info) role own d l c k = let due = subst (DueA r (rank p)) own.1 d in (refl, own.0, omega (arith, l, due.0), due.1)
+said-a sa p answer r s (Xid false pf info) role own d l c k = let due = subst (DueA r (rank p)) own.1 d in
+    (refl, own.0, omega (arith, l, due.0), due.1)
 said-a sa p answer r s (Ua pf) role own d l c k = let due = subst (DueA r (rank p)) own d in (due.0, omega (arith, l, due.1))
 said-a sa p answer r s (I ns nr pf info) role own d l c k = omega (arith, l, k (omega (arith, linked-rank p (c refl))))
 said-a sa p answer r s (Rr command nr pf) role own d l c k = omega (arith, l, k (omega (arith, linked-rank p (c refl))))
@@ -163,8 +185,10 @@ sent-by P slots.Adp h = tt
 sent-by P slots.Flags h = tt
 sent-by P (slots.Frame frame) h = h frame refl
 
-known-spoken : (so sa : Setup) (ts : List Turn) (t : Turn) (o a : Account) (release : Bool) (p b : Said) → Known so sa ts (t ∷ ts) (course o) (course a) → o.setup ≡ so → a.setup ≡ sa → sa.role ≡ Answerer
-    → Speaks release o p.account → Speaks false a b.account → Says o.phase o p → Says a.phase a b → Declares o.phase o p → Declares a.phase a b
+known-spoken : (so sa : Setup) (ts : List Turn) (t : Turn) (o a : Account) (release : Bool) (p b : Said)
+    → Known so sa ts (t ∷ ts) (course o) (course a) → o.setup ≡ so → a.setup ≡ sa → sa.role ≡ Answerer
+    → Speaks release o p.account → Speaks false a b.account → Says o.phase o p → Says a.phase a b → Declares o.phase o p
+    → Declares a.phase a b
     → t.orig.sent ≡ Some (spoken p) → t.answ.sent ≡ Some (spoken b) → Known so sa (t ∷ ts) (t ∷ ts) (course p.account) (course b.account)
 known-spoken so sa ts t o a release p b h eo ea role go ga wo wa dco dca so-sent sa-sent =
     let x = spoke release o p go dco in
@@ -173,18 +197,28 @@ known-spoken so sa ts t o a release p b h eo ea role go ga wo wa dco dca so-sent
     record {
       sent_o = (
         if-said (SentO so (rank p.account.phase)) t.orig.sent p so-sent (sent-by (SentO so (rank p.account.phase)) p.sent (λ frame e.
-            said-o so o.phase o.owes.answer (rank p.account.phase) frame (subst (λ z. OwnFrame z o.owes.answer o.phase frame) eo (subst (OwnSent o.setup o.owes.answer o.phase) e dco.own)) h.due_o x.later
+            said-o so o.phase o.owes.answer (rank p.account.phase) frame
+            (subst (λ z. OwnFrame z o.owes.answer o.phase frame) eo (subst (OwnSent o.setup o.owes.answer o.phase) e dco.own)) h.due_o
+            x.later
             (λ z. stage-rank p.account.phase (wo.disc (ap (carries is_disc) e ∙ z))) (λ z. wo.counted (ap (carries is_counted) e ∙ z)))),
-        all-weaker (SentO so (rank o.phase)) (SentO so (rank p.account.phase)) (sent_o-later so (rank o.phase) (rank p.account.phase) x.later) Originator ts h.sent_o,
+        all-weaker (SentO so (rank o.phase)) (SentO so (rank p.account.phase))
+            (sent_o-later so (rank o.phase) (rank p.account.phase) x.later) Originator ts h.sent_o,
       );
       sent_a = (
-        if-said (SentA sa (rank p.account.phase) (rank b.account.phase)) t.answ.sent b sa-sent (subst (λ q. OnSent (SentA sa (rank p.account.phase) (rank q)) b.sent) (sym same) (sent-by (SentA sa (rank p.account.phase) (rank a.phase)) b.sent (λ frame e.
-            said-a sa a.phase a.owes.answer (rank o.phase) (rank p.account.phase) frame role (subst (λ z. OwnFrame z a.owes.answer a.phase frame) ea (subst (OwnSent a.setup a.owes.answer a.phase) e dca.own)) h.due_a x.later
+        if-said (SentA sa (rank p.account.phase) (rank b.account.phase)) t.answ.sent b sa-sent
+            (subst (λ q. OnSent (SentA sa (rank p.account.phase) (rank q)) b.sent) (sym same)
+            (sent-by (SentA sa (rank p.account.phase) (rank a.phase)) b.sent (λ frame e.
+            said-a sa a.phase a.owes.answer (rank o.phase) (rank p.account.phase) frame role
+            (subst (λ z. OwnFrame z a.owes.answer a.phase frame) ea (subst (OwnSent a.setup a.owes.answer a.phase) e dca.own)) h.due_a
+            x.later
             (λ z. wa.counted (ap (carries is_counted) e ∙ z)) h.linked))),
-        all-weaker (SentA sa (rank o.phase) (rank a.phase)) (SentA sa (rank p.account.phase) (rank b.account.phase)) (sent_a-later sa (rank o.phase) (rank a.phase) (rank p.account.phase) (rank b.account.phase) x.later y.later) Answerer ts h.sent_a,
+        all-weaker (SentA sa (rank o.phase) (rank a.phase)) (SentA sa (rank p.account.phase) (rank b.account.phase))
+            (sent_a-later sa (rank o.phase) (rank a.phase) (rank p.account.phase) (rank b.account.phase) x.later y.later) Answerer ts
+            h.sent_a,
       );
       due_o = due_o-spoke o.owes.answer p.account.owes.answer x.answer h.due_o;
-      due_a = due_a-later (rank o.phase) (rank a.phase) (rank p.account.phase) (rank b.account.phase) x.later y.later b.account.owes.answer (due_a-spoke (rank o.phase) (rank a.phase) a.owes.answer b.account.owes.answer y.answer h.due_a);
+      due_a = due_a-later (rank o.phase) (rank a.phase) (rank p.account.phase) (rank b.account.phase) x.later y.later b.account.owes.answer
+          (due_a-spoke (rank o.phase) (rank a.phase) a.owes.answer b.account.owes.answer y.answer h.due_a);
       terms_o = x.terms ∙ h.terms_o ∙ ap (λ z. cond z (terms_of so sa) first_terms) (sym x.two);
       terms_a = y.terms ∙ h.terms_a ∙ ap (λ q. cond (nat_le 1 (rank q)) (terms_of so sa) first_terms) (sym same);
       met = λ z. omega (arith, y.later, h.met (le-two (rank p.account.phase) (rank o.phase) x.two z));
@@ -225,22 +259,35 @@ course-served u turn released a =
     same-course (course (served u turn released a).account) (course a) l.phase terms l.answer
   where
     same-course : (c d : Course) → c.phase ≡ d.phase → c.terms ≡ d.terms → c.answer ≡ d.answer → c ≡ d
-    same-course c d p q r = ap (λ z. record { phase = z; terms = c.terms; answer = c.answer }) p ∙ ap (λ z. record { phase = d.phase; terms = z; answer = c.answer }) q ∙ ap (λ z. record { phase = d.phase; terms = d.terms; answer = z }) r
+    same-course c d p q r =
+        ap (λ z. record { phase = z; terms = c.terms; answer = c.answer }) p
+        ∙ ap (λ z. record { phase = d.phase; terms = z; answer = c.answer }) q
+        ∙ ap (λ z. record { phase = d.phase; terms = d.terms; answer = z }) r
 
 abbrev pub KnownOf : Link → List Turn → List Turn → Ends → Type 0
 KnownOf link sent heard ends = Known link.orig.setup link.answ.setup sent heard (course ends.orig) (course ends.answ)
 
-pub known-mid : (reads : ReadsAllowed) (keeps : KeepsTaken) (written : ReadsWritten) (link : Link) (delay : Role → ℕ) (ts : List Turn) (before : Ends) (t : Turn) (mid : Ends) → MayPlay link.orig.setup link.answ.setup → RunOf link ts before → KnownOf link ts ts before → Carries delay ts t → Hears (length ts) before t mid → KnownOf link ts (t ∷ ts) mid
+pub known-mid : (reads : ReadsAllowed) (keeps : KeepsTaken) (written : ReadsWritten) (link : Link) (delay : Role → ℕ) (ts : List Turn)
+    (before : Ends) (t : Turn) (mid : Ends) → MayPlay link.orig.setup link.answ.setup → RunOf link ts before → KnownOf link ts ts before
+    → Carries delay ts t → Hears (length ts) before t mid → KnownOf link ts (t ∷ ts) mid
 known-mid reads keeps written link delay ts before t mid p h m c k =
     let s = kept-run reads keeps (HasSetup link) link (setups-kept link) ts before h in
-    let read : Reads link.orig.setup link.answ.setup = record { orig = written link.orig.setup.offer p.offer_o; answ = written link.answ.setup.offer p.offer_a } in
-    known-heard link.orig.setup link.answ.setup read delay ts t (course before.orig) (course before.answ) (course mid.orig) (course mid.answ) m c
-    (subst (λ (z : Setup). course mid.orig ≡ heard_course Originator z.offer before.orig.phase (arrival t.orig.heard) (course before.orig)) (s Originator)
-    (course-heard Originator (length ts) (arrival t.orig.heard) before.orig mid.orig (ap (λ (z : Setup). z.role) (s Originator) ∙ p.originates) (k Originator).hears))
-    (subst (λ (z : Setup). course mid.answ ≡ heard_course Answerer z.offer before.answ.phase (arrival t.answ.heard) (course before.answ)) (s Answerer)
-    (course-heard Answerer (length ts) (arrival t.answ.heard) before.answ mid.answ (ap (λ (z : Setup). z.role) (s Answerer) ∙ p.answers) (k Answerer).hears))
+    let read : Reads link.orig.setup link.answ.setup =
+    record { orig = written link.orig.setup.offer p.offer_o; answ = written link.answ.setup.offer p.offer_a } in
+    known-heard link.orig.setup link.answ.setup read delay ts t (course before.orig) (course before.answ) (course mid.orig)
+    (course mid.answ) m c
+    (subst (λ (z : Setup). course mid.orig ≡ heard_course Originator z.offer before.orig.phase (arrival t.orig.heard) (course before.orig))
+    (s Originator)
+    (course-heard Originator (length ts) (arrival t.orig.heard) before.orig mid.orig
+    (ap (λ (z : Setup). z.role) (s Originator) ∙ p.originates) (k Originator).hears))
+    (subst (λ (z : Setup). course mid.answ ≡ heard_course Answerer z.offer before.answ.phase (arrival t.answ.heard) (course before.answ))
+    (s Answerer)
+    (course-heard Answerer (length ts) (arrival t.answ.heard) before.answ mid.answ (ap (λ (z : Setup). z.role) (s Answerer) ∙ p.answers)
+    (k Answerer).hears))
 
-pub known-run : (reads : ReadsAllowed) (keeps : KeepsTaken) (written : ReadsWritten) (link : Link) (delay : Role → ℕ) → MayPlay link.orig.setup link.answ.setup → (ts : List Turn) (ends : Ends) → IsCarried delay ts → RunOf link ts ends → KnownOf link ts ts ends
+pub known-run : (reads : ReadsAllowed) (keeps : KeepsTaken) (written : ReadsWritten) (link : Link) (delay : Role → ℕ)
+    → MayPlay link.orig.setup link.answ.setup → (ts : List Turn) (ends : Ends) → IsCarried delay ts → RunOf link ts ends
+    → KnownOf link ts ts ends
 known-run reads keeps written link delay p [] ends c h = subst (KnownOf link [] []) (sym h) (record {
   sent_o = tt;
   sent_a = tt;
@@ -266,18 +313,25 @@ known-run reads keeps written link delay p (t ∷ ts) ends c h =
     let ko = g.speaking Originator in
     let ka = g.speaking Answerer in
     let release = told link turn g.mid Originator in
-    let mid = known-mid reads keeps written link delay ts before t g.mid p h.1 (known-run reads keeps written link delay p ts before c.1 h.1) c.0 g.hearing in
+    let mid = known-mid reads keeps written link delay ts before t g.mid p h.1
+    (known-run reads keeps written link delay p ts before c.1 h.1) c.0 g.hearing in
     let left : Known link.orig.setup link.answ.setup ts (t ∷ ts) (course o) (course a) =
     subst (λ z. Known link.orig.setup link.answ.setup ts (t ∷ ts) z (course a)) (sym (course-served link.orig.user turn _ g.mid.orig))
-    (subst (λ z. Known link.orig.setup link.answ.setup ts (t ∷ ts) (course g.mid.orig) z) (sym (course-served link.answ.user turn _ g.mid.answ)) mid) in
+    (subst (λ z. Known link.orig.setup link.answ.setup ts (t ∷ ts) (course g.mid.orig) z)
+    (sym (course-served link.answ.user turn _ g.mid.answ)) mid) in
     let setups : AtBoth (HasSetup link) ends = kept-run reads keeps (HasSetup link) link (setups-kept link) (t ∷ ts) ends h in
     let go = speaks-at link turn g.mid Originator ko.said ko.says in
     let ga = speaks-at link turn g.mid Answerer ka.said ka.says in
-    let m = known-spoken link.orig.setup link.answ.setup ts t o a release ko.said ka.said left (setup-before release o ko.said.account ends.orig ko.after_is go (setups Originator)) (setup-before false a ka.said.account ends.answ ka.after_is ga (setups Answerer)) p.answers
-    go ga (is-said turn release o ko.said ko.says) (is-said turn false a ka.said ka.says) (is-declared turn release o ko.said ko.says) (is-declared turn false a ka.said ka.says) ko.sent_is ka.sent_is in
+    let m = known-spoken link.orig.setup link.answ.setup ts t o a release ko.said ka.said left
+    (setup-before release o ko.said.account ends.orig ko.after_is go (setups Originator))
+    (setup-before false a ka.said.account ends.answ ka.after_is ga (setups Answerer)) p.answers
+    go ga (is-said turn release o ko.said ko.says) (is-said turn false a ka.said ka.says) (is-declared turn release o ko.said ko.says)
+    (is-declared turn false a ka.said ka.says) ko.sent_is ka.sent_is in
     subst (λ (x : Account). Known link.orig.setup link.answ.setup (t ∷ ts) (t ∷ ts) (course x) (course ends.answ)) (sym ko.after_is)
-    (subst (λ (x : Account). Known link.orig.setup link.answ.setup (t ∷ ts) (t ∷ ts) (course ko.said.account) (course x)) (sym ka.after_is) m)
+    (subst (λ (x : Account). Known link.orig.setup link.answ.setup (t ∷ ts) (t ∷ ts) (course ko.said.account) (course x))
+    (sym ka.after_is) m)
   where
     setup-before : {s : Setup} (release : Bool) (x y e : Account) → e ≡ y → Speaks release x y → e.setup ≡ s → x.setup ≡ s
     setup-before {s} release x y e q (Keeps_on l) w = sym (ap (λ (z : Ledger). z.books.setup) l) ∙ sym (ap (λ (v : Account). v.setup) q) ∙ w
-    setup-before {s} release x y e q (Releases on r linked l n) w = sym (ap (λ (z : Ledger). z.books.setup) l) ∙ sym (ap (λ (v : Account). v.setup) q) ∙ w
+    setup-before {s} release x y e q (Releases on r linked l n) w =
+        sym (ap (λ (z : Ledger). z.books.setup) l) ∙ sym (ap (λ (v : Account). v.setup) q) ∙ w

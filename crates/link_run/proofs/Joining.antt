@@ -46,7 +46,8 @@ or-either : (b c : Bool) → (b || c) ≡ true → (b ≡ true) ⊎ (c ≡ true)
 or-either true c e = inl refl
 or-either false c e = inr e
 
-ago-any : (is : Frame → Bool) (role : Role) (k : ℕ) (ts : List Turn) → sent_is is (sent_in role (slice_get ts k)) ≡ true → any_sent is role ts ≡ true
+ago-any : (is : Frame → Bool) (role : Role) (k : ℕ) (ts : List Turn) → sent_is is (sent_in role (slice_get ts k)) ≡ true
+    → any_sent is role ts ≡ true
 ago-any is role k [] e = absurd (false≢true e)
 ago-any is role zero (t ∷ ts) e = or-left (sent_is is (of role t).sent) (any_sent is role ts) e
 ago-any is role (suc k) (t ∷ ts) e = or-right (sent_is is (of role t).sent) (any_sent is role ts) (ago-any is role k ts e)
@@ -58,7 +59,8 @@ brought is o Chance c e = absurd (false≢true e)
 brought is None (Passed s) c e = absurd c
 brought is (Some slot) (Passed s) c e = ap (carries is) (sym c.0) ∙ (sym (brings-carried is s) ∙ e)
 
-pub came : (is : Frame → Bool) (delay : Role → ℕ) (role : Role) (ts : List Turn) (h : Heard) → Crosses (sent_ago (delay role) role ts) h → brings is (arrival h) ≡ true → any_sent is role ts ≡ true
+pub came : (is : Frame → Bool) (delay : Role → ℕ) (role : Role) (ts : List Turn) (h : Heard) → Crosses (sent_ago (delay role) role ts) h
+    → brings is (arrival h) ≡ true → any_sent is role ts ≡ true
 came is delay role ts h c e = ago-any is role (delay role - 1) ts (brought is (sent_ago (delay role) role ts) h c e)
 
 -- how far the ends are, after these turns
@@ -81,7 +83,8 @@ still-never : (a b : Account) → GoesOn a b → stage a.phase ≢ 2 → stage b
 still-never a b (inl s) h z = h (s.unreleased z)
 still-never a b (inr e) h z = omega (arith, ap stage e.is, z)
 
-met-heard : (ts : List Turn) (o a p b : Account) (delay : Role → ℕ) (ho ha : Heard) → Met ts o a → o.setup.role ≡ Originator → GoesOn o p → GoesOn a b → Told o.phase (arrival ho) o p → Told a.phase (arrival ha) a b
+met-heard : (ts : List Turn) (o a p b : Account) (delay : Role → ℕ) (ho ha : Heard) → Met ts o a → o.setup.role ≡ Originator → GoesOn o p
+    → GoesOn a b → Told o.phase (arrival ho) o p → Told a.phase (arrival ha) a b
     → Crosses (sent_ago (delay Answerer) Answerer ts) ho → Crosses (sent_ago (delay Originator) Originator ts) ha → Met ts p b
 met-heard ts o a p b delay ho ha m role go ga to ta co ca =
     let lo = later o p go in
@@ -142,7 +145,8 @@ pub serving : (u : User) (turn : ℕ) (released : Bool) (a : Account) → Leaves
 serving u turn released a =
     let d = delivered-leaves a in
     let g = after_given (delivered a) in
-    let due = busy-answer (is_busy turn u.busy) (offered u.file g) ∙ ap (λ (b : Account). b.owes.answer) (offers-alone (room_for g) u.file g) ∙ d.answer in
+    let due = busy-answer (is_busy turn u.busy) (offered u.file g)
+    ∙ ap (λ (b : Account). b.owes.answer) (offers-alone (room_for g) u.file g) ∙ d.answer in
     subst (Leaves a) (sym (served-alone u turn released a)) (record { phase = d.phase; answer = due; part_is = d.part_is; setup = d.setup })
 
 later-spoken : (release : Bool) (a b : Account) → Speaks release a b → stage a.phase ≤ stage b.phase
@@ -157,7 +161,8 @@ linked-spoken : (release : Bool) (a b : Account) → Speaks release a b → 1 �
 linked-spoken release a b (Keeps_on e) z = omega (arith, z, ap (λ (l : Ledger). stage l.phase) e)
 linked-spoken release a b (Releases on role linked e k) z = omega (arith, ap stage linked)
 
-met-spoken : (ts : List Turn) (t : Turn) (o a : Account) (release : Bool) (p b : Said) → Met ts o a → a.setup.role ≡ Answerer → Speaks release o p.account → Speaks false a b.account → Says o.phase o p → Says a.phase a b
+met-spoken : (ts : List Turn) (t : Turn) (o a : Account) (release : Bool) (p b : Said) → Met ts o a → a.setup.role ≡ Answerer
+    → Speaks release o p.account → Speaks false a b.account → Says o.phase o p → Says a.phase a b
     → t.orig.sent ≡ Some (spoken p) → t.answ.sent ≡ Some (spoken b) → Met (t ∷ ts) p.account b.account
 met-spoken ts t o a release p b m role go ga to ta so sa =
     let lo = later-spoken release o p.account go in
@@ -206,14 +211,20 @@ met-left ts o a p b l k m = record {
   never = λ z. m.never (omega (arith, ap stage k.phase, z));
 }
 
-pub met-mid : (reads : ReadsAllowed) (keeps : KeepsTaken) (link : Link) (delay : Role → ℕ) (ts : List Turn) (before : Ends) (t : Turn) (mid : Ends) → MayPlay link.orig.setup link.answ.setup → RunOf link ts before → Met ts before.orig before.answ → Carries delay ts t → Hears (length ts) before t mid → Met ts mid.orig mid.answ
+pub met-mid : (reads : ReadsAllowed) (keeps : KeepsTaken) (link : Link) (delay : Role → ℕ) (ts : List Turn) (before : Ends) (t : Turn)
+    (mid : Ends) → MayPlay link.orig.setup link.answ.setup → RunOf link ts before → Met ts before.orig before.answ → Carries delay ts t
+    → Hears (length ts) before t mid → Met ts mid.orig mid.answ
 met-mid reads keeps link delay ts before t mid p h m c k =
     let s = kept-run reads keeps (HasSetup link) link (setups-kept link) ts before h in
-    met-heard ts before.orig before.answ mid.orig mid.answ delay t.orig.heard t.answ.heard m (ap (λ (x : Setup). x.role) (s Originator) ∙ p.originates)
-    (hears reads keeps (length ts) (arrival t.orig.heard) before.orig mid.orig (k Originator).hears) (hears reads keeps (length ts) (arrival t.answ.heard) before.answ mid.answ (k Answerer).hears)
-    (is-told (length ts) (arrival t.orig.heard) before.orig mid.orig (k Originator).hears) (is-told (length ts) (arrival t.answ.heard) before.answ mid.answ (k Answerer).hears) (c Originator) (c Answerer)
+    met-heard ts before.orig before.answ mid.orig mid.answ delay t.orig.heard t.answ.heard m
+    (ap (λ (x : Setup). x.role) (s Originator) ∙ p.originates)
+    (hears reads keeps (length ts) (arrival t.orig.heard) before.orig mid.orig (k Originator).hears)
+    (hears reads keeps (length ts) (arrival t.answ.heard) before.answ mid.answ (k Answerer).hears)
+    (is-told (length ts) (arrival t.orig.heard) before.orig mid.orig (k Originator).hears)
+    (is-told (length ts) (arrival t.answ.heard) before.answ mid.answ (k Answerer).hears) (c Originator) (c Answerer)
 
-pub met-run : (reads : ReadsAllowed) (keeps : KeepsTaken) (link : Link) (delay : Role → ℕ) → MayPlay link.orig.setup link.answ.setup → (ts : List Turn) (ends : Ends) → IsCarried delay ts → RunOf link ts ends → Met ts ends.orig ends.answ
+pub met-run : (reads : ReadsAllowed) (keeps : KeepsTaken) (link : Link) (delay : Role → ℕ) → MayPlay link.orig.setup link.answ.setup
+    → (ts : List Turn) (ends : Ends) → IsCarried delay ts → RunOf link ts ends → Met ts ends.orig ends.answ
 met-run reads keeps link delay p [] ends c h = subst (λ (e : Ends). Met [] e.orig e.answ) (sym h) (record {
   up = λ z. absurd (omega (arith, z));
   uas = λ z. absurd (false≢true z);
@@ -239,10 +250,14 @@ met-run reads keeps link delay p (t ∷ ts) ends c h =
     let la = serving link.answ.user turn r g.mid.answ in
     let setup = kept-run reads keeps (HasSetup link) link (setups-kept link) (t ∷ ts) ends h Answerer in
     let left = met-left ts g.mid.orig g.mid.answ o a lo la mid in
-    let role : a.setup.role ≡ Answerer = role-of ends ka.said.account a ka.after_is (speaks-at link turn g.mid Answerer ka.said ka.says) (ap (λ (x : Setup). x.role) setup ∙ p.answers) in
-    let m = met-spoken ts t o a (told link turn g.mid Originator) ko.said ka.said left role (speaks-at link turn g.mid Originator ko.said ko.says) (speaks-at link turn g.mid Answerer ka.said ka.says)
+    let role : a.setup.role ≡ Answerer =
+    role-of ends ka.said.account a ka.after_is (speaks-at link turn g.mid Answerer ka.said ka.says)
+    (ap (λ (x : Setup). x.role) setup ∙ p.answers) in
+    let m = met-spoken ts t o a (told link turn g.mid Originator) ko.said ka.said left role
+    (speaks-at link turn g.mid Originator ko.said ko.says) (speaks-at link turn g.mid Answerer ka.said ka.says)
     (is-said turn (told link turn g.mid Originator) o ko.said ko.says) (is-said turn false a ka.said ka.says) ko.sent_is ka.sent_is in
-    subst (λ (x : Account). Met (t ∷ ts) x ends.answ) (sym ko.after_is) (subst (λ (x : Account). Met (t ∷ ts) ko.said.account x) (sym ka.after_is) m)
+    subst (λ (x : Account). Met (t ∷ ts) x ends.answ) (sym ko.after_is)
+    (subst (λ (x : Account). Met (t ∷ ts) ko.said.account x) (sym ka.after_is) m)
   where
     role-of : (e : Ends) (x y : Account) → e.answ ≡ x → Speaks false y x → e.answ.setup.role ≡ Answerer → y.setup.role ≡ Answerer
     role-of e x y q (Keeps_on z) w = sym (ap (λ (l : Ledger). l.books.setup.role) z) ∙ sym (ap (λ (v : Account). v.setup.role) q) ∙ w

@@ -48,7 +48,15 @@ pub record Books : Type 0 where
   pub lengths : List ℕ
 
 abbrev pub books : Account → Books
-books a = record { setup = a.setup; pieces = a.outgoing.pieces; ended = a.outgoing.ended; given = a.incoming.given; told = a.breaks_told; lengths = a.own_breaks.lengths }
+books a = record {
+  setup = a.setup;
+  pieces = a.outgoing.pieces;
+  ended = a.outgoing.ended;
+  given = a.incoming.given;
+  told =
+      a.breaks_told;
+  lengths = a.own_breaks.lengths;
+}
 
 -- before it is Connected, then, releasing, closed
 abbrev pub stage : Phase → ℕ
@@ -105,7 +113,8 @@ OnHearing a (Ok b) = GoesOn a b
 OnHearing a (Err fault) = WantsAnswers (Some fault) → ⊥
 
 -- nothing that counts changes
-same : (a b : Account) → books b ≡ books a → (b.outgoing.size ≡ a.outgoing.size) × (b.outgoing.high ≡ a.outgoing.high) → b.incoming.taken ≡ a.incoming.taken → b.their_breaks.lengths ≡ a.their_breaks.lengths → stage b.phase ≡ stage a.phase
+same : (a b : Account) → books b ≡ books a → (b.outgoing.size ≡ a.outgoing.size) × (b.outgoing.high ≡ a.outgoing.high)
+    → b.incoming.taken ≡ a.incoming.taken → b.their_breaks.lengths ≡ a.their_breaks.lengths → stage b.phase ≡ stage a.phase
     → (IsAllowed a.setup.offer → AreTerms a.terms → AreTerms b.terms) → GoesOn a b
 same a b books_are sent taken theirs phase terms = inl (record {
   books_are = books_are;
@@ -125,7 +134,9 @@ same a b books_are sent taken theirs phase terms = inl (record {
 })
 
 -- the end is closed
-closes : (a b : Account) → books b ≡ books a → (b.outgoing.size ≡ a.outgoing.size) × (b.outgoing.high ≡ a.outgoing.high) → b.incoming.taken ≡ a.incoming.taken → b.their_breaks.lengths ≡ a.their_breaks.lengths → 1 ≤ stage a.phase → stage b.phase ≡ 3 → b.terms ≡ a.terms → (a.setup.role ≡ Originator → 2 ≤ stage a.phase) → GoesOn a b
+closes : (a b : Account) → books b ≡ books a → (b.outgoing.size ≡ a.outgoing.size) × (b.outgoing.high ≡ a.outgoing.high)
+    → b.incoming.taken ≡ a.incoming.taken → b.their_breaks.lengths ≡ a.their_breaks.lengths → 1 ≤ stage a.phase → stage b.phase ≡ 3
+    → b.terms ≡ a.terms → (a.setup.role ≡ Originator → 2 ≤ stage a.phase) → GoesOn a b
 closes a b books_are sent taken theirs from to terms hangs = inl (record {
   books_are = books_are;
   size = sent.0;
@@ -156,9 +167,20 @@ agreed : (o a : Offer) → IsAllowed o → IsAllowed a → AreTerms (agree o a)
 agreed o a h k = (omega (arith, h.tx_len_low, k.rx_len_low), omega (arith, k.tx_len_low, h.rx_len_low))
 
 allowed-default : IsAllowed default_offer
-allowed-default = record { tx_len_low = lit≤ tt; tx_len_high = lit≤ tt; rx_len_low = lit≤ tt; rx_len_high = lit≤ tt; tx_window_low = lit≤ tt; tx_window_high = lit≤ tt; rx_window_low = lit≤ tt; rx_window_high = lit≤ tt }
+allowed-default = record {
+  tx_len_low = lit≤ tt;
+  tx_len_high = lit≤ tt;
+  rx_len_low = lit≤ tt;
+  rx_len_high = lit≤ tt;
+  tx_window_low =
+      lit≤ tt;
+  tx_window_high = lit≤ tt;
+  rx_window_low = lit≤ tt;
+  rx_window_high = lit≤ tt;
+}
 
-enters : (turn : ℕ) (a b : Account) → stage a.phase ≡ 0 → b.setup ≡ a.setup → b.own_breaks ≡ a.own_breaks → b.their_breaks ≡ a.their_breaks → b.breaks_told ≡ a.breaks_told → (IsAllowed a.setup.offer → AreTerms a.terms → AreTerms b.terms) → (f : Account → Account)
+enters : (turn : ℕ) (a b : Account) → stage a.phase ≡ 0 → b.setup ≡ a.setup → b.own_breaks ≡ a.own_breaks → b.their_breaks ≡ a.their_breaks
+    → b.breaks_told ≡ a.breaks_told → (IsAllowed a.setup.offer → AreTerms a.terms → AreTerms b.terms) → (f : Account → Account)
     → f (connected turn b) ≡ record (connected turn b) { owes = (f (connected turn b)).owes } → GoesOn a (f (connected turn b))
 enters turn a b was setup own their told terms f e = subst (λ (c : Account). GoesOn a c) (sym e) (inr (record {
   was = was;
@@ -177,24 +199,31 @@ enters turn a b was setup own their told terms f e = subst (λ (c : Account). Go
   terms = terms;
 }))
 
-command-terms : (a : Account) (o : Option Offer) → ((p : Offer) → o ≡ Some p → IsAllowed p) → stage a.phase ≡ 0 → GoesOn a (on_xid_command o a)
+command-terms : (a : Account) (o : Option Offer) → ((p : Offer) → o ≡ Some p → IsAllowed p) → stage a.phase ≡ 0
+    → GoesOn a (on_xid_command o a)
 command-terms a None h was = same a a refl (refl, refl) refl refl refl (λ o t. t)
-command-terms a (Some p) h was = same a (on_xid_command (Some p) a) refl (refl, refl) refl refl (sym was) (λ o t. agreed p a.setup.offer (h p refl) o)
+command-terms a (Some p) h was =
+    same a (on_xid_command (Some p) a) refl (refl, refl) refl refl (sym was) (λ o t. agreed p a.setup.offer (h p refl) o)
 
-response-terms : (a : Account) (turn : ℕ) (o : Option Offer) → ((p : Offer) → o ≡ Some p → IsAllowed p) → stage a.phase ≡ 0 → GoesOn a (on_xid_response o turn a)
+response-terms : (a : Account) (turn : ℕ) (o : Option Offer) → ((p : Offer) → o ≡ Some p → IsAllowed p) → stage a.phase ≡ 0
+    → GoesOn a (on_xid_response o turn a)
 response-terms a turn None h was = same a a refl (refl, refl) refl refl refl (λ o t. t)
-response-terms a turn (Some p) h was = same a (on_xid_response (Some p) turn a) refl (refl, refl) refl refl (sym was) (λ o t. agreed a.setup.offer p o (h p refl))
+response-terms a turn (Some p) h was =
+    same a (on_xid_response (Some p) turn a) refl (refl, refl) refl refl (sym was) (λ o t. agreed a.setup.offer p o (h p refl))
 
 kept : (a : Account) → GoesOn a a
 kept a = same a a refl (refl, refl) refl refl refl (λ o t. t)
 
-detecting : (reads : ReadsAllowed) (role : Role) (frame : Frame) (turn : ℕ) (a : Account) → stage a.phase ≡ 0 → OnHearing a (on_detecting role frame turn a)
+detecting : (reads : ReadsAllowed) (role : Role) (frame : Frame) (turn : ℕ) (a : Account) → stage a.phase ≡ 0
+    → OnHearing a (on_detecting role frame turn a)
 detecting reads Answerer (Xid true pf info) turn a e = command-terms a (offer_in info) (λ p. reads info p) e
 detecting reads Answerer (Sabme pf) turn a e =
-    enters turn a (record a { terms = agree default_offer a.setup.offer }) e refl refl refl refl (λ o t. agreed default_offer a.setup.offer allowed-default o) (owing (answers.Ua pf)) refl
+    enters turn a (record a { terms = agree default_offer a.setup.offer }) e refl refl refl refl
+    (λ o t. agreed default_offer a.setup.offer allowed-default o) (owing (answers.Ua pf)) refl
 detecting reads role frame turn a e = kept a
 
-negotiating : (reads : ReadsAllowed) (role : Role) (frame : Frame) (turn : ℕ) (a : Account) → stage a.phase ≡ 0 → OnHearing a (on_negotiating role frame turn a)
+negotiating : (reads : ReadsAllowed) (role : Role) (frame : Frame) (turn : ℕ) (a : Account) → stage a.phase ≡ 0
+    → OnHearing a (on_negotiating role frame turn a)
 negotiating reads Originator (Xid false pf info) turn a e = response-terms a turn (offer_in info) (λ p. reads info p) e
 negotiating reads Originator (Dm pf) turn a e = λ z. z
 negotiating reads Answerer (Xid true pf info) turn a e = command-terms a (offer_in info) (λ p. reads info p) e
@@ -208,8 +237,12 @@ establishing (Dm true) turn a e = λ z. z
 establishing frame turn a e = kept a
 
 releasing : (frame : Frame) (a : Account) → a.phase ≡ Releasing → OnHearing a (on_releasing frame a)
-releasing (Ua true) a e = closes a (record a { phase = Closed }) refl (refl, refl) refl refl (omega (arith, ap stage e)) refl refl (λ o. omega (arith, ap stage e))
-releasing (Dm true) a e = closes a (record a { phase = Closed }) refl (refl, refl) refl refl (omega (arith, ap stage e)) refl refl (λ o. omega (arith, ap stage e))
+releasing (Ua true) a e =
+    closes a (record a { phase = Closed }) refl (refl, refl) refl refl (omega (arith, ap stage e)) refl refl
+    (λ o. omega (arith, ap stage e))
+releasing (Dm true) a e =
+    closes a (record a { phase = Closed }) refl (refl, refl) refl refl (omega (arith, ap stage e)) refl refl
+    (λ o. omega (arith, ap stage e))
 releasing frame a e = kept a
 
 closed : (frame : Frame) (a : Account) → OnHearing a (on_closed frame a)
@@ -232,19 +265,23 @@ same-out o f h None = tt
 same-out o f h (Some n) = h n
 
 out-acknowledged : (nr : ℕ) (o : Outgoing) → IfOut o (acknowledged nr o)
-out-acknowledged nr o = same-out o (advanced o) (λ n. record { pieces = refl; ended = refl; size = refl; high = refl }) (meant o.front o.high nr)
+out-acknowledged nr o =
+    same-out o (advanced o) (λ n. record { pieces = refl; ended = refl; size = refl; high = refl }) (meant o.front o.high nr)
 
 out-rejected : (nr : ℕ) (o : Outgoing) → IfOut o (rejected nr o)
-out-rejected nr o = same-out o (λ n. gone_back (advanced o n)) (λ n. record { pieces = refl; ended = refl; size = refl; high = refl }) (meant o.front o.high nr)
+out-rejected nr o = same-out o (λ n. gone_back (advanced o n)) (λ n. record { pieces = refl; ended = refl; size = refl; high = refl })
+    (meant o.front o.high nr)
 
 out-replied : (nr : ℕ) (o : Outgoing) → IfOut o (replied nr o)
-out-replied nr o = same-out o (λ n. wait_ended (advanced o n)) (λ n. record { pieces = refl; ended = refl; size = refl; high = refl }) (meant o.front o.high nr)
+out-replied nr o = same-out o (λ n. wait_ended (advanced o n)) (λ n. record { pieces = refl; ended = refl; size = refl; high = refl })
+    (meant o.front o.high nr)
 
 out-selected : (nr : ℕ) (o : Outgoing) → IfOut o (selected nr o)
 out-selected nr o = go (is_outstanding o)
   where
     go : (b : Bool) → IfOut o (cond b (option_map (λ n. record o { chosen = with_number n o.chosen }) (meant o.front (o.high - 1) nr)) None)
-    go true = same-out o (λ n. record o { chosen = with_number n o.chosen }) (λ n. record { pieces = refl; ended = refl; size = refl; high = refl }) (meant o.front (o.high - 1) nr)
+    go true = same-out o (λ n. record o { chosen = with_number n o.chosen })
+        (λ n. record { pieces = refl; ended = refl; size = refl; high = refl }) (meant o.front (o.high - 1) nr)
     go false = tt
 
 out-paused : (o : Outgoing) (m : Option Outgoing) → IfOut o m → IfOut o (option_map paused_at m)
@@ -260,19 +297,31 @@ out-resumed o (Some p) h = go p.paused
     go false = h
 
 out-books : (a : Account) (ps : List (List ℕ)) (e : Bool) → ps ≡ a.outgoing.pieces → e ≡ a.outgoing.ended
-    → record { setup = a.setup; pieces = ps; ended = e; given = a.incoming.given; told = a.breaks_told; lengths = a.own_breaks.lengths } ≡ books a
+    → record {
+      setup = a.setup;
+      pieces = ps;
+      ended = e;
+      given = a.incoming.given;
+      told = a.breaks_told;
+      lengths =
+          a.own_breaks.lengths;
+    } ≡ books a
 out-books a ps e p q = rw (p, q) refl
 
-numbered : (turn nr : ℕ) (a : Account) (m : Option Outgoing) (asked ended : Bool) → IfOut a.outgoing m → OnHearing a (then_in (λ b. hurrying ended (replying asked b)) (on_number turn nr m a))
+numbered : (turn nr : ℕ) (a : Account) (m : Option Outgoing) (asked ended : Bool) → IfOut a.outgoing m
+    → OnHearing a (then_in (λ b. hurrying ended (replying asked b)) (on_number turn nr m a))
 numbered turn nr a None asked ended h = λ z. z
 numbered turn nr a (Some new) asked ended h = same a
-    (hurrying ended (replying asked (record a { numbered = true; outgoing = new; wait = record a.wait { timer = timer_after turn a.outgoing new a.wait.timer } })))
+    (hurrying ended (replying asked
+    (record a { numbered = true; outgoing = new; wait = record a.wait { timer = timer_after turn a.outgoing new a.wait.timer } })))
     (out-books a new.pieces new.ended h.pieces h.ended) (h.size, h.high) refl refl refl (λ o t. t)
 
-hushed : (turn nr : ℕ) (a : Account) (m : Option Outgoing) (asked : Bool) → IfOut a.outgoing m → OnHearing a (then_in (λ b. pausing turn (replying asked b)) (on_number turn nr m a))
+hushed : (turn nr : ℕ) (a : Account) (m : Option Outgoing) (asked : Bool) → IfOut a.outgoing m
+    → OnHearing a (then_in (λ b. pausing turn (replying asked b)) (on_number turn nr m a))
 hushed turn nr a None asked h = λ z. z
 hushed turn nr a (Some new) asked h = same a
-    (pausing turn (replying asked (record a { numbered = true; outgoing = new; wait = record a.wait { timer = timer_after turn a.outgoing new a.wait.timer } })))
+    (pausing turn (replying asked
+    (record a { numbered = true; outgoing = new; wait = record a.wait { timer = timer_after turn a.outgoing new a.wait.timer } })))
     (out-books a new.pieces new.ended h.pieces h.ended) (h.size, h.high) refl refl refl (λ o t. t)
 
 out-cond : (b : Bool) (o : Outgoing) (m n : Option Outgoing) → IfOut o m → IfOut o n → IfOut o (cond b m n)
@@ -289,13 +338,15 @@ take-books : (a : Account) (ps : List (List ℕ)) (e : Bool) (g : ℕ) → ps �
     → record { setup = a.setup; pieces = ps; ended = e; given = g; told = a.breaks_told; lengths = a.own_breaks.lengths } ≡ books a
 take-books a ps e g p q r = rw (p, q, r) refl
 
-segment : (keeps : KeepsTaken) (turn ns nr : ℕ) (info : List ℕ) (a : Account) (m : Option Outgoing) (asked : Bool) → a.phase ≡ Connected → IfOut a.outgoing m
+segment : (keeps : KeepsTaken) (turn ns nr : ℕ) (info : List ℕ) (a : Account) (m : Option Outgoing) (asked : Bool) → a.phase ≡ Connected
+    → IfOut a.outgoing m
     → OnHearing a (then_in (λ b. replying asked (taking ns info b)) (on_number turn nr m a))
 segment keeps turn ns nr info a None asked e h = λ z. z
 segment keeps turn ns nr info a (Some new) asked e h =
     let more = keeps ns info a.incoming in
     inl (record {
-      books_are = take-books a new.pieces new.ended (after_take ns info a.incoming).given h.pieces h.ended (kind-given (kind_of ns a.incoming) (offset a.incoming ns) info a.incoming);
+      books_are = take-books a new.pieces new.ended (after_take ns info a.incoming).given h.pieces h.ended
+          (kind-given (kind_of ns a.incoming) (offset a.incoming ns) info a.incoming);
       size = h.size;
       high = h.high;
       taken = more.0;
@@ -343,7 +394,15 @@ word turn (Ok (Brk number length_octet)) a e =
     })
 word turn (Ok (Ack number length_octet)) a e =
     same a (on_word turn (Ok (Ack number length_octet)) a)
-    (ap (λ l. record { setup = a.setup; pieces = a.outgoing.pieces; ended = a.outgoing.ended; given = a.incoming.given; told = a.breaks_told; lengths = l }) (answer-lengths turn number a.own_breaks)) (refl, refl) refl refl refl (λ o t. t)
+    (ap (λ l. record {
+      setup = a.setup;
+      pieces = a.outgoing.pieces;
+      ended = a.outgoing.ended;
+      given = a.incoming.given;
+      told =
+          a.breaks_told;
+      lengths = l;
+    }) (answer-lengths turn number a.own_breaks)) (refl, refl) refl refl refl (λ o t. t)
 word turn (Err fault) a e = kept a
 
 answers-not : {r : Role} → r ≡ Answerer → r ≡ Originator → ⊥
@@ -358,27 +417,33 @@ sabme pf a = go (a.numbered || is_originator a.setup.role)
 
 disc : (role : Role) (pf : Bool) (a : Account) → a.phase ≡ Connected → a.setup.role ≡ role → OnHearing a (on_disc role pf a)
 disc Originator pf a e role = λ z. z
-disc Answerer pf a e role = closes a (owing (answers.Ua pf) (record a { phase = Closed })) refl (refl, refl) refl refl (omega (arith, ap stage e)) refl refl (λ o. absurd (answers-not role o))
+disc Answerer pf a e role =
+    closes a (owing (answers.Ua pf) (record a { phase = Closed })) refl (refl, refl) refl refl (omega (arith, ap stage e)) refl refl
+    (λ o. absurd (answers-not role o))
 
 linked : (keeps : KeepsTaken) (frame : Frame) (turn : ℕ) (a : Account) → a.phase ≡ Connected → OnHearing a (on_connected frame turn a)
 linked keeps (I ns nr pf info) turn a e = segment keeps turn ns nr info a (acknowledged nr a.outgoing) pf e (out-acknowledged nr a.outgoing)
 linked keeps (Rr command nr pf) turn a e =
     let m = cond (ends_wait command pf a) (replied nr a.outgoing) (acknowledged nr a.outgoing) in
-    let h = out-cond (ends_wait command pf a) a.outgoing (replied nr a.outgoing) (acknowledged nr a.outgoing) (out-replied nr a.outgoing) (out-acknowledged nr a.outgoing) in
+    let h = out-cond (ends_wait command pf a) a.outgoing (replied nr a.outgoing) (acknowledged nr a.outgoing) (out-replied nr a.outgoing)
+    (out-acknowledged nr a.outgoing) in
     numbered turn nr a (option_map resumed m) (command && pf) (ends_wait command pf a) (out-resumed a.outgoing m h)
 linked keeps (Rnr command nr pf) turn a e =
     let m = cond (ends_wait command pf a) (replied nr a.outgoing) (acknowledged nr a.outgoing) in
-    let h = out-cond (ends_wait command pf a) a.outgoing (replied nr a.outgoing) (acknowledged nr a.outgoing) (out-replied nr a.outgoing) (out-acknowledged nr a.outgoing) in
+    let h = out-cond (ends_wait command pf a) a.outgoing (replied nr a.outgoing) (acknowledged nr a.outgoing) (out-replied nr a.outgoing)
+    (out-acknowledged nr a.outgoing) in
     hushed turn nr a (option_map paused_at m) (command && pf) (out-paused a.outgoing m h)
 linked keeps (Rej command nr pf) turn a e =
     let m = cond (ends_wait command pf a) (replied nr a.outgoing) (rejected nr a.outgoing) in
-    let h = out-cond (ends_wait command pf a) a.outgoing (replied nr a.outgoing) (rejected nr a.outgoing) (out-replied nr a.outgoing) (out-rejected nr a.outgoing) in
+    let h = out-cond (ends_wait command pf a) a.outgoing (replied nr a.outgoing) (rejected nr a.outgoing) (out-replied nr a.outgoing)
+    (out-rejected nr a.outgoing) in
     numbered turn nr a (option_map resumed m) (command && pf) (ends_wait command pf a) (out-resumed a.outgoing m h)
 linked keeps (Srej command nr pf) turn a e = chosen (selected nr a.outgoing) (out-selected nr a.outgoing)
   where
     chosen : (m : Option Outgoing) → IfOut a.outgoing m → OnHearing a (on_number turn nr m a)
     chosen None h = λ z. z
-    chosen (Some new) h = same a (record a { numbered = true; outgoing = new; wait = record a.wait { timer = timer_after turn a.outgoing new a.wait.timer } })
+    chosen (Some new) h =
+        same a (record a { numbered = true; outgoing = new; wait = record a.wait { timer = timer_after turn a.outgoing new a.wait.timer } })
         (out-books a new.pieces new.ended h.pieces h.ended) (h.size, h.high) refl refl refl (λ o t. t)
 linked keeps (Sabme pf) turn a e = sabme pf a
 linked keeps (Disc pf) turn a e = disc a.setup.role pf a e refl
@@ -389,7 +454,8 @@ linked keeps (Ui command pf info) turn a e = word turn (word_in info) a e
 linked keeps (Xid command pf info) turn a e = kept a
 linked keeps (Test command pf info) turn a e = kept a
 
-framed : (reads : ReadsAllowed) (keeps : KeepsTaken) (p : Phase) (frame : Frame) (turn : ℕ) (a : Account) → a.phase ≡ p → OnHearing a (on_frame p frame turn a)
+framed : (reads : ReadsAllowed) (keeps : KeepsTaken) (p : Phase) (frame : Frame) (turn : ℕ) (a : Account) → a.phase ≡ p
+    → OnHearing a (on_frame p frame turn a)
 framed reads keeps Detecting frame turn a e = detecting reads a.setup.role frame turn a (ap stage e)
 framed reads keeps Negotiating frame turn a e = negotiating reads a.setup.role frame turn a (ap stage e)
 framed reads keeps Establishing frame turn a e = establishing frame turn a (ap stage e)
@@ -416,10 +482,12 @@ hearing reads keeps turn arrivals.Nothing a = same a (on_nothing a) refl (refl, 
 hearing reads keeps turn (arrivals.Pattern seen) a = sighted a.phase seen turn a refl
 hearing reads keeps turn (arrivals.Frame frame) a = framed reads keeps a.phase frame turn a refl
 
-pub hears : (reads : ReadsAllowed) (keeps : KeepsTaken) (turn : ℕ) (arrived : Arrived) (a b : Account) → hear turn arrived a ≡ Ok b → GoesOn a b
+pub hears : (reads : ReadsAllowed) (keeps : KeepsTaken) (turn : ℕ) (arrived : Arrived) (a b : Account) → hear turn arrived a ≡ Ok b
+    → GoesOn a b
 hears reads keeps turn arrived a b e = subst (OnHearing a) e (hearing reads keeps turn arrived a)
 
-pub breaks-not : (reads : ReadsAllowed) (keeps : KeepsTaken) (turn : ℕ) (arrived : Arrived) (a : Account) (fault : LinkFault) → hear turn arrived a ≡ Err fault → WantsAnswers (Some fault) → ⊥
+pub breaks-not : (reads : ReadsAllowed) (keeps : KeepsTaken) (turn : ℕ) (arrived : Arrived) (a : Account) (fault : LinkFault)
+    → hear turn arrived a ≡ Err fault → WantsAnswers (Some fault) → ⊥
 breaks-not reads keeps turn arrived a fault e = subst (OnHearing a) e (hearing reads keeps turn arrived a)
 
 -- an originator that was told to release, or a closed end: nothing of this changes any more

@@ -71,7 +71,8 @@ sent-weaker P Q f (Some slot) h = go slot.sent h
     go slots.Flags k = tt
     go (slots.Frame frame) k = f frame k
 
-pub all-weaker : (P Q : Frame → Type 0) → ((frame : Frame) → P frame → Q frame) → (role : Role) (ts : List Turn) → AllSent P role ts → AllSent Q role ts
+pub all-weaker : (P Q : Frame → Type 0) → ((frame : Frame) → P frame → Q frame) → (role : Role) (ts : List Turn) → AllSent P role ts
+    → AllSent Q role ts
 all-weaker P Q f role [] h = tt
 all-weaker P Q f role (t ∷ ts) h = (sent-weaker P Q f (of role t).sent h.0, all-weaker P Q f role ts h.1)
 
@@ -95,7 +96,8 @@ brought-all P None (Passed s) c k = absurd c
 brought-all P (Some slot) (Passed s) c k = subst (λ z. OnArrived P (arrives z)) (sym c.0) (on-arrives P slot.sent k)
 
 -- what arrives was sent
-pub came-all : (P : Frame → Type 0) (delay : Role → ℕ) (role : Role) (ts : List Turn) (h : Heard) → AllSent P role ts → Crosses (sent_ago (delay role) role ts) h → OnArrived P (arrival h)
+pub came-all : (P : Frame → Type 0) (delay : Role → ℕ) (role : Role) (ts : List Turn) (h : Heard) → AllSent P role ts
+    → Crosses (sent_ago (delay role) role ts) h → OnArrived P (arrival h)
 came-all P delay role ts h k c = brought-all P (sent_ago (delay role) role ts) h c (ago-all P role (delay role - 1) ts k)
 
 pub passed-brings : (is : Frame → Bool) (h : Heard) → passes_in is h ≡ brings is (arrival h)
@@ -205,50 +207,76 @@ pub record AfterO (so sa : Setup) (m : ℕ) (p : Phase) (arrived : Arrived) (b :
   pub xid : nat_le 2 (rank b.phase) ≡ (brings is_xid arrived || nat_le 2 (rank p))
   pub opened : nat_le 3 (rank b.phase) ≡ (brings (opens Originator) arrived || nat_le 3 (rank p))
 
-same-o : (so sa : Setup) (m : ℕ) (p : Phase) (arrived : Arrived) (terms : Terms) (answer : Option Answer) → DueO answer → terms ≡ cond (nat_le 2 (rank p)) (terms_of so sa) first_terms → (2 ≤ rank p → 1 ≤ m)
-    → nat_le 2 (rank p) ≡ (brings is_xid arrived || nat_le 2 (rank p)) → nat_le 3 (rank p) ≡ (brings (opens Originator) arrived || nat_le 3 (rank p)) → AfterO so sa m p arrived (record { phase = p; terms = terms; answer = answer })
+same-o : (so sa : Setup) (m : ℕ) (p : Phase) (arrived : Arrived) (terms : Terms) (answer : Option Answer) → DueO answer
+    → terms ≡ cond (nat_le 2 (rank p)) (terms_of so sa) first_terms → (2 ≤ rank p → 1 ≤ m)
+    → nat_le 2 (rank p) ≡ (brings is_xid arrived || nat_le 2 (rank p))
+    → nat_le 3 (rank p) ≡ (brings (opens Originator) arrived || nat_le 3 (rank p))
+    → AfterO so sa m p arrived (record { phase = p; terms = terms; answer = answer })
 same-o so sa m p arrived terms answer d t n x y = record { later = omega arith; due = d; terms = t; met = n; xid = x; opened = y }
 
 or-true : (b : Bool) → true ≡ (b || true)
 or-true true = refl
 or-true false = refl
 
-o-frame : (so sa : Setup) → Reads so sa → (m : ℕ) (p : Phase) (frame : Frame) (terms : Terms) (answer : Option Answer) → SentA sa (rank p) m frame → DueO answer → terms ≡ cond (nat_le 2 (rank p)) (terms_of so sa) first_terms → (2 ≤ rank p → 1 ≤ m)
-    → AfterO so sa m p (arrivals.Frame frame) (heard_course Originator so.offer p (arrivals.Frame frame) (record { phase = p; terms = terms; answer = answer }))
+o-frame : (so sa : Setup) → Reads so sa → (m : ℕ) (p : Phase) (frame : Frame) (terms : Terms) (answer : Option Answer)
+    → SentA sa (rank p) m frame → DueO answer → terms ≡ cond (nat_le 2 (rank p)) (terms_of so sa) first_terms → (2 ≤ rank p → 1 ≤ m)
+    → AfterO so sa m p (arrivals.Frame frame)
+    (heard_course Originator so.offer p (arrivals.Frame frame) (record { phase = p; terms = terms; answer = answer }))
 o-frame so sa reads m Detecting (Xid command pf info) terms answer s d t n = absurd (omega (arith, s.2))
 o-frame so sa reads m Detecting (Ua pf) terms answer s d t n = absurd (omega (arith, s.1))
 o-frame so sa reads m Detecting frame terms answer s d t n = same-o so sa m Detecting (arrivals.Frame frame) terms answer d t n refl refl
 o-frame so sa reads m Negotiating (Xid true pf info) terms answer s d t n = absurd (false≢true (sym s.0))
 o-frame so sa reads m Negotiating (Xid false pf info) terms answer s d t n =
-    subst (λ o. AfterO so sa m Negotiating (arrivals.Frame (Xid false pf info)) (responded o so.offer (record { phase = Negotiating; terms = terms; answer = answer })))
+    subst (λ o. AfterO so sa m Negotiating (arrivals.Frame (Xid false pf info))
+    (responded o so.offer (record { phase = Negotiating; terms = terms; answer = answer })))
     (sym (ap offer_in s.1 ∙ reads.answ)) (record { later = omega arith; due = d; terms = refl; met = λ z. s.3; xid = refl; opened = refl })
 o-frame so sa reads m Negotiating (Ua pf) terms answer s d t n = absurd (omega (arith, s.1))
-o-frame so sa reads m Negotiating frame terms answer s d t n = same-o so sa m Negotiating (arrivals.Frame frame) terms answer d t n refl refl
-o-frame so sa reads m Establishing (Ua true) terms answer s d t n = record { later = omega arith; due = d; terms = t; met = λ z. n (omega arith); xid = refl; opened = refl }
+o-frame so sa reads m Negotiating frame terms answer s d t n =
+    same-o so sa m Negotiating (arrivals.Frame frame) terms answer d t n refl refl
+o-frame so sa reads m Establishing (Ua true) terms answer s d t n =
+    record { later = omega arith; due = d; terms = t; met = λ z. n (omega arith); xid = refl; opened = refl }
 o-frame so sa reads m Establishing (Ua false) terms answer s d t n = absurd (false≢true s.0)
-o-frame so sa reads m Establishing frame terms answer s d t n = same-o so sa m Establishing (arrivals.Frame frame) terms answer d t n refl refl
-o-frame so sa reads m Connected (Ua pf) terms answer s d t n = same-o so sa m Connected (arrivals.Frame (Ua pf)) terms answer d t n refl (or-true pf)
-o-frame so sa reads m Connected (Sabme pf) terms answer s d t n = same-o so sa m Connected (arrivals.Frame (Sabme pf)) terms (Some (answers.Ua pf)) tt t n refl refl
+o-frame so sa reads m Establishing frame terms answer s d t n =
+    same-o so sa m Establishing (arrivals.Frame frame) terms answer d t n refl refl
+o-frame so sa reads m Connected (Ua pf) terms answer s d t n =
+    same-o so sa m Connected (arrivals.Frame (Ua pf)) terms answer d t n refl (or-true pf)
+o-frame so sa reads m Connected (Sabme pf) terms answer s d t n =
+    same-o so sa m Connected (arrivals.Frame (Sabme pf)) terms (Some (answers.Ua pf)) tt t n refl refl
 o-frame so sa reads m Connected frame terms answer s d t n = same-o so sa m Connected (arrivals.Frame frame) terms answer d t n refl refl
-o-frame so sa reads m Releasing (Ua true) terms answer s d t n = record { later = omega arith; due = d; terms = t; met = λ z. n (omega arith); xid = refl; opened = refl }
+o-frame so sa reads m Releasing (Ua true) terms answer s d t n =
+    record { later = omega arith; due = d; terms = t; met = λ z. n (omega arith); xid = refl; opened = refl }
 o-frame so sa reads m Releasing (Ua false) terms answer s d t n = absurd (false≢true s.0)
-o-frame so sa reads m Releasing (Dm true) terms answer s d t n = record { later = omega arith; due = d; terms = t; met = λ z. n (omega arith); xid = refl; opened = refl }
-o-frame so sa reads m Releasing (Dm false) terms answer s d t n = same-o so sa m Releasing (arrivals.Frame (Dm false)) terms answer d t n refl refl
+o-frame so sa reads m Releasing (Dm true) terms answer s d t n =
+    record { later = omega arith; due = d; terms = t; met = λ z. n (omega arith); xid = refl; opened = refl }
+o-frame so sa reads m Releasing (Dm false) terms answer s d t n =
+    same-o so sa m Releasing (arrivals.Frame (Dm false)) terms answer d t n refl refl
 o-frame so sa reads m Releasing frame terms answer s d t n = same-o so sa m Releasing (arrivals.Frame frame) terms answer d t n refl refl
-o-frame so sa reads m Closed (Ua pf) terms answer s d t n = same-o so sa m Closed (arrivals.Frame (Ua pf)) terms answer d t n refl (or-true pf)
-o-frame so sa reads m Closed (Disc pf) terms answer s d t n = same-o so sa m Closed (arrivals.Frame (Disc pf)) terms (Some (answers.Dm pf)) tt t n refl refl
+o-frame so sa reads m Closed (Ua pf) terms answer s d t n =
+    same-o so sa m Closed (arrivals.Frame (Ua pf)) terms answer d t n refl (or-true pf)
+o-frame so sa reads m Closed (Disc pf) terms answer s d t n =
+    same-o so sa m Closed (arrivals.Frame (Disc pf)) terms (Some (answers.Dm pf)) tt t n refl refl
 o-frame so sa reads m Closed frame terms answer s d t n = same-o so sa m Closed (arrivals.Frame frame) terms answer d t n refl refl
 
-pub o-hears : (so sa : Setup) → Reads so sa → (m : ℕ) (p : Phase) (arrived : Arrived) (terms : Terms) (answer : Option Answer) → OnArrived (SentA sa (rank p) m) arrived → DueO answer → terms ≡ cond (nat_le 2 (rank p)) (terms_of so sa) first_terms → (2 ≤ rank p → 1 ≤ m)
+pub o-hears : (so sa : Setup) → Reads so sa → (m : ℕ) (p : Phase) (arrived : Arrived) (terms : Terms) (answer : Option Answer)
+    → OnArrived (SentA sa (rank p) m) arrived → DueO answer → terms ≡ cond (nat_le 2 (rank p)) (terms_of so sa) first_terms
+    → (2 ≤ rank p → 1 ≤ m)
     → AfterO so sa m p arrived (heard_course Originator so.offer p arrived (record { phase = p; terms = terms; answer = answer }))
-o-hears so sa reads m p arrivals.Nothing terms answer s d t n = same-o so sa m p arrivals.Nothing terms (without_adp answer) (due_o-without answer d) t n refl refl
-o-hears so sa reads m Detecting (arrivals.Pattern Adp) terms answer s d t n = record { later = omega arith; due = d; terms = t; met = λ z. absurd (omega (arith, z)); xid = refl; opened = refl }
-o-hears so sa reads m Detecting (arrivals.Pattern Odp) terms answer s d t n = same-o so sa m Detecting (arrivals.Pattern Odp) terms answer d t n refl refl
-o-hears so sa reads m Negotiating (arrivals.Pattern seen) terms answer s d t n = same-o so sa m Negotiating (arrivals.Pattern seen) terms answer d t n refl refl
-o-hears so sa reads m Establishing (arrivals.Pattern seen) terms answer s d t n = same-o so sa m Establishing (arrivals.Pattern seen) terms answer d t n refl refl
-o-hears so sa reads m Connected (arrivals.Pattern seen) terms answer s d t n = same-o so sa m Connected (arrivals.Pattern seen) terms answer d t n refl refl
-o-hears so sa reads m Releasing (arrivals.Pattern seen) terms answer s d t n = same-o so sa m Releasing (arrivals.Pattern seen) terms answer d t n refl refl
-o-hears so sa reads m Closed (arrivals.Pattern seen) terms answer s d t n = same-o so sa m Closed (arrivals.Pattern seen) terms answer d t n refl refl
+o-hears so sa reads m p arrivals.Nothing terms answer s d t n =
+    same-o so sa m p arrivals.Nothing terms (without_adp answer) (due_o-without answer d) t n refl refl
+o-hears so sa reads m Detecting (arrivals.Pattern Adp) terms answer s d t n =
+    record { later = omega arith; due = d; terms = t; met = λ z. absurd (omega (arith, z)); xid = refl; opened = refl }
+o-hears so sa reads m Detecting (arrivals.Pattern Odp) terms answer s d t n =
+    same-o so sa m Detecting (arrivals.Pattern Odp) terms answer d t n refl refl
+o-hears so sa reads m Negotiating (arrivals.Pattern seen) terms answer s d t n =
+    same-o so sa m Negotiating (arrivals.Pattern seen) terms answer d t n refl refl
+o-hears so sa reads m Establishing (arrivals.Pattern seen) terms answer s d t n =
+    same-o so sa m Establishing (arrivals.Pattern seen) terms answer d t n refl refl
+o-hears so sa reads m Connected (arrivals.Pattern seen) terms answer s d t n =
+    same-o so sa m Connected (arrivals.Pattern seen) terms answer d t n refl refl
+o-hears so sa reads m Releasing (arrivals.Pattern seen) terms answer s d t n =
+    same-o so sa m Releasing (arrivals.Pattern seen) terms answer d t n refl refl
+o-hears so sa reads m Closed (arrivals.Pattern seen) terms answer s d t n =
+    same-o so sa m Closed (arrivals.Pattern seen) terms answer d t n refl refl
 o-hears so sa reads m p (arrivals.Frame frame) terms answer s d t n = o-frame so sa reads m p frame terms answer s d t n
 
 -- the answerer has heard; it is neither Establishing nor Releasing
@@ -262,14 +290,21 @@ pub record AfterA (so sa : Setup) (r : ℕ) (p : Phase) (arrived : Arrived) (b :
   pub xid : nat_le 1 (rank b.phase) ≡ (brings is_xid arrived || nat_le 1 (rank p))
   pub opened : nat_le 3 (rank b.phase) ≡ (brings (opens Answerer) arrived || nat_le 3 (rank p))
 
-same-a : (so sa : Setup) (r : ℕ) (p : Phase) (arrived : Arrived) (terms : Terms) (answer : Option Answer) → DueA r (rank p) answer → terms ≡ cond (nat_le 1 (rank p)) (terms_of so sa) first_terms → rank p ≢ 2 → rank p ≢ 4 → (3 ≤ rank p → 2 ≤ r)
-    → nat_le 1 (rank p) ≡ (brings is_xid arrived || nat_le 1 (rank p)) → nat_le 3 (rank p) ≡ (brings (opens Answerer) arrived || nat_le 3 (rank p)) → AfterA so sa r p arrived (record { phase = p; terms = terms; answer = answer })
-same-a so sa r p arrived terms answer d t two four l x y = record { later = omega arith; due = d; terms = t; never_two = two; never_four = four; linked = l; xid = x; opened = y }
+same-a : (so sa : Setup) (r : ℕ) (p : Phase) (arrived : Arrived) (terms : Terms) (answer : Option Answer) → DueA r (rank p) answer
+    → terms ≡ cond (nat_le 1 (rank p)) (terms_of so sa) first_terms → rank p ≢ 2 → rank p ≢ 4 → (3 ≤ rank p → 2 ≤ r)
+    → nat_le 1 (rank p) ≡ (brings is_xid arrived || nat_le 1 (rank p))
+    → nat_le 3 (rank p) ≡ (brings (opens Answerer) arrived || nat_le 3 (rank p))
+    → AfterA so sa r p arrived (record { phase = p; terms = terms; answer = answer })
+same-a so sa r p arrived terms answer d t two four l x y =
+    record { later = omega arith; due = d; terms = t; never_two = two; never_four = four; linked = l; xid = x; opened = y }
 
-agrees : (so sa : Setup) → Reads so sa → (r : ℕ) (p : Phase) (pf : Bool) (info : List ℕ) (terms : Terms) (answer : Option Answer) → rank p ≤ 1 → info ≡ written so.offer → 1 ≤ r
-    → AfterA so sa r p (arrivals.Frame (Xid true pf info)) (commanded (offer_in info) sa.offer (record { phase = p; terms = terms; answer = answer }))
+agrees : (so sa : Setup) → Reads so sa → (r : ℕ) (p : Phase) (pf : Bool) (info : List ℕ) (terms : Terms) (answer : Option Answer)
+    → rank p ≤ 1 → info ≡ written so.offer → 1 ≤ r
+    → AfterA so sa r p (arrivals.Frame (Xid true pf info))
+    (commanded (offer_in info) sa.offer (record { phase = p; terms = terms; answer = answer }))
 agrees so sa reads r p pf info terms answer low i s =
-    subst (λ o. AfterA so sa r p (arrivals.Frame (Xid true pf info)) (commanded o sa.offer (record { phase = p; terms = terms; answer = answer }))) (sym (ap offer_in i ∙ reads.orig)) (record {
+    subst (λ o. AfterA so sa r p (arrivals.Frame (Xid true pf info))
+    (commanded o sa.offer (record { phase = p; terms = terms; answer = answer }))) (sym (ap offer_in i ∙ reads.orig)) (record {
       later = low;
       due = (s, omega arith);
       terms = refl;
@@ -285,35 +320,76 @@ agrees so sa reads r p pf info terms answer low i s =
     three (suc zero) l = refl
     three (suc (suc n)) l = absurd (omega (arith, l))
 
-a-frame : (so sa : Setup) → Reads so sa → (r : ℕ) (p : Phase) (frame : Frame) (terms : Terms) (answer : Option Answer) → SentO so r frame → DueA r (rank p) answer → terms ≡ cond (nat_le 1 (rank p)) (terms_of so sa) first_terms → (2 ≤ r → 1 ≤ rank p) → rank p ≢ 2 → rank p ≢ 4 → (3 ≤ rank p → 2 ≤ r)
-    → AfterA so sa r p (arrivals.Frame frame) (heard_course Answerer sa.offer p (arrivals.Frame frame) (record { phase = p; terms = terms; answer = answer }))
-a-frame so sa reads r Detecting (Xid true pf info) terms answer s d t n two four l = agrees so sa reads r Detecting pf info terms answer (omega arith) s.1 s.2
+a-frame : (so sa : Setup) → Reads so sa → (r : ℕ) (p : Phase) (frame : Frame) (terms : Terms) (answer : Option Answer) → SentO so r frame
+    → DueA r (rank p) answer → terms ≡ cond (nat_le 1 (rank p)) (terms_of so sa) first_terms → (2 ≤ r → 1 ≤ rank p) → rank p ≢ 2
+    → rank p ≢ 4 → (3 ≤ rank p → 2 ≤ r)
+    → AfterA so sa r p (arrivals.Frame frame)
+    (heard_course Answerer sa.offer p (arrivals.Frame frame) (record { phase = p; terms = terms; answer = answer }))
+a-frame so sa reads r Detecting (Xid true pf info) terms answer s d t n two four l =
+    agrees so sa reads r Detecting pf info terms answer (omega arith) s.1 s.2
 a-frame so sa reads r Detecting (Xid false pf info) terms answer s d t n two four l = absurd (false≢true s.0)
 a-frame so sa reads r Detecting (Sabme pf) terms answer s d t n two four l = absurd (omega (arith, n s.1))
-a-frame so sa reads r Detecting frame terms answer s d t n two four l = same-a so sa r Detecting (arrivals.Frame frame) terms answer d t two four l refl refl
-a-frame so sa reads r Negotiating (Xid true pf info) terms answer s d t n two four l = agrees so sa reads r Negotiating pf info terms answer (omega arith) s.1 s.2
+a-frame so sa reads r Detecting frame terms answer s d t n two four l =
+    same-a so sa r Detecting (arrivals.Frame frame) terms answer d t two four l refl refl
+a-frame so sa reads r Negotiating (Xid true pf info) terms answer s d t n two four l =
+    agrees so sa reads r Negotiating pf info terms answer (omega arith) s.1 s.2
 a-frame so sa reads r Negotiating (Xid false pf info) terms answer s d t n two four l = absurd (false≢true s.0)
 a-frame so sa reads r Negotiating (Sabme pf) terms answer s d t n two four l =
-    record { later = omega arith; due = s; terms = t; never_two = λ z. omega (arith, z); never_four = λ z. omega (arith, z); linked = λ z. s.1; xid = refl; opened = refl }
-a-frame so sa reads r Negotiating (Disc pf) terms answer s d t n two four l = same-a so sa r Negotiating (arrivals.Frame (Disc pf)) terms (Some (answers.Dm pf)) tt t two four l refl refl
-a-frame so sa reads r Negotiating frame terms answer s d t n two four l = same-a so sa r Negotiating (arrivals.Frame frame) terms answer d t two four l refl refl
+    record {
+      later = omega arith;
+      due = s;
+      terms = t;
+      never_two = λ z. omega (arith, z);
+      never_four = λ z. omega (arith, z);
+      linked =
+          λ z. s.1;
+      xid = refl;
+      opened = refl;
+    }
+a-frame so sa reads r Negotiating (Disc pf) terms answer s d t n two four l =
+    same-a so sa r Negotiating (arrivals.Frame (Disc pf)) terms (Some (answers.Dm pf)) tt t two four l refl refl
+a-frame so sa reads r Negotiating frame terms answer s d t n two four l =
+    same-a so sa r Negotiating (arrivals.Frame frame) terms answer d t two four l refl refl
 a-frame so sa reads r Establishing frame terms answer s d t n two four l = absurd (two refl)
 a-frame so sa reads r Releasing frame terms answer s d t n two four l = absurd (four refl)
-a-frame so sa reads r Connected (Sabme pf) terms answer s d t n two four l = same-a so sa r Connected (arrivals.Frame (Sabme pf)) terms (Some (answers.Ua pf)) s t two four l refl refl
+a-frame so sa reads r Connected (Sabme pf) terms answer s d t n two four l =
+    same-a so sa r Connected (arrivals.Frame (Sabme pf)) terms (Some (answers.Ua pf)) s t two four l refl refl
 a-frame so sa reads r Connected (Disc pf) terms answer s d t n two four l =
-    record { later = omega arith; due = (s.0, omega (arith, s.1)); terms = t; never_two = λ z. omega (arith, z); never_four = λ z. omega (arith, z); linked = λ z. omega (arith, s.1); xid = refl; opened = refl }
-a-frame so sa reads r Connected frame terms answer s d t n two four l = same-a so sa r Connected (arrivals.Frame frame) terms answer d t two four l refl refl
-a-frame so sa reads r Closed (Disc pf) terms answer s d t n two four l = same-a so sa r Closed (arrivals.Frame (Disc pf)) terms (Some (answers.Dm pf)) tt t two four l refl refl
-a-frame so sa reads r Closed frame terms answer s d t n two four l = same-a so sa r Closed (arrivals.Frame frame) terms answer d t two four l refl refl
+    record {
+      later = omega arith;
+      due = (s.0, omega (arith, s.1));
+      terms = t;
+      never_two = λ z. omega (arith, z);
+      never_four =
+          λ z. omega (arith, z);
+      linked = λ z. omega (arith, s.1);
+      xid = refl;
+      opened = refl;
+    }
+a-frame so sa reads r Connected frame terms answer s d t n two four l =
+    same-a so sa r Connected (arrivals.Frame frame) terms answer d t two four l refl refl
+a-frame so sa reads r Closed (Disc pf) terms answer s d t n two four l =
+    same-a so sa r Closed (arrivals.Frame (Disc pf)) terms (Some (answers.Dm pf)) tt t two four l refl refl
+a-frame so sa reads r Closed frame terms answer s d t n two four l =
+    same-a so sa r Closed (arrivals.Frame frame) terms answer d t two four l refl refl
 
-pub a-hears : (so sa : Setup) → Reads so sa → (r : ℕ) (p : Phase) (arrived : Arrived) (terms : Terms) (answer : Option Answer) → OnArrived (SentO so r) arrived → DueA r (rank p) answer → terms ≡ cond (nat_le 1 (rank p)) (terms_of so sa) first_terms → (2 ≤ r → 1 ≤ rank p) → rank p ≢ 2 → rank p ≢ 4 → (3 ≤ rank p → 2 ≤ r)
+pub a-hears : (so sa : Setup) → Reads so sa → (r : ℕ) (p : Phase) (arrived : Arrived) (terms : Terms) (answer : Option Answer)
+    → OnArrived (SentO so r) arrived → DueA r (rank p) answer → terms ≡ cond (nat_le 1 (rank p)) (terms_of so sa) first_terms
+    → (2 ≤ r → 1 ≤ rank p) → rank p ≢ 2 → rank p ≢ 4 → (3 ≤ rank p → 2 ≤ r)
     → AfterA so sa r p arrived (heard_course Answerer sa.offer p arrived (record { phase = p; terms = terms; answer = answer }))
-a-hears so sa reads r p arrivals.Nothing terms answer s d t n two four l = same-a so sa r p arrivals.Nothing terms (without_adp answer) (due_a-without r (rank p) answer d) t two four l refl refl
-a-hears so sa reads r Detecting (arrivals.Pattern Adp) terms answer s d t n two four l = same-a so sa r Detecting (arrivals.Pattern Adp) terms answer d t two four l refl refl
-a-hears so sa reads r Detecting (arrivals.Pattern Odp) terms answer s d t n two four l = same-a so sa r Detecting (arrivals.Pattern Odp) terms (Some answers.Adp) tt t two four l refl refl
-a-hears so sa reads r Negotiating (arrivals.Pattern seen) terms answer s d t n two four l = same-a so sa r Negotiating (arrivals.Pattern seen) terms answer d t two four l refl refl
+a-hears so sa reads r p arrivals.Nothing terms answer s d t n two four l =
+    same-a so sa r p arrivals.Nothing terms (without_adp answer) (due_a-without r (rank p) answer d) t two four l refl refl
+a-hears so sa reads r Detecting (arrivals.Pattern Adp) terms answer s d t n two four l =
+    same-a so sa r Detecting (arrivals.Pattern Adp) terms answer d t two four l refl refl
+a-hears so sa reads r Detecting (arrivals.Pattern Odp) terms answer s d t n two four l =
+    same-a so sa r Detecting (arrivals.Pattern Odp) terms (Some answers.Adp) tt t two four l refl refl
+a-hears so sa reads r Negotiating (arrivals.Pattern seen) terms answer s d t n two four l =
+    same-a so sa r Negotiating (arrivals.Pattern seen) terms answer d t two four l refl refl
 a-hears so sa reads r Establishing (arrivals.Pattern seen) terms answer s d t n two four l = absurd (two refl)
-a-hears so sa reads r Connected (arrivals.Pattern seen) terms answer s d t n two four l = same-a so sa r Connected (arrivals.Pattern seen) terms answer d t two four l refl refl
+a-hears so sa reads r Connected (arrivals.Pattern seen) terms answer s d t n two four l =
+    same-a so sa r Connected (arrivals.Pattern seen) terms answer d t two four l refl refl
 a-hears so sa reads r Releasing (arrivals.Pattern seen) terms answer s d t n two four l = absurd (four refl)
-a-hears so sa reads r Closed (arrivals.Pattern seen) terms answer s d t n two four l = same-a so sa r Closed (arrivals.Pattern seen) terms answer d t two four l refl refl
-a-hears so sa reads r p (arrivals.Frame frame) terms answer s d t n two four l = a-frame so sa reads r p frame terms answer s d t n two four l
+a-hears so sa reads r Closed (arrivals.Pattern seen) terms answer s d t n two four l =
+    same-a so sa r Closed (arrivals.Pattern seen) terms answer d t two four l refl refl
+a-hears so sa reads r p (arrivals.Frame frame) terms answer s d t n two four l =
+    a-frame so sa reads r p frame terms answer s d t n two four l

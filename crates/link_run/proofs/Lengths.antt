@@ -42,7 +42,8 @@ abbrev AllDeclare : ℕ → Option Said → Type 0
 AllDeclare n None = Unit {0}
 AllDeclare n (Some said) = OnSent (ShortFrame n) said.sent
 
-else-says : (n : ℕ) (o : Option Said) (said : Said) → AllDeclare n o → OnSent (ShortFrame n) said.sent → OnSent (ShortFrame n) (else_says o said).sent
+else-says : (n : ℕ) (o : Option Said) (said : Said) → AllDeclare n o → OnSent (ShortFrame n) said.sent
+    → OnSent (ShortFrame n) (else_says o said).sent
 else-says n None said h k = k
 else-says n (Some first) said h k = h
 
@@ -89,7 +90,8 @@ asking n false special (Some i) a = omega arith
 asking n true true (Some i) a = tt
 asking n true false (Some i) a = omega arith
 
-sixth : (n : ℕ) (special news busy : Bool) (a : Account) → AllDeclare n (cond news (Some (tells false false a)) (cond busy None (says_asking a.incoming.srej special (asks a.incoming) a)))
+sixth : (n : ℕ) (special news busy : Bool) (a : Account)
+    → AllDeclare n (cond news (Some (tells false false a)) (cond busy None (says_asking a.incoming.srej special (asks a.incoming) a)))
 sixth n special true busy a = told n false false a
 sixth n special false true a = tt
 sixth n special false false a = asking n a.incoming.srej special (asks a.incoming) a
@@ -98,11 +100,13 @@ fifth : (n : ℕ) → 23 ≤ n → (special : Bool) (a : Account) → AllDeclare
 fifth n l true a = tt
 fifth n l false a = words n l a.their_breaks.ack a
 
-fourth : (n turn : ℕ) (urgent : Bool) (a : Account) → AllShort n a.outgoing.pieces → AllDeclare n (cond urgent (says_segment turn (may_send a) a) None)
+fourth : (n turn : ℕ) (urgent : Bool) (a : Account) → AllShort n a.outgoing.pieces
+    → AllDeclare n (cond urgent (says_segment turn (may_send a) a) None)
 fourth n turn true a h = segment n turn (may_send a) a h
 fourth n turn false a h = tt
 
-all : (n : ℕ) → 23 ≤ n → (turn : ℕ) (special : Bool) (a : Account) → AllShort n a.outgoing.pieces → OnSent (ShortFrame n) (steps turn special a).sent
+all : (n : ℕ) → 23 ≤ n → (turn : ℕ) (special : Bool) (a : Account) → AllShort n a.outgoing.pieces
+    → OnSent (ShortFrame n) (steps turn special a).sent
 all n l turn special a h =
     else-says n (step1 a) _ (due n l a.owes.answer a)
     (else-says n (step2 a) _ (where-says n a.owes.reply _ (told n false true (record a { owes = record a.owes { reply = false } })))
@@ -121,7 +125,8 @@ IfSame a (Err fault) = Unit {0}
 timed : (turn : ℕ) (a : Account) → IfSame a (on_timer turn a)
 timed turn a = go (timer_expires turn a a.wait.timer) (nat_eq a.outgoing.count a.outgoing.tries)
   where
-    go : (b c : Bool) → IfSame a (cond b (polling turn (cond c None (Some (record a.outgoing { count = a.outgoing.count + 1; awaited = true }))) a) (Ok a))
+    go : (b c : Bool) → IfSame a
+        (cond b (polling turn (cond c None (Some (record a.outgoing { count = a.outgoing.count + 1; awaited = true }))) a) (Ok a))
     go true true = tt
     go true false = refl
     go false c = refl
@@ -156,7 +161,8 @@ u n turn frame a h = go (nat_eq turn (a.wait.try_set + a.setup.period)) (nat_eq 
     tried : (b : Account) → OnSent (ShortFrame n) (tries_frame frame b).sent
     tried b = else-says n (where_says b.wait.try _) _ (where-says n b.wait.try _ h) tt
 
-    go : (b e : Bool) → IfShort n (cond b (cond e (Err (spent turn a)) (Ok (tries_frame frame (trying_again turn a)))) (Ok (tries_frame frame a)))
+    go : (b e : Bool) → IfShort n
+        (cond b (cond e (Err (spent turn a)) (Ok (tries_frame frame (trying_again turn a)))) (Ok (tries_frame frame a)))
     go true true = tt
     go true false = tried (trying_again turn a)
     go false e = tried a
@@ -176,11 +182,13 @@ negotiates : (n : ℕ) → 23 ≤ n → (role : Role) (turn : ℕ) (a : Account)
 negotiates n l Originator turn a = u n turn (Xid true false (written a.setup.offer)) a l
 negotiates n l Answerer turn a = answers-due n l a
 
-connects : (n : ℕ) → 23 ≤ n → (turn : ℕ) (b : Bool) (a : Account) → AllShort n a.outgoing.pieces → IfShort n (cond b (speak_releasing turn (trying Releasing turn a)) (speak_linked turn a))
+connects : (n : ℕ) → 23 ≤ n → (turn : ℕ) (b : Bool) (a : Account) → AllShort n a.outgoing.pieces
+    → IfShort n (cond b (speak_releasing turn (trying Releasing turn a)) (speak_linked turn a))
 connects n l turn true a h = u n turn (Disc true) (trying Releasing turn a) (omega arith)
 connects n l turn false a h = links n l turn a h
 
-in-phase : (n : ℕ) → 23 ≤ n → (p : Phase) (turn : ℕ) (release : Bool) (a : Account) → AllShort n a.outgoing.pieces → IfShort n (speak_in p turn release a)
+in-phase : (n : ℕ) → 23 ≤ n → (p : Phase) (turn : ℕ) (release : Bool) (a : Account) → AllShort n a.outgoing.pieces
+    → IfShort n (speak_in p turn release a)
 in-phase n l Detecting turn release a h = detects n l a.setup.role turn a
 in-phase n l Negotiating turn release a h = negotiates n l a.setup.role turn a
 in-phase n l Establishing turn release a h = u n turn (Sabme true) a (omega arith)
@@ -189,5 +197,6 @@ in-phase n l Releasing turn release a h = u n turn (Disc true) a (omega arith)
 in-phase n l Closed turn release a h = answers-due n l a
 
 -- what an end says has at most n octets of information, where its segments have
-pub said-short : (n : ℕ) → 23 ≤ n → (turn : ℕ) (release : Bool) (a : Account) (said : Said) → AllShort n a.outgoing.pieces → speak turn release a ≡ Ok said → OnSent (ShortFrame n) said.sent
+pub said-short : (n : ℕ) → 23 ≤ n → (turn : ℕ) (release : Bool) (a : Account) (said : Said) → AllShort n a.outgoing.pieces
+    → speak turn release a ≡ Ok said → OnSent (ShortFrame n) said.sent
 said-short n l turn release a said h e = subst (IfShort n) e (in-phase n l a.phase turn release a h)

@@ -97,7 +97,10 @@ abbrev pub OnTold : Phase → Arrived → Account → Result Account LinkFault �
 OnTold p arrived a (Ok b) = Told p arrived a b
 OnTold p arrived a (Err fault) = Unit {0}
 
-stays-told : (p : Phase) (arrived : Arrived) (a b : Account) → stage b.phase ≡ stage p → (owes_ua b.owes.answer ≡ true → (owes_ua a.owes.answer ≡ true) ⊎ (1 ≤ stage b.phase)) → (b.numbered ≡ true → (a.numbered ≡ true) ⊎ (brings is_counted arrived ≡ true)) → b.incoming ≡ received p arrived a.incoming → Told p arrived a b
+stays-told : (p : Phase) (arrived : Arrived) (a b : Account) → stage b.phase ≡ stage p
+    → (owes_ua b.owes.answer ≡ true → (owes_ua a.owes.answer ≡ true) ⊎ (1 ≤ stage b.phase))
+    → (b.numbered ≡ true → (a.numbered ≡ true) ⊎ (brings is_counted arrived ≡ true)) → b.incoming ≡ received p arrived a.incoming
+    → Told p arrived a b
 stays-told p arrived a b e owes numbered inc = record {
   owes = owes;
   entered = λ z l r. absurd (omega (arith, e, z, l));
@@ -106,10 +109,14 @@ stays-told p arrived a b e owes numbered inc = record {
   incoming = inl inc;
 }
 
-owing-other : (p : Phase) (frame : Frame) (answer : Answer) (a b : Account) → stage b.phase ≡ stage p → owes_ua (Some answer) ≡ false → b.numbered ≡ a.numbered → b.incoming ≡ a.incoming → received p (arrivals.Frame frame) a.incoming ≡ a.incoming → Told p (arrivals.Frame frame) a (owing answer b)
-owing-other p frame answer a b e u n i r = stays-told p (arrivals.Frame frame) a (owing answer b) e (λ z. absurd (false≢true (sym u ∙ z))) (λ z. inl (sym n ∙ z)) (i ∙ sym r)
+owing-other : (p : Phase) (frame : Frame) (answer : Answer) (a b : Account) → stage b.phase ≡ stage p → owes_ua (Some answer) ≡ false
+    → b.numbered ≡ a.numbered → b.incoming ≡ a.incoming → received p (arrivals.Frame frame) a.incoming ≡ a.incoming
+    → Told p (arrivals.Frame frame) a (owing answer b)
+owing-other p frame answer a b e u n i r =
+    stays-told p (arrivals.Frame frame) a (owing answer b) e (λ z. absurd (false≢true (sym u ∙ z))) (λ z. inl (sym n ∙ z)) (i ∙ sym r)
 
-enters-told : (p : Phase) (frame : Frame) (a b : Account) → stage p ≡ 0 → stage b.phase ≡ 1 → b.numbered ≡ a.numbered → (a.setup.role ≡ Originator → is_ua frame ≡ true) → Told p (arrivals.Frame frame) a b
+enters-told : (p : Phase) (frame : Frame) (a b : Account) → stage p ≡ 0 → stage b.phase ≡ 1 → b.numbered ≡ a.numbered
+    → (a.setup.role ≡ Originator → is_ua frame ≡ true) → Told p (arrivals.Frame frame) a b
 enters-told p frame a b was is n role = record {
   owes = λ z. inr (omega (arith, is));
   entered = λ z l r. role r;
@@ -121,36 +128,49 @@ enters-told p frame a b was is n role = record {
 not-originator : {r : Role} → r ≡ Answerer → r ≡ Originator → ⊥
 not-originator a o = false≢true (ap is_originator (sym a ∙ o))
 
-command-told : (p : Phase) (frame : Frame) (o : Option Offer) (a : Account) → a.phase ≡ p → stage p ≡ 0 → received p (arrivals.Frame frame) a.incoming ≡ a.incoming → Told p (arrivals.Frame frame) a (on_xid_command o a)
+command-told : (p : Phase) (frame : Frame) (o : Option Offer) (a : Account) → a.phase ≡ p → stage p ≡ 0
+    → received p (arrivals.Frame frame) a.incoming ≡ a.incoming → Told p (arrivals.Frame frame) a (on_xid_command o a)
 command-told p frame None a e z r = stays-told p (arrivals.Frame frame) a a (ap stage e) (λ y. inl y) (λ y. inl y) (sym r)
-command-told p frame (Some offer) a e z r = stays-told p (arrivals.Frame frame) a (on_xid_command (Some offer) a) (sym z) (λ y. absurd (false≢true y)) (λ y. inl y) (sym r)
+command-told p frame (Some offer) a e z r =
+    stays-told p (arrivals.Frame frame) a (on_xid_command (Some offer) a) (sym z) (λ y. absurd (false≢true y)) (λ y. inl y) (sym r)
 
-response-told : (p : Phase) (frame : Frame) (o : Option Offer) (turn : ℕ) (a : Account) → a.phase ≡ p → stage p ≡ 0 → received p (arrivals.Frame frame) a.incoming ≡ a.incoming → Told p (arrivals.Frame frame) a (on_xid_response o turn a)
+response-told : (p : Phase) (frame : Frame) (o : Option Offer) (turn : ℕ) (a : Account) → a.phase ≡ p → stage p ≡ 0
+    → received p (arrivals.Frame frame) a.incoming ≡ a.incoming → Told p (arrivals.Frame frame) a (on_xid_response o turn a)
 response-told p frame None turn a e z r = stays-told p (arrivals.Frame frame) a a (ap stage e) (λ y. inl y) (λ y. inl y) (sym r)
-response-told p frame (Some offer) turn a e z r = stays-told p (arrivals.Frame frame) a (on_xid_response (Some offer) turn a) (sym z) (λ y. inl y) (λ y. inl y) (sym r)
+response-told p frame (Some offer) turn a e z r =
+    stays-told p (arrivals.Frame frame) a (on_xid_response (Some offer) turn a) (sym z) (λ y. inl y) (λ y. inl y) (sym r)
 
-same-told : (p : Phase) (frame : Frame) (a : Account) → a.phase ≡ p → received p (arrivals.Frame frame) a.incoming ≡ a.incoming → Told p (arrivals.Frame frame) a a
+same-told : (p : Phase) (frame : Frame) (a : Account) → a.phase ≡ p → received p (arrivals.Frame frame) a.incoming ≡ a.incoming
+    → Told p (arrivals.Frame frame) a a
 same-told p frame a e r = stays-told p (arrivals.Frame frame) a a (ap stage e) (λ y. inl y) (λ y. inl y) (sym r)
 
-detecting : (role : Role) (frame : Frame) (turn : ℕ) (a : Account) → a.phase ≡ Detecting → a.setup.role ≡ role → OnTold Detecting (arrivals.Frame frame) a (on_detecting role frame turn a)
+detecting : (role : Role) (frame : Frame) (turn : ℕ) (a : Account) → a.phase ≡ Detecting → a.setup.role ≡ role
+    → OnTold Detecting (arrivals.Frame frame) a (on_detecting role frame turn a)
 detecting Answerer (Xid true pf info) turn a e r = command-told Detecting (Xid true pf info) (offer_in info) a e refl refl
-detecting Answerer (Sabme pf) turn a e r = enters-told Detecting (Sabme pf) a (owing (answers.Ua pf) (connected turn (record a { terms = agree default_offer a.setup.offer }))) refl refl refl (λ o. absurd (not-originator r o))
+detecting Answerer (Sabme pf) turn a e r =
+    enters-told Detecting (Sabme pf) a
+    (owing (answers.Ua pf) (connected turn (record a { terms = agree default_offer a.setup.offer }))) refl refl refl
+    (λ o. absurd (not-originator r o))
 detecting role frame turn a e r = same-told Detecting frame a e refl
 
-negotiating : (role : Role) (frame : Frame) (turn : ℕ) (a : Account) → a.phase ≡ Negotiating → a.setup.role ≡ role → OnTold Negotiating (arrivals.Frame frame) a (on_negotiating role frame turn a)
+negotiating : (role : Role) (frame : Frame) (turn : ℕ) (a : Account) → a.phase ≡ Negotiating → a.setup.role ≡ role
+    → OnTold Negotiating (arrivals.Frame frame) a (on_negotiating role frame turn a)
 negotiating Originator (Xid false pf info) turn a e r = response-told Negotiating (Xid false pf info) (offer_in info) turn a e refl refl
 negotiating Originator (Dm pf) turn a e r = tt
 negotiating Answerer (Xid true pf info) turn a e r = command-told Negotiating (Xid true pf info) (offer_in info) a e refl refl
-negotiating Answerer (Sabme pf) turn a e r = enters-told Negotiating (Sabme pf) a (owing (answers.Ua pf) (connected turn a)) refl refl refl (λ o. absurd (not-originator r o))
+negotiating Answerer (Sabme pf) turn a e r =
+    enters-told Negotiating (Sabme pf) a (owing (answers.Ua pf) (connected turn a)) refl refl refl (λ o. absurd (not-originator r o))
 negotiating Answerer (Disc pf) turn a e r = owing-other Negotiating (Disc pf) (answers.Dm pf) a a (ap stage e) refl refl refl refl
 negotiating role frame turn a e r = same-told Negotiating frame a e refl
 
-establishing : (frame : Frame) (turn : ℕ) (a : Account) → a.phase ≡ Establishing → OnTold Establishing (arrivals.Frame frame) a (on_establishing frame turn a)
+establishing : (frame : Frame) (turn : ℕ) (a : Account) → a.phase ≡ Establishing
+    → OnTold Establishing (arrivals.Frame frame) a (on_establishing frame turn a)
 establishing (Ua true) turn a e = enters-told Establishing (Ua true) a (connected turn a) refl refl refl (λ o. refl)
 establishing (Dm true) turn a e = tt
 establishing frame turn a e = same-told Establishing frame a e refl
 
-closes-told : (frame : Frame) (a b : Account) → owes_ua b.owes.answer ≡ owes_ua a.owes.answer → b.numbered ≡ a.numbered → b.incoming ≡ a.incoming → stage b.phase ≡ 3 → Told Releasing (arrivals.Frame frame) a b
+closes-told : (frame : Frame) (a b : Account) → owes_ua b.owes.answer ≡ owes_ua a.owes.answer → b.numbered ≡ a.numbered
+    → b.incoming ≡ a.incoming → stage b.phase ≡ 3 → Told Releasing (arrivals.Frame frame) a b
 closes-told frame a b o n i s = record {
   owes = λ z. inl (sym o ∙ z);
   entered = λ z. absurd (omega (arith, z));
@@ -168,30 +188,51 @@ closed : (frame : Frame) (a : Account) → a.phase ≡ Closed → OnTold Closed 
 closed (Disc pf) a e = owing-other Closed (Disc pf) (answers.Dm pf) a a (ap stage e) refl refl refl refl
 closed frame a e = same-told Closed frame a e refl
 
-counted : (frame : Frame) (turn nr : ℕ) (a : Account) (m : Option Outgoing) (asked ended : Bool) → a.phase ≡ Connected → is_counted frame ≡ true → received Connected (arrivals.Frame frame) a.incoming ≡ a.incoming
+counted : (frame : Frame) (turn nr : ℕ) (a : Account) (m : Option Outgoing) (asked ended : Bool) → a.phase ≡ Connected
+    → is_counted frame ≡ true → received Connected (arrivals.Frame frame) a.incoming ≡ a.incoming
     → OnTold Connected (arrivals.Frame frame) a (then_in (λ b. hurrying ended (replying asked b)) (on_number turn nr m a))
 counted frame turn nr a None asked ended e c r = tt
 counted frame turn nr a (Some new) asked ended e c r =
-    stays-told Connected (arrivals.Frame frame) a (hurrying ended (replying asked (record a { numbered = true; outgoing = new; wait = record a.wait { timer = timer_after turn a.outgoing new a.wait.timer } }))) (ap stage e) (λ y. inl y) (λ y. inr c) (sym r)
+    stays-told Connected (arrivals.Frame frame) a
+    (hurrying ended (replying asked
+    (record a { numbered = true; outgoing = new; wait = record a.wait { timer = timer_after turn a.outgoing new a.wait.timer } })))
+    (ap stage e) (λ y. inl y) (λ y. inr c) (sym r)
 
-hushed : (frame : Frame) (turn nr : ℕ) (a : Account) (m : Option Outgoing) (asked : Bool) → a.phase ≡ Connected → is_counted frame ≡ true → received Connected (arrivals.Frame frame) a.incoming ≡ a.incoming
+hushed : (frame : Frame) (turn nr : ℕ) (a : Account) (m : Option Outgoing) (asked : Bool) → a.phase ≡ Connected → is_counted frame ≡ true
+    → received Connected (arrivals.Frame frame) a.incoming ≡ a.incoming
     → OnTold Connected (arrivals.Frame frame) a (then_in (λ b. pausing turn (replying asked b)) (on_number turn nr m a))
 hushed frame turn nr a None asked e c r = tt
 hushed frame turn nr a (Some new) asked e c r =
-    stays-told Connected (arrivals.Frame frame) a (pausing turn (replying asked (record a { numbered = true; outgoing = new; wait = record a.wait { timer = timer_after turn a.outgoing new a.wait.timer } }))) (ap stage e) (λ y. inl y) (λ y. inr c) (sym r)
+    stays-told Connected (arrivals.Frame frame) a
+    (pausing turn (replying asked
+    (record a { numbered = true; outgoing = new; wait = record a.wait { timer = timer_after turn a.outgoing new a.wait.timer } })))
+    (ap stage e) (λ y. inl y) (λ y. inr c) (sym r)
 
-segment : (turn ns nr : ℕ) (pf : Bool) (info : List ℕ) (a : Account) (m : Option Outgoing) → a.phase ≡ Connected → OnTold Connected (arrivals.Frame (I ns nr pf info)) a (then_in (λ b. replying pf (taking ns info b)) (on_number turn nr m a))
+segment : (turn ns nr : ℕ) (pf : Bool) (info : List ℕ) (a : Account) (m : Option Outgoing) → a.phase ≡ Connected
+    → OnTold Connected (arrivals.Frame (I ns nr pf info)) a (then_in (λ b. replying pf (taking ns info b)) (on_number turn nr m a))
 segment turn ns nr pf info a None e = tt
 segment turn ns nr pf info a (Some new) e =
-    stays-told Connected (arrivals.Frame (I ns nr pf info)) a (replying pf (taking ns info (record a { numbered = true; outgoing = new; wait = record a.wait { timer = timer_after turn a.outgoing new a.wait.timer } }))) (ap stage e) (λ y. inl y) (λ y. inr refl) refl
+    stays-told Connected (arrivals.Frame (I ns nr pf info)) a
+    (replying pf (taking ns info
+    (record a { numbered = true; outgoing = new; wait = record a.wait { timer = timer_after turn a.outgoing new a.wait.timer } })))
+    (ap stage e) (λ y. inl y) (λ y. inr refl) refl
 
-chosen : (frame : Frame) (turn nr : ℕ) (a : Account) (m : Option Outgoing) → a.phase ≡ Connected → is_counted frame ≡ true → received Connected (arrivals.Frame frame) a.incoming ≡ a.incoming → OnTold Connected (arrivals.Frame frame) a (on_number turn nr m a)
+chosen : (frame : Frame) (turn nr : ℕ) (a : Account) (m : Option Outgoing) → a.phase ≡ Connected → is_counted frame ≡ true
+    → received Connected (arrivals.Frame frame) a.incoming ≡ a.incoming → OnTold Connected (arrivals.Frame frame) a (on_number turn nr m a)
 chosen frame turn nr a None e c r = tt
-chosen frame turn nr a (Some new) e c r = stays-told Connected (arrivals.Frame frame) a (record a { numbered = true; outgoing = new; wait = record a.wait { timer = timer_after turn a.outgoing new a.wait.timer } }) (ap stage e) (λ y. inl y) (λ y. inr c) (sym r)
+chosen frame turn nr a (Some new) e c r =
+    stays-told Connected (arrivals.Frame frame) a
+    (record a { numbered = true; outgoing = new; wait = record a.wait { timer = timer_after turn a.outgoing new a.wait.timer } })
+    (ap stage e) (λ y. inl y) (λ y. inr c) (sym r)
 
-word : (command pf : Bool) (info : List ℕ) (turn : ℕ) (w : Result BreakWord BreakFault) (a : Account) → a.phase ≡ Connected → Told Connected (arrivals.Frame (Ui command pf info)) a (on_word turn w a)
-word command pf info turn (Ok (Brk number length_octet)) a e = stays-told Connected (arrivals.Frame (Ui command pf info)) a (on_word turn (Ok (Brk number length_octet)) a) (ap stage e) (λ y. inl y) (λ y. inl y) refl
-word command pf info turn (Ok (Ack number length_octet)) a e = stays-told Connected (arrivals.Frame (Ui command pf info)) a (on_word turn (Ok (Ack number length_octet)) a) (ap stage e) (λ y. inl y) (λ y. inl y) refl
+word : (command pf : Bool) (info : List ℕ) (turn : ℕ) (w : Result BreakWord BreakFault) (a : Account) → a.phase ≡ Connected
+    → Told Connected (arrivals.Frame (Ui command pf info)) a (on_word turn w a)
+word command pf info turn (Ok (Brk number length_octet)) a e =
+    stays-told Connected (arrivals.Frame (Ui command pf info)) a (on_word turn (Ok (Brk number length_octet)) a) (ap stage e) (λ y. inl y)
+    (λ y. inl y) refl
+word command pf info turn (Ok (Ack number length_octet)) a e =
+    stays-told Connected (arrivals.Frame (Ui command pf info)) a (on_word turn (Ok (Ack number length_octet)) a) (ap stage e) (λ y. inl y)
+    (λ y. inl y) refl
 word command pf info turn (Err fault) a e = same-told Connected (Ui command pf info) a e refl
 
 sabme : (pf : Bool) (a : Account) → a.phase ≡ Connected → OnTold Connected (arrivals.Frame (Sabme pf)) a (on_sabme pf a)
@@ -199,7 +240,8 @@ sabme pf a e = go (a.numbered || is_originator a.setup.role)
   where
     go : (b : Bool) → OnTold Connected (arrivals.Frame (Sabme pf)) a (cond b (Err (peer_reset a)) (Ok (owing (answers.Ua pf) a)))
     go true = tt
-    go false = stays-told Connected (arrivals.Frame (Sabme pf)) a (owing (answers.Ua pf) a) (ap stage e) (λ y. inr (omega (arith, ap stage e))) (λ y. inl y) refl
+    go false = stays-told Connected (arrivals.Frame (Sabme pf)) a (owing (answers.Ua pf) a) (ap stage e)
+        (λ y. inr (omega (arith, ap stage e))) (λ y. inl y) refl
 
 disc : (role : Role) (pf : Bool) (a : Account) → OnTold Connected (arrivals.Frame (Disc pf)) a (on_disc role pf a)
 disc Originator pf a = tt
@@ -211,7 +253,8 @@ disc Answerer pf a = record {
   incoming = inl refl;
 }
 
-linked : (frame : Frame) (turn : ℕ) (a : Account) → a.phase ≡ Connected → OnTold Connected (arrivals.Frame frame) a (on_connected frame turn a)
+linked : (frame : Frame) (turn : ℕ) (a : Account) → a.phase ≡ Connected
+    → OnTold Connected (arrivals.Frame frame) a (on_connected frame turn a)
 linked (I ns nr pf info) turn a e = segment turn ns nr pf info a (acknowledged nr a.outgoing) e
 linked (Rr command nr pf) turn a e = counted (Rr command nr pf) turn nr a _ (command && pf) (ends_wait command pf a) e refl refl
 linked (Rnr command nr pf) turn a e = hushed (Rnr command nr pf) turn nr a _ (command && pf) e refl refl
@@ -234,10 +277,13 @@ framed Connected frame turn a e = linked frame turn a e
 framed Releasing frame turn a e = releasing frame a e
 framed Closed frame turn a e = closed frame a e
 
-patterned : (role : Role) (s : Seen) (turn : ℕ) (a : Account) → a.phase ≡ Detecting → Told Detecting (arrivals.Pattern s) a (on_pattern role s turn a)
-patterned Originator seen.Adp turn a e = stays-told Detecting (arrivals.Pattern seen.Adp) a (trying Negotiating turn a) refl (λ y. inl y) (λ y. inl y) refl
+patterned : (role : Role) (s : Seen) (turn : ℕ) (a : Account) → a.phase ≡ Detecting
+    → Told Detecting (arrivals.Pattern s) a (on_pattern role s turn a)
+patterned Originator seen.Adp turn a e =
+    stays-told Detecting (arrivals.Pattern seen.Adp) a (trying Negotiating turn a) refl (λ y. inl y) (λ y. inl y) refl
 patterned Originator seen.Odp turn a e = stays-told Detecting (arrivals.Pattern seen.Odp) a a (ap stage e) (λ y. inl y) (λ y. inl y) refl
-patterned Answerer seen.Odp turn a e = stays-told Detecting (arrivals.Pattern seen.Odp) a (owing answers.Adp a) (ap stage e) (λ y. absurd (false≢true y)) (λ y. inl y) refl
+patterned Answerer seen.Odp turn a e =
+    stays-told Detecting (arrivals.Pattern seen.Odp) a (owing answers.Adp a) (ap stage e) (λ y. absurd (false≢true y)) (λ y. inl y) refl
 patterned Answerer seen.Adp turn a e = stays-told Detecting (arrivals.Pattern seen.Adp) a a (ap stage e) (λ y. inl y) (λ y. inl y) refl
 
 sighted : (p : Phase) (s : Seen) (turn : ℕ) (a : Account) → a.phase ≡ p → Told p (arrivals.Pattern s) a (on_seen p s turn a)
@@ -256,12 +302,18 @@ without-ua (Some (answers.Ua pf)) e = e
 without-ua (Some (answers.Dm pf)) e = e
 
 nothing : (p : Phase) (a : Account) → a.phase ≡ p → Told p arrivals.Nothing a (on_nothing a)
-nothing Detecting a e = stays-told Detecting arrivals.Nothing a (on_nothing a) (ap stage e) (λ y. inl (without-ua a.owes.answer y)) (λ y. inl y) refl
-nothing Negotiating a e = stays-told Negotiating arrivals.Nothing a (on_nothing a) (ap stage e) (λ y. inl (without-ua a.owes.answer y)) (λ y. inl y) refl
-nothing Establishing a e = stays-told Establishing arrivals.Nothing a (on_nothing a) (ap stage e) (λ y. inl (without-ua a.owes.answer y)) (λ y. inl y) refl
-nothing Connected a e = stays-told Connected arrivals.Nothing a (on_nothing a) (ap stage e) (λ y. inl (without-ua a.owes.answer y)) (λ y. inl y) refl
-nothing Releasing a e = stays-told Releasing arrivals.Nothing a (on_nothing a) (ap stage e) (λ y. inl (without-ua a.owes.answer y)) (λ y. inl y) refl
-nothing Closed a e = stays-told Closed arrivals.Nothing a (on_nothing a) (ap stage e) (λ y. inl (without-ua a.owes.answer y)) (λ y. inl y) refl
+nothing Detecting a e =
+    stays-told Detecting arrivals.Nothing a (on_nothing a) (ap stage e) (λ y. inl (without-ua a.owes.answer y)) (λ y. inl y) refl
+nothing Negotiating a e =
+    stays-told Negotiating arrivals.Nothing a (on_nothing a) (ap stage e) (λ y. inl (without-ua a.owes.answer y)) (λ y. inl y) refl
+nothing Establishing a e =
+    stays-told Establishing arrivals.Nothing a (on_nothing a) (ap stage e) (λ y. inl (without-ua a.owes.answer y)) (λ y. inl y) refl
+nothing Connected a e =
+    stays-told Connected arrivals.Nothing a (on_nothing a) (ap stage e) (λ y. inl (without-ua a.owes.answer y)) (λ y. inl y) refl
+nothing Releasing a e =
+    stays-told Releasing arrivals.Nothing a (on_nothing a) (ap stage e) (λ y. inl (without-ua a.owes.answer y)) (λ y. inl y) refl
+nothing Closed a e = stays-told Closed arrivals.Nothing a (on_nothing a) (ap stage e) (λ y. inl (without-ua a.owes.answer y))
+    (λ y. inl y) refl
 
 all-told : (turn : ℕ) (arrived : Arrived) (a : Account) → OnTold a.phase arrived a (hear turn arrived a)
 all-told turn arrivals.Nothing a = nothing a.phase a refl

@@ -42,7 +42,8 @@ IfErr a (Err fault) = is_undetected fault ≡ true → a.setup.role ≡ Originat
 u : (turn : ℕ) (frame : Frame) (a b : Account) → IfErr a (u_try turn frame b)
 u turn frame a b = go (nat_eq turn (b.wait.try_set + b.setup.period)) (nat_eq b.wait.try_count b.setup.tries)
   where
-    go : (x y : Bool) → IfErr a (cond x (cond y (Err (spent turn b)) (Ok (tries_frame frame (trying_again turn b)))) (Ok (tries_frame frame b)))
+    go : (x y : Bool) → IfErr a
+        (cond x (cond y (Err (spent turn b)) (Ok (tries_frame frame (trying_again turn b)))) (Ok (tries_frame frame b)))
     go true true = λ z. absurd (false≢true z)
     go true false = tt
     go false y = tt
@@ -105,11 +106,15 @@ each_end_is_named reads keeps want link ts before t mid role (Spent segment sinc
 each_end_is_named reads keeps want link ts before t mid Originator NotDetected m h b = refl
 each_end_is_named reads keeps want link ts before t mid Answerer NotDetected m h b =
     let turn = length ts in
-    let kept = kept-heard reads keeps (HasSetup link) link (setups-kept link) turn before t mid (kept-run reads keeps (HasSetup link) link (setups-kept link) ts before h) b.hearing in
-    let role = ap (λ (x : Setup). x.role) ((serving link.answ.user turn (is_released mid.orig.phase) mid.answ).setup ∙ kept Answerer) ∙ m.answers in
+    let kept = kept-heard reads keeps (HasSetup link) link (setups-kept link) turn before t mid
+    (kept-run reads keeps (HasSetup link) link (setups-kept link) ts before h) b.hearing in
+    let role = ap (λ (x : Setup). x.role) ((serving link.answ.user turn (is_released mid.orig.phase) mid.answ).setup ∙ kept Answerer)
+    ∙ m.answers in
     absurd (false≢true (ap is_originator (sym role ∙ undetected turn false (served_at link turn mid Answerer).account b.broken.1)))
-each_end_is_named reads keeps want link ts before t mid role (BadAck nr va high) m h b = absurd (want link ts before t mid role (BadAck nr va high) b)
-each_end_is_named reads keeps want link ts before t mid role (PeerReset va vr) m h b = absurd (want link ts before t mid role (PeerReset va vr) b)
+each_end_is_named reads keeps want link ts before t mid role (BadAck nr va high) m h b =
+    absurd (want link ts before t mid role (BadAck nr va high) b)
+each_end_is_named reads keeps want link ts before t mid role (PeerReset va vr) m h b =
+    absurd (want link ts before t mid role (PeerReset va vr) b)
 each_end_is_named reads keeps want link ts before t mid role PeerRefused m h b = absurd (want link ts before t mid role PeerRefused b)
 
 -- a turn by what is heard and sent
@@ -122,15 +127,18 @@ turn_with before mid heard sent = record {
 abbrev Hear : ℕ → Ends → (Role → Heard) → Ends → Type 0
 Hear turn before heard mid = (role : Role) → hear turn (arrival (heard role)) (of role before) ≡ Ok (of role mid)
 
-turn-hears : (turn : ℕ) (before mid : Ends) (heard : Role → Heard) (sent : Role → Option Spoken) → Hear turn before heard mid → Hears turn before (turn_with before mid heard sent) mid
+turn-hears : (turn : ℕ) (before mid : Ends) (heard : Role → Heard) (sent : Role → Option Spoken) → Hear turn before heard mid
+    → Hears turn before (turn_with before mid heard sent) mid
 turn-hears turn before mid heard sent h Originator = record { hears = h Originator; check_is = refl; given_is = refl }
 turn-hears turn before mid heard sent h Answerer = record { hears = h Answerer; check_is = refl; given_is = refl }
 
-turn-heard : (before mid : Ends) (heard : Role → Heard) (sent : Role → Option Spoken) (role : Role) → (of role (turn_with before mid heard sent)).heard ≡ heard role
+turn-heard : (before mid : Ends) (heard : Role → Heard) (sent : Role → Option Spoken) (role : Role)
+    → (of role (turn_with before mid heard sent)).heard ≡ heard role
 turn-heard before mid heard sent Originator = refl
 turn-heard before mid heard sent Answerer = refl
 
-turn-sent : (before mid : Ends) (heard : Role → Heard) (sent : Role → Option Spoken) (role : Role) → (of role (turn_with before mid heard sent)).sent ≡ sent role
+turn-sent : (before mid : Ends) (heard : Role → Heard) (sent : Role → Option Spoken) (role : Role)
+    → (of role (turn_with before mid heard sent)).sent ≡ sent role
 turn-sent before mid heard sent Originator = refl
 turn-sent before mid heard sent Answerer = refl
 
@@ -139,7 +147,8 @@ abbrev none : Role → Option Spoken
 none role = None
 
 speaking : (link : Link) (ts : List Turn) (ends mid : Ends) (heard : Role → Heard) → Hear (length ts) ends heard mid
-    → (b : Bool) → is_closed mid.orig.phase ≡ b → (o a : Result Said LinkFault) → said_at link (length ts) mid Originator ≡ o → said_at link (length ts) mid Answerer ≡ a
+    → (b : Bool) → is_closed mid.orig.phase ≡ b → (o a : Result Said LinkFault) → said_at link (length ts) mid Originator ≡ o
+    → said_at link (length ts) mid Answerer ≡ a
     → MakesTurn link ts ends heard
 speaking link ts ends mid heard h true e o a p q = record {
   turn = turn_with ends mid heard none;
@@ -159,7 +168,13 @@ speaking link ts ends mid heard h false e (Ok o) (Err fault) p q = record {
   turn = turn_with ends mid heard none;
   mid = mid;
   outcome = Broken Answerer fault;
-  is = record { hearing = turn-hears (length ts) ends mid heard none h; going = e; broken = (ap is_ok p, q); silent = turn-sent ends mid heard none };
+  is = record {
+    hearing = turn-hears (length ts) ends mid heard none h;
+    going = e;
+    broken = (ap is_ok p, q);
+    silent =
+        turn-sent ends mid heard none;
+  };
   heard_is = turn-heard ends mid heard none;
 }
 speaking link ts ends mid heard h false e (Ok o) (Ok a) p q = record {
@@ -181,10 +196,12 @@ speaking link ts ends mid heard h false e (Ok o) (Ok a) p q = record {
     both Originator = record { said = o; says = p; sent_is = refl; after_is = refl }
     both Answerer = record { said = a; says = q; sent_is = refl; after_is = refl }
 
-hearing : (link : Link) (ts : List Turn) (ends : Ends) (heard : Role → Heard) (o a : Result Account LinkFault) → hear (length ts) (arrival (heard Originator)) ends.orig ≡ o
+hearing : (link : Link) (ts : List Turn) (ends : Ends) (heard : Role → Heard) (o a : Result Account LinkFault)
+    → hear (length ts) (arrival (heard Originator)) ends.orig ≡ o
     → hear (length ts) (arrival (heard Answerer)) ends.answ ≡ a → is_ok o ≡ true → is_ok a ≡ true → MakesTurn link ts ends heard
 hearing link ts ends heard (Ok o) (Ok a) h k x y =
-    speaking link ts ends mid heard both (is_closed o.phase) refl (said_at link (length ts) mid Originator) (said_at link (length ts) mid Answerer) refl refl
+    speaking link ts ends mid heard both (is_closed o.phase) refl (said_at link (length ts) mid Originator)
+    (said_at link (length ts) mid Answerer) refl refl
   where
     mid : Ends
     mid = record { orig = o; answ = a }
@@ -198,5 +215,7 @@ hearing link ts ends heard (Err fault) a h k x y = absurd (false≢true x)
 pub each_turn_is_made : HearingsAreWell → EachTurnIsMade
 each_turn_is_made well link delay ts ends heard v c =
     let t = turn_with ends ends heard none in
-    let w = well link delay ts ends t v (λ role. subst (Crosses (sent_ago (delay (other role)) (other role) ts)) (sym (turn-heard ends ends heard none role)) (c role)) in
-    hearing link ts ends heard (hear (length ts) (arrival (heard Originator)) ends.orig) (hear (length ts) (arrival (heard Answerer)) ends.answ) refl refl (w Originator) (w Answerer)
+    let w = well link delay ts ends t v
+    (λ role. subst (Crosses (sent_ago (delay (other role)) (other role) ts)) (sym (turn-heard ends ends heard none role)) (c role)) in
+    hearing link ts ends heard (hear (length ts) (arrival (heard Originator)) ends.orig)
+    (hear (length ts) (arrival (heard Answerer)) ends.answ) refl refl (w Originator) (w Answerer)

@@ -89,7 +89,8 @@ words (Some w) a = refl
 told : (command pf : Bool) (a : Account) → Sends a.outgoing.high (tells command pf a)
 told command pf a = go a.owes.busy
   where
-    go : (busy : Bool) → Sends a.outgoing.high (says_frame (ready_frame busy command (nr_of a) pf) (telling (record a { owes = record a.owes { busy_told = busy } })))
+    go : (busy : Bool) → Sends a.outgoing.high
+        (says_frame (ready_frame busy command (nr_of a) pf) (telling (record a { owes = record a.owes { busy_told = busy } })))
     go true = refl
     go false = refl
 
@@ -104,11 +105,14 @@ fifth : (special : Bool) (a : Account) → AllSend a.outgoing.high (step5 specia
 fifth true a = tt
 fifth false a = words a.their_breaks.ack a
 
-fourth : (turn : ℕ) (urgent : Bool) (a : Account) → IsInRange a.outgoing → AllSend a.outgoing.high (cond urgent (says_segment turn (may_send a) a) None)
+fourth : (turn : ℕ) (urgent : Bool) (a : Account) → IsInRange a.outgoing
+    → AllSend a.outgoing.high (cond urgent (says_segment turn (may_send a) a) None)
 fourth turn true a r = segment turn a r
 fourth turn false a r = tt
 
-sixth : (special news busy : Bool) (a : Account) → AllSend a.outgoing.high (cond news (Some (tells false false a)) (cond busy None (says_asking a.incoming.srej special (asks a.incoming) a)))
+sixth : (special news busy : Bool) (a : Account)
+    → AllSend a.outgoing.high
+    (cond news (Some (tells false false a)) (cond busy None (says_asking a.incoming.srej special (asks a.incoming) a)))
 sixth special true busy a = told false false a
 sixth special false true a = tt
 sixth special false false a = asking a.incoming.srej special (asks a.incoming) a
@@ -137,9 +141,11 @@ IfAlike a (Err fault) = Unit {0}
 alike : (a : Account) → Alike a a
 alike a = record { range = λ r. r; high = refl }
 
-polled : (turn : ℕ) (a : Account) (b : Bool) → IfAlike a (polling turn (cond b None (Some (record a.outgoing { count = a.outgoing.count + 1; awaited = true }))) a)
+polled : (turn : ℕ) (a : Account) (b : Bool)
+    → IfAlike a (polling turn (cond b None (Some (record a.outgoing { count = a.outgoing.count + 1; awaited = true }))) a)
 polled turn a true = tt
-polled turn a false = record { range = λ r. record { front_from = r.front_from; from_high = r.from_high; few = r.few; chosen = r.chosen }; high = refl }
+polled turn a false =
+    record { range = λ r. record { front_from = r.front_from; from_high = r.from_high; few = r.few; chosen = r.chosen }; high = refl }
 
 timed : (turn : ℕ) (a : Account) → IfAlike a (on_timer turn a)
 timed turn a = go (timer_expires turn a a.wait.timer)
@@ -168,18 +174,21 @@ links : (turn : ℕ) (a : Account) → IsInRange a.outgoing → IfSends a.outgoi
 links turn a r = go (then_tries turn (on_timer turn a)) (both-timed turn a (on_timer turn a) (timed turn a))
   where
     go : (t : Result Account LinkFault) → IfAlike a t → IfSends a.outgoing.high (after_timers turn a.special t)
-    go (Ok b) h = subst (λ n. Sends n (steps turn a.special (record b { special = false }))) h.high (all turn a.special (record b { special = false }) (h.range r))
+    go (Ok b) h = subst (λ n. Sends n (steps turn a.special (record b { special = false }))) h.high
+        (all turn a.special (record b { special = false }) (h.range r))
     go (Err fault) h = tt
 
 -- a U try: of a frame that is no I frame
 tried : (frame : Frame) (a : Account) → sequence_number frame ≡ None → Sends a.outgoing.high (tries_frame frame a)
 tried frame a e =
-    else-says a.outgoing.high (where_says a.wait.try _) _ (where-says a.outgoing.high a.wait.try _ (subst (λ s. SentAs s 0 a.outgoing.high a.outgoing.high) (sym e) refl)) refl
+    else-says a.outgoing.high (where_says a.wait.try _) _
+    (where-says a.outgoing.high a.wait.try _ (subst (λ s. SentAs s 0 a.outgoing.high a.outgoing.high) (sym e) refl)) refl
 
 u : (turn : ℕ) (frame : Frame) (a : Account) → sequence_number frame ≡ None → IfSends a.outgoing.high (u_try turn frame a)
 u turn frame a x = go (nat_eq turn (a.wait.try_set + a.setup.period)) (nat_eq a.wait.try_count a.setup.tries)
   where
-    go : (b e : Bool) → IfSends a.outgoing.high (cond b (cond e (Err (spent turn a)) (Ok (tries_frame frame (trying_again turn a)))) (Ok (tries_frame frame a)))
+    go : (b e : Bool) → IfSends a.outgoing.high
+        (cond b (cond e (Err (spent turn a)) (Ok (tries_frame frame (trying_again turn a)))) (Ok (tries_frame frame a)))
     go true true = tt
     go true false = tried frame (trying_again turn a) x
     go false e = tried frame a x
@@ -199,11 +208,13 @@ negotiates : (role : Role) (turn : ℕ) (a : Account) → IfSends a.outgoing.hig
 negotiates Originator turn a = u turn (Xid true false (written a.setup.offer)) a refl
 negotiates Answerer turn a = answers-due a
 
-connects : (turn : ℕ) (b : Bool) (a : Account) → IsInRange a.outgoing → IfSends a.outgoing.high (cond b (speak_releasing turn (trying Releasing turn a)) (speak_linked turn a))
+connects : (turn : ℕ) (b : Bool) (a : Account) → IsInRange a.outgoing
+    → IfSends a.outgoing.high (cond b (speak_releasing turn (trying Releasing turn a)) (speak_linked turn a))
 connects turn true a r = u turn (Disc true) (trying Releasing turn a) refl
 connects turn false a r = links turn a r
 
-in-phase : (p : Phase) (turn : ℕ) (release : Bool) (a : Account) → IsInRange a.outgoing → IfSends a.outgoing.high (speak_in p turn release a)
+in-phase : (p : Phase) (turn : ℕ) (release : Bool) (a : Account) → IsInRange a.outgoing
+    → IfSends a.outgoing.high (speak_in p turn release a)
 in-phase Detecting turn release a r = detects a.setup.role turn a
 in-phase Negotiating turn release a r = negotiates a.setup.role turn a
 in-phase Establishing turn release a r = u turn (Sabme true) a refl
@@ -211,5 +222,6 @@ in-phase Connected turn release a r = connects turn (release && is_originator a.
 in-phase Releasing turn release a r = u turn (Disc true) a refl
 in-phase Closed turn release a r = answers-due a
 
-pub sends-as : (turn : ℕ) (release : Bool) (a : Account) (said : Said) → IsInRange a.outgoing → speak turn release a ≡ Ok said → Sends a.outgoing.high said
+pub sends-as : (turn : ℕ) (release : Bool) (a : Account) (said : Said) → IsInRange a.outgoing → speak turn release a ≡ Ok said
+    → Sends a.outgoing.high said
 sends-as turn release a said r e = subst (IfSends a.outgoing.high) e (in-phase a.phase turn release a r)

@@ -9,7 +9,8 @@ use Rattle.link_run.proofs.Finishing.{offers-none, ended-wants}
 
 -- no room: none is wanted
 full-wants : (a : Account) → room_for a ≡ 0 → wants a ≡ None
-full-wants a e = go (is_connected a.phase) (not a.outgoing.ended) (nat_lt (length a.outgoing.pieces) (a.outgoing.front + a.outgoing.window)) (grind (arith, nat_tests))
+full-wants a e = go (is_connected a.phase) (not a.outgoing.ended) (nat_lt (length a.outgoing.pieces) (a.outgoing.front + a.outgoing.window))
+    (grind (arith, nat_tests))
   where
     go : (b c d : Bool) → d ≡ false → cond b (cond (c && d) (Some (length a.outgoing.pieces)) None) None ≡ None
     go true true false z = refl
@@ -18,15 +19,19 @@ full-wants a e = go (is_connected a.phase) (not a.outgoing.ended) (nat_lt (lengt
     go false c d z = refl
 
 -- a piece that is offered takes room, or ends the file
-enough-after : (n : ℕ) (file : List ℕ) (a : Account) (piece : List ℕ) → ((b : Account) → room_for b ≤ n → wants (offered_times n file b) ≡ None) → room_for a ≤ suc n → wants (offered_times n file (after_offer piece a)) ≡ None
-enough-after n file a [] ih h = let none = ended-wants (after_offer [] a) refl in ap wants (offers-none n file (after_offer [] a) none) ∙ none
+enough-after : (n : ℕ) (file : List ℕ) (a : Account) (piece : List ℕ)
+    → ((b : Account) → room_for b ≤ n → wants (offered_times n file b) ≡ None) → room_for a ≤ suc n
+    → wants (offered_times n file (after_offer piece a)) ≡ None
+enough-after n file a [] ih h = let none = ended-wants (after_offer [] a) refl in
+    ap wants (offers-none n file (after_offer [] a) none) ∙ none
 enough-after n file a (x ∷ xs) ih h = ih (after_offer (x ∷ xs) a) (omega (arith, h, length-append a.outgoing.pieces ((x ∷ xs) ∷ [])))
 
 enough : (n : ℕ) (file : List ℕ) (a : Account) → room_for a ≤ n → wants (offered_times n file a) ≡ None
 enough zero file a h = full-wants a (omega (arith, h))
 enough (suc n) file a h = go (wants a) refl (λ b. enough n file b)
   where
-    go : (w : Option ℕ) → wants a ≡ w → ((b : Account) → room_for b ≤ n → wants (offered_times n file b) ≡ None) → wants (offered_times n file (offered_at file a w)) ≡ None
+    go : (w : Option ℕ) → wants a ≡ w → ((b : Account) → room_for b ≤ n → wants (offered_times n file b) ≡ None)
+        → wants (offered_times n file (offered_at file a w)) ≡ None
     go None e ih = ap wants (offers-none n file a e) ∙ e
     go (Some m) e ih = enough-after n file a (piece_at (piece_size a) file m) ih h
 
@@ -36,11 +41,15 @@ surplus zero m file a h k = sym (offers-none m file a (full-wants a (omega (arit
 surplus (suc n) zero file a h k = offers-none (suc n) file a (full-wants a (omega (arith, k)))
 surplus (suc n) (suc m) file a h k = go (wants a) refl (λ b. surplus n m file b)
   where
-    after : (piece : List ℕ) → ((b : Account) → room_for b ≤ n → room_for b ≤ m → offered_times n file b ≡ offered_times m file b) → offered_times n file (after_offer piece a) ≡ offered_times m file (after_offer piece a)
-    after [] ih = let none = ended-wants (after_offer [] a) refl in offers-none n file (after_offer [] a) none ∙ sym (offers-none m file (after_offer [] a) none)
-    after (x ∷ xs) ih = ih (after_offer (x ∷ xs) a) (omega (arith, h, length-append a.outgoing.pieces ((x ∷ xs) ∷ []))) (omega (arith, k, length-append a.outgoing.pieces ((x ∷ xs) ∷ [])))
+    after : (piece : List ℕ) → ((b : Account) → room_for b ≤ n → room_for b ≤ m → offered_times n file b ≡ offered_times m file b)
+        → offered_times n file (after_offer piece a) ≡ offered_times m file (after_offer piece a)
+    after [] ih = let none = ended-wants (after_offer [] a) refl in
+        offers-none n file (after_offer [] a) none ∙ sym (offers-none m file (after_offer [] a) none)
+    after (x ∷ xs) ih = ih (after_offer (x ∷ xs) a) (omega (arith, h, length-append a.outgoing.pieces ((x ∷ xs) ∷ [])))
+        (omega (arith, k, length-append a.outgoing.pieces ((x ∷ xs) ∷ [])))
 
-    go : (w : Option ℕ) → wants a ≡ w → ((b : Account) → room_for b ≤ n → room_for b ≤ m → offered_times n file b ≡ offered_times m file b) → offered_times n file (offered_at file a w) ≡ offered_times m file (offered_at file a w)
+    go : (w : Option ℕ) → wants a ≡ w → ((b : Account) → room_for b ≤ n → room_for b ≤ m → offered_times n file b ≡ offered_times m file b)
+        → offered_times n file (offered_at file a w) ≡ offered_times m file (offered_at file a w)
     go None e ih = offers-none n file a e ∙ sym (offers-none m file a e)
     go (Some i) e ih = after (piece_at (piece_size a) file i) ih
 
@@ -60,4 +69,5 @@ next-offered file a =
     surplus (room_for b) (room_for a) file b (omega arith) more ∙ surplus (suc (room_for a)) (room_for a) file a (omega arith) (omega arith)
 
 pub offers_until_none : OffersUntilNoneIsWanted
-offers_until_none file a = record { enough = enough (room_for a) file a (omega arith); none = λ e. offers-none (room_for a) file a e; next = next-offered file a }
+offers_until_none file a =
+    record { enough = enough (room_for a) file a (omega arith); none = λ e. offers-none (room_for a) file a e; next = next-offered file a }

@@ -34,39 +34,49 @@ not-both {A} {E} {r} {x} {f} e k = false≢true (ap is_ok (sym k ∙ e))
 
 -- what is the same of each end
 pub same-both : {A : Type 0} (x y : Both A) → ((r : Role) → of r x ≡ of r y) → x ≡ y
-same-both {A} x y h = ap (λ z. record { orig = z; answ = x.answ }) (h Originator) ∙ ap (λ z. record { orig = y.orig; answ = z }) (h Answerer)
+same-both {A} x y h =
+    ap (λ z. record { orig = z; answ = x.answ }) (h Originator) ∙ ap (λ z. record { orig = y.orig; answ = z }) (h Answerer)
 
 same-side : (s u : Side) → s.heard ≡ u.heard → s.check ≡ u.check → s.sent ≡ u.sent → s.given ≡ u.given → s ≡ u
 same-side s u h c p g =
-    ap (λ z. record { heard = z; check = s.check; sent = s.sent; given = s.given }) h ∙ ap (λ z. record { heard = u.heard; check = z; sent = s.sent; given = s.given }) c
-    ∙ ap (λ z. record { heard = u.heard; check = u.check; sent = z; given = s.given }) p ∙ ap (λ z. record { heard = u.heard; check = u.check; sent = u.sent; given = z }) g
+    ap (λ z. record { heard = z; check = s.check; sent = s.sent; given = s.given }) h
+    ∙ ap (λ z. record { heard = u.heard; check = z; sent = s.sent; given = s.given }) c
+    ∙ ap (λ z. record { heard = u.heard; check = u.check; sent = z; given = s.given }) p
+    ∙ ap (λ z. record { heard = u.heard; check = u.check; sent = u.sent; given = z }) g
 
 -- the same is heard by each end
 abbrev pub HearSame : Turn → Turn → Type 0
 HearSame t u = (r : Role) → (of r t).heard ≡ (of r u).heard
 
-one-mid : (turn : ℕ) (before : Ends) (t u : Turn) (mid others : Ends) → Hears turn before t mid → Hears turn before u others → HearSame t u → mid ≡ others
-one-mid turn before t u mid others h k e = same-both mid others (λ r. one-ok (h r).hears (ap (λ x. hear turn (arrival x) (of r before)) (e r) ∙ (k r).hears))
+one-mid : (turn : ℕ) (before : Ends) (t u : Turn) (mid others : Ends) → Hears turn before t mid → Hears turn before u others → HearSame t u
+    → mid ≡ others
+one-mid turn before t u mid others h k e =
+    same-both mid others (λ r. one-ok (h r).hears (ap (λ x. hear turn (arrival x) (of r before)) (e r) ∙ (k r).hears))
 
 -- a turn by what was heard, the ends that have heard, and what was sent
-one-turn : (turn : ℕ) (before : Ends) (t u : Turn) (mid others : Ends) → Hears turn before t mid → Hears turn before u others → HearSame t u → mid ≡ others
+one-turn : (turn : ℕ) (before : Ends) (t u : Turn) (mid others : Ends) → Hears turn before t mid → Hears turn before u others → HearSame t u
+    → mid ≡ others
     → ((r : Role) → (of r t).sent ≡ (of r u).sent) → t ≡ u
 one-turn turn before t u mid others h k e m p =
-    same-both t u (λ r. same-side (of r t) (of r u) (e r) ((h r).check_is ∙ sym (k r).check_is) (p r) ((h r).given_is ∙ ap (λ (z : Ends). given_break (of r z)) m ∙ sym (k r).given_is))
+    same-both t u (λ r. same-side (of r t) (of r u) (e r) ((h r).check_is ∙ sym (k r).check_is) (p r)
+    ((h r).given_is ∙ ap (λ (z : Ends). given_break (of r z)) m ∙ sym (k r).given_is))
 
 pub record SameGoing (t u : Turn) (mid others after later : Ends) : Type 0 where
   pub mids : mid ≡ others
   pub turns : t ≡ u
   pub ends : after ≡ later
 
-one-going : (link : Link) (ts : List Turn) (before : Ends) (t u : Turn) (after later : Ends) (g : GoingTurn link ts before t after) (k : GoingTurn link ts before u later) → HearSame t u → SameGoing t u g.mid k.mid after later
+one-going : (link : Link) (ts : List Turn) (before : Ends) (t u : Turn) (after later : Ends) (g : GoingTurn link ts before t after)
+    (k : GoingTurn link ts before u later) → HearSame t u → SameGoing t u g.mid k.mid after later
 one-going link ts before t u after later g k e =
     let turn = length ts in
     let m = one-mid turn before t u g.mid k.mid g.hearing k.hearing e in
-    let x : (r : Role) → (g.speaking r).said ≡ (k.speaking r).said = λ r. one-ok (g.speaking r).says (ap (λ z. said_at link turn z r) m ∙ (k.speaking r).says) in
+    let x : (r : Role) → (g.speaking r).said ≡ (k.speaking r).said =
+    λ r. one-ok (g.speaking r).says (ap (λ z. said_at link turn z r) m ∙ (k.speaking r).says) in
     record {
       mids = m;
-      turns = one-turn turn before t u g.mid k.mid g.hearing k.hearing e m (λ r. (g.speaking r).sent_is ∙ ap (λ s. Some (spoken s)) (x r) ∙ sym (k.speaking r).sent_is);
+      turns = one-turn turn before t u g.mid k.mid g.hearing k.hearing e m
+          (λ r. (g.speaking r).sent_is ∙ ap (λ s. Some (spoken s)) (x r) ∙ sym (k.speaking r).sent_is);
       ends = same-both after later (λ r. (g.speaking r).after_is ∙ ap (λ (s : Said). s.account) (x r) ∙ sym (k.speaking r).after_is);
     }
 
@@ -93,12 +103,14 @@ one_run link (t ∷ ts) [] ends others h k e = absurd (omega (arith, ap length e
 one_run link (t ∷ ts) (u ∷ us) ends others h k e =
     let parts = one-head (heard_in t) (heard_in u) (map heard_in ts) (map heard_in us) e in
     let ih = one_run link ts us h.0 k.0 h.1 k.1 parts.1 in
-    let g : GoingTurn link ts h.0 u others = subst (λ b. GoingTurn link ts b u others) (sym ih.1) (subst (λ l. GoingTurn link l k.0 u others) (sym ih.0) k.2) in
+    let g : GoingTurn link ts h.0 u others =
+    subst (λ b. GoingTurn link ts b u others) (sym ih.1) (subst (λ l. GoingTurn link l k.0 u others) (sym ih.0) k.2) in
     let s = one-going link ts h.0 t u ends others h.2 g (heard-same t u parts.0) in
     (ap (λ z. z ∷ ts) s.turns ∙ ap (λ l. u ∷ l) ih.0, s.ends)
 
 -- what becomes of a turn
-hearing-of : (link : Link) (ts : List Turn) (before : Ends) (t : Turn) (mid : Ends) (a : Outcome) → TurnIs link ts before t mid a → Hears (length ts) before t mid
+hearing-of : (link : Link) (ts : List Turn) (before : Ends) (t : Turn) (mid : Ends) (a : Outcome) → TurnIs link ts before t mid a
+    → Hears (length ts) before t mid
 hearing-of link ts before t mid Going h = subst (Hears (length ts) before t) h.2 h.1.hearing
 hearing-of link ts before t mid Done h = h.hearing
 hearing-of link ts before t mid (Broken role fault) h = h.hearing
@@ -115,10 +127,18 @@ Tells link turn t mid Going = Says link turn t mid
 Tells link turn t mid Done = (is_closed mid.orig.phase ≡ true) × IsSilent t
 Tells link turn t mid (Broken role fault) = (is_closed mid.orig.phase ≡ false) × IsBroken link turn mid role fault × IsSilent t
 
-tells : (link : Link) (ts : List Turn) (before : Ends) (t : Turn) (mid : Ends) (a : Outcome) → TurnIs link ts before t mid a → Tells link (length ts) t mid a
+tells : (link : Link) (ts : List Turn) (before : Ends) (t : Turn) (mid : Ends) (a : Outcome) → TurnIs link ts before t mid a
+    → Tells link (length ts) t mid a
 tells link ts before t mid Going h =
     let g = h.1 in
-    subst (λ m. Says link (length ts) t m) h.2 (record { going = g.going; said = λ r. (g.speaking r).said; says = λ r. (g.speaking r).says; sent_is = λ r. (g.speaking r).sent_is })
+    subst (λ m. Says link (length ts) t m) h.2
+    (record {
+      going = g.going;
+      said = λ r. (g.speaking r).said;
+      says = λ r. (g.speaking r).says;
+      sent_is =
+          λ r. (g.speaking r).sent_is;
+    })
 tells link ts before t mid Done h = (h.done, h.silent)
 tells link ts before t mid (Broken role fault) h = (h.going, h.broken, h.silent)
 
@@ -128,18 +148,22 @@ SameOutcome t u a b = (a ≡ b) × ((r : Role) → (of r t).sent ≡ (of r u).se
 silent-both : (t u : Turn) → IsSilent t → IsSilent u → (r : Role) → (of r t).sent ≡ (of r u).sent
 silent-both t u h k r = h r ∙ sym (k r)
 
-same-role : (link : Link) (turn : ℕ) (mid : Ends) (r s : Role) (f g : LinkFault) → IsBroken link turn mid r f → IsBroken link turn mid s g → Broken r f ≡ Broken s g
+same-role : (link : Link) (turn : ℕ) (mid : Ends) (r s : Role) (f g : LinkFault) → IsBroken link turn mid r f → IsBroken link turn mid s g
+    → Broken r f ≡ Broken s g
 same-role link turn mid Originator Originator f g h k = ap (Broken Originator) (one-err h k)
 same-role link turn mid Originator Answerer f g h k = absurd (false≢true (sym (ap is_ok h) ∙ k.0))
 same-role link turn mid Answerer Originator f g h k = absurd (false≢true (sym (ap is_ok k) ∙ h.0))
 same-role link turn mid Answerer Answerer f g h k = ap (Broken Answerer) (one-err h.1 k.1)
 
-not-broken : (link : Link) (turn : ℕ) (t : Turn) (mid : Ends) (r : Role) (f : LinkFault) → Says link turn t mid → IsBroken link turn mid r f → ⊥
+not-broken : (link : Link) (turn : ℕ) (t : Turn) (mid : Ends) (r : Role) (f : LinkFault) → Says link turn t mid → IsBroken link turn mid r f
+    → ⊥
 not-broken link turn t mid Originator f h k = not-both (h.says Originator) k
 not-broken link turn t mid Answerer f h k = not-both (h.says Answerer) k.1
 
-same-outcome : (link : Link) (turn : ℕ) (t u : Turn) (mid : Ends) (a b : Outcome) → Tells link turn t mid a → Tells link turn u mid b → SameOutcome t u a b
-same-outcome link turn t u mid Going Going h k = (refl, λ r. h.sent_is r ∙ ap (λ s. Some (spoken s)) (one-ok (h.says r) (k.says r)) ∙ sym (k.sent_is r))
+same-outcome : (link : Link) (turn : ℕ) (t u : Turn) (mid : Ends) (a b : Outcome) → Tells link turn t mid a → Tells link turn u mid b
+    → SameOutcome t u a b
+same-outcome link turn t u mid Going Going h k =
+    (refl, λ r. h.sent_is r ∙ ap (λ s. Some (spoken s)) (one-ok (h.says r) (k.says r)) ∙ sym (k.sent_is r))
 same-outcome link turn t u mid Going Done h k = absurd (false≢true (sym h.going ∙ k.0))
 same-outcome link turn t u mid Going (Broken r f) h k = absurd (not-broken link turn t mid r f h k.1)
 same-outcome link turn t u mid Done Going h k = absurd (false≢true (sym k.going ∙ h.0))
@@ -156,5 +180,6 @@ one_outcome link ts before t u mid others a b h k e =
     let ht = hearing-of link ts before t mid a h in
     let hu = hearing-of link ts before u others b k in
     let m = one-mid turn before t u mid others ht hu w in
-    let s = same-outcome link turn t u mid a b (tells link ts before t mid a h) (subst (λ z. Tells link turn u z b) (sym m) (tells link ts before u others b k)) in
+    let s = same-outcome link turn t u mid a b (tells link ts before t mid a h)
+    (subst (λ z. Tells link turn u z b) (sym m) (tells link ts before u others b k)) in
     (one-turn turn before t u mid others ht hu w m s.1, m, s.0)

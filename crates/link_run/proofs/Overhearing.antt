@@ -54,7 +54,8 @@ pub record KnowingLaws : Type 0 where
   pub keeps : KeepsTaken
   pub written : ReadsWritten
 
-known : (laws : KnowingLaws) (link : Link) (delay : Role → ℕ) (ts : List Turn) (ends : Ends) → RunsOver link delay ts ends → KnownOf link ts ts ends
+known : (laws : KnowingLaws) (link : Link) (delay : Role → ℕ) (ts : List Turn) (ends : Ends) → RunsOver link delay ts ends
+    → KnownOf link ts ts ends
 known laws link delay ts ends v = known-run laws.reads laws.keeps laws.written link delay v.may_play ts ends v.carried v.run
 
 begun-rank : (p : Phase) → has_begun p ≡ nat_le 3 (rank p)
@@ -86,14 +87,18 @@ agrees_by_xid laws link delay ts ends v role = at-role role
     at-role Answerer = k.terms_a ∙ ap (λ b. cond b (agreed_terms link) first_terms) (sym k.xid_a)
 
 -- an end that has agreed has the agreed check
-agreed-at : (link : Link) (a : Account) (b : Bool) → a.terms ≡ cond b (agreed_terms link) first_terms → b ≡ true → check_of a ≡ agreed_check link
+agreed-at : (link : Link) (a : Account) (b : Bool) → a.terms ≡ cond b (agreed_terms link) first_terms → b ≡ true
+    → check_of a ≡ agreed_check link
 agreed-at link a b e t = ap (λ (x : Terms). cond x.check32 ThirtyTwo Sixteen) (e ∙ ap (λ c. cond c (agreed_terms link) first_terms) t)
 
-orig-agreed : (link : Link) (sent heard : List Turn) (ends : Ends) → KnownOf link sent heard ends → 2 ≤ rank ends.orig.phase → check_of ends.orig ≡ agreed_check link
+orig-agreed : (link : Link) (sent heard : List Turn) (ends : Ends) → KnownOf link sent heard ends → 2 ≤ rank ends.orig.phase
+    → check_of ends.orig ≡ agreed_check link
 orig-agreed link sent heard ends k l = agreed-at link ends.orig (nat_le 2 (rank ends.orig.phase)) k.terms_o (grind (arith, nat_tests))
 
-answ-agreed : (link : Link) (sent heard : List Turn) (ends : Ends) → KnownOf link sent heard ends → 2 ≤ rank ends.orig.phase → check_of ends.answ ≡ agreed_check link
-answ-agreed link sent heard ends k l = let m = k.met l in agreed-at link ends.answ (nat_le 1 (rank ends.answ.phase)) k.terms_a (grind (arith, nat_tests))
+answ-agreed : (link : Link) (sent heard : List Turn) (ends : Ends) → KnownOf link sent heard ends → 2 ≤ rank ends.orig.phase
+    → check_of ends.answ ≡ agreed_check link
+answ-agreed link sent heard ends k l = let m = k.met l in
+    agreed-at link ends.answ (nat_le 1 (rank ends.answ.phase)) k.terms_a (grind (arith, nat_tests))
 
 -- who sends a frame with numbers is Connected
 numbered-o : (so : Setup) (r : ℕ) (frame : Frame) → has_number frame ≡ true → SentO so r frame → 2 ≤ r
@@ -127,7 +132,8 @@ numbered-a sa r m (Xid command pf info) e h = absurd (false≢true e)
 numbered-a sa r m (Test command pf info) e h = absurd (false≢true e)
 
 -- a slot that was sent
-of-slot : (P : Frame → Type 0) (o : Option Spoken) (slot : Spoken) (frame : Frame) → o ≡ Some slot → slot.sent ≡ slots.Frame frame → IfSent P o → P frame
+of-slot : (P : Frame → Type 0) (o : Option Spoken) (slot : Spoken) (frame : Frame) → o ≡ Some slot → slot.sent ≡ slots.Frame frame
+    → IfSent P o → P frame
 of-slot P o slot frame e f h = subst (OnSent P) f (subst (IfSent P) e h)
 
 checked-as : (o : Option Spoken) (slot s : Spoken) → o ≡ Some slot → o ≡ Some s → slot.check ≡ s.check
@@ -143,14 +149,20 @@ sends_agreed_check laws link delay ts ends t after v c g role slot frame = at-ro
     k : KnownOf link (t ∷ ts) (t ∷ ts) after
     k = known-run laws.reads laws.keeps laws.written link delay v.may_play (t ∷ ts) after (c, v.carried) (ends, v.run, g)
 
-    at-role : (role : Role) → (of role t).sent ≡ Some slot → slot.sent ≡ slots.Frame frame → has_number frame ≡ true → slot.check ≡ agreed_check link
+    at-role : (role : Role) → (of role t).sent ≡ Some slot → slot.sent ≡ slots.Frame frame → has_number frame ≡ true
+        → slot.check ≡ agreed_check link
     at-role Originator e f n =
-        checked-as t.orig.sent slot (spoken (g.speaking Originator).said) e (g.speaking Originator).sent_is ∙ ap check_of (sym (g.speaking Originator).after_is)
-        ∙ orig-agreed link (t ∷ ts) (t ∷ ts) after k (numbered-o link.orig.setup (rank after.orig.phase) frame n (of-slot (SentO link.orig.setup (rank after.orig.phase)) t.orig.sent slot frame e f k.sent_o.0))
+        checked-as t.orig.sent slot (spoken (g.speaking Originator).said) e (g.speaking Originator).sent_is
+        ∙ ap check_of (sym (g.speaking Originator).after_is)
+        ∙ orig-agreed link (t ∷ ts) (t ∷ ts) after k
+        (numbered-o link.orig.setup (rank after.orig.phase) frame n
+        (of-slot (SentO link.orig.setup (rank after.orig.phase)) t.orig.sent slot frame e f k.sent_o.0))
     at-role Answerer e f n =
-        checked-as t.answ.sent slot (spoken (g.speaking Answerer).said) e (g.speaking Answerer).sent_is ∙ ap check_of (sym (g.speaking Answerer).after_is)
+        checked-as t.answ.sent slot (spoken (g.speaking Answerer).said) e (g.speaking Answerer).sent_is
+        ∙ ap check_of (sym (g.speaking Answerer).after_is)
         ∙ answ-agreed link (t ∷ ts) (t ∷ ts) after k
-        (numbered-a link.answ.setup (rank after.orig.phase) (rank after.answ.phase) frame n (of-slot (SentA link.answ.setup (rank after.orig.phase) (rank after.answ.phase)) t.answ.sent slot frame e f k.sent_a.0))
+        (numbered-a link.answ.setup (rank after.orig.phase) (rank after.answ.phase) frame n
+        (of-slot (SentA link.answ.setup (rank after.orig.phase) (rank after.answ.phase)) t.answ.sent slot frame e f k.sent_a.0))
 
 pub hears_agreed_check : KnowingLaws → HearsAgreedCheck
 hears_agreed_check laws link delay ts ends t mid v c h role frame = at-role role
@@ -158,11 +170,13 @@ hears_agreed_check laws link delay ts ends t mid v c h role frame = at-role role
     k : KnownOf link ts ts ends
     k = known laws link delay ts ends v
 
-    at-role : (role : Role) → (of role t).heard ≡ Passed (slots.Frame frame) → has_number frame ≡ true → (of role t).check ≡ agreed_check link
+    at-role : (role : Role) → (of role t).heard ≡ Passed (slots.Frame frame) → has_number frame ≡ true
+        → (of role t).check ≡ agreed_check link
     at-role Originator e n =
         let P = SentA link.answ.setup (rank ends.orig.phase) (rank ends.answ.phase) in
         let s : P frame = subst (λ x. OnArrived P (arrival x)) e (came-all P delay Answerer ts t.orig.heard k.sent_a (c Originator)) in
-        (h Originator).check_is ∙ orig-agreed link ts ts ends k (numbered-a link.answ.setup (rank ends.orig.phase) (rank ends.answ.phase) frame n s)
+        (h Originator).check_is
+        ∙ orig-agreed link ts ts ends k (numbered-a link.answ.setup (rank ends.orig.phase) (rank ends.answ.phase) frame n s)
     at-role Answerer e n =
         let P = SentO link.orig.setup (rank ends.orig.phase) in
         let s : P frame = subst (λ x. OnArrived P (arrival x)) e (came-all P delay Originator ts t.answ.heard k.sent_o (c Answerer)) in
@@ -170,18 +184,23 @@ hears_agreed_check laws link delay ts ends t mid v c h role frame = at-role role
 
 -- all slots with numbers that a role sent in these turns have that check
 abbrev HasCheck : Check → Option Spoken → Type 0
-HasCheck check o = (slot : Spoken) (frame : Frame) → o ≡ Some slot → slot.sent ≡ slots.Frame frame → has_number frame ≡ true → slot.check ≡ check
+HasCheck check o = (slot : Spoken) (frame : Frame) → o ≡ Some slot → slot.sent ≡ slots.Frame frame → has_number frame ≡ true
+    → slot.check ≡ check
 
 abbrev AllChecked : Check → Role → List Turn → Type 0
 AllChecked check role [] = Unit {0}
 AllChecked check role (t ∷ ts) = HasCheck check (of role t).sent × AllChecked check role ts
 
-all-checked : KnowingLaws → (link : Link) (delay : Role → ℕ) → MayPlay link.orig.setup link.answ.setup → HasDelays delay → (role : Role) (ts : List Turn) (ends : Ends) → IsCarried delay ts → RunOf link ts ends → AllChecked (agreed_check link) role ts
+all-checked : KnowingLaws → (link : Link) (delay : Role → ℕ) → MayPlay link.orig.setup link.answ.setup → HasDelays delay
+    → (role : Role) (ts : List Turn) (ends : Ends) → IsCarried delay ts → RunOf link ts ends → AllChecked (agreed_check link) role ts
 all-checked laws link delay m d role [] ends c h = tt
-all-checked laws link delay m d role (t ∷ ts) ends c h =
-    (sends_agreed_check laws link delay ts h.0 t ends (record { may_play = m; delays = d; carried = c.1; run = h.1 }) c.0 h.2 role, all-checked laws link delay m d role ts h.0 c.1 h.1)
+all-checked laws link delay m d role (t ∷ ts) ends c h = (
+  sends_agreed_check laws link delay ts h.0 t ends (record { may_play = m; delays = d; carried = c.1; run = h.1 }) c.0 h.2 role,
+  all-checked laws link delay m d role ts h.0 c.1 h.1,
+)
 
-ago-checked : (check : Check) (role : Role) (k : ℕ) (ts : List Turn) → AllChecked check role ts → HasCheck check (sent_in role (slice_get ts k))
+ago-checked : (check : Check) (role : Role) (k : ℕ) (ts : List Turn) → AllChecked check role ts
+    → HasCheck check (sent_in role (slice_get ts k))
 ago-checked check role k [] h = λ slot frame e. absurd (false≢true (ap is_some e))
 ago-checked check role zero (t ∷ ts) h = h.0
 ago-checked check role (suc k) (t ∷ ts) h = ago-checked check role k ts h.1
@@ -192,17 +211,24 @@ judges_by_its_check laws link delay ts ends v role slot frame e f = go (has_numb
     k : KnownOf link ts ts ends
     k = known laws link delay ts ends v
 
-    at-role : (role : Role) → has_number frame ≡ true → sent_ago (delay (other role)) (other role) ts ≡ Some slot → check_of (of role ends) ≡ agreed_check link
+    at-role : (role : Role) → has_number frame ≡ true → sent_ago (delay (other role)) (other role) ts ≡ Some slot
+        → check_of (of role ends) ≡ agreed_check link
     at-role Originator n q =
         let P = SentA link.answ.setup (rank ends.orig.phase) (rank ends.answ.phase) in
-        orig-agreed link ts ts ends k (numbered-a link.answ.setup (rank ends.orig.phase) (rank ends.answ.phase) frame n (of-slot P (sent_ago (delay Answerer) Answerer ts) slot frame q f (ago-all P Answerer (delay Answerer - 1) ts k.sent_a)))
+        orig-agreed link ts ts ends k
+        (numbered-a link.answ.setup (rank ends.orig.phase) (rank ends.answ.phase) frame n
+        (of-slot P (sent_ago (delay Answerer) Answerer ts) slot frame q f (ago-all P Answerer (delay Answerer - 1) ts k.sent_a)))
     at-role Answerer n q =
         let P = SentO link.orig.setup (rank ends.orig.phase) in
-        answ-agreed link ts ts ends k (numbered-o link.orig.setup (rank ends.orig.phase) frame n (of-slot P (sent_ago (delay Originator) Originator ts) slot frame q f (ago-all P Originator (delay Originator - 1) ts k.sent_o)))
+        answ-agreed link ts ts ends k
+        (numbered-o link.orig.setup (rank ends.orig.phase) frame n
+        (of-slot P (sent_ago (delay Originator) Originator ts) slot frame q f
+        (ago-all P Originator (delay Originator - 1) ts k.sent_o)))
 
     go : (b : Bool) → has_number frame ≡ b → cond b slot.check Sixteen ≡ cond b (check_of (of role ends)) Sixteen
     go false n = refl
-    go true n = ago-checked (agreed_check link) (other role) (delay (other role) - 1) ts (all-checked laws link delay v.may_play v.delays (other role) ts ends v.carried v.run) slot frame e f n ∙ sym (at-role role n e)
+    go true n = ago-checked (agreed_check link) (other role) (delay (other role) - 1) ts
+        (all-checked laws link delay v.may_play v.delays (other role) ts ends v.carried v.run) slot frame e f n ∙ sym (at-role role n e)
 
 -- the slot that passes stands first on its line
 pub record First (line : List Slot) (s : Sent) : Type 0 where
@@ -211,11 +237,19 @@ pub record First (line : List Slot) (s : Sent) : Type 0 where
   pub is : line ≡ slot ∷ rest
   pub sent_is : slot.sent ≡ s
 
-first-of : (role : Role) (line : List Slot) (t : Option Turn) (left : List (Option Spoken)) (s : Sent) → told_by_play line ≡ map told_by_turn (made role t ++ left) → Crosses (sent_in role t) (Passed s) → First line s
+first-of : (role : Role) (line : List Slot) (t : Option Turn) (left : List (Option Spoken)) (s : Sent)
+    → told_by_play line ≡ map told_by_turn (made role t ++ left) → Crosses (sent_in role t) (Passed s) → First line s
 first-of role line None left s e c = absurd c
 first-of role [] (Some t) left s e c = absurd (none-is-some (told_by_turn (of role t).sent) (map told_by_turn left) e)
 first-of role (slot ∷ rest) (Some t) left s e c =
-    record { slot = slot; rest = rest; is = refl; sent_is = of-turn (of role t).sent (head-of (Some (slot.sent, slot.number)) (told_by_turn (of role t).sent) (told_by_play rest) (map told_by_turn left) e).0 c }
+    record {
+      slot = slot;
+      rest = rest;
+      is = refl;
+      sent_is =
+          of-turn (of role t).sent
+          (head-of (Some (slot.sent, slot.number)) (told_by_turn (of role t).sent) (told_by_play rest) (map told_by_turn left) e).0 c;
+    }
   where
     of-turn : (o : Option Spoken) → Some (slot.sent, slot.number) ≡ told_by_turn o → Crosses o (Passed s) → slot.sent ≡ s
     of-turn None q d = absurd d
@@ -226,20 +260,27 @@ first-of role (slot ∷ rest) (Some t) left s e c =
         sent-of (Some p) = p.0
 
 -- nothing of what stands first is new where all was taken and given
-old-segment : (from to : Account) (line tl : List Slot) (ns nr : ℕ) (pf : Bool) (info : List ℕ) → First line (slots.Frame (I ns nr pf info)) → NextIsKnown (side_with from line) (side_with to tl) → NextWasOffered (side_with from line) (side_with to tl)
-    → has_begun to.phase ≡ true → length from.outgoing.pieces ≤ length to.incoming.taken → (kind_of ns to.incoming ≡ InOrder → ⊥) × (kind_of ns to.incoming ≡ Kept → ⊥)
+old-segment : (from to : Account) (line tl : List Slot) (ns nr : ℕ) (pf : Bool) (info : List ℕ) → First line (slots.Frame (I ns nr pf info))
+    → NextIsKnown (side_with from line) (side_with to tl) → NextWasOffered (side_with from line) (side_with to tl)
+    → has_begun to.phase ≡ true → length from.outgoing.pieces ≤ length to.incoming.taken
+    → (kind_of ns to.incoming ≡ InOrder → ⊥) × (kind_of ns to.incoming ≡ Kept → ⊥)
 old-segment from to line tl ns nr pf info f by offered begun all =
-    let e : line ≡ (record { sent = slots.Frame (I ns nr pf info); number = f.slot.number; told = f.slot.told }) ∷ f.rest = f.is ∙ ap (λ z. (record { sent = z; number = f.slot.number; told = f.slot.told }) ∷ f.rest) f.sent_is in
+    let e : line ≡ (record { sent = slots.Frame (I ns nr pf info); number = f.slot.number; told = f.slot.told }) ∷ f.rest =
+    f.is ∙ ap (λ z. (record { sent = z; number = f.slot.number; told = f.slot.told }) ∷ f.rest) f.sent_is in
     let k = by ns nr pf info f.slot.number f.slot.told f.rest e begun in
     let o = offered ns nr pf info f.slot.number f.slot.told f.rest e in
     (λ z. omega (arith, k.0 z, o.1, all), λ z. omega (arith, (k.2 z).0, o.1, all))
 
-old-break : (from to : Account) (line tl : List Slot) (command pf : Bool) (info : List ℕ) → First line (slots.Frame (Ui command pf info)) → NextIsBreak (side_with from line) (side_with to tl) → length from.own_breaks.lengths ≤ length to.their_breaks.lengths
+old-break : (from to : Account) (line tl : List Slot) (command pf : Bool) (info : List ℕ) → First line (slots.Frame (Ui command pf info))
+    → NextIsBreak (side_with from line) (side_with to tl) → length from.own_breaks.lengths ≤ length to.their_breaks.lengths
     → (number length_octet : ℕ) → word_in info ≡ Ok (Brk number length_octet) → gives number length_octet to.their_breaks ≡ None
 old-break from to line tl command pf info f by all number length_octet w =
-    let e : line ≡ (record { sent = slots.Frame (Ui command pf info); number = f.slot.number; told = f.slot.told }) ∷ f.rest = f.is ∙ ap (λ z. (record { sent = z; number = f.slot.number; told = f.slot.told }) ∷ f.rest) f.sent_is in
+    let e : line ≡ (record { sent = slots.Frame (Ui command pf info); number = f.slot.number; told = f.slot.told }) ∷ f.rest =
+    f.is ∙ ap (λ z. (record { sent = z; number = f.slot.number; told = f.slot.told }) ∷ f.rest) f.sent_is in
     let k = by command pf info number length_octet f.slot.number f.slot.told f.rest e w in
-    go (nat_eq number (length to.their_breaks.lengths % 2)) (let last : length to.their_breaks.lengths ≡ f.slot.number + 1 = omega (arith, k.taken, k.given, all) in odd number f.slot.number (length to.their_breaks.lengths) k.number_is last)
+    go (nat_eq number (length to.their_breaks.lengths % 2))
+    (let last : length to.their_breaks.lengths ≡ f.slot.number + 1 = omega (arith, k.taken, k.given, all) in
+    odd number f.slot.number (length to.their_breaks.lengths) k.number_is last)
   where
     odd : (number n m : ℕ) → number ≡ n % 2 → m ≡ n + 1 → nat_eq number (m % 2) ≡ false
     odd number n m p q = differs number (m % 2) (λ z. omega (arith, z, p, q))
@@ -251,10 +292,15 @@ old-break from to line tl command pf info f by all number length_octet w =
     go false z = refl
     go true z = absurd (false≢true (sym z))
 
-old-frame : (from to : Account) (line tl : List Slot) (frame : Frame) → First line (slots.Frame frame) → NextIsKnown (side_with from line) (side_with to tl) → NextWasOffered (side_with from line) (side_with to tl) → NextIsBreak (side_with from line) (side_with to tl)
-    → has_begun to.phase ≡ true → length from.outgoing.pieces ≤ length to.incoming.taken → length from.own_breaks.lengths ≤ length to.their_breaks.lengths → IsOld to frame
-old-frame from to line tl (I ns nr pf info) f by offered breaks begun all given = old-segment from to line tl ns nr pf info f by offered begun all
-old-frame from to line tl (Ui command pf info) f by offered breaks begun all given = old-break from to line tl command pf info f breaks given
+old-frame : (from to : Account) (line tl : List Slot) (frame : Frame) → First line (slots.Frame frame)
+    → NextIsKnown (side_with from line) (side_with to tl) → NextWasOffered (side_with from line) (side_with to tl)
+    → NextIsBreak (side_with from line) (side_with to tl)
+    → has_begun to.phase ≡ true → length from.outgoing.pieces ≤ length to.incoming.taken
+    → length from.own_breaks.lengths ≤ length to.their_breaks.lengths → IsOld to frame
+old-frame from to line tl (I ns nr pf info) f by offered breaks begun all given =
+    old-segment from to line tl ns nr pf info f by offered begun all
+old-frame from to line tl (Ui command pf info) f by offered breaks begun all given =
+    old-break from to line tl command pf info f breaks given
 old-frame from to line tl frame f by offered breaks begun all given = tt
 
 -- what was taken is no more where it begins what was all taken
@@ -309,14 +355,20 @@ releases_last laws link delay ts ends t mid v c k released role = at-role role
     g : Facts mid.orig mid.answ
     g = facts laws.plays link m mid _ (hearing-reaches link delay ts ends (length ts) t mid v.delays p c k)
 
-    by : NextIsKnown (side_with ends.orig p.lo) (side_with ends.answ p.la) × NextIsKnown (side_with ends.answ p.la) (side_with ends.orig p.lo)
-    by = subst (λ (q : Play). NextIsKnown q.originator q.answerer × NextIsKnown q.answerer q.originator) p.leads.led (laws.by_number link.orig.setup link.answ.setup p.leads.events m)
+    by : NextIsKnown (side_with ends.orig p.lo) (side_with ends.answ p.la)
+        × NextIsKnown (side_with ends.answ p.la) (side_with ends.orig p.lo)
+    by = subst (λ (q : Play). NextIsKnown q.originator q.answerer × NextIsKnown q.answerer q.originator) p.leads.led
+        (laws.by_number link.orig.setup link.answ.setup p.leads.events m)
 
-    offered : NextWasOffered (side_with ends.orig p.lo) (side_with ends.answ p.la) × NextWasOffered (side_with ends.answ p.la) (side_with ends.orig p.lo)
-    offered = subst (λ (q : Play). NextWasOffered q.originator q.answerer × NextWasOffered q.answerer q.originator) p.leads.led (laws.offered link.orig.setup link.answ.setup p.leads.events m)
+    offered : NextWasOffered (side_with ends.orig p.lo) (side_with ends.answ p.la)
+        × NextWasOffered (side_with ends.answ p.la) (side_with ends.orig p.lo)
+    offered = subst (λ (q : Play). NextWasOffered q.originator q.answerer × NextWasOffered q.answerer q.originator) p.leads.led
+        (laws.offered link.orig.setup link.answ.setup p.leads.events m)
 
-    breaks : NextIsBreak (side_with ends.orig p.lo) (side_with ends.answ p.la) × NextIsBreak (side_with ends.answ p.la) (side_with ends.orig p.lo)
-    breaks = subst (λ (q : Play). NextIsBreak q.originator q.answerer × NextIsBreak q.answerer q.originator) p.leads.led (laws.breaks link.orig.setup link.answ.setup p.leads.events)
+    breaks : NextIsBreak (side_with ends.orig p.lo) (side_with ends.answ p.la)
+        × NextIsBreak (side_with ends.answ p.la) (side_with ends.orig p.lo)
+    breaks = subst (λ (q : Play). NextIsBreak q.originator q.answerer × NextIsBreak q.answerer q.originator) p.leads.led
+        (laws.breaks link.orig.setup link.answ.setup p.leads.events)
 
     stands : standing mid.orig ≡ standing ends.orig
     stands = stands-heard (length ts) (arrival t.orig.heard) ends.orig mid.orig two (k Originator).hears
@@ -330,40 +382,51 @@ releases_last laws link delay ts ends t mid v c k released role = at-role role
 
     more-taken : GoesOn ends.answ mid.answ → mid.answ.incoming.taken ≡ ends.answ.incoming.taken
     more-taken (inl s) =
-        no-more ends.answ.incoming.taken mid.answ.incoming.taken mid.orig.outgoing.pieces s.taken s.taken_are g.taken_a (omega (arith, all-taken ends over f, ap (λ (z : Standing). length z.outgoing.pieces) stands))
+        no-more ends.answ.incoming.taken mid.answ.incoming.taken mid.orig.outgoing.pieces s.taken s.taken_are g.taken_a
+        (omega (arith, all-taken ends over f, ap (λ (z : Standing). length z.outgoing.pieces) stands))
     more-taken (inr e) = absurd (omega (arith, e.was, over.a_linked))
 
     more-breaks : GoesOn ends.answ mid.answ → mid.answ.their_breaks.lengths ≡ ends.answ.their_breaks.lengths
     more-breaks (inl s) =
-        no-more ends.answ.their_breaks.lengths mid.answ.their_breaks.lengths mid.orig.own_breaks.lengths s.theirs s.theirs_are g.given_a (omega (arith, given, ap (λ (z : Standing). length z.own_breaks.lengths) stands))
+        no-more ends.answ.their_breaks.lengths mid.answ.their_breaks.lengths mid.orig.own_breaks.lengths s.theirs s.theirs_are g.given_a
+        (omega (arith, given, ap (λ (z : Standing). length z.own_breaks.lengths) stands))
     more-breaks (inr e) = absurd (omega (arith, e.was, over.a_linked))
 
     at-role : (role : Role) → NothingNew (of role ends) (of role t).heard (of role mid)
     at-role Originator = record {
       old = λ frame e.
-          let first = first-of Answerer p.la (slice_get ts (delay Answerer - 1)) _ (slots.Frame frame) (next-first Answerer (delay Answerer) ts p.la (v.delays Answerer) p.answ_line) (subst (Crosses (sent_ago (delay Answerer) Answerer ts)) e (c Originator)) in
-          old-frame ends.answ ends.orig p.la p.lo frame first by.1 offered.1 breaks.1 (stage-begun ends.orig.phase (omega (arith, two))) over.a_taken over.a_breaks;
+          let first = first-of Answerer p.la (slice_get ts (delay Answerer - 1)) _ (slots.Frame frame)
+          (next-first Answerer (delay Answerer) ts p.la (v.delays Answerer) p.answ_line)
+          (subst (Crosses (sent_ago (delay Answerer) Answerer ts)) e (c Originator)) in
+          old-frame ends.answ ends.orig p.la p.lo frame first by.1 offered.1 breaks.1
+          (stage-begun ends.orig.phase (omega (arith, two))) over.a_taken over.a_breaks;
       taken = ap (λ (z : Standing). z.incoming.taken) stands;
       breaks = ap (λ (z : Standing). z.their_breaks.lengths) stands;
     }
     at-role Answerer = record {
       old = λ frame e.
-          let first = first-of Originator p.lo (slice_get ts (delay Originator - 1)) _ (slots.Frame frame) (next-first Originator (delay Originator) ts p.lo (v.delays Originator) p.orig_line) (subst (Crosses (sent_ago (delay Originator) Originator ts)) e (c Answerer)) in
-          old-frame ends.orig ends.answ p.lo p.la frame first by.0 offered.0 breaks.0 (stage-begun ends.answ.phase over.a_linked) (all-taken ends over f) given;
+          let first = first-of Originator p.lo (slice_get ts (delay Originator - 1)) _ (slots.Frame frame)
+          (next-first Originator (delay Originator) ts p.lo (v.delays Originator) p.orig_line)
+          (subst (Crosses (sent_ago (delay Originator) Originator ts)) e (c Answerer)) in
+          old-frame ends.orig ends.answ p.lo p.la frame first by.0 offered.0 breaks.0 (stage-begun ends.answ.phase over.a_linked)
+          (all-taken ends over f) given;
       taken = more-taken came;
       breaks = more-breaks came;
     }
 
 -- what is no break's time is ignored
-ignores-detecting : (role : Role) (command pf : Bool) (info : List ℕ) (turn : ℕ) (a : Account) → on_detecting role (Ui command pf info) turn a ≡ Ok a
+ignores-detecting : (role : Role) (command pf : Bool) (info : List ℕ) (turn : ℕ) (a : Account)
+    → on_detecting role (Ui command pf info) turn a ≡ Ok a
 ignores-detecting Originator command pf info turn a = refl
 ignores-detecting Answerer command pf info turn a = refl
 
-ignores-negotiating : (role : Role) (command pf : Bool) (info : List ℕ) (turn : ℕ) (a : Account) → on_negotiating role (Ui command pf info) turn a ≡ Ok a
+ignores-negotiating : (role : Role) (command pf : Bool) (info : List ℕ) (turn : ℕ) (a : Account)
+    → on_negotiating role (Ui command pf info) turn a ≡ Ok a
 ignores-negotiating Originator command pf info turn a = refl
 ignores-negotiating Answerer command pf info turn a = refl
 
-ignores : (p : Phase) (command pf : Bool) (info : List ℕ) (turn : ℕ) (a : Account) → has_begun p ≡ false → on_frame p (Ui command pf info) turn a ≡ Ok a
+ignores : (p : Phase) (command pf : Bool) (info : List ℕ) (turn : ℕ) (a : Account) → has_begun p ≡ false
+    → on_frame p (Ui command pf info) turn a ≡ Ok a
 ignores Detecting command pf info turn a e = ignores-detecting a.setup.role command pf info turn a
 ignores Negotiating command pf info turn a e = ignores-negotiating a.setup.role command pf info turn a
 ignores Establishing command pf info turn a e = refl
@@ -382,14 +445,20 @@ pub early_breaks_are_ignored : KnowingLaws → EarlyBreaksAreIgnored
 early_breaks_are_ignored laws link delay ts ends t mid v c k role command pf info closed e =
     let a = of role ends in
     let early : has_begun a.phase ≡ false = opens_by_frames laws link delay ts ends v role ∙ closed in
-    same-ok (hear (length ts) (arrivals.Frame (Ui command pf info)) a) (of role mid) a (subst (λ h. hear (length ts) (arrival h) a ≡ Ok (of role mid)) e (k role).hears) (ignores a.phase command pf info (length ts) a early)
+    same-ok (hear (length ts) (arrivals.Frame (Ui command pf info)) a) (of role mid) a
+    (subst (λ h. hear (length ts) (arrival h) a ≡ Ok (of role mid)) e (k role).hears)
+    (ignores a.phase command pf info (length ts) a early)
 
 pub segments_pass_later : KnowingLaws → SegmentsPassLater
-segments_pass_later laws link delay ts ends t v c role ns nr pf info e = sym (opens_by_frames laws link delay ts ends v role) ∙ at-role role e
+segments_pass_later laws link delay ts ends t v c role ns nr pf info e =
+    sym (opens_by_frames laws link delay ts ends v role) ∙ at-role role e
   where
     m : Met ts ends.orig ends.answ
     m = met-run laws.reads laws.keeps link delay v.may_play ts ends v.carried v.run
 
     at-role : (role : Role) → (of role t).heard ≡ Passed (slots.Frame (I ns nr pf info)) → has_begun (of role ends).phase ≡ true
-    at-role Originator q = stage-begun ends.orig.phase (m.segments (came is_segment delay Answerer ts t.orig.heard (c Originator) (ap (λ h. brings is_segment (arrival h)) q)))
-    at-role Answerer q = stage-begun ends.answ.phase (m.up (m.froms (came is_counted delay Originator ts t.answ.heard (c Answerer) (ap (λ h. brings is_counted (arrival h)) q))))
+    at-role Originator q =
+        stage-begun ends.orig.phase
+        (m.segments (came is_segment delay Answerer ts t.orig.heard (c Originator) (ap (λ h. brings is_segment (arrival h)) q)))
+    at-role Answerer q = stage-begun ends.answ.phase
+        (m.up (m.froms (came is_counted delay Originator ts t.answ.heard (c Answerer) (ap (λ h. brings is_counted (arrival h)) q))))

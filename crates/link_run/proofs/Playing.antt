@@ -27,8 +27,10 @@ use Rattle.roles.specs.Both.{of}
 
 -- a play where neither end is broken; the first account and line are those of the role
 abbrev pub at : Role → Account → List Slot → Account → List Slot → Play
-at Originator x lx y ly = record { originator = record { account = x; line = lx; fault = None }; answerer = record { account = y; line = ly; fault = None } }
-at Answerer x lx y ly = record { originator = record { account = y; line = ly; fault = None }; answerer = record { account = x; line = lx; fault = None } }
+at Originator x lx y ly =
+    record { originator = record { account = x; line = lx; fault = None }; answerer = record { account = y; line = ly; fault = None } }
+at Answerer x lx y ly =
+    record { originator = record { account = y; line = ly; fault = None }; answerer = record { account = x; line = lx; fault = None } }
 
 pub record Leads (p q : Play) : Type 0 where
   pub events : List Event
@@ -48,23 +50,43 @@ pub one : (e : Event) (p q : Play) → happens e p ≡ q → Leads p q
 one e p q h = record { events = e ∷ []; led = h }
 
 -- single events
-hears-nothing : (role : Role) (turn : ℕ) (x b y : Account) (lx ly : List Slot) → hear turn arrivals.Nothing x ≡ Ok b → happens (Hears_nothing role turn) (at role x lx y ly) ≡ at role b lx y ly
+hears-nothing : (role : Role) (turn : ℕ) (x b y : Account) (lx ly : List Slot) → hear turn arrivals.Nothing x ≡ Ok b
+    → happens (Hears_nothing role turn) (at role x lx y ly) ≡ at role b lx y ly
 hears-nothing Originator turn x b y lx ly e =
-    ap (λ r. record { originator = heard r (record { account = x; line = lx; fault = None }); answerer = record { account = y; line = ly; fault = None } }) e
+    ap (λ r. record {
+      originator = heard r (record { account = x; line = lx; fault = None });
+      answerer =
+          record { account = y; line = ly; fault = None };
+    }) e
 hears-nothing Answerer turn x b y lx ly e =
-    ap (λ r. record { originator = record { account = y; line = ly; fault = None }; answerer = heard r (record { account = x; line = lx; fault = None }) }) e
+    ap (λ r. record {
+      originator = record { account = y; line = ly; fault = None };
+      answerer =
+          heard r (record { account = x; line = lx; fault = None });
+    }) e
 
-passes-on : (role : Role) (turn : ℕ) (x y b : Account) (slot : Slot) (rest ly : List Slot) → hear turn (arrives slot.sent) y ≡ Ok b → happens (Passes role turn) (at role x (slot ∷ rest) y ly) ≡ at role x rest b ly
+passes-on : (role : Role) (turn : ℕ) (x y b : Account) (slot : Slot) (rest ly : List Slot) → hear turn (arrives slot.sent) y ≡ Ok b
+    → happens (Passes role turn) (at role x (slot ∷ rest) y ly) ≡ at role x rest b ly
 passes-on Originator turn x y b slot rest ly e =
-    ap (λ r. record { originator = record { account = x; line = rest; fault = None }; answerer = heard r (record { account = y; line = ly; fault = None }) }) e
+    ap (λ r. record {
+      originator = record { account = x; line = rest; fault = None };
+      answerer =
+          heard r (record { account = y; line = ly; fault = None });
+    }) e
 passes-on Answerer turn x y b slot rest ly e =
-    ap (λ r. record { originator = heard r (record { account = y; line = ly; fault = None }); answerer = record { account = x; line = rest; fault = None } }) e
+    ap (λ r. record {
+      originator = heard r (record { account = y; line = ly; fault = None });
+      answerer =
+          record { account = x; line = rest; fault = None };
+    }) e
 
-loses-one : (role : Role) (x y : Account) (slot : Slot) (rest ly : List Slot) → happens (Is_lost role) (at role x (slot ∷ rest) y ly) ≡ at role x rest y ly
+loses-one : (role : Role) (x y : Account) (slot : Slot) (rest ly : List Slot)
+    → happens (Is_lost role) (at role x (slot ∷ rest) y ly) ≡ at role x rest y ly
 loses-one Originator x y slot rest ly = refl
 loses-one Answerer x y slot rest ly = refl
 
-hears-nothing-back : (role : Role) (turn : ℕ) (x y b : Account) (lx ly : List Slot) → hear turn arrivals.Nothing y ≡ Ok b → Leads (at role x lx y ly) (at role x lx b ly)
+hears-nothing-back : (role : Role) (turn : ℕ) (x y b : Account) (lx ly : List Slot) → hear turn arrivals.Nothing y ≡ Ok b
+    → Leads (at role x lx y ly) (at role x lx b ly)
 hears-nothing-back Originator turn x y b lx ly e = one (Hears_nothing Answerer turn) _ _ (hears-nothing Answerer turn y b x ly lx e)
 hears-nothing-back Answerer turn x y b lx ly e = one (Hears_nothing Originator turn) _ _ (hears-nothing Originator turn y b x ly lx e)
 
@@ -78,12 +100,16 @@ pub oldest : (role : Role) (k : ℕ) (ts : List Turn) → on_line (suc k) role t
 oldest role zero [] = refl
 oldest role (suc k) [] = refl
 oldest role zero (t ∷ ts) = refl
-oldest role (suc k) (t ∷ ts) = ap (λ l. l ++ (of role t).sent ∷ []) (oldest role k ts) ∙ append_assoc (made role (slice_get ts k)) (on_line k role ts) ((of role t).sent ∷ [])
+oldest role (suc k) (t ∷ ts) =
+    ap (λ l. l ++ (of role t).sent ∷ []) (oldest role k ts)
+    ∙ append_assoc (made role (slice_get ts k)) (on_line k role ts) ((of role t).sent ∷ [])
 
 -- the slot that arrives next stands first
-pub next-first : (role : Role) (d : ℕ) (ts : List Turn) (line : List Slot) → 1 ≤ d → told_by_play line ≡ map told_by_turn (on_line d role ts)
+pub next-first : (role : Role) (d : ℕ) (ts : List Turn) (line : List Slot) → 1 ≤ d
+    → told_by_play line ≡ map told_by_turn (on_line d role ts)
     → told_by_play line ≡ map told_by_turn (made role (slice_get ts (d - 1)) ++ on_line (d - 1) role ts)
-next-first role d ts line some h = let same : d ≡ suc (d - 1) = omega (arith, some) in h ∙ ap (map told_by_turn) (ap (λ k. on_line k role ts) same ∙ oldest role (d - 1) ts)
+next-first role d ts line some h = let same : d ≡ suc (d - 1) = omega (arith, some) in
+    h ∙ ap (map told_by_turn) (ap (λ k. on_line k role ts) same ∙ oldest role (d - 1) ts)
 
 -- one slot arrives at the other end of this role
 pub record Came (role : Role) (x b : Account) (lx ly : List Slot) (y : Account) (left : List (Option run.Spoken)) : Type 0 where
@@ -106,9 +132,11 @@ pub none-is-some : {X : Type 0} (x : X) (xs : List X) → [] ≡ x ∷ xs → �
 none-is-some x xs e = omega (arith, ap length e)
 
 -- a slot on a line, as a turn tells it
-pub told-slot : (slot : Slot) (s : Option run.Spoken) → Some (slot.sent, slot.number) ≡ told_by_turn s → (h : Heard) → Crosses s h → (check : Check) → Crosses (Some (record { sent = slot.sent; number = slot.number; check = check })) h
+pub told-slot : (slot : Slot) (s : Option run.Spoken) → Some (slot.sent, slot.number) ≡ told_by_turn s → (h : Heard) → Crosses s h
+    → (check : Check) → Crosses (Some (record { sent = slot.sent; number = slot.number; check = check })) h
 told-slot slot None e h c check = absurd (false≢true (sym (ap is_some e)))
-told-slot slot (Some s) e h c check = subst (λ z. Crosses (Some (record { sent = z; number = slot.number; check = check })) h) (sym (ap sent-of e)) (sent-alone h c)
+told-slot slot (Some s) e h c check =
+    subst (λ z. Crosses (Some (record { sent = z; number = slot.number; check = check })) h) (sym (ap sent-of e)) (sent-alone h c)
   where
     sent-of : Option (Sent × ℕ) → Sent
     sent-of None = slot.sent
@@ -121,8 +149,10 @@ told-slot slot (Some s) e h c check = subst (λ z. Crosses (Some (record { sent 
     sent-alone Chance c = c
 
 arriving : (role : Role) (turn : ℕ) (x y b : Account) (lx ly : List Slot) (t : Option Turn) (left : List (Option run.Spoken)) (h : Heard)
-    → told_by_play lx ≡ map told_by_turn (made role t ++ left) → Crosses (sent_in role t) h → hear turn (arrival h) y ≡ Ok b → Came role x b lx ly y left
-arriving role turn x y b lx ly None left Nothing e c k = record { line = lx; leads = hears-nothing-back role turn x y b lx ly k; left_is = e }
+    → told_by_play lx ≡ map told_by_turn (made role t ++ left) → Crosses (sent_in role t) h → hear turn (arrival h) y ≡ Ok b
+    → Came role x b lx ly y left
+arriving role turn x y b lx ly None left Nothing e c k =
+    record { line = lx; leads = hears-nothing-back role turn x y b lx ly k; left_is = e }
 arriving role turn x y b lx ly None left (Passed s) e c k = absurd c
 arriving role turn x y b lx ly None left (Lost s) e c k = absurd c
 arriving role turn x y b lx ly None left Chance e c k = absurd c
@@ -131,10 +161,12 @@ arriving role turn x y b (slot ∷ rest) ly (Some t) left h e c k =
     let parts = head-of (Some (slot.sent, slot.number)) (told_by_turn (of role t).sent) (told_by_play rest) (map told_by_turn left) e in
     on h (told-slot slot (of role t).sent parts.0 h c Sixteen) k parts.1
   where
-    on : (h : Heard) → Crosses (Some (record { sent = slot.sent; number = slot.number; check = Sixteen })) h → hear turn (arrival h) y ≡ Ok b → told_by_play rest ≡ map told_by_turn left → Came role x b (slot ∷ rest) ly y left
+    on : (h : Heard) → Crosses (Some (record { sent = slot.sent; number = slot.number; check = Sixteen })) h
+        → hear turn (arrival h) y ≡ Ok b → told_by_play rest ≡ map told_by_turn left → Came role x b (slot ∷ rest) ly y left
     on Nothing c k p = record {
       line = rest;
-      leads = then-leads (at role x (slot ∷ rest) y ly) (at role x rest y ly) (at role x rest b ly) (one (Is_lost role) _ _ (loses-one role x y slot rest ly)) (hears-nothing-back role turn x y b rest ly k);
+      leads = then-leads (at role x (slot ∷ rest) y ly) (at role x rest y ly) (at role x rest b ly)
+          (one (Is_lost role) _ _ (loses-one role x y slot rest ly)) (hears-nothing-back role turn x y b rest ly k);
       left_is = p;
     }
     on (Passed s) c k p = record {
@@ -144,98 +176,129 @@ arriving role turn x y b (slot ∷ rest) ly (Some t) left h e c k =
     }
     on (Lost s) c k p = record {
       line = rest;
-      leads = then-leads (at role x (slot ∷ rest) y ly) (at role x rest y ly) (at role x rest b ly) (one (Is_lost role) _ _ (loses-one role x y slot rest ly)) (hears-nothing-back role turn x y b rest ly k);
+      leads = then-leads (at role x (slot ∷ rest) y ly) (at role x rest y ly) (at role x rest b ly)
+          (one (Is_lost role) _ _ (loses-one role x y slot rest ly)) (hears-nothing-back role turn x y b rest ly k);
       left_is = p;
     }
     on Chance c k p = absurd c
 
 pub arrives-next : (role : Role) (turn d : ℕ) (ts : List Turn) (x y b : Account) (lx ly : List Slot) (h : Heard) → 1 ≤ d
-    → told_by_play lx ≡ map told_by_turn (on_line d role ts) → Crosses (sent_ago d role ts) h → hear turn (arrival h) y ≡ Ok b → Came role x b lx ly y (on_line (d - 1) role ts)
+    → told_by_play lx ≡ map told_by_turn (on_line d role ts) → Crosses (sent_ago d role ts) h → hear turn (arrival h) y ≡ Ok b
+    → Came role x b lx ly y (on_line (d - 1) role ts)
 arrives-next role turn d ts x y b lx ly h some e c k =
     let same : d ≡ suc (d - 1) = omega (arith, some) in
-    arriving role turn x y b lx ly (slice_get ts (d - 1)) (on_line (d - 1) role ts) h (e ∙ ap (map told_by_turn) (ap (λ m. on_line m role ts) same ∙ oldest role (d - 1) ts)) c k
+    arriving role turn x y b lx ly (slice_get ts (d - 1)) (on_line (d - 1) role ts) h
+    (e ∙ ap (map told_by_turn) (ap (λ m. on_line m role ts) same ∙ oldest role (d - 1) ts)) c k
 
 -- one more slot is on the line
-pub behind : (role : Role) (d : ℕ) (t : Turn) (ts : List Turn) → 1 ≤ d → on_line d role (t ∷ ts) ≡ on_line (d - 1) role ts ++ (of role t).sent ∷ []
+pub behind : (role : Role) (d : ℕ) (t : Turn) (ts : List Turn) → 1 ≤ d
+    → on_line d role (t ∷ ts) ≡ on_line (d - 1) role ts ++ (of role t).sent ∷ []
 behind role d t ts some = let same : d ≡ suc (d - 1) = omega (arith, some) in ap (λ m. on_line m role (t ∷ ts)) same
 
-pub told-behind : (line : List Slot) (slot : Slot) → told_by_play (line ++ slot ∷ []) ≡ told_by_play line ++ Some (slot.sent, slot.number) ∷ []
+pub told-behind : (line : List Slot) (slot : Slot)
+    → told_by_play (line ++ slot ∷ []) ≡ told_by_play line ++ Some (slot.sent, slot.number) ∷ []
 told-behind [] slot = refl
 told-behind (s ∷ line) slot = ap (λ l. Some (s.sent, s.number) ∷ l) (told-behind line slot)
 
 -- and as turns tell it
-pub turns-behind : (line : List (Option run.Spoken)) (s : Option run.Spoken) → map told_by_turn (line ++ s ∷ []) ≡ map told_by_turn line ++ told_by_turn s ∷ []
+pub turns-behind : (line : List (Option run.Spoken)) (s : Option run.Spoken)
+    → map told_by_turn (line ++ s ∷ []) ≡ map told_by_turn line ++ told_by_turn s ∷ []
 turns-behind [] s = refl
 turns-behind (x ∷ line) s = ap (λ l. told_by_turn x ∷ l) (turns-behind line s)
 
 -- delivering
-delivers-one : (role : Role) (x y : Account) (lx ly : List Slot) → happens (Delivers role) (at role x lx y ly) ≡ at role (after_delivery x) lx y ly
+delivers-one : (role : Role) (x y : Account) (lx ly : List Slot)
+    → happens (Delivers role) (at role x lx y ly) ≡ at role (after_delivery x) lx y ly
 delivers-one Originator x y lx ly = refl
 delivers-one Answerer x y lx ly = refl
 
 abbrev with_given : Account → ℕ → Account
 with_given x g = record x { incoming = record x.incoming { given = g } }
 
-delivered-next : (x : Account) → is_connected x.phase ≡ true → x.incoming.given < length x.incoming.taken → after_delivery x ≡ with_given x (x.incoming.given + 1)
+delivered-next : (x : Account) → is_connected x.phase ≡ true → x.incoming.given < length x.incoming.taken
+    → after_delivery x ≡ with_given x (x.incoming.given + 1)
 delivered-next x e less = go (is_connected x.phase) (nat_lt x.incoming.given (length x.incoming.taken)) e (grind (arith, nat_tests))
   where
-    go : (b c : Bool) → b ≡ true → c ≡ true → cond b (record x { incoming = cond c (with_given x (x.incoming.given + 1)).incoming x.incoming }) x ≡ with_given x (x.incoming.given + 1)
+    go : (b c : Bool) → b ≡ true → c ≡ true
+        → cond b (record x { incoming = cond c (with_given x (x.incoming.given + 1)).incoming x.incoming }) x ≡ with_given x
+        (x.incoming.given + 1)
     go true true e k = refl
     go true false e k = absurd (false≢true k)
     go false c e k = absurd (false≢true e)
 
-delivers-all : (n : ℕ) (role : Role) (x y : Account) (lx ly : List Slot) → x.incoming.given + n ≡ length x.incoming.taken → is_connected x.phase ≡ true
+delivers-all : (n : ℕ) (role : Role) (x y : Account) (lx ly : List Slot) → x.incoming.given + n ≡ length x.incoming.taken
+    → is_connected x.phase ≡ true
     → Leads (at role x lx y ly) (at role (with_given x (length x.incoming.taken)) lx y ly)
 delivers-all zero role x y lx ly e linked = record { events = []; led = ap (λ g. at role (with_given x g) lx y ly) (omega (arith, e)) }
 delivers-all (suc n) role x y lx ly e linked =
-    then-leads (at role x lx y ly) (at role (with_given x (x.incoming.given + 1)) lx y ly) (at role (with_given x (length x.incoming.taken)) lx y ly)
+    then-leads (at role x lx y ly) (at role (with_given x (x.incoming.given + 1)) lx y ly)
+    (at role (with_given x (length x.incoming.taken)) lx y ly)
     (one (Delivers role) _ _ (delivers-one role x y lx ly ∙ ap (λ z. at role z lx y ly) (delivered-next x linked (omega (arith, e)))))
     (delivers-all n role (with_given x (x.incoming.given + 1)) y lx ly (omega (arith, e)) linked)
 
-delivers-what-waits : (role : Role) (x y : Account) (lx ly : List Slot) → Waiting x → Leads (at role x lx y ly) (at role (delivered x) lx y ly)
+delivers-what-waits : (role : Role) (x y : Account) (lx ly : List Slot) → Waiting x
+    → Leads (at role x lx y ly) (at role (delivered x) lx y ly)
 delivers-what-waits role x y lx ly w = go (is_connected x.phase) refl
   where
-    go : (b : Bool) → is_connected x.phase ≡ b → Leads (at role x lx y ly) (at role (cond b (with_given x (length x.incoming.taken)) x) lx y ly)
+    go : (b : Bool) → is_connected x.phase ≡ b
+        → Leads (at role x lx y ly) (at role (cond b (with_given x (length x.incoming.taken)) x) lx y ly)
     go true e = delivers-all (length x.incoming.taken - x.incoming.given) role x y lx ly (omega (arith, w.given)) e
     go false e = stay (at role x lx y ly)
 
-gives-one : (role : Role) (x y : Account) (lx ly : List Slot) → happens (Gives_break role) (at role x lx y ly) ≡ at role (after_given x) lx y ly
+gives-one : (role : Role) (x y : Account) (lx ly : List Slot)
+    → happens (Gives_break role) (at role x lx y ly) ≡ at role (after_given x) lx y ly
 gives-one Originator x y lx ly = refl
 gives-one Answerer x y lx ly = refl
 
 -- offering
-offers-one : (role : Role) (x y : Account) (lx ly : List Slot) (piece : List ℕ) → (is_some (wants x) && nat_le (length piece) (piece_size x)) ≡ true
+offers-one : (role : Role) (x y : Account) (lx ly : List Slot) (piece : List ℕ)
+    → (is_some (wants x) && nat_le (length piece) (piece_size x)) ≡ true
     → happens (Is_offered role piece) (at role x lx y ly) ≡ at role (after_offer piece x) lx y ly
 offers-one Originator x y lx ly piece e =
-    ap (λ b. record { originator = cond b (record { account = after_offer piece x; line = lx; fault = None }) (record { account = x; line = lx; fault = None }); answerer = record { account = y; line = ly; fault = None } }) e
+    ap (λ b. record {
+      originator =
+          cond b (record { account = after_offer piece x; line = lx; fault = None }) (record { account = x; line = lx; fault = None });
+      answerer = record { account = y; line = ly; fault = None };
+    }) e
 offers-one Answerer x y lx ly piece e =
-    ap (λ b. record { originator = record { account = y; line = ly; fault = None }; answerer = cond b (record { account = after_offer piece x; line = lx; fault = None }) (record { account = x; line = lx; fault = None }) }) e
+    ap (λ b. record {
+      originator = record { account = y; line = ly; fault = None };
+      answerer =
+          cond b (record { account = after_offer piece x; line = lx; fault = None }) (record { account = x; line = lx; fault = None });
+    }) e
 
 length-take-le : (n : ℕ) (xs : List ℕ) → length (take n xs) ≤ n
 length-take-le zero xs = omega arith
 length-take-le (suc n) [] = omega arith
 length-take-le (suc n) (x ∷ xs) = let h = length-take-le n xs in omega arith
 
-offers-at : (role : Role) (x y : Account) (lx ly : List Slot) (file : List ℕ) (w : Option ℕ) → wants x ≡ w → Leads (at role x lx y ly) (at role (offered_at file x w) lx y ly)
+offers-at : (role : Role) (x y : Account) (lx ly : List Slot) (file : List ℕ) (w : Option ℕ) → wants x ≡ w
+    → Leads (at role x lx y ly) (at role (offered_at file x w) lx y ly)
 offers-at role x y lx ly file None e = stay (at role x lx y ly)
 offers-at role x y lx ly file (Some n) e =
     let piece = piece_at (piece_size x) file n in
-    let short : nat_le (length piece) (piece_size x) ≡ true = let h = length-take-le (piece_size x) (drop (piece_size x * n) file) in grind (arith, nat_tests) in
-    one (Is_offered role piece) _ _ (offers-one role x y lx ly piece (ap (λ v. is_some v && nat_le (length piece) (piece_size x)) e ∙ short))
+    let short : nat_le (length piece) (piece_size x) ≡ true = let h = length-take-le (piece_size x) (drop (piece_size x * n) file) in
+    grind (arith, nat_tests) in
+    one (Is_offered role piece) _ _
+    (offers-one role x y lx ly piece (ap (λ v. is_some v && nat_le (length piece) (piece_size x)) e ∙ short))
 
-offers-all : (n : ℕ) (role : Role) (x y : Account) (lx ly : List Slot) (file : List ℕ) → Leads (at role x lx y ly) (at role (offered_times n file x) lx y ly)
+offers-all : (n : ℕ) (role : Role) (x y : Account) (lx ly : List Slot) (file : List ℕ)
+    → Leads (at role x lx y ly) (at role (offered_times n file x) lx y ly)
 offers-all zero role x y lx ly file = stay (at role x lx y ly)
 offers-all (suc n) role x y lx ly file =
-    then-leads (at role x lx y ly) (at role (offered_at file x (wants x)) lx y ly) (at role (offered_times n file (offered_at file x (wants x))) lx y ly)
+    then-leads (at role x lx y ly) (at role (offered_at file x (wants x)) lx y ly)
+    (at role (offered_times n file (offered_at file x (wants x))) lx y ly)
     (offers-at role x y lx ly file (wants x) refl)
     (offers-all n role (offered_at file x (wants x)) y lx ly file)
 
 -- asking for a break
-asks-one : (role : Role) (turn length_octet : ℕ) (x y : Account) (lx ly : List Slot) → happens (Is_asked role turn length_octet) (at role x lx y ly) ≡ at role (after_break_asked turn length_octet x) lx y ly
+asks-one : (role : Role) (turn length_octet : ℕ) (x y : Account) (lx ly : List Slot)
+    → happens (Is_asked role turn length_octet) (at role x lx y ly) ≡ at role (after_break_asked turn length_octet x) lx y ly
 asks-one Originator turn length_octet x y lx ly = refl
 asks-one Answerer turn length_octet x y lx ly = refl
 
-asks : (role : Role) (turn : ℕ) (released : Bool) (breaks : List BreakLine) (x y : Account) (lx ly : List Slot) → Leads (at role x lx y ly) (at role (asked turn released breaks x) lx y ly)
+asks : (role : Role) (turn : ℕ) (released : Bool) (breaks : List BreakLine) (x y : Account) (lx ly : List Slot)
+    → Leads (at role x lx y ly) (at role (asked turn released breaks x) lx y ly)
 asks role turn true breaks x y lx ly = stay (at role x lx y ly)
 asks role turn false breaks x y lx ly = go (next_break breaks x)
   where
@@ -248,12 +311,14 @@ asks role turn false breaks x y lx ly = go (next_break breaks x)
     go (Some b) = ready b (nat_le b.turn turn)
 
 -- being told of a pause
-busy-one : (role : Role) (busy : Bool) (x y : Account) (lx ly : List Slot) → happens (Is_busy role busy) (at role x lx y ly) ≡ at role (after_busy busy x) lx y ly
+busy-one : (role : Role) (busy : Bool) (x y : Account) (lx ly : List Slot)
+    → happens (Is_busy role busy) (at role x lx y ly) ≡ at role (after_busy busy x) lx y ly
 busy-one Originator busy x y lx ly = refl
 busy-one Answerer busy x y lx ly = refl
 
 -- all that happens between hearing and speaking
-pub serves : (role : Role) (u : User) (turn : ℕ) (released : Bool) (x y : Account) (lx ly : List Slot) → Waiting x → Leads (at role x lx y ly) (at role (served u turn released x).account lx y ly)
+pub serves : (role : Role) (u : User) (turn : ℕ) (released : Bool) (x y : Account) (lx ly : List Slot) → Waiting x
+    → Leads (at role x lx y ly) (at role (served u turn released x).account lx y ly)
 serves role u turn released x y lx ly w =
     let d = delivered x in
     let g = after_given d in
@@ -263,15 +328,26 @@ serves role u turn released x y lx ly w =
     then-leads (at role x lx y ly) (at role d lx y ly) last (delivers-what-waits role x y lx ly w)
     (then-leads (at role d lx y ly) (at role g lx y ly) last (one (Gives_break role) _ _ (gives-one role d y lx ly))
     (then-leads (at role g lx y ly) (at role o lx y ly) last (offers-all (room_for g) role g y lx ly u.file)
-    (then-leads (at role o lx y ly) (at role b lx y ly) last (one (Is_busy role (is_busy turn u.busy)) _ _ (busy-one role (is_busy turn u.busy) o y lx ly)) (asks role turn released u.breaks b y lx ly))))
+    (then-leads (at role o lx y ly) (at role b lx y ly) last
+    (one (Is_busy role (is_busy turn u.busy)) _ _ (busy-one role (is_busy turn u.busy) o y lx ly))
+    (asks role turn released u.breaks b y lx ly))))
 
 -- speaking
 abbrev pub slot_of : Account → Said → Slot
 slot_of x said = record { sent = said.sent; number = said.number; told = next_expected x.incoming }
 
-pub speaks-one : (role : Role) (turn : ℕ) (release : Bool) (x y : Account) (lx ly : List Slot) (said : Said) → speak turn release x ≡ Ok said
+pub speaks-one : (role : Role) (turn : ℕ) (release : Bool) (x y : Account) (lx ly : List Slot) (said : Said)
+    → speak turn release x ≡ Ok said
     → happens (Speaks role turn release) (at role x lx y ly) ≡ at role said.account (lx ++ slot_of x said ∷ []) y ly
 speaks-one Originator turn release x y lx ly said e =
-    ap (λ r. record { originator = spoken r (record { account = x; line = lx; fault = None }); answerer = record { account = y; line = ly; fault = None } }) e
+    ap (λ r. record {
+      originator = spoken r (record { account = x; line = lx; fault = None });
+      answerer =
+          record { account = y; line = ly; fault = None };
+    }) e
 speaks-one Answerer turn release x y lx ly said e =
-    ap (λ r. record { originator = record { account = y; line = ly; fault = None }; answerer = spoken r (record { account = x; line = lx; fault = None }) }) e
+    ap (λ r. record {
+      originator = record { account = y; line = ly; fault = None };
+      answerer =
+          spoken r (record { account = x; line = lx; fault = None });
+    }) e

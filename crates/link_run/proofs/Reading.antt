@@ -300,8 +300,11 @@ same-heard file others a b un (inr g) s = record {
 
 pub runs_by_what_was_read : ReadsAllowed → KeepsTaken → RunsByWhatWasRead
 runs_by_what_was_read reads keeps link files others [] ends allowed h same = h
-runs_by_what_was_read reads keeps link files others (t ∷ ts) ends allowed h same =
-    (h.0, runs_by_what_was_read reads keeps link files others ts h.0 allowed h.1 before, record { mid = mid; hearing = g.hearing; going = g.going; speaking = speaks-so })
+runs_by_what_was_read reads keeps link files others (t ∷ ts) ends allowed h same = (
+  h.0,
+  runs_by_what_was_read reads keeps link files others ts h.0 allowed h.1 before,
+  record { mid = mid; hearing = g.hearing; going = g.going; speaking = speaks-so },
+)
   where
     old : Link
     old = with_files files link

@@ -44,27 +44,33 @@ told link turn mid Originator = releases link turn mid
 told link turn mid Answerer = false
 
 -- what an end is that has spoken
-pub speaks-at : (link : Link) (turn : ℕ) (mid : Ends) (role : Role) (said : Said) → said_at link turn mid role ≡ Ok said → speaking.Speaks (told link turn mid role) (served_at link turn mid role).account said.account
+pub speaks-at : (link : Link) (turn : ℕ) (mid : Ends) (role : Role) (said : Said) → said_at link turn mid role ≡ Ok said
+    → speaking.Speaks (told link turn mid role) (served_at link turn mid role).account said.account
 speaks-at link turn mid Originator said e = speaks turn (releases link turn mid) (served_at link turn mid Originator).account said e
 speaks-at link turn mid Answerer said e = speaks turn false (served_at link turn mid Answerer).account said e
 
 -- what both ends have handed over
-pub hearing-waits : (reads : ReadsAllowed) (keeps : KeepsTaken) (turn : ℕ) (before : Ends) (t : Turn) (mid : Ends) → ((r : Role) → Handed (of r before)) → Hears turn before t mid → (r : Role) → Waiting (of r mid)
-hearing-waits reads keeps turn before t mid h k r = heard-waits (of r before) (of r mid) (h r) (hears reads keeps turn (arrival (of r t).heard) (of r before) (of r mid) (k r).hears)
+pub hearing-waits : (reads : ReadsAllowed) (keeps : KeepsTaken) (turn : ℕ) (before : Ends) (t : Turn) (mid : Ends)
+    → ((r : Role) → Handed (of r before)) → Hears turn before t mid → (r : Role) → Waiting (of r mid)
+hearing-waits reads keeps turn before t mid h k r =
+    heard-waits (of r before) (of r mid) (h r) (hears reads keeps turn (arrival (of r t).heard) (of r before) (of r mid) (k r).hears)
 
-pub going-handed : (reads : ReadsAllowed) (keeps : KeepsTaken) (link : Link) (ts : List Turn) (before : Ends) (t : Turn) (after : Ends) → ((r : Role) → Handed (of r before)) → GoingTurn link ts before t after → (r : Role) → Handed (of r after)
+pub going-handed : (reads : ReadsAllowed) (keeps : KeepsTaken) (link : Link) (ts : List Turn) (before : Ends) (t : Turn) (after : Ends)
+    → ((r : Role) → Handed (of r before)) → GoingTurn link ts before t after → (r : Role) → Handed (of r after)
 going-handed reads keeps link ts before t after h g r =
     let w = hearing-waits reads keeps (length ts) before t g.mid h g.hearing r in
     let k = g.speaking r in
     subst Handed (sym k.after_is)
-    (spoken-handed (told link (length ts) g.mid r) (served_at link (length ts) g.mid r).account k.said.account (served-handed (of r link).user (length ts) (is_released g.mid.orig.phase) (of r g.mid) w)
+    (spoken-handed (told link (length ts) g.mid r) (served_at link (length ts) g.mid r).account k.said.account
+    (served-handed (of r link).user (length ts) (is_released g.mid.orig.phase) (of r g.mid) w)
     (speaks-at link (length ts) g.mid r k.said k.says))
 
 start-handed : (link : Link) (r : Role) → Handed (of r (run.start link))
 start-handed link Originator = record { given = refl; told = refl }
 start-handed link Answerer = record { given = refl; told = refl }
 
-pub run-handed : (reads : ReadsAllowed) (keeps : KeepsTaken) (link : Link) (ts : List Turn) (ends : Ends) → RunOf link ts ends → (r : Role) → Handed (of r ends)
+pub run-handed : (reads : ReadsAllowed) (keeps : KeepsTaken) (link : Link) (ts : List Turn) (ends : Ends) → RunOf link ts ends → (r : Role)
+    → Handed (of r ends)
 run-handed reads keeps link [] ends h r = subst (λ (e : Ends). Handed (of r e)) (sym h) (start-handed link r)
 run-handed reads keeps link (t ∷ ts) ends h r = going-handed reads keeps link ts h.0 t ends (run-handed reads keeps link ts h.0 h.1) h.2 r
 
@@ -72,29 +78,37 @@ run-handed reads keeps link (t ∷ ts) ends h r = going-handed reads keeps link 
 pub hearing-reaches : (link : Link) (delay : Role → ℕ) (ts : List Turn) (before : Ends) (turn : ℕ) (t : Turn) (mid : Ends) → HasDelays delay
     → Reaches link before (lines delay ts) → Carries delay ts t → Hears turn before t mid → Reaches link mid (left delay ts)
 hearing-reaches link delay ts before turn t mid some p c k =
-    let first = arrives-next Answerer turn (delay Answerer) ts before.answ before.orig mid.orig p.la p.lo t.orig.heard (some Answerer) p.answ_line (c Originator) (k Originator).hears in
-    let second = arrives-next Originator turn (delay Originator) ts mid.orig before.answ mid.answ p.lo first.line t.answ.heard (some Originator) p.orig_line (c Answerer) (k Answerer).hears in
+    let first = arrives-next Answerer turn (delay Answerer) ts before.answ before.orig mid.orig p.la p.lo t.orig.heard
+    (some Answerer) p.answ_line (c Originator) (k Originator).hears in
+    let second = arrives-next Originator turn (delay Originator) ts mid.orig before.answ mid.answ p.lo first.line t.answ.heard
+    (some Originator) p.orig_line (c Answerer) (k Answerer).hears in
     record {
       lo = second.line;
       la = first.line;
-      leads = then-leads (begun link) (at Originator mid.orig p.lo before.answ first.line) (at Originator mid.orig second.line mid.answ first.line)
-          (then-leads (begun link) (at Originator before.orig p.lo before.answ p.la) (at Originator mid.orig p.lo before.answ first.line) p.leads first.leads)
+      leads = then-leads (begun link) (at Originator mid.orig p.lo before.answ first.line)
+          (at Originator mid.orig second.line mid.answ first.line)
+          (then-leads (begun link) (at Originator before.orig p.lo before.answ p.la)
+          (at Originator mid.orig p.lo before.answ first.line) p.leads first.leads)
           second.leads;
       orig_line = second.left_is;
       answ_line = first.left_is;
     }
 
 -- what is said goes behind what is on the line
-said-behind : (delay : Role → ℕ) (role : Role) (ts : List Turn) (t : Turn) (line : List Slot) (slot : Slot) (said : Said) → HasDelays delay → told_by_play line ≡ map told_by_turn (left delay ts role)
-    → slot.sent ≡ said.sent → slot.number ≡ said.number → (of role t).sent ≡ Some (run.spoken said) → told_by_play (line ++ slot ∷ []) ≡ map told_by_turn (lines delay (t ∷ ts) role)
+said-behind : (delay : Role → ℕ) (role : Role) (ts : List Turn) (t : Turn) (line : List Slot) (slot : Slot) (said : Said) → HasDelays delay
+    → told_by_play line ≡ map told_by_turn (left delay ts role)
+    → slot.sent ≡ said.sent → slot.number ≡ said.number → (of role t).sent ≡ Some (run.spoken said)
+    → told_by_play (line ++ slot ∷ []) ≡ map told_by_turn (lines delay (t ∷ ts) role)
 said-behind delay role ts t line slot said some h s n e =
     let same : Some (slot.sent, slot.number) ≡ told_by_turn (of role t).sent = rw (s, n, e) refl in
-    told-behind line slot ∙ ap (λ l. l ++ Some (slot.sent, slot.number) ∷ []) h ∙ ap (λ x. map told_by_turn (left delay ts role) ++ x ∷ []) same
+    told-behind line slot ∙ ap (λ l. l ++ Some (slot.sent, slot.number) ∷ []) h
+    ∙ ap (λ x. map told_by_turn (left delay ts role) ++ x ∷ []) same
     ∙ sym (turns-behind (left delay ts role) (of role t).sent) ∙ ap (map told_by_turn) (sym (behind role (delay role) t ts (some role)))
 
 -- a turn
 going-reaches : (link : Link) (delay : Role → ℕ) (ts : List Turn) (before : Ends) (t : Turn) (after : Ends) → HasDelays delay
-    → Reaches link before (lines delay ts) → Carries delay ts t → (g : GoingTurn link ts before t after) → ((r : Role) → Waiting (of r g.mid)) → Reaches link after (lines delay (t ∷ ts))
+    → Reaches link before (lines delay ts) → Carries delay ts t → (g : GoingTurn link ts before t after)
+    → ((r : Role) → Waiting (of r g.mid)) → Reaches link after (lines delay (t ∷ ts))
 going-reaches link delay ts before t after some p c g w =
     let turn = length ts in
     let m = hearing-reaches link delay ts before turn t g.mid some p c g.hearing in
@@ -114,12 +128,14 @@ going-reaches link delay ts before t after some p c g w =
     then-leads (begun link) p1 p5 m.leads
     (then-leads p1 p2 p5 (serves Originator link.orig.user turn r g.mid.orig g.mid.answ m.lo m.la (w Originator))
     (then-leads p2 p3 p5 (serves Answerer link.answ.user turn r g.mid.answ o m.la m.lo (w Answerer))
-    (then-leads p3 p4 p5 (one (Speaks Originator turn (releases link turn g.mid)) p3 p4 (speaks-one Originator turn (releases link turn g.mid) o a m.lo m.la ko.said ko.says))
+    (then-leads p3 p4 p5 (one (Speaks Originator turn (releases link turn g.mid)) p3 p4
+    (speaks-one Originator turn (releases link turn g.mid) o a m.lo m.la ko.said ko.says))
     (one (Speaks Answerer turn false) p4 p5 (speaks-one Answerer turn false a ko.said.account m.la lo ka.said ka.says))))) in
     record {
       lo = lo;
       la = la;
-      leads = subst (λ e. Leads (begun link) (at Originator e lo after.answ la)) (sym ko.after_is) (subst (λ e. Leads (begun link) (at Originator ko.said.account lo e la)) (sym ka.after_is) led);
+      leads = subst (λ e. Leads (begun link) (at Originator e lo after.answ la)) (sym ko.after_is)
+          (subst (λ e. Leads (begun link) (at Originator ko.said.account lo e la)) (sym ka.after_is) led);
       orig_line = said-behind delay Originator ts t m.lo (slot_of o ko.said) ko.said some m.orig_line refl refl ko.sent_is;
       answ_line = said-behind delay Answerer ts t m.la (slot_of a ka.said) ka.said some m.answ_line refl refl ka.sent_is;
     }
@@ -128,7 +144,8 @@ nothing-sent : (d : ℕ) (role : Role) → on_line d role [] ≡ []
 nothing-sent zero role = refl
 nothing-sent (suc d) role = refl
 
-pub run-reaches : (reads : ReadsAllowed) (keeps : KeepsTaken) (link : Link) (delay : Role → ℕ) (ts : List Turn) (ends : Ends) → HasDelays delay → IsCarried delay ts → RunOf link ts ends
+pub run-reaches : (reads : ReadsAllowed) (keeps : KeepsTaken) (link : Link) (delay : Role → ℕ) (ts : List Turn) (ends : Ends)
+    → HasDelays delay → IsCarried delay ts → RunOf link ts ends
     → Reaches link ends (lines delay ts)
 run-reaches reads keeps link delay [] ends some c h = record {
   lo = [];
@@ -157,8 +174,10 @@ played-at link ends line p = record { events = p.leads.events; is_at = at-role }
     }
 
 pub runs_are_plays : ReadsAllowed → KeepsTaken → RunsArePlays
-runs_are_plays reads keeps link delay ts ends some c h = played-at link ends (lines delay ts) (run-reaches reads keeps link delay ts ends some c h)
+runs_are_plays reads keeps link delay ts ends some c h =
+    played-at link ends (lines delay ts) (run-reaches reads keeps link delay ts ends some c h)
 
 pub hearings_are_plays : ReadsAllowed → KeepsTaken → HearingsArePlays
 hearings_are_plays reads keeps link delay ts ends turn t mid some c h n k =
-    played-at link mid (left delay ts) (hearing-reaches link delay ts ends turn t mid some (run-reaches reads keeps link delay ts ends some c h) n k)
+    played-at link mid (left delay ts)
+    (hearing-reaches link delay ts ends turn t mid some (run-reaches reads keeps link delay ts ends some c h) n k)

@@ -57,7 +57,8 @@ where-says p a true said h = h
 where-says p a false said h = tt
 
 -- neither UA, nor I, nor DISC
-other : (p : Phase) (a : Account) (said : Said) → carries is_ua said.sent ≡ false → carries is_segment said.sent ≡ false → carries is_disc said.sent ≡ false → (carries is_counted said.sent ≡ true → stage p ≡ 1)
+other : (p : Phase) (a : Account) (said : Said) → carries is_ua said.sent ≡ false → carries is_segment said.sent ≡ false
+    → carries is_disc said.sent ≡ false → (carries is_counted said.sent ≡ true → stage p ≡ 1)
     → owes_ua said.account.owes.answer ≡ owes_ua a.owes.answer → part said.account ≡ part a → Says p a said
 other p a said u s d c o e = record {
   ua = λ z. absurd (false≢true (sym u ∙ z));
@@ -70,19 +71,64 @@ other p a said u s d c o e = record {
 
 due : (p : Phase) (o : Option Answer) (a : Account) → a.owes.answer ≡ o → AllSay p a (answering o a)
 due p None a e = tt
-due p (Some answers.Adp) a e = record { ua = λ z. absurd (false≢true z); owes = λ z. absurd (false≢true z); part_is = refl; counted = λ z. absurd (false≢true z); segment = λ z. absurd (false≢true z); disc = λ z. absurd (false≢true z) }
-due p (Some answers.Xid) a e = record { ua = λ z. absurd (false≢true z); owes = λ z. absurd (false≢true z); part_is = refl; counted = λ z. absurd (false≢true z); segment = λ z. absurd (false≢true z); disc = λ z. absurd (false≢true z) }
-due p (Some (answers.Ua pf)) a e = record { ua = λ z. ap owes_ua e; owes = λ z. absurd (false≢true z); part_is = refl; counted = λ z. absurd (false≢true z); segment = λ z. absurd (false≢true z); disc = λ z. absurd (false≢true z) }
-due p (Some (answers.Dm pf)) a e = record { ua = λ z. absurd (false≢true z); owes = λ z. absurd (false≢true z); part_is = refl; counted = λ z. absurd (false≢true z); segment = λ z. absurd (false≢true z); disc = λ z. absurd (false≢true z) }
+due p (Some answers.Adp) a e =
+    record {
+      ua = λ z. absurd (false≢true z);
+      owes = λ z. absurd (false≢true z);
+      part_is = refl;
+      counted =
+          λ z. absurd (false≢true z);
+      segment = λ z. absurd (false≢true z);
+      disc = λ z. absurd (false≢true z);
+    }
+due p (Some answers.Xid) a e =
+    record {
+      ua = λ z. absurd (false≢true z);
+      owes = λ z. absurd (false≢true z);
+      part_is = refl;
+      counted =
+          λ z. absurd (false≢true z);
+      segment = λ z. absurd (false≢true z);
+      disc = λ z. absurd (false≢true z);
+    }
+due p (Some (answers.Ua pf)) a e =
+    record {
+      ua = λ z. ap owes_ua e;
+      owes = λ z. absurd (false≢true z);
+      part_is = refl;
+      counted = λ z. absurd (false≢true z);
+      segment =
+          λ z. absurd (false≢true z);
+      disc = λ z. absurd (false≢true z);
+    }
+due p (Some (answers.Dm pf)) a e =
+    record {
+      ua = λ z. absurd (false≢true z);
+      owes = λ z. absurd (false≢true z);
+      part_is = refl;
+      counted =
+          λ z. absurd (false≢true z);
+      segment = λ z. absurd (false≢true z);
+      disc = λ z. absurd (false≢true z);
+    }
 
 segment : (turn : ℕ) (a : Account) → AllSay Connected a (says_segment turn (may_send a) a)
 segment turn a = go (is_originator a.setup.role || a.numbered) refl
   where
     some : (o : Option ℕ) → (is_originator a.setup.role || a.numbered) ≡ true → AllSay Connected a (says_segment turn o a)
     some None e = tt
-    some (Some n) e = record { ua = λ z. absurd (false≢true z); owes = λ z. z; part_is = refl; counted = λ z. refl; segment = λ z. e; disc = λ z. absurd (false≢true z) }
+    some (Some n) e = record {
+      ua = λ z. absurd (false≢true z);
+      owes = λ z. z;
+      part_is = refl;
+      counted = λ z. refl;
+      segment = λ z. e;
+      disc =
+          λ z. absurd (false≢true z);
+    }
 
-    go : (b : Bool) → (is_originator a.setup.role || a.numbered) ≡ b → AllSay Connected a (says_segment turn (cond b (next_number a.outgoing) None) a)
+    go : (b : Bool) → (is_originator a.setup.role || a.numbered) ≡ b
+        → AllSay Connected a (says_segment turn (cond b (next_number a.outgoing) None) a)
     go true e = some (next_number a.outgoing) e
     go false e = tt
 
@@ -95,29 +141,40 @@ words None a = own (own_due a.own_breaks) a
 words (Some w) a = other Connected a _ refl refl refl (λ z. refl) refl refl
 
 -- RR or RNR
-told : (command pf : Bool) (a b : Account) → owes_ua b.owes.answer ≡ owes_ua a.owes.answer → part b ≡ part a → Says Connected a (tells command pf b)
+told : (command pf : Bool) (a b : Account) → owes_ua b.owes.answer ≡ owes_ua a.owes.answer → part b ≡ part a
+    → Says Connected a (tells command pf b)
 told command pf a b o e = go b.owes.busy
   where
-    go : (busy : Bool) → Says Connected a (says_frame (ready_frame busy command (nr_of b) pf) (telling (record b { owes = record b.owes { busy_told = busy } })))
+    go : (busy : Bool) → Says Connected a
+        (says_frame (ready_frame busy command (nr_of b) pf) (telling (record b { owes = record b.owes { busy_told = busy } })))
     go true = other Connected a _ refl refl refl (λ z. refl) o e
     go false = other Connected a _ refl refl refl (λ z. refl) o e
 
-asked-part : (n : ℕ) (i : Incoming) → ((after_asked n i).taken ≡ i.taken) × ((after_asked n i).held ≡ i.held) × ((after_asked n i).srej ≡ i.srej)
+asked-part : (n : ℕ) (i : Incoming)
+    → ((after_asked n i).taken ≡ i.taken) × ((after_asked n i).held ≡ i.held) × ((after_asked n i).srej ≡ i.srej)
 asked-part n i = go i.srej refl
   where
-    go : (b : Bool) → i.srej ≡ b → ((cond b (record i { asked = i.asked ++ n ∷ [] }) (record i { rej = false })).taken ≡ i.taken) × ((cond b (record i { asked = i.asked ++ n ∷ [] }) (record i { rej = false })).held ≡ i.held) × ((cond b (record i { asked = i.asked ++ n ∷ [] }) (record i { rej = false })).srej ≡ i.srej)
+    go : (b : Bool) → i.srej ≡ b
+        → ((cond b (record i { asked = i.asked ++ n ∷ [] }) (record i { rej = false })).taken ≡ i.taken)
+        × ((cond b (record i { asked = i.asked ++ n ∷ [] }) (record i { rej = false })).held ≡ i.held)
+        × ((cond b (record i { asked = i.asked ++ n ∷ [] }) (record i { rej = false })).srej ≡ i.srej)
     go true e = (refl, refl, refl)
     go false e = (refl, refl, refl)
 
-same-part : (a : Account) (t : List (List ℕ)) (h : List Held) (s : Bool) → t ≡ a.incoming.taken → h ≡ a.incoming.held → s ≡ a.incoming.srej → record { taken = t; held = h; srej = s; numbered = a.numbered } ≡ part a
+same-part : (a : Account) (t : List (List ℕ)) (h : List Held) (s : Bool) → t ≡ a.incoming.taken → h ≡ a.incoming.held → s ≡ a.incoming.srej
+    → record { taken = t; held = h; srej = s; numbered = a.numbered } ≡ part a
 same-part a t h s p q r = rw (p, q, r) refl
 
 asking : (srej special : Bool) (o : Option ℕ) (a : Account) → AllSay Connected a (says_asking srej special o a)
 asking false special None a = tt
 asking true special None a = tt
-asking false special (Some n) a = let h = asked-part n a.incoming in other Connected a _ refl refl refl (λ z. refl) refl (same-part a (after_asked n a.incoming).taken (after_asked n a.incoming).held (after_asked n a.incoming).srej h.0 h.1 h.2)
+asking false special (Some n) a = let h = asked-part n a.incoming in
+    other Connected a _ refl refl refl (λ z. refl) refl
+    (same-part a (after_asked n a.incoming).taken (after_asked n a.incoming).held (after_asked n a.incoming).srej h.0 h.1 h.2)
 asking true true (Some n) a = tt
-asking true false (Some n) a = let h = asked-part n a.incoming in other Connected a _ refl refl refl (λ z. refl) refl (same-part a (after_asked n a.incoming).taken (after_asked n a.incoming).held (after_asked n a.incoming).srej h.0 h.1 h.2)
+asking true false (Some n) a = let h = asked-part n a.incoming in
+    other Connected a _ refl refl refl (λ z. refl) refl
+    (same-part a (after_asked n a.incoming).taken (after_asked n a.incoming).held (after_asked n a.incoming).srej h.0 h.1 h.2)
 
 fifth : (special : Bool) (a : Account) → AllSay Connected a (step5 special a)
 fifth true a = tt
@@ -127,7 +184,8 @@ fourth : (turn : ℕ) (urgent : Bool) (a : Account) → AllSay Connected a (cond
 fourth turn true a = segment turn a
 fourth turn false a = tt
 
-sixth : (special news busy : Bool) (a : Account) → AllSay Connected a (cond news (Some (tells false false a)) (cond busy None (says_asking a.incoming.srej special (asks a.incoming) a)))
+sixth : (special news busy : Bool) (a : Account)
+    → AllSay Connected a (cond news (Some (tells false false a)) (cond busy None (says_asking a.incoming.srej special (asks a.incoming) a)))
 sixth special true busy a = told false false a a refl refl
 sixth special false true a = tt
 sixth special false false a = asking a.incoming.srej special (asks a.incoming) a
@@ -135,8 +193,10 @@ sixth special false false a = asking a.incoming.srej special (asks a.incoming) a
 all : (turn : ℕ) (special : Bool) (a : Account) → Says Connected a (steps turn special a)
 all turn special a =
     else-says Connected a (step1 a) _ (due Connected a.owes.answer a refl)
-    (else-says Connected a (step2 a) _ (where-says Connected a a.owes.reply _ (told false true a (record a { owes = record a.owes { reply = false } }) refl refl))
-    (else-says Connected a (step3 a) _ (where-says Connected a a.wait.poll _ (told true true a (record a { wait = record a.wait { poll = false } }) refl refl))
+    (else-says Connected a (step2 a) _
+    (where-says Connected a a.owes.reply _ (told false true a (record a { owes = record a.owes { reply = false } }) refl refl))
+    (else-says Connected a (step3 a) _
+    (where-says Connected a a.wait.poll _ (told true true a (record a { wait = record a.wait { poll = false } }) refl refl))
     (else-says Connected a (step4 turn a) _ (fourth turn a.wait.urgent a)
     (else-says Connected a (step5 special a) _ (fifth special a)
     (else-says Connected a (step6 special a) _ (sixth special (has_news a) a.owes.busy a)
@@ -190,7 +250,8 @@ as-says p a b said h k = record {
   owes = λ z. ap owes_ua (sym h.answer) ∙ k.owes z;
   part_is = k.part_is ∙ h.part_is;
   counted = k.counted;
-  segment = λ z. ap (λ r. is_originator r || a.numbered) (sym h.role) ∙ ap (λ n. is_originator b.setup.role || n) (sym (ap (λ (x : Part). x.numbered) h.part_is)) ∙ k.segment z;
+  segment = λ z. ap (λ r. is_originator r || a.numbered) (sym h.role)
+      ∙ ap (λ n. is_originator b.setup.role || n) (sym (ap (λ (x : Part). x.numbered) h.part_is)) ∙ k.segment z;
   disc = k.disc;
 }
 
@@ -198,11 +259,13 @@ links : (turn : ℕ) (a : Account) → IfSays Connected a (speak_linked turn a)
 links turn a = go (then_tries turn (on_timer turn a)) (both-timed turn a (on_timer turn a) (timed turn a))
   where
     go : (r : Result Account LinkFault) → IfAlike a r → IfSays Connected a (after_timers turn a.special r)
-    go (Ok b) h = as-says Connected a (record b { special = false }) _ (record { answer = h.answer; part_is = h.part_is; role = h.role }) (all turn a.special (record b { special = false }))
+    go (Ok b) h = as-says Connected a (record b { special = false }) _ (record { answer = h.answer; part_is = h.part_is; role = h.role })
+        (all turn a.special (record b { special = false }))
     go (Err fault) h = tt
 
 -- a U try: of a frame that is neither UA nor I, and DISC where the phase is Releasing
-tried : (p : Phase) (frame : Frame) (a : Account) → is_ua frame ≡ false → is_segment frame ≡ false → is_counted frame ≡ false → (is_disc frame ≡ true → 2 ≤ stage a.phase) → Says p a (tries_frame frame a)
+tried : (p : Phase) (frame : Frame) (a : Account) → is_ua frame ≡ false → is_segment frame ≡ false → is_counted frame ≡ false
+    → (is_disc frame ≡ true → 2 ≤ stage a.phase) → Says p a (tries_frame frame a)
 tried p frame a u s c d =
     else-says p a (where_says a.wait.try _) _
     (where-says p a a.wait.try _ (record {
@@ -215,12 +278,15 @@ tried p frame a u s c d =
     }))
     (other p a _ refl refl refl (λ z. absurd (false≢true z)) refl refl)
 
-u : (p : Phase) (turn : ℕ) (frame : Frame) (a : Account) → is_ua frame ≡ false → is_segment frame ≡ false → is_counted frame ≡ false → (is_disc frame ≡ true → 2 ≤ stage a.phase) → IfSays p a (u_try turn frame a)
+u : (p : Phase) (turn : ℕ) (frame : Frame) (a : Account) → is_ua frame ≡ false → is_segment frame ≡ false → is_counted frame ≡ false
+    → (is_disc frame ≡ true → 2 ≤ stage a.phase) → IfSays p a (u_try turn frame a)
 u p turn frame a x s c d = go (nat_eq turn (a.wait.try_set + a.setup.period)) (nat_eq a.wait.try_count a.setup.tries)
   where
-    go : (b e : Bool) → IfSays p a (cond b (cond e (Err (spent turn a)) (Ok (tries_frame frame (trying_again turn a)))) (Ok (tries_frame frame a)))
+    go : (b e : Bool) → IfSays p a
+        (cond b (cond e (Err (spent turn a)) (Ok (tries_frame frame (trying_again turn a)))) (Ok (tries_frame frame a)))
     go true true = tt
-    go true false = as-says p a (trying_again turn a) _ (record { answer = refl; part_is = refl; role = refl }) (tried p frame (trying_again turn a) x s c d)
+    go true false = as-says p a (trying_again turn a) _ (record { answer = refl; part_is = refl; role = refl })
+        (tried p frame (trying_again turn a) x s c d)
     go false e = tried p frame a x s c d
 
 detects : (role : Role) (turn : ℕ) (a : Account) → IfSays Detecting a (speak_detecting role turn a)
@@ -229,23 +295,28 @@ detects Originator turn a = go (nat_le ((a.setup.tries + 1) * a.setup.period) tu
     go : (b : Bool) → IfSays Detecting a (cond b (Err NotDetected) (Ok (says slots.Odp a)))
     go true = tt
     go false = other Detecting a (says slots.Odp a) refl refl refl (λ z. absurd (false≢true z)) refl refl
-detects Answerer turn a = else-says Detecting a (answering a.owes.answer a) (says slots.Mark a) (due Detecting a.owes.answer a refl) (other Detecting a (says slots.Mark a) refl refl refl (λ z. absurd (false≢true z)) refl refl)
+detects Answerer turn a =
+    else-says Detecting a (answering a.owes.answer a) (says slots.Mark a) (due Detecting a.owes.answer a refl)
+    (other Detecting a (says slots.Mark a) refl refl refl (λ z. absurd (false≢true z)) refl refl)
 
 answers-due : (p : Phase) (a : Account) → IfSays p a (speak_answer a)
-answers-due p a = else-says p a (answering a.owes.answer a) (says slots.Flags a) (due p a.owes.answer a refl) (other p a (says slots.Flags a) refl refl refl (λ z. absurd (false≢true z)) refl refl)
+answers-due p a = else-says p a (answering a.owes.answer a) (says slots.Flags a) (due p a.owes.answer a refl)
+    (other p a (says slots.Flags a) refl refl refl (λ z. absurd (false≢true z)) refl refl)
 
 negotiates : (role : Role) (turn : ℕ) (a : Account) → IfSays Negotiating a (speak_negotiating role turn a)
 negotiates Originator turn a = u Negotiating turn (Xid true false (written a.setup.offer)) a refl refl refl (λ z. absurd (false≢true z))
 negotiates Answerer turn a = answers-due Negotiating a
 
 released : (turn : ℕ) (a : Account) → IfSays Connected a (speak_releasing turn (trying Releasing turn a))
-released turn a = go (speak_releasing turn (trying Releasing turn a)) (u Connected turn (Disc true) (trying Releasing turn a) refl refl refl (λ z. omega arith))
+released turn a = go (speak_releasing turn (trying Releasing turn a))
+    (u Connected turn (Disc true) (trying Releasing turn a) refl refl refl (λ z. omega arith))
   where
     go : (r : Result Said LinkFault) → IfSays Connected (trying Releasing turn a) r → IfSays Connected a r
     go (Ok said) h = as-says Connected a (trying Releasing turn a) said (record { answer = refl; part_is = refl; role = refl }) h
     go (Err fault) h = tt
 
-connects : (turn : ℕ) (b : Bool) (a : Account) → IfSays Connected a (cond b (speak_releasing turn (trying Releasing turn a)) (speak_linked turn a))
+connects : (turn : ℕ) (b : Bool) (a : Account)
+    → IfSays Connected a (cond b (speak_releasing turn (trying Releasing turn a)) (speak_linked turn a))
 connects turn true a = released turn a
 connects turn false a = links turn a
 

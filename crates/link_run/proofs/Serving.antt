@@ -24,11 +24,38 @@ pub record Waiting (a : Account) : Type 0 where
 pub heard-waits : (a b : Account) → Handed a → GoesOn a b → Waiting b
 heard-waits a b h (inl s) = record {
   given = omega (arith, h.given, ap (λ (k : Books). k.given) s.books_are, ap length s.taken_are, length-append a.incoming.taken s.taken);
-  told = omega (arith, h.told, ap (λ (k : Books). k.told) s.books_are, ap length s.theirs_are, length-append a.their_breaks.lengths s.theirs);
-  few = omega (arith, h.told, s.few, ap (λ (k : Books). k.told) s.books_are, ap length s.theirs_are, length-append a.their_breaks.lengths s.theirs);
+  told = omega (
+    arith,
+    h.told,
+    ap (λ (k : Books). k.told) s.books_are,
+    ap length s.theirs_are,
+    length-append a.their_breaks.lengths s.theirs,
+  );
+  few = omega (
+    arith,
+    h.told,
+    s.few,
+    ap (λ (k : Books). k.told) s.books_are,
+    ap length s.theirs_are,
+    length-append a.their_breaks.lengths s.theirs,
+  );
   idle = λ z. let n = s.idle z in record {
-    given = omega (arith, h.given, ap (λ (k : Books). k.given) s.books_are, ap length s.taken_are, length-append a.incoming.taken s.taken, ap length n.0);
-    told = omega (arith, h.told, ap (λ (k : Books). k.told) s.books_are, ap length s.theirs_are, length-append a.their_breaks.lengths s.theirs, ap length n.1);
+    given = omega (
+      arith,
+      h.given,
+      ap (λ (k : Books). k.given) s.books_are,
+      ap length s.taken_are,
+      length-append a.incoming.taken s.taken,
+      ap length n.0,
+    );
+    told = omega (
+      arith,
+      h.told,
+      ap (λ (k : Books). k.told) s.books_are,
+      ap length s.theirs_are,
+      length-append a.their_breaks.lengths s.theirs,
+      ap length n.1,
+    );
   };
 }
 heard-waits a b h (inr e) = record {
@@ -39,19 +66,25 @@ heard-waits a b h (inr e) = record {
 }
 
 -- serving
-pub offers-alone : (n : ℕ) (file : List ℕ) (a : Account) → offered_times n file a ≡ record a { outgoing = (offered_times n file a).outgoing }
+pub offers-alone : (n : ℕ) (file : List ℕ) (a : Account)
+    → offered_times n file a ≡ record a { outgoing = (offered_times n file a).outgoing }
 offers-alone zero file a = refl
 offers-alone (suc n) file a = offers-alone n file (offered_at file a (wants a)) ∙ go (wants a)
   where
-    go : (w : Option ℕ) → record (offered_at file a w) { outgoing = (offered_times n file (offered_at file a w)).outgoing } ≡ record a { outgoing = (offered_times n file (offered_at file a w)).outgoing }
+    go : (w : Option ℕ) → record
+        (offered_at file a w) { outgoing = (offered_times n file (offered_at file a w)).outgoing } ≡ record
+        a { outgoing = (offered_times n file (offered_at file a w)).outgoing }
     go None = refl
     go (Some m) = refl
 
-pub asks-alone : (turn : ℕ) (released : Bool) (breaks : List BreakLine) (a : Account) → asked turn released breaks a ≡ record a { own_breaks = (asked turn released breaks a).own_breaks }
+pub asks-alone : (turn : ℕ) (released : Bool) (breaks : List BreakLine) (a : Account)
+    → asked turn released breaks a ≡ record a { own_breaks = (asked turn released breaks a).own_breaks }
 asks-alone turn true breaks a = refl
 asks-alone turn false breaks a = go (next_break breaks a)
   where
-    ask : (b : BreakLine) (c d : Bool) → cond c (cond d (record a { own_breaks = after_ask turn b.length_octet a.own_breaks }) a) a ≡ record a { own_breaks = (cond c (cond d (record a { own_breaks = after_ask turn b.length_octet a.own_breaks }) a) a).own_breaks }
+    ask : (b : BreakLine) (c d : Bool)
+        → cond c (cond d (record a { own_breaks = after_ask turn b.length_octet a.own_breaks }) a) a ≡ record
+        a { own_breaks = (cond c (cond d (record a { own_breaks = after_ask turn b.length_octet a.own_breaks }) a) a).own_breaks }
     ask b true true = refl
     ask b true false = refl
     ask b false d = refl
@@ -63,7 +96,9 @@ asks-alone turn false breaks a = go (next_break breaks a)
 pub busy-alone : (busy : Bool) (a : Account) → after_busy busy a ≡ record a { owes = (after_busy busy a).owes }
 busy-alone busy a = go (is_connected a.phase)
   where
-    go : (c : Bool) → cond c (record a { owes = record a.owes { busy = busy } }) a ≡ record a { owes = (cond c (record a { owes = record a.owes { busy = busy } }) a).owes }
+    go : (c : Bool) → cond c
+        (record a { owes = record a.owes { busy = busy } }) a ≡ record
+        a { owes = (cond c (record a { owes = record a.owes { busy = busy } }) a).owes }
     go true = refl
     go false = refl
 
@@ -98,7 +133,8 @@ linked-at Closed e = λ z. omega (arith, z)
 pub delivers : (a : Account) → Waiting a → Delivers a (delivered a)
 delivers a w = go (is_connected a.phase) refl
   where
-    go : (c : Bool) → is_connected a.phase ≡ c → Delivers a (cond c (record a { incoming = record a.incoming { given = length a.incoming.taken } }) a)
+    go : (c : Bool) → is_connected a.phase ≡ c
+        → Delivers a (cond c (record a { incoming = record a.incoming { given = length a.incoming.taken } }) a)
     go true e = record { rest = refl; given = refl }
     go false e = record { rest = refl; given = (w.idle (linked-at a.phase e)).given }
 

@@ -38,7 +38,8 @@ one-more : (n : ℕ) (ps : List (List ℕ)) (p : List ℕ) → AllShort n ps →
 one-more n [] p h l = (l, tt)
 one-more n (x ∷ ps) p h l = (h.0, one-more n ps p h.1 l)
 
-fit-piece : (p : List ℕ) (o : Outgoing) → AllShort o.size o.pieces → length p ≤ o.size → AllShort (with_piece p o).size (with_piece p o).pieces
+fit-piece : (p : List ℕ) (o : Outgoing) → AllShort o.size o.pieces → length p ≤ o.size
+    → AllShort (with_piece p o).size (with_piece p o).pieces
 fit-piece [] o h l = h
 fit-piece (x ∷ xs) o h l = one-more o.size o.pieces (x ∷ xs) h l
 
@@ -76,12 +77,17 @@ fit-served u turn released a h =
     subst Fit (sym (asks-alone turn released u.breaks (after_busy busy c))) (record { each = b.each })
 
 fit-heard : (a b : Account) → Fit a → GoesOn a b → Fit b
-fit-heard a b h (inl s) = record { each = subst (λ n. AllShort n b.outgoing.pieces) (sym s.size) (subst (AllShort a.outgoing.size) (sym (ap (λ (k : Books). k.pieces) s.books_are)) h.each) }
+fit-heard a b h (inl s) =
+    record {
+      each = subst (λ n. AllShort n b.outgoing.pieces) (sym s.size)
+          (subst (AllShort a.outgoing.size) (sym (ap (λ (k : Books). k.pieces) s.books_are)) h.each);
+    }
 fit-heard a b h (inr e) = record { each = subst (λ (o : Outgoing). AllShort o.size o.pieces) (sym e.outgoing_is) tt }
 
 fit-spoken : (release : Bool) (a b : Account) → Fit a → Speaks release a b → Fit b
 fit-spoken release a b h (Keeps_on e) = record { each = subst (λ (l : Ledger). AllShort l.size l.books.pieces) (sym e) h.each }
-fit-spoken release a b h (Releases on role linked e k) = record { each = subst (λ (l : Ledger). AllShort l.size l.books.pieces) (sym e) h.each }
+fit-spoken release a b h (Releases on role linked e k) =
+    record { each = subst (λ (l : Ledger). AllShort l.size l.books.pieces) (sym e) h.each }
 
 fits-kept : (link : Link) → IsKept IsFit link
 fits-kept link = record {
@@ -95,7 +101,8 @@ fits-kept link = record {
 pub record Sized (most : ℕ) (a : Account) : Type 0 where
   pub size : a.outgoing.size ≤ most
 
-sized-heard : (most : ℕ) (a b : Account) → Sized most a → GoesOn a b → (b.phase ≡ Connected → size_for b.setup.role b.terms ≤ most) → Sized most b
+sized-heard : (most : ℕ) (a b : Account) → Sized most a → GoesOn a b → (b.phase ≡ Connected → size_for b.setup.role b.terms ≤ most)
+    → Sized most b
 sized-heard most a b h (inl s) f = record { size = omega (arith, h.size, s.size) }
 sized-heard most a b h (inr e) f = record { size = omega (arith, ap (λ (o : Outgoing). o.size) e.outgoing_is, f e.is) }
 
@@ -104,7 +111,9 @@ served-size u turn released a =
     let g = after_given (delivered a) in
     let c = offered u.file g in
     let b = after_busy (is_busy turn u.busy) c in
-    ap (λ (x : Account). x.outgoing.size) (asks-alone turn released u.breaks b) ∙ ap (λ (x : Account). x.outgoing.size) (busy-alone (is_busy turn u.busy) c) ∙ sizes (room_for g) u.file g ∙ given (is_connected a.phase)
+    ap (λ (x : Account). x.outgoing.size) (asks-alone turn released u.breaks b)
+    ∙ ap (λ (x : Account). x.outgoing.size) (busy-alone (is_busy turn u.busy) c) ∙ sizes (room_for g) u.file g
+    ∙ given (is_connected a.phase)
   where
     one : (p : List ℕ) (o : Outgoing) → (with_piece p o).size ≡ o.size
     one [] o = refl
@@ -118,7 +127,8 @@ served-size u turn released a =
     sizes zero file x = refl
     sizes (suc n) file x = sizes n file (offered_at file x (wants x)) ∙ at file x (wants x)
 
-    given : (b : Bool) → (after_given (cond b (record a { incoming = record a.incoming { given = length a.incoming.taken } }) a)).outgoing.size ≡ a.outgoing.size
+    given : (b : Bool) → (after_given
+        (cond b (record a { incoming = record a.incoming { given = length a.incoming.taken } }) a)).outgoing.size ≡ a.outgoing.size
     given true = refl
     given false = refl
 
@@ -131,20 +141,28 @@ abbrev most_of : Link → Role → ℕ
 most_of link role = (of role link).setup.offer.tx_len
 
 -- the agreed length is at most that
-orig-most : (link : Link) (sent heard : List Turn) (mid : Ends) → KnownOf link sent heard mid → link.orig.setup.role ≡ Originator → mid.orig.setup ≡ link.orig.setup → mid.orig.phase ≡ Connected → size_for mid.orig.setup.role mid.orig.terms ≤ most_of link Originator
+orig-most : (link : Link) (sent heard : List Turn) (mid : Ends) → KnownOf link sent heard mid → link.orig.setup.role ≡ Originator
+    → mid.orig.setup ≡ link.orig.setup → mid.orig.phase ≡ Connected → size_for mid.orig.setup.role mid.orig.terms ≤ most_of link Originator
 orig-most link sent heard mid k r s e =
-    let terms : mid.orig.terms ≡ terms_of link.orig.setup link.answ.setup = k.terms_o ∙ ap (λ p. cond (nat_le 2 (rank p)) (terms_of link.orig.setup link.answ.setup) first_terms) e in
+    let terms : mid.orig.terms ≡ terms_of link.orig.setup link.answ.setup =
+    k.terms_o ∙ ap (λ p. cond (nat_le 2 (rank p)) (terms_of link.orig.setup link.answ.setup) first_terms) e in
     let role : mid.orig.setup.role ≡ Originator = ap (λ (x : Setup). x.role) s ∙ r in
-    subst (λ x. size_for x mid.orig.terms ≤ most_of link Originator) (sym role) (subst (λ (x : Terms). x.len_o ≤ most_of link Originator) (sym terms) (omega arith))
+    subst (λ x. size_for x mid.orig.terms ≤ most_of link Originator) (sym role)
+    (subst (λ (x : Terms). x.len_o ≤ most_of link Originator) (sym terms) (omega arith))
 
-answ-most : (link : Link) (sent heard : List Turn) (mid : Ends) → KnownOf link sent heard mid → link.answ.setup.role ≡ Answerer → mid.answ.setup ≡ link.answ.setup → mid.answ.phase ≡ Connected → size_for mid.answ.setup.role mid.answ.terms ≤ most_of link Answerer
+answ-most : (link : Link) (sent heard : List Turn) (mid : Ends) → KnownOf link sent heard mid → link.answ.setup.role ≡ Answerer
+    → mid.answ.setup ≡ link.answ.setup → mid.answ.phase ≡ Connected → size_for mid.answ.setup.role mid.answ.terms ≤ most_of link Answerer
 answ-most link sent heard mid k r s e =
-    let terms : mid.answ.terms ≡ terms_of link.orig.setup link.answ.setup = k.terms_a ∙ ap (λ p. cond (nat_le 1 (rank p)) (terms_of link.orig.setup link.answ.setup) first_terms) e in
+    let terms : mid.answ.terms ≡ terms_of link.orig.setup link.answ.setup =
+    k.terms_a ∙ ap (λ p. cond (nat_le 1 (rank p)) (terms_of link.orig.setup link.answ.setup) first_terms) e in
     let role : mid.answ.setup.role ≡ Answerer = ap (λ (x : Setup). x.role) s ∙ r in
-    subst (λ x. size_for x mid.answ.terms ≤ most_of link Answerer) (sym role) (subst (λ (x : Terms). x.len_a ≤ most_of link Answerer) (sym terms) (omega arith))
+    subst (λ x. size_for x mid.answ.terms ≤ most_of link Answerer) (sym role)
+    (subst (λ (x : Terms). x.len_a ≤ most_of link Answerer) (sym terms) (omega arith))
 
 -- all through a run
-sized-mid : (reads : ReadsAllowed) (keeps : KeepsTaken) (written : ReadsWritten) (link : Link) (delay : Role → ℕ) (ts : List Turn) (before : Ends) (t : Turn) (mid : Ends) → MayPlay link.orig.setup link.answ.setup → IsCarried delay ts → RunOf link ts before → Carries delay ts t → Hears (length ts) before t mid
+sized-mid : (reads : ReadsAllowed) (keeps : KeepsTaken) (written : ReadsWritten) (link : Link) (delay : Role → ℕ) (ts : List Turn)
+    (before : Ends) (t : Turn) (mid : Ends) → MayPlay link.orig.setup link.answ.setup → IsCarried delay ts → RunOf link ts before
+    → Carries delay ts t → Hears (length ts) before t mid
     → ((r : Role) → Sized (most_of link r) (of r before)) → (r : Role) → Sized (most_of link r) (of r mid)
 sized-mid reads keeps written link delay ts before t mid m cs h c k s role = at-role role
   where
@@ -152,17 +170,22 @@ sized-mid reads keeps written link delay ts before t mid m cs h c k s role = at-
     known = known-mid reads keeps written link delay ts before t mid m h (known-run reads keeps written link delay m ts before cs h) c k
 
     setups : AtBoth (HasSetup link) mid
-    setups = kept-heard reads keeps (HasSetup link) link (setups-kept link) (length ts) before t mid (kept-run reads keeps (HasSetup link) link (setups-kept link) ts before h) k
+    setups = kept-heard reads keeps (HasSetup link) link (setups-kept link) (length ts) before t mid
+        (kept-run reads keeps (HasSetup link) link (setups-kept link) ts before h) k
 
     at-role : (r : Role) → Sized (most_of link r) (of r mid)
     at-role Originator =
-        sized-heard (most_of link Originator) before.orig mid.orig (s Originator) (hears reads keeps (length ts) (arrival t.orig.heard) before.orig mid.orig (k Originator).hears)
+        sized-heard (most_of link Originator) before.orig mid.orig (s Originator)
+        (hears reads keeps (length ts) (arrival t.orig.heard) before.orig mid.orig (k Originator).hears)
         (orig-most link ts (t ∷ ts) mid known m.originates (setups Originator))
     at-role Answerer =
-        sized-heard (most_of link Answerer) before.answ mid.answ (s Answerer) (hears reads keeps (length ts) (arrival t.answ.heard) before.answ mid.answ (k Answerer).hears)
+        sized-heard (most_of link Answerer) before.answ mid.answ (s Answerer)
+        (hears reads keeps (length ts) (arrival t.answ.heard) before.answ mid.answ (k Answerer).hears)
         (answ-most link ts (t ∷ ts) mid known m.answers (setups Answerer))
 
-sized-run : (reads : ReadsAllowed) (keeps : KeepsTaken) (written : ReadsWritten) (link : Link) (delay : Role → ℕ) → MayPlay link.orig.setup link.answ.setup → (ts : List Turn) (ends : Ends) → IsCarried delay ts → RunOf link ts ends → (r : Role) → Sized (most_of link r) (of r ends)
+sized-run : (reads : ReadsAllowed) (keeps : KeepsTaken) (written : ReadsWritten) (link : Link) (delay : Role → ℕ)
+    → MayPlay link.orig.setup link.answ.setup → (ts : List Turn) (ends : Ends) → IsCarried delay ts → RunOf link ts ends → (r : Role)
+    → Sized (most_of link r) (of r ends)
 sized-run reads keeps written link delay m [] ends c h r = subst (λ (e : Ends). Sized (most_of link r) (of r e)) (sym h) (starts r)
   where
     starts : (r : Role) → Sized (most_of link r) (of r (start link))
@@ -171,9 +194,19 @@ sized-run reads keeps written link delay m [] ends c h r = subst (λ (e : Ends).
 sized-run reads keeps written link delay m (t ∷ ts) ends c h r =
     let g = h.2 in
     let turn = length ts in
-    let mid = sized-mid reads keeps written link delay ts h.0 t g.mid m c.1 h.1 c.0 g.hearing (sized-run reads keeps written link delay m ts h.0 c.1 h.1) r in
+    let mid = sized-mid reads keeps written link delay ts h.0 t g.mid m c.1 h.1 c.0 g.hearing
+    (sized-run reads keeps written link delay m ts h.0 c.1 h.1) r in
     let s = g.speaking r in
-    record { size = omega (arith, mid.size, ap (λ (x : Account). x.outgoing.size) s.after_is, spoken-size (told link turn g.mid r) (served_at link turn g.mid r).account s.said.account (speaks-at link turn g.mid r s.said s.says), served-size (of r link).user turn (is_released g.mid.orig.phase) (of r g.mid)) }
+    record {
+      size = omega (
+        arith,
+        mid.size,
+        ap (λ (x : Account). x.outgoing.size) s.after_is,
+        spoken-size (told link turn g.mid r) (served_at link turn g.mid r).account s.said.account
+            (speaks-at link turn g.mid r s.said s.says),
+        served-size (of r link).user turn (is_released g.mid.orig.phase) (of r g.mid),
+      );
+    }
 
 -- longer lists are allowed
 weaker : (m n : ℕ) (ps : List (List ℕ)) → m ≤ n → AllShort m ps → AllShort n ps
@@ -191,17 +224,27 @@ sends_short reads keeps written link delay ts ends t after v c g role slot frame
     a = (served_at link (length ts) g.mid role).account
 
     mid : Sized (most_of link role) (of role g.mid)
-    mid = sized-mid reads keeps written link delay ts ends t g.mid v.may_play v.carried v.run c g.hearing (sized-run reads keeps written link delay v.may_play ts ends v.carried v.run) role
+    mid = sized-mid reads keeps written link delay ts ends t g.mid v.may_play v.carried v.run c g.hearing
+        (sized-run reads keeps written link delay v.may_play ts ends v.carried v.run) role
 
     fit : Fit (of role g.mid)
-    fit = kept-heard reads keeps IsFit link (fits-kept link) (length ts) ends t g.mid (kept-run reads keeps IsFit link (fits-kept link) ts ends v.run) g.hearing role
+    fit = kept-heard reads keeps IsFit link (fits-kept link) (length ts) ends t g.mid
+        (kept-run reads keeps IsFit link (fits-kept link) ts ends v.run) g.hearing role
 
     short : AllShort n a.outgoing.pieces
-    short = weaker a.outgoing.size n a.outgoing.pieces (omega (arith, mid.size, served-size (of role link).user (length ts) (is_released g.mid.orig.phase) (of role g.mid))) (fit-served (of role link).user (length ts) (is_released g.mid.orig.phase) (of role g.mid) fit).each
+    short = weaker a.outgoing.size n a.outgoing.pieces
+        (omega (arith, mid.size, served-size (of role link).user (length ts) (is_released g.mid.orig.phase) (of role g.mid)))
+        (fit-served (of role link).user (length ts) (is_released g.mid.orig.phase) (of role g.mid) fit).each
 
-    said : (r : Role) (s : Said) → said_at link (length ts) g.mid r ≡ Ok s → AllShort (max 23 (most_of link r)) (served_at link (length ts) g.mid r).account.outgoing.pieces → OnSent (ShortFrame (max 23 (most_of link r))) s.sent
-    said Originator s q h = said-short (max 23 (most_of link Originator)) (omega arith) (length ts) (releases link (length ts) g.mid) (served_at link (length ts) g.mid Originator).account s h q
-    said Answerer s q h = said-short (max 23 (most_of link Answerer)) (omega arith) (length ts) false (served_at link (length ts) g.mid Answerer).account s h q
+    said : (r : Role) (s : Said) → said_at link (length ts) g.mid r ≡ Ok s
+        → AllShort (max 23 (most_of link r)) (served_at link (length ts) g.mid r).account.outgoing.pieces
+        → OnSent (ShortFrame (max 23 (most_of link r))) s.sent
+    said Originator s q h =
+        said-short (max 23 (most_of link Originator)) (omega arith) (length ts) (releases link (length ts) g.mid)
+        (served_at link (length ts) g.mid Originator).account s h q
+    said Answerer s q h =
+        said-short (max 23 (most_of link Answerer)) (omega arith) (length ts) false
+        (served_at link (length ts) g.mid Answerer).account s h q
 
     same : (g.speaking role).said.sent ≡ slot.sent
     same = ap sent-of (sym (g.speaking role).sent_is ∙ e)

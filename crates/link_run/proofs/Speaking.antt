@@ -34,7 +34,15 @@ pub record Ledger : Type 0 where
   pub phase : Phase
 
 abbrev pub ledger : Account → Ledger
-ledger a = record { books = books a; size = a.outgoing.size; taken = a.incoming.taken; theirs = a.their_breaks.lengths; terms = a.terms; phase = a.phase }
+ledger a = record {
+  books = books a;
+  size = a.outgoing.size;
+  taken = a.incoming.taken;
+  theirs = a.their_breaks.lengths;
+  terms =
+      a.terms;
+  phase = a.phase;
+}
 
 abbrev pub Keeps : Account → Said → Type 0
 Keeps a said = ledger said.account ≡ ledger a
@@ -56,17 +64,35 @@ answer None a = tt
 answer (Some due) a = refl
 
 next-out : (a : Account) (chosen : List ℕ) → a.outgoing.chosen ≡ chosen
-    → ((sent_among chosen a.outgoing).pieces ≡ a.outgoing.pieces) × ((sent_among chosen a.outgoing).ended ≡ a.outgoing.ended) × ((sent_among chosen a.outgoing).size ≡ a.outgoing.size)
+    → ((sent_among chosen a.outgoing).pieces ≡ a.outgoing.pieces) × ((sent_among chosen a.outgoing).ended ≡ a.outgoing.ended)
+    × ((sent_among chosen a.outgoing).size ≡ a.outgoing.size)
 next-out a [] e = (refl, refl, refl)
 next-out a (n ∷ rest) e = (refl, refl, refl)
 
 out-ledger : (a : Account) (ps : List (List ℕ)) (e : Bool) (s : ℕ) → ps ≡ a.outgoing.pieces → e ≡ a.outgoing.ended → s ≡ a.outgoing.size
-    → record { books = record { setup = a.setup; pieces = ps; ended = e; given = a.incoming.given; told = a.breaks_told; lengths = a.own_breaks.lengths }; size = s; taken = a.incoming.taken; theirs = a.their_breaks.lengths; terms = a.terms; phase = a.phase } ≡ ledger a
+    → record {
+      books = record {
+        setup = a.setup;
+        pieces = ps;
+        ended = e;
+        given = a.incoming.given;
+        told = a.breaks_told;
+        lengths =
+            a.own_breaks.lengths;
+      };
+      size = s;
+      taken = a.incoming.taken;
+      theirs = a.their_breaks.lengths;
+      terms = a.terms;
+      phase =
+          a.phase;
+    } ≡ ledger a
 out-ledger a ps e s p q r = rw (p, q, r) refl
 
 segment : (turn : ℕ) (o : Option ℕ) (a : Account) → AllKeep a (says_segment turn o a)
 segment turn None a = tt
-segment turn (Some n) a = let h = next-out a a.outgoing.chosen refl in out-ledger a (after_next a.outgoing).pieces (after_next a.outgoing).ended (after_next a.outgoing).size h.0 h.1 h.2
+segment turn (Some n) a = let h = next-out a a.outgoing.chosen refl in
+    out-ledger a (after_next a.outgoing).pieces (after_next a.outgoing).ended (after_next a.outgoing).size h.0 h.1 h.2
 
 own : (o : Option BreakWord) (a : Account) → AllKeep a (says_own o a)
 own None a = tt
@@ -79,20 +105,39 @@ word (Some w) a = refl
 asked-in : (n : ℕ) (i : Incoming) → ((after_asked n i).given ≡ i.given) × ((after_asked n i).taken ≡ i.taken)
 asked-in n i = go i.srej
   where
-    go : (b : Bool) → ((cond b (record i { asked = i.asked ++ n ∷ [] }) (record i { rej = false })).given ≡ i.given) × ((cond b (record i { asked = i.asked ++ n ∷ [] }) (record i { rej = false })).taken ≡ i.taken)
+    go : (b : Bool) → ((cond b (record i { asked = i.asked ++ n ∷ [] }) (record i { rej = false })).given ≡ i.given)
+        × ((cond b (record i { asked = i.asked ++ n ∷ [] }) (record i { rej = false })).taken ≡ i.taken)
     go true = (refl, refl)
     go false = (refl, refl)
 
 in-ledger : (a : Account) (g : ℕ) (t : List (List ℕ)) → g ≡ a.incoming.given → t ≡ a.incoming.taken
-    → record { books = record { setup = a.setup; pieces = a.outgoing.pieces; ended = a.outgoing.ended; given = g; told = a.breaks_told; lengths = a.own_breaks.lengths }; size = a.outgoing.size; taken = t; theirs = a.their_breaks.lengths; terms = a.terms; phase = a.phase } ≡ ledger a
+    → record {
+      books = record {
+        setup = a.setup;
+        pieces = a.outgoing.pieces;
+        ended = a.outgoing.ended;
+        given = g;
+        told =
+            a.breaks_told;
+        lengths = a.own_breaks.lengths;
+      };
+      size = a.outgoing.size;
+      taken = t;
+      theirs = a.their_breaks.lengths;
+      terms =
+          a.terms;
+      phase = a.phase;
+    } ≡ ledger a
 in-ledger a g t p q = rw (p, q) refl
 
 asking : (srej special : Bool) (o : Option ℕ) (a : Account) → AllKeep a (says_asking srej special o a)
 asking false special None a = tt
 asking true special None a = tt
-asking false special (Some n) a = let h = asked-in n a.incoming in in-ledger a (after_asked n a.incoming).given (after_asked n a.incoming).taken h.0 h.1
+asking false special (Some n) a = let h = asked-in n a.incoming in
+    in-ledger a (after_asked n a.incoming).given (after_asked n a.incoming).taken h.0 h.1
 asking true true (Some n) a = tt
-asking true false (Some n) a = let h = asked-in n a.incoming in in-ledger a (after_asked n a.incoming).given (after_asked n a.incoming).taken h.0 h.1
+asking true false (Some n) a = let h = asked-in n a.incoming in
+    in-ledger a (after_asked n a.incoming).given (after_asked n a.incoming).taken h.0 h.1
 
 fifth : (special : Bool) (a : Account) → AllKeep a (step5 special a)
 fifth true a = tt
@@ -102,7 +147,8 @@ fourth : (turn : ℕ) (urgent : Bool) (a : Account) → AllKeep a (cond urgent (
 fourth turn true a = segment turn (may_send a) a
 fourth turn false a = tt
 
-sixth : (special news busy : Bool) (a : Account) → AllKeep a (cond news (Some (tells false false a)) (cond busy None (says_asking a.incoming.srej special (asks a.incoming) a)))
+sixth : (special news busy : Bool) (a : Account)
+    → AllKeep a (cond news (Some (tells false false a)) (cond busy None (says_asking a.incoming.srej special (asks a.incoming) a)))
 sixth special true busy a = refl
 sixth special false true a = tt
 sixth special false false a = asking a.incoming.srej special (asks a.incoming) a
@@ -123,7 +169,8 @@ abbrev IfKept : Account → Result Account LinkFault → Type 0
 IfKept a (Ok b) = ledger b ≡ ledger a
 IfKept a (Err fault) = WantsAnswers (Some fault)
 
-polled : (turn : ℕ) (a : Account) (b : Bool) → IfKept a (polling turn (cond b None (Some (record a.outgoing { count = a.outgoing.count + 1; awaited = true }))) a)
+polled : (turn : ℕ) (a : Account) (b : Bool)
+    → IfKept a (polling turn (cond b None (Some (record a.outgoing { count = a.outgoing.count + 1; awaited = true }))) a)
 polled turn a true = tt
 polled turn a false = refl
 
@@ -137,7 +184,9 @@ timed turn a = go (timer_expires turn a a.wait.timer)
 broken : (turn : ℕ) (a : Account) → IfKept a (on_break_timer turn a)
 broken turn a = go (waits a.own_breaks && nat_eq turn (a.own_breaks.set + a.setup.period)) (nat_eq a.own_breaks.count a.setup.tries)
   where
-    go : (b c : Bool) → IfKept a (breaking turn (cond b (cond c None (Some (record a.own_breaks { brk = true; set = turn; count = a.own_breaks.count + 1 }))) (Some a.own_breaks)) a)
+    go : (b c : Bool) → IfKept a
+        (breaking turn (cond b (cond c None (Some (record a.own_breaks { brk = true; set = turn; count = a.own_breaks.count + 1 })))
+        (Some a.own_breaks)) a)
     go true true = tt
     go true false = refl
     go false c = refl
@@ -153,7 +202,8 @@ both-timed turn a (Ok b) h = go (on_break_timer turn b) (broken turn b)
 -- what an end is that has spoken: it is told to release, or nothing changes
 pub data Speaks (release : Bool) (a b : Account) : Type 0 where
   Keeps_on : ledger b ≡ ledger a → Speaks release a b
-  Releases : release ≡ true → a.setup.role ≡ Originator → a.phase ≡ Connected → ledger b ≡ record (ledger a) { phase = Releasing } → standing b ≡ standing a → Speaks release a b
+  Releases : release ≡ true → a.setup.role ≡ Originator → a.phase ≡ Connected → ledger b ≡ record (ledger a) { phase = Releasing }
+      → standing b ≡ standing a → Speaks release a b
 
 abbrev pub OnSpeaking : Bool → Account → Result Said LinkFault → Type 0
 OnSpeaking release a (Ok said) = Speaks release a said.account
@@ -173,7 +223,8 @@ tried frame a = else-keeps a (where_says a.wait.try _) _ (where-keeps a a.wait.t
 u : (turn : ℕ) (frame : Frame) (a : Account) → IfSaid a (u_try turn frame a)
 u turn frame a = go (nat_eq turn (a.wait.try_set + a.setup.period)) (nat_eq a.wait.try_count a.setup.tries)
   where
-    go : (b c : Bool) → IfSaid a (cond b (cond c (Err (spent turn a)) (Ok (tries_frame frame (trying_again turn a)))) (Ok (tries_frame frame a)))
+    go : (b c : Bool) → IfSaid a
+        (cond b (cond c (Err (spent turn a)) (Ok (tries_frame frame (trying_again turn a)))) (Ok (tries_frame frame a)))
     go true true = tt
     go true false = tried frame (trying_again turn a)
     go false c = tried frame a
@@ -205,7 +256,8 @@ abbrev IfStands : Account → Result Said LinkFault → Type 0
 IfStands a (Ok said) = standing said.account ≡ standing a
 IfStands a (Err fault) = Unit {0}
 
-stands-else : (a : Account) (b : Bool) (first said : Said) → standing first.account ≡ standing a → standing said.account ≡ standing a → standing (else_says (where_says b first) said).account ≡ standing a
+stands-else : (a : Account) (b : Bool) (first said : Said) → standing first.account ≡ standing a → standing said.account ≡ standing a
+    → standing (else_says (where_says b first) said).account ≡ standing a
 stands-else a true first said h k = h
 stands-else a false first said h k = k
 
@@ -215,7 +267,8 @@ stands-tried frame a = stands-else a a.wait.try _ _ refl refl
 stands-u : (turn : ℕ) (frame : Frame) (a : Account) → IfStands a (u_try turn frame a)
 stands-u turn frame a = go (nat_eq turn (a.wait.try_set + a.setup.period)) (nat_eq a.wait.try_count a.setup.tries)
   where
-    go : (b c : Bool) → IfStands a (cond b (cond c (Err (spent turn a)) (Ok (tries_frame frame (trying_again turn a)))) (Ok (tries_frame frame a)))
+    go : (b c : Bool) → IfStands a
+        (cond b (cond c (Err (spent turn a)) (Ok (tries_frame frame (trying_again turn a)))) (Ok (tries_frame frame a)))
     go true true = tt
     go true false = stands-tried frame (trying_again turn a)
     go false c = stands-tried frame a
@@ -232,20 +285,24 @@ stands-in Connected turn release a h = absurd (omega (arith, h))
 stands-in Releasing turn release a h = stands-u turn (Disc true) a
 stands-in Closed turn release a h = stands-answer a.owes.answer a
 
-pub stands-spoken : (turn : ℕ) (release : Bool) (a : Account) (said : Said) → 2 ≤ stage a.phase → speak turn release a ≡ Ok said → standing said.account ≡ standing a
+pub stands-spoken : (turn : ℕ) (release : Bool) (a : Account) (said : Said) → 2 ≤ stage a.phase → speak turn release a ≡ Ok said
+    → standing said.account ≡ standing a
 stands-spoken turn release a said h e = subst (IfStands a) e (stands-in a.phase turn release a h)
 
 is-originator : (r : Role) → is_originator r ≡ true → r ≡ Originator
 is-originator Originator e = refl
 is-originator Answerer e = absurd (false≢true e)
 
-releases : (turn : ℕ) (release : Bool) (a : Account) → release ≡ true → a.setup.role ≡ Originator → a.phase ≡ Connected → (r : Result Said LinkFault) → IfSaid (trying Releasing turn a) r → IfStands (trying Releasing turn a) r → OnSpeaking release a r
+releases : (turn : ℕ) (release : Bool) (a : Account) → release ≡ true → a.setup.role ≡ Originator → a.phase ≡ Connected
+    → (r : Result Said LinkFault) → IfSaid (trying Releasing turn a) r → IfStands (trying Releasing turn a) r → OnSpeaking release a r
 releases turn release a e role p (Ok said) h k = Releases e role p h k
 releases turn release a e role p (Err fault) h k = h
 
 connected : (turn : ℕ) (release : Bool) (a : Account) → a.phase ≡ Connected → (role : Role) → a.setup.role ≡ role
     → OnSpeaking release a (cond (release && is_originator role) (speak_releasing turn (trying Releasing turn a)) (speak_linked turn a))
-connected turn true a p Originator e = releases turn true a refl e p (speak_releasing turn (trying Releasing turn a)) (u turn (Disc true) (trying Releasing turn a)) (stands-u turn (Disc true) (trying Releasing turn a))
+connected turn true a p Originator e =
+    releases turn true a refl e p (speak_releasing turn (trying Releasing turn a)) (u turn (Disc true) (trying Releasing turn a))
+    (stands-u turn (Disc true) (trying Releasing turn a))
 connected turn true a p Answerer e = keeps-on true a (speak_linked turn a) (links turn a)
 connected turn false a p role e = keeps-on false a (speak_linked turn a) (links turn a)
 
@@ -260,5 +317,6 @@ in-phase Closed turn release a e = keeps-on release a (speak_answer a) (answers-
 pub speaks : (turn : ℕ) (release : Bool) (a : Account) (said : Said) → speak turn release a ≡ Ok said → Speaks release a said.account
 speaks turn release a said e = subst (OnSpeaking release a) e (in-phase a.phase turn release a refl)
 
-pub breaks-for-want : (turn : ℕ) (release : Bool) (a : Account) (fault : LinkFault) → speak turn release a ≡ Err fault → WantsAnswers (Some fault)
+pub breaks-for-want : (turn : ℕ) (release : Bool) (a : Account) (fault : LinkFault) → speak turn release a ≡ Err fault
+    → WantsAnswers (Some fault)
 breaks-for-want turn release a fault e = subst (OnSpeaking release a) e (in-phase a.phase turn release a refl)

@@ -82,12 +82,14 @@ linked-phase Releasing e = absurd (omega (arith, e))
 linked-phase Closed e = absurd (omega (arith, e))
 
 -- the incoming part of an end that was begun
-begun-incoming : (a b : Account) (i : Incoming) → 1 ≤ stage a.phase → (b.incoming ≡ i) ⊎ ((stage a.phase ≡ 0) × (1 ≤ stage b.phase)) → b.incoming ≡ i
+begun-incoming : (a b : Account) (i : Incoming) → 1 ≤ stage a.phase → (b.incoming ≡ i) ⊎ ((stage a.phase ≡ 0) × (1 ≤ stage b.phase))
+    → b.incoming ≡ i
 begun-incoming a b i h (inl e) = e
 begun-incoming a b i h (inr k) = absurd (omega (arith, h, k.0))
 
 -- nothing of the kind came
-quiet : (ss : List Segment) (a b : Account) (pieces : List (List ℕ)) (arrived : Arrived) → brings is_segment arrived ≡ false → GoesOn a b → Told a.phase arrived a b → Into ss a pieces → Into ss b pieces
+quiet : (ss : List Segment) (a b : Account) (pieces : List (List ℕ)) (arrived : Arrived) → brings is_segment arrived ≡ false → GoesOn a b
+    → Told a.phase arrived a b → Into ss a pieces → Into ss b pieces
 quiet ss a b pieces arrived none g t h = record {
   early = λ z. h.early (low g z);
   tracks = λ z. by (stage-some (stage a.phase)) g z;
@@ -100,14 +102,19 @@ quiet ss a b pieces arrived none g t h = record {
 
     by : (stage a.phase ≡ 0) ⊎ (1 ≤ stage a.phase) → GoesOn a b → 1 ≤ stage b.phase → Tracks ss b.incoming
     by (inl z) (inl s) y = absurd (omega (arith, s.before z, y))
-    by (inl z) (inr e) y = subst (λ l. Tracks l b.incoming) (sym (h.early z)) (subst (λ (i : Incoming). Tracks [] i) (sym e.incoming_is) (none-tracks e.srej))
-    by (inr z) g y = subst (Tracks ss) (sym (begun-incoming a b (received a.phase arrived a.incoming) z t.incoming ∙ received-other a.phase arrived a.incoming none)) (h.tracks z)
+    by (inl z) (inr e) y =
+        subst (λ l. Tracks l b.incoming) (sym (h.early z)) (subst (λ (i : Incoming). Tracks [] i) (sym e.incoming_is) (none-tracks e.srej))
+    by (inr z) g y = subst (Tracks ss)
+        (sym (begun-incoming a b (received a.phase arrived a.incoming) z t.incoming ∙ received-other a.phase arrived a.incoming none))
+        (h.tracks z)
 
-right-more : (pieces : List (List ℕ)) (ss : List Segment) (s : Segment) → AreRight pieces ss → (s.number < length pieces) × (s.info ≡ slice_index_or pieces s.number []) → AreRight pieces (ss ++ s ∷ [])
+right-more : (pieces : List (List ℕ)) (ss : List Segment) (s : Segment) → AreRight pieces ss
+    → (s.number < length pieces) × (s.info ≡ slice_index_or pieces s.number []) → AreRight pieces (ss ++ s ∷ [])
 right-more pieces [] s h k = (k, tt)
 right-more pieces (x ∷ ss) s h k = (h.0, right-more pieces ss s h.1 k)
 
-keeping-right : (pieces : List (List ℕ)) (srej : Bool) (ss : List Segment) (s : Segment) → AreRight pieces ss → (s.number < length pieces) × (s.info ≡ slice_index_or pieces s.number []) → AreRight pieces (keeping srej ss s)
+keeping-right : (pieces : List (List ℕ)) (srej : Bool) (ss : List Segment) (s : Segment) → AreRight pieces ss
+    → (s.number < length pieces) × (s.info ≡ slice_index_or pieces s.number []) → AreRight pieces (keeping srej ss s)
 keeping-right pieces srej ss s h k = go (is_among s.number ss) (srej || nat_eq s.number (missing ss))
   where
     go : (b c : Bool) → AreRight pieces (cond b ss (cond c (ss ++ s ∷ []) ss))
@@ -119,10 +126,14 @@ keeping-right pieces srej ss s h k = go (is_among s.number ss) (srej || nat_eq s
 abbrev pub side_with : Account → List Slot → Side
 side_with x line = record { account = x; line = line; fault = None }
 
-segment-came : (srej : Bool) (ss : List Segment) (from a b : Account) (line tl rest : List Slot) (turn ns nr : ℕ) (pf : Bool) (info : List ℕ) (n told : ℕ)
+segment-came : (srej : Bool) (ss : List Segment) (from a b : Account) (line tl rest : List Slot) (turn ns nr : ℕ) (pf : Bool)
+    (info : List ℕ) (n told : ℕ)
     → line ≡ (record { sent = slots.Frame (I ns nr pf info); number = n; told = told }) ∷ rest
-    → NextIsTaken (side_with from line) (side_with a tl) → NextWasOffered (side_with from line) (side_with a tl) → (a.phase ≡ Connected → a.incoming.srej ≡ srej) → 1 ≤ stage a.phase → (2 ≤ stage a.phase → length from.outgoing.pieces ≤ length a.incoming.taken)
-    → GoesOn a b → Told a.phase (arrivals.Frame (I ns nr pf info)) a b → Into ss a from.outgoing.pieces → Into (keeping srej ss (record { number = n; info = info })) b from.outgoing.pieces
+    → NextIsTaken (side_with from line) (side_with a tl) → NextWasOffered (side_with from line) (side_with a tl)
+    → (a.phase ≡ Connected → a.incoming.srej ≡ srej) → 1 ≤ stage a.phase
+    → (2 ≤ stage a.phase → length from.outgoing.pieces ≤ length a.incoming.taken)
+    → GoesOn a b → Told a.phase (arrivals.Frame (I ns nr pf info)) a b → Into ss a from.outgoing.pieces
+    → Into (keeping srej ss (record { number = n; info = info })) b from.outgoing.pieces
 segment-came srej ss from a b line tl rest turn ns nr pf info n told e taken offered agree up over g t h =
     let o = offered ns nr pf info n told rest e in
     record {
@@ -147,19 +158,23 @@ segment-came srej ss from a b line tl rest turn ns nr pf info n told e taken off
     is = begun-incoming a b (received a.phase (arrivals.Frame (I ns nr pf info)) a.incoming) up t.incoming
 
     by : (stage a.phase ≡ 1) ⊎ (2 ≤ stage a.phase)
-        → (ns ≡ n % 128) × (n < length from.outgoing.pieces) × (info ≡ slice_index_or from.outgoing.pieces n []) × (a.phase ≡ Connected → (n < length a.incoming.taken + a.incoming.window) × (a.incoming.window ≤ 127))
+        → (ns ≡ n % 128) × (n < length from.outgoing.pieces) × (info ≡ slice_index_or from.outgoing.pieces n [])
+        × (a.phase ≡ Connected → (n < length a.incoming.taken + a.incoming.window) × (a.incoming.window ≤ 127))
         → Tracks (keeping srej ss (record { number = n; info = info })) b.incoming
     by (inl z) o =
         let linked = linked-phase a.phase z in
         let near = o.3 linked in
-        let came-in : b.incoming ≡ after_take ns info a.incoming = is ∙ ap (λ p. received p (arrivals.Frame (I ns nr pf info)) a.incoming) linked in
+        let came-in : b.incoming ≡ after_take ns info a.incoming =
+        is ∙ ap (λ p. received p (arrivals.Frame (I ns nr pf info)) a.incoming) linked in
         subst (Tracks (keeping srej ss (record { number = n; info = info }))) (sym came-in)
-        (one-comes srej ss a.incoming (record { number = n; info = info }) ns (h.tracks up) (sym (agree linked)) (taken ns nr pf info n told rest e linked) o.0 near.0 near.1)
+        (one-comes srej ss a.incoming (record { number = n; info = info }) ns (h.tracks up) (sym (agree linked))
+        (taken ns nr pf info n told rest e linked) o.0 near.0 near.1)
     by (inr z) o =
         let same : b.incoming ≡ a.incoming = is ∙ received-released a.phase (arrivals.Frame (I ns nr pf info)) a.incoming z in
         let t' = h.tracks up in
         subst (Tracks (keeping srej ss (record { number = n; info = info }))) (sym same)
-        (subst (λ l. Tracks l a.incoming) (sym (keeping-again srej ss (record { number = n; info = info }) (t'.below n (omega (arith, o.1, over z))))) t')
+        (subst (λ l. Tracks l a.incoming)
+        (sym (keeping-again srej ss (record { number = n; info = info }) (t'.below n (omega (arith, o.1, over z))))) t')
 
 -- what is kept once one more slot was heard
 kept-one : (srej : Bool) (ss : List Segment) (cs ds : List Segment) → kept srej ss (cs ++ ds) ≡ kept srej (kept srej ss cs) ds
@@ -170,40 +185,53 @@ pub record Next (role : Role) (from to : Account) (line tl : List Slot) : Type 0
   pub taken : NextIsTaken (side_with from line) (side_with to tl)
   pub offered : NextWasOffered (side_with from line) (side_with to tl)
 
-into-hears : (srej : Bool) (ss : List Segment) (role : Role) (turn : ℕ) (from a b : Account) (line tl : List Slot) (t : Option Turn) (left : List (Option Spoken)) (h : Heard)
+into-hears : (srej : Bool) (ss : List Segment) (role : Role) (turn : ℕ) (from a b : Account) (line tl : List Slot) (t : Option Turn)
+    (left : List (Option Spoken)) (h : Heard)
     → told_by_play line ≡ map told_by_turn (made role t ++ left) → Crosses (sent_in role t) h → hear turn (arrival h) a ≡ Ok b
-    → Next role from a line tl → (a.phase ≡ Connected → a.incoming.srej ≡ srej) → (brings is_segment (arrival h) ≡ true → 1 ≤ stage a.phase) → (2 ≤ stage a.phase → length from.outgoing.pieces ≤ length a.incoming.taken)
+    → Next role from a line tl → (a.phase ≡ Connected → a.incoming.srej ≡ srej) → (brings is_segment (arrival h) ≡ true → 1 ≤ stage a.phase)
+    → (2 ≤ stage a.phase → length from.outgoing.pieces ≤ length a.incoming.taken)
     → GoesOn a b → Into ss a from.outgoing.pieces → Into (kept srej ss (segment_in h (sent_in role t))) b from.outgoing.pieces
-into-hears srej ss role turn from a b line tl t left Nothing e c k x agree up over g i = quiet ss a b from.outgoing.pieces arrivals.Nothing refl g (is-told turn arrivals.Nothing a b k) i
-into-hears srej ss role turn from a b line tl t left (Lost s) e c k x agree up over g i = quiet ss a b from.outgoing.pieces arrivals.Nothing refl g (is-told turn arrivals.Nothing a b k) i
-into-hears srej ss role turn from a b line tl t left Chance e c k x agree up over g i = quiet ss a b from.outgoing.pieces arrivals.Nothing refl g (is-told turn arrivals.Nothing a b k) i
+into-hears srej ss role turn from a b line tl t left Nothing e c k x agree up over g i =
+    quiet ss a b from.outgoing.pieces arrivals.Nothing refl g (is-told turn arrivals.Nothing a b k) i
+into-hears srej ss role turn from a b line tl t left (Lost s) e c k x agree up over g i =
+    quiet ss a b from.outgoing.pieces arrivals.Nothing refl g (is-told turn arrivals.Nothing a b k) i
+into-hears srej ss role turn from a b line tl t left Chance e c k x agree up over g i =
+    quiet ss a b from.outgoing.pieces arrivals.Nothing refl g (is-told turn arrivals.Nothing a b k) i
 into-hears srej ss role turn from a b line tl None left (Passed s) e c k x agree up over g i = absurd c
-into-hears srej ss role turn from a b [] tl (Some t) left (Passed s) e c k x agree up over g i = absurd (none-is-some (told_by_turn (of role t).sent) (map told_by_turn left) e)
+into-hears srej ss role turn from a b [] tl (Some t) left (Passed s) e c k x agree up over g i =
+    absurd (none-is-some (told_by_turn (of role t).sent) (map told_by_turn left) e)
 into-hears srej ss role turn from a b (slot ∷ rest) tl (Some t) left (Passed s) e c k x agree up over g i =
-    of-turn (of role t).sent (head-of (Some (slot.sent, slot.number)) (told_by_turn (of role t).sent) (told_by_play rest) (map told_by_turn left) e).0 c
+    of-turn (of role t).sent
+    (head-of (Some (slot.sent, slot.number)) (told_by_turn (of role t).sent) (told_by_play rest) (map told_by_turn left) e).0 c
   where
-    by-frame : (frame : Frame) → slots.Frame frame ≡ slot.sent → (is_segment frame ≡ true → 1 ≤ stage a.phase) → Told a.phase (arrivals.Frame frame) a b → Into (kept srej ss (framed_segment slot.number frame)) b from.outgoing.pieces
+    by-frame : (frame : Frame) → slots.Frame frame ≡ slot.sent → (is_segment frame ≡ true → 1 ≤ stage a.phase)
+        → Told a.phase (arrivals.Frame frame) a b → Into (kept srej ss (framed_segment slot.number frame)) b from.outgoing.pieces
     by-frame (I ns nr pf info) q u d =
         segment-came srej ss from a b (slot ∷ rest) tl rest turn ns nr pf info slot.number slot.told
         (ap (λ z. (record { sent = z; number = slot.number; told = slot.told }) ∷ rest) (sym q)) x.taken x.offered agree (u refl) over g d i
     by-frame frame q u d = quiet ss a b from.outgoing.pieces (arrivals.Frame frame) refl g d i
 
-    by-slot : (check : Check) (s : Sent) → s ≡ slot.sent → hear turn (arrives s) a ≡ Ok b → (brings is_segment (arrives s) ≡ true → 1 ≤ stage a.phase) → Told a.phase (arrives s) a b
-        → Into (kept srej ss (segment_in (Passed s) (Some (record { sent = slot.sent; number = slot.number; check = check })))) b from.outgoing.pieces
+    by-slot : (check : Check) (s : Sent) → s ≡ slot.sent → hear turn (arrives s) a ≡ Ok b
+        → (brings is_segment (arrives s) ≡ true → 1 ≤ stage a.phase) → Told a.phase (arrives s) a b
+        → Into (kept srej ss (segment_in (Passed s) (Some (record { sent = slot.sent; number = slot.number; check = check })))) b
+        from.outgoing.pieces
     by-slot check slots.Mark q y u d = quiet ss a b from.outgoing.pieces arrivals.Nothing refl g d i
     by-slot check slots.Flags q y u d = quiet ss a b from.outgoing.pieces arrivals.Nothing refl g d i
     by-slot check slots.Odp q y u d = quiet ss a b from.outgoing.pieces (arrives slots.Odp) refl g d i
     by-slot check slots.Adp q y u d = quiet ss a b from.outgoing.pieces (arrives slots.Adp) refl g d i
     by-slot check (slots.Frame frame) q y u d = by-frame frame q u d
 
-    of-turn : (o : Option Spoken) → Some (slot.sent, slot.number) ≡ told_by_turn o → Crosses o (Passed s) → Into (kept srej ss (segment_in (Passed s) o)) b from.outgoing.pieces
+    of-turn : (o : Option Spoken) → Some (slot.sent, slot.number) ≡ told_by_turn o → Crosses o (Passed s)
+        → Into (kept srej ss (segment_in (Passed s) o)) b from.outgoing.pieces
     of-turn None q d = absurd d
     of-turn (Some m) q d =
         let sent : slot.sent ≡ m.sent = ap sent-of q in
         let number : slot.number ≡ m.number = ap number-of q in
         let same : record { sent = slot.sent; number = slot.number; check = m.check } ≡ m =
-        ap (λ z. record { sent = z; number = slot.number; check = m.check }) sent ∙ ap (λ z. record { sent = m.sent; number = z; check = m.check }) number in
-        subst (λ z. Into (kept srej ss (segment_in (Passed s) (Some z))) b from.outgoing.pieces) same (by-slot m.check s (d.0 ∙ sym sent) k up (is-told turn (arrives s) a b k))
+        ap (λ z. record { sent = z; number = slot.number; check = m.check }) sent
+        ∙ ap (λ z. record { sent = m.sent; number = z; check = m.check }) number in
+        subst (λ z. Into (kept srej ss (segment_in (Passed s) (Some z))) b from.outgoing.pieces) same
+        (by-slot m.check s (d.0 ∙ sym sent) k up (is-told turn (arrives s) a b k))
       where
         sent-of : Option (Sent × ℕ) → Sent
         sent-of None = slot.sent
@@ -230,11 +258,13 @@ pieces-more : (piece : List ℕ) (o : Outgoing) → (more : List (List ℕ)) × 
 pieces-more [] o = ([], sym (append-nil o.pieces))
 pieces-more (x ∷ xs) o = ((x ∷ xs) ∷ [], refl)
 
-offers-more-at : (file : List ℕ) (a : Account) (w : Option ℕ) → (more : List (List ℕ)) × ((offered_at file a w).outgoing.pieces ≡ a.outgoing.pieces ++ more)
+offers-more-at : (file : List ℕ) (a : Account) (w : Option ℕ)
+    → (more : List (List ℕ)) × ((offered_at file a w).outgoing.pieces ≡ a.outgoing.pieces ++ more)
 offers-more-at file a None = ([], sym (append-nil a.outgoing.pieces))
 offers-more-at file a (Some n) = pieces-more (piece_at (piece_size a) file n) a.outgoing
 
-offers-more : (n : ℕ) (file : List ℕ) (a : Account) → (more : List (List ℕ)) × ((offered_times n file a).outgoing.pieces ≡ a.outgoing.pieces ++ more)
+offers-more : (n : ℕ) (file : List ℕ) (a : Account)
+    → (more : List (List ℕ)) × ((offered_times n file a).outgoing.pieces ≡ a.outgoing.pieces ++ more)
 offers-more zero file a = ([], sym (append-nil a.outgoing.pieces))
 offers-more (suc n) file a =
     let first = offers-more-at file a (wants a) in
@@ -248,11 +278,15 @@ delivered-out a = go (is_connected a.phase)
     go true = refl
     go false = refl
 
-served-more : (u : User) (turn : ℕ) (released : Bool) (a : Account) → (more : List (List ℕ)) × ((served u turn released a).account.outgoing.pieces ≡ a.outgoing.pieces ++ more)
+served-more : (u : User) (turn : ℕ) (released : Bool) (a : Account)
+    → (more : List (List ℕ)) × ((served u turn released a).account.outgoing.pieces ≡ a.outgoing.pieces ++ more)
 served-more u turn released a =
     let g = after_given (delivered a) in
-    let m = offers-more (room_for g) u.file g in
-    (m.0, ap (λ (b : Account). b.outgoing.pieces) (served-alone u turn released a) ∙ m.1 ∙ ap (λ (o : Outgoing). o.pieces ++ m.0) (delivered-out a))
+    let m = offers-more (room_for g) u.file g in (
+      m.0,
+      ap (λ (b : Account). b.outgoing.pieces) (served-alone u turn released a) ∙ m.1
+          ∙ ap (λ (o : Outgoing). o.pieces ++ m.0) (delivered-out a),
+    )
 
 wants-none : (a : Account) → stage a.phase ≡ 0 → wants a ≡ None
 wants-none a e = go a.phase e
@@ -282,12 +316,17 @@ unoffered-kept link = record {
       none = λ z. ap (λ (k : Books). k.pieces) s.books_are ∙ h.none (omega (arith, z, s.later));
       going = λ z. ap (λ (k : Books). k.ended) s.books_are ∙ h.going (omega (arith, z, s.later));
     }
-    by a b h (inr e) = record { none = λ z. absurd (omega (arith, z, ap stage e.is)); going = λ z. absurd (omega (arith, z, ap stage e.is)) }
+    by a b h (inr e) = record {
+      none = λ z. absurd (omega (arith, z, ap stage e.is));
+      going =
+          λ z. absurd (omega (arith, z, ap stage e.is));
+    }
 
     serves : (u : User) (turn : ℕ) (released : Bool) (a : Account) → Unoffered a → Unoffered (served u turn released a).account
     serves u turn released a h =
         let l = serving u turn released a in
-        let same : stage (served u turn released a).account.phase ≡ 0 → (served u turn released a).account.outgoing ≡ a.outgoing = λ z. same-out (sym (ap stage l.phase) ∙ z) in
+        let same : stage (served u turn released a).account.phase ≡ 0 → (served u turn released a).account.outgoing ≡ a.outgoing =
+        λ z. same-out (sym (ap stage l.phase) ∙ z) in
         record {
           none = λ z. ap (λ (o : Outgoing). o.pieces) (same z) ∙ h.none (sym (ap stage l.phase) ∙ z);
           going = λ z. ap (λ (o : Outgoing). o.ended) (same z) ∙ h.going (sym (ap stage l.phase) ∙ z);
@@ -304,7 +343,8 @@ unoffered-kept link = record {
         same-out was =
             let x = after_given (delivered a) in
             let none : wants x ≡ None = wants-none x (ap stage (serving-phase a) ∙ was) in
-            ap (λ (b : Account). b.outgoing) (served-alone u turn released a) ∙ ap (λ (b : Account). b.outgoing) (offers-none (room_for x) u.file x none) ∙ delivered-out a
+            ap (λ (b : Account). b.outgoing) (served-alone u turn released a)
+            ∙ ap (λ (b : Account). b.outgoing) (offers-none (room_for x) u.file x none) ∙ delivered-out a
 
     spoken : (release : Bool) (a b : Account) → Unoffered a → Speaks release a b → Unoffered b
     spoken release a b h (Keeps_on e) = record {
@@ -327,10 +367,12 @@ right-grows pieces more (s ∷ ss) h =
     front-of (y ∷ ys) zero l = refl
     front-of (y ∷ ys) (suc n) l = front-of ys n (omega (arith, l))
 
-into-goes : (ss : List Segment) (x y : Account) (pieces more now : List (List ℕ)) (phase : Phase) → (stage y.phase ≡ 0 → stage x.phase ≡ 0) → (1 ≤ stage y.phase → 1 ≤ stage x.phase) → part y ≡ part x → now ≡ pieces ++ more → Into ss x pieces → Into ss y now
+into-goes : (ss : List Segment) (x y : Account) (pieces more now : List (List ℕ)) (phase : Phase) → (stage y.phase ≡ 0 → stage x.phase ≡ 0)
+    → (1 ≤ stage y.phase → 1 ≤ stage x.phase) → part y ≡ part x → now ≡ pieces ++ more → Into ss x pieces → Into ss y now
 into-goes ss x y pieces more now phase low up same e h = record {
   early = λ z. h.early (low z);
-  tracks = λ z. as-tracks ss (length x.incoming.taken) (length y.incoming.taken) x.incoming.held y.incoming.held x.incoming.srej y.incoming.srej
+  tracks = λ z. as-tracks ss (length x.incoming.taken)
+      (length y.incoming.taken) x.incoming.held y.incoming.held x.incoming.srej y.incoming.srej
       (ap (λ (p : Part). length p.taken) same) (ap (λ (p : Part). p.held) same) (ap (λ (p : Part). p.srej) same) (h.tracks (up z));
   right = subst (λ l. AreRight l ss) (sym e) (right-grows pieces more ss h.right);
 }
@@ -367,7 +409,9 @@ pub record TakingLaws : Type 0 where
   pub offered : SendsWhatWasOffered
   pub srej : AgreesOnSrej
 
-into-mid : (reads : ReadsAllowed) (keeps : KeepsTaken) (laws : TakingLaws) (link : Link) (delay : Role → ℕ) (ts : List Turn) (before : Ends) (t : Turn) (mid : Ends) → MayPlay link.orig.setup link.answ.setup → HasDelays delay → IsCarried delay ts → RunOf link ts before → Carries delay ts t → Hears (length ts) before t mid
+into-mid : (reads : ReadsAllowed) (keeps : KeepsTaken) (laws : TakingLaws) (link : Link) (delay : Role → ℕ) (ts : List Turn) (before : Ends)
+    (t : Turn) (mid : Ends) → MayPlay link.orig.setup link.answ.setup → HasDelays delay → IsCarried delay ts → RunOf link ts before
+    → Carries delay ts t → Hears (length ts) before t mid
     → BothInto (agreed_srej link) delay ts before.orig before.answ → BothInto (agreed_srej link) delay (t ∷ ts) mid.orig mid.answ
 into-mid reads keeps laws link delay ts before t mid m some c h n k i =
     let turn = length ts in
@@ -380,29 +424,47 @@ into-mid reads keeps laws link delay ts before t mid m some c h n k i =
     let un = kept-run reads keeps IsUnoffered link (unoffered-kept link) ts before h in
     let go = hears reads keeps turn (arrival t.orig.heard) before.orig mid.orig (k Originator).hears in
     let ga = hears reads keeps turn (arrival t.answ.heard) before.answ mid.answ (k Answerer).hears in
-    let taken = subst (λ (q : Play). NextIsTaken q.originator q.answerer × NextIsTaken q.answerer q.originator) p.leads.led (laws.by_number so sa p.leads.events m) in
-    let offered = subst (λ (q : Play). NextWasOffered q.originator q.answerer × NextWasOffered q.answerer q.originator) p.leads.led (laws.offered so sa p.leads.events m) in
-    let agree = subst (λ (q : Play). (q.originator.account.phase ≡ Connected → q.originator.account.incoming.srej ≡ srej) × (q.answerer.account.phase ≡ Connected → q.answerer.account.incoming.srej ≡ srej)) p.leads.led (laws.srej so sa p.leads.events m) in
-    let to_a = into-hears srej (kept srej [] (segments_to delay Answerer ts)) Originator turn before.orig before.answ mid.answ p.lo p.la (slice_get ts (delay Originator - 1)) (on_line (delay Originator - 1) Originator ts) t.answ.heard
-    (next-first Originator (delay Originator) ts p.lo (some Originator) p.orig_line) (n Answerer) (k Answerer).hears (record { taken = taken.0; offered = offered.0 }) agree.1
+    let taken = subst (λ (q : Play). NextIsTaken q.originator q.answerer × NextIsTaken q.answerer q.originator) p.leads.led
+    (laws.by_number so sa p.leads.events m) in
+    let offered = subst (λ (q : Play). NextWasOffered q.originator q.answerer × NextWasOffered q.answerer q.originator) p.leads.led
+    (laws.offered so sa p.leads.events m) in
+    let agree = subst (λ (q : Play). (q.originator.account.phase ≡ Connected → q.originator.account.incoming.srej ≡ srej)
+    × (q.answerer.account.phase ≡ Connected → q.answerer.account.incoming.srej ≡ srej)) p.leads.led
+    (laws.srej so sa p.leads.events m) in
+    let to_a = into-hears srej (kept srej [] (segments_to delay Answerer ts)) Originator turn before.orig before.answ mid.answ p.lo p.la
+    (slice_get ts (delay Originator - 1)) (on_line (delay Originator - 1) Originator ts) t.answ.heard
+    (next-first Originator (delay Originator) ts p.lo (some Originator) p.orig_line) (n Answerer) (k Answerer).hears
+    (record { taken = taken.0; offered = offered.0 }) agree.1
     (λ z. met.up (met.froms (came is_counted delay Originator ts t.answ.heard (n Answerer) (counts (arrival t.answ.heard) z))))
-    (λ z. all-taken before (over (met.hung (closed-at (stage before.answ.phase) z met.never (stage-high before.answ.phase)))) (facts laws.plays link m before _ p)) ga i.to_a in
-    let to_o = into-hears srej (kept srej [] (segments_to delay Originator ts)) Answerer turn before.answ before.orig mid.orig p.la p.lo (slice_get ts (delay Answerer - 1)) (on_line (delay Answerer - 1) Answerer ts) t.orig.heard
-    (next-first Answerer (delay Answerer) ts p.la (some Answerer) p.answ_line) (n Originator) (k Originator).hears (record { taken = taken.1; offered = offered.1 }) agree.0
+    (λ z. all-taken before (over (met.hung (closed-at (stage before.answ.phase) z met.never (stage-high before.answ.phase))))
+    (facts laws.plays link m before _ p)) ga i.to_a in
+    let to_o = into-hears srej (kept srej [] (segments_to delay Originator ts)) Answerer turn before.answ before.orig mid.orig p.la p.lo
+    (slice_get ts (delay Answerer - 1)) (on_line (delay Answerer - 1) Answerer ts) t.orig.heard
+    (next-first Answerer (delay Answerer) ts p.la (some Answerer) p.answ_line) (n Originator) (k Originator).hears
+    (record { taken = taken.1; offered = offered.1 }) agree.0
     (λ z. met.segments (came is_segment delay Answerer ts t.orig.heard (n Originator) z))
     (λ z. (over z).a_taken) go i.to_o in
     record {
-      to_a = subst (λ l. Into l mid.answ mid.orig.outgoing.pieces) (sym (kept-one srej [] (segments_to delay Answerer ts) (segment_in t.answ.heard (sent_ago (delay Originator) Originator ts))))
-          (subst (λ q. Into (kept srej (kept srej [] (segments_to delay Answerer ts)) (segment_in t.answ.heard (sent_ago (delay Originator) Originator ts))) mid.answ q) (sym (pieces-heard before.orig mid.orig (un Originator) go)) to_a);
-      to_o = subst (λ l. Into l mid.orig mid.answ.outgoing.pieces) (sym (kept-one srej [] (segments_to delay Originator ts) (segment_in t.orig.heard (sent_ago (delay Answerer) Answerer ts))))
-          (subst (λ q. Into (kept srej (kept srej [] (segments_to delay Originator ts)) (segment_in t.orig.heard (sent_ago (delay Answerer) Answerer ts))) mid.orig q) (sym (pieces-heard before.answ mid.answ (un Answerer) ga)) to_o);
+      to_a = subst (λ l. Into l mid.answ mid.orig.outgoing.pieces)
+          (sym (kept-one srej [] (segments_to delay Answerer ts) (segment_in t.answ.heard (sent_ago (delay Originator) Originator ts))))
+          (subst (λ q. Into (kept srej (kept srej [] (segments_to delay Answerer ts))
+          (segment_in t.answ.heard (sent_ago (delay Originator) Originator ts))) mid.answ q)
+          (sym (pieces-heard before.orig mid.orig (un Originator) go)) to_a);
+      to_o = subst (λ l. Into l mid.orig mid.answ.outgoing.pieces)
+          (sym (kept-one srej [] (segments_to delay Originator ts) (segment_in t.orig.heard (sent_ago (delay Answerer) Answerer ts))))
+          (subst (λ q. Into (kept srej (kept srej [] (segments_to delay Originator ts))
+          (segment_in t.orig.heard (sent_ago (delay Answerer) Answerer ts))) mid.orig q)
+          (sym (pieces-heard before.answ mid.answ (un Answerer) ga)) to_o);
     }
 
-into-run : (reads : ReadsAllowed) (keeps : KeepsTaken) (laws : TakingLaws) (link : Link) (delay : Role → ℕ) → MayPlay link.orig.setup link.answ.setup → HasDelays delay → (ts : List Turn) (ends : Ends) → IsCarried delay ts → RunOf link ts ends → BothInto (agreed_srej link) delay ts ends.orig ends.answ
-into-run reads keeps laws link delay m some [] ends c h = subst (λ (e : Ends). BothInto (agreed_srej link) delay [] e.orig e.answ) (sym h) (record {
-  to_a = record { early = λ z. refl; tracks = λ z. absurd (omega (arith, z)); right = tt };
-  to_o = record { early = λ z. refl; tracks = λ z. absurd (omega (arith, z)); right = tt };
-})
+into-run : (reads : ReadsAllowed) (keeps : KeepsTaken) (laws : TakingLaws) (link : Link) (delay : Role → ℕ)
+    → MayPlay link.orig.setup link.answ.setup → HasDelays delay → (ts : List Turn) (ends : Ends) → IsCarried delay ts → RunOf link ts ends
+    → BothInto (agreed_srej link) delay ts ends.orig ends.answ
+into-run reads keeps laws link delay m some [] ends c h =
+    subst (λ (e : Ends). BothInto (agreed_srej link) delay [] e.orig e.answ) (sym h) (record {
+      to_a = record { early = λ z. refl; tracks = λ z. absurd (omega (arith, z)); right = tt };
+      to_o = record { early = λ z. refl; tracks = λ z. absurd (omega (arith, z)); right = tt };
+    })
 into-run reads keeps laws link delay m some (t ∷ ts) ends c h =
     let before = h.0 in
     let g = h.2 in
@@ -414,7 +476,8 @@ into-run reads keeps laws link delay m some (t ∷ ts) ends c h =
     let ka = g.speaking Answerer in
     let release = told link turn g.mid Originator in
     let srej = agreed_srej link in
-    let i = into-mid reads keeps laws link delay ts before t g.mid m some c.1 h.1 c.0 g.hearing (into-run reads keeps laws link delay m some ts before c.1 h.1) in
+    let i = into-mid reads keeps laws link delay ts before t g.mid m some c.1 h.1 c.0 g.hearing
+    (into-run reads keeps laws link delay m some ts before c.1 h.1) in
     let lo = serving link.orig.user turn r g.mid.orig in
     let la = serving link.answ.user turn r g.mid.answ in
     let mo = served-more link.orig.user turn r g.mid.orig in
@@ -424,14 +487,19 @@ into-run reads keeps laws link delay m some (t ∷ ts) ends c h =
     let no = is-said turn release o ko.said ko.says in
     let na = is-said turn false a ka.said ka.says in
     let b : BothInto srej delay (t ∷ ts) ko.said.account ka.said.account = record {
-      to_a = into-goes (kept srej [] (segments_to delay Answerer (t ∷ ts))) g.mid.answ ka.said.account g.mid.orig.outgoing.pieces mo.0 ko.said.account.outgoing.pieces Connected
-          (λ z. omega (arith, ap stage la.phase, zero-before false a ka.said.account ga z)) (λ z. omega (arith, ap stage la.phase, some-before false a ka.said.account ga z)) (na.part_is ∙ la.part_is)
+      to_a = into-goes (kept srej [] (segments_to delay Answerer (t ∷ ts))) g.mid.answ ka.said.account g.mid.orig.outgoing.pieces mo.0
+          ko.said.account.outgoing.pieces Connected
+          (λ z. omega (arith, ap stage la.phase, zero-before false a ka.said.account ga z))
+          (λ z. omega (arith, ap stage la.phase, some-before false a ka.said.account ga z)) (na.part_is ∙ la.part_is)
           (pieces-said release o ko.said.account go ∙ mo.1) i.to_a;
-      to_o = into-goes (kept srej [] (segments_to delay Originator (t ∷ ts))) g.mid.orig ko.said.account g.mid.answ.outgoing.pieces ma.0 ka.said.account.outgoing.pieces Connected
-          (λ z. omega (arith, ap stage lo.phase, zero-before release o ko.said.account go z)) (λ z. omega (arith, ap stage lo.phase, some-before release o ko.said.account go z)) (no.part_is ∙ lo.part_is)
+      to_o = into-goes (kept srej [] (segments_to delay Originator (t ∷ ts))) g.mid.orig ko.said.account g.mid.answ.outgoing.pieces ma.0
+          ka.said.account.outgoing.pieces Connected
+          (λ z. omega (arith, ap stage lo.phase, zero-before release o ko.said.account go z))
+          (λ z. omega (arith, ap stage lo.phase, some-before release o ko.said.account go z)) (no.part_is ∙ lo.part_is)
           (pieces-said false a ka.said.account ga ∙ ma.1) i.to_o;
     } in
-    subst (λ (x : Account). BothInto srej delay (t ∷ ts) x ends.answ) (sym ko.after_is) (subst (λ (x : Account). BothInto srej delay (t ∷ ts) ko.said.account x) (sym ka.after_is) b)
+    subst (λ (x : Account). BothInto srej delay (t ∷ ts) x ends.answ) (sym ko.after_is)
+    (subst (λ (x : Account). BothInto srej delay (t ∷ ts) ko.said.account x) (sym ka.after_is) b)
   where
     zero-before : (release : Bool) (x y : Account) → Speaks release x y → stage y.phase ≡ 0 → stage x.phase ≡ 0
     zero-before release x y (Keeps_on e) z = sym (ap (λ (l : Ledger). stage l.phase) e) ∙ z
@@ -446,7 +514,8 @@ into-run reads keeps laws link delay m some (t ∷ ts) ends c h =
     pieces-said release x y (Releases on role linked e n) = ap (λ (l : Ledger). l.books.pieces) e
 
 -- what is kept gives what was taken
-gives : (ss : List Segment) (x : Account) (pieces : List (List ℕ)) → Into ss x pieces → Blank x → IsPrefixOf x.incoming.taken pieces → octets_in ss ≡ concat x.incoming.taken
+gives : (ss : List Segment) (x : Account) (pieces : List (List ℕ)) → Into ss x pieces → Blank x → IsPrefixOf x.incoming.taken pieces
+    → octets_in ss ≡ concat x.incoming.taken
 gives ss x pieces i b p = by (stage-some (stage x.phase))
   where
     by : (stage x.phase ≡ 0) ⊎ (1 ≤ stage x.phase) → octets_in ss ≡ concat x.incoming.taken
@@ -473,13 +542,17 @@ pub hears_what_passed : ReadsAllowed → KeepsTaken → TakingLaws → HearsWhat
 hears_what_passed reads keeps laws link delay ts ends t mid v n k role = at-role role
   where
     i : BothInto (agreed_srej link) delay (t ∷ ts) mid.orig mid.answ
-    i = into-mid reads keeps laws link delay ts ends t mid v.may_play v.delays v.carried v.run n k (into-run reads keeps laws link delay v.may_play v.delays ts ends v.carried v.run)
+    i = into-mid reads keeps laws link delay ts ends t mid v.may_play v.delays v.carried v.run n k
+        (into-run reads keeps laws link delay v.may_play v.delays ts ends v.carried v.run)
 
     f : Facts mid.orig mid.answ
-    f = facts laws.plays link v.may_play mid _ (hearing-reaches link delay ts ends (length ts) t mid v.delays (run-reaches reads keeps link delay ts ends v.delays v.carried v.run) n k)
+    f = facts laws.plays link v.may_play mid _
+        (hearing-reaches link delay ts ends (length ts) t mid v.delays
+        (run-reaches reads keeps link delay ts ends v.delays v.carried v.run) n k)
 
     b : AtBoth IsBlank mid
-    b = kept-heard reads keeps IsBlank link (blank-kept link) (length ts) ends t mid (kept-run reads keeps IsBlank link (blank-kept link) ts ends v.run) k
+    b = kept-heard reads keeps IsBlank link (blank-kept link) (length ts) ends t mid
+        (kept-run reads keeps IsBlank link (blank-kept link) ts ends v.run) k
 
     at-role : (role : Role) → taken_octets (agreed_srej link) delay role (t ∷ ts) ≡ concat (of role mid).incoming.taken
     at-role Originator = gives _ mid.orig mid.answ.outgoing.pieces i.to_o (b Originator) f.taken_o

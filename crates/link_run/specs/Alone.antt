@@ -50,7 +50,8 @@ pub record LoneFaulty (ts : List LoneTurn) (before : Account) (t : LoneTurn) (fa
   pub given : t.given ≡ None
 
 -- Or as it speaks.
-pub record LoneBroken (party : Party) (ts : List LoneTurn) (before : Account) (t : LoneTurn) (mid : Account) (fault : LinkFault) : Type 0 where
+pub record LoneBroken (party : Party) (ts : List LoneTurn) (before : Account) (t : LoneTurn) (mid : Account)
+    (fault : LinkFault) : Type 0 where
   pub hears : hear (length ts) t.arrived before ≡ Ok mid
   pub going : hangs_up mid ≡ false
   pub says : speaks_alone party.user (length ts) (lone_served party (length ts) mid) ≡ Err fault

@@ -85,7 +85,8 @@ again_in (Some ns) sent = if nat_eq ns (sent % 128) then 0 else 1
 -- So it comes to all that is counted by the meant numbers.
 pub record CountsOn (role : Role) (ts : List Turn) (ends : Ends) (t : Turn) (after : Ends) : Type 0 where
   pub high : (of role after).outgoing.high ≡ next_count (sequence_of (of role t).sent) (of role ends).outgoing.high
-  pub again : repeated (numbers_sent role (t ∷ ts)) ≡ repeated (numbers_sent role ts) + again_in (sequence_of (of role t).sent) (of role ends).outgoing.high
+  pub again : repeated (numbers_sent role (t ∷ ts)) ≡ repeated (numbers_sent role ts) + again_in (sequence_of (of role t).sent)
+      (of role ends).outgoing.high
 
 abbrev pub CountsByNumber : Type 0
 CountsByNumber = (link : Link) (delay : Role → ℕ) (ts : List Turn) (ends : Ends) (t : Turn) (after : Ends) → RunsOver link delay ts ends

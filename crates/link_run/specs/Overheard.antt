@@ -55,7 +55,8 @@ OpensByFrames = (link : Link) (delay : Role → ℕ) (ts : List Turn) (ends : En
 
 -- No I frame passes to an end before.
 abbrev pub SegmentsPassLater : Type 0
-SegmentsPassLater = (link : Link) (delay : Role → ℕ) (ts : List Turn) (ends : Ends) (t : Turn) → RunsOver link delay ts ends → Carries delay ts t
+SegmentsPassLater = (link : Link) (delay : Role → ℕ) (ts : List Turn) (ends : Ends) (t : Turn) → RunsOver link delay ts ends
+    → Carries delay ts t
     → (role : Role) (ns nr : ℕ) (pf : Bool) (info : List ℕ) → (of role t).heard ≡ Passed (slots.Frame (I ns nr pf info))
     → has_passed (opens role) role ts ≡ true
 

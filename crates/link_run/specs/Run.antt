@@ -124,7 +124,8 @@ pub record LastTurn (ts : List Turn) (before : Ends) (t : Turn) (mid : Ends) : T
   pub silent : IsSilent t
 
 -- A turn in which an end breaks.
-pub record BrokenTurn (link : Link) (ts : List Turn) (before : Ends) (t : Turn) (mid : Ends) (role : Role) (fault : LinkFault) : Type 0 where
+pub record BrokenTurn (link : Link) (ts : List Turn) (before : Ends) (t : Turn) (mid : Ends) (role : Role)
+    (fault : LinkFault) : Type 0 where
   pub hearing : Hears (length ts) before t mid
   pub going : is_closed mid.orig.phase ≡ false
   pub broken : IsBroken link (length ts) mid role fault

@@ -16,7 +16,8 @@ some-cons : (x : ℕ) (xs : List ℕ) → x ∷ xs ≢ []
 some-cons x xs e = cc
 
 -- one octet more passes a test
-pub passes-more : (test : ℕ → Bool) (xs : List ℕ) (i : ℕ) → i < length xs → list_all test (take i xs) ≡ true → test (get_or xs i 0) ≡ true → list_all test (take (i + 1) xs) ≡ true
+pub passes-more : (test : ℕ → Bool) (xs : List ℕ) (i : ℕ) → i < length xs → list_all test (take i xs) ≡ true → test (get_or xs i 0) ≡ true
+    → list_all test (take (i + 1) xs) ≡ true
 passes-more test xs i h a b = list_all_more test xs i 0 h ∙ rw (a, b) refl
 
 pub no-feed : (octet : ℕ) → octet ≢ 10 → is_no_feed octet ≡ true
@@ -31,13 +32,17 @@ and-false true = refl
 and-false false = refl
 
 -- an octet before one that is no line feed goes on its line
-line-goes-on : (x y : ℕ) (text : List ℕ) → eqb x 10 ≡ false → eqb y 10 ≡ false → lines_of (x ∷ y ∷ text) ≡ onto_first x (lines_of (y ∷ text))
+line-goes-on : (x y : ℕ) (text : List ℕ) → eqb x 10 ≡ false → eqb y 10 ≡ false
+    → lines_of (x ∷ y ∷ text) ≡ onto_first x (lines_of (y ∷ text))
 line-goes-on x y text x_not y_not = going (eqb x 10) (eqb y 10) (eqb x 13) x_not y_not
   where
-    going : (a b c : Bool) → a ≡ false → b ≡ false → cond a ([] ∷ lines_of (y ∷ text)) (cond (c && b) (lines_of (y ∷ text)) (onto_first x (lines_of (y ∷ text)))) ≡ onto_first x (lines_of (y ∷ text))
+    going : (a b c : Bool) → a ≡ false → b ≡ false
+        → cond a ([] ∷ lines_of (y ∷ text)) (cond (c && b) (lines_of (y ∷ text)) (onto_first x (lines_of (y ∷ text)))) ≡ onto_first x
+        (lines_of (y ∷ text))
     going a b c a_not b_not = rw (a_not, b_not, and-false c) refl
 
-pub line-cut : (front rest : List ℕ) → list_all is_no_feed front ≡ true → lines_of (front ++ 10 ∷ rest) ≡ without_return front ∷ lines_of rest
+pub line-cut : (front rest : List ℕ) → list_all is_no_feed front ≡ true
+    → lines_of (front ++ 10 ∷ rest) ≡ without_return front ∷ lines_of rest
 line-cut [] rest h = refl
 line-cut (x ∷ []) rest h =
     let x_not : eqb x 10 ≡ false = not-true _ (and_parts _ _ h).0 in
@@ -45,7 +50,8 @@ line-cut (x ∷ []) rest h =
 line-cut (x ∷ y ∷ front) rest h =
     let x_not : eqb x 10 ≡ false = not-true _ (and_parts _ _ h).0 in
     let y_not : eqb y 10 ≡ false = not-true _ (and_parts _ _ (and_parts _ _ h).1).0 in
-    let later : lines_of (y ∷ front ++ 10 ∷ rest) ≡ without_return (y ∷ front) ∷ lines_of rest = line-cut (y ∷ front) rest (and_parts _ _ h).1 in
+    let later : lines_of (y ∷ front ++ 10 ∷ rest) ≡ without_return (y ∷ front) ∷ lines_of rest =
+    line-cut (y ∷ front) rest (and_parts _ _ h).1 in
     line-goes-on x y (front ++ 10 ∷ rest) x_not y_not ∙ ap (onto_first x) later
 
 pub line-last : (text : List ℕ) → text ≢ [] → list_all is_no_feed text ≡ true → lines_of text ≡ text ∷ []
@@ -65,7 +71,8 @@ pub blank-ends : (octet : ℕ) (line : List ℕ) → is_blank octet ≡ true →
 blank-ends octet line b = rw b refl
 
 -- blanks before a line's words change nothing
-pub blank-skipped : (line : List ℕ) (i : ℕ) → i < length line → is_blank (get_or line i 0) ≡ true → words_of (drop i line) ≡ words_of (drop (i + 1) line)
+pub blank-skipped : (line : List ℕ) (i : ℕ) → i < length line → is_blank (get_or line i 0) ≡ true
+    → words_of (drop i line) ≡ words_of (drop (i + 1) line)
 blank-skipped line i h b =
     let cut : drop i line ≡ get_or line i 0 ∷ drop (suc i) line = drop-cons line i 0 h in
     rw (cut, add-one i) (blank-first (get_or line i 0) (drop (suc i) line) b)
@@ -80,14 +87,18 @@ word-ends line i h b =
     let cut : drop i line ≡ get_or line i 0 ∷ drop (suc i) line = drop-cons line i 0 h in
     rw (cut, b) refl
 
-word-goes-on : (x y : ℕ) (line : List ℕ) → is_blank x ≡ false → is_blank y ≡ false → words_of (x ∷ y ∷ line) ≡ onto_first x (words_of (y ∷ line))
+word-goes-on : (x y : ℕ) (line : List ℕ) → is_blank x ≡ false → is_blank y ≡ false
+    → words_of (x ∷ y ∷ line) ≡ onto_first x (words_of (y ∷ line))
 word-goes-on x y line x_not y_not = going (is_blank x) (is_blank y) x_not y_not
   where
-    going : (a b : Bool) → a ≡ false → b ≡ false → cond a (words_of (y ∷ line)) (cond (not b) (onto_first x (words_of (y ∷ line))) ((x ∷ []) ∷ words_of (y ∷ line))) ≡ onto_first x (words_of (y ∷ line))
+    going : (a b : Bool) → a ≡ false → b ≡ false
+        → cond a (words_of (y ∷ line)) (cond (not b) (onto_first x (words_of (y ∷ line))) ((x ∷ []) ∷ words_of (y ∷ line))) ≡ onto_first x
+        (words_of (y ∷ line))
     going a b a_not b_not = rw (a_not, b_not) refl
 
 -- words of a line that begins with these octets, and then with a blank or not at all
-pub word-cut : (front rest : List ℕ) → front ≢ [] → list_all is_no_blank front ≡ true → is_in_word rest ≡ false → words_of (front ++ rest) ≡ front ∷ words_of rest
+pub word-cut : (front rest : List ℕ) → front ≢ [] → list_all is_no_blank front ≡ true → is_in_word rest ≡ false
+    → words_of (front ++ rest) ≡ front ∷ words_of rest
 word-cut [] rest n h e = absurd (n refl)
 word-cut (x ∷ []) rest n h e =
     let x_not : is_blank x ≡ false = not-true _ (and_parts _ _ h).0 in
@@ -102,7 +113,9 @@ pub word-some : (line : List ℕ) → is_in_word line ≡ true → (0 < length l
 word-some [] h = absurd (false≢true h)
 word-some (x ∷ line) h = (omega arith, not-true _ h)
 
-pub word-cut-at : (line : List ℕ) (i : ℕ) (front back : List ℕ) → is_in_word line ≡ true → i < length line → list_all is_no_blank (take i line) ≡ true → is_blank (get_or line i 0) ≡ true → front ≡ take i line → back ≡ drop i line → words_of line ≡ front ∷ words_of back
+pub word-cut-at : (line : List ℕ) (i : ℕ) (front back : List ℕ) → is_in_word line ≡ true → i < length line
+    → list_all is_no_blank (take i line) ≡ true → is_blank (get_or line i 0) ≡ true → front ≡ take i line → back ≡ drop i line
+    → words_of line ≡ front ∷ words_of back
 word-cut-at line i front back w h a b f r =
     let some = word-some line w in
     let apart : i ≢ 0 = λ e. false≢true (sym some.1 ∙ ap (λ k. is_blank (get_or line k 0)) (sym e) ∙ b) in
@@ -114,7 +127,8 @@ word-cut-at line i front back w h a b f r =
     taken (x ∷ xs) zero n h e = n refl
     taken (x ∷ xs) (suc i) n h e = cc
 
-pub word-whole : (line : List ℕ) (i : ℕ) → is_in_word line ≡ true → length line ≤ i → list_all is_no_blank (take i line) ≡ true → words_of line ≡ line ∷ []
+pub word-whole : (line : List ℕ) (i : ℕ) → is_in_word line ≡ true → length line ≤ i → list_all is_no_blank (take i line) ≡ true
+    → words_of line ≡ line ∷ []
 word-whole line i w h a =
     let whole : take i line ≡ line = take_all i line h in
     let all : list_all is_no_blank line ≡ true = subst (λ xs. list_all is_no_blank xs ≡ true) whole a in
@@ -131,11 +145,16 @@ return-kept [] last n = rw (ne_eqb last 13 n) refl
 return-kept (x ∷ []) last n = rw (ne_eqb last 13 n) refl
 return-kept (x ∷ y ∷ front) last n = ap (λ xs. x ∷ xs) (return-kept (y ∷ front) last n)
 
-pub line-cut-at : (text : List ℕ) (i : ℕ) (line : List ℕ) → i < length text → list_all is_no_feed (take i text) ≡ true → get_or text i 0 ≡ 10 → line ≡ without_return (take i text) → lines_of text ≡ line ∷ lines_of (take (length text - (i + 1)) (drop (i + 1) text))
+pub line-cut-at : (text : List ℕ) (i : ℕ) (line : List ℕ) → i < length text → list_all is_no_feed (take i text) ≡ true
+    → get_or text i 0 ≡ 10 → line ≡ without_return (take i text)
+    → lines_of text ≡ line ∷ lines_of (take (length text - (i + 1)) (drop (i + 1) text))
 line-cut-at text i line h a e l =
-    let whole : take i text ++ get_or text i 0 ∷ drop (suc i) text ≡ text = ap (λ xs. take i text ++ xs) (sym (drop-cons text i 0 h)) ∙ take-append-drop i text in
-    let rest : take (length text - (i + 1)) (drop (i + 1) text) ≡ drop (i + 1) text = take_all _ _ (omega (arith, length-drop (i + 1) text)) in
+    let whole : take i text ++ get_or text i 0 ∷ drop (suc i) text ≡ text =
+    ap (λ xs. take i text ++ xs) (sym (drop-cons text i 0 h)) ∙ take-append-drop i text in
+    let rest : take (length text - (i + 1)) (drop (i + 1) text) ≡ drop (i + 1) text =
+    take_all _ _ (omega (arith, length-drop (i + 1) text)) in
     rw (rest, l) (ap lines_of (sym whole) ∙ rw (e, add-one i) (line-cut (take i text) (drop (suc i) text) a))
 
-pub line-whole : (text : List ℕ) (i : ℕ) → text ≢ [] → length text ≤ i → list_all is_no_feed (take i text) ≡ true → lines_of text ≡ text ∷ []
+pub line-whole : (text : List ℕ) (i : ℕ) → text ≢ [] → length text ≤ i → list_all is_no_feed (take i text) ≡ true
+    → lines_of text ≡ text ∷ []
 line-whole text i n h a = line-last text n (subst (λ xs. list_all is_no_feed xs ≡ true) (take_all i text h) a)

@@ -17,7 +17,8 @@ value-snoc (x ∷ digits) digit =
     spread : (a p v d : ℕ) → a * (p * 10) + (10 * v + d) ≡ 10 * (a * p + v) + d
     spread a p v d = omega arith
 
-pub value-more : (word : List ℕ) (i : ℕ) → i < length word → value_of (take (i + 1) word) ≡ 10 * value_of (take i word) + (get_or word i 0 - 48)
+pub value-more : (word : List ℕ) (i : ℕ) → i < length word
+    → value_of (take (i + 1) word) ≡ 10 * value_of (take i word) + (get_or word i 0 - 48)
 value-more word i h = ap value_of (take_more word i 0 h) ∙ value-snoc (take i word) (get_or word i 0)
 
 pub value-small : (digits : List ℕ) → list_all is_digit digits ≡ true → value_of digits < 10 ^ length digits
@@ -32,19 +33,23 @@ value-small (x ∷ digits) h =
     bounded : (a p v : ℕ) → a ≤ 9 → v < p → a * p + v < p * 10
     bounded a p v h l = grind arith
 
-pub front-small : (word : List ℕ) (i n : ℕ) → list_all is_digit (take i word) ≡ true → i ≤ length word → i ≤ n → value_of (take i word) < 10 ^ n
+pub front-small : (word : List ℕ) (i n : ℕ) → list_all is_digit (take i word) ≡ true → i ≤ length word → i ≤ n
+    → value_of (take i word) < 10 ^ n
 front-small word i n h l m =
     let long : length (take i word) ≤ n = omega (arith, length-take i word) in
     let more : 10 ^ length (take i word) ≤ 10 ^ n = pow-le-pow_right (omega arith) long in
     omega (arith, value-small (take i word) h, more)
 
 -- one digit more
-pub digit-more : (word : List ℕ) (i value next : ℕ) → i < length word → value ≡ value_of (take i word) → next ≡ get_or word i 0 - 48 → 10 * value + next ≡ value_of (take (i + 1) word)
+pub digit-more : (word : List ℕ) (i value next : ℕ) → i < length word → value ≡ value_of (take i word) → next ≡ get_or word i 0 - 48
+    → 10 * value + next ≡ value_of (take (i + 1) word)
 digit-more word i value next h v n = rw (value-more word i h, n, v) refl
 
-pub digits-more : (word : List ℕ) (i : ℕ) → i < length word → list_all is_digit (take i word) ≡ true → is_digit (get_or word i 0) ≡ true → list_all is_digit (take (i + 1) word) ≡ true
+pub digits-more : (word : List ℕ) (i : ℕ) → i < length word → list_all is_digit (take i word) ≡ true → is_digit (get_or word i 0) ≡ true
+    → list_all is_digit (take (i + 1) word) ≡ true
 digits-more word i h a d = list_all_more is_digit word i 0 h ∙ rw (a, d) refl
 
 -- ten times a number of few digits, and one more, is far below 2^128
-pub tenfold-fits : (word : List ℕ) (i value next : ℕ) → i < length word → length word ≤ 20 → list_all is_digit (take i word) ≡ true → value ≡ value_of (take i word) → next ≤ 255 → 10 * value + next < 2 ^ 128
+pub tenfold-fits : (word : List ℕ) (i value next : ℕ) → i < length word → length word ≤ 20 → list_all is_digit (take i word) ≡ true
+    → value ≡ value_of (take i word) → next ≤ 255 → 10 * value + next < 2 ^ 128
 tenfold-fits word i value next h l a v n = let small = front-small word i 20 a (omega arith) (omega arith) in omega (arith, small, v)

@@ -84,7 +84,8 @@ same_kind-self a = rw (same_form-self a.form, same_counted-self a.role) refl
 
 -- how many lines of a kind there are
 
-standing-cons : (kind : Kind) (entry : Entry) (said : List Entry) → standing kind (entry ∷ said) ≡ cond (same_kind kind (kind_of entry)) 1 0 + standing kind said
+standing-cons : (kind : Kind) (entry : Entry) (said : List Entry)
+    → standing kind (entry ∷ said) ≡ cond (same_kind kind (kind_of entry)) 1 0 + standing kind said
 standing-cons kind entry said = refl
 
 standing-append : (kind : Kind) (a b : List Entry) → standing kind (a ++ b) ≡ standing kind a + standing kind b
@@ -103,16 +104,21 @@ allowed-none kind = omega (arith, none kind)
     none kind = refl
 
 -- one line more, where its kind isn't full
-pub allowed-more : (said : List Entry) (entry : Entry) → AreAllowed said → standing (kind_of entry) said < most (row (kind_of entry).form).bound → AreAllowed (said ++ entry ∷ [])
+pub allowed-more : (said : List Entry) (entry : Entry) → AreAllowed said
+    → standing (kind_of entry) said < most (row (kind_of entry).form).bound → AreAllowed (said ++ entry ∷ [])
 allowed-more said entry a h kind =
     let sum = standing-append kind said (entry ∷ []) in
     let one = standing-one kind entry in
     by-cases (same_kind kind (kind_of entry)) refl sum one
   where
-    by-cases : (b : Bool) → same_kind kind (kind_of entry) ≡ b → standing kind (said ++ entry ∷ []) ≡ standing kind said + standing kind (entry ∷ []) → standing kind (entry ∷ []) ≡ cond (same_kind kind (kind_of entry)) 1 0 → standing kind (said ++ entry ∷ []) ≤ most (row kind.form).bound
+    by-cases : (b : Bool) → same_kind kind (kind_of entry) ≡ b
+        → standing kind (said ++ entry ∷ []) ≡ standing kind said + standing kind (entry ∷ [])
+        → standing kind (entry ∷ []) ≡ cond (same_kind kind (kind_of entry)) 1 0
+        → standing kind (said ++ entry ∷ []) ≤ most (row kind.form).bound
     by-cases true e sum one =
         let same : kind ≡ kind_of entry = same_kind-is kind (kind_of entry) e in
-        let here : standing kind said < most (row kind.form).bound = subst (λ (k : Kind). standing k said < most (row k.form).bound) (sym same) h in
+        let here : standing kind said < most (row kind.form).bound =
+        subst (λ (k : Kind). standing k said < most (row k.form).bound) (sym same) h in
         let counted : standing kind (entry ∷ []) ≡ 1 = one ∙ ap (λ b. cond b 1 0) e in
         omega (arith, here, sum, counted)
     by-cases false e sum one =
@@ -121,11 +127,13 @@ allowed-more said entry a h kind =
         omega (arith, before, sum, counted)
 
 -- lines that say one thing more than is allowed
-pub allowed-full : (said : List Entry) (entry : Entry) (more : List Entry) → AreAllowed (said ++ entry ∷ more) → most (row (kind_of entry).form).bound ≤ standing (kind_of entry) said → ⊥
+pub allowed-full : (said : List Entry) (entry : Entry) (more : List Entry) → AreAllowed (said ++ entry ∷ more)
+    → most (row (kind_of entry).form).bound ≤ standing (kind_of entry) said → ⊥
 allowed-full said entry more a h =
     let all = a (kind_of entry) in
     let sum = standing-append (kind_of entry) said (entry ∷ more) in
-    let counted : standing (kind_of entry) (entry ∷ more) ≡ 1 + standing (kind_of entry) more = standing-cons (kind_of entry) entry more ∙ ap (λ b. cond b 1 0 + standing (kind_of entry) more) (same_kind-self (kind_of entry)) in
+    let counted : standing (kind_of entry) (entry ∷ more) ≡ 1 + standing (kind_of entry) more =
+    standing-cons (kind_of entry) entry more ∙ ap (λ b. cond b 1 0 + standing (kind_of entry) more) (same_kind-self (kind_of entry)) in
     omega (arith, all, sum, counted, h)
 
 -- The lines of a kind are those that say a certain thing.
@@ -176,7 +184,8 @@ length-said : {X : Type 0} (said : Option X) (xs : List X) → length (cons_opti
 length-said {X = X} None xs = let none : length (cons_option {X = X} None []) ≡ 0 = refl in omega (arith, none)
 length-said (Some x) xs = omega arith
 
-pub standing-said : {X : Type 0} (kind : Kind) (say : Entry → Option X) → Counts kind say → (said : List Entry) → standing kind said ≡ length (filter_map say said)
+pub standing-said : {X : Type 0} (kind : Kind) (say : Entry → Option X) → Counts kind say → (said : List Entry)
+    → standing kind said ≡ length (filter_map say said)
 standing-said kind say counts [] = refl
 standing-said kind say counts (entry ∷ said) =
     let later = standing-said kind say counts said in
@@ -198,7 +207,8 @@ first-length [] h = refl
 first-length (x ∷ []) h = refl
 first-length (x ∷ y ∷ xs) h = absurd (omega (arith, h))
 
-pub standing-once : {X : Type 0} (kind : Kind) (say : Entry → Option X) → Counts kind say → (said : List Entry) → standing kind said ≤ 1 → standing kind said ≡ cond (is_some (first (filter_map say said))) 1 0
+pub standing-once : {X : Type 0} (kind : Kind) (say : Entry → Option X) → Counts kind say → (said : List Entry) → standing kind said ≤ 1
+    → standing kind said ≡ cond (is_some (first (filter_map say said))) 1 0
 standing-once kind say counts said h =
     let e = standing-said kind say counts said in
     e ∙ first-length (filter_map say said) (omega (arith, e, h))
@@ -207,7 +217,8 @@ pub standing-flag : (kind : Kind) (said : List Entry) → standing kind said ≤
 standing-flag kind [] h = refl
 standing-flag kind (entry ∷ said) h = by (same_kind kind (kind_of entry)) refl (standing-flag kind said)
   where
-    by : (b : Bool) → same_kind kind (kind_of entry) ≡ b → (standing kind said ≤ 1 → standing kind said ≡ cond (stands kind said) 1 0) → standing kind (entry ∷ said) ≡ cond (stands kind (entry ∷ said)) 1 0
+    by : (b : Bool) → same_kind kind (kind_of entry) ≡ b → (standing kind said ≤ 1 → standing kind said ≡ cond (stands kind said) 1 0)
+        → standing kind (entry ∷ said) ≡ cond (stands kind (entry ∷ said)) 1 0
     by true e later =
         let here : standing kind (entry ∷ said) ≡ 1 + standing kind said = ap (λ b. cond b 1 0 + standing kind said) e in
         let flag : number_of (stands kind (entry ∷ said)) ≡ 1 = ap (λ b. number_of (b || stands kind said)) e in
@@ -219,13 +230,17 @@ standing-flag kind (entry ∷ said) h = by (same_kind kind (kind_of entry)) refl
         omega (arith, here, flag, rest)
 
 -- what a draft shows of a kind that may stand once
-pub counted-once : {X : Type 0} (kind : Kind) (say : Entry → Option X) → Counts kind say → most (row kind.form).bound ≡ 1 → (said : List Entry) → AreAllowed said → (entry : Entry) → kind_of entry ≡ kind → (held : Option X) → held ≡ first (filter_map say said)
+pub counted-once : {X : Type 0} (kind : Kind) (say : Entry → Option X) → Counts kind say → most (row kind.form).bound ≡ 1
+    → (said : List Entry) → AreAllowed said → (entry : Entry) → kind_of entry ≡ kind → (held : Option X)
+    → held ≡ first (filter_map say said)
     → (some : Bool) (count : ℕ) → some ≡ is_some held → count ≡ bool_byte some → count ≡ standing (kind_of entry) said
 counted-once kind say counts one said a entry k held h some count s c =
     let once = standing-once kind say counts said (omega (arith, a kind, one)) in
     c ∙ rw (s, h) (byte (is_some (first (filter_map say said)))) ∙ sym once ∙ ap (λ (k : Kind). standing k said) (sym k)
 
-pub counted-flag : (kind : Kind) → most (row kind.form).bound ≡ 1 → (said : List Entry) → AreAllowed said → (entry : Entry) → kind_of entry ≡ kind → (held : Bool) → held ≡ stands kind said → (count : ℕ) → count ≡ bool_byte held → count ≡ standing (kind_of entry) said
+pub counted-flag : (kind : Kind) → most (row kind.form).bound ≡ 1 → (said : List Entry) → AreAllowed said → (entry : Entry)
+    → kind_of entry ≡ kind → (held : Bool) → held ≡ stands kind said → (count : ℕ) → count ≡ bool_byte held
+    → count ≡ standing (kind_of entry) said
 counted-flag kind one said a entry k held h count c =
     let once = standing-flag kind said (omega (arith, a kind, one)) in
     c ∙ rw h (byte (stands kind said)) ∙ sym once ∙ ap (λ (k : Kind). standing k said) (sym k)
@@ -236,10 +251,12 @@ offered-held draft said h Answerer = h.answ
 
 -- one line more
 
-pub lists-more : {X : Type 0} (say : Entry → Option X) (said : List Entry) (entry : Entry) → filter_map say (said ++ entry ∷ []) ≡ filter_map say said ++ cons_option (say entry) []
+pub lists-more : {X : Type 0} (say : Entry → Option X) (said : List Entry) (entry : Entry)
+    → filter_map say (said ++ entry ∷ []) ≡ filter_map say said ++ cons_option (say entry) []
 lists-more say said entry = filter_map-append say said (entry ∷ [])
 
-flag-more : (kind : Kind) (said : List Entry) (entry : Entry) → stands kind (said ++ entry ∷ []) ≡ (stands kind said || same_kind kind (kind_of entry))
+flag-more : (kind : Kind) (said : List Entry) (entry : Entry)
+    → stands kind (said ++ entry ∷ []) ≡ (stands kind said || same_kind kind (kind_of entry))
 flag-more kind [] entry = or-false (same_kind kind (kind_of entry))
   where
     or-false : (b : Bool) → (b || false) ≡ b
@@ -247,18 +264,21 @@ flag-more kind [] entry = or-false (same_kind kind (kind_of entry))
     or-false false = refl
 flag-more kind (other ∷ said) entry = by (same_kind kind (kind_of other)) (flag-more kind said entry)
   where
-    by : (b : Bool) → stands kind (said ++ entry ∷ []) ≡ (stands kind said || same_kind kind (kind_of entry)) → (b || stands kind (said ++ entry ∷ [])) ≡ ((b || stands kind said) || same_kind kind (kind_of entry))
+    by : (b : Bool) → stands kind (said ++ entry ∷ []) ≡ (stands kind said || same_kind kind (kind_of entry))
+        → (b || stands kind (said ++ entry ∷ [])) ≡ ((b || stands kind said) || same_kind kind (kind_of entry))
     by true e = refl
     by false e = e
 
-first-more : {X : Type 0} (say : Entry → Option X) (kind : Kind) → Counts kind say → most (row kind.form).bound ≡ 1 → (said : List Entry) (entry : Entry) → standing (kind_of entry) said < most (row (kind_of entry).form).bound
+first-more : {X : Type 0} (say : Entry → Option X) (kind : Kind) → Counts kind say → most (row kind.form).bound ≡ 1
+    → (said : List Entry) (entry : Entry) → standing (kind_of entry) said < most (row (kind_of entry).form).bound
     → or_before (say entry) (first (filter_map say said)) ≡ first (filter_map say (said ++ entry ∷ []))
 first-more {X = X} say kind counts one said entry few = by (say entry) refl ∙ ap first (sym (lists-more say said entry))
   where
     empty : same_kind kind (kind_of entry) ≡ true → filter_map say said ≡ []
     empty e =
         let same : kind ≡ kind_of entry = same_kind-is kind (kind_of entry) e in
-        let here : standing kind said < most (row kind.form).bound = subst (λ (k : Kind). standing k said < most (row k.form).bound) (sym same) few in
+        let here : standing kind said < most (row kind.form).bound =
+        subst (λ (k : Kind). standing k said < most (row k.form).bound) (sym same) few in
         nothing (filter_map say said) (omega (arith, here, one, standing-said kind say counts said))
       where
         nothing : (xs : List X) → length xs < 1 → xs ≡ []
@@ -275,7 +295,8 @@ first-more {X = X} say kind counts one said entry few = by (say entry) refl ∙ 
         let none = empty (counted (same_kind kind (kind_of entry)) (sym (counts entry) ∙ ap (λ o. length (cons_option o [])) e)) in
         ap (λ xs. first (xs ++ x ∷ [])) (sym none)
 
-offered-more : (role : Role) (said : List Entry) (entry : Entry) → standing (kind_of entry) said < most (row (kind_of entry).form).bound → offered_after role entry (offered_in role said) ≡ offered_in role (said ++ entry ∷ [])
+offered-more : (role : Role) (said : List Entry) (entry : Entry) → standing (kind_of entry) said < most (row (kind_of entry).form).bound
+    → offered_after role entry (offered_in role said) ≡ offered_in role (said ++ entry ∷ [])
 offered-more role said entry few = alike
     (first-more (window_said role) (each forms.Window role) (counts-window role) refl said entry few)
     (first-more (length_said role) (each forms.Length role) (counts-length role) refl said entry few)
@@ -289,7 +310,8 @@ placed-more : (sorted lines : List Break) (line : Break) → placed_each sorted 
 placed-more sorted [] line = refl
 placed-more sorted (next ∷ lines) line = placed-more (placed next sorted) lines line
 
-breaks-more : (said : List Entry) (entry : Entry) → placed_said (break_said entry) (in_order (breaks_in said)) ≡ in_order (breaks_in (said ++ entry ∷ []))
+breaks-more : (said : List Entry) (entry : Entry)
+    → placed_said (break_said entry) (in_order (breaks_in said)) ≡ in_order (breaks_in (said ++ entry ∷ []))
 breaks-more said entry = by (break_said entry) ∙ ap in_order (sym (lists-more break_said said entry))
   where
     by : (o : Option Break) → placed_said o (in_order (breaks_in said)) ≡ in_order (breaks_in said ++ cons_option o [])
@@ -297,9 +319,11 @@ breaks-more said entry = by (break_said entry) ∙ ap in_order (sym (lists-more 
     by (Some line) = sym (placed-more [] (breaks_in said) line)
 
 -- a draft of one line more
-pub holds-more : (draft after : Draft) (said : List Entry) (entry : Entry) → Holds draft said → Adds draft entry after → standing (kind_of entry) said < most (row (kind_of entry).form).bound → Holds after (said ++ entry ∷ [])
+pub holds-more : (draft after : Draft) (said : List Entry) (entry : Entry) → Holds draft said → Adds draft entry after
+    → standing (kind_of entry) said < most (row (kind_of entry).form).bound → Holds after (said ++ entry ∷ [])
 holds-more draft after said entry h a few = record {
-  delays = a.delays ∙ ap (or_before (delays_said entry)) h.delays ∙ first-more delays_said (whole forms.Delay) counts-delay refl said entry few;
+  delays = a.delays ∙ ap (or_before (delays_said entry)) h.delays
+      ∙ first-more delays_said (whole forms.Delay) counts-delay refl said entry few;
   tries = a.tries ∙ ap (or_before (tries_said entry)) h.tries ∙ first-more tries_said (whole forms.Tries) counts-tries refl said entry few;
   orig = a.orig ∙ ap (offered_after Originator entry) h.orig ∙ offered-more Originator said entry few;
   answ = a.answ ∙ ap (offered_after Answerer entry) h.answ ∙ offered-more Answerer said entry few;

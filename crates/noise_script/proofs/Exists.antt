@@ -41,7 +41,8 @@ is-named : (list : List Form) (word : List ℕ) → ((form : Form) × (word ≡ 
 is-named [] word = inr tt
 is-named (form ∷ list) word = by (same-word word (word_of form)) (is-named list word)
   where
-    by : (word ≡ word_of form) ⊎ (word ≢ word_of form) → ((form : Form) × (word ≡ word_of form)) ⊎ NamesNone list word → ((form : Form) × (word ≡ word_of form)) ⊎ NamesNone (form ∷ list) word
+    by : (word ≡ word_of form) ⊎ (word ≢ word_of form) → ((form : Form) × (word ≡ word_of form)) ⊎ NamesNone list word
+        → ((form : Form) × (word ≡ word_of form)) ⊎ NamesNone (form ∷ list) word
     by (inl e) _ = inl (form, e)
     by (inr n) (inl found) = inl found
     by (inr n) (inr none) = inr (n, none)
@@ -65,7 +66,8 @@ names-none word n forms.Busy = n.1.1.1.1.1.1.1.1.1.1.0
 is-form : (word : List ℕ) → ((form : Form) × (word ≡ word_of form)) ⊎ ((form : Form) → word ≢ word_of form)
 is-form word = by (is-named all_forms word)
   where
-    by : ((form : Form) × (word ≡ word_of form)) ⊎ NamesNone all_forms word → ((form : Form) × (word ≡ word_of form)) ⊎ ((form : Form) → word ≢ word_of form)
+    by : ((form : Form) × (word ≡ word_of form)) ⊎ NamesNone all_forms word
+        → ((form : Form) × (word ≡ word_of form)) ⊎ ((form : Form) → word ≢ word_of form)
     by (inl found) = inl found
     by (inr none) = inr (names-none word none)
 
@@ -79,20 +81,26 @@ read ARole word = by (same-word word (role_word Originator)) (same-word word (ro
     none a b Originator = a
     none a b Answerer = b
 
-    by : (word ≡ role_word Originator) ⊎ (word ≢ role_word Originator) → (word ≡ role_word Answerer) ⊎ (word ≢ role_word Answerer) → ((value : Value) × Spells ARole word value) ⊎ ((cause : Cause) × Fails ARole word cause)
+    by : (word ≡ role_word Originator) ⊎ (word ≢ role_word Originator) → (word ≡ role_word Answerer) ⊎ (word ≢ role_word Answerer)
+        → ((value : Value) × Spells ARole word value) ⊎ ((cause : Cause) × Fails ARole word cause)
     by (inl a) _ = inl (RoleIs Originator, a)
     by _ (inl b) = inl (RoleIs Answerer, b)
     by (inr a) (inr b) = inr (causes.Word, none a b)
 read (Number low high) word = by (cases_Bool (is_number word)) (cases_lt (value_of word) low) (cases_lt high (value_of word))
   where
-    by : (is_number word ≡ true) ⊎ (is_number word ≡ false) → (value_of word < low) ⊎ (low ≤ value_of word) → (high < value_of word) ⊎ (value_of word ≤ high) → ((value : Value) × Spells (Number low high) word value) ⊎ ((cause : Cause) × Fails (Number low high) word cause)
+    by : (is_number word ≡ true) ⊎ (is_number word ≡ false) → (value_of word < low) ⊎ (low ≤ value_of word)
+        → (high < value_of word) ⊎ (value_of word ≤ high)
+        → ((value : Value) × Spells (Number low high) word value) ⊎ ((cause : Cause) × Fails (Number low high) word cause)
     by (inr n) _ _ = inr (causes.Number, n)
     by (inl d) (inl below) _ = inr (causes.Range, (d, inl below))
     by (inl d) _ (inl above) = inr (causes.Range, (d, inr above))
     by (inl d) (inr b) (inr a) = inl (NumberIs (value_of word), record { digits = d; value_is = refl; not_below = b; not_above = a })
-read (Signed low high) word = by (cases_Bool (is_signed word)) (by_lt_z (signed_value_of word) low inl inr) (by_lt_z high (signed_value_of word) inl inr)
+read (Signed low high) word =
+    by (cases_Bool (is_signed word)) (by_lt_z (signed_value_of word) low inl inr) (by_lt_z high (signed_value_of word) inl inr)
   where
-    by : (is_signed word ≡ true) ⊎ (is_signed word ≡ false) → (signed_value_of word <ℤ low) ⊎ (low ≤ℤ signed_value_of word) → (high <ℤ signed_value_of word) ⊎ (signed_value_of word ≤ℤ high) → ((value : Value) × Spells (Signed low high) word value) ⊎ ((cause : Cause) × Fails (Signed low high) word cause)
+    by : (is_signed word ≡ true) ⊎ (is_signed word ≡ false) → (signed_value_of word <ℤ low) ⊎ (low ≤ℤ signed_value_of word)
+        → (high <ℤ signed_value_of word) ⊎ (signed_value_of word ≤ℤ high)
+        → ((value : Value) × Spells (Signed low high) word value) ⊎ ((cause : Cause) × Fails (Signed low high) word cause)
     by (inr n) _ _ = inr (causes.Number, n)
     by (inl d) (inl below) _ = inr (causes.Range, (d, inl below))
     by (inl d) _ (inl above) = inr (causes.Range, (d, inr above))
@@ -100,14 +108,17 @@ read (Signed low high) word = by (cases_Bool (is_signed word)) (by_lt_z (signed_
 
 -- the words behind the first
 
-read-each : (arguments : List Argument) (words : List (List ℕ)) → length words ≡ length arguments → ((values : List Value) × SpellsEach arguments words values) ⊎ ((cause : Cause) × FirstFails arguments words cause)
+read-each : (arguments : List Argument) (words : List (List ℕ)) → length words ≡ length arguments
+    → ((values : List Value) × SpellsEach arguments words values) ⊎ ((cause : Cause) × FirstFails arguments words cause)
 read-each [] [] l = inl ([], (refl, refl))
 read-each [] (word ∷ words) l = absurd (omega (arith, l))
 read-each (argument ∷ arguments) [] l = absurd (omega (arith, l))
 read-each (argument ∷ arguments) (word ∷ words) l = by (read argument word) (read-each arguments words (omega (arith, l)))
   where
-    by : Read argument word → ((values : List Value) × SpellsEach arguments words values) ⊎ ((cause : Cause) × FirstFails arguments words cause)
-        → ((values : List Value) × SpellsEach (argument ∷ arguments) (word ∷ words) values) ⊎ ((cause : Cause) × FirstFails (argument ∷ arguments) (word ∷ words) cause)
+    by : Read argument word
+        → ((values : List Value) × SpellsEach arguments words values) ⊎ ((cause : Cause) × FirstFails arguments words cause)
+        → ((values : List Value) × SpellsEach (argument ∷ arguments) (word ∷ words) values)
+        ⊎ ((cause : Cause) × FirstFails (argument ∷ arguments) (word ∷ words) cause)
     by (inr (cause, f)) _ = inr (cause, inl f)
     by (inl (value, s)) (inr (cause, f)) = inr (cause, inr (value, s, f))
     by (inl (value, s)) (inl (values, t)) = inl (value ∷ values, (s, t))
@@ -122,10 +133,12 @@ record Peeled (argument : Argument) (arguments : List Argument) (values : List V
   spells : Spells argument word value
   each : SpellsEach arguments rest others
 
-peel : (argument : Argument) (arguments : List Argument) (words : List (List ℕ)) (values : List Value) → SpellsEach (argument ∷ arguments) words values → Peeled argument arguments values
+peel : (argument : Argument) (arguments : List Argument) (words : List (List ℕ)) (values : List Value)
+    → SpellsEach (argument ∷ arguments) words values → Peeled argument arguments values
 peel argument arguments [] values s = absurd s
 peel argument arguments (word ∷ words) [] s = absurd s
-peel argument arguments (word ∷ words) (value ∷ values) s = record { word = word; rest = words; value = value; others = values; values_are = refl; spells = s.0; each = s.1 }
+peel argument arguments (word ∷ words) (value ∷ values) s =
+    record { word = word; rest = words; value = value; others = values; values_are = refl; spells = s.0; each = s.1 }
 
 role-is : (word : List ℕ) (value : Value) → Spells ARole word value → RoleIs (role_of value) ≡ value
 role-is word (RoleIs role) s = refl
@@ -146,25 +159,30 @@ onto value e f = e ∙ ap (λ vs. value ∷ vs) f
 both : {a b : Value} {xs ys : List Value} → a ≡ b → xs ≡ ys → a ∷ xs ≡ b ∷ ys
 both e f = rw (e, f) refl
 
-rests : (form : Form) (values list : List Value) → values ≡ list → values_of (entry_of form list) ≡ list → values_of (entry_of form values) ≡ values
+rests : (form : Form) (values list : List Value) → values ≡ list → values_of (entry_of form list) ≡ list
+    → values_of (entry_of form values) ≡ values
 rests form values list e f = subst (λ vs. values_of (entry_of form vs) ≡ vs) {x = list} (sym e) f
 
-values-again : (form : Form) (words : List (List ℕ)) (values : List Value) → SpellsEach (arguments_of form) words values → values_of (entry_of form values) ≡ values
+values-again : (form : Form) (words : List (List ℕ)) (values : List Value) → SpellsEach (arguments_of form) words values
+    → values_of (entry_of form values) ≡ values
 values-again forms.Delay words values s =
     let a = peel (Number 1 60) ((Number 1 60) ∷ []) words values s in
     let b = peel (Number 1 60) [] a.rest a.others a.each in
     let all : values ≡ a.value ∷ b.value ∷ [] = onto a.value a.values_are (onto b.value b.values_are (b.each.1)) in
-    rests forms.Delay values (a.value ∷ b.value ∷ []) all (both (number-is 1 60 a.word a.value a.spells) (both (number-is 1 60 b.word b.value b.spells) (refl)))
+    rests forms.Delay values (a.value ∷ b.value ∷ []) all
+    (both (number-is 1 60 a.word a.value a.spells) (both (number-is 1 60 b.word b.value b.spells) (refl)))
 values-again forms.Window words values s =
     let a = peel ARole ((Number 1 127) ∷ []) words values s in
     let b = peel (Number 1 127) [] a.rest a.others a.each in
     let all : values ≡ a.value ∷ b.value ∷ [] = onto a.value a.values_are (onto b.value b.values_are (b.each.1)) in
-    rests forms.Window values (a.value ∷ b.value ∷ []) all (both (role-is a.word a.value a.spells) (both (number-is 1 127 b.word b.value b.spells) (refl)))
+    rests forms.Window values (a.value ∷ b.value ∷ []) all
+    (both (role-is a.word a.value a.spells) (both (number-is 1 127 b.word b.value b.spells) (refl)))
 values-again forms.Length words values s =
     let a = peel ARole ((Number 1 INFO) ∷ []) words values s in
     let b = peel (Number 1 INFO) [] a.rest a.others a.each in
     let all : values ≡ a.value ∷ b.value ∷ [] = onto a.value a.values_are (onto b.value b.values_are (b.each.1)) in
-    rests forms.Length values (a.value ∷ b.value ∷ []) all (both (role-is a.word a.value a.spells) (both (number-is 1 INFO b.word b.value b.spells) (refl)))
+    rests forms.Length values (a.value ∷ b.value ∷ []) all
+    (both (role-is a.word a.value a.spells) (both (number-is 1 INFO b.word b.value b.spells) (refl)))
 values-again forms.Tries words values s =
     let a = peel (Number 1 20) [] words values s in
     let all : values ≡ a.value ∷ [] = onto a.value a.values_are (a.each.1) in
@@ -181,36 +199,58 @@ values-again forms.Lose words values s =
     let a = peel ARole (turn ∷ count ∷ []) words values s in
     let b = peel turn (count ∷ []) a.rest a.others a.each in
     let c = peel count [] b.rest b.others b.each in
-    let all : values ≡ a.value ∷ b.value ∷ c.value ∷ [] = onto a.value a.values_are (onto b.value b.values_are (onto c.value c.values_are (c.each.1))) in
-    rests forms.Lose values (a.value ∷ b.value ∷ c.value ∷ []) all (both (role-is a.word a.value a.spells) (both (number-is 0 4294967295 b.word b.value b.spells) (both (number-is 1 4294967295 c.word c.value c.spells) (refl))))
+    let all : values ≡ a.value ∷ b.value ∷ c.value ∷ [] =
+    onto a.value a.values_are (onto b.value b.values_are (onto c.value c.values_are (c.each.1))) in
+    rests forms.Lose values (a.value ∷ b.value ∷ c.value ∷ []) all
+    (both (role-is a.word a.value a.spells)
+    (both (number-is 0 4294967295 b.word b.value b.spells) (both (number-is 1 4294967295 c.word c.value c.spells) (refl))))
 values-again forms.Hit words values s =
     let a = peel ARole (symbol ∷ count ∷ coordinate ∷ coordinate ∷ []) words values s in
     let b = peel symbol (count ∷ coordinate ∷ coordinate ∷ []) a.rest a.others a.each in
     let c = peel count (coordinate ∷ coordinate ∷ []) b.rest b.others b.each in
     let d = peel coordinate (coordinate ∷ []) c.rest c.others c.each in
     let e = peel coordinate [] d.rest d.others d.each in
-    let all : values ≡ a.value ∷ b.value ∷ c.value ∷ d.value ∷ e.value ∷ [] = onto a.value a.values_are (onto b.value b.values_are (onto c.value c.values_are (onto d.value d.values_are (onto e.value e.values_are (e.each.1))))) in
-    rests forms.Hit values (a.value ∷ b.value ∷ c.value ∷ d.value ∷ e.value ∷ []) all (both (role-is a.word a.value a.spells) (both (number-is 0 1099511627775 b.word b.value b.spells) (both (number-is 1 4294967295 c.word c.value c.spells) (both (signed-is (neg_ℤ (pos 32768)) (pos 32767) d.word d.value d.spells) (both (signed-is (neg_ℤ (pos 32768)) (pos 32767) e.word e.value e.spells) (refl))))))
+    let all : values ≡ a.value ∷ b.value ∷ c.value ∷ d.value ∷ e.value ∷ [] =
+    onto a.value a.values_are
+    (onto b.value b.values_are (onto c.value c.values_are (onto d.value d.values_are (onto e.value e.values_are (e.each.1))))) in
+    rests forms.Hit values (a.value ∷ b.value ∷ c.value ∷ d.value ∷ e.value ∷ []) all
+    (both (role-is a.word a.value a.spells)
+    (both (number-is 0 1099511627775 b.word b.value b.spells)
+    (both (number-is 1 4294967295 c.word c.value c.spells)
+    (both (signed-is (neg_ℤ (pos 32768)) (pos 32767) d.word d.value d.spells)
+    (both (signed-is (neg_ℤ (pos 32768)) (pos 32767) e.word e.value e.spells) (refl))))))
 values-again forms.Noise words values s =
     let a = peel ARole (symbol ∷ count ∷ (Number 0 32767) ∷ (Number 0 18446744073709551615) ∷ []) words values s in
     let b = peel symbol (count ∷ (Number 0 32767) ∷ (Number 0 18446744073709551615) ∷ []) a.rest a.others a.each in
     let c = peel count ((Number 0 32767) ∷ (Number 0 18446744073709551615) ∷ []) b.rest b.others b.each in
     let d = peel (Number 0 32767) ((Number 0 18446744073709551615) ∷ []) c.rest c.others c.each in
     let e = peel (Number 0 18446744073709551615) [] d.rest d.others d.each in
-    let all : values ≡ a.value ∷ b.value ∷ c.value ∷ d.value ∷ e.value ∷ [] = onto a.value a.values_are (onto b.value b.values_are (onto c.value c.values_are (onto d.value d.values_are (onto e.value e.values_are (e.each.1))))) in
-    rests forms.Noise values (a.value ∷ b.value ∷ c.value ∷ d.value ∷ e.value ∷ []) all (both (role-is a.word a.value a.spells) (both (number-is 0 1099511627775 b.word b.value b.spells) (both (number-is 1 4294967295 c.word c.value c.spells) (both (number-is 0 32767 d.word d.value d.spells) (both (number-is 0 18446744073709551615 e.word e.value e.spells) (refl))))))
+    let all : values ≡ a.value ∷ b.value ∷ c.value ∷ d.value ∷ e.value ∷ [] =
+    onto a.value a.values_are
+    (onto b.value b.values_are (onto c.value c.values_are (onto d.value d.values_are (onto e.value e.values_are (e.each.1))))) in
+    rests forms.Noise values (a.value ∷ b.value ∷ c.value ∷ d.value ∷ e.value ∷ []) all
+    (both (role-is a.word a.value a.spells)
+    (both (number-is 0 1099511627775 b.word b.value b.spells)
+    (both (number-is 1 4294967295 c.word c.value c.spells)
+    (both (number-is 0 32767 d.word d.value d.spells) (both (number-is 0 18446744073709551615 e.word e.value e.spells) (refl))))))
 values-again forms.Break words values s =
     let a = peel ARole (turn ∷ (Number 1 255) ∷ []) words values s in
     let b = peel turn ((Number 1 255) ∷ []) a.rest a.others a.each in
     let c = peel (Number 1 255) [] b.rest b.others b.each in
-    let all : values ≡ a.value ∷ b.value ∷ c.value ∷ [] = onto a.value a.values_are (onto b.value b.values_are (onto c.value c.values_are (c.each.1))) in
-    rests forms.Break values (a.value ∷ b.value ∷ c.value ∷ []) all (both (role-is a.word a.value a.spells) (both (number-is 0 4294967295 b.word b.value b.spells) (both (number-is 1 255 c.word c.value c.spells) (refl))))
+    let all : values ≡ a.value ∷ b.value ∷ c.value ∷ [] =
+    onto a.value a.values_are (onto b.value b.values_are (onto c.value c.values_are (c.each.1))) in
+    rests forms.Break values (a.value ∷ b.value ∷ c.value ∷ []) all
+    (both (role-is a.word a.value a.spells)
+    (both (number-is 0 4294967295 b.word b.value b.spells) (both (number-is 1 255 c.word c.value c.spells) (refl))))
 values-again forms.Busy words values s =
     let a = peel ARole (turn ∷ (Number 1 10000) ∷ []) words values s in
     let b = peel turn ((Number 1 10000) ∷ []) a.rest a.others a.each in
     let c = peel (Number 1 10000) [] b.rest b.others b.each in
-    let all : values ≡ a.value ∷ b.value ∷ c.value ∷ [] = onto a.value a.values_are (onto b.value b.values_are (onto c.value c.values_are (c.each.1))) in
-    rests forms.Busy values (a.value ∷ b.value ∷ c.value ∷ []) all (both (role-is a.word a.value a.spells) (both (number-is 0 4294967295 b.word b.value b.spells) (both (number-is 1 10000 c.word c.value c.spells) (refl))))
+    let all : values ≡ a.value ∷ b.value ∷ c.value ∷ [] =
+    onto a.value a.values_are (onto b.value b.values_are (onto c.value c.values_are (c.each.1))) in
+    rests forms.Busy values (a.value ∷ b.value ∷ c.value ∷ []) all
+    (both (role-is a.word a.value a.spells)
+    (both (number-is 0 4294967295 b.word b.value b.spells) (both (number-is 1 10000 c.word c.value c.spells) (refl))))
 
 form-again : (form : Form) (values : List Value) → form_of (entry_of form values) ≡ form
 form-again forms.Delay values = refl
@@ -232,10 +272,12 @@ data LineRead (words : List (List ℕ)) : Type 0 where
   Spelled : (entry : Entry) → SpellsLine words entry → LineRead words
   Misspelled : (cause : Cause) → Misspells words cause → LineRead words
 
-spells-line : (form : Form) (rest : List (List ℕ)) (values : List Value) → SpellsEach (arguments_of form) rest values → SpellsLine (word_of form ∷ rest) (entry_of form values)
+spells-line : (form : Form) (rest : List (List ℕ)) (values : List Value) → SpellsEach (arguments_of form) rest values
+    → SpellsLine (word_of form ∷ rest) (entry_of form values)
 spells-line form rest values s =
     let same : form ≡ form_of (entry_of form values) = sym (form-again form values) in
-    let here : SpellsEach (arguments_of form) rest (values_of (entry_of form values)) = subst (SpellsEach (arguments_of form) rest) (sym (values-again form rest values s)) s in
+    let here : SpellsEach (arguments_of form) rest (values_of (entry_of form values)) =
+    subst (SpellsEach (arguments_of form) rest) (sym (values-again form rest values s)) s in
     record {
       rest = rest;
       words_are = ap (λ (f : Form). word_of f ∷ rest) same;
@@ -245,38 +287,66 @@ spells-line form rest values s =
 read-form : (form : Form) (rest : List (List ℕ)) → LineRead (word_of form ∷ rest)
 read-form form rest = counted (cases_eq (length rest) (length (arguments_of form)))
   where
-    each : length rest ≡ length (arguments_of form) → ((values : List Value) × SpellsEach (arguments_of form) rest values) ⊎ ((cause : Cause) × FirstFails (arguments_of form) rest cause) → LineRead (word_of form ∷ rest)
+    each : length rest ≡ length (arguments_of form)
+        → ((values : List Value) × SpellsEach (arguments_of form) rest values)
+        ⊎ ((cause : Cause) × FirstFails (arguments_of form) rest cause) → LineRead (word_of form ∷ rest)
     each l (inl (values, s)) = Spelled (entry_of form values) (spells-line form rest values s)
     each l (inr (cause, f)) = Misspelled cause (inr (inr (record { form = form; rest = rest; words_are = refl; as_many = l; fails = f })))
 
     counted : (length rest ≡ length (arguments_of form)) ⊎ (length rest ≡ length (arguments_of form) → ⊥) → LineRead (word_of form ∷ rest)
-    counted (inr n) = Misspelled causes.Count (inr (inl (record { form = form; rest = rest; words_are = refl; other = n; cause_is = refl })))
+    counted (inr n) = Misspelled causes.Count
+        (inr (inl (record { form = form; rest = rest; words_are = refl; other = n; cause_is = refl })))
     counted (inl l) = each l (read-each (arguments_of form) rest l)
 
 read-line : (words : List (List ℕ)) → LineRead words
 read-line [] = Passed refl
 read-line (first ∷ rest) = by (cases_Bool (begins_with 35 first)) (is-form first)
   where
-    by : (begins_with 35 first ≡ true) ⊎ (begins_with 35 first ≡ false) → ((form : Form) × (first ≡ word_of form)) ⊎ ((form : Form) → first ≢ word_of form) → LineRead (first ∷ rest)
+    by : (begins_with 35 first ≡ true) ⊎ (begins_with 35 first ≡ false)
+        → ((form : Form) × (first ≡ word_of form)) ⊎ ((form : Form) → first ≢ word_of form) → LineRead (first ∷ rest)
     by (inl p) _ = Passed p
     by (inr n) (inl (form, e)) = subst (λ w. LineRead (w ∷ rest)) (sym e) (read-form form rest)
-    by (inr n) (inr none) = Misspelled causes.Word (inl (record { first = first; rest = rest; words_are = refl; said = n; none = none; cause_is = refl }))
+    by (inr n) (inr none) =
+        Misspelled causes.Word (inl (record { first = first; rest = rest; words_are = refl; said = n; none = none; cause_is = refl }))
 
 -- all lines
 
-fault-at : (text : List ℕ) (before : List (List ℕ)) (line : List ℕ) (after : List (List ℕ)) (said : List Entry) (cause : Cause) → lines_of text ≡ before ++ line ∷ after → Says before said → AreAllowed said → IsFaulty said (words_of line) cause → SomeAnswer text
-fault-at text before line after said cause e s a f = inr (length before + 1, cause, record { before = before; line = line; after = after; lines_are = e; number_is = refl; said = said; says = s; allowed = a; faulty = f })
+fault-at : (text : List ℕ) (before : List (List ℕ)) (line : List ℕ) (after : List (List ℕ)) (said : List Entry) (cause : Cause)
+    → lines_of text ≡ before ++ line ∷ after → Says before said → AreAllowed said → IsFaulty said (words_of line) cause → SomeAnswer text
+fault-at text before line after said cause e s a f =
+    inr (
+      length before + 1,
+      cause,
+      record { before = before; line = line; after = after; lines_are = e; number_is = refl; said = said; says = s; allowed = a; faulty = f },
+    )
 
-lines-read : (text : List ℕ) (lines before : List (List ℕ)) (said : List Entry) → lines_of text ≡ before ++ lines → Says before said → AreAllowed said → SomeAnswer text
-lines-read text [] before said e s a = inl (script_of said, record { said = said; says = subst (λ ls. Says ls said) (sym (e ∙ append-nil before)) s; allowed = a; script_is = refl })
-lines-read text (line ∷ lines) before said e s a = by (read-line (words_of line)) (λ said s a. lines-read text lines (before ++ line ∷ []) said (e ∙ regrouped before line lines) s a)
+lines-read : (text : List ℕ) (lines before : List (List ℕ)) (said : List Entry) → lines_of text ≡ before ++ lines → Says before said
+    → AreAllowed said → SomeAnswer text
+lines-read text [] before said e s a =
+    inl (
+      script_of said,
+      record {
+        said = said;
+        says = subst (λ ls. Says ls said) (sym (e ∙ append-nil before)) s;
+        allowed = a;
+        script_is =
+            refl;
+      },
+    )
+lines-read text (line ∷ lines) before said e s a =
+    by (read-line (words_of line)) (λ said s a. lines-read text lines (before ++ line ∷ []) said (e ∙ regrouped before line lines) s a)
   where
-    full : (entry : Entry) → SpellsLine (words_of line) entry → ((said : List Entry) → Says (before ++ line ∷ []) said → AreAllowed said → SomeAnswer text)
-        → (standing (kind_of entry) said < most (row (form_of entry)).bound) ⊎ (most (row (form_of entry)).bound ≤ standing (kind_of entry) said) → SomeAnswer text
+    full : (entry : Entry) → SpellsLine (words_of line) entry
+        → ((said : List Entry) → Says (before ++ line ∷ []) said → AreAllowed said → SomeAnswer text)
+        → (standing (kind_of entry) said < most (row (form_of entry)).bound)
+        ⊎ (most (row (form_of entry)).bound ≤ standing (kind_of entry) said) → SomeAnswer text
     full entry p go (inl few) = go (said ++ entry ∷ []) (says-more line entry s p) (allowed-more said entry a few)
-    full entry p go (inr many) = fault-at text before line lines said (too_many (row (form_of entry)).bound) e s a (inr (record { entry = entry; spelled_line = p; full = many; cause_is = refl }))
+    full entry p go (inr many) =
+        fault-at text before line lines said (too_many (row (form_of entry)).bound) e s a
+        (inr (record { entry = entry; spelled_line = p; full = many; cause_is = refl }))
 
-    by : LineRead (words_of line) → ((said : List Entry) → Says (before ++ line ∷ []) said → AreAllowed said → SomeAnswer text) → SomeAnswer text
+    by : LineRead (words_of line) → ((said : List Entry) → Says (before ++ line ∷ []) said → AreAllowed said → SomeAnswer text)
+        → SomeAnswer text
     by (Passed p) go = go said (says-passed line s p) a
     by (Spelled entry p) go = full entry p go (cases_lt (standing (kind_of entry) said) (most (row (form_of entry)).bound))
     by (Misspelled cause m) go = fault-at text before line lines said cause e s a (inl m)

@@ -26,46 +26,60 @@ loss_entries losses = map entries.Lose losses
 abbrev all_entries : List Noise → List Loss → List Entry
 all_entries noises losses = noise_entries noises ++ loss_entries losses
 
-one-line : (line rest : List ℕ) (entry : Entry) (said : List Entry) → IsWhole line → SpellsLine (words_of line) entry → Says (lines_of rest) said → Says (lines_of (line ++ 10 ∷ rest)) (entry ∷ said)
+one-line : (line rest : List ℕ) (entry : Entry) (said : List Entry) → IsWhole line → SpellsLine (words_of line) entry
+    → Says (lines_of rest) said → Says (lines_of (line ++ 10 ∷ rest)) (entry ∷ said)
 one-line line rest entry said w s more =
-    subst (λ lines. Says lines (entry ∷ said)) (sym (line-cut line rest w.no_feed ∙ ap (λ l. l ∷ lines_of rest) w.no_return)) (spelled s more)
+    subst (λ lines. Says lines (entry ∷ said)) (sym (line-cut line rest w.no_feed ∙ ap (λ l. l ∷ lines_of rest) w.no_return))
+    (spelled s more)
 
-spells-delays : (line : List ℕ) (orig answ : ℕ) → SaysDelays line orig answ → SpellsLine (words_of line) (entries.Delay (record { orig = orig; answ = answ }))
-spells-delays line orig answ s = record { rest = s.orig_word ∷ s.answ_word ∷ []; words_are = s.words; each = (s.orig_is, (s.answ_is, (refl, refl))) }
+spells-delays : (line : List ℕ) (orig answ : ℕ) → SaysDelays line orig answ
+    → SpellsLine (words_of line) (entries.Delay (record { orig = orig; answ = answ }))
+spells-delays line orig answ s =
+    record { rest = s.orig_word ∷ s.answ_word ∷ []; words_are = s.words; each = (s.orig_is, (s.answ_is, (refl, refl))) }
 
 spells-noise : (line : List ℕ) (noise : Noise) → SaysNoise line noise → SpellsLine (words_of line) (entries.Noise noise)
-spells-noise line noise s = record { rest = _; words_are = s.words; each = (refl, (s.from_is, (s.count_is, (s.amplitude_is, (s.seed_is, (refl, refl)))))) }
+spells-noise line noise s =
+    record { rest = _; words_are = s.words; each = (refl, (s.from_is, (s.count_is, (s.amplitude_is, (s.seed_is, (refl, refl)))))) }
 
 spells-loss : (line : List ℕ) (loss : Loss) → SaysLoss line loss → SpellsLine (words_of line) (entries.Lose loss)
 spells-loss line loss s = record { rest = _; words_are = s.words; each = (refl, (s.from_is, (s.count_is, (refl, refl)))) }
 
-losses-say : (losing : List (List ℕ)) (losses : List Loss) → EachSays SaysLoss losing losses → Says (lines_of (text_of losing)) (loss_entries losses)
+losses-say : (losing : List (List ℕ)) (losses : List Loss) → EachSays SaysLoss losing losses
+    → Says (lines_of (text_of losing)) (loss_entries losses)
 losses-say [] [] s = nothing
 losses-say [] (x ∷ xs) s = absurd s
 losses-say (line ∷ losing) [] s = absurd s
-losses-say (line ∷ losing) (loss ∷ losses) s = one-line line (text_of losing) (entries.Lose loss) (loss_entries losses) s.0.whole (spells-loss line loss s.0) (losses-say losing losses s.1)
+losses-say (line ∷ losing) (loss ∷ losses) s =
+    one-line line (text_of losing) (entries.Lose loss) (loss_entries losses) s.0.whole (spells-loss line loss s.0)
+    (losses-say losing losses s.1)
 
-noises-say : (noisy losing : List (List ℕ)) (noises : List Noise) (losses : List Loss) → EachSays SaysNoise noisy noises → EachSays SaysLoss losing losses
+noises-say : (noisy losing : List (List ℕ)) (noises : List Noise) (losses : List Loss) → EachSays SaysNoise noisy noises
+    → EachSays SaysLoss losing losses
     → Says (lines_of (text_of (noisy ++ losing))) (all_entries noises losses)
 noises-say [] losing [] losses s l = losses-say losing losses l
 noises-say [] losing (x ∷ xs) losses s l = absurd s
 noises-say (line ∷ noisy) losing [] losses s l = absurd s
 noises-say (line ∷ noisy) losing (noise ∷ noises) losses s l =
-    one-line line (text_of (noisy ++ losing)) (entries.Noise noise) (all_entries noises losses) s.0.whole (spells-noise line noise s.0) (noises-say noisy losing noises losses s.1 l)
+    one-line line (text_of (noisy ++ losing)) (entries.Noise noise) (all_entries noises losses) s.0.whole (spells-noise line noise s.0)
+    (noises-say noisy losing noises losses s.1 l)
 
 -- nothing else is said
 
-none-said : {X : Type 0} (say : Entry → Option X) → ((noise : Noise) → say (entries.Noise noise) ≡ None) → ((loss : Loss) → say (entries.Lose loss) ≡ None)
+none-said : {X : Type 0} (say : Entry → Option X) → ((noise : Noise) → say (entries.Noise noise) ≡ None)
+    → ((loss : Loss) → say (entries.Lose loss) ≡ None)
     → (noises : List Noise) (losses : List Loss) → filter_map say (all_entries noises losses) ≡ []
 none-said say n l [] [] = refl
 none-said say n l [] (loss ∷ losses) = ap (λ o. cons_option o (filter_map say (loss_entries losses))) (l loss) ∙ none-said say n l [] losses
-none-said say n l (noise ∷ noises) losses = ap (λ o. cons_option o (filter_map say (all_entries noises losses))) (n noise) ∙ none-said say n l noises losses
+none-said say n l (noise ∷ noises) losses =
+    ap (λ o. cons_option o (filter_map say (all_entries noises losses))) (n noise) ∙ none-said say n l noises losses
 
-none-stands : (test : Entry → Bool) → ((noise : Noise) → test (entries.Noise noise) ≡ false) → ((loss : Loss) → test (entries.Lose loss) ≡ false)
+none-stands : (test : Entry → Bool) → ((noise : Noise) → test (entries.Noise noise) ≡ false)
+    → ((loss : Loss) → test (entries.Lose loss) ≡ false)
     → (noises : List Noise) (losses : List Loss) → list_any test (all_entries noises losses) ≡ false
 none-stands test n l [] [] = refl
 none-stands test n l [] (loss ∷ losses) = ap (λ b. b || list_any test (loss_entries losses)) (l loss) ∙ none-stands test n l [] losses
-none-stands test n l (noise ∷ noises) losses = ap (λ b. b || list_any test (all_entries noises losses)) (n noise) ∙ none-stands test n l noises losses
+none-stands test n l (noise ∷ noises) losses =
+    ap (λ b. b || list_any test (all_entries noises losses)) (n noise) ∙ none-stands test n l noises losses
 
 losses-are : (noises : List Noise) (losses : List Loss) → filter_map loss_said (all_entries noises losses) ≡ losses
 losses-are [] [] = refl
@@ -77,7 +91,8 @@ noises-are [] [] = refl
 noises-are [] (loss ∷ losses) = noises-are [] losses
 noises-are (noise ∷ noises) losses = ap (λ l. noise ∷ l) (noises-are noises losses)
 
-script-is : (orig answ : ℕ) (noises : List Noise) (losses : List Loss) → noisy_script orig answ noises losses ≡ script_of (entries.Delay (record { orig = orig; answ = answ }) ∷ all_entries noises losses)
+script-is : (orig answ : ℕ) (noises : List Noise) (losses : List Loss)
+    → noisy_script orig answ noises losses ≡ script_of (entries.Delay (record { orig = orig; answ = answ }) ∷ all_entries noises losses)
 script-is orig answ noises losses =
     rw (
       losses-are noises losses,
@@ -110,22 +125,32 @@ few-losses kind losses = go (same_kind kind lose_kind) refl losses
     go : (b : Bool) → same_kind kind lose_kind ≡ b → (losses : List Loss) → standing kind (loss_entries losses) ≡ cond b (length losses) 0
     go true e [] = refl
     go false e [] = refl
-    go true e (loss ∷ losses) = ap (λ b. cond b 1 0 + standing kind (loss_entries losses)) e ∙ (let later = go true e losses in omega (arith, later))
-    go false e (loss ∷ losses) = ap (λ b. cond b 1 0 + standing kind (loss_entries losses)) e ∙ (let later = go false e losses in omega (arith, later))
+    go true e (loss ∷ losses) =
+        ap (λ b. cond b 1 0 + standing kind (loss_entries losses)) e ∙ (let later = go true e losses in omega (arith, later))
+    go false e (loss ∷ losses) =
+        ap (λ b. cond b 1 0 + standing kind (loss_entries losses)) e ∙ (let later = go false e losses in omega (arith, later))
 
-few-all : (kind : Kind) (noises : List Noise) (losses : List Loss) → standing kind (all_entries noises losses) ≡ cond (same_kind kind noise_kind) (length noises) 0 + cond (same_kind kind lose_kind) (length losses) 0
+few-all : (kind : Kind) (noises : List Noise) (losses : List Loss)
+    → standing kind (all_entries noises losses) ≡ cond (same_kind kind noise_kind) (length noises) 0 + cond (same_kind kind lose_kind)
+    (length losses) 0
 few-all kind noises losses = go (same_kind kind noise_kind) refl noises
   where
-    go : (b : Bool) → same_kind kind noise_kind ≡ b → (noises : List Noise) → standing kind (all_entries noises losses) ≡ cond b (length noises) 0 + cond (same_kind kind lose_kind) (length losses) 0
+    go : (b : Bool) → same_kind kind noise_kind ≡ b → (noises : List Noise)
+        → standing kind (all_entries noises losses) ≡ cond b (length noises) 0 + cond (same_kind kind lose_kind) (length losses) 0
     go true e [] = let l = few-losses kind losses in omega (arith, l)
     go false e [] = let l = few-losses kind losses in omega (arith, l)
-    go true e (noise ∷ noises) = ap (λ b. cond b 1 0 + standing kind (all_entries noises losses)) e ∙ (let later = go true e noises in omega (arith, later))
-    go false e (noise ∷ noises) = ap (λ b. cond b 1 0 + standing kind (all_entries noises losses)) e ∙ (let later = go false e noises in omega (arith, later))
+    go true e (noise ∷ noises) =
+        ap (λ b. cond b 1 0 + standing kind (all_entries noises losses)) e ∙ (let later = go true e noises in omega (arith, later))
+    go false e (noise ∷ noises) =
+        ap (λ b. cond b 1 0 + standing kind (all_entries noises losses)) e ∙ (let later = go false e noises in omega (arith, later))
 
-allowed : (orig answ : ℕ) (noises : List Noise) (losses : List Loss) → length noises ≤ 64 → length losses ≤ 1024 → AreAllowed (entries.Delay (record { orig = orig; answ = answ }) ∷ all_entries noises losses)
+allowed : (orig answ : ℕ) (noises : List Noise) (losses : List Loss) → length noises ≤ 64 → length losses ≤ 1024
+    → AreAllowed (entries.Delay (record { orig = orig; answ = answ }) ∷ all_entries noises losses)
 allowed orig answ noises losses n l kind = go kind.form kind.role
   where
-    go : (form : Form) (role : Option Role) → standing (record { form = form; role = role }) (entries.Delay (record { orig = orig; answ = answ }) ∷ all_entries noises losses) ≤ most (row form).bound
+    go : (form : Form) (role : Option Role)
+        → standing (record { form = form; role = role })
+        (entries.Delay (record { orig = orig; answ = answ }) ∷ all_entries noises losses) ≤ most (row form).bound
     go forms.Delay None = let few = few-all (record { form = forms.Delay; role = None }) noises losses in omega (arith, few)
     go forms.Delay (Some role) = let few = few-all (record { form = forms.Delay; role = Some role }) noises losses in omega (arith, few)
     go forms.Noise None = let few = few-all (record { form = forms.Noise; role = None }) noises losses in omega (arith, few, n)
@@ -144,7 +169,8 @@ allowed orig answ noises losses n l kind = go kind.form kind.role
 pub noisy-lines-spell : NoisyLinesSpell
 noisy-lines-spell delays noisy losing orig answ noises losses d n l few_noises few_losses = record {
   said = entries.Delay (record { orig = orig; answ = answ }) ∷ all_entries noises losses;
-  says = one-line delays (text_of (noisy ++ losing)) (entries.Delay (record { orig = orig; answ = answ })) (all_entries noises losses) d.whole (spells-delays delays orig answ d) (noises-say noisy losing noises losses n l);
+  says = one-line delays (text_of (noisy ++ losing)) (entries.Delay (record { orig = orig; answ = answ }))
+      (all_entries noises losses) d.whole (spells-delays delays orig answ d) (noises-say noisy losing noises losses n l);
   allowed = allowed orig answ noises losses few_noises few_losses;
   script_is = script-is orig answ noises losses;
 }

@@ -9,13 +9,15 @@ placed-length : (line : Break) (lines : List Break) → length (placed line line
 placed-length line [] = refl
 placed-length line (next ∷ lines) = by (nat_lt line.turn next.turn) (placed-length line lines)
   where
-    by : (b : Bool) → length (placed line lines) ≡ suc (length lines) → length (cond b (line ∷ next ∷ lines) (next ∷ placed line lines)) ≡ suc (suc (length lines))
+    by : (b : Bool) → length (placed line lines) ≡ suc (length lines)
+        → length (cond b (line ∷ next ∷ lines) (next ∷ placed line lines)) ≡ suc (suc (length lines))
     by true e = refl
     by false e = ap suc e
 
 placed_each-length : (sorted lines : List Break) → length (placed_each sorted lines) ≡ length sorted + length lines
 placed_each-length sorted [] = let none : length {A = Break} [] ≡ 0 = refl in omega (arith, none)
-placed_each-length sorted (line ∷ lines) = let later = placed_each-length (placed line sorted) lines in omega (arith, later, placed-length line sorted)
+placed_each-length sorted (line ∷ lines) = let later = placed_each-length (placed line sorted) lines in
+    omega (arith, later, placed-length line sorted)
 
 pub in_order-length : (lines : List Break) → length (in_order lines) ≡ length lines
 in_order-length lines = let e = placed_each-length [] lines in omega (arith, e)
@@ -38,7 +40,8 @@ placed-rising : (line : Break) (lines : List Break) → AreRising lines → AreR
 placed-rising line [] r = (tt, tt)
 placed-rising line (next ∷ lines) r = by (nat_lt line.turn next.turn) refl (placed-rising line lines r.1)
   where
-    by : (b : Bool) → nat_lt line.turn next.turn ≡ b → AreRising (placed line lines) → AreRising (cond b (line ∷ next ∷ lines) (next ∷ placed line lines))
+    by : (b : Bool) → nat_lt line.turn next.turn ≡ b → AreRising (placed line lines)
+        → AreRising (cond b (line ∷ next ∷ lines) (next ∷ placed line lines))
     by true e later =
         let before : line.turn ≤ next.turn = omega (arith, ltb-true _ _ e) in
         ((before, later-from line.turn next.turn lines before r.0), r)
@@ -53,22 +56,27 @@ none-of turn next (line ∷ lines) h f = by (nat_eq line.turn turn) refl (none-o
     by false e later = later
 
 -- a line counts among those of its turn, behind the others
-placed-of : (turn : ℕ) (line : Break) (lines : List Break) → AreRising lines → of_turn turn (placed line lines) ≡ of_turn turn lines ++ of_turn turn (line ∷ [])
+placed-of : (turn : ℕ) (line : Break) (lines : List Break) → AreRising lines
+    → of_turn turn (placed line lines) ≡ of_turn turn lines ++ of_turn turn (line ∷ [])
 placed-of turn line [] r = refl
 placed-of turn line (next ∷ lines) r = by (nat_lt line.turn next.turn) refl (placed-of turn line lines r.1)
   where
-    first : (b : Bool) → nat_eq line.turn turn ≡ b → line.turn < next.turn → cond b (line ∷ of_turn turn (next ∷ lines)) (of_turn turn (next ∷ lines)) ≡ of_turn turn (next ∷ lines) ++ cond b (line ∷ []) []
+    first : (b : Bool) → nat_eq line.turn turn ≡ b → line.turn < next.turn
+        → cond b (line ∷ of_turn turn (next ∷ lines)) (of_turn turn (next ∷ lines)) ≡ of_turn turn (next ∷ lines) ++ cond b (line ∷ []) []
     first true e l =
         let before : turn < next.turn = omega (arith, l, eqb-true _ _ e) in
         let none : of_turn turn (next ∷ lines) ≡ [] = none-of turn next.turn (next ∷ lines) before (omega arith, r.0) in
         rw none refl
     first false e l = sym (append-nil (of_turn turn (next ∷ lines)))
 
-    behind : (b : Bool) → of_turn turn (placed line lines) ≡ of_turn turn lines ++ of_turn turn (line ∷ []) → cond b (next ∷ of_turn turn (placed line lines)) (of_turn turn (placed line lines)) ≡ cond b (next ∷ of_turn turn lines) (of_turn turn lines) ++ of_turn turn (line ∷ [])
+    behind : (b : Bool) → of_turn turn (placed line lines) ≡ of_turn turn lines ++ of_turn turn (line ∷ [])
+        → cond b (next ∷ of_turn turn (placed line lines)) (of_turn turn (placed line lines)) ≡ cond b (next ∷ of_turn turn lines)
+        (of_turn turn lines) ++ of_turn turn (line ∷ [])
     behind true later = ap (λ ls. next ∷ ls) later
     behind false later = later
 
-    by : (b : Bool) → nat_lt line.turn next.turn ≡ b → of_turn turn (placed line lines) ≡ of_turn turn lines ++ of_turn turn (line ∷ []) → of_turn turn (cond b (line ∷ next ∷ lines) (next ∷ placed line lines)) ≡ of_turn turn (next ∷ lines) ++ of_turn turn (line ∷ [])
+    by : (b : Bool) → nat_lt line.turn next.turn ≡ b → of_turn turn (placed line lines) ≡ of_turn turn lines ++ of_turn turn (line ∷ [])
+        → of_turn turn (cond b (line ∷ next ∷ lines) (next ∷ placed line lines)) ≡ of_turn turn (next ∷ lines) ++ of_turn turn (line ∷ [])
     by true e later = first (nat_eq line.turn turn) refl (ltb-true _ _ e)
     by false e later = behind (nat_eq next.turn turn) later
 
@@ -83,7 +91,8 @@ placed_each-rising : (sorted lines : List Break) → AreRising sorted → AreRis
 placed_each-rising sorted [] r = r
 placed_each-rising sorted (line ∷ lines) r = placed_each-rising (placed line sorted) lines (placed-rising line sorted r)
 
-placed_each-of : (turn : ℕ) (sorted lines : List Break) → AreRising sorted → of_turn turn (placed_each sorted lines) ≡ of_turn turn sorted ++ of_turn turn lines
+placed_each-of : (turn : ℕ) (sorted lines : List Break) → AreRising sorted
+    → of_turn turn (placed_each sorted lines) ≡ of_turn turn sorted ++ of_turn turn lines
 placed_each-of turn sorted [] r = sym (append-nil (of_turn turn sorted))
 placed_each-of turn sorted (line ∷ lines) r =
     placed_each-of turn (placed line sorted) lines (placed-rising line sorted r)

@@ -43,7 +43,8 @@ abbrev AreInRange : List Entry → Type 0
 AreInRange [] = Unit {0}
 AreInRange (entry ∷ said) = IsInRange entry × AreInRange said
 
-each-in-range : (entry : Entry) (words : List (List ℕ)) → SpellsEach (arguments_of (form_of entry)) words (values_of entry) → IsInRange entry
+each-in-range : (entry : Entry) (words : List (List ℕ)) → SpellsEach (arguments_of (form_of entry)) words (values_of entry)
+    → IsInRange entry
 each-in-range (entries.Delay delays) (a ∷ b ∷ words) s = (s.0.not_below, s.0.not_above, s.1.0.not_below, s.1.0.not_above)
 each-in-range (entries.Delay delays) (a ∷ []) s = absurd s.1
 each-in-range (entries.Delay delays) [] s = absurd s
@@ -89,16 +90,19 @@ window-in-range : (role : Role) (said : List Entry) → AreInRange said → IsWi
 window-in-range role [] r = record { some = omega arith; few = omega arith }
 window-in-range role (entries.Window window ∷ said) r = by (same_role role window.role) (window-in-range role said r.1)
   where
-    by : (b : Bool) → IsWindow (window_or_15 (first (filter_map (window_said role) said))) → IsWindow (window_or_15 (first (cons_option (cond b (Some window.segments) None) (filter_map (window_said role) said))))
+    by : (b : Bool) → IsWindow (window_or_15 (first (filter_map (window_said role) said)))
+        → IsWindow (window_or_15 (first (cons_option (cond b (Some window.segments) None) (filter_map (window_said role) said))))
     by true later = r.0
     by false later = later
 window-in-range role (_ ∷ said) r = window-in-range role said r.1
 
-length-in-range : (role : Role) (said : List Entry) → AreInRange said → IsLength (length_or_128 (first (filter_map (length_said role) said)))
+length-in-range : (role : Role) (said : List Entry) → AreInRange said
+    → IsLength (length_or_128 (first (filter_map (length_said role) said)))
 length-in-range role [] r = record { some = omega arith; few = omega arith }
 length-in-range role (entries.Length l ∷ said) r = by (same_role role l.role) (length-in-range role said r.1)
   where
-    by : (b : Bool) → IsLength (length_or_128 (first (filter_map (length_said role) said))) → IsLength (length_or_128 (first (cons_option (cond b (Some l.octets) None) (filter_map (length_said role) said))))
+    by : (b : Bool) → IsLength (length_or_128 (first (filter_map (length_said role) said)))
+        → IsLength (length_or_128 (first (cons_option (cond b (Some l.octets) None) (filter_map (length_said role) said))))
     by true later = r.0
     by false later = later
 length-in-range role (_ ∷ said) r = length-in-range role said r.1
@@ -158,10 +162,12 @@ pub draft-script-is : (draft : Draft) (said : List Entry) → Holds draft said �
 draft-script-is draft said h = rw (h.delays, h.tries, h.orig, h.answ, h.losses, h.hits, h.noises, h.breaks, h.pauses) refl
 
 pub draft-in-limits : (text : List ℕ) (number : ℕ) (draft : Draft) → HoldsUpTo text [] number draft → IsInLimits (draft_script draft)
-draft-in-limits text number draft h = subst IsInLimits (sym (draft-script-is draft h.said h.holds)) (in-limits h.said (says-in-range h.says) h.allowed)
+draft-in-limits text number draft h =
+    subst IsInLimits (sym (draft-script-is draft h.said h.holds)) (in-limits h.said (says-in-range h.says) h.allowed)
 
 -- what the draft of all lines makes is what the text spells
-pub read-spelling : (text : List ℕ) (number : ℕ) (draft : Draft) (script : ScriptValue) → HoldsUpTo text [] number draft → script ≡ draft_script draft → ScriptSpelling text script
+pub read-spelling : (text : List ℕ) (number : ℕ) (draft : Draft) (script : ScriptValue) → HoldsUpTo text [] number draft
+    → script ≡ draft_script draft → ScriptSpelling text script
 read-spelling text number draft script h e = record {
   said = h.said;
   says = subst (λ ls. Says ls h.said) (sym (h.lines_are ∙ append-nil h.before)) h.says;
@@ -177,7 +183,8 @@ spelled-in-limits text script s = subst IsInLimits (sym s.script_is) (in-limits 
 abbrev IsOctetBreak : Break → Type 0
 IsOctetBreak line = line.length < 256
 
-line-octet : (entry : Entry) (words : List (List ℕ)) → SpellsEach (arguments_of (form_of entry)) words (values_of entry) → IfSome (break_said entry) IsOctetBreak
+line-octet : (entry : Entry) (words : List (List ℕ)) → SpellsEach (arguments_of (form_of entry)) words (values_of entry)
+    → IfSome (break_said entry) IsOctetBreak
 line-octet (entries.Break line) (a ∷ b ∷ c ∷ words) s = let few = s.1.1.0.not_above in omega (arith, few)
 line-octet (entries.Break line) (a ∷ b ∷ []) s = absurd s.1.1
 line-octet (entries.Break line) (a ∷ []) s = absurd s.1
@@ -193,7 +200,8 @@ line-octet (entries.Hit hit) words s = tt
 line-octet (entries.Noise noise) words s = tt
 line-octet (entries.Busy pause) words s = tt
 
-with-line : (o : Option Break) (lines : List Break) → IfSome o IsOctetBreak → All IsOctetBreak lines → All IsOctetBreak (cons_option o lines)
+with-line : (o : Option Break) (lines : List Break) → IfSome o IsOctetBreak → All IsOctetBreak lines
+    → All IsOctetBreak (cons_option o lines)
 with-line None lines h k = k
 with-line (Some line) lines h k = All-cons IsOctetBreak line lines h k
 
@@ -210,11 +218,14 @@ placed-octets line (next ∷ lines) h k = by (nat_lt line.turn next.turn) (place
     by true later = All-cons IsOctetBreak line (next ∷ lines) h k
     by false later = All-cons IsOctetBreak next (placed line lines) (All-head IsOctetBreak next lines k) later
 
-placed-each-octets : (sorted lines : List Break) → All IsOctetBreak sorted → All IsOctetBreak lines → All IsOctetBreak (placed_each sorted lines)
+placed-each-octets : (sorted lines : List Break) → All IsOctetBreak sorted → All IsOctetBreak lines
+    → All IsOctetBreak (placed_each sorted lines)
 placed-each-octets sorted [] h k = h
 placed-each-octets sorted (line ∷ lines) h k =
-    placed-each-octets (placed line sorted) lines (placed-octets line sorted (All-head IsOctetBreak line lines k) h) (All-tail IsOctetBreak line lines k)
+    placed-each-octets (placed line sorted) lines (placed-octets line sorted (All-head IsOctetBreak line lines k) h)
+    (All-tail IsOctetBreak line lines k)
 
 pub breaks-octets : BreaksAreOctets
 breaks-octets text script s =
-    subst (λ (x : ScriptValue). All IsOctetBreak x.breaks) (sym s.script_is) (placed-each-octets [] (breaks_in s.said) (All-nil IsOctetBreak) (says-octets s.says))
+    subst (λ (x : ScriptValue). All IsOctetBreak x.breaks) (sym s.script_is)
+    (placed-each-octets [] (breaks_in s.said) (All-nil IsOctetBreak) (says-octets s.says))

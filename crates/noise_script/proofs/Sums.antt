@@ -21,7 +21,8 @@ pub sum_of-more : {X : Type 0} (f : X → Offset) (xs : List X) (x : X) → sum_
 sum_of-more f [] x = plus-nothing (f x)
 sum_of-more f (y ∷ xs) x = ap (plus (f y)) (sum_of-more f xs x) ∙ plus-assoc (f y) (sum_of (map f xs)) (f x)
 
-pub sum_of-next : {X : Type 0} (f : X → Offset) (xs : List X) (i : ℕ) (d : X) → i < length xs → sum_of (map f (take (i + 1) xs)) ≡ plus (sum_of (map f (take i xs))) (f (get_or xs i d))
+pub sum_of-next : {X : Type 0} (f : X → Offset) (xs : List X) (i : ℕ) (d : X) → i < length xs
+    → sum_of (map f (take (i + 1) xs)) ≡ plus (sum_of (map f (take i xs))) (f (get_or xs i d))
 sum_of-next f xs i d h = ap (λ ys. sum_of (map f ys)) (take_more xs i d h) ∙ sum_of-more f (take i xs) (get_or xs i d)
 
 pub within-more : (m i : ℕ) (a b : Offset) → IsWithin (m * i) a → IsWithin m b → IsWithin (m * (i + 1)) (plus a b)
@@ -50,7 +51,8 @@ quiet-more [] noise q h = (h, tt)
 quiet-more (x ∷ noises) noise q h = (q.0, quiet-more noises noise q.1 h)
 
 -- one line more is added
-pub added : {X : Type 0} (f : X → Offset) (xs : List X) (i : ℕ) (d : X) (sum offset result : Offset) → i < length xs → sum ≡ sum_of (map f (take i xs)) → offset ≡ f (get_or xs i d) → result ≡ plus sum offset → result ≡ sum_of (map f (take (i + 1) xs))
+pub added : {X : Type 0} (f : X → Offset) (xs : List X) (i : ℕ) (d : X) (sum offset result : Offset) → i < length xs
+    → sum ≡ sum_of (map f (take i xs)) → offset ≡ f (get_or xs i d) → result ≡ plus sum offset → result ≡ sum_of (map f (take (i + 1) xs))
 added f xs i d sum offset result h s o r = r ∙ rw (s, o) (sym (sum_of-next f xs i d h))
 
 -- what stands for a line behind the last one

@@ -92,7 +92,8 @@ value-once (Signed low high) word (SignedIs a) (SignedIs b) s t = ap SignedIs (s
 value-once (Signed low high) word (SignedIs a) b s t = absurd t
 value-once (Signed low high) word a b s t = absurd s
 
-fail-spell : (argument : Argument) (word : List ℕ) (cause : Cause) (value : Value) → Fails argument word cause → Spells argument word value → ⊥
+fail-spell : (argument : Argument) (word : List ℕ) (cause : Cause) (value : Value) → Fails argument word cause → Spells argument word value
+    → ⊥
 fail-spell ARole word causes.Word (RoleIs role) f s = f role s
 fail-spell ARole word causes.Word value f s = s
 fail-spell ARole word cause value f s = f
@@ -136,7 +137,8 @@ fail-once (Signed low high) word a b f g = absurd f
 
 -- the words behind the first
 
-each-once : (arguments : List Argument) (words : List (List ℕ)) (a b : List Value) → SpellsEach arguments words a → SpellsEach arguments words b → a ≡ b
+each-once : (arguments : List Argument) (words : List (List ℕ)) (a b : List Value) → SpellsEach arguments words a
+    → SpellsEach arguments words b → a ≡ b
 each-once [] words a b s t = s.1 ∙ sym t.1
 each-once (argument ∷ arguments) [] a b s t = absurd s
 each-once (argument ∷ arguments) (word ∷ words) [] b s t = absurd s
@@ -146,20 +148,23 @@ each-once (argument ∷ arguments) (word ∷ words) (x ∷ a) (y ∷ b) s t =
     let rest : a ≡ b = each-once arguments words a b s.1 t.1 in
     rw (first, rest) refl
 
-each-length : (arguments : List Argument) (words : List (List ℕ)) (values : List Value) → SpellsEach arguments words values → length words ≡ length arguments
+each-length : (arguments : List Argument) (words : List (List ℕ)) (values : List Value) → SpellsEach arguments words values
+    → length words ≡ length arguments
 each-length [] words values s = ap length s.0
 each-length (argument ∷ arguments) [] values s = absurd s
 each-length (argument ∷ arguments) (word ∷ words) [] s = absurd s
 each-length (argument ∷ arguments) (word ∷ words) (x ∷ values) s = ap suc (each-length arguments words values s.1)
 
-fails-spell : (arguments : List Argument) (words : List (List ℕ)) (cause : Cause) (values : List Value) → FirstFails arguments words cause → SpellsEach arguments words values → ⊥
+fails-spell : (arguments : List Argument) (words : List (List ℕ)) (cause : Cause) (values : List Value) → FirstFails arguments words cause
+    → SpellsEach arguments words values → ⊥
 fails-spell [] words cause values f s = f
 fails-spell (argument ∷ arguments) [] cause values f s = f
 fails-spell (argument ∷ arguments) (word ∷ words) cause [] f s = s
 fails-spell (argument ∷ arguments) (word ∷ words) cause (x ∷ values) (inl f) s = fail-spell argument word cause x f s.0
 fails-spell (argument ∷ arguments) (word ∷ words) cause (x ∷ values) (inr (v, t, f)) s = fails-spell arguments words cause values f s.1
 
-fails-once : (arguments : List Argument) (words : List (List ℕ)) (a b : Cause) → FirstFails arguments words a → FirstFails arguments words b → a ≡ b
+fails-once : (arguments : List Argument) (words : List (List ℕ)) (a b : Cause) → FirstFails arguments words a → FirstFails arguments words b
+    → a ≡ b
 fails-once [] words a b f g = absurd f
 fails-once (argument ∷ arguments) [] a b f g = absurd f
 fails-once (argument ∷ arguments) (word ∷ words) a b (inl f) (inl g) = fail-once argument word a b f g
@@ -192,8 +197,24 @@ entry_of forms.Tries v = entries.Tries (number_of (at v 0))
 entry_of forms.Srej v = entries.Srej (role_of (at v 0))
 entry_of forms.Check32 v = entries.Check32 (role_of (at v 0))
 entry_of forms.Lose v = entries.Lose (record { role = role_of (at v 0); from = number_of (at v 1); count = number_of (at v 2) })
-entry_of forms.Hit v = entries.Hit (record { role = role_of (at v 0); from = number_of (at v 1); count = number_of (at v 2); re = signed_of (at v 3); im = signed_of (at v 4) })
-entry_of forms.Noise v = entries.Noise (record { role = role_of (at v 0); from = number_of (at v 1); count = number_of (at v 2); amplitude = number_of (at v 3); seed = number_of (at v 4) })
+entry_of forms.Hit v =
+    entries.Hit (record {
+      role = role_of (at v 0);
+      from = number_of (at v 1);
+      count = number_of (at v 2);
+      re = signed_of (at v 3);
+      im =
+          signed_of (at v 4);
+    })
+entry_of forms.Noise v =
+    entries.Noise (record {
+      role = role_of (at v 0);
+      from = number_of (at v 1);
+      count = number_of (at v 2);
+      amplitude =
+          number_of (at v 3);
+      seed = number_of (at v 4);
+    })
 entry_of forms.Break v = entries.Break (record { role = role_of (at v 0); turn = number_of (at v 1); length = number_of (at v 2) })
 entry_of forms.Busy v = entries.Busy (record { role = role_of (at v 0); from = number_of (at v 1); count = number_of (at v 2) })
 
@@ -215,8 +236,10 @@ line-once words a b s t =
     let both : word_of (form_of a) ∷ s.rest ≡ word_of (form_of b) ∷ t.rest = sym s.words_are ∙ t.words_are in
     let form : form_of a ≡ form_of b = form-once (form_of a) (form_of b) (cons-head _ _ _ _ both) in
     let rest : s.rest ≡ t.rest = cons-rest _ _ _ _ both in
-    let here : SpellsEach (arguments_of (form_of b)) s.rest (values_of a) = subst (λ (f : Form). SpellsEach (arguments_of f) s.rest (values_of a)) form s.each in
-    let there : SpellsEach (arguments_of (form_of b)) t.rest (values_of a) = subst (λ ws. SpellsEach (arguments_of (form_of b)) ws (values_of a)) rest here in
+    let here : SpellsEach (arguments_of (form_of b)) s.rest (values_of a) =
+    subst (λ (f : Form). SpellsEach (arguments_of f) s.rest (values_of a)) form s.each in
+    let there : SpellsEach (arguments_of (form_of b)) t.rest (values_of a) =
+    subst (λ ws. SpellsEach (arguments_of (form_of b)) ws (values_of a)) rest here in
     let values : values_of a ≡ values_of b = each-once _ t.rest _ _ there t.each in
     sym (entry-again a) ∙ ap (λ (f : Form). entry_of f (values_of a)) form ∙ ap (entry_of (form_of b)) values ∙ entry-again b
 
@@ -235,7 +258,8 @@ passed-faulty said words cause p (inr t) = passed-spelled words t.entry p t.spel
 unknown-form : (words rest : List (List ℕ)) (form : Form) (cause : Cause) → IsUnknown words cause → words ≡ word_of form ∷ rest → ⊥
 unknown-form words rest form cause u e = u.none form (cons-head _ _ _ _ (sym u.words_are ∙ e))
 
-miscounted-length : (words rest : List (List ℕ)) (form : Form) (cause : Cause) → IsMiscounted words cause → words ≡ word_of form ∷ rest → length rest ≡ length (arguments_of form) → ⊥
+miscounted-length : (words rest : List (List ℕ)) (form : Form) (cause : Cause) → IsMiscounted words cause → words ≡ word_of form ∷ rest
+    → length rest ≡ length (arguments_of form) → ⊥
 miscounted-length words rest form cause m e l =
     let both : word_of m.form ∷ m.rest ≡ word_of form ∷ rest = sym m.words_are ∙ e in
     let same : m.form ≡ form = form-once m.form form (cons-head _ _ _ _ both) in
@@ -245,12 +269,14 @@ misread-spelled : (words : List (List ℕ)) (entry : Entry) (cause : Cause) → 
 misread-spelled words entry cause m s =
     let both : word_of m.form ∷ m.rest ≡ word_of (form_of entry) ∷ s.rest = sym m.words_are ∙ s.words_are in
     let same : m.form ≡ form_of entry = form-once m.form (form_of entry) (cons-head _ _ _ _ both) in
-    let here : FirstFails (arguments_of (form_of entry)) m.rest cause = subst (λ (f : Form). FirstFails (arguments_of f) m.rest cause) same m.fails in
+    let here : FirstFails (arguments_of (form_of entry)) m.rest cause =
+    subst (λ (f : Form). FirstFails (arguments_of f) m.rest cause) same m.fails in
     fails-spell _ s.rest cause _ (subst (λ ws. FirstFails (arguments_of (form_of entry)) ws cause) (cons-rest _ _ _ _ both) here) s.each
 
 misspelled-spelled : (words : List (List ℕ)) (entry : Entry) (cause : Cause) → Misspells words cause → SpellsLine words entry → ⊥
 misspelled-spelled words entry cause (inl u) s = unknown-form words s.rest (form_of entry) cause u s.words_are
-misspelled-spelled words entry cause (inr (inl m)) s = miscounted-length words s.rest (form_of entry) cause m s.words_are (each-length _ s.rest _ s.each)
+misspelled-spelled words entry cause (inr (inl m)) s =
+    miscounted-length words s.rest (form_of entry) cause m s.words_are (each-length _ s.rest _ s.each)
 misspelled-spelled words entry cause (inr (inr m)) s = misread-spelled words entry cause m s
 
 misspelled-once : (words : List (List ℕ)) (a b : Cause) → Misspells words a → Misspells words b → a ≡ b
@@ -276,7 +302,8 @@ faulty-once said words a b (inr t) (inr u) =
     let same : t.entry ≡ u.entry = line-once words t.entry u.entry t.spelled_line u.spelled_line in
     t.cause_is ∙ ap (λ (e : Entry). too_many (row (form_of e)).bound) same ∙ sym u.cause_is
 
-spelled-faulty : (said more : List Entry) (entry : Entry) (words : List (List ℕ)) (cause : Cause) → SpellsLine words entry → AreAllowed (said ++ entry ∷ more) → IsFaulty said words cause → ⊥
+spelled-faulty : (said more : List Entry) (entry : Entry) (words : List (List ℕ)) (cause : Cause) → SpellsLine words entry
+    → AreAllowed (said ++ entry ∷ more) → IsFaulty said words cause → ⊥
 spelled-faulty said more entry words cause s a (inl m) = misspelled-spelled words entry cause m s
 spelled-faulty said more entry words cause s a (inr t) =
     let same : t.entry ≡ entry = line-once words t.entry entry t.spelled_line s in
@@ -308,21 +335,31 @@ says-split (line ∷ before) rest said (passed_over p s) =
     record { front = r.front; back = r.back; said_is = r.said_is; front_says = passed_over p r.front_says; back_says = r.back_says }
 says-split (line ∷ before) rest (entry ∷ said) (spelled p s) =
     let r = says-split before rest said s in
-    record { front = entry ∷ r.front; back = r.back; said_is = ap (λ es. entry ∷ es) r.said_is; front_says = spelled p r.front_says; back_says = r.back_says }
+    record {
+      front = entry ∷ r.front;
+      back = r.back;
+      said_is = ap (λ es. entry ∷ es) r.said_is;
+      front_says =
+          spelled p r.front_says;
+      back_says = r.back_says;
+    }
 
-line-says : (line : List ℕ) (after : List (List ℕ)) (said back : List Entry) (cause : Cause) → Says (line ∷ after) back → AreAllowed (said ++ back) → IsFaulty said (words_of line) cause → ⊥
+line-says : (line : List ℕ) (after : List (List ℕ)) (said back : List Entry) (cause : Cause) → Says (line ∷ after) back
+    → AreAllowed (said ++ back) → IsFaulty said (words_of line) cause → ⊥
 line-says line after said back cause (passed_over p s) a f = passed-faulty said (words_of line) cause p f
 line-says line after said (entry ∷ back) cause (spelled p s) a f = spelled-faulty said back entry (words_of line) cause p a f
 
 -- where all lines together are a script's, none is faulty
-no-fault : (before after : List (List ℕ)) (line : List ℕ) (all said : List Entry) (cause : Cause) → Says (before ++ line ∷ after) all → AreAllowed all → Says before said → IsFaulty said (words_of line) cause → ⊥
+no-fault : (before after : List (List ℕ)) (line : List ℕ) (all said : List Entry) (cause : Cause) → Says (before ++ line ∷ after) all
+    → AreAllowed all → Says before said → IsFaulty said (words_of line) cause → ⊥
 no-fault before after line all said cause s a b f =
     let r = says-split before (line ∷ after) all s in
     let front : r.front ≡ said = says-once r.front_says b in
     let whole : all ≡ said ++ r.back = r.said_is ∙ ap (λ es. es ++ r.back) front in
     line-says line after said r.back cause r.back_says (subst AreAllowed whole a) f
 
-pub spelling-fault : (text : List ℕ) (script : ScriptValue) (number : ℕ) (cause : Cause) → ScriptSpelling text script → FirstFault text number cause → ⊥
+pub spelling-fault : (text : List ℕ) (script : ScriptValue) (number : ℕ) (cause : Cause) → ScriptSpelling text script
+    → FirstFault text number cause → ⊥
 spelling-fault text script number cause s f =
     no-fault f.before f.after f.line s.said f.said cause (subst (λ ls. Says ls s.said) f.lines_are s.says) s.allowed f.says f.faulty
 
@@ -359,6 +396,12 @@ fault-once text m n a b f g = by (places f.before f.after g.before g.after f.lin
         let said : f.said ≡ g.said = says-once says g.says in
         let here : IsFaulty g.said (words_of f.line) a = subst (λ es. IsFaulty es (words_of f.line) a) said f.faulty in
         let there : IsFaulty g.said (words_of g.line) a = subst (λ l. IsFaulty g.said (words_of l) a) q here in
-        record { number_is = f.number_is ∙ ap (λ ls. length ls + 1) p ∙ sym g.number_is; cause_is = faulty-once g.said (words_of g.line) a b there g.faulty }
-    by (Before more p) = absurd (no-fault f.before more f.line g.said f.said a (subst (λ ls. Says ls g.said) p g.says) g.allowed f.says f.faulty)
-    by (Behind more p) = absurd (no-fault g.before more g.line f.said g.said b (subst (λ ls. Says ls f.said) p f.says) f.allowed g.says g.faulty)
+        record {
+          number_is = f.number_is ∙ ap (λ ls. length ls + 1) p ∙ sym g.number_is;
+          cause_is =
+              faulty-once g.said (words_of g.line) a b there g.faulty;
+        }
+    by (Before more p) = absurd
+        (no-fault f.before more f.line g.said f.said a (subst (λ ls. Says ls g.said) p g.says) g.allowed f.says f.faulty)
+    by (Behind more p) = absurd
+        (no-fault g.before more g.line f.said g.said b (subst (λ ls. Says ls f.said) p f.says) f.allowed g.says g.faulty)

@@ -94,7 +94,10 @@ pub record HoldsUpTo (text rest : List ℕ) (number : ℕ) (draft : Draft) : Typ
 
 -- a line of these words is passed over, or says one thing more, and the draft holds all that is said then
 abbrev pub HoldsLine : List Entry → List (List ℕ) → Draft → Type 0
-HoldsLine said words draft = ((is_passed_over words ≡ true) × Holds draft said) ⊎ ((entry : Entry) × SpellsLine words entry × (standing (kind_of entry) said < most (row (form_of entry)).bound) × Holds draft (said ++ entry ∷ []))
+HoldsLine said words draft =
+    ((is_passed_over words ≡ true) × Holds draft said)
+    ⊎ ((entry : Entry) × SpellsLine words entry × (standing (kind_of entry) said < most (row (form_of entry)).bound)
+    × Holds draft (said ++ entry ∷ []))
 
 -- why the line of that number was not added
 abbrev pub IsLineFault : List Entry → List (List ℕ) → ℕ → ScriptFault → Type 0

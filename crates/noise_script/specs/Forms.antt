@@ -47,7 +47,12 @@ row forms.Srej = record { word = codes "srej"; arguments = ARole ∷ []; bound =
 row forms.Check32 = record { word = codes "check32"; arguments = ARole ∷ []; bound = OnceEach }
 row forms.Lose = record { word = codes "lose"; arguments = ARole ∷ turn ∷ count ∷ []; bound = AtMost 1024 }
 row forms.Hit = record { word = codes "hit"; arguments = ARole ∷ symbol ∷ count ∷ coordinate ∷ coordinate ∷ []; bound = AtMost 1024 }
-row forms.Noise = record { word = codes "noise"; arguments = ARole ∷ symbol ∷ count ∷ Number 0 32767 ∷ Number 0 18446744073709551615 ∷ []; bound = AtMost 64 }
+row forms.Noise = record {
+  word = codes "noise";
+  arguments =
+      ARole ∷ symbol ∷ count ∷ Number 0 32767 ∷ Number 0 18446744073709551615 ∷ [];
+  bound = AtMost 64;
+}
 row forms.Break = record { word = codes "break"; arguments = ARole ∷ turn ∷ Number 1 255 ∷ []; bound = AtMost 64 }
 row forms.Busy = record { word = codes "busy"; arguments = ARole ∷ turn ∷ Number 1 10000 ∷ []; bound = AtMost 64 }
 
@@ -97,7 +102,8 @@ values_of (entries.Srej role) = RoleIs role ∷ []
 values_of (entries.Check32 role) = RoleIs role ∷ []
 values_of (entries.Lose loss) = RoleIs loss.role ∷ NumberIs loss.from ∷ NumberIs loss.count ∷ []
 values_of (entries.Hit hit) = RoleIs hit.role ∷ NumberIs hit.from ∷ NumberIs hit.count ∷ SignedIs hit.re ∷ SignedIs hit.im ∷ []
-values_of (entries.Noise noise) = RoleIs noise.role ∷ NumberIs noise.from ∷ NumberIs noise.count ∷ NumberIs noise.amplitude ∷ NumberIs noise.seed ∷ []
+values_of (entries.Noise noise) =
+    RoleIs noise.role ∷ NumberIs noise.from ∷ NumberIs noise.count ∷ NumberIs noise.amplitude ∷ NumberIs noise.seed ∷ []
 values_of (entries.Break line) = RoleIs line.role ∷ NumberIs line.turn ∷ NumberIs line.length ∷ []
 values_of (entries.Busy pause) = RoleIs pause.role ∷ NumberIs pause.from ∷ NumberIs pause.count ∷ []
 

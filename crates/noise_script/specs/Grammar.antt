@@ -27,8 +27,10 @@ use Rattle.noise_script.specs.Script.{ScriptValue}
 -- the lines say this, in order; those that are passed over say nothing
 pub data Says : List (List ℕ) → List Entry → Type 0 where
   nothing : Says [] []
-  passed_over : {line : List ℕ} {lines : List (List ℕ)} {said : List Entry} → is_passed_over (words_of line) ≡ true → Says lines said → Says (line ∷ lines) said
-  spelled : {line : List ℕ} {lines : List (List ℕ)} {entry : Entry} {said : List Entry} → SpellsLine (words_of line) entry → Says lines said → Says (line ∷ lines) (entry ∷ said)
+  passed_over : {line : List ℕ} {lines : List (List ℕ)} {said : List Entry} → is_passed_over (words_of line) ≡ true → Says lines said
+      → Says (line ∷ lines) said
+  spelled : {line : List ℕ} {lines : List (List ℕ)} {entry : Entry} {said : List Entry} → SpellsLine (words_of line) entry → Says lines said
+      → Says (line ∷ lines) (entry ∷ said)
 
 abbrev pub same_form : Form → Form → Bool
 same_form forms.Delay forms.Delay = true

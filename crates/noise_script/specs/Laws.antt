@@ -18,7 +18,8 @@ FaultsAreOne = (text : List ℕ) (m n : ℕ) (a b : Cause) → FirstFault text m
 
 -- a text that spells a script has no fault
 abbrev pub NoFaultInScripts : Type 0
-NoFaultInScripts = (text : List ℕ) (script : ScriptValue) (number : ℕ) (cause : Cause) → ScriptSpelling text script → FirstFault text number cause → ⊥
+NoFaultInScripts = (text : List ℕ) (script : ScriptValue) (number : ℕ) (cause : Cause) → ScriptSpelling text script
+    → FirstFault text number cause → ⊥
 
 -- each text spells a script or has a first fault
 abbrev pub SomeAnswer : List ℕ → Type 0
@@ -44,7 +45,8 @@ pub record LinesFromFront : Type 0 where
 pub record WordsFromFront : Type 0 where
   pub none : words_of [] ≡ []
   pub blank : (octet : ℕ) (line : List ℕ) → is_blank octet ≡ true → words_of (octet ∷ line) ≡ words_of line
-  pub ended : (word : List ℕ) (octet : ℕ) (line : List ℕ) → word ≢ [] → has_no_blank word ≡ true → is_blank octet ≡ true → words_of (word ++ octet ∷ line) ≡ word ∷ words_of line
+  pub ended : (word : List ℕ) (octet : ℕ) (line : List ℕ) → word ≢ [] → has_no_blank word ≡ true → is_blank octet ≡ true
+      → words_of (word ++ octet ∷ line) ≡ word ∷ words_of line
   pub last : (word : List ℕ) → word ≢ [] → has_no_blank word ≡ true → words_of word ≡ word ∷ []
 
 -- a script's breaks rise in turn, and those of one turn stand as in the text
@@ -57,4 +59,5 @@ SpelledIsInLimits = (text : List ℕ) (script : ScriptValue) → ScriptSpelling 
 
 -- and the length of each break is an octet
 abbrev pub BreaksAreOctets : Type 0
-BreaksAreOctets = (text : List ℕ) (script : ScriptValue) → ScriptSpelling text script → All (λ (line : Break). line.length < 256) script.breaks
+BreaksAreOctets = (text : List ℕ) (script : ScriptValue) → ScriptSpelling text script
+    → All (λ (line : Break). line.length < 256) script.breaks

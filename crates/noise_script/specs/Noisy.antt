@@ -76,5 +76,6 @@ noisy_script orig answ noises losses = record {
 -- A line on delays, then lines on noise, then lines on losses spell the script that says just that.
 abbrev pub NoisyLinesSpell : Type 0
 NoisyLinesSpell = (delays : List ℕ) (noisy losing : List (List ℕ)) (orig answ : ℕ) (noises : List Noise) (losses : List Loss)
-    → SaysDelays delays orig answ → EachSays SaysNoise noisy noises → EachSays SaysLoss losing losses → length noises ≤ 64 → length losses ≤ 1024
+    → SaysDelays delays orig answ → EachSays SaysNoise noisy noises → EachSays SaysLoss losing losses → length noises ≤ 64
+    → length losses ≤ 1024
     → ScriptSpelling (text_of (delays ∷ (noisy ++ losing))) (noisy_script orig answ noises losses)

@@ -21,7 +21,8 @@ pub length-points : (labels : List ℕ) → length (map point_of labels) ≡ len
 length-points [] = refl
 length-points (x ∷ labels) = omega (arith, length-points labels)
 
-pub cost-append : (f q : List ℕ) (r w : List Sample) → length f ≡ length r → cost far_from (f ++ q) (r ++ w) ≡ cost far_from f r + cost far_from q w
+pub cost-append : (f q : List ℕ) (r w : List Sample) → length f ≡ length r
+    → cost far_from (f ++ q) (r ++ w) ≡ cost far_from f r + cost far_from q w
 cost-append [] q [] w h = omega arith
 cost-append [] q (y ∷ r) w h = absurd (omega arith)
 cost-append (x ∷ f) q [] w h = absurd (omega arith)
@@ -34,7 +35,8 @@ pub cost-own : (labels : List ℕ) → cost far_from labels (map point_of labels
 cost-own [] = refl
 cost-own (x ∷ labels) = omega (arith, no_distance_from_equal (point_of x) (point_of x) refl, cost-own labels)
 
-pub no-cost-own : (s t u v : ℕ) (a b : List ℕ) → Leads next_state s a u → Leads next_state t b v → length a ≡ length b → cost far_from a (map point_of b) ≡ 0 → a ≡ b
+pub no-cost-own : (s t u v : ℕ) (a b : List ℕ) → Leads next_state s a u → Leads next_state t b v → length a ≡ length b
+    → cost far_from a (map point_of b) ≡ 0 → a ≡ b
 no-cost-own s t u v [] [] p q h e = refl
 no-cost-own s t u v [] (y ∷ b) p q h e = absurd (omega arith)
 no-cost-own s t u v (x ∷ a) [] p q h e = absurd (omega arith)
@@ -42,6 +44,7 @@ no-cost-own s t u v (x ∷ a) (y ∷ b) (m, i, p) (n, j, q) h e =
     let none : far_from x (point_of y) ≡ 0 = omega (arith, e) in
     let rest : cost far_from a (map point_of b) ≡ 0 = omega (arith, e) in
     let same : length a ≡ length b = omega arith in
-    let one : x ≡ y = points_differ x y (branch_of s x m i).in_labels (branch_of t y n j).in_labels (equal_from_no_distance (point_of x) (point_of y) none) in
+    let one : x ≡ y = points_differ x y (branch_of s x m i).in_labels (branch_of t y n j).in_labels
+    (equal_from_no_distance (point_of x) (point_of y) none) in
     let tails : a ≡ b = no-cost-own m n u v a b p q same rest in
     rw (one, tails) refl

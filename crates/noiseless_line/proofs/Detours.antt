@@ -21,7 +21,8 @@ pub record Near (s label by to bound : ℕ) : Type 0 where
 in-subset : (s by to other : ℕ) → next_state s by ≡ Some to → IsInSubset (y0_of by) (y_of by) other → next_state s other ≡ Some to
 in-subset s by to other e h =
     let b = branch_of s by to e in
-    next_state_from s other to (record { in_states = b.in_states; in_labels = h.below; half = h.y0_is ∙ b.half; to_is = b.to_is ∙ ap (next_by_y s) (sym h.y_is) })
+    next_state_from s other to
+    (record { in_states = b.in_states; in_labels = h.below; half = h.y0_is ∙ b.half; to_is = b.to_is ∙ ap (next_by_y s) (sym h.y_is) })
 
 y0_of-lt : (label : ℕ) → y0_of label < 2
 y0_of-lt label = omega arith
@@ -58,7 +59,13 @@ detour s x y u v to e f in_states = from-path path.0 path.1 path.2
         let ba = branch_of s a m i in
         let first = near-own s x a m bx.in_labels (bx.half ∙ sym ba.half) i in
         let second = near-any m y b n (branch_of u y v f).in_labels j in
-        record { a = first.other; b = second.other; leads = (m, first.leads, (n, second.leads, last)); near = omega (arith, first.near, second.near) }
+        record {
+          a = first.other;
+          b = second.other;
+          leads = (m, first.leads, (n, second.leads, last));
+          near =
+              omega (arith, first.near, second.near);
+        }
 
 -- the last two of at least two
 pub record EndsInTwo (labels : List ℕ) : Type 0 where
@@ -82,17 +89,26 @@ pub record Other (start to : ℕ) (labels : List ℕ) : Type 0 where
   pub same_length : length other ≡ length labels
   pub cheap : cost far_from other (map point_of labels) ≤ 75497472
 
-pub other-end : (start end to : ℕ) (labels : List ℕ) → Leads next_state start labels end → 2 ≤ length labels → to < 8 → Other start to labels
+pub other-end : (start end to : ℕ) (labels : List ℕ) → Leads next_state start labels end → 2 ≤ length labels → to < 8
+    → Other start to labels
 other-end start end to labels l many in_states =
     let two = ends-in-two labels many in
     let split = Leads-split next_state start two.front (two.x ∷ two.y ∷ []) end (subst (λ k. Leads next_state start k end) two.joined l) in
     let d = detour split.0 two.x two.y split.2.0 split.2.2.0 to split.2.1 split.2.2.1 in_states in
-    let points : map point_of labels ≡ map point_of two.front ++ (point_of two.x ∷ point_of two.y ∷ []) = ap (map point_of) two.joined ∙ map-append point_of two.front (two.x ∷ two.y ∷ []) in
-    let price = cost-append two.front (d.a ∷ d.b ∷ []) (map point_of two.front) (point_of two.x ∷ point_of two.y ∷ []) (sym (length-points two.front)) in
-    let whole : cost far_from (two.front ++ d.a ∷ d.b ∷ []) (map point_of labels) ≡ cost far_from (two.front ++ d.a ∷ d.b ∷ []) (map point_of two.front ++ (point_of two.x ∷ point_of two.y ∷ [])) = ap (cost far_from (two.front ++ d.a ∷ d.b ∷ [])) points in
+    let points : map point_of labels ≡ map point_of two.front ++ (point_of two.x ∷ point_of two.y ∷ []) =
+    ap (map point_of) two.joined ∙ map-append point_of two.front (two.x ∷ two.y ∷ []) in
+    let price = cost-append two.front (d.a ∷ d.b ∷ []) (map point_of two.front) (point_of two.x ∷ point_of two.y ∷ [])
+    (sym (length-points two.front)) in
+    let whole : cost far_from (two.front ++ d.a ∷ d.b ∷ []) (map point_of labels) ≡ cost far_from (two.front ++ d.a ∷ d.b ∷ [])
+    (map point_of two.front ++ (point_of two.x ∷ point_of two.y ∷ [])) = ap (cost far_from (two.front ++ d.a ∷ d.b ∷ [])) points in
     record {
       other = two.front ++ d.a ∷ d.b ∷ [];
       leads = Leads-append next_state start two.front (d.a ∷ d.b ∷ []) split.0 to split.1 d.leads;
-      same_length = omega (arith, length-append {A = ℕ} two.front (d.a ∷ d.b ∷ []), length-append {A = ℕ} two.front (two.x ∷ two.y ∷ []), ap length two.joined);
+      same_length = omega (
+        arith,
+        length-append {A = ℕ} two.front (d.a ∷ d.b ∷ []),
+        length-append {A = ℕ} two.front (two.x ∷ two.y ∷ []),
+        ap length two.joined,
+      );
       cheap = omega (arith, whole, price, cost-own two.front, d.near);
     }

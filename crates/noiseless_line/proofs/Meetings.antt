@@ -43,10 +43,24 @@ parted-now s t [] (d ∷ c) p = absurd p
 parted-now s t (a ∷ q) [] p = absurd p
 parted-now s t (a ∷ q) (d ∷ c) p = p.0
 
-pub meets : (s t u v : ℕ) (q c : List ℕ) → Leads next_state s q u → Leads next_state t c v → length q ≡ length c → Parted s q t c ⊎ Meeting s q t c
+pub meets : (s t u v : ℕ) (q c : List ℕ) → Leads next_state s q u → Leads next_state t c v → length q ≡ length c
+    → Parted s q t c ⊎ Meeting s q t c
 meets s t u v [] [] p o h = elim (cases_eq s t) [
   | inr differ ↦ inl differ
-  | inl same ↦ inr (record { front = []; own_front = []; rest = []; own_rest = []; joined = refl; own_joined = refl; same_length = refl; mid = s; leads = refl; own_leads = sym same; behind = tt })
+  | inl same ↦ inr (record {
+    front = [];
+    own_front = [];
+    rest = [];
+    own_rest = [];
+    joined = refl;
+    own_joined = refl;
+    same_length =
+        refl;
+    mid = s;
+    leads = refl;
+    own_leads = sym same;
+    behind = tt;
+  })
 ]
 meets s t u v [] (d ∷ c) p o h = absurd (omega arith)
 meets s t u v (a ∷ q) [] p o h = absurd (omega arith)
@@ -89,7 +103,8 @@ meets s t u v (a ∷ q) (d ∷ c) (m, i, p) (n, j, o) h =
     })
 
 -- three parted symbols cost at least 2
-three-cost : (s t a b e d f g : ℕ) (s1 s2 s3 t1 t2 t3 : ℕ) → (s ≡ t → ⊥) → next_state s a ≡ Some s1 → next_state s1 b ≡ Some s2 → next_state s2 e ≡ Some s3 → next_state t d ≡ Some t1 → next_state t1 f ≡ Some t2 → next_state t2 g ≡ Some t3
+three-cost : (s t a b e d f g : ℕ) (s1 s2 s3 t1 t2 t3 : ℕ) → (s ≡ t → ⊥) → next_state s a ≡ Some s1 → next_state s1 b ≡ Some s2
+    → next_state s2 e ≡ Some s3 → next_state t d ≡ Some t1 → next_state t1 f ≡ Some t2 → next_state t2 g ≡ Some t3
     → 8388608 ≤ far_from a (point_of d) + far_from b (point_of f) + far_from e (point_of g)
 three-cost s t a b e d f g s1 s2 s3 t1 t2 t3 differ e1 e2 e3 f1 f2 f3 =
     let one = far-is a d (branch_of s a s1 e1).in_labels (branch_of t d t1 f1).in_labels in

@@ -40,5 +40,6 @@ pub record Follows (d : Decoding) (taken labels : List ℕ) : Type 0 where
   pub few_to_come : length labels ≤ length (taken ++ d.pending) + 24
 
 abbrev pub DecodesNoiseless : Type 0
-DecodesNoiseless = (start depth : ℕ) (labels taken : List ℕ) (samples : List Sample) (d : Decoding) → 24 ≤ depth → IsNoiseless start labels samples
+DecodesNoiseless = (start depth : ℕ) (labels taken : List ℕ) (samples : List Sample) (d : Decoding) → 24 ≤ depth
+    → IsNoiseless start labels samples
     → DecoderStands next_state point_of (λ state. nat_eq state start) depth d samples taken → Follows d taken labels

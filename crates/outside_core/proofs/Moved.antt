@@ -18,20 +18,26 @@ pub WroteUpTo-more : (old mid new : Option (List ℕ)) (piece : List ℕ) (writt
 WroteUpTo-more old mid new piece written count before fits now = record {
   within = omega (arith, before.within);
   appended = subst (Appends old new)
-      (ap (λ l. take written piece ++ l) (take-take count (length piece - written) (drop written piece) fits) ∙ sym (take-add written count piece))
+      (ap (λ l. take written piece ++ l) (take-take count (length piece - written) (drop written piece) fits)
+      ∙ sym (take-add written count piece))
       (Appends-trans _ _ _ _ _ before.appended now);
 }
 
-pub WroteUpTo-part : (old mid new : Option (List ℕ)) (piece : List ℕ) (written : ℕ) → WroteUpTo old mid piece written → Keeps mid new → AppendsPart old new piece
-WroteUpTo-part old mid new piece written before kept =
-    (take written piece, (drop written piece, take-append-drop written piece), Appends-kept old mid new (take written piece) before.appended kept)
+pub WroteUpTo-part : (old mid new : Option (List ℕ)) (piece : List ℕ) (written : ℕ) → WroteUpTo old mid piece written → Keeps mid new
+    → AppendsPart old new piece
+WroteUpTo-part old mid new piece written before kept = (
+  take written piece,
+  (drop written piece, take-append-drop written piece),
+  Appends-kept old mid new (take written piece) before.appended kept,
+)
 
 -- What the buffer's front has is what the reader gave.
 pub record FilledUpTo (old new : Option (List ℕ)) (buf : List ℕ) (filled : ℕ) : Type 0 where
   pub within : filled ≤ length buf
   pub consumed : Consumes old new (take filled buf)
 
-take-put_mid_more : (at k count : ℕ) (buf part : List ℕ) → at ≤ length buf → count ≤ length part → take (at + count) (put_mid at k buf part) ≡ take at buf ++ take count part
+take-put_mid_more : (at k count : ℕ) (buf part : List ℕ) → at ≤ length buf → count ≤ length part
+    → take (at + count) (put_mid at k buf part) ≡ take at buf ++ take count part
 take-put_mid_more at k count buf part within fits =
     ap (λ n. take (n + count) (put_mid at k buf part)) (sym (length-take-le at buf within))
     ∙ take-append-add (take at buf) (part ++ post_of at k buf) count
@@ -42,5 +48,6 @@ pub FilledUpTo-more : (old mid new : Option (List ℕ)) (buf part : List ℕ) (f
     → FilledUpTo old new (put_mid filled k buf part) (filled + count)
 FilledUpTo-more old mid new buf part filled k count before fits within now = record {
   within = within;
-  consumed = subst (Consumes old new) (sym (take-put_mid_more filled k count buf part before.within fits)) (Consumes-trans _ _ _ _ _ before.consumed now);
+  consumed = subst (Consumes old new) (sym (take-put_mid_more filled k count buf part before.within fits))
+      (Consumes-trans _ _ _ _ _ before.consumed now);
 }

@@ -20,9 +20,19 @@ pub record MemoryState : Type 0 where
 abbrev pub memory_code : Coded MemoryState
 memory_code = code_by
     (Files × (List ℕ × (ℕ × (List ℕ × (ℕ × (ℕ × ℕ))))))
-    (coded× (finite.code (coded_list coded_ℕ) (coded_list coded_ℕ)) (coded× (coded_list coded_ℕ) (coded× coded_ℕ (coded× (coded_list coded_ℕ) (coded× coded_ℕ (coded× coded_ℕ coded_ℕ))))))
+    (coded× (finite.code (coded_list coded_ℕ) (coded_list coded_ℕ))
+    (coded× (coded_list coded_ℕ) (coded× coded_ℕ (coded× (coded_list coded_ℕ) (coded× coded_ℕ (coded× coded_ℕ coded_ℕ))))))
     (λ s. (s.held, (s.said, (s.calls, (s.fails, (s.read_faults, (s.write_faults, s.refusals)))))))
-    (λ p. record { held = p.0; said = p.1.0; calls = p.1.1.0; fails = p.1.1.1.0; read_faults = p.1.1.1.1.0; write_faults = p.1.1.1.1.1.0; refusals = p.1.1.1.1.1.1 })
+    (λ p. record {
+      held = p.0;
+      said = p.1.0;
+      calls = p.1.1.0;
+      fails = p.1.1.1.0;
+      read_faults = p.1.1.1.1.0;
+      write_faults =
+          p.1.1.1.1.1.0;
+      refusals = p.1.1.1.1.1.1;
+    })
     (λ _. refl)
 
 -- it tells every name; one count is that of all reads, and one that of all writes and of `say`

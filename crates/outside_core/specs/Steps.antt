@@ -60,7 +60,8 @@ PartlyAppended-all a b n xs p told = elim p [
 ]
 
 -- what is appended in part behind a name that was kept is appended in part to what it held before
-pub kept-PartlyAppended : (a b c : FolderState) (n xs : List ℕ) → GoesOn a b → KeepsName a b n → PartlyAppended b c n xs → PartlyAppended a c n xs
+pub kept-PartlyAppended : (a b c : FolderState) (n xs : List ℕ) → GoesOn a b → KeepsName a b n → PartlyAppended b c n xs
+    → PartlyAppended a c n xs
 kept-PartlyAppended a b c n xs g k p told = elim (p (told_later g n told)) [
   | inl kept ↦ inl (kept ∙ k told)
   | inr put ↦ inr (put.0, put.1, put.2 ∙ ap (λ o. Some (o ++ put.0)) (octets-kept a b n k told))

@@ -25,7 +25,8 @@ use Rattle.sample_line.proofs.Finding.{found-none}
 abbrev pub path_of : Transmitter → Hearer → Path
 path_of transmitter hearer = record { transmitter = transmitter; hearer = hearer }
 
-pub arrived : (transmitter : Transmitter) (hearer : Hearer) (script : ScriptValue) (bits : List Bool) (samples : List Sample) (check : Check) (sender : Role) (dlci : ℕ) (s : Sent) (earlier : List Bool) (result : Result Tally Lost)
+pub arrived : (transmitter : Transmitter) (hearer : Hearer) (script : ScriptValue) (bits : List Bool) (samples : List Sample)
+    (check : Check) (sender : Role) (dlci : ℕ) (s : Sent) (earlier : List Bool) (result : Result Tally Lost)
     → Transmits transmitter script bits samples
     → HearsSample (mode_of transmitter.sender) hearer samples check sender dlci s earlier result
     → Arrives (path_of transmitter hearer) script bits check sender dlci s earlier result
@@ -48,7 +49,8 @@ begun path script before earlier check sender dlci s h = record {
   tallies = record { frames = []; patterns = []; found = found-none check sender dlci earlier; tallies = (refl, refl) };
 }
 
-pub lost-within : (sender : Role) (script : ScriptValue) (before bits : List Bool) (quads : List ℕ) (n symbol : ℕ) → bits ≡ before ++ line_bits (take n quads)
+pub lost-within : (sender : Role) (script : ScriptValue) (before bits : List Bool) (quads : List ℕ) (n symbol : ℕ)
+    → bits ≡ before ++ line_bits (take n quads)
     → LosesAt sender script bits symbol → LosesWithin sender script before (line_bits quads) symbol
 lost-within sender script before bits quads n symbol e h = record {
   first = line_bits (take n quads);

@@ -20,7 +20,8 @@ use Rattle.sample_line.specs.Received.{AreFrames, FoundBetween}
 pub wholes-append : (a b : List Found) → wholes (a ++ b) ≡ wholes a ++ wholes b
 wholes-append [] b = refl
 wholes-append (found ∷ a) b =
-    ap (λ xs. octets_if_whole found.piece found.octets ++ xs) (wholes-append a b) ∙ sym (append_assoc (octets_if_whole found.piece found.octets) (wholes a) (wholes b))
+    ap (λ xs. octets_if_whole found.piece found.octets ++ xs) (wholes-append a b)
+    ∙ sym (append_assoc (octets_if_whole found.piece found.octets) (wholes a) (wholes b))
 
 pub frames-append : (check : Check) (sender : Role) (dlci : ℕ) (a b : List (List ℕ)) (f g : List Frame)
     → AreFrames check sender dlci a f → AreFrames check sender dlci b g → AreFrames check sender dlci (a ++ b) (f ++ g)
@@ -36,13 +37,16 @@ before-front bits more (suc n) h =
     let e : take (suc n) (bits ++ more) ≡ take (suc n) bits = take-append-le (suc n) bits more h in
     rw (before-front bits more n (omega arith)) (ap (λ t. sights_before bits n ++ sights_at (suc n) (seen_at t)) e)
 
-sights-more : (bits : List Bool) (bit : Bool) → sights_of (bits ++ bit ∷ []) ≡ sights_of bits ++ sights_at (length bits + 1) (seen_at (bits ++ bit ∷ []))
+sights-more : (bits : List Bool) (bit : Bool)
+    → sights_of (bits ++ bit ∷ []) ≡ sights_of bits ++ sights_at (length bits + 1) (seen_at (bits ++ bit ∷ []))
 unfolding sights_of
 sights-more bits bit =
     let n : length (bits ++ bit ∷ []) ≡ suc (length bits) = omega (arith, length-append bits (bit ∷ [])) in
     let m : suc (length bits) ≡ length bits + 1 = omega arith in
-    let all : take (suc (length bits)) (bits ++ bit ∷ []) ≡ bits ++ bit ∷ [] = take_all (suc (length bits)) (bits ++ bit ∷ []) (omega (arith, n)) in
-    ap (sights_before (bits ++ bit ∷ [])) n ∙ ap (λ t. sights_before (bits ++ bit ∷ []) (length bits) ++ sights_at (suc (length bits)) (seen_at t)) all
+    let all : take (suc (length bits)) (bits ++ bit ∷ []) ≡ bits ++ bit ∷ [] =
+    take_all (suc (length bits)) (bits ++ bit ∷ []) (omega (arith, n)) in
+    ap (sights_before (bits ++ bit ∷ [])) n
+    ∙ ap (λ t. sights_before (bits ++ bit ∷ []) (length bits) ++ sights_at (suc (length bits)) (seen_at t)) all
     ∙ ap (λ t. t ++ sights_at (suc (length bits)) (seen_at (bits ++ bit ∷ []))) (before-front bits (bit ∷ []) (length bits) (omega arith))
     ∙ ap (λ k. sights_before bits (length bits) ++ sights_at k (seen_at (bits ++ bit ∷ []))) m
 
@@ -61,25 +65,31 @@ whole-frames check sender dlci None octets frame e o some none = absurd cc
 whole-frames check sender dlci (Some found) octets frame e o some none =
     let piece : found.piece ≡ Whole = cc in
     subst (λ (p : Piece). AreFrames check sender dlci (octets_if_whole p found.octets ++ []) (option_to_list frame)) (sym piece)
-    (subst (λ (xs : List ℕ). AreFrames check sender dlci (xs ∷ []) (option_to_list frame)) o (one-whole check sender dlci octets frame some none))
+    (subst (λ (xs : List ℕ). AreFrames check sender dlci (xs ∷ []) (option_to_list frame)) o
+    (one-whole check sender dlci octets frame some none))
 
 kinds-at : (place : ℕ) (seen : Option Seen) → map (λ (sight : Sight). sight.seen) (sights_at place seen) ≡ option_to_list seen
 kinds-at place None = refl
 kinds-at place (Some seen) = refl
 
 -- one bit more, with the frame and the pattern that end with it
-pub found-more : (check : Check) (sender : Role) (dlci : ℕ) (earlier bits : List Bool) (bit : Bool) (frames : List Frame) (patterns : List Seen) (frame : Option Frame) (seen : Option Seen)
+pub found-more : (check : Check) (sender : Role) (dlci : ℕ) (earlier bits : List Bool) (bit : Bool) (frames : List Frame)
+    (patterns : List Seen) (frame : Option Frame) (seen : Option Seen)
     → FoundBetween check sender dlci earlier bits frames patterns
     → AreFrames check sender dlci (wholes (listed (found_at (bits ++ bit ∷ [])))) (option_to_list frame)
     → seen ≡ seen_at (bits ++ bit ∷ [])
     → FoundBetween check sender dlci earlier (bits ++ bit ∷ []) (frames ++ option_to_list frame) (patterns ++ option_to_list seen)
 found-more check sender dlci earlier bits bit frames patterns frame seen h are seen_is = record {
   pieces = h.pieces ++ listed (found_at (bits ++ bit ∷ []));
-  pieces_are = pieces-more bits bit ∙ ap (λ xs. xs ++ listed (found_at (bits ++ bit ∷ []))) h.pieces_are ∙ append_assoc (pieces_of earlier) h.pieces (listed (found_at (bits ++ bit ∷ [])));
-  frames_are = subst (λ xs. AreFrames check sender dlci xs (frames ++ option_to_list frame)) (sym (wholes-append h.pieces (listed (found_at (bits ++ bit ∷ [])))))
-      (frames-append check sender dlci (wholes h.pieces) (wholes (listed (found_at (bits ++ bit ∷ [])))) frames (option_to_list frame) h.frames_are are);
+  pieces_are = pieces-more bits bit ∙ ap (λ xs. xs ++ listed (found_at (bits ++ bit ∷ []))) h.pieces_are
+      ∙ append_assoc (pieces_of earlier) h.pieces (listed (found_at (bits ++ bit ∷ [])));
+  frames_are = subst (λ xs. AreFrames check sender dlci xs (frames ++ option_to_list frame))
+      (sym (wholes-append h.pieces (listed (found_at (bits ++ bit ∷ [])))))
+      (frames-append check sender dlci (wholes h.pieces) (wholes (listed (found_at (bits ++ bit ∷ [])))) frames
+      (option_to_list frame) h.frames_are are);
   sights = h.sights ++ sights_at (length bits + 1) (seen_at (bits ++ bit ∷ []));
-  sights_are = sights-more bits bit ∙ ap (λ xs. xs ++ sights_at (length bits + 1) (seen_at (bits ++ bit ∷ []))) h.sights_are ∙ append_assoc (sights_of earlier) h.sights (sights_at (length bits + 1) (seen_at (bits ++ bit ∷ [])));
+  sights_are = sights-more bits bit ∙ ap (λ xs. xs ++ sights_at (length bits + 1) (seen_at (bits ++ bit ∷ []))) h.sights_are
+      ∙ append_assoc (sights_of earlier) h.sights (sights_at (length bits + 1) (seen_at (bits ++ bit ∷ [])));
   patterns_are = ap (λ xs. xs ++ option_to_list seen) h.patterns_are
       ∙ ap (λ xs. map kind h.sights ++ xs) (ap option_to_list seen_is ∙ sym (kinds-at (length bits + 1) (seen_at (bits ++ bit ∷ []))))
       ∙ sym (map-append kind h.sights (sights_at (length bits + 1) (seen_at (bits ++ bit ∷ []))));
@@ -100,7 +110,8 @@ found-none check sender dlci bits = record {
 }
 
 -- where no whole piece ends there is no frame
-pub no-frames : (check : Check) (sender : Role) (dlci : ℕ) (found : Option Found) → (option_map (λ (f : Found). f.piece) found ≡ Some Whole → ⊥)
+pub no-frames : (check : Check) (sender : Role) (dlci : ℕ) (found : Option Found)
+    → (option_map (λ (f : Found). f.piece) found ≡ Some Whole → ⊥)
     → AreFrames check sender dlci (wholes (listed found)) []
 no-frames check sender dlci None other = refl
 no-frames check sender dlci (Some found) other = go found.piece refl

@@ -20,7 +20,8 @@ count-small : (check : Check) → count_of check ≤ 4
 count-small Sixteen = lit≤ tt
 count-small ThirtyTwo = lit≤ tt
 
-checked-short : (check : Check) (sender : Role) (dlci : ℕ) (frame : Frame) → IsFrame frame → length (checked check sender dlci frame) ≤ WHOLE
+checked-short : (check : Check) (sender : Role) (dlci : ℕ) (frame : Frame) → IsFrame frame
+    → length (checked check sender dlci frame) ≤ WHOLE
 checked-short check sender dlci frame h =
     let used : Check = check_for check frame in
     omega (
@@ -37,4 +38,8 @@ fits check sender dlci phase sent.Odp low h = tt
 fits check sender dlci phase sent.Adp low h = tt
 fits check sender dlci phase sent.Flags low h = tt
 fits check sender dlci phase (sent.Frame frame) low h =
-    record { sendable = h; room = omega (arith, length-opening phase (checked check sender dlci frame) low, checked-short check sender dlci frame h.0) }
+    record {
+      sendable = h;
+      room =
+          omega (arith, length-opening phase (checked check sender dlci frame) low, checked-short check sender dlci frame h.0);
+    }

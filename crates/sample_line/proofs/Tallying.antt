@@ -26,7 +26,8 @@ one-empty (z ∷ xs) x y e = absurd (snoc-some xs x cc)
 
 All-last : {X : Type 0} (P : X → Type 0) (xs : List X) (x : X) → All P (xs ++ x ∷ []) → P x
 All-last P xs x h =
-    subst P (get_or-append_right xs (x ∷ []) (length xs) (length xs) x refl (omega arith) ∙ here) (h (length xs) x (omega (arith, length-append xs (x ∷ []))))
+    subst P (get_or-append_right xs (x ∷ []) (length xs) (length xs) x refl (omega arith) ∙ here)
+    (h (length xs) x (omega (arith, length-append xs (x ∷ []))))
   where
     here : get_or (x ∷ []) (length xs - length xs) x ≡ x
     here = let z : length xs - length xs ≡ 0 = omega arith in rw z refl
@@ -75,11 +76,13 @@ frame-more s frames patterns frame carried Other sure never h = (
 
 -- patterns
 
-carries-own : (p : Seen) (own : Seen) (s : Sent) → ((own ≡ seen.Odp) × (s ≡ sent.Odp)) ⊎ ((own ≡ seen.Adp) × (s ≡ sent.Adp)) → p ≡ own → carries s p ≡ true
+carries-own : (p : Seen) (own : Seen) (s : Sent) → ((own ≡ seen.Odp) × (s ≡ sent.Odp)) ⊎ ((own ≡ seen.Adp) × (s ≡ sent.Adp)) → p ≡ own
+    → carries s p ≡ true
 carries-own p own s (inl q) e = rw (e, q.0, q.1) refl
 carries-own p own s (inr q) e = rw (e, q.0, q.1) refl
 
-some-before : (own : Seen) (frames : List Frame) (patterns : List Seen) (p : Seen) → IsPattern own frames (patterns ++ p ∷ []) → (patterns ≡ []) ⊎ IsPattern own frames patterns
+some-before : (own : Seen) (frames : List Frame) (patterns : List Seen) (p : Seen) → IsPattern own frames (patterns ++ p ∷ [])
+    → (patterns ≡ []) ⊎ IsPattern own frames patterns
 some-before own frames [] p w = inl refl
 some-before own frames (q ∷ patterns) p w = inr (w.0, (λ e. absurd cc), All-front (λ other. other ≡ own) (q ∷ patterns) p w.2)
 
@@ -87,13 +90,20 @@ last-pattern : (s : Sent) (frames : List Frame) (patterns : List Seen) (p : Seen
     → (carries s p ≡ true) × (frames ≡ []) × ((patterns ≡ []) ⊎ IsWhatWasSent s frames patterns)
 last-pattern sent.Mark frames patterns p w = absurd w
 last-pattern sent.Flags frames patterns p w = absurd w
-last-pattern sent.Odp frames patterns p w =
-    (carries-own p seen.Odp sent.Odp (inl (refl, refl)) (All-last (λ other. other ≡ seen.Odp) patterns p w.2), w.0, some-before seen.Odp frames patterns p w)
-last-pattern sent.Adp frames patterns p w =
-    (carries-own p seen.Adp sent.Adp (inr (refl, refl)) (All-last (λ other. other ≡ seen.Adp) patterns p w.2), w.0, some-before seen.Adp frames patterns p w)
+last-pattern sent.Odp frames patterns p w = (
+  carries-own p seen.Odp sent.Odp (inl (refl, refl)) (All-last (λ other. other ≡ seen.Odp) patterns p w.2),
+  w.0,
+  some-before seen.Odp frames patterns p w,
+)
+last-pattern sent.Adp frames patterns p w = (
+  carries-own p seen.Adp sent.Adp (inr (refl, refl)) (All-last (λ other. other ≡ seen.Adp) patterns p w.2),
+  w.0,
+  some-before seen.Adp frames patterns p w,
+)
 last-pattern (sent.Frame frame) frames patterns p w = absurd (snoc-some patterns p w.1)
 
-own-more : (own : Seen) (frames : List Frame) (patterns : List Seen) (p : Seen) → p ≡ own → frames ≡ [] → All (λ other. other ≡ own) patterns
+own-more : (own : Seen) (frames : List Frame) (patterns : List Seen) (p : Seen) → p ≡ own → frames ≡ []
+    → All (λ other. other ≡ own) patterns
     → IsPattern own frames (patterns ++ p ∷ [])
 own-more own frames patterns p e none all = (none, snoc-some patterns p, All-push (λ other. other ≡ own) patterns p all e)
 
@@ -109,14 +119,16 @@ is-adp : (p : Seen) → carries sent.Adp p ≡ true → p ≡ seen.Adp
 is-adp seen.Adp e = refl
 is-adp seen.Odp e = absurd (false≢true e)
 
-first-pattern : (s : Sent) (frames : List Frame) (patterns : List Seen) (p : Seen) → carries s p ≡ true → IsSilent frames patterns → IsWhatWasSent s frames (patterns ++ p ∷ [])
+first-pattern : (s : Sent) (frames : List Frame) (patterns : List Seen) (p : Seen) → carries s p ≡ true → IsSilent frames patterns
+    → IsWhatWasSent s frames (patterns ++ p ∷ [])
 first-pattern sent.Mark frames patterns p e h = absurd (false≢true e)
 first-pattern sent.Flags frames patterns p e h = absurd (false≢true e)
 first-pattern (sent.Frame frame) frames patterns p e h = absurd (false≢true e)
 first-pattern sent.Odp frames patterns p e h = own-more seen.Odp frames patterns p (is-odp p e) h.0 (none-all seen.Odp patterns h.1)
 first-pattern sent.Adp frames patterns p e h = own-more seen.Adp frames patterns p (is-adp p e) h.0 (none-all seen.Adp patterns h.1)
 
-next-pattern : (s : Sent) (frames : List Frame) (patterns : List Seen) (p : Seen) → carries s p ≡ true → IsWhatWasSent s frames patterns → IsWhatWasSent s frames (patterns ++ p ∷ [])
+next-pattern : (s : Sent) (frames : List Frame) (patterns : List Seen) (p : Seen) → carries s p ≡ true → IsWhatWasSent s frames patterns
+    → IsWhatWasSent s frames (patterns ++ p ∷ [])
 next-pattern sent.Mark frames patterns p e h = absurd (false≢true e)
 next-pattern sent.Flags frames patterns p e h = absurd (false≢true e)
 next-pattern (sent.Frame frame) frames patterns p e h = absurd (false≢true e)
@@ -147,7 +159,8 @@ pattern-more s frames patterns p t h = go (carries s p) t refl h
 
 -- outcomes
 
-pub silent-outcome : (s : Sent) (frames : List Frame) (patterns : List Seen) (h : Heard) → IsSilent frames patterns → IsLostAs s h → IsHeardAs s frames patterns h
+pub silent-outcome : (s : Sent) (frames : List Frame) (patterns : List Seen) (h : Heard) → IsSilent frames patterns → IsLostAs s h
+    → IsHeardAs s frames patterns h
 silent-outcome s frames patterns heard.Nothing silent lost = (lost, silent)
 silent-outcome s frames patterns (heard.Lost t) silent lost = (lost.0, lost.1, silent)
 silent-outcome s frames patterns (heard.Passed t) silent lost = absurd lost

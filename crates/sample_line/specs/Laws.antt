@@ -28,7 +28,8 @@ RecordingsGrow = (script : ScriptValue) (sender : Role) (bits more : List Bool) 
 
 -- what samples give is one list of bits
 abbrev pub GivenOnce : Type 0
-GivenOnce = (sender : Role) (samples : List Sample) (bits other : List Bool) → Gives sender samples bits → Gives sender samples other → bits ≡ other
+GivenOnce = (sender : Role) (samples : List Sample) (bits other : List Bool) → Gives sender samples bits → Gives sender samples other
+    → bits ≡ other
 
 -- and stays, whatever samples follow
 abbrev pub GivenStays : Type 0
@@ -37,7 +38,8 @@ GivenStays = (sender : Role) (samples more : List Sample) (bits later : List Boo
 
 -- one list of frames and one of patterns are received in a slot
 abbrev pub ReceivedOnce : Type 0
-ReceivedOnce = (check : Check) (sender : Role) (dlci : ℕ) (before upto : List Sample) (frames others : List Frame) (patterns other_patterns : List Seen)
+ReceivedOnce = (check : Check) (sender : Role) (dlci : ℕ) (before upto : List Sample) (frames others : List Frame)
+    (patterns other_patterns : List Seen)
     → Receives check sender dlci before upto frames patterns → Receives check sender dlci before upto others other_patterns
     → (frames ≡ others) × (patterns ≡ other_patterns)
 

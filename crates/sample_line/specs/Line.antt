@@ -50,7 +50,8 @@ abbrev pub bits_behind : ℕ → List Signal → Signal → List Bool
 bits_behind size before signal = slot_bits size (phase_after size (slots_of size before)) (slot_of size signal)
 
 -- A slot has passed: what was received in it, by the recordings of all slots up to it and of those before, and its outcome.
-pub record PassesSlot (line : Kept) (script : ScriptValue) (passed : List Signal) (signal : Signal) (waiting : List Signal) (check : Check) (dlci : ℕ) (loses : Bool) (s : Sent) (heard : Heard) : Type 0 where
+pub record PassesSlot (line : Kept) (script : ScriptValue) (passed : List Signal) (signal : Signal) (waiting : List Signal) (check : Check)
+    (dlci : ℕ) (loses : Bool) (s : Sent) (heard : Heard) : Type 0 where
   pub before : List Sample
   pub upto : List Sample
   pub recorded_before : Records script (sender_of line) (signal_bits (size_of line) passed) before
@@ -63,5 +64,7 @@ pub record PassesSlot (line : Kept) (script : ScriptValue) (passed : List Signal
 
 -- A slot passes, or the line is lost within it.
 abbrev pub Passes : Kept → ScriptValue → List Signal → Signal → List Signal → Check → ℕ → Bool → Sent → Result Heard Lost → Type 0
-Passes line script passed signal waiting check dlci loses s (Ok heard) = PassesSlot line script passed signal waiting check dlci loses s heard
-Passes line script passed signal waiting check dlci loses s (Err lost) = LosesWithin (sender_of line) script (signal_bits (size_of line) passed) (bits_behind (size_of line) passed signal) lost.symbol
+Passes line script passed signal waiting check dlci loses s (Ok heard) =
+    PassesSlot line script passed signal waiting check dlci loses s heard
+Passes line script passed signal waiting check dlci loses s (Err lost) =
+    LosesWithin (sender_of line) script (signal_bits (size_of line) passed) (bits_behind (size_of line) passed signal) lost.symbol

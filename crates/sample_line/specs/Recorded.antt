@@ -18,7 +18,8 @@ displaced offset point = record { re = saturated (offset.re +ℤ point.re); im =
 -- points with the script's offsets, the first of them at this symbol
 abbrev pub displaced_from : ScriptValue → Role → ℕ → List Sample → List Sample
 displaced_from script sender symbol [] = []
-displaced_from script sender symbol (point ∷ points) = displaced (offset_of script sender symbol) point ∷ displaced_from script sender (symbol + 1) points
+displaced_from script sender symbol (point ∷ points) =
+    displaced (offset_of script sender symbol) point ∷ displaced_from script sender (symbol + 1) points
 
 -- The samples of the bits that were sent: these are modulated, and each point is displaced by the script.
 pub record Records (script : ScriptValue) (sender : Role) (bits : List Bool) (samples : List Sample) : Type 0 where

@@ -47,14 +47,16 @@ after_pattern false AsSent = Other
 after_pattern carried Other = Other
 
 -- The frame that a whole piece spells, if it spells one, is tallied behind these.
-pub record WholeIsTallied (check : Check) (sender : Role) (dlci : ℕ) (s : Sent) (whole : List ℕ) (frames : List Frame) (patterns : List Seen) (tally : Tally) : Type 0 where
+pub record WholeIsTallied (check : Check) (sender : Role) (dlci : ℕ) (s : Sent) (whole : List ℕ) (frames : List Frame)
+    (patterns : List Seen) (tally : Tally) : Type 0 where
   pub frame : Option Frame
   pub some : IfSome frame (SpellsFrame check sender dlci whole)
   pub none : IfNone frame ((other : Frame) → SpellsFrame check sender dlci whole other → ⊥)
   pub tallies : Tallies s (frames ++ option_to_list frame) patterns tally
 
 -- And so is the frame that ends with these bits.
-pub record BitIsTallied (check : Check) (sender : Role) (dlci : ℕ) (s : Sent) (bits : List Bool) (frames : List Frame) (patterns : List Seen) (tally : Tally) : Type 0 where
+pub record BitIsTallied (check : Check) (sender : Role) (dlci : ℕ) (s : Sent) (bits : List Bool) (frames : List Frame)
+    (patterns : List Seen) (tally : Tally) : Type 0 where
   pub frame : Option Frame
   pub found : AreFrames check sender dlci (wholes (listed (found_at bits))) (option_to_list frame)
   pub tallies : Tallies s (frames ++ option_to_list frame) patterns tally

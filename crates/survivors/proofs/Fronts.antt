@@ -10,27 +10,32 @@ use Rattle.survivors.proofs.Bellman.{length-snoc, survivor-cut}
 front-is : (labels front rest : List ℕ) (n m : ℕ) → length front ≡ n → n ≤ m → take m labels ≡ front ++ rest → front ≡ take n labels
 front-is labels front rest n m l le e = sym (sym (take-take n m labels le) ∙ ap (take n) e ∙ take_at front rest n l)
 
-pub fronts-survive : {X : Type 0} (c : Trellis X) (samples more : List X) (labels : List ℕ) (end : ℕ) → IsSurvivor c (samples ++ more) labels end
+pub fronts-survive : {X : Type 0} (c : Trellis X) (samples more : List X) (labels : List ℕ) (end : ℕ)
+    → IsSurvivor c (samples ++ more) labels end
     → (mid : ℕ) × IsSurvivor c samples (take (length samples) labels) mid
 fronts-survive c samples [] labels end s =
     let here = subst (λ l. IsSurvivor c l labels end) (append-nil samples) s in
     let same : take (length samples) labels ≡ labels = take_all (length samples) labels (omega (arith, here.sequence.same_length)) in
     (end, subst (λ l. IsSurvivor c samples l end) (sym same) here)
 fronts-survive c samples (x ∷ more) labels end s =
-    let later = fronts-survive c (samples ++ x ∷ []) more labels end (subst (λ l. IsSurvivor c l labels end) (sym (append_assoc samples (x ∷ []) more)) s) in
+    let later = fronts-survive c (samples ++ x ∷ []) more labels end
+    (subst (λ l. IsSurvivor c l labels end) (sym (append_assoc samples (x ∷ []) more)) s) in
     let cut = survivor-cut c samples x later.0 (take (length (samples ++ x ∷ [])) labels) later.1 in
-    let e = front-is labels cut.front (cut.label ∷ []) (length samples) (length (samples ++ x ∷ [])) cut.survivor.sequence.same_length (omega (arith, length-snoc samples x)) cut.joined in
+    let e = front-is labels cut.front (cut.label ∷ []) (length samples) (length (samples ++ x ∷ [])) cut.survivor.sequence.same_length
+    (omega (arith, length-snoc samples x)) cut.joined in
     (cut.mid, subst (λ l. IsSurvivor c samples l cut.mid) e cut.survivor)
 
 -- what is released is a prefix of each later survivor
-pub stays-common : {X : Type 0} (c : Trellis X) (samples more : List X) (front : List ℕ) → IsReleased c samples front → IsCommon c (samples ++ more) front
+pub stays-common : {X : Type 0} (c : Trellis X) (samples more : List X) (front : List ℕ) → IsReleased c samples front
+    → IsCommon c (samples ++ more) front
 stays-common c samples more front r = λ state labels s.
     let f = fronts-survive c samples more labels state s in
     let p = r.common f.0 (take (length samples) labels) f.1 in
     let rest = drop (length samples) labels in
     (p.0 ++ rest, sym (append_assoc front p.0 rest) ∙ ap (λ l. l ++ rest) p.1 ∙ take-append-drop (length samples) labels)
 
-pub stays-prefix : {X : Type 0} (c : Trellis X) (samples more : List X) (front later : List ℕ) → IsReleased c samples front → IsReleased c (samples ++ more) later → IsPrefixOf front later
+pub stays-prefix : {X : Type 0} (c : Trellis X) (samples more : List X) (front later : List ℕ) → IsReleased c samples front
+    → IsReleased c (samples ++ more) later → IsPrefixOf front later
 stays-prefix c samples more front later r s = s.longest front (stays-common c samples more front r)
 
 -- two lists that are each a prefix of the other are one
@@ -50,7 +55,8 @@ both-prefixes a b p q = elim (cases_lt (length a) (length b)) [
 pub released-once : {X : Type 0} (c : Trellis X) (samples : List X) (a b : List ℕ) → IsReleased c samples a → IsReleased c samples b → a ≡ b
 released-once c samples a b h k = both-prefixes a b (k.longest a h.common) (h.longest b k.common)
 
-pub lost-once : {X : Type 0} (c : Trellis X) (depth : ℕ) (samples : List X) (a b : Option ℕ) → LostIs c depth samples a → LostIs c depth samples b → a ≡ b
+pub lost-once : {X : Type 0} (c : Trellis X) (depth : ℕ) (samples : List X) (a b : Option ℕ) → LostIs c depth samples a
+    → LostIs c depth samples b → a ≡ b
 lost-once c depth samples None None h k = refl
 lost-once c depth samples None (Some n) h k = absurd (h (n + 1) (omega (arith, k.within)) k.over)
 lost-once c depth samples (Some m) None h k = absurd (k (m + 1) (omega (arith, h.within)) h.over)
@@ -58,18 +64,34 @@ lost-once c depth samples (Some m) (Some n) h k = ap Some (elim (cases_eq m n) [
   | inl e ↦ e
   | inr differ ↦ elim (cases_lt m n) [
     | inl less ↦ absurd (k.first (m + 1) (omega arith) h.over)
-    | inr more ↦ let other : n < m = elim (cases_lt n m) [ inl l ↦ l | inr l ↦ let e : m ≡ n = omega arith in absurd (differ e) ] in absurd (h.first (n + 1) (omega arith) k.over)
+    | inr more ↦ let other : n < m = elim (cases_lt n m) [ inl l ↦ l | inr l ↦ let e : m ≡ n = omega arith in absurd (differ e) ] in
+        absurd (h.first (n + 1) (omega arith) k.over)
   ]
 ])
 
 -- the first samples stay the same
-pub over-more : {X : Type 0} (c : Trellis X) (depth : ℕ) (samples more : List X) (n : ℕ) → n ≤ length samples → IsOver c depth samples n → IsOver c depth (samples ++ more) n
-over-more c depth samples more n within h = record { front = h.front; released = subst (λ l. IsReleased c l h.front) (sym (take-append-le n samples more within)) h.released; over = h.over }
+pub over-more : {X : Type 0} (c : Trellis X) (depth : ℕ) (samples more : List X) (n : ℕ) → n ≤ length samples → IsOver c depth samples n
+    → IsOver c depth (samples ++ more) n
+over-more c depth samples more n within h =
+    record {
+      front = h.front;
+      released = subst (λ l. IsReleased c l h.front) (sym (take-append-le n samples more within)) h.released;
+      over =
+          h.over;
+    }
 
-pub over-before : {X : Type 0} (c : Trellis X) (depth : ℕ) (samples more : List X) (n : ℕ) → n ≤ length samples → IsOver c depth (samples ++ more) n → IsOver c depth samples n
-over-before c depth samples more n within h = record { front = h.front; released = subst (λ l. IsReleased c l h.front) (take-append-le n samples more within) h.released; over = h.over }
+pub over-before : {X : Type 0} (c : Trellis X) (depth : ℕ) (samples more : List X) (n : ℕ) → n ≤ length samples
+    → IsOver c depth (samples ++ more) n → IsOver c depth samples n
+over-before c depth samples more n within h =
+    record {
+      front = h.front;
+      released = subst (λ l. IsReleased c l h.front) (take-append-le n samples more within) h.released;
+      over =
+          h.over;
+    }
 
-pub lost-stays : {X : Type 0} (c : Trellis X) (depth : ℕ) (samples more : List X) (symbol : ℕ) → IsLost c depth samples symbol → IsLost c depth (samples ++ more) symbol
+pub lost-stays : {X : Type 0} (c : Trellis X) (depth : ℕ) (samples more : List X) (symbol : ℕ) → IsLost c depth samples symbol
+    → IsLost c depth (samples ++ more) symbol
 lost-stays {X} c depth samples more symbol h = record {
   within = omega (arith, h.within, length-append {A = X} samples more);
   over = over-more c depth samples more (symbol + 1) (omega (arith, h.within)) h.over;

@@ -12,7 +12,8 @@ pub record Branch : Type 0 where
 -- no sequence leads to a state, or the path is its survivor, and costs the sum and the base
 abbrev pub KnowsState : {X : Type 0} → Trellis X → List X → ℕ → (ℕ → List ℕ) → ℕ → Option ℕ → Type 0
 KnowsState t samples base paths state None = (labels : List ℕ) → IsSequence t samples labels state → ⊥
-KnowsState t samples base paths state (Some sum) = IsSurvivor t samples (paths state) state × (cost t.distance (paths state) samples ≡ base + sum)
+KnowsState t samples base paths state (Some sum) =
+    IsSurvivor t samples (paths state) state × (cost t.distance (paths state) samples ≡ base + sum)
 
 -- the sums and paths of all states
 pub record Keeps {X : Type 0} (t : Trellis X) (samples : List X) (base : ℕ) (sums : ℕ → Option ℕ) (paths : ℕ → List ℕ) : Type 0 where

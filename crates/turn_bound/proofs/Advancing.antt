@@ -30,16 +30,19 @@ use Rattle.turn_bound.proofs.Wholeness.{late-whole}
 use Rattle.turn_bound.proofs.CalmRuns.{said-speaks, EndAt, end-at, never-at, light-arrival, Unpaused, calm-run, going-run, polls_heard, few-heard}
 
 -- the run behind later turns is one run
-joins : (link : Link) (ts us : List Turn) (before after : Ends) → RunOf link ts before → GoesOn link ts before us after → RunOf link (us ++ ts) after
+joins : (link : Link) (ts us : List Turn) (before after : Ends) → RunOf link ts before → GoesOn link ts before us after
+    → RunOf link (us ++ ts) after
 joins link ts [] before after run goes = subst (RunOf link ts) (sym goes) run
 joins link ts (t ∷ us) before after run (ends, goes, g) = (ends, joins link ts us before ends run goes, g)
 
 -- an end that has begun, and that isn't told to release
-begun-on : (delay : Role → ℕ) (link : Link) (ts us : List Turn) (before after : Ends) (role : Role) → NeverBusy link → RunOf link ts before → GoesOn link ts before us after → IsCarried delay (us ++ ts)
+begun-on : (delay : Role → ℕ) (link : Link) (ts us : List Turn) (before after : Ends) (role : Role) → NeverBusy link → RunOf link ts before
+    → GoesOn link ts before us after → IsCarried delay (us ++ ts)
     → is_begun (of role before).phase ≡ true → is_begun (of role after).phase ≡ true
 begun-on delay link ts [] before after role n run goes c e = ap (λ (x : Ends). is_begun (of role x).phase) goes ∙ e
 begun-on delay link ts (t ∷ us) before after role n run (ends, goes, g) c e =
-    (going-run delay link (us ++ ts) ends t after role n (joins link ts us before ends run goes) c.0 g).0 (begun-on delay link ts us before ends role n run goes c.1 e)
+    (going-run delay link (us ++ ts) ends t after role n (joins link ts us before ends run goes) c.0 g).0
+    (begun-on delay link ts us before ends role n run goes c.1 e)
 
 unreleased : (b c : Bool) → (b ≡ true → c ≡ true) → c ≡ false → b ≡ false
 unreleased true c h e = let wrong : true ≡ false = sym (h refl) ∙ e in cc
@@ -49,7 +52,8 @@ may-of : (a : Account) (role : Role) → a.setup.role ≡ role → MaySend a →
 may-of a Originator e m = ap (λ r. is_originator r || a.numbered) e
 may-of a Answerer e m = ap (λ r. is_originator r || a.numbered) e ∙ m.numbered e
 
-linking-of : (z : Rates) (turn : ℕ) (role : Role) (a : Account) → EndAt z turn role a → a.phase ≡ Connected → NoneDue a → Unpaused a → may_send_at a ≡ true → Linking z turn role a
+linking-of : (z : Rates) (turn : ℕ) (role : Role) (a : Account) → EndAt z turn role a → a.phase ≡ Connected → NoneDue a → Unpaused a
+    → may_send_at a ≡ true → Linking z turn role a
 linking-of z turn role a e phase none u may = record {
   linked = linked-stand z turn turn role a (subst (λ q. Stands z turn turn role q a) phase e.stands);
   phase = phase;
@@ -63,11 +67,15 @@ linking-of z turn role a e phase none u may = record {
 
 -- A turn of the end, in a run.
 abbrev pub Lingers : ℕ → ℕ → ℕ → List Turn → Turn → Role → Account → Account → Type 0
-Lingers tries period total ts t role a b = Linger (rates tries period) total (length ts) (of_arrived frame_poll (arrival (of role t).heard)) a b
+Lingers tries period total ts t role a b =
+    Linger (rates tries period) total (length ts) (of_arrived frame_poll (arrival (of role t).heard)) a b
 
-lingers-in : (tries period : ℕ) (delay : Role → ℕ) (link : Link) (ts : List Turn) (before : Ends) (t : Turn) (after : Ends) (role : Role) (total : ℕ)
-    → KeepsTime tries period delay link → NeverBusy link → RunOf link ts before → IsCarried delay (t ∷ ts) → GoingTurn link ts before t after → Linking (rates tries period) (length ts) role (of role before)
-    → (of role after).phase ≡ Connected → Offered total (of role after) → Lingers tries period total ts t role (of role before) (of role after) × Offered total (of role before)
+lingers-in : (tries period : ℕ) (delay : Role → ℕ) (link : Link) (ts : List Turn) (before : Ends) (t : Turn) (after : Ends) (role : Role)
+    (total : ℕ)
+    → KeepsTime tries period delay link → NeverBusy link → RunOf link ts before → IsCarried delay (t ∷ ts)
+    → GoingTurn link ts before t after → Linking (rates tries period) (length ts) role (of role before)
+    → (of role after).phase ≡ Connected → Offered total (of role after)
+    → Lingers tries period total ts t role (of role before) (of role after) × Offered total (of role before)
 lingers-in tries period delay link ts before t after role total k n run c g l phase offered =
     let z : Rates = rates tries period in
     let turn : ℕ = length ts in
@@ -78,44 +86,60 @@ lingers-in tries period delay link ts before t after role total k n run c g l ph
     let e = end-at tries period delay link ts before role k run c.1 in
     let light = light-arrival delay link ts before t role n run c.0 in
     let offered' : Offered total o.said.account = subst (Offered total) o.after_is offered in
-    let et = end-turn z total user turn role (arrival (of role t).heard) (of role before) (of role g.mid) released sp.0 o.said e.rates e.is_of e.stands e.role_is (g.hearing role).hears sp.1 offered' in (
+    let et = end-turn z total user turn role (arrival (of role t).heard) (of role before)
+    (of role g.mid) released sp.0 o.said e.rates e.is_of e.stands e.role_is (g.hearing role).hears sp.1 offered' in (
       subst (λ b. Linger z total turn (of_arrived frame_poll (arrival (of role t).heard)) (of role before) b) (sym o.after_is)
-          (lingers z total user turn role (arrival (of role t).heard) (of role before) (of role g.mid) released sp.0 o.said e.rates l (never-at link turn role n) light.0 light.1 (g.hearing role).hears sp.1
+          (lingers z total user turn role (arrival (of role t).heard) (of role before) (of role g.mid) released sp.0 o.said e.rates l
+          (never-at link turn role n) light.0 light.1 (g.hearing role).hears sp.1
           (ap (λ b. b.phase) (sym o.after_is) ∙ phase) offered' et.all et.before.fits),
       et.before,
     )
 
 -- The end is Connected and may send, all along.
 linking : (tries period : ℕ) (delay : Role → ℕ) (link : Link) (ts us : List Turn) (before after : Ends) (role : Role)
-    → KeepsTime tries period delay link → NeverBusy link → RunOf link ts before → MaySend (of role before) → GoesOn link ts before us after → IsCarried delay (us ++ ts) → (of role after).phase ≡ Connected
+    → KeepsTime tries period delay link → NeverBusy link → RunOf link ts before → MaySend (of role before) → GoesOn link ts before us after
+    → IsCarried delay (us ++ ts) → (of role after).phase ≡ Connected
     → Linking (rates tries period) (length (us ++ ts)) role (of role after)
 linking tries period delay link ts [] before after role k n run m goes c phase =
     subst (λ (x : Ends). Linking (rates tries period) (length ts) role (of role x)) (sym goes)
-    (linking-of (rates tries period) (length ts) role (of role before) (end-at tries period delay link ts before role k run c) m.connected (at-once-always tries period delay link ts before k run c role)
-    (calm-run delay link ts before role n run c) (may-of (of role before) role (end-at tries period delay link ts before role k run c).role_is m))
+    (linking-of (rates tries period) (length ts) role (of role before) (end-at tries period delay link ts before role k run c) m.connected
+    (at-once-always tries period delay link ts before k run c role)
+    (calm-run delay link ts before role n run c)
+    (may-of (of role before) role (end-at tries period delay link ts before role k run c).role_is m))
 linking tries period delay link ts (t ∷ us) before after role k n run m (ends, goes, g) c phase =
     let so-far : RunOf link (us ++ ts) ends = joins link ts us before ends run goes in
     let all : RunOf link (t ∷ (us ++ ts)) after = (ends, so-far, g) in
     let keeps = going-run delay link (us ++ ts) ends t after role n so-far c.0 g in
-    let open_ : is_released (of role ends).phase ≡ false = unreleased (is_released (of role ends).phase) (is_released (of role after).phase) keeps.1 (ap is_released phase) in
-    let linked : (of role ends).phase ≡ Connected = only-linked (of role ends).phase (begun-on delay link ts us before ends role n run goes c.1 (ap is_begun m.connected)) open_ in
+    let open_ : is_released (of role ends).phase ≡ false =
+    unreleased (is_released (of role ends).phase) (is_released (of role after).phase) keeps.1 (ap is_released phase) in
+    let linked : (of role ends).phase ≡ Connected =
+    only-linked (of role ends).phase (begun-on delay link ts us before ends role n run goes c.1 (ap is_begun m.connected)) open_ in
     let l = linking tries period delay link ts us before ends role k n run m goes c.1 linked in
-    let x = lingers-in tries period delay link (us ++ ts) ends t after role (length (of role after).outgoing.pieces) k n so-far c g l phase (own-offered (of role after)) in
-    linking-of (rates tries period) (length (t ∷ (us ++ ts))) role (of role after) (end-at tries period delay link (t ∷ (us ++ ts)) after role k all c) phase (at-once-always tries period delay link (t ∷ (us ++ ts)) after k all c role)
+    let x = lingers-in tries period delay link (us ++ ts) ends t after role (length (of role after).outgoing.pieces) k n so-far c g l phase
+    (own-offered (of role after)) in
+    linking-of (rates tries period) (length (t ∷ (us ++ ts))) role (of role after)
+    (end-at tries period delay link (t ∷ (us ++ ts)) after role k all c) phase
+    (at-once-always tries period delay link (t ∷ (us ++ ts)) after k all c role)
     (calm-run delay link (t ∷ (us ++ ts)) after role n all c) x.0.may
 
 -- How far an end has come: its clock runs, or it was held up for so many turns.
 pub data Stage (z : Rates) (total start n : ℕ) (list : List Turn) (role : Role) (a : Account) : Type 0 where
-  Waits : is_waiting a.outgoing ≡ true → sender_value z total (length list) a.outgoing a.wait.timer + n ≤ start → Stage z total start n list role a
-  Holds : (h : ℕ) → is_waiting a.outgoing ≡ false → sender_value z total (length list) a.outgoing a.wait.timer + n ≤ start + h → 3 * h + held_value (length list) a ≤ 68 + 8 * polls_heard h role list → Stage z total start n list role a
+  Waits : is_waiting a.outgoing ≡ true → sender_value z total (length list) a.outgoing a.wait.timer + n ≤ start
+      → Stage z total start n list role a
+  Holds : (h : ℕ) → is_waiting a.outgoing ≡ false → sender_value z total (length list) a.outgoing a.wait.timer + n ≤ start + h
+      → 3 * h + held_value (length list) a ≤ 68 + 8 * polls_heard h role list → Stage z total start n list role a
 
 -- it is held up in few turns
 few-held : (h polls e : ℕ) → 3 * h + e ≤ 68 + 8 * polls → 19 * polls ≤ h + 38 → h ≤ 32
 few-held h polls e x y = omega arith
 
-next-stage : (tries period : ℕ) (delay : Role → ℕ) (link : Link) (list : List Turn) (ends : Ends) (t : Turn) (after : Ends) (role : Role) (total start n : ℕ)
-    → KeepsTime tries period delay link → NeverBusy link → RunOf link list ends → IsCarried delay list → AreRates (rates tries period) → (of role after).outgoing.front < total
-    → Lingers tries period total list t role (of role ends) (of role after) → Stage (rates tries period) total start n list role (of role ends) → Stage (rates tries period) total start (suc n) (t ∷ list) role (of role after)
+next-stage : (tries period : ℕ) (delay : Role → ℕ) (link : Link) (list : List Turn) (ends : Ends) (t : Turn) (after : Ends) (role : Role)
+    (total start n : ℕ)
+    → KeepsTime tries period delay link → NeverBusy link → RunOf link list ends → IsCarried delay list → AreRates (rates tries period)
+    → (of role after).outgoing.front < total
+    → Lingers tries period total list t role (of role ends) (of role after)
+    → Stage (rates tries period) total start n list role (of role ends)
+    → Stage (rates tries period) total start (suc n) (t ∷ list) role (of role after)
 next-stage tries period delay link list ends t after role total start n k nb run c y less x stage = go (is_waiting b.outgoing) refl stage
   where
     z : Rates
@@ -136,22 +160,30 @@ next-stage tries period delay link list ends t after role total start n k nb run
     held-later : held_value (suc turn) b ≡ held_value (turn + 1) b
     held-later = ap (λ m. held_value m b) (omega arith)
 
-    fell : (w w' : Bool) → is_waiting a.outgoing ≡ w → is_waiting b.outgoing ≡ w' → sender_value z total (turn + 1) b.outgoing b.wait.timer + lasts z.room w w' ≤ sender_value z total turn a.outgoing a.wait.timer
-    fell w w' e f = subst (λ q. sender_value z total (turn + 1) b.outgoing b.wait.timer + lasts z.room w q ≤ sender_value z total turn a.outgoing a.wait.timer) f
-        (subst (λ q. sender_value z total (turn + 1) b.outgoing b.wait.timer + lasts z.room q (is_waiting b.outgoing) ≤ sender_value z total turn a.outgoing a.wait.timer) e x.falls)
+    fell : (w w' : Bool) → is_waiting a.outgoing ≡ w → is_waiting b.outgoing ≡ w'
+        → sender_value z total (turn + 1) b.outgoing b.wait.timer + lasts z.room w w' ≤ sender_value z total turn a.outgoing a.wait.timer
+    fell w w' e f = subst
+        (λ q. sender_value z total
+        (turn + 1) b.outgoing b.wait.timer + lasts z.room w q ≤ sender_value z total turn a.outgoing a.wait.timer) f
+        (subst (λ q. sender_value z total (turn + 1) b.outgoing b.wait.timer + lasts z.room q
+        (is_waiting b.outgoing) ≤ sender_value z total turn a.outgoing a.wait.timer) e x.falls)
 
     go : (w : Bool) → is_waiting b.outgoing ≡ w → Stage z total start n list role a → Stage z total start (suc n) (t ∷ list) role b
     go true f (Waits e s) = Waits f (omega (arith, s, fell true true e f, later))
     go false f (Waits e s) = Holds 0 f (omega (arith, s, fell true false e f, later)) (omega (arith, held-most (suc turn) b))
     go true f (Holds h e s p) =
-        let few : h ≤ 32 = few-held h (polls_heard h role list) (held_value turn a) p (few-heard tries period delay link h list ends role k nb run c) in
+        let few : h ≤ 32 = few-held h (polls_heard h role list) (held_value turn a) p
+        (few-heard tries period delay link h list ends role k nb run c) in
         let room : 38 ≤ z.room = omega (arith, y.room, y.period) in
         Waits f (omega (arith, s, fell false true e f, later, few, room))
     go false f (Holds h e s p) = by (x.held e less)
       where
-        by : (is_waiting b.outgoing ≡ true) ⊎ (held_value (turn + 1) b + 3 ≤ held_value turn a + cond (of_arrived frame_poll (arrival (of role t).heard)) 8 0) → Stage z total start (suc n) (t ∷ list) role b
+        by : (is_waiting b.outgoing ≡ true)
+            ⊎ (held_value (turn + 1) b + 3 ≤ held_value turn a + cond (of_arrived frame_poll (arrival (of role t).heard)) 8 0)
+            → Stage z total start (suc n) (t ∷ list) role b
         by (inl w) = let wrong : true ≡ false = sym w ∙ f in cc
-        by (inr pays) = Holds (suc h) f (omega (arith, s, fell false false e f, later)) (omega (arith, p, pays, held-later, eight (of_arrived frame_poll (arrival (of role t).heard))))
+        by (inr pays) = Holds (suc h) f (omega (arith, s, fell false false e f, later))
+            (omega (arith, p, pays, held-later, eight (of_arrived frame_poll (arrival (of role t).heard))))
           where
             eight : (q : Bool) → cond q 8 0 ≡ 8 * one_if q
             eight true = omega arith
@@ -159,10 +191,14 @@ next-stage tries period delay link list ends t after role total start n k nb run
 
 -- the stages, from the first
 stages : (tries period : ℕ) (delay : Role → ℕ) (link : Link) (ts us : List Turn) (before after : Ends) (role : Role) (total : ℕ)
-    → KeepsTime tries period delay link → NeverBusy link → RunOf link ts before → MaySend (of role before) → GoesOn link ts before us after → IsCarried delay (us ++ ts) → AreRates (rates tries period)
+    → KeepsTime tries period delay link → NeverBusy link → RunOf link ts before → MaySend (of role before) → GoesOn link ts before us after
+    → IsCarried delay (us ++ ts) → AreRates (rates tries period)
     → (of role after).phase ≡ Connected → Offered total (of role after) → (of role after).outgoing.front < total
-    → Stage (rates tries period) total (sender_value (rates tries period) total (length ts) (of role before).outgoing (of role before).wait.timer) (length us) (us ++ ts) role (of role after)
-stages tries period delay link ts [] before after role total k n run m goes c y phase offered less = subst (λ (x : Ends). Stage z total start 0 ts role (of role x)) (sym goes) (first (is_waiting (of role before).outgoing) refl)
+    → Stage (rates tries period) total
+    (sender_value (rates tries period) total (length ts) (of role before).outgoing (of role before).wait.timer) (length us)
+    (us ++ ts) role (of role after)
+stages tries period delay link ts [] before after role total k n run m goes c y phase offered less =
+    subst (λ (x : Ends). Stage z total start 0 ts role (of role x)) (sym goes) (first (is_waiting (of role before).outgoing) refl)
   where
     z : Rates
     z = rates tries period
@@ -176,11 +212,15 @@ stages tries period delay link ts [] before after role total k n run m goes c y 
 stages tries period delay link ts (t ∷ us) before after role total k n run m (ends, goes, g) c y phase offered less =
     let so-far : RunOf link (us ++ ts) ends = joins link ts us before ends run goes in
     let keeps = going-run delay link (us ++ ts) ends t after role n so-far c.0 g in
-    let open_ : is_released (of role ends).phase ≡ false = unreleased (is_released (of role ends).phase) (is_released (of role after).phase) keeps.1 (ap is_released phase) in
-    let linked : (of role ends).phase ≡ Connected = only-linked (of role ends).phase (begun-on delay link ts us before ends role n run goes c.1 (ap is_begun m.connected)) open_ in
+    let open_ : is_released (of role ends).phase ≡ false =
+    unreleased (is_released (of role ends).phase) (is_released (of role after).phase) keeps.1 (ap is_released phase) in
+    let linked : (of role ends).phase ≡ Connected =
+    only-linked (of role ends).phase (begun-on delay link ts us before ends role n run goes c.1 (ap is_begun m.connected)) open_ in
     let l = linking tries period delay link ts us before ends role k n run m goes c.1 linked in
     let x = lingers-in tries period delay link (us ++ ts) ends t after role total k n so-far c g l phase offered in
-    next-stage tries period delay link (us ++ ts) ends t after role total (sender_value (rates tries period) total (length ts) (of role before).outgoing (of role before).wait.timer) (length us) k n so-far c.1 y less x.0
+    next-stage tries period delay link (us ++ ts) ends t after role total
+    (sender_value (rates tries period) total (length ts) (of role before).outgoing (of role before).wait.timer)
+    (length us) k n so-far c.1 y less x.0
     (stages tries period delay link ts us before ends role total k n run m goes c.1 y linked x.1 (omega (arith, x.0.front, less)))
 
 -- a clock that runs between turns counts a whole set of tries at most
@@ -188,18 +228,22 @@ left-most : (z : Rates) (turn count : ℕ) (timer : Option ℕ) → Ticks z turn
 left-most z turn count None h = omega arith
 left-most z turn count (Some set) h = omega (arith, h.started)
 
-start-most : (z : Rates) (total turn : ℕ) (o : Outgoing) (timer : Option ℕ) → Sends z turn turn o timer → sender_value z total turn o timer ≤ z.quota * (total - o.front) + z.first + z.whole
+start-most : (z : Rates) (total turn : ℕ) (o : Outgoing) (timer : Option ℕ) → Sends z turn turn o timer
+    → sender_value z total turn o timer ≤ z.quota * (total - o.front) + z.first + z.whole
 start-most z total turn o timer s = omega (arith, cond-le (is_free total o) z.first, left-most z turn o.count timer s.ticks)
 
 -- what is left of the front's segment at the end of the stretch
-soon : (z : Rates) (total start n front : ℕ) (list : List Turn) (role : Role) (a : Account) → AreRates z → start ≤ z.quota * (total - front) + z.first + z.whole → a.outgoing.front ≡ front → a.outgoing.front < total
-    → ((h : ℕ) → 3 * h + held_value (length list) a ≤ 68 + 8 * polls_heard h role list → h ≤ 32) → Stage z total start n list role a → n < z.quota
+soon : (z : Rates) (total start n front : ℕ) (list : List Turn) (role : Role) (a : Account) → AreRates z
+    → start ≤ z.quota * (total - front) + z.first + z.whole → a.outgoing.front ≡ front → a.outgoing.front < total
+    → ((h : ℕ) → 3 * h + held_value (length list) a ≤ 68 + 8 * polls_heard h role list → h ≤ 32) → Stage z total start n list role a
+    → n < z.quota
 soon z total start n front list role a y low same less few (Waits e s) =
     let here : z.quota * (total - a.outgoing.front) ≡ z.quota * (total - front) = ap (λ f. z.quota * (total - f)) same in
     omega (arith, s, low, here, y.quota)
 soon z total start n front list role a y low same less few (Holds h e s p) =
     let here : z.quota * (total - a.outgoing.front) ≡ z.quota * (total - front) = ap (λ f. z.quota * (total - f)) same in
-    let idle : nat_lt a.outgoing.front a.outgoing.high ≡ false = first-false (nat_lt a.outgoing.front a.outgoing.high) (a.outgoing.awaited || a.outgoing.paused) e in
+    let idle : nat_lt a.outgoing.front a.outgoing.high ≡ false =
+    first-false (nat_lt a.outgoing.front a.outgoing.high) (a.outgoing.awaited || a.outgoing.paused) e in
     let some : nat_lt a.outgoing.front total ≡ true = grind (arith, nat_tests) in
     let free : cond (is_free total a.outgoing) z.first 0 ≡ z.first = rw (idle, some) refl in
     omega (arith, s, low, here, free, few h p, y.quota, y.first, y.room, y.period)
@@ -209,8 +253,10 @@ soon z total start n front list role a y low same less few (Holds h e s p) =
     first-false false c f = refl
 
 advances-linked : (tries period : ℕ) (delay : Role → ℕ) (link : Link) (ts us : List Turn) (before after : Ends) (role : Role)
-    → KeepsTime tries period delay link → NeverBusy link → RunOf link ts before → MaySend (of role before) → GoesOn link ts before us after → IsCarried delay (us ++ ts)
-    → (of role after).phase ≡ Connected → is_whole (of role after).outgoing ≡ false → (of role after).outgoing.front ≡ (of role before).outgoing.front → length us < (rates tries period).quota
+    → KeepsTime tries period delay link → NeverBusy link → RunOf link ts before → MaySend (of role before) → GoesOn link ts before us after
+    → IsCarried delay (us ++ ts)
+    → (of role after).phase ≡ Connected → is_whole (of role after).outgoing ≡ false
+    → (of role after).outgoing.front ≡ (of role before).outgoing.front → length us < (rates tries period).quota
 advances-linked tries period delay link ts [] before after role k n run m goes c phase unwhole same =
     let y = (end-at tries period delay link ts before role k run c).rates in omega (arith, y.quota)
 advances-linked tries period delay link ts (t ∷ us) before after role k n run m (ends, goes, g) c phase unwhole same =
@@ -218,10 +264,13 @@ advances-linked tries period delay link ts (t ∷ us) before after role k n run 
     let total : ℕ = length (of role after).outgoing.pieces in
     let y = (end-at tries period delay link (us ++ ts) ends role k so-far c.1).rates in
     let first = linking tries period delay link ts [] before before role k n run m refl (before-c us c.1) m.connected in
-    soon z total (sender_value z total (length ts) (of role before).outgoing (of role before).wait.timer) (length (t ∷ us)) (of role before).outgoing.front (t ∷ (us ++ ts)) role (of role after) y
+    soon z total (sender_value z total (length ts) (of role before).outgoing (of role before).wait.timer) (length (t ∷ us))
+    (of role before).outgoing.front (t ∷ (us ++ ts)) role (of role after) y
     (start-most z total (length ts) (of role before).outgoing (of role before).wait.timer first.linked.sends) same less
-    (λ h p. few-held h (polls_heard h role (t ∷ (us ++ ts))) (held_value (length (t ∷ (us ++ ts))) (of role after)) p (few-heard tries period delay link h (t ∷ (us ++ ts)) after role k n (ends, so-far, g) c))
-    (stages tries period delay link ts (t ∷ us) before after role total k n run m (ends, goes, g) c y phase (own-offered (of role after)) less)
+    (λ h p. few-held h (polls_heard h role (t ∷ (us ++ ts))) (held_value (length (t ∷ (us ++ ts))) (of role after)) p
+    (few-heard tries period delay link h (t ∷ (us ++ ts)) after role k n (ends, so-far, g) c))
+    (stages tries period delay link ts (t ∷ us) before after role total k n run m (ends, goes, g) c y phase
+    (own-offered (of role after)) less)
   where
     so-far : RunOf link (us ++ ts) ends
     so-far = joins link ts us before ends run goes
@@ -233,14 +282,18 @@ advances-linked tries period delay link ts (t ∷ us) before after role k n run 
     less : (of role after).outgoing.front < length (of role after).outgoing.pieces
     less =
         let keeps = going-run delay link (us ++ ts) ends t after role n so-far c.0 g in
-        let open_ : is_released (of role ends).phase ≡ false = unreleased (is_released (of role ends).phase) (is_released (of role after).phase) keeps.1 (ap is_released phase) in
-        let linked : (of role ends).phase ≡ Connected = only-linked (of role ends).phase (begun-on delay link ts us before ends role n run goes c.1 (ap is_begun m.connected)) open_ in
+        let open_ : is_released (of role ends).phase ≡ false =
+        unreleased (is_released (of role ends).phase) (is_released (of role after).phase) keeps.1 (ap is_released phase) in
+        let linked : (of role ends).phase ≡ Connected =
+        only-linked (of role ends).phase (begun-on delay link ts us before ends role n run goes c.1 (ap is_begun m.connected)) open_ in
         let l = linking tries period delay link ts us before ends role k n run m goes c.1 linked in
-        let x = lingers-in tries period delay link (us ++ ts) ends t after role (length (of role after).outgoing.pieces) k n so-far c g l phase (own-offered (of role after)) in
+        let x = lingers-in tries period delay link (us ++ ts) ends t after role
+        (length (of role after).outgoing.pieces) k n so-far c g l phase (own-offered (of role after)) in
         x.0.unwhole unwhole
 
 pub advances-soon-always : AdvancesSoon
-advances-soon-always tries period delay link ts us before after role k n run m goes c unwhole same = go (is_released (of role after).phase) refl
+advances-soon-always tries period delay link ts us before after role k n run m goes c unwhole same =
+    go (is_released (of role after).phase) refl
   where
     all : RunOf link (us ++ ts) after
     all = joins link ts us before after run goes
@@ -249,4 +302,5 @@ advances-soon-always tries period delay link ts us before after role k n run m g
     go true e = let wrong : true ≡ false = sym (late-whole tries period delay link (us ++ ts) after role k n all c e) ∙ unwhole in cc
     go false e =
         advances-linked tries period delay link ts us before after role k n run m goes c
-        (only-linked (of role after).phase (begun-on delay link ts us before after role n run goes c (ap is_begun m.connected)) e) unwhole same
+        (only-linked (of role after).phase (begun-on delay link ts us before after role n run goes c (ap is_begun m.connected)) e) unwhole
+        same

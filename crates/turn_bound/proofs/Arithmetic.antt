@@ -7,7 +7,8 @@ use Rattle.turn_bound.proofs.Clock.{Rates, AreRates, Ticks, left}
 -- a try more fits
 pub tries_fit : (z : Rates) (count : ℕ) → AreRates z → count ≤ z.tries → count * z.period + z.period ≤ z.whole
 tries_fit z count y h =
-    let more : (count + 1) * z.period ≤ (z.tries + 1) * z.period = mul-le-mul_right {m = count + 1} {n = z.tries + 1} z.period (omega (arith, h)) in
+    let more : (count + 1) * z.period ≤ (z.tries + 1) * z.period =
+    mul-le-mul_right {m = count + 1} {n = z.tries + 1} z.period (omega (arith, h)) in
     omega (arith, more, y.whole)
 
 pub paid : (q m n : ℕ) → m < n → q * m + q ≤ q * n
@@ -25,14 +26,17 @@ stopped z before turn count None h e = h
 stopped z before turn count (Some set) h e = cc
 
 -- a clock that runs counts one at least
-pub left-some : (z : Rates) (before turn count : ℕ) (timer : Option ℕ) → AreRates z → Ticks z before turn count timer → is_some timer ≡ true → 1 ≤ left z turn count timer
+pub left-some : (z : Rates) (before turn count : ℕ) (timer : Option ℕ) → AreRates z → Ticks z before turn count timer → is_some timer ≡ true
+    → 1 ≤ left z turn count timer
 left-some z before turn count None y h e = cc
 left-some z before turn count (Some set) y h e = omega (arith, tries_fit z count y h.tried, h.within)
 
 -- later within a turn
-pub ticks-later : (z : Rates) (before turn count : ℕ) (timer : Option ℕ) → Ticks z before turn count timer → Ticks z (before + 1) turn count timer
+pub ticks-later : (z : Rates) (before turn count : ℕ) (timer : Option ℕ) → Ticks z before turn count timer
+    → Ticks z (before + 1) turn count timer
 ticks-later z before turn count None h = h
-ticks-later z before turn count (Some set) h = record { tied = h.tied; started = omega (arith, h.started); within = h.within; tried = h.tried }
+ticks-later z before turn count (Some set) h =
+    record { tied = h.tied; started = omega (arith, h.started); within = h.within; tried = h.tried }
 
 pub ticks-now : (z : Rates) (turn : ℕ) → Ticks z (turn + 1) turn 0 (Some turn)
 ticks-now z turn = record { tied = omega arith; started = omega arith; within = omega arith; tried = omega arith }

@@ -14,7 +14,8 @@ asked-own : (z : Rates) (turn l : ℕ) (b : OwnBreaks) → Breaks z (turn + 1) t
 asked-own z turn l b s = go (waits b) refl (nat_le b.rest turn) refl
   where
     go : (w : Bool) → waits b ≡ w → (rested : Bool) → nat_le b.rest turn ≡ rested
-        → own_value turn (cond (not w && rested) (record b { lengths = b.lengths ++ l ∷ []; brk = true; set = turn; count = 0 }) b) ≤ own_value turn b
+        → own_value turn (cond (not w && rested)
+        (record b { lengths = b.lengths ++ l ∷ []; brk = true; set = turn; count = 0 }) b) ≤ own_value turn b
     go true e rested f = omega arith
     go false e false f = omega arith
     go false e true f =
@@ -22,15 +23,20 @@ asked-own z turn l b s = go (waits b) refl (nat_le b.rest turn) refl
         let low : b.answered ≤ length b.lengths = s.low in
         let waiting : nat_lt b.answered (length (b.lengths ++ l ∷ [])) ≡ true = grind (arith, nat_tests, longer, low) in
         let rested : b.rest ≤ turn = grind (arith, nat_tests) in
-        let new : cond (nat_lt b.answered (length (b.lengths ++ l ∷ []))) (min 8 (turn - turn)) (8 - (b.rest - turn)) ≡ min 8 (turn - turn) = ap (λ w. cond w (min 8 (turn - turn)) (8 - (b.rest - turn))) waiting in
-        let old : cond (waits b) (min 8 (turn - b.set)) (8 - (b.rest - turn)) ≡ 8 - (b.rest - turn) = ap (λ w. cond w (min 8 (turn - b.set)) (8 - (b.rest - turn))) e in
+        let new : cond (nat_lt b.answered (length (b.lengths ++ l ∷ []))) (min 8 (turn - turn)) (8 - (b.rest - turn)) ≡ min 8
+        (turn - turn) = ap (λ w. cond w (min 8 (turn - turn)) (8 - (b.rest - turn))) waiting in
+        let old : cond (waits b) (min 8 (turn - b.set)) (8 - (b.rest - turn)) ≡ 8 - (b.rest - turn) =
+        ap (λ w. cond w (min 8 (turn - b.set)) (8 - (b.rest - turn))) e in
         let any : 0 ≤ cond b.brk 8 0 = omega arith in
         omega (arith, new, old, rested, any)
 
-pub served-own : (z : Rates) (turn breaks : ℕ) (busy : Bool) (a b : Account) → Breaks z (turn + 1) turn a.own_breaks → Served turn breaks busy a b → own_value turn b.own_breaks ≤ own_value turn a.own_breaks
+pub served-own : (z : Rates) (turn breaks : ℕ) (busy : Bool) (a b : Account) → Breaks z (turn + 1) turn a.own_breaks
+    → Served turn breaks busy a b → own_value turn b.own_breaks ≤ own_value turn a.own_breaks
 served-own z turn breaks busy a b h s = go s.own
   where
-    go : (b.own_breaks ≡ a.own_breaks) ⊎ ((l : ℕ) × (b.own_breaks ≡ after_ask turn l a.own_breaks) × (length a.own_breaks.lengths < breaks) × (is_connected a.phase ≡ true)) → own_value turn b.own_breaks ≤ own_value turn a.own_breaks
+    go : (b.own_breaks ≡ a.own_breaks)
+        ⊎ ((l : ℕ) × (b.own_breaks ≡ after_ask turn l a.own_breaks) × (length a.own_breaks.lengths < breaks)
+        × (is_connected a.phase ≡ true)) → own_value turn b.own_breaks ≤ own_value turn a.own_breaks
     go (inl e) = omega (arith, ap (own_value turn) e)
     go (inr x) = omega (arith, ap (own_value turn) x.1, asked-own z turn x.0 a.own_breaks h)
 

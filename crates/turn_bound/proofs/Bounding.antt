@@ -26,18 +26,22 @@ use Rattle.turn_bound.proofs.Counted.{offered-few, octets-hold, busy-few, produc
 pub ends-soon-always : EndsSoon
 ends-soon-always tries period delay link ts ends k run c =
     let t = tied delay link ts ends k.delays run c in
-    subst (λ n. n < most_turns tries period link (offered_to ends)) (turns-length ts) (ends-soon tries period (link_of delay link) (map turn_of ts) (state_of ends t.forward t.back) (keeps tries period delay link k) t.run)
+    subst (λ n. n < most_turns tries period link (offered_to ends)) (turns-length ts)
+    (ends-soon tries period (link_of delay link) (map turn_of ts) (state_of ends t.forward t.back)
+    (keeps tries period delay link k) t.run)
 
 pub stand-together-always : StandTogether
 stand-together-always tries period delay link ts ends k run c =
     let t = tied delay link ts ends k.delays run c in
-    let h = stands-together tries period (link_of delay link) (map turn_of ts) (state_of ends t.forward t.back) (keeps tries period delay link k) t.run in
+    let h = stands-together tries period (link_of delay link) (map turn_of ts) (state_of ends t.forward t.back)
+    (keeps tries period delay link k) t.run in
     record { answ = h.answ; polls = h.polls }
 
 pub at-once-always : AnswersAtOnce
 at-once-always tries period delay link ts ends k run c role =
     let t = tied delay link ts ends k.delays run c in
-    by role (none-due-run (rates tries period) (link_of delay link) (map turn_of ts) (state_of ends t.forward t.back) (fits tries period (link_of delay link) (keeps tries period delay link k)) t.run)
+    by role (none-due-run (rates tries period) (link_of delay link) (map turn_of ts) (state_of ends t.forward t.back)
+    (fits tries period (link_of delay link) (keeps tries period delay link k)) t.run)
   where
     by : (r : Role) → NoneDue ends.orig × NoneDue ends.answ → NoneDue (of r ends)
     by Originator h = h.0
@@ -48,7 +52,8 @@ within-always tries period delay link ts ends k run c role =
     let t = tied delay link ts ends k.delays run c in
     by role (within-run (link_of delay link) (map turn_of ts) (state_of ends t.forward t.back) t.run)
   where
-    by : (r : Role) → IsWithin link.orig.user.file ends.orig.outgoing × IsWithin link.answ.user.file ends.answ.outgoing → IsWithin (of r link).user.file (of r ends).outgoing
+    by : (r : Role) → IsWithin link.orig.user.file ends.orig.outgoing × IsWithin link.answ.user.file ends.answ.outgoing
+        → IsWithin (of r link).user.file (of r ends).outgoing
     by Originator h = h.0
     by Answerer h = h.1
 
@@ -65,30 +70,42 @@ spends-always tries period delay link ts before t mid role fault k run c broken 
     f = fits tries period (link_of delay link) (keeps tries period delay link k)
 
     h : Sound z (link_of delay link) (length ts) (state_of before i.forward i.back)
-    h = subst (λ n. Sound z (link_of delay link) n (state_of before i.forward i.back)) (turns-length ts) (sound-run z (link_of delay link) (map turn_of ts) (state_of before i.forward i.back) f i.run)
+    h = subst (λ n. Sound z (link_of delay link) n (state_of before i.forward i.back)) (turns-length ts)
+        (sound-run z (link_of delay link) (map turn_of ts) (state_of before i.forward i.back) f i.run)
 
-    by : (r : Role) → IsBroken link (length ts) mid r fault → IsTimely period ((tries + 1) * period) (length ts) (served_at link (length ts) mid r).account fault
+    by : (r : Role) → IsBroken link (length ts) mid r fault
+        → IsTimely period ((tries + 1) * period) (length ts) (served_at link (length ts) mid r).account fault
     by Originator e =
-        end-spends z link.orig.user (length ts) Originator (runs.arrival t.orig.heard) before.orig mid.orig (is_released mid.orig.phase) (releases link (length ts) mid) fault f.rates (subst (IsOf z) (sym h.orig_setup) f.orig) h.orig
+        end-spends z link.orig.user (length ts) Originator (runs.arrival t.orig.heard) before.orig mid.orig (is_released mid.orig.phase)
+        (releases link (length ts) mid) fault f.rates (subst (IsOf z) (sym h.orig_setup) f.orig) h.orig
         (ap (λ x. x.role) h.orig_setup ∙ f.originates) (broken.hearing Originator).hears e
     by Answerer e =
-        end-spends z link.answ.user (length ts) Answerer (runs.arrival t.answ.heard) before.answ mid.answ (is_released mid.orig.phase) false fault f.rates (subst (IsOf z) (sym h.answ_setup) f.answ) h.answ
+        end-spends z link.answ.user (length ts) Answerer (runs.arrival t.answ.heard) before.answ mid.answ
+        (is_released mid.orig.phase) false fault f.rates (subst (IsOf z) (sym h.answ_setup) f.answ) h.answ
         (ap (λ x. x.role) h.answ_setup ∙ f.answers) (broken.hearing Answerer).hears e.1
 
 pub by-files-always : EndsSoonByFiles
 by-files-always tries period delay link ts ends segments k run c holds =
     let w = within-always tries period delay link ts ends k run c in
     let few : of_both (offered_to ends) ≤ of_both segments
-    = omega (arith, offered-few link.orig.user.file ends.orig.outgoing (segments Originator) (w Originator) (holds Originator), offered-few link.answ.user.file ends.answ.outgoing (segments Answerer) (w Answerer) (holds Answerer)) in
+    = omega (
+      arith,
+      offered-few link.orig.user.file ends.orig.outgoing (segments Originator) (w Originator) (holds Originator),
+      offered-few link.answ.user.file ends.answ.outgoing (segments Answerer) (w Answerer) (holds Answerer),
+    ) in
     let lighter : weight link (offered_to ends) ≤ weight link segments = omega (arith, few) in
-    let most : most_turns tries period link (offered_to ends) ≤ most_turns tries period link segments = product-most (2 * (tries + 2) * period) (weight link (offered_to ends)) (2 * (tries + 2) * period) (weight link segments) (omega arith) lighter in
+    let most : most_turns tries period link (offered_to ends) ≤ most_turns tries period link segments =
+    product-most (2 * (tries + 2) * period) (weight link (offered_to ends)) (2 * (tries + 2) * period) (weight link segments)
+    (omega arith) lighter in
     omega (arith, ends-soon-always tries period delay link ts ends k run c, most)
 
 pub by-octets-always : EndsSoonByOctets
 by-octets-always tries period delay link ts ends k run c =
-    by-files-always tries period delay link ts ends (λ role. length (of role link).user.file) k run c (holds (within-always tries period delay link ts ends k run c))
+    by-files-always tries period delay link ts ends (λ role. length (of role link).user.file) k run c
+    (holds (within-always tries period delay link ts ends k run c))
   where
-    holds : ((role : Role) → IsWithin (of role link).user.file (of role ends).outgoing) → (role : Role) → HoldsFile (of role link).user.file (of role ends).outgoing (length (of role link).user.file)
+    holds : ((role : Role) → IsWithin (of role link).user.file (of role ends).outgoing) → (role : Role)
+        → HoldsFile (of role link).user.file (of role ends).outgoing (length (of role link).user.file)
     holds w role = octets-hold (of role link).user.file (of role ends).outgoing (w role)
 
 pub no-run-is-long-always : NoRunIsLong
@@ -98,6 +115,15 @@ no-run-is-long-always tries period delay link ts ends k l run c =
     let short : period ≤ 256 = omega (arith, k.period_is, l.delays_few Originator, l.delays_few Answerer) in
     let often : 2 * (tries + 2) * period ≤ 44 * 256 = product-most (2 * (tries + 2)) period 44 256 (omega (arith, l.tries_few)) short in
     let heavy : weight link octets ≤ 34834502
-    = omega (arith, l.files_short Originator, l.files_short Answerer, l.breaks_few, l.busy_few, busy-few link.orig.user.busy (l.busy_short Originator), busy-few link.answ.user.busy (l.busy_short Answerer)) in
-    let most : most_turns tries period link octets ≤ 44 * 256 * 34834502 = product-most (2 * (tries + 2) * period) (weight link octets) (44 * 256) 34834502 often heavy in
+    = omega (
+      arith,
+      l.files_short Originator,
+      l.files_short Answerer,
+      l.breaks_few,
+      l.busy_few,
+      busy-few link.orig.user.busy (l.busy_short Originator),
+      busy-few link.answ.user.busy (l.busy_short Answerer),
+    ) in
+    let most : most_turns tries period link octets ≤ 44 * 256 * 34834502 =
+    product-most (2 * (tries + 2) * period) (weight link octets) (44 * 256) 34834502 often heavy in
     omega (arith, soon, most)

@@ -47,7 +47,8 @@ pub record EndAt (z : Rates) (turn : ℕ) (role : Role) (a : Account) : Type 0 w
   pub is_of : IsOf z a.setup
   pub role_is : a.setup.role ≡ role
 
-pub end-at : (tries period : ℕ) (delay : Role → ℕ) (link : Link) (ts : List Turn) (ends : Ends) (role : Role) → KeepsTime tries period delay link → RunOf link ts ends → IsCarried delay ts
+pub end-at : (tries period : ℕ) (delay : Role → ℕ) (link : Link) (ts : List Turn) (ends : Ends) (role : Role)
+    → KeepsTime tries period delay link → RunOf link ts ends → IsCarried delay ts
     → EndAt (rates tries period) (length ts) role (of role ends)
 end-at tries period delay link ts ends role k run c = by role
   where
@@ -61,11 +62,24 @@ end-at tries period delay link ts ends role k run c = by role
     f = fits tries period (link_of delay link) (keeps tries period delay link k)
 
     h : Sound z (link_of delay link) (length ts) (state_of ends i.forward i.back)
-    h = subst (λ n. Sound z (link_of delay link) n (state_of ends i.forward i.back)) (turns-length ts) (sound-run z (link_of delay link) (map turn_of ts) (state_of ends i.forward i.back) f i.run)
+    h = subst (λ n. Sound z (link_of delay link) n (state_of ends i.forward i.back)) (turns-length ts)
+        (sound-run z (link_of delay link) (map turn_of ts) (state_of ends i.forward i.back) f i.run)
 
     by : (r : Role) → EndAt z (length ts) r (of r ends)
-    by Originator = record { rates = f.rates; stands = h.orig; is_of = subst (IsOf z) (sym h.orig_setup) f.orig; role_is = ap (λ x. x.role) h.orig_setup ∙ f.originates }
-    by Answerer = record { rates = f.rates; stands = h.answ; is_of = subst (IsOf z) (sym h.answ_setup) f.answ; role_is = ap (λ x. x.role) h.answ_setup ∙ f.answers }
+    by Originator = record {
+      rates = f.rates;
+      stands = h.orig;
+      is_of = subst (IsOf z) (sym h.orig_setup) f.orig;
+      role_is =
+          ap (λ x. x.role) h.orig_setup ∙ f.originates;
+    }
+    by Answerer = record {
+      rates = f.rates;
+      stands = h.answ;
+      is_of = subst (IsOf z) (sym h.answ_setup) f.answ;
+      role_is =
+          ap (λ x. x.role) h.answ_setup ∙ f.answers;
+    }
 
 never-busy : (turn : ℕ) (lines : List BusyLine) → lines ≡ [] → is_busy turn lines ≡ false
 never-busy turn lines e = ap (is_busy turn) e
@@ -84,14 +98,16 @@ LightTurn t = (role : Role) → LightSlot (of role t).sent
 light-ok : (said : Said) (m : Option Spoken) (busy : Bool) → busy ≡ false → Light busy said → m ≡ Some (runs.spoken said) → LightSlot m
 light-ok said m busy e l f = subst LightSlot (sym f) (l.0, omega (arith, l.1, ap one_if e))
 
-said-light : (busy : Bool) (said : Said) (turn : ℕ) (release : Bool) (b : Account) → speak turn release b ≡ Ok said → LightSaid busy (speak turn release b) → Light busy said
+said-light : (busy : Bool) (said : Said) (turn : ℕ) (release : Bool) (b : Account) → speak turn release b ≡ Ok said
+    → LightSaid busy (speak turn release b) → Light busy said
 said-light busy said turn release b e h = by (speak turn release b) e h
   where
     by : (r : Result Said LinkFault) → r ≡ Ok said → LightSaid busy r → Light busy said
     by (Err fault) e h = cc
     by (Ok other) e h = let same : other ≡ said = cc in subst (Light busy) same h
 
-light-turn : (link : Link) (ts : List Turn) (before : Ends) (t : Turn) (after : Ends) → NeverBusy link → GoingTurn link ts before t after → LightTurn t
+light-turn : (link : Link) (ts : List Turn) (before : Ends) (t : Turn) (after : Ends) → NeverBusy link → GoingTurn link ts before t after
+    → LightTurn t
 light-turn link ts before t after n g role =
     let o = g.speaking role in
     let turn : ℕ = length ts in
@@ -101,7 +117,8 @@ light-turn link ts before t after n g role =
     let sp = said-speaks link turn g.mid role o.said o.says in
     light-ok o.said (of role t).sent (is_busy turn user.busy) (never-at link turn role n)
     (said-light (is_busy turn user.busy) o.said turn sp.0 (served_account user turn released (of role g.mid)) sp.1
-    (speaks-light (is_busy turn user.busy) turn sp.0 (served_account user turn released (of role g.mid)) (λ c. s.busy_now (ap is_connected (sym s.phase) ∙ c))))
+    (speaks-light (is_busy turn user.busy) turn sp.0 (served_account user turn released (of role g.mid))
+    (λ c. s.busy_now (ap is_connected (sym s.phase) ∙ c))))
     o.sent_is
 
 pub light-run : (link : Link) (ts : List Turn) (ends : Ends) → NeverBusy link → RunOf link ts ends → AllByRecursion LightTurn ts
@@ -114,23 +131,28 @@ all-get (t ∷ ts) zero h role = h.0 role
 all-get (t ∷ ts) (suc n) h role = all-get ts n h.1 role
 
 -- so is what arrives
-pub light-heard : (m : Option Spoken) (heard : Heard) → Crosses m heard → LightSlot m → (arrived_weight (arrival heard) ≤ 2) × (arrived_rnrs (arrival heard) ≡ 0)
+pub light-heard : (m : Option Spoken) (heard : Heard) → Crosses m heard → LightSlot m
+    → (arrived_weight (arrival heard) ≤ 2) × (arrived_rnrs (arrival heard) ≡ 0)
 light-heard m Nothing c l = (omega arith, refl)
 light-heard m (Lost s) c l = (omega arith, refl)
 light-heard None (Passed s) c l = absurd c
 light-heard (Some slot) (Passed s) c l = (omega (arith, l.0, ap weight c.0, arrives-weight s), arrives-rnrs s ∙ (ap rnrs c.0 ∙ l.1))
 light-heard m Chance c l = (omega arith, refl)
 
-pub light-arrival : (delay : Role → ℕ) (link : Link) (ts : List Turn) (ends : Ends) (t : Turn) (role : Role) → NeverBusy link → RunOf link ts ends → Carries delay ts t
+pub light-arrival : (delay : Role → ℕ) (link : Link) (ts : List Turn) (ends : Ends) (t : Turn) (role : Role) → NeverBusy link
+    → RunOf link ts ends → Carries delay ts t
     → (arrived_weight (arrival (of role t).heard) ≤ 2) × (arrived_rnrs (arrival (of role t).heard) ≡ 0)
-light-arrival delay link ts ends t role n run c = light-heard (sent_ago (delay (other role)) (other role) ts) (of role t).heard (c role) (all-get ts (delay (other role) - 1) (light-run link ts ends n run) (other role))
+light-arrival delay link ts ends t role n run c =
+    light-heard (sent_ago (delay (other role)) (other role) ts) (of role t).heard (c role)
+    (all-get ts (delay (other role) - 1) (light-run link ts ends n run) (other role))
 
 -- No end counts the other as busy, and none told that it is.
 pub record Unpaused (a : Account) : Type 0 where
   pub paused : a.outgoing.paused ≡ false
   pub told : a.owes.busy_told ≡ false
 
-pub calm-run : (delay : Role → ℕ) (link : Link) (ts : List Turn) (ends : Ends) (role : Role) → NeverBusy link → RunOf link ts ends → IsCarried delay ts → Unpaused (of role ends)
+pub calm-run : (delay : Role → ℕ) (link : Link) (ts : List Turn) (ends : Ends) (role : Role) → NeverBusy link → RunOf link ts ends
+    → IsCarried delay ts → Unpaused (of role ends)
 calm-run delay link [] ends role n run c = subst (λ e. Unpaused (of role e)) (sym run) (by role)
   where
     by : (r : Role) → Unpaused (of r (runs.start link))
@@ -154,8 +176,10 @@ calm-run delay link (t ∷ ts) ends role n (before, run, g) c =
     })
 
 -- phases don't go back
-pub going-run : (delay : Role → ℕ) (link : Link) (ts : List Turn) (before : Ends) (t : Turn) (after : Ends) (role : Role) → NeverBusy link → RunOf link ts before → Carries delay ts t → GoingTurn link ts before t after
-    → (is_begun (of role before).phase ≡ true → is_begun (of role after).phase ≡ true) × (is_released (of role before).phase ≡ true → is_released (of role after).phase ≡ true)
+pub going-run : (delay : Role → ℕ) (link : Link) (ts : List Turn) (before : Ends) (t : Turn) (after : Ends) (role : Role) → NeverBusy link
+    → RunOf link ts before → Carries delay ts t → GoingTurn link ts before t after
+    → (is_begun (of role before).phase ≡ true → is_begun (of role after).phase ≡ true)
+    × (is_released (of role before).phase ≡ true → is_released (of role after).phase ≡ true)
 going-run delay link ts before t after role n run c g =
     let turn : ℕ = length ts in
     let user : User = (of role link).user in
@@ -190,7 +214,8 @@ nineteen : (b : Bool) → nineteen_if b ≡ 19 * one_if b
 nineteen true = omega arith
 nineteen false = omega arith
 
-pub few-sent : (tries period : ℕ) (delay : Role → ℕ) (link : Link) (n : ℕ) (ts : List Turn) (ends : Ends) (role : Role) → KeepsTime tries period delay link → NeverBusy link → RunOf link ts ends → IsCarried delay ts
+pub few-sent : (tries period : ℕ) (delay : Role → ℕ) (link : Link) (n : ℕ) (ts : List Turn) (ends : Ends) (role : Role)
+    → KeepsTime tries period delay link → NeverBusy link → RunOf link ts ends → IsCarried delay ts
     → 19 * polls_sent n role ts + poll_value (length ts) (of role ends).phase (of role ends) ≤ n + 38
 few-sent tries period delay link zero ts ends role k nb run c = omega (arith, poll-most (length ts) (of role ends).phase (of role ends))
 few-sent tries period delay link (suc n) [] ends role k nb run c = omega (arith, poll-most 0 (of role ends).phase (of role ends))
@@ -201,10 +226,13 @@ few-sent tries period delay link (suc n) (t ∷ ts) ends role k nb (before, run,
     let e = end-at tries period delay link ts before role k run c.1 in
     let light = light-arrival delay link ts before t role nb run c.0 in
     let sp = said-speaks link turn g.mid role o.said o.says in
-    let one = poll-turn (rates tries period) user turn role (arrival (of role t).heard) (of role before) (of role g.mid) (is_released g.mid.orig.phase) sp.0 o.said e.rates e.is_of e.stands e.role_is light.0 light.1 (g.hearing role).hears sp.1 in
+    let one = poll-turn (rates tries period) user turn role (arrival (of role t).heard) (of role before) (of role g.mid)
+    (is_released g.mid.orig.phase) sp.0 o.said e.rates e.is_of e.stands e.role_is light.0 light.1 (g.hearing role).hears sp.1 in
     let rest = few-sent tries period delay link n ts before role k nb run c.1 in
-    let now : poll_value (turn + 1) (of role ends).phase (of role ends) ≡ poll_value (turn + 1) o.said.account.phase o.said.account = ap (λ a. poll_value (turn + 1) a.phase a) o.after_is in
-    let later : poll_value (suc turn) (of role ends).phase (of role ends) ≡ poll_value (turn + 1) (of role ends).phase (of role ends) = ap (λ m. poll_value m (of role ends).phase (of role ends)) (omega arith) in
+    let now : poll_value (turn + 1) (of role ends).phase (of role ends) ≡ poll_value (turn + 1) o.said.account.phase o.said.account =
+    ap (λ a. poll_value (turn + 1) a.phase a) o.after_is in
+    let later : poll_value (suc turn) (of role ends).phase (of role ends) ≡ poll_value (turn + 1) (of role ends).phase (of role ends) =
+    ap (λ m. poll_value m (of role ends).phase (of role ends)) (omega arith) in
     omega (arith, one, rest, now, later, nineteen (of_frame frame_poll o.said.sent), ap poll_in o.sent_is)
 
 -- what was heard was sent before
@@ -229,21 +257,31 @@ crossed-polls None (Passed s) c = absurd c
 crossed-polls (Some slot) (Passed s) c = omega (arith, ap one_if (arrives-flag frame_poll s ∙ ap (of_frame frame_poll) c.0))
 crossed-polls m Chance c = omega arith
 
-pub heard-sent : (delay : Role → ℕ) (d n : ℕ) (ts : List Turn) (role : Role) → delay (other role) ≡ d → 1 ≤ d → IsCarried delay ts → polls_heard n role ts ≤ polls_sent n (other role) (drop d ts)
+pub heard-sent : (delay : Role → ℕ) (d n : ℕ) (ts : List Turn) (role : Role) → delay (other role) ≡ d → 1 ≤ d → IsCarried delay ts
+    → polls_heard n role ts ≤ polls_sent n (other role) (drop d ts)
 heard-sent delay zero n ts role e some c = absurd (omega (arith, some))
 heard-sent delay (suc d) zero ts role e some c = omega arith
 heard-sent delay (suc d) (suc n) [] role e some c = omega arith
 heard-sent delay (suc d) (suc n) (t ∷ ts) role e some c = go (split d ts) (heard-sent delay (suc d) n ts role e some c.1)
   where
     now : one_if (of_arrived frame_poll (arrival (of role t).heard)) ≤ poll_in (sent_in (other role) (slice_get ts d))
-    now = subst (λ k. one_if (of_arrived frame_poll (arrival (of role t).heard)) ≤ poll_in (sent_in (other role) (slice_get ts k))) less (crossed-polls (sent_ago (delay (other role)) (other role) ts) (of role t).heard (c.0 role))
+    now = subst (λ k. one_if (of_arrived frame_poll (arrival (of role t).heard)) ≤ poll_in (sent_in (other role) (slice_get ts k))) less
+        (crossed-polls (sent_ago (delay (other role)) (other role) ts) (of role t).heard (c.0 role))
       where
         less : delay (other role) - 1 ≡ d
         less = omega (arith, e)
 
-    go : Split d ts → polls_heard n role ts ≤ polls_sent n (other role) (drop (suc d) ts) → one_if (of_arrived frame_poll (arrival (of role t).heard)) + polls_heard n role ts ≤ polls_sent (suc n) (other role) (drop d ts)
+    go : Split d ts → polls_heard n role ts ≤ polls_sent n (other role) (drop (suc d) ts)
+        → one_if (of_arrived frame_poll (arrival (of role t).heard)) + polls_heard n role ts ≤ polls_sent (suc n) (other role) (drop d ts)
     go (Within x rest f g h) less =
-        omega (arith, now, less, ap (λ m. poll_in (sent_in (other role) m)) g, ap (polls_sent (suc n) (other role)) f, ap (polls_sent n (other role)) h)
+        omega (
+          arith,
+          now,
+          less,
+          ap (λ m. poll_in (sent_in (other role) m)) g,
+          ap (polls_sent (suc n) (other role)) f,
+          ap (polls_sent n (other role)) h,
+        )
     go (Over f g) less = omega (arith, now, less, gone d ts f, ap (polls_sent n (other role)) g, none-sent n)
       where
         none-sent : (m : ℕ) → polls_sent m (other role) [] ≡ 0
@@ -268,7 +306,8 @@ before-carried (suc n) delay [] c = c
 before-carried (suc n) delay (t ∷ ts) c = before-carried n delay ts c.1
 
 -- So few polls are heard in so many turns.
-pub few-heard : (tries period : ℕ) (delay : Role → ℕ) (link : Link) (n : ℕ) (ts : List Turn) (ends : Ends) (role : Role) → KeepsTime tries period delay link → NeverBusy link → RunOf link ts ends → IsCarried delay ts
+pub few-heard : (tries period : ℕ) (delay : Role → ℕ) (link : Link) (n : ℕ) (ts : List Turn) (ends : Ends) (role : Role)
+    → KeepsTime tries period delay link → NeverBusy link → RunOf link ts ends → IsCarried delay ts
     → 19 * polls_heard n role ts ≤ n + 38
 few-heard tries period delay link n ts ends role k nb run c =
     let d : ℕ = delay (other role) in

@@ -15,12 +15,14 @@ offered-few file o segments w h = elim (cases_lt segments (length o.pieces)) [ i
     wrong : segments < length o.pieces → length o.pieces ≤ segments
     wrong more =
         let some : 1 ≤ length o.pieces = omega (arith, more) in
-        let below : o.size * segments ≤ o.size * (length o.pieces - 1) = mul-le-mul_left {m = segments} {n = length o.pieces - 1} o.size (omega (arith, more)) in
+        let below : o.size * segments ≤ o.size * (length o.pieces - 1) =
+        mul-le-mul_left {m = segments} {n = length o.pieces - 1} o.size (omega (arith, more)) in
         absurd (omega (arith, below, w.last some, h some))
 
 -- a segment has one octet at least
 pub octets-hold : (file : List ℕ) (o : Outgoing) → IsWithin file o → HoldsFile file o (length file)
-octets-hold file o w some = let more : 1 * length file ≤ o.size * length file = mul-le-mul_right {m = 1} {n = o.size} (length file) (w.sized some) in omega (arith, more)
+octets-hold file o w some = let more : 1 * length file ≤ o.size * length file =
+    mul-le-mul_right {m = 1} {n = o.size} (length file) (w.sized some) in omega (arith, more)
 
 pub busy-few : (lines : List BusyLine) → AllByRecursion IsShort lines → busy_turns lines ≤ 10000 * length lines
 busy-few [] all = omega arith

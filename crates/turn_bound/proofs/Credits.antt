@@ -23,7 +23,8 @@ abbrev pub held_value : ℕ → Account → ℕ
 held_value turn a = owing a.incoming a.their_breaks.ack + cond a.special 0 4 + own_value turn a.own_breaks + cond a.wait.poll 16 0
 
 pub held-most : (turn : ℕ) (a : Account) → held_value turn a ≤ 68
-held-most turn a = go a.incoming.srej a.incoming.rej a.incoming.gapped (is_some a.their_breaks.ack) a.special a.own_breaks.brk (waits a.own_breaks) a.wait.poll (turn - a.own_breaks.set) (a.own_breaks.rest - turn)
+held-most turn a = go a.incoming.srej a.incoming.rej a.incoming.gapped (is_some a.their_breaks.ack) a.special a.own_breaks.brk
+    (waits a.own_breaks) a.wait.poll (turn - a.own_breaks.set) (a.own_breaks.rest - turn)
   where
     if-most : (b : Bool) (n : ℕ) → (cond b n 0 ≤ n) × (cond b 0 n ≤ n)
     if-most true n = (omega arith, omega arith)
@@ -34,9 +35,12 @@ held-most turn a = go a.incoming.srej a.incoming.rej a.incoming.gapped (is_some 
     either-most false m n k h1 h2 = h2
 
     go : (srej rej gapped ack special brk w poll : Bool) (s r : ℕ)
-        → cond srej 0 (cond rej 16 0 + cond gapped 0 8) + cond ack 8 0 + cond special 0 4 + (cond brk 8 0 + cond w (min 8 s) (8 - r)) + cond poll 16 0 ≤ 68
+        → cond srej 0 (cond rej 16 0 + cond gapped 0 8) + cond ack 8 0 + cond special 0 4 +
+        (cond brk 8 0 + cond w (min 8 s) (8 - r)) + cond poll 16 0 ≤ 68
     go srej rej gapped ack special brk w poll s r =
-        let first : cond srej 0 (cond rej 16 0 + cond gapped 0 8) ≤ 24 = either-most srej 0 (cond rej 16 0 + cond gapped 0 8) 24 (omega arith) (omega (arith, (if-most rej 16).0, (if-most gapped 8).1)) in
+        let first : cond srej 0 (cond rej 16 0 + cond gapped 0 8) ≤ 24 =
+        either-most srej 0 (cond rej 16 0 + cond gapped 0 8) 24 (omega arith)
+        (omega (arith, (if-most rej 16).0, (if-most gapped 8).1)) in
         let last : cond w (min 8 s) (8 - r) ≤ 8 = either-most w (min 8 s) (8 - r) 8 (omega arith) (omega arith) in
         omega (arith, first, (if-most ack 8).0, (if-most special 4).1, (if-most brk 8).0, last, (if-most poll 16).0)
 

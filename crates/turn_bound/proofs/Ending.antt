@@ -54,9 +54,12 @@ sound-run z link (t ∷ ts) s f (before, run, g) =
     subst (λ n. Sound z link n s) (omega arith) (subst (Sound z link (length ts + 1)) (sym (after-is link (length ts) before t s g)) next)
 
 -- each turn lowers the potential
-pub falls-all : (z : Rates) (link : Link) (totals : Totals) (ts : List Turn) (s : State) → Fits z link → ((us : List Turn) (t : State) → RunOf link us t → AreTogether t) → RunOf link ts s
-    → Offered totals.orig s.orig → Offered totals.answ s.answ → potential z link totals (length ts) s + length ts ≤ potential z link totals 0 (start link)
-falls-all z link totals [] s f each run oo oa = subst (λ x. potential z link totals 0 x + 0 ≤ potential z link totals 0 (start link)) (sym run) (omega arith)
+pub falls-all : (z : Rates) (link : Link) (totals : Totals) (ts : List Turn) (s : State) → Fits z link
+    → ((us : List Turn) (t : State) → RunOf link us t → AreTogether t) → RunOf link ts s
+    → Offered totals.orig s.orig → Offered totals.answ s.answ
+    → potential z link totals (length ts) s + length ts ≤ potential z link totals 0 (start link)
+falls-all z link totals [] s f each run oo oa =
+    subst (λ x. potential z link totals 0 x + 0 ≤ potential z link totals 0 (start link)) (sym run) (omega arith)
 falls-all z link totals (t ∷ ts) s f each (before, run, g) oo oa =
     let after = after-is link (length ts) before t s g in
     let s' = state_after link (length ts) before g.orig_mid g.answ_mid g.orig_said g.answ_said in
@@ -65,30 +68,47 @@ falls-all z link totals (t ∷ ts) s f each (before, run, g) oo oa =
     let pa : Offered totals.answ g.answ_said.account = subst (λ x. Offered totals.answ x.answ) after oa in
     let b = both-turn z link totals (length ts) before t s f h g po pa in
     let more = falls-all z link totals ts before f each run b.orig.before b.answ.before in
-    let one = falls z link totals (length ts) before t s f h g po pa (each ts before run) (subst AreTogether after (each (t ∷ ts) s (before, run, g))) in
-    let now : potential z link totals (length ts + 1) s + 1 ≤ potential z link totals (length ts) before = subst (λ x. potential z link totals (length ts + 1) x + 1 ≤ potential z link totals (length ts) before) (sym after) one in
-    subst (λ n. potential z link totals n s + n ≤ potential z link totals 0 (start link)) (omega arith) (one-more (potential z link totals (length ts + 1) s) (potential z link totals (length ts) before) (length ts) (potential z link totals 0 (start link)) now more)
+    let one = falls z link totals (length ts) before t s f h g po pa (each ts before run)
+    (subst AreTogether after (each (t ∷ ts) s (before, run, g))) in
+    let now : potential z link totals (length ts + 1) s + 1 ≤ potential z link totals (length ts) before =
+    subst (λ x. potential z link totals (length ts + 1) x + 1 ≤ potential z link totals (length ts) before) (sym after) one in
+    subst (λ n. potential z link totals n s + n ≤ potential z link totals 0 (start link)) (omega arith)
+    (one-more (potential z link totals (length ts + 1) s) (potential z link totals (length ts) before) (length ts)
+    (potential z link totals 0 (start link)) now more)
   where
     one-more : (p' p n start : ℕ) → p' + 1 ≤ p → p + n ≤ start → p' + (n + 1) ≤ start
     one-more p' p n start h k = omega arith
 
 -- where a run starts
 start-numbers : (q g w k to ta bo ba fo fa wo wa : ℕ) → fo ≤ g → fa ≤ g
-    → (q * (to - 0) + fo + q * (bo - 0) + q * 4 + (w - 0)) + (q * (ta - 0) + fa + q * (ba - 0) + q * 0 + 0) + k + q * (0 + 0 + 2 * (wo + wa))
+    → (q * (to - 0) + fo + q * (bo - 0) + q * 4 + (w - 0)) + (q * (ta - 0) + fa + q * (ba - 0) + q * 0 + 0) + k + q *
+    (0 + 0 + 2 * (wo + wa))
     ≤ q * (to + ta + (bo + ba) + 2 * (wo + wa) + 4) + w + 2 * g + k
-start-numbers q g w k to ta bo ba fo fa wo wa h1 h2 = omega (arith, ap (λ n. q * n) (less-none to), ap (λ n. q * n) (less-none ta), ap (λ n. q * n) (less-none bo), ap (λ n. q * n) (less-none ba))
+start-numbers q g w k to ta bo ba fo fa wo wa h1 h2 =
+    omega (
+      arith,
+      ap (λ n. q * n) (less-none to),
+      ap (λ n. q * n) (less-none ta),
+      ap (λ n. q * n) (less-none bo),
+      ap (λ n. q * n) (less-none ba),
+    )
   where
     less-none : (n : ℕ) → n - 0 ≡ n
     less-none n = omega arith
 
 pub starts-low : (z : Rates) (link : Link) (totals : Totals) → potential z link totals 0 (start link)
-    ≤ z.quota * (totals.orig + totals.answ + (length link.orig.user.breaks + length link.answ.user.breaks) + 2 * (busy_turns link.orig.user.busy + busy_turns link.answ.user.busy) + 4) + z.whole + 2 * z.first + z.room
+    ≤ z.quota * (totals.orig + totals.answ + (length link.orig.user.breaks + length link.answ.user.breaks) + 2 *
+    (busy_turns link.orig.user.busy + busy_turns link.answ.user.busy) + 4) + z.whole + 2 * z.first + z.room
 starts-low z link totals =
-    subst (λ n. potential z link totals 0 (start link) ≤ z.quota * (totals.orig + totals.answ + (length link.orig.user.breaks + length link.answ.user.breaks) + 2 * n + 4) + z.whole + 2 * z.first + z.room)
+    subst (λ n. potential z link totals 0 (start link) ≤ z.quota *
+    (totals.orig + totals.answ +
+    (length link.orig.user.breaks + length link.answ.user.breaks) + 2 * n + 4) + z.whole + 2 * z.first + z.room)
     (omega (arith, busy-start link.orig.user.busy, busy-start link.answ.user.busy))
     (start-numbers z.quota z.first z.whole z.room totals.orig totals.answ (length link.orig.user.breaks) (length link.answ.user.breaks)
-    (cond (is_free totals.orig (start link).orig.outgoing) z.first 0) (cond (is_free totals.answ (start link).answ.outgoing) z.first 0) (busy_left 0 link.orig.user.busy) (busy_left 0 link.answ.user.busy)
+    (cond (is_free totals.orig (start link).orig.outgoing) z.first 0) (cond (is_free totals.answ (start link).answ.outgoing) z.first 0)
+    (busy_left 0 link.orig.user.busy) (busy_left 0 link.answ.user.busy)
     (cond-le (is_free totals.orig (start link).orig.outgoing) z.first) (cond-le (is_free totals.answ (start link).answ.outgoing) z.first))
 
-pub below : (q g w k n p start total : ℕ) → p + n ≤ start → start ≤ q * (total + 4) + w + 2 * g + k → q ≡ g + w + 1 → k + 2 ≤ w → n < q * (total + 6)
+pub below : (q g w k n p start total : ℕ) → p + n ≤ start → start ≤ q * (total + 4) + w + 2 * g + k → q ≡ g + w + 1 → k + 2 ≤ w
+    → n < q * (total + 6)
 below q g w k n p start total h1 h2 h3 h4 = omega arith

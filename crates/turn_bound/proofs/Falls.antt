@@ -30,7 +30,8 @@ pub record Offered (total : ℕ) (a : Account) : Type 0 where
   pub whole : a.outgoing.ended ≡ true → length a.outgoing.pieces ≡ total
 
 -- a turn of one end, by what it was offered after it
-pub record EndTurn (z : Rates) (total : ℕ) (user : User) (turn : ℕ) (role : Role) (arrived : Arrived) (a b : Account) (said : Said) : Type 0 where
+pub record EndTurn (z : Rates) (total : ℕ) (user : User) (turn : ℕ) (role : Role) (arrived : Arrived) (a b : Account)
+    (said : Said) : Type 0 where
   pub turns : TurnsAs z total (length user.breaks) turn (z.quota * arrived_rnrs arrived) role a.phase a b said.account.phase said.account
   pub all : length b.outgoing.pieces ≤ total
   pub before : Offered total a
@@ -42,31 +43,42 @@ light-ok busy said (Err fault) e h = cc
 light-ok busy said (Ok other) e h = let same : other ≡ said = cc in subst (Light busy) same h
 
 -- where none is wanted the file has ended, or the window is full
-pub full-or-ended : (total : ℕ) (o : Outgoing) → wanted o ≡ None → 1 ≤ o.window → (o.ended ≡ true → length o.pieces ≡ total) → o.front < total → o.front < length o.pieces
+pub full-or-ended : (total : ℕ) (o : Outgoing) → wanted o ≡ None → 1 ≤ o.window → (o.ended ≡ true → length o.pieces ≡ total)
+    → o.front < total → o.front < length o.pieces
 full-or-ended total o none window whole less = go o.ended refl (nat_lt (length o.pieces) (o.front + o.window)) refl none
   where
-    go : (e : Bool) → o.ended ≡ e → (l : Bool) → nat_lt (length o.pieces) (o.front + o.window) ≡ l → cond (not e && l) (Some (length o.pieces)) None ≡ None → o.front < length o.pieces
+    go : (e : Bool) → o.ended ≡ e → (l : Bool) → nat_lt (length o.pieces) (o.front + o.window) ≡ l
+        → cond (not e && l) (Some (length o.pieces)) None ≡ None → o.front < length o.pieces
     go true e l f g = omega (arith, whole e, less)
     go false e true f g = cc
     go false e false f g = let full : o.front + o.window ≤ length o.pieces = grind (arith, nat_tests) in omega (arith, full, window)
 
-pub end-turn : (z : Rates) (total : ℕ) (user : User) (turn : ℕ) (role : Role) (arrived : Arrived) (a mid : Account) (released release : Bool) (said : Said)
+pub end-turn : (z : Rates) (total : ℕ) (user : User) (turn : ℕ) (role : Role) (arrived : Arrived) (a mid : Account)
+    (released release : Bool) (said : Said)
     → AreRates z → IsOf z a.setup → Stands z turn turn role a.phase a → a.setup.role ≡ role
     → hear turn arrived a ≡ Ok mid → speak turn release (served_account user turn released mid) ≡ Ok said → Offered total said.account
     → EndTurn z total user turn role arrived a (served_account user turn released mid) said
 end-turn z total user turn role arrived a mid released release said y k h er hears speaks offered =
     let b : Account = served_account user turn released mid in
-    let first = one-turn z (length b.outgoing.pieces) user turn role a.phase arrived a mid released release said y k h refl er hears speaks (omega arith) in
+    let first = one-turn z (length b.outgoing.pieces) user turn role a.phase arrived a mid released release said y k h refl er hears speaks
+    (omega arith) in
     let same : length said.account.outgoing.pieces ≡ length b.outgoing.pieces = ap (λ l. length l) first.1.pieces in
     let all : length b.outgoing.pieces ≤ total = omega (arith, same, offered.fits) in
     let t = one-turn z total user turn role a.phase arrived a mid released release said y k h refl er hears speaks all in
     let s = serves-all user turn released mid in
     record {
-      turns = subst (λ q. TurnsAs z total (length user.breaks) turn (z.quota * arrived_rnrs arrived) role a.phase a b q said.account) (sym t.1.phase) t.1;
+      turns = subst (λ q. TurnsAs z total (length user.breaks) turn (z.quota * arrived_rnrs arrived) role a.phase a b q said.account)
+          (sym t.1.phase) t.1;
       all = all;
-      before = record { fits = omega (arith, t.1.longer, offered.fits); whole = λ w. let x = t.1.whole w in ap (λ l. length l) (sym x.0) ∙ offered.whole x.1 };
-      light = light-ok (is_busy turn user.busy) said (speak turn release b) speaks (speaks-light (is_busy turn user.busy) turn release b (λ c. s.busy_now (ap is_connected (sym s.phase) ∙ c)));
-      more = λ c w less. full-or-ended total b.outgoing (ap (λ x. cond x (wanted b.outgoing) None) (sym c) ∙ s.wants_none) w (λ e. sym same ∙ offered.whole (t.1.ended ∙ e)) less;
+      before = record {
+        fits = omega (arith, t.1.longer, offered.fits);
+        whole = λ w. let x = t.1.whole w in
+            ap (λ l. length l) (sym x.0) ∙ offered.whole x.1;
+      };
+      light = light-ok (is_busy turn user.busy) said (speak turn release b) speaks
+          (speaks-light (is_busy turn user.busy) turn release b (λ c. s.busy_now (ap is_connected (sym s.phase) ∙ c)));
+      more = λ c w less. full-or-ended total b.outgoing (ap (λ x. cond x (wanted b.outgoing) None) (sym c) ∙ s.wants_none) w
+          (λ e. sym same ∙ offered.whole (t.1.ended ∙ e)) less;
     }
 
 -- what holds of both ends and both lines between turns
@@ -82,13 +94,15 @@ pub record Sound (z : Rates) (link : Link) (turn : ℕ) (s : State) : Type 0 whe
   pub back_light : AllLight s.back
 
 -- the numbers of a turn
-falls-busy : (q k v v' w w' st st' x x' ao aa bo ba l m : ℕ) → v' + l ≤ v + q * ao → w' + m ≤ w + q * aa → x' + ao + aa + (bo + ba) ≤ x → 1 ≤ bo + ba → st' ≤ k → k + 1 ≤ q
+falls-busy : (q k v v' w w' st st' x x' ao aa bo ba l m : ℕ) → v' + l ≤ v + q * ao → w' + m ≤ w + q * aa → x' + ao + aa + (bo + ba) ≤ x
+    → 1 ≤ bo + ba → st' ≤ k → k + 1 ≤ q
     → v' + w' + st' + q * x' + 1 ≤ v + w + st + q * x
 falls-busy q k v v' w w' st st' x x' ao aa bo ba l m h1 h2 h3 h4 h5 h6 =
     let part : q * (x' + ao + aa + 1) ≤ q * x = kept q (x' + ao + aa + 1) x (omega (arith, h3, h4)) in
     omega (arith, h1, h2, part, h5, h6)
 
-falls-calm : (q v v' w w' st st' x x' ao aa b l m : ℕ) → v' + l ≤ v + q * ao → w' + m ≤ w + q * aa → x' + ao + aa + b ≤ x → st' + 1 ≤ st + l + m
+falls-calm : (q v v' w w' st st' x x' ao aa b l m : ℕ) → v' + l ≤ v + q * ao → w' + m ≤ w + q * aa → x' + ao + aa + b ≤ x
+    → st' + 1 ≤ st + l + m
     → v' + w' + st' + q * x' + 1 ≤ v + w + st + q * x
 falls-calm q v v' w w' st st' x x' ao aa b l m h1 h2 h3 h4 =
     let part : q * (x' + ao + aa) ≤ q * x = kept q (x' + ao + aa) x (omega (arith, h3)) in
@@ -98,10 +112,20 @@ falls-calm q v v' w w' st st' x x' ao aa b l m h1 h2 h3 h4 =
 abbrev pub stall_of : Rates → Totals → ℕ → Bool → State → ℕ
 stall_of z totals turn alive s = cond alive z.room (weights s.forward + weights s.back + dues totals.orig s.orig + dues totals.answ s.answ)
 
-pub stall-small : (z : Rates) (link : Link) (totals : Totals) (turn : ℕ) (alive : Bool) (s : State) → Sound z link turn s → 2 * (link.orig.delay + link.answ.delay) + 30 ≤ z.room → stall_of z totals turn alive s ≤ z.room
+pub stall-small : (z : Rates) (link : Link) (totals : Totals) (turn : ℕ) (alive : Bool) (s : State) → Sound z link turn s
+    → 2 * (link.orig.delay + link.answ.delay) + 30 ≤ z.room → stall_of z totals turn alive s ≤ z.room
 stall-small z link totals turn true s h big = omega arith
 stall-small z link totals turn false s h big =
-    omega (arith, weights-most s.forward h.forward_light, weights-most s.back h.back_light, h.forward_fits, h.back_fits, dues-most totals.orig s.orig, dues-most totals.answ s.answ, big)
+    omega (
+      arith,
+      weights-most s.forward h.forward_light,
+      weights-most s.back h.back_light,
+      h.forward_fits,
+      h.back_fits,
+      dues-most totals.orig s.orig,
+      dues-most totals.answ s.answ,
+      big,
+    )
 
 -- an originator that isn't closed, and that doesn't live, is Connected
 dead-connected : (turn : ℕ) (p : Phase) (a : Account) → is_closed p ≡ false → lives turn Originator p a ≡ false → p ≡ Connected
@@ -112,12 +136,16 @@ dead-connected turn Connected a c d = refl
 dead-connected turn Releasing a c d = cc
 dead-connected turn Closed a c d = cc
 
-finished-at : (z : Rates) (total more : ℕ) (user : User) (turn : ℕ) (role : Role) (a mid : Account) (released release : Bool) (said : Said) → released ≡ false
-    → Stays z total turn user role a mid (served_account user turn released mid) release said → Stilled z total turn a mid (served_account user turn released mid) said more → Linked z turn turn role a
-    → length (served_account user turn released mid).outgoing.pieces ≤ total → linked_lives turn a ≡ false → is_free total a.outgoing ≡ false
+finished-at : (z : Rates) (total more : ℕ) (user : User) (turn : ℕ) (role : Role) (a mid : Account) (released release : Bool) (said : Said)
+    → released ≡ false
+    → Stays z total turn user role a mid (served_account user turn released mid) release said
+    → Stilled z total turn a mid (served_account user turn released mid) said more → Linked z turn turn role a
+    → length (served_account user turn released mid).outgoing.pieces ≤ total → linked_lives turn a ≡ false
+    → is_free total a.outgoing ≡ false
     → has_finished user turn (served_account user turn released mid) ≡ true
 finished-at z total more user turn role a mid true release said r s t h all dead none = cc
-finished-at z total more user turn role a mid false release said r s t h all dead none = finished z total more user turn role a mid release said s t h.breaks all dead none
+finished-at z total more user turn role a mid false release said r s t h all dead none =
+    finished z total more user turn role a mid release said s t h.breaks all dead none
 
 lives-linked-o : (turn : ℕ) (a : Account) → a.phase ≡ Connected → lives turn Originator a.phase a ≡ false → linked_lives turn a ≡ false
 lives-linked-o turn a e f = subst (λ p. lives turn Originator p a ≡ false) e f
@@ -141,18 +169,23 @@ abbrev pub state_after : (link : Link) (turn : ℕ) (s : State) (orig_mid answ_m
 state_after link turn s orig_mid answ_mid orig_said answ_said = record {
   orig = orig_said.account;
   answ = answ_said.account;
-  forward = left_on link.orig.delay s.forward ++ slot_of orig_said (served_account link.orig.user turn (is_released orig_mid.phase) orig_mid) ∷ [];
-  back = left_on link.answ.delay s.back ++ slot_of answ_said (served_account link.answ.user turn (is_released orig_mid.phase) answ_mid) ∷ [];
+  forward = left_on link.orig.delay s.forward
+      ++ slot_of orig_said (served_account link.orig.user turn (is_released orig_mid.phase) orig_mid) ∷ [];
+  back = left_on link.answ.delay s.back
+      ++ slot_of answ_said (served_account link.answ.user turn (is_released orig_mid.phase) answ_mid) ∷ [];
 }
 
 abbrev pub state_of : Account → Account → List Slot → List Slot → State
 state_of orig answ forward back = record { orig = orig; answ = answ; forward = forward; back = back }
 
-pub after-is : (link : Link) (turn : ℕ) (s : State) (t : Turn) (u : State) (g : GoingTurn link turn s t u) → u ≡ state_after link turn s g.orig_mid g.answ_mid g.orig_said g.answ_said
+pub after-is : (link : Link) (turn : ℕ) (s : State) (t : Turn) (u : State) (g : GoingTurn link turn s t u)
+    → u ≡ state_after link turn s g.orig_mid g.answ_mid g.orig_said g.answ_said
 after-is link turn s t u g =
     ap (λ x. state_of x u.answ u.forward u.back) g.orig_after ∙ ap (λ x. state_of g.orig_said.account x u.forward u.back) g.answ_after
     ∙ ap (λ x. state_of g.orig_said.account g.answ_said.account x u.back) g.forward_after
-    ∙ ap (λ x. state_of g.orig_said.account g.answ_said.account (left_on link.orig.delay s.forward ++ slot_of g.orig_said (served_account link.orig.user turn (is_released g.orig_mid.phase) g.orig_mid) ∷ []) x) g.back_after
+    ∙ ap (λ x. state_of g.orig_said.account g.answ_said.account
+    (left_on link.orig.delay s.forward
+    ++ slot_of g.orig_said (served_account link.orig.user turn (is_released g.orig_mid.phase) g.orig_mid) ∷ []) x) g.back_after
 
 -- the rates are those of both ends
 pub record Fits (z : Rates) (link : Link) : Type 0 where
@@ -166,20 +199,29 @@ pub record Fits (z : Rates) (link : Link) : Type 0 where
   pub room : 2 * (link.orig.delay + link.answ.delay) + 30 ≤ z.room
 
 -- what a turn makes of both ends
-pub record Both (z : Rates) (link : Link) (totals : Totals) (turn : ℕ) (s : State) (t : Turn) (g : State) (orig_mid answ_mid : Account) (orig_said answ_said : Said) : Type 0 where
-  pub orig : EndTurn z totals.orig link.orig.user turn Originator (arrival link.answ.delay t.orig_loses s.back) s.orig (served_account link.orig.user turn (is_released orig_mid.phase) orig_mid) orig_said
-  pub answ : EndTurn z totals.answ link.answ.user turn Answerer (arrival link.orig.delay t.answ_loses s.forward) s.answ (served_account link.answ.user turn (is_released orig_mid.phase) answ_mid) answ_said
+pub record Both (z : Rates) (link : Link) (totals : Totals) (turn : ℕ) (s : State) (t : Turn) (g : State) (orig_mid answ_mid : Account)
+    (orig_said answ_said : Said) : Type 0 where
+  pub orig : EndTurn z totals.orig link.orig.user turn Originator (arrival link.answ.delay t.orig_loses s.back) s.orig
+      (served_account link.orig.user turn (is_released orig_mid.phase) orig_mid) orig_said
+  pub answ : EndTurn z totals.answ link.answ.user turn Answerer (arrival link.orig.delay t.answ_loses s.forward) s.answ
+      (served_account link.answ.user turn (is_released orig_mid.phase) answ_mid) answ_said
 
-pub both-turn : (z : Rates) (link : Link) (totals : Totals) (turn : ℕ) (s : State) (t : Turn) (u : State) → Fits z link → Sound z link turn s → (g : GoingTurn link turn s t u) → Offered totals.orig g.orig_said.account → Offered totals.answ g.answ_said.account
+pub both-turn : (z : Rates) (link : Link) (totals : Totals) (turn : ℕ) (s : State) (t : Turn) (u : State) → Fits z link
+    → Sound z link turn s → (g : GoingTurn link turn s t u) → Offered totals.orig g.orig_said.account
+    → Offered totals.answ g.answ_said.account
     → Both z link totals turn s t u g.orig_mid g.answ_mid g.orig_said g.answ_said
 both-turn z link totals turn s t u f h g oo oa = record {
-  orig = end-turn z totals.orig link.orig.user turn Originator (arrival link.answ.delay t.orig_loses s.back) s.orig g.orig_mid (is_released g.orig_mid.phase) _ g.orig_said f.rates (subst (IsOf z) (sym h.orig_setup) f.orig) h.orig
+  orig = end-turn z totals.orig link.orig.user turn Originator (arrival link.answ.delay t.orig_loses s.back) s.orig g.orig_mid
+      (is_released g.orig_mid.phase) _ g.orig_said f.rates (subst (IsOf z) (sym h.orig_setup) f.orig) h.orig
       (ap (λ x. x.role) h.orig_setup ∙ f.originates) g.orig_hears g.orig_says oo;
-  answ = end-turn z totals.answ link.answ.user turn Answerer (arrival link.orig.delay t.answ_loses s.forward) s.answ g.answ_mid (is_released g.orig_mid.phase) false g.answ_said f.rates (subst (IsOf z) (sym h.answ_setup) f.answ) h.answ
+  answ = end-turn z totals.answ link.answ.user turn Answerer (arrival link.orig.delay t.answ_loses s.forward) s.answ g.answ_mid
+      (is_released g.orig_mid.phase) false g.answ_said f.rates (subst (IsOf z) (sym h.answ_setup) f.answ) h.answ
       (ap (λ x. x.role) h.answ_setup ∙ f.answers) g.answ_hears g.answ_says oa;
 }
 
-pub sound-after : (z : Rates) (link : Link) (totals : Totals) (turn : ℕ) (s : State) (t : Turn) (u : State) → Fits z link → Sound z link turn s → (g : GoingTurn link turn s t u) → Offered totals.orig g.orig_said.account → Offered totals.answ g.answ_said.account
+pub sound-after : (z : Rates) (link : Link) (totals : Totals) (turn : ℕ) (s : State) (t : Turn) (u : State) → Fits z link
+    → Sound z link turn s → (g : GoingTurn link turn s t u) → Offered totals.orig g.orig_said.account
+    → Offered totals.answ g.answ_said.account
     → Sound z link (turn + 1) (state_after link turn s g.orig_mid g.answ_mid g.orig_said g.answ_said)
 sound-after z link totals turn s t u f h g oo oa =
     let b = both-turn z link totals turn s t u f h g oo oa in
@@ -206,10 +248,13 @@ calm-free false true f = omega arith
 calm-free false false f = absurd (f refl refl)
 
 -- Where nothing lives before and after a turn, and no user is busy in it, the standstill gets shorter.
-standstill : (z : Rates) (link : Link) (totals : Totals) (turn : ℕ) (s : State) (t : Turn) (u : State) → Fits z link → Sound z link turn s → (g : GoingTurn link turn s t u) → Offered totals.orig g.orig_said.account → Offered totals.answ g.answ_said.account
+standstill : (z : Rates) (link : Link) (totals : Totals) (turn : ℕ) (s : State) (t : Turn) (u : State) → Fits z link → Sound z link turn s
+    → (g : GoingTurn link turn s t u) → Offered totals.orig g.orig_said.account → Offered totals.answ g.answ_said.account
     → AreTogether s → AreTogether (state_after link turn s g.orig_mid g.answ_mid g.orig_said g.answ_said)
-    → is_alive turn s ≡ false → is_alive (turn + 1) (state_after link turn s g.orig_mid g.answ_mid g.orig_said g.answ_said) ≡ false → is_busy turn link.orig.user.busy ≡ false → is_busy turn link.answ.user.busy ≡ false
-    → stall_of z totals (turn + 1) false (state_after link turn s g.orig_mid g.answ_mid g.orig_said g.answ_said) + 1 ≤ stall_of z totals turn false s
+    → is_alive turn s ≡ false → is_alive (turn + 1) (state_after link turn s g.orig_mid g.answ_mid g.orig_said g.answ_said) ≡ false
+    → is_busy turn link.orig.user.busy ≡ false → is_busy turn link.answ.user.busy ≡ false
+    → stall_of z totals (turn + 1) false
+    (state_after link turn s g.orig_mid g.answ_mid g.orig_said g.answ_said) + 1 ≤ stall_of z totals turn false s
 standstill z link totals turn s t u f h g oo oa before after dead dead' calm_o calm_a =
     let b = both-turn z link totals turn s t u f h g oo oa in
     let af = arrived-well link.orig.delay t.answ_loses s.forward in
@@ -221,7 +266,8 @@ standstill z link totals turn s t u f h g oo oa before after dead dead' calm_o c
     let dead_o = first-false (lives turn Originator s.orig.phase s.orig) (lives turn Answerer s.answ.phase s.answ) dead in
     let dead_a = second-false (lives turn Originator s.orig.phase s.orig) (lives turn Answerer s.answ.phase s.answ) dead in
     let dead_o' = first-false (lives (turn + 1) Originator s'.orig.phase s'.orig) (lives (turn + 1) Answerer s'.answ.phase s'.answ) dead' in
-    let dead_a' = second-false (lives (turn + 1) Originator s'.orig.phase s'.orig) (lives (turn + 1) Answerer s'.answ.phase s'.answ) dead' in
+    let dead_a' = second-false (lives (turn + 1) Originator s'.orig.phase s'.orig)
+    (lives (turn + 1) Answerer s'.answ.phase s'.answ) dead' in
     let po : s.orig.phase ≡ Connected = dead-connected turn s.orig.phase s.orig h.going dead_o in
     let po' : g.orig_said.account.phase ≡ Connected = dead-connected (turn + 1) s'.orig.phase s'.orig sound'.going dead_o' in
     let pa : s.answ.phase ≡ Connected = before.answ po in
@@ -236,22 +282,42 @@ standstill z link totals turn s t u f h g oo oa before after dead dead' calm_o c
     let quiet_a = lives-linked-a turn s.answ pa dead_a in
     let quiet_o' = lives-linked-o (turn + 1) g.orig_said.account po' dead_o' in
     let quiet_a' = lives-linked-a (turn + 1) g.answ_said.account pa' dead_a' in
-    let to = stays z totals.orig link.orig.user turn Originator (arrival link.answ.delay t.orig_loses s.back) s.orig g.orig_mid (is_released g.orig_mid.phase) _ g.orig_said f.rates ko lo po ro g.orig_hears g.orig_says b.orig.all po' in
-    let ta = stays z totals.answ link.answ.user turn Answerer (arrival link.orig.delay t.answ_loses s.forward) s.answ g.answ_mid (is_released g.orig_mid.phase) false g.answ_said f.rates ka la pa ra g.answ_hears g.answ_says b.answ.all pa' in
+    let to = stays z totals.orig link.orig.user turn Originator (arrival link.answ.delay t.orig_loses s.back) s.orig g.orig_mid
+    (is_released g.orig_mid.phase) _ g.orig_said f.rates ko lo po ro g.orig_hears g.orig_says b.orig.all po' in
+    let ta = stays z totals.answ link.answ.user turn Answerer (arrival link.orig.delay t.answ_loses s.forward) s.answ g.answ_mid
+    (is_released g.orig_mid.phase) false g.answ_said f.rates ka la pa ra g.answ_hears g.answ_says b.answ.all pa' in
     let wo = to.linked.sends.window in
     let wa = ta.linked.sends.window in
     let mo : is_originator s.orig.setup.role || s.orig.numbered ≡ true = ap (λ r. is_originator r || s.orig.numbered) ro in
-    let ma : is_originator s.answ.setup.role || s.answ.numbered ≡ true = spoken-to-a (is_originator s.answ.setup.role) s.answ.numbered (λ n. polled-not s.orig (before.polls po n) quiet_o) in
-    let xo = stilled z totals.orig link.orig.user turn Originator (arrival link.answ.delay t.orig_loses s.back) s.orig g.orig_mid (served_account link.orig.user turn (is_released g.orig_mid.phase) g.orig_mid) _ g.orig_said f.rates ko lo po ro g.orig_hears b.orig.all to
+    let ma : is_originator s.answ.setup.role || s.answ.numbered ≡ true =
+    spoken-to-a (is_originator s.answ.setup.role) s.answ.numbered (λ n. polled-not s.orig (before.polls po n) quiet_o) in
+    let xo = stilled z totals.orig link.orig.user turn Originator (arrival link.answ.delay t.orig_loses s.back) s.orig g.orig_mid
+    (served_account link.orig.user turn (is_released g.orig_mid.phase) g.orig_mid) _ g.orig_said f.rates ko lo po ro g.orig_hears
+    b.orig.all to
     quiet_o quiet_o' calm_o mo (b.orig.more (ap is_connected to.phase) wo) in
-    let xa = stilled z totals.answ link.answ.user turn Answerer (arrival link.orig.delay t.answ_loses s.forward) s.answ g.answ_mid (served_account link.answ.user turn (is_released g.orig_mid.phase) g.answ_mid) false g.answ_said f.rates ka la pa ra g.answ_hears b.answ.all ta
+    let xa = stilled z totals.answ link.answ.user turn Answerer (arrival link.orig.delay t.answ_loses s.forward) s.answ g.answ_mid
+    (served_account link.answ.user turn (is_released g.orig_mid.phase) g.answ_mid) false g.answ_said f.rates ka la pa ra g.answ_hears
+    b.answ.all ta
     quiet_a quiet_a' calm_a ma (b.answ.more (ap is_connected ta.phase) wa) in
     let free = calm-free (is_free totals.orig s.orig.outgoing) (is_free totals.answ s.answ.outgoing) (λ no na.
     let r = released-not g.orig_mid.phase to.mid_phase in
-    let fo = finished-at z totals.orig (arrived_weight (arrival link.answ.delay t.orig_loses s.back)) link.orig.user turn Originator s.orig g.orig_mid (is_released g.orig_mid.phase) _ g.orig_said r to xo lo b.orig.all quiet_o no in
-    let fa = finished-at z totals.answ (arrived_weight (arrival link.orig.delay t.answ_loses s.forward)) link.answ.user turn Answerer s.answ g.answ_mid (is_released g.orig_mid.phase) false g.answ_said r ta xa la b.answ.all quiet_a na in
+    let fo = finished-at z totals.orig
+    (arrived_weight (arrival link.answ.delay t.orig_loses s.back)) link.orig.user turn Originator s.orig g.orig_mid
+    (is_released g.orig_mid.phase) _ g.orig_said r to xo lo b.orig.all quiet_o no in
+    let fa = finished-at z totals.answ
+    (arrived_weight (arrival link.orig.delay t.answ_loses s.forward)) link.answ.user turn Answerer s.answ g.answ_mid
+    (is_released g.orig_mid.phase) false g.answ_said r ta xa la b.answ.all quiet_a na in
     all-three _ _ _ fo fa (ap (λ x. is_originator x.role) to.setup ∙ ap is_originator ro) to.unreleased) in
-    omega (arith, xo.pays, xa.pays, free, weights-snoc (left_on link.orig.delay s.forward) so, weights-snoc (left_on link.answ.delay s.back) sa, af.weighs, ab.weighs)
+    omega (
+      arith,
+      xo.pays,
+      xa.pays,
+      free,
+      weights-snoc (left_on link.orig.delay s.forward) so,
+      weights-snoc (left_on link.answ.delay s.back) sa,
+      af.weighs,
+      ab.weighs,
+    )
   where
     all-three : (x y o : Bool) → x ≡ true → y ≡ true → o ≡ true → (x && y) && o ≡ false → ⊥
     all-three x y o e f g k = let wrong : true ≡ false = sym (rw (e, f, g) refl) ∙ k in cc
@@ -259,7 +325,8 @@ standstill z link totals turn s t u f h g oo oa before after dead dead' calm_o c
     polled-not : (a : Account) → a.outgoing.awaited ≡ true → linked_lives turn a ≡ false → ⊥
     polled-not a e k =
         let w = first-false (is_waiting a.outgoing) (is_breaking turn a.own_breaks) k in
-        let v : a.outgoing.awaited || a.outgoing.paused ≡ false = second-false (nat_lt a.outgoing.front a.outgoing.high) (a.outgoing.awaited || a.outgoing.paused) w in
+        let v : a.outgoing.awaited || a.outgoing.paused ≡ false =
+        second-false (nat_lt a.outgoing.front a.outgoing.high) (a.outgoing.awaited || a.outgoing.paused) w in
         let wrong : true ≡ false = sym e ∙ first-false a.outgoing.awaited a.outgoing.paused v in cc
 
     spoken-to-a : (o n : Bool) → (n ≡ false → ⊥) → o || n ≡ true
@@ -279,9 +346,11 @@ busy-one false true e = omega arith
 busy-one false false e = cc
 
 -- The potential falls in every turn after which the run goes on.
-pub falls : (z : Rates) (link : Link) (totals : Totals) (turn : ℕ) (s : State) (t : Turn) (u : State) → Fits z link → Sound z link turn s → (g : GoingTurn link turn s t u) → Offered totals.orig g.orig_said.account → Offered totals.answ g.answ_said.account
+pub falls : (z : Rates) (link : Link) (totals : Totals) (turn : ℕ) (s : State) (t : Turn) (u : State) → Fits z link → Sound z link turn s
+    → (g : GoingTurn link turn s t u) → Offered totals.orig g.orig_said.account → Offered totals.answ g.answ_said.account
     → AreTogether s → AreTogether (state_after link turn s g.orig_mid g.answ_mid g.orig_said g.answ_said)
-    → potential z link totals (turn + 1) (state_after link turn s g.orig_mid g.answ_mid g.orig_said g.answ_said) + 1 ≤ potential z link totals turn s
+    → potential z link totals (turn + 1)
+    (state_after link turn s g.orig_mid g.answ_mid g.orig_said g.answ_said) + 1 ≤ potential z link totals turn s
 falls z link totals turn s t u f h g oo oa before after = by (is_busy turn link.orig.user.busy || is_busy turn link.answ.user.busy) refl
   where
     b : Both z link totals turn s t u g.orig_mid g.answ_mid g.orig_said g.answ_said
@@ -308,7 +377,8 @@ falls z link totals turn s t u f h g oo oa before after = by (is_busy turn link.
     owed : State → ℕ → ℕ
     owed x n = rnrs_on x.forward + rnrs_on x.back + 2 * (busy_left n link.orig.user.busy + busy_left n link.answ.user.busy)
 
-    lines : rnrs_on s'.forward + rnrs_on s'.back + 2 * (busy_left (turn + 1) link.orig.user.busy + busy_left (turn + 1) link.answ.user.busy) + ao + aa + (one_if bo + one_if ba)
+    lines : rnrs_on s'.forward + rnrs_on s'.back + 2 *
+        (busy_left (turn + 1) link.orig.user.busy + busy_left (turn + 1) link.answ.user.busy) + ao + aa + (one_if bo + one_if ba)
         ≤ rnrs_on s.forward + rnrs_on s.back + 2 * (busy_left turn link.orig.user.busy + busy_left turn link.answ.user.busy)
     lines =
         let af = arrived-well link.orig.delay t.answ_loses s.forward in
@@ -333,25 +403,35 @@ falls z link totals turn s t u f h g oo oa before after = by (is_busy turn link.
     la : ℕ
     la = lasts z.room (lives turn Answerer s.answ.phase s.answ) (lives (turn + 1) Answerer s'.answ.phase s'.answ)
 
-    calm : is_busy turn link.orig.user.busy ≡ false → is_busy turn link.answ.user.busy ≡ false → (alive : Bool) → is_alive turn s ≡ alive → (alive' : Bool) → is_alive (turn + 1) s' ≡ alive'
+    calm : is_busy turn link.orig.user.busy ≡ false → is_busy turn link.answ.user.busy ≡ false → (alive : Bool) → is_alive turn s ≡ alive
+        → (alive' : Bool) → is_alive (turn + 1) s' ≡ alive'
         → stall_of z totals (turn + 1) alive' s' + 1 ≤ stall_of z totals turn alive s + lo + la
     calm co ca true e alive' e' = omega (
       arith,
       subst (λ x. stall_of z totals (turn + 1) x s' ≤ z.room) e' small,
-      lasts-some z.room (lives turn Originator s.orig.phase s.orig) (lives (turn + 1) Originator s'.orig.phase s'.orig) (lives turn Answerer s.answ.phase s.answ) (lives (turn + 1) Answerer s'.answ.phase s'.answ) e,
+      lasts-some z.room (lives turn Originator s.orig.phase s.orig) (lives (turn + 1) Originator s'.orig.phase s'.orig)
+          (lives turn Answerer s.answ.phase s.answ) (lives (turn + 1) Answerer s'.answ.phase s'.answ) e,
     )
     calm co ca false e true e' = omega (
       arith,
-      lasts-new z.room (lives turn Originator s.orig.phase s.orig) (lives (turn + 1) Originator s'.orig.phase s'.orig) (lives turn Answerer s.answ.phase s.answ) (lives (turn + 1) Answerer s'.answ.phase s'.answ) e e',
+      lasts-new z.room (lives turn Originator s.orig.phase s.orig) (lives (turn + 1) Originator s'.orig.phase s'.orig)
+          (lives turn Answerer s.answ.phase s.answ) (lives (turn + 1) Answerer s'.answ.phase s'.answ) e e',
     )
     calm co ca false e false e' = omega (arith, standstill z link totals turn s t u f h g oo oa before after e e' co ca)
 
-    by : (busy : Bool) → is_busy turn link.orig.user.busy || is_busy turn link.answ.user.busy ≡ busy → potential z link totals (turn + 1) s' + 1 ≤ potential z link totals turn s
-    by true e = falls-busy z.quota z.room (value z totals.orig (length link.orig.user.breaks) turn Originator s.orig.phase s.orig) (value z totals.orig (length link.orig.user.breaks) (turn + 1) Originator s'.orig.phase s'.orig)
-        (value z totals.answ (length link.answ.user.breaks) turn Answerer s.answ.phase s.answ) (value z totals.answ (length link.answ.user.breaks) (turn + 1) Answerer s'.answ.phase s'.answ)
-        (stall z totals turn s) (stall z totals (turn + 1) s') _ _ ao aa (one_if bo) (one_if ba) lo la b.orig.turns.falls b.answ.turns.falls lines (busy-one bo ba e) small
+    by : (busy : Bool) → is_busy turn link.orig.user.busy || is_busy turn link.answ.user.busy ≡ busy
+        → potential z link totals (turn + 1) s' + 1 ≤ potential z link totals turn s
+    by true e = falls-busy z.quota z.room (value z totals.orig (length link.orig.user.breaks) turn Originator s.orig.phase s.orig)
+        (value z totals.orig (length link.orig.user.breaks) (turn + 1) Originator s'.orig.phase s'.orig)
+        (value z totals.answ (length link.answ.user.breaks) turn Answerer s.answ.phase s.answ)
+        (value z totals.answ (length link.answ.user.breaks) (turn + 1) Answerer s'.answ.phase s'.answ)
+        (stall z totals turn s) (stall z totals (turn + 1) s') _ _ ao aa (one_if bo)
+        (one_if ba) lo la b.orig.turns.falls b.answ.turns.falls lines (busy-one bo ba e) small
         (omega (arith, f.rates.quota, f.rates.first))
-    by false e = falls-calm z.quota (value z totals.orig (length link.orig.user.breaks) turn Originator s.orig.phase s.orig) (value z totals.orig (length link.orig.user.breaks) (turn + 1) Originator s'.orig.phase s'.orig)
-        (value z totals.answ (length link.answ.user.breaks) turn Answerer s.answ.phase s.answ) (value z totals.answ (length link.answ.user.breaks) (turn + 1) Answerer s'.answ.phase s'.answ)
-        (stall z totals turn s) (stall z totals (turn + 1) s') _ _ ao aa (one_if bo + one_if ba) lo la b.orig.turns.falls b.answ.turns.falls lines
+    by false e = falls-calm z.quota (value z totals.orig (length link.orig.user.breaks) turn Originator s.orig.phase s.orig)
+        (value z totals.orig (length link.orig.user.breaks) (turn + 1) Originator s'.orig.phase s'.orig)
+        (value z totals.answ (length link.answ.user.breaks) turn Answerer s.answ.phase s.answ)
+        (value z totals.answ (length link.answ.user.breaks) (turn + 1) Answerer s'.answ.phase s'.answ)
+        (stall z totals turn s) (stall z totals (turn + 1) s') _ _ ao aa
+        (one_if bo + one_if ba) lo la b.orig.turns.falls b.answ.turns.falls lines
         (calm (first-false bo ba e) (second-false bo ba e) (is_alive turn s) refl (is_alive (turn + 1) s') refl)

@@ -45,18 +45,22 @@ eight_if b = cond b 8 0
 
 -- what the turn makes of it
 pub record Linger (z : Rates) (total turn : ℕ) (polled : Bool) (a b : Account) : Type 0 where
-  pub falls : sender_value z total (turn + 1) b.outgoing b.wait.timer + lasts z.room (is_waiting a.outgoing) (is_waiting b.outgoing) ≤ sender_value z total turn a.outgoing a.wait.timer
+  pub falls : sender_value z total (turn + 1) b.outgoing b.wait.timer + lasts z.room (is_waiting a.outgoing)
+      (is_waiting b.outgoing) ≤ sender_value z total turn a.outgoing a.wait.timer
   pub front : a.outgoing.front ≤ b.outgoing.front
   pub may : may_send_at b ≡ true
   pub unwhole : is_whole b.outgoing ≡ false → b.outgoing.front < length b.outgoing.pieces
-  pub held : is_waiting a.outgoing ≡ false → b.outgoing.front < total → (is_waiting b.outgoing ≡ true) ⊎ (held_value (turn + 1) b + 3 ≤ held_value turn a + eight_if polled)
+  pub held : is_waiting a.outgoing ≡ false → b.outgoing.front < total
+      → (is_waiting b.outgoing ≡ true) ⊎ (held_value (turn + 1) b + 3 ≤ held_value turn a + eight_if polled)
 
 lasts-through : (k : ℕ) (w m l : Bool) → lasts k w l ≤ ends k w m + one_if m + cond m 0 (cond l (k + 1) 0)
 lasts-through k w m l = grind (arith)
 
 -- hearing, of the sender's part
-heard-value : (z : Rates) (total turn : ℕ) (a b : Account) → AreRates z → Sends z turn turn a.outgoing a.wait.timer → length a.outgoing.pieces ≤ total → TakesNumber turn a b
-    → (sender_value z total turn b.outgoing b.wait.timer + ends z.room (is_waiting a.outgoing) (is_waiting b.outgoing) ≤ sender_value z total turn a.outgoing a.wait.timer) × (a.outgoing.front ≤ b.outgoing.front)
+heard-value : (z : Rates) (total turn : ℕ) (a b : Account) → AreRates z → Sends z turn turn a.outgoing a.wait.timer
+    → length a.outgoing.pieces ≤ total → TakesNumber turn a b
+    → (sender_value z total turn b.outgoing b.wait.timer + ends z.room (is_waiting a.outgoing)
+    (is_waiting b.outgoing) ≤ sender_value z total turn a.outgoing a.wait.timer) × (a.outgoing.front ≤ b.outgoing.front)
 heard-value z total turn a b y s all (inl n) =
     let h = heard-well z total turn a.outgoing b.outgoing a.wait.timer y s n.0 all in
     (omega (arith, h.falls, ap (sender_value z total turn b.outgoing) n.1), n.0.front_low)
@@ -71,12 +75,15 @@ heard-value z total turn a b y s all (inr n) = (
   omega (arith, ap (λ o. o.front) n.0),
 )
 
-pub lingers : (z : Rates) (total : ℕ) (user : User) (turn : ℕ) (role : Role) (arrived : Arrived) (a mid : Account) (released release : Bool) (said : Said)
+pub lingers : (z : Rates) (total : ℕ) (user : User) (turn : ℕ) (role : Role) (arrived : Arrived) (a mid : Account) (released release : Bool)
+    (said : Said)
     → AreRates z → Linking z turn role a → is_busy turn user.busy ≡ false → arrived_weight arrived ≤ 2 → arrived_rnrs arrived ≡ 0
-    → hear turn arrived a ≡ Ok mid → speak turn release (served_account user turn released mid) ≡ Ok said → said.account.phase ≡ Connected → Offered total said.account
+    → hear turn arrived a ≡ Ok mid → speak turn release (served_account user turn released mid) ≡ Ok said → said.account.phase ≡ Connected
+    → Offered total said.account
     → length (served_account user turn released mid).outgoing.pieces ≤ total → length a.outgoing.pieces ≤ total
     → Linger z total turn (of_arrived frame_poll arrived) a said.account
-lingers z total user turn role arrived a mid released release said y l calm light quiet hears speaks after offered all before = result (takes-ok turn polled a mid (hear turn arrived a) hears (takes z turn role arrived a l.linked l.phase light quiet))
+lingers z total user turn role arrived a mid released release said y l calm light quiet hears speaks after offered all before =
+    result (takes-ok turn polled a mid (hear turn arrived a) hears (takes z turn role arrived a l.linked l.phase light quiet))
   where
     polled : Bool
     polled = of_arrived frame_poll arrived
@@ -104,7 +111,8 @@ lingers z total user turn role arrived a mid released release said y l calm ligh
 
     -- serving leaves the sender's part but for its pieces
     same-value : sender_value z total turn b.outgoing b.wait.timer ≡ sender_value z total turn mid.outgoing mid.wait.timer
-    same-value = ap (λ o. sender_value z total turn o b.wait.timer) s.serves.longer.outgoing ∙ ap (λ w. sender_value z total turn mid.outgoing w.timer) s.serves.wait
+    same-value = ap (λ o. sender_value z total turn o b.wait.timer) s.serves.longer.outgoing
+        ∙ ap (λ w. sender_value z total turn mid.outgoing w.timer) s.serves.wait
 
     same-waits : is_waiting b.outgoing ≡ is_waiting mid.outgoing
     same-waits = ap is_waiting s.serves.longer.outgoing
@@ -123,13 +131,15 @@ lingers z total user turn role arrived a mid released release said y l calm ligh
 
     may-said : Takes turn polled a mid → may_send_at said.account ≡ true
     may-said t = or-numbered (is_originator a.setup.role) (is_originator said.account.setup.role) a.numbered said.account.numbered
-        (ap (λ x. is_originator x.role) (p.stepped.same.setup ∙ (p.is_timed.same.setup ∙ s.setup))) (λ n. p.stepped.same.numbered ∙ (p.is_timed.same.numbered ∙ (s.serves.numbered ∙ t.numbered n))) l.may
+        (ap (λ x. is_originator x.role) (p.stepped.same.setup ∙ (p.is_timed.same.setup ∙ s.setup)))
+        (λ n. p.stepped.same.numbered ∙ (p.is_timed.same.numbered ∙ (s.serves.numbered ∙ t.numbered n))) l.may
       where
         or-numbered : (o o' n n' : Bool) → o' ≡ o → (n ≡ true → n' ≡ true) → o || n ≡ true → o' || n' ≡ true
         or-numbered o o' n n' e f g = grind (arith)
 
     may-served : Takes turn polled a mid → may_send_at b ≡ true
-    may-served t = or-numbered (is_originator a.setup.role) (is_originator b.setup.role) a.numbered b.numbered (ap (λ x. is_originator x.role) s.setup) (λ n. s.serves.numbered ∙ t.numbered n) l.may
+    may-served t = or-numbered (is_originator a.setup.role) (is_originator b.setup.role) a.numbered b.numbered
+        (ap (λ x. is_originator x.role) s.setup) (λ n. s.serves.numbered ∙ t.numbered n) l.may
       where
         or-numbered : (o o' n n' : Bool) → o' ≡ o → (n ≡ true → n' ≡ true) → o || n ≡ true → o' || n' ≡ true
         or-numbered o o' n n' e f g = grind (arith)
@@ -138,10 +148,13 @@ lingers z total user turn role arrived a mid released release said y l calm ligh
     mid-linked =
         let more : ℕ = z.quota * arrived_rnrs arrived in
         let heard = heard-ok z (length a.outgoing.pieces) (length user.breaks) turn more role Connected a mid (hear turn arrived a) hears
-        (hears-well z (length a.outgoing.pieces) (length user.breaks) turn role Connected arrived a y l.rates (stand-linked z turn turn role a l.linked) l.phase l.role_is (omega arith)) in
-        linked-stand z (turn + 1) turn role mid (subst (λ q. Stands z (turn + 1) turn role q mid) (sym heard.1.phase ∙ s.mid_phase) heard.1.stands)
+        (hears-well z (length a.outgoing.pieces) (length user.breaks) turn role Connected arrived a y l.rates
+        (stand-linked z turn turn role a l.linked) l.phase l.role_is (omega arith)) in
+        linked-stand z (turn + 1) turn role mid
+        (subst (λ q. Stands z (turn + 1) turn role q mid) (sym heard.1.phase ∙ s.mid_phase) heard.1.stands)
 
-    holds : Takes turn polled a mid → is_waiting b.outgoing ≡ false → said.account.outgoing.front < total → (is_waiting said.account.outgoing ≡ true) ⊎ (held_value (turn + 1) said.account + 3 ≤ held_value turn a + eight_if polled)
+    holds : Takes turn polled a mid → is_waiting b.outgoing ≡ false → said.account.outgoing.front < total
+        → (is_waiting said.account.outgoing ≡ true) ⊎ (held_value (turn + 1) said.account + 3 ≤ held_value turn a + eight_if polled)
     holds t idle less = by (subst (Goes turn b.special d) said-is (steps-go z turn b.special d y ready refl))
       where
         no-timer : b.wait.timer ≡ None
@@ -161,13 +174,15 @@ lingers z total user turn role arrived a mid released release said y l calm ligh
         said-is = subst (λ x. steps turn b.special (record x { special = false }) ≡ said) q.timed_is p.said_is
 
         linked : Linked z (turn + 1) (turn + 1) role d
-        linked = subst (λ x. Linked z (turn + 1) (turn + 1) role (record x { special = false })) q.timed_is (timed-linked z total (length user.breaks) turn role b p.timed p.is_timed)
+        linked = subst (λ x. Linked z (turn + 1) (turn + 1) role (record x { special = false })) q.timed_is
+            (timed-linked z total (length user.breaks) turn role b p.timed p.is_timed)
 
         pieces-said : said.account.outgoing.pieces ≡ b.outgoing.pieces
         pieces-said = p.stepped.same.pieces ∙ p.is_timed.same.pieces
 
         more : b.outgoing.front < length b.outgoing.pieces
-        more = full-or-ended total b.outgoing (ap (λ x. cond x (wanted b.outgoing) None) (sym (ap is_connected s.phase)) ∙ s.serves.wants_none) s.linked.sends.window
+        more = full-or-ended total b.outgoing
+            (ap (λ x. cond x (wanted b.outgoing) None) (sym (ap is_connected s.phase)) ∙ s.serves.wants_none) s.linked.sends.window
             (λ e. ap (λ x. length x) (sym pieces-said) ∙ offered.whole (p.stepped.same.ended ∙ (p.is_timed.same.ended ∙ e)))
             (omega (arith, less, front-said))
 
@@ -202,14 +217,16 @@ lingers z total user turn role arrived a mid released release said y l calm ligh
         unreplied : a.owes.reply ≡ false
         unreplied = l.none_due.reply (ap is_released l.phase)
 
-        by : Goes turn b.special d said → (is_waiting said.account.outgoing ≡ true) ⊎ (held_value (turn + 1) said.account + 3 ≤ held_value turn a + eight_if polled)
+        by : Goes turn b.special d said
+            → (is_waiting said.account.outgoing ≡ true) ⊎ (held_value (turn + 1) said.account + 3 ≤ held_value turn a + eight_if polled)
         by (inl w) = inl w
         by (inr h) = inr (pays h.pays)
           where
             pays : Pays turn b.special d said.account → held_value (turn + 1) said.account + 3 ≤ held_value turn a + eight_if polled
             pays (Replies e less) = let x = t.asked unreplied (sym s.serves.reply ∙ e) in omega (arith, less, base, x.1, ap eight_if x.0)
             pays (Much less) = omega (arith, less, base, t.gain)
-            pays (Srejs e n less) = omega (arith, less, base, t.calm (sym s.serves.srej ∙ e) (ap (λ x. is_some x.ack) (sym s.serves.ack) ∙ n))
+            pays (Srejs e n less) =
+                omega (arith, less, base, t.calm (sym s.serves.srej ∙ e) (ap (λ x. is_some x.ack) (sym s.serves.ack) ∙ n))
 
     -- none is wanted: the file has ended, or the window is full
     some-left : is_whole said.account.outgoing ≡ false → said.account.outgoing.front < length said.account.outgoing.pieces
@@ -218,10 +235,12 @@ lingers z total user turn role arrived a mid released release said y l calm ligh
         pieces-same : length said.account.outgoing.pieces ≡ length b.outgoing.pieces
         pieces-same = ap (λ x. length x) (p.stepped.same.pieces ∙ p.is_timed.same.pieces)
 
-        none : cond (not b.outgoing.ended && nat_lt (length b.outgoing.pieces) (b.outgoing.front + b.outgoing.window)) (Some (length b.outgoing.pieces)) None ≡ None
+        none : cond (not b.outgoing.ended && nat_lt (length b.outgoing.pieces) (b.outgoing.front + b.outgoing.window))
+            (Some (length b.outgoing.pieces)) None ≡ None
         none = ap (λ x. cond x (wanted b.outgoing) None) (sym (ap is_connected s.phase)) ∙ s.serves.wants_none
 
-        go : (d : Bool) → b.outgoing.ended ≡ d → (l : Bool) → nat_lt (length b.outgoing.pieces) (b.outgoing.front + b.outgoing.window) ≡ l → cond (not d && l) (Some (length b.outgoing.pieces)) None ≡ None
+        go : (d : Bool) → b.outgoing.ended ≡ d → (l : Bool) → nat_lt (length b.outgoing.pieces) (b.outgoing.front + b.outgoing.window) ≡ l
+            → cond (not d && l) (Some (length b.outgoing.pieces)) None ≡ None
             → said.account.outgoing.front < length said.account.outgoing.pieces
         go false f true g h = cc
         go false f false g h =
@@ -229,7 +248,9 @@ lingers z total user turn role arrived a mid released release said y l calm ligh
             let w = s.linked.sends.window in
             omega (arith, full, w, front-said, pieces-same)
         go true f l g h =
-            let other : nat_eq said.account.outgoing.front (length said.account.outgoing.pieces) ≡ false = ap (λ x. x && nat_eq said.account.outgoing.front (length said.account.outgoing.pieces)) (sym (p.stepped.same.ended ∙ (p.is_timed.same.ended ∙ f))) ∙ e in
+            let other : nat_eq said.account.outgoing.front (length said.account.outgoing.pieces) ≡ false =
+            ap (λ x. x && nat_eq said.account.outgoing.front (length said.account.outgoing.pieces))
+            (sym (p.stepped.same.ended ∙ (p.is_timed.same.ended ∙ f))) ∙ e in
             let low = p.stepped.sends.front_from in
             let mid = p.stepped.sends.from_high in
             let high = p.stepped.sends.high_pieces in
@@ -258,7 +279,8 @@ lingers z total user turn role arrived a mid released release said y l calm ligh
           held = λ idle less. on (is_waiting b.outgoing) refl t idle less;
         }
       where
-        on : (w : Bool) → is_waiting b.outgoing ≡ w → Takes turn polled a mid → is_waiting a.outgoing ≡ false → said.account.outgoing.front < total
+        on : (w : Bool) → is_waiting b.outgoing ≡ w → Takes turn polled a mid → is_waiting a.outgoing ≡ false
+            → said.account.outgoing.front < total
             → (is_waiting said.account.outgoing ≡ true) ⊎ (held_value (turn + 1) said.account + 3 ≤ held_value turn a + eight_if polled)
         on false e t idle less = holds t e less
         on true e t idle less = inl (p.stepped.waits (timed-waits ∙ (sym same-waits ∙ e)))

@@ -27,8 +27,10 @@ pub record TicksOnly (turn : ℕ) (b timed : Account) : Type 0 where
   pub timed_is : timed ≡ record b { own_breaks = own }
   pub value : own_value (turn + 1) own ≤ own_value turn b.own_breaks + 1
 
-pub ticks-only : (z : Rates) (turn : ℕ) (b timed : Account) → AreRates z → IsOf z b.setup → b.wait.timer ≡ None → then_tries turn (on_timer turn b) ≡ Ok timed → TicksOnly turn b timed
-ticks-only z turn b timed y k e h = go (waits b.own_breaks) refl (nat_eq turn (b.own_breaks.set + b.setup.period)) refl (nat_eq b.own_breaks.count b.setup.tries) now
+pub ticks-only : (z : Rates) (turn : ℕ) (b timed : Account) → AreRates z → IsOf z b.setup → b.wait.timer ≡ None
+    → then_tries turn (on_timer turn b) ≡ Ok timed → TicksOnly turn b timed
+ticks-only z turn b timed y k e h =
+    go (waits b.own_breaks) refl (nat_eq turn (b.own_breaks.set + b.setup.period)) refl (nat_eq b.own_breaks.count b.setup.tries) now
   where
     now : breaking turn (ticked turn b.setup.period b.setup.tries b.own_breaks) b ≡ Ok timed
     now = sym (ap (λ t. then_tries turn (cond (timer_expires turn b t) (polling turn (expired b.outgoing) b) (Ok b))) e) ∙ h
@@ -45,7 +47,9 @@ ticks-only z turn b timed y k e h = go (waits b.own_breaks) refl (nat_eq turn (b
     quiet same = record { own = b.own_breaks; timed_is = sym same; value = later }
 
     go : (w : Bool) → waits b.own_breaks ≡ w → (due : Bool) → nat_eq turn (b.own_breaks.set + b.setup.period) ≡ due → (spent' : Bool)
-        → breaking turn (cond (w && due) (cond spent' None (Some (record b.own_breaks { brk = true; set = turn; count = b.own_breaks.count + 1 }))) (Some b.own_breaks)) b ≡ Ok timed → TicksOnly turn b timed
+        → breaking turn (cond (w && due)
+        (cond spent' None (Some (record b.own_breaks { brk = true; set = turn; count = b.own_breaks.count + 1 }))) (Some b.own_breaks))
+        b ≡ Ok timed → TicksOnly turn b timed
     go false w due d s f = quiet cc
     go true w false d s f = quiet cc
     go true w true d true f = cc
@@ -54,7 +58,8 @@ ticks-only z turn b timed y k e h = go (waits b.own_breaks) refl (nat_eq turn (b
         let same : record b { own_breaks = own } ≡ timed = cc in
         let at : turn ≡ b.own_breaks.set + b.setup.period = grind (arith, nat_tests) in
         let long : 20 ≤ b.setup.period = omega (arith, k.period, y.period) in
-        let old : cond (waits b.own_breaks) (min 8 (turn - b.own_breaks.set)) (8 - (b.own_breaks.rest - turn)) ≡ min 8 (turn - b.own_breaks.set)
+        let old : cond (waits b.own_breaks) (min 8 (turn - b.own_breaks.set)) (8 - (b.own_breaks.rest - turn)) ≡ min 8
+        (turn - b.own_breaks.set)
         = ap (λ x. cond x (min 8 (turn - b.own_breaks.set)) (8 - (b.own_breaks.rest - turn))) w in
         let new : cond (waits b.own_breaks) (min 8 (turn + 1 - turn)) (8 - (b.own_breaks.rest - (turn + 1))) ≡ min 8 (turn + 1 - turn)
         = ap (λ x. cond x (min 8 (turn + 1 - turn)) (8 - (b.own_breaks.rest - (turn + 1)))) w in
@@ -78,7 +83,8 @@ base_value turn special a = owed_by a + cond special 0 4 + own_value (turn + 1) 
 pub data Pays (turn : ℕ) (special : Bool) (a b : Account) : Type 0 where
   Replies : a.owes.reply ≡ true → held_value (turn + 1) b ≤ base_value turn special a + 4 → Pays turn special a b
   Much : held_value (turn + 1) b + 12 ≤ base_value turn special a → Pays turn special a b
-  Srejs : a.incoming.srej ≡ true → is_some a.their_breaks.ack ≡ false → held_value (turn + 1) b + 4 ≤ base_value turn special a → Pays turn special a b
+  Srejs : a.incoming.srej ≡ true → is_some a.their_breaks.ack ≡ false → held_value (turn + 1) b + 4 ≤ base_value turn special a
+      → Pays turn special a b
 
 pub record Held (turn : ℕ) (special : Bool) (a b : Account) : Type 0 where
   pub outgoing : b.outgoing ≡ a.outgoing
@@ -92,7 +98,8 @@ four-most : (b : Bool) → cond b 0 4 ≤ 4
 four-most true = omega arith
 four-most false = omega arith
 
-segment-goes : (z : Rates) (turn : ℕ) (special : Bool) (a : Account) → AreRates z → Ready z turn a → AllSaid (Goes turn special a) (says_segment turn (may_send a) a)
+segment-goes : (z : Rates) (turn : ℕ) (special : Bool) (a : Account) → AreRates z → Ready z turn a
+    → AllSaid (Goes turn special a) (says_segment turn (may_send a) a)
 segment-goes z turn special a y h = go (may_send a) (allowed (is_originator a.setup.role || a.numbered))
   where
     allowed : (b : Bool) (n : ℕ) → cond b (next_number a.outgoing) None ≡ Some n → next_number a.outgoing ≡ Some n
@@ -147,7 +154,8 @@ some-free z turn a h e = clash (may_send a) e (ap (λ b. cond b (next_number o) 
     next = ap (λ b. cond b None (next_among o.chosen o)) parts.1 ∙ among
 
 -- the steps
-pub steps-go : (z : Rates) (turn : ℕ) (special : Bool) (a : Account) → AreRates z → Ready z turn a → a.special ≡ false → Goes turn special a (steps turn special a)
+pub steps-go : (z : Rates) (turn : ℕ) (special : Bool) (a : Account) → AreRates z → Ready z turn a → a.special ≡ false
+    → Goes turn special a (steps turn special a)
 steps-go z turn special a y h s =
     let P : Said → Type 0 = Goes turn special a in
     else-by P (step1 a) _ (answered a.owes.answer h.answer) (λ e1.
@@ -155,8 +163,10 @@ steps-go z turn special a y h s =
     else-by P (step3 a) _ (where-by P a.wait.poll _ poll) (λ e3.
     else-by P (step4 turn a) _ (urgent a.wait.urgent) (λ e4.
     else-by P (step5 special a) _ (breaks special refl a.their_breaks.ack refl) (λ e5.
-    else-by P (step6 special a) _ (news (differs a.owes.busy a.owes.busy_told && (is_originator a.setup.role || a.numbered)) none-new a.owes.busy h.busy e5) (λ e6.
-    else-by P (step7 turn a) _ (segment-goes z turn special a y h) (λ e7. absurd (some-free z turn a h (none-said turn (may_send a) a e7)))))))))
+    else-by P (step6 special a) _
+    (news (differs a.owes.busy a.owes.busy_told && (is_originator a.setup.role || a.numbered)) none-new a.owes.busy h.busy e5) (λ e6.
+    else-by P (step7 turn a) _ (segment-goes z turn special a y h)
+    (λ e7. absurd (some-free z turn a h (none-said turn (may_send a) a e7)))))))))
   where
     answered : (m : Option Answer) → m ≡ None → AllSaid (Goes turn special a) (answering m a)
     answered None e = tt
@@ -175,7 +185,8 @@ steps-go z turn special a y h s =
     urgent true = segment-goes z turn special a y h
     urgent false = tt
 
-    breaks : (b : Bool) → special ≡ b → (m : Option BreakWord) → a.their_breaks.ack ≡ m → AllSaid (Goes turn special a) (cond b None (says_break m a))
+    breaks : (b : Bool) → special ≡ b → (m : Option BreakWord) → a.their_breaks.ack ≡ m
+        → AllSaid (Goes turn special a) (cond b None (says_break m a))
     breaks true e m f = tt
     breaks false e (Some word) f =
         let four : cond {A = ℕ} special 0 4 ≡ 4 = ap (λ b. cond {A = ℕ} b 0 4) e in
@@ -183,7 +194,10 @@ steps-go z turn special a y h s =
         inr (record { outgoing = refl; timer = refl; pays = Much (omega (arith, four, eight)) })
     breaks false e None f = own a.own_breaks.brk refl
       where
-        own : (d : Bool) → a.own_breaks.brk ≡ d → AllSaid (Goes turn special a) (says_own (cond d (Some (Brk (a.own_breaks.answered % 2) (slice_index_or a.own_breaks.lengths a.own_breaks.answered 0))) None) a)
+        own : (d : Bool) → a.own_breaks.brk ≡ d
+            → AllSaid (Goes turn special a)
+            (says_own (cond d (Some (Brk (a.own_breaks.answered % 2) (slice_index_or a.own_breaks.lengths a.own_breaks.answered 0))) None)
+            a)
         own false g = tt
         own true g =
             let four : cond {A = ℕ} special 0 4 ≡ 4 = ap (λ b. cond {A = ℕ} b 0 4) e in
@@ -209,12 +223,15 @@ steps-go z turn special a y h s =
     asks-rej : (i : Incoming) (n : ℕ) → i.srej ≡ false → asks i ≡ Some n → i.rej ≡ true
     asks-rej i n e f = by i.srej e i.rej f
       where
-        by : (b : Bool) → b ≡ false → (r : Bool) → cond b (first_outside i.asked (missing_from (length i.taken) i.held)) (cond r (Some (length i.taken)) None) ≡ Some n → r ≡ true
+        by : (b : Bool) → b ≡ false → (r : Bool)
+            → cond b (first_outside i.asked (missing_from (length i.taken) i.held)) (cond r (Some (length i.taken)) None) ≡ Some n
+            → r ≡ true
         by true e r g = cc
         by false e true g = refl
         by false e false g = cc
 
-    asking : (srej special' : Bool) → a.incoming.srej ≡ srej → special ≡ special' → step5 special a ≡ None → (m : Option ℕ) → asks a.incoming ≡ m → AllSaid (Goes turn special a) (says_asking srej special' m a)
+    asking : (srej special' : Bool) → a.incoming.srej ≡ srej → special ≡ special' → step5 special a ≡ None → (m : Option ℕ)
+        → asks a.incoming ≡ m → AllSaid (Goes turn special a) (says_asking srej special' m a)
     asking srej special' e g n None k = tt
     asking true true e g n (Some x) k = tt
     asking false special' e g n (Some x) k =
@@ -223,11 +240,15 @@ steps-go z turn special a y h s =
       where
         rejected : (i : Incoming) → i.srej ≡ false → i.rej ≡ true
             → cond (cond i.srej (record i { asked = i.asked ++ x ∷ [] }) (record i { rej = false })).srej 0
-            (cond (cond i.srej (record i { asked = i.asked ++ x ∷ [] }) (record i { rej = false })).rej 16 0 + cond (cond i.srej (record i { asked = i.asked ++ x ∷ [] }) (record i { rej = false })).gapped 0 8) + 16
+            (cond (cond i.srej (record i { asked = i.asked ++ x ∷ [] }) (record i { rej = false })).rej 16 0 + cond
+            (cond i.srej (record i { asked = i.asked ++ x ∷ [] }) (record i { rej = false })).gapped 0 8) + 16
             ≡ cond i.srej 0 (cond i.rej 16 0 + cond i.gapped 0 8)
         rejected i e f =
-            ap (λ j. cond j.srej 0 (cond j.rej 16 0 + cond j.gapped 0 8) + 16) (ap (λ b. cond b (record i { asked = i.asked ++ x ∷ [] }) (record i { rej = false })) e)
-            ∙ (ap (λ b. cond b 0 (0 + cond i.gapped 0 8) + 16) e ∙ (sums (cond i.gapped 0 8) ∙ sym (ap (λ b. cond b 0 (cond i.rej 16 0 + cond i.gapped 0 8)) e ∙ ap (λ b. cond b 16 0 + cond i.gapped 0 8) f)))
+            ap (λ j. cond j.srej 0 (cond j.rej 16 0 + cond j.gapped 0 8) + 16)
+            (ap (λ b. cond b (record i { asked = i.asked ++ x ∷ [] }) (record i { rej = false })) e)
+            ∙ (ap (λ b. cond b 0 (0 + cond i.gapped 0 8) + 16) e
+            ∙ (sums (cond i.gapped 0 8)
+            ∙ sym (ap (λ b. cond b 0 (cond i.rej 16 0 + cond i.gapped 0 8)) e ∙ ap (λ b. cond b 16 0 + cond i.gapped 0 8) f)))
           where
             sums : (n : ℕ) → 0 + n + 16 ≡ 16 + n
             sums n = omega arith
@@ -237,13 +258,17 @@ steps-go z turn special a y h s =
       where
         kept : (i : Incoming) → i.srej ≡ true
             → cond (cond i.srej (record i { asked = i.asked ++ x ∷ [] }) (record i { rej = false })).srej 0
-            (cond (cond i.srej (record i { asked = i.asked ++ x ∷ [] }) (record i { rej = false })).rej 16 0 + cond (cond i.srej (record i { asked = i.asked ++ x ∷ [] }) (record i { rej = false })).gapped 0 8)
+            (cond (cond i.srej (record i { asked = i.asked ++ x ∷ [] }) (record i { rej = false })).rej 16 0 + cond
+            (cond i.srej (record i { asked = i.asked ++ x ∷ [] }) (record i { rej = false })).gapped 0 8)
             ≡ 0
         kept i e =
-            ap (λ j. cond j.srej 0 (cond j.rej 16 0 + cond j.gapped 0 8)) (ap (λ b. cond b (record i { asked = i.asked ++ x ∷ [] }) (record i { rej = false })) e)
+            ap (λ j. cond j.srej 0 (cond j.rej 16 0 + cond j.gapped 0 8))
+            (ap (λ b. cond b (record i { asked = i.asked ++ x ∷ [] }) (record i { rej = false })) e)
             ∙ ap (λ b. cond b 0 (cond i.rej 16 0 + cond i.gapped 0 8)) e
 
-    news : (b : Bool) → b ≡ false → (c : Bool) → c ≡ false → step5 special a ≡ None → AllSaid (Goes turn special a) (cond b (Some (tells false false a)) (cond c None (says_asking a.incoming.srej special (asks a.incoming) a)))
+    news : (b : Bool) → b ≡ false → (c : Bool) → c ≡ false → step5 special a ≡ None
+        → AllSaid (Goes turn special a)
+        (cond b (Some (tells false false a)) (cond c None (says_asking a.incoming.srej special (asks a.incoming) a)))
     news true e c f n = cc
     news false e true f n = cc
     news false e false f n = asking a.incoming.srej special refl refl n (asks a.incoming) refl

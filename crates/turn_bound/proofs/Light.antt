@@ -49,7 +49,8 @@ answer-light busy a (Some answers.Xid) = (omega arith, none-most busy)
 answer-light busy a (Some (answers.Ua pf)) = (omega arith, none-most busy)
 answer-light busy a (Some (answers.Dm pf)) = (omega arith, none-most busy)
 
-ready-light : (busy command pf : Bool) (nr : ℕ) → (frame_weight (ready_frame busy command nr pf) ≤ 2) × (frame_rnrs (ready_frame busy command nr pf) ≤ one_if busy)
+ready-light : (busy command pf : Bool) (nr : ℕ)
+    → (frame_weight (ready_frame busy command nr pf) ≤ 2) × (frame_rnrs (ready_frame busy command nr pf) ≤ one_if busy)
 ready-light true command pf nr = (two-most (command && pf), omega arith)
 ready-light false command pf nr = (two-most (command && pf), omega arith)
 
@@ -70,7 +71,8 @@ steps-light turn special a =
     (else-says P (step3 a) _ (where-says P a.wait.poll _ (ready-light a.owes.busy true true (nr_of a)))
     (else-says P (step4 turn a) _ (urgent a.wait.urgent)
     (else-says P (step5 special a) _ (breaks special a.their_breaks.ack)
-    (else-says P (step6 special a) _ (asks-for (differs a.owes.busy a.owes.busy_told && (is_originator a.setup.role || a.numbered)) a.owes.busy)
+    (else-says P (step6 special a) _
+    (asks-for (differs a.owes.busy a.owes.busy_told && (is_originator a.setup.role || a.numbered)) a.owes.busy)
     (else-says P (step7 turn a) _ (segment-light a.owes.busy turn (may_send a) a)
     (else-says P (step8 a) (step9 a) (where-says P a.incoming.owed _ (ready-light a.owes.busy false false (nr_of a)))
     (omega arith, none-most a.owes.busy))))))))
@@ -94,48 +96,64 @@ steps-light turn special a =
     asking true true (Some n) = tt
     asking true false (Some n) = (omega arith, none-most a.owes.busy)
 
-    asks-for : (b c : Bool) → AllSaid (Light a.owes.busy) (cond b (Some (tells false false a)) (cond c None (says_asking a.incoming.srej special (asks a.incoming) a)))
+    asks-for : (b c : Bool)
+        → AllSaid (Light a.owes.busy)
+        (cond b (Some (tells false false a)) (cond c None (says_asking a.incoming.srej special (asks a.incoming) a)))
     asks-for true c = ready-light a.owes.busy false false (nr_of a)
     asks-for false true = tt
     asks-for false false = asking a.incoming.srej special (asks a.incoming)
 
 -- the timers leave what is owed
-pub timers-owe : (turn : ℕ) (a : Account) → OnOk (λ b. (b.owes ≡ a.owes) × (b.their_breaks ≡ a.their_breaks) × (b.incoming ≡ a.incoming)) (then_tries turn (on_timer turn a))
+pub timers-owe : (turn : ℕ) (a : Account)
+    → OnOk (λ b. (b.owes ≡ a.owes) × (b.their_breaks ≡ a.their_breaks) × (b.incoming ≡ a.incoming)) (then_tries turn (on_timer turn a))
 timers-owe turn a = go (timer_expires turn a a.wait.timer) (expired a.outgoing)
   where
-    by : (b : Account) → (b.owes ≡ a.owes) × (b.their_breaks ≡ a.their_breaks) × (b.incoming ≡ a.incoming) → (m : Option OwnBreaks) → OnOk (λ c. (c.owes ≡ a.owes) × (c.their_breaks ≡ a.their_breaks) × (c.incoming ≡ a.incoming)) (breaking turn m b)
+    by : (b : Account) → (b.owes ≡ a.owes) × (b.their_breaks ≡ a.their_breaks) × (b.incoming ≡ a.incoming) → (m : Option OwnBreaks)
+        → OnOk (λ c. (c.owes ≡ a.owes) × (c.their_breaks ≡ a.their_breaks) × (c.incoming ≡ a.incoming)) (breaking turn m b)
     by b e None = tt
     by b e (Some c) = e
 
-    go : (x : Bool) (m : Option Outgoing) → OnOk (λ b. (b.owes ≡ a.owes) × (b.their_breaks ≡ a.their_breaks) × (b.incoming ≡ a.incoming)) (then_tries turn (cond x (polling turn m a) (Ok a)))
+    go : (x : Bool) (m : Option Outgoing)
+        → OnOk (λ b. (b.owes ≡ a.owes) × (b.their_breaks ≡ a.their_breaks) × (b.incoming ≡ a.incoming))
+        (then_tries turn (cond x (polling turn m a) (Ok a)))
     go false m = by a (refl, refl, refl) (ticked turn a.setup.period a.setup.tries a.own_breaks)
     go true None = tt
-    go true (Some o) = by (record a { outgoing = o; wait = record a.wait { poll = true; timer = Some turn } }) (refl, refl, refl) (ticked turn a.setup.period a.setup.tries a.own_breaks)
+    go true (Some o) = by (record a { outgoing = o; wait = record a.wait { poll = true; timer = Some turn } }) (refl, refl, refl)
+        (ticked turn a.setup.period a.setup.tries a.own_breaks)
 
 linked-light : (turn : ℕ) (a : Account) → LightSaid a.owes.busy (speak_linked turn a)
 linked-light turn a = go (then_tries turn (on_timer turn a)) (timers-owe turn a)
   where
-    go : (r : Result Account LinkFault) → OnOk (λ b. (b.owes ≡ a.owes) × (b.their_breaks ≡ a.their_breaks) × (b.incoming ≡ a.incoming)) r → LightSaid a.owes.busy (after_timers turn a.special r)
+    go : (r : Result Account LinkFault) → OnOk (λ b. (b.owes ≡ a.owes) × (b.their_breaks ≡ a.their_breaks) × (b.incoming ≡ a.incoming)) r
+        → LightSaid a.owes.busy (after_timers turn a.special r)
     go (Err fault) h = tt
-    go (Ok b) h = subst (λ o. Light o.busy (steps turn a.special (record b { special = false }))) h.0 (steps-light turn a.special (record b { special = false }))
+    go (Ok b) h = subst (λ o. Light o.busy (steps turn a.special (record b { special = false }))) h.0
+        (steps-light turn a.special (record b { special = false }))
 
-try-light : (busy : Bool) (turn : ℕ) (frame : Frame) (a : Account) → frame_weight frame ≤ 2 → frame_rnrs frame ≤ one_if busy → LightSaid busy (u_try turn frame a)
+try-light : (busy : Bool) (turn : ℕ) (frame : Frame) (a : Account) → frame_weight frame ≤ 2 → frame_rnrs frame ≤ one_if busy
+    → LightSaid busy (u_try turn frame a)
 try-light busy turn frame a w n = go (nat_eq turn (a.wait.try_set + a.setup.period)) (nat_eq a.wait.try_count a.setup.tries)
   where
-    by : (c : Account) (due : Bool) → Light busy (else_says (where_says due (says_frame frame (record c { wait = record c.wait { try = false } }))) (says slots.Flags c))
+    by : (c : Account) (due : Bool)
+        → Light busy (else_says (where_says due (says_frame frame (record c { wait = record c.wait { try = false } })))
+        (says slots.Flags c))
     by c true = (w, n)
     by c false = (omega arith, none-most busy)
 
-    go : (due spent' : Bool) → LightSaid busy (cond due (cond spent' (Err (spent turn a)) (Ok (tries_frame frame (trying_again turn a)))) (Ok (tries_frame frame a)))
+    go : (due spent' : Bool)
+        → LightSaid busy (cond due (cond spent' (Err (spent turn a)) (Ok (tries_frame frame (trying_again turn a))))
+        (Ok (tries_frame frame a)))
     go false s = by a a.wait.try
     go true true = tt
     go true false = by (trying_again turn a) true
 
 -- Each slot weighs two at most, and is an RNR only where its sender is busy.
-pub speaks-light : (busy : Bool) (turn : ℕ) (release : Bool) (a : Account) → (is_connected a.phase ≡ true → a.owes.busy ≡ busy) → LightSaid busy (speak turn release a)
+pub speaks-light : (busy : Bool) (turn : ℕ) (release : Bool) (a : Account) → (is_connected a.phase ≡ true → a.owes.busy ≡ busy)
+    → LightSaid busy (speak turn release a)
 speaks-light busy turn release a h = go a.phase h
   where
-    answers : (silence : Sent) → weight silence ≤ 2 → rnrs silence ≤ one_if busy → Light busy (else_says (answering a.owes.answer a) (says silence a))
+    answers : (silence : Sent) → weight silence ≤ 2 → rnrs silence ≤ one_if busy
+        → Light busy (else_says (answering a.owes.answer a) (says silence a))
     answers silence w n = else-says (Light busy) (answering a.owes.answer a) (says silence a) (answer-light busy a a.owes.answer) (w, n)
 
     detecting : (r : Role) → LightSaid busy (speak_detecting r turn a)
@@ -150,7 +168,8 @@ speaks-light busy turn release a h = go a.phase h
     negotiating Originator = try-light busy turn (Xid true false (written a.setup.offer)) a (omega arith) (none-most busy)
     negotiating Answerer = answers slots.Flags (omega arith) (none-most busy)
 
-    linked : a.owes.busy ≡ busy → (b : Bool) → LightSaid busy (cond b (speak_releasing turn (trying Releasing turn a)) (speak_linked turn a))
+    linked : a.owes.busy ≡ busy → (b : Bool)
+        → LightSaid busy (cond b (speak_releasing turn (trying Releasing turn a)) (speak_linked turn a))
     linked e true = try-light busy turn (Disc true) (trying Releasing turn a) (omega arith) (none-most busy)
     linked e false = subst (λ b. LightSaid b (speak_linked turn a)) e (linked-light turn a)
 

@@ -46,10 +46,23 @@ arrived-well delay loses [] = record { weighs = omega arith; rnrs = omega arith;
 arrived-well delay loses (slot ∷ rest) = go (nat_lt (length (slot ∷ rest)) delay) refl loses
   where
     go : (short : Bool) → nat_lt (length (slot ∷ rest)) delay ≡ short → (lost : Bool)
-        → Arrives delay (slot ∷ rest) (cond short (slot ∷ rest) rest) (cond short arrivals.Nothing (cond lost arrivals.Nothing (arrives slot.sent)))
-    go true e lost = record { weighs = omega arith; rnrs = omega arith; fits = λ h k. let less : length (slot ∷ rest) < delay = grind (arith, nat_tests) in omega (arith, less); light = λ h. h }
+        → Arrives delay (slot ∷ rest) (cond short (slot ∷ rest) rest)
+        (cond short arrivals.Nothing (cond lost arrivals.Nothing (arrives slot.sent)))
+    go true e lost = record {
+      weighs = omega arith;
+      rnrs = omega arith;
+      fits = λ h k. let less : length (slot ∷ rest) < delay =
+          grind (arith, nat_tests) in omega (arith, less);
+      light = λ h. h;
+    }
     go false e true = record { weighs = omega arith; rnrs = omega arith; fits = λ h k. omega (arith, h); light = λ h. h.1 }
-    go false e false = record { weighs = omega (arith, arrives-weight slot.sent); rnrs = omega (arith, arrives-rnrs slot.sent); fits = λ h k. omega (arith, h); light = λ h. h.1 }
+    go false e false = record {
+      weighs = omega (arith, arrives-weight slot.sent);
+      rnrs = omega (arith, arrives-rnrs slot.sent);
+      fits =
+          λ h k. omega (arith, h);
+      light = λ h. h.1;
+    }
 
 pub weights-snoc : (line : List Slot) (slot : Slot) → weights (line ++ slot ∷ []) ≡ weights line + weight slot.sent
 weights-snoc [] slot = omega arith
@@ -100,8 +113,10 @@ busy-falls turn (l ∷ ls) = go (nat_le l.turn turn) refl (nat_lt turn (l.turn +
     or-most : (b : Bool) → one_if (true || b) ≤ 1
     or-most b = omega arith
 
-    go : (x : Bool) → nat_le l.turn turn ≡ x → (y : Bool) → nat_lt turn (l.turn + l.count) ≡ y → busy_left (turn + 1) ls + one_if (is_busy turn ls) ≤ busy_left turn ls
-        → (l.turn + l.count - max l.turn (turn + 1)) + busy_left (turn + 1) ls + one_if ((x && y) || is_busy turn ls) ≤ (l.turn + l.count - max l.turn turn) + busy_left turn ls
+    go : (x : Bool) → nat_le l.turn turn ≡ x → (y : Bool) → nat_lt turn (l.turn + l.count) ≡ y
+        → busy_left (turn + 1) ls + one_if (is_busy turn ls) ≤ busy_left turn ls
+        → (l.turn + l.count - max l.turn (turn + 1)) + busy_left (turn + 1) ls + one_if ((x && y) || is_busy turn ls) ≤
+        (l.turn + l.count - max l.turn turn) + busy_left turn ls
     go true e true f h =
         let low : l.turn ≤ turn = grind (arith, nat_tests) in
         let high : turn < l.turn + l.count = grind (arith, nat_tests) in

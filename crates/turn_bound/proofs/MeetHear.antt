@@ -88,7 +88,8 @@ o-same ua final a b p w = record {
 }
 
 -- it is not begun after it
-o-early : (ua final : Bool) (a b : Account) (p q : Phase) → a.phase ≡ p → b.phase ≡ q → is_released p ≡ false → is_begun q ≡ false → OHeard ua final a b
+o-early : (ua final : Bool) (a b : Account) (p q : Phase) → a.phase ≡ p → b.phase ≡ q → is_released p ≡ false → is_begun q ≡ false
+    → OHeard ua final a b
 o-early ua final a b p q e f r n = record {
   begins = λ h. let wrong : true ≡ false = sym h ∙ (ap is_begun f ∙ n) in cc;
   released = λ h. let wrong : true ≡ false = sym h ∙ (ap is_released e ∙ r) in cc;
@@ -103,7 +104,8 @@ resumed-awaited o = by o.paused
     by false = refl
 
 -- a number is heard: the wait goes on unless the answer came
-o-number : (ua final : Bool) (turn nr : ℕ) (a : Account) (f : Account → Account) (m : Option Outgoing) → a.phase ≡ Connected → ((b : Account) → ((f b).phase ≡ b.phase) × ((f b).outgoing ≡ b.outgoing))
+o-number : (ua final : Bool) (turn nr : ℕ) (a : Account) (f : Account → Account) (m : Option Outgoing) → a.phase ≡ Connected
+    → ((b : Account) → ((f b).phase ≡ b.phase) × ((f b).outgoing ≡ b.outgoing))
     → ((o : Outgoing) → m ≡ Some o → final ≡ false → o.awaited ≡ a.outgoing.awaited) → OHears ua final a (then_in f (on_number turn nr m a))
 o-number ua final turn nr a f None e same k = tt
 o-number ua final turn nr a f (Some o) e same k = record {
@@ -112,37 +114,55 @@ o-number ua final turn nr a f (Some o) e same k = record {
   awaits = λ h g i. ap (λ x. x.awaited) (same _).1 ∙ (k o refl g ∙ h e);
 }
 
-pub some-made : (made : ℕ → Outgoing) (m : Option ℕ) (o : Outgoing) (w : Bool) → option_map made m ≡ Some o → ((n : ℕ) → (made n).awaited ≡ w) → o.awaited ≡ w
+pub some-made : (made : ℕ → Outgoing) (m : Option ℕ) (o : Outgoing) (w : Bool) → option_map made m ≡ Some o
+    → ((n : ℕ) → (made n).awaited ≡ w) → o.awaited ≡ w
 some-made made None o w e h = cc
 some-made made (Some n) o w e h = let same : made n ≡ o = cc in ap (λ x. x.awaited) (sym same) ∙ h n
 
-pub some-then : (g : Outgoing → Outgoing) (m : Option Outgoing) (o : Outgoing) (w : Bool) → option_map g m ≡ Some o → ((x : Outgoing) → (g x).awaited ≡ x.awaited) → ((x : Outgoing) → m ≡ Some x → x.awaited ≡ w) → o.awaited ≡ w
+pub some-then : (g : Outgoing → Outgoing) (m : Option Outgoing) (o : Outgoing) (w : Bool) → option_map g m ≡ Some o
+    → ((x : Outgoing) → (g x).awaited ≡ x.awaited) → ((x : Outgoing) → m ≡ Some x → x.awaited ≡ w) → o.awaited ≡ w
 some-then g None o w e h k = cc
 some-then g (Some x) o w e h k = let same : g x ≡ o = cc in ap (λ y. y.awaited) (sym same) ∙ (h x ∙ k x refl)
 
 -- which of two is used, by whether the answer came
-pub not-answer : (command pf : Bool) (a : Account) (first second : Option Outgoing) (x : Outgoing) → pf && not command ≡ false → cond (ends_wait command pf a) first second ≡ Some x → second ≡ Some x
+pub not-answer : (command pf : Bool) (a : Account) (first second : Option Outgoing) (x : Outgoing) → pf && not command ≡ false
+    → cond (ends_wait command pf a) first second ≡ Some x → second ≡ Some x
 not-answer command pf a first second x e h = go a.outgoing.awaited (pf && not command) e h
   where
     go : (w f : Bool) → f ≡ false → cond (w && f) first second ≡ Some x → second ≡ Some x
     go true f e h = let none : cond (true && f) first second ≡ second = rw e refl in sym none ∙ h
     go false f e h = h
 
-o-connected : (frame : Frame) (turn : ℕ) (a : Account) → a.phase ≡ Connected → a.setup.role ≡ Originator → OHears (frame_ua frame) (frame_final frame) a (on_connected frame turn a)
-o-connected (I ns nr pf info) turn a e er = o-number false false turn nr a (λ b. replying pf (taking ns info b)) (acknowledged nr a.outgoing) e (λ b. (refl, refl))
+o-connected : (frame : Frame) (turn : ℕ) (a : Account) → a.phase ≡ Connected → a.setup.role ≡ Originator
+    → OHears (frame_ua frame) (frame_final frame) a (on_connected frame turn a)
+o-connected (I ns nr pf info) turn a e er =
+    o-number false false turn nr a (λ b. replying pf (taking ns info b)) (acknowledged nr a.outgoing) e (λ b. (refl, refl))
     (λ o f g. some-made (advanced a.outgoing) (meant a.outgoing.front a.outgoing.high nr) o a.outgoing.awaited f (λ n. refl))
-o-connected (Rr command nr pf) turn a e er = o-number false (pf && not command) turn nr a (λ b. hurrying (ends_wait command pf a) (replying (command && pf) b)) _ e (λ b. (refl, refl))
-    (λ o f g. some-then resumed (cond (ends_wait command pf a) (replied nr a.outgoing) (acknowledged nr a.outgoing)) o a.outgoing.awaited f resumed-awaited
-    (λ x h. some-made (advanced a.outgoing) (meant a.outgoing.front a.outgoing.high nr) x a.outgoing.awaited (not-answer command pf a (replied nr a.outgoing) (acknowledged nr a.outgoing) x g h) (λ n. refl)))
-o-connected (Rnr command nr pf) turn a e er = o-number false (pf && not command) turn nr a (λ b. pausing turn (replying (command && pf) b)) _ e (λ b. (refl, refl))
-    (λ o f g. some-then paused_at (cond (ends_wait command pf a) (replied nr a.outgoing) (acknowledged nr a.outgoing)) o a.outgoing.awaited f (λ x. refl)
-    (λ x h. some-made (advanced a.outgoing) (meant a.outgoing.front a.outgoing.high nr) x a.outgoing.awaited (not-answer command pf a (replied nr a.outgoing) (acknowledged nr a.outgoing) x g h) (λ n. refl)))
-o-connected (Rej command nr pf) turn a e er = o-number false (pf && not command) turn nr a (λ b. hurrying (ends_wait command pf a) (replying (command && pf) b)) _ e (λ b. (refl, refl))
-    (λ o f g. some-then resumed (cond (ends_wait command pf a) (replied nr a.outgoing) (rejected nr a.outgoing)) o a.outgoing.awaited f resumed-awaited
-    (λ x h. some-made (λ n. gone_back (advanced a.outgoing n)) (meant a.outgoing.front a.outgoing.high nr) x a.outgoing.awaited (not-answer command pf a (replied nr a.outgoing) (rejected nr a.outgoing) x g h) (λ n. refl)))
+o-connected (Rr command nr pf) turn a e er =
+    o-number false (pf && not command) turn nr a (λ b. hurrying (ends_wait command pf a) (replying (command && pf) b)) _ e
+    (λ b. (refl, refl))
+    (λ o f g. some-then resumed
+    (cond (ends_wait command pf a) (replied nr a.outgoing) (acknowledged nr a.outgoing)) o a.outgoing.awaited f resumed-awaited
+    (λ x h. some-made (advanced a.outgoing) (meant a.outgoing.front a.outgoing.high nr) x a.outgoing.awaited
+    (not-answer command pf a (replied nr a.outgoing) (acknowledged nr a.outgoing) x g h) (λ n. refl)))
+o-connected (Rnr command nr pf) turn a e er =
+    o-number false (pf && not command) turn nr a (λ b. pausing turn (replying (command && pf) b)) _ e (λ b. (refl, refl))
+    (λ o f g. some-then paused_at
+    (cond (ends_wait command pf a) (replied nr a.outgoing) (acknowledged nr a.outgoing)) o a.outgoing.awaited f (λ x. refl)
+    (λ x h. some-made (advanced a.outgoing) (meant a.outgoing.front a.outgoing.high nr) x a.outgoing.awaited
+    (not-answer command pf a (replied nr a.outgoing) (acknowledged nr a.outgoing) x g h) (λ n. refl)))
+o-connected (Rej command nr pf) turn a e er =
+    o-number false (pf && not command) turn nr a (λ b. hurrying (ends_wait command pf a) (replying (command && pf) b)) _ e
+    (λ b. (refl, refl))
+    (λ o f g. some-then resumed
+    (cond (ends_wait command pf a) (replied nr a.outgoing) (rejected nr a.outgoing)) o a.outgoing.awaited f resumed-awaited
+    (λ x h. some-made (λ n. gone_back (advanced a.outgoing n)) (meant a.outgoing.front a.outgoing.high nr) x a.outgoing.awaited
+    (not-answer command pf a (replied nr a.outgoing) (rejected nr a.outgoing) x g h) (λ n. refl)))
 o-connected (Srej command nr pf) turn a e er = srej (is_outstanding a.outgoing) (meant a.outgoing.front (a.outgoing.high - 1) nr)
   where
-    srej : (b : Bool) (m : Option ℕ) → OHears false false a (on_number turn nr (cond b (option_map (λ n. record a.outgoing { chosen = with_number n a.outgoing.chosen }) m) None) a)
+    srej : (b : Bool) (m : Option ℕ)
+        → OHears false false a
+        (on_number turn nr (cond b (option_map (λ n. record a.outgoing { chosen = with_number n a.outgoing.chosen }) m) None) a)
     srej true None = tt
     srej true (Some n) = o-same false false a _ refl refl
     srej false m = tt
@@ -164,12 +184,15 @@ o-connected (Ui command pf info) turn a e er = go (word_in info)
 o-connected (Xid command pf info) turn a e er = o-same false false a a refl refl
 o-connected (Test command pf info) turn a e er = o-same false false a a refl refl
 
-o-frame : (p : Phase) (frame : Frame) (turn : ℕ) (a : Account) → a.phase ≡ p → a.setup.role ≡ Originator → OHears (frame_ua frame) (frame_final frame) a (on_frame p frame turn a)
-o-frame Detecting frame turn a e er = subst (λ r. OHears (frame_ua frame) (frame_final frame) a (on_detecting r frame turn a)) (sym er) (go frame)
+o-frame : (p : Phase) (frame : Frame) (turn : ℕ) (a : Account) → a.phase ≡ p → a.setup.role ≡ Originator
+    → OHears (frame_ua frame) (frame_final frame) a (on_frame p frame turn a)
+o-frame Detecting frame turn a e er =
+    subst (λ r. OHears (frame_ua frame) (frame_final frame) a (on_detecting r frame turn a)) (sym er) (go frame)
   where
     go : (f : Frame) → OHears (frame_ua f) (frame_final f) a (on_detecting Originator f turn a)
     go f = o-same (frame_ua f) (frame_final f) a a refl refl
-o-frame Negotiating frame turn a e er = subst (λ r. OHears (frame_ua frame) (frame_final frame) a (on_negotiating r frame turn a)) (sym er) (go frame)
+o-frame Negotiating frame turn a e er =
+    subst (λ r. OHears (frame_ua frame) (frame_final frame) a (on_negotiating r frame turn a)) (sym er) (go frame)
   where
     answered : (m : Option Offer) → OHears false false a (Ok (on_xid_response m turn a))
     answered None = o-same false false a a refl refl
@@ -209,7 +232,8 @@ o-frame Closed frame turn a e er = go frame
     go (Disc pf) = o-same false false a _ refl refl
     go f = o-same (frame_ua f) (frame_final f) a a refl refl
 
-pub o-hears : (arrived : Arrived) (turn : ℕ) (a : Account) → a.setup.role ≡ Originator → OHears (of_arrived frame_ua arrived) (of_arrived frame_final arrived) a (hear turn arrived a)
+pub o-hears : (arrived : Arrived) (turn : ℕ) (a : Account) → a.setup.role ≡ Originator
+    → OHears (of_arrived frame_ua arrived) (of_arrived frame_final arrived) a (hear turn arrived a)
 o-hears arrivals.Nothing turn a er = o-same false false a _ refl refl
 o-hears (arrivals.Pattern seen) turn a er = go a.phase refl
   where
@@ -246,7 +270,8 @@ closed-released Establishing c e = cc
 closed-released Connected c e = cc
 closed-released Releasing c e = cc
 
-a-same : (disc : Bool) (a b : Account) → b.phase ≡ a.phase → (is_ua_due b.owes.answer ≡ true → is_ua_due a.owes.answer ≡ true) → b.owes.reply ≡ a.owes.reply → b.numbered ≡ a.numbered → AHeard disc a b
+a-same : (disc : Bool) (a b : Account) → b.phase ≡ a.phase → (is_ua_due b.owes.answer ≡ true → is_ua_due a.owes.answer ≡ true)
+    → b.owes.reply ≡ a.owes.reply → b.numbered ≡ a.numbered → AHeard disc a b
 a-same disc a b p w r n = record {
   begun = λ h. ap is_begun p ∙ h;
   closes = λ h. closed-released a.phase disc (ap is_closed (sym p) ∙ h);
@@ -256,10 +281,13 @@ a-same disc a b p w r n = record {
 }
 
 -- a number is heard
-a-number : (disc : Bool) (turn nr : ℕ) (a : Account) (f : Account → Account) (m : Option Outgoing) → ((b : Account) → ((f b).phase ≡ b.phase) × ((f b).owes.answer ≡ b.owes.answer) × ((f b).numbered ≡ b.numbered)) → AHears disc a (then_in f (on_number turn nr m a))
+a-number : (disc : Bool) (turn nr : ℕ) (a : Account) (f : Account → Account) (m : Option Outgoing)
+    → ((b : Account) → ((f b).phase ≡ b.phase) × ((f b).owes.answer ≡ b.owes.answer) × ((f b).numbered ≡ b.numbered))
+    → AHears disc a (then_in f (on_number turn nr m a))
 a-number disc turn nr a f None same = tt
 a-number disc turn nr a f (Some o) same =
-    let b : Account = record a { numbered = true; outgoing = o; wait = record a.wait { timer = timer_after turn a.outgoing o a.wait.timer } } in
+    let b : Account = record
+    a { numbered = true; outgoing = o; wait = record a.wait { timer = timer_after turn a.outgoing o a.wait.timer } } in
     let k = same b in record {
       begun = λ h. ap is_begun k.0 ∙ h;
       closes = λ h. closed-released a.phase disc (ap is_closed (sym k.0) ∙ h);
@@ -269,19 +297,31 @@ a-number disc turn nr a f (Some o) same =
     }
 
 -- a UA becomes due at an end that is begun
-a-begun : (disc : Bool) (a b : Account) → is_begun b.phase ≡ true → (is_closed b.phase ≡ true → is_released a.phase || disc ≡ true) → b.owes.reply ≡ a.owes.reply → b.numbered ≡ a.numbered → AHeard disc a b
+a-begun : (disc : Bool) (a b : Account) → is_begun b.phase ≡ true → (is_closed b.phase ≡ true → is_released a.phase || disc ≡ true)
+    → b.owes.reply ≡ a.owes.reply → b.numbered ≡ a.numbered → AHeard disc a b
 a-begun disc a b e c r n = record { begun = λ h. e; closes = c; due = λ k h. e; reply = λ k h. n ∙ k (sym r ∙ h); numbered = λ h. n ∙ h }
 
 a-connected : (frame : Frame) (turn : ℕ) (a : Account) → a.phase ≡ Connected → AHears (frame_disc frame) a (on_connected frame turn a)
-a-connected (I ns nr pf info) turn a e = a-number false turn nr a (λ b. replying pf (taking ns info b)) (acknowledged nr a.outgoing) (λ b. (refl, refl, refl))
-a-connected (Rr command nr pf) turn a e = a-number false turn nr a (λ b. hurrying (ends_wait command pf a) (replying (command && pf) b)) _ (λ b. (refl, refl, refl))
-a-connected (Rnr command nr pf) turn a e = a-number false turn nr a (λ b. pausing turn (replying (command && pf) b)) _ (λ b. (refl, refl, refl))
-a-connected (Rej command nr pf) turn a e = a-number false turn nr a (λ b. hurrying (ends_wait command pf a) (replying (command && pf) b)) _ (λ b. (refl, refl, refl))
+a-connected (I ns nr pf info) turn a e =
+    a-number false turn nr a (λ b. replying pf (taking ns info b)) (acknowledged nr a.outgoing) (λ b. (refl, refl, refl))
+a-connected (Rr command nr pf) turn a e =
+    a-number false turn nr a (λ b. hurrying (ends_wait command pf a) (replying (command && pf) b)) _ (λ b. (refl, refl, refl))
+a-connected (Rnr command nr pf) turn a e =
+    a-number false turn nr a (λ b. pausing turn (replying (command && pf) b)) _ (λ b. (refl, refl, refl))
+a-connected (Rej command nr pf) turn a e =
+    a-number false turn nr a (λ b. hurrying (ends_wait command pf a) (replying (command && pf) b)) _ (λ b. (refl, refl, refl))
 a-connected (Srej command nr pf) turn a e = srej (selected nr a.outgoing)
   where
     srej : (m : Option Outgoing) → AHears false a (on_number turn nr m a)
     srej None = tt
-    srej (Some o) = record { begun = λ h. h; closes = λ h. closed-released a.phase false h; due = λ d h. d h; reply = λ d h. refl; numbered = λ h. refl }
+    srej (Some o) = record {
+      begun = λ h. h;
+      closes = λ h. closed-released a.phase false h;
+      due = λ d h. d h;
+      reply =
+          λ d h. refl;
+      numbered = λ h. refl;
+    }
 a-connected (Sabme pf) turn a e = go (a.numbered || is_originator a.setup.role)
   where
     go : (b : Bool) → AHears false a (cond b (Err (peer_reset a)) (Ok (owing (answers.Ua pf) a)))
@@ -311,9 +351,18 @@ a-connected (Test command pf info) turn a e = a-same false a a refl (λ h. h) re
 -- it goes on to negotiate
 a-negotiates : (disc : Bool) (a : Account) (m : Option Offer) → is_begun a.phase ≡ false → AHears disc a (Ok (on_xid_command m a))
 a-negotiates disc a None e = a-same disc a a refl (λ h. h) refl refl
-a-negotiates disc a (Some offer) e = record { begun = λ h. let wrong : true ≡ false = sym h ∙ e in cc; closes = λ h. cc; due = λ k h. cc; reply = λ k h. k h; numbered = λ h. h }
+a-negotiates disc a (Some offer) e =
+    record {
+      begun = λ h. let wrong : true ≡ false = sym h ∙ e in cc;
+      closes = λ h. cc;
+      due = λ k h. cc;
+      reply = λ k h. k h;
+      numbered =
+          λ h. h;
+    }
 
-a-frame : (p : Phase) (frame : Frame) (turn : ℕ) (a : Account) → a.phase ≡ p → a.setup.role ≡ Answerer → AHears (frame_disc frame) a (on_frame p frame turn a)
+a-frame : (p : Phase) (frame : Frame) (turn : ℕ) (a : Account) → a.phase ≡ p → a.setup.role ≡ Answerer
+    → AHears (frame_disc frame) a (on_frame p frame turn a)
 a-frame Detecting frame turn a e er = subst (λ r. AHears (frame_disc frame) a (on_detecting r frame turn a)) (sym er) (go frame)
   where
     go : (f : Frame) → AHears (frame_disc f) a (on_detecting Answerer f turn a)
@@ -337,7 +386,14 @@ a-frame Connected frame turn a e er = a-connected frame turn a e
 a-frame Releasing frame turn a e er = go frame
   where
     ended : (disc : Bool) → AHeard disc a (record a { phase = Closed })
-    ended disc = record { begun = λ h. refl; closes = λ h. or-first (is_released a.phase) disc (ap is_released e); due = λ k h. refl; reply = λ k h. k h; numbered = λ h. h }
+    ended disc = record {
+      begun = λ h. refl;
+      closes = λ h. or-first (is_released a.phase) disc (ap is_released e);
+      due =
+          λ k h. refl;
+      reply = λ k h. k h;
+      numbered = λ h. h;
+    }
 
     go : (f : Frame) → AHears (frame_disc f) a (on_releasing f a)
     go (Ua true) = ended false
@@ -349,7 +405,8 @@ a-frame Closed frame turn a e er = go frame
     go (Disc pf) = a-same true a _ refl (λ h. cc) refl refl
     go f = a-same (frame_disc f) a a refl (λ h. h) refl refl
 
-pub a-hears : (arrived : Arrived) (turn : ℕ) (a : Account) → a.setup.role ≡ Answerer → AHears (of_arrived frame_disc arrived) a (hear turn arrived a)
+pub a-hears : (arrived : Arrived) (turn : ℕ) (a : Account) → a.setup.role ≡ Answerer
+    → AHears (of_arrived frame_disc arrived) a (hear turn arrived a)
 a-hears arrivals.Nothing turn a er = a-same false a _ refl (less a.owes.answer) refl refl
   where
     less : (m : Option Answer) → is_ua_due (without_adp m) ≡ true → is_ua_due m ≡ true

@@ -41,7 +41,9 @@ abbrev pub AllSay : Account → Option Said → Type 0
 AllSay a m = AllSaid (SaysSo a) m
 
 -- what is no UA, no DISC and no answer to a poll, and changes nothing of these
-says-other : (a : Account) (said : Said) → said.account.phase ≡ a.phase → said.account.owes.answer ≡ a.owes.answer → said.account.owes.reply ≡ a.owes.reply → said.account.numbered ≡ a.numbered → (a.outgoing.awaited ≡ true → said.account.outgoing.awaited ≡ true)
+says-other : (a : Account) (said : Said) → said.account.phase ≡ a.phase → said.account.owes.answer ≡ a.owes.answer
+    → said.account.owes.reply ≡ a.owes.reply → said.account.numbered ≡ a.numbered
+    → (a.outgoing.awaited ≡ true → said.account.outgoing.awaited ≡ true)
     → of_frame frame_disc said.sent ≡ false → of_frame frame_ua said.sent ≡ false → of_frame frame_final said.sent ≡ false → SaysSo a said
 says-other a said p w r n f d u l = record {
   begun = ap is_begun p;
@@ -59,12 +61,66 @@ says-other a said p w r n f d u l = record {
 -- an answer that is due
 says-answer : (a : Account) (m : Option Answer) → a.owes.answer ≡ m → AllSay a (answering m a)
 says-answer a None e = tt
-says-answer a (Some answers.Adp) e = record { begun = refl; closed = refl; released = λ h. h; disc = λ h. cc; ua = λ h. cc; due = λ h. cc; final = λ h. cc; reply = λ h. h; numbered = refl; awaits = λ h. h }
-says-answer a (Some answers.Xid) e = record { begun = refl; closed = refl; released = λ h. h; disc = λ h. cc; ua = λ h. cc; due = λ h. cc; final = λ h. cc; reply = λ h. h; numbered = refl; awaits = λ h. h }
-says-answer a (Some (answers.Ua pf)) e = record { begun = refl; closed = refl; released = λ h. h; disc = λ h. cc; ua = λ h. ap is_ua_due e; due = λ h. cc; final = λ h. cc; reply = λ h. h; numbered = refl; awaits = λ h. h }
-says-answer a (Some (answers.Dm pf)) e = record { begun = refl; closed = refl; released = λ h. h; disc = λ h. cc; ua = λ h. cc; due = λ h. cc; final = λ h. cc; reply = λ h. h; numbered = refl; awaits = λ h. h }
+says-answer a (Some answers.Adp) e =
+    record {
+      begun = refl;
+      closed = refl;
+      released = λ h. h;
+      disc = λ h. cc;
+      ua = λ h. cc;
+      due = λ h. cc;
+      final = λ h. cc;
+      reply =
+          λ h. h;
+      numbered = refl;
+      awaits = λ h. h;
+    }
+says-answer a (Some answers.Xid) e =
+    record {
+      begun = refl;
+      closed = refl;
+      released = λ h. h;
+      disc = λ h. cc;
+      ua = λ h. cc;
+      due = λ h. cc;
+      final = λ h. cc;
+      reply =
+          λ h. h;
+      numbered = refl;
+      awaits = λ h. h;
+    }
+says-answer a (Some (answers.Ua pf)) e =
+    record {
+      begun = refl;
+      closed = refl;
+      released = λ h. h;
+      disc = λ h. cc;
+      ua = λ h. ap is_ua_due e;
+      due = λ h. cc;
+      final =
+          λ h. cc;
+      reply = λ h. h;
+      numbered = refl;
+      awaits = λ h. h;
+    }
+says-answer a (Some (answers.Dm pf)) e =
+    record {
+      begun = refl;
+      closed = refl;
+      released = λ h. h;
+      disc = λ h. cc;
+      ua = λ h. cc;
+      due = λ h. cc;
+      final = λ h. cc;
+      reply =
+          λ h. h;
+      numbered = refl;
+      awaits = λ h. h;
+    }
 
-ready-other : (busy command pf : Bool) (nr : ℕ) → (frame_disc (ready_frame busy command nr pf) ≡ false) × (frame_ua (ready_frame busy command nr pf) ≡ false) × (frame_final (ready_frame busy command nr pf) ≡ pf && not command)
+ready-other : (busy command pf : Bool) (nr : ℕ)
+    → (frame_disc (ready_frame busy command nr pf) ≡ false) × (frame_ua (ready_frame busy command nr pf) ≡ false)
+    × (frame_final (ready_frame busy command nr pf) ≡ pf && not command)
 ready-other true command pf nr = (refl, refl, refl)
 ready-other false command pf nr = (refl, refl, refl)
 
@@ -81,15 +137,21 @@ steps-say turn special a =
     let P : Said → Type 0 = SaysSo a in
     else-says P (step1 a) _ (says-answer a a.owes.answer refl)
     (else-says P (step2 a) _ (replies a.owes.reply refl)
-    (else-says P (step3 a) _ (where-says P a.wait.poll _ (let k = ready-other a.owes.busy true true (nr_of a) in says-other a _ refl refl refl refl (λ h. h) k.0 k.1 k.2))
+    (else-says P (step3 a) _
+    (where-says P a.wait.poll _
+    (let k = ready-other a.owes.busy true true (nr_of a) in says-other a _ refl refl refl refl (λ h. h) k.0 k.1 k.2))
     (else-says P (step4 turn a) _ (urgent a.wait.urgent)
     (else-says P (step5 special a) _ (breaks special a.their_breaks.ack)
-    (else-says P (step6 special a) _ (asks-for (differs a.owes.busy a.owes.busy_told && (is_originator a.setup.role || a.numbered)) a.owes.busy)
+    (else-says P (step6 special a) _
+    (asks-for (differs a.owes.busy a.owes.busy_told && (is_originator a.setup.role || a.numbered)) a.owes.busy)
     (else-says P (step7 turn a) _ (says-segment-so a turn (may_send a))
-    (else-says P (step8 a) (step9 a) (where-says P a.incoming.owed _ (let k = ready-other a.owes.busy false false (nr_of a) in says-other a _ refl refl refl refl (λ h. h) k.0 k.1 k.2))
+    (else-says P (step8 a) (step9 a)
+    (where-says P a.incoming.owed _
+    (let k = ready-other a.owes.busy false false (nr_of a) in says-other a _ refl refl refl refl (λ h. h) k.0 k.1 k.2))
     (says-other a _ refl refl refl refl (λ h. h) refl refl refl))))))))
   where
-    replies : (b : Bool) → a.owes.reply ≡ b → AllSay a (where_says b (tells false true (record a { owes = record a.owes { reply = false } })))
+    replies : (b : Bool) → a.owes.reply ≡ b
+        → AllSay a (where_says b (tells false true (record a { owes = record a.owes { reply = false } })))
     replies false e = tt
     replies true e = let k = ready-other a.owes.busy false true (nr_of a) in record {
       begun = refl;
@@ -123,7 +185,8 @@ steps-say turn special a =
     asking true true (Some n) = tt
     asking true false (Some n) = says-other a _ refl refl refl refl (λ h. h) refl refl refl
 
-    asks-for : (b c : Bool) → AllSay a (cond b (Some (tells false false a)) (cond c None (says_asking a.incoming.srej special (asks a.incoming) a)))
+    asks-for : (b c : Bool)
+        → AllSay a (cond b (Some (tells false false a)) (cond c None (says_asking a.incoming.srej special (asks a.incoming) a)))
     asks-for true c = let k = ready-other a.owes.busy false false (nr_of a) in says-other a _ refl refl refl refl (λ h. h) k.0 k.1 k.2
     asks-for false true = tt
     asks-for false false = asking a.incoming.srej special (asks a.incoming)
@@ -142,10 +205,18 @@ timers-say turn a = go (timer_expires turn a a.wait.timer) (nat_eq a.outgoing.co
     by b t None = tt
     by b t (Some c) = record { phase = t.phase; owes = t.owes; numbered = t.numbered; awaits = t.awaits }
 
-    go : (x spent' : Bool) → OnOk (TimersSay a) (then_tries turn (cond x (polling turn (cond spent' None (Some (record a.outgoing { count = a.outgoing.count + 1; awaited = true }))) a) (Ok a)))
-    go false s = by a (record { phase = refl; owes = refl; numbered = refl; awaits = λ h. h }) (ticked turn a.setup.period a.setup.tries a.own_breaks)
+    go : (x spent' : Bool)
+        → OnOk (TimersSay a) (then_tries turn
+        (cond x (polling turn (cond spent' None (Some (record a.outgoing { count = a.outgoing.count + 1; awaited = true }))) a) (Ok a)))
+    go false s = by a (record { phase = refl; owes = refl; numbered = refl; awaits = λ h. h })
+        (ticked turn a.setup.period a.setup.tries a.own_breaks)
     go true true = tt
-    go true false = by (record a { outgoing = record a.outgoing { count = a.outgoing.count + 1; awaited = true }; wait = record a.wait { poll = true; timer = Some turn } })
+    go true false = by (record
+        a {
+          outgoing = record a.outgoing { count = a.outgoing.count + 1; awaited = true };
+          wait =
+              record a.wait { poll = true; timer = Some turn };
+        })
         (record { phase = refl; owes = refl; numbered = refl; awaits = λ h. refl }) (ticked turn a.setup.period a.setup.tries a.own_breaks)
 
 abbrev pub Says : Account → Result Said LinkFault → Type 0
@@ -170,10 +241,12 @@ linked-say turn a = go (then_tries turn (on_timer turn a)) (timers-say turn a)
       awaits = λ h. s.awaits (t.awaits h);
     }
 
-try-says : (turn : ℕ) (frame : Frame) (a : Account) → (frame_disc frame ≡ true → is_released a.phase ≡ true) → frame_ua frame ≡ false → frame_final frame ≡ false → Says a (u_try turn frame a)
+try-says : (turn : ℕ) (frame : Frame) (a : Account) → (frame_disc frame ≡ true → is_released a.phase ≡ true) → frame_ua frame ≡ false
+    → frame_final frame ≡ false → Says a (u_try turn frame a)
 try-says turn frame a d u l = go (nat_eq turn (a.wait.try_set + a.setup.period)) (nat_eq a.wait.try_count a.setup.tries)
   where
-    framed : (c : Account) → c.phase ≡ a.phase → c.owes ≡ a.owes → c.numbered ≡ a.numbered → c.outgoing ≡ a.outgoing → (due : Bool) → SaysSo a (else_says (where_says due (says_frame frame (record c { wait = record c.wait { try = false } }))) (says slots.Flags c))
+    framed : (c : Account) → c.phase ≡ a.phase → c.owes ≡ a.owes → c.numbered ≡ a.numbered → c.outgoing ≡ a.outgoing → (due : Bool)
+        → SaysSo a (else_says (where_says due (says_frame frame (record c { wait = record c.wait { try = false } }))) (says slots.Flags c))
     framed c p w n o true = record {
       begun = ap is_begun p;
       closed = ap is_closed p;
@@ -188,7 +261,8 @@ try-says turn frame a d u l = go (nat_eq turn (a.wait.try_set + a.setup.period))
     }
     framed c p w n o false = says-other a _ p (ap (λ x. x.answer) w) (ap (λ x. x.reply) w) n (λ h. ap (λ x. x.awaited) o ∙ h) refl refl refl
 
-    go : (due spent' : Bool) → Says a (cond due (cond spent' (Err (spent turn a)) (Ok (tries_frame frame (trying_again turn a)))) (Ok (tries_frame frame a)))
+    go : (due spent' : Bool)
+        → Says a (cond due (cond spent' (Err (spent turn a)) (Ok (tries_frame frame (trying_again turn a)))) (Ok (tries_frame frame a)))
     go false s = framed a refl refl refl refl a.wait.try
     go true true = tt
     go true false = framed (trying_again turn a) refl refl refl refl true
@@ -197,8 +271,11 @@ try-says turn frame a d u l = go (nat_eq turn (a.wait.try_set + a.setup.period))
 pub speaks-so : (turn : ℕ) (release : Bool) (a : Account) → Says a (speak turn release a)
 speaks-so turn release a = go a.phase refl
   where
-    answers : (silence : Sent) → of_frame frame_disc silence ≡ false → of_frame frame_ua silence ≡ false → of_frame frame_final silence ≡ false → SaysSo a (else_says (answering a.owes.answer a) (says silence a))
-    answers silence d u l = else-says (SaysSo a) (answering a.owes.answer a) (says silence a) (says-answer a a.owes.answer refl) (says-other a _ refl refl refl refl (λ h. h) d u l)
+    answers : (silence : Sent) → of_frame frame_disc silence ≡ false → of_frame frame_ua silence ≡ false
+        → of_frame frame_final silence ≡ false → SaysSo a (else_says (answering a.owes.answer a) (says silence a))
+    answers silence d u l =
+        else-says (SaysSo a) (answering a.owes.answer a) (says silence a) (says-answer a a.owes.answer refl)
+        (says-other a _ refl refl refl refl (λ h. h) d u l)
 
     detecting : (r : Role) → Says a (speak_detecting r turn a)
     detecting Originator = by (nat_le ((a.setup.tries + 1) * a.setup.period) turn)
@@ -228,7 +305,8 @@ speaks-so turn release a = go a.phase refl
     }
 
     linked : a.phase ≡ Connected → (b : Bool) → Says a (cond b (speak_releasing turn (trying Releasing turn a)) (speak_linked turn a))
-    linked e true = told e (u_try turn (Disc true) (trying Releasing turn a)) (try-says turn (Disc true) (trying Releasing turn a) (λ h. refl) refl refl)
+    linked e true = told e (u_try turn (Disc true) (trying Releasing turn a))
+        (try-says turn (Disc true) (trying Releasing turn a) (λ h. refl) refl refl)
     linked e false = linked-say turn a
 
     go : (p : Phase) → a.phase ≡ p → Says a (speak_in p turn release a)

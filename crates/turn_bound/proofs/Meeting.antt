@@ -35,7 +35,8 @@ arrives-flag f slots.Adp = refl
 arrives-flag f slots.Flags = refl
 arrives-flag f (slots.Frame frame) = refl
 
-arrival-tells : (f : Frame → Bool) (P : Type 0) (delay : ℕ) (loses : Bool) (line : List Slot) → Tells f P line → of_arrived f (arrival delay loses line) ≡ true → P
+arrival-tells : (f : Frame → Bool) (P : Type 0) (delay : ℕ) (loses : Bool) (line : List Slot) → Tells f P line
+    → of_arrived f (arrival delay loses line) ≡ true → P
 arrival-tells f P delay loses [] h e = cc
 arrival-tells f P delay loses (slot ∷ rest) h e = go (nat_lt (length (slot ∷ rest)) delay) loses e
   where
@@ -55,7 +56,8 @@ left-tells f P Q delay (slot ∷ rest) k h = go (nat_lt (length (slot ∷ rest))
     go true = weaker (slot ∷ rest) h
     go false = weaker rest h.1
 
-tells-snoc : (f : Frame → Bool) (P : Type 0) (line : List Slot) (slot : Slot) → Tells f P line → (of_frame f slot.sent ≡ true → P) → Tells f P (line ++ slot ∷ [])
+tells-snoc : (f : Frame → Bool) (P : Type 0) (line : List Slot) (slot : Slot) → Tells f P line → (of_frame f slot.sent ≡ true → P)
+    → Tells f P (line ++ slot ∷ [])
 tells-snoc f P [] slot h k = (k, tt)
 tells-snoc f P (s ∷ line) slot h k = (h.0, tells-snoc f P line slot h.1 k)
 
@@ -71,7 +73,8 @@ pub record Meets (s : State) : Type 0 where
   pub awaits : s.orig.phase ≡ Connected → s.answ.numbered ≡ false → s.orig.outgoing.awaited ≡ true
 
 -- an answerer that is told to release is closed
-pub released-closed : (z : Rates) (before turn : ℕ) (p : Phase) (a : Account) → Stands z before turn Answerer p a → is_released p ≡ true → is_closed p ≡ true
+pub released-closed : (z : Rates) (before turn : ℕ) (p : Phase) (a : Account) → Stands z before turn Answerer p a → is_released p ≡ true
+    → is_closed p ≡ true
 released-closed z before turn Detecting a h e = cc
 released-closed z before turn Negotiating a h e = cc
 released-closed z before turn Establishing a h e = cc
@@ -87,7 +90,8 @@ only-linked Connected e f = refl
 only-linked Releasing e f = cc
 only-linked Closed e f = cc
 
-only-answ : (z : Rates) (before turn : ℕ) (p : Phase) (a : Account) → Stands z before turn Answerer p a → is_begun p ≡ true → is_closed p ≡ false → p ≡ Connected
+only-answ : (z : Rates) (before turn : ℕ) (p : Phase) (a : Account) → Stands z before turn Answerer p a → is_begun p ≡ true
+    → is_closed p ≡ false → p ≡ Connected
 only-answ z before turn Detecting a h e f = cc
 only-answ z before turn Negotiating a h e f = cc
 only-answ z before turn Establishing a h e f = cc
@@ -116,9 +120,20 @@ s-ok a said (Err fault) e h = cc
 s-ok a said (Ok other) e h = let same : other ≡ said = cc in subst (SaysSo a) same h
 
 meets-start : (link : Link) → Meets (start link)
-meets-start link = record { closed = λ e. cc; begun = λ e. cc; due = λ e. cc; reply = λ e. cc; discs = tt; uas = tt; finals = tt; awaits = λ e. cc }
+meets-start link = record {
+  closed = λ e. cc;
+  begun = λ e. cc;
+  due = λ e. cc;
+  reply = λ e. cc;
+  discs = tt;
+  uas = tt;
+  finals = tt;
+  awaits =
+      λ e. cc;
+}
 
-meets-turn : (z : Rates) (link : Link) (turn : ℕ) (s : State) (t : Turn) (u : State) → Fits z link → Sound z link turn s → Meets s → (g : GoingTurn link turn s t u) → Meets (state_after link turn s g.orig_mid g.answ_mid g.orig_said g.answ_said)
+meets-turn : (z : Rates) (link : Link) (turn : ℕ) (s : State) (t : Turn) (u : State) → Fits z link → Sound z link turn s → Meets s
+    → (g : GoingTurn link turn s t u) → Meets (state_after link turn s g.orig_mid g.answ_mid g.orig_said g.answ_said)
 meets-turn z link turn s t u f h m g =
     let back = arrival link.answ.delay t.orig_loses s.back in
     let forward = arrival link.orig.delay t.answ_loses s.forward in
@@ -127,36 +142,53 @@ meets-turn z link turn s t u f h m g =
     let ba = served_account link.answ.user turn released g.answ_mid in
     let ro = ap (λ x. x.role) h.orig_setup ∙ f.originates in
     let ra = ap (λ x. x.role) h.answ_setup ∙ f.answers in
-    let ho = o-ok (of_arrived frame_ua back) (of_arrived frame_final back) s.orig g.orig_mid (hear turn back s.orig) g.orig_hears (o-hears back turn s.orig ro) in
-    let ha = a-ok (of_arrived frame_disc forward) s.answ g.answ_mid (hear turn forward s.answ) g.answ_hears (a-hears forward turn s.answ ra) in
+    let ho = o-ok (of_arrived frame_ua back) (of_arrived frame_final back) s.orig g.orig_mid (hear turn back s.orig) g.orig_hears
+    (o-hears back turn s.orig ro) in
+    let ha = a-ok (of_arrived frame_disc forward) s.answ g.answ_mid (hear turn forward s.answ) g.answ_hears
+    (a-hears forward turn s.answ ra) in
     let vo = serves-all link.orig.user turn released g.orig_mid in
     let va = serves-all link.answ.user turn released g.answ_mid in
     let so = s-ok bo g.orig_said (speak turn _ bo) g.orig_says (speaks-so turn _ bo) in
     let sa = s-ok ba g.answ_said (speak turn false ba) g.answ_says (speaks-so turn false ba) in
     -- each thing from before the turn to after it
-    let keeps-begun : is_begun s.answ.phase ≡ true → is_begun g.answ_said.account.phase ≡ true = λ e. sa.begun ∙ (ap is_begun va.phase ∙ ha.begun e) in
-    let keeps-released : is_released s.orig.phase ≡ true → is_released g.orig_said.account.phase ≡ true = λ e. so.released (ap is_released vo.phase ∙ ho.released e) in
+    let keeps-begun : is_begun s.answ.phase ≡ true → is_begun g.answ_said.account.phase ≡ true =
+    λ e. sa.begun ∙ (ap is_begun va.phase ∙ ha.begun e) in
+    let keeps-released : is_released s.orig.phase ≡ true → is_released g.orig_said.account.phase ≡ true =
+    λ e. so.released (ap is_released vo.phase ∙ ho.released e) in
     let keeps-numbered : s.answ.numbered ≡ true → g.answ_said.account.numbered ≡ true = λ e. sa.numbered ∙ (va.numbered ∙ ha.numbered e) in
-    let due : is_ua_due ba.owes.answer ≡ true → is_begun g.answ_said.account.phase ≡ true = λ e. sa.begun ∙ (ap is_begun va.phase ∙ ha.due m.due (ap is_ua_due (sym va.answer) ∙ e)) in
-    let reply : ba.owes.reply ≡ true → g.answ_said.account.numbered ≡ true = λ e. sa.numbered ∙ (va.numbered ∙ ha.reply m.reply (sym va.reply ∙ e)) in
-    let final : of_arrived frame_final back ≡ true → s.answ.numbered ≡ true = arrival-tells frame_final (s.answ.numbered ≡ true) link.answ.delay t.orig_loses s.back m.finals in
+    let due : is_ua_due ba.owes.answer ≡ true → is_begun g.answ_said.account.phase ≡ true =
+    λ e. sa.begun ∙ (ap is_begun va.phase ∙ ha.due m.due (ap is_ua_due (sym va.answer) ∙ e)) in
+    let reply : ba.owes.reply ≡ true → g.answ_said.account.numbered ≡ true =
+    λ e. sa.numbered ∙ (va.numbered ∙ ha.reply m.reply (sym va.reply ∙ e)) in
+    let final : of_arrived frame_final back ≡ true → s.answ.numbered ≡ true =
+    arrival-tells frame_final (s.answ.numbered ≡ true) link.answ.delay t.orig_loses s.back m.finals in
     record {
-      closed = λ e. keeps-released (or-either (is_released s.answ.phase) (of_arrived frame_disc forward) (is_released s.orig.phase ≡ true) (ha.closes (ap is_closed (sym va.phase) ∙ (sym sa.closed ∙ e)))
+      closed = λ e. keeps-released
+          (or-either (is_released s.answ.phase) (of_arrived frame_disc forward) (is_released s.orig.phase ≡ true)
+          (ha.closes (ap is_closed (sym va.phase) ∙ (sym sa.closed ∙ e)))
           (λ r. m.closed (released-closed z turn turn s.answ.phase s.answ h.answ r))
           (arrival-tells frame_disc (is_released s.orig.phase ≡ true) link.orig.delay t.answ_loses s.forward m.discs));
-      begun = λ e. keeps-begun (or-either (is_begun s.orig.phase) (of_arrived frame_ua back) (is_begun s.answ.phase ≡ true) (ho.begins (ap is_begun (sym vo.phase) ∙ (sym so.begun ∙ e))) m.begun
+      begun = λ e. keeps-begun
+          (or-either (is_begun s.orig.phase) (of_arrived frame_ua back) (is_begun s.answ.phase ≡ true)
+          (ho.begins (ap is_begun (sym vo.phase) ∙ (sym so.begun ∙ e))) m.begun
           (arrival-tells frame_ua (is_begun s.answ.phase ≡ true) link.answ.delay t.orig_loses s.back m.uas));
       due = λ e. due (sa.due e);
       reply = λ e. reply (sa.reply e);
-      discs = tells-snoc frame_disc (is_released g.orig_said.account.phase ≡ true) (left_on link.orig.delay s.forward) (slot_of g.orig_said bo)
-          (left-tells frame_disc (is_released s.orig.phase ≡ true) (is_released g.orig_said.account.phase ≡ true) link.orig.delay s.forward keeps-released m.discs) so.disc;
+      discs = tells-snoc frame_disc (is_released g.orig_said.account.phase ≡ true) (left_on link.orig.delay s.forward)
+          (slot_of g.orig_said bo)
+          (left-tells frame_disc (is_released s.orig.phase ≡ true)
+          (is_released g.orig_said.account.phase ≡ true) link.orig.delay s.forward keeps-released m.discs) so.disc;
       uas = tells-snoc frame_ua (is_begun g.answ_said.account.phase ≡ true) (left_on link.answ.delay s.back) (slot_of g.answ_said ba)
-          (left-tells frame_ua (is_begun s.answ.phase ≡ true) (is_begun g.answ_said.account.phase ≡ true) link.answ.delay s.back keeps-begun m.uas) (λ e. due (sa.ua e));
+          (left-tells frame_ua (is_begun s.answ.phase ≡ true)
+          (is_begun g.answ_said.account.phase ≡ true) link.answ.delay s.back keeps-begun m.uas) (λ e. due (sa.ua e));
       finals = tells-snoc frame_final (g.answ_said.account.numbered ≡ true) (left_on link.answ.delay s.back) (slot_of g.answ_said ba)
-          (left-tells frame_final (s.answ.numbered ≡ true) (g.answ_said.account.numbered ≡ true) link.answ.delay s.back keeps-numbered m.finals) (λ e. reply (sa.final e));
+          (left-tells frame_final (s.answ.numbered ≡ true)
+          (g.answ_said.account.numbered ≡ true) link.answ.delay s.back keeps-numbered m.finals) (λ e. reply (sa.final e));
       awaits = λ e n.
-          let unheard : s.answ.numbered ≡ false = not-true s.answ.numbered (λ k. let wrong : true ≡ false = sym (keeps-numbered k) ∙ n in cc) in
-          let none : of_arrived frame_final back ≡ false = not-true (of_arrived frame_final back) (λ k. let wrong : true ≡ false = sym (final k) ∙ unheard in cc) in
+          let unheard : s.answ.numbered ≡ false =
+          not-true s.answ.numbered (λ k. let wrong : true ≡ false = sym (keeps-numbered k) ∙ n in cc) in
+          let none : of_arrived frame_final back ≡ false =
+          not-true (of_arrived frame_final back) (λ k. let wrong : true ≡ false = sym (final k) ∙ unheard in cc) in
           let linked : bo.phase ≡ Connected = only-linked bo.phase (sym so.begun ∙ ap is_begun e)
           (not-true (is_released bo.phase) (λ k. let wrong : true ≡ false = sym (so.released k) ∙ ap is_released e in cc)) in
           so.awaits (ap (λ o. o.awaited) vo.longer.outgoing ∙ ho.awaits (λ k. m.awaits k unheard) none (sym vo.phase ∙ linked));
@@ -165,13 +197,15 @@ meets-turn z link turn s t u f h m g =
 pub meets-run : (z : Rates) (link : Link) (ts : List Turn) (s : State) → Fits z link → RunOf link ts s → Meets s
 meets-run z link [] s f run = subst Meets (sym run) (meets-start link)
 meets-run z link (t ∷ ts) s f (before, run, g) =
-    subst Meets (sym (after-is link (length ts) before t s g)) (meets-turn z link (length ts) before t s f (sound-run z link ts before f run) (meets-run z link ts before f run) g)
+    subst Meets (sym (after-is link (length ts) before t s g))
+    (meets-turn z link (length ts) before t s f (sound-run z link ts before f run) (meets-run z link ts before f run) g)
 
 pub together-run : (z : Rates) (link : Link) (ts : List Turn) (s : State) → Fits z link → RunOf link ts s → AreTogether s
 together-run z link ts s f run =
     let m = meets-run z link ts s f run in
     let h = sound-run z link ts s f run in
     record {
-      answ = λ e. only-answ z (length ts) (length ts) s.answ.phase s.answ h.answ (m.begun (ap is_begun e)) (not-true (is_closed s.answ.phase) (λ c. let wrong : true ≡ false = sym (m.closed c) ∙ ap is_released e in cc));
+      answ = λ e. only-answ z (length ts) (length ts) s.answ.phase s.answ h.answ (m.begun (ap is_begun e))
+          (not-true (is_closed s.answ.phase) (λ c. let wrong : true ≡ false = sym (m.closed c) ∙ ap is_released e in cc));
       polls = m.awaits;
     }

@@ -67,15 +67,27 @@ linked-open : (a : Account) → a.phase ≡ Connected → is_released a.phase �
 linked-open a e h = let wrong : false ≡ true = sym (ap is_released e) ∙ h in cc
 
 -- a number is heard at a Connected end
-goes-number : (turn nr : ℕ) (a : Account) (f : Account → Account) (m : Option Outgoing) → ((b : Account) → ((f b).phase ≡ b.phase) × ((f b).owes.busy_told ≡ b.owes.busy_told) × ((f b).outgoing ≡ b.outgoing))
-    → ((o : Outgoing) → m ≡ Some o → a.outgoing.paused ≡ false → o.paused ≡ false) → a.phase ≡ Connected → HearsOn a (then_in f (on_number turn nr m a))
+goes-number : (turn nr : ℕ) (a : Account) (f : Account → Account) (m : Option Outgoing)
+    → ((b : Account) → ((f b).phase ≡ b.phase) × ((f b).owes.busy_told ≡ b.owes.busy_told) × ((f b).outgoing ≡ b.outgoing))
+    → ((o : Outgoing) → m ≡ Some o → a.outgoing.paused ≡ false → o.paused ≡ false) → a.phase ≡ Connected
+    → HearsOn a (then_in f (on_number turn nr m a))
 goes-number turn nr a f None same k e = tt
 goes-number turn nr a f (Some o) same k e =
-    let b : Account = record a { numbered = true; outgoing = o; wait = record a.wait { timer = timer_after turn a.outgoing o a.wait.timer } } in
+    let b : Account = record
+    a { numbered = true; outgoing = o; wait = record a.wait { timer = timer_after turn a.outgoing o a.wait.timer } } in
     let s = same b in
-    record { begun = λ h. ap is_begun s.0 ∙ h; released = λ h. ap is_released s.0 ∙ h; early = λ h. absurd (linked-begun a e h); late = λ h. absurd (linked-open a e h); paused = λ h. ap (λ x. x.paused) s.2 ∙ k o refl h; told = s.1 }
+    record {
+      begun = λ h. ap is_begun s.0 ∙ h;
+      released = λ h. ap is_released s.0 ∙ h;
+      early = λ h. absurd (linked-begun a e h);
+      late =
+          λ h. absurd (linked-open a e h);
+      paused = λ h. ap (λ x. x.paused) s.2 ∙ k o refl h;
+      told = s.1;
+    }
 
-made-paused : (p : Outgoing) (made : ℕ → Outgoing) (m : Option ℕ) (o : Outgoing) → option_map made m ≡ Some o → ((n : ℕ) → (made n).paused ≡ p.paused) → p.paused ≡ false → o.paused ≡ false
+made-paused : (p : Outgoing) (made : ℕ → Outgoing) (m : Option ℕ) (o : Outgoing) → option_map made m ≡ Some o
+    → ((n : ℕ) → (made n).paused ≡ p.paused) → p.paused ≡ false → o.paused ≡ false
 made-paused p made None o e h f = cc
 made-paused p made (Some n) o e h f = let same : made n ≡ o = cc in ap (λ x. x.paused) (sym same) ∙ (h n ∙ f)
 
@@ -83,23 +95,49 @@ resumed-paused : (m : Option Outgoing) (o : Outgoing) → option_map resumed m �
 resumed-paused None o e = cc
 resumed-paused (Some p) o e = let same : resumed p ≡ o = cc in ap (λ x. x.paused) (sym same) ∙ by p.paused refl
   where
-    by : (b : Bool) → p.paused ≡ b → (cond b (record p { paused = false; count = cond (is_outstanding p || p.awaited) p.count 0 }) p).paused ≡ false
+    by : (b : Bool) → p.paused ≡ b
+        → (cond b (record p { paused = false; count = cond (is_outstanding p || p.awaited) p.count 0 }) p).paused ≡ false
     by true f = refl
     by false f = f
 
 same-goes : (a b : Account) → b.phase ≡ a.phase → b.owes.busy_told ≡ a.owes.busy_told → b.outgoing ≡ a.outgoing → Goes a b
-same-goes a b p t o = record { begun = λ h. ap is_begun p ∙ h; released = λ h. ap is_released p ∙ h; early = λ h. ap is_released p ∙ unbegun a.phase h; late = λ h. o; paused = λ h. ap (λ x. x.paused) o ∙ h; told = t }
+same-goes a b p t o =
+    record {
+      begun = λ h. ap is_begun p ∙ h;
+      released = λ h. ap is_released p ∙ h;
+      early = λ h. ap is_released p ∙ unbegun a.phase h;
+      late =
+          λ h. o;
+      paused = λ h. ap (λ x. x.paused) o ∙ h;
+      told = t;
+    }
 
-goes-connected : (frame : Frame) (turn : ℕ) (a : Account) → a.phase ≡ Connected → frame_rnrs frame ≡ 0 → HearsOn a (on_connected frame turn a)
-goes-connected (I ns nr pf info) turn a e n = goes-number turn nr a (λ b. replying pf (taking ns info b)) (acknowledged nr a.outgoing) (λ b. (refl, refl, refl)) (λ o f. made-paused a.outgoing (advanced a.outgoing) (meant a.outgoing.front a.outgoing.high nr) o f (λ k. refl)) e
-goes-connected (Rr command nr pf) turn a e n = goes-number turn nr a (λ b. hurrying (ends_wait command pf a) (replying (command && pf) b)) _ (λ b. (refl, refl, refl)) (λ o f h. resumed-paused (cond (ends_wait command pf a) (replied nr a.outgoing) (acknowledged nr a.outgoing)) o f) e
+goes-connected : (frame : Frame) (turn : ℕ) (a : Account) → a.phase ≡ Connected → frame_rnrs frame ≡ 0
+    → HearsOn a (on_connected frame turn a)
+goes-connected (I ns nr pf info) turn a e n =
+    goes-number turn nr a (λ b. replying pf (taking ns info b)) (acknowledged nr a.outgoing) (λ b. (refl, refl, refl))
+    (λ o f. made-paused a.outgoing (advanced a.outgoing) (meant a.outgoing.front a.outgoing.high nr) o f (λ k. refl)) e
+goes-connected (Rr command nr pf) turn a e n =
+    goes-number turn nr a (λ b. hurrying (ends_wait command pf a) (replying (command && pf) b)) _ (λ b. (refl, refl, refl))
+    (λ o f h. resumed-paused (cond (ends_wait command pf a) (replied nr a.outgoing) (acknowledged nr a.outgoing)) o f) e
 goes-connected (Rnr command nr pf) turn a e n = absurd (omega (arith, n))
-goes-connected (Rej command nr pf) turn a e n = goes-number turn nr a (λ b. hurrying (ends_wait command pf a) (replying (command && pf) b)) _ (λ b. (refl, refl, refl)) (λ o f h. resumed-paused (cond (ends_wait command pf a) (replied nr a.outgoing) (rejected nr a.outgoing)) o f) e
+goes-connected (Rej command nr pf) turn a e n =
+    goes-number turn nr a (λ b. hurrying (ends_wait command pf a) (replying (command && pf) b)) _ (λ b. (refl, refl, refl))
+    (λ o f h. resumed-paused (cond (ends_wait command pf a) (replied nr a.outgoing) (rejected nr a.outgoing)) o f) e
 goes-connected (Srej command nr pf) turn a e n = go (is_outstanding a.outgoing) (meant a.outgoing.front (a.outgoing.high - 1) nr)
   where
-    go : (b : Bool) (m : Option ℕ) → HearsOn a (on_number turn nr (cond b (option_map (λ k. record a.outgoing { chosen = with_number k a.outgoing.chosen }) m) None) a)
+    go : (b : Bool) (m : Option ℕ)
+        → HearsOn a (on_number turn nr (cond b (option_map (λ k. record a.outgoing { chosen = with_number k a.outgoing.chosen }) m) None) a)
     go true None = tt
-    go true (Some k) = record { begun = λ h. h; released = λ h. h; early = λ h. absurd (linked-begun a e h); late = λ h. absurd (linked-open a e h); paused = λ h. h; told = refl }
+    go true (Some k) = record {
+      begun = λ h. h;
+      released = λ h. h;
+      early = λ h. absurd (linked-begun a e h);
+      late =
+          λ h. absurd (linked-open a e h);
+      paused = λ h. h;
+      told = refl;
+    }
     go false m = tt
 goes-connected (Sabme pf) turn a e n = go (a.numbered || is_originator a.setup.role)
   where
@@ -110,7 +148,15 @@ goes-connected (Disc pf) turn a e n = go a.setup.role
   where
     go : (r : Role) → HearsOn a (on_disc r pf a)
     go Originator = tt
-    go Answerer = record { begun = λ h. refl; released = λ h. refl; early = λ h. absurd (linked-begun a e h); late = λ h. absurd (linked-open a e h); paused = λ h. h; told = refl }
+    go Answerer = record {
+      begun = λ h. refl;
+      released = λ h. refl;
+      early = λ h. absurd (linked-begun a e h);
+      late =
+          λ h. absurd (linked-open a e h);
+      paused = λ h. h;
+      told = refl;
+    }
 goes-connected (Ua pf) turn a e n = same-goes a a refl refl refl
 goes-connected (Dm pf) turn a e n = tt
 goes-connected (Frmr pf info) turn a e n = tt
@@ -124,8 +170,18 @@ goes-connected (Xid command pf info) turn a e n = same-goes a a refl refl refl
 goes-connected (Test command pf info) turn a e n = same-goes a a refl refl refl
 
 -- what only goes on from a phase before Connected
-early-goes : (a b : Account) → is_begun a.phase ≡ false → is_released b.phase ≡ false → (a.outgoing.paused ≡ false → b.outgoing.paused ≡ false) → b.owes.busy_told ≡ a.owes.busy_told → Goes a b
-early-goes a b e r p t = record { begun = λ h. let wrong : true ≡ false = sym h ∙ e in cc; released = λ h. absurd (none a.phase e h); early = λ h. r; late = λ h. absurd (none a.phase e h); paused = p; told = t }
+early-goes : (a b : Account) → is_begun a.phase ≡ false → is_released b.phase ≡ false
+    → (a.outgoing.paused ≡ false → b.outgoing.paused ≡ false) → b.owes.busy_told ≡ a.owes.busy_told → Goes a b
+early-goes a b e r p t =
+    record {
+      begun = λ h. let wrong : true ≡ false = sym h ∙ e in cc;
+      released = λ h. absurd (none a.phase e h);
+      early = λ h. r;
+      late =
+          λ h. absurd (none a.phase e h);
+      paused = p;
+      told = t;
+    }
   where
     none : (q : Phase) → is_begun q ≡ false → is_released q ≡ true → ⊥
     none Detecting f h = cc
@@ -175,8 +231,24 @@ goes-frame Connected frame turn a e n = goes-connected frame turn a e n
 goes-frame Releasing frame turn a e n = go frame
   where
     go : (f : Frame) → HearsOn a (on_releasing f a)
-    go (Ua true) = record { begun = λ h. refl; released = λ h. refl; early = λ h. let wrong : true ≡ false = sym (ap is_begun e) ∙ h in cc; late = λ h. refl; paused = λ h. h; told = refl }
-    go (Dm true) = record { begun = λ h. refl; released = λ h. refl; early = λ h. let wrong : true ≡ false = sym (ap is_begun e) ∙ h in cc; late = λ h. refl; paused = λ h. h; told = refl }
+    go (Ua true) = record {
+      begun = λ h. refl;
+      released = λ h. refl;
+      early = λ h. let wrong : true ≡ false = sym (ap is_begun e) ∙ h in
+          cc;
+      late = λ h. refl;
+      paused = λ h. h;
+      told = refl;
+    }
+    go (Dm true) = record {
+      begun = λ h. refl;
+      released = λ h. refl;
+      early = λ h. let wrong : true ≡ false = sym (ap is_begun e) ∙ h in
+          cc;
+      late = λ h. refl;
+      paused = λ h. h;
+      told = refl;
+    }
     go f = same-goes a a refl refl refl
 goes-frame Closed frame turn a e n = go frame
   where
@@ -229,7 +301,8 @@ steps-calm turn special a calm =
     (else-says P (step3 a) _ (where-says P a.wait.poll _ (refl, λ h. calm))
     (else-says P (step4 turn a) _ (urgent a.wait.urgent)
     (else-says P (step5 special a) _ (breaks special a.their_breaks.ack)
-    (else-says P (step6 special a) _ (asks-for (differs a.owes.busy a.owes.busy_told && (is_originator a.setup.role || a.numbered)) a.owes.busy)
+    (else-says P (step6 special a) _
+    (asks-for (differs a.owes.busy a.owes.busy_told && (is_originator a.setup.role || a.numbered)) a.owes.busy)
     (else-says P (step7 turn a) _ (segment (may_send a))
     (else-says P (step8 a) (step9 a) (where-says P a.incoming.owed _ (refl, λ h. calm)) (refl, λ h. h))))))))
   where
@@ -264,7 +337,8 @@ steps-calm turn special a calm =
     asking true true (Some n) = tt
     asking true false (Some n) = (refl, λ h. h)
 
-    asks-for : (b c : Bool) → AllSaid (Calm a) (cond b (Some (tells false false a)) (cond c None (says_asking a.incoming.srej special (asks a.incoming) a)))
+    asks-for : (b c : Bool)
+        → AllSaid (Calm a) (cond b (Some (tells false false a)) (cond c None (says_asking a.incoming.srej special (asks a.incoming) a)))
     asks-for true c = (refl, λ h. calm)
     asks-for false true = tt
     asks-for false false = asking a.incoming.srej special (asks a.incoming)
@@ -273,34 +347,47 @@ abbrev pub KeepsCalm : Account → Account → Type 0
 KeepsCalm a b = (b.owes ≡ a.owes) × (mark b.outgoing ≡ mark a.outgoing)
 
 linked-calm : (turn : ℕ) (a : Account) → a.owes.busy ≡ false → SpeaksCalm a (speak_linked turn a)
-linked-calm turn a calm = go (then_tries turn (on_timer turn a)) (timers (timer_expires turn a a.wait.timer) (nat_eq a.outgoing.count a.outgoing.tries))
+linked-calm turn a calm =
+    go (then_tries turn (on_timer turn a)) (timers (timer_expires turn a a.wait.timer) (nat_eq a.outgoing.count a.outgoing.tries))
   where
     broke : (b : Account) → KeepsCalm a b → (m : Option OwnBreaks) → OnOk (KeepsCalm a) (breaking turn m b)
     broke b s None = tt
     broke b s (Some c) = s
 
-    timers : (x spent' : Bool) → OnOk (KeepsCalm a) (then_tries turn (cond x (polling turn (cond spent' None (Some (record a.outgoing { count = a.outgoing.count + 1; awaited = true }))) a) (Ok a)))
+    timers : (x spent' : Bool)
+        → OnOk (KeepsCalm a) (then_tries turn
+        (cond x (polling turn (cond spent' None (Some (record a.outgoing { count = a.outgoing.count + 1; awaited = true }))) a) (Ok a)))
     timers false s = broke a (refl, refl) (ticked turn a.setup.period a.setup.tries a.own_breaks)
     timers true true = tt
-    timers true false = broke (record a { outgoing = record a.outgoing { count = a.outgoing.count + 1; awaited = true }; wait = record a.wait { poll = true; timer = Some turn } }) (refl, refl) (ticked turn a.setup.period a.setup.tries a.own_breaks)
+    timers true false = broke
+        (record a {
+          outgoing = record a.outgoing { count = a.outgoing.count + 1; awaited = true };
+          wait =
+              record a.wait { poll = true; timer = Some turn };
+        }) (refl, refl) (ticked turn a.setup.period a.setup.tries a.own_breaks)
 
     go : (r : Result Account LinkFault) → OnOk (KeepsCalm a) r → SpeaksCalm a (after_timers turn a.special r)
     go (Err fault) s = tt
-    go (Ok b) s = let k = steps-calm turn a.special (record b { special = false }) (ap (λ o. o.busy) s.0 ∙ calm) in (k.0 ∙ s.1, λ h. k.1 (ap (λ o. o.busy_told) s.0 ∙ h))
+    go (Ok b) s = let k = steps-calm turn a.special (record b { special = false }) (ap (λ o. o.busy) s.0 ∙ calm) in
+        (k.0 ∙ s.1, λ h. k.1 (ap (λ o. o.busy_told) s.0 ∙ h))
 
 try-calm : (turn : ℕ) (frame : Frame) (a : Account) → SpeaksCalm a (u_try turn frame a)
 try-calm turn frame a = go (nat_eq turn (a.wait.try_set + a.setup.period)) (nat_eq a.wait.try_count a.setup.tries)
   where
-    by : (c : Account) → c.outgoing ≡ a.outgoing → c.owes ≡ a.owes → (due : Bool) → Calm a (else_says (where_says due (says_frame frame (record c { wait = record c.wait { try = false } }))) (says slots.Flags c))
+    by : (c : Account) → c.outgoing ≡ a.outgoing → c.owes ≡ a.owes → (due : Bool)
+        → Calm a (else_says (where_says due (says_frame frame (record c { wait = record c.wait { try = false } }))) (says slots.Flags c))
     by c e f true = (ap mark e, λ h. ap (λ o. o.busy_told) f ∙ h)
     by c e f false = (ap mark e, λ h. ap (λ o. o.busy_told) f ∙ h)
 
-    go : (due spent' : Bool) → SpeaksCalm a (cond due (cond spent' (Err (spent turn a)) (Ok (tries_frame frame (trying_again turn a)))) (Ok (tries_frame frame a)))
+    go : (due spent' : Bool)
+        → SpeaksCalm a (cond due (cond spent' (Err (spent turn a)) (Ok (tries_frame frame (trying_again turn a))))
+        (Ok (tries_frame frame a)))
     go false s = by a refl refl a.wait.try
     go true true = tt
     go true false = by (trying_again turn a) refl refl true
 
-speaks-calm : (turn : ℕ) (release : Bool) (a : Account) → (is_connected a.phase ≡ true → a.owes.busy ≡ false) → SpeaksCalm a (speak turn release a)
+speaks-calm : (turn : ℕ) (release : Bool) (a : Account) → (is_connected a.phase ≡ true → a.owes.busy ≡ false)
+    → SpeaksCalm a (speak turn release a)
 speaks-calm turn release a calm = go a.phase calm
   where
     answered : (silence : Sent) → Calm a (else_says (answering a.owes.answer a) (says silence a))
@@ -338,7 +425,8 @@ calm-ok : (a : Account) (said : Said) (r : Result Said LinkFault) → r ≡ Ok s
 calm-ok a said (Err fault) e h = cc
 calm-ok a said (Ok other) e h = let same : other ≡ said = cc in subst (Calm a) same h
 
-pub says-calm : (turn : ℕ) (release : Bool) (a : Account) (said : Said) → (is_connected a.phase ≡ true → a.owes.busy ≡ false) → speak turn release a ≡ Ok said → Calm a said
+pub says-calm : (turn : ℕ) (release : Bool) (a : Account) (said : Said) → (is_connected a.phase ≡ true → a.owes.busy ≡ false)
+    → speak turn release a ≡ Ok said → Calm a said
 says-calm turn release a said calm e = calm-ok a said (speak turn release a) e (speaks-calm turn release a calm)
 
 -- An end that isn't Connected, or that is told to release, sends no poll.
@@ -346,7 +434,8 @@ abbrev pub Unpolled : Result Said LinkFault → Type 0
 Unpolled (Err fault) = Unit {0}
 Unpolled (Ok said) = of_frame frame_poll said.sent ≡ false
 
-answer-unpolled : (a : Account) (silence : Sent) → of_frame frame_poll silence ≡ false → (m : Option Answer) → of_frame frame_poll (else_says (answering m a) (says silence a)).sent ≡ false
+answer-unpolled : (a : Account) (silence : Sent) → of_frame frame_poll silence ≡ false → (m : Option Answer)
+    → of_frame frame_poll (else_says (answering m a) (says silence a)).sent ≡ false
 answer-unpolled a silence e None = e
 answer-unpolled a silence e (Some answers.Adp) = refl
 answer-unpolled a silence e (Some answers.Xid) = refl
@@ -356,11 +445,15 @@ answer-unpolled a silence e (Some (answers.Dm pf)) = refl
 try-unpolled : (turn : ℕ) (frame : Frame) (a : Account) → frame_poll frame ≡ false → Unpolled (u_try turn frame a)
 try-unpolled turn frame a e = go (nat_eq turn (a.wait.try_set + a.setup.period)) (nat_eq a.wait.try_count a.setup.tries)
   where
-    by : (c : Account) (due : Bool) → of_frame frame_poll (else_says (where_says due (says_frame frame (record c { wait = record c.wait { try = false } }))) (says slots.Flags c)).sent ≡ false
+    by : (c : Account) (due : Bool)
+        → of_frame frame_poll
+        (else_says (where_says due (says_frame frame (record c { wait = record c.wait { try = false } })))
+        (says slots.Flags c)).sent ≡ false
     by c true = e
     by c false = refl
 
-    go : (due spent' : Bool) → Unpolled (cond due (cond spent' (Err (spent turn a)) (Ok (tries_frame frame (trying_again turn a)))) (Ok (tries_frame frame a)))
+    go : (due spent' : Bool)
+        → Unpolled (cond due (cond spent' (Err (spent turn a)) (Ok (tries_frame frame (trying_again turn a)))) (Ok (tries_frame frame a)))
     go false s = by a a.wait.try
     go true true = tt
     go true false = by (trying_again turn a) true
@@ -392,7 +485,8 @@ unpolled-ok : (said : Said) (r : Result Said LinkFault) → r ≡ Ok said → Un
 unpolled-ok said (Err fault) e h = cc
 unpolled-ok said (Ok other) e h = let same : other ≡ said = cc in ap (λ s. of_frame frame_poll s.sent) (sym same) ∙ h
 
-pub says-unpolled : (turn : ℕ) (release : Bool) (a : Account) (said : Said) → is_connected a.phase ≡ false → speak turn release a ≡ Ok said → of_frame frame_poll said.sent ≡ false
+pub says-unpolled : (turn : ℕ) (release : Bool) (a : Account) (said : Said) → is_connected a.phase ≡ false → speak turn release a ≡ Ok said
+    → of_frame frame_poll said.sent ≡ false
 says-unpolled turn release a said c e = unpolled-ok said (speak turn release a) e (unpolled turn release a c)
 
 pub releases-unpolled : (turn : ℕ) (a : Account) (said : Said) → speak_releasing turn a ≡ Ok said → of_frame frame_poll said.sent ≡ false

@@ -33,17 +33,21 @@ use Rattle.turn_bound.proofs.Breaking.{or-false, ends-same}
 use Rattle.turn_bound.proofs.Hearing.{HeardAs, HearsWell, quiet-well, hears-i, hears-ready, hears-rnr, hears-rej, hears-srej, hears-word}
 
 -- what lives counts
-pub linked-some : (z : Rates) (before turn : ℕ) (role : Role) (a : Account) → AreRates z → Linked z before turn role a → linked_lives turn a ≡ true → 1 ≤ linked_left z turn a
+pub linked-some : (z : Rates) (before turn : ℕ) (role : Role) (a : Account) → AreRates z → Linked z before turn role a
+    → linked_lives turn a ≡ true → 1 ≤ linked_left z turn a
 linked-some z before turn role a y h e = go (is_waiting a.outgoing) refl (waits a.own_breaks) refl e
   where
-    go : (w : Bool) → is_waiting a.outgoing ≡ w → (v : Bool) → waits a.own_breaks ≡ v → w || is_breaking turn a.own_breaks ≡ true → 1 ≤ linked_left z turn a
+    go : (w : Bool) → is_waiting a.outgoing ≡ w → (v : Bool) → waits a.own_breaks ≡ v → w || is_breaking turn a.own_breaks ≡ true
+        → 1 ≤ linked_left z turn a
     go true f v g e = omega (arith, left-some z before turn a.outgoing.count a.wait.timer y h.sends.ticks (h.sends.cause ∙ f))
     go false f true g e =
         let r = h.breaks.clock g in
-        let l : break_left z turn a.own_breaks ≡ a.own_breaks.set + z.whole + 9 - (a.own_breaks.count * z.period + turn) = ap (λ w. cond w (a.own_breaks.set + z.whole + 9 - (a.own_breaks.count * z.period + turn)) (a.own_breaks.rest - turn)) g in
+        let l : break_left z turn a.own_breaks ≡ a.own_breaks.set + z.whole + 9 - (a.own_breaks.count * z.period + turn) =
+        ap (λ w. cond w (a.own_breaks.set + z.whole + 9 - (a.own_breaks.count * z.period + turn)) (a.own_breaks.rest - turn)) g in
         omega (arith, l, tries_fit z a.own_breaks.count y r.tried, r.within)
     go false f false g e =
-        let l : break_left z turn a.own_breaks ≡ a.own_breaks.rest - turn = ap (λ w. cond w (a.own_breaks.set + z.whole + 9 - (a.own_breaks.count * z.period + turn)) (a.own_breaks.rest - turn)) g in
+        let l : break_left z turn a.own_breaks ≡ a.own_breaks.rest - turn =
+        ap (λ w. cond w (a.own_breaks.set + z.whole + 9 - (a.own_breaks.count * z.period + turn)) (a.own_breaks.rest - turn)) g in
         let rests : nat_lt turn a.own_breaks.rest ≡ true = sym (or-false (waits a.own_breaks) (nat_lt turn a.own_breaks.rest) g) ∙ e in
         let less : turn < a.own_breaks.rest = grind (arith, nat_tests) in
         omega (arith, l, less)
@@ -60,7 +64,8 @@ connected_as role turn a = record a {
 none-broken : (z : Rates) (before turn : ℕ) → Breaks z before turn no_breaks
 none-broken z before turn = record { low = omega arith; high = omega arith; due = λ e. e; clock = λ w. cc; rests = omega arith }
 
-begins-o : (z : Rates) (total breaks turn : ℕ) (a : Account) → AreRates z → IsOf z a.setup → Unlinked a → HeardAs z total breaks turn 0 Originator Establishing a Connected (connected_as Originator turn a)
+begins-o : (z : Rates) (total breaks turn : ℕ) (a : Account) → AreRates z → IsOf z a.setup → Unlinked a
+    → HeardAs z total breaks turn 0 Originator Establishing a Connected (connected_as Originator turn a)
 begins-o z total breaks turn a y k u = record {
   phase = refl;
   stands = record {
@@ -86,13 +91,15 @@ begins-o z total breaks turn a y k u = record {
   falls = omega (arith, ap (worth z total) u.outgoing, ap (break_left z turn) u.breaks, y.quota);
 }
 
-stays-dead : (z : Rates) (turn : ℕ) (k : ℕ) (own : OwnBreaks) → own ≡ no_breaks → (break_left z turn own ≡ 0) × (ends k false (is_breaking turn own) ≡ 0)
+stays-dead : (z : Rates) (turn : ℕ) (k : ℕ) (own : OwnBreaks) → own ≡ no_breaks
+    → (break_left z turn own ≡ 0) × (ends k false (is_breaking turn own) ≡ 0)
 stays-dead z turn k own e =
     let none : nat_lt turn 0 ≡ false = grind (arith, nat_tests) in
     let zero-left : 0 - turn ≡ 0 = omega arith in
     (ap (break_left z turn) e ∙ zero-left, ap (λ b. ends k false (is_breaking turn b)) e ∙ ap (λ l. ends k false l) none)
 
-begins-a-stands : (z : Rates) (turn : ℕ) (a : Account) → AreRates z → IsOf z a.setup → Unlinked a → Linked z (turn + 1) turn Answerer (connected_as Answerer turn a)
+begins-a-stands : (z : Rates) (turn : ℕ) (a : Account) → AreRates z → IsOf z a.setup → Unlinked a
+    → Linked z (turn + 1) turn Answerer (connected_as Answerer turn a)
 begins-a-stands z turn a y k u = record {
   sends = record {
     front_from = omega arith;
@@ -110,7 +117,8 @@ begins-a-stands z turn a y k u = record {
   silent = λ e. (refl, u.timer);
 }
 
-begins-a : (z : Rates) (total breaks turn : ℕ) (p : Phase) (a : Account) → AreRates z → IsOf z a.setup → Unlinked a → lives turn Answerer p a ≡ false → time_left z turn Answerer p a ≡ 0
+begins-a : (z : Rates) (total breaks turn : ℕ) (p : Phase) (a : Account) → AreRates z → IsOf z a.setup → Unlinked a
+    → lives turn Answerer p a ≡ false → time_left z turn Answerer p a ≡ 0
     → HeardAs z total breaks turn 0 Answerer p a Connected (connected_as Answerer turn a)
 begins-a z total breaks turn p a y k u dead none = record {
   phase = refl;
@@ -120,12 +128,22 @@ begins-a z total breaks turn p a y k u dead none = record {
   ended = ap (λ o. o.ended) (sym u.outgoing);
   lengths = refl;
   falls = let d = stays-dead z turn z.room a.own_breaks u.breaks in
-      omega (arith, ap (worth z total) u.outgoing, ap (λ r. left z turn 0 r) u.timer, d.0, d.1, ap (λ l. ends z.room l (is_breaking turn a.own_breaks)) dead, none);
+      omega (
+        arith,
+        ap (worth z total) u.outgoing,
+        ap (λ r. left z turn 0 r) u.timer,
+        d.0,
+        d.1,
+        ap (λ l. ends z.room l (is_breaking turn a.own_breaks)) dead,
+        none,
+      );
 }
 
 -- what changes nothing of what counts
-pub idle-well : (z : Rates) (total breaks turn : ℕ) (role : Role) (p : Phase) (a b : Account) → Stands z (turn + 1) turn role p b → b.phase ≡ p → b.setup ≡ a.setup → b.outgoing ≡ a.outgoing → b.own_breaks ≡ a.own_breaks
-    → lives turn role p b ≡ lives turn role p a → time_left z turn role p b ≡ time_left z turn role p a → HeardAs z total breaks turn 0 role p a p b
+pub idle-well : (z : Rates) (total breaks turn : ℕ) (role : Role) (p : Phase) (a b : Account) → Stands z (turn + 1) turn role p b
+    → b.phase ≡ p → b.setup ≡ a.setup → b.outgoing ≡ a.outgoing → b.own_breaks ≡ a.own_breaks
+    → lives turn role p b ≡ lives turn role p a → time_left z turn role p b ≡ time_left z turn role p a
+    → HeardAs z total breaks turn 0 role p a p b
 idle-well z total breaks turn role p a b s phase setup outgoing own live time = record {
   phase = phase;
   stands = s;
@@ -133,7 +151,14 @@ idle-well z total breaks turn role p a b s phase setup outgoing own live time = 
   pieces = ap (λ o. o.pieces) outgoing;
   ended = ap (λ o. o.ended) outgoing;
   lengths = ap (λ o. o.lengths) own;
-  falls = omega (arith, ap (worth z total) outgoing, ap (λ o. z.quota * (breaks - length o.lengths)) own, time, ap (λ l. ends z.room (lives turn role p a) l) live, ends-same z.room (lives turn role p a));
+  falls = omega (
+    arith,
+    ap (worth z total) outgoing,
+    ap (λ o. z.quota * (breaks - length o.lengths)) own,
+    time,
+    ap (λ l. ends z.room (lives turn role p a) l) live,
+    ends-same z.room (lives turn role p a),
+  );
 }
 
 -- a try begins
@@ -144,12 +169,24 @@ pub later-tries : (z : Rates) (turn : ℕ) (a : Account) → Tries z turn turn a
 later-tries z turn a t = record { tied = t.tied; started = omega (arith, t.started); within = t.within; tried = t.tried }
 
 -- hearing before Connected, of an originator
-o-detecting : (z : Rates) (total breaks turn : ℕ) (a : Account) (seen : Seen) → AreRates z → Unlinked a → a.phase ≡ Detecting → (q : Phase) × HeardAs z total breaks turn 0 Originator Detecting a q (on_pattern Originator seen turn a)
+o-detecting : (z : Rates) (total breaks turn : ℕ) (a : Account) (seen : Seen) → AreRates z → Unlinked a → a.phase ≡ Detecting
+    → (q : Phase) × HeardAs z total breaks turn 0 Originator Detecting a q (on_pattern Originator seen turn a)
 o-detecting z total breaks turn a Adp y u e = (
   Negotiating,
   record {
     phase = refl;
-    stands = (record { outgoing = u.outgoing; timer = u.timer; breaks = u.breaks; ack = u.ack; window_o = u.window_o; window_a = u.window_a }, tries-now z turn Negotiating a);
+    stands = (
+      record {
+        outgoing = u.outgoing;
+        timer = u.timer;
+        breaks = u.breaks;
+        ack = u.ack;
+        window_o = u.window_o;
+        window_a =
+            u.window_a;
+      },
+      tries-now z turn Negotiating a,
+    );
     setup = refl;
     pieces = refl;
     ended = refl;
@@ -157,17 +194,31 @@ o-detecting z total breaks turn a Adp y u e = (
     falls = omega (arith, y.quota);
   },
 )
-o-detecting z total breaks turn a Odp y u e = (Detecting, idle-well z total breaks turn Originator Detecting a a u e refl refl refl refl refl)
+o-detecting z total breaks turn a Odp y u e =
+    (Detecting, idle-well z total breaks turn Originator Detecting a a u e refl refl refl refl refl)
 
-o-negotiating : (z : Rates) (total breaks turn : ℕ) (a : Account) (offer : Option Offer) (info : List ℕ) → AreRates z → IsOf z a.setup → Unlinked a → Tries z turn turn a → a.phase ≡ Negotiating → offer_in info ≡ offer
+o-negotiating : (z : Rates) (total breaks turn : ℕ) (a : Account) (offer : Option Offer) (info : List ℕ) → AreRates z → IsOf z a.setup
+    → Unlinked a → Tries z turn turn a → a.phase ≡ Negotiating → offer_in info ≡ offer
     → (q : Phase) × HeardAs z total breaks turn 0 Originator Negotiating a q (on_xid_response offer turn a)
-o-negotiating z total breaks turn a None info y k u t e f = (Negotiating, idle-well z total breaks turn Originator Negotiating a a (u, later-tries z turn a t) e refl refl refl refl refl)
+o-negotiating z total breaks turn a None info y k u t e f =
+    (Negotiating, idle-well z total breaks turn Originator Negotiating a a (u, later-tries z turn a t) e refl refl refl refl refl)
 o-negotiating z total breaks turn a (Some offer) info y k u t e f =
     let windows = agreed-windows a.setup.offer offer (k.tx_window, k.rx_window) (read-windows info offer f) in (
       Establishing,
       record {
         phase = refl;
-        stands = (record { outgoing = u.outgoing; timer = u.timer; breaks = u.breaks; ack = u.ack; window_o = windows.0; window_a = windows.1 }, tries-now z turn Establishing a);
+        stands = (
+          record {
+            outgoing = u.outgoing;
+            timer = u.timer;
+            breaks = u.breaks;
+            ack = u.ack;
+            window_o = windows.0;
+            window_a =
+                windows.1;
+          },
+          tries-now z turn Establishing a,
+        );
         setup = refl;
         pieces = refl;
         ended = refl;
@@ -185,7 +236,8 @@ IsEarly Connected = ⊥
 IsEarly Releasing = ⊥
 IsEarly Closed = ⊥
 
-pub early : (z : Rates) (before turn : ℕ) (p : Phase) (a : Account) → IsEarly p → (time_left z turn Answerer p a ≡ 0) × (lives turn Answerer p a ≡ false) × (Unlinked a → Stands z before turn Answerer p a)
+pub early : (z : Rates) (before turn : ℕ) (p : Phase) (a : Account) → IsEarly p
+    → (time_left z turn Answerer p a ≡ 0) × (lives turn Answerer p a ≡ false) × (Unlinked a → Stands z before turn Answerer p a)
 early z before turn Detecting a i = (refl, refl, λ u. u)
 early z before turn Negotiating a i = (refl, refl, λ u. u)
 early z before turn Establishing a i = absurd i
@@ -193,7 +245,8 @@ early z before turn Connected a i = absurd i
 early z before turn Releasing a i = absurd i
 early z before turn Closed a i = absurd i
 
-pub early-idle : (z : Rates) (total breaks turn : ℕ) (p q : Phase) (a b : Account) → IsEarly p → IsEarly q → Unlinked b → b.phase ≡ q → b.setup ≡ a.setup → b.outgoing ≡ a.outgoing → b.own_breaks ≡ a.own_breaks
+pub early-idle : (z : Rates) (total breaks turn : ℕ) (p q : Phase) (a b : Account) → IsEarly p → IsEarly q → Unlinked b → b.phase ≡ q
+    → b.setup ≡ a.setup → b.outgoing ≡ a.outgoing → b.own_breaks ≡ a.own_breaks
     → HeardAs z total breaks turn 0 Answerer p a q b
 early-idle z total breaks turn p q a b i j u phase setup outgoing own =
     let f = early z (turn + 1) turn p a i in
@@ -205,27 +258,53 @@ early-idle z total breaks turn p q a b i j u phase setup outgoing own =
       pieces = ap (λ o. o.pieces) outgoing;
       ended = ap (λ o. o.ended) outgoing;
       lengths = ap (λ o. o.lengths) own;
-      falls = omega (arith, ap (worth z total) outgoing, ap (λ o. z.quota * (breaks - length o.lengths)) own, f.0, g.0, ends-is z.room (lives turn Answerer p a) (lives turn Answerer q b) false false f.1 g.1);
+      falls = omega (
+        arith,
+        ap (worth z total) outgoing,
+        ap (λ o. z.quota * (breaks - length o.lengths)) own,
+        f.0,
+        g.0,
+        ends-is z.room (lives turn Answerer p a) (lives turn Answerer q b) false false f.1 g.1,
+      );
     }
 
-pub same-unlinked : (a b : Account) → Unlinked a → b.outgoing ≡ a.outgoing → b.wait.timer ≡ a.wait.timer → b.own_breaks ≡ a.own_breaks → b.their_breaks.ack ≡ a.their_breaks.ack → (1 ≤ b.terms.window_o) × (1 ≤ b.terms.window_a) → Unlinked b
-same-unlinked a b u o t w k windows = record { outgoing = o ∙ u.outgoing; timer = t ∙ u.timer; breaks = w ∙ u.breaks; ack = k ∙ u.ack; window_o = windows.0; window_a = windows.1 }
+pub same-unlinked : (a b : Account) → Unlinked a → b.outgoing ≡ a.outgoing → b.wait.timer ≡ a.wait.timer → b.own_breaks ≡ a.own_breaks
+    → b.their_breaks.ack ≡ a.their_breaks.ack → (1 ≤ b.terms.window_o) × (1 ≤ b.terms.window_a) → Unlinked b
+same-unlinked a b u o t w k windows =
+    record {
+      outgoing = o ∙ u.outgoing;
+      timer = t ∙ u.timer;
+      breaks = w ∙ u.breaks;
+      ack = k ∙ u.ack;
+      window_o = windows.0;
+      window_a =
+          windows.1;
+    }
 
-a-xid : (z : Rates) (total breaks turn : ℕ) (p : Phase) (a : Account) (offer : Option Offer) (info : List ℕ) → IsEarly p → AreRates z → IsOf z a.setup → Unlinked a → a.phase ≡ p → offer_in info ≡ offer
+a-xid : (z : Rates) (total breaks turn : ℕ) (p : Phase) (a : Account) (offer : Option Offer) (info : List ℕ) → IsEarly p → AreRates z
+    → IsOf z a.setup → Unlinked a → a.phase ≡ p → offer_in info ≡ offer
     → (q : Phase) × HeardAs z total breaks turn 0 Answerer p a q (on_xid_command offer a)
 a-xid z total breaks turn p a None info i y k u e f = (p, early-idle z total breaks turn p p a a i i u e refl refl refl)
-a-xid z total breaks turn p a (Some offer) info i y k u e f =
-    (Negotiating, early-idle z total breaks turn p Negotiating a _ i tt (same-unlinked a _ u refl refl refl refl (agreed-windows offer a.setup.offer (read-windows info offer f) (k.tx_window, k.rx_window))) refl refl refl refl)
+a-xid z total breaks turn p a (Some offer) info i y k u e f = (
+  Negotiating,
+  early-idle z total breaks turn p Negotiating a _ i tt
+      (same-unlinked a _ u refl refl refl refl
+      (agreed-windows offer a.setup.offer (read-windows info offer f) (k.tx_window, k.rx_window))) refl refl refl refl,
+)
 
-default-windows : (a : Account) (z : Rates) → IsOf z a.setup → (1 ≤ (agree default_offer a.setup.offer).window_o) × (1 ≤ (agree default_offer a.setup.offer).window_a)
+default-windows : (a : Account) (z : Rates) → IsOf z a.setup
+    → (1 ≤ (agree default_offer a.setup.offer).window_o) × (1 ≤ (agree default_offer a.setup.offer).window_a)
 default-windows a z k = agreed-windows default_offer a.setup.offer (omega arith, omega arith) (k.tx_window, k.rx_window)
 
 -- SABME: the answerer becomes Connected, on these terms
-a-sabme : (z : Rates) (total breaks turn : ℕ) (p : Phase) (a : Account) (pf : Bool) → IsEarly p → AreRates z → IsOf z a.setup → Unlinked a → a.setup.role ≡ Answerer
+a-sabme : (z : Rates) (total breaks turn : ℕ) (p : Phase) (a : Account) (pf : Bool) → IsEarly p → AreRates z → IsOf z a.setup → Unlinked a
+    → a.setup.role ≡ Answerer
     → HeardAs z total breaks turn 0 Answerer p a Connected (owing (answers.Ua pf) (connected turn a))
-a-sabme z total breaks turn p a pf i y k u er = subst (λ r. HeardAs z total breaks turn 0 Answerer p a Connected (owing (answers.Ua pf) (connected_as r turn a))) (sym er) (on p i)
+a-sabme z total breaks turn p a pf i y k u er =
+    subst (λ r. HeardAs z total breaks turn 0 Answerer p a Connected (owing (answers.Ua pf) (connected_as r turn a))) (sym er) (on p i)
   where
-    owed : (q : Phase) (b : Account) → HeardAs z total breaks turn 0 Answerer q a Connected b → HeardAs z total breaks turn 0 Answerer q a Connected (owing (answers.Ua pf) b)
+    owed : (q : Phase) (b : Account) → HeardAs z total breaks turn 0 Answerer q a Connected b
+        → HeardAs z total breaks turn 0 Answerer q a Connected (owing (answers.Ua pf) b)
     owed q b h = record {
       phase = h.phase;
       stands = record { sends = h.stands.sends; breaks = h.stands.breaks; ack = h.stands.ack; silent = h.stands.silent };
@@ -236,7 +315,8 @@ a-sabme z total breaks turn p a pf i y k u er = subst (λ r. HeardAs z total bre
       falls = h.falls;
     }
 
-    on : (q : Phase) → IsEarly q → HeardAs z total breaks turn 0 Answerer q a Connected (owing (answers.Ua pf) (connected_as Answerer turn a))
+    on : (q : Phase) → IsEarly q
+        → HeardAs z total breaks turn 0 Answerer q a Connected (owing (answers.Ua pf) (connected_as Answerer turn a))
     on Detecting j = owed Detecting (connected_as Answerer turn a) (begins-a z total breaks turn Detecting a y k u refl refl)
     on Negotiating j = owed Negotiating (connected_as Answerer turn a) (begins-a z total breaks turn Negotiating a y k u refl refl)
     on Establishing j = absurd j
@@ -245,19 +325,34 @@ a-sabme z total breaks turn p a pf i y k u er = subst (λ r. HeardAs z total bre
     on Closed j = absurd j
 
 -- of default terms
-a-sabme-default : (z : Rates) (total breaks turn : ℕ) (a : Account) (pf : Bool) → AreRates z → IsOf z a.setup → Unlinked a → a.setup.role ≡ Answerer
-    → HeardAs z total breaks turn 0 Answerer Detecting a Connected (owing (answers.Ua pf) (connected turn (record a { terms = agree default_offer a.setup.offer })))
+a-sabme-default : (z : Rates) (total breaks turn : ℕ) (a : Account) (pf : Bool) → AreRates z → IsOf z a.setup → Unlinked a
+    → a.setup.role ≡ Answerer
+    → HeardAs z total breaks turn 0 Answerer Detecting a Connected
+    (owing (answers.Ua pf) (connected turn (record a { terms = agree default_offer a.setup.offer })))
 a-sabme-default z total breaks turn a pf y k u er =
     let b : Account = record a { terms = agree default_offer a.setup.offer } in
     let h = a-sabme z total breaks turn Detecting b pf tt y k (same-unlinked a b u refl refl refl refl (default-windows a z k)) er in
     record { phase = h.phase; stands = h.stands; setup = h.setup; pieces = h.pieces; ended = h.ended; lengths = h.lengths; falls = h.falls }
 
-more-well : (z : Rates) (total breaks turn more : ℕ) (role : Role) (p : Phase) (a : Account) (r : Result Account LinkFault) → HearsWell z total breaks turn 0 role p a r → HearsWell z total breaks turn more role p a r
+more-well : (z : Rates) (total breaks turn more : ℕ) (role : Role) (p : Phase) (a : Account) (r : Result Account LinkFault)
+    → HearsWell z total breaks turn 0 role p a r → HearsWell z total breaks turn more role p a r
 more-well z total breaks turn more role p a (Err fault) h = tt
-more-well z total breaks turn more role p a (Ok b) h =
-    (h.0, record { phase = h.1.phase; stands = h.1.stands; setup = h.1.setup; pieces = h.1.pieces; ended = h.1.ended; lengths = h.1.lengths; falls = omega (arith, h.1.falls) })
+more-well z total breaks turn more role p a (Ok b) h = (
+  h.0,
+  record {
+    phase = h.1.phase;
+    stands = h.1.stands;
+    setup = h.1.setup;
+    pieces = h.1.pieces;
+    ended = h.1.ended;
+    lengths =
+        h.1.lengths;
+    falls = omega (arith, h.1.falls);
+  },
+)
 
-closes : (z : Rates) (total breaks turn : ℕ) (a b : Account) → AreRates z → Linked z turn turn Answerer a → b.phase ≡ Closed → b.setup ≡ a.setup → b.outgoing ≡ a.outgoing → b.own_breaks ≡ a.own_breaks
+closes : (z : Rates) (total breaks turn : ℕ) (a b : Account) → AreRates z → Linked z turn turn Answerer a → b.phase ≡ Closed
+    → b.setup ≡ a.setup → b.outgoing ≡ a.outgoing → b.own_breaks ≡ a.own_breaks
     → HeardAs z total breaks turn 0 Answerer Connected a Closed b
 closes z total breaks turn a b y h phase setup outgoing own = record {
   phase = phase;
@@ -269,15 +364,30 @@ closes z total breaks turn a b y h phase setup outgoing own = record {
   falls = go (linked_lives turn a) refl;
 }
   where
-    go : (l : Bool) → linked_lives turn a ≡ l → value z total breaks turn Answerer Closed b + ends z.room (linked_lives turn a) false ≤ value z total breaks turn Answerer Connected a + 0
-    go true e = omega (arith, ap (worth z total) outgoing, ap (λ o. z.quota * (breaks - length o.lengths)) own, linked-some z turn turn Answerer a y h e, ap (λ l. ends z.room l false) e)
-    go false e = omega (arith, ap (worth z total) outgoing, ap (λ o. z.quota * (breaks - length o.lengths)) own, ap (λ l. ends z.room l false) e)
+    go : (l : Bool) → linked_lives turn a ≡ l
+        → value z total breaks turn Answerer Closed b + ends z.room
+        (linked_lives turn a) false ≤ value z total breaks turn Answerer Connected a + 0
+    go true e = omega (
+      arith,
+      ap (worth z total) outgoing,
+      ap (λ o. z.quota * (breaks - length o.lengths)) own,
+      linked-some z turn turn Answerer a y h e,
+      ap (λ l. ends z.room l false) e,
+    )
+    go false e = omega (
+      arith,
+      ap (worth z total) outgoing,
+      ap (λ o. z.quota * (breaks - length o.lengths)) own,
+      ap (λ l. ends z.room l false) e,
+    )
 
-hears-disc : (z : Rates) (total breaks turn : ℕ) (role : Role) (pf : Bool) (a : Account) → AreRates z → Linked z turn turn role a → HearsWell z total breaks turn 0 role Connected a (on_disc role pf a)
+hears-disc : (z : Rates) (total breaks turn : ℕ) (role : Role) (pf : Bool) (a : Account) → AreRates z → Linked z turn turn role a
+    → HearsWell z total breaks turn 0 role Connected a (on_disc role pf a)
 hears-disc z total breaks turn Originator pf a y h = tt
 hears-disc z total breaks turn Answerer pf a y h = (Closed, closes z total breaks turn a _ y h refl refl refl refl)
 
-hears-sabme : (z : Rates) (total breaks turn : ℕ) (role : Role) (pf : Bool) (a : Account) → Linked z turn turn role a → a.phase ≡ Connected → HearsWell z total breaks turn 0 role Connected a (on_sabme pf a)
+hears-sabme : (z : Rates) (total breaks turn : ℕ) (role : Role) (pf : Bool) (a : Account) → Linked z turn turn role a → a.phase ≡ Connected
+    → HearsWell z total breaks turn 0 role Connected a (on_sabme pf a)
 hears-sabme z total breaks turn role pf a h e = go (a.numbered || is_originator a.setup.role)
   where
     go : (b : Bool) → HearsWell z total breaks turn 0 role Connected a (cond b (Err (peer_reset a)) (Ok (owing (answers.Ua pf) a)))
@@ -285,50 +395,85 @@ hears-sabme z total breaks turn role pf a h e = go (a.numbered || is_originator 
     go false = (Connected, quiet-well z total breaks turn role a _ h e refl refl refl h.ack refl refl refl)
 
 -- a Connected end hears a frame
-pub hears-connected : (z : Rates) (total breaks turn : ℕ) (role : Role) (frame : Frame) (a : Account) → AreRates z → Linked z turn turn role a → a.phase ≡ Connected → a.setup.role ≡ role → length a.outgoing.pieces ≤ total
+pub hears-connected : (z : Rates) (total breaks turn : ℕ) (role : Role) (frame : Frame) (a : Account) → AreRates z
+    → Linked z turn turn role a → a.phase ≡ Connected → a.setup.role ≡ role → length a.outgoing.pieces ≤ total
     → HearsWell z total breaks turn (z.quota * frame_rnrs frame) role Connected a (on_connected frame turn a)
-hears-connected z total breaks turn role (I ns nr pf info) a y h e er all = more-well z total breaks turn (z.quota * 0) role Connected a (on_i turn ns nr pf info a) (hears-i z total breaks turn role a ns nr pf info y h e all)
-hears-connected z total breaks turn role (Rr command nr pf) a y h e er all = more-well z total breaks turn (z.quota * 0) role Connected a (on_ready turn command nr pf a) (hears-ready z total breaks turn role a command nr pf y h e all)
-hears-connected z total breaks turn role (Rnr command nr pf) a y h e er all = subst (λ m. HearsWell z total breaks turn m role Connected a (on_rnr turn command nr pf a)) (omega arith) (hears-rnr z total breaks turn role a command nr pf y h e all)
-hears-connected z total breaks turn role (Rej command nr pf) a y h e er all = more-well z total breaks turn (z.quota * 0) role Connected a (on_rej turn command nr pf a) (hears-rej z total breaks turn role a command nr pf y h e all)
-hears-connected z total breaks turn role (Srej command nr pf) a y h e er all = more-well z total breaks turn (z.quota * 0) role Connected a (on_srej turn nr a) (hears-srej z total breaks turn role a nr y h e all)
-hears-connected z total breaks turn role (Sabme pf) a y h e er all = more-well z total breaks turn (z.quota * 0) role Connected a (on_sabme pf a) (hears-sabme z total breaks turn role pf a h e)
+hears-connected z total breaks turn role (I ns nr pf info) a y h e er all =
+    more-well z total breaks turn (z.quota * 0) role Connected a (on_i turn ns nr pf info a)
+    (hears-i z total breaks turn role a ns nr pf info y h e all)
+hears-connected z total breaks turn role (Rr command nr pf) a y h e er all =
+    more-well z total breaks turn (z.quota * 0) role Connected a (on_ready turn command nr pf a)
+    (hears-ready z total breaks turn role a command nr pf y h e all)
+hears-connected z total breaks turn role (Rnr command nr pf) a y h e er all =
+    subst (λ m. HearsWell z total breaks turn m role Connected a (on_rnr turn command nr pf a)) (omega arith)
+    (hears-rnr z total breaks turn role a command nr pf y h e all)
+hears-connected z total breaks turn role (Rej command nr pf) a y h e er all =
+    more-well z total breaks turn (z.quota * 0) role Connected a (on_rej turn command nr pf a)
+    (hears-rej z total breaks turn role a command nr pf y h e all)
+hears-connected z total breaks turn role (Srej command nr pf) a y h e er all =
+    more-well z total breaks turn (z.quota * 0) role Connected a (on_srej turn nr a) (hears-srej z total breaks turn role a nr y h e all)
+hears-connected z total breaks turn role (Sabme pf) a y h e er all =
+    more-well z total breaks turn (z.quota * 0) role Connected a (on_sabme pf a) (hears-sabme z total breaks turn role pf a h e)
 hears-connected z total breaks turn role (Disc pf) a y h e er all =
-    more-well z total breaks turn (z.quota * 0) role Connected a (on_disc a.setup.role pf a) (subst (λ r. HearsWell z total breaks turn 0 role Connected a (on_disc r pf a)) (sym er) (hears-disc z total breaks turn role pf a y h))
-hears-connected z total breaks turn role (Ua pf) a y h e er all = more-well z total breaks turn (z.quota * 0) role Connected a (Ok a) (Connected, quiet-well z total breaks turn role a a h e refl refl refl h.ack refl refl refl)
+    more-well z total breaks turn (z.quota * 0) role Connected a (on_disc a.setup.role pf a)
+    (subst (λ r. HearsWell z total breaks turn 0 role Connected a (on_disc r pf a)) (sym er)
+    (hears-disc z total breaks turn role pf a y h))
+hears-connected z total breaks turn role (Ua pf) a y h e er all =
+    more-well z total breaks turn (z.quota * 0) role Connected a (Ok a)
+    (Connected, quiet-well z total breaks turn role a a h e refl refl refl h.ack refl refl refl)
 hears-connected z total breaks turn role (Dm pf) a y h e er all = tt
 hears-connected z total breaks turn role (Frmr pf info) a y h e er all = tt
 hears-connected z total breaks turn role (Ui command pf info) a y h e er all =
-    more-well z total breaks turn (z.quota * 0) role Connected a (Ok (on_word turn (word_in info) a)) (hears-word z total breaks turn role a (word_in info) y h e)
-hears-connected z total breaks turn role (Xid command pf info) a y h e er all = more-well z total breaks turn (z.quota * 0) role Connected a (Ok a) (Connected, quiet-well z total breaks turn role a a h e refl refl refl h.ack refl refl refl)
-hears-connected z total breaks turn role (Test command pf info) a y h e er all = more-well z total breaks turn (z.quota * 0) role Connected a (Ok a) (Connected, quiet-well z total breaks turn role a a h e refl refl refl h.ack refl refl refl)
+    more-well z total breaks turn (z.quota * 0) role Connected a (Ok (on_word turn (word_in info) a))
+    (hears-word z total breaks turn role a (word_in info) y h e)
+hears-connected z total breaks turn role (Xid command pf info) a y h e er all =
+    more-well z total breaks turn (z.quota * 0) role Connected a (Ok a)
+    (Connected, quiet-well z total breaks turn role a a h e refl refl refl h.ack refl refl refl)
+hears-connected z total breaks turn role (Test command pf info) a y h e er all =
+    more-well z total breaks turn (z.quota * 0) role Connected a (Ok a)
+    (Connected, quiet-well z total breaks turn role a a h e refl refl refl h.ack refl refl refl)
 
 -- an originator in its other phases
-hears-o : (z : Rates) (total breaks turn : ℕ) (p : Phase) (frame : Frame) (a : Account) → AreRates z → IsOf z a.setup → Stands z turn turn Originator p a → a.phase ≡ p → a.setup.role ≡ Originator → length a.outgoing.pieces ≤ total
+hears-o : (z : Rates) (total breaks turn : ℕ) (p : Phase) (frame : Frame) (a : Account) → AreRates z → IsOf z a.setup
+    → Stands z turn turn Originator p a → a.phase ≡ p → a.setup.role ≡ Originator → length a.outgoing.pieces ≤ total
     → HearsWell z total breaks turn (z.quota * frame_rnrs frame) Originator p a (on_frame p frame turn a)
 hears-o z total breaks turn Detecting frame a y k h e er all =
-    subst (λ r. HearsWell z total breaks turn (z.quota * frame_rnrs frame) Originator Detecting a (on_detecting r frame turn a)) (sym er) (go frame)
+    subst (λ r. HearsWell z total breaks turn (z.quota * frame_rnrs frame) Originator Detecting a (on_detecting r frame turn a)) (sym er)
+    (go frame)
   where
     go : (f : Frame) → HearsWell z total breaks turn (z.quota * frame_rnrs f) Originator Detecting a (on_detecting Originator f turn a)
-    go f = more-well z total breaks turn (z.quota * frame_rnrs f) Originator Detecting a (Ok a) (Detecting, idle-well z total breaks turn Originator Detecting a a h e refl refl refl refl refl)
+    go f = more-well z total breaks turn (z.quota * frame_rnrs f) Originator Detecting a (Ok a)
+        (Detecting, idle-well z total breaks turn Originator Detecting a a h e refl refl refl refl refl)
 hears-o z total breaks turn Negotiating frame a y k h e er all =
-    subst (λ r. HearsWell z total breaks turn (z.quota * frame_rnrs frame) Originator Negotiating a (on_negotiating r frame turn a)) (sym er) (go frame)
+    subst (λ r. HearsWell z total breaks turn (z.quota * frame_rnrs frame) Originator Negotiating a (on_negotiating r frame turn a))
+    (sym er) (go frame)
   where
     stays : HearsWell z total breaks turn 0 Originator Negotiating a (Ok a)
-    stays = (Negotiating, idle-well z total breaks turn Originator Negotiating a a (h.0, later-tries z turn a h.1) e refl refl refl refl refl)
+    stays = (
+      Negotiating,
+      idle-well z total breaks turn Originator Negotiating a a (h.0, later-tries z turn a h.1) e refl refl refl refl refl,
+    )
 
     go : (f : Frame) → HearsWell z total breaks turn (z.quota * frame_rnrs f) Originator Negotiating a (on_negotiating Originator f turn a)
-    go (Xid false pf info) = more-well z total breaks turn (z.quota * 0) Originator Negotiating a (Ok (on_xid_response (offer_in info) turn a)) (o-negotiating z total breaks turn a (offer_in info) info y k h.0 h.1 e refl)
+    go (Xid false pf info) =
+        more-well z total breaks turn (z.quota * 0) Originator Negotiating a (Ok (on_xid_response (offer_in info) turn a))
+        (o-negotiating z total breaks turn a (offer_in info) info y k h.0 h.1 e refl)
     go (Dm pf) = tt
     go f = more-well z total breaks turn (z.quota * frame_rnrs f) Originator Negotiating a (Ok a) stays
 hears-o z total breaks turn Establishing frame a y k h e er all = go frame
   where
     stays : HearsWell z total breaks turn 0 Originator Establishing a (Ok a)
-    stays = (Establishing, idle-well z total breaks turn Originator Establishing a a (h.0, later-tries z turn a h.1) e refl refl refl refl refl)
+    stays = (
+      Establishing,
+      idle-well z total breaks turn Originator Establishing a a (h.0, later-tries z turn a h.1) e refl refl refl refl refl,
+    )
 
     go : (f : Frame) → HearsWell z total breaks turn (z.quota * frame_rnrs f) Originator Establishing a (on_establishing f turn a)
-    go (Ua true) = more-well z total breaks turn (z.quota * 0) Originator Establishing a (Ok (connected turn a))
-        (Connected, subst (λ r. HeardAs z total breaks turn 0 Originator Establishing a Connected (connected_as r turn a)) (sym er) (begins-o z total breaks turn a y k h.0))
+    go (Ua true) = more-well z total breaks turn (z.quota * 0) Originator Establishing a (Ok (connected turn a)) (
+      Connected,
+      subst (λ r. HeardAs z total breaks turn 0 Originator Establishing a Connected (connected_as r turn a)) (sym er)
+          (begins-o z total breaks turn a y k h.0),
+    )
     go (Dm true) = tt
     go f = more-well z total breaks turn (z.quota * frame_rnrs f) Originator Establishing a (Ok a) stays
 hears-o z total breaks turn Connected frame a y k h e er all = hears-connected z total breaks turn Originator frame a y h e er all
@@ -338,7 +483,19 @@ hears-o z total breaks turn Releasing frame a y k h e er all = go frame
     stays = (Releasing, idle-well z total breaks turn Originator Releasing a a (later-tries z turn a h) e refl refl refl refl refl)
 
     ends-here : HearsWell z total breaks turn 0 Originator Releasing a (Ok (record a { phase = Closed }))
-    ends-here = (Closed, record { phase = refl; stands = tt; setup = refl; pieces = refl; ended = refl; lengths = refl; falls = omega (arith, tries_fit z a.wait.try_count y h.tried, h.within) })
+    ends-here = (
+      Closed,
+      record {
+        phase = refl;
+        stands = tt;
+        setup = refl;
+        pieces = refl;
+        ended = refl;
+        lengths = refl;
+        falls =
+            omega (arith, tries_fit z a.wait.try_count y h.tried, h.within);
+      },
+    )
 
     go : (f : Frame) → HearsWell z total breaks turn (z.quota * frame_rnrs f) Originator Releasing a (on_releasing f a)
     go (Ua true) = more-well z total breaks turn (z.quota * 0) Originator Releasing a (Ok (record a { phase = Closed })) ends-here
@@ -347,78 +504,134 @@ hears-o z total breaks turn Releasing frame a y k h e er all = go frame
 hears-o z total breaks turn Closed frame a y k h e er all = go frame
   where
     go : (f : Frame) → HearsWell z total breaks turn (z.quota * frame_rnrs f) Originator Closed a (on_closed f a)
-    go (Disc pf) = more-well z total breaks turn (z.quota * 0) Originator Closed a (Ok (owing (answers.Dm pf) a)) (Closed, idle-well z total breaks turn Originator Closed a _ tt e refl refl refl refl refl)
-    go f = more-well z total breaks turn (z.quota * frame_rnrs f) Originator Closed a (Ok a) (Closed, idle-well z total breaks turn Originator Closed a a tt e refl refl refl refl refl)
+    go (Disc pf) = more-well z total breaks turn (z.quota * 0) Originator Closed a (Ok (owing (answers.Dm pf) a))
+        (Closed, idle-well z total breaks turn Originator Closed a _ tt e refl refl refl refl refl)
+    go f = more-well z total breaks turn (z.quota * frame_rnrs f) Originator Closed a (Ok a)
+        (Closed, idle-well z total breaks turn Originator Closed a a tt e refl refl refl refl refl)
 
 -- an answerer
-hears-a : (z : Rates) (total breaks turn : ℕ) (p : Phase) (frame : Frame) (a : Account) → AreRates z → IsOf z a.setup → Stands z turn turn Answerer p a → a.phase ≡ p → a.setup.role ≡ Answerer → length a.outgoing.pieces ≤ total
+hears-a : (z : Rates) (total breaks turn : ℕ) (p : Phase) (frame : Frame) (a : Account) → AreRates z → IsOf z a.setup
+    → Stands z turn turn Answerer p a → a.phase ≡ p → a.setup.role ≡ Answerer → length a.outgoing.pieces ≤ total
     → HearsWell z total breaks turn (z.quota * frame_rnrs frame) Answerer p a (on_frame p frame turn a)
 hears-a z total breaks turn Detecting frame a y k h e er all =
-    subst (λ r. HearsWell z total breaks turn (z.quota * frame_rnrs frame) Answerer Detecting a (on_detecting r frame turn a)) (sym er) (go frame)
+    subst (λ r. HearsWell z total breaks turn (z.quota * frame_rnrs frame) Answerer Detecting a (on_detecting r frame turn a)) (sym er)
+    (go frame)
   where
     go : (f : Frame) → HearsWell z total breaks turn (z.quota * frame_rnrs f) Answerer Detecting a (on_detecting Answerer f turn a)
-    go (Xid true pf info) = more-well z total breaks turn (z.quota * 0) Answerer Detecting a (Ok (on_xid_command (offer_in info) a)) (a-xid z total breaks turn Detecting a (offer_in info) info tt y k h e refl)
-    go (Sabme pf) = more-well z total breaks turn (z.quota * 0) Answerer Detecting a (Ok (owing (answers.Ua pf) (connected turn (record a { terms = agree default_offer a.setup.offer }))))
+    go (Xid true pf info) =
+        more-well z total breaks turn (z.quota * 0) Answerer Detecting a (Ok (on_xid_command (offer_in info) a))
+        (a-xid z total breaks turn Detecting a (offer_in info) info tt y k h e refl)
+    go (Sabme pf) = more-well z total breaks turn (z.quota * 0) Answerer Detecting a
+        (Ok (owing (answers.Ua pf) (connected turn (record a { terms = agree default_offer a.setup.offer }))))
         (Connected, a-sabme-default z total breaks turn a pf y k h er)
-    go f = more-well z total breaks turn (z.quota * frame_rnrs f) Answerer Detecting a (Ok a) (Detecting, early-idle z total breaks turn Detecting Detecting a a tt tt h e refl refl refl)
+    go f = more-well z total breaks turn (z.quota * frame_rnrs f) Answerer Detecting a (Ok a)
+        (Detecting, early-idle z total breaks turn Detecting Detecting a a tt tt h e refl refl refl)
 hears-a z total breaks turn Negotiating frame a y k h e er all =
-    subst (λ r. HearsWell z total breaks turn (z.quota * frame_rnrs frame) Answerer Negotiating a (on_negotiating r frame turn a)) (sym er) (go frame)
+    subst (λ r. HearsWell z total breaks turn (z.quota * frame_rnrs frame) Answerer Negotiating a (on_negotiating r frame turn a)) (sym er)
+    (go frame)
   where
     go : (f : Frame) → HearsWell z total breaks turn (z.quota * frame_rnrs f) Answerer Negotiating a (on_negotiating Answerer f turn a)
-    go (Xid true pf info) = more-well z total breaks turn (z.quota * 0) Answerer Negotiating a (Ok (on_xid_command (offer_in info) a)) (a-xid z total breaks turn Negotiating a (offer_in info) info tt y k h e refl)
-    go (Sabme pf) = more-well z total breaks turn (z.quota * 0) Answerer Negotiating a (Ok (owing (answers.Ua pf) (connected turn a))) (Connected, a-sabme z total breaks turn Negotiating a pf tt y k h er)
-    go (Disc pf) = more-well z total breaks turn (z.quota * 0) Answerer Negotiating a (Ok (owing (answers.Dm pf) a))
-        (Negotiating, early-idle z total breaks turn Negotiating Negotiating a _ tt tt (same-unlinked a _ h refl refl refl refl (h.window_o, h.window_a)) e refl refl refl)
-    go f = more-well z total breaks turn (z.quota * frame_rnrs f) Answerer Negotiating a (Ok a) (Negotiating, early-idle z total breaks turn Negotiating Negotiating a a tt tt h e refl refl refl)
+    go (Xid true pf info) =
+        more-well z total breaks turn (z.quota * 0) Answerer Negotiating a (Ok (on_xid_command (offer_in info) a))
+        (a-xid z total breaks turn Negotiating a (offer_in info) info tt y k h e refl)
+    go (Sabme pf) = more-well z total breaks turn (z.quota * 0) Answerer Negotiating a (Ok (owing (answers.Ua pf) (connected turn a)))
+        (Connected, a-sabme z total breaks turn Negotiating a pf tt y k h er)
+    go (Disc pf) = more-well z total breaks turn (z.quota * 0) Answerer Negotiating a (Ok (owing (answers.Dm pf) a)) (
+      Negotiating,
+      early-idle z total breaks turn Negotiating Negotiating a _ tt tt
+          (same-unlinked a _ h refl refl refl refl (h.window_o, h.window_a)) e refl refl refl,
+    )
+    go f = more-well z total breaks turn (z.quota * frame_rnrs f) Answerer Negotiating a (Ok a)
+        (Negotiating, early-idle z total breaks turn Negotiating Negotiating a a tt tt h e refl refl refl)
 hears-a z total breaks turn Establishing frame a y k h e er all = absurd h
 hears-a z total breaks turn Connected frame a y k h e er all = hears-connected z total breaks turn Answerer frame a y h e er all
 hears-a z total breaks turn Releasing frame a y k h e er all = absurd h
 hears-a z total breaks turn Closed frame a y k h e er all = go frame
   where
     go : (f : Frame) → HearsWell z total breaks turn (z.quota * frame_rnrs f) Answerer Closed a (on_closed f a)
-    go (Disc pf) = more-well z total breaks turn (z.quota * 0) Answerer Closed a (Ok (owing (answers.Dm pf) a)) (Closed, idle-well z total breaks turn Answerer Closed a _ tt e refl refl refl refl refl)
-    go f = more-well z total breaks turn (z.quota * frame_rnrs f) Answerer Closed a (Ok a) (Closed, idle-well z total breaks turn Answerer Closed a a tt e refl refl refl refl refl)
+    go (Disc pf) = more-well z total breaks turn (z.quota * 0) Answerer Closed a (Ok (owing (answers.Dm pf) a))
+        (Closed, idle-well z total breaks turn Answerer Closed a _ tt e refl refl refl refl refl)
+    go f = more-well z total breaks turn (z.quota * frame_rnrs f) Answerer Closed a (Ok a)
+        (Closed, idle-well z total breaks turn Answerer Closed a a tt e refl refl refl refl refl)
 
 -- nothing is heard
-nothing-well : (z : Rates) (total breaks turn : ℕ) (role : Role) (p : Phase) (a : Account) → Stands z turn turn role p a → a.phase ≡ p → (q : Phase) × HeardAs z total breaks turn 0 role p a q (on_nothing a)
-nothing-well z total breaks turn Originator Detecting a h e = (Detecting, idle-well z total breaks turn Originator Detecting a _ (same-unlinked a _ h refl refl refl refl (h.window_o, h.window_a)) e refl refl refl refl refl)
-nothing-well z total breaks turn Originator Negotiating a h e =
-    (Negotiating, idle-well z total breaks turn Originator Negotiating a _ (same-unlinked a _ h.0 refl refl refl refl (h.0.window_o, h.0.window_a), later-tries z turn a h.1) e refl refl refl refl refl)
-nothing-well z total breaks turn Originator Establishing a h e =
-    (Establishing, idle-well z total breaks turn Originator Establishing a _ (same-unlinked a _ h.0 refl refl refl refl (h.0.window_o, h.0.window_a), later-tries z turn a h.1) e refl refl refl refl refl)
-nothing-well z total breaks turn Originator Connected a h e = (Connected, quiet-well z total breaks turn Originator a _ h e refl refl refl h.ack refl refl refl)
-nothing-well z total breaks turn Originator Releasing a h e = (Releasing, idle-well z total breaks turn Originator Releasing a _ (later-tries z turn a h) e refl refl refl refl refl)
-nothing-well z total breaks turn Originator Closed a h e = (Closed, idle-well z total breaks turn Originator Closed a _ tt e refl refl refl refl refl)
-nothing-well z total breaks turn Answerer Detecting a h e = (Detecting, early-idle z total breaks turn Detecting Detecting a _ tt tt (same-unlinked a _ h refl refl refl refl (h.window_o, h.window_a)) e refl refl refl)
-nothing-well z total breaks turn Answerer Negotiating a h e = (Negotiating, early-idle z total breaks turn Negotiating Negotiating a _ tt tt (same-unlinked a _ h refl refl refl refl (h.window_o, h.window_a)) e refl refl refl)
+nothing-well : (z : Rates) (total breaks turn : ℕ) (role : Role) (p : Phase) (a : Account) → Stands z turn turn role p a → a.phase ≡ p
+    → (q : Phase) × HeardAs z total breaks turn 0 role p a q (on_nothing a)
+nothing-well z total breaks turn Originator Detecting a h e = (
+  Detecting,
+  idle-well z total breaks turn Originator Detecting a _
+      (same-unlinked a _ h refl refl refl refl (h.window_o, h.window_a)) e refl refl refl refl refl,
+)
+nothing-well z total breaks turn Originator Negotiating a h e = (
+  Negotiating,
+  idle-well z total breaks turn Originator Negotiating a _
+      (same-unlinked a _ h.0 refl refl refl refl (h.0.window_o, h.0.window_a), later-tries z turn a h.1) e refl refl refl refl refl,
+)
+nothing-well z total breaks turn Originator Establishing a h e = (
+  Establishing,
+  idle-well z total breaks turn Originator Establishing a _
+      (same-unlinked a _ h.0 refl refl refl refl (h.0.window_o, h.0.window_a), later-tries z turn a h.1) e refl refl refl refl refl,
+)
+nothing-well z total breaks turn Originator Connected a h e =
+    (Connected, quiet-well z total breaks turn Originator a _ h e refl refl refl h.ack refl refl refl)
+nothing-well z total breaks turn Originator Releasing a h e =
+    (Releasing, idle-well z total breaks turn Originator Releasing a _ (later-tries z turn a h) e refl refl refl refl refl)
+nothing-well z total breaks turn Originator Closed a h e =
+    (Closed, idle-well z total breaks turn Originator Closed a _ tt e refl refl refl refl refl)
+nothing-well z total breaks turn Answerer Detecting a h e = (
+  Detecting,
+  early-idle z total breaks turn Detecting Detecting a _ tt tt
+      (same-unlinked a _ h refl refl refl refl (h.window_o, h.window_a)) e refl refl refl,
+)
+nothing-well z total breaks turn Answerer Negotiating a h e = (
+  Negotiating,
+  early-idle z total breaks turn Negotiating Negotiating a _ tt tt
+      (same-unlinked a _ h refl refl refl refl (h.window_o, h.window_a)) e refl refl refl,
+)
 nothing-well z total breaks turn Answerer Establishing a h e = absurd h
-nothing-well z total breaks turn Answerer Connected a h e = (Connected, quiet-well z total breaks turn Answerer a _ h e refl refl refl h.ack refl refl refl)
+nothing-well z total breaks turn Answerer Connected a h e =
+    (Connected, quiet-well z total breaks turn Answerer a _ h e refl refl refl h.ack refl refl refl)
 nothing-well z total breaks turn Answerer Releasing a h e = absurd h
-nothing-well z total breaks turn Answerer Closed a h e = (Closed, idle-well z total breaks turn Answerer Closed a _ tt e refl refl refl refl refl)
+nothing-well z total breaks turn Answerer Closed a h e =
+    (Closed, idle-well z total breaks turn Answerer Closed a _ tt e refl refl refl refl refl)
 
 -- nothing changes
-same-well : (z : Rates) (total breaks turn : ℕ) (role : Role) (p : Phase) (a : Account) → Stands z turn turn role p a → a.phase ≡ p → HeardAs z total breaks turn 0 role p a p a
-same-well z total breaks turn Originator Detecting a h e = idle-well z total breaks turn Originator Detecting a a h e refl refl refl refl refl
-same-well z total breaks turn Originator Negotiating a h e = idle-well z total breaks turn Originator Negotiating a a (h.0, later-tries z turn a h.1) e refl refl refl refl refl
-same-well z total breaks turn Originator Establishing a h e = idle-well z total breaks turn Originator Establishing a a (h.0, later-tries z turn a h.1) e refl refl refl refl refl
-same-well z total breaks turn Originator Connected a h e = quiet-well z total breaks turn Originator a a h e refl refl refl h.ack refl refl refl
-same-well z total breaks turn Originator Releasing a h e = idle-well z total breaks turn Originator Releasing a a (later-tries z turn a h) e refl refl refl refl refl
+same-well : (z : Rates) (total breaks turn : ℕ) (role : Role) (p : Phase) (a : Account) → Stands z turn turn role p a → a.phase ≡ p
+    → HeardAs z total breaks turn 0 role p a p a
+same-well z total breaks turn Originator Detecting a h e =
+    idle-well z total breaks turn Originator Detecting a a h e refl refl refl refl refl
+same-well z total breaks turn Originator Negotiating a h e =
+    idle-well z total breaks turn Originator Negotiating a a (h.0, later-tries z turn a h.1) e refl refl refl refl refl
+same-well z total breaks turn Originator Establishing a h e =
+    idle-well z total breaks turn Originator Establishing a a (h.0, later-tries z turn a h.1) e refl refl refl refl refl
+same-well z total breaks turn Originator Connected a h e =
+    quiet-well z total breaks turn Originator a a h e refl refl refl h.ack refl refl refl
+same-well z total breaks turn Originator Releasing a h e =
+    idle-well z total breaks turn Originator Releasing a a (later-tries z turn a h) e refl refl refl refl refl
 same-well z total breaks turn Originator Closed a h e = idle-well z total breaks turn Originator Closed a a tt e refl refl refl refl refl
 same-well z total breaks turn Answerer Detecting a h e = early-idle z total breaks turn Detecting Detecting a a tt tt h e refl refl refl
-same-well z total breaks turn Answerer Negotiating a h e = early-idle z total breaks turn Negotiating Negotiating a a tt tt h e refl refl refl
+same-well z total breaks turn Answerer Negotiating a h e =
+    early-idle z total breaks turn Negotiating Negotiating a a tt tt h e refl refl refl
 same-well z total breaks turn Answerer Establishing a h e = absurd h
 same-well z total breaks turn Answerer Connected a h e = quiet-well z total breaks turn Answerer a a h e refl refl refl h.ack refl refl refl
 same-well z total breaks turn Answerer Releasing a h e = absurd h
 same-well z total breaks turn Answerer Closed a h e = idle-well z total breaks turn Answerer Closed a a tt e refl refl refl refl refl
 
 -- a pattern
-pattern-well : (z : Rates) (total breaks turn : ℕ) (role : Role) (p : Phase) (seen : Seen) (a : Account) → AreRates z → Stands z turn turn role p a → a.phase ≡ p → a.setup.role ≡ role
+pattern-well : (z : Rates) (total breaks turn : ℕ) (role : Role) (p : Phase) (seen : Seen) (a : Account) → AreRates z
+    → Stands z turn turn role p a → a.phase ≡ p → a.setup.role ≡ role
     → (q : Phase) × HeardAs z total breaks turn 0 role p a q (on_seen p seen turn a)
-pattern-well z total breaks turn role Detecting seen a y h e er = subst (λ r. (q : Phase) × HeardAs z total breaks turn 0 role Detecting a q (on_pattern r seen turn a)) (sym er) (go role seen h)
+pattern-well z total breaks turn role Detecting seen a y h e er =
+    subst (λ r. (q : Phase) × HeardAs z total breaks turn 0 role Detecting a q (on_pattern r seen turn a)) (sym er) (go role seen h)
   where
-    go : (r : Role) (s : Seen) → Stands z turn turn r Detecting a → (q : Phase) × HeardAs z total breaks turn 0 r Detecting a q (on_pattern r s turn a)
+    go : (r : Role) (s : Seen) → Stands z turn turn r Detecting a
+        → (q : Phase) × HeardAs z total breaks turn 0 r Detecting a q (on_pattern r s turn a)
     go Originator s k = o-detecting z total breaks turn a s y k e
-    go Answerer Odp k = (Detecting, early-idle z total breaks turn Detecting Detecting a _ tt tt (same-unlinked a _ k refl refl refl refl (k.window_o, k.window_a)) e refl refl refl)
+    go Answerer Odp k = (
+      Detecting,
+      early-idle z total breaks turn Detecting Detecting a _ tt tt
+          (same-unlinked a _ k refl refl refl refl (k.window_o, k.window_a)) e refl refl refl,
+    )
     go Answerer Adp k = (Detecting, early-idle z total breaks turn Detecting Detecting a a tt tt k e refl refl refl)
 pattern-well z total breaks turn role Negotiating seen a y h e er = (Negotiating, same-well z total breaks turn role Negotiating a h e)
 pattern-well z total breaks turn role Establishing seen a y h e er = (Establishing, same-well z total breaks turn role Establishing a h e)
@@ -427,13 +640,18 @@ pattern-well z total breaks turn role Releasing seen a y h e er = (Releasing, sa
 pattern-well z total breaks turn role Closed seen a y h e er = (Closed, same-well z total breaks turn role Closed a h e)
 
 -- Hearing: whatever the role, the phase and what arrives.
-pub hears-well : (z : Rates) (total breaks turn : ℕ) (role : Role) (p : Phase) (arrived : Arrived) (a : Account) → AreRates z → IsOf z a.setup → Stands z turn turn role p a → a.phase ≡ p → a.setup.role ≡ role
+pub hears-well : (z : Rates) (total breaks turn : ℕ) (role : Role) (p : Phase) (arrived : Arrived) (a : Account) → AreRates z
+    → IsOf z a.setup → Stands z turn turn role p a → a.phase ≡ p → a.setup.role ≡ role
     → length a.outgoing.pieces ≤ total → HearsWell z total breaks turn (z.quota * arrived_rnrs arrived) role p a (hear turn arrived a)
-hears-well z total breaks turn role p arrivals.Nothing a y k h e er all = more-well z total breaks turn (z.quota * 0) role p a (Ok (on_nothing a)) (nothing-well z total breaks turn role p a h e)
+hears-well z total breaks turn role p arrivals.Nothing a y k h e er all =
+    more-well z total breaks turn (z.quota * 0) role p a (Ok (on_nothing a)) (nothing-well z total breaks turn role p a h e)
 hears-well z total breaks turn role p (arrivals.Pattern seen) a y k h e er all =
     more-well z total breaks turn (z.quota * 0) role p a (Ok (on_seen a.phase seen turn a))
-    (subst (λ r. HearsWell z total breaks turn 0 role p a (Ok (on_seen r seen turn a))) (sym e) (pattern-well z total breaks turn role p seen a y h e er))
+    (subst (λ r. HearsWell z total breaks turn 0 role p a (Ok (on_seen r seen turn a))) (sym e)
+    (pattern-well z total breaks turn role p seen a y h e er))
 hears-well z total breaks turn Originator p (arrivals.Frame frame) a y k h e er all =
-    subst (λ r. HearsWell z total breaks turn (z.quota * frame_rnrs frame) Originator p a (on_frame r frame turn a)) (sym e) (hears-o z total breaks turn p frame a y k h e er all)
+    subst (λ r. HearsWell z total breaks turn (z.quota * frame_rnrs frame) Originator p a (on_frame r frame turn a)) (sym e)
+    (hears-o z total breaks turn p frame a y k h e er all)
 hears-well z total breaks turn Answerer p (arrivals.Frame frame) a y k h e er all =
-    subst (λ r. HearsWell z total breaks turn (z.quota * frame_rnrs frame) Answerer p a (on_frame r frame turn a)) (sym e) (hears-a z total breaks turn p frame a y k h e er all)
+    subst (λ r. HearsWell z total breaks turn (z.quota * frame_rnrs frame) Answerer p a (on_frame r frame turn a)) (sym e)
+    (hears-a z total breaks turn p frame a y k h e er all)

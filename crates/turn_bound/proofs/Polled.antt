@@ -54,9 +54,11 @@ same-polls turn Connected b m w = omega (arith, ap (λ x. nineteen_if x.poll) w,
 same-polls turn Releasing b m w = refl
 same-polls turn Closed b m w = refl
 
-rated-ok : (turn : ℕ) (a : Account) (said : Said) (r : Result Said LinkFault) → r ≡ Ok said → SaysRated turn a r → poll_value (turn + 1) Connected said.account + polls said.sent ≤ poll_value turn Connected a + 1
+rated-ok : (turn : ℕ) (a : Account) (said : Said) (r : Result Said LinkFault) → r ≡ Ok said → SaysRated turn a r
+    → poll_value (turn + 1) Connected said.account + polls said.sent ≤ poll_value turn Connected a + 1
 rated-ok turn a said (Err fault) e h = cc
-rated-ok turn a said (Ok other) e h = let same : other ≡ said = cc in subst (λ s. poll_value (turn + 1) Connected s.account + polls s.sent ≤ poll_value turn Connected a + 1) same h
+rated-ok turn a said (Ok other) e h = let same : other ≡ said = cc in
+    subst (λ s. poll_value (turn + 1) Connected s.account + polls s.sent ≤ poll_value turn Connected a + 1) same h
 
 abbrev pub InPhase : Phase → Result Said LinkFault → Type 0
 InPhase p (Err fault) = Unit {0}
@@ -65,11 +67,15 @@ InPhase p (Ok said) = said.account.phase ≡ p
 try-phase : (turn : ℕ) (frame : Frame) (a : Account) → InPhase a.phase (u_try turn frame a)
 try-phase turn frame a = go (nat_eq turn (a.wait.try_set + a.setup.period)) (nat_eq a.wait.try_count a.setup.tries)
   where
-    by : (c : Account) → c.phase ≡ a.phase → (due : Bool) → (else_says (where_says due (says_frame frame (record c { wait = record c.wait { try = false } }))) (says slots.Flags c)).account.phase ≡ a.phase
+    by : (c : Account) → c.phase ≡ a.phase → (due : Bool)
+        → (else_says (where_says due (says_frame frame (record c { wait = record c.wait { try = false } })))
+        (says slots.Flags c)).account.phase ≡ a.phase
     by c e true = e
     by c e false = e
 
-    go : (due spent' : Bool) → InPhase a.phase (cond due (cond spent' (Err (spent turn a)) (Ok (tries_frame frame (trying_again turn a)))) (Ok (tries_frame frame a)))
+    go : (due spent' : Bool)
+        → InPhase a.phase (cond due (cond spent' (Err (spent turn a)) (Ok (tries_frame frame (trying_again turn a))))
+        (Ok (tries_frame frame a)))
     go false s = by a refl a.wait.try
     go true true = tt
     go true false = by (trying_again turn a) refl true
@@ -79,11 +85,14 @@ phase-ok p said (Err fault) e h = cc
 phase-ok p said (Ok other) e h = let same : other ≡ said = cc in subst (λ s. s.account.phase ≡ p) same h
 
 -- One turn of one end.
-pub poll-turn : (z : Rates) (user : User) (turn : ℕ) (role : Role) (arrived : Arrived) (a mid : Account) (released release : Bool) (said : Said)
-    → AreRates z → IsOf z a.setup → Stands z turn turn role a.phase a → a.setup.role ≡ role → arrived_weight arrived ≤ 2 → arrived_rnrs arrived ≡ 0
+pub poll-turn : (z : Rates) (user : User) (turn : ℕ) (role : Role) (arrived : Arrived) (a mid : Account) (released release : Bool)
+    (said : Said)
+    → AreRates z → IsOf z a.setup → Stands z turn turn role a.phase a → a.setup.role ≡ role → arrived_weight arrived ≤ 2
+    → arrived_rnrs arrived ≡ 0
     → hear turn arrived a ≡ Ok mid → speak turn release (served_account user turn released mid) ≡ Ok said
     → poll_value (turn + 1) said.account.phase said.account + polls said.sent ≤ poll_value turn a.phase a + 1
-poll-turn z user turn role arrived a mid released release said y k h er light quiet hears speaks = omega (arith, hearing a.phase refl, serving, speaking b.phase refl)
+poll-turn z user turn role arrived a mid released release said y k h er light quiet hears speaks =
+    omega (arith, hearing a.phase refl, serving, speaking b.phase refl)
   where
     b : Account
     b = served_account user turn released mid
@@ -99,7 +108,8 @@ poll-turn z user turn role arrived a mid released release said y k h er light qu
         by (takes-ok turn (of_arrived frame_poll arrived) a mid (hear turn arrived a) hears
         (takes z turn role arrived a (linked-stand z turn turn role a (subst (λ q. Stands z turn turn role q a) e h)) e light quiet))
       where
-        by : Closes a mid ⊎ ((mid.phase ≡ Connected) × Takes turn (of_arrived frame_poll arrived) a mid) → poll_value turn mid.phase mid ≤ poll_value turn Connected a
+        by : Closes a mid ⊎ ((mid.phase ≡ Connected) × Takes turn (of_arrived frame_poll arrived) a mid)
+            → poll_value turn mid.phase mid ≤ poll_value turn Connected a
         by (inl c) = omega (arith, late-none turn mid.phase mid (ap is_released c.phase))
         by (inr t) = omega (arith, heard-polls turn (of_arrived frame_poll arrived) a mid t.1, ap (λ q. poll_value turn q mid) t.0)
     hearing Releasing e = omega (arith, late-none turn mid.phase mid (g.released (ap is_released e)))
@@ -114,12 +124,15 @@ poll-turn z user turn role arrived a mid released release said y k h er light qu
     so : SaysSo b said
     so = s-ok b said (speak turn release b) speaks (speaks-so turn release b)
 
-    first : (q : Phase) × HeardAs z (length a.outgoing.pieces) (length user.breaks) turn (z.quota * arrived_rnrs arrived) role a.phase a q mid
-    first = heard-ok z (length a.outgoing.pieces) (length user.breaks) turn (z.quota * arrived_rnrs arrived) role a.phase a mid (hear turn arrived a) hears
+    first : (q : Phase) × HeardAs z (length a.outgoing.pieces) (length user.breaks) turn
+        (z.quota * arrived_rnrs arrived) role a.phase a q mid
+    first = heard-ok z (length a.outgoing.pieces) (length user.breaks) turn (z.quota * arrived_rnrs arrived) role a.phase a mid
+        (hear turn arrived a) hears
         (hears-well z (length a.outgoing.pieces) (length user.breaks) turn role a.phase arrived a y k h refl er (omega arith))
 
     served-stands : Stands z (turn + 1) turn role first.0 b
-    served-stands = (serves-well z (length a.outgoing.pieces) (length user.breaks) turn (is_busy turn user.busy) role first.0 mid b y first.1.stands first.1.phase s).stands
+    served-stands = (serves-well z (length a.outgoing.pieces) (length user.breaks) turn
+        (is_busy turn user.busy) role first.0 mid b y first.1.stands first.1.phase s).stands
 
     k' : IsOf z b.setup
     k' = subst (IsOf z) (sym (s.setup ∙ first.1.setup)) k
@@ -131,18 +144,28 @@ poll-turn z user turn role arrived a mid released release said y k h er light qu
     speaking Detecting e = omega (arith, nothing (ap is_connected e), poll-most (turn + 1) said.account.phase said.account)
     speaking Negotiating e = omega (arith, nothing (ap is_connected e), poll-most (turn + 1) said.account.phase said.account)
     speaking Establishing e = omega (arith, nothing (ap is_connected e), poll-most (turn + 1) said.account.phase said.account)
-    speaking Releasing e = omega (arith, nothing (ap is_connected e), late-none (turn + 1) said.account.phase said.account (so.released (ap is_released e)))
-    speaking Closed e = omega (arith, nothing (ap is_connected e), late-none (turn + 1) said.account.phase said.account (so.released (ap is_released e)))
+    speaking Releasing e =
+        omega (arith, nothing (ap is_connected e), late-none (turn + 1) said.account.phase said.account (so.released (ap is_released e)))
+    speaking Closed e = omega
+        (arith, nothing (ap is_connected e), late-none (turn + 1) said.account.phase said.account (so.released (ap is_released e)))
     speaking Connected e = by (release && is_originator b.setup.role) (subst (λ q. speak_in q turn release b ≡ Ok said) e speaks)
       where
         linked : Linked z (turn + 1) turn role b
-        linked = linked-stand z (turn + 1) turn role b (subst (λ q. Stands z (turn + 1) turn role q b) (sym (s.phase ∙ first.1.phase) ∙ e) served-stands)
+        linked = linked-stand z (turn + 1) turn role b
+            (subst (λ q. Stands z (turn + 1) turn role q b) (sym (s.phase ∙ first.1.phase) ∙ e) served-stands)
 
-        by : (r : Bool) → cond r (speak_releasing turn (trying Releasing turn b)) (speak_linked turn b) ≡ Ok said → poll_value (turn + 1) said.account.phase said.account + polls said.sent ≤ poll_value turn Connected b + 1
+        by : (r : Bool) → cond r (speak_releasing turn (trying Releasing turn b)) (speak_linked turn b) ≡ Ok said
+            → poll_value (turn + 1) said.account.phase said.account + polls said.sent ≤ poll_value turn Connected b + 1
         by true f =
             omega (
               arith,
               ap nineteen_if (releases-unpolled turn (trying Releasing turn b) said f),
-              late-none (turn + 1) said.account.phase said.account (ap is_released (phase-ok Releasing said (speak_releasing turn (trying Releasing turn b)) f (try-phase turn (Disc true) (trying Releasing turn b)))),
+              late-none (turn + 1) said.account.phase said.account
+                  (ap is_released (phase-ok Releasing said (speak_releasing turn (trying Releasing turn b)) f
+                  (try-phase turn (Disc true) (trying Releasing turn b)))),
             )
-        by false f = omega (arith, rated-ok turn b said (speak_linked turn b) f (linked-rated z turn role b y k' linked), begun-most (turn + 1) said.account.phase said.account (so.begun ∙ ap is_begun e))
+        by false f = omega (
+          arith,
+          rated-ok turn b said (speak_linked turn b) f (linked-rated z turn role b y k' linked),
+          begun-most (turn + 1) said.account.phase said.account (so.begun ∙ ap is_begun e),
+        )

@@ -83,12 +83,15 @@ steps-rated turn special a =
     (else-says P (step3 a) _ (poll a.wait.poll refl)
     (else-says P (step4 turn a) _ (urgent a.wait.urgent)
     (else-says P (step5 special a) _ (breaks special a.their_breaks.ack)
-    (else-says P (step6 special a) _ (asks-for (differs a.owes.busy a.owes.busy_told && (is_originator a.setup.role || a.numbered)) a.owes.busy)
+    (else-says P (step6 special a) _
+    (asks-for (differs a.owes.busy a.owes.busy_told && (is_originator a.setup.role || a.numbered)) a.owes.busy)
     (else-says P (step7 turn a) _ (segment-rated turn (may_send a) a)
-    (else-says P (step8 a) (step9 a) (where-says P a.incoming.owed _ (omega (arith, ap nineteen_if (ready-polls a.owes.busy false (nr_of a)))))
+    (else-says P (step8 a) (step9 a)
+    (where-says P a.incoming.owed _ (omega (arith, ap nineteen_if (ready-polls a.owes.busy false (nr_of a)))))
     (omega arith))))))))
   where
-    poll : (b : Bool) → a.wait.poll ≡ b → AllSaid (Rated turn a) (where_says b (tells true true (record a { wait = record a.wait { poll = false } })))
+    poll : (b : Bool) → a.wait.poll ≡ b
+        → AllSaid (Rated turn a) (where_says b (tells true true (record a { wait = record a.wait { poll = false } })))
     poll false e = tt
     poll true e = omega (arith, ap nineteen_if e, ready-most a.owes.busy true (nr_of a))
 
@@ -111,7 +114,9 @@ steps-rated turn special a =
     asking true true (Some n) = tt
     asking true false (Some n) = omega arith
 
-    asks-for : (b c : Bool) → AllSaid (Rated turn a) (cond b (Some (tells false false a)) (cond c None (says_asking a.incoming.srej special (asks a.incoming) a)))
+    asks-for : (b c : Bool)
+        → AllSaid (Rated turn a)
+        (cond b (Some (tells false false a)) (cond c None (says_asking a.incoming.srej special (asks a.incoming) a)))
     asks-for true c = omega (arith, ap nineteen_if (ready-polls a.owes.busy false (nr_of a)))
     asks-for false true = tt
     asks-for false false = asking a.incoming.srej special (asks a.incoming)
@@ -120,7 +125,8 @@ steps-rated turn special a =
 abbrev pub TimedRated : ℕ → Account → Account → Type 0
 TimedRated turn a b = poll_value (turn + 1) Connected b ≤ poll_value turn Connected a + 1
 
-timers-rated : (z : Rates) (turn : ℕ) (role : Role) (a : Account) → AreRates z → IsOf z a.setup → Linked z (turn + 1) turn role a → OnOk (TimedRated turn a) (then_tries turn (on_timer turn a))
+timers-rated : (z : Rates) (turn : ℕ) (role : Role) (a : Account) → AreRates z → IsOf z a.setup → Linked z (turn + 1) turn role a
+    → OnOk (TimedRated turn a) (then_tries turn (on_timer turn a))
 timers-rated z turn role a y k h = go a.wait.timer refl h.sends.ticks
   where
     broke : (b : Account) → TimedRated turn a b → (m : Option OwnBreaks) → OnOk (TimedRated turn a) (breaking turn m b)
@@ -134,16 +140,24 @@ timers-rated z turn role a y k h = go a.wait.timer refl h.sends.ticks
     quiet : OnOk (TimedRated turn a) (then_tries turn (Ok a))
     quiet = broke a (omega (arith, later a.wait.timer)) (ticked turn a.setup.period a.setup.tries a.own_breaks)
 
-    go : (timer : Option ℕ) → a.wait.timer ≡ timer → Ticks z (turn + 1) turn a.outgoing.count a.wait.timer → OnOk (TimedRated turn a) (then_tries turn (cond (timer_expires turn a timer) (polling turn (expired a.outgoing) a) (Ok a)))
+    go : (timer : Option ℕ) → a.wait.timer ≡ timer → Ticks z (turn + 1) turn a.outgoing.count a.wait.timer
+        → OnOk (TimedRated turn a) (then_tries turn (cond (timer_expires turn a timer) (polling turn (expired a.outgoing) a) (Ok a)))
     go None e t = quiet
     go (Some set) e t = by (nat_eq turn (set + a.setup.period)) refl (nat_eq a.outgoing.count a.outgoing.tries)
       where
         by : (due : Bool) → nat_eq turn (set + a.setup.period) ≡ due → (spent' : Bool)
-            → OnOk (TimedRated turn a) (then_tries turn (cond due (polling turn (cond spent' None (Some (record a.outgoing { count = a.outgoing.count + 1; awaited = true }))) a) (Ok a)))
+            → OnOk (TimedRated turn a)
+            (then_tries turn (cond due
+            (polling turn (cond spent' None (Some (record a.outgoing { count = a.outgoing.count + 1; awaited = true }))) a) (Ok a)))
         by false d s = quiet
         by true d true = tt
         by true d false =
-            let c : Account = record a { outgoing = record a.outgoing { count = a.outgoing.count + 1; awaited = true }; wait = record a.wait { poll = true; timer = Some turn } } in
+            let c : Account = record
+            a {
+              outgoing = record a.outgoing { count = a.outgoing.count + 1; awaited = true };
+              wait =
+                  record a.wait { poll = true; timer = Some turn };
+            } in
             let now : turn ≡ set + a.setup.period = grind (arith, nat_tests) in
             let long : 20 ≤ a.setup.period = omega (arith, k.period, y.period) in
             let old : timer_value turn a.wait.timer ≡ min 19 (turn - (set + 1)) = ap (timer_value turn) e in
@@ -153,7 +167,8 @@ abbrev pub SaysRated : ℕ → Account → Result Said LinkFault → Type 0
 SaysRated turn a (Err fault) = Unit {0}
 SaysRated turn a (Ok said) = poll_value (turn + 1) Connected said.account + polls said.sent ≤ poll_value turn Connected a + 1
 
-pub linked-rated : (z : Rates) (turn : ℕ) (role : Role) (a : Account) → AreRates z → IsOf z a.setup → Linked z (turn + 1) turn role a → SaysRated turn a (speak_linked turn a)
+pub linked-rated : (z : Rates) (turn : ℕ) (role : Role) (a : Account) → AreRates z → IsOf z a.setup → Linked z (turn + 1) turn role a
+    → SaysRated turn a (speak_linked turn a)
 linked-rated z turn role a y k h = go (then_tries turn (on_timer turn a)) (timers-rated z turn role a y k h)
   where
     go : (r : Result Account LinkFault) → OnOk (TimedRated turn a) r → SaysRated turn a (after_timers turn a.special r)

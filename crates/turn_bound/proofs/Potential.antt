@@ -26,7 +26,8 @@ is_alive turn s = lives turn Originator s.orig.phase s.orig || lives turn Answer
 
 -- what is left of a standstill: all of it while an end lives, and else what is due and what is on the lines
 abbrev pub stall : Rates → Totals → ℕ → State → ℕ
-stall z totals turn s = cond (is_alive turn s) z.room (weights s.forward + weights s.back + dues totals.orig s.orig + dues totals.answ s.answ)
+stall z totals turn s =
+    cond (is_alive turn s) z.room (weights s.forward + weights s.back + dues totals.orig s.orig + dues totals.answ s.answ)
 
 -- It falls in every turn after which the run goes on.
 abbrev pub potential : Rates → Link → Totals → ℕ → State → ℕ

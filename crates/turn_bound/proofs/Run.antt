@@ -38,7 +38,8 @@ pub record Turn : Type 0 where
 -- what arrives of a line with that delay: the slot that was sent so many turns ago
 abbrev pub arrival : ℕ → Bool → List Slot → Arrived
 arrival delay loses [] = arrivals.Nothing
-arrival delay loses (slot ∷ rest) = if nat_lt (length (slot ∷ rest)) delay then arrivals.Nothing else if loses then arrivals.Nothing else arrives slot.sent
+arrival delay loses (slot ∷ rest) =
+    if nat_lt (length (slot ∷ rest)) delay then arrivals.Nothing else if loses then arrivals.Nothing else arrives slot.sent
 
 -- and what is left on it
 abbrev pub left_on : ℕ → List Slot → List Slot
@@ -62,13 +63,18 @@ pub record GoingTurn (link : Link) (turn : ℕ) (before : State) (t : Turn) (aft
   pub going : is_closed orig_mid.phase ≡ false
   pub orig_said : Said
   pub answ_said : Said
-  pub orig_says : speak turn (has_finished link.orig.user turn (served_account link.orig.user turn (is_released orig_mid.phase) orig_mid) && has_finished link.answ.user turn (served_account link.answ.user turn (is_released orig_mid.phase) answ_mid))
+  pub orig_says : speak turn
+      (has_finished link.orig.user turn
+      (served_account link.orig.user turn (is_released orig_mid.phase) orig_mid) && has_finished link.answ.user turn
+      (served_account link.answ.user turn (is_released orig_mid.phase) answ_mid))
       (served_account link.orig.user turn (is_released orig_mid.phase) orig_mid) ≡ Ok orig_said
   pub answ_says : speak turn false (served_account link.answ.user turn (is_released orig_mid.phase) answ_mid) ≡ Ok answ_said
   pub orig_after : after.orig ≡ orig_said.account
   pub answ_after : after.answ ≡ answ_said.account
-  pub forward_after : after.forward ≡ left_on link.orig.delay before.forward ++ slot_of orig_said (served_account link.orig.user turn (is_released orig_mid.phase) orig_mid) ∷ []
-  pub back_after : after.back ≡ left_on link.answ.delay before.back ++ slot_of answ_said (served_account link.answ.user turn (is_released orig_mid.phase) answ_mid) ∷ []
+  pub forward_after : after.forward ≡ left_on link.orig.delay before.forward
+      ++ slot_of orig_said (served_account link.orig.user turn (is_released orig_mid.phase) orig_mid) ∷ []
+  pub back_after : after.back ≡ left_on link.answ.delay before.back
+      ++ slot_of answ_said (served_account link.answ.user turn (is_released orig_mid.phase) answ_mid) ∷ []
 
 -- turns after which a run goes on, the newest first, and the state after them
 abbrev pub RunOf : Link → List Turn → State → Type 0

@@ -29,34 +29,42 @@ pub record Heard (o new : Outgoing) : Type 0 where
 
 -- the clock after it, by whether the front advances and whether there is anything to wait for
 clock-after : (turn : ℕ) (out out' awaited awaited' paused paused' advances : Bool) (timer : Option ℕ)
-    → (advances ≡ false → out ≡ out') → (awaited' ≡ true → awaited ≡ true) → (paused' ≡ true → paused ≡ true) → is_some timer ≡ (out || (awaited || paused))
-    → cond (((awaited && not awaited') || (paused && not paused')) && not (out' || (awaited' || paused'))) None (cond advances (cond (out' || (awaited' || paused')) (Some turn) None) timer)
+    → (advances ≡ false → out ≡ out') → (awaited' ≡ true → awaited ≡ true) → (paused' ≡ true → paused ≡ true)
+    → is_some timer ≡ (out || (awaited || paused))
+    → cond (((awaited && not awaited') || (paused && not paused')) && not (out' || (awaited' || paused'))) None
+    (cond advances (cond (out' || (awaited' || paused')) (Some turn) None) timer)
     ≡ cond (out' || (awaited' || paused')) (cond advances (Some turn) timer) None
 clock-after turn out out' awaited awaited' paused paused' advances timer h1 h2 h3 h4 = grind (arith)
 
 -- and its count
 count-after : (count : ℕ) (out out' awaited awaited' paused paused' advances : Bool) (timer : Option ℕ)
-    → (advances ≡ false → out ≡ out') → (awaited' ≡ true → awaited ≡ true) → (paused' ≡ true → paused ≡ true) → is_some timer ≡ (out || (awaited || paused)) → (timer ≡ None → count ≡ 0)
+    → (advances ≡ false → out ≡ out') → (awaited' ≡ true → awaited ≡ true) → (paused' ≡ true → paused ≡ true)
+    → is_some timer ≡ (out || (awaited || paused)) → (timer ≡ None → count ≡ 0)
     → cond advances 0 (cond (((awaited && not awaited') || (paused && not paused')) && not (out' || (awaited' || paused'))) 0 count)
     ≡ cond (out' || (awaited' || paused')) (cond advances 0 count) 0
 count-after count out out' awaited awaited' paused paused' advances timer h1 h2 h3 h4 h5 = grind (arith)
 
-pub record HeardWell (z : Rates) (total turn : ℕ) (o : Outgoing) (timer : Option ℕ) (new : Outgoing) (timer' : Option ℕ) (more : ℕ) : Type 0 where
+pub record HeardWell (z : Rates) (total turn : ℕ) (o : Outgoing) (timer : Option ℕ) (new : Outgoing) (timer' : Option ℕ)
+    (more : ℕ) : Type 0 where
   pub sends : Sends z (turn + 1) turn new timer'
   pub falls : sender_value z total turn new timer' + ends z.room (is_waiting o) (is_waiting new) ≤ sender_value z total turn o timer + more
 
-outstanding-same : (o new : Outgoing) → Heard o new → nat_lt o.front new.front ≡ false → (is_outstanding o ≡ is_outstanding new) × (o.front ≡ new.front)
+outstanding-same : (o new : Outgoing) → Heard o new → nat_lt o.front new.front ≡ false
+    → (is_outstanding o ≡ is_outstanding new) × (o.front ≡ new.front)
 outstanding-same o new h e = let same : o.front ≡ new.front = grind (arith, nat_tests, h.front_low) in (rw (same, h.high) refl, same)
 
-waiting-less : (out awaited paused awaited' paused' : Bool) → (awaited' ≡ true → awaited ≡ true) → (paused' ≡ true → paused ≡ true) → (out || (awaited' || paused')) ≡ true → (out || (awaited || paused)) ≡ true
+waiting-less : (out awaited paused awaited' paused' : Bool) → (awaited' ≡ true → awaited ≡ true) → (paused' ≡ true → paused ≡ true)
+    → (out || (awaited' || paused')) ≡ true → (out || (awaited || paused)) ≡ true
 waiting-less out awaited paused awaited' paused' h1 h2 e = grind (arith)
 
 pub heard-clock : (z : Rates) (turn : ℕ) (o new : Outgoing) (timer : Option ℕ) → Sends z turn turn o timer → Heard o new
     → (timer_after turn o new timer ≡ cond (is_waiting new) (cond (nat_lt o.front new.front) (Some turn) timer) None)
     × (new.count ≡ cond (is_waiting new) (cond (nat_lt o.front new.front) 0 o.count) 0)
 heard-clock z turn o new timer s h = (
-  clock-after turn (is_outstanding o) (is_outstanding new) o.awaited new.awaited o.paused new.paused (nat_lt o.front new.front) timer (λ e. (outstanding-same o new h e).0) h.awaited h.paused s.cause,
-  h.count ∙ count-after o.count (is_outstanding o) (is_outstanding new) o.awaited new.awaited o.paused new.paused (nat_lt o.front new.front) timer (λ e. (outstanding-same o new h e).0) h.awaited h.paused s.cause
+  clock-after turn (is_outstanding o) (is_outstanding new) o.awaited new.awaited o.paused new.paused (nat_lt o.front new.front) timer
+      (λ e. (outstanding-same o new h e).0) h.awaited h.paused s.cause,
+  h.count ∙ count-after o.count (is_outstanding o) (is_outstanding new) o.awaited new.awaited o.paused new.paused
+      (nat_lt o.front new.front) timer (λ e. (outstanding-same o new h e).0) h.awaited h.paused s.cause
       (stopped z turn turn o.count timer s.ticks),
 )
 
@@ -66,7 +74,8 @@ waits-before o n less within = let t : nat_lt o.front o.high ≡ true = grind (a
 pieces-same : (o new : Outgoing) → Heard o new → length new.pieces ≡ length o.pieces
 pieces-same o new h = ap (λ l. length l) h.pieces
 
-heard-sends : (z : Rates) (turn : ℕ) (o new : Outgoing) (timer timer' : Option ℕ) → Sends z turn turn o timer → Heard o new → is_some timer' ≡ is_waiting new → Ticks z (turn + 1) turn new.count timer'
+heard-sends : (z : Rates) (turn : ℕ) (o new : Outgoing) (timer timer' : Option ℕ) → Sends z turn turn o timer → Heard o new
+    → is_some timer' ≡ is_waiting new → Ticks z (turn + 1) turn new.count timer'
     → Sends z (turn + 1) turn new timer'
 heard-sends z turn o new timer timer' s h cause ticks = record {
   front_from = h.front_from;
@@ -83,19 +92,24 @@ heard-sends z turn o new timer timer' s h cause ticks = record {
 pub ends-is : (k : ℕ) (a b a' b' : Bool) → a ≡ a' → b ≡ b' → ends k a b ≡ ends k a' b'
 ends-is k a b a' b' e f = rw (e, f) refl
 
-worth-same : (z : Rates) (total : ℕ) (o new : Outgoing) → Heard o new → nat_lt o.front new.front ≡ false → z.quota * (total - new.front) + cond (is_free total new) z.first 0 ≡ z.quota * (total - o.front) + cond (is_free total o) z.first 0
+worth-same : (z : Rates) (total : ℕ) (o new : Outgoing) → Heard o new → nat_lt o.front new.front ≡ false
+    → z.quota * (total - new.front) + cond (is_free total new) z.first 0 ≡ z.quota * (total - o.front) + cond (is_free total o) z.first 0
 worth-same z total o new h e = by new.front new.high (sym (outstanding-same o new h e).1) h.high
   where
-    by : (front high : ℕ) → front ≡ o.front → high ≡ o.high → z.quota * (total - front) + cond (not (nat_lt front high) && nat_lt front total) z.first 0 ≡ z.quota * (total - o.front) + cond (is_free total o) z.first 0
+    by : (front high : ℕ) → front ≡ o.front → high ≡ o.high
+        → z.quota * (total - front) + cond (not (nat_lt front high) && nat_lt front total) z.first 0 ≡ z.quota * (total - o.front) + cond
+        (is_free total o) z.first 0
     by front high e f = rw (e, f) refl
 
 -- an advance pays for all
-falls-more : (q g w first rest rest' free free' old k : ℕ) (waits' : Bool) → rest' + q ≤ rest → free' ≤ g → q ≡ g + w + 1 → rest' + free' + cond waits' (w + 1) 0 + ends k true waits' ≤ rest + free + old + 0
+falls-more : (q g w first rest rest' free free' old k : ℕ) (waits' : Bool) → rest' + q ≤ rest → free' ≤ g → q ≡ g + w + 1
+    → rest' + free' + cond waits' (w + 1) 0 + ends k true waits' ≤ rest + free + old + 0
 falls-more q g w first rest rest' free free' old k true h f e = omega arith
 falls-more q g w first rest rest' free free' old k false h f e = omega arith
 
 -- what is heard never makes a stopped clock run
-pub heard-well : (z : Rates) (total turn : ℕ) (o new : Outgoing) (timer : Option ℕ) → AreRates z → Sends z turn turn o timer → Heard o new → length o.pieces ≤ total
+pub heard-well : (z : Rates) (total turn : ℕ) (o new : Outgoing) (timer : Option ℕ) → AreRates z → Sends z turn turn o timer → Heard o new
+    → length o.pieces ≤ total
     → HeardWell z total turn o timer new (timer_after turn o new timer) 0
 heard-well z total turn o new timer y s h all =
     let clock = heard-clock z turn o new timer s h in
@@ -110,14 +124,17 @@ heard-well z total turn o new timer y s h all =
     now : left z turn 0 (Some turn) ≡ z.whole + 1
     now = omega arith
 
-    advanced-on : (waiting : Bool) → is_waiting new ≡ waiting → nat_lt o.front new.front ≡ true → (timer' : Option ℕ) → left z turn new.count timer' ≡ cond waiting (z.whole + 1) 0
+    advanced-on : (waiting : Bool) → is_waiting new ≡ waiting → nat_lt o.front new.front ≡ true → (timer' : Option ℕ)
+        → left z turn new.count timer' ≡ cond waiting (z.whole + 1) 0
         → sender_value z total turn new timer' + ends z.room (is_waiting o) (is_waiting new) ≤ sender_value z total turn o timer + 0
     advanced-on waiting w e timer' l =
         let less : o.front < new.front = grind (arith, nat_tests) in
         let waits : is_waiting o ≡ true = waits-before o new.front less within in
         let fewer : total - new.front < total - o.front = omega (arith, less, within, below) in
-        rw (w, waits, l) (falls-more z.quota z.first z.whole 0 (z.quota * (total - o.front)) (z.quota * (total - new.front)) (cond (is_free total o) z.first 0) (cond (is_free total new) z.first 0)
-        (left z turn o.count timer) z.room waiting (paid z.quota (total - new.front) (total - o.front) fewer) (cond-le (is_free total new) z.first) y.quota)
+        rw (w, waits, l) (falls-more z.quota z.first z.whole 0 (z.quota * (total - o.front)) (z.quota * (total - new.front))
+        (cond (is_free total o) z.first 0) (cond (is_free total new) z.first 0)
+        (left z turn o.count timer) z.room waiting (paid z.quota (total - new.front) (total - o.front) fewer)
+        (cond-le (is_free total new) z.first) y.quota)
 
     go : (advances : Bool) → nat_lt o.front new.front ≡ advances → (waiting : Bool) → is_waiting new ≡ waiting → (timer' : Option ℕ)
         → timer' ≡ cond waiting (cond advances (Some turn) timer) None → new.count ≡ cond waiting (cond advances 0 o.count) 0
@@ -132,8 +149,11 @@ heard-well z total turn o new timer y s h all =
     }
     go false e true w timer' t c =
         let same = outstanding-same o new h e in
-        let waits : is_waiting o ≡ true = waiting-less (is_outstanding o) o.awaited o.paused new.awaited new.paused h.awaited h.paused (ap (λ b. b || (new.awaited || new.paused)) same.0 ∙ w) in record {
-          sends = heard-sends z turn o new timer timer' s h (rw (t, w) (s.cause ∙ waits)) (rw (t, c) (ticks-later z turn turn o.count timer s.ticks));
+        let waits : is_waiting o ≡ true =
+        waiting-less (is_outstanding o) o.awaited o.paused new.awaited new.paused h.awaited h.paused
+        (ap (λ b. b || (new.awaited || new.paused)) same.0 ∙ w) in record {
+          sends = heard-sends z turn o new timer timer' s h (rw (t, w) (s.cause ∙ waits))
+              (rw (t, c) (ticks-later z turn turn o.count timer s.ticks));
           falls = stays waits (ap (λ r. left z turn new.count r) t ∙ ap (λ n. left z turn n timer) c) same.1;
         }
       where
@@ -148,11 +168,20 @@ heard-well z total turn o new timer y s h all =
       where
         stops : (waited : Bool) → is_waiting o ≡ waited → left z turn new.count timer' ≡ 0 → o.front ≡ new.front
             → sender_value z total turn new timer' + ends z.room (is_waiting o) (is_waiting new) ≤ sender_value z total turn o timer + 0
-        stops true e' l front = omega (arith, left-some z turn turn o.count timer y s.ticks (s.cause ∙ e'), worth-same z total o new h e, l, ends-is z.room (is_waiting o) (is_waiting new) true false e' w)
-        stops false e' l front = omega (arith, worth-same z total o new h e, l, ends-is z.room (is_waiting o) (is_waiting new) false false e' w)
+        stops true e' l front =
+            omega (
+              arith,
+              left-some z turn turn o.count timer y s.ticks (s.cause ∙ e'),
+              worth-same z total o new h e,
+              l,
+              ends-is z.room (is_waiting o) (is_waiting new) true false e' w,
+            )
+        stops false e' l front =
+            omega (arith, worth-same z total o new h e, l, ends-is z.room (is_waiting o) (is_waiting new) false false e' w)
 
 -- RNR: the other end counts as busy, and the clock begins
-pub heard-busy : (z : Rates) (total turn : ℕ) (o new : Outgoing) (timer : Option ℕ) → AreRates z → Sends z turn turn o timer → Heard o new → length o.pieces ≤ total
+pub heard-busy : (z : Rates) (total turn : ℕ) (o new : Outgoing) (timer : Option ℕ) → AreRates z → Sends z turn turn o timer → Heard o new
+    → length o.pieces ≤ total
     → HeardWell z total turn o timer (paused_at new) (Some turn) z.quota
 heard-busy z total turn o new timer y s h all = record {
   sends = record {
@@ -176,7 +205,8 @@ heard-busy z total turn o new timer y s h all = record {
     waits' = sym (busy-waits (is_outstanding new) new.awaited)
 
     go : (advances : Bool) → nat_lt o.front new.front ≡ advances → (waited : Bool) → is_waiting o ≡ waited
-        → sender_value z total turn (paused_at new) (Some turn) + ends z.room (is_waiting o) (is_waiting (paused_at new)) ≤ sender_value z total turn o timer + z.quota
+        → sender_value z total turn (paused_at new) (Some turn) + ends z.room (is_waiting o)
+        (is_waiting (paused_at new)) ≤ sender_value z total turn o timer + z.quota
     go true e waited w =
         let less : o.front < new.front = grind (arith, nat_tests) in
         let within : new.front ≤ o.high = omega (arith, h.front_from, h.from_high, h.high) in
@@ -188,8 +218,20 @@ heard-busy z total turn o new timer y s h all = record {
           y.quota,
           ends-is z.room (is_waiting o) (is_waiting (paused_at new)) true true (waits-before o new.front less within) waits',
         )
-    go false e true w = omega (arith, worth-same z total o new h e, y.quota, y.first, ends-is z.room (is_waiting o) (is_waiting (paused_at new)) true true w waits')
-    go false e false w = omega (arith, worth-same z total o new h e, y.quota, y.first, ends-is z.room (is_waiting o) (is_waiting (paused_at new)) false true w waits')
+    go false e true w = omega (
+      arith,
+      worth-same z total o new h e,
+      y.quota,
+      y.first,
+      ends-is z.room (is_waiting o) (is_waiting (paused_at new)) true true w waits',
+    )
+    go false e false w = omega (
+      arith,
+      worth-same z total o new h e,
+      y.quota,
+      y.first,
+      ends-is z.room (is_waiting o) (is_waiting (paused_at new)) false true w waits',
+    )
 
 -- What each rule makes of the sender's part.
 
@@ -204,11 +246,13 @@ meant-range low high nr n e = go (nat_lt nr 128) (low + (nr + 128 - low % 128) %
         by true t e = let same : m ≡ n = cc in (omega (arith, less, same), grind (arith, nat_tests))
         by false t e = cc
 
-from_number-choices : (front high n : ℕ) (ns : List ℕ) → AllByRecursion (IsChosen front high) ns → AllByRecursion (IsChosen n high) (from_number n ns)
+from_number-choices : (front high n : ℕ) (ns : List ℕ) → AllByRecursion (IsChosen front high) ns
+    → AllByRecursion (IsChosen n high) (from_number n ns)
 from_number-choices front high n [] all = tt
 from_number-choices front high n (m ∷ ms) all = go (nat_le n m) refl (from_number-choices front high n ms all.1)
   where
-    go : (b : Bool) → nat_le n m ≡ b → AllByRecursion (IsChosen n high) (from_number n ms) → AllByRecursion (IsChosen n high) (cond b (m ∷ from_number n ms) (from_number n ms))
+    go : (b : Bool) → nat_le n m ≡ b → AllByRecursion (IsChosen n high) (from_number n ms)
+        → AllByRecursion (IsChosen n high) (cond b (m ∷ from_number n ms) (from_number n ms))
     go true e rest = ((grind (arith, nat_tests), all.0.1), rest)
     go false e rest = rest
 
@@ -216,7 +260,8 @@ with_number-all : (P : ℕ → Type 0) (n : ℕ) (ns : List ℕ) → P n → All
 with_number-all P n [] h all = (h, tt)
 with_number-all P n (m ∷ ms) h all = go (nat_lt n m) (nat_eq n m) (with_number-all P n ms h all.1)
   where
-    go : (a b : Bool) → AllByRecursion P (with_number n ms) → AllByRecursion P (cond a (n ∷ m ∷ ms) (cond b (m ∷ ms) (m ∷ with_number n ms)))
+    go : (a b : Bool) → AllByRecursion P (with_number n ms)
+        → AllByRecursion P (cond a (n ∷ m ∷ ms) (cond b (m ∷ ms) (m ∷ with_number n ms)))
     go true b rest = (h, all)
     go false true rest = all
     go false false rest = (all.0, rest)
@@ -224,7 +269,8 @@ with_number-all P n (m ∷ ms) h all = go (nat_lt n m) (nat_eq n m) (with_number
 same-bool : (a b : Bool) (out : Bool) (c : ℕ) → c ≡ cond (((a && not a) || (b && not b)) && out) 0 c
 same-bool a b out c = grind (arith)
 
-pub heard-advanced : (z : Rates) (before turn : ℕ) (o : Outgoing) (timer : Option ℕ) (n : ℕ) → Sends z before turn o timer → o.front ≤ n → n ≤ o.high → Heard o (advanced o n)
+pub heard-advanced : (z : Rates) (before turn : ℕ) (o : Outgoing) (timer : Option ℕ) (n : ℕ) → Sends z before turn o timer → o.front ≤ n
+    → n ≤ o.high → Heard o (advanced o n)
 heard-advanced z before turn o timer n s low within = record {
   high = refl;
   pieces = refl;
@@ -255,7 +301,8 @@ heard-gone_back o new h = record {
 }
 
 -- the wait ends, of an end that awaits a poll
-pub heard-wait_ended : (z : Rates) (before turn : ℕ) (o : Outgoing) (timer : Option ℕ) (n : ℕ) → Sends z before turn o timer → o.front ≤ n → n ≤ o.high → o.awaited ≡ true → Heard o (wait_ended (advanced o n))
+pub heard-wait_ended : (z : Rates) (before turn : ℕ) (o : Outgoing) (timer : Option ℕ) (n : ℕ) → Sends z before turn o timer → o.front ≤ n
+    → n ≤ o.high → o.awaited ≡ true → Heard o (wait_ended (advanced o n))
 heard-wait_ended z before turn o timer n s low within polled = record {
   high = refl;
   pieces = refl;
@@ -270,17 +317,22 @@ heard-wait_ended z before turn o timer n s low within polled = record {
   count = go (nat_lt o.front n) (nat_lt n o.high) o.paused o.awaited polled;
 }
   where
-    go : (advances out paused awaited : Bool) → awaited ≡ true → cond (out || paused) (cond advances 0 o.count) 0 ≡ cond advances 0 (cond (((awaited && true) || (paused && not paused)) && not (out || paused)) 0 o.count)
+    go : (advances out paused awaited : Bool) → awaited ≡ true
+        → cond (out || paused) (cond advances 0 o.count) 0 ≡ cond advances 0
+        (cond (((awaited && true) || (paused && not paused)) && not (out || paused)) 0 o.count)
     go advances out paused awaited e = grind (arith)
 
 pub heard-resumed : (o new : Outgoing) → Heard o new → Heard o (resumed new)
 heard-resumed o new h = go new.paused refl
   where
-    counts : (advances out out' awaited awaited' paused : Bool) (c : ℕ) → paused ≡ true → c ≡ cond advances 0 (cond (((awaited && not awaited') || (paused && false)) && not (out' || (awaited' || true))) 0 o.count)
-        → cond (out' || awaited') c 0 ≡ cond advances 0 (cond (((awaited && not awaited') || (paused && true)) && not (out' || (awaited' || false))) 0 o.count)
+    counts : (advances out out' awaited awaited' paused : Bool) (c : ℕ) → paused ≡ true
+        → c ≡ cond advances 0 (cond (((awaited && not awaited') || (paused && false)) && not (out' || (awaited' || true))) 0 o.count)
+        → cond (out' || awaited') c 0 ≡ cond advances 0
+        (cond (((awaited && not awaited') || (paused && true)) && not (out' || (awaited' || false))) 0 o.count)
     counts advances out out' awaited awaited' paused c e k = grind (arith)
 
-    go : (b : Bool) → new.paused ≡ b → Heard o (cond b (record new { paused = false; count = cond (is_outstanding new || new.awaited) new.count 0 }) new)
+    go : (b : Bool) → new.paused ≡ b
+        → Heard o (cond b (record new { paused = false; count = cond (is_outstanding new || new.awaited) new.count 0 }) new)
     go false e = h
     go true e = record {
       high = h.high;
@@ -293,10 +345,14 @@ heard-resumed o new h = go new.paused refl
       chosen = h.chosen;
       awaited = h.awaited;
       paused = λ f. h.paused e;
-      count = counts (nat_lt o.front new.front) (is_outstanding o) (is_outstanding new) o.awaited new.awaited o.paused new.count (h.paused e) (subst (λ b. new.count ≡ cond (nat_lt o.front new.front) 0 (cond (((o.awaited && not new.awaited) || (o.paused && not b)) && not (is_outstanding new || (new.awaited || b))) 0 o.count)) e h.count);
+      count = counts (nat_lt o.front new.front) (is_outstanding o) (is_outstanding new) o.awaited new.awaited o.paused new.count
+          (h.paused e) (subst (λ b. new.count ≡ cond (nat_lt o.front new.front) 0
+          (cond (((o.awaited && not new.awaited) || (o.paused && not b)) && not (is_outstanding new || (new.awaited || b))) 0 o.count)) e
+          h.count);
     }
 
-pub heard-selected : (z : Rates) (before turn : ℕ) (o : Outgoing) (timer : Option ℕ) (n : ℕ) → Sends z before turn o timer → o.front ≤ n → n < o.high → Heard o (record o { chosen = with_number n o.chosen })
+pub heard-selected : (z : Rates) (before turn : ℕ) (o : Outgoing) (timer : Option ℕ) (n : ℕ) → Sends z before turn o timer → o.front ≤ n
+    → n < o.high → Heard o (record o { chosen = with_number n o.chosen })
 heard-selected z before turn o timer n s low within = record {
   high = refl;
   pieces = refl;
@@ -308,7 +364,9 @@ heard-selected z before turn o timer n s low within = record {
   chosen = with_number-all (IsChosen o.front o.high) n o.chosen (low, within) s.chosen;
   awaited = λ e. e;
   paused = λ e. e;
-  count = same-bool o.awaited o.paused (not (is_waiting o)) o.count ∙ none (nat_lt o.front o.front) (grind (arith, nat_tests)) (cond ((o.awaited && not o.awaited || o.paused && not o.paused) && not (is_waiting o)) 0 o.count);
+  count = same-bool o.awaited o.paused (not (is_waiting o)) o.count
+      ∙ none (nat_lt o.front o.front) (grind (arith, nat_tests))
+      (cond ((o.awaited && not o.awaited || o.paused && not o.paused) && not (is_waiting o)) 0 o.count);
 }
   where
     none : (b : Bool) → b ≡ false → (c : ℕ) → c ≡ cond b 0 c

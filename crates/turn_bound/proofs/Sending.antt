@@ -15,7 +15,8 @@ pub record WaitedWell (z : Rates) (total turn : ℕ) (o : Outgoing) (timer : Opt
   pub falls : sender_value z total (turn + 1) new timer' + one_if (is_waiting o) ≤ sender_value z total turn o timer
 
 -- without an expiry
-pub waited-quiet : (z : Rates) (total turn : ℕ) (o : Outgoing) (timer : Option ℕ) → AreRates z → Sends z (turn + 1) turn o timer → ((set : ℕ) → timer ≡ Some set → nat_eq turn (set + z.period) ≡ false)
+pub waited-quiet : (z : Rates) (total turn : ℕ) (o : Outgoing) (timer : Option ℕ) → AreRates z → Sends z (turn + 1) turn o timer
+    → ((set : ℕ) → timer ≡ Some set → nat_eq turn (set + z.period) ≡ false)
     → WaitedWell z total turn o timer o timer
 waited-quiet z total turn o timer y s quiet = record {
   sends = record {
@@ -35,14 +36,22 @@ waited-quiet z total turn o timer y s quiet = record {
   where
     on : (timer' : Option ℕ) → timer ≡ timer' → Ticks z (turn + 1) turn o.count timer' → Ticks z (turn + 1) (turn + 1) o.count timer'
     on None e h = h
-    on (Some set) e h = record { tied = h.tied; started = h.started; within = let q = quiet set e in let other : nat_eq turn (set + z.period) ≡ false = q in grind (arith, nat_tests, h.within); tried = h.tried }
+    on (Some set) e h = record {
+      tied = h.tied;
+      started = h.started;
+      within = let q = quiet set e in
+          let other : nat_eq turn (set + z.period) ≡ false = q in grind (arith, nat_tests, h.within);
+      tried = h.tried;
+    }
 
-    falling : (timer' : Option ℕ) → timer ≡ timer' → Ticks z (turn + 1) turn o.count timer' → is_some timer' ≡ is_waiting o → sender_value z total (turn + 1) o timer' + one_if (is_waiting o) ≤ sender_value z total turn o timer'
+    falling : (timer' : Option ℕ) → timer ≡ timer' → Ticks z (turn + 1) turn o.count timer' → is_some timer' ≡ is_waiting o
+        → sender_value z total (turn + 1) o timer' + one_if (is_waiting o) ≤ sender_value z total turn o timer'
     falling None e h c = rw (sym c) (omega arith)
     falling (Some set) e h c = rw (sym c) (omega (arith, tries_fit z o.count y h.tried, h.within))
 
 -- and with one
-pub waited-expired : (z : Rates) (total turn : ℕ) (o : Outgoing) (set : ℕ) → AreRates z → Sends z (turn + 1) turn o (Some set) → nat_eq turn (set + z.period) ≡ true → nat_eq o.count o.tries ≡ false
+pub waited-expired : (z : Rates) (total turn : ℕ) (o : Outgoing) (set : ℕ) → AreRates z → Sends z (turn + 1) turn o (Some set)
+    → nat_eq turn (set + z.period) ≡ true → nat_eq o.count o.tries ≡ false
     → WaitedWell z total turn o (Some set) (record o { count = o.count + 1; awaited = true }) (Some turn)
 waited-expired z total turn o set y s due more =
     let now : turn ≡ set + z.period = grind (arith, nat_tests) in
@@ -57,7 +66,13 @@ waited-expired z total turn o set y s due more =
         chosen = s.chosen;
         tries_are = s.tries_are;
         cause = polls (is_outstanding o) o.paused;
-        ticks = record { tied = omega (arith, s.ticks.tied, now); started = omega arith; within = omega (arith, y.period); tried = omega (arith, fewer) };
+        ticks = record {
+          tied = omega (arith, s.ticks.tied, now);
+          started = omega arith;
+          within = omega (arith, y.period);
+          tried =
+              omega (arith, fewer);
+        };
       };
       waits = sym (polls (is_outstanding o) o.paused) ∙ s.cause;
       falls = rw (sym s.cause) (omega (arith, tries_fit z (o.count + 1) y (omega (arith, fewer)), now));
@@ -72,10 +87,13 @@ pub record SentWell (z : Rates) (total turn : ℕ) (o : Outgoing) (timer : Optio
   pub waits : is_waiting new ≡ true
   pub falls : sender_value z total (turn + 1) new timer' + cond (is_waiting o) 0 (z.room + 1) ≤ sender_value z total (turn + 1) o timer
 
-sent-on : (z : Rates) (total turn : ℕ) (o : Outgoing) (timer : Option ℕ) (from high : ℕ) (chosen : List ℕ) → AreRates z → Sends z (turn + 1) (turn + 1) o timer → o.awaited || o.paused ≡ false
-    → o.front ≤ from → from ≤ high → high ≤ length o.pieces → high ≤ o.front + o.window → o.front < high → o.front < total → AllByRecursion (IsChosen o.front high) chosen
+sent-on : (z : Rates) (total turn : ℕ) (o : Outgoing) (timer : Option ℕ) (from high : ℕ) (chosen : List ℕ) → AreRates z
+    → Sends z (turn + 1) (turn + 1) o timer → o.awaited || o.paused ≡ false
+    → o.front ≤ from → from ≤ high → high ≤ length o.pieces → high ≤ o.front + o.window → o.front < high → o.front < total
+    → AllByRecursion (IsChosen o.front high) chosen
     → SentWell z total turn o timer (record o { from = from; high = high; chosen = chosen }) (running turn timer)
-sent-on z total turn o timer from high chosen y s idle front_from from_high high_pieces high_window less some choices = go (is_outstanding o) refl timer s.ticks s.cause
+sent-on z total turn o timer from high chosen y s idle front_from from_high high_pieces high_window less some choices =
+    go (is_outstanding o) refl timer s.ticks s.cause
   where
     out' : nat_lt o.front high ≡ true
     out' = grind (arith, nat_tests)
@@ -86,7 +104,8 @@ sent-on z total turn o timer from high chosen y s idle front_from from_high high
     free' : cond (not (nat_lt o.front high) && nat_lt o.front total) z.first 0 ≡ 0
     free' = rw out' refl
 
-    sends : (timer' : Option ℕ) → is_some timer' ≡ true → Ticks z (turn + 1) (turn + 1) o.count timer' → Sends z (turn + 1) (turn + 1) (record o { from = from; high = high; chosen = chosen }) timer'
+    sends : (timer' : Option ℕ) → is_some timer' ≡ true → Ticks z (turn + 1) (turn + 1) o.count timer'
+        → Sends z (turn + 1) (turn + 1) (record o { from = from; high = high; chosen = chosen }) timer'
     sends timer' runs ticks = record {
       front_from = front_from;
       from_high = from_high;
@@ -99,7 +118,8 @@ sent-on z total turn o timer from high chosen y s idle front_from from_high high
       ticks = ticks;
     }
 
-    go : (out : Bool) → is_outstanding o ≡ out → (timer' : Option ℕ) → Ticks z (turn + 1) (turn + 1) o.count timer' → is_some timer' ≡ is_waiting o
+    go : (out : Bool) → is_outstanding o ≡ out → (timer' : Option ℕ) → Ticks z (turn + 1) (turn + 1) o.count timer'
+        → is_some timer' ≡ is_waiting o
         → SentWell z total turn o timer' (record o { from = from; high = high; chosen = chosen }) (running turn timer')
     go true e (Some set) ticks cause =
         let free : cond (is_free total o) z.first 0 ≡ 0 = rw e refl in
@@ -114,7 +134,9 @@ sent-on z total turn o timer from high chosen y s idle front_from from_high high
         let tried : o.count ≡ 0 = ticks in
         let now : left z (turn + 1) o.count (Some turn) ≡ z.whole = ap (λ n. left z (turn + 1) n (Some turn)) tried ∙ from-now in
         record {
-          sends = sends (Some turn) refl (subst (λ n. Ticks z (turn + 1) (turn + 1) n (Some turn)) (sym tried) (record { tied = omega arith; started = omega arith; within = omega (arith, y.period); tried = omega arith }));
+          sends = sends (Some turn) refl
+              (subst (λ n. Ticks z (turn + 1) (turn + 1) n (Some turn)) (sym tried)
+              (record { tied = omega arith; started = omega arith; within = omega (arith, y.period); tried = omega arith }));
           waits = waits';
           falls = omega (arith, free, free', w, now, y.first);
         }
@@ -129,7 +151,8 @@ may-be b c m n e = go (b || c) e
     go true e = cc
     go false e = (refl, e)
 
-pub sent-well : (z : Rates) (total turn : ℕ) (o : Outgoing) (timer : Option ℕ) (n : ℕ) → AreRates z → Sends z (turn + 1) (turn + 1) o timer → length o.pieces ≤ total → next_number o ≡ Some n
+pub sent-well : (z : Rates) (total turn : ℕ) (o : Outgoing) (timer : Option ℕ) (n : ℕ) → AreRates z → Sends z (turn + 1) (turn + 1) o timer
+    → length o.pieces ≤ total → next_number o ≡ Some n
     → SentWell z total turn o timer (after_next o) (running turn timer)
 sent-well z total turn o timer n y s all e =
     let may = may-be o.awaited o.paused (next_among o.chosen o) n e in
@@ -138,27 +161,34 @@ sent-well z total turn o timer n y s all e =
     idle : o.awaited || o.paused ≡ false
     idle = (may-be o.awaited o.paused (next_among o.chosen o) n e).0
 
-    go : (chosen : List ℕ) → AllByRecursion (IsChosen o.front o.high) chosen → next_among chosen o ≡ Some n → SentWell z total turn o timer (sent_among chosen o) (running turn timer)
+    go : (chosen : List ℕ) → AllByRecursion (IsChosen o.front o.high) chosen → next_among chosen o ≡ Some n
+        → SentWell z total turn o timer (sent_among chosen o) (running turn timer)
     go [] h f = in-order (nat_lt o.from (length o.pieces)) refl (nat_lt o.from (o.front + o.window)) refl f
       where
-        in-order : (a : Bool) → nat_lt o.from (length o.pieces) ≡ a → (b : Bool) → nat_lt o.from (o.front + o.window) ≡ b → cond (a && b) (Some o.from) None ≡ Some n
+        in-order : (a : Bool) → nat_lt o.from (length o.pieces) ≡ a → (b : Bool) → nat_lt o.from (o.front + o.window) ≡ b
+            → cond (a && b) (Some o.from) None ≡ Some n
             → SentWell z total turn o timer (sent_among [] o) (running turn timer)
         in-order true ea true eb f =
             let some : o.from < length o.pieces = grind (arith, nat_tests) in
             let free : o.from < o.front + o.window = grind (arith, nat_tests) in
-            subst (λ c. SentWell z total turn o timer (record o { from = o.from + 1; high = max o.high (o.from + 1); chosen = c }) (running turn timer)) refl
-            (sent-on z total turn o timer (o.from + 1) (max o.high (o.from + 1)) o.chosen y s idle (omega (arith, s.front_from)) (omega arith) (omega (arith, s.high_pieces, some)) (omega (arith, s.high_window, free))
+            subst (λ c. SentWell z total turn o timer (record o { from = o.from + 1; high = max o.high (o.from + 1); chosen = c })
+            (running turn timer)) refl
+            (sent-on z total turn o timer (o.from + 1) (max o.high (o.from + 1)) o.chosen y s idle (omega (arith, s.front_from))
+            (omega arith) (omega (arith, s.high_pieces, some)) (omega (arith, s.high_window, free))
             (omega (arith, s.front_from)) (omega (arith, s.front_from, some, all))
-            (all_weaker (IsChosen o.front o.high) (IsChosen o.front (max o.high (o.from + 1))) o.chosen (λ k c. (c.0, omega (arith, c.1))) s.chosen))
+            (all_weaker (IsChosen o.front o.high) (IsChosen o.front (max o.high (o.from + 1))) o.chosen
+            (λ k c. (c.0, omega (arith, c.1))) s.chosen))
         in-order true ea false eb f = cc
         in-order false ea b eb f = cc
     go (m ∷ rest) h f =
-        sent-on z total turn o timer o.from (max o.high (m + 1)) rest y s idle s.front_from (omega (arith, s.from_high)) (omega (arith, s.high_pieces, h.0.1)) (omega (arith, s.high_window, h.0.1))
+        sent-on z total turn o timer o.from (max o.high (m + 1)) rest y s idle s.front_from (omega (arith, s.from_high))
+        (omega (arith, s.high_pieces, h.0.1)) (omega (arith, s.high_window, h.0.1))
         (omega (arith, h.0.0)) (omega (arith, h.0.0, h.0.1, s.high_pieces, all))
         (all_weaker (IsChosen o.front o.high) (IsChosen o.front (max o.high (m + 1))) rest (λ k c. (c.0, omega (arith, c.1))) h.1)
 
 -- Pieces are offered.
-pub offered-sends : (z : Rates) (before turn : ℕ) (o : Outgoing) (timer : Option ℕ) (pieces : List (List ℕ)) (ended : Bool) → Sends z before turn o timer → length o.pieces ≤ length pieces
+pub offered-sends : (z : Rates) (before turn : ℕ) (o : Outgoing) (timer : Option ℕ) (pieces : List (List ℕ)) (ended : Bool)
+    → Sends z before turn o timer → length o.pieces ≤ length pieces
     → Sends z before turn (record o { pieces = pieces; ended = ended }) timer
 offered-sends z before turn o timer pieces ended s more = record {
   front_from = s.front_from;

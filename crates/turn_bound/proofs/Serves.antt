@@ -16,7 +16,8 @@ use Rattle.turn_bound.proofs.Serving.{Served}
 
 pub record ServesAs (z : Rates) (total breaks turn : ℕ) (role : Role) (p : Phase) (a b : Account) : Type 0 where
   pub stands : Stands z (turn + 1) turn role p b
-  pub falls : value z total breaks turn role p b + ends z.room (lives turn role p a) (lives turn role p b) ≤ value z total breaks turn role p a
+  pub falls : value z total breaks turn role p b + ends z.room (lives turn role p a)
+      (lives turn role p b) ≤ value z total breaks turn role p a
 
 -- where the end isn't Connected
 pub record Unserved (a b : Account) : Type 0 where
@@ -28,20 +29,27 @@ pub record Unserved (a b : Account) : Type 0 where
 
 unserved-unlinked : (a b : Account) → Unserved a b → Unlinked a → Unlinked b
 unserved-unlinked a b h u =
-    same-unlinked a b u h.outgoing (ap (λ w. w.timer) h.wait) h.own (ap (λ t. t.ack) h.ack) (subst (λ x. (1 ≤ x.window_o) × (1 ≤ x.window_a)) (sym h.terms) (u.window_o, u.window_a))
+    same-unlinked a b u h.outgoing (ap (λ w. w.timer) h.wait) h.own (ap (λ t. t.ack) h.ack)
+    (subst (λ x. (1 ≤ x.window_o) × (1 ≤ x.window_a)) (sym h.terms) (u.window_o, u.window_a))
 
 unserved-tries : (z : Rates) (before turn : ℕ) (a b : Account) → Unserved a b → Tries z before turn a → Tries z before turn b
-unserved-tries z before turn a b h t = subst (λ w. Tries z before turn (record a { wait = w })) (sym h.wait) (record { tied = t.tied; started = t.started; within = t.within; tried = t.tried })
+unserved-tries z before turn a b h t =
+    subst (λ w. Tries z before turn (record a { wait = w })) (sym h.wait)
+    (record { tied = t.tied; started = t.started; within = t.within; tried = t.tried })
 
 unserved-try : (z : Rates) (turn : ℕ) (a b : Account) → Unserved a b → try_left z turn b ≡ try_left z turn a
 unserved-try z turn a b h = ap (λ w. try_left z turn (record a { wait = w })) h.wait
 
-unserved : (z : Rates) (turn : ℕ) (role : Role) (p : Phase) (a b : Account) → is_connected p ≡ false → Unserved a b → Stands z (turn + 1) turn role p a
-    → Stands z (turn + 1) turn role p b × (lives turn role p b ≡ lives turn role p a) × (time_left z turn role p b ≡ time_left z turn role p a)
+unserved : (z : Rates) (turn : ℕ) (role : Role) (p : Phase) (a b : Account) → is_connected p ≡ false → Unserved a b
+    → Stands z (turn + 1) turn role p a
+    → Stands z (turn + 1) turn role p b × (lives turn role p b ≡ lives turn role p a)
+    × (time_left z turn role p b ≡ time_left z turn role p a)
 unserved z turn role Connected a b c h s = cc
 unserved z turn Originator Detecting a b c h s = (unserved-unlinked a b h s, refl, refl)
-unserved z turn Originator Negotiating a b c h s = ((unserved-unlinked a b h s.0, unserved-tries z (turn + 1) turn a b h s.1), refl, unserved-try z turn a b h)
-unserved z turn Originator Establishing a b c h s = ((unserved-unlinked a b h s.0, unserved-tries z (turn + 1) turn a b h s.1), refl, unserved-try z turn a b h)
+unserved z turn Originator Negotiating a b c h s =
+    ((unserved-unlinked a b h s.0, unserved-tries z (turn + 1) turn a b h s.1), refl, unserved-try z turn a b h)
+unserved z turn Originator Establishing a b c h s =
+    ((unserved-unlinked a b h s.0, unserved-tries z (turn + 1) turn a b h s.1), refl, unserved-try z turn a b h)
 unserved z turn Originator Releasing a b c h s = (unserved-tries z (turn + 1) turn a b h s, refl, unserved-try z turn a b h)
 unserved z turn Originator Closed a b c h s = (tt, refl, refl)
 unserved z turn Answerer Detecting a b c h s = (unserved-unlinked a b h s, refl, refl)
@@ -58,7 +66,8 @@ asked-length turn l breaks b h = go (not (waits b) && nat_le b.rest turn)
     go false = omega (arith, h)
 
 -- where it is
-served-connected : (z : Rates) (total breaks turn : ℕ) (busy : Bool) (role : Role) (a b : Account) → AreRates z → Linked z (turn + 1) turn role a → a.phase ≡ Connected → Served turn breaks busy a b
+served-connected : (z : Rates) (total breaks turn : ℕ) (busy : Bool) (role : Role) (a b : Account) → AreRates z
+    → Linked z (turn + 1) turn role a → a.phase ≡ Connected → Served turn breaks busy a b
     → ServesAs z total breaks turn role Connected a b
 served-connected z total breaks turn busy role a b y h e s = go role h.silent
   where
@@ -67,7 +76,8 @@ served-connected z total breaks turn busy role a b y h e s = go role h.silent
 
     sends : Sends z (turn + 1) turn b.outgoing b.wait.timer
     sends = subst (λ r. Sends z (turn + 1) turn b.outgoing r) (sym timer)
-        (subst (λ o. Sends z (turn + 1) turn o a.wait.timer) (sym s.longer.outgoing) (offered-sends z (turn + 1) turn a.outgoing a.wait.timer b.outgoing.pieces b.outgoing.ended h.sends s.longer.longer))
+        (subst (λ o. Sends z (turn + 1) turn o a.wait.timer) (sym s.longer.outgoing)
+        (offered-sends z (turn + 1) turn a.outgoing a.wait.timer b.outgoing.pieces b.outgoing.ended h.sends s.longer.longer))
 
     sender : sender_value z total turn b.outgoing b.wait.timer ≡ sender_value z total turn a.outgoing a.wait.timer
     sender = ap (λ r. sender_value z total turn b.outgoing r) timer ∙ ap (λ o. sender_value z total turn o a.wait.timer) s.longer.outgoing
@@ -75,14 +85,19 @@ served-connected z total breaks turn busy role a b y h e s = go role h.silent
     waiting : is_waiting b.outgoing ≡ is_waiting a.outgoing
     waiting = ap is_waiting s.longer.outgoing
 
-    changed : (b.own_breaks ≡ a.own_breaks) ⊎ ((l : ℕ) × (b.own_breaks ≡ after_ask turn l a.own_breaks) × (length a.own_breaks.lengths < breaks) × (is_connected a.phase ≡ true)) → ChangedWell z breaks turn a.own_breaks b.own_breaks
+    changed : (b.own_breaks ≡ a.own_breaks)
+        ⊎ ((l : ℕ) × (b.own_breaks ≡ after_ask turn l a.own_breaks) × (length a.own_breaks.lengths < breaks)
+        × (is_connected a.phase ≡ true)) → ChangedWell z breaks turn a.own_breaks b.own_breaks
     changed (inl same) = subst (ChangedWell z breaks turn a.own_breaks) (sym same) (same-breaks z breaks turn a.own_breaks h.breaks)
-    changed (inr (l, same, less, linked)) = subst (ChangedWell z breaks turn a.own_breaks) (sym same) (asked-well z breaks turn l a.own_breaks y h.breaks (asked-length turn l breaks a.own_breaks less))
+    changed (inr (l, same, less, linked)) =
+        subst (ChangedWell z breaks turn a.own_breaks) (sym same)
+        (asked-well z breaks turn l a.own_breaks y h.breaks (asked-length turn l breaks a.own_breaks less))
 
     own : ChangedWell z breaks turn a.own_breaks b.own_breaks
     own = changed s.own
 
-    both : ends z.room (linked_lives turn a) (linked_lives turn b) ≤ 0 + ends z.room (is_breaking turn a.own_breaks) (is_breaking turn b.own_breaks)
+    both : ends z.room (linked_lives turn a) (linked_lives turn b) ≤ 0 + ends z.room (is_breaking turn a.own_breaks)
+        (is_breaking turn b.own_breaks)
     both = omega (
       arith,
       ends-both z.room (is_waiting a.outgoing) (is_breaking turn a.own_breaks) (is_waiting b.outgoing) (is_breaking turn b.own_breaks),
@@ -91,17 +106,32 @@ served-connected z total breaks turn busy role a b y h e s = go role h.silent
     )
 
     go : (r : Role) → IsSilent r a → ServesAs z total breaks turn r Connected a b
-    go Originator i = record { stands = record { sends = sends; breaks = own.sound; ack = subst (λ t. IsAck t.ack) (sym s.ack) h.ack; silent = tt }; falls = omega (arith, sender, own.falls, both) }
+    go Originator i = record {
+      stands =
+          record { sends = sends; breaks = own.sound; ack = subst (λ t. IsAck t.ack) (sym s.ack) h.ack; silent = tt };
+      falls =
+          omega (arith, sender, own.falls, both);
+    }
     go Answerer i = record {
-      stands = record { sends = sends; breaks = own.sound; ack = subst (λ t. IsAck t.ack) (sym s.ack) h.ack; silent = λ n. let k = i (sym s.numbered ∙ n) in (ap (λ o. o.high) s.longer.outgoing ∙ k.0, timer ∙ k.1) };
+      stands = record {
+        sends = sends;
+        breaks = own.sound;
+        ack = subst (λ t. IsAck t.ack) (sym s.ack) h.ack;
+        silent = λ n. let k =
+            i (sym s.numbered ∙ n) in (ap (λ o. o.high) s.longer.outgoing ∙ k.0, timer ∙ k.1);
+      };
       falls = omega (arith, sender, own.falls, both);
     }
 
-pub serves-well : (z : Rates) (total breaks turn : ℕ) (busy : Bool) (role : Role) (p : Phase) (a b : Account) → AreRates z → Stands z (turn + 1) turn role p a → a.phase ≡ p → Served turn breaks busy a b
+pub serves-well : (z : Rates) (total breaks turn : ℕ) (busy : Bool) (role : Role) (p : Phase) (a b : Account) → AreRates z
+    → Stands z (turn + 1) turn role p a → a.phase ≡ p → Served turn breaks busy a b
     → ServesAs z total breaks turn role p a b
 serves-well z total breaks turn busy role p a b y h e s = go (is_connected p) refl
   where
-    dead : is_connected p ≡ false → (b.own_breaks ≡ a.own_breaks) ⊎ ((l : ℕ) × (b.own_breaks ≡ after_ask turn l a.own_breaks) × (length a.own_breaks.lengths < breaks) × (is_connected a.phase ≡ true)) → b.own_breaks ≡ a.own_breaks
+    dead : is_connected p ≡ false
+        → (b.own_breaks ≡ a.own_breaks)
+        ⊎ ((l : ℕ) × (b.own_breaks ≡ after_ask turn l a.own_breaks) × (length a.own_breaks.lengths < breaks)
+        × (is_connected a.phase ≡ true)) → b.own_breaks ≡ a.own_breaks
     dead c (inl same) = same
     dead c (inr (l, same, less, linked)) = let wrong : true ≡ false = sym linked ∙ (ap is_connected e ∙ c) in cc
 
@@ -123,7 +153,8 @@ serves-well z total breaks turn busy role p a b y h e s = go (is_connected p) re
         }
     go true c = connected p c h e
       where
-        connected : (q : Phase) → is_connected q ≡ true → Stands z (turn + 1) turn role q a → a.phase ≡ q → ServesAs z total breaks turn role q a b
+        connected : (q : Phase) → is_connected q ≡ true → Stands z (turn + 1) turn role q a → a.phase ≡ q
+            → ServesAs z total breaks turn role q a b
         connected Connected c k f = by role k
           where
             by : (r : Role) → Stands z (turn + 1) turn r Connected a → ServesAs z total breaks turn r Connected a b

@@ -19,7 +19,8 @@ same-longer connected o = record { outgoing = refl; longer = omega arith; ended 
 
 piece-longer : (o : Outgoing) (piece : List ℕ) → o.ended ≡ false → Longer true o (with_piece piece o)
 piece-longer o [] e = record { outgoing = refl; longer = omega arith; ended = λ f. cc; unlinked = λ f. cc }
-piece-longer o (octet ∷ octets) e = record { outgoing = refl; longer = omega (arith, length-append {A = List ℕ}); ended = λ f. cc; unlinked = λ f. cc }
+piece-longer o (octet ∷ octets) e =
+    record { outgoing = refl; longer = omega (arith, length-append {A = List ℕ}); ended = λ f. cc; unlinked = λ f. cc }
 
 abbrev pub with_pieces : List (List ℕ) → Bool → Outgoing → Outgoing
 with_pieces pieces ended o = record o { pieces = pieces; ended = ended }
@@ -42,13 +43,21 @@ pub record Offers (a b : Account) : Type 0 where
 
 -- one offer, where a piece is wanted: there is less room, or the file has ended
 offer-one : (file : List ℕ) (a : Account) → Offers a (offered_at file a (wants a))
-offer-one file a = go (is_connected a.phase) refl (a.outgoing.ended) refl (nat_lt (length a.outgoing.pieces) (a.outgoing.front + a.outgoing.window))
+offer-one file a = go (is_connected a.phase) refl (a.outgoing.ended) refl
+    (nat_lt (length a.outgoing.pieces) (a.outgoing.front + a.outgoing.window))
   where
-    go : (c : Bool) → is_connected a.phase ≡ c → (e : Bool) → a.outgoing.ended ≡ e → (l : Bool) → Offers a (offered_at file a (cond c (cond (not e && l) (Some (length a.outgoing.pieces)) None) None))
+    go : (c : Bool) → is_connected a.phase ≡ c → (e : Bool) → a.outgoing.ended ≡ e → (l : Bool)
+        → Offers a (offered_at file a (cond c (cond (not e && l) (Some (length a.outgoing.pieces)) None) None))
     go false f e g l = record { only = refl; longer = same-longer (is_connected a.phase) a.outgoing }
     go true f true g l = record { only = refl; longer = same-longer (is_connected a.phase) a.outgoing }
     go true f false g false = record { only = refl; longer = same-longer (is_connected a.phase) a.outgoing }
-    go true f false g true = record { only = refl; longer = subst (λ c. Longer c a.outgoing (with_piece (piece_at (piece_size a) file (length a.outgoing.pieces)) a.outgoing)) (sym f) (piece-longer a.outgoing (piece_at (piece_size a) file (length a.outgoing.pieces)) g) }
+    go true f false g true =
+        record {
+          only = refl;
+          longer =
+              subst (λ c. Longer c a.outgoing (with_piece (piece_at (piece_size a) file (length a.outgoing.pieces)) a.outgoing)) (sym f)
+              (piece-longer a.outgoing (piece_at (piece_size a) file (length a.outgoing.pieces)) g);
+        }
 
 offer-times : (n : ℕ) (file : List ℕ) (a : Account) → Offers a (offered_times n file a)
 offer-times zero file a = record { only = refl; longer = same-longer (is_connected a.phase) a.outgoing }
@@ -59,7 +68,8 @@ offer-times (suc n) file a =
     let c : Account = offered_times n file b in
     record {
       only = k.only ∙ ap (with_outgoing c.outgoing) h.only;
-      longer = more-longer (is_connected a.phase) a.outgoing b.outgoing c.outgoing h.longer (subst (λ p. Longer (is_connected p) b.outgoing c.outgoing) (ap (λ x. x.phase) h.only) k.longer);
+      longer = more-longer (is_connected a.phase) a.outgoing b.outgoing c.outgoing h.longer
+          (subst (λ p. Longer (is_connected p) b.outgoing c.outgoing) (ap (λ x. x.phase) h.only) k.longer);
     }
 
 -- after them none is wanted
@@ -67,9 +77,11 @@ none-stays : (n : ℕ) (file : List ℕ) (a : Account) → wants a ≡ None → 
 none-stays zero file a e = refl
 none-stays (suc n) file a e = subst (λ m. offered_times n file (offered_at file a m) ≡ a) (sym e) (none-stays n file a e)
 
-none-more : (n : ℕ) (file : List ℕ) (a : Account) → ((b : Account) → b.outgoing.front + b.outgoing.window ≤ length b.outgoing.pieces + n → wants (offered_times n file b) ≡ None)
+none-more : (n : ℕ) (file : List ℕ) (a : Account)
+    → ((b : Account) → b.outgoing.front + b.outgoing.window ≤ length b.outgoing.pieces + n → wants (offered_times n file b) ≡ None)
     → a.outgoing.front + a.outgoing.window ≤ length a.outgoing.pieces + suc n → wants (offered_times (suc n) file a) ≡ None
-none-more n file a again h = go (is_connected a.phase) refl a.outgoing.ended refl (nat_lt (length a.outgoing.pieces) (a.outgoing.front + a.outgoing.window)) refl
+none-more n file a again h =
+    go (is_connected a.phase) refl a.outgoing.ended refl (nat_lt (length a.outgoing.pieces) (a.outgoing.front + a.outgoing.window)) refl
   where
     stays : wants a ≡ None → wants (offered_times n file a) ≡ None
     stays e = ap wants (none-stays n file a e) ∙ e
@@ -82,20 +94,25 @@ none-more n file a again h = go (is_connected a.phase) refl a.outgoing.ended ref
         none false = refl
     takes (octet ∷ octets) = again (after_offer (octet ∷ octets) a) (omega (arith, h, length-append {A = List ℕ}))
 
-    go : (c : Bool) → is_connected a.phase ≡ c → (e : Bool) → a.outgoing.ended ≡ e → (l : Bool) → nat_lt (length a.outgoing.pieces) (a.outgoing.front + a.outgoing.window) ≡ l
+    go : (c : Bool) → is_connected a.phase ≡ c → (e : Bool) → a.outgoing.ended ≡ e → (l : Bool)
+        → nat_lt (length a.outgoing.pieces) (a.outgoing.front + a.outgoing.window) ≡ l
         → wants (offered_times n file (offered_at file a (cond c (cond (not e && l) (Some (length a.outgoing.pieces)) None) None))) ≡ None
     go false f e g l t = stays (rw f refl)
     go true f true g l t = stays (rw (f, g) refl)
     go true f false g false t = stays (rw (f, g, t) refl)
     go true f false g true t = takes (piece_at (piece_size a) file (length a.outgoing.pieces))
 
-none-wanted : (n : ℕ) (file : List ℕ) (a : Account) → a.outgoing.front + a.outgoing.window ≤ length a.outgoing.pieces + n → wants (offered_times n file a) ≡ None
+none-wanted : (n : ℕ) (file : List ℕ) (a : Account) → a.outgoing.front + a.outgoing.window ≤ length a.outgoing.pieces + n
+    → wants (offered_times n file a) ≡ None
 none-wanted zero file a h = go (is_connected a.phase) a.outgoing.ended
   where
-    go : (c e : Bool) → cond c (cond (not e && nat_lt (length a.outgoing.pieces) (a.outgoing.front + a.outgoing.window)) (Some (length a.outgoing.pieces)) None) None ≡ None
+    go : (c e : Bool) → cond c
+        (cond (not e && nat_lt (length a.outgoing.pieces) (a.outgoing.front + a.outgoing.window)) (Some (length a.outgoing.pieces)) None)
+        None ≡ None
     go false e = refl
     go true true = refl
-    go true false = let full : nat_lt (length a.outgoing.pieces) (a.outgoing.front + a.outgoing.window) ≡ false = grind (arith, nat_tests) in rw full refl
+    go true false = let full : nat_lt (length a.outgoing.pieces) (a.outgoing.front + a.outgoing.window) ≡ false =
+        grind (arith, nat_tests) in rw full refl
 none-wanted (suc n) file a h = none-more n file a (λ b k. none-wanted n file b k) h
 
 pub offers-well : (file : List ℕ) (a : Account) → Offers a (offered file a) × (wants (offered file a) ≡ None)
@@ -119,7 +136,8 @@ pub record Served (turn breaks : ℕ) (busy : Bool) (a b : Account) : Type 0 whe
   pub srej : b.incoming.srej ≡ a.incoming.srej
   pub longer : Longer (is_connected a.phase) a.outgoing b.outgoing
   pub wants_none : wants b ≡ None
-  pub own : (b.own_breaks ≡ a.own_breaks) ⊎ ((l : ℕ) × (b.own_breaks ≡ after_ask turn l a.own_breaks) × (length a.own_breaks.lengths < breaks) × (is_connected a.phase ≡ true))
+  pub own : (b.own_breaks ≡ a.own_breaks)
+      ⊎ ((l : ℕ) × (b.own_breaks ≡ after_ask turn l a.own_breaks) × (length a.own_breaks.lengths < breaks) × (is_connected a.phase ≡ true))
 
 -- everything but the breaks
 abbrev pub before_asking : User → ℕ → Account → Account
@@ -128,17 +146,23 @@ before_asking user turn a = after_busy (is_busy turn user.busy) (offered user.fi
 pub serves-first : (user : User) (turn breaks : ℕ) (a : Account) → Served turn breaks (is_busy turn user.busy) a (before_asking user turn a)
 serves-first user turn breaks a = go (is_connected a.phase) refl
   where
-    by : (b : Account) → b.phase ≡ a.phase → b.setup ≡ a.setup → b.terms ≡ a.terms → b.numbered ≡ a.numbered → b.wait ≡ a.wait → b.their_breaks ≡ a.their_breaks → b.special ≡ a.special → b.owes ≡ a.owes
-        → b.incoming.rej ≡ a.incoming.rej → b.incoming.gapped ≡ a.incoming.gapped → b.incoming.srej ≡ a.incoming.srej → b.outgoing ≡ a.outgoing → b.own_breaks ≡ a.own_breaks → (c : Account) → Offers b c → wants c ≡ None
+    by : (b : Account) → b.phase ≡ a.phase → b.setup ≡ a.setup → b.terms ≡ a.terms → b.numbered ≡ a.numbered → b.wait ≡ a.wait
+        → b.their_breaks ≡ a.their_breaks → b.special ≡ a.special → b.owes ≡ a.owes
+        → b.incoming.rej ≡ a.incoming.rej → b.incoming.gapped ≡ a.incoming.gapped → b.incoming.srej ≡ a.incoming.srej
+        → b.outgoing ≡ a.outgoing → b.own_breaks ≡ a.own_breaks → (c : Account) → Offers b c → wants c ≡ None
         → Served turn breaks (is_busy turn user.busy) a (after_busy (is_busy turn user.busy) c)
     by b phase setup terms numbered wait ack special owes rej gapped srej outgoing own c k none =
-        subst (λ d. wants d ≡ None → Served turn breaks (is_busy turn user.busy) a (after_busy (is_busy turn user.busy) d)) (sym k.only) (λ w. final (is_connected b.phase) refl w) none
+        subst (λ d. wants d ≡ None → Served turn breaks (is_busy turn user.busy) a (after_busy (is_busy turn user.busy) d)) (sym k.only)
+        (λ w. final (is_connected b.phase) refl w) none
       where
         longer : Longer (is_connected a.phase) a.outgoing c.outgoing
-        longer = subst (λ o. Longer (is_connected a.phase) o c.outgoing) outgoing (subst (λ p. Longer (is_connected p) b.outgoing c.outgoing) phase k.longer)
+        longer = subst (λ o. Longer (is_connected a.phase) o c.outgoing) outgoing
+            (subst (λ p. Longer (is_connected p) b.outgoing c.outgoing) phase k.longer)
 
         final : (x : Bool) → is_connected b.phase ≡ x → cond x (wanted c.outgoing) None ≡ None
-            → Served turn breaks (is_busy turn user.busy) a (cond x (record b { outgoing = c.outgoing; owes = record b.owes { busy = is_busy turn user.busy } }) (record b { outgoing = c.outgoing }))
+            → Served turn breaks (is_busy turn user.busy) a
+            (cond x (record b { outgoing = c.outgoing; owes = record b.owes { busy = is_busy turn user.busy } })
+            (record b { outgoing = c.outgoing }))
         final true e w = record {
           setup = setup;
           phase = phase;
@@ -178,10 +202,15 @@ serves-first user turn breaks a = go (is_connected a.phase) refl
           own = inl own;
         }
 
-    go : (c : Bool) → is_connected a.phase ≡ c → Served turn breaks (is_busy turn user.busy) a (after_busy (is_busy turn user.busy) (offered user.file (after_given (cond c (record a { incoming = record a.incoming { given = length a.incoming.taken } }) a))))
-    go true e = let b : Account = after_given (record a { incoming = record a.incoming { given = length a.incoming.taken } }) in let k = offers-well user.file b in
+    go : (c : Bool) → is_connected a.phase ≡ c
+        → Served turn breaks (is_busy turn user.busy) a
+        (after_busy (is_busy turn user.busy)
+        (offered user.file (after_given (cond c (record a { incoming = record a.incoming { given = length a.incoming.taken } }) a))))
+    go true e = let b : Account = after_given (record a { incoming = record a.incoming { given = length a.incoming.taken } }) in let k =
+        offers-well user.file b in
         by b refl refl refl refl refl refl refl refl refl refl refl refl refl (offered user.file b) k.0 k.1
-    go false e = let b : Account = after_given a in let k = offers-well user.file b in by b refl refl refl refl refl refl refl refl refl refl refl refl refl (offered user.file b) k.0 k.1
+    go false e = let b : Account = after_given a in let k = offers-well user.file b in
+        by b refl refl refl refl refl refl refl refl refl refl refl refl refl (offered user.file b) k.0 k.1
 
 slice-some : (breaks : List BreakLine) (n : ℕ) (b : BreakLine) → slice_get breaks n ≡ Some b → n < length breaks
 slice-some [] n b e = cc
@@ -193,15 +222,18 @@ serves-own user turn a =
     busy (offered user.file (after_given (delivered a))) (is_connected (offered user.file (after_given (delivered a))).phase)
     ∙ ap (λ b. b.own_breaks) (offers-well user.file (after_given (delivered a))).0.only ∙ given (is_connected a.phase)
   where
-    busy : (b : Account) (c : Bool) → (cond c (record b { owes = record b.owes { busy = is_busy turn user.busy } }) b).own_breaks ≡ b.own_breaks
+    busy : (b : Account) (c : Bool)
+        → (cond c (record b { owes = record b.owes { busy = is_busy turn user.busy } }) b).own_breaks ≡ b.own_breaks
     busy b true = refl
     busy b false = refl
 
-    given : (c : Bool) → (after_given (cond c (record a { incoming = record a.incoming { given = length a.incoming.taken } }) a)).own_breaks ≡ a.own_breaks
+    given : (c : Bool) → (after_given
+        (cond c (record a { incoming = record a.incoming { given = length a.incoming.taken } }) a)).own_breaks ≡ a.own_breaks
     given true = refl
     given false = refl
 
-pub serves-all : (user : User) (turn : ℕ) (released : Bool) (a : Account) → Served turn (length user.breaks) (is_busy turn user.busy) a (served_account user turn released a)
+pub serves-all : (user : User) (turn : ℕ) (released : Bool) (a : Account)
+    → Served turn (length user.breaks) (is_busy turn user.busy) a (served_account user turn released a)
 serves-all user turn released a = go released
   where
     m : Account
@@ -210,7 +242,8 @@ serves-all user turn released a = go released
     h : Served turn (length user.breaks) (is_busy turn user.busy) a m
     h = serves-first user turn (length user.breaks) a
 
-    asks : (l : ℕ) → length a.own_breaks.lengths < length user.breaks → (x : Bool) → is_connected m.phase ≡ x → Served turn (length user.breaks) (is_busy turn user.busy) a (cond x (record m { own_breaks = after_ask turn l m.own_breaks }) m)
+    asks : (l : ℕ) → length a.own_breaks.lengths < length user.breaks → (x : Bool) → is_connected m.phase ≡ x
+        → Served turn (length user.breaks) (is_busy turn user.busy) a (cond x (record m { own_breaks = after_ask turn l m.own_breaks }) m)
     asks l less false e = h
     asks l less true e = record {
       setup = h.setup;
@@ -232,13 +265,16 @@ serves-all user turn released a = go released
       own = inr (l, ap (after_ask turn l) (serves-own user turn a), less, ap is_connected (sym h.phase) ∙ e);
     }
 
-    by : (n : Option BreakLine) → next_break user.breaks m ≡ n → Served turn (length user.breaks) (is_busy turn user.busy) a (asked_at turn n m)
+    by : (n : Option BreakLine) → next_break user.breaks m ≡ n
+        → Served turn (length user.breaks) (is_busy turn user.busy) a (asked_at turn n m)
     by None e = h
     by (Some b) e = on (nat_le b.turn turn)
       where
         on : (x : Bool) → Served turn (length user.breaks) (is_busy turn user.busy) a (cond x (after_break_asked turn b.length_octet m) m)
         on false = h
-        on true = asks b.length_octet (slice-some user.breaks (length a.own_breaks.lengths) b (ap (λ o. slice_get user.breaks (length o.lengths)) (sym (serves-own user turn a)) ∙ e)) (is_connected m.phase) refl
+        on true = asks b.length_octet
+            (slice-some user.breaks (length a.own_breaks.lengths) b
+            (ap (λ o. slice_get user.breaks (length o.lengths)) (sym (serves-own user turn a)) ∙ e)) (is_connected m.phase) refl
 
     go : (r : Bool) → Served turn (length user.breaks) (is_busy turn user.busy) a (cond r m (asked_at turn (next_break user.breaks m) m))
     go true = h

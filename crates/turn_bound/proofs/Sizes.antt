@@ -48,19 +48,23 @@ HearsCut a (Ok b) = SameCut a b
 abbrev pub IsSame : Outgoing → Outgoing → Type 0
 IsSame o new = (new.pieces ≡ o.pieces) × (new.size ≡ o.size)
 
-cut-number : (turn nr : ℕ) (a : Account) (f : Account → Account) (m : Option Outgoing) → ((b : Account) → (f b).outgoing ≡ b.outgoing) → ((o : Outgoing) → m ≡ Some o → IsSame a.outgoing o) → HearsCut a (then_in f (on_number turn nr m a))
+cut-number : (turn nr : ℕ) (a : Account) (f : Account → Account) (m : Option Outgoing) → ((b : Account) → (f b).outgoing ≡ b.outgoing)
+    → ((o : Outgoing) → m ≡ Some o → IsSame a.outgoing o) → HearsCut a (then_in f (on_number turn nr m a))
 cut-number turn nr a f None same k = tt
 cut-number turn nr a f (Some o) same k = let e = same _ in let s = k o refl in inr (ap (λ x. x.pieces) e ∙ s.0, ap (λ x. x.size) e ∙ s.1)
 
-made-same : (p : Outgoing) (made : ℕ → Outgoing) (m : Option ℕ) (o : Outgoing) → option_map made m ≡ Some o → ((n : ℕ) → IsSame p (made n)) → IsSame p o
+made-same : (p : Outgoing) (made : ℕ → Outgoing) (m : Option ℕ) (o : Outgoing) → option_map made m ≡ Some o → ((n : ℕ) → IsSame p (made n))
+    → IsSame p o
 made-same p made None o e h = cc
 made-same p made (Some n) o e h = let same : made n ≡ o = cc in subst (IsSame p) same (h n)
 
-either-same : (p : Outgoing) (b : Bool) (first second : Option Outgoing) (o : Outgoing) → cond b first second ≡ Some o → ((x : Outgoing) → first ≡ Some x → IsSame p x) → ((x : Outgoing) → second ≡ Some x → IsSame p x) → IsSame p o
+either-same : (p : Outgoing) (b : Bool) (first second : Option Outgoing) (o : Outgoing) → cond b first second ≡ Some o
+    → ((x : Outgoing) → first ≡ Some x → IsSame p x) → ((x : Outgoing) → second ≡ Some x → IsSame p x) → IsSame p o
 either-same p true first second o e h k = h o e
 either-same p false first second o e h k = k o e
 
-then-same : (p : Outgoing) (g : Outgoing → Outgoing) (m : Option Outgoing) (o : Outgoing) → option_map g m ≡ Some o → ((x : Outgoing) → IsSame x (g x)) → ((x : Outgoing) → m ≡ Some x → IsSame p x) → IsSame p o
+then-same : (p : Outgoing) (g : Outgoing → Outgoing) (m : Option Outgoing) (o : Outgoing) → option_map g m ≡ Some o
+    → ((x : Outgoing) → IsSame x (g x)) → ((x : Outgoing) → m ≡ Some x → IsSame p x) → IsSame p o
 then-same p g None o e h k = cc
 then-same p g (Some x) o e h k = let same : g x ≡ o = cc in let a = h x in let b = k x refl in subst (IsSame p) same (a.0 ∙ b.0, a.1 ∙ b.1)
 
@@ -72,19 +76,35 @@ resumed-same o = by o.paused
     by false = (refl, refl)
 
 cut-connected : (frame : Frame) (turn : ℕ) (a : Account) → HearsCut a (on_connected frame turn a)
-cut-connected (I ns nr pf info) turn a = cut-number turn nr a (λ b. replying pf (taking ns info b)) (acknowledged nr a.outgoing) (λ b. refl) (λ o e. made-same a.outgoing (advanced a.outgoing) (meant a.outgoing.front a.outgoing.high nr) o e (λ n. (refl, refl)))
-cut-connected (Rr command nr pf) turn a = cut-number turn nr a (λ b. hurrying (ends_wait command pf a) (replying (command && pf) b)) _ (λ b. refl)
-    (λ o e. then-same a.outgoing resumed (cond (ends_wait command pf a) (replied nr a.outgoing) (acknowledged nr a.outgoing)) o e resumed-same (λ y k. either-same a.outgoing (ends_wait command pf a) (replied nr a.outgoing) (acknowledged nr a.outgoing) y k
-    (λ x f. made-same a.outgoing (λ n. wait_ended (advanced a.outgoing n)) (meant a.outgoing.front a.outgoing.high nr) x f (λ n. (refl, refl))) (λ x f. made-same a.outgoing (advanced a.outgoing) (meant a.outgoing.front a.outgoing.high nr) x f (λ n. (refl, refl)))))
+cut-connected (I ns nr pf info) turn a =
+    cut-number turn nr a (λ b. replying pf (taking ns info b)) (acknowledged nr a.outgoing) (λ b. refl)
+    (λ o e. made-same a.outgoing (advanced a.outgoing) (meant a.outgoing.front a.outgoing.high nr) o e (λ n. (refl, refl)))
+cut-connected (Rr command nr pf) turn a =
+    cut-number turn nr a (λ b. hurrying (ends_wait command pf a) (replying (command && pf) b)) _ (λ b. refl)
+    (λ o e. then-same a.outgoing resumed
+    (cond (ends_wait command pf a) (replied nr a.outgoing) (acknowledged nr a.outgoing)) o e resumed-same
+    (λ y k. either-same a.outgoing (ends_wait command pf a) (replied nr a.outgoing) (acknowledged nr a.outgoing) y k
+    (λ x f. made-same a.outgoing (λ n. wait_ended (advanced a.outgoing n)) (meant a.outgoing.front a.outgoing.high nr) x f
+    (λ n. (refl, refl))) (λ x f. made-same a.outgoing (advanced a.outgoing) (meant a.outgoing.front a.outgoing.high nr) x f
+    (λ n. (refl, refl)))))
 cut-connected (Rnr command nr pf) turn a = cut-number turn nr a (λ b. pausing turn (replying (command && pf) b)) _ (λ b. refl)
-    (λ o e. then-same a.outgoing paused_at (cond (ends_wait command pf a) (replied nr a.outgoing) (acknowledged nr a.outgoing)) o e (λ x. (refl, refl)) (λ y k. either-same a.outgoing (ends_wait command pf a) (replied nr a.outgoing) (acknowledged nr a.outgoing) y k
-    (λ x f. made-same a.outgoing (λ n. wait_ended (advanced a.outgoing n)) (meant a.outgoing.front a.outgoing.high nr) x f (λ n. (refl, refl))) (λ x f. made-same a.outgoing (advanced a.outgoing) (meant a.outgoing.front a.outgoing.high nr) x f (λ n. (refl, refl)))))
-cut-connected (Rej command nr pf) turn a = cut-number turn nr a (λ b. hurrying (ends_wait command pf a) (replying (command && pf) b)) _ (λ b. refl)
-    (λ o e. then-same a.outgoing resumed (cond (ends_wait command pf a) (replied nr a.outgoing) (rejected nr a.outgoing)) o e resumed-same (λ y k. either-same a.outgoing (ends_wait command pf a) (replied nr a.outgoing) (rejected nr a.outgoing) y k
-    (λ x f. made-same a.outgoing (λ n. wait_ended (advanced a.outgoing n)) (meant a.outgoing.front a.outgoing.high nr) x f (λ n. (refl, refl))) (λ x f. made-same a.outgoing (λ n. gone_back (advanced a.outgoing n)) (meant a.outgoing.front a.outgoing.high nr) x f (λ n. (refl, refl)))))
+    (λ o e. then-same a.outgoing paused_at (cond (ends_wait command pf a) (replied nr a.outgoing) (acknowledged nr a.outgoing)) o e
+    (λ x. (refl, refl)) (λ y k. either-same a.outgoing (ends_wait command pf a) (replied nr a.outgoing) (acknowledged nr a.outgoing) y k
+    (λ x f. made-same a.outgoing (λ n. wait_ended (advanced a.outgoing n)) (meant a.outgoing.front a.outgoing.high nr) x f
+    (λ n. (refl, refl))) (λ x f. made-same a.outgoing (advanced a.outgoing) (meant a.outgoing.front a.outgoing.high nr) x f
+    (λ n. (refl, refl)))))
+cut-connected (Rej command nr pf) turn a =
+    cut-number turn nr a (λ b. hurrying (ends_wait command pf a) (replying (command && pf) b)) _ (λ b. refl)
+    (λ o e. then-same a.outgoing resumed (cond (ends_wait command pf a) (replied nr a.outgoing) (rejected nr a.outgoing)) o e resumed-same
+    (λ y k. either-same a.outgoing (ends_wait command pf a) (replied nr a.outgoing) (rejected nr a.outgoing) y k
+    (λ x f. made-same a.outgoing (λ n. wait_ended (advanced a.outgoing n)) (meant a.outgoing.front a.outgoing.high nr) x f
+    (λ n. (refl, refl))) (λ x f. made-same a.outgoing (λ n. gone_back (advanced a.outgoing n))
+    (meant a.outgoing.front a.outgoing.high nr) x f (λ n. (refl, refl)))))
 cut-connected (Srej command nr pf) turn a = go (is_outstanding a.outgoing) (meant a.outgoing.front (a.outgoing.high - 1) nr)
   where
-    go : (b : Bool) (m : Option ℕ) → HearsCut a (on_number turn nr (cond b (option_map (λ n. record a.outgoing { chosen = with_number n a.outgoing.chosen }) m) None) a)
+    go : (b : Bool) (m : Option ℕ)
+        → HearsCut a (on_number turn nr
+        (cond b (option_map (λ n. record a.outgoing { chosen = with_number n a.outgoing.chosen }) m) None) a)
     go true None = tt
     go true (Some n) = inr (refl, refl)
     go false m = tt
@@ -188,7 +208,8 @@ steps-cut turn special a =
     (else-says P (step3 a) _ (where-says P a.wait.poll _ (refl, refl))
     (else-says P (step4 turn a) _ (urgent a.wait.urgent)
     (else-says P (step5 special a) _ (breaks special a.their_breaks.ack)
-    (else-says P (step6 special a) _ (asks-for (differs a.owes.busy a.owes.busy_told && (is_originator a.setup.role || a.numbered)) a.owes.busy)
+    (else-says P (step6 special a) _
+    (asks-for (differs a.owes.busy a.owes.busy_told && (is_originator a.setup.role || a.numbered)) a.owes.busy)
     (else-says P (step7 turn a) _ (segment (may_send a))
     (else-says P (step8 a) (step9 a) (where-says P a.incoming.owed _ (refl, refl)) (refl, refl))))))))
   where
@@ -223,22 +244,33 @@ steps-cut turn special a =
     asking true true (Some n) = tt
     asking true false (Some n) = (refl, refl)
 
-    asks-for : (b c : Bool) → AllSaid (Leaves a) (cond b (Some (tells false false a)) (cond c None (says_asking a.incoming.srej special (asks a.incoming) a)))
+    asks-for : (b c : Bool)
+        → AllSaid (Leaves a) (cond b (Some (tells false false a)) (cond c None (says_asking a.incoming.srej special (asks a.incoming) a)))
     asks-for true c = (refl, refl)
     asks-for false true = tt
     asks-for false false = asking a.incoming.srej special (asks a.incoming)
 
 linked-cut : (turn : ℕ) (a : Account) → SpeaksCut a (speak_linked turn a)
-linked-cut turn a = go (then_tries turn (on_timer turn a)) (timers (timer_expires turn a a.wait.timer) (nat_eq a.outgoing.count a.outgoing.tries))
+linked-cut turn a = go (then_tries turn (on_timer turn a))
+    (timers (timer_expires turn a a.wait.timer) (nat_eq a.outgoing.count a.outgoing.tries))
   where
-    broke : (b : Account) → IsSame a.outgoing b.outgoing → (m : Option OwnBreaks) → OnOk (λ c. IsSame a.outgoing c.outgoing) (breaking turn m b)
+    broke : (b : Account) → IsSame a.outgoing b.outgoing → (m : Option OwnBreaks)
+        → OnOk (λ c. IsSame a.outgoing c.outgoing) (breaking turn m b)
     broke b s None = tt
     broke b s (Some c) = s
 
-    timers : (x spent' : Bool) → OnOk (λ c. IsSame a.outgoing c.outgoing) (then_tries turn (cond x (polling turn (cond spent' None (Some (record a.outgoing { count = a.outgoing.count + 1; awaited = true }))) a) (Ok a)))
+    timers : (x spent' : Bool)
+        → OnOk (λ c. IsSame a.outgoing c.outgoing)
+        (then_tries turn (cond x
+        (polling turn (cond spent' None (Some (record a.outgoing { count = a.outgoing.count + 1; awaited = true }))) a) (Ok a)))
     timers false s = broke a (refl, refl) (ticked turn a.setup.period a.setup.tries a.own_breaks)
     timers true true = tt
-    timers true false = broke (record a { outgoing = record a.outgoing { count = a.outgoing.count + 1; awaited = true }; wait = record a.wait { poll = true; timer = Some turn } }) (refl, refl) (ticked turn a.setup.period a.setup.tries a.own_breaks)
+    timers true false = broke
+        (record a {
+          outgoing = record a.outgoing { count = a.outgoing.count + 1; awaited = true };
+          wait =
+              record a.wait { poll = true; timer = Some turn };
+        }) (refl, refl) (ticked turn a.setup.period a.setup.tries a.own_breaks)
 
     go : (r : Result Account LinkFault) → OnOk (λ c. IsSame a.outgoing c.outgoing) r → SpeaksCut a (after_timers turn a.special r)
     go (Err fault) s = tt
@@ -247,11 +279,14 @@ linked-cut turn a = go (then_tries turn (on_timer turn a)) (timers (timer_expire
 try-cut : (turn : ℕ) (frame : Frame) (a : Account) → SpeaksCut a (u_try turn frame a)
 try-cut turn frame a = go (nat_eq turn (a.wait.try_set + a.setup.period)) (nat_eq a.wait.try_count a.setup.tries)
   where
-    by : (c : Account) → c.outgoing ≡ a.outgoing → (due : Bool) → Leaves a (else_says (where_says due (says_frame frame (record c { wait = record c.wait { try = false } }))) (says slots.Flags c))
+    by : (c : Account) → c.outgoing ≡ a.outgoing → (due : Bool)
+        → Leaves a (else_says (where_says due (says_frame frame (record c { wait = record c.wait { try = false } }))) (says slots.Flags c))
     by c e true = (ap (λ o. o.pieces) e, ap (λ o. o.size) e)
     by c e false = (ap (λ o. o.pieces) e, ap (λ o. o.size) e)
 
-    go : (due spent' : Bool) → SpeaksCut a (cond due (cond spent' (Err (spent turn a)) (Ok (tries_frame frame (trying_again turn a)))) (Ok (tries_frame frame a)))
+    go : (due spent' : Bool)
+        → SpeaksCut a (cond due (cond spent' (Err (spent turn a)) (Ok (tries_frame frame (trying_again turn a))))
+        (Ok (tries_frame frame a)))
     go false s = by a refl a.wait.try
     go true true = tt
     go true false = by (trying_again turn a) refl true
@@ -301,7 +336,8 @@ piece-within s k file octet octets e =
     (omega (arith, one, length-take s (drop k file)), omega (arith, one, length-take s (drop k file), length-drop k file))
 
 offer-within : (file : List ℕ) (a : Account) → IsCut file a → IsCut file (offered_at file a (wants a))
-offer-within file a h = go (is_connected a.phase) refl (not a.outgoing.ended && nat_lt (length a.outgoing.pieces) (a.outgoing.front + a.outgoing.window))
+offer-within file a h =
+    go (is_connected a.phase) refl (not a.outgoing.ended && nat_lt (length a.outgoing.pieces) (a.outgoing.front + a.outgoing.window))
   where
     size : ℕ
     size = a.outgoing.size
@@ -310,23 +346,28 @@ offer-within file a h = go (is_connected a.phase) refl (not a.outgoing.ended && 
     offered-piece [] e = record { sized = h.sized; last = h.last }
     offered-piece (octet ∷ octets) e =
         let k = piece-within size (size * length a.outgoing.pieces) file octet octets e in
-        let longer : length (a.outgoing.pieces ++ (octet ∷ octets) ∷ []) ≡ length a.outgoing.pieces + 1 = omega (arith, length-append {A = List ℕ}) in
+        let longer : length (a.outgoing.pieces ++ (octet ∷ octets) ∷ []) ≡ length a.outgoing.pieces + 1 =
+        omega (arith, length-append {A = List ℕ}) in
         let last : length (a.outgoing.pieces ++ (octet ∷ octets) ∷ []) - 1 ≡ length a.outgoing.pieces = omega (arith, longer) in
         record { sized = λ some. k.0; last = λ some. subst (λ n. size * n < length file) (sym last) k.1 }
 
-    go : (c : Bool) → is_connected a.phase ≡ c → (w : Bool) → IsCut file (offered_at file a (cond c (cond w (Some (length a.outgoing.pieces)) None) None))
+    go : (c : Bool) → is_connected a.phase ≡ c → (w : Bool)
+        → IsCut file (offered_at file a (cond c (cond w (Some (length a.outgoing.pieces)) None) None))
     go false e w = h
     go true e false = h
-    go true e true = subst (λ s. IsCut file (after_offer (take s (drop (s * length a.outgoing.pieces) file)) a)) (sym (ap (λ c. cond c size 0) e)) (offered-piece _ refl)
+    go true e true = subst (λ s. IsCut file (after_offer (take s (drop (s * length a.outgoing.pieces) file)) a))
+        (sym (ap (λ c. cond c size 0) e)) (offered-piece _ refl)
 
 offers-within : (n : ℕ) (file : List ℕ) (a : Account) → IsCut file a → IsCut file (offered_times n file a)
 offers-within zero file a h = h
 offers-within (suc n) file a h = offers-within n file (offered_at file a (wants a)) (offer-within file a h)
 
-served-within : (user : User) (turn : ℕ) (released : Bool) (a : Account) → IsCut user.file a → IsCut user.file (served_account user turn released a)
+served-within : (user : User) (turn : ℕ) (released : Bool) (a : Account) → IsCut user.file a
+    → IsCut user.file (served_account user turn released a)
 served-within user turn released a h = asks released
   where
-    given : (c : Bool) → IsCut user.file (after_given (cond c (record a { incoming = record a.incoming { given = length a.incoming.taken } }) a))
+    given : (c : Bool) → IsCut user.file
+        (after_given (cond c (record a { incoming = record a.incoming { given = length a.incoming.taken } }) a))
     given true = h
     given false = h
 
@@ -378,24 +419,31 @@ within-same file o new s h =
     let fewer : 1 ≤ length new.pieces → 1 ≤ length o.pieces = λ some. subst (λ l. 1 ≤ length l) s.0 some in
     record {
       sized = λ some. subst (λ n. 1 ≤ n) (sym s.1) (h.sized (fewer some));
-      last = λ some. subst (λ n. n * (length new.pieces - 1) < length file) (sym s.1) (subst (λ l. o.size * (length l - 1) < length file) (sym s.0) (h.last (fewer some)));
+      last = λ some. subst (λ n. n * (length new.pieces - 1) < length file) (sym s.1)
+          (subst (λ l. o.size * (length l - 1) < length file) (sym s.0) (h.last (fewer some)));
     }
 
-end-within : (user : User) (turn : ℕ) (arrived : Arrived) (a mid : Account) (released release : Bool) (said : Said) → hear turn arrived a ≡ Ok mid → speak turn release (served_account user turn released mid) ≡ Ok said → IsCut user.file a → IsCut user.file said.account
+end-within : (user : User) (turn : ℕ) (arrived : Arrived) (a mid : Account) (released release : Bool) (said : Said)
+    → hear turn arrived a ≡ Ok mid → speak turn release (served_account user turn released mid) ≡ Ok said → IsCut user.file a
+    → IsCut user.file said.account
 end-within user turn arrived a mid released release said hears speaks h =
     let b : Account = served_account user turn released mid in
-    within-same user.file b.outgoing said.account.outgoing (leaves-ok b said (speak turn release b) speaks (speaks-cut turn release b)) (served-within user turn released mid (heard (cut-ok a mid (hear turn arrived a) hears (cut-hears arrived turn a))))
+    within-same user.file b.outgoing said.account.outgoing (leaves-ok b said (speak turn release b) speaks (speaks-cut turn release b))
+    (served-within user turn released mid (heard (cut-ok a mid (hear turn arrived a) hears (cut-hears arrived turn a))))
   where
     heard : SameCut a mid → IsCut user.file mid
     heard (inl none) = none-within user.file mid.outgoing (ap (λ l. length l) none)
     heard (inr same) = within-same user.file a.outgoing mid.outgoing same h
 
-pub within-run : (link : Link) (ts : List Turn) (s : State) → RunOf link ts s → IsCut link.orig.user.file s.orig × IsCut link.answ.user.file s.answ
+pub within-run : (link : Link) (ts : List Turn) (s : State) → RunOf link ts s
+    → IsCut link.orig.user.file s.orig × IsCut link.answ.user.file s.answ
 within-run link [] s run = subst (λ x. IsCut link.orig.user.file x.orig × IsCut link.answ.user.file x.answ) (sym run)
     (none-within link.orig.user.file (start link).orig.outgoing refl, none-within link.answ.user.file (start link).answ.outgoing refl)
 within-run link (t ∷ ts) s (before, run, g) =
     let h = within-run link ts before run in
     subst (λ x. IsCut link.orig.user.file x.orig × IsCut link.answ.user.file x.answ) (sym (after-is link (length ts) before t s g)) (
-      end-within link.orig.user (length ts) (arrival link.answ.delay t.orig_loses before.back) before.orig g.orig_mid (is_released g.orig_mid.phase) _ g.orig_said g.orig_hears g.orig_says h.0,
-      end-within link.answ.user (length ts) (arrival link.orig.delay t.answ_loses before.forward) before.answ g.answ_mid (is_released g.orig_mid.phase) false g.answ_said g.answ_hears g.answ_says h.1,
+      end-within link.orig.user (length ts) (arrival link.answ.delay t.orig_loses before.back) before.orig g.orig_mid
+          (is_released g.orig_mid.phase) _ g.orig_said g.orig_hears g.orig_says h.0,
+      end-within link.answ.user (length ts) (arrival link.orig.delay t.answ_loses before.forward) before.answ g.answ_mid
+          (is_released g.orig_mid.phase) false g.answ_said g.answ_hears g.answ_says h.1,
     )

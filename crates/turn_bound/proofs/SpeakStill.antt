@@ -31,7 +31,8 @@ where-by P false said h = tt
 
 -- what is due but for a segment
 abbrev pub base : Account → ℕ
-base a = two_if (is_some a.owes.answer) + two_if a.owes.reply + two_if (is_some a.their_breaks.ack) + two_if a.incoming.rej + four_if a.wait.poll + two_if a.owes.busy_told
+base a = two_if (is_some a.owes.answer) + two_if a.owes.reply + two_if
+    (is_some a.their_breaks.ack) + two_if a.incoming.rej + four_if a.wait.poll + two_if a.owes.busy_told
 
 -- A Connected account whose timers are done, with nothing waited for.
 pub record Idle (z : Rates) (total turn : ℕ) (role : Role) (a : Account) : Type 0 where
@@ -46,7 +47,9 @@ pub record Idle (z : Rates) (total turn : ℕ) (role : Role) (a : Account) : Typ
 -- what is said pays for it
 abbrev pub Pays : ℕ → Account → Bool → Said → Type 0
 Pays total a special said =
-    is_waiting said.account.outgoing ≡ false → dues total said.account + weight said.sent + one_if (is_free total a.outgoing) ≤ base a + one_if (is_free total a.outgoing && not special)
+    is_waiting said.account.outgoing ≡ false
+    → dues total said.account + weight said.sent + one_if (is_free total a.outgoing) ≤ base a + one_if
+    (is_free total a.outgoing && not special)
 
 one-most : (b : Bool) → one_if b ≤ 1
 one-most true = omega arith
@@ -70,7 +73,8 @@ ready-weight true command pf nr = refl
 ready-weight false command pf nr = refl
 
 -- a segment makes the end wait
-never-sent : (z : Rates) (total turn : ℕ) (role : Role) (a : Account) (special : Bool) → AreRates z → Idle z total turn role a → AllSaid (Pays total a special) (says_segment turn (may_send a) a)
+never-sent : (z : Rates) (total turn : ℕ) (role : Role) (a : Account) (special : Bool) → AreRates z → Idle z total turn role a
+    → AllSaid (Pays total a special) (says_segment turn (may_send a) a)
 never-sent z total turn role a special y h = go (may_send a) (allowed (is_originator a.setup.role || a.numbered))
   where
     allowed : (b : Bool) (n : ℕ) → cond b (next_number a.outgoing) None ≡ Some n → next_number a.outgoing ≡ Some n
@@ -79,10 +83,12 @@ never-sent z total turn role a special y h = go (may_send a) (allowed (is_origin
 
     go : (m : Option ℕ) → ((n : ℕ) → m ≡ Some n → next_number a.outgoing ≡ Some n) → AllSaid (Pays total a special) (says_segment turn m a)
     go None f = tt
-    go (Some n) f = λ w. let s = sent-well z total turn a.outgoing a.wait.timer n y h.linked.sends h.all (f n refl) in let wrong : true ≡ false = sym s.waits ∙ w in cc
+    go (Some n) f = λ w. let s = sent-well z total turn a.outgoing a.wait.timer n y h.linked.sends h.all (f n refl) in
+        let wrong : true ≡ false = sym s.waits ∙ w in cc
 
 -- where none can be sent nothing is free
-none-free : (z : Rates) (total turn : ℕ) (role : Role) (a : Account) → Idle z total turn role a → may_send a ≡ None → is_free total a.outgoing ≡ false
+none-free : (z : Rates) (total turn : ℕ) (role : Role) (a : Account) → Idle z total turn role a → may_send a ≡ None
+    → is_free total a.outgoing ≡ false
 none-free z total turn role a h e = go (is_free total a.outgoing) refl
   where
     o : Outgoing
@@ -112,7 +118,8 @@ none-free z total turn role a h e = go (is_free total a.outgoing) refl
         let from : o.from ≡ o.front = omega (arith, s.front_from, s.from_high, le) in
         let one : nat_lt o.from (length o.pieces) ≡ true = let m = h.more less in grind (arith, nat_tests, from, m) in
         let two : nat_lt o.from (o.front + o.window) ≡ true = let w = s.window in grind (arith, nat_tests, from, w) in
-        let among : next_among o.chosen o ≡ Some o.from = ap (λ l. next_among l o) (nothing-chosen o.chosen s.chosen le) ∙ rw (one, two) refl in
+        let among : next_among o.chosen o ≡ Some o.from =
+        ap (λ l. next_among l o) (nothing-chosen o.chosen s.chosen le) ∙ rw (one, two) refl in
         let next : next_number o ≡ Some o.from = ap (λ b. cond b None (next_among o.chosen o)) parts.1 ∙ among in
         let wrong : None ≡ Some o.from = sym e ∙ (ap (λ b. cond b (next_number o) None) h.may ∙ next) in cc
 
@@ -127,22 +134,47 @@ pays-1 total a special f = go a.owes.answer refl
 
     go : (m : Option Answer) → a.owes.answer ≡ m → AllSaid (Pays total a special) (answering m a)
     go None e = tt
-    go (Some answer) e = λ w. omega (arith, light answer, ap (λ m. two_if (is_some m)) e, one-less (is_free total a.outgoing) (not a.special), one-most (is_free total a.outgoing))
+    go (Some answer) e = λ w. omega (
+      arith,
+      light answer,
+      ap (λ m. two_if (is_some m)) e,
+      one-less (is_free total a.outgoing) (not a.special),
+      one-most (is_free total a.outgoing),
+    )
 
-pays-tells : (total : ℕ) (a b : Account) (special command pf : Bool) → a.owes.busy ≡ false → b.owes.busy ≡ a.owes.busy → b.outgoing ≡ a.outgoing → base (record b { owes = record b.owes { busy_told = false } }) + two_if (command && pf) + 2 ≤ base a → Pays total a special (tells command pf b)
+pays-tells : (total : ℕ) (a b : Account) (special command pf : Bool) → a.owes.busy ≡ false → b.owes.busy ≡ a.owes.busy
+    → b.outgoing ≡ a.outgoing → base (record b { owes = record b.owes { busy_told = false } }) + two_if (command && pf) + 2 ≤ base a
+    → Pays total a special (tells command pf b)
 pays-tells total a b special command pf f g o less = λ w.
-    omega (arith, less, ready-weight b.owes.busy command pf (nr_of b), one-less (is_free total b.outgoing) (not b.special), one-most (is_free total b.outgoing), ap two_if (g ∙ f), ap (λ x. one_if (is_free total x)) o)
+    omega (
+      arith,
+      less,
+      ready-weight b.owes.busy command pf (nr_of b),
+      one-less (is_free total b.outgoing) (not b.special),
+      one-most (is_free total b.outgoing),
+      ap two_if (g ∙ f),
+      ap (λ x. one_if (is_free total x)) o,
+    )
 
 pays-2 : (total : ℕ) (a : Account) (special : Bool) → a.owes.busy ≡ false → AllSaid (Pays total a special) (step2 a)
-pays-2 total a special f = where-by (Pays total a special) a.owes.reply _ (λ e. pays-tells total a (record a { owes = record a.owes { reply = false } }) special false true f refl refl (omega (arith, ap two_if e)))
+pays-2 total a special f =
+    where-by (Pays total a special) a.owes.reply _
+    (λ e. pays-tells total a (record a { owes = record a.owes { reply = false } }) special false true f refl refl
+    (omega (arith, ap two_if e)))
 
 pays-3 : (total : ℕ) (a : Account) (special : Bool) → a.owes.busy ≡ false → AllSaid (Pays total a special) (step3 a)
-pays-3 total a special f = where-by (Pays total a special) a.wait.poll _ (λ e. pays-tells total a (record a { wait = record a.wait { poll = false } }) special true true f refl refl (omega (arith, ap four_if e)))
+pays-3 total a special f =
+    where-by (Pays total a special) a.wait.poll _
+    (λ e. pays-tells total a (record a { wait = record a.wait { poll = false } }) special true true f refl refl
+    (omega (arith, ap four_if e)))
 
-pays-5 : (z : Rates) (total turn : ℕ) (role : Role) (a : Account) (special : Bool) → Idle z total turn role a → AllSaid (Pays total a special) (step5 special a)
+pays-5 : (z : Rates) (total turn : ℕ) (role : Role) (a : Account) (special : Bool) → Idle z total turn role a
+    → AllSaid (Pays total a special) (step5 special a)
 pays-5 z total turn role a special h = go special a.their_breaks.ack refl h.linked.ack
   where
-    none-due : (b : Bool) → b ≡ false → AllSaid (Pays total a special) (says_own (cond b (Some (Brk (a.own_breaks.answered % 2) (slice_index_or a.own_breaks.lengths a.own_breaks.answered 0))) None) a)
+    none-due : (b : Bool) → b ≡ false
+        → AllSaid (Pays total a special)
+        (says_own (cond b (Some (Brk (a.own_breaks.answered % 2) (slice_index_or a.own_breaks.lengths a.own_breaks.answered 0))) None) a)
     none-due true e = cc
     none-due false e = tt
 
@@ -153,14 +185,22 @@ pays-5 z total turn role a special h = go special a.their_breaks.ack refl h.link
         by true = refl
         by false = refl
 
-    go : (b : Bool) (m : Option BreakWord) → a.their_breaks.ack ≡ m → IsAck m → AllSaid (Pays total a special) (cond b None (says_break m a))
+    go : (b : Bool) (m : Option BreakWord) → a.their_breaks.ack ≡ m → IsAck m
+        → AllSaid (Pays total a special) (cond b None (says_break m a))
     go true m e i = tt
     go false None e i = none-due a.own_breaks.brk h.brk
     go false (Some (Ack number length_octet)) e i = λ w.
-        omega (arith, ack-weight number length_octet, ap (λ m. two_if (is_some m)) e, one-none (is_free total a.outgoing), one-most (is_free total a.outgoing))
+        omega (
+          arith,
+          ack-weight number length_octet,
+          ap (λ m. two_if (is_some m)) e,
+          one-none (is_free total a.outgoing),
+          one-most (is_free total a.outgoing),
+        )
     go false (Some (Brk number length_octet)) e i = absurd i
 
-pays-6 : (total : ℕ) (a : Account) (special : Bool) → a.special ≡ false → a.owes.busy ≡ false → is_originator a.setup.role || a.numbered ≡ true → AllSaid (Pays total a special) (step6 special a)
+pays-6 : (total : ℕ) (a : Account) (special : Bool) → a.special ≡ false → a.owes.busy ≡ false
+    → is_originator a.setup.role || a.numbered ≡ true → AllSaid (Pays total a special) (step6 special a)
 pays-6 total a special s f may = go (differs a.owes.busy a.owes.busy_told && (is_originator a.setup.role || a.numbered)) refl a.owes.busy f
   where
     told : (busy busy_told may' : Bool) → busy ≡ false → differs busy busy_told && may' ≡ true → busy_told ≡ true
@@ -171,16 +211,20 @@ pays-6 total a special s f may = go (differs a.owes.busy a.owes.busy_told && (is
     asks-rej : (i : Incoming) (n : ℕ) → i.srej ≡ false → asks i ≡ Some n → i.rej ≡ true
     asks-rej i n e g = by i.srej e i.rej g
       where
-        by : (b : Bool) → b ≡ false → (r : Bool) → cond b (first_outside i.asked (missing_from (length i.taken) i.held)) (cond r (Some (length i.taken)) None) ≡ Some n → r ≡ true
+        by : (b : Bool) → b ≡ false → (r : Bool)
+            → cond b (first_outside i.asked (missing_from (length i.taken) i.held)) (cond r (Some (length i.taken)) None) ≡ Some n
+            → r ≡ true
         by true e r g = cc
         by false e true g = refl
         by false e false g = cc
 
-    rej-after : (i : Incoming) (n : ℕ) (b : Bool) → (cond b (record i { asked = i.asked ++ n ∷ [] }) (record i { rej = false })).rej ≡ cond b i.rej false
+    rej-after : (i : Incoming) (n : ℕ) (b : Bool)
+        → (cond b (record i { asked = i.asked ++ n ∷ [] }) (record i { rej = false })).rej ≡ cond b i.rej false
     rej-after i n true = refl
     rej-after i n false = refl
 
-    asking : (srej special' : Bool) → a.incoming.srej ≡ srej → special ≡ special' → (m : Option ℕ) → asks a.incoming ≡ m → AllSaid (Pays total a special) (says_asking srej special' m a)
+    asking : (srej special' : Bool) → a.incoming.srej ≡ srej → special ≡ special' → (m : Option ℕ) → asks a.incoming ≡ m
+        → AllSaid (Pays total a special) (says_asking srej special' m a)
     asking srej special' e g None k = tt
     asking false special' e g (Some n) k = λ w.
         omega (
@@ -201,17 +245,26 @@ pays-6 total a special s f may = go (differs a.owes.busy a.owes.busy_told && (is
         )
 
     go : (b : Bool) → differs a.owes.busy a.owes.busy_told && (is_originator a.setup.role || a.numbered) ≡ b → (c : Bool) → c ≡ false
-        → AllSaid (Pays total a special) (cond b (Some (tells false false a)) (cond c None (says_asking a.incoming.srej special (asks a.incoming) a)))
-    go true e c g = pays-tells total a a special false false f refl refl (omega (arith, ap two_if (told a.owes.busy a.owes.busy_told (is_originator a.setup.role || a.numbered) f e)))
+        → AllSaid (Pays total a special)
+        (cond b (Some (tells false false a)) (cond c None (says_asking a.incoming.srej special (asks a.incoming) a)))
+    go true e c g = pays-tells total a a special false false f refl refl
+        (omega (arith, ap two_if (told a.owes.busy a.owes.busy_told (is_originator a.setup.role || a.numbered) f e)))
     go false e true g = cc
     go false e false g = asking a.incoming.srej special refl refl (asks a.incoming) refl
 
 two-most : (b : Bool) → 0 ≤ two_if b
 two-most b = omega arith
 
-pays-8 : (total : ℕ) (a : Account) (special : Bool) → a.special ≡ false → a.owes.busy ≡ false → is_free total a.outgoing ≡ false → AllSaid (Pays total a special) (step8 a)
+pays-8 : (total : ℕ) (a : Account) (special : Bool) → a.special ≡ false → a.owes.busy ≡ false → is_free total a.outgoing ≡ false
+    → AllSaid (Pays total a special) (step8 a)
 pays-8 total a special s f free = where-by (Pays total a special) a.incoming.owed _ (λ e w.
-    omega (arith, ready-weight a.owes.busy false false (nr_of a), ap two_if f, ap one_if free, one-less (is_free total a.outgoing) (not a.special)))
+    omega (
+      arith,
+      ready-weight a.owes.busy false false (nr_of a),
+      ap two_if f,
+      ap one_if free,
+      one-less (is_free total a.outgoing) (not a.special),
+    ))
 
 pays-9 : (total : ℕ) (a : Account) (special : Bool) → is_free total a.outgoing ≡ false → Pays total a special (step9 a)
 pays-9 total a special free = λ w. omega (arith, ap one_if free, one-less (is_free total a.outgoing) (not a.special))
@@ -221,7 +274,8 @@ none-said turn None a e = refl
 none-said turn (Some n) a e = cc
 
 -- Whatever is said pays for itself, and for a segment that is held up.
-pub steps-pay : (z : Rates) (total turn : ℕ) (role : Role) (a : Account) (special : Bool) → AreRates z → Idle z total turn role a → a.special ≡ false → Pays total a special (steps turn special a)
+pub steps-pay : (z : Rates) (total turn : ℕ) (role : Role) (a : Account) (special : Bool) → AreRates z → Idle z total turn role a
+    → a.special ≡ false → Pays total a special (steps turn special a)
 steps-pay z total turn role a special y h s =
     let P : Said → Type 0 = Pays total a special in
     else-by P (step1 a) _ (pays-1 total a special s) (λ e1.

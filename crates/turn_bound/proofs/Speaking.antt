@@ -39,7 +39,8 @@ pub record Timed (z : Rates) (total breaks turn : ℕ) (role : Role) (a b : Acco
 pub record Stepped (z : Rates) (total breaks turn : ℕ) (role : Role) (a b : Account) : Type 0 where
   pub sends : Sends z (turn + 1) (turn + 1) b.outgoing b.wait.timer
   pub waits : is_waiting a.outgoing ≡ true → is_waiting b.outgoing ≡ true
-  pub falls : sender_value z total (turn + 1) b.outgoing b.wait.timer + cond (is_waiting a.outgoing) 0 (cond (is_waiting b.outgoing) (z.room + 1) 0) ≤ sender_value z total (turn + 1) a.outgoing a.wait.timer
+  pub falls : sender_value z total (turn + 1) b.outgoing b.wait.timer + cond (is_waiting a.outgoing) 0
+      (cond (is_waiting b.outgoing) (z.room + 1) 0) ≤ sender_value z total (turn + 1) a.outgoing a.wait.timer
   pub own : Breaks z (turn + 1) (turn + 1) b.own_breaks
   pub breaking : is_breaking (turn + 1) b.own_breaks ≡ is_breaking (turn + 1) a.own_breaks
   pub left : break_left z (turn + 1) b.own_breaks ≡ break_left z (turn + 1) a.own_breaks
@@ -64,20 +65,32 @@ nothing-falls v k true = omega arith
 nothing-falls v k false = omega arith
 
 -- a frame that leaves the sender's part and the breaks as they are
-quiet-step : (z : Rates) (total breaks turn : ℕ) (role : Role) (a b : Account) → Linked z (turn + 1) (turn + 1) role a → b.outgoing ≡ a.outgoing → b.wait.timer ≡ a.wait.timer → b.own_breaks ≡ a.own_breaks → IsAck b.their_breaks.ack
+quiet-step : (z : Rates) (total breaks turn : ℕ) (role : Role) (a b : Account) → Linked z (turn + 1) (turn + 1) role a
+    → b.outgoing ≡ a.outgoing → b.wait.timer ≡ a.wait.timer → b.own_breaks ≡ a.own_breaks → IsAck b.their_breaks.ack
     → b.numbered ≡ a.numbered → b.phase ≡ a.phase → b.setup ≡ a.setup → Stepped z total breaks turn role a b
 quiet-step z total breaks turn role a b h outgoing timer own ack numbered phase setup = record {
-  sends = subst (λ o. Sends z (turn + 1) (turn + 1) o b.wait.timer) (sym outgoing) (subst (Sends z (turn + 1) (turn + 1) a.outgoing) (sym timer) h.sends);
+  sends = subst (λ o. Sends z (turn + 1) (turn + 1) o b.wait.timer) (sym outgoing)
+      (subst (Sends z (turn + 1) (turn + 1) a.outgoing) (sym timer) h.sends);
   waits = λ w. ap is_waiting outgoing ∙ w;
-  falls = subst (λ o. sender_value z total (turn + 1) o b.wait.timer + cond (is_waiting a.outgoing) 0 (cond (is_waiting o) (z.room + 1) 0) ≤ sender_value z total (turn + 1) a.outgoing a.wait.timer) (sym outgoing)
-      (subst (λ r. sender_value z total (turn + 1) a.outgoing r + cond (is_waiting a.outgoing) 0 (cond (is_waiting a.outgoing) (z.room + 1) 0) ≤ sender_value z total (turn + 1) a.outgoing a.wait.timer) (sym timer)
+  falls = subst (λ o. sender_value z total (turn + 1) o b.wait.timer + cond (is_waiting a.outgoing) 0
+      (cond (is_waiting o) (z.room + 1) 0) ≤ sender_value z total (turn + 1) a.outgoing a.wait.timer) (sym outgoing)
+      (subst (λ r. sender_value z total (turn + 1) a.outgoing r + cond (is_waiting a.outgoing) 0
+      (cond (is_waiting a.outgoing) (z.room + 1) 0) ≤ sender_value z total (turn + 1) a.outgoing a.wait.timer) (sym timer)
       (nothing-falls (sender_value z total (turn + 1) a.outgoing a.wait.timer) z.room (is_waiting a.outgoing)));
   own = subst (Breaks z (turn + 1) (turn + 1)) (sym own) h.breaks;
   breaking = ap (is_breaking (turn + 1)) own;
   left = ap (break_left z (turn + 1)) own;
   ack = ack;
   silent = silent-same role h.silent;
-  same = record { setup = setup; phase = phase; numbered = numbered; pieces = ap (λ o. o.pieces) outgoing; ended = ap (λ o. o.ended) outgoing; lengths = ap (λ o. o.lengths) own };
+  same = record {
+    setup = setup;
+    phase = phase;
+    numbered = numbered;
+    pieces = ap (λ o. o.pieces) outgoing;
+    ended =
+        ap (λ o. o.ended) outgoing;
+    lengths = ap (λ o. o.lengths) own;
+  };
 }
   where
     silent-same : (r : Role) → IsSilent r a → IsSilent r b
@@ -85,17 +98,22 @@ quiet-step z total breaks turn role a b h outgoing timer own ack numbered phase 
     silent-same Answerer s = λ n. let k = s (sym numbered ∙ n) in (ap (λ o. o.high) outgoing ∙ k.0, timer ∙ k.1)
 
 -- an I frame
-segment-step : (z : Rates) (total breaks turn : ℕ) (role : Role) (a : Account) → AreRates z → Linked z (turn + 1) (turn + 1) role a → a.setup.role ≡ role → length a.outgoing.pieces ≤ total
+segment-step : (z : Rates) (total breaks turn : ℕ) (role : Role) (a : Account) → AreRates z → Linked z (turn + 1) (turn + 1) role a
+    → a.setup.role ≡ role → length a.outgoing.pieces ≤ total
     → AllSaid (λ s. Stepped z total breaks turn role a s.account) (says_segment turn (may_send a) a)
 segment-step z total breaks turn role a y h er all = go (may_send a) (λ n e. allowed (is_originator a.setup.role || a.numbered) refl n e)
   where
-    allowed : (b : Bool) → is_originator a.setup.role || a.numbered ≡ b → (n : ℕ) → cond b (next_number a.outgoing) None ≡ Some n → (next_number a.outgoing ≡ Some n) × (is_originator a.setup.role || a.numbered ≡ true)
+    allowed : (b : Bool) → is_originator a.setup.role || a.numbered ≡ b → (n : ℕ) → cond b (next_number a.outgoing) None ≡ Some n
+        → (next_number a.outgoing ≡ Some n) × (is_originator a.setup.role || a.numbered ≡ true)
     allowed true f n e = (e, f)
     allowed false f n e = cc
 
-    heard-of : (r : Role) → a.setup.role ≡ r → is_originator a.setup.role || a.numbered ≡ true → (b : Account) → b.numbered ≡ a.numbered → IsSilent r b
+    heard-of : (r : Role) → a.setup.role ≡ r → is_originator a.setup.role || a.numbered ≡ true → (b : Account) → b.numbered ≡ a.numbered
+        → IsSilent r b
     heard-of Originator f g b e = tt
-    heard-of Answerer f g b e = λ n. let none : is_originator a.setup.role ≡ false = ap is_originator f in let wrong : false || false ≡ true = subst (λ k. k || false ≡ true) none (subst (λ k. is_originator a.setup.role || k ≡ true) (sym e ∙ n) g) in cc
+    heard-of Answerer f g b e = λ n. let none : is_originator a.setup.role ≡ false = ap is_originator f in
+        let wrong : false || false ≡ true =
+        subst (λ k. k || false ≡ true) none (subst (λ k. is_originator a.setup.role || k ≡ true) (sym e ∙ n) g) in cc
 
     sent-pieces : (o : Outgoing) → ((after_next o).pieces ≡ o.pieces) × ((after_next o).ended ≡ o.ended)
     sent-pieces o = by o.chosen
@@ -104,7 +122,8 @@ segment-step z total breaks turn role a y h er all = go (may_send a) (λ n e. al
         by [] = (refl, refl)
         by (n ∷ l) = (refl, refl)
 
-    go : (m : Option ℕ) → ((n : ℕ) → m ≡ Some n → (next_number a.outgoing ≡ Some n) × (is_originator a.setup.role || a.numbered ≡ true)) → AllSaid (λ s. Stepped z total breaks turn role a s.account) (says_segment turn m a)
+    go : (m : Option ℕ) → ((n : ℕ) → m ≡ Some n → (next_number a.outgoing ≡ Some n) × (is_originator a.setup.role || a.numbered ≡ true))
+        → AllSaid (λ s. Stepped z total breaks turn role a s.account) (says_segment turn m a)
     go None f = tt
     go (Some n) f =
         let g = f n refl in
@@ -112,34 +131,47 @@ segment-step z total breaks turn role a y h er all = go (may_send a) (λ n e. al
         record {
           sends = s.sends;
           waits = λ w. s.waits;
-          falls = subst (λ l. sender_value z total (turn + 1) (after_next a.outgoing) (running turn a.wait.timer) + cond (is_waiting a.outgoing) 0 (cond l (z.room + 1) 0) ≤ sender_value z total (turn + 1) a.outgoing a.wait.timer) (sym s.waits) s.falls;
+          falls = subst (λ l. sender_value z total (turn + 1) (after_next a.outgoing) (running turn a.wait.timer) + cond
+              (is_waiting a.outgoing) 0 (cond l (z.room + 1) 0) ≤ sender_value z total (turn + 1) a.outgoing a.wait.timer)
+              (sym s.waits) s.falls;
           own = h.breaks;
           breaking = refl;
           left = refl;
           ack = h.ack;
           silent = heard-of role er g.1 _ refl;
-          same = record { setup = refl; phase = refl; numbered = refl; pieces = (sent-pieces a.outgoing).0; ended = (sent-pieces a.outgoing).1; lengths = refl };
+          same = record {
+            setup = refl;
+            phase = refl;
+            numbered = refl;
+            pieces = (sent-pieces a.outgoing).0;
+            ended =
+                (sent-pieces a.outgoing).1;
+            lengths = refl;
+          };
         }
 
 -- the steps
 abbrev pub Steps : Rates → ℕ → ℕ → ℕ → Role → Account → Said → Type 0
 Steps z total breaks turn role a s = Stepped z total breaks turn role a s.account
 
-step-1 : (z : Rates) (total breaks turn : ℕ) (role : Role) (a : Account) → Linked z (turn + 1) (turn + 1) role a → AllSaid (Steps z total breaks turn role a) (step1 a)
+step-1 : (z : Rates) (total breaks turn : ℕ) (role : Role) (a : Account) → Linked z (turn + 1) (turn + 1) role a
+    → AllSaid (Steps z total breaks turn role a) (step1 a)
 step-1 z total breaks turn role a h = go a.owes.answer
   where
     go : (m : Option Answer) → AllSaid (Steps z total breaks turn role a) (answering m a)
     go None = tt
     go (Some answer) = quiet-step z total breaks turn role a _ h refl refl refl h.ack refl refl refl
 
-step-4 : (z : Rates) (total breaks turn : ℕ) (role : Role) (a : Account) → AreRates z → Linked z (turn + 1) (turn + 1) role a → a.setup.role ≡ role → length a.outgoing.pieces ≤ total → AllSaid (Steps z total breaks turn role a) (step4 turn a)
+step-4 : (z : Rates) (total breaks turn : ℕ) (role : Role) (a : Account) → AreRates z → Linked z (turn + 1) (turn + 1) role a
+    → a.setup.role ≡ role → length a.outgoing.pieces ≤ total → AllSaid (Steps z total breaks turn role a) (step4 turn a)
 step-4 z total breaks turn role a y h er all = go a.wait.urgent
   where
     go : (b : Bool) → AllSaid (Steps z total breaks turn role a) (cond b (says_segment turn (may_send a) a) None)
     go true = segment-step z total breaks turn role a y h er all
     go false = tt
 
-step-5 : (z : Rates) (total breaks turn : ℕ) (role : Role) (a : Account) (special : Bool) → Linked z (turn + 1) (turn + 1) role a → AllSaid (Steps z total breaks turn role a) (step5 special a)
+step-5 : (z : Rates) (total breaks turn : ℕ) (role : Role) (a : Account) (special : Bool) → Linked z (turn + 1) (turn + 1) role a
+    → AllSaid (Steps z total breaks turn role a) (step5 special a)
 step-5 z total breaks turn role a special h = go special a.their_breaks.ack
   where
     own : (m : Option BreakWord) → AllSaid (Steps z total breaks turn role a) (says_own m a)
@@ -165,8 +197,10 @@ step-5 z total breaks turn role a special h = go special a.their_breaks.ack
     go false None = own (own_due a.own_breaks)
     go false (Some word) = quiet-step z total breaks turn role a _ h refl refl refl tt refl refl refl
 
-step-6 : (z : Rates) (total breaks turn : ℕ) (role : Role) (a : Account) (special : Bool) → Linked z (turn + 1) (turn + 1) role a → AllSaid (Steps z total breaks turn role a) (step6 special a)
-step-6 z total breaks turn role a special h = go (differs a.owes.busy a.owes.busy_told && (is_originator a.setup.role || a.numbered)) a.owes.busy
+step-6 : (z : Rates) (total breaks turn : ℕ) (role : Role) (a : Account) (special : Bool) → Linked z (turn + 1) (turn + 1) role a
+    → AllSaid (Steps z total breaks turn role a) (step6 special a)
+step-6 z total breaks turn role a special h =
+    go (differs a.owes.busy a.owes.busy_told && (is_originator a.setup.role || a.numbered)) a.owes.busy
   where
     asking : (srej special : Bool) (m : Option ℕ) → AllSaid (Steps z total breaks turn role a) (says_asking srej special m a)
     asking srej special None = tt
@@ -174,12 +208,14 @@ step-6 z total breaks turn role a special h = go (differs a.owes.busy a.owes.bus
     asking true true (Some n) = tt
     asking true false (Some n) = quiet-step z total breaks turn role a _ h refl refl refl h.ack refl refl refl
 
-    go : (b c : Bool) → AllSaid (Steps z total breaks turn role a) (cond b (Some (tells false false a)) (cond c None (says_asking a.incoming.srej special (asks a.incoming) a)))
+    go : (b c : Bool) → AllSaid (Steps z total breaks turn role a)
+        (cond b (Some (tells false false a)) (cond c None (says_asking a.incoming.srej special (asks a.incoming) a)))
     go true c = quiet-step z total breaks turn role a _ h refl refl refl h.ack refl refl refl
     go false true = tt
     go false false = asking a.incoming.srej special (asks a.incoming)
 
-pub steps-well : (z : Rates) (total breaks turn : ℕ) (role : Role) (a : Account) (special : Bool) → AreRates z → Linked z (turn + 1) (turn + 1) role a → a.setup.role ≡ role → length a.outgoing.pieces ≤ total
+pub steps-well : (z : Rates) (total breaks turn : ℕ) (role : Role) (a : Account) (special : Bool) → AreRates z
+    → Linked z (turn + 1) (turn + 1) role a → a.setup.role ≡ role → length a.outgoing.pieces ≤ total
     → Steps z total breaks turn role a (steps turn special a)
 steps-well z total breaks turn role a special y h er all =
     let P : Said → Type 0 = Steps z total breaks turn role a in
@@ -190,7 +226,8 @@ steps-well z total breaks turn role a special y h er all =
     (else-says P (step5 special a) _ (step-5 z total breaks turn role a special h)
     (else-says P (step6 special a) _ (step-6 z total breaks turn role a special h)
     (else-says P (step7 turn a) _ (segment-step z total breaks turn role a y h er all)
-    (else-says P (step8 a) (step9 a) (where-says P a.incoming.owed _ (quiet-step z total breaks turn role a _ h refl refl refl h.ack refl refl refl))
+    (else-says P (step8 a) (step9 a)
+    (where-says P a.incoming.owed _ (quiet-step z total breaks turn role a _ h refl refl refl h.ack refl refl refl))
     (quiet-step z total breaks turn role a _ h refl refl refl h.ack refl refl refl))))))))
 
 -- The timers come first.
@@ -199,35 +236,52 @@ abbrev pub OnOk : {A : Type 0} → (A → Type 0) → Result A LinkFault → Typ
 OnOk P (Err fault) = Unit {0}
 OnOk P (Ok b) = P b
 
-break-timer : (z : Rates) (total breaks turn : ℕ) (role : Role) (a b : Account) → AreRates z → IsOf z a.setup → Breaks z (turn + 1) turn a.own_breaks → WaitedWell z total turn a.outgoing a.wait.timer b.outgoing b.wait.timer
-    → b.own_breaks ≡ a.own_breaks → IsAck b.their_breaks.ack → IsSilent role b → b.setup ≡ a.setup → b.phase ≡ a.phase → b.numbered ≡ a.numbered → b.outgoing.pieces ≡ a.outgoing.pieces → b.outgoing.ended ≡ a.outgoing.ended
+break-timer : (z : Rates) (total breaks turn : ℕ) (role : Role) (a b : Account) → AreRates z → IsOf z a.setup
+    → Breaks z (turn + 1) turn a.own_breaks → WaitedWell z total turn a.outgoing a.wait.timer b.outgoing b.wait.timer
+    → b.own_breaks ≡ a.own_breaks → IsAck b.their_breaks.ack → IsSilent role b → b.setup ≡ a.setup → b.phase ≡ a.phase
+    → b.numbered ≡ a.numbered → b.outgoing.pieces ≡ a.outgoing.pieces → b.outgoing.ended ≡ a.outgoing.ended
     → OnOk (Timed z total breaks turn role a) (on_break_timer turn b)
-break-timer z total breaks turn role a b y k h w own ack silent setup phase numbered pieces ended = go (ticked turn b.setup.period b.setup.tries b.own_breaks) refl
+break-timer z total breaks turn role a b y k h w own ack silent setup phase numbered pieces ended =
+    go (ticked turn b.setup.period b.setup.tries b.own_breaks) refl
   where
     ticks : ticked turn b.setup.period b.setup.tries b.own_breaks ≡ ticked turn z.period z.tries a.own_breaks
-    ticks = ap (λ p. ticked turn p b.setup.tries b.own_breaks) (ap (λ s. s.period) setup ∙ k.period) ∙ ap (λ n. ticked turn z.period n b.own_breaks) (ap (λ s. s.tries) setup ∙ k.tries) ∙ ap (ticked turn z.period z.tries) own
+    ticks = ap (λ p. ticked turn p b.setup.tries b.own_breaks) (ap (λ s. s.period) setup ∙ k.period)
+        ∙ ap (λ n. ticked turn z.period n b.own_breaks) (ap (λ s. s.tries) setup ∙ k.tries) ∙ ap (ticked turn z.period z.tries) own
 
     silent-same : (r : Role) (c : OwnBreaks) → IsSilent r b → IsSilent r (record b { own_breaks = c })
     silent-same Originator c s = tt
     silent-same Answerer c s = s
 
-    go : (m : Option OwnBreaks) → ticked turn b.setup.period b.setup.tries b.own_breaks ≡ m → OnOk (Timed z total breaks turn role a) (breaking turn m b)
+    go : (m : Option OwnBreaks) → ticked turn b.setup.period b.setup.tries b.own_breaks ≡ m
+        → OnOk (Timed z total breaks turn role a) (breaking turn m b)
     go None e = tt
     go (Some c) e =
         let t = ticked-well z breaks turn a.own_breaks c y h (sym ticks ∙ e) in
-        record { waited = w; ticked = t; ack = ack; silent = silent-same role c silent; same = record { setup = setup; phase = phase; numbered = numbered; pieces = pieces; ended = ended; lengths = t.lengths } }
+        record {
+          waited = w;
+          ticked = t;
+          ack = ack;
+          silent = silent-same role c silent;
+          same =
+              record { setup = setup; phase = phase; numbered = numbered; pieces = pieces; ended = ended; lengths = t.lengths };
+        }
 
-pub timers-well : (z : Rates) (total breaks turn : ℕ) (role : Role) (a : Account) → AreRates z → IsOf z a.setup → Linked z (turn + 1) turn role a → OnOk (Timed z total breaks turn role a) (then_tries turn (on_timer turn a))
+pub timers-well : (z : Rates) (total breaks turn : ℕ) (role : Role) (a : Account) → AreRates z → IsOf z a.setup
+    → Linked z (turn + 1) turn role a → OnOk (Timed z total breaks turn role a) (then_tries turn (on_timer turn a))
 timers-well z total breaks turn role a y k h = go a.wait.timer refl
   where
-    quiet : ((set : ℕ) → a.wait.timer ≡ Some set → nat_eq turn (set + z.period) ≡ false) → OnOk (Timed z total breaks turn role a) (on_break_timer turn a)
-    quiet q = break-timer z total breaks turn role a a y k h.breaks (waited-quiet z total turn a.outgoing a.wait.timer y h.sends q) refl h.ack h.silent refl refl refl refl refl
+    quiet : ((set : ℕ) → a.wait.timer ≡ Some set → nat_eq turn (set + z.period) ≡ false)
+        → OnOk (Timed z total breaks turn role a) (on_break_timer turn a)
+    quiet q = break-timer z total breaks turn role a a y k h.breaks
+        (waited-quiet z total turn a.outgoing a.wait.timer y h.sends q) refl h.ack h.silent refl refl refl refl refl
 
     loud : (r : Role) (set : ℕ) (c : Account) → IsSilent r a → a.wait.timer ≡ Some set → c.numbered ≡ a.numbered → IsSilent r c
     loud Originator set c s e n = tt
     loud Answerer set c s e n = λ f. let wrong : Some set ≡ None = sym e ∙ (s (sym n ∙ f)).1 in cc
 
-    go : (timer : Option ℕ) → a.wait.timer ≡ timer → OnOk (Timed z total breaks turn role a) (then_tries turn (cond (timer_expires turn a timer) (polling turn (expired a.outgoing) a) (Ok a)))
+    go : (timer : Option ℕ) → a.wait.timer ≡ timer
+        → OnOk (Timed z total breaks turn role a)
+        (then_tries turn (cond (timer_expires turn a timer) (polling turn (expired a.outgoing) a) (Ok a)))
     go None e = quiet (λ set f. let wrong : None ≡ Some set = sym e ∙ f in cc)
     go (Some set) e = by (nat_eq turn (set + a.setup.period)) refl (nat_eq a.outgoing.count a.outgoing.tries) refl
       where
@@ -235,12 +289,17 @@ timers-well z total breaks turn role a y k h = go a.wait.timer refl
         due-is = ap (λ p. nat_eq turn (set + p)) k.period
 
         by : (due : Bool) → nat_eq turn (set + a.setup.period) ≡ due → (spent : Bool) → nat_eq a.outgoing.count a.outgoing.tries ≡ spent
-            → OnOk (Timed z total breaks turn role a) (then_tries turn (cond due (polling turn (cond spent None (Some (record a.outgoing { count = a.outgoing.count + 1; awaited = true }))) a) (Ok a)))
-        by false d n f = quiet (λ other g. let same : Some other ≡ Some set = sym g ∙ e in let same' : other ≡ set = cc in subst (λ x. nat_eq turn (x + z.period) ≡ false) (sym same') (sym due-is ∙ d))
+            → OnOk (Timed z total breaks turn role a)
+            (then_tries turn (cond due
+            (polling turn (cond spent None (Some (record a.outgoing { count = a.outgoing.count + 1; awaited = true }))) a) (Ok a)))
+        by false d n f = quiet
+            (λ other g. let same : Some other ≡ Some set = sym g ∙ e in let same' : other ≡ set = cc in
+            subst (λ x. nat_eq turn (x + z.period) ≡ false) (sym same') (sym due-is ∙ d))
         by true d true f = tt
         by true d false f =
             break-timer z total breaks turn role a _ y k h.breaks
-            (subst (λ timer. WaitedWell z total turn a.outgoing timer (record a.outgoing { count = a.outgoing.count + 1; awaited = true }) (Some turn)) (sym e)
+            (subst (λ timer. WaitedWell z total turn a.outgoing timer (record a.outgoing { count = a.outgoing.count + 1; awaited = true })
+            (Some turn)) (sym e)
             (waited-expired z total turn a.outgoing set y (subst (Sends z (turn + 1) turn a.outgoing) e h.sends) (sym due-is ∙ d) f))
             refl h.ack (loud role set _ h.silent e refl) refl refl refl refl refl
 
@@ -254,23 +313,29 @@ pub record SpeaksAs (z : Rates) (total breaks turn : ℕ) (role : Role) (p : Pha
   pub pieces : b.outgoing.pieces ≡ a.outgoing.pieces
   pub ended : b.outgoing.ended ≡ a.outgoing.ended
   pub lengths : b.own_breaks.lengths ≡ a.own_breaks.lengths
-  pub falls : value z total breaks (turn + 1) role q b + lasts z.room (lives turn role p a) (lives (turn + 1) role q b) ≤ value z total breaks turn role p a
+  pub falls : value z total breaks (turn + 1) role q b + lasts z.room (lives turn role p a)
+      (lives (turn + 1) role q b) ≤ value z total breaks turn role p a
 
 abbrev pub SpeaksWell : Rates → ℕ → ℕ → ℕ → Role → Phase → Account → Result Said LinkFault → Type 0
 SpeaksWell z total breaks turn role p a (Err fault) = Unit {0}
 SpeaksWell z total breaks turn role p a (Ok said) = (q : Phase) × SpeaksAs z total breaks turn role p a q said.account
 
-lasts-both : (k : ℕ) (w b w' b' : Bool) → (b ≡ false → b' ≡ false) → lasts k (w || b) (w' || b') ≤ one_if w + cond w 0 (cond w' (k + 1) 0) + one_if b
+lasts-both : (k : ℕ) (w b w' b' : Bool) → (b ≡ false → b' ≡ false)
+    → lasts k (w || b) (w' || b') ≤ one_if w + cond w 0 (cond w' (k + 1) 0) + one_if b
 lasts-both k w b w' b' h = grind (arith)
 
-pub linked-step : (z : Rates) (total breaks turn : ℕ) (role : Role) (a b c : Account) → a.phase ≡ Connected → Timed z total breaks turn role a b → Stepped z total breaks turn role (record b { special = false }) c
+pub linked-step : (z : Rates) (total breaks turn : ℕ) (role : Role) (a b c : Account) → a.phase ≡ Connected
+    → Timed z total breaks turn role a b → Stepped z total breaks turn role (record b { special = false }) c
     → SpeaksAs z total breaks turn role Connected a Connected c
 linked-step z total breaks turn role a b c e t s = go role s.silent
   where
-    bools : lasts z.room (linked_lives turn a) (linked_lives (turn + 1) c) ≤ one_if (is_waiting a.outgoing) + cond (is_waiting a.outgoing) 0 (cond (is_waiting c.outgoing) (z.room + 1) 0) + one_if (is_breaking turn a.own_breaks)
-    bools = lasts-both z.room (is_waiting a.outgoing) (is_breaking turn a.own_breaks) (is_waiting c.outgoing) (is_breaking (turn + 1) c.own_breaks) (λ f. s.breaking ∙ t.ticked.lives f)
+    bools : lasts z.room (linked_lives turn a) (linked_lives (turn + 1) c) ≤ one_if (is_waiting a.outgoing) + cond (is_waiting a.outgoing) 0
+        (cond (is_waiting c.outgoing) (z.room + 1) 0) + one_if (is_breaking turn a.own_breaks)
+    bools = lasts-both z.room (is_waiting a.outgoing) (is_breaking turn a.own_breaks) (is_waiting c.outgoing)
+        (is_breaking (turn + 1) c.own_breaks) (λ f. s.breaking ∙ t.ticked.lives f)
 
-    same : cond (is_waiting b.outgoing) 0 (cond (is_waiting c.outgoing) (z.room + 1) 0) ≡ cond (is_waiting a.outgoing) 0 (cond (is_waiting c.outgoing) (z.room + 1) 0)
+    same : cond (is_waiting b.outgoing) 0 (cond (is_waiting c.outgoing) (z.room + 1) 0) ≡ cond (is_waiting a.outgoing) 0
+        (cond (is_waiting c.outgoing) (z.room + 1) 0)
     same = ap (λ w. cond w 0 (cond (is_waiting c.outgoing) (z.room + 1) 0)) t.waited.waits
 
     same-length : z.quota * (breaks - length c.own_breaks.lengths) ≡ z.quota * (breaks - length b.own_breaks.lengths)
@@ -300,21 +365,27 @@ linked-step z total breaks turn role a b c e t s = go role s.silent
       falls = omega (arith, t.waited.falls, t.ticked.falls, s.falls, s.left, bools, same, same-length);
     }
 
-pub timed-linked : (z : Rates) (total breaks turn : ℕ) (role : Role) (a b : Account) → Timed z total breaks turn role a b → Linked z (turn + 1) (turn + 1) role (record b { special = false })
-timed-linked z total breaks turn role a b t = record { sends = t.waited.sends; breaks = t.ticked.sound; ack = t.ack; silent = silent-same role t.silent }
+pub timed-linked : (z : Rates) (total breaks turn : ℕ) (role : Role) (a b : Account) → Timed z total breaks turn role a b
+    → Linked z (turn + 1) (turn + 1) role (record b { special = false })
+timed-linked z total breaks turn role a b t =
+    record { sends = t.waited.sends; breaks = t.ticked.sound; ack = t.ack; silent = silent-same role t.silent }
   where
     silent-same : (r : Role) → IsSilent r b → IsSilent r (record b { special = false })
     silent-same Originator s = tt
     silent-same Answerer s = s
 
-pub speaks-linked : (z : Rates) (total breaks turn : ℕ) (role : Role) (a : Account) → AreRates z → IsOf z a.setup → Linked z (turn + 1) turn role a → a.phase ≡ Connected → a.setup.role ≡ role → length a.outgoing.pieces ≤ total
+pub speaks-linked : (z : Rates) (total breaks turn : ℕ) (role : Role) (a : Account) → AreRates z → IsOf z a.setup
+    → Linked z (turn + 1) turn role a → a.phase ≡ Connected → a.setup.role ≡ role → length a.outgoing.pieces ≤ total
     → SpeaksWell z total breaks turn role Connected a (speak_linked turn a)
-speaks-linked z total breaks turn role a y k h e er all = go (then_tries turn (on_timer turn a)) (timers-well z total breaks turn role a y k h)
+speaks-linked z total breaks turn role a y k h e er all =
+    go (then_tries turn (on_timer turn a)) (timers-well z total breaks turn role a y k h)
   where
-    go : (r : Result Account LinkFault) → OnOk (Timed z total breaks turn role a) r → SpeaksWell z total breaks turn role Connected a (after_timers turn a.special r)
+    go : (r : Result Account LinkFault) → OnOk (Timed z total breaks turn role a) r
+        → SpeaksWell z total breaks turn role Connected a (after_timers turn a.special r)
     go (Err fault) t = tt
     go (Ok b) t = (
       Connected,
       linked-step z total breaks turn role a b _ e t
-          (steps-well z total breaks turn role (record b { special = false }) a.special y (timed-linked z total breaks turn role a b t) (ap (λ s. s.role) t.same.setup ∙ er) (omega (arith, all, ap (λ l. length l) t.same.pieces))),
+          (steps-well z total breaks turn role (record b { special = false }) a.special y (timed-linked z total breaks turn role a b t)
+          (ap (λ s. s.role) t.same.setup ∙ er) (omega (arith, all, ap (λ l. length l) t.same.pieces))),
     )

@@ -36,16 +36,22 @@ not-true true f = absurd (f refl)
 not-true false f = refl
 
 -- an end that stays Connected isn't told to release
-pub linked-of : (z : Rates) (turn : ℕ) (release : Bool) (b : Account) (said : Said) → AreRates z → IsOf z b.setup → b.phase ≡ Connected → speak turn release b ≡ Ok said → said.account.phase ≡ Connected
+pub linked-of : (z : Rates) (turn : ℕ) (release : Bool) (b : Account) (said : Said) → AreRates z → IsOf z b.setup → b.phase ≡ Connected
+    → speak turn release b ≡ Ok said → said.account.phase ≡ Connected
     → (speak_linked turn b ≡ Ok said) × (release && is_originator b.setup.role ≡ false)
-linked-of z turn release b said y k e speaks after = go (release && is_originator b.setup.role) (subst (λ p. speak_in p turn release b ≡ Ok said) e speaks)
+linked-of z turn release b said y k e speaks after =
+    go (release && is_originator b.setup.role) (subst (λ p. speak_in p turn release b ≡ Ok said) e speaks)
   where
     releasing : (r : Result Said LinkFault) → OnSaid (Tried z turn (trying Releasing turn b)) r → r ≡ Ok said → ⊥
     releasing (Err fault) t f = cc
-    releasing (Ok other) t f = let same : other ≡ said = cc in let wrong : Releasing ≡ Connected = sym t.phase ∙ (ap (λ s. s.account.phase) same ∙ after) in cc
+    releasing (Ok other) t f = let same : other ≡ said = cc in let wrong : Releasing ≡ Connected =
+        sym t.phase ∙ (ap (λ s. s.account.phase) same ∙ after) in cc
 
-    go : (x : Bool) → cond x (speak_releasing turn (trying Releasing turn b)) (speak_linked turn b) ≡ Ok said → (speak_linked turn b ≡ Ok said) × (x ≡ false)
-    go true f = absurd (releasing (u_try turn (Disc true) (trying Releasing turn b)) (tries-well z turn (Disc true) (trying Releasing turn b) y k (record { tied = omega arith; started = omega arith; within = omega arith; tried = omega arith })) f)
+    go : (x : Bool) → cond x (speak_releasing turn (trying Releasing turn b)) (speak_linked turn b) ≡ Ok said
+        → (speak_linked turn b ≡ Ok said) × (x ≡ false)
+    go true f = absurd (releasing (u_try turn (Disc true) (trying Releasing turn b))
+        (tries-well z turn (Disc true) (trying Releasing turn b) y k
+        (record { tied = omega arith; started = omega arith; within = omega arith; tried = omega arith })) f)
     go false f = (f, refl)
 
 -- the timers and the step of a Connected end
@@ -56,11 +62,14 @@ pub record Spoke (z : Rates) (total breaks turn : ℕ) (role : Role) (b : Accoun
   pub said_is : steps turn b.special (record timed { special = false }) ≡ said
   pub stepped : Stepped z total breaks turn role (record timed { special = false }) said.account
 
-pub spoke : (z : Rates) (total breaks turn : ℕ) (role : Role) (b : Account) (said : Said) → AreRates z → IsOf z b.setup → Linked z (turn + 1) turn role b → b.setup.role ≡ role → length b.outgoing.pieces ≤ total → speak_linked turn b ≡ Ok said
+pub spoke : (z : Rates) (total breaks turn : ℕ) (role : Role) (b : Account) (said : Said) → AreRates z → IsOf z b.setup
+    → Linked z (turn + 1) turn role b → b.setup.role ≡ role → length b.outgoing.pieces ≤ total → speak_linked turn b ≡ Ok said
     → Spoke z total breaks turn role b said
-spoke z total breaks turn role b said y k h er all e = go (then_tries turn (on_timer turn b)) refl (timers-well z total breaks turn role b y k h) e
+spoke z total breaks turn role b said y k h er all e =
+    go (then_tries turn (on_timer turn b)) refl (timers-well z total breaks turn role b y k h) e
   where
-    go : (r : Result Account LinkFault) → then_tries turn (on_timer turn b) ≡ r → OnOk (Timed z total breaks turn role b) r → after_timers turn b.special r ≡ Ok said → Spoke z total breaks turn role b said
+    go : (r : Result Account LinkFault) → then_tries turn (on_timer turn b) ≡ r → OnOk (Timed z total breaks turn role b) r
+        → after_timers turn b.special r ≡ Ok said → Spoke z total breaks turn role b said
     go (Err fault) f t g = cc
     go (Ok c) f t g =
         let same : steps turn b.special (record c { special = false }) ≡ said = cc in
@@ -70,42 +79,55 @@ spoke z total breaks turn role b said y k h er all e = go (then_tries turn (on_t
           timers = f;
           said_is = same;
           stepped = subst (λ s. Stepped z total breaks turn role (record c { special = false }) s.account) same
-              (steps-well z total breaks turn role (record c { special = false }) b.special y (timed-linked z total breaks turn role b c t) (ap (λ s. s.role) t.same.setup ∙ er) (omega (arith, all, ap (λ l. length l) t.same.pieces)));
+              (steps-well z total breaks turn role (record c { special = false }) b.special y (timed-linked z total breaks turn role b c t)
+              (ap (λ s. s.role) t.same.setup ∙ er) (omega (arith, all, ap (λ l. length l) t.same.pieces)));
         }
 
 -- what waits goes on waiting
-pub keeps-waiting : (z : Rates) (total breaks turn : ℕ) (role : Role) (b : Account) (said : Said) → Spoke z total breaks turn role b said → linked_lives (turn + 1) said.account ≡ false → (is_waiting b.outgoing ≡ false) × (waits b.own_breaks ≡ false)
+pub keeps-waiting : (z : Rates) (total breaks turn : ℕ) (role : Role) (b : Account) (said : Said) → Spoke z total breaks turn role b said
+    → linked_lives (turn + 1) said.account ≡ false → (is_waiting b.outgoing ≡ false) × (waits b.own_breaks ≡ false)
 keeps-waiting z total breaks turn role b said s dead =
     let parts = or-false-both (is_waiting said.account.outgoing) (is_breaking (turn + 1) said.account.own_breaks) dead in (
-      not-true (is_waiting b.outgoing) (λ w. let wrong : true ≡ false = sym (s.stepped.waits (s.is_timed.waited.waits ∙ w)) ∙ parts.0 in cc),
-      not-true (waits b.own_breaks) (λ w. let lives : is_breaking (turn + 1) said.account.own_breaks ≡ true = s.stepped.breaking ∙ ap (λ x. x || nat_lt (turn + 1) s.timed.own_breaks.rest) (s.is_timed.ticked.waiting ∙ w) in
+      not-true (is_waiting b.outgoing)
+          (λ w. let wrong : true ≡ false = sym (s.stepped.waits (s.is_timed.waited.waits ∙ w)) ∙ parts.0 in cc),
+      not-true (waits b.own_breaks)
+          (λ w. let lives : is_breaking (turn + 1) said.account.own_breaks ≡ true =
+          s.stepped.breaking ∙ ap (λ x. x || nat_lt (turn + 1) s.timed.own_breaks.rest) (s.is_timed.ticked.waiting ∙ w) in
           let wrong : true ≡ false = sym lives ∙ parts.1 in cc),
     )
 
 -- with nothing to wait for no timer expires
-no-timer : (z : Rates) (turn : ℕ) (role : Role) (b : Account) → Linked z (turn + 1) turn role b → is_waiting b.outgoing ≡ false → waits b.own_breaks ≡ false → then_tries turn (on_timer turn b) ≡ Ok b
+no-timer : (z : Rates) (turn : ℕ) (role : Role) (b : Account) → Linked z (turn + 1) turn role b → is_waiting b.outgoing ≡ false
+    → waits b.own_breaks ≡ false → then_tries turn (on_timer turn b) ≡ Ok b
 no-timer z turn role b h e f = go b.wait.timer (h.sends.cause ∙ e)
   where
     quiet : (w : Bool) → w ≡ false
-        → breaking turn (cond (w && nat_eq turn (b.own_breaks.set + b.setup.period)) (cond (nat_eq b.own_breaks.count b.setup.tries) None (Some (record b.own_breaks { brk = true; set = turn; count = b.own_breaks.count + 1 }))) (Some b.own_breaks)) b ≡ Ok b
+        → breaking turn (cond (w && nat_eq turn (b.own_breaks.set + b.setup.period))
+        (cond (nat_eq b.own_breaks.count b.setup.tries) None
+        (Some (record b.own_breaks { brk = true; set = turn; count = b.own_breaks.count + 1 }))) (Some b.own_breaks)) b ≡ Ok b
     quiet true e = cc
     quiet false e = refl
 
-    go : (timer : Option ℕ) → is_some timer ≡ false → then_tries turn (cond (timer_expires turn b timer) (polling turn (expired b.outgoing) b) (Ok b)) ≡ Ok b
+    go : (timer : Option ℕ) → is_some timer ≡ false
+        → then_tries turn (cond (timer_expires turn b timer) (polling turn (expired b.outgoing) b) (Ok b)) ≡ Ok b
     go None g = quiet (waits b.own_breaks) f
     go (Some set) g = cc
 
 -- Speaking, where nothing lives after it.
-pub speaks-still : (z : Rates) (total breaks turn : ℕ) (role : Role) (b : Account) (said : Said) → AreRates z → IsOf z b.setup → Linked z (turn + 1) turn role b → b.setup.role ≡ role → length b.outgoing.pieces ≤ total
-    → speak_linked turn b ≡ Ok said → linked_lives (turn + 1) said.account ≡ false → b.owes.busy ≡ false → is_originator b.setup.role || b.numbered ≡ true → (b.outgoing.front < total → b.outgoing.front < length b.outgoing.pieces)
+pub speaks-still : (z : Rates) (total breaks turn : ℕ) (role : Role) (b : Account) (said : Said) → AreRates z → IsOf z b.setup
+    → Linked z (turn + 1) turn role b → b.setup.role ≡ role → length b.outgoing.pieces ≤ total
+    → speak_linked turn b ≡ Ok said → linked_lives (turn + 1) said.account ≡ false → b.owes.busy ≡ false
+    → is_originator b.setup.role || b.numbered ≡ true → (b.outgoing.front < total → b.outgoing.front < length b.outgoing.pieces)
     → dues total said.account + weight said.sent + one_if (is_free total b.outgoing) ≤ dues total b
 speaks-still z total breaks turn role b said y k h er all e dead busy may more =
     let s = spoke z total breaks turn role b said y k h er all e in
     let idle = keeps-waiting z total breaks turn role b said s dead in
     let same : s.timed ≡ b = let both : Ok s.timed ≡ Ok b = sym s.timers ∙ no-timer z turn role b h idle.0 idle.1 in cc in
     let t : Timed z total breaks turn role b b = subst (Timed z total breaks turn role b) same s.is_timed in
-    let said_is : steps turn b.special (record b { special = false }) ≡ said = subst (λ c. steps turn b.special (record c { special = false }) ≡ said) same s.said_is in
-    subst (λ x. is_waiting x.account.outgoing ≡ false → dues total x.account + weight x.sent + one_if (is_free total b.outgoing) ≤ dues total b) said_is
+    let said_is : steps turn b.special (record b { special = false }) ≡ said =
+    subst (λ c. steps turn b.special (record c { special = false }) ≡ said) same s.said_is in
+    subst (λ x. is_waiting x.account.outgoing ≡ false
+    → dues total x.account + weight x.sent + one_if (is_free total b.outgoing) ≤ dues total b) said_is
     (steps-pay z total turn role (record b { special = false }) b.special y (record {
       linked = timed-linked z total breaks turn role b b t;
       idle = idle.0;
@@ -117,7 +139,8 @@ speaks-still z total breaks turn role b said y k h er all e dead busy may more =
     }) refl)
     (or-false-both (is_waiting said.account.outgoing) (is_breaking (turn + 1) said.account.own_breaks) dead).0
 
-heard-still-ok : (total more : ℕ) (a mid : Account) (r : Result Account LinkFault) → r ≡ Ok mid → StaysStill total more a r → is_waiting mid.outgoing ≡ false → mid.phase ≡ Connected → HeardStill total more a mid
+heard-still-ok : (total more : ℕ) (a mid : Account) (r : Result Account LinkFault) → r ≡ Ok mid → StaysStill total more a r
+    → is_waiting mid.outgoing ≡ false → mid.phase ≡ Connected → HeardStill total more a mid
 heard-still-ok total more a mid (Err fault) e h w p = cc
 heard-still-ok total more a mid (Ok b) e h w p = let same : b ≡ mid = cc in subst (StaysStill total more a) (ap Ok same) h w p
 
@@ -139,30 +162,40 @@ pub record Stays (z : Rates) (total turn : ℕ) (user : User) (role : Role) (a m
   pub unreleased : release && is_originator b.setup.role ≡ false
   pub serves : Served turn (length user.breaks) (is_busy turn user.busy) mid b
 
-pub stand-linked : (z : Rates) (before turn : ℕ) (role : Role) (a : Account) → Linked z before turn role a → Stands z before turn role Connected a
+pub stand-linked : (z : Rates) (before turn : ℕ) (role : Role) (a : Account) → Linked z before turn role a
+    → Stands z before turn role Connected a
 stand-linked z before turn Originator a h = h
 stand-linked z before turn Answerer a h = h
 
-pub linked-stand : (z : Rates) (before turn : ℕ) (role : Role) (a : Account) → Stands z before turn role Connected a → Linked z before turn role a
+pub linked-stand : (z : Rates) (before turn : ℕ) (role : Role) (a : Account) → Stands z before turn role Connected a
+    → Linked z before turn role a
 linked-stand z before turn Originator a h = h
 linked-stand z before turn Answerer a h = h
 
-pub stays : (z : Rates) (total : ℕ) (user : User) (turn : ℕ) (role : Role) (arrived : Arrived) (a mid : Account) (released release : Bool) (said : Said)
+pub stays : (z : Rates) (total : ℕ) (user : User) (turn : ℕ) (role : Role) (arrived : Arrived) (a mid : Account) (released release : Bool)
+    (said : Said)
     → AreRates z → IsOf z a.setup → Linked z turn turn role a → a.phase ≡ Connected → a.setup.role ≡ role
-    → hear turn arrived a ≡ Ok mid → speak turn release (served_account user turn released mid) ≡ Ok said → length (served_account user turn released mid).outgoing.pieces ≤ total → said.account.phase ≡ Connected
+    → hear turn arrived a ≡ Ok mid → speak turn release (served_account user turn released mid) ≡ Ok said
+    → length (served_account user turn released mid).outgoing.pieces ≤ total → said.account.phase ≡ Connected
     → Stays z total turn user role a mid (served_account user turn released mid) release said
 stays z total user turn role arrived a mid released release said y k h e er hears speaks all after =
     let more : ℕ = z.quota * arrived_rnrs arrived in
     let breaks : ℕ = length user.breaks in
     let b : Account = served_account user turn released mid in
     let heard = heard-ok z (length a.outgoing.pieces) breaks turn more role Connected a mid (hear turn arrived a) hears
-    (hears-well z (length a.outgoing.pieces) breaks turn role Connected arrived a y k (stand-linked z turn turn role a h) e er (omega arith)) in
+    (hears-well z (length a.outgoing.pieces) breaks turn role Connected arrived a y k (stand-linked z turn turn role a h) e er
+    (omega arith)) in
     let s = serves-all user turn released mid in
     let serves = serves-well z total breaks turn (is_busy turn user.busy) role heard.0 mid b y heard.1.stands heard.1.phase s in
     let k' : IsOf z b.setup = subst (IsOf z) (sym (s.setup ∙ heard.1.setup)) k in
     let spoke = said-ok z total breaks turn role heard.0 b said (speak turn release b) speaks
-    (speaks-well z total breaks turn role heard.0 release b y k' serves.stands (s.phase ∙ heard.1.phase) (ap (λ x. x.role) (s.setup ∙ heard.1.setup) ∙ er) all) in
-    let linked : heard.0 ≡ Connected = only-connected heard.0 (not-false (is_connected heard.0) (λ f. let same : Connected ≡ heard.0 = sym after ∙ (spoke.1.phase ∙ spoke.1.keeps f) in let wrong : true ≡ false = ap is_connected same ∙ f in cc)) in
+    (speaks-well z total breaks turn role heard.0 release b y k' serves.stands (s.phase ∙ heard.1.phase)
+    (ap (λ x. x.role) (s.setup ∙ heard.1.setup) ∙ er) all) in
+    let linked : heard.0 ≡ Connected =
+    only-connected heard.0
+    (not-false (is_connected heard.0)
+    (λ f. let same : Connected ≡ heard.0 = sym after ∙ (spoke.1.phase ∙ spoke.1.keeps f) in let wrong : true ≡ false =
+    ap is_connected same ∙ f in cc)) in
     let phase : b.phase ≡ Connected = s.phase ∙ (heard.1.phase ∙ linked) in
     let says = linked-of z turn release b said y k' phase speaks after in
     record {
@@ -179,7 +212,8 @@ stays z total user turn role arrived a mid released release said y k h e er hear
     not-false true f = refl
     not-false false f = absurd (f refl)
 
-served-dues : (turn breaks total : ℕ) (busy : Bool) (m c : Account) → Served turn breaks busy m c → is_free total c.outgoing ≡ is_free total m.outgoing → dues total c ≡ dues total m
+served-dues : (turn breaks total : ℕ) (busy : Bool) (m c : Account) → Served turn breaks busy m c
+    → is_free total c.outgoing ≡ is_free total m.outgoing → dues total c ≡ dues total m
 served-dues turn breaks total busy m c s f =
     omega (
       arith,
@@ -203,23 +237,30 @@ pub record Stilled (z : Rates) (total turn : ℕ) (a mid b : Account) (said : Sa
   pub free : is_free total b.outgoing ≡ is_free total a.outgoing
   pub own : mid.own_breaks ≡ a.own_breaks
 
-pub stilled : (z : Rates) (total : ℕ) (user : User) (turn : ℕ) (role : Role) (arrived : Arrived) (a mid b : Account) (release : Bool) (said : Said)
+pub stilled : (z : Rates) (total : ℕ) (user : User) (turn : ℕ) (role : Role) (arrived : Arrived) (a mid b : Account) (release : Bool)
+    (said : Said)
     → AreRates z → IsOf z a.setup → Linked z turn turn role a → a.phase ≡ Connected → a.setup.role ≡ role
     → hear turn arrived a ≡ Ok mid → length b.outgoing.pieces ≤ total → Stays z total turn user role a mid b release said
-    → linked_lives turn a ≡ false → linked_lives (turn + 1) said.account ≡ false → is_busy turn user.busy ≡ false → is_originator a.setup.role || a.numbered ≡ true → (b.outgoing.front < total → b.outgoing.front < length b.outgoing.pieces)
+    → linked_lives turn a ≡ false → linked_lives (turn + 1) said.account ≡ false → is_busy turn user.busy ≡ false
+    → is_originator a.setup.role || a.numbered ≡ true → (b.outgoing.front < total → b.outgoing.front < length b.outgoing.pieces)
     → Stilled z total turn a mid b said (arrived_weight arrived)
 stilled z total user turn role arrived a mid b release said y k h e er hears all s dead dead' busy may more =
     let k' : IsOf z b.setup = subst (IsOf z) (sym s.setup) k in
     let er' : b.setup.role ≡ role = ap (λ x. x.role) s.setup ∙ er in
-    let idle = keeps-waiting z total (length user.breaks) turn role b said (spoke z total (length user.breaks) turn role b said y k' s.linked er' all s.says) dead' in
+    let idle = keeps-waiting z total (length user.breaks) turn role b said
+    (spoke z total (length user.breaks) turn role b said y k' s.linked er' all s.says) dead' in
     let before = or-false-both (is_waiting a.outgoing) (is_breaking turn a.own_breaks) dead in
     let waits-a : waits a.own_breaks ≡ false = (or-false-both (waits a.own_breaks) (nat_lt turn a.own_breaks.rest) before.1).0 in
     let same : is_waiting b.outgoing ≡ is_waiting mid.outgoing = ap is_waiting s.serves.longer.outgoing in
-    let heard = heard-still-ok total (arrived_weight arrived) a mid (hear turn arrived a) hears (still-hears z total turn role arrived a h e before.0) (sym same ∙ idle.0) s.mid_phase in
+    let heard = heard-still-ok total (arrived_weight arrived) a mid (hear turn arrived a) hears
+    (still-hears z total turn role arrived a h e before.0) (sym same ∙ idle.0) s.mid_phase in
     let free : is_free total b.outgoing ≡ is_free total mid.outgoing = ap (is_free total) s.serves.longer.outgoing in
     let due : dues total b ≡ dues total mid = served-dues turn (length user.breaks) total (is_busy turn user.busy) mid b s.serves free in
-    let may' : is_originator b.setup.role || b.numbered ≡ true = or-numbered (is_originator a.setup.role) (is_originator b.setup.role) a.numbered b.numbered (ap (λ x. is_originator x.role) s.setup) (λ n. s.serves.numbered ∙ heard.numbered n) may in
-    let pays = speaks-still z total (length user.breaks) turn role b said y k' s.linked er' all s.says dead' (s.serves.busy_now (ap is_connected s.mid_phase) ∙ busy) may' more in
+    let may' : is_originator b.setup.role || b.numbered ≡ true =
+    or-numbered (is_originator a.setup.role) (is_originator b.setup.role) a.numbered b.numbered (ap (λ x. is_originator x.role) s.setup)
+    (λ n. s.serves.numbered ∙ heard.numbered n) may in
+    let pays = speaks-still z total (length user.breaks) turn role b said y k' s.linked er' all s.says dead'
+    (s.serves.busy_now (ap is_connected s.mid_phase) ∙ busy) may' more in
     record {
       pays = omega (arith, pays, due, heard.dues, ap one_if (free ∙ heard.free));
       idle = idle.0;
@@ -232,20 +273,24 @@ stilled z total user turn role arrived a mid b release said y k h e er hears all
     or-numbered o o' n n' e f g = grind (arith)
 
 -- a break that is ready is asked for, and then waits
-waits-then : (turn l : ℕ) (b : OwnBreaks) → b.answered ≤ length b.lengths → waits b ≡ false → nat_lt turn b.rest ≡ false → waits (after_ask turn l b) ≡ true
+waits-then : (turn l : ℕ) (b : OwnBreaks) → b.answered ≤ length b.lengths → waits b ≡ false → nat_lt turn b.rest ≡ false
+    → waits (after_ask turn l b) ≡ true
 waits-then turn l b low w r =
     let rested : nat_le b.rest turn ≡ true = grind (arith, nat_tests) in
     let longer : length (b.lengths ++ l ∷ []) ≡ length b.lengths + 1 = omega (arith, length-append {A = ℕ}) in
     let waiting : nat_lt b.answered (length (b.lengths ++ l ∷ [])) ≡ true = grind (arith, nat_tests) in
     go (waits b) w (nat_le b.rest turn) rested waiting
   where
-    go : (x : Bool) → x ≡ false → (y : Bool) → y ≡ true → nat_lt b.answered (length (b.lengths ++ l ∷ [])) ≡ true → waits (cond (not x && y) (record b { lengths = b.lengths ++ l ∷ []; brk = true; set = turn; count = 0 }) b) ≡ true
+    go : (x : Bool) → x ≡ false → (y : Bool) → y ≡ true → nat_lt b.answered (length (b.lengths ++ l ∷ [])) ≡ true
+        → waits (cond (not x && y) (record b { lengths = b.lengths ++ l ∷ []; brk = true; set = turn; count = 0 }) b) ≡ true
     go true e y f t = cc
     go false e false f t = cc
     go false e true f t = t
 
-unready : (user : User) (turn : ℕ) (mid : Account) → mid.phase ≡ Connected → mid.own_breaks.answered ≤ length mid.own_breaks.lengths → waits mid.own_breaks ≡ false → nat_lt turn mid.own_breaks.rest ≡ false
-    → waits (served_account user turn false mid).own_breaks ≡ false → is_ready turn (next_break user.breaks (served_account user turn false mid)) ≡ false
+unready : (user : User) (turn : ℕ) (mid : Account) → mid.phase ≡ Connected → mid.own_breaks.answered ≤ length mid.own_breaks.lengths
+    → waits mid.own_breaks ≡ false → nat_lt turn mid.own_breaks.rest ≡ false
+    → waits (served_account user turn false mid).own_breaks ≡ false
+    → is_ready turn (next_break user.breaks (served_account user turn false mid)) ≡ false
 unready user turn mid e low w r after = go (next_break user.breaks m) refl after
   where
     m : Account
@@ -258,23 +303,28 @@ unready user turn mid e low w r after = go (next_break user.breaks m) refl after
     phase = ap is_connected ((serves-first user turn 0 mid).phase ∙ e)
 
     asks : (l : ℕ) (x : Bool) → x ≡ true → waits (cond x (record m { own_breaks = after_ask turn l m.own_breaks }) m).own_breaks ≡ false → ⊥
-    asks l true f g = let wrong : true ≡ false = sym (waits-then turn l mid.own_breaks low w r) ∙ (ap (λ o. waits (after_ask turn l o)) (sym same) ∙ g) in cc
+    asks l true f g = let wrong : true ≡ false =
+        sym (waits-then turn l mid.own_breaks low w r) ∙ (ap (λ o. waits (after_ask turn l o)) (sym same) ∙ g) in cc
     asks l false f g = cc
 
-    go : (n : Option BreakLine) → next_break user.breaks m ≡ n → waits (asked_at turn n m).own_breaks ≡ false → is_ready turn (next_break user.breaks (asked_at turn n m)) ≡ false
+    go : (n : Option BreakLine) → next_break user.breaks m ≡ n → waits (asked_at turn n m).own_breaks ≡ false
+        → is_ready turn (next_break user.breaks (asked_at turn n m)) ≡ false
     go None f g = ap (is_ready turn) f
     go (Some br) f g = by (nat_le br.turn turn) refl g
       where
-        by : (x : Bool) → nat_le br.turn turn ≡ x → waits (cond x (after_break_asked turn br.length_octet m) m).own_breaks ≡ false → is_ready turn (next_break user.breaks (cond x (after_break_asked turn br.length_octet m) m)) ≡ false
+        by : (x : Bool) → nat_le br.turn turn ≡ x → waits (cond x (after_break_asked turn br.length_octet m) m).own_breaks ≡ false
+            → is_ready turn (next_break user.breaks (cond x (after_break_asked turn br.length_octet m) m)) ≡ false
         by true h k = absurd (asks br.length_octet (is_connected m.phase) phase k)
         by false h k = ap (is_ready turn) f ∙ h
 
 -- An end with nothing outstanding and nothing free has finished, unless a break is ready: that would be asked for.
 pub finished : (z : Rates) (total more : ℕ) (user : User) (turn : ℕ) (role : Role) (a mid : Account) (release : Bool) (said : Said)
-    → Stays z total turn user role a mid (served_account user turn false mid) release said → Stilled z total turn a mid (served_account user turn false mid) said more → Breaks z turn turn a.own_breaks
+    → Stays z total turn user role a mid (served_account user turn false mid) release said
+    → Stilled z total turn a mid (served_account user turn false mid) said more → Breaks z turn turn a.own_breaks
     → length (served_account user turn false mid).outgoing.pieces ≤ total → linked_lives turn a ≡ false → is_free total a.outgoing ≡ false
     → has_finished user turn (served_account user turn false mid) ≡ true
-finished z total more user turn role a mid release said s t own all dead none = both (is_done b) (break_waits b) (is_ready turn (next_break user.breaks b)) done unbroken ready
+finished z total more user turn role a mid release said s t own all dead none =
+    both (is_done b) (break_waits b) (is_ready turn (next_break user.breaks b)) done unbroken ready
   where
     b : Account
     b = served_account user turn false mid
@@ -315,13 +365,16 @@ finished z total more user turn role a mid release said s t own all dead none = 
 
     done : is_done b ≡ true
     done = let same : nat_eq o.front (length o.pieces) ≡ true = let f = whole-front in grind (arith, nat_tests) in
-        ap (λ c. cond c (is_whole o) false) (ap is_connected s.phase) ∙ rw (has-ended o.ended (nat_lt (length o.pieces) (o.front + o.window)) room wanted-none, same) refl
+        ap (λ c. cond c (is_whole o) false) (ap is_connected s.phase)
+        ∙ rw (has-ended o.ended (nat_lt (length o.pieces) (o.front + o.window)) room wanted-none, same) refl
 
     unbroken : break_waits b ≡ false
     unbroken = ap (λ c. cond c (waits b.own_breaks) false) (ap is_connected s.phase) ∙ t.unbroken
 
     still-own : (waits a.own_breaks ≡ false) × (nat_lt turn a.own_breaks.rest ≡ false)
-    still-own = or-false-both (waits a.own_breaks) (nat_lt turn a.own_breaks.rest) (or-false-both (is_waiting a.outgoing) (is_breaking turn a.own_breaks) dead).1
+    still-own = or-false-both (waits a.own_breaks) (nat_lt turn a.own_breaks.rest)
+        (or-false-both (is_waiting a.outgoing) (is_breaking turn a.own_breaks) dead).1
 
     ready : is_ready turn (next_break user.breaks b) ≡ false
-    ready = unready user turn mid s.mid_phase (subst (λ x. x.answered ≤ length x.lengths) (sym t.own) own.low) (ap waits t.own ∙ still-own.0) (ap (λ x. nat_lt turn x.rest) t.own ∙ still-own.1) t.unbroken
+    ready = unready user turn mid s.mid_phase (subst (λ x. x.answered ≤ length x.lengths) (sym t.own) own.low)
+        (ap waits t.own ∙ still-own.0) (ap (λ x. nat_lt turn x.rest) t.own ∙ still-own.1) t.unbroken

@@ -40,7 +40,8 @@ owed_by a = credits.owing a.incoming a.their_breaks.ack
 -- what it makes of the sender's part and its timer
 abbrev pub TakesNumber : ℕ → Account → Account → Type 0
 TakesNumber turn a b =
-    (Heard a.outgoing b.outgoing × (b.wait.timer ≡ timer_after turn a.outgoing b.outgoing a.wait.timer)) ⊎ ((b.outgoing ≡ a.outgoing) × (b.wait.timer ≡ a.wait.timer))
+    (Heard a.outgoing b.outgoing × (b.wait.timer ≡ timer_after turn a.outgoing b.outgoing a.wait.timer))
+    ⊎ ((b.outgoing ≡ a.outgoing) × (b.wait.timer ≡ a.wait.timer))
 
 abbrev pub may_send_at : Account → Bool
 may_send_at a = is_originator a.setup.role || a.numbered
@@ -71,7 +72,8 @@ TakesSo turn polls a (Err fault) = Unit {0}
 TakesSo turn polls a (Ok b) = Closes a b ⊎ ((b.phase ≡ Connected) × Takes turn polls a b)
 
 take-owes : (k : Took) (n : ℕ) (info : List ℕ) (i : Incoming) (ack : Option BreakWord)
-    → ((after_kind k n info i).srej ≡ i.srej) × (credits.owing (after_kind k n info i) ack ≤ credits.owing i ack + 8) × (i.srej ≡ true → credits.owing (after_kind k n info i) ack ≤ credits.owing i ack)
+    → ((after_kind k n info i).srej ≡ i.srej) × (credits.owing (after_kind k n info i) ack ≤ credits.owing i ack + 8)
+    × (i.srej ≡ true → credits.owing (after_kind k n info i) ack ≤ credits.owing i ack)
 take-owes Kept n info i ack = (refl, omega arith, λ e. omega arith)
 take-owes Repeat n info i ack = (refl, omega arith, λ e. omega arith)
 take-owes InOrder n info i ack = (refl, go i.srej i.rej i.gapped, λ e. by i.srej i.rej i.gapped e)
@@ -103,8 +105,10 @@ take-owes Gap n info i ack = (refl, go i.srej i.rej i.gapped, λ e. by i.srej i.
     by false r g e = cc
 
 -- a frame that leaves all but an N(R) and a reply as it is
-number-takes : (turn : ℕ) (polls : Bool) (a b : Account) → TakesNumber turn a b → b.setup ≡ a.setup → b.phase ≡ Connected → b.incoming ≡ a.incoming → b.special ≡ a.special → b.wait.poll ≡ a.wait.poll → b.owes.busy_told ≡ a.owes.busy_told
-    → b.owes.answer ≡ a.owes.answer → (a.numbered ≡ true → b.numbered ≡ true) → b.own_breaks ≡ a.own_breaks → b.their_breaks ≡ a.their_breaks → b.owes.reply ≡ a.owes.reply || polls → (b.phase ≡ Connected) × Takes turn polls a b
+number-takes : (turn : ℕ) (polls : Bool) (a b : Account) → TakesNumber turn a b → b.setup ≡ a.setup → b.phase ≡ Connected
+    → b.incoming ≡ a.incoming → b.special ≡ a.special → b.wait.poll ≡ a.wait.poll → b.owes.busy_told ≡ a.owes.busy_told
+    → b.owes.answer ≡ a.owes.answer → (a.numbered ≡ true → b.numbered ≡ true) → b.own_breaks ≡ a.own_breaks
+    → b.their_breaks ≡ a.their_breaks → b.owes.reply ≡ a.owes.reply || polls → (b.phase ≡ Connected) × Takes turn polls a b
 number-takes turn polls a b number setup phase incoming special poll told answer numbered own their reply = (
   phase,
   record {
@@ -130,19 +134,22 @@ number-takes turn polls a b number setup phase incoming special poll told answer
     polled true p e f = cc
     polled false p e f = f
 
-takes-i : (z : Rates) (turn : ℕ) (role : Role) (a : Account) (ns nr : ℕ) (info : List ℕ) → Linked z turn turn role a → a.phase ≡ Connected → TakesSo turn false a (on_i turn ns nr false info a)
+takes-i : (z : Rates) (turn : ℕ) (role : Role) (a : Account) (ns nr : ℕ) (info : List ℕ) → Linked z turn turn role a → a.phase ≡ Connected
+    → TakesSo turn false a (on_i turn ns nr false info a)
 takes-i z turn role a ns nr info h e = go (meant a.outgoing.front a.outgoing.high nr) refl
   where
     k : ((after_kind (kind_of ns a.incoming) (offset a.incoming ns) info a.incoming).srej ≡ a.incoming.srej)
         × (credits.owing (after_kind (kind_of ns a.incoming) (offset a.incoming ns) info a.incoming) a.their_breaks.ack ≤ owed_by a + 8)
-        × (a.incoming.srej ≡ true → credits.owing (after_kind (kind_of ns a.incoming) (offset a.incoming ns) info a.incoming) a.their_breaks.ack ≤ owed_by a)
+        × (a.incoming.srej ≡ true
+        → credits.owing (after_kind (kind_of ns a.incoming) (offset a.incoming ns) info a.incoming) a.their_breaks.ack ≤ owed_by a)
     k = take-owes (kind_of ns a.incoming) (offset a.incoming ns) info a.incoming a.their_breaks.ack
 
     none : (r : Bool) → r ≡ false → r || false ≡ true → ⊥
     none true f g = cc
     none false f g = cc
 
-    go : (m : Option ℕ) → meant a.outgoing.front a.outgoing.high nr ≡ m → TakesSo turn false a (then_in (λ b. replying false (taking ns info b)) (on_number turn nr (option_map (advanced a.outgoing) m) a))
+    go : (m : Option ℕ) → meant a.outgoing.front a.outgoing.high nr ≡ m
+        → TakesSo turn false a (then_in (λ b. replying false (taking ns info b)) (on_number turn nr (option_map (advanced a.outgoing) m) a))
     go None f = tt
     go (Some n) f =
         let range = meant-range a.outgoing.front a.outgoing.high nr n f in
@@ -164,37 +171,55 @@ takes-i z turn role a ns nr info h e = go (meant a.outgoing.front a.outgoing.hig
           },
         )
 
-takes-resumed : (z : Rates) (turn : ℕ) (role : Role) (a : Account) (nr : ℕ) (hurries polls : Bool) (made : ℕ → Outgoing) → Linked z turn turn role a → a.phase ≡ Connected
+takes-resumed : (z : Rates) (turn : ℕ) (role : Role) (a : Account) (nr : ℕ) (hurries polls : Bool) (made : ℕ → Outgoing)
+    → Linked z turn turn role a → a.phase ≡ Connected
     → ((n : ℕ) → a.outgoing.front ≤ n → n ≤ a.outgoing.high → Heard a.outgoing (made n))
-    → TakesSo turn polls a (then_in (λ b. hurrying hurries (replying polls b)) (on_number turn nr (option_map resumed (option_map made (meant a.outgoing.front a.outgoing.high nr))) a))
+    → TakesSo turn polls a
+    (then_in (λ b. hurrying hurries (replying polls b))
+    (on_number turn nr (option_map resumed (option_map made (meant a.outgoing.front a.outgoing.high nr))) a))
 takes-resumed z turn role a nr hurries polls made h e each = go (meant a.outgoing.front a.outgoing.high nr) refl
   where
-    go : (m : Option ℕ) → meant a.outgoing.front a.outgoing.high nr ≡ m → TakesSo turn polls a (then_in (λ b. hurrying hurries (replying polls b)) (on_number turn nr (option_map resumed (option_map made m)) a))
+    go : (m : Option ℕ) → meant a.outgoing.front a.outgoing.high nr ≡ m
+        → TakesSo turn polls a
+        (then_in (λ b. hurrying hurries (replying polls b)) (on_number turn nr (option_map resumed (option_map made m)) a))
     go None f = tt
     go (Some n) f =
         let range = meant-range a.outgoing.front a.outgoing.high nr n f in
-        inr (number-takes turn polls a _ (inl (heard-resumed a.outgoing (made n) (each n range.0 range.1), refl)) refl e refl refl refl refl refl (λ x. refl) refl refl refl)
+        inr (number-takes turn polls a _
+        (inl (heard-resumed a.outgoing (made n) (each n range.0 range.1), refl)) refl e refl refl refl refl refl
+        (λ x. refl) refl refl refl)
 
-takes-ready : (z : Rates) (turn : ℕ) (role : Role) (a : Account) (command : Bool) (nr : ℕ) (pf : Bool) → Linked z turn turn role a → a.phase ≡ Connected → TakesSo turn (command && pf) a (on_ready turn command nr pf a)
+takes-ready : (z : Rates) (turn : ℕ) (role : Role) (a : Account) (command : Bool) (nr : ℕ) (pf : Bool) → Linked z turn turn role a
+    → a.phase ≡ Connected → TakesSo turn (command && pf) a (on_ready turn command nr pf a)
 takes-ready z turn role a command nr pf h e = go (ends_wait command pf a) refl
   where
     go : (b : Bool) → ends_wait command pf a ≡ b
-        → TakesSo turn (command && pf) a (then_in (λ c. hurrying b (replying (command && pf) c)) (on_number turn nr (option_map resumed (cond b (replied nr a.outgoing) (acknowledged nr a.outgoing))) a))
+        → TakesSo turn (command && pf) a
+        (then_in (λ c. hurrying b (replying (command && pf) c))
+        (on_number turn nr (option_map resumed (cond b (replied nr a.outgoing) (acknowledged nr a.outgoing))) a))
     go true f = takes-resumed z turn role a nr true (command && pf) (λ n. wait_ended (advanced a.outgoing n)) h e
-        (λ n low high. heard-wait_ended z turn turn a.outgoing a.wait.timer n h.sends low high (and-true a.outgoing.awaited (pf && not command) f))
-    go false f = takes-resumed z turn role a nr false (command && pf) (advanced a.outgoing) h e (λ n low high. heard-advanced z turn turn a.outgoing a.wait.timer n h.sends low high)
+        (λ n low high. heard-wait_ended z turn turn a.outgoing a.wait.timer n h.sends low high
+        (and-true a.outgoing.awaited (pf && not command) f))
+    go false f = takes-resumed z turn role a nr false (command && pf) (advanced a.outgoing) h e
+        (λ n low high. heard-advanced z turn turn a.outgoing a.wait.timer n h.sends low high)
 
-takes-rej : (z : Rates) (turn : ℕ) (role : Role) (a : Account) (command : Bool) (nr : ℕ) (pf : Bool) → Linked z turn turn role a → a.phase ≡ Connected → TakesSo turn (command && pf) a (on_rej turn command nr pf a)
+takes-rej : (z : Rates) (turn : ℕ) (role : Role) (a : Account) (command : Bool) (nr : ℕ) (pf : Bool) → Linked z turn turn role a
+    → a.phase ≡ Connected → TakesSo turn (command && pf) a (on_rej turn command nr pf a)
 takes-rej z turn role a command nr pf h e = go (ends_wait command pf a) refl
   where
     go : (b : Bool) → ends_wait command pf a ≡ b
-        → TakesSo turn (command && pf) a (then_in (λ c. hurrying b (replying (command && pf) c)) (on_number turn nr (option_map resumed (cond b (replied nr a.outgoing) (rejected nr a.outgoing))) a))
+        → TakesSo turn (command && pf) a
+        (then_in (λ c. hurrying b (replying (command && pf) c))
+        (on_number turn nr (option_map resumed (cond b (replied nr a.outgoing) (rejected nr a.outgoing))) a))
     go true f = takes-resumed z turn role a nr true (command && pf) (λ n. wait_ended (advanced a.outgoing n)) h e
-        (λ n low high. heard-wait_ended z turn turn a.outgoing a.wait.timer n h.sends low high (and-true a.outgoing.awaited (pf && not command) f))
+        (λ n low high. heard-wait_ended z turn turn a.outgoing a.wait.timer n h.sends low high
+        (and-true a.outgoing.awaited (pf && not command) f))
     go false f = takes-resumed z turn role a nr false (command && pf) (λ n. gone_back (advanced a.outgoing n)) h e
-        (λ n low high. heard-gone_back a.outgoing (advanced a.outgoing n) (heard-advanced z turn turn a.outgoing a.wait.timer n h.sends low high))
+        (λ n low high. heard-gone_back a.outgoing (advanced a.outgoing n)
+        (heard-advanced z turn turn a.outgoing a.wait.timer n h.sends low high))
 
-takes-srej : (z : Rates) (turn : ℕ) (role : Role) (a : Account) (nr : ℕ) → Linked z turn turn role a → a.phase ≡ Connected → TakesSo turn false a (on_srej turn nr a)
+takes-srej : (z : Rates) (turn : ℕ) (role : Role) (a : Account) (nr : ℕ) → Linked z turn turn role a → a.phase ≡ Connected
+    → TakesSo turn false a (on_srej turn nr a)
 takes-srej z turn role a nr h e = go (is_outstanding a.outgoing) refl (meant a.outgoing.front (a.outgoing.high - 1) nr) refl
   where
     plain : (r : Bool) → r ≡ r || false
@@ -202,25 +227,31 @@ takes-srej z turn role a nr h e = go (is_outstanding a.outgoing) refl (meant a.o
     plain false = refl
 
     go : (b : Bool) → is_outstanding a.outgoing ≡ b → (m : Option ℕ) → meant a.outgoing.front (a.outgoing.high - 1) nr ≡ m
-        → TakesSo turn false a (on_number turn nr (cond b (option_map (λ n. record a.outgoing { chosen = with_number n a.outgoing.chosen }) m) None) a)
+        → TakesSo turn false a
+        (on_number turn nr (cond b (option_map (λ n. record a.outgoing { chosen = with_number n a.outgoing.chosen }) m) None) a)
     go false f m g = tt
     go true f None g = tt
     go true f (Some n) g =
         let range = meant-range a.outgoing.front (a.outgoing.high - 1) nr n g in
         let out : a.outgoing.front < a.outgoing.high = grind (arith, nat_tests) in
-        inr (number-takes turn false a _ (inl (heard-selected z turn turn a.outgoing a.wait.timer n h.sends range.0 (omega (arith, range.1, out)), refl)) refl e refl refl refl refl refl (λ x. refl) refl refl (plain a.owes.reply))
+        inr (number-takes turn false a _
+        (inl (heard-selected z turn turn a.outgoing a.wait.timer n h.sends range.0 (omega (arith, range.1, out)), refl)) refl e refl
+        refl refl refl refl (λ x. refl) refl refl (plain a.owes.reply))
 
-same-takes : (turn : ℕ) (a : Account) → a.phase ≡ Connected → (b : Account) → b.outgoing ≡ a.outgoing → b.wait ≡ a.wait → b.setup ≡ a.setup → b.phase ≡ a.phase → b.incoming ≡ a.incoming → b.special ≡ a.special → b.owes ≡ a.owes → b.numbered ≡ a.numbered
+same-takes : (turn : ℕ) (a : Account) → a.phase ≡ Connected → (b : Account) → b.outgoing ≡ a.outgoing → b.wait ≡ a.wait → b.setup ≡ a.setup
+    → b.phase ≡ a.phase → b.incoming ≡ a.incoming → b.special ≡ a.special → b.owes ≡ a.owes → b.numbered ≡ a.numbered
     → b.own_breaks ≡ a.own_breaks → b.their_breaks ≡ a.their_breaks → TakesSo turn false a (Ok b)
 same-takes turn a e b outgoing wait setup phase incoming special owes numbered own their =
-    inr (number-takes turn false a b (inr (outgoing, ap (λ w. w.timer) wait)) setup (phase ∙ e) incoming special (ap (λ w. w.poll) wait) (ap (λ o. o.busy_told) owes) (ap (λ o. o.answer) owes) (λ x. numbered ∙ x) own their
+    inr (number-takes turn false a b (inr (outgoing, ap (λ w. w.timer) wait)) setup (phase ∙ e) incoming special (ap (λ w. w.poll) wait)
+    (ap (λ o. o.busy_told) owes) (ap (λ o. o.answer) owes) (λ x. numbered ∙ x) own their
     (ap (λ o. o.reply) owes ∙ plain a.owes.reply))
   where
     plain : (r : Bool) → r ≡ r || false
     plain true = refl
     plain false = refl
 
-answered-own : (z : Rates) (turn number : ℕ) (b : OwnBreaks) → Breaks z turn turn b → own_value turn (after_answer turn number b) ≤ own_value turn b
+answered-own : (z : Rates) (turn number : ℕ) (b : OwnBreaks) → Breaks z turn turn b
+    → own_value turn (after_answer turn number b) ≤ own_value turn b
 answered-own z turn number b s = go (waits b) (nat_eq number (b.answered % 2))
   where
     done : nat_lt (b.answered + 1) (length b.lengths) ≡ false
@@ -229,12 +260,15 @@ answered-own z turn number b s = go (waits b) (nat_eq number (b.answered % 2))
     new : cond (nat_lt (b.answered + 1) (length b.lengths)) (min 8 (turn - b.set)) (8 - (turn + 8 - turn)) ≡ 8 - (turn + 8 - turn)
     new = ap (λ w. cond w (min 8 (turn - b.set)) (8 - (turn + 8 - turn))) done
 
-    go : (w right : Bool) → own_value turn (cond (w && right) (record b { answered = b.answered + 1; brk = false; count = 0; rest = turn + 8 }) b) ≤ own_value turn b
+    go : (w right : Bool)
+        → own_value turn (cond (w && right) (record b { answered = b.answered + 1; brk = false; count = 0; rest = turn + 8 }) b) ≤ own_value
+        turn b
     go false right = omega arith
     go true false = omega arith
     go true true = omega (arith, new)
 
-takes-word : (z : Rates) (turn : ℕ) (role : Role) (a : Account) (word : Result BreakWord BreakFault) → Linked z turn turn role a → a.phase ≡ Connected → TakesSo turn false a (Ok (on_word turn word a))
+takes-word : (z : Rates) (turn : ℕ) (role : Role) (a : Account) (word : Result BreakWord BreakFault) → Linked z turn turn role a
+    → a.phase ≡ Connected → TakesSo turn false a (Ok (on_word turn word a))
 takes-word z turn role a (Err fault) h e = same-takes turn a e a refl refl refl refl refl refl refl refl refl refl
 takes-word z turn role a (Ok (Brk number length_octet)) h e =
     inr (
@@ -280,7 +314,8 @@ takes-word z turn role a (Ok (Ack number length_octet)) h e =
 takes-sabme : (turn : ℕ) (pf : Bool) (a : Account) → a.phase ≡ Connected → TakesSo turn false a (on_sabme pf a)
 takes-sabme turn pf a e = go a.numbered (is_originator a.setup.role) refl refl
   where
-    go : (n o : Bool) → a.numbered ≡ n → is_originator a.setup.role ≡ o → TakesSo turn false a (cond (n || o) (Err (peer_reset a)) (Ok (owing (answers.Ua pf) a)))
+    go : (n o : Bool) → a.numbered ≡ n → is_originator a.setup.role ≡ o
+        → TakesSo turn false a (cond (n || o) (Err (peer_reset a)) (Ok (owing (answers.Ua pf) a)))
     go true o f g = tt
     go false true f g = tt
     go false false f g =
@@ -293,7 +328,8 @@ takes-sabme turn pf a e = go a.numbered (is_originator a.setup.role) refl refl
             special = refl;
             poll = refl;
             told = refl;
-            answer = λ x m. (let wrong : false || false ≡ true = subst (λ k. k || false ≡ true) g (subst (λ k. is_originator a.setup.role || k ≡ true) f m) in cc);
+            answer = λ x m. (let wrong : false || false ≡ true =
+                subst (λ k. k || false ≡ true) g (subst (λ k. is_originator a.setup.role || k ≡ true) f m) in cc);
             numbered = λ x. x;
             own = omega arith;
             gain = omega arith;
@@ -307,7 +343,8 @@ takes-disc turn pf a Originator e = tt
 takes-disc turn pf a Answerer e = inl (record { phase = refl; answers = e; outgoing = refl })
 
 -- An own frame is heard: of no weight above two, and no RNR.
-takes-frame : (z : Rates) (turn : ℕ) (role : Role) (frame : Frame) (a : Account) → Linked z turn turn role a → a.phase ≡ Connected → frame_weight frame ≤ 2 → frame_rnrs frame ≡ 0 → TakesSo turn (frame_poll frame) a (on_connected frame turn a)
+takes-frame : (z : Rates) (turn : ℕ) (role : Role) (frame : Frame) (a : Account) → Linked z turn turn role a → a.phase ≡ Connected
+    → frame_weight frame ≤ 2 → frame_rnrs frame ≡ 0 → TakesSo turn (frame_poll frame) a (on_connected frame turn a)
 takes-frame z turn role (I ns nr true info) a h e w n = absurd (omega (arith, w))
 takes-frame z turn role (I ns nr false info) a h e w n = takes-i z turn role a ns nr info h e
 takes-frame z turn role (Rr command nr pf) a h e w n = takes-ready z turn role a command nr pf h e
@@ -323,7 +360,8 @@ takes-frame z turn role (Ui command pf info) a h e w n = takes-word z turn role 
 takes-frame z turn role (Xid command pf info) a h e w n = same-takes turn a e a refl refl refl refl refl refl refl refl refl refl
 takes-frame z turn role (Test command pf info) a h e w n = same-takes turn a e a refl refl refl refl refl refl refl refl refl refl
 
-pub takes : (z : Rates) (turn : ℕ) (role : Role) (arrived : Arrived) (a : Account) → Linked z turn turn role a → a.phase ≡ Connected → arrived_weight arrived ≤ 2 → arrived_rnrs arrived ≡ 0
+pub takes : (z : Rates) (turn : ℕ) (role : Role) (arrived : Arrived) (a : Account) → Linked z turn turn role a → a.phase ≡ Connected
+    → arrived_weight arrived ≤ 2 → arrived_rnrs arrived ≡ 0
     → TakesSo turn (of_arrived frame_poll arrived) a (hear turn arrived a)
 takes z turn role arrivals.Nothing a h e w n =
     inr (
@@ -343,9 +381,14 @@ takes z turn role arrivals.Nothing a h e w n =
         asked = λ x k. let wrong : false ≡ true = sym x ∙ k in cc;
       },
     )
-takes z turn role (arrivals.Pattern seen) a h e w n = subst (λ p. TakesSo turn false a (Ok (on_seen p seen turn a))) (sym e) (same-takes turn a e a refl refl refl refl refl refl refl refl refl refl)
-takes z turn role (arrivals.Frame frame) a h e w n = subst (λ p. TakesSo turn (frame_poll frame) a (on_frame p frame turn a)) (sym e) (takes-frame z turn role frame a h e w n)
+takes z turn role (arrivals.Pattern seen) a h e w n =
+    subst (λ p. TakesSo turn false a (Ok (on_seen p seen turn a))) (sym e)
+    (same-takes turn a e a refl refl refl refl refl refl refl refl refl refl)
+takes z turn role (arrivals.Frame frame) a h e w n =
+    subst (λ p. TakesSo turn (frame_poll frame) a (on_frame p frame turn a)) (sym e) (takes-frame z turn role frame a h e w n)
 
-pub takes-ok : (turn : ℕ) (polls : Bool) (a mid : Account) (r : Result Account LinkFault) → r ≡ Ok mid → TakesSo turn polls a r → Closes a mid ⊎ ((mid.phase ≡ Connected) × Takes turn polls a mid)
+pub takes-ok : (turn : ℕ) (polls : Bool) (a mid : Account) (r : Result Account LinkFault) → r ≡ Ok mid → TakesSo turn polls a r
+    → Closes a mid ⊎ ((mid.phase ≡ Connected) × Takes turn polls a mid)
 takes-ok turn polls a mid (Err fault) e h = cc
-takes-ok turn polls a mid (Ok b) e h = let same : b ≡ mid = cc in subst (λ c. Closes a c ⊎ ((c.phase ≡ Connected) × Takes turn polls a c)) same h
+takes-ok turn polls a mid (Ok b) e h = let same : b ≡ mid = cc in
+    subst (λ c. Closes a c ⊎ ((c.phase ≡ Connected) × Takes turn polls a c)) same h

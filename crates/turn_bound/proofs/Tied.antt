@@ -33,8 +33,10 @@ sents (suc n) role (t ∷ ts) = sents n role ts ++ sent_of (of role t).sent ∷ 
 
 -- The slots of the last turns: one fewer where they are all there, and else the same.
 pub data Part (n : ℕ) (role : Role) (ts : List Turn) : Type 0 where
-  Short : length (sents (suc n) role ts) < suc n → sents n role ts ≡ sents (suc n) role ts → sent_ago (suc n) role ts ≡ None → Part n role ts
-  Full : length (sents (suc n) role ts) ≡ suc n → sents (suc n) role ts ≡ sent_of (sent_ago (suc n) role ts) ∷ sents n role ts → Part n role ts
+  Short : length (sents (suc n) role ts) < suc n → sents n role ts ≡ sents (suc n) role ts → sent_ago (suc n) role ts ≡ None
+      → Part n role ts
+  Full : length (sents (suc n) role ts) ≡ suc n → sents (suc n) role ts ≡ sent_of (sent_ago (suc n) role ts) ∷ sents n role ts
+      → Part n role ts
 
 part : (n : ℕ) (role : Role) (ts : List Turn) → Part n role ts
 part zero role [] = Short (omega arith) refl refl
@@ -49,7 +51,8 @@ part (suc n) role (t ∷ ts) = go (part n role ts)
     ago = ap (λ k. sent_in role (slice_get (t ∷ ts) k)) (less (suc n)) ∙ ap (λ k. sent_in role (slice_get ts k)) (sym (less n))
 
     go : Part n role ts → Part (suc n) role (t ∷ ts)
-    go (Short few same none) = Short (omega (arith, few, length-append {A = Option Sent})) (ap (λ l. l ++ sent_of (of role t).sent ∷ []) same) (ago ∙ none)
+    go (Short few same none) =
+        Short (omega (arith, few, length-append {A = Option Sent})) (ap (λ l. l ++ sent_of (of role t).sent ∷ []) same) (ago ∙ none)
     go (Full all first) =
         Full (omega (arith, all, length-append {A = Option Sent}))
         (ap (λ l. l ++ sent_of (of role t).sent ∷ []) first ∙ ap (λ m. sent_of m ∷ sents (suc n) role (t ∷ ts)) (sym ago))
@@ -85,7 +88,8 @@ none-heard None (Lost s) e c = absurd c
 none-heard None Chance e c = absurd c
 none-heard (Some slot) heard e c = cc
 
-pub one-heard : (m : Option Spoken) (sent : Sent) (heard : Heard) → sent_of m ≡ Some sent → Crosses m heard → cond (is_lost heard) arrivals.Nothing (arrives sent) ≡ runs.arrival heard
+pub one-heard : (m : Option Spoken) (sent : Sent) (heard : Heard) → sent_of m ≡ Some sent → Crosses m heard
+    → cond (is_lost heard) arrivals.Nothing (arrives sent) ≡ runs.arrival heard
 one-heard None sent heard e c = cc
 one-heard (Some slot) sent heard e c =
     let same : slot.sent ≡ sent = cc in
@@ -104,15 +108,20 @@ map-snoc (s ∷ line) slot = ap (λ l. Some s.sent ∷ l) (map-snoc line slot)
 -- What arrives of a line, and what is on it once its sender has spoken.
 pub record Crossed (delay : ℕ) (role : Role) (ts : List Turn) (line : List Slot) (heard : Heard) : Type 0 where
   pub arrives_so : arrival delay (is_lost heard) line ≡ runs.arrival heard
-  pub lies_next : (t : Turn) (slot : Slot) → sent_of (of role t).sent ≡ Some slot.sent → Lies delay role (t ∷ ts) (left_on delay line ++ slot ∷ [])
+  pub lies_next : (t : Turn) (slot : Slot) → sent_of (of role t).sent ≡ Some slot.sent
+      → Lies delay role (t ∷ ts) (left_on delay line ++ slot ∷ [])
 
-heads : (slot : Slot) (rest : List Slot) (m : Option Sent) (l : List (Option Sent)) → map in_slot (slot ∷ rest) ≡ m ∷ l → (m ≡ Some slot.sent) × (map in_slot rest ≡ l)
+heads : (slot : Slot) (rest : List Slot) (m : Option Sent) (l : List (Option Sent)) → map in_slot (slot ∷ rest) ≡ m ∷ l
+    → (m ≡ Some slot.sent) × (map in_slot rest ≡ l)
 heads slot rest m l e = (cc, cc)
 
-next-lies : (n : ℕ) (role : Role) (ts : List Turn) (left : List Slot) → map in_slot left ≡ sents n role ts → (t : Turn) (slot : Slot) → sent_of (of role t).sent ≡ Some slot.sent → Lies (suc n) role (t ∷ ts) (left ++ slot ∷ [])
-next-lies n role ts left h t slot e = map-snoc left slot ∙ (ap (λ l. l ++ Some slot.sent ∷ []) h ∙ ap (λ m. sents n role ts ++ m ∷ []) (sym e))
+next-lies : (n : ℕ) (role : Role) (ts : List Turn) (left : List Slot) → map in_slot left ≡ sents n role ts → (t : Turn) (slot : Slot)
+    → sent_of (of role t).sent ≡ Some slot.sent → Lies (suc n) role (t ∷ ts) (left ++ slot ∷ [])
+next-lies n role ts left h t slot e =
+    map-snoc left slot ∙ (ap (λ l. l ++ Some slot.sent ∷ []) h ∙ ap (λ m. sents n role ts ++ m ∷ []) (sym e))
 
-crossed : (delay : ℕ) (role : Role) (ts : List Turn) (line : List Slot) (heard : Heard) → 1 ≤ delay → Lies delay role ts line → Crosses (sent_ago delay role ts) heard → Crossed delay role ts line heard
+crossed : (delay : ℕ) (role : Role) (ts : List Turn) (line : List Slot) (heard : Heard) → 1 ≤ delay → Lies delay role ts line
+    → Crosses (sent_ago delay role ts) heard → Crossed delay role ts line heard
 crossed zero role ts line heard some h c = absurd (omega (arith, some))
 crossed (suc n) role ts line heard some h c = go line h (part n role ts)
   where
@@ -126,16 +135,21 @@ crossed (suc n) role ts line heard some h c = go line h (part n role ts)
     }
     go [] h (Full all first) = let wrong : [] ≡ sent_of (sent_ago (suc n) role ts) ∷ sents n role ts = h ∙ first in cc
     go (slot ∷ rest) h (Short few same none) =
-        let short : nat_lt (length (slot ∷ rest)) (suc n) ≡ true = let e : length (slot ∷ rest) ≡ length (sents (suc n) role ts) = long (slot ∷ rest) h in grind (arith, nat_tests, few, e) in
+        let short : nat_lt (length (slot ∷ rest)) (suc n) ≡ true = let e : length (slot ∷ rest) ≡ length (sents (suc n) role ts) =
+        long (slot ∷ rest) h in grind (arith, nat_tests, few, e) in
         record {
-          arrives_so = ap (λ b. cond b arrivals.Nothing (cond (is_lost heard) arrivals.Nothing (arrives slot.sent))) short ∙ none-heard (sent_ago (suc n) role ts) heard none c;
-          lies_next = next-lies n role ts (left_on (suc n) (slot ∷ rest)) (ap (λ b. map in_slot (cond b (slot ∷ rest) rest)) short ∙ (h ∙ sym same));
+          arrives_so = ap (λ b. cond b arrivals.Nothing (cond (is_lost heard) arrivals.Nothing (arrives slot.sent))) short
+              ∙ none-heard (sent_ago (suc n) role ts) heard none c;
+          lies_next = next-lies n role ts (left_on (suc n) (slot ∷ rest))
+              (ap (λ b. map in_slot (cond b (slot ∷ rest) rest)) short ∙ (h ∙ sym same));
         }
     go (slot ∷ rest) h (Full all first) =
-        let full : nat_lt (length (slot ∷ rest)) (suc n) ≡ false = let e : length (slot ∷ rest) ≡ length (sents (suc n) role ts) = long (slot ∷ rest) h in grind (arith, nat_tests, all, e) in
+        let full : nat_lt (length (slot ∷ rest)) (suc n) ≡ false = let e : length (slot ∷ rest) ≡ length (sents (suc n) role ts) =
+        long (slot ∷ rest) h in grind (arith, nat_tests, all, e) in
         let k = heads slot rest (sent_of (sent_ago (suc n) role ts)) (sents n role ts) (h ∙ first) in
         record {
-          arrives_so = ap (λ b. cond b arrivals.Nothing (cond (is_lost heard) arrivals.Nothing (arrives slot.sent))) full ∙ one-heard (sent_ago (suc n) role ts) slot.sent heard k.0 c;
+          arrives_so = ap (λ b. cond b arrivals.Nothing (cond (is_lost heard) arrivals.Nothing (arrives slot.sent))) full
+              ∙ one-heard (sent_ago (suc n) role ts) slot.sent heard k.0 c;
           lies_next = next-lies n role ts (left_on (suc n) (slot ∷ rest)) (ap (λ b. map in_slot (cond b (slot ∷ rest) rest)) full ∙ k.1);
         }
 
@@ -167,13 +181,18 @@ none-sent : (delay : ℕ) (role : Role) → sents delay role [] ≡ []
 none-sent zero role = refl
 none-sent (suc n) role = refl
 
-forth : (delay : Role → ℕ) (link : Link) (t : Turn) (ts : List Turn) (ends : Ends) → HasDelays delay → (h : Tied delay link ts ends) → Carries delay ts t → Crossed (delay Originator) Originator ts h.forward t.answ.heard
-forth delay link t ts ends some h c = crossed (delay Originator) Originator ts h.forward t.answ.heard (some Originator) h.lies_forward (c Answerer)
+forth : (delay : Role → ℕ) (link : Link) (t : Turn) (ts : List Turn) (ends : Ends) → HasDelays delay → (h : Tied delay link ts ends)
+    → Carries delay ts t → Crossed (delay Originator) Originator ts h.forward t.answ.heard
+forth delay link t ts ends some h c =
+    crossed (delay Originator) Originator ts h.forward t.answ.heard (some Originator) h.lies_forward (c Answerer)
 
-back-again : (delay : Role → ℕ) (link : Link) (t : Turn) (ts : List Turn) (ends : Ends) → HasDelays delay → (h : Tied delay link ts ends) → Carries delay ts t → Crossed (delay Answerer) Answerer ts h.back t.orig.heard
-back-again delay link t ts ends some h c = crossed (delay Answerer) Answerer ts h.back t.orig.heard (some Answerer) h.lies_back (c Originator)
+back-again : (delay : Role → ℕ) (link : Link) (t : Turn) (ts : List Turn) (ends : Ends) → HasDelays delay → (h : Tied delay link ts ends)
+    → Carries delay ts t → Crossed (delay Answerer) Answerer ts h.back t.orig.heard
+back-again delay link t ts ends some h c =
+    crossed (delay Answerer) Answerer ts h.back t.orig.heard (some Answerer) h.lies_back (c Originator)
 
-tied-turn : (delay : Role → ℕ) (link : Link) (t : Turn) (ts : List Turn) (before after : Ends) → HasDelays delay → Tied delay link ts before → GoingTurn link ts before t after → Carries delay ts t → Tied delay link (t ∷ ts) after
+tied-turn : (delay : Role → ℕ) (link : Link) (t : Turn) (ts : List Turn) (before after : Ends) → HasDelays delay → Tied delay link ts before
+    → GoingTurn link ts before t after → Carries delay ts t → Tied delay link (t ∷ ts) after
 tied-turn delay link t ts before after some h g c =
     let o = g.speaking Originator in
     let a = g.speaking Answerer in
@@ -192,25 +211,27 @@ tied-turn delay link t ts before after some h g c =
       run = (
         state_of before h.forward h.back,
         h.run,
-        subst (λ n. queued.GoingTurn (link_of delay link) n (state_of before h.forward h.back) (turn_of t) (state_of after forward back)) (sym (turns-length ts)) (record {
-          orig_mid = g.mid.orig;
-          answ_mid = g.mid.answ;
-          orig_hears = ap (λ x. hear (length ts) x before.orig) xb.arrives_so ∙ (g.hearing Originator).hears;
-          answ_hears = ap (λ x. hear (length ts) x before.answ) xf.arrives_so ∙ (g.hearing Answerer).hears;
-          going = g.going;
-          orig_said = o.said;
-          answ_said = a.said;
-          orig_says = o.says;
-          answ_says = a.says;
-          orig_after = o.after_is;
-          answ_after = a.after_is;
-          forward_after = refl;
-          back_after = refl;
-        }),
+        subst (λ n. queued.GoingTurn (link_of delay link) n (state_of before h.forward h.back) (turn_of t) (state_of after forward back))
+            (sym (turns-length ts)) (record {
+              orig_mid = g.mid.orig;
+              answ_mid = g.mid.answ;
+              orig_hears = ap (λ x. hear (length ts) x before.orig) xb.arrives_so ∙ (g.hearing Originator).hears;
+              answ_hears = ap (λ x. hear (length ts) x before.answ) xf.arrives_so ∙ (g.hearing Answerer).hears;
+              going = g.going;
+              orig_said = o.said;
+              answ_said = a.said;
+              orig_says = o.says;
+              answ_says = a.says;
+              orig_after = o.after_is;
+              answ_after = a.after_is;
+              forward_after = refl;
+              back_after = refl;
+            }),
       );
     }
 
-pub tied : (delay : Role → ℕ) (link : Link) (ts : List Turn) (ends : Ends) → HasDelays delay → RunOf link ts ends → IsCarried delay ts → Tied delay link ts ends
+pub tied : (delay : Role → ℕ) (link : Link) (ts : List Turn) (ends : Ends) → HasDelays delay → RunOf link ts ends → IsCarried delay ts
+    → Tied delay link ts ends
 tied delay link [] ends some run c = record {
   forward = [];
   back = [];
@@ -218,9 +239,11 @@ tied delay link [] ends some run c = record {
   lies_back = sym (none-sent (delay Answerer) Answerer);
   run = ap (λ e. state_of e [] []) run;
 }
-tied delay link (t ∷ ts) ends some (before, run, g) c = tied-turn delay link t ts before ends some (tied delay link ts before some run c.1) g c.0
+tied delay link (t ∷ ts) ends some (before, run, g) c =
+    tied-turn delay link t ts before ends some (tied delay link ts before some run c.1) g c.0
 
-pub keeps : (tries period : ℕ) (delay : Role → ℕ) (link : Link) → KeepsTime tries period delay link → Keeps tries period (link_of delay link)
+pub keeps : (tries period : ℕ) (delay : Role → ℕ) (link : Link) → KeepsTime tries period delay link
+    → Keeps tries period (link_of delay link)
 keeps tries period delay link k =
     let o = k.timed Originator in
     let a = k.timed Answerer in

@@ -38,7 +38,8 @@ abbrev pub OnSaid : (Account → Type 0) → Result Said LinkFault → Type 0
 OnSaid P (Err fault) = Unit {0}
 OnSaid P (Ok said) = P said.account
 
-pub tries-well : (z : Rates) (turn : ℕ) (frame : Frame) (a : Account) → AreRates z → IsOf z a.setup → Tries z (turn + 1) turn a → OnSaid (Tried z turn a) (u_try turn frame a)
+pub tries-well : (z : Rates) (turn : ℕ) (frame : Frame) (a : Account) → AreRates z → IsOf z a.setup → Tries z (turn + 1) turn a
+    → OnSaid (Tried z turn a) (u_try turn frame a)
 tries-well z turn frame a y k h = go (nat_eq turn (a.wait.try_set + a.setup.period)) refl (nat_eq a.wait.try_count a.setup.tries) refl
   where
     due-is : nat_eq turn (a.wait.try_set + a.setup.period) ≡ nat_eq turn (a.wait.try_set + z.period)
@@ -47,14 +48,31 @@ tries-well z turn frame a y k h = go (nat_eq turn (a.wait.try_set + a.setup.peri
     spent-is : nat_eq a.wait.try_count a.setup.tries ≡ nat_eq a.wait.try_count z.tries
     spent-is = ap (λ n. nat_eq a.wait.try_count n) k.tries
 
-    by : (c : Account) (due : Bool) → Tried z turn a c → Tried z turn a (else_says (where_says due (says_frame frame (record c { wait = record c.wait { try = false } }))) (says slots.Flags c)).account
-    by c true t = record { tries = record { tied = t.tries.tied; started = t.tries.started; within = t.tries.within; tried = t.tries.tried }; falls = t.falls; setup = t.setup; phase = t.phase; terms = t.terms; outgoing = t.outgoing; timer = t.timer; own = t.own; ack = t.ack }
+    by : (c : Account) (due : Bool) → Tried z turn a c
+        → Tried z turn a (else_says (where_says due (says_frame frame (record c { wait = record c.wait { try = false } })))
+        (says slots.Flags c)).account
+    by c true t = record {
+      tries =
+          record { tied = t.tries.tied; started = t.tries.started; within = t.tries.within; tried = t.tries.tried };
+      falls = t.falls;
+      setup =
+          t.setup;
+      phase = t.phase;
+      terms = t.terms;
+      outgoing = t.outgoing;
+      timer = t.timer;
+      own = t.own;
+      ack = t.ack;
+    }
     by c false t = t
 
-    go : (due : Bool) → nat_eq turn (a.wait.try_set + a.setup.period) ≡ due → (spent' : Bool) → nat_eq a.wait.try_count a.setup.tries ≡ spent'
-        → OnSaid (Tried z turn a) (cond due (cond spent' (Err (spent turn a)) (Ok (tries_frame frame (trying_again turn a)))) (Ok (tries_frame frame a)))
+    go : (due : Bool) → nat_eq turn (a.wait.try_set + a.setup.period) ≡ due → (spent' : Bool)
+        → nat_eq a.wait.try_count a.setup.tries ≡ spent'
+        → OnSaid (Tried z turn a)
+        (cond due (cond spent' (Err (spent turn a)) (Ok (tries_frame frame (trying_again turn a)))) (Ok (tries_frame frame a)))
     go false d n e =
-        let later : turn + 1 ≤ a.wait.try_set + z.period = let f : nat_eq turn (a.wait.try_set + z.period) ≡ false = sym due-is ∙ d in grind (arith, nat_tests, h.within) in
+        let later : turn + 1 ≤ a.wait.try_set + z.period = let f : nat_eq turn (a.wait.try_set + z.period) ≡ false = sym due-is ∙ d in
+        grind (arith, nat_tests, h.within) in
         by a a.wait.try (record {
           tries = record { tied = h.tied; started = h.started; within = later; tried = h.tried };
           falls = omega (arith, tries_fit z a.wait.try_count y h.tried, h.within);
@@ -68,10 +86,18 @@ tries-well z turn frame a y k h = go (nat_eq turn (a.wait.try_set + a.setup.peri
         })
     go true d true e = tt
     go true d false e =
-        let now : turn ≡ a.wait.try_set + z.period = let f : nat_eq turn (a.wait.try_set + z.period) ≡ true = sym due-is ∙ d in grind (arith, nat_tests) in
-        let fewer : a.wait.try_count < z.tries = let f : nat_eq a.wait.try_count z.tries ≡ false = sym spent-is ∙ e in grind (arith, nat_tests, h.tried) in
+        let now : turn ≡ a.wait.try_set + z.period = let f : nat_eq turn (a.wait.try_set + z.period) ≡ true = sym due-is ∙ d in
+        grind (arith, nat_tests) in
+        let fewer : a.wait.try_count < z.tries = let f : nat_eq a.wait.try_count z.tries ≡ false = sym spent-is ∙ e in
+        grind (arith, nat_tests, h.tried) in
         by (trying_again turn a) true (record {
-          tries = record { tied = omega (arith, h.tied, now); started = omega arith; within = omega (arith, y.period); tried = omega (arith, fewer) };
+          tries = record {
+            tied = omega (arith, h.tied, now);
+            started = omega arith;
+            within = omega (arith, y.period);
+            tried =
+                omega (arith, fewer);
+          };
           falls = omega (arith, tries_fit z (a.wait.try_count + 1) y (omega (arith, fewer)), now);
           setup = refl;
           phase = refl;
@@ -83,7 +109,8 @@ tries-well z turn frame a y k h = go (nat_eq turn (a.wait.try_set + a.setup.peri
         })
 
 -- an originator in a U try
-negotiates : (z : Rates) (total breaks turn : ℕ) (a : Account) (r : Result Said LinkFault) → Unlinked a → a.phase ≡ Negotiating → OnSaid (Tried z turn a) r → SpeaksWell z total breaks turn Originator Negotiating a r
+negotiates : (z : Rates) (total breaks turn : ℕ) (a : Account) (r : Result Said LinkFault) → Unlinked a → a.phase ≡ Negotiating
+    → OnSaid (Tried z turn a) r → SpeaksWell z total breaks turn Originator Negotiating a r
 negotiates z total breaks turn a (Err fault) u e t = tt
 negotiates z total breaks turn a (Ok said) u e t = (
   Negotiating,
@@ -91,7 +118,11 @@ negotiates z total breaks turn a (Ok said) u e t = (
     phase = t.phase ∙ e;
     keeps = λ x. refl;
     opens = λ x. refl;
-    stands = (same-unlinked a said.account u t.outgoing t.timer t.own t.ack (subst (λ x. (1 ≤ x.window_o) × (1 ≤ x.window_a)) (sym t.terms) (u.window_o, u.window_a)), t.tries);
+    stands = (
+      same-unlinked a said.account u t.outgoing t.timer t.own t.ack
+          (subst (λ x. (1 ≤ x.window_o) × (1 ≤ x.window_a)) (sym t.terms) (u.window_o, u.window_a)),
+      t.tries,
+    );
     setup = t.setup;
     pieces = ap (λ o. o.pieces) t.outgoing;
     ended = ap (λ o. o.ended) t.outgoing;
@@ -100,7 +131,8 @@ negotiates z total breaks turn a (Ok said) u e t = (
   },
 )
 
-establishes : (z : Rates) (total breaks turn : ℕ) (a : Account) (r : Result Said LinkFault) → Unlinked a → a.phase ≡ Establishing → OnSaid (Tried z turn a) r → SpeaksWell z total breaks turn Originator Establishing a r
+establishes : (z : Rates) (total breaks turn : ℕ) (a : Account) (r : Result Said LinkFault) → Unlinked a → a.phase ≡ Establishing
+    → OnSaid (Tried z turn a) r → SpeaksWell z total breaks turn Originator Establishing a r
 establishes z total breaks turn a (Err fault) u e t = tt
 establishes z total breaks turn a (Ok said) u e t = (
   Establishing,
@@ -108,7 +140,11 @@ establishes z total breaks turn a (Ok said) u e t = (
     phase = t.phase ∙ e;
     keeps = λ x. refl;
     opens = λ x. refl;
-    stands = (same-unlinked a said.account u t.outgoing t.timer t.own t.ack (subst (λ x. (1 ≤ x.window_o) × (1 ≤ x.window_a)) (sym t.terms) (u.window_o, u.window_a)), t.tries);
+    stands = (
+      same-unlinked a said.account u t.outgoing t.timer t.own t.ack
+          (subst (λ x. (1 ≤ x.window_o) × (1 ≤ x.window_a)) (sym t.terms) (u.window_o, u.window_a)),
+      t.tries,
+    );
     setup = t.setup;
     pieces = ap (λ o. o.pieces) t.outgoing;
     ended = ap (λ o. o.ended) t.outgoing;
@@ -117,7 +153,8 @@ establishes z total breaks turn a (Ok said) u e t = (
   },
 )
 
-releases : (z : Rates) (total breaks turn : ℕ) (a : Account) (r : Result Said LinkFault) → a.phase ≡ Releasing → OnSaid (Tried z turn a) r → SpeaksWell z total breaks turn Originator Releasing a r
+releases : (z : Rates) (total breaks turn : ℕ) (a : Account) (r : Result Said LinkFault) → a.phase ≡ Releasing → OnSaid (Tried z turn a) r
+    → SpeaksWell z total breaks turn Originator Releasing a r
 releases z total breaks turn a (Err fault) e t = tt
 releases z total breaks turn a (Ok said) e t = (
   Releasing,
@@ -135,7 +172,8 @@ releases z total breaks turn a (Ok said) e t = (
 )
 
 -- it is told to release
-told-now : (z : Rates) (total breaks turn : ℕ) (a : Account) (r : Result Said LinkFault) → AreRates z → OnSaid (Tried z turn (trying Releasing turn a)) r → SpeaksWell z total breaks turn Originator Connected a r
+told-now : (z : Rates) (total breaks turn : ℕ) (a : Account) (r : Result Said LinkFault) → AreRates z
+    → OnSaid (Tried z turn (trying Releasing turn a)) r → SpeaksWell z total breaks turn Originator Connected a r
 told-now z total breaks turn a (Err fault) y t = tt
 told-now z total breaks turn a (Ok said) y t = (
   Releasing,
@@ -148,7 +186,15 @@ told-now z total breaks turn a (Ok said) y t = (
     pieces = ap (λ o. o.pieces) t.outgoing;
     ended = ap (λ o. o.ended) t.outgoing;
     lengths = ap (λ o. o.lengths) t.own;
-    falls = omega (arith, t.falls, ap (worth z total) t.outgoing, ap (λ o. z.quota * (breaks - length o.lengths)) t.own, y.quota, y.first, lasts-most (linked_lives turn a));
+    falls = omega (
+      arith,
+      t.falls,
+      ap (worth z total) t.outgoing,
+      ap (λ o. z.quota * (breaks - length o.lengths)) t.own,
+      y.quota,
+      y.first,
+      lasts-most (linked_lives turn a),
+    );
   },
 )
   where
@@ -157,7 +203,8 @@ told-now z total breaks turn a (Ok said) y t = (
     lasts-most false = omega arith
 
 -- what changes nothing of what counts
-same-speaks : (z : Rates) (total breaks turn : ℕ) (role : Role) (p : Phase) (a b : Account) → Stands z (turn + 1) (turn + 1) role p b → lives turn role p a ≡ false → lives (turn + 1) role p b ≡ false → time_left z (turn + 1) role p b ≡ 0
+same-speaks : (z : Rates) (total breaks turn : ℕ) (role : Role) (p : Phase) (a b : Account) → Stands z (turn + 1) (turn + 1) role p b
+    → lives turn role p a ≡ false → lives (turn + 1) role p b ≡ false → time_left z (turn + 1) role p b ≡ 0
     → b.phase ≡ p → b.setup ≡ a.setup → b.outgoing ≡ a.outgoing → b.own_breaks ≡ a.own_breaks → SpeaksAs z total breaks turn role p a p b
 same-speaks z total breaks turn role p a b s dead dead' none phase setup outgoing own = record {
   phase = phase;
@@ -168,25 +215,35 @@ same-speaks z total breaks turn role p a b s dead dead' none phase setup outgoin
   pieces = ap (λ o. o.pieces) outgoing;
   ended = ap (λ o. o.ended) outgoing;
   lengths = ap (λ o. o.lengths) own;
-  falls = omega (arith, none, ap (worth z total) outgoing, ap (λ o. z.quota * (breaks - length o.lengths)) own, lasts-dead (lives turn role p a) (lives (turn + 1) role p b) dead dead');
+  falls = omega (
+    arith,
+    none,
+    ap (worth z total) outgoing,
+    ap (λ o. z.quota * (breaks - length o.lengths)) own,
+    lasts-dead (lives turn role p a) (lives (turn + 1) role p b) dead dead',
+  );
 }
   where
     lasts-dead : (l m : Bool) → l ≡ false → m ≡ false → lasts z.room l m ≡ 0
     lasts-dead l m e f = rw (e, f) refl
 
-closed-speaks : (z : Rates) (total breaks turn : ℕ) (role : Role) (a : Account) → a.phase ≡ Closed → SpeaksWell z total breaks turn role Closed a (speak_answer a)
+closed-speaks : (z : Rates) (total breaks turn : ℕ) (role : Role) (a : Account) → a.phase ≡ Closed
+    → SpeaksWell z total breaks turn role Closed a (speak_answer a)
 closed-speaks z total breaks turn role a e = (Closed, go role a.owes.answer)
   where
-    go : (r : Role) (m : Option Answer) → SpeaksAs z total breaks turn r Closed a Closed (else_says (answering m a) (says slots.Flags a)).account
+    go : (r : Role) (m : Option Answer)
+        → SpeaksAs z total breaks turn r Closed a Closed (else_says (answering m a) (says slots.Flags a)).account
     go Originator None = same-speaks z total breaks turn Originator Closed a a tt refl refl refl e refl refl refl
     go Originator (Some answer) = same-speaks z total breaks turn Originator Closed a _ tt refl refl refl e refl refl refl
     go Answerer None = same-speaks z total breaks turn Answerer Closed a a tt refl refl refl e refl refl refl
     go Answerer (Some answer) = same-speaks z total breaks turn Answerer Closed a _ tt refl refl refl e refl refl refl
 
-early-speaks : (z : Rates) (total breaks turn : ℕ) (p : Phase) (a : Account) (silence : Sent) → IsEarly p → Unlinked a → a.phase ≡ p → SpeaksAs z total breaks turn Answerer p a p (else_says (answering a.owes.answer a) (says silence a)).account
+early-speaks : (z : Rates) (total breaks turn : ℕ) (p : Phase) (a : Account) (silence : Sent) → IsEarly p → Unlinked a → a.phase ≡ p
+    → SpeaksAs z total breaks turn Answerer p a p (else_says (answering a.owes.answer a) (says silence a)).account
 early-speaks z total breaks turn p a silence i u e = go a.owes.answer
   where
-    by : (b : Account) → Unlinked b → b.phase ≡ p → b.setup ≡ a.setup → b.outgoing ≡ a.outgoing → b.own_breaks ≡ a.own_breaks → SpeaksAs z total breaks turn Answerer p a p b
+    by : (b : Account) → Unlinked b → b.phase ≡ p → b.setup ≡ a.setup → b.outgoing ≡ a.outgoing → b.own_breaks ≡ a.own_breaks
+        → SpeaksAs z total breaks turn Answerer p a p b
     by b v phase setup outgoing own =
         let f = early z (turn + 1) turn p a i in
         let g = early z (turn + 1) (turn + 1) p b i in
@@ -196,44 +253,74 @@ early-speaks z total breaks turn p a silence i u e = go a.owes.answer
     go None = by a u e refl refl refl
     go (Some answer) = by _ (same-unlinked a _ u refl refl refl refl (u.window_o, u.window_a)) e refl refl refl
 
-detects : (z : Rates) (total breaks turn : ℕ) (a : Account) → AreRates z → IsOf z a.setup → Unlinked a → a.phase ≡ Detecting → SpeaksWell z total breaks turn Originator Detecting a (speak_detecting Originator turn a)
+detects : (z : Rates) (total breaks turn : ℕ) (a : Account) → AreRates z → IsOf z a.setup → Unlinked a → a.phase ≡ Detecting
+    → SpeaksWell z total breaks turn Originator Detecting a (speak_detecting Originator turn a)
 detects z total breaks turn a y k u e = go (nat_le ((a.setup.tries + 1) * a.setup.period) turn) refl
   where
     whole-is : (a.setup.tries + 1) * a.setup.period ≡ z.whole
     whole-is = ap (λ n. (n + 1) * a.setup.period) k.tries ∙ ap (λ p. (z.tries + 1) * p) k.period ∙ sym y.whole
 
-    go : (b : Bool) → nat_le ((a.setup.tries + 1) * a.setup.period) turn ≡ b → SpeaksWell z total breaks turn Originator Detecting a (cond b (Err NotDetected) (Ok (says slots.Odp a)))
+    go : (b : Bool) → nat_le ((a.setup.tries + 1) * a.setup.period) turn ≡ b
+        → SpeaksWell z total breaks turn Originator Detecting a (cond b (Err NotDetected) (Ok (says slots.Odp a)))
     go true f = tt
     go false f =
         let before : nat_le z.whole turn ≡ false = ap (λ w. nat_le w turn) (sym whole-is) ∙ f in
-        let less : turn < z.whole = grind (arith, nat_tests) in
-        (Detecting, record { phase = e; keeps = λ x. refl; opens = λ x. refl; stands = u; setup = refl; pieces = refl; ended = refl; lengths = refl; falls = omega (arith, less) })
+        let less : turn < z.whole = grind (arith, nat_tests) in (
+          Detecting,
+          record {
+            phase = e;
+            keeps = λ x. refl;
+            opens = λ x. refl;
+            stands = u;
+            setup = refl;
+            pieces = refl;
+            ended =
+                refl;
+            lengths = refl;
+            falls = omega (arith, less);
+          },
+        )
 
 -- Speaking: whatever the role and the phase.
-pub speaks-well : (z : Rates) (total breaks turn : ℕ) (role : Role) (p : Phase) (release : Bool) (a : Account) → AreRates z → IsOf z a.setup → Stands z (turn + 1) turn role p a → a.phase ≡ p → a.setup.role ≡ role
+pub speaks-well : (z : Rates) (total breaks turn : ℕ) (role : Role) (p : Phase) (release : Bool) (a : Account) → AreRates z → IsOf z a.setup
+    → Stands z (turn + 1) turn role p a → a.phase ≡ p → a.setup.role ≡ role
     → length a.outgoing.pieces ≤ total → SpeaksWell z total breaks turn role p a (speak turn release a)
-speaks-well z total breaks turn role p release a y k h e er all = subst (λ q. SpeaksWell z total breaks turn role p a (speak_in q turn release a)) (sym e) (go role p h e er)
+speaks-well z total breaks turn role p release a y k h e er all =
+    subst (λ q. SpeaksWell z total breaks turn role p a (speak_in q turn release a)) (sym e) (go role p h e er)
   where
-    go : (r : Role) (q : Phase) → Stands z (turn + 1) turn r q a → a.phase ≡ q → a.setup.role ≡ r → SpeaksWell z total breaks turn r q a (speak_in q turn release a)
-    go Originator Detecting s f g = subst (λ x. SpeaksWell z total breaks turn Originator Detecting a (speak_detecting x turn a)) (sym g) (detects z total breaks turn a y k s f)
+    go : (r : Role) (q : Phase) → Stands z (turn + 1) turn r q a → a.phase ≡ q → a.setup.role ≡ r
+        → SpeaksWell z total breaks turn r q a (speak_in q turn release a)
+    go Originator Detecting s f g =
+        subst (λ x. SpeaksWell z total breaks turn Originator Detecting a (speak_detecting x turn a)) (sym g)
+        (detects z total breaks turn a y k s f)
     go Originator Negotiating s f g =
         subst (λ x. SpeaksWell z total breaks turn Originator Negotiating a (speak_negotiating x turn a)) (sym g)
-        (negotiates z total breaks turn a (u_try turn (Xid true false (written a.setup.offer)) a) s.0 f (tries-well z turn (Xid true false (written a.setup.offer)) a y k s.1))
-    go Originator Establishing s f g = establishes z total breaks turn a (u_try turn (Sabme true) a) s.0 f (tries-well z turn (Sabme true) a y k s.1)
+        (negotiates z total breaks turn a (u_try turn (Xid true false (written a.setup.offer)) a) s.0 f
+        (tries-well z turn (Xid true false (written a.setup.offer)) a y k s.1))
+    go Originator Establishing s f g =
+        establishes z total breaks turn a (u_try turn (Sabme true) a) s.0 f (tries-well z turn (Sabme true) a y k s.1)
     go Originator Connected s f g = by (release && is_originator a.setup.role)
       where
-        by : (b : Bool) → SpeaksWell z total breaks turn Originator Connected a (cond b (speak_releasing turn (trying Releasing turn a)) (speak_linked turn a))
+        by : (b : Bool) → SpeaksWell z total breaks turn Originator Connected a
+            (cond b (speak_releasing turn (trying Releasing turn a)) (speak_linked turn a))
         by true = told-now z total breaks turn a (u_try turn (Disc true) (trying Releasing turn a)) y
-            (tries-well z turn (Disc true) (trying Releasing turn a) y k (record { tied = omega arith; started = omega arith; within = omega arith; tried = omega arith }))
+            (tries-well z turn (Disc true) (trying Releasing turn a) y k
+            (record { tied = omega arith; started = omega arith; within = omega arith; tried = omega arith }))
         by false = speaks-linked z total breaks turn Originator a y k s f g all
     go Originator Releasing s f g = releases z total breaks turn a (u_try turn (Disc true) a) f (tries-well z turn (Disc true) a y k s)
     go Originator Closed s f g = closed-speaks z total breaks turn Originator a f
-    go Answerer Detecting s f g = subst (λ x. SpeaksWell z total breaks turn Answerer Detecting a (speak_detecting x turn a)) (sym g) (Detecting, early-speaks z total breaks turn Detecting a slots.Mark tt s f)
-    go Answerer Negotiating s f g = subst (λ x. SpeaksWell z total breaks turn Answerer Negotiating a (speak_negotiating x turn a)) (sym g) (Negotiating, early-speaks z total breaks turn Negotiating a slots.Flags tt s f)
+    go Answerer Detecting s f g =
+        subst (λ x. SpeaksWell z total breaks turn Answerer Detecting a (speak_detecting x turn a)) (sym g)
+        (Detecting, early-speaks z total breaks turn Detecting a slots.Mark tt s f)
+    go Answerer Negotiating s f g =
+        subst (λ x. SpeaksWell z total breaks turn Answerer Negotiating a (speak_negotiating x turn a)) (sym g)
+        (Negotiating, early-speaks z total breaks turn Negotiating a slots.Flags tt s f)
     go Answerer Establishing s f g = absurd s
     go Answerer Connected s f g = by (is_originator a.setup.role) (ap is_originator g) release
       where
-        by : (o : Bool) → o ≡ false → (b : Bool) → SpeaksWell z total breaks turn Answerer Connected a (cond (b && o) (speak_releasing turn (trying Releasing turn a)) (speak_linked turn a))
+        by : (o : Bool) → o ≡ false → (b : Bool)
+            → SpeaksWell z total breaks turn Answerer Connected a
+            (cond (b && o) (speak_releasing turn (trying Releasing turn a)) (speak_linked turn a))
         by true w b = cc
         by false w true = speaks-linked z total breaks turn Answerer a y k s f g all
         by false w false = speaks-linked z total breaks turn Answerer a y k s f g all

@@ -53,7 +53,8 @@ time_left z turn Answerer Closed a = 0
 -- what an end is worth, of so many segments and breaks in all
 abbrev pub value : Rates → ℕ → ℕ → ℕ → Role → Phase → Account → ℕ
 value z total breaks turn role phase a =
-    worth z total a.outgoing + z.quota * (breaks - length a.own_breaks.lengths) + z.quota * phases_left role phase + time_left z turn role phase a
+    worth z total a.outgoing + z.quota *
+    (breaks - length a.own_breaks.lengths) + z.quota * phases_left role phase + time_left z turn role phase a
 
 -- an end lives while a clock runs or it rests from a break
 abbrev pub linked_lives : ℕ → Account → Bool
@@ -132,7 +133,8 @@ four_if b = cond b 4 0
 
 abbrev pub dues : ℕ → Account → ℕ
 dues total a =
-    two_if (is_some a.owes.answer) + two_if a.owes.reply + two_if (is_some a.their_breaks.ack) + two_if a.incoming.rej + four_if a.wait.poll + two_if a.owes.busy_told
+    two_if (is_some a.owes.answer) + two_if a.owes.reply + two_if
+    (is_some a.their_breaks.ack) + two_if a.incoming.rej + four_if a.wait.poll + two_if a.owes.busy_told
     + one_if (is_free total a.outgoing && not a.special)
 
 -- what a slot on the line makes due

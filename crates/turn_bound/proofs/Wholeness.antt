@@ -51,7 +51,8 @@ whole-is o e = go o.ended refl (nat_eq o.front (length o.pieces)) refl e
 pub is-whole : (o : Outgoing) → IsWhole o → is_whole o ≡ true
 is-whole o (e, f) = let same : nat_eq o.front (length o.pieces) ≡ true = grind (arith, nat_tests, f) in rw (e, same) refl
 
-unlinked-of : (z : Rates) (before turn : ℕ) (role : Role) (p : Phase) (a : Account) → Stands z before turn role p a → is_begun p ≡ false → Unlinked a
+unlinked-of : (z : Rates) (before turn : ℕ) (role : Role) (p : Phase) (a : Account) → Stands z before turn role p a → is_begun p ≡ false
+    → Unlinked a
 unlinked-of z before turn Originator Detecting a h e = h
 unlinked-of z before turn Originator Negotiating a h e = h.0
 unlinked-of z before turn Originator Establishing a h e = h.0
@@ -63,7 +64,8 @@ unlinked-of z before turn r Releasing a h e = cc
 unlinked-of z before turn r Closed a h e = cc
 
 -- one end in a turn where no user is busy
-pub record InTurn (z : Rates) (user : User) (turn : ℕ) (role : Role) (arrived : Arrived) (a mid : Account) (released release : Bool) (said : Said) : Type 0 where
+pub record InTurn (z : Rates) (user : User) (turn : ℕ) (role : Role) (arrived : Arrived) (a mid : Account) (released release : Bool)
+    (said : Said) : Type 0 where
   pub rates : AreRates z
   pub is_of : IsOf z a.setup
   pub stands : Stands z turn turn role a.phase a
@@ -74,11 +76,14 @@ pub record InTurn (z : Rates) (user : User) (turn : ℕ) (role : Role) (arrived 
   pub hears : hear turn arrived a ≡ Ok mid
   pub speaks : speak turn release (served_account user turn released mid) ≡ Ok said
 
-first-of : (z : Rates) (user : User) (turn : ℕ) (role : Role) (arrived : Arrived) (a mid : Account) (released release : Bool) (said : Said) → InTurn z user turn role arrived a mid released release said
+first-of : (z : Rates) (user : User) (turn : ℕ) (role : Role) (arrived : Arrived) (a mid : Account) (released release : Bool) (said : Said)
+    → InTurn z user turn role arrived a mid released release said
     → (q : Phase) × HeardAs z (length a.outgoing.pieces) (length user.breaks) turn (z.quota * arrived_rnrs arrived) role a.phase a q mid
 first-of z user turn role arrived a mid released release said i =
-    heard-ok z (length a.outgoing.pieces) (length user.breaks) turn (z.quota * arrived_rnrs arrived) role a.phase a mid (hear turn arrived a) i.hears
-    (hears-well z (length a.outgoing.pieces) (length user.breaks) turn role a.phase arrived a i.rates i.is_of i.stands refl i.role_is (omega arith))
+    heard-ok z (length a.outgoing.pieces) (length user.breaks) turn (z.quota * arrived_rnrs arrived) role a.phase a mid
+    (hear turn arrived a) i.hears
+    (hears-well z (length a.outgoing.pieces) (length user.breaks) turn role a.phase arrived a i.rates i.is_of i.stands refl i.role_is
+    (omega arith))
 
 -- what is served and what is said of it
 pub record Spoken (z : Rates) (turn : ℕ) (role : Role) (b : Account) (said : Said) : Type 0 where
@@ -90,18 +95,21 @@ pub record Spoken (z : Rates) (turn : ℕ) (role : Role) (b : Account) (said : S
   pub ended : said.account.outgoing.ended ≡ b.outgoing.ended
   pub front : said.account.outgoing.front ≡ b.outgoing.front
 
-spoken-of : (z : Rates) (user : User) (turn : ℕ) (role : Role) (arrived : Arrived) (a mid : Account) (released release : Bool) (said : Said) → InTurn z user turn role arrived a mid released release said
+spoken-of : (z : Rates) (user : User) (turn : ℕ) (role : Role) (arrived : Arrived) (a mid : Account) (released release : Bool) (said : Said)
+    → InTurn z user turn role arrived a mid released release said
     → Spoken z turn role (served_account user turn released mid) said
 spoken-of z user turn role arrived a mid released release said i =
     let b : Account = served_account user turn released mid in
     let first = first-of z user turn role arrived a mid released release said i in
     let s = serves-all user turn released mid in
-    let serves = serves-well z (length a.outgoing.pieces) (length user.breaks) turn (is_busy turn user.busy) role first.0 mid b i.rates first.1.stands first.1.phase s in
+    let serves = serves-well z (length a.outgoing.pieces) (length user.breaks) turn
+    (is_busy turn user.busy) role first.0 mid b i.rates first.1.stands first.1.phase s in
     let phase : b.phase ≡ first.0 = s.phase ∙ first.1.phase in
     let k : IsOf z b.setup = subst (IsOf z) (sym (s.setup ∙ first.1.setup)) i.is_of in
     let er : b.setup.role ≡ role = ap (λ x. x.role) (s.setup ∙ first.1.setup) ∙ i.role_is in
     let spoke = said-ok z (length b.outgoing.pieces) (length user.breaks) turn role first.0 b said (speak turn release b) i.speaks
-    (speaks-well z (length b.outgoing.pieces) (length user.breaks) turn role first.0 release b i.rates k serves.stands phase er (omega arith)) in
+    (speaks-well z (length b.outgoing.pieces) (length user.breaks) turn role first.0 release b i.rates k serves.stands phase er
+    (omega arith)) in
     let c = says-calm turn release b said (λ x. s.busy_now (ap is_connected (sym s.phase) ∙ x) ∙ i.calm) i.speaks in
     record {
       stands = subst (λ q. Stands z (turn + 1) turn role q b) (sym phase) serves.stands;
@@ -113,18 +121,22 @@ spoken-of z user turn role arrived a mid released release said i =
       front = ap (λ m. m.1) c.0;
     }
 
-said-whole : (z : Rates) (turn : ℕ) (role : Role) (b : Account) (said : Said) → Spoken z turn role b said → IsWhole b.outgoing → IsWhole said.account.outgoing
+said-whole : (z : Rates) (turn : ℕ) (role : Role) (b : Account) (said : Said) → Spoken z turn role b said → IsWhole b.outgoing
+    → IsWhole said.account.outgoing
 said-whole z turn role b said s w = (s.ended ∙ w.0, s.front ∙ (w.1 ∙ ap (λ x. length x) (sym s.pieces)))
 
 -- An end that is whole stays so.
-pub whole-stays : (z : Rates) (user : User) (turn : ℕ) (role : Role) (arrived : Arrived) (a mid : Account) (released release : Bool) (said : Said) → InTurn z user turn role arrived a mid released release said
+pub whole-stays : (z : Rates) (user : User) (turn : ℕ) (role : Role) (arrived : Arrived) (a mid : Account) (released release : Bool)
+    (said : Said) → InTurn z user turn role arrived a mid released release said
     → IsWhole a.outgoing → IsWhole said.account.outgoing
-whole-stays z user turn role arrived a mid released release said i w = said-whole z turn role b said (spoken-of z user turn role arrived a mid released release said i) (served (hearing a.phase refl))
+whole-stays z user turn role arrived a mid released release said i w =
+    said-whole z turn role b said (spoken-of z user turn role arrived a mid released release said i) (served (hearing a.phase refl))
   where
     b : Account
     b = served_account user turn released mid
 
-    first : (q : Phase) × HeardAs z (length a.outgoing.pieces) (length user.breaks) turn (z.quota * arrived_rnrs arrived) role a.phase a q mid
+    first : (q : Phase) × HeardAs z (length a.outgoing.pieces) (length user.breaks) turn
+        (z.quota * arrived_rnrs arrived) role a.phase a q mid
     first = first-of z user turn role arrived a mid released release said i
 
     s : Served turn (length user.breaks) (is_busy turn user.busy) mid b
@@ -137,7 +149,8 @@ whole-stays z user turn role arrived a mid released release said i w = said-whol
     same e = subst IsWhole (sym e) w
 
     early : is_begun a.phase ≡ false → IsWhole mid.outgoing
-    early e = let none : a.outgoing.ended ≡ false = ap (λ o. o.ended) (unlinked-of z turn turn role a.phase a i.stands e).outgoing in let wrong : true ≡ false = sym w.0 ∙ none in cc
+    early e = let none : a.outgoing.ended ≡ false = ap (λ o. o.ended) (unlinked-of z turn turn role a.phase a i.stands e).outgoing in
+        let wrong : true ≡ false = sym w.0 ∙ none in cc
 
     late : is_released a.phase ≡ true → IsWhole mid.outgoing
     late e = same ((goes-on turn arrived a mid i.quiet i.hears).late e)
@@ -148,7 +161,9 @@ whole-stays z user turn role arrived a mid released release said i w = said-whol
     hearing Establishing e = early (ap is_begun e)
     hearing Releasing e = late (ap is_released e)
     hearing Closed e = late (ap is_released e)
-    hearing Connected e = by (takes-ok turn (of_arrived frame_poll arrived) a mid (hear turn arrived a) i.hears (takes z turn role arrived a linked e i.light i.quiet))
+    hearing Connected e =
+        by (takes-ok turn (of_arrived frame_poll arrived) a mid (hear turn arrived a) i.hears
+        (takes z turn role arrived a linked e i.light i.quiet))
       where
         linked : Linked z turn turn role a
         linked = linked-stand z turn turn role a (subst (λ q. Stands z turn turn role q a) e i.stands)
@@ -156,7 +171,16 @@ whole-stays z user turn role arrived a mid released release said i w = said-whol
         number : TakesNumber turn a mid → IsWhole mid.outgoing
         number (inl n) = (
           first.1.ended ∙ w.0,
-          omega (arith, n.0.front_low, n.0.front_from, n.0.from_high, n.0.high, linked.sends.high_pieces, w.1, ap (λ x. length x) first.1.pieces),
+          omega (
+            arith,
+            n.0.front_low,
+            n.0.front_from,
+            n.0.from_high,
+            n.0.high,
+            linked.sends.high_pieces,
+            w.1,
+            ap (λ x. length x) first.1.pieces,
+          ),
         )
         number (inr n) = same n.0
 
@@ -165,7 +189,8 @@ whole-stays z user turn role arrived a mid released release said i w = said-whol
         by (inr t) = number t.1.number
 
 -- An end that is told to release, of one that isn't: it was Connected, and told now.
-pub told-now : (z : Rates) (turn : ℕ) (role : Role) (release : Bool) (b : Account) (said : Said) → AreRates z → Spoken z turn role b said → speak turn release b ≡ Ok said → is_released b.phase ≡ false → is_released said.account.phase ≡ true → release ≡ true
+pub told-now : (z : Rates) (turn : ℕ) (role : Role) (release : Bool) (b : Account) (said : Said) → AreRates z → Spoken z turn role b said
+    → speak turn release b ≡ Ok said → is_released b.phase ≡ false → is_released said.account.phase ≡ true → release ≡ true
 told-now z turn role release b said y s e open_ told = go (is_connected b.phase) refl
   where
     only-connected : (p : Phase) → is_connected p ≡ true → p ≡ Connected
@@ -187,15 +212,22 @@ told-now z turn role release b said y s e open_ told = go (is_connected b.phase)
         linked : b.phase ≡ Connected
         linked = only-connected b.phase h
 
-        by : (x : Bool) → release && is_originator b.setup.role ≡ x → cond x (speak_releasing turn (trying Releasing turn b)) (speak_linked turn b) ≡ Ok said → release ≡ true
+        by : (x : Bool) → release && is_originator b.setup.role ≡ x
+            → cond x (speak_releasing turn (trying Releasing turn b)) (speak_linked turn b) ≡ Ok said → release ≡ true
         by true f g = first-true release (is_originator b.setup.role) f
         by false f g =
-            let p = spoke z (length b.outgoing.pieces) 0 turn role b said y s.is_of (linked-stand z (turn + 1) turn role b (subst (λ q. Stands z (turn + 1) turn role q b) linked s.stands)) s.role_is (omega arith) g in
+            let p = spoke z (length b.outgoing.pieces) 0 turn role b said y s.is_of
+            (linked-stand z (turn + 1) turn role b (subst (λ q. Stands z (turn + 1) turn role q b) linked s.stands)) s.role_is
+            (omega arith) g in
             let wrong : true ≡ false = sym told ∙ ap is_released (p.stepped.same.phase ∙ (p.is_timed.same.phase ∙ linked)) in cc
 
-in-turn : (tries period : ℕ) (delay : Role → ℕ) (link : Link) (ts : List Turn) (before : Ends) (t : Turn) (after : Ends) (role : Role) → KeepsTime tries period delay link → NeverBusy link → RunOf link ts before → IsCarried delay (t ∷ ts)
-    → (g : GoingTurn link ts before t after) → (release : Bool) → speak (length ts) release (served_account (of role link).user (length ts) (is_released g.mid.orig.phase) (of role g.mid)) ≡ Ok (g.speaking role).said
-    → InTurn (rates tries period) (of role link).user (length ts) role (arrival (of role t).heard) (of role before) (of role g.mid) (is_released g.mid.orig.phase) release (g.speaking role).said
+in-turn : (tries period : ℕ) (delay : Role → ℕ) (link : Link) (ts : List Turn) (before : Ends) (t : Turn) (after : Ends) (role : Role)
+    → KeepsTime tries period delay link → NeverBusy link → RunOf link ts before → IsCarried delay (t ∷ ts)
+    → (g : GoingTurn link ts before t after) → (release : Bool)
+    → speak (length ts) release (served_account (of role link).user (length ts) (is_released g.mid.orig.phase) (of role g.mid)) ≡ Ok
+    (g.speaking role).said
+    → InTurn (rates tries period) (of role link).user (length ts) role (arrival (of role t).heard) (of role before) (of role g.mid)
+    (is_released g.mid.orig.phase) release (g.speaking role).said
 in-turn tries period delay link ts before t after role k n run c g release says =
     let e = end-at tries period delay link ts before role k run c.1 in
     let light = light-arrival delay link ts before t role n run c.0 in
@@ -228,16 +260,21 @@ and-both true false h = cc
 and-both false y h = cc
 
 -- Once the originator is told to release both ends are whole.
-pub released-whole : (tries period : ℕ) (delay : Role → ℕ) (link : Link) (ts : List Turn) (ends : Ends) → KeepsTime tries period delay link → NeverBusy link → RunOf link ts ends → IsCarried delay ts
+pub released-whole : (tries period : ℕ) (delay : Role → ℕ) (link : Link) (ts : List Turn) (ends : Ends) → KeepsTime tries period delay link
+    → NeverBusy link → RunOf link ts ends → IsCarried delay ts
     → is_released ends.orig.phase ≡ true → (role : Role) → IsWhole (of role ends).outgoing
-released-whole tries period delay link [] ends k n run c e role = let wrong : true ≡ false = sym e ∙ ap (λ (x : Ends). is_released x.orig.phase) run in cc
-released-whole tries period delay link (t ∷ ts) ends k n (before, run, g) c e role = go (λ f. released-whole tries period delay link ts before k n run c.1 f) (is_released before.orig.phase) refl
+released-whole tries period delay link [] ends k n run c e role = let wrong : true ≡ false =
+    sym e ∙ ap (λ (x : Ends). is_released x.orig.phase) run in cc
+released-whole tries period delay link (t ∷ ts) ends k n (before, run, g) c e role =
+    go (λ f. released-whole tries period delay link ts before k n run c.1 f) (is_released before.orig.phase) refl
   where
     turn : ℕ
     turn = length ts
 
-    i : (r : Role) → (release : Bool) → speak turn release (served_account (of r link).user turn (is_released g.mid.orig.phase) (of r g.mid)) ≡ Ok (g.speaking r).said
-        → InTurn (rates tries period) (of r link).user turn r (arrival (of r t).heard) (of r before) (of r g.mid) (is_released g.mid.orig.phase) release (g.speaking r).said
+    i : (r : Role) → (release : Bool)
+        → speak turn release (served_account (of r link).user turn (is_released g.mid.orig.phase) (of r g.mid)) ≡ Ok (g.speaking r).said
+        → InTurn (rates tries period) (of r link).user turn r (arrival (of r t).heard) (of r before) (of r g.mid)
+        (is_released g.mid.orig.phase) release (g.speaking r).said
     i r release says = in-turn tries period delay link ts before t ends r k n run c g release says
 
     after : (r : Role) → IsWhole (g.speaking r).said.account.outgoing → IsWhole (of r ends).outgoing
@@ -246,20 +283,25 @@ released-whole tries period delay link (t ∷ ts) ends k n (before, run, g) c e 
     stayed : ((r : Role) → IsWhole (of r before).outgoing) → (r : Role) → IsWhole (of r ends).outgoing
     stayed w r =
         let sp = said-speaks link turn g.mid r (g.speaking r).said (g.speaking r).says in
-        after r (whole-stays (rates tries period) (of r link).user turn r (arrival (of r t).heard) (of r before) (of r g.mid) (is_released g.mid.orig.phase) sp.0 (g.speaking r).said (i r sp.0 sp.1) (w r))
+        after r (whole-stays (rates tries period) (of r link).user turn r (arrival (of r t).heard) (of r before) (of r g.mid)
+        (is_released g.mid.orig.phase) sp.0 (g.speaking r).said (i r sp.0 sp.1) (w r))
 
     -- the originator is told in this turn: both have finished
     finished : releases link turn g.mid ≡ true → (r : Role) → IsWhole (of r ends).outgoing
     finished told r =
         let sp = said-speaks link turn g.mid r (g.speaking r).said (g.speaking r).says in
-        after r (said-whole (rates tries period) turn r (served_account (of r link).user turn (is_released g.mid.orig.phase) (of r g.mid)) (g.speaking r).said
-        (spoken-of (rates tries period) (of r link).user turn r (arrival (of r t).heard) (of r before) (of r g.mid) (is_released g.mid.orig.phase) sp.0 (g.speaking r).said (i r sp.0 sp.1))
-        (finished-whole (of r link).user turn (served_account (of r link).user turn (is_released g.mid.orig.phase) (of r g.mid)) (of-both r)))
+        after r (said-whole (rates tries period) turn r (served_account (of r link).user turn (is_released g.mid.orig.phase) (of r g.mid))
+        (g.speaking r).said
+        (spoken-of (rates tries period) (of r link).user turn r (arrival (of r t).heard) (of r before) (of r g.mid)
+        (is_released g.mid.orig.phase) sp.0 (g.speaking r).said (i r sp.0 sp.1))
+        (finished-whole (of r link).user turn (served_account (of r link).user turn (is_released g.mid.orig.phase) (of r g.mid))
+        (of-both r)))
       where
         b : (finished_at link turn g.mid Originator ≡ true) × (finished_at link turn g.mid Answerer ≡ true)
         b = and-both (finished_at link turn g.mid Originator) (finished_at link turn g.mid Answerer) told
 
-        of-both : (q : Role) → has_finished (of q link).user turn (served_account (of q link).user turn (is_released g.mid.orig.phase) (of q g.mid)) ≡ true
+        of-both : (q : Role) → has_finished (of q link).user turn
+            (served_account (of q link).user turn (is_released g.mid.orig.phase) (of q g.mid)) ≡ true
         of-both Originator = b.0
         of-both Answerer = b.1
 
@@ -270,10 +312,12 @@ released-whole tries period delay link (t ∷ ts) ends k n (before, run, g) c e 
         let x = i Originator (releases link turn g.mid) o.says in
         let s = serves-all link.orig.user turn (is_released g.mid.orig.phase) g.mid.orig in
         told-now (rates tries period) turn Originator (releases link turn g.mid) b o.said x.rates
-        (spoken-of (rates tries period) link.orig.user turn Originator (arrival t.orig.heard) before.orig g.mid.orig (is_released g.mid.orig.phase) (releases link turn g.mid) o.said x) o.says
+        (spoken-of (rates tries period) link.orig.user turn Originator (arrival t.orig.heard) before.orig g.mid.orig
+        (is_released g.mid.orig.phase) (releases link turn g.mid) o.said x) o.says
         (ap is_released s.phase ∙ heard-open before.orig.phase refl) (ap (λ (a : Account). is_released a.phase) (sym o.after_is) ∙ e)
       where
-        x : InTurn (rates tries period) link.orig.user turn Originator (arrival t.orig.heard) before.orig g.mid.orig (is_released g.mid.orig.phase) (releases link turn g.mid) (g.speaking Originator).said
+        x : InTurn (rates tries period) link.orig.user turn Originator (arrival t.orig.heard) before.orig g.mid.orig
+            (is_released g.mid.orig.phase) (releases link turn g.mid) (g.speaking Originator).said
         x = i Originator (releases link turn g.mid) (g.speaking Originator).says
 
         early : is_begun before.orig.phase ≡ false → is_released g.mid.orig.phase ≡ false
@@ -286,21 +330,29 @@ released-whole tries period delay link (t ∷ ts) ends k n (before, run, g) c e 
         heard-open Releasing h = let wrong : true ≡ false = sym (ap is_released h) ∙ open_ in cc
         heard-open Closed h = let wrong : true ≡ false = sym (ap is_released h) ∙ open_ in cc
         heard-open Connected h =
-            by (takes-ok turn (of_arrived frame_poll (arrival t.orig.heard)) before.orig g.mid.orig (hear turn (arrival t.orig.heard) before.orig) x.hears
-            (takes (rates tries period) turn Originator (arrival t.orig.heard) before.orig (linked-stand (rates tries period) turn turn Originator before.orig (subst (λ q. Stands (rates tries period) turn turn Originator q before.orig) h x.stands)) h x.light x.quiet))
+            by (takes-ok turn (of_arrived frame_poll (arrival t.orig.heard)) before.orig g.mid.orig
+            (hear turn (arrival t.orig.heard) before.orig) x.hears
+            (takes (rates tries period) turn Originator (arrival t.orig.heard) before.orig
+            (linked-stand (rates tries period) turn turn Originator before.orig
+            (subst (λ q. Stands (rates tries period) turn turn Originator q before.orig) h x.stands)) h x.light x.quiet))
           where
-            by : Closes before.orig g.mid.orig ⊎ ((g.mid.orig.phase ≡ Connected) × Takes turn (of_arrived frame_poll (arrival t.orig.heard)) before.orig g.mid.orig) → is_released g.mid.orig.phase ≡ false
+            by : Closes before.orig g.mid.orig
+                ⊎ ((g.mid.orig.phase ≡ Connected) × Takes turn (of_arrived frame_poll (arrival t.orig.heard)) before.orig g.mid.orig)
+                → is_released g.mid.orig.phase ≡ false
             by (inl q) = let wrong : Originator ≡ Answerer = sym x.role_is ∙ q.answers in cc
             by (inr q) = ap is_released q.0
 
-    go : (is_released before.orig.phase ≡ true → (r : Role) → IsWhole (of r before).outgoing) → (b : Bool) → is_released before.orig.phase ≡ b → IsWhole (of role ends).outgoing
+    go : (is_released before.orig.phase ≡ true → (r : Role) → IsWhole (of r before).outgoing) → (b : Bool)
+        → is_released before.orig.phase ≡ b → IsWhole (of role ends).outgoing
     go whole true f = stayed (whole f) role
     go whole false f = finished (told f) role
 
 -- An end that is told to release, or closed, is whole.
-pub late-whole : (tries period : ℕ) (delay : Role → ℕ) (link : Link) (ts : List Turn) (ends : Ends) (role : Role) → KeepsTime tries period delay link → NeverBusy link → RunOf link ts ends → IsCarried delay ts
+pub late-whole : (tries period : ℕ) (delay : Role → ℕ) (link : Link) (ts : List Turn) (ends : Ends) (role : Role)
+    → KeepsTime tries period delay link → NeverBusy link → RunOf link ts ends → IsCarried delay ts
     → is_released (of role ends).phase ≡ true → is_whole (of role ends).outgoing ≡ true
-late-whole tries period delay link ts ends role k n run c e = is-whole (of role ends).outgoing (released-whole tries period delay link ts ends k n run c (by role e) role)
+late-whole tries period delay link ts ends role k n run c e =
+    is-whole (of role ends).outgoing (released-whole tries period delay link ts ends k n run c (by role e) role)
   where
     i : Tied delay link ts ends
     i = tied delay link ts ends k.delays run c
@@ -313,4 +365,6 @@ late-whole tries period delay link ts ends role k n run c e = is-whole (of role 
 
     by : (r : Role) → is_released (of r ends).phase ≡ true → is_released ends.orig.phase ≡ true
     by Originator h = h
-    by Answerer h = m.closed (released-closed (rates tries period) (length ts) (length ts) ends.answ.phase ends.answ (end-at tries period delay link ts ends Answerer k run c).stands h)
+    by Answerer h = m.closed
+        (released-closed (rates tries period) (length ts) (length ts) ends.answ.phase ends.answ
+        (end-at tries period delay link ts ends Answerer k run c).stands h)

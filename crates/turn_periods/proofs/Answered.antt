@@ -16,5 +16,6 @@ pub record SendsSegment (n : ℕ) (b : Account) (said : Said) : Type 0 where
 -- Where a poll is awaited and none is due, a response with F = 1 leaves the retry count at 0, or the first segment that isn't acknowledged goes in that very turn.
 abbrev pub AnswerTurn : (period turn : ℕ) → Arrived → (a mid b : Account) → Said → Type 0
 AnswerTurn period turn arrived a mid b said =
-    is_connected a.phase ≡ true → a.outgoing.awaited ≡ true → a.wait.poll ≡ false → of_arrived is_final arrived ≡ true → is_connected said.account.phase ≡ true
+    is_connected a.phase ≡ true → a.outgoing.awaited ≡ true → a.wait.poll ≡ false → of_arrived is_final arrived ≡ true
+    → is_connected said.account.phase ≡ true
     → ((r : ℕ) → a.wait.timer ≡ Some r → turn < r + period) → (mid.outgoing.count ≡ 0) ⊎ SendsSegment mid.outgoing.front b said

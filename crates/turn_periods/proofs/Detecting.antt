@@ -63,11 +63,15 @@ InPhase p (Ok said) = said.account.phase ≡ p
 pub try-phase : (turn : ℕ) (frame : Frame) (a : Account) → InPhase a.phase (u_try turn frame a)
 try-phase turn frame a = go (nat_eq turn (a.wait.try_set + a.setup.period)) (nat_eq a.wait.try_count a.setup.tries)
   where
-    by : (c : Account) → c.phase ≡ a.phase → (due : Bool) → (else_says (where_says due (says_frame frame (record c { wait = record c.wait { try = false } }))) (says slots.Flags c)).account.phase ≡ a.phase
+    by : (c : Account) → c.phase ≡ a.phase → (due : Bool)
+        → (else_says (where_says due (says_frame frame (record c { wait = record c.wait { try = false } })))
+        (says slots.Flags c)).account.phase ≡ a.phase
     by c e true = e
     by c e false = e
 
-    go : (due spent' : Bool) → InPhase a.phase (cond due (cond spent' (Err (spent turn a)) (Ok (tries_frame frame (trying_again turn a)))) (Ok (tries_frame frame a)))
+    go : (due spent' : Bool)
+        → InPhase a.phase (cond due (cond spent' (Err (spent turn a)) (Ok (tries_frame frame (trying_again turn a))))
+        (Ok (tries_frame frame a)))
     go false s = by a refl a.wait.try
     go true true = tt
     go true false = by (trying_again turn a) refl true
@@ -84,7 +88,8 @@ phase-ok p said (Err fault) e h = cc
 phase-ok p said (Ok other) e h = let same : other ≡ said = cc in subst (λ s. s.account.phase ≡ p) same h
 
 -- an end that is Detecting after it spoke was so before
-said-from : (turn : ℕ) (release : Bool) (b : Account) (said : Said) → speak turn release b ≡ Ok said → said.account.phase ≡ Detecting → b.phase ≡ Detecting
+said-from : (turn : ℕ) (release : Bool) (b : Account) (said : Said) → speak turn release b ≡ Ok said → said.account.phase ≡ Detecting
+    → b.phase ≡ Detecting
 said-from turn release b said h d = go b.phase refl h
   where
     linked : is_linked said.account.phase ≡ is_linked b.phase
@@ -109,8 +114,11 @@ said-from turn release b said h d = go b.phase refl h
     go Closed e q = late Closed e refl
 
 -- an originator that is Detecting sends its pattern
-sends-odp : (turn : ℕ) (release : Bool) (b : Account) (said : Said) → b.phase ≡ Detecting → b.setup.role ≡ Originator → speak turn release b ≡ Ok said → said.sent ≡ slots.Odp
-sends-odp turn release b said e r h = go (nat_le ((b.setup.tries + 1) * b.setup.period) turn) (sym (ap (λ x. speak_detecting x turn b) r) ∙ (sym (ap (λ p. speak_in p turn release b) e) ∙ h))
+sends-odp : (turn : ℕ) (release : Bool) (b : Account) (said : Said) → b.phase ≡ Detecting → b.setup.role ≡ Originator
+    → speak turn release b ≡ Ok said → said.sent ≡ slots.Odp
+sends-odp turn release b said e r h =
+    go (nat_le ((b.setup.tries + 1) * b.setup.period) turn)
+    (sym (ap (λ x. speak_detecting x turn b) r) ∙ (sym (ap (λ p. speak_in p turn release b) e) ∙ h))
   where
     go : (x : Bool) → cond x (Err NotDetected) (Ok (says slots.Odp b)) ≡ Ok said → said.sent ≡ slots.Odp
     go true q = cc
@@ -124,7 +132,8 @@ DetectsYet arrived a (Ok mid) = mid.phase ≡ Detecting → (a.phase ≡ Detecti
 frame-no-pattern : (frame : Frame) → arrivals.Frame frame ≡ arrivals.Pattern seens.Adp → ⊥
 frame-no-pattern frame e = cc
 
-detects-frame : (p : Phase) (frame : Frame) (turn : ℕ) (a : Account) → a.phase ≡ p → is_linked p ≡ false → DetectsYet (arrivals.Frame frame) a (on_frame p frame turn a)
+detects-frame : (p : Phase) (frame : Frame) (turn : ℕ) (a : Account) → a.phase ≡ p → is_linked p ≡ false
+    → DetectsYet (arrivals.Frame frame) a (on_frame p frame turn a)
 detects-frame Detecting frame turn a e l = go (on_frame Detecting frame turn a)
   where
     go : (r : Result Account LinkFault) → DetectsYet (arrivals.Frame frame) a r
@@ -132,14 +141,17 @@ detects-frame Detecting frame turn a e l = go (on_frame Detecting frame turn a)
     go (Ok mid) = λ d. (e, frame-no-pattern frame)
 detects-frame Negotiating frame turn a e l = go a.setup.role frame
   where
-    stays : (f : Frame) (b : Account) → b.phase ≡ Negotiating → b.phase ≡ Detecting → (a.phase ≡ Detecting) × (arrivals.Frame f ≡ arrivals.Pattern seens.Adp → ⊥)
+    stays : (f : Frame) (b : Account) → b.phase ≡ Negotiating → b.phase ≡ Detecting
+        → (a.phase ≡ Detecting) × (arrivals.Frame f ≡ arrivals.Pattern seens.Adp → ⊥)
     stays f b q d = let wrong : Negotiating ≡ Detecting = sym q ∙ d in cc
 
-    commanded : (f : Frame) (m : Option Offer) → (on_xid_command m a).phase ≡ Detecting → (a.phase ≡ Detecting) × (arrivals.Frame f ≡ arrivals.Pattern seens.Adp → ⊥)
+    commanded : (f : Frame) (m : Option Offer) → (on_xid_command m a).phase ≡ Detecting
+        → (a.phase ≡ Detecting) × (arrivals.Frame f ≡ arrivals.Pattern seens.Adp → ⊥)
     commanded f None d = stays f a e d
     commanded f (Some offer) d = cc
 
-    answered : (f : Frame) (m : Option Offer) → (on_xid_response m turn a).phase ≡ Detecting → (a.phase ≡ Detecting) × (arrivals.Frame f ≡ arrivals.Pattern seens.Adp → ⊥)
+    answered : (f : Frame) (m : Option Offer) → (on_xid_response m turn a).phase ≡ Detecting
+        → (a.phase ≡ Detecting) × (arrivals.Frame f ≡ arrivals.Pattern seens.Adp → ⊥)
     answered f None d = stays f a e d
     answered f (Some offer) d = cc
 
@@ -163,7 +175,8 @@ detects-frame Connected frame turn a e l = cc
 detects-frame Releasing frame turn a e l = cc
 detects-frame Closed frame turn a e l = cc
 
-detects-all : (arrived : Arrived) (turn : ℕ) (a : Account) → a.setup.role ≡ Originator → is_linked a.phase ≡ false → DetectsYet arrived a (hear turn arrived a)
+detects-all : (arrived : Arrived) (turn : ℕ) (a : Account) → a.setup.role ≡ Originator → is_linked a.phase ≡ false
+    → DetectsYet arrived a (hear turn arrived a)
 detects-all arrivals.Nothing turn a r l = λ d. (d, λ e. cc)
 detects-all (arrivals.Pattern seen) turn a r l = go a.phase refl l
   where
@@ -181,13 +194,16 @@ detects-all (arrivals.Pattern seen) turn a r l = go a.phase refl l
     go Closed e f = cc
 detects-all (arrivals.Frame frame) turn a r l = detects-frame a.phase frame turn a refl l
 
-heard-from : (arrived : Arrived) (turn : ℕ) (a mid : Account) → a.setup.role ≡ Originator → NoneDue a → hear turn arrived a ≡ Ok mid → mid.phase ≡ Detecting → (a.phase ≡ Detecting) × (arrived ≡ arrivals.Pattern seens.Adp → ⊥)
+heard-from : (arrived : Arrived) (turn : ℕ) (a mid : Account) → a.setup.role ≡ Originator → NoneDue a → hear turn arrived a ≡ Ok mid
+    → mid.phase ≡ Detecting → (a.phase ≡ Detecting) × (arrived ≡ arrivals.Pattern seens.Adp → ⊥)
 heard-from arrived turn a mid r none h d = go (is_linked a.phase) refl
   where
     polls : PollHeard Originator turn (of_arrived is_poll arrived) a mid
-    polls = poll-ok Originator turn (of_arrived is_poll arrived) a mid (hear turn arrived a) h (poll-hears Originator arrived turn a r none.answer)
+    polls = poll-ok Originator turn (of_arrived is_poll arrived) a mid (hear turn arrived a) h
+        (poll-hears Originator arrived turn a r none.answer)
 
-    by : (x : Result Account LinkFault) → x ≡ Ok mid → DetectsYet arrived a x → (a.phase ≡ Detecting) × (arrived ≡ arrivals.Pattern seens.Adp → ⊥)
+    by : (x : Result Account LinkFault) → x ≡ Ok mid → DetectsYet arrived a x
+        → (a.phase ≡ Detecting) × (arrived ≡ arrivals.Pattern seens.Adp → ⊥)
     by (Err fault) q k = cc
     by (Ok b) q k = let same : b ≡ mid = cc in k (ap (λ x. x.phase) same ∙ d)
 
@@ -206,8 +222,10 @@ PhaseOf (Err fault) p = Unit {0}
 PhaseOf (Ok a) p = a.phase ≡ p
 
 -- An answerer that is Detecting and hears nothing but the originator's pattern stays so, and answers it at once.
-answers-odp : (user : User) (turn : ℕ) (arrived : Arrived) (a mid : Account) (released release : Bool) (said : Said) → a.phase ≡ Detecting → a.setup.role ≡ Answerer → mid.setup.role ≡ Answerer → (arrived ≡ arrivals.Nothing) ⊎ (arrived ≡ arrivals.Pattern seens.Odp)
-    → hear turn arrived a ≡ Ok mid → speak turn release (served_account user turn released mid) ≡ Ok said → (said.account.phase ≡ Detecting) × (arrived ≡ arrivals.Pattern seens.Odp → said.sent ≡ slots.Adp)
+answers-odp : (user : User) (turn : ℕ) (arrived : Arrived) (a mid : Account) (released release : Bool) (said : Said) → a.phase ≡ Detecting
+    → a.setup.role ≡ Answerer → mid.setup.role ≡ Answerer → (arrived ≡ arrivals.Nothing) ⊎ (arrived ≡ arrivals.Pattern seens.Odp)
+    → hear turn arrived a ≡ Ok mid → speak turn release (served_account user turn released mid) ≡ Ok said
+    → (said.account.phase ≡ Detecting) × (arrived ≡ arrivals.Pattern seens.Odp → said.sent ≡ slots.Adp)
 answers-odp user turn arrived a mid released release said e r r' only hears speaks = heard only
   where
     b : Account
@@ -216,14 +234,19 @@ answers-odp user turn arrived a mid released release said e r r' only hears spea
     s : Served turn (length user.breaks) (is_busy turn user.busy) mid b
     s = serves-all user turn released mid
 
-    spoken : b.phase ≡ Detecting → (m : Option Answer) → b.owes.answer ≡ m → (else_says (answering m b) (says slots.Mark b) ≡ said) × (said.account.phase ≡ Detecting)
+    spoken : b.phase ≡ Detecting → (m : Option Answer) → b.owes.answer ≡ m
+        → (else_says (answering m b) (says slots.Mark b) ≡ said) × (said.account.phase ≡ Detecting)
     spoken d m q =
-        let detecting : speak_detecting Answerer turn b ≡ Ok said = sym (ap (λ x. speak_detecting x turn b) (ap (λ x. x.role) s.setup ∙ r')) ∙ (sym (ap (λ p. speak_in p turn release b) d) ∙ speaks) in
+        let detecting : speak_detecting Answerer turn b ≡ Ok said =
+        sym (ap (λ x. speak_detecting x turn b) (ap (λ x. x.role) s.setup ∙ r'))
+        ∙ (sym (ap (λ p. speak_in p turn release b) d) ∙ speaks) in
         by m (ap (λ x. says-ok (else_says (answering x b) (says slots.Mark b))) (sym q) ∙ detecting)
       where
-        by : (x : Option Answer) → says-ok (else_says (answering x b) (says slots.Mark b)) ≡ says-ok said → (else_says (answering x b) (says slots.Mark b) ≡ said) × (said.account.phase ≡ Detecting)
+        by : (x : Option Answer) → says-ok (else_says (answering x b) (says slots.Mark b)) ≡ says-ok said
+            → (else_says (answering x b) (says slots.Mark b) ≡ said) × (said.account.phase ≡ Detecting)
         by None f = let same : says slots.Mark b ≡ said = cc in (same, ap (λ y. y.account.phase) (sym same) ∙ d)
-        by (Some answer) f = let same : else_says (answering (Some answer) b) (says slots.Mark b) ≡ said = cc in (same, ap (λ y. y.account.phase) (sym same) ∙ d)
+        by (Some answer) f = let same : else_says (answering (Some answer) b) (says slots.Mark b) ≡ said = cc in
+            (same, ap (λ y. y.account.phase) (sym same) ∙ d)
 
     nothing : arrived ≡ arrivals.Nothing → mid.phase ≡ Detecting
     nothing q = let same : hear turn arrivals.Nothing a ≡ Ok mid = ap (λ x. hear turn x a) (sym q) ∙ hears in by same
@@ -237,13 +260,20 @@ answers-odp user turn arrived a mid released release said e r r' only hears spea
 
     odp : arrived ≡ arrivals.Pattern seens.Odp → (mid.phase ≡ Detecting) × (mid.owes.answer ≡ Some answers.Adp)
     odp q =
-        let on-detecting : hear turn (arrivals.Pattern seens.Odp) a ≡ hears-ok (on_pattern Answerer seens.Odp turn a) = ap (λ p. hears-ok (on_seen p seens.Odp turn a)) e ∙ ap (λ x. hears-ok (on_pattern x seens.Odp turn a)) r in
-        let same : hears-ok (on_pattern Answerer seens.Odp turn a) ≡ hears-ok mid = sym on-detecting ∙ (ap (λ x. hear turn x a) (sym q) ∙ hears) in
+        let on-detecting : hear turn (arrivals.Pattern seens.Odp) a ≡ hears-ok (on_pattern Answerer seens.Odp turn a) =
+        ap (λ p. hears-ok (on_seen p seens.Odp turn a)) e ∙ ap (λ x. hears-ok (on_pattern x seens.Odp turn a)) r in
+        let same : hears-ok (on_pattern Answerer seens.Odp turn a) ≡ hears-ok mid =
+        sym on-detecting ∙ (ap (λ x. hear turn x a) (sym q) ∙ hears) in
         let there : on_pattern Answerer seens.Odp turn a ≡ mid = cc in
         (ap (λ x. x.phase) (sym there) ∙ e, ap (λ x. x.owes.answer) (sym there))
 
-    heard : (arrived ≡ arrivals.Nothing) ⊎ (arrived ≡ arrivals.Pattern seens.Odp) → (said.account.phase ≡ Detecting) × (arrived ≡ arrivals.Pattern seens.Odp → said.sent ≡ slots.Adp)
-    heard (inl q) = ((spoken (s.phase ∙ nothing q) b.owes.answer refl).1, λ f. let wrong : arrivals.Nothing ≡ arrivals.Pattern seens.Odp = sym q ∙ f in cc)
+    heard : (arrived ≡ arrivals.Nothing) ⊎ (arrived ≡ arrivals.Pattern seens.Odp)
+        → (said.account.phase ≡ Detecting) × (arrived ≡ arrivals.Pattern seens.Odp → said.sent ≡ slots.Adp)
+    heard (inl q) = (
+      (spoken (s.phase ∙ nothing q) b.owes.answer refl).1,
+      λ f. let wrong : arrivals.Nothing ≡ arrivals.Pattern seens.Odp =
+          sym q ∙ f in cc,
+    )
     heard (inr q) =
         let h = odp q in
         let k = spoken (s.phase ∙ h.0) (Some answers.Adp) (s.answer ∙ h.1) in
@@ -256,7 +286,8 @@ err-detecting turn release b h = go b.phase refl h
     tried : (frame : Frame) (a : Account) → u_try turn frame a ≡ Err NotDetected → ⊥
     tried frame a q = by (nat_eq turn (a.wait.try_set + a.setup.period)) (nat_eq a.wait.try_count a.setup.tries) q
       where
-        by : (due s : Bool) → cond due (cond s (Err (spent turn a)) (Ok (tries_frame frame (trying_again turn a)))) (Ok (tries_frame frame a)) ≡ Err NotDetected → ⊥
+        by : (due s : Bool) → cond due (cond s (Err (spent turn a)) (Ok (tries_frame frame (trying_again turn a))))
+            (Ok (tries_frame frame a)) ≡ Err NotDetected → ⊥
         by false s q = cc
         by true true q = cc
         by true false q = cc
@@ -268,10 +299,12 @@ err-detecting turn release b h = go b.phase refl h
     linked : speak_linked turn b ≡ Err NotDetected → ⊥
     linked q = by (timer_expires turn b b.wait.timer) (expired b.outgoing) q
       where
-        by : (x : Bool) (m : Option Outgoing) → after_timers turn b.special (then_tries turn (cond x (polling turn m b) (Ok b))) ≡ Err NotDetected → ⊥
+        by : (x : Bool) (m : Option Outgoing)
+            → after_timers turn b.special (then_tries turn (cond x (polling turn m b) (Ok b))) ≡ Err NotDetected → ⊥
         by false m q = broke b (ticked turn b.setup.period b.setup.tries b.own_breaks) q
         by true None q = cc
-        by true (Some o) q = broke (record b { outgoing = o; wait = record b.wait { poll = true; timer = Some turn } }) (ticked turn b.setup.period b.setup.tries b.own_breaks) q
+        by true (Some o) q = broke (record b { outgoing = o; wait = record b.wait { poll = true; timer = Some turn } })
+            (ticked turn b.setup.period b.setup.tries b.own_breaks) q
 
     connected : (x : Bool) → cond x (speak_releasing turn (trying Releasing turn b)) (speak_linked turn b) ≡ Err NotDetected → ⊥
     connected true q = tried (Disc true) (trying Releasing turn b) q
@@ -290,7 +323,8 @@ err-detecting turn release b h = go b.phase refl h
     go Closed e q = cc
 
 pub wants-pattern : SpendsOnTime → OriginatorWantsPattern
-wants-pattern spends tries period delay link ts before t mid kt run c broken number less = at-number (times (number + 1) (tries + 1) (omega (arith, less)))
+wants-pattern spends tries period delay link ts before t mid kt run c broken number less =
+    at-number (times (number + 1) (tries + 1) (omega (arith, less)))
   where
     z : Rates
     z = rates tries period
@@ -311,13 +345,15 @@ wants-pattern spends tries period delay link ts before t mid kt run c broken num
     k = two-ends tries period delay link ts w.state w.deed kt w.trace Originator
 
     role-at : (r : Role) (n : ℕ) (us : List Turn) (x : Ends) → RunOf link us x → IsCarried delay us → (of r x).setup.role ≡ r
-    role-at r n us x run' c' = ap (λ s. s.role) (known tries period delay link us x kt run' c' r).setup ∙ (timed tries period delay link kt r).role_is
+    role-at r n us x run' c' =
+        ap (λ s. s.role) (known tries period delay link us x kt run' c' r).setup ∙ (timed tries period delay link kt r).role_is
 
     -- the originator is Detecting all through
     last : before.orig.phase ≡ Detecting
     last =
         let h = err-detecting turns (releases link turns mid) (served_at link turns mid Originator).account broken.broken in
-        (heard-from (arrival t.orig.heard) turns before.orig mid.orig (role-at Originator turns ts before run c) (known tries period delay link ts before kt run c Originator).none_due (broken.hearing Originator).hears
+        (heard-from (arrival t.orig.heard) turns before.orig mid.orig (role-at Originator turns ts before run c)
+        (known tries period delay link ts before kt run c Originator).none_due (broken.hearing Originator).hears
         (sym (serves-all link.orig.user turns (is_released mid.orig.phase) mid.orig).phase ∙ h)).0
 
     mid-role : (r : Role) (u : ℕ) → u < turns → (of r (w.deed u).mid).setup.role ≡ r
@@ -329,22 +365,33 @@ wants-pattern spends tries period delay link ts before t mid kt run c broken num
         let tm = timed tries period delay link kt r in
         let role : a.setup.role ≡ r = ap (λ s. s.role) kn.setup ∙ tm.role_is in
         let arrived : Arrived = arrival (of r (w.deed u).turn).heard in
-        let heard = heard-ok z (length a.outgoing.pieces) 0 u (z.quota * arrived_rnrs arrived) r a.phase a (of r (w.deed u).mid) (hear u arrived a) (h.hearing r).hears
-        (hears-well z (length a.outgoing.pieces) 0 u r a.phase arrived a (rated tries period delay link kt) (subst (IsOf z) (sym kn.setup) tm.is_of) kn'.stands refl role (omega arith)) in
+        let heard = heard-ok z (length a.outgoing.pieces) 0 u (z.quota * arrived_rnrs arrived) r a.phase a (of r (w.deed u).mid)
+        (hear u arrived a) (h.hearing r).hears
+        (hears-well z (length a.outgoing.pieces) 0 u r a.phase arrived a (rated tries period delay link kt)
+        (subst (IsOf z) (sym kn.setup) tm.is_of) kn'.stands refl role (omega arith)) in
         ap (λ s. s.role) heard.1.setup ∙ role
 
     served-role : (r : Role) (u : ℕ) → u < turns → (served_at link u (w.deed u).mid r).account.setup.role ≡ r
-    served-role r u l = ap (λ s. s.role) (serves-all (of r link).user u (is_released (w.deed u).mid.orig.phase) (of r (w.deed u).mid)).setup ∙ mid-role r u l
+    served-role r u l = ap (λ s. s.role) (serves-all (of r link).user u (is_released (w.deed u).mid.orig.phase) (of r (w.deed u).mid)).setup
+        ∙ mid-role r u l
 
-    one-turn : (u : ℕ) → u < turns → (w.state (u + 1)).orig.phase ≡ Detecting → ((w.state u).orig.phase ≡ Detecting) × (e.slot u ≡ slots.Odp) × (e.heard u ≡ arrivals.Pattern seens.Adp → ⊥)
+    one-turn : (u : ℕ) → u < turns → (w.state (u + 1)).orig.phase ≡ Detecting
+        → ((w.state u).orig.phase ≡ Detecting) × (e.slot u ≡ slots.Odp) × (e.heard u ≡ arrivals.Pattern seens.Adp → ⊥)
     one-turn u l d =
         let h = w.trace.happens u l in
         let s = h.speaking Originator in
-        let b-detects = said-from u (releases link u (w.deed u).mid) (served_at link u (w.deed u).mid Originator).account s.said s.says (ap (λ (x : Account). x.phase) (sym s.after_is) ∙ d) in
-        let f = heard-from (arrival (w.deed u).turn.orig.heard) u (w.state u).orig (w.deed u).mid.orig (role-at Originator u (past ts u) (w.state u) h.run h.carried)
+        let b-detects = said-from u (releases link u (w.deed u).mid) (served_at link u (w.deed u).mid Originator).account s.said s.says
+        (ap (λ (x : Account). x.phase) (sym s.after_is) ∙ d) in
+        let f = heard-from (arrival (w.deed u).turn.orig.heard) u (w.state u).orig (w.deed u).mid.orig
+        (role-at Originator u (past ts u) (w.state u) h.run h.carried)
         (known tries period delay link (past ts u) (w.state u) kt h.run h.carried Originator).none_due (h.hearing Originator).hears
-        (sym (serves-all link.orig.user u (is_released (w.deed u).mid.orig.phase) (w.deed u).mid.orig).phase ∙ b-detects) in
-        (f.0, ap sent_or s.sent_is ∙ sends-odp u (releases link u (w.deed u).mid) (served_at link u (w.deed u).mid Originator).account s.said b-detects (served-role Originator u l) s.says, f.1)
+        (sym (serves-all link.orig.user u (is_released (w.deed u).mid.orig.phase) (w.deed u).mid.orig).phase ∙ b-detects) in (
+          f.0,
+          ap sent_or s.sent_is
+              ∙ sends-odp u (releases link u (w.deed u).mid) (served_at link u (w.deed u).mid Originator).account s.said b-detects
+              (served-role Originator u l) s.says,
+          f.1,
+        )
 
     down : (n u : ℕ) → u + n ≡ turns → (w.state u).orig.phase ≡ Detecting
     down zero u q = ap (λ (x : Ends). x.orig.phase) (ap w.state (same u q) ∙ w.last) ∙ last
@@ -353,7 +400,8 @@ wants-pattern spends tries period delay link ts before t mid kt run c broken num
         same x q = omega (arith, q)
     down (suc n) u q = (one-turn u (omega (arith, q)) (down n (u + 1) (omega (arith, q)))).0
 
-    facts : (u : ℕ) → u < turns → ((w.state u).orig.phase ≡ Detecting) × (e.slot u ≡ slots.Odp) × (e.heard u ≡ arrivals.Pattern seens.Adp → ⊥)
+    facts : (u : ℕ) → u < turns
+        → ((w.state u).orig.phase ≡ Detecting) × (e.slot u ≡ slots.Odp) × (e.heard u ≡ arrivals.Pattern seens.Adp → ⊥)
     facts u l = one-turn u l (down (turns - (u + 1)) (u + 1) (omega (arith, l)))
 
     -- so nothing but its pattern reaches the answerer
@@ -363,7 +411,8 @@ wants-pattern spends tries period delay link ts before t mid kt run c broken num
         d : 1 ≤ e.delay
         d = k.own_delay
 
-        late : e.delay ≤ u → (b : Bool) → o.heard u ≡ cond b arrivals.Nothing (arrives (e.slot (u - e.delay))) → (o.heard u ≡ arrivals.Nothing) ⊎ (o.heard u ≡ arrivals.Pattern seens.Odp)
+        late : e.delay ≤ u → (b : Bool) → o.heard u ≡ cond b arrivals.Nothing (arrives (e.slot (u - e.delay)))
+            → (o.heard u ≡ arrivals.Nothing) ⊎ (o.heard u ≡ arrivals.Pattern seens.Odp)
         late g true q = inl q
         late g false q = inr (q ∙ ap arrives (facts (u - e.delay) (omega (arith, g, l))).1)
 
@@ -371,11 +420,13 @@ wants-pattern spends tries period delay link ts before t mid kt run c broken num
         go (inl y) = inl ((k.is_heard u l).early y)
         go (inr g) = late g (o.loses u) ((k.is_heard u l).late g)
 
-    answers-turn : (u : ℕ) → u < turns → (w.state u).answ.phase ≡ Detecting → ((w.state (u + 1)).answ.phase ≡ Detecting) × (o.heard u ≡ arrivals.Pattern seens.Odp → o.slot u ≡ slots.Adp)
+    answers-turn : (u : ℕ) → u < turns → (w.state u).answ.phase ≡ Detecting
+        → ((w.state (u + 1)).answ.phase ≡ Detecting) × (o.heard u ≡ arrivals.Pattern seens.Odp → o.slot u ≡ slots.Adp)
     answers-turn u l d =
         let h = w.trace.happens u l in
         let s = h.speaking Answerer in
-        let f = answers-odp link.answ.user u (arrival (w.deed u).turn.answ.heard) (w.state u).answ (w.deed u).mid.answ (is_released (w.deed u).mid.orig.phase) false s.said d (role-at Answerer u (past ts u) (w.state u) h.run h.carried)
+        let f = answers-odp link.answ.user u (arrival (w.deed u).turn.answ.heard) (w.state u).answ (w.deed u).mid.answ
+        (is_released (w.deed u).mid.orig.phase) false s.said d (role-at Answerer u (past ts u) (w.state u) h.run h.carried)
         (mid-role Answerer u l) (only-odp u l) (h.hearing Answerer).hears s.says in
         (ap (λ (x : Account). x.phase) s.after_is ∙ f.0, λ q. ap sent_or s.sent_is ∙ f.1 q)
 
@@ -424,7 +475,8 @@ wants-pattern spends tries period delay link ts before t mid kt run c broken num
             ∙ ap arrives (ap o.slot (back v (delay Answerer)) ∙ answered))
 
     times : (a b : ℕ) → a ≤ b → a * period ≤ b * period
-    times a b l = let m : (b - a) * period + a * period ≡ b * period = sum (b - a) a ∙ ap (λ n. n * period) (whole a b l) in omega (arith, m)
+    times a b l = let m : (b - a) * period + a * period ≡ b * period = sum (b - a) a ∙ ap (λ n. n * period) (whole a b l) in
+        omega (arith, m)
       where
         sum : (m n : ℕ) → m * period + n * period ≡ (m + n) * period
         sum m n = grind (arith)
@@ -463,9 +515,11 @@ wants-pattern spends tries period delay link ts before t mid kt run c broken num
               turn = lost.turn;
               within = within;
               in_period = record { behind = omega (arith, a, less', g); before = omega (arith, b, less', g, split, p) };
-              lost = subst LosesSome (sym (turn-is period delay link ts w.state w.deed w.trace lost.turn within)) (some lost.turn lost.loses);
+              lost = subst LosesSome (sym (turn-is period delay link ts w.state w.deed w.trace lost.turn within))
+                  (some lost.turn lost.loses);
             }
 
 pub undetected-starved : SpendsOnTime → UndetectedIsStarved
 undetected-starved spends tries period delay link ts before t mid kt run c broken =
-    all-but-one tries period delay t ts (λ n l. wants-pattern spends tries period delay link ts before t mid kt run c broken n (omega (arith, l)))
+    all-but-one tries period delay t ts
+    (λ n l. wants-pattern spends tries period delay link ts before t mid kt run c broken n (omega (arith, l)))

@@ -21,7 +21,8 @@ count_of (suc n) test = count_of n test + one_if (test n)
 
 count-none : (n : ℕ) (test : ℕ → Bool) → ((m : ℕ) → m < n → test m ≡ false) → count_of n test ≡ 0
 count-none zero test h = refl
-count-none (suc n) test h = let k = count-none n test (λ m l. h m (omega (arith, l))) in let e = ap one_if (h n (omega arith)) in omega (arith, k, e)
+count-none (suc n) test h = let k = count-none n test (λ m l. h m (omega (arith, l))) in let e = ap one_if (h n (omega arith)) in
+    omega (arith, k, e)
 
 count-or : (n : ℕ) (a b : ℕ → Bool) → count_of n (λ m. a m || b m) ≤ count_of n a + count_of n b
 count-or zero a b = omega arith
@@ -56,7 +57,8 @@ count-near (suc n) test h = go (test n) refl (count-near n test (λ m k l g. h m
 
 count-all : (n : ℕ) (test : ℕ → Bool) → ((m : ℕ) → m < n → test m ≡ true) → count_of n test ≡ n
 count-all zero test h = refl
-count-all (suc n) test h = let k = count-all n test (λ m l. h m (omega (arith, l))) in let e = ap one_if (h n (omega arith)) in omega (arith, k, e)
+count-all (suc n) test h = let k = count-all n test (λ m l. h m (omega (arith, l))) in let e = ap one_if (h n (omega arith)) in
+    omega (arith, k, e)
 
 -- where all but one meet it
 count-but : (n spared : ℕ) (test : ℕ → Bool) → ((m : ℕ) → m < n → m ≢ spared → test m ≡ true) → n ≤ count_of n test + 1
@@ -76,7 +78,11 @@ count-but (suc n) spared test h = go (count-but n spared test (λ m l d. h m (om
     last e = let k = count-all n test (λ m l. h m (omega (arith, l)) (λ q. omega (arith, q, e, l))) in omega (arith, k)
 
     go : n ≤ count_of n test + 1 → suc n ≤ count_of n test + one_if (test n) + 1
-    go b = elim (cases_lt n spared) [ inl l ↦ other b (apart-below l) | inr g ↦ elim (cases_lt spared n) [ inl l ↦ other b (apart-above l) | inr m ↦ last (omega (arith, g, m)) ] ]
+    go b = elim (cases_lt n spared) [
+      | inl l ↦ other b (apart-below l)
+      | inr g ↦
+          elim (cases_lt spared n) [ inl l ↦ other b (apart-above l) | inr m ↦ last (omega (arith, g, m)) ]
+    ]
 
 -- whether a turn lies in a span, and whether something was lost in it
 abbrev in_span : (period delay last turn span : ℕ) → Bool
@@ -93,7 +99,8 @@ both-true : (x y : Bool) → x && y ≡ true → (x ≡ true) × (y ≡ true)
 both-true true y e = (refl, e)
 both-true false y e = cc
 
-spans-near : (period delay last turn m k : ℕ) → delay < period → m < k → in_span period delay last turn m ≡ true → in_span period delay last turn k ≡ true → k ≤ m + 1
+spans-near : (period delay last turn m k : ℕ) → delay < period → m < k → in_span period delay last turn m ≡ true
+    → in_span period delay last turn k ≡ true → k ≤ m + 1
 spans-near period delay last turn m k short less em ek = elim (cases_lt (m + 1) k) [ inl l ↦ absurd (far l) | inr g ↦ g ]
   where
     xm : (nat_lt last (turn + (m + 1) * period + delay) ≡ true) × (nat_le (turn + m * period) last ≡ true)
@@ -113,7 +120,8 @@ spans-near period delay last turn m k short less em ek = elim (cases_lt (m + 1) 
 
     far : m + 1 < k → ⊥
     far l =
-        let sum : (m + 2) * period + (k - (m + 2)) * period ≡ k * period = spread (m + 2) (k - (m + 2)) ∙ ap (λ n. n * period) (omega (arith, l)) in
+        let sum : (m + 2) * period + (k - (m + 2)) * period ≡ k * period =
+        spread (m + 2) (k - (m + 2)) ∙ ap (λ n. n * period) (omega (arith, l)) in
         let next : (m + 2) * period ≡ (m + 1) * period + period = omega arith in
         omega (arith, sum, next, behind, before, short)
 
@@ -126,7 +134,8 @@ lost-one Chance e = cc
 -- the spans that losses cover
 covers-few : (period delay last n : ℕ) → delay < period → (ts : List Turn) → count_of n (covers period delay last ts) ≤ 2 * lost_slots ts
 covers-few period delay last n short [] = let k = count-none n (covers period delay last []) (λ m l. refl) in omega (arith, k)
-covers-few period delay last n short (t ∷ ts) = go (is_lost t.orig.heard) (is_lost t.answ.heard) refl refl (covers-few period delay last n short ts)
+covers-few period delay last n short (t ∷ ts) =
+    go (is_lost t.orig.heard) (is_lost t.answ.heard) refl refl (covers-few period delay last n short ts)
   where
     here : ℕ → Bool
     here span = loses t && in_span period delay last (length ts) span
@@ -135,13 +144,19 @@ covers-few period delay last n short (t ∷ ts) = go (is_lost t.orig.heard) (is_
     all = count-or n here (covers period delay last ts)
 
     two : count_of n here ≤ 2
-    two = count-near n here (λ m k l g a b. spans-near period delay last (length ts) m k short l (both-true (loses t) (in_span period delay last (length ts) m) a).1 (both-true (loses t) (in_span period delay last (length ts) k) b).1)
+    two = count-near n here
+        (λ m k l g a b. spans-near period delay last (length ts) m k short l
+        (both-true (loses t) (in_span period delay last (length ts) m) a).1
+        (both-true (loses t) (in_span period delay last (length ts) k) b).1)
 
-    go : (x y : Bool) → is_lost t.orig.heard ≡ x → is_lost t.answ.heard ≡ y → count_of n (covers period delay last ts) ≤ 2 * lost_slots ts → count_of n (covers period delay last (t ∷ ts)) ≤ 2 * (lost_slots ts + lost_in t.orig.heard + lost_in t.answ.heard)
+    go : (x y : Bool) → is_lost t.orig.heard ≡ x → is_lost t.answ.heard ≡ y → count_of n (covers period delay last ts) ≤ 2 * lost_slots ts
+        → count_of n (covers period delay last (t ∷ ts)) ≤ 2 * (lost_slots ts + lost_in t.orig.heard + lost_in t.answ.heard)
     go true y p q r = let one = lost-one t.orig.heard p in let a = all in let b = two in omega (arith, one, a, b, r)
     go false true p q r = let one = lost-one t.answ.heard q in let a = all in let b = two in omega (arith, one, a, b, r)
     go false false p q r =
-        let none = count-none n here (λ m l. ap (λ b. (b || is_lost t.answ.heard) && in_span period delay last (length ts) m) p ∙ ap (λ b. (false || b) && in_span period delay last (length ts) m) q) in
+        let none = count-none n here
+        (λ m l. ap (λ b. (b || is_lost t.answ.heard) && in_span period delay last (length ts) m) p
+        ∙ ap (λ b. (false || b) && in_span period delay last (length ts) m) q) in
         let a = all in omega (arith, none, a, r)
 
 is-loss : (h : Heard) → IsLost h → is_lost h ≡ true
@@ -158,7 +173,8 @@ loses-turn t (Answerer, h) = by (is_lost t.orig.heard) (is-loss t.answ.heard h)
     by true e = refl
     by false e = e
 
-covers-loss : (period delay last span : ℕ) (ts : List Turn) (turn : ℕ) → turn < length ts → LosesSome (turn_at turn ts) → in_span period delay last turn span ≡ true → covers period delay last ts span ≡ true
+covers-loss : (period delay last span : ℕ) (ts : List Turn) (turn : ℕ) → turn < length ts → LosesSome (turn_at turn ts)
+    → in_span period delay last turn span ≡ true → covers period delay last ts span ≡ true
 covers-loss period delay last span [] turn l h e = absurd (omega (arith, l))
 covers-loss period delay last span (t ∷ ts) turn l h e = elim (cases_lt turn (length ts)) [
   | inl less ↦ later (covers-loss period delay last span ts turn less (subst LosesSome (later-turn turn t ts less) h) e)
@@ -198,7 +214,8 @@ starved-loses-many tries period delay link ts kt h =
     short = let p = kt.period_is in omega (arith, p)
 
     covered : (n : ℕ) → SpanLoses period d ts n → covers period d last ts n ≡ true
-    covered n s = covers-loss period d last n ts s.turn s.within s.lost (both (nat_lt last (s.turn + (n + 1) * period + d)) (nat_le (s.turn + n * period) last) behind before)
+    covered n s = covers-loss period d last n ts s.turn s.within s.lost
+        (both (nat_lt last (s.turn + (n + 1) * period + d)) (nat_le (s.turn + n * period) last) behind before)
       where
         behind : nat_lt last (s.turn + (n + 1) * period + d) ≡ true
         behind = let b = s.in_span.behind in grind (arith, nat_tests, b)
@@ -211,4 +228,5 @@ starved-loses-many tries period delay link ts kt h =
         both false y e f = cc
 
 pub lossless-is-fed : LosslessIsFed
-lossless-is-fed tries period delay link ts kt none h = let many = starved-loses-many tries period delay link ts kt h in let some = kt.some_tries in omega (arith, many, some, none)
+lossless-is-fed tries period delay link ts kt none h = let many = starved-loses-many tries period delay link ts kt h in let some =
+    kt.some_tries in omega (arith, many, some, none)

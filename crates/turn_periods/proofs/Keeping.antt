@@ -57,22 +57,28 @@ passes-kind is (Passed slots.Adp) = refl
 passes-kind is (Passed (slots.Frame frame)) = refl
 
 -- the turn of that number
-pub turn-is : (period : ℕ) (delay : Role → ℕ) (link : Link) (ts : List Turn) (state : ℕ → Ends) (deed : ℕ → Deed) → Trace period delay link ts state deed
+pub turn-is : (period : ℕ) (delay : Role → ℕ) (link : Link) (ts : List Turn) (state : ℕ → Ends) (deed : ℕ → Deed)
+    → Trace period delay link ts state deed
     → (t : ℕ) → t < length ts → turn_at t ts ≡ Some (deed t).turn
 turn-is period delay link ts state deed w t l =
-    ap (λ us. slice_get us (length ts - 1 - t)) (sym (ap (past ts) (omega (arith, l)) ∙ past-all ts)) ∙ looked period delay link ts state deed w (length ts - 1 - t) t (omega (arith, l))
+    ap (λ us. slice_get us (length ts - 1 - t)) (sym (ap (past ts) (omega (arith, l)) ∙ past-all ts))
+    ∙ looked period delay link ts state deed w (length ts - 1 - t) t (omega (arith, l))
 
-polls-of : (period : ℕ) (delay : Role → ℕ) (link : Link) (ts : List Turn) (state : ℕ → Ends) (deed : ℕ → Deed) → Trace period delay link ts state deed
+polls-of : (period : ℕ) (delay : Role → ℕ) (link : Link) (ts : List Turn) (state : ℕ → Ends) (deed : ℕ → Deed)
+    → Trace period delay link ts state deed
     → (role : Role) (t : ℕ) → t < length ts → PollsIn role t ts → sends_poll (end_run delay state deed role) t ≡ true
 polls-of period delay link ts state deed w role t l p =
     let s = (w.happens t l).speaking role in
-    sym (sends-kind is_poll (of role (deed t).turn).sent _ s.sent_is) ∙ (ap (λ m. sends_of is_poll (sent_in role m)) (sym (turn-is period delay link ts state deed w t l)) ∙ p)
+    sym (sends-kind is_poll (of role (deed t).turn).sent _ s.sent_is)
+    ∙ (ap (λ m. sends_of is_poll (sent_in role m)) (sym (turn-is period delay link ts state deed w t l)) ∙ p)
 
 pub polls-keep-apart : PollsKeepApart
 polls-keep-apart tries period delay link ts ends k run c role s t less within ps pt =
     let w = traced tries period delay link ts ends k run c in
-    (keeps-polls period (length ts) (end_run delay w.state w.deed role) (end_run delay w.state w.deed (other role)) (two-ends tries period delay link ts w.state w.deed k w.trace role)).sent_apart s t less within
-    (polls-of period delay link ts w.state w.deed w.trace role s (omega (arith, less, within)) ps) (polls-of period delay link ts w.state w.deed w.trace role t within pt)
+    (keeps-polls period (length ts) (end_run delay w.state w.deed role) (end_run delay w.state w.deed (other role))
+    (two-ends tries period delay link ts w.state w.deed k w.trace role)).sent_apart s t less within
+    (polls-of period delay link ts w.state w.deed w.trace role s (omega (arith, less, within)) ps)
+    (polls-of period delay link ts w.state w.deed w.trace role t within pt)
 
 both-ways : (b c : Bool) → (b ≡ true → c ≡ true) → (c ≡ true → b ≡ true) → b ≡ c
 both-ways true c f g = sym (f refl)
@@ -80,12 +86,16 @@ both-ways false true f g = g refl
 both-ways false false f g = refl
 
 pub replies-at-once : RepliesAtOnce
-replies-at-once tries period delay link ts before t after k run g c role cb ca = go (traced-turn tries period delay link ts before t after k run g c)
+replies-at-once tries period delay link ts before t after k run g c role cb ca =
+    go (traced-turn tries period delay link ts before t after k run g c)
   where
-    go : (d : Deed) × (d.turn ≡ t) × OneMore period delay link t ts before d after → sends_of is_final (of role t).sent ≡ passes_in is_poll (of role t).heard
+    go : (d : Deed) × (d.turn ≡ t) × OneMore period delay link t ts before d after
+        → sends_of is_final (of role t).sent ≡ passes_in is_poll (of role t).heard
     go (d, dt, m) =
-        both-ways _ _ (λ e. hears ∙ keeps.reply_from n (omega arith) (sym sends ∙ e)) (λ e. sends ∙ keeps.reply_at_once n (omega arith) (sym hears ∙ e)
-        (ap (λ (x : Ends). is_connected (of role x).phase) m.before_is ∙ ap is_connected cb) (ap (λ (x : Ends). is_connected (of role x).phase) (ap w.state (omega arith) ∙ w.last) ∙ ap is_connected ca))
+        both-ways _ _ (λ e. hears ∙ keeps.reply_from n (omega arith) (sym sends ∙ e))
+        (λ e. sends ∙ keeps.reply_at_once n (omega arith) (sym hears ∙ e)
+        (ap (λ (x : Ends). is_connected (of role x).phase) m.before_is ∙ ap is_connected cb)
+        (ap (λ (x : Ends). is_connected (of role x).phase) (ap w.state (omega arith) ∙ w.last) ∙ ap is_connected ca))
       where
         n : ℕ
         n = length ts
@@ -94,25 +104,29 @@ replies-at-once tries period delay link ts before t after k run g c role cb ca =
         w = m.traced
 
         keeps : KeepsPolls period (length (t ∷ ts)) (end_run delay w.state w.deed role) (end_run delay w.state w.deed (other role))
-        keeps = keeps-polls period (length (t ∷ ts)) (end_run delay w.state w.deed role) (end_run delay w.state w.deed (other role)) (two-ends tries period delay link (t ∷ ts) w.state w.deed k w.trace role)
+        keeps = keeps-polls period (length (t ∷ ts)) (end_run delay w.state w.deed role) (end_run delay w.state w.deed (other role))
+            (two-ends tries period delay link (t ∷ ts) w.state w.deed k w.trace role)
 
         turn : (w.deed n).turn ≡ t
         turn = ap (λ x. x.turn) m.deed_is ∙ dt
 
         sends : sends_of is_final (of role t).sent ≡ sends_final (end_run delay w.state w.deed role) n
-        sends = sends-kind is_final (of role t).sent _ (g.speaking role).sent_is ∙ ap (λ (x : Turn). of_frame is_final (sent_or (of role x).sent)) (sym turn)
+        sends = sends-kind is_final (of role t).sent _ (g.speaking role).sent_is
+            ∙ ap (λ (x : Turn). of_frame is_final (sent_or (of role x).sent)) (sym turn)
 
         hears : passes_in is_poll (of role t).heard ≡ hears_poll (end_run delay w.state w.deed role) n
         hears = passes-kind is_poll (of role t).heard ∙ ap (λ (x : Turn). of_arrived is_poll (arrival (of role x).heard)) (sym turn)
 
 pub answers-match : AnswersMatchPolls
-answers-match tries period delay link ts before t after k run g c role cb h = go (traced-turn tries period delay link ts before t after k run g c)
+answers-match tries period delay link ts before t after k run g c role cb h =
+    go (traced-turn tries period delay link ts before t after k run g c)
   where
     go : (d : Deed) × (d.turn ≡ t) × OneMore period delay link t ts before d after → AnswersPoll delay ts before role
     go (d, dt, m) = record {
       polled = polled role refl;
       awaited = ap (λ (x : Ends). (of role x).outgoing.awaited) (sym m.before_is) ∙ still.awaited;
-      none_due = not-due (is_connected (of role before).phase) (of role before).wait.poll (ap is_connected cb) (ap (λ (x : Ends). is_connected (of role x).phase && (of role x).wait.poll) (sym m.before_is) ∙ still.none_due);
+      none_due = not-due (is_connected (of role before).phase) (of role before).wait.poll (ap is_connected cb)
+          (ap (λ (x : Ends). is_connected (of role x).phase && (of role x).wait.poll) (sym m.before_is) ∙ still.none_due);
     }
       where
         not-due : (x y : Bool) → x ≡ true → x && y ≡ false → y ≡ false
@@ -126,7 +140,8 @@ answers-match tries period delay link ts before t after k run g c role cb h = go
         w = m.traced
 
         keeps : KeepsPolls period (length (t ∷ ts)) (end_run delay w.state w.deed role) (end_run delay w.state w.deed (other role))
-        keeps = keeps-polls period (length (t ∷ ts)) (end_run delay w.state w.deed role) (end_run delay w.state w.deed (other role)) (two-ends tries period delay link (t ∷ ts) w.state w.deed k w.trace role)
+        keeps = keeps-polls period (length (t ∷ ts)) (end_run delay w.state w.deed role) (end_run delay w.state w.deed (other role))
+            (two-ends tries period delay link (t ∷ ts) w.state w.deed k w.trace role)
 
         turn : (w.deed n).turn ≡ t
         turn = ap (λ x. x.turn) m.deed_is ∙ dt
@@ -145,12 +160,16 @@ answers-match tries period delay link ts before t after k run g c role cb h = go
             let trip = a.round_trip in
             let sum = both-delays role in
             let one = k.delays Originator in
-            let seen : slice_get (past (t ∷ ts) (a.sent + (delay Originator + delay Answerer - 1) + 1)) (delay Originator + delay Answerer - 1) ≡ Some (w.deed a.sent).turn
-            = looked period delay link (t ∷ ts) w.state w.deed w.trace (delay Originator + delay Answerer - 1) a.sent (omega (arith, trip, sum, one)) in
+            let seen : slice_get (past (t ∷ ts) (a.sent + (delay Originator + delay Answerer - 1) + 1))
+            (delay Originator + delay Answerer - 1) ≡ Some (w.deed a.sent).turn
+            = looked period delay link (t ∷ ts) w.state w.deed w.trace (delay Originator + delay Answerer - 1) a.sent
+            (omega (arith, trip, sum, one)) in
             let there : slice_get ts (delay Originator + delay Answerer - 1) ≡ Some (w.deed a.sent).turn
-            = ap (λ us. slice_get us (delay Originator + delay Answerer - 1)) (sym (ap (past (t ∷ ts)) (omega (arith, trip, sum, one)) ∙ past-now)) ∙ seen in
+            = ap (λ us. slice_get us (delay Originator + delay Answerer - 1))
+            (sym (ap (past (t ∷ ts)) (omega (arith, trip, sum, one)) ∙ past-now)) ∙ seen in
             let s = (w.trace.happens a.sent (omega (arith, trip))).speaking role in
-            ap (λ x. sends_of is_poll (sent_in role x)) there ∙ (sends-kind is_poll (of role (w.deed a.sent).turn).sent _ s.sent_is ∙ a.is_sent)
+            ap (λ x. sends_of is_poll (sent_in role x)) there
+            ∙ (sends-kind is_poll (of role (w.deed a.sent).turn).sent _ s.sent_is ∙ a.is_sent)
           where
             both-delays : (x : Role) → delay x + delay (other x) ≡ delay Originator + delay Answerer
             both-delays Originator = refl

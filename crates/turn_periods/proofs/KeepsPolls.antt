@@ -26,7 +26,8 @@ pub record KeepsPolls (period turns : ℕ) (e o : EndRun) : Type 0 where
   pub fresh : (t : ℕ) → t < turns → poll_due (e.account (t + 1)) ≡ true → (e.made t ≡ true) × (hears_poll e t ≡ true)
   pub sent_apart : (s t : ℕ) → s < t → t < turns → sends_poll e s ≡ true → sends_poll e t ≡ true → s + period ≤ t + 1
   pub reply_from : (t : ℕ) → t < turns → sends_final e t ≡ true → hears_poll e t ≡ true
-  pub reply_at_once : (t : ℕ) → t < turns → hears_poll e t ≡ true → is_connected (e.account t).phase ≡ true → is_connected (e.account (t + 1)).phase ≡ true → sends_final e t ≡ true
+  pub reply_at_once : (t : ℕ) → t < turns → hears_poll e t ≡ true → is_connected (e.account t).phase ≡ true
+      → is_connected (e.account (t + 1)).phase ≡ true → sends_final e t ≡ true
   -- each answer is that of the last poll, which is still awaited
   pub matches : (t : ℕ) → t < turns → hears_final e t ≡ true → Answers t e o
   pub still : (t : ℕ) → t < turns → is_connected (e.account t).phase ≡ true → hears_final e t ≡ true → StillAwaited (e.account t)

@@ -107,10 +107,12 @@ takes-of ns info i = record {
   owed = kind-owed (kind_of ns i) (offset i ns) ns info i;
 }
   where
-    next : (n : ℕ) → Some ns ≡ Some n → n ≡ length i.taken % 128 → (length i.taken < length (after_take ns info i).taken) × ((after_take ns info i).owed ≡ true)
+    next : (n : ℕ) → Some ns ≡ Some n → n ≡ length i.taken % 128
+        → (length i.taken < length (after_take ns info i).taken) × ((after_take ns info i).owed ≡ true)
     next n e f =
         let same : ns ≡ n = cc in
-        subst (λ k. (length i.taken < length (after_kind k (offset i ns) info i).taken) × ((after_kind k (offset i ns) info i).owed ≡ true)) (sym (next-kind ns i (same ∙ f))) (in-order (offset i ns) ns info i, refl)
+        subst (λ k. (length i.taken < length (after_kind k (offset i ns) info i).taken) × ((after_kind k (offset i ns) info i).owed ≡ true))
+        (sym (next-kind ns i (same ∙ f))) (in-order (offset i ns) ns info i, refl)
 
 -- what an N(R) makes of the sender's part
 record Fronted (n : ℕ) (o new : Outgoing) : Type 0 where
@@ -161,14 +163,17 @@ record Besides (ns : Option ℕ) (f : Account → Account) : Type 0 where
   pub special : (b : Account) → (f b).special ≡ b.special
   pub numbered : (b : Account) → (f b).numbered ≡ b.numbered
 
-heard-number : (frame : Frame) (turn nr : ℕ) (a : Account) (f : Account → Account) (made : ℕ → Outgoing) → frame_nr frame ≡ Some nr → ((n : ℕ) → a.outgoing.front ≤ n → Fronted n a.outgoing (made n)) → Besides (frame_ns frame) f
+heard-number : (frame : Frame) (turn nr : ℕ) (a : Account) (f : Account → Account) (made : ℕ → Outgoing) → frame_nr frame ≡ Some nr
+    → ((n : ℕ) → a.outgoing.front ≤ n → Fronted n a.outgoing (made n)) → Besides (frame_ns frame) f
     → HearsNumbers (arrivals.Frame frame) a (then_in f (on_number turn nr (option_map made (meant a.outgoing.front a.outgoing.high nr)) a))
 heard-number frame turn nr a f made e each k = go (meant a.outgoing.front a.outgoing.high nr) refl
   where
-    go : (m : Option ℕ) → meant a.outgoing.front a.outgoing.high nr ≡ m → HearsNumbers (arrivals.Frame frame) a (then_in f (on_number turn nr (option_map made m) a))
+    go : (m : Option ℕ) → meant a.outgoing.front a.outgoing.high nr ≡ m
+        → HearsNumbers (arrivals.Frame frame) a (then_in f (on_number turn nr (option_map made m) a))
     go None q = tt
     go (Some n) q =
-        let b : Account = record a { numbered = true; outgoing = made n; wait = record a.wait { timer = timer_after turn a.outgoing (made n) a.wait.timer } } in
+        let b : Account = record
+        a { numbered = true; outgoing = made n; wait = record a.wait { timer = timer_after turn a.outgoing (made n) a.wait.timer } } in
         let range = meant-range a.outgoing.front a.outgoing.high nr n q in
         let w = each n range.0 in
         let o : (f b).outgoing ≡ made n = k.outgoing b in
@@ -183,30 +188,39 @@ heard-number frame turn nr a f made e each k = go (meant a.outgoing.front a.outg
           special = k.special b;
         }
       where
-        by : (c : Outgoing) (d : ℕ) → c.front ≡ n → c.count ≡ d → (n ≡ a.outgoing.front) ⊎ (d ≡ 0) → (c.front ≡ a.outgoing.front) ⊎ (c.count ≡ 0)
+        by : (c : Outgoing) (d : ℕ) → c.front ≡ n → c.count ≡ d → (n ≡ a.outgoing.front) ⊎ (d ≡ 0)
+            → (c.front ≡ a.outgoing.front) ⊎ (c.count ≡ 0)
         by c d p s (inl x) = inl (p ∙ x)
         by c d p s (inr x) = inr (s ∙ x)
 
         means : (c r : ℕ) → frame_nr frame ≡ Some r → c ≡ n → meant a.outgoing.front a.outgoing.high r ≡ Some c
-        means c r g p = let there : Some nr ≡ Some r = sym e ∙ g in let same : nr ≡ r = cc in ap (meant a.outgoing.front a.outgoing.high) (sym same) ∙ (q ∙ ap (λ x. Some x) (sym p))
+        means c r g p = let there : Some nr ≡ Some r = sym e ∙ g in let same : nr ≡ r = cc in
+            ap (meant a.outgoing.front a.outgoing.high) (sym same) ∙ (q ∙ ap (λ x. Some x) (sym p))
 
 replies-besides : (ended asked : Bool) → Besides None (λ b. hurrying ended (replying asked b))
-replies-besides ended asked = record { outgoing = λ b. refl; incoming = λ b. same-taken b.incoming; special = λ b. refl; numbered = λ b. refl }
+replies-besides ended asked =
+    record { outgoing = λ b. refl; incoming = λ b. same-taken b.incoming; special = λ b. refl; numbered = λ b. refl }
 
 pauses-besides : (turn : ℕ) (asked : Bool) → Besides None (λ b. pausing turn (replying asked b))
-pauses-besides turn asked = record { outgoing = λ b. refl; incoming = λ b. same-taken b.incoming; special = λ b. refl; numbered = λ b. refl }
+pauses-besides turn asked =
+    record { outgoing = λ b. refl; incoming = λ b. same-taken b.incoming; special = λ b. refl; numbered = λ b. refl }
 
 map-twice : (f g : Outgoing → Outgoing) (h : ℕ → Outgoing) (m : Option ℕ) → option_map f (option_map h m) ≡ option_map (λ n. f (h n)) m
 map-twice f g h None = refl
 map-twice f g h (Some n) = refl
 
-heard-again : (frame : Frame) (turn nr : ℕ) (a : Account) (f : Account → Account) (again : Outgoing → Outgoing) (made : ℕ → Outgoing) → frame_nr frame ≡ Some nr → ((n : ℕ) → a.outgoing.front ≤ n → Fronted n a.outgoing (again (made n))) → Besides (frame_ns frame) f
-    → HearsNumbers (arrivals.Frame frame) a (then_in f (on_number turn nr (option_map again (option_map made (meant a.outgoing.front a.outgoing.high nr))) a))
+heard-again : (frame : Frame) (turn nr : ℕ) (a : Account) (f : Account → Account) (again : Outgoing → Outgoing) (made : ℕ → Outgoing)
+    → frame_nr frame ≡ Some nr → ((n : ℕ) → a.outgoing.front ≤ n → Fronted n a.outgoing (again (made n))) → Besides (frame_ns frame) f
+    → HearsNumbers (arrivals.Frame frame) a
+    (then_in f (on_number turn nr (option_map again (option_map made (meant a.outgoing.front a.outgoing.high nr))) a))
 heard-again frame turn nr a f again made e each k =
-    subst (λ m. HearsNumbers (arrivals.Frame frame) a (then_in f (on_number turn nr m a))) (sym (map-twice again again made (meant a.outgoing.front a.outgoing.high nr))) (heard-number frame turn nr a f (λ n. again (made n)) e each k)
+    subst (λ m. HearsNumbers (arrivals.Frame frame) a (then_in f (on_number turn nr m a)))
+    (sym (map-twice again again made (meant a.outgoing.front a.outgoing.high nr)))
+    (heard-number frame turn nr a f (λ n. again (made n)) e each k)
 
 -- nothing of it changes
-heard-same : (arrived : Arrived) (a b : Account) → nr_heard arrived ≡ None → ns_heard arrived ≡ None → b.outgoing ≡ a.outgoing → b.incoming ≡ a.incoming → b.special ≡ a.special → NumbersHeard arrived a b
+heard-same : (arrived : Arrived) (a b : Account) → nr_heard arrived ≡ None → ns_heard arrived ≡ None → b.outgoing ≡ a.outgoing
+    → b.incoming ≡ a.incoming → b.special ≡ a.special → NumbersHeard arrived a b
 heard-same arrived a b x y o i s = record {
   window = ap (λ v. v.window) o;
   pieces = ap (λ v. v.pieces) o;
@@ -219,26 +233,45 @@ heard-same arrived a b x y o i s = record {
 }
 
 connected-numbers : (frame : Frame) (turn : ℕ) (a : Account) → HearsNumbers (arrivals.Frame frame) a (on_connected frame turn a)
-connected-numbers (I ns nr pf info) turn a = heard-number (I ns nr pf info) turn nr a (λ b. replying pf (taking ns info b)) (advanced a.outgoing) refl (fronted-advanced a.outgoing)
+connected-numbers (I ns nr pf info) turn a =
+    heard-number (I ns nr pf info) turn nr a (λ b. replying pf (taking ns info b)) (advanced a.outgoing) refl (fronted-advanced a.outgoing)
     (record { outgoing = λ b. refl; incoming = λ b. takes-of ns info b.incoming; special = λ b. refl; numbered = λ b. refl })
 connected-numbers (Rr command nr pf) turn a = go (ends_wait command pf a)
   where
-    go : (b : Bool) → HearsNumbers (arrivals.Frame (Rr command nr pf)) a (then_in (λ c. hurrying b (replying (command && pf) c)) (on_number turn nr (option_map resumed (cond b (replied nr a.outgoing) (acknowledged nr a.outgoing))) a))
-    go true = heard-again (Rr command nr pf) turn nr a _ resumed (λ n. wait_ended (advanced a.outgoing n)) refl (λ n l. fronted-resumed n a.outgoing _ (fronted-ended n a.outgoing _ (fronted-advanced a.outgoing n l))) (replies-besides true (command && pf))
-    go false = heard-again (Rr command nr pf) turn nr a _ resumed (advanced a.outgoing) refl (λ n l. fronted-resumed n a.outgoing _ (fronted-advanced a.outgoing n l)) (replies-besides false (command && pf))
+    go : (b : Bool) → HearsNumbers (arrivals.Frame (Rr command nr pf)) a
+        (then_in (λ c. hurrying b (replying (command && pf) c))
+        (on_number turn nr (option_map resumed (cond b (replied nr a.outgoing) (acknowledged nr a.outgoing))) a))
+    go true = heard-again (Rr command nr pf) turn nr a _ resumed (λ n. wait_ended (advanced a.outgoing n)) refl
+        (λ n l. fronted-resumed n a.outgoing _ (fronted-ended n a.outgoing _ (fronted-advanced a.outgoing n l)))
+        (replies-besides true (command && pf))
+    go false = heard-again (Rr command nr pf) turn nr a _ resumed (advanced a.outgoing) refl
+        (λ n l. fronted-resumed n a.outgoing _ (fronted-advanced a.outgoing n l)) (replies-besides false (command && pf))
 connected-numbers (Rej command nr pf) turn a = go (ends_wait command pf a)
   where
-    go : (b : Bool) → HearsNumbers (arrivals.Frame (Rej command nr pf)) a (then_in (λ c. hurrying b (replying (command && pf) c)) (on_number turn nr (option_map resumed (cond b (replied nr a.outgoing) (rejected nr a.outgoing))) a))
-    go true = heard-again (Rej command nr pf) turn nr a _ resumed (λ n. wait_ended (advanced a.outgoing n)) refl (λ n l. fronted-resumed n a.outgoing _ (fronted-ended n a.outgoing _ (fronted-advanced a.outgoing n l))) (replies-besides true (command && pf))
-    go false = heard-again (Rej command nr pf) turn nr a _ resumed (λ n. gone_back (advanced a.outgoing n)) refl (λ n l. fronted-resumed n a.outgoing _ (fronted-gone n a.outgoing _ (fronted-advanced a.outgoing n l))) (replies-besides false (command && pf))
+    go : (b : Bool) → HearsNumbers (arrivals.Frame (Rej command nr pf)) a
+        (then_in (λ c. hurrying b (replying (command && pf) c))
+        (on_number turn nr (option_map resumed (cond b (replied nr a.outgoing) (rejected nr a.outgoing))) a))
+    go true = heard-again (Rej command nr pf) turn nr a _ resumed (λ n. wait_ended (advanced a.outgoing n)) refl
+        (λ n l. fronted-resumed n a.outgoing _ (fronted-ended n a.outgoing _ (fronted-advanced a.outgoing n l)))
+        (replies-besides true (command && pf))
+    go false = heard-again (Rej command nr pf) turn nr a _ resumed (λ n. gone_back (advanced a.outgoing n)) refl
+        (λ n l. fronted-resumed n a.outgoing _ (fronted-gone n a.outgoing _ (fronted-advanced a.outgoing n l)))
+        (replies-besides false (command && pf))
 connected-numbers (Rnr command nr pf) turn a = go (ends_wait command pf a)
   where
-    go : (b : Bool) → HearsNumbers (arrivals.Frame (Rnr command nr pf)) a (then_in (λ c. pausing turn (replying (command && pf) c)) (on_number turn nr (option_map paused_at (cond b (replied nr a.outgoing) (acknowledged nr a.outgoing))) a))
-    go true = heard-again (Rnr command nr pf) turn nr a _ paused_at (λ n. wait_ended (advanced a.outgoing n)) refl (λ n l. fronted-paused n a.outgoing _ (fronted-ended n a.outgoing _ (fronted-advanced a.outgoing n l))) (pauses-besides turn (command && pf))
-    go false = heard-again (Rnr command nr pf) turn nr a _ paused_at (advanced a.outgoing) refl (λ n l. fronted-paused n a.outgoing _ (fronted-advanced a.outgoing n l)) (pauses-besides turn (command && pf))
+    go : (b : Bool) → HearsNumbers (arrivals.Frame (Rnr command nr pf)) a
+        (then_in (λ c. pausing turn (replying (command && pf) c))
+        (on_number turn nr (option_map paused_at (cond b (replied nr a.outgoing) (acknowledged nr a.outgoing))) a))
+    go true = heard-again (Rnr command nr pf) turn nr a _ paused_at (λ n. wait_ended (advanced a.outgoing n)) refl
+        (λ n l. fronted-paused n a.outgoing _ (fronted-ended n a.outgoing _ (fronted-advanced a.outgoing n l)))
+        (pauses-besides turn (command && pf))
+    go false = heard-again (Rnr command nr pf) turn nr a _ paused_at (advanced a.outgoing) refl
+        (λ n l. fronted-paused n a.outgoing _ (fronted-advanced a.outgoing n l)) (pauses-besides turn (command && pf))
 connected-numbers (Srej command nr pf) turn a = go (is_outstanding a.outgoing) (meant a.outgoing.front (a.outgoing.high - 1) nr)
   where
-    go : (b : Bool) (m : Option ℕ) → HearsNumbers (arrivals.Frame (Srej command nr pf)) a (on_number turn nr (cond b (option_map (λ n. record a.outgoing { chosen = with_number n a.outgoing.chosen }) m) None) a)
+    go : (b : Bool) (m : Option ℕ)
+        → HearsNumbers (arrivals.Frame (Srej command nr pf)) a
+        (on_number turn nr (cond b (option_map (λ n. record a.outgoing { chosen = with_number n a.outgoing.chosen }) m) None) a)
     go false m = tt
     go true None = tt
     go true (Some n) = record {
@@ -294,7 +327,8 @@ all-numbers (arrivals.Frame frame) turn a e = go a.phase e
     go Releasing e = cc
     go Closed e = cc
 
-pub numbers-heard : (arrived : Arrived) (turn : ℕ) (a mid : Account) → is_connected a.phase ≡ true → hear turn arrived a ≡ Ok mid → NumbersHeard arrived a mid
+pub numbers-heard : (arrived : Arrived) (turn : ℕ) (a mid : Account) → is_connected a.phase ≡ true → hear turn arrived a ≡ Ok mid
+    → NumbersHeard arrived a mid
 numbers-heard arrived turn a mid c e = go (hear turn arrived a) e (all-numbers arrived turn a c)
   where
     go : (r : Result Account LinkFault) → r ≡ Ok mid → HearsNumbers arrived a r → NumbersHeard arrived a mid

@@ -27,7 +27,8 @@ pub record NumbersSaid (special : Bool) (a : Account) (said : Said) : Type 0 whe
   pub taken : said.account.incoming.taken ≡ a.incoming.taken
   pub numbered : said.account.numbered ≡ a.numbered
   pub tells : (nr : ℕ) → nr_sent said.sent ≡ Some nr → nr ≡ length a.incoming.taken % 128
-  pub told : a.incoming.owed ≡ true → a.owes.answer ≡ None → (is_some (nr_sent said.sent) ≡ true) ⊎ ((special ≡ false) × (said.account.special ≡ true) × (said.account.incoming.owed ≡ true))
+  pub told : a.incoming.owed ≡ true → a.owes.answer ≡ None
+      → (is_some (nr_sent said.sent) ≡ true) ⊎ ((special ≡ false) × (said.account.special ≡ true) × (said.account.incoming.owed ≡ true))
   pub segment : (ns : ℕ) → ns_sent said.sent ≡ Some ns → said.account.outgoing.awaited ≡ false
 
 same-front : (o : Outgoing) → SameFront o o
@@ -47,12 +48,14 @@ next-awaited o = by o.chosen
     by [] = refl
     by (n ∷ rest) = refl
 
-ready-nr : (busy command pf : Bool) (nr : ℕ) → (frame_nr (ready_frame busy command nr pf) ≡ Some nr) × (frame_ns (ready_frame busy command nr pf) ≡ None)
+ready-nr : (busy command pf : Bool) (nr : ℕ)
+    → (frame_nr (ready_frame busy command nr pf) ≡ Some nr) × (frame_ns (ready_frame busy command nr pf) ≡ None)
 ready-nr true command pf nr = (refl, refl)
 ready-nr false command pf nr = (refl, refl)
 
 -- a frame with N(R) goes, which is no I frame
-says-nr : (special : Bool) (a : Account) (said : Said) → said.account.outgoing ≡ a.outgoing → said.account.incoming.taken ≡ a.incoming.taken → said.account.numbered ≡ a.numbered → nr_sent said.sent ≡ Some (nr_of a) → ns_sent said.sent ≡ None
+says-nr : (special : Bool) (a : Account) (said : Said) → said.account.outgoing ≡ a.outgoing → said.account.incoming.taken ≡ a.incoming.taken
+    → said.account.numbered ≡ a.numbered → nr_sent said.sent ≡ Some (nr_of a) → ns_sent said.sent ≡ None
     → NumbersSaid special a said
 says-nr special a said o t m e n = record {
   outgoing = subst (SameFront a.outgoing) (sym o) (same-front a.outgoing);
@@ -64,7 +67,9 @@ says-nr special a said o t m e n = record {
 }
 
 -- a word of breaks or an SREJ goes
-says-special : (special : Bool) (a : Account) (said : Said) → special ≡ false → said.account.outgoing ≡ a.outgoing → said.account.incoming.taken ≡ a.incoming.taken → said.account.numbered ≡ a.numbered → said.account.incoming.owed ≡ a.incoming.owed → said.account.special ≡ true
+says-special : (special : Bool) (a : Account) (said : Said) → special ≡ false → said.account.outgoing ≡ a.outgoing
+    → said.account.incoming.taken ≡ a.incoming.taken → said.account.numbered ≡ a.numbered → said.account.incoming.owed ≡ a.incoming.owed
+    → said.account.special ≡ true
     → nr_sent said.sent ≡ None → ns_sent said.sent ≡ None → NumbersSaid special a said
 says-special special a said u o t m w s e n = record {
   outgoing = subst (SameFront a.outgoing) (sym o) (same-front a.outgoing);
@@ -78,7 +83,8 @@ says-special special a said u o t m w s e n = record {
 asked-taken : (n : ℕ) (i : Incoming) → ((after_asked n i).taken ≡ i.taken) × ((after_asked n i).owed ≡ i.owed)
 asked-taken n i = by i.srej
   where
-    by : (b : Bool) → ((cond b (record i { asked = i.asked ++ n ∷ [] }) (record i { rej = false })).taken ≡ i.taken) × ((cond b (record i { asked = i.asked ++ n ∷ [] }) (record i { rej = false })).owed ≡ i.owed)
+    by : (b : Bool) → ((cond b (record i { asked = i.asked ++ n ∷ [] }) (record i { rej = false })).taken ≡ i.taken)
+        × ((cond b (record i { asked = i.asked ++ n ∷ [] }) (record i { rej = false })).owed ≡ i.owed)
     by true = (refl, refl)
     by false = (refl, refl)
 
@@ -89,7 +95,8 @@ steps-numbers turn special a =
     by-steps P (step3 a) _ (poll a.wait.poll) (λ e3.
     by-steps P (step4 turn a) _ (urgent a.wait.urgent) (λ e4.
     by-steps P (step5 special a) _ (breaks special refl a.their_breaks.ack) (λ e5.
-    by-steps P (step6 special a) _ (asks-for (differs a.owes.busy a.owes.busy_told && (is_originator a.setup.role || a.numbered)) a.owes.busy) (λ e6.
+    by-steps P (step6 special a) _
+    (asks-for (differs a.owes.busy a.owes.busy_told && (is_originator a.setup.role || a.numbered)) a.owes.busy) (λ e6.
     by-steps P (step7 turn a) _ (segment (may_send a) refl) (λ e7.
     by-steps P (step8 a) (step9 a) (owes a.incoming.owed) (λ e8. record {
       outgoing = same-front a.outgoing;
@@ -107,7 +114,9 @@ steps-numbers turn special a =
     not-owed true h e = cc
     not-owed false h e = cc
 
-    says-answer : (answer : Answer) → a.owes.answer ≡ Some answer → (said : Said) → said.account.outgoing ≡ a.outgoing → said.account.incoming ≡ a.incoming → said.account.numbered ≡ a.numbered → nr_sent said.sent ≡ None → ns_sent said.sent ≡ None → P said
+    says-answer : (answer : Answer) → a.owes.answer ≡ Some answer → (said : Said) → said.account.outgoing ≡ a.outgoing
+        → said.account.incoming ≡ a.incoming → said.account.numbered ≡ a.numbered → nr_sent said.sent ≡ None → ns_sent said.sent ≡ None
+        → P said
     says-answer answer e said o i m n k = record {
       outgoing = subst (SameFront a.outgoing) (sym o) (same-front a.outgoing);
       taken = ap (λ x. x.taken) i;
@@ -144,7 +153,8 @@ steps-numbers turn special a =
         first true y q = cc
 
         heard : (b : Bool) → cond b (next_number a.outgoing) None ≡ Some n → a.outgoing.awaited ≡ false
-        heard true q = first a.outgoing.awaited a.outgoing.paused (may-be a.outgoing.awaited a.outgoing.paused (next_among a.outgoing.chosen a.outgoing) n q).0
+        heard true q = first a.outgoing.awaited a.outgoing.paused
+            (may-be a.outgoing.awaited a.outgoing.paused (next_among a.outgoing.chosen a.outgoing) n q).0
         heard false q = cc
 
     segment : (m : Option ℕ) → may_send a ≡ m → AllSaid P (says_segment turn m a)
@@ -175,9 +185,11 @@ steps-numbers turn special a =
     asking srej s e None = tt
     asking false s e (Some n) = says-nr special a _ refl (asked-taken n a.incoming).0 refl refl refl
     asking true true e (Some n) = tt
-    asking true false e (Some n) = says-special special a _ e refl (asked-taken n a.incoming).0 refl (asked-taken n a.incoming).1 refl refl refl
+    asking true false e (Some n) =
+        says-special special a _ e refl (asked-taken n a.incoming).0 refl (asked-taken n a.incoming).1 refl refl refl
 
-    asks-for : (b c : Bool) → AllSaid P (cond b (Some (tells false false a)) (cond c None (says_asking a.incoming.srej special (asks a.incoming) a)))
+    asks-for : (b c : Bool)
+        → AllSaid P (cond b (Some (tells false false a)) (cond c None (says_asking a.incoming.srej special (asks a.incoming) a)))
     asks-for true c = owes true
     asks-for false true = tt
     asks-for false false = asking a.incoming.srej special refl (asks a.incoming)
@@ -196,11 +208,20 @@ timers-numbers turn a = timed (timer_expires turn a a.wait.timer) (nat_eq a.outg
     by b h None = tt
     by b h (Some c) = record { outgoing = h.outgoing; incoming = h.incoming; numbered = h.numbered; owes = h.owes }
 
-    timed : (x s : Bool) → OnOk (SameNumbers a) (then_tries turn (cond x (polling turn (cond s None (Some (record a.outgoing { count = a.outgoing.count + 1; awaited = true }))) a) (Ok a)))
-    timed false s = by a (record { outgoing = same-front a.outgoing; incoming = refl; numbered = refl; owes = refl }) (ticked turn a.setup.period a.setup.tries a.own_breaks)
+    timed : (x s : Bool) → OnOk (SameNumbers a)
+        (then_tries turn (cond x (polling turn (cond s None (Some (record a.outgoing { count = a.outgoing.count + 1; awaited = true }))) a)
+        (Ok a)))
+    timed false s = by a (record { outgoing = same-front a.outgoing; incoming = refl; numbered = refl; owes = refl })
+        (ticked turn a.setup.period a.setup.tries a.own_breaks)
     timed true true = tt
-    timed true false = by (record a { outgoing = record a.outgoing { count = a.outgoing.count + 1; awaited = true }; wait = record a.wait { poll = true; timer = Some turn } })
-        (record { outgoing = record { window = refl; pieces = refl; front = refl }; incoming = refl; numbered = refl; owes = refl }) (ticked turn a.setup.period a.setup.tries a.own_breaks)
+    timed true false = by
+        (record a {
+          outgoing = record a.outgoing { count = a.outgoing.count + 1; awaited = true };
+          wait =
+              record a.wait { poll = true; timer = Some turn };
+        })
+        (record { outgoing = record { window = refl; pieces = refl; front = refl }; incoming = refl; numbered = refl; owes = refl })
+        (ticked turn a.setup.period a.setup.tries a.own_breaks)
 
 pub linked-numbers : (turn : ℕ) (a : Account) (said : Said) → speak_linked turn a ≡ Ok said → NumbersSaid a.special a said
 linked-numbers turn a said e = go (then_tries turn (on_timer turn a)) (timers-numbers turn a) e
@@ -211,7 +232,12 @@ linked-numbers turn a said e = go (then_tries turn (on_timer turn a)) (timers-nu
         let k = steps-numbers turn a.special (record b { special = false }) in
         let same : steps turn a.special (record b { special = false }) ≡ said = cc in
         subst (NumbersSaid a.special a) same (record {
-          outgoing = record { window = k.outgoing.window ∙ t.outgoing.window; pieces = k.outgoing.pieces ∙ t.outgoing.pieces; front = k.outgoing.front ∙ t.outgoing.front };
+          outgoing = record {
+            window = k.outgoing.window ∙ t.outgoing.window;
+            pieces = k.outgoing.pieces ∙ t.outgoing.pieces;
+            front =
+                k.outgoing.front ∙ t.outgoing.front;
+          };
           taken = k.taken ∙ ap (λ i. i.taken) t.incoming;
           numbered = k.numbered ∙ t.numbered;
           tells = λ nr f. k.tells nr f ∙ ap (λ (i : Incoming). length i.taken % 128) t.incoming;

@@ -30,20 +30,25 @@ pub record NumberTurn (arrived : Arrived) (sent : Sent) (a mid c : Account) : Ty
   pub numbered : a.numbered ≡ true → mid.numbered ≡ true
   pub numbered_on : c.numbered ≡ mid.numbered
   pub tells : (nr : ℕ) → nr_sent sent ≡ Some nr → nr ≡ length mid.incoming.taken % 128
-  pub told : mid.incoming.owed ≡ true → mid.numbered ≡ true → (is_some (nr_sent sent) ≡ true) ⊎ ((a.special ≡ false) × (c.special ≡ true) × (c.incoming.owed ≡ true))
+  pub told : mid.incoming.owed ≡ true → mid.numbered ≡ true
+      → (is_some (nr_sent sent) ≡ true) ⊎ ((a.special ≡ false) × (c.special ≡ true) × (c.incoming.owed ≡ true))
   pub segment : (ns : ℕ) → ns_sent sent ≡ Some ns → c.outgoing.awaited ≡ false
   pub room : Room a → Room c
 
-pub poll-ok : (role : Role) (turn : ℕ) (polled : Bool) (a mid : Account) (r : Result Account LinkFault) → r ≡ Ok mid → PollHears role turn polled a r → PollHeard role turn polled a mid
+pub poll-ok : (role : Role) (turn : ℕ) (polled : Bool) (a mid : Account) (r : Result Account LinkFault) → r ≡ Ok mid
+    → PollHears role turn polled a r → PollHeard role turn polled a mid
 poll-ok role turn polled a mid (Err fault) e h = cc
 poll-ok role turn polled a mid (Ok b) e h = let same : b ≡ mid = cc in subst (PollHeard role turn polled a) same h
 
-pub speak-ok : (turn : ℕ) (a : Account) (said : Said) (r : Result Said LinkFault) → r ≡ Ok said → PollSpeaks turn a r → SpeakPoll turn a said
+pub speak-ok : (turn : ℕ) (a : Account) (said : Said) (r : Result Said LinkFault) → r ≡ Ok said → PollSpeaks turn a r
+    → SpeakPoll turn a said
 speak-ok turn a said (Err fault) e h = cc
 speak-ok turn a said (Ok other) e h = let same : other ≡ said = cc in subst (SpeakPoll turn a) same h
 
 -- the room of an end that is Connected when it speaks and after it
-pub room-said : (user : User) (turn : ℕ) (mid : Account) (released release : Bool) (said : Said) → speak turn release (served_account user turn released mid) ≡ Ok said → is_connected said.account.phase ≡ true → Room mid → Room said.account
+pub room-said : (user : User) (turn : ℕ) (mid : Account) (released release : Bool) (said : Said)
+    → speak turn release (served_account user turn released mid) ≡ Ok said → is_connected said.account.phase ≡ true → Room mid
+    → Room said.account
 room-said user turn mid released release said speaks c r =
     let b-room = left.room r.pieces in
     let f = k.outgoing.front in let v = k.outgoing.window in let q = ap length k.outgoing.pieces in
@@ -70,8 +75,11 @@ pub record Begins (c : Account) : Type 0 where
   pub room : Room c
   pub count : c.outgoing.count ≡ 0
 
-pub begins-turn : (user : User) (turn period : ℕ) (role : Role) (arrived : Arrived) (a mid : Account) (released release : Bool) (said : Said) → a.setup.role ≡ role → NoneDue a → a.wait.timer ≡ None → mid.setup.period ≡ period → 1 ≤ period
-    → Fits a.terms → IsAllowed a.setup.offer → hear turn arrived a ≡ Ok mid → speak turn release (served_account user turn released mid) ≡ Ok said → is_linked a.phase ≡ false → is_connected said.account.phase ≡ true
+pub begins-turn : (user : User) (turn period : ℕ) (role : Role) (arrived : Arrived) (a mid : Account) (released release : Bool)
+    (said : Said) → a.setup.role ≡ role → NoneDue a → a.wait.timer ≡ None → mid.setup.period ≡ period → 1 ≤ period
+    → Fits a.terms → IsAllowed a.setup.offer → hear turn arrived a ≡ Ok mid
+    → speak turn release (served_account user turn released mid) ≡ Ok said → is_linked a.phase ≡ false
+    → is_connected said.account.phase ≡ true
     → Begins said.account
 begins-turn user turn period role arrived a mid released release said er none untimed per long fits own hears speaks ua cc' = record {
   room = room-said user turn mid released release said speaks cc' (record { window = w.0; pieces = let p = w.1 in omega (arith, p) });
@@ -107,14 +115,17 @@ begins-turn user turn period role arrived a mid released release said er none un
         set-by x (inl q) r = let p = ap (λ y. y.period) s.setup in omega (arith, q, r, p, per, long)
         set-by x (inr q) r = let wrong : None ≡ Some x = sym untimed ∙ q in cc
 
-        by : ((k.1.made ≡ true) × (b.outgoing.count ≡ n) × (said.account.wait.timer ≡ Some turn)) ⊎ ((k.1.made ≡ false) × (b.outgoing.count ≡ n + 1) × ((r : ℕ) → b.wait.timer ≡ Some r → said.account.wait.timer ≡ Some r)) → ⊥
+        by : ((k.1.made ≡ true) × (b.outgoing.count ≡ n) × (said.account.wait.timer ≡ Some turn))
+            ⊎ ((k.1.made ≡ false) × (b.outgoing.count ≡ n + 1) × ((r : ℕ) → b.wait.timer ≡ Some r → said.account.wait.timer ≡ Some r)) → ⊥
         by (inr (x, y, z)) = omega (arith, y, b-count)
         by (inl (x, y, z)) =
             let m = k.1.made_from x in
             set-by m.0 ((polls.begun ua cm).2 m.0 (ap (λ v. v.timer) (sym s.wait) ∙ m.1)) m.2
 
-pub number-turn : (user : User) (turn : ℕ) (role : Role) (arrived : Arrived) (a mid : Account) (released release : Bool) (said : Said) → a.setup.role ≡ role → NoneDue a
-    → hear turn arrived a ≡ Ok mid → speak turn release (served_account user turn released mid) ≡ Ok said → is_connected a.phase ≡ true → is_connected said.account.phase ≡ true
+pub number-turn : (user : User) (turn : ℕ) (role : Role) (arrived : Arrived) (a mid : Account) (released release : Bool) (said : Said)
+    → a.setup.role ≡ role → NoneDue a
+    → hear turn arrived a ≡ Ok mid → speak turn release (served_account user turn released mid) ≡ Ok said → is_connected a.phase ≡ true
+    → is_connected said.account.phase ≡ true
     → NumberTurn arrived said.sent a mid said.account
 number-turn user turn role arrived a mid released release said er none hears speaks ca cc' = record {
   heard = heard;
@@ -125,8 +136,10 @@ number-turn user turn role arrived a mid released release said er none hears spe
   tells = λ nr e. k.tells nr e ∙ ap (λ (l : List (List ℕ)). length l % 128) left.taken;
   told = λ o n. to-mid (k.told (left.owed ∙ o) (s.answer ∙ (polls.answer ca (ap is_connected (sym s.phase) ∙ cb) n ∙ none.answer)));
   segment = k.segment;
-  room = λ r. let low = heard.front_low in let w = heard.window in let p = ap length heard.pieces in let rw' = r.window in let rp = r.pieces in
-      room-said user turn mid released release said speaks cc' (record { window = omega (arith, w, rw'); pieces = omega (arith, low, w, p, rp) });
+  room = λ r. let low = heard.front_low in let w = heard.window in let p = ap length heard.pieces in let rw' = r.window in let rp =
+      r.pieces in
+      room-said user turn mid released release said speaks cc'
+      (record { window = omega (arith, w, rw'); pieces = omega (arith, low, w, p, rp) });
 }
   where
     b : Account
@@ -153,7 +166,8 @@ number-turn user turn role arrived a mid released release said er none hears spe
     special : b.special ≡ a.special
     special = s.special ∙ heard.special
 
-    to-mid : (is_some (nr_sent said.sent) ≡ true) ⊎ ((b.special ≡ false) × (said.account.special ≡ true) × (said.account.incoming.owed ≡ true))
+    to-mid : (is_some (nr_sent said.sent) ≡ true)
+        ⊎ ((b.special ≡ false) × (said.account.special ≡ true) × (said.account.incoming.owed ≡ true))
         → (is_some (nr_sent said.sent) ≡ true) ⊎ ((a.special ≡ false) × (said.account.special ≡ true) × (said.account.incoming.owed ≡ true))
     to-mid (inl x) = inl x
     to-mid (inr (x, y, z)) = inr (sym special ∙ x, y, z)

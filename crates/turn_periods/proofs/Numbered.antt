@@ -151,10 +151,12 @@ numbered-all (arrivals.Pattern seen) turn a = go a.phase
     go Closed = λ e. inl e
 numbered-all (arrivals.Frame frame) turn a = numbered-frame a.phase frame turn a
 
-numbered-by : (arrived : Arrived) (turn : ℕ) (a mid : Account) → hear turn arrived a ≡ Ok mid → mid.numbered ≡ true → (a.numbered ≡ true) ⊎ (of_arrived is_counted arrived ≡ true)
+numbered-by : (arrived : Arrived) (turn : ℕ) (a mid : Account) → hear turn arrived a ≡ Ok mid → mid.numbered ≡ true
+    → (a.numbered ≡ true) ⊎ (of_arrived is_counted arrived ≡ true)
 numbered-by arrived turn a mid h n = go (hear turn arrived a) h (numbered-all arrived turn a)
   where
-    go : (r : Result Account LinkFault) → r ≡ Ok mid → NumberedBy (of_arrived is_counted arrived) a r → (a.numbered ≡ true) ⊎ (of_arrived is_counted arrived ≡ true)
+    go : (r : Result Account LinkFault) → r ≡ Ok mid → NumberedBy (of_arrived is_counted arrived) a r
+        → (a.numbered ≡ true) ⊎ (of_arrived is_counted arrived ≡ true)
     go (Err fault) q k = cc
     go (Ok b) q k = let same : b ≡ mid = cc in k (ap (λ x. x.numbered) same ∙ n)
 
@@ -166,16 +168,22 @@ SentUncounted (Ok said) = of_frame is_counted said.sent ≡ false
 try-uncounted : (turn : ℕ) (frame : Frame) (a : Account) → is_counted frame ≡ false → SentUncounted (u_try turn frame a)
 try-uncounted turn frame a e = go (nat_eq turn (a.wait.try_set + a.setup.period)) (nat_eq a.wait.try_count a.setup.tries)
   where
-    by : (c : Account) (due : Bool) → of_frame is_counted (else_says (where_says due (says_frame frame (record c { wait = record c.wait { try = false } }))) (says slots.Flags c)).sent ≡ false
+    by : (c : Account) (due : Bool)
+        → of_frame is_counted
+        (else_says (where_says due (says_frame frame (record c { wait = record c.wait { try = false } })))
+        (says slots.Flags c)).sent ≡ false
     by c true = e
     by c false = refl
 
-    go : (due spent' : Bool) → SentUncounted (cond due (cond spent' (Err (spent turn a)) (Ok (tries_frame frame (trying_again turn a)))) (Ok (tries_frame frame a)))
+    go : (due spent' : Bool)
+        → SentUncounted (cond due (cond spent' (Err (spent turn a)) (Ok (tries_frame frame (trying_again turn a))))
+        (Ok (tries_frame frame a)))
     go false s = by a a.wait.try
     go true true = tt
     go true false = by (trying_again turn a) true
 
-answer-uncounted : (a : Account) (silence : Sent) → of_frame is_counted silence ≡ false → (m : Option Answer) → of_frame is_counted (else_says (answering m a) (says silence a)).sent ≡ false
+answer-uncounted : (a : Account) (silence : Sent) → of_frame is_counted silence ≡ false → (m : Option Answer)
+    → of_frame is_counted (else_says (answering m a) (says silence a)).sent ≡ false
 answer-uncounted a silence e None = e
 answer-uncounted a silence e (Some answers.Adp) = refl
 answer-uncounted a silence e (Some answers.Xid) = refl
@@ -202,15 +210,18 @@ phase-uncounted Connected turn release b n = absurd (n refl)
 phase-uncounted Releasing turn release b n = try-uncounted turn (Disc true) b refl
 phase-uncounted Closed turn release b n = answer-uncounted b slots.Flags refl b.owes.answer
 
-sends-counted : (turn : ℕ) (release : Bool) (b : Account) (said : Said) → speak turn release b ≡ Ok said → of_frame is_counted said.sent ≡ true → is_linked said.account.phase ≡ true
-sends-counted turn release b said h c = (speak-ok turn b said (speak turn release b) h (poll-speaks turn release b)).linked ∙ go b.phase refl
+sends-counted : (turn : ℕ) (release : Bool) (b : Account) (said : Said) → speak turn release b ≡ Ok said
+    → of_frame is_counted said.sent ≡ true → is_linked said.account.phase ≡ true
+sends-counted turn release b said h c =
+    (speak-ok turn b said (speak turn release b) h (poll-speaks turn release b)).linked ∙ go b.phase refl
   where
     by : (r : Result Said LinkFault) → r ≡ Ok said → SentUncounted r → of_frame is_counted said.sent ≡ false
     by (Err fault) q k = cc
     by (Ok x) q k = let same : x ≡ said = cc in ap (λ y. of_frame is_counted y.sent) (sym same) ∙ k
 
     wrong : (p : Phase) → b.phase ≡ p → p ≢ Connected → ⊥
-    wrong p e n = let w : true ≡ false = sym c ∙ by (speak_in p turn release b) (sym (ap (λ x. speak_in x turn release b) e) ∙ h) (phase-uncounted p turn release b n) in cc
+    wrong p e n = let w : true ≡ false =
+        sym c ∙ by (speak_in p turn release b) (sym (ap (λ x. speak_in x turn release b) e) ∙ h) (phase-uncounted p turn release b n) in cc
 
     go : (p : Phase) → b.phase ≡ p → is_linked b.phase ≡ true
     go Connected e = ap is_linked e
@@ -221,7 +232,8 @@ sends-counted turn release b said h c = (speak-ok turn b said (speak turn releas
     go Closed e = ap is_linked e
 
 -- speaking leaves it
-spoken-numbered : (turn : ℕ) (release : Bool) (b : Account) (said : Said) → speak turn release b ≡ Ok said → said.account.numbered ≡ b.numbered
+spoken-numbered : (turn : ℕ) (release : Bool) (b : Account) (said : Said) → speak turn release b ≡ Ok said
+    → said.account.numbered ≡ b.numbered
 spoken-numbered turn release b said h = go (is_connected said.account.phase) refl
   where
     k : SpeakPoll turn b said
@@ -232,7 +244,8 @@ spoken-numbered turn release b said h = go (is_connected said.account.phase) ref
     go false e = (k.other e).1
 
 -- where an end is numbered, its peer is Connected or was
-pub numbered-linked : (tries period : ℕ) (delay : Role → ℕ) (link : Link) (ts : List Turn) (state : ℕ → Ends) (deed : ℕ → Deed) → KeepsTime tries period delay link → Trace period delay link ts state deed → (role : Role)
+pub numbered-linked : (tries period : ℕ) (delay : Role → ℕ) (link : Link) (ts : List Turn) (state : ℕ → Ends) (deed : ℕ → Deed)
+    → KeepsTime tries period delay link → Trace period delay link ts state deed → (role : Role)
     → (u : ℕ) → u ≤ length ts → (of role (state u)).numbered ≡ true → is_linked (of (other role) (state u)).phase ≡ true
 numbered-linked tries period delay link ts state deed kt w role zero l n = let wrong : false ≡ true = sym (none role) ∙ n in cc
   where
@@ -240,7 +253,8 @@ numbered-linked tries period delay link ts state deed kt w role zero l n = let w
     none Originator = ap (λ (s : Ends). s.orig.numbered) w.starts
     none Answerer = ap (λ (s : Ends). s.answ.numbered) w.starts
 numbered-linked tries period delay link ts state deed kt w role (suc u) l n =
-    go (numbered-by (arrival (of role (deed u).turn).heard) u (of role (state u)) (of role (deed u).mid) (h.hearing role).hears mid-numbered) (λ q. numbered-linked tries period delay link ts state deed kt w role u (omega (arith, l)) q)
+    go (numbered-by (arrival (of role (deed u).turn).heard) u (of role (state u)) (of role (deed u).mid)
+    (h.hearing role).hears mid-numbered) (λ q. numbered-linked tries period delay link ts state deed kt w role u (omega (arith, l)) q)
   where
     h : Happens period delay link (past ts u) u (state u) (deed u) (state (u + 1))
     h = w.happens u (omega (arith, l))
@@ -257,22 +271,29 @@ numbered-linked tries period delay link ts state deed kt w role (suc u) l n =
     k : TwoEnds period (length ts) e o
     k = two-ends tries period delay link ts state deed kt w role
 
-    says-of : (r : Role) (v : ℕ) (b : v < length ts) → speak v (release_of link v (deed v).mid r) (served_at link v (deed v).mid r).account ≡ Ok ((w.happens v b).speaking r).said
+    says-of : (r : Role) (v : ℕ) (b : v < length ts)
+        → speak v (release_of link v (deed v).mid r) (served_at link v (deed v).mid r).account ≡ Ok ((w.happens v b).speaking r).said
     says-of r v b = sym (said-as link v (deed v).mid r) ∙ ((w.happens v b).speaking r).says
 
     mid-numbered : (of role (deed u).mid).numbered ≡ true
     mid-numbered =
         sym (serves-all (of role link).user u (is_released (deed u).mid.orig.phase) (of role (deed u).mid)).numbered
-        ∙ (sym (spoken-numbered u (release_of link u (deed u).mid role) (served_at link u (deed u).mid role).account (h.speaking role).said (sym (said-as link u (deed u).mid role) ∙ (h.speaking role).says))
+        ∙ (sym (spoken-numbered u (release_of link u (deed u).mid role) (served_at link u (deed u).mid role).account (h.speaking role).said
+        (sym (said-as link u (deed u).mid role) ∙ (h.speaking role).says))
         ∙ (ap (λ (x : Account). x.numbered) (sym (h.speaking role).after_is) ∙ (ap (λ x. (of role (state x)).numbered) (sym (next u)) ∙ n)))
 
-    go : ((of role (state u)).numbered ≡ true) ⊎ (of_arrived is_counted (e.heard u) ≡ true) → ((of role (state u)).numbered ≡ true → is_linked (of (other role) (state u)).phase ≡ true) → is_linked (of (other role) (state (suc u))).phase ≡ true
-    go (inl q) again = subst (λ x. is_linked (of (other role) (state x)).phase ≡ true) (sym (next u)) ((k.other u (omega (arith, l))).linked (again q))
+    go : ((of role (state u)).numbered ≡ true) ⊎ (of_arrived is_counted (e.heard u) ≡ true)
+        → ((of role (state u)).numbered ≡ true → is_linked (of (other role) (state u)).phase ≡ true)
+        → is_linked (of (other role) (state (suc u))).phase ≡ true
+    go (inl q) again = subst (λ x. is_linked (of (other role) (state x)).phase ≡ true) (sym (next u))
+        ((k.other u (omega (arith, l))).linked (again q))
     go (inr q) again =
         let sent = was-sent o.delay (length ts) is_counted o.slot e.heard e.loses k.hears u (omega (arith, l)) q in
         let v : ℕ = u - o.delay in
         let within : v < length ts = omega (arith, l) in
         let s = (w.happens v within).speaking (other role) in
-        let linked = sends-counted v (release_of link v (deed v).mid (other role)) (served_at link v (deed v).mid (other role)).account s.said (says-of (other role) v within)
+        let linked = sends-counted v (release_of link v (deed v).mid (other role))
+        (served_at link v (deed v).mid (other role)).account s.said (says-of (other role) v within)
         (ap (λ x. of_frame is_counted (sent_or x)) (sym s.sent_is) ∙ sent.1) in
-        linked-on period (length ts) o e (turned period (length ts) e o k) (v + 1) (suc u) (omega arith) l (ap (λ (x : Account). is_linked x.phase) s.after_is ∙ linked)
+        linked-on period (length ts) o e (turned period (length ts) e o k) (v + 1) (suc u) (omega arith) l
+        (ap (λ (x : Account). is_linked x.phase) s.after_is ∙ linked)

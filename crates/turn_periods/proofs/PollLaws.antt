@@ -18,7 +18,8 @@ use Rattle.turn_periods.proofs.KeepsPolls.{Answers}
 use Rattle.turn_periods.proofs.LineLaw.{arrives-late, was-sent, are-polls}
 use Rattle.turn_periods.proofs.PollsFresh.{polls-fresh, sent-soon, sent-apart}
 
-pub two-ends : (tries period : ℕ) (delay : Role → ℕ) (link : Link) (ts : List Turn) (state : ℕ → Ends) (deed : ℕ → Deed) → KeepsTime tries period delay link → Trace period delay link ts state deed
+pub two-ends : (tries period : ℕ) (delay : Role → ℕ) (link : Link) (ts : List Turn) (state : ℕ → Ends) (deed : ℕ → Deed)
+    → KeepsTime tries period delay link → Trace period delay link ts state deed
     → (role : Role) → TwoEnds period (length ts) (end_run delay state deed role) (end_run delay state deed (other role))
 two-ends tries period delay link ts state deed k w role = record {
   own = λ t l. (w.happens t l).polls role;
@@ -32,7 +33,9 @@ two-ends tries period delay link ts state deed k w role = record {
   period_is = sum role;
 }
   where
-    heard : (r : Role) → (t : ℕ) → t < length ts → ArrivesLate (delay r) t (is_lost (of (other r) (deed t).turn).heard) (λ n. sent_or (of r (deed n).turn).sent) (arrival (of (other r) (deed t).turn).heard)
+    heard : (r : Role) → (t : ℕ) → t < length ts
+        → ArrivesLate (delay r) t (is_lost (of (other r) (deed t).turn).heard) (λ n. sent_or (of r (deed n).turn).sent)
+        (arrival (of (other r) (deed t).turn).heard)
     heard Originator = arrives-late period delay link ts state deed k.delays w Answerer
     heard Answerer = arrives-late period delay link ts state deed k.delays w Originator
 
@@ -58,50 +61,65 @@ turned period turns e o k = record {
   period_is = let p = k.period_is in omega (arith, p);
 }
 
-own-polls : (period turns : ℕ) (e o : EndRun) → TwoEnds period turns e o → Polls period turns (λ t. poll_due (e.account t)) e.made (sends_poll e) (hears_poll e)
-own-polls period turns e o k = are-polls period turns e.role e.account (hears_poll e) (hears_final e) e.made e.count (λ t. e.slot t) k.own_first k.own
+own-polls : (period turns : ℕ) (e o : EndRun) → TwoEnds period turns e o
+    → Polls period turns (λ t. poll_due (e.account t)) e.made (sends_poll e) (hears_poll e)
+own-polls period turns e o k =
+    are-polls period turns e.role e.account (hears_poll e) (hears_final e) e.made e.count (λ t. e.slot t) k.own_first k.own
 
 heard-sent : (period turns : ℕ) (e o : EndRun) → TwoEnds period turns e o → WasSent o.delay turns (hears_poll e) (sends_poll o)
 heard-sent period turns e o k = was-sent o.delay turns is_poll o.slot e.heard e.loses k.hears
 
 -- Polls due at one end became due at least a period apart.
-pub due-apart : (period turns : ℕ) (e o : EndRun) → TwoEnds period turns e o → (s t : ℕ) → s < t → t < turns → e.made s ≡ true → e.made t ≡ true → s + period ≤ t
+pub due-apart : (period turns : ℕ) (e o : EndRun) → TwoEnds period turns e o → (s t : ℕ) → s < t → t < turns → e.made s ≡ true
+    → e.made t ≡ true → s + period ≤ t
 due-apart period turns e o k = (own-polls period turns e o k).apart
 
 -- A response with F = 1 is sent only where a poll is heard, and where one is heard at an end that is Connected and stays so, in that very turn.
-pub reply-from : (period turns : ℕ) (e o : EndRun) → TwoEnds period turns e o → (t : ℕ) → t < turns → sends_final e t ≡ true → hears_poll e t ≡ true
+pub reply-from : (period turns : ℕ) (e o : EndRun) → TwoEnds period turns e o → (t : ℕ) → t < turns → sends_final e t ≡ true
+    → hears_poll e t ≡ true
 reply-from period turns e o k t l = (k.own t l).replied
 
-pub reply-at-once : (period turns : ℕ) (e o : EndRun) → TwoEnds period turns e o → (t : ℕ) → t < turns → hears_poll e t ≡ true → is_connected (e.account t).phase ≡ true → is_connected (e.account (t + 1)).phase ≡ true → sends_final e t ≡ true
+pub reply-at-once : (period turns : ℕ) (e o : EndRun) → TwoEnds period turns e o → (t : ℕ) → t < turns → hears_poll e t ≡ true
+    → is_connected (e.account t).phase ≡ true → is_connected (e.account (t + 1)).phase ≡ true → sends_final e t ≡ true
 reply-at-once period turns e o k t l = (k.own t l).replies
 
 -- A poll that is still due between turns became due in the last one, and a poll of the other end was heard in it.
 pub poll-fresh : (period turns : ℕ) (e o : EndRun) → TwoEnds period turns e o → Fresh turns (λ t. poll_due (e.account t)) e.made
 poll-fresh period turns e o k =
     let p = k.period_is in
-    (polls-fresh period e.delay o.delay turns (λ t. poll_due (e.account t)) e.made (sends_poll e) (hears_poll e) (λ t. poll_due (o.account t)) o.made (sends_poll o) (hears_poll o) (omega (arith, p)) k.own_delay k.other_delay
-    (own-polls period turns e o k) (own-polls period turns o e (turned period turns e o k)) (heard-sent period turns e o k) (heard-sent period turns o e (turned period turns e o k))).0
+    (polls-fresh period e.delay o.delay turns (λ t. poll_due (e.account t)) e.made (sends_poll e) (hears_poll e)
+    (λ t. poll_due (o.account t)) o.made (sends_poll o) (hears_poll o) (omega (arith, p)) k.own_delay k.other_delay
+    (own-polls period turns e o k) (own-polls period turns o e (turned period turns e o k)) (heard-sent period turns e o k)
+    (heard-sent period turns o e (turned period turns e o k))).0
 
-pub poll-held-up : (period turns : ℕ) (e o : EndRun) → TwoEnds period turns e o → (t : ℕ) → t < turns → poll_due (e.account (t + 1)) ≡ true → hears_poll e t ≡ true
+pub poll-held-up : (period turns : ℕ) (e o : EndRun) → TwoEnds period turns e o → (t : ℕ) → t < turns → poll_due (e.account (t + 1)) ≡ true
+    → hears_poll e t ≡ true
 poll-held-up period turns e o k t l = (k.own t l).held_up
 
 -- Polls are sent at least a period less one turn apart.
-pub polls-apart : (period turns : ℕ) (e o : EndRun) → TwoEnds period turns e o → (s t : ℕ) → s < t → t < turns → sends_poll e s ≡ true → sends_poll e t ≡ true → s + period ≤ t + 1
-polls-apart period turns e o k = sent-apart period turns (λ t. poll_due (e.account t)) e.made (sends_poll e) (hears_poll e) (own-polls period turns e o k) (poll-fresh period turns e o k)
+pub polls-apart : (period turns : ℕ) (e o : EndRun) → TwoEnds period turns e o → (s t : ℕ) → s < t → t < turns → sends_poll e s ≡ true
+    → sends_poll e t ≡ true → s + period ≤ t + 1
+polls-apart period turns e o k =
+    sent-apart period turns (λ t. poll_due (e.account t)) e.made (sends_poll e) (hears_poll e) (own-polls period turns e o k)
+    (poll-fresh period turns e o k)
 
 -- A poll that became due goes in that turn or in the next one.
 pub poll-soon : (period turns : ℕ) (e o : EndRun) → TwoEnds period turns e o → (t : ℕ) → t < turns → sends_poll e t ≡ true
     → (e.made t ≡ true) ⊎ ((s : ℕ) × (t ≡ s + 1) × (e.made s ≡ true) × (poll_due (e.account t) ≡ true))
-poll-soon period turns e o k = sent-soon period turns (λ t. poll_due (e.account t)) e.made (sends_poll e) (hears_poll e) (own-polls period turns e o k) (poll-fresh period turns e o k)
+poll-soon period turns e o k =
+    sent-soon period turns (λ t. poll_due (e.account t)) e.made (sends_poll e) (hears_poll e) (own-polls period turns e o k)
+    (poll-fresh period turns e o k)
 
-pub reply-matches : (period turns : ℕ) (e o : EndRun) → TwoEnds period turns e o → (t : ℕ) → t < turns → hears_final e t ≡ true → Answers t e o
+pub reply-matches : (period turns : ℕ) (e o : EndRun) → TwoEnds period turns e o → (t : ℕ) → t < turns → hears_final e t ≡ true
+    → Answers t e o
 reply-matches period turns e o k t within h = go (poll-soon period turns e o k sent (omega (arith, within)) asked.1)
   where
     replied : (o.delay ≤ t) × (sends_final o (t - o.delay) ≡ true)
     replied = was-sent o.delay turns is_final o.slot e.heard e.loses k.hears t within h
 
     asked : (e.delay ≤ t - o.delay) × (sends_poll e (t - o.delay - e.delay) ≡ true)
-    asked = heard-sent period turns o e (turned period turns e o k) (t - o.delay) (omega (arith, within)) (reply-from period turns o e (turned period turns e o k) (t - o.delay) (omega (arith, within)) replied.1)
+    asked = heard-sent period turns o e (turned period turns e o k) (t - o.delay) (omega (arith, within))
+        (reply-from period turns o e (turned period turns e o k) (t - o.delay) (omega (arith, within)) replied.1)
 
     sent : ℕ
     sent = t - o.delay - e.delay
@@ -118,7 +136,8 @@ reply-matches period turns e o k t within h = go (poll-soon period turns e o k s
       due_before = before;
       due_soon = soon;
       made = made;
-      none_since = λ x l m n. let far = due-apart period turns e o k due x l (omega (arith, m, within)) made n in let p = k.period_is in omega (arith, far, m, soon, back, p);
+      none_since = λ x l m n. let far = due-apart period turns e o k due x l (omega (arith, m, within)) made n in let p = k.period_is in
+          omega (arith, far, m, soon, back, p);
     }
 
     go : (e.made sent ≡ true) ⊎ ((s : ℕ) × (sent ≡ s + 1) × (e.made s ≡ true) × (poll_due (e.account sent) ≡ true)) → Answers t e o

@@ -34,7 +34,8 @@ pub record StepPoll (turn : ℕ) (a : Account) (said : Said) : Type 0 where
   pub numbered : said.account.numbered ≡ a.numbered
   pub timer : SetFrom turn a.wait.timer said.account.wait.timer
   pub sent : of_frame is_poll said.sent ≡ true → (a.wait.poll ≡ true) × (said.account.wait.poll ≡ false)
-  pub kept : said.account.wait.poll ≡ true → (a.wait.poll ≡ true) × (a.owes.answer ≡ None → (a.owes.reply ≡ true) × (of_frame is_final said.sent ≡ true))
+  pub kept : said.account.wait.poll ≡ true
+      → (a.wait.poll ≡ true) × (a.owes.answer ≡ None → (a.owes.reply ≡ true) × (of_frame is_final said.sent ≡ true))
   pub final : of_frame is_final said.sent ≡ true → a.owes.reply ≡ true
   pub replies : a.owes.answer ≡ None → a.owes.reply ≡ true → of_frame is_final said.sent ≡ true
   pub goes : a.wait.poll ≡ true → (of_frame is_poll said.sent ≡ true) ⊎ (said.account.wait.poll ≡ true)
@@ -42,7 +43,8 @@ pub record StepPoll (turn : ℕ) (a : Account) (said : Said) : Type 0 where
   pub count : said.account.outgoing.count ≡ a.outgoing.count
   pub runs : (r : ℕ) → a.wait.timer ≡ Some r → said.account.wait.timer ≡ Some r
 
-ready-kinds : (busy command pf : Bool) (nr : ℕ) → (is_poll (ready_frame busy command nr pf) ≡ command && pf) × (is_final (ready_frame busy command nr pf) ≡ pf && not command)
+ready-kinds : (busy command pf : Bool) (nr : ℕ)
+    → (is_poll (ready_frame busy command nr pf) ≡ command && pf) × (is_final (ready_frame busy command nr pf) ≡ pf && not command)
 ready-kinds true command pf nr = (refl, refl)
 ready-kinds false command pf nr = (refl, refl)
 
@@ -77,12 +79,16 @@ steps-poll turn special a =
     let p : a.wait.poll ≡ false = no-poll a.wait.poll e3 in
     else-says (StepPoll turn a) (step4 turn a) _ (urgent a.wait.urgent r p)
     (else-says (StepPoll turn a) (step5 special a) _ (breaks special a.their_breaks.ack r p)
-    (else-says (StepPoll turn a) (step6 special a) _ (asks-for (differs a.owes.busy a.owes.busy_told && (is_originator a.setup.role || a.numbered)) a.owes.busy r p)
+    (else-says (StepPoll turn a) (step6 special a) _
+    (asks-for (differs a.owes.busy a.owes.busy_told && (is_originator a.setup.role || a.numbered)) a.owes.busy r p)
     (else-says (StepPoll turn a) (step7 turn a) _ (segment (may_send a) r p)
-    (else-says (StepPoll turn a) (step8 a) (step9 a) (where-says (StepPoll turn a) a.incoming.owed _ (ready r p)) (quiet (step9 a) r p refl refl (set-same turn a.wait.timer) refl refl refl refl refl (λ s h. h)))))))))
+    (else-says (StepPoll turn a) (step8 a) (step9 a) (where-says (StepPoll turn a) a.incoming.owed _ (ready r p))
+    (quiet (step9 a) r p refl refl (set-same turn a.wait.timer) refl refl refl refl refl (λ s h. h)))))))))
   where
-    quiet : (said : Said) → a.owes.reply ≡ false → a.wait.poll ≡ false → said.account.phase ≡ a.phase → said.account.numbered ≡ a.numbered → SetFrom turn a.wait.timer said.account.wait.timer
-        → said.account.wait.poll ≡ a.wait.poll → of_frame is_poll said.sent ≡ false → of_frame is_final said.sent ≡ false → said.account.outgoing.awaited ≡ a.outgoing.awaited → said.account.outgoing.count ≡ a.outgoing.count
+    quiet : (said : Said) → a.owes.reply ≡ false → a.wait.poll ≡ false → said.account.phase ≡ a.phase → said.account.numbered ≡ a.numbered
+        → SetFrom turn a.wait.timer said.account.wait.timer
+        → said.account.wait.poll ≡ a.wait.poll → of_frame is_poll said.sent ≡ false → of_frame is_final said.sent ≡ false
+        → said.account.outgoing.awaited ≡ a.outgoing.awaited → said.account.outgoing.count ≡ a.outgoing.count
         → ((s : ℕ) → a.wait.timer ≡ Some s → said.account.wait.timer ≡ Some s) → StepPoll turn a said
     quiet said r p f n t w x y v m g = record {
       phase = f;
@@ -99,7 +105,8 @@ steps-poll turn special a =
     }
 
     ready : a.owes.reply ≡ false → a.wait.poll ≡ false → StepPoll turn a (tells false false a)
-    ready r p = let k = ready-kinds a.owes.busy false false (nr_of a) in quiet (tells false false a) r p refl refl (set-same turn a.wait.timer) refl k.0 k.1 refl refl (λ s h. h)
+    ready r p = let k = ready-kinds a.owes.busy false false (nr_of a) in
+        quiet (tells false false a) r p refl refl (set-same turn a.wait.timer) refl k.0 k.1 refl refl (λ s h. h)
 
     answer-quiet : (answer : Answer) → (of_frame is_poll (frame_for answer a) ≡ false) × (of_frame is_final (frame_for answer a) ≡ false)
     answer-quiet answers.Adp = (refl, refl)
@@ -131,7 +138,8 @@ steps-poll turn special a =
     no-poll true e = cc
     no-poll false e = refl
 
-    replied-to : (b : Bool) → a.owes.reply ≡ b → AllSaid (StepPoll turn a) (where_says b (tells false true (record a { owes = record a.owes { reply = false } })))
+    replied-to : (b : Bool) → a.owes.reply ≡ b
+        → AllSaid (StepPoll turn a) (where_says b (tells false true (record a { owes = record a.owes { reply = false } })))
     replied-to false e = tt
     replied-to true e = let k = ready-kinds a.owes.busy false true (nr_of a) in record {
       phase = refl;
@@ -147,7 +155,8 @@ steps-poll turn special a =
       runs = λ s h. h;
     }
 
-    polled : (b : Bool) → a.wait.poll ≡ b → a.owes.reply ≡ false → AllSaid (StepPoll turn a) (where_says b (tells true true (record a { wait = record a.wait { poll = false } })))
+    polled : (b : Bool) → a.wait.poll ≡ b → a.owes.reply ≡ false
+        → AllSaid (StepPoll turn a) (where_says b (tells true true (record a { wait = record a.wait { poll = false } })))
     polled false e r = tt
     polled true e r = let k = ready-kinds a.owes.busy true true (nr_of a) in record {
       phase = refl;
@@ -165,9 +174,12 @@ steps-poll turn special a =
 
     segment : (m : Option ℕ) → a.owes.reply ≡ false → a.wait.poll ≡ false → AllSaid (StepPoll turn a) (says_segment turn m a)
     segment None r p = tt
-    segment (Some n) r p = quiet _ r p refl refl (set-running turn a.wait.timer) refl refl refl (next-awaited a.outgoing) (next-count a.outgoing) (running-runs turn a.wait.timer)
+    segment (Some n) r p =
+        quiet _ r p refl refl (set-running turn a.wait.timer) refl refl refl (next-awaited a.outgoing) (next-count a.outgoing)
+        (running-runs turn a.wait.timer)
 
-    urgent : (b : Bool) → a.owes.reply ≡ false → a.wait.poll ≡ false → AllSaid (StepPoll turn a) (cond b (says_segment turn (may_send a) a) None)
+    urgent : (b : Bool) → a.owes.reply ≡ false → a.wait.poll ≡ false
+        → AllSaid (StepPoll turn a) (cond b (says_segment turn (may_send a) a) None)
     urgent true r p = segment (may_send a) r p
     urgent false r p = tt
 
@@ -175,18 +187,22 @@ steps-poll turn special a =
     own None r p = tt
     own (Some word) r p = quiet _ r p refl refl (set-same turn a.wait.timer) refl refl refl refl refl (λ s h. h)
 
-    breaks : (b : Bool) (m : Option BreakWord) → a.owes.reply ≡ false → a.wait.poll ≡ false → AllSaid (StepPoll turn a) (cond b None (says_break m a))
+    breaks : (b : Bool) (m : Option BreakWord) → a.owes.reply ≡ false → a.wait.poll ≡ false
+        → AllSaid (StepPoll turn a) (cond b None (says_break m a))
     breaks true m r p = tt
     breaks false None r p = own (own_due a.own_breaks) r p
     breaks false (Some word) r p = quiet _ r p refl refl (set-same turn a.wait.timer) refl refl refl refl refl (λ s h. h)
 
-    asking : (srej special : Bool) (m : Option ℕ) → a.owes.reply ≡ false → a.wait.poll ≡ false → AllSaid (StepPoll turn a) (says_asking srej special m a)
+    asking : (srej special : Bool) (m : Option ℕ) → a.owes.reply ≡ false → a.wait.poll ≡ false
+        → AllSaid (StepPoll turn a) (says_asking srej special m a)
     asking srej special None r p = tt
     asking false special (Some n) r p = quiet _ r p refl refl (set-same turn a.wait.timer) refl refl refl refl refl (λ s h. h)
     asking true true (Some n) r p = tt
     asking true false (Some n) r p = quiet _ r p refl refl (set-same turn a.wait.timer) refl refl refl refl refl (λ s h. h)
 
-    asks-for : (b c : Bool) → a.owes.reply ≡ false → a.wait.poll ≡ false → AllSaid (StepPoll turn a) (cond b (Some (tells false false a)) (cond c None (says_asking a.incoming.srej special (asks a.incoming) a)))
+    asks-for : (b c : Bool) → a.owes.reply ≡ false → a.wait.poll ≡ false
+        → AllSaid (StepPoll turn a)
+        (cond b (Some (tells false false a)) (cond c None (says_asking a.incoming.srej special (asks a.incoming) a)))
     asks-for true c r p = ready r p
     asks-for false true r p = tt
     asks-for false false r p = asking a.incoming.srej special (asks a.incoming) r p
@@ -197,7 +213,9 @@ pub record TimersPoll (turn : ℕ) (a b : Account) : Type 0 where
   pub phase : b.phase ≡ a.phase
   pub owes : b.owes ≡ a.owes
   pub numbered : b.numbered ≡ a.numbered
-  pub yes : made ≡ true → (b.wait.poll ≡ true) × (b.wait.timer ≡ Some turn) × (b.outgoing.awaited ≡ true) × ((s : ℕ) × (a.wait.timer ≡ Some s) × (turn ≡ s + a.setup.period))
+  pub yes : made ≡ true
+      → (b.wait.poll ≡ true) × (b.wait.timer ≡ Some turn) × (b.outgoing.awaited ≡ true)
+      × ((s : ℕ) × (a.wait.timer ≡ Some s) × (turn ≡ s + a.setup.period))
   pub counts : made ≡ true → b.outgoing.count ≡ a.outgoing.count + 1
   pub no : made ≡ false → (b.wait ≡ a.wait) × (b.outgoing ≡ a.outgoing)
 
@@ -206,21 +224,47 @@ timers-poll turn a = timed a.wait.timer refl
   where
     by : (b : Account) → TimersPoll turn a b → (m : Option OwnBreaks) → OnOk (TimersPoll turn a) (breaking turn m b)
     by b t None = tt
-    by b t (Some c) = record { made = t.made; phase = t.phase; owes = t.owes; numbered = t.numbered; yes = t.yes; counts = t.counts; no = t.no }
+    by b t (Some c) = record {
+      made = t.made;
+      phase = t.phase;
+      owes = t.owes;
+      numbered = t.numbered;
+      yes = t.yes;
+      counts = t.counts;
+      no =
+          t.no;
+    }
 
     calm : TimersPoll turn a a
     calm = record { made = false; phase = refl; owes = refl; numbered = refl; yes = λ h. cc; counts = λ h. cc; no = λ h. (refl, refl) }
 
-    timed : (m : Option ℕ) → a.wait.timer ≡ m → OnOk (TimersPoll turn a) (then_tries turn (cond (timer_expires turn a m) (polling turn (expired a.outgoing) a) (Ok a)))
+    timed : (m : Option ℕ) → a.wait.timer ≡ m
+        → OnOk (TimersPoll turn a) (then_tries turn (cond (timer_expires turn a m) (polling turn (expired a.outgoing) a) (Ok a)))
     timed None e = by a calm (ticked turn a.setup.period a.setup.tries a.own_breaks)
     timed (Some set) e = go (nat_eq turn (set + a.setup.period)) refl (nat_eq a.outgoing.count a.outgoing.tries)
       where
         go : (x : Bool) → nat_eq turn (set + a.setup.period) ≡ x → (spent' : Bool)
-            → OnOk (TimersPoll turn a) (then_tries turn (cond x (polling turn (cond spent' None (Some (record a.outgoing { count = a.outgoing.count + 1; awaited = true }))) a) (Ok a)))
+            → OnOk (TimersPoll turn a)
+            (then_tries turn (cond x
+            (polling turn (cond spent' None (Some (record a.outgoing { count = a.outgoing.count + 1; awaited = true }))) a) (Ok a)))
         go false q s = by a calm (ticked turn a.setup.period a.setup.tries a.own_breaks)
         go true q true = tt
-        go true q false = by (record a { outgoing = record a.outgoing { count = a.outgoing.count + 1; awaited = true }; wait = record a.wait { poll = true; timer = Some turn } })
-            (record { made = true; phase = refl; owes = refl; numbered = refl; yes = λ h. (refl, refl, refl, (set, e, same)); counts = λ h. refl; no = λ h. cc }) (ticked turn a.setup.period a.setup.tries a.own_breaks)
+        go true q false = by (record
+            a {
+              outgoing = record a.outgoing { count = a.outgoing.count + 1; awaited = true };
+              wait =
+                  record a.wait { poll = true; timer = Some turn };
+            })
+            (record {
+              made = true;
+              phase = refl;
+              owes = refl;
+              numbered = refl;
+              yes = λ h. (refl, refl, refl, (set, e, same));
+              counts =
+                  λ h. refl;
+              no = λ h. cc;
+            }) (ticked turn a.setup.period a.setup.tries a.own_breaks)
           where
             same : turn ≡ set + a.setup.period
             same = grind (arith, nat_tests, q)
@@ -234,13 +278,15 @@ pub record SaidPoll (turn : ℕ) (a : Account) (said : Said) : Type 0 where
   pub made_timer : made ≡ true → (s : ℕ) → said.account.wait.timer ≡ Some s → s ≡ turn
   pub made_from : made ≡ true → (s : ℕ) × (a.wait.timer ≡ Some s) × (turn ≡ s + a.setup.period)
   pub sent : of_frame is_poll said.sent ≡ true → (made ≡ false → a.wait.poll ≡ true) × (said.account.wait.poll ≡ false)
-  pub kept : said.account.wait.poll ≡ true → (made ≡ false → a.wait.poll ≡ true) × (a.owes.answer ≡ None → (a.owes.reply ≡ true) × (of_frame is_final said.sent ≡ true))
+  pub kept : said.account.wait.poll ≡ true
+      → (made ≡ false → a.wait.poll ≡ true) × (a.owes.answer ≡ None → (a.owes.reply ≡ true) × (of_frame is_final said.sent ≡ true))
   pub final : of_frame is_final said.sent ≡ true → a.owes.reply ≡ true
   pub replies : a.owes.answer ≡ None → a.owes.reply ≡ true → of_frame is_final said.sent ≡ true
   pub goes : (made ≡ true) ⊎ (a.wait.poll ≡ true) → (of_frame is_poll said.sent ≡ true) ⊎ (said.account.wait.poll ≡ true)
   pub awaited : said.account.outgoing.awaited ≡ made || a.outgoing.awaited
   pub counted : (n : ℕ) → said.account.outgoing.count ≡ n + 1
-      → ((made ≡ true) × (a.outgoing.count ≡ n) × (said.account.wait.timer ≡ Some turn)) ⊎ ((made ≡ false) × (a.outgoing.count ≡ n + 1) × ((r : ℕ) → a.wait.timer ≡ Some r → said.account.wait.timer ≡ Some r))
+      → ((made ≡ true) × (a.outgoing.count ≡ n) × (said.account.wait.timer ≡ Some turn))
+      ⊎ ((made ≡ false) × (a.outgoing.count ≡ n + 1) × ((r : ℕ) → a.wait.timer ≡ Some r → said.account.wait.timer ≡ Some r))
 
 pub linked-poll : (turn : ℕ) (a : Account) → OnOk (SaidPoll turn a) (speak_linked turn a)
 linked-poll turn a = go (then_tries turn (on_timer turn a)) (timers-poll turn a)
@@ -259,18 +305,23 @@ linked-poll turn a = go (then_tries turn (on_timer turn a)) (timers-poll turn a)
           made_timer = λ m s h. set-now s (k.timer s h) (t.yes m).1;
           made_from = λ m. (t.yes m).3;
           sent = λ h. ((λ m. ap (λ w. w.poll) (sym (t.no m).0) ∙ (k.sent h).0), (k.sent h).1);
-          kept = λ h. let l = k.kept h in ((λ m. ap (λ w. w.poll) (sym (t.no m).0) ∙ l.0), (λ n. let f = l.1 (answer ∙ n) in (sym reply ∙ f.0, f.1)));
+          kept = λ h. let l = k.kept h in
+              ((λ m. ap (λ w. w.poll) (sym (t.no m).0) ∙ l.0), (λ n. let f = l.1 (answer ∙ n) in (sym reply ∙ f.0, f.1)));
           final = λ h. sym reply ∙ k.final h;
           replies = λ n h. k.replies (answer ∙ n) (reply ∙ h);
           goes = λ w. k.goes (due w t.made refl);
           awaited = k.awaited ∙ waits-for t.made refl;
-          counted = λ n h. count-by n (sym k.count ∙ h) (steps turn a.special (record b { special = false })).account.wait.timer k.runs t.made refl;
+          counted = λ n h. count-by n (sym k.count ∙ h)
+              (steps turn a.special (record b { special = false })).account.wait.timer k.runs t.made refl;
         }
       where
-        count-by : (n : ℕ) → b.outgoing.count ≡ n + 1 → (timer : Option ℕ) → ((s : ℕ) → b.wait.timer ≡ Some s → timer ≡ Some s) → (m : Bool) → t.made ≡ m
-            → ((t.made ≡ true) × (a.outgoing.count ≡ n) × (timer ≡ Some turn)) ⊎ ((t.made ≡ false) × (a.outgoing.count ≡ n + 1) × ((r : ℕ) → a.wait.timer ≡ Some r → timer ≡ Some r))
+        count-by : (n : ℕ) → b.outgoing.count ≡ n + 1 → (timer : Option ℕ) → ((s : ℕ) → b.wait.timer ≡ Some s → timer ≡ Some s) → (m : Bool)
+            → t.made ≡ m
+            → ((t.made ≡ true) × (a.outgoing.count ≡ n) × (timer ≡ Some turn))
+            ⊎ ((t.made ≡ false) × (a.outgoing.count ≡ n + 1) × ((r : ℕ) → a.wait.timer ≡ Some r → timer ≡ Some r))
         count-by n h timer runs true m = let c = t.counts m in inl (m, omega (arith, c, h), runs turn (t.yes m).1)
-        count-by n h timer runs false m = inr (m, ap (λ x. x.count) (sym (t.no m).1) ∙ h, (λ r w. runs r (ap (λ x. x.timer) (t.no m).0 ∙ w)))
+        count-by n h timer runs false m =
+            inr (m, ap (λ x. x.count) (sym (t.no m).1) ∙ h, (λ r w. runs r (ap (λ x. x.timer) (t.no m).0 ∙ w)))
 
         due : (t.made ≡ true) ⊎ (a.wait.poll ≡ true) → (m : Bool) → t.made ≡ m → b.wait.poll ≡ true
         due w true m = (t.yes m).0
@@ -294,24 +345,34 @@ linked-poll turn a = go (then_tries turn (on_timer turn a)) (timers-poll turn a)
 pub record SpeakPoll (turn : ℕ) (a : Account) (said : Said) : Type 0 where
   pub linked : is_linked said.account.phase ≡ is_linked a.phase
   pub connected : is_connected said.account.phase ≡ true → (is_connected a.phase ≡ true) × SaidPoll turn a said
-  pub other : is_connected said.account.phase ≡ false → (said.account.wait.poll ≡ a.wait.poll) × (said.account.numbered ≡ a.numbered) × (of_frame is_poll said.sent ≡ false) × (of_frame is_final said.sent ≡ false)
+  pub other : is_connected said.account.phase ≡ false
+      → (said.account.wait.poll ≡ a.wait.poll) × (said.account.numbered ≡ a.numbered) × (of_frame is_poll said.sent ≡ false)
+      × (of_frame is_final said.sent ≡ false)
 
 abbrev pub PollSpeaks : ℕ → Account → Result Said LinkFault → Type 0
 PollSpeaks turn a (Err fault) = Unit {0}
 PollSpeaks turn a (Ok said) = SpeakPoll turn a said
 
-other-speaks : (turn : ℕ) (a : Account) (said : Said) → is_connected said.account.phase ≡ false → is_linked said.account.phase ≡ is_linked a.phase → said.account.wait.poll ≡ a.wait.poll → said.account.numbered ≡ a.numbered
+other-speaks : (turn : ℕ) (a : Account) (said : Said) → is_connected said.account.phase ≡ false
+    → is_linked said.account.phase ≡ is_linked a.phase → said.account.wait.poll ≡ a.wait.poll → said.account.numbered ≡ a.numbered
     → of_frame is_poll said.sent ≡ false → of_frame is_final said.sent ≡ false → SpeakPoll turn a said
-other-speaks turn a said f l p n x y = record { linked = l; connected = λ h. let wrong : true ≡ false = sym h ∙ f in cc; other = λ h. (p, n, x, y) }
+other-speaks turn a said f l p n x y =
+    record { linked = l; connected = λ h. let wrong : true ≡ false = sym h ∙ f in cc; other = λ h. (p, n, x, y) }
 
-try-poll : (turn : ℕ) (frame : Frame) (a b : Account) → is_connected b.phase ≡ false → is_linked b.phase ≡ is_linked a.phase → b.wait.poll ≡ a.wait.poll → b.numbered ≡ a.numbered → is_poll frame ≡ false → is_final frame ≡ false → PollSpeaks turn a (u_try turn frame b)
+try-poll : (turn : ℕ) (frame : Frame) (a b : Account) → is_connected b.phase ≡ false → is_linked b.phase ≡ is_linked a.phase
+    → b.wait.poll ≡ a.wait.poll → b.numbered ≡ a.numbered → is_poll frame ≡ false → is_final frame ≡ false
+    → PollSpeaks turn a (u_try turn frame b)
 try-poll turn frame a b f l p n x y = go (nat_eq turn (b.wait.try_set + b.setup.period)) (nat_eq b.wait.try_count b.setup.tries)
   where
-    by : (c : Account) → c.phase ≡ b.phase → c.wait.poll ≡ b.wait.poll → c.numbered ≡ b.numbered → (due : Bool) → SpeakPoll turn a (else_says (where_says due (says_frame frame (record c { wait = record c.wait { try = false } }))) (says slots.Flags c))
+    by : (c : Account) → c.phase ≡ b.phase → c.wait.poll ≡ b.wait.poll → c.numbered ≡ b.numbered → (due : Bool)
+        → SpeakPoll turn a (else_says (where_says due (says_frame frame (record c { wait = record c.wait { try = false } })))
+        (says slots.Flags c))
     by c g q m true = other-speaks turn a _ (ap is_connected g ∙ f) (ap is_linked g ∙ l) (q ∙ p) (m ∙ n) x y
     by c g q m false = other-speaks turn a _ (ap is_connected g ∙ f) (ap is_linked g ∙ l) (q ∙ p) (m ∙ n) refl refl
 
-    go : (due spent' : Bool) → PollSpeaks turn a (cond due (cond spent' (Err (spent turn b)) (Ok (tries_frame frame (trying_again turn b)))) (Ok (tries_frame frame b)))
+    go : (due spent' : Bool)
+        → PollSpeaks turn a (cond due (cond spent' (Err (spent turn b)) (Ok (tries_frame frame (trying_again turn b))))
+        (Ok (tries_frame frame b)))
     go false s = by b refl refl refl b.wait.try
     go true true = tt
     go true false = by (trying_again turn b) refl refl refl true
@@ -319,7 +380,8 @@ try-poll turn frame a b f l p n x y = go (nat_eq turn (b.wait.try_set + b.setup.
 pub poll-speaks : (turn : ℕ) (release : Bool) (a : Account) → PollSpeaks turn a (speak turn release a)
 poll-speaks turn release a = go a.phase refl
   where
-    answering-silent : (silence : Sent) → is_connected a.phase ≡ false → of_frame is_poll silence ≡ false → of_frame is_final silence ≡ false → SpeakPoll turn a (else_says (answering a.owes.answer a) (says silence a))
+    answering-silent : (silence : Sent) → is_connected a.phase ≡ false → of_frame is_poll silence ≡ false
+        → of_frame is_final silence ≡ false → SpeakPoll turn a (else_says (answering a.owes.answer a) (says silence a))
     answering-silent silence f x y = by a.owes.answer
       where
         by : (m : Option Answer) → SpeakPoll turn a (else_says (answering m a) (says silence a))
@@ -343,9 +405,16 @@ poll-speaks turn release a = go a.phase refl
 
     linked : a.phase ≡ Connected → (r : Result Said LinkFault) → OnOk (SaidPoll turn a) r → PollSpeaks turn a r
     linked e (Err fault) h = tt
-    linked e (Ok said) h = record { linked = ap is_linked h.phase; connected = λ c. (ap is_connected e, h); other = λ c. let wrong : true ≡ false = sym (ap is_connected (h.phase ∙ e)) ∙ c in cc }
+    linked e (Ok said) h =
+        record {
+          linked = ap is_linked h.phase;
+          connected = λ c. (ap is_connected e, h);
+          other = λ c. let wrong : true ≡ false =
+              sym (ap is_connected (h.phase ∙ e)) ∙ c in cc;
+        }
 
-    connected : a.phase ≡ Connected → (b : Bool) → PollSpeaks turn a (cond b (speak_releasing turn (trying Releasing turn a)) (speak_linked turn a))
+    connected : a.phase ≡ Connected → (b : Bool)
+        → PollSpeaks turn a (cond b (speak_releasing turn (trying Releasing turn a)) (speak_linked turn a))
     connected e true = try-poll turn (Disc true) a (trying Releasing turn a) refl (sym (ap is_linked e)) refl refl refl refl
     connected e false = linked e (speak_linked turn a) (linked-poll turn a)
 

@@ -62,11 +62,15 @@ either-bool true = inl refl
 either-bool false = inr refl
 
 -- b is the account once it has heard, c once it has spoken
-pub poll-turn : (period turn : ℕ) (role : Role) (polled final : Bool) (a b : Account) (said : Said) → 1 ≤ period → PollHeard role turn polled a b → SpeakPoll turn b said → OneDue role b → NoneDue a → Early role a
-    → (is_linked a.phase ≡ false → a.wait.timer ≡ None) → (role ≡ Answerer → is_connected b.phase ≡ true → b.numbered ≡ false → b.wait.timer ≡ None) → b.setup.period ≡ period → (is_connected a.phase ≡ true → b.outgoing.awaited ≡ cond final false a.outgoing.awaited) → (count : ℕ) → b.outgoing.count ≡ count
+pub poll-turn : (period turn : ℕ) (role : Role) (polled final : Bool) (a b : Account) (said : Said) → 1 ≤ period
+    → PollHeard role turn polled a b → SpeakPoll turn b said → OneDue role b → NoneDue a → Early role a
+    → (is_linked a.phase ≡ false → a.wait.timer ≡ None)
+    → (role ≡ Answerer → is_connected b.phase ≡ true → b.numbered ≡ false → b.wait.timer ≡ None) → b.setup.period ≡ period
+    → (is_connected a.phase ≡ true → b.outgoing.awaited ≡ cond final false a.outgoing.awaited) → (count : ℕ) → b.outgoing.count ≡ count
     → (is_connected a.phase ≡ true → (count ≡ 0) ⊎ ((count ≡ a.outgoing.count) × (b.wait.timer ≡ a.wait.timer)))
     → (made : Bool) × PollTurn period turn role polled final made count said.sent a said.account
-poll-turn period turn role polled final a b said some h k one none early untimed silent q wait count same-count keeps = go (either-bool (is_connected said.account.phase))
+poll-turn period turn role polled final a b said some h k one none early untimed silent q wait count same-count keeps =
+    go (either-bool (is_connected said.account.phase))
   where
     c : Account
     c = said.account
@@ -96,7 +100,8 @@ poll-turn period turn role polled final a b said some h k one none early untimed
     early-poll e = let u = unlinked-before e in (k.other (not-connected c.phase e)).0 ∙ ((h.early u).0 ∙ early.poll (unlinked-first u))
 
     early-numbered : is_linked c.phase ≡ false → c.numbered ≡ false
-    early-numbered e = let u = unlinked-before e in (k.other (not-connected c.phase e)).1 ∙ ((h.early u).1 ∙ early.numbered (unlinked-first u))
+    early-numbered e = let u = unlinked-before e in
+        (k.other (not-connected c.phase e)).1 ∙ ((h.early u).1 ∙ early.numbered (unlinked-first u))
 
     -- whether a reply is due
     reply-heard : is_connected b.phase ≡ true → b.owes.reply ≡ true → polled ≡ true
@@ -150,7 +155,8 @@ poll-turn period turn role polled final a b said some h k one none early untimed
         by Originator g = one.none g (connected-closed b.phase f)
         by Answerer g = on (either-bool b.numbered) (h.from f)
           where
-            on : (b.numbered ≡ true) ⊎ (b.numbered ≡ false) → (is_connected a.phase ≡ true) ⊎ (is_linked a.phase ≡ false) → b.owes.answer ≡ None
+            on : (b.numbered ≡ true) ⊎ (b.numbered ≡ false) → (is_connected a.phase ≡ true) ⊎ (is_linked a.phase ≡ false)
+                → b.owes.answer ≡ None
             on (inr n) x = absurd (silent-poll e g (l.numbered ∙ n) p)
             on (inl n) (inl x) = h.answer x f n ∙ none.answer
             on (inl n) (inr x) = clash b.numbered n ((h.begun x f).1 ∙ early.numbered x)
@@ -217,7 +223,8 @@ poll-turn period turn role polled final a b said some h k one none early untimed
     )
 
     -- it was Connected before it
-    during : is_connected c.phase ≡ true → is_connected b.phase ≡ true → SaidPoll turn b said → is_connected a.phase ≡ true → (made : Bool) × PollTurn period turn role polled final made count said.sent a c
+    during : is_connected c.phase ≡ true → is_connected b.phase ≡ true → SaidPoll turn b said → is_connected a.phase ≡ true
+        → (made : Bool) × PollTurn period turn role polled final made count said.sent a c
     during e f l x = (
       l.made,
       record {
@@ -244,9 +251,11 @@ poll-turn period turn role polled final a b said some h k one none early untimed
         was : l.made ≡ false → b.wait.poll ≡ true → poll_due a ≡ true
         was m p = and-both (is_connected a.phase) a.wait.poll x (sym (h.poll x) ∙ p)
 
-        counts : (n : ℕ) → ((l.made ≡ true) × (b.outgoing.count ≡ n) × (c.wait.timer ≡ Some turn)) ⊎ ((l.made ≡ false) × (b.outgoing.count ≡ n + 1) × ((r : ℕ) → b.wait.timer ≡ Some r → c.wait.timer ≡ Some r))
+        counts : (n : ℕ) → ((l.made ≡ true) × (b.outgoing.count ≡ n) × (c.wait.timer ≡ Some turn))
+            ⊎ ((l.made ≡ false) × (b.outgoing.count ≡ n + 1) × ((r : ℕ) → b.wait.timer ≡ Some r → c.wait.timer ≡ Some r))
             → (count ≡ 0) ⊎ ((count ≡ a.outgoing.count) × (b.wait.timer ≡ a.wait.timer))
-            → ((l.made ≡ true) × (count ≡ n) × (c.wait.timer ≡ Some turn)) ⊎ ((l.made ≡ false) × (count ≡ n + 1) × ((r : ℕ) → a.wait.timer ≡ Some r → c.wait.timer ≡ Some r))
+            → ((l.made ≡ true) × (count ≡ n) × (c.wait.timer ≡ Some turn))
+            ⊎ ((l.made ≡ false) × (count ≡ n + 1) × ((r : ℕ) → a.wait.timer ≡ Some r → c.wait.timer ≡ Some r))
         counts n (inl (m, w, t)) v = inl (m, sym same-count ∙ w, t)
         counts n (inr (m, w, t)) (inl v) = let wrong : ⊥ = omega (arith, same-count, w, v) in absurd wrong
         counts n (inr (m, w, t)) (inr (v, u)) = inr (m, sym same-count ∙ w, (λ r g. t r (u ∙ g)))
@@ -270,7 +279,8 @@ poll-turn period turn role polled final a b said some h k one none early untimed
         timed s (inl w) = inl w
         timed s (inr w) = h.timer x s w
 
-        expired-from : (s : ℕ) × (b.wait.timer ≡ Some s) × (turn ≡ s + b.setup.period) → (s : ℕ) × (a.wait.timer ≡ Some s) × (turn ≡ s + period)
+        expired-from : (s : ℕ) × (b.wait.timer ≡ Some s) × (turn ≡ s + b.setup.period)
+            → (s : ℕ) × (a.wait.timer ≡ Some s) × (turn ≡ s + period)
         expired-from (s, w, g) = by (h.timer x s w)
           where
             by : (s ≡ turn) ⊎ (a.wait.timer ≡ Some s) → (s : ℕ) × (a.wait.timer ≡ Some s) × (turn ≡ s + period)
@@ -278,7 +288,8 @@ poll-turn period turn role polled final a b said some h k one none early untimed
             by (inr v) = (s, v, omega (arith, g, q))
 
     -- it becomes so in it
-    begins : is_connected c.phase ≡ true → is_connected b.phase ≡ true → SaidPoll turn b said → is_linked a.phase ≡ false → (r : Role) → role ≡ r → (made : Bool) × PollTurn period turn role polled final made count said.sent a c
+    begins : is_connected c.phase ≡ true → is_connected b.phase ≡ true → SaidPoll turn b said → is_linked a.phase ≡ false → (r : Role)
+        → role ≡ r → (made : Bool) × PollTurn period turn role polled final made count said.sent a c
     begins e f l x Originator g = (
       true,
       record {
@@ -346,13 +357,16 @@ poll-turn period turn role polled final a b said some h k one none early untimed
             by (inl m) = let v = l.made_from m in let wrong : None ≡ Some v.0 = sym (untimed x) ∙ (sym (h.answers g x f).1 ∙ v.1) in cc
             by (inr m) = clash b.wait.poll (w m) ((h.answers g x f).0 ∙ early.poll x)
 
-    go : (is_connected c.phase ≡ true) ⊎ (is_connected c.phase ≡ false) → (made : Bool) × PollTurn period turn role polled final made count said.sent a c
+    go : (is_connected c.phase ≡ true) ⊎ (is_connected c.phase ≡ false)
+        → (made : Bool) × PollTurn period turn role polled final made count said.sent a c
     go (inr e) = over e
     go (inl e) = by (k.connected e)
       where
-        by : (is_connected b.phase ≡ true) × SaidPoll turn b said → (made : Bool) × PollTurn period turn role polled final made count said.sent a c
+        by : (is_connected b.phase ≡ true) × SaidPoll turn b said
+            → (made : Bool) × PollTurn period turn role polled final made count said.sent a c
         by (f, l) = on (h.from f)
           where
-            on : (is_connected a.phase ≡ true) ⊎ (is_linked a.phase ≡ false) → (made : Bool) × PollTurn period turn role polled final made count said.sent a c
+            on : (is_connected a.phase ≡ true) ⊎ (is_linked a.phase ≡ false)
+                → (made : Bool) × PollTurn period turn role polled final made count said.sent a c
             on (inl x) = during e f l x
             on (inr x) = begins e f l x role refl

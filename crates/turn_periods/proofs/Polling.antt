@@ -39,15 +39,19 @@ pub record PollTurn (period turn : ℕ) (role : Role) (polled final made : Bool)
   pub held_up : poll_due c ≡ true → polled ≡ true
   pub sent_from : of_frame is_poll sent ≡ true → made ≡ false → poll_due a ≡ true
   pub sent_done : of_frame is_poll sent ≡ true → poll_due c ≡ false
-  pub timer : is_connected c.phase ≡ true → is_linked a.phase ≡ true → (is_connected a.phase ≡ true) × SetFrom turn a.wait.timer c.wait.timer
+  pub timer : is_connected c.phase ≡ true → is_linked a.phase ≡ true
+      → (is_connected a.phase ≡ true) × SetFrom turn a.wait.timer c.wait.timer
   pub made_timer : made ≡ true → is_connected c.phase ≡ true → (s : ℕ) → c.wait.timer ≡ Some s → s ≡ turn
   pub made_awaited : made ≡ true → is_connected c.phase ≡ true → c.outgoing.awaited ≡ true
   pub made_linked : made ≡ true → is_linked c.phase ≡ true
-  pub made_from : made ≡ true → is_linked a.phase ≡ true → (is_connected a.phase ≡ true) × (s : ℕ) × (a.wait.timer ≡ Some s) × (turn ≡ s + period)
+  pub made_from : made ≡ true → is_linked a.phase ≡ true
+      → (is_connected a.phase ≡ true) × (s : ℕ) × (a.wait.timer ≡ Some s) × (turn ≡ s + period)
   pub replied : of_frame is_final sent ≡ true → polled ≡ true
-  pub goes : is_connected a.phase ≡ true → is_connected c.phase ≡ true → (made ≡ true) ⊎ (poll_due a ≡ true) → (of_frame is_poll sent ≡ true) ⊎ (poll_due c ≡ true)
+  pub goes : is_connected a.phase ≡ true → is_connected c.phase ≡ true → (made ≡ true) ⊎ (poll_due a ≡ true)
+      → (of_frame is_poll sent ≡ true) ⊎ (poll_due c ≡ true)
   pub awaited : is_connected a.phase ≡ true → is_connected c.phase ≡ true → c.outgoing.awaited ≡ made || cond final false a.outgoing.awaited
   pub counted : is_connected a.phase ≡ true → is_connected c.phase ≡ true → (n : ℕ) → c.outgoing.count ≡ n + 1
-      → ((made ≡ true) × (count ≡ n) × (c.wait.timer ≡ Some turn)) ⊎ ((made ≡ false) × (count ≡ n + 1) × ((r : ℕ) → a.wait.timer ≡ Some r → c.wait.timer ≡ Some r))
+      → ((made ≡ true) × (count ≡ n) × (c.wait.timer ≡ Some turn))
+      ⊎ ((made ≡ false) × (count ≡ n + 1) × ((r : ℕ) → a.wait.timer ≡ Some r → c.wait.timer ≡ Some r))
   pub kept : is_connected a.phase ≡ true → (count ≡ 0) ⊎ (count ≡ a.outgoing.count)
   pub replies : polled ≡ true → is_connected a.phase ≡ true → is_connected c.phase ≡ true → of_frame is_final sent ≡ true

@@ -37,19 +37,26 @@ fresh-turn period delay turns due made sent heard due' made' sent' heard' long s
         before zero q d = let wrong : true ≡ false = sym d ∙ e.none_at_first in cc
         before (suc p) q d =
             let now = line t within (e.held_up t within is_due) in
-            let last = line p (omega (arith, q, within)) (e.held_up p (omega (arith, q, within)) (subst (λ n. due n ≡ true) (omega arith) d)) in
+            let last = line p (omega (arith, q, within))
+            (e.held_up p (omega (arith, q, within)) (subst (λ n. due n ≡ true) (omega arith) d)) in
             let next : t - delay ≡ p - delay + 1 = omega (arith, q, last.0) in
-            absurd (twice (p - delay) (omega (arith, q, within, last.0, some)) (omega (arith, q, last.0, some)) last.1 (subst (λ n. sent' n ≡ true) next now.1))
+            absurd (twice (p - delay) (omega (arith, q, within, last.0, some)) (omega (arith, q, last.0, some)) last.1
+            (subst (λ n. sent' n ≡ true) next now.1))
 
 -- for both ends together
 both-fresh : (period delay delay' turns : ℕ) (due made sent heard due' made' sent' heard' : ℕ → Bool) → 3 ≤ period → 1 ≤ delay → 1 ≤ delay'
-    → Polls period turns due made sent heard → Polls period turns due' made' sent' heard' → WasSent delay' turns heard sent' → WasSent delay turns heard' sent
+    → Polls period turns due made sent heard → Polls period turns due' made' sent' heard' → WasSent delay' turns heard sent'
+    → WasSent delay turns heard' sent
     → (n : ℕ) → n ≤ turns → Fresh n due made × Fresh n due' made'
-both-fresh period delay delay' turns due made sent heard due' made' sent' heard' long some some' e o line line' zero within = ((λ t l d. let none : ⊥ = omega (arith, l) in absurd none), (λ t l d. let none : ⊥ = omega (arith, l) in absurd none))
+both-fresh period delay delay' turns due made sent heard due' made' sent' heard' long some some' e o line line' zero within =
+    ((λ t l d. let none : ⊥ = omega (arith, l) in absurd none), (λ t l d. let none : ⊥ = omega (arith, l) in absurd none))
 both-fresh period delay delay' turns due made sent heard due' made' sent' heard' long some some' e o line line' (suc n) within =
-    let k = both-fresh period delay delay' turns due made sent heard due' made' sent' heard' long some some' e o line line' n (omega (arith, within)) in (
-      more due made k.0 (fresh-turn period delay' turns due made sent heard due' made' sent' heard' long some' e o line n (omega (arith, within)) k.0 k.1),
-      more due' made' k.1 (fresh-turn period delay turns due' made' sent' heard' due made sent heard long some o e line' n (omega (arith, within)) k.1 k.0),
+    let k = both-fresh period delay delay' turns due made sent heard due' made' sent' heard' long some some' e o line line' n
+    (omega (arith, within)) in (
+      more due made k.0 (fresh-turn period delay' turns due made sent heard due' made' sent' heard' long some' e o line n
+          (omega (arith, within)) k.0 k.1),
+      more due' made' k.1 (fresh-turn period delay turns due' made' sent' heard' due made sent heard long some o e line' n
+          (omega (arith, within)) k.1 k.0),
     )
   where
     more : (d m : ℕ → Bool) → Fresh n d m → (d (n + 1) ≡ true → m n ≡ true) → Fresh (suc n) d m
@@ -58,8 +65,10 @@ both-fresh period delay delay' turns due made sent heard due' made' sent' heard'
         at-last : t ≡ n → m t ≡ true
         at-last q = subst (λ x. m x ≡ true) (sym q) (last (subst (λ x. d (x + 1) ≡ true) q is_due))
 
-pub polls-fresh : (period delay delay' turns : ℕ) (due made sent heard due' made' sent' heard' : ℕ → Bool) → 3 ≤ period → 1 ≤ delay → 1 ≤ delay'
-    → Polls period turns due made sent heard → Polls period turns due' made' sent' heard' → WasSent delay' turns heard sent' → WasSent delay turns heard' sent
+pub polls-fresh : (period delay delay' turns : ℕ) (due made sent heard due' made' sent' heard' : ℕ → Bool) → 3 ≤ period → 1 ≤ delay
+    → 1 ≤ delay'
+    → Polls period turns due made sent heard → Polls period turns due' made' sent' heard' → WasSent delay' turns heard sent'
+    → WasSent delay turns heard' sent
     → Fresh turns due made × Fresh turns due' made'
 polls-fresh period delay delay' turns due made sent heard due' made' sent' heard' long some some' e o line line' =
     both-fresh period delay delay' turns due made sent heard due' made' sent' heard' long some some' e o line line' turns (omega arith)
@@ -75,22 +84,26 @@ sent-soon period turns due made sent heard e fresh t within is_sent = go (made t
       where
         before : (p : ℕ) → t ≡ p → due t ≡ true → (made t ≡ true) ⊎ ((s : ℕ) × (t ≡ s + 1) × (made s ≡ true) × (due t ≡ true))
         before zero q d = let wrong : true ≡ false = sym (subst (λ n. due n ≡ true) q d) ∙ e.none_at_first in cc
-        before (suc p) q d = inr (p, omega (arith, q), fresh p (omega (arith, q, within)) (subst (λ n. due n ≡ true) (omega (arith, q)) d), d)
+        before (suc p) q d = inr
+            (p, omega (arith, q), fresh p (omega (arith, q, within)) (subst (λ n. due n ≡ true) (omega (arith, q)) d), d)
 
 -- polls are sent at least a period less one turn apart
 pub sent-apart : (period turns : ℕ) (due made sent heard : ℕ → Bool) → Polls period turns due made sent heard → Fresh turns due made
     → (s t : ℕ) → s < t → t < turns → sent s ≡ true → sent t ≡ true → s + period ≤ t + 1
 sent-apart period turns due made sent heard e fresh s t less within first second =
-    go (sent-soon period turns due made sent heard e fresh s (omega (arith, less, within)) first) (sent-soon period turns due made sent heard e fresh t within second)
+    go (sent-soon period turns due made sent heard e fresh s (omega (arith, less, within)) first)
+    (sent-soon period turns due made sent heard e fresh t within second)
   where
     apart : (x y : ℕ) → x < y → y ≤ t → s ≤ x + 1 → made x ≡ true → made y ≡ true → s + period ≤ t + 1
     apart x y l h g k m = let far : x + period ≤ y = e.apart x y l (omega (arith, h, within)) k m in omega (arith, far, h, g)
 
-    go : (made s ≡ true) ⊎ ((p : ℕ) × (s ≡ p + 1) × (made p ≡ true) × (due s ≡ true)) → (made t ≡ true) ⊎ ((p : ℕ) × (t ≡ p + 1) × (made p ≡ true) × (due t ≡ true)) → s + period ≤ t + 1
+    go : (made s ≡ true) ⊎ ((p : ℕ) × (s ≡ p + 1) × (made p ≡ true) × (due s ≡ true))
+        → (made t ≡ true) ⊎ ((p : ℕ) × (t ≡ p + 1) × (made p ≡ true) × (due t ≡ true)) → s + period ≤ t + 1
     go (inl k) (inl m) = apart s t less (omega arith) (omega arith) k m
     go (inr (p, q, k, d)) (inl m) = apart p t (omega (arith, q, less)) (omega arith) (omega (arith, q)) k m
     go (inr (p, q, k, d)) (inr (r, w, m, i)) = apart p r (omega (arith, q, w, less)) (omega (arith, w)) (omega (arith, q)) k m
-    go (inl k) (inr (r, w, m, i)) = elim (cases_lt s r) [ inl l ↦ apart s r l (omega (arith, w)) (omega arith) k m | inr g ↦ same (omega (arith, g, w, less)) ]
+    go (inl k) (inr (r, w, m, i)) =
+        elim (cases_lt s r) [ inl l ↦ apart s r l (omega (arith, w)) (omega arith) k m | inr g ↦ same (omega (arith, g, w, less)) ]
       where
         same : t ≡ s + 1 → s + period ≤ t + 1
         same q = let wrong : true ≡ false = sym (subst (λ n. due n ≡ true) q i) ∙ e.sent_done s (omega (arith, less, within)) first in cc

@@ -42,7 +42,10 @@ second-less true m n l = omega arith
 second-less false m n l = omega (arith, l)
 
 pub fits-second : (o a : Offer) → IsAllowed a → Fits (agree o a)
-fits-second o a h = (second-less (o.srej && a.srej) o.tx_window a.rx_window h.rx_window_high, first-less (o.srej && a.srej) a.tx_window o.rx_window h.tx_window_high)
+fits-second o a h = (
+  second-less (o.srej && a.srej) o.tx_window a.rx_window h.rx_window_high,
+  first-less (o.srej && a.srej) a.tx_window o.rx_window h.tx_window_high,
+)
 
 fits-for : (role : Role) (terms : Terms) → Fits terms → window_for role terms ≤ 127
 fits-for Originator terms h = h.0
@@ -59,7 +62,8 @@ BeginsSo (Ok b) = BeginsWith b
 not-connected : (b : Account) (p : Phase) → b.phase ≡ p → is_connected p ≡ false → BeginsWith b
 not-connected b p e f = record { so = λ h. let wrong : true ≡ false = sym h ∙ (ap is_connected e ∙ f) in cc }
 
-begins-frame : (p : Phase) (frame : Frame) (turn : ℕ) (a : Account) → a.phase ≡ p → is_linked p ≡ false → Fits a.terms → IsAllowed a.setup.offer → BeginsSo (on_frame p frame turn a)
+begins-frame : (p : Phase) (frame : Frame) (turn : ℕ) (a : Account) → a.phase ≡ p → is_linked p ≡ false → Fits a.terms
+    → IsAllowed a.setup.offer → BeginsSo (on_frame p frame turn a)
 begins-frame Detecting frame turn a e l h own = go a.setup.role frame
   where
     commanded : (m : Option Offer) → BeginsWith (on_xid_command m a)
@@ -68,7 +72,14 @@ begins-frame Detecting frame turn a e l h own = go a.setup.role frame
 
     go : (r : Role) (f : Frame) → BeginsSo (on_detecting r f turn a)
     go Answerer (Xid true pf info) = commanded (offer_in info)
-    go Answerer (Sabme pf) = record { so = λ c. (fits-for a.setup.role (agree default_offer a.setup.offer) (fits-second default_offer a.setup.offer own), refl, refl) }
+    go Answerer (Sabme pf) =
+        record {
+          so = λ c. (
+            fits-for a.setup.role (agree default_offer a.setup.offer) (fits-second default_offer a.setup.offer own),
+            refl,
+            refl,
+          );
+        }
     go r f = not-connected a Detecting e refl
 begins-frame Negotiating frame turn a e l h own = go a.setup.role frame
   where
@@ -105,7 +116,8 @@ unlinked-connected Connected e = cc
 unlinked-connected Releasing e = refl
 unlinked-connected Closed e = refl
 
-begins-all : (arrived : Arrived) (turn : ℕ) (a : Account) → is_linked a.phase ≡ false → Fits a.terms → IsAllowed a.setup.offer → BeginsSo (hear turn arrived a)
+begins-all : (arrived : Arrived) (turn : ℕ) (a : Account) → is_linked a.phase ≡ false → Fits a.terms → IsAllowed a.setup.offer
+    → BeginsSo (hear turn arrived a)
 begins-all arrivals.Nothing turn a l h own = not-connected (on_nothing a) a.phase refl (unlinked-connected a.phase l)
 begins-all (arrivals.Pattern seen) turn a l h own = go a.phase refl l
   where
@@ -124,7 +136,8 @@ begins-all (arrivals.Pattern seen) turn a l h own = go a.phase refl l
     go Closed e f = cc
 begins-all (arrivals.Frame frame) turn a l h own = begins-frame a.phase frame turn a refl l h own
 
-pub begins-roomy : (arrived : Arrived) (turn : ℕ) (a mid : Account) → is_linked a.phase ≡ false → Fits a.terms → IsAllowed a.setup.offer → hear turn arrived a ≡ Ok mid → BeginsWith mid
+pub begins-roomy : (arrived : Arrived) (turn : ℕ) (a mid : Account) → is_linked a.phase ≡ false → Fits a.terms → IsAllowed a.setup.offer
+    → hear turn arrived a ≡ Ok mid → BeginsWith mid
 begins-roomy arrived turn a mid l h own e = go (hear turn arrived a) e (begins-all arrived turn a l h own)
   where
     go : (r : Result Account LinkFault) → r ≡ Ok mid → BeginsSo r → BeginsWith mid
@@ -140,13 +153,16 @@ piece-room [] o l h = h
 piece-room (octet ∷ octets) o l h = omega (arith, l, length-append {A = List ℕ})
 
 offer-room : (file : List ℕ) (a : Account) → HasRoom a.outgoing → HasRoom (offered_at file a (wants a)).outgoing
-offer-room file a h = go (is_connected a.phase) (not a.outgoing.ended) (nat_lt (length a.outgoing.pieces) (a.outgoing.front + a.outgoing.window)) refl
+offer-room file a h =
+    go (is_connected a.phase) (not a.outgoing.ended) (nat_lt (length a.outgoing.pieces) (a.outgoing.front + a.outgoing.window)) refl
   where
-    go : (c e l : Bool) → nat_lt (length a.outgoing.pieces) (a.outgoing.front + a.outgoing.window) ≡ l → HasRoom (offered_at file a (cond c (cond (e && l) (Some (length a.outgoing.pieces)) None) None)).outgoing
+    go : (c e l : Bool) → nat_lt (length a.outgoing.pieces) (a.outgoing.front + a.outgoing.window) ≡ l
+        → HasRoom (offered_at file a (cond c (cond (e && l) (Some (length a.outgoing.pieces)) None) None)).outgoing
     go false e l q = h
     go true false l q = h
     go true true false q = h
-    go true true true q = let less : length a.outgoing.pieces < a.outgoing.front + a.outgoing.window = grind (arith, nat_tests, q) in piece-room (piece_at (piece_size a) file (length a.outgoing.pieces)) a.outgoing less h
+    go true true true q = let less : length a.outgoing.pieces < a.outgoing.front + a.outgoing.window = grind (arith, nat_tests, q) in
+        piece-room (piece_at (piece_size a) file (length a.outgoing.pieces)) a.outgoing less h
 
 offers-room : (n : ℕ) (file : List ℕ) (a : Account) → HasRoom a.outgoing → HasRoom (offered_times n file a).outgoing
 offers-room zero file a h = h
@@ -158,7 +174,8 @@ pub record ServedLeft (a b : Account) : Type 0 where
   pub owed : b.incoming.owed ≡ a.incoming.owed
   pub room : HasRoom a.outgoing → HasRoom b.outgoing
 
-given-left : (a : Account) (c : Bool) → ServedLeft a (after_given (cond c (record a { incoming = record a.incoming { given = length a.incoming.taken } }) a))
+given-left : (a : Account) (c : Bool)
+    → ServedLeft a (after_given (cond c (record a { incoming = record a.incoming { given = length a.incoming.taken } }) a))
 given-left a true = record { taken = refl; owed = refl; room = λ h. h }
 given-left a false = record { taken = refl; owed = refl; room = λ h. h }
 
@@ -198,7 +215,8 @@ served-left user turn released a = go released
     m = before_asking user turn a
 
     first : ServedLeft a m
-    first = both-left a g m (given-left a (is_connected a.phase)) (both-left g o m (offered-left user.file g) (busy-left o (is_busy turn user.busy) (is_connected o.phase)))
+    first = both-left a g m (given-left a (is_connected a.phase))
+        (both-left g o m (offered-left user.file g) (busy-left o (is_busy turn user.busy) (is_connected o.phase)))
 
     go : (r : Bool) → ServedLeft a (cond r m (asked_at turn (next_break user.breaks m) m))
     go true = first

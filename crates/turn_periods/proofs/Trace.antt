@@ -28,7 +28,8 @@ pub record Deed : Type 0 where
   pub mid : Ends
   pub made : Role → Bool
 
-pub record Happens (period : ℕ) (delay : Role → ℕ) (link : Link) (us : List Turn) (turn : ℕ) (before : Ends) (d : Deed) (after : Ends) : Type 0 where
+pub record Happens (period : ℕ) (delay : Role → ℕ) (link : Link) (us : List Turn) (turn : ℕ) (before : Ends) (d : Deed)
+    (after : Ends) : Type 0 where
   pub number : length us ≡ turn
   pub run : RunOf link us before
   pub carried : IsCarried delay us
@@ -37,9 +38,12 @@ pub record Happens (period : ℕ) (delay : Role → ℕ) (link : Link) (us : Lis
   pub going : is_closed d.mid.orig.phase ≡ false
   pub speaking : Speaks link turn d.mid d.turn after
   pub polls : (role : Role)
-      → PollTurn period turn role (of_arrived is_poll (arrival (of role d.turn).heard)) (of_arrived is_final (arrival (of role d.turn).heard)) (d.made role) (of role d.mid).outgoing.count
+      → PollTurn period turn role (of_arrived is_poll (arrival (of role d.turn).heard))
+      (of_arrived is_final (arrival (of role d.turn).heard)) (d.made role) (of role d.mid).outgoing.count
       (sent_or (of role d.turn).sent) (of role before) (of role after)
-  pub answers : (role : Role) → AnswerTurn period turn (arrival (of role d.turn).heard) (of role before) (of role d.mid) (served_at link turn d.mid role).account (speaking role).said
+  pub answers : (role : Role)
+      → AnswerTurn period turn (arrival (of role d.turn).heard) (of role before) (of role d.mid) (served_at link turn d.mid role).account
+      (speaking role).said
 
 -- The ends before each turn, and what happens in it.
 pub record Trace (period : ℕ) (delay : Role → ℕ) (link : Link) (ts : List Turn) (state : ℕ → Ends) (deed : ℕ → Deed) : Type 0 where

@@ -44,7 +44,8 @@ use Rattle.turn_periods.proofs.Trace.{past, sent_or}
 use Rattle.slot_contents.specs.declared.heard.Heard.TheVariants as heards
 use Rattle.frame_check.specs.declared.check.Check.TheVariants as checks
 
-served-heard : (role : Role) (turn breaks : ℕ) (busy polled : Bool) (a b c : Account) → Served turn breaks busy b c → PollHeard role turn polled a b → PollHeard role turn polled a c
+served-heard : (role : Role) (turn breaks : ℕ) (busy polled : Bool) (a b c : Account) → Served turn breaks busy b c
+    → PollHeard role turn polled a b → PollHeard role turn polled a c
 served-heard role turn breaks busy polled a b c s h = record {
   linked = λ e. ap is_linked s.phase ∙ h.linked e;
   early = λ e. let k = h.early (ap is_linked (sym s.phase) ∙ e) in (ap (λ w. w.poll) s.wait ∙ k.0, s.numbered ∙ k.1);
@@ -54,20 +55,25 @@ served-heard role turn breaks busy polled a b c s h = record {
   asked = λ e f. s.reply ∙ h.asked e (ap is_connected (sym s.phase) ∙ f);
   heard = λ e n. s.numbered ∙ h.heard e n;
   answer = λ e f n. s.answer ∙ h.answer e (ap is_connected (sym s.phase) ∙ f) (sym s.numbered ∙ n);
-  begun = λ e f. let k = h.begun e (ap is_connected (sym s.phase) ∙ f) in (s.reply ∙ k.0, s.numbered ∙ k.1, (λ n l. k.2 n (ap (λ w. w.timer) (sym s.wait) ∙ l)));
-  answers = λ r e f. let k = h.answers r e (ap is_connected (sym s.phase) ∙ f) in (ap (λ w. w.poll) s.wait ∙ k.0, ap (λ w. w.timer) s.wait ∙ k.1);
+  begun = λ e f. let k = h.begun e (ap is_connected (sym s.phase) ∙ f) in
+      (s.reply ∙ k.0, s.numbered ∙ k.1, (λ n l. k.2 n (ap (λ w. w.timer) (sym s.wait) ∙ l)));
+  answers = λ r e f. let k = h.answers r e (ap is_connected (sym s.phase) ∙ f) in
+      (ap (λ w. w.poll) s.wait ∙ k.0, ap (λ w. w.timer) s.wait ∙ k.1);
   awaits = λ r e f. ap (λ o. o.awaited) s.longer.outgoing ∙ h.awaits r e (ap is_connected (sym s.phase) ∙ f);
 }
 
-heard-poll-ok : (role : Role) (turn : ℕ) (polled : Bool) (a mid : Account) (r : Result Account LinkFault) → r ≡ Ok mid → PollHears role turn polled a r → PollHeard role turn polled a mid
+heard-poll-ok : (role : Role) (turn : ℕ) (polled : Bool) (a mid : Account) (r : Result Account LinkFault) → r ≡ Ok mid
+    → PollHears role turn polled a r → PollHeard role turn polled a mid
 heard-poll-ok role turn polled a mid (Err fault) e h = cc
 heard-poll-ok role turn polled a mid (Ok b) e h = let same : b ≡ mid = cc in subst (PollHeard role turn polled a) same h
 
-speak-poll-ok : (turn : ℕ) (a : Account) (said : Said) (r : Result Said LinkFault) → r ≡ Ok said → PollSpeaks turn a r → SpeakPoll turn a said
+speak-poll-ok : (turn : ℕ) (a : Account) (said : Said) (r : Result Said LinkFault) → r ≡ Ok said → PollSpeaks turn a r
+    → SpeakPoll turn a said
 speak-poll-ok turn a said (Err fault) e h = cc
 speak-poll-ok turn a said (Ok other) e h = let same : other ≡ said = cc in subst (SpeakPoll turn a) same h
 
-pub silent-of : (z : Rates) (before turn : ℕ) (r : Role) (p : Phase) (a : Account) → Stands z before turn r p a → r ≡ Answerer → is_connected p ≡ true → a.numbered ≡ false → a.wait.timer ≡ None
+pub silent-of : (z : Rates) (before turn : ℕ) (r : Role) (p : Phase) (a : Account) → Stands z before turn r p a → r ≡ Answerer
+    → is_connected p ≡ true → a.numbered ≡ false → a.wait.timer ≡ None
 silent-of z before turn Answerer Connected a st e f n = (st.silent n).1
 silent-of z before turn Originator p a st e f n = cc
 silent-of z before turn Answerer Detecting a st e f n = cc
@@ -76,7 +82,8 @@ silent-of z before turn Answerer Establishing a st e f n = cc
 silent-of z before turn Answerer Releasing a st e f n = cc
 silent-of z before turn Answerer Closed a st e f n = cc
 
-pub untimed-of : (z : Rates) (before turn : ℕ) (r : Role) (p : Phase) (a : Account) → Stands z before turn r p a → is_linked p ≡ false → a.wait.timer ≡ None
+pub untimed-of : (z : Rates) (before turn : ℕ) (r : Role) (p : Phase) (a : Account) → Stands z before turn r p a → is_linked p ≡ false
+    → a.wait.timer ≡ None
 untimed-of z before turn Originator Detecting a st e = st.timer
 untimed-of z before turn Originator Negotiating a st e = st.0.timer
 untimed-of z before turn Originator Establishing a st e = st.0.timer
@@ -88,18 +95,25 @@ untimed-of z before turn r Releasing a st e = cc
 untimed-of z before turn r Closed a st e = cc
 
 -- a turn of one end
-end-polls : (z : Rates) (user : User) (turn : ℕ) (role : Role) (arrived : Arrived) (a mid : Account) (released release : Bool) (said : Said) → AreRates z → IsOf z a.setup → Stands z turn turn role a.phase a → a.setup.role ≡ role
-    → hear turn arrived a ≡ Ok mid → speak turn release (served_account user turn released mid) ≡ Ok said → NoneDue a → Early role a → (made : Bool) × PollTurn z.period turn role (of_arrived is_poll arrived) (of_arrived is_final arrived) made mid.outgoing.count said.sent a said.account
+end-polls : (z : Rates) (user : User) (turn : ℕ) (role : Role) (arrived : Arrived) (a mid : Account) (released release : Bool) (said : Said)
+    → AreRates z → IsOf z a.setup → Stands z turn turn role a.phase a → a.setup.role ≡ role
+    → hear turn arrived a ≡ Ok mid → speak turn release (served_account user turn released mid) ≡ Ok said → NoneDue a → Early role a
+    → (made : Bool) × PollTurn z.period turn role (of_arrived is_poll arrived)
+    (of_arrived is_final arrived) made mid.outgoing.count said.sent a said.account
 end-polls z user turn role arrived a mid released release said y k h er hears speaks none early =
     let b : Account = served_account user turn released mid in
-    let heard = heard-ok z (length a.outgoing.pieces) (length user.breaks) turn (z.quota * arrived_rnrs arrived) role a.phase a mid (hear turn arrived a) hears
+    let heard = heard-ok z (length a.outgoing.pieces) (length user.breaks) turn (z.quota * arrived_rnrs arrived) role a.phase a mid
+    (hear turn arrived a) hears
     (hears-well z (length a.outgoing.pieces) (length user.breaks) turn role a.phase arrived a y k h refl er (omega arith)) in
     let s = serves-all user turn released mid in
-    let serves = serves-well z (length a.outgoing.pieces) (length user.breaks) turn (is_busy turn user.busy) role heard.0 mid b y heard.1.stands heard.1.phase s in
+    let serves = serves-well z (length a.outgoing.pieces) (length user.breaks) turn
+    (is_busy turn user.busy) role heard.0 mid b y heard.1.stands heard.1.phase s in
     let one = one-ok role mid (hear turn arrived a) hears (one-hears role arrived turn a er none) in
     let long = y.period in
     poll-turn z.period turn role (of_arrived is_poll arrived) (of_arrived is_final arrived) a b said (omega (arith, long))
-    (served-heard role turn (length user.breaks) (is_busy turn user.busy) (of_arrived is_poll arrived) a mid b s (heard-poll-ok role turn (of_arrived is_poll arrived) a mid (hear turn arrived a) hears (poll-hears role arrived turn a er none.answer)))
+    (served-heard role turn (length user.breaks) (is_busy turn user.busy) (of_arrived is_poll arrived) a mid b s
+    (heard-poll-ok role turn (of_arrived is_poll arrived) a mid (hear turn arrived a) hears
+    (poll-hears role arrived turn a er none.answer)))
     (speak-poll-ok turn b said (speak turn release b) speaks (poll-speaks turn release b))
     (record {
       one = served-one mid b s one;
@@ -113,14 +127,17 @@ end-polls z user turn role arrived a mid released release said y k h er hears sp
     mid.outgoing.count (ap (λ o. o.count) s.longer.outgoing)
     (λ e. served-count mid b s (count-hears z arrived turn a mid e (linked-sends z turn turn role a.phase a h e) hears))
   where
-    served-count : (m c : Account) → Served turn (length user.breaks) (is_busy turn user.busy) m c → CountKept a m → (m.outgoing.count ≡ 0) ⊎ ((m.outgoing.count ≡ a.outgoing.count) × (c.wait.timer ≡ a.wait.timer))
+    served-count : (m c : Account) → Served turn (length user.breaks) (is_busy turn user.busy) m c → CountKept a m
+        → (m.outgoing.count ≡ 0) ⊎ ((m.outgoing.count ≡ a.outgoing.count) × (c.wait.timer ≡ a.wait.timer))
     served-count m c s (inl x) = inl x
     served-count m c s (inr (x, y)) = inr (x, ap (λ w. w.timer) s.wait ∙ y)
 
-    served-one : (m c : Account) → Served turn (length user.breaks) (is_busy turn user.busy) m c → OneDue role m → (c.owes.answer ≡ None) ⊎ (is_released c.phase ≡ false → c.owes.reply ≡ false)
+    served-one : (m c : Account) → Served turn (length user.breaks) (is_busy turn user.busy) m c → OneDue role m
+        → (c.owes.answer ≡ None) ⊎ (is_released c.phase ≡ false → c.owes.reply ≡ false)
     served-one m c s o = by o.one
       where
-        by : (m.owes.answer ≡ None) ⊎ (is_released m.phase ≡ false → m.owes.reply ≡ false) → (c.owes.answer ≡ None) ⊎ (is_released c.phase ≡ false → c.owes.reply ≡ false)
+        by : (m.owes.answer ≡ None) ⊎ (is_released m.phase ≡ false → m.owes.reply ≡ false)
+            → (c.owes.answer ≡ None) ⊎ (is_released c.phase ≡ false → c.owes.reply ≡ false)
         by (inl n) = inl (s.answer ∙ n)
         by (inr f) = inr (λ x. s.reply ∙ f (ap is_released (sym s.phase) ∙ x))
 
@@ -134,7 +151,8 @@ pub record Timed (z : Rates) (link : Link) (role : Role) : Type 0 where
   pub role_is : (of role link).setup.role ≡ role
   pub is_of : IsOf z (of role link).setup
 
-pub timed : (tries period : ℕ) (delay : Role → ℕ) (link : Link) → KeepsTime tries period delay link → (role : Role) → Timed (rates tries period) link role
+pub timed : (tries period : ℕ) (delay : Role → ℕ) (link : Link) → KeepsTime tries period delay link → (role : Role)
+    → Timed (rates tries period) link role
 timed tries period delay link k role = record {
   role_is = k.roles role;
   is_of = let t = k.timed role in record { tries = t.tries_are; period = t.period_is; tx_window = t.tx_window; rx_window = t.rx_window };
@@ -143,7 +161,8 @@ timed tries period delay link k role = record {
 pub rated : (tries period : ℕ) (delay : Role → ℕ) (link : Link) → KeepsTime tries period delay link → AreRates (rates tries period)
 rated tries period delay link k = (fits tries period (link_of delay link) (keeps tries period delay link k)).rates
 
-pub known : (tries period : ℕ) (delay : Role → ℕ) (link : Link) (ts : List Turn) (ends : Ends) → KeepsTime tries period delay link → RunOf link ts ends → IsCarried delay ts
+pub known : (tries period : ℕ) (delay : Role → ℕ) (link : Link) (ts : List Turn) (ends : Ends) → KeepsTime tries period delay link
+    → RunOf link ts ends → IsCarried delay ts
     → (role : Role) → Known (rates tries period) link (length ts) ends role
 known tries period delay link ts ends k run c role = by role
   where
@@ -157,7 +176,8 @@ known tries period delay link ts ends k run c role = by role
     f = fits tries period (link_of delay link) (keeps tries period delay link k)
 
     h : Sound z (link_of delay link) (length ts) (state_of ends i.forward i.back)
-    h = subst (λ n. Sound z (link_of delay link) n (state_of ends i.forward i.back)) (turns-length ts) (sound-run z (link_of delay link) (map turn_of ts) (state_of ends i.forward i.back) f i.run)
+    h = subst (λ n. Sound z (link_of delay link) n (state_of ends i.forward i.back)) (turns-length ts)
+        (sound-run z (link_of delay link) (map turn_of ts) (state_of ends i.forward i.back) f i.run)
 
     n : NoneDue ends.orig × NoneDue ends.answ
     n = none-due-run z (link_of delay link) (map turn_of ts) (state_of ends i.forward i.back) f i.run
@@ -171,7 +191,8 @@ abbrev pub release_of : Link → ℕ → Ends → Role → Bool
 release_of link turn mid Originator = releases link turn mid
 release_of link turn mid Answerer = false
 
-pub said-as : (link : Link) (turn : ℕ) (mid : Ends) (role : Role) → said_at link turn mid role ≡ speak turn (release_of link turn mid role) (served_at link turn mid role).account
+pub said-as : (link : Link) (turn : ℕ) (mid : Ends) (role : Role)
+    → said_at link turn mid role ≡ speak turn (release_of link turn mid role) (served_at link turn mid role).account
 said-as link turn mid Originator = refl
 said-as link turn mid Answerer = refl
 
@@ -179,8 +200,10 @@ abbrev pub AllEarly : Ends → Type 0
 AllEarly ends = (role : Role) → Early role (of role ends)
 
 -- a turn of both
-turn-happens : (tries period : ℕ) (delay : Role → ℕ) (link : Link) (ts : List Turn) (before : Ends) (t : Turn) (after : Ends) → KeepsTime tries period delay link → RunOf link ts before → IsCarried delay ts → Carries delay ts t
-    → GoingTurn link ts before t after → AllEarly before → (d : Deed) × (d.turn ≡ t) × Happens period delay link ts (length ts) before d after
+turn-happens : (tries period : ℕ) (delay : Role → ℕ) (link : Link) (ts : List Turn) (before : Ends) (t : Turn) (after : Ends)
+    → KeepsTime tries period delay link → RunOf link ts before → IsCarried delay ts → Carries delay ts t
+    → GoingTurn link ts before t after → AllEarly before
+    → (d : Deed) × (d.turn ≡ t) × Happens period delay link ts (length ts) before d after
 turn-happens tries period delay link ts before t after k run c cs g early = (
   record { turn = t; mid = g.mid; made = λ role. (polls role).0 },
   refl,
@@ -194,27 +217,37 @@ turn-happens tries period delay link ts before t after k run c cs g early = (
     speaking = g.speaking;
     polls = λ role.
         let s = g.speaking role in
-        subst (λ x. PollTurn period (length ts) role (of_arrived is_poll (arrival (of role t).heard)) (of_arrived is_final (arrival (of role t).heard)) (polls role).0 (of role g.mid).outgoing.count x (of role before) (of role after))
+        subst (λ x. PollTurn period (length ts) role (of_arrived is_poll (arrival (of role t).heard))
+        (of_arrived is_final (arrival (of role t).heard)) (polls role).0 (of role g.mid).outgoing.count x (of role before)
+        (of role after))
         (ap sent_or (sym s.sent_is))
-        (subst (λ x. PollTurn period (length ts) role (of_arrived is_poll (arrival (of role t).heard)) (of_arrived is_final (arrival (of role t).heard)) (polls role).0 (of role g.mid).outgoing.count s.said.sent (of role before) x)
+        (subst (λ x. PollTurn period (length ts) role (of_arrived is_poll (arrival (of role t).heard))
+        (of_arrived is_final (arrival (of role t).heard)) (polls role).0 (of role g.mid).outgoing.count s.said.sent (of role before) x)
         (sym s.after_is) (polls role).1);
     answers = λ role.
         let w = known tries period delay link ts before k run c role in
         let m = timed tries period delay link k role in
-        end-answers z (of role link).user (length ts) role (arrival (of role t).heard) (of role before) (of role g.mid) (is_released g.mid.orig.phase) (release_of link (length ts) g.mid role) (g.speaking role).said
-        (rated tries period delay link k) (subst (IsOf z) (sym w.setup) m.is_of) w.stands (ap (λ x. x.role) w.setup ∙ m.role_is) (g.hearing role).hears (sym (said-as link (length ts) g.mid role) ∙ (g.speaking role).says) w.none_due;
+        end-answers z (of role link).user (length ts) role (arrival (of role t).heard) (of role before) (of role g.mid)
+        (is_released g.mid.orig.phase) (release_of link (length ts) g.mid role) (g.speaking role).said
+        (rated tries period delay link k) (subst (IsOf z) (sym w.setup) m.is_of) w.stands (ap (λ x. x.role) w.setup ∙ m.role_is)
+        (g.hearing role).hears (sym (said-as link (length ts) g.mid role) ∙ (g.speaking role).says) w.none_due;
   },
 )
   where
     z : Rates
     z = rates tries period
 
-    polls : (role : Role) → (made : Bool) × PollTurn period (length ts) role (of_arrived is_poll (arrival (of role t).heard)) (of_arrived is_final (arrival (of role t).heard)) made (of role g.mid).outgoing.count (g.speaking role).said.sent (of role before) (g.speaking role).said.account
+    polls : (role : Role)
+        → (made : Bool) × PollTurn period (length ts) role (of_arrived is_poll (arrival (of role t).heard))
+        (of_arrived is_final (arrival (of role t).heard)) made (of role g.mid).outgoing.count (g.speaking role).said.sent (of role before)
+        (g.speaking role).said.account
     polls role =
         let w = known tries period delay link ts before k run c role in
         let m = timed tries period delay link k role in
-        end-polls z (of role link).user (length ts) role (arrival (of role t).heard) (of role before) (of role g.mid) (is_released g.mid.orig.phase) (release_of link (length ts) g.mid role) (g.speaking role).said
-        (rated tries period delay link k) (subst (IsOf z) (sym w.setup) m.is_of) w.stands (ap (λ x. x.role) w.setup ∙ m.role_is) (g.hearing role).hears (sym (said-as link (length ts) g.mid role) ∙ (g.speaking role).says) w.none_due (early role)
+        end-polls z (of role link).user (length ts) role (arrival (of role t).heard) (of role before) (of role g.mid)
+        (is_released g.mid.orig.phase) (release_of link (length ts) g.mid role) (g.speaking role).said
+        (rated tries period delay link k) (subst (IsOf z) (sym w.setup) m.is_of) w.stands (ap (λ x. x.role) w.setup ∙ m.role_is)
+        (g.hearing role).hears (sym (said-as link (length ts) g.mid role) ∙ (g.speaking role).says) w.none_due (early role)
 
 -- a run as it is looked up
 pub record Traced (period : ℕ) (delay : Role → ℕ) (link : Link) (ts : List Turn) (ends : Ends) : Type 0 where
@@ -226,7 +259,11 @@ pub record Traced (period : ℕ) (delay : Role → ℕ) (link : Link) (ts : List
 
 none-deed : Ends → Deed
 none-deed ends = record {
-  turn = record { orig = record { heard = heards.Nothing; check = checks.Sixteen; sent = None; given = None }; answ = record { heard = heards.Nothing; check = checks.Sixteen; sent = None; given = None } };
+  turn = record {
+    orig = record { heard = heards.Nothing; check = checks.Sixteen; sent = None; given = None };
+    answ =
+        record { heard = heards.Nothing; check = checks.Sixteen; sent = None; given = None };
+  };
   mid = ends;
   made = λ role. false;
 }
@@ -256,12 +293,14 @@ pub past-before : (x : Turn) (ts : List Turn) → past (x ∷ ts) (length ts) �
 past-before x ts = past-later x ts (length ts) (omega arith) ∙ past-all ts
 
 -- A run with one more turn, and what that turn was.
-pub record OneMore (period : ℕ) (delay : Role → ℕ) (link : Link) (x : Turn) (ts : List Turn) (before : Ends) (d : Deed) (after : Ends) : Type 0 where
+pub record OneMore (period : ℕ) (delay : Role → ℕ) (link : Link) (x : Turn) (ts : List Turn) (before : Ends) (d : Deed)
+    (after : Ends) : Type 0 where
   pub traced : Traced period delay link (x ∷ ts) after
   pub before_is : traced.state (length ts) ≡ before
   pub deed_is : traced.deed (length ts) ≡ d
 
-pub longer : (period : ℕ) (delay : Role → ℕ) (link : Link) (ts : List Turn) (s : Ends) (x : Turn) (d : Deed) (u : Ends) → Traced period delay link ts s → d.turn ≡ x → Happens period delay link ts (length ts) s d u → OneMore period delay link x ts s d u
+pub longer : (period : ℕ) (delay : Role → ℕ) (link : Link) (ts : List Turn) (s : Ends) (x : Turn) (d : Deed) (u : Ends)
+    → Traced period delay link ts s → d.turn ≡ x → Happens period delay link ts (length ts) s d u → OneMore period delay link x ts s d u
 longer period delay link ts s x d u k dx h = record {
   traced = record {
     state = state;
@@ -301,25 +340,33 @@ longer period delay link ts s x d u k dx h = record {
     late-deed : (t : ℕ) → n ≤ t → deed t ≡ d
     late-deed t l = let e : nat_lt t n ≡ false = not-below t n l in ap (λ b. cond b (k.deed t) d) e
 
-    moved : (t : ℕ) (us : List Turn) (a b : Ends) (w : Deed) → past (x ∷ ts) t ≡ us → state t ≡ a → deed t ≡ w → state (t + 1) ≡ b → Happens period delay link us t a w b
+    moved : (t : ℕ) (us : List Turn) (a b : Ends) (w : Deed) → past (x ∷ ts) t ≡ us → state t ≡ a → deed t ≡ w → state (t + 1) ≡ b
+        → Happens period delay link us t a w b
         → Happens period delay link (past (x ∷ ts) t) t (state t) (deed t) (state (t + 1))
     moved t us a b w o p q r g = subst (λ y. Happens period delay link y t (state t) (deed t) (state (t + 1))) (sym o)
-        (subst (λ y. Happens period delay link us t (state t) (deed t) y) (sym r) (subst (λ y. Happens period delay link us t (state t) y b) (sym q) (subst (λ y. Happens period delay link us t y w b) (sym p) g)))
+        (subst (λ y. Happens period delay link us t (state t) (deed t) y) (sym r)
+        (subst (λ y. Happens period delay link us t (state t) y b) (sym q)
+        (subst (λ y. Happens period delay link us t y w b) (sym p) g)))
 
     happens : (t : ℕ) → t < suc n → Happens period delay link (past (x ∷ ts) t) t (state t) (deed t) (state (t + 1))
     happens t less = elim (cases_lt t n) [
-      | inl l ↦ moved t (past ts t) (k.state t) (k.state (t + 1)) (k.deed t) (past-later x ts t (omega (arith, l))) (early-state t (omega (arith, l))) (early-deed t l) (early-state (t + 1) (omega (arith, l)))
+      | inl l ↦ moved t (past ts t) (k.state t) (k.state (t + 1)) (k.deed t) (past-later x ts t (omega (arith, l)))
+          (early-state t (omega (arith, l))) (early-deed t l) (early-state (t + 1) (omega (arith, l)))
           (k.trace.happens t l)
       | inr g ↦ at-last (omega (arith, less, g))
     ]
       where
         at-last : t ≡ n → Happens period delay link (past (x ∷ ts) t) t (state t) (deed t) (state (t + 1))
-        at-last q = moved t ts s u d (ap (past (x ∷ ts)) q ∙ (past-later x ts n (omega arith) ∙ past-all ts)) (early-state t (omega (arith, q)) ∙ (ap k.state q ∙ k.last)) (late-deed t (omega (arith, q)))
+        at-last q = moved t ts s u d (ap (past (x ∷ ts)) q ∙ (past-later x ts n (omega arith) ∙ past-all ts))
+            (early-state t (omega (arith, q)) ∙ (ap k.state q ∙ k.last)) (late-deed t (omega (arith, q)))
             (late-state (t + 1) (omega (arith, q))) (subst (λ y. Happens period delay link ts y s d u) (sym q) h)
 
     grows : (t : ℕ) → t < suc n → past (x ∷ ts) (t + 1) ≡ (deed t).turn ∷ past (x ∷ ts) t
     grows t less = elim (cases_lt t n) [
-      | inl l ↦ past-later x ts (t + 1) (omega (arith, l)) ∙ (k.trace.grows t l ∙ (ap (λ w. w.turn ∷ past ts t) (sym (early-deed t l)) ∙ ap (λ us. (deed t).turn ∷ us) (sym (past-later x ts t (omega (arith, l))))))
+      | inl l ↦ past-later x ts (t + 1) (omega (arith, l))
+          ∙ (k.trace.grows t l ∙
+          (ap (λ w. w.turn ∷ past ts t) (sym (early-deed t l))
+          ∙ ap (λ us. (deed t).turn ∷ us) (sym (past-later x ts t (omega (arith, l))))))
       | inr g ↦ at-last (omega (arith, less, g))
     ]
       where
@@ -330,11 +377,17 @@ longer period delay link ts s x d u k dx h = record {
             ∙ ap (λ us. (deed t).turn ∷ us) (sym (ap (past (x ∷ ts)) q ∙ (past-later x ts n (omega arith) ∙ past-all ts))))
 
 -- every run is traced
-pub traced : (tries period : ℕ) (delay : Role → ℕ) (link : Link) (ts : List Turn) (ends : Ends) → KeepsTime tries period delay link → RunOf link ts ends → IsCarried delay ts → Traced period delay link ts ends
+pub traced : (tries period : ℕ) (delay : Role → ℕ) (link : Link) (ts : List Turn) (ends : Ends) → KeepsTime tries period delay link
+    → RunOf link ts ends → IsCarried delay ts → Traced period delay link ts ends
 traced tries period delay link [] ends k run c = record {
   state = λ t. ends;
   deed = λ t. none-deed ends;
-  trace = record { starts = run; happens = λ t l. let none : ⊥ = omega (arith, l) in absurd none; grows = λ t l. let none : ⊥ = omega (arith, l) in absurd none };
+  trace = record {
+    starts = run;
+    happens = λ t l. let none : ⊥ = omega (arith, l) in absurd none;
+    grows = λ t l. let none : ⊥ =
+        omega (arith, l) in absurd none;
+  };
   last = refl;
   early = λ role. subst (λ x. Early role (of role x)) (sym run) (begins role);
 }
@@ -348,7 +401,8 @@ traced tries period delay link (t ∷ ts) ends k (before, run, g) c =
     (longer period delay link ts before t d.0 ends w d.1 d.2).traced
 
 -- and so is one more turn of it
-pub traced-turn : (tries period : ℕ) (delay : Role → ℕ) (link : Link) (ts : List Turn) (before : Ends) (t : Turn) (after : Ends) → KeepsTime tries period delay link → RunOf link ts before → GoingTurn link ts before t after → IsCarried delay (t ∷ ts)
+pub traced-turn : (tries period : ℕ) (delay : Role → ℕ) (link : Link) (ts : List Turn) (before : Ends) (t : Turn) (after : Ends)
+    → KeepsTime tries period delay link → RunOf link ts before → GoingTurn link ts before t after → IsCarried delay (t ∷ ts)
     → (d : Deed) × (d.turn ≡ t) × OneMore period delay link t ts before d after
 traced-turn tries period delay link ts before t after k run g c =
     let w = traced tries period delay link ts before k run c.1 in

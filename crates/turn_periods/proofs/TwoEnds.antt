@@ -45,8 +45,12 @@ pub record ArrivesLate (delay turn : ℕ) (loses : Bool) (f : ℕ → Sent) (arr
   pub late : delay ≤ turn → arrived ≡ cond loses arrivals.Nothing (arrives (f (turn - delay)))
 
 pub record TwoEnds (period turns : ℕ) (e o : EndRun) : Type 0 where
-  pub own : (t : ℕ) → t < turns → PollTurn period t e.role (of_arrived is_poll (e.heard t)) (of_arrived is_final (e.heard t)) (e.made t) (e.count t) (e.slot t) (e.account t) (e.account (t + 1))
-  pub other : (t : ℕ) → t < turns → PollTurn period t o.role (of_arrived is_poll (o.heard t)) (of_arrived is_final (o.heard t)) (o.made t) (o.count t) (o.slot t) (o.account t) (o.account (t + 1))
+  pub own : (t : ℕ) → t < turns
+      → PollTurn period t e.role (of_arrived is_poll (e.heard t)) (of_arrived is_final (e.heard t)) (e.made t) (e.count t) (e.slot t)
+      (e.account t) (e.account (t + 1))
+  pub other : (t : ℕ) → t < turns
+      → PollTurn period t o.role (of_arrived is_poll (o.heard t)) (of_arrived is_final (o.heard t)) (o.made t) (o.count t) (o.slot t)
+      (o.account t) (o.account (t + 1))
   pub hears : (t : ℕ) → t < turns → ArrivesLate o.delay t (e.loses t) o.slot (e.heard t)
   pub is_heard : (t : ℕ) → t < turns → ArrivesLate e.delay t (o.loses t) e.slot (o.heard t)
   pub own_first : poll_due (e.account 0) ≡ false

@@ -32,12 +32,15 @@ gathered groups offer s = go (named 128 groups) refl s where
   go (group ∷ again ∷ more) e h = absurd h
 
 -- no group stands at the end
-nothing-more : (rest tail : List ℕ) (more : List Part) (identifier : ℕ) → IsEnd rest → rest ≡ flat_map group_octets more ++ identifier ∷ tail → named 255 more ≡ [] → identifier ≢ 255 → ⊥
-nothing-more [] tail more identifier ends e none no_end = absurd (omega (arith, ap length e, length-append (flat_map group_octets more) (identifier ∷ tail)))
+nothing-more : (rest tail : List ℕ) (more : List Part) (identifier : ℕ) → IsEnd rest
+    → rest ≡ flat_map group_octets more ++ identifier ∷ tail → named 255 more ≡ [] → identifier ≢ 255 → ⊥
+nothing-more [] tail more identifier ends e none no_end =
+    absurd (omega (arith, ap length e, length-append (flat_map group_octets more) (identifier ∷ tail)))
 nothing-more (x ∷ rest) tail [] identifier ends e none no_end = let is : x ≡ identifier = cc in no_end (sym is ∙ ends)
 nothing-more (x ∷ rest) tail (m ∷ more) identifier ends e none no_end =
     let is : m.identifier ≡ 255 = (let same : x ≡ m.identifier = cc in sym same ∙ ends) in
-    let bad : named 255 (record { identifier = 255; value = m.value } ∷ more) ≡ [] = subst (λ i. named 255 (record { identifier = i; value = m.value } ∷ more) ≡ []) is none in
+    let bad : named 255 (record { identifier = 255; value = m.value } ∷ more) ≡ [] =
+    subst (λ i. named 255 (record { identifier = i; value = m.value } ∷ more) ≡ []) is none in
     cc
 
 pub never-both : (octets : List ℕ) (offer : Offer) (q : ℕ) (fault : XidFault) → OfferSpelling octets offer → Has octets q fault → ⊥
@@ -45,15 +48,19 @@ never-both octets offer q fault s h =
     let o = gathered s.groups offer s.offers in
     elim (further octets s.rest s.groups o.0 q fault s.passes o.1 h) [
       | inl b ↦ nothing-more s.rest b.tail b.more b.identifier s.ends b.rest_is b.ends b.no_end
-      | inr w ↦ nothing-more s.rest ((length w.content / 256) ∷ (length w.content % 256) ∷ (w.content ++ w.after)) w.more 128 s.ends w.rest_is w.ends (λ e. absurd (omega (arith, e)))
+      | inr w ↦ nothing-more s.rest
+          ((length w.content / 256) ∷ (length w.content % 256) ∷ (w.content ++ w.after)) w.more 128 s.ends w.rest_is w.ends
+          (λ e. absurd (omega (arith, e)))
     ]
 
 pub one-offer : (octets : List ℕ) (offer other : Offer) → OfferSpelling octets offer → OfferSpelling octets other → offer ≡ other
-one-offer octets offer other s t = (let e : Some offer ≡ Some other = sym (spelled-is-found octets offer s) ∙ spelled-is-found octets other t in cc)
+one-offer octets offer other s t =
+    (let e : Some offer ≡ Some other = sym (spelled-is-found octets offer s) ∙ spelled-is-found octets other t in cc)
 
 -- one place of one part has one fault
 
-group-one : (before others : List Part) (identifier other : ℕ) (tail other_tail : List ℕ) (at : ℕ) (f g : XidFault) → IsGroupWrong before identifier tail at f → IsGroupWrong others other other_tail at g → place_of f ≡ place_of g → f ≡ g
+group-one : (before others : List Part) (identifier other : ℕ) (tail other_tail : List ℕ) (at : ℕ) (f g : XidFault)
+    → IsGroupWrong before identifier tail at f → IsGroupWrong others other other_tail at g → place_of f ≡ place_of g → f ≡ g
 group-one before others identifier other tail other_tail at (Group p) (Group q) h k e = ap Group e
 group-one before others identifier other tail other_tail at (Length p) (Length q) h k e = ap Length e
 group-one before others identifier other tail other_tail at (Group p) (Length q) (a, is, again) (b, cut) e = absurd (omega arith)
@@ -68,7 +75,8 @@ group-one before others identifier other tail other_tail at (Length p) (Value q)
 group-one before others identifier other tail other_tail at (Length p) (Repeated q) h k e = absurd k
 group-one before others identifier other tail other_tail at (Length p) Format h k e = absurd k
 
-parameter-one : (before others : List Part) (identifier other : ℕ) (tail other_tail : List ℕ) (at : ℕ) (f g : XidFault) → IsParameterWrong before identifier tail at f → IsParameterWrong others other other_tail at g → place_of f ≡ place_of g → f ≡ g
+parameter-one : (before others : List Part) (identifier other : ℕ) (tail other_tail : List ℕ) (at : ℕ) (f g : XidFault)
+    → IsParameterWrong before identifier tail at f → IsParameterWrong others other other_tail at g → place_of f ≡ place_of g → f ≡ g
 parameter-one before others identifier other tail other_tail at (Repeated p) (Repeated q) h k e = ap Repeated e
 parameter-one before others identifier other tail other_tail at (Length p) (Length q) h k e = ap Length e
 parameter-one before others identifier other tail other_tail at (Value p) (Value q) h k e = ap Value e
@@ -91,15 +99,19 @@ parameter-one before others identifier other tail other_tail at (Value p) Format
 apart : (octets : List ℕ) (q : ℕ) (f g : XidFault) → GroupHas octets q f → InnerHas octets q g → ⊥
 apart octets q f g h i =
     let part : Part = record { identifier = 128; value = i.content } in
-    let both : flat_map group_octets h.groups ++ h.identifier ∷ h.tail ≡ flat_map group_octets i.groups ++ (group_octets part ++ i.rest) = (let e : 130 ∷ (flat_map group_octets h.groups ++ h.identifier ∷ h.tail) ≡ 130 ∷ (flat_map group_octets i.groups ++ (group_octets part ++ i.rest)) = sym h.passes.whole ∙ i.passes.whole in cc) in
+    let both : flat_map group_octets h.groups ++ h.identifier ∷ h.tail ≡ flat_map group_octets i.groups ++ (group_octets part ++ i.rest) =
+    (let e : 130 ∷ (flat_map group_octets h.groups ++ h.identifier ∷ h.tail) ≡ 130 ∷
+    (flat_map group_octets i.groups ++ (group_octets part ++ i.rest)) = sym h.passes.whole ∙ i.passes.whole in cc) in
     let from = inner-from i.content (place_behind i.groups + 3) q g i.inner in
     let to = within i.content (place_behind i.groups + 3) q g i.inner in
     elim (compare group_octets group-free h.groups i.groups (h.identifier ∷ h.tail) (group_octets part ++ i.rest) both) [
-      | inl n ↦ (let behind : place_behind i.groups ≡ place_behind h.groups + length (flat_map group_octets n.more) = ap place_behind n.parts_are ∙ place-more h.groups n.more in absurd (omega (arith, h.at_is, from.0)))
+      | inl n ↦ (let behind : place_behind i.groups ≡ place_behind h.groups + length (flat_map group_octets n.more) =
+          ap place_behind n.parts_are ∙ place-more h.groups n.more in absurd (omega (arith, h.at_is, from.0)))
       | inr l ↦
           let same = group-free.free part l.next i.rest (flat_map group_octets l.more ++ h.identifier ∷ h.tail) l.rest_is in
           let size : length i.content ≡ length l.next.value = ap (λ p. length p.value) same.0 in
-          let behind : place_behind h.groups ≡ place_behind i.groups + length (flat_map group_octets (l.next ∷ l.more)) = ap place_behind l.parts_are ∙ place-more i.groups (l.next ∷ l.more) in
+          let behind : place_behind h.groups ≡ place_behind i.groups + length (flat_map group_octets (l.next ∷ l.more)) =
+          ap place_behind l.parts_are ∙ place-more i.groups (l.next ∷ l.more) in
           absurd (omega (arith, h.at_is, to.1, length-append l.next.value (flat_map group_octets l.more)))
     ]
 
@@ -109,14 +121,23 @@ format-alone (x ∷ octets) rest e h = h cc
 
 one-here : (octets : List ℕ) (q : ℕ) (f g : XidFault) → Has octets q f → Has octets q g → place_of f ≡ place_of g → f ≡ g
 one-here octets q f g (inl h) (inl k) e = h.fault_is ∙ sym k.fault_is
-one-here octets q f g (inl h) (inr (inl k)) e = absurd (format-alone octets (flat_map group_octets k.groups ++ k.identifier ∷ k.tail) k.passes.whole h.begins)
-one-here octets q f g (inl h) (inr (inr k)) e = absurd (format-alone octets (flat_map group_octets k.groups ++ (group_octets (record { identifier = 128; value = k.content }) ++ k.rest)) k.passes.whole h.begins)
-one-here octets q f g (inr (inl h)) (inl k) e = absurd (format-alone octets (flat_map group_octets h.groups ++ h.identifier ∷ h.tail) h.passes.whole k.begins)
-one-here octets q f g (inr (inr h)) (inl k) e = absurd (format-alone octets (flat_map group_octets h.groups ++ (group_octets (record { identifier = 128; value = h.content }) ++ h.rest)) h.passes.whole k.begins)
-one-here octets q f g (inr (inl h)) (inr (inl k)) e = group-one h.groups k.groups h.identifier k.identifier h.tail k.tail q f g h.wrong k.wrong e
+one-here octets q f g (inl h) (inr (inl k)) e =
+    absurd (format-alone octets (flat_map group_octets k.groups ++ k.identifier ∷ k.tail) k.passes.whole h.begins)
+one-here octets q f g (inl h) (inr (inr k)) e =
+    absurd (format-alone octets
+    (flat_map group_octets k.groups ++ (group_octets (record { identifier = 128; value = k.content }) ++ k.rest)) k.passes.whole h.begins)
+one-here octets q f g (inr (inl h)) (inl k) e =
+    absurd (format-alone octets (flat_map group_octets h.groups ++ h.identifier ∷ h.tail) h.passes.whole k.begins)
+one-here octets q f g (inr (inr h)) (inl k) e =
+    absurd (format-alone octets
+    (flat_map group_octets h.groups ++ (group_octets (record { identifier = 128; value = h.content }) ++ h.rest)) h.passes.whole k.begins)
+one-here octets q f g (inr (inl h)) (inr (inl k)) e =
+    group-one h.groups k.groups h.identifier k.identifier h.tail k.tail q f g h.wrong k.wrong e
 one-here octets q f g (inr (inl h)) (inr (inr k)) e = absurd (apart octets q f g h k)
 one-here octets q f g (inr (inr h)) (inr (inl k)) e = absurd (apart octets q g f k h)
-one-here octets q f g (inr (inr h)) (inr (inr k)) e = parameter-one h.inner.parts k.inner.parts h.inner.identifier k.inner.identifier h.inner.tail k.inner.tail q f g h.inner.wrong k.inner.wrong e
+one-here octets q f g (inr (inr h)) (inr (inr k)) e =
+    parameter-one h.inner.parts k.inner.parts h.inner.identifier k.inner.identifier h.inner.tail k.inner.tail q f g h.inner.wrong
+    k.inner.wrong e
 
 both-first : (f g p q : ℕ) → (f < g) ⊎ ((f ≡ g) × (p ≤ q)) → (g < f) ⊎ ((g ≡ f) × (q ≤ p)) → (f ≡ g) × (p ≡ q)
 both-first f g p q (inl h) (inl k) = absurd (omega arith)
@@ -131,35 +152,43 @@ one-fault octets fault other h k =
 
 -- the answers of a reader that is right on both sides
 
-pub all-offers : (octets : List ℕ) (result : Result Offer XidFault) → IfOk result (OfferSpelling octets) → IfErr result (FirstFault octets) → (offer : Offer) → OfferSpelling octets offer → result ≡ Ok offer
+pub all-offers : (octets : List ℕ) (result : Result Offer XidFault) → IfOk result (OfferSpelling octets) → IfErr result (FirstFault octets)
+    → (offer : Offer) → OfferSpelling octets offer → result ≡ Ok offer
 all-offers octets (Ok found) ok err offer s = ap Ok (one-offer octets found offer ok s)
 all-offers octets (Err fault) ok err offer s = absurd (never-both octets offer err.at fault s err.here)
 
-fault-is : (octets : List ℕ) (result : Result Offer XidFault) → IfOk result (OfferSpelling octets) → IfErr result (FirstFault octets) → (fault : XidFault) → FirstFault octets fault → result ≡ Err fault
+fault-is : (octets : List ℕ) (result : Result Offer XidFault) → IfOk result (OfferSpelling octets) → IfErr result (FirstFault octets)
+    → (fault : XidFault) → FirstFault octets fault → result ≡ Err fault
 fault-is octets (Ok found) ok err fault f = absurd (never-both octets found f.at fault ok f.here)
 fault-is octets (Err first) ok err fault f = ap Err (one-fault octets first fault err f)
 
-is-fault : (octets : List ℕ) (result : Result Offer XidFault) → IfErr result (FirstFault octets) → (fault : XidFault) → result ≡ Err fault → FirstFault octets fault
+is-fault : (octets : List ℕ) (result : Result Offer XidFault) → IfErr result (FirstFault octets) → (fault : XidFault) → result ≡ Err fault
+    → FirstFault octets fault
 is-fault octets (Ok found) err fault e = cc
 is-fault octets (Err first) err fault e = (let same : first ≡ fault = cc in subst (FirstFault octets) same err)
 
-pub all-faults : (octets : List ℕ) (result : Result Offer XidFault) → IfOk result (OfferSpelling octets) → IfErr result (FirstFault octets) → (fault : XidFault) → (result ≡ Err fault) ↔ FirstFault octets fault
+pub all-faults : (octets : List ℕ) (result : Result Offer XidFault) → IfOk result (OfferSpelling octets) → IfErr result (FirstFault octets)
+    → (fault : XidFault) → (result ≡ Err fault) ↔ FirstFault octets fault
 all-faults octets result ok err fault = (is-fault octets result err fault, fault-is octets result ok err fault)
 
-pub same-found : (octets : List ℕ) (result : Result Offer XidFault) → AreSmall octets → IfOk result (OfferSpelling octets) → IfErr result (FirstFault octets) → result_ok result ≡ offer_in octets
+pub same-found : (octets : List ℕ) (result : Result Offer XidFault) → AreSmall octets → IfOk result (OfferSpelling octets)
+    → IfErr result (FirstFault octets) → result_ok result ≡ offer_in octets
 same-found octets (Ok found) are ok err = sym (spelled-is-found octets found ok)
 same-found octets (Err fault) are ok err = go (offer_in octets) refl where
   go : (found : Option Offer) → offer_in octets ≡ found → None ≡ offer_in octets
   go None e = sym e
   go (Some offer) e = absurd (never-both octets offer err.at fault (found-is-spelled octets offer are e) err.here)
 
-pub some-answer : (octets : List ℕ) (result : Result Offer XidFault) → IfOk result (OfferSpelling octets) → ((fault : XidFault) → (result ≡ Err fault) ↔ FirstFault octets fault) → ((offer : Offer) × OfferSpelling octets offer) ⊎ ((fault : XidFault) × FirstFault octets fault)
+pub some-answer : (octets : List ℕ) (result : Result Offer XidFault) → IfOk result (OfferSpelling octets)
+    → ((fault : XidFault) → (result ≡ Err fault) ↔ FirstFault octets fault)
+    → ((offer : Offer) × OfferSpelling octets offer) ⊎ ((fault : XidFault) × FirstFault octets fault)
 some-answer octets (Ok offer) ok faults = inl (offer, ok)
 some-answer octets (Err fault) ok faults = inr (fault, (faults fault).0 refl)
 
 -- the offer that is spelled keeps to the least and the most
 
-length-allowed : (parts : List Part) → IsTrue (stands_well TxLength parts) → (1 ≤ unwrap_or (said octets_of_bits parts) 128) × (unwrap_or (said octets_of_bits parts) 128 ≤ INFO)
+length-allowed : (parts : List Part) → IsTrue (stands_well TxLength parts)
+    → (1 ≤ unwrap_or (said octets_of_bits parts) 128) × (unwrap_or (said octets_of_bits parts) 128 ≤ INFO)
 length-allowed [] w = (lit≤ tt, lit≤ tt)
 length-allowed (part ∷ []) w =
     let high = and-right (accepts TxLength (length part.value)) (not (is_low TxLength part.value)) w in
@@ -167,7 +196,8 @@ length-allowed (part ∷ []) w =
     (omega arith, omega arith)
 length-allowed (part ∷ again ∷ parts) w = absurd (false≢true w)
 
-window-allowed : (parts : List Part) → IsTrue (stands_well TxWindow parts) → (1 ≤ unwrap_or (said segments_of parts) 15) × (unwrap_or (said segments_of parts) 15 ≤ 127)
+window-allowed : (parts : List Part) → IsTrue (stands_well TxWindow parts)
+    → (1 ≤ unwrap_or (said segments_of parts) 15) × (unwrap_or (said segments_of parts) 15 ≤ 127)
 window-allowed [] w = (lit≤ tt, lit≤ tt)
 window-allowed (part ∷ []) w =
     let high = and-right (accepts TxWindow (length part.value)) (not (is_low TxWindow part.value)) w in

@@ -30,21 +30,28 @@ same-parameter p q e = sym (of-identifier p) ∙ ap parameter_of e ∙ of-identi
 
 -- one more part among those with an identifier
 
-pub named-other : (k : ℕ) (parts : List Part) (part : Part) → nat_eq part.identifier k ≡ false → named k (parts ++ part ∷ []) ≡ named k parts
-named-other k parts part other = named-append k parts (part ∷ []) ∙ ap (λ b. named k parts ++ cond b (part ∷ []) []) other ∙ append-nil (named k parts)
+pub named-other : (k : ℕ) (parts : List Part) (part : Part) → nat_eq part.identifier k ≡ false
+    → named k (parts ++ part ∷ []) ≡ named k parts
+named-other k parts part other =
+    named-append k parts (part ∷ []) ∙ ap (λ b. named k parts ++ cond b (part ∷ []) []) other ∙ append-nil (named k parts)
 
-pub named-first : (k : ℕ) (parts : List Part) (part : Part) → named k parts ≡ [] → nat_eq part.identifier k ≡ true → named k (parts ++ part ∷ []) ≡ part ∷ []
-named-first k parts part none same = named-append k parts (part ∷ []) ∙ ap (λ b. named k parts ++ cond b (part ∷ []) []) same ∙ ap (λ ps. ps ++ part ∷ []) none
+pub named-first : (k : ℕ) (parts : List Part) (part : Part) → named k parts ≡ [] → nat_eq part.identifier k ≡ true
+    → named k (parts ++ part ∷ []) ≡ part ∷ []
+named-first k parts part none same =
+    named-append k parts (part ∷ []) ∙ ap (λ b. named k parts ++ cond b (part ∷ []) []) same ∙ ap (λ ps. ps ++ part ∷ []) none
 
-said-other : {A : Type 0} (read : List ℕ → A) (k : ℕ) (parts : List Part) (part : Part) (o : Option A) → nat_eq part.identifier k ≡ false → o ≡ said read (named k parts) → o ≡ said read (named k (parts ++ part ∷ []))
+said-other : {A : Type 0} (read : List ℕ → A) (k : ℕ) (parts : List Part) (part : Part) (o : Option A) → nat_eq part.identifier k ≡ false
+    → o ≡ said read (named k parts) → o ≡ said read (named k (parts ++ part ∷ []))
 said-other read k parts part o other e = e ∙ ap (said read) (sym (named-other k parts part other))
 
-said-first : {A : Type 0} (read : List ℕ → A) (k : ℕ) (parts : List Part) (part : Part) (a : A) → named k parts ≡ [] → nat_eq part.identifier k ≡ true → a ≡ read part.value → (let o : Option A = Some a in o) ≡ said read (named k (parts ++ part ∷ []))
+said-first : {A : Type 0} (read : List ℕ → A) (k : ℕ) (parts : List Part) (part : Part) (a : A) → named k parts ≡ []
+    → nat_eq part.identifier k ≡ true → a ≡ read part.value → (let o : Option A = Some a in o) ≡ said read (named k (parts ++ part ∷ []))
 said-first read k parts part a none same e = ap Some e ∙ ap (said read) (sym (named-first k parts part none same))
 
 -- what is gathered behind a parameter
 
-pub stands-other : (given : Given) (parts : List Part) (part : Part) → ((p : Parameter) → part.identifier ≢ identifier_of p) → Stands given parts → Stands given (parts ++ part ∷ [])
+pub stands-other : (given : Given) (parts : List Part) (part : Part) → ((p : Parameter) → part.identifier ≢ identifier_of p)
+    → Stands given parts → Stands given (parts ++ part ∷ [])
 stands-other given parts part none s =
     let apart : (p : Parameter) → nat_eq part.identifier (identifier_of p) ≡ false = λ p. (let h = none p in grind (arith, nat_tests)) in
     record {
@@ -60,10 +67,14 @@ stands-other given parts part none s =
 pub at-parameter : (p q : Parameter) (given : Given) (parts : List Part) (value : List ℕ) → p ≡ q
     → (named (identifier_of q) parts ≡ [] → Stands given (parts ++ record { identifier = identifier_of q; value = value } ∷ []))
     → named (identifier_of p) parts ≡ [] → Stands given (parts ++ record { identifier = identifier_of p; value = value } ∷ [])
-at-parameter p q given parts value e h = subst (λ r. named (identifier_of r) parts ≡ [] → Stands given (parts ++ record { identifier = identifier_of r; value = value } ∷ [])) (sym e) h
+at-parameter p q given parts value e h =
+    subst (λ r. named (identifier_of r) parts ≡ [] → Stands given (parts ++ record { identifier = identifier_of r; value = value } ∷ []))
+    (sym e) h
 
-pub stands-functions : (given : Given) (parts : List Part) (value : List ℕ) (srej check32 : Bool) → Stands given parts → srej ≡ has_bit 3 value → check32 ≡ has_bit 17 value
-    → named 3 parts ≡ [] → Stands (record given { srej = Some srej; check32 = Some check32 }) (parts ++ record { identifier = 3; value = value } ∷ [])
+pub stands-functions : (given : Given) (parts : List Part) (value : List ℕ) (srej check32 : Bool) → Stands given parts
+    → srej ≡ has_bit 3 value → check32 ≡ has_bit 17 value
+    → named 3 parts ≡ [] → Stands (record given { srej = Some srej; check32 = Some check32 })
+    (parts ++ record { identifier = 3; value = value } ∷ [])
 stands-functions given parts value srej check32 s e f none = let part : Part = record { identifier = 3; value = value } in record {
   srej = said-first (has_bit 3) 3 parts part srej none refl e;
   check32 = said-first (has_bit 17) 3 parts part check32 none refl f;
@@ -118,11 +129,13 @@ stands-rx_window given parts value window s e none = let part : Part = record { 
 }
 
 -- a parameter that is not repeated has none of its identifier before it
-pub not-repeated : (parts : List Part) (identifier : ℕ) (p : Parameter) → identifier ≡ identifier_of p → (IsRepeated parts identifier → ⊥) → named (identifier_of p) parts ≡ []
+pub not-repeated : (parts : List Part) (identifier : ℕ) (p : Parameter) → identifier ≡ identifier_of p → (IsRepeated parts identifier → ⊥)
+    → named (identifier_of p) parts ≡ []
 not-repeated parts identifier p e new = subst (λ k. named k parts ≡ []) e (go (named identifier parts) refl) where
   go : (found : List Part) → named identifier parts ≡ found → named identifier parts ≡ []
   go [] f = f
-  go (x ∷ found) f = absurd (new (record { parameter = p; identifier_is = e; again = λ none. let bad : x ∷ found ≡ [] = sym f ∙ none in cc }))
+  go (x ∷ found) f = absurd
+      (new (record { parameter = p; identifier_is = e; again = λ none. let bad : x ∷ found ≡ [] = sym f ∙ none in cc }))
 
 -- parameters that stand well, and one more
 
@@ -141,22 +154,27 @@ and-both false b h k = absurd (false≢true h)
 pub well-none : AreWell []
 well-none = record { each = λ p. refl }
 
-well-kept : (q : Parameter) (parts : List Part) (part : Part) → nat_eq part.identifier (identifier_of q) ≡ false → AreWell parts → IsTrue (stands_well q (named (identifier_of q) (parts ++ part ∷ [])))
+well-kept : (q : Parameter) (parts : List Part) (part : Part) → nat_eq part.identifier (identifier_of q) ≡ false → AreWell parts
+    → IsTrue (stands_well q (named (identifier_of q) (parts ++ part ∷ [])))
 well-kept q parts part other w = subst (λ ps. IsTrue (stands_well q ps)) (sym (named-other (identifier_of q) parts part other)) (w.each q)
 
-pub well-other : (parts : List Part) (part : Part) → ((p : Parameter) → part.identifier ≢ identifier_of p) → AreWell parts → AreWell (parts ++ part ∷ [])
+pub well-other : (parts : List Part) (part : Part) → ((p : Parameter) → part.identifier ≢ identifier_of p) → AreWell parts
+    → AreWell (parts ++ part ∷ [])
 well-other parts part none w = record { each = λ q. well-kept q parts part (let h = none q in grind (arith, nat_tests)) w }
 
 pub well-more : (parts : List Part) (part : Part) (p : Parameter) → part.identifier ≡ identifier_of p → named (identifier_of p) parts ≡ []
     → IsTrue (accepts p (length part.value)) → IsTrue (not (is_low p part.value)) → AreWell parts → AreWell (parts ++ part ∷ [])
 well-more parts part p e none accepted high w = record { each = λ q. go q (nat_eq part.identifier (identifier_of q)) refl } where
-  go : (q : Parameter) (b : Bool) → nat_eq part.identifier (identifier_of q) ≡ b → IsTrue (stands_well q (named (identifier_of q) (parts ++ part ∷ [])))
+  go : (q : Parameter) (b : Bool) → nat_eq part.identifier (identifier_of q) ≡ b
+      → IsTrue (stands_well q (named (identifier_of q) (parts ++ part ∷ [])))
   go q false f = well-kept q parts part f w
   go q true f =
       let same : part.identifier ≡ identifier_of q = grind (arith, nat_tests) in
       let is : p ≡ q = same-parameter p q (sym e ∙ same) in
-      subst (λ ps. IsTrue (stands_well q ps)) (sym (named-first (identifier_of q) parts part (subst (λ r. named (identifier_of r) parts ≡ []) is none) f))
-      (subst (λ r. IsTrue (accepts r (length part.value) && not (is_low r part.value))) is (and-both (accepts p (length part.value)) (not (is_low p part.value)) accepted high))
+      subst (λ ps. IsTrue (stands_well q ps))
+      (sym (named-first (identifier_of q) parts part (subst (λ r. named (identifier_of r) parts ≡ []) is none) f))
+      (subst (λ r. IsTrue (accepts r (length part.value) && not (is_low r part.value))) is
+      (and-both (accepts p (length part.value)) (not (is_low p part.value)) accepted high))
 
 pub record StandsAlone (q : Parameter) (before : List Part) (part : Part) : Type 0 where
   pub first : before ≡ []
@@ -164,14 +182,24 @@ pub record StandsAlone (q : Parameter) (before : List Part) (part : Part) : Type
   pub high : IsTrue (not (is_low q part.value))
 
 well-alone : (q : Parameter) (xs ys : List Part) (part : Part) → IsTrue (stands_well q (xs ++ part ∷ ys)) → StandsAlone q xs part
-well-alone q [] [] part h = record { first = refl; accepted = and-left (accepts q (length part.value)) (not (is_low q part.value)) h; high = and-right (accepts q (length part.value)) (not (is_low q part.value)) h }
+well-alone q [] [] part h =
+    record {
+      first = refl;
+      accepted = and-left (accepts q (length part.value)) (not (is_low q part.value)) h;
+      high =
+          and-right (accepts q (length part.value)) (not (is_low q part.value)) h;
+    }
 well-alone q [] (y ∷ ys) part h = absurd (false≢true h)
 well-alone q (x ∷ []) ys part h = absurd (false≢true h)
 well-alone q (x ∷ z ∷ xs) ys part h = absurd (false≢true h)
 
 -- a parameter among others that stand well
-pub stands-alone : (parts before more : List Part) (part : Part) (q : Parameter) → AreWell parts → parts ≡ before ++ part ∷ more → part.identifier ≡ identifier_of q → StandsAlone q (named (identifier_of q) before) part
+pub stands-alone : (parts before more : List Part) (part : Part) (q : Parameter) → AreWell parts → parts ≡ before ++ part ∷ more
+    → part.identifier ≡ identifier_of q → StandsAlone q (named (identifier_of q) before) part
 stands-alone parts before more part q w e is =
     let same : nat_eq part.identifier (identifier_of q) ≡ true = grind (arith, nat_tests) in
     well-alone q (named (identifier_of q) before) (named (identifier_of q) more) part
-    (subst (λ ps. IsTrue (stands_well q ps)) (ap (named (identifier_of q)) e ∙ named-append (identifier_of q) before (part ∷ more) ∙ ap (λ b. named (identifier_of q) before ++ cond b (part ∷ named (identifier_of q) more) (named (identifier_of q) more)) same) (w.each q))
+    (subst (λ ps. IsTrue (stands_well q ps))
+    (ap (named (identifier_of q)) e ∙ named-append (identifier_of q) before (part ∷ more)
+    ∙ ap (λ b. named (identifier_of q) before ++ cond b (part ∷ named (identifier_of q) more) (named (identifier_of q) more)) same)
+    (w.each q))

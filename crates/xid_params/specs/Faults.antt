@@ -73,7 +73,8 @@ pub record HasLowValue (identifier : ℕ) (tail : List ℕ) : Type 0 where
 -- what is wrong with this value of a parameter at this place
 abbrev pub IsValueWrong : Parameter → List ℕ → ℕ → XidFault → Type 0
 IsValueWrong parameter value at (Length place) = (place ≡ at + 1) × IsTrue (not (accepts parameter (length value)))
-IsValueWrong parameter value at (Value place) = (place ≡ at + 2) × IsTrue (accepts parameter (length value)) × IsTrue (is_low parameter value)
+IsValueWrong parameter value at (Value place) =
+    (place ≡ at + 2) × IsTrue (accepts parameter (length value)) × IsTrue (is_low parameter value)
 IsValueWrong parameter value at _ = ⊥
 
 -- the same by the identifier of a parameter that is read
@@ -124,7 +125,8 @@ Has octets at fault = FormatHas octets at fault ⊎ (GroupHas octets at fault �
 pub record IsFirst (Faults : ℕ → XidFault → Type 0) (fault : XidFault) : Type 0 where
   pub at : ℕ
   pub here : Faults at fault
-  pub first : (q : ℕ) (other : XidFault) → Faults q other → (place_of fault < place_of other) ⊎ ((place_of fault ≡ place_of other) × (at ≤ q))
+  pub first : (q : ℕ) (other : XidFault) → Faults q other
+      → (place_of fault < place_of other) ⊎ ((place_of fault ≡ place_of other) × (at ≤ q))
 
 -- the first fault of a field in order of place
 abbrev pub FirstFault : List ℕ → XidFault → Type 0

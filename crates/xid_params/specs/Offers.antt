@@ -45,7 +45,8 @@ groups_in (suc room) [] = Some []
 groups_in (suc room) (g ∷ []) = if nat_eq g 255 then Some [] else None
 groups_in (suc room) (g ∷ high ∷ []) = if nat_eq g 255 then Some [] else None
 groups_in (suc room) (g ∷ high ∷ low ∷ rest) =
-    if nat_eq g 255 then Some [] else if nat_le (256 * high + low) (length rest) then before g (take (256 * high + low) rest) (groups_in room (drop (256 * high + low) rest)) else None
+    if nat_eq g 255 then Some [] else if nat_le (256 * high + low) (length rest) then before g (take (256 * high + low) rest)
+    (groups_in room (drop (256 * high + low) rest)) else None
 
 -- the parameters of a group
 abbrev pub parameters_in : ℕ → List ℕ → Option (List Part)

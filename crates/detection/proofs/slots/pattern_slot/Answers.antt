@@ -15,8 +15,11 @@ pub returns-clause-bits : goal.returns-clause-bits
 returns-clause-bits c =
     let ten : c.loop.counter ≡ 10 = omega (arith, c.loop-test.false, c.loop.auto.counter-end) in
     let left : 4 * (c.args.symbols - length c.loop.out) ≡ 4 * c.args.symbols - 360 = omega (arith, c.loop.invariant.count, ten) in
-    c.fill_with_ones.ensures ∙ ap (λ l. l ++ ones (4 * (c.args.symbols - length c.loop.out))) (c.loop.invariant.bits ∙ ap (λ n. patterns n c.args.seen) ten)
+    c.fill_with_ones.ensures
+    ∙ ap (λ l. l ++ ones (4 * (c.args.symbols - length c.loop.out))) (c.loop.invariant.bits ∙ ap (λ n. patterns n c.args.seen) ten)
     ∙ ap (λ n. patterns 10 c.args.seen ++ ones n) left
 
 pub returns-clause-plain : goal.returns-clause-plain
-returns-clause-plain c = subst (IsPlain (4 * c.args.symbols)) (sym (returns-clause-bits c)) (pattern-plain (4 * c.args.symbols) c.args.seen (omega (arith, c.requires.low)))
+returns-clause-plain c =
+    subst (IsPlain (4 * c.args.symbols)) (sym (returns-clause-bits c))
+    (pattern-plain (4 * c.args.symbols) c.args.seen (omega (arith, c.requires.low)))

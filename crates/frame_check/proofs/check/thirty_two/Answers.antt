@@ -7,4 +7,6 @@ use Rattle.frame_check.proofs.check.thirty_two.Goals as goal
 
 pub returns : goal.returns
 unfolding remainder_of
-returns c = rw c.to_le_bytes.ensures (thirty_two_is c.after_octets-register.result c.args.octets.now (c.after_octets-register.ensures 32 (generator_of ThirtyTwo) (all_ones 32) divides32 starts32))
+returns c = rw c.to_le_bytes.ensures
+    (thirty_two_is c.after_octets-register.result c.args.octets.now
+    (c.after_octets-register.ensures 32 (generator_of ThirtyTwo) (all_ones 32) divides32 starts32))

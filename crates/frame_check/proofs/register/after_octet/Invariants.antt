@@ -5,4 +5,6 @@ use Rattle.frame_check.specs.Register.{Divides, Holds}
 use Rattle.frame_check.proofs.register.after_octet.Given as goal
 
 abbrev pub invariant-loop-place : goal.invariant-loop-place
-invariant-loop-place l = (width : ℕ) (generator remainder : List Bool) → Divides width l.reversed generator → Holds width l.fn.register remainder → Holds width l.after (remainder_from width generator remainder (take l.place (octet_bits l.octet)))
+invariant-loop-place l = (width : ℕ) (generator remainder : List Bool) → Divides width l.reversed generator
+    → Holds width l.fn.register remainder
+    → Holds width l.after (remainder_from width generator remainder (take l.place (octet_bits l.octet)))

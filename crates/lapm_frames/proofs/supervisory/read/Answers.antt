@@ -9,22 +9,27 @@ use Rattle.lapm_frames.proofs.supervisory.read.Goals as goal
 pub returns-in_err-nr-in-1-clause-err : goal.returns-in_err-nr-in-1-clause-err
 returns-in_err-nr-in-1-clause-err c =
     let p = err_from_is_err_and c.from_residual.result c.from_residual.ensures.1 in
-    rw (p.1, p.2) (supervisory-numbers c.args.command c.args.control c.args.tail.now (Rr c.args.command 0 false) c.in_err-nr-in-1.field-0.0 (record { is_frame = (tt, lit< tt, tt); command_is = refl; control_is = sym c.in-1.is }) c.requires c.in_err-nr-in-1.ensures.err)
+    rw (p.1, p.2) (supervisory-numbers c.args.command c.args.control c.args.tail.now (Rr c.args.command 0 false) c.in_err-nr-in-1.field-0.0
+    (record { is_frame = (tt, lit< tt, tt); command_is = refl; control_is = sym c.in-1.is }) c.requires c.in_err-nr-in-1.ensures.err)
 
 pub returns-in_err-nr-in-5-clause-err : goal.returns-in_err-nr-in-5-clause-err
 returns-in_err-nr-in-5-clause-err c =
     let p = err_from_is_err_and c.from_residual-in_err-nr-in-5.result c.from_residual-in_err-nr-in-5.ensures.1 in
-    rw (p.1, p.2) (supervisory-numbers c.args.command c.args.control c.args.tail.now (Rnr c.args.command 0 false) c.in_err-nr-in-5.field-0.0 (record { is_frame = (tt, lit< tt, tt); command_is = refl; control_is = sym c.in-5.is }) c.requires c.in_err-nr-in-5.ensures.err)
+    rw (p.1, p.2) (supervisory-numbers c.args.command c.args.control c.args.tail.now (Rnr c.args.command 0 false) c.in_err-nr-in-5.field-0.0
+    (record { is_frame = (tt, lit< tt, tt); command_is = refl; control_is = sym c.in-5.is }) c.requires c.in_err-nr-in-5.ensures.err)
 
 pub returns-in_err-nr-in-9-clause-err : goal.returns-in_err-nr-in-9-clause-err
 returns-in_err-nr-in-9-clause-err c =
     let p = err_from_is_err_and c.from_residual-in_err-nr-in-9.result c.from_residual-in_err-nr-in-9.ensures.1 in
-    rw (p.1, p.2) (supervisory-numbers c.args.command c.args.control c.args.tail.now (Rej c.args.command 0 false) c.in_err-nr-in-9.field-0.0 (record { is_frame = (tt, lit< tt, tt); command_is = refl; control_is = sym c.in-9.is }) c.requires c.in_err-nr-in-9.ensures.err)
+    rw (p.1, p.2) (supervisory-numbers c.args.command c.args.control c.args.tail.now (Rej c.args.command 0 false) c.in_err-nr-in-9.field-0.0
+    (record { is_frame = (tt, lit< tt, tt); command_is = refl; control_is = sym c.in-9.is }) c.requires c.in_err-nr-in-9.ensures.err)
 
 pub returns-in_err-nr-in-13-clause-err : goal.returns-in_err-nr-in-13-clause-err
 returns-in_err-nr-in-13-clause-err c =
     let p = err_from_is_err_and c.from_residual-in_err-nr-in-13.result c.from_residual-in_err-nr-in-13.ensures.1 in
-    rw (p.1, p.2) (supervisory-numbers c.args.command c.args.control c.args.tail.now (Srej c.args.command 0 false) c.in_err-nr-in-13.field-0.0 (record { is_frame = (tt, lit< tt, tt); command_is = refl; control_is = sym c.in-13.is }) c.requires c.in_err-nr-in-13.ensures.err)
+    rw (p.1, p.2) (supervisory-numbers c.args.command c.args.control c.args.tail.now
+    (Srej c.args.command 0 false) c.in_err-nr-in-13.field-0.0
+    (record { is_frame = (tt, lit< tt, tt); command_is = refl; control_is = sym c.in-13.is }) c.requires c.in_err-nr-in-13.ensures.err)
 
 pub returns-in_default-clause-err : goal.returns-in_default-clause-err
 returns-in_default-clause-err c =

@@ -3,4 +3,10 @@ use Rattle.link_account.proofs.BreakPlaying.{gives_breaks_always}
 use Rattle.link_account.proofs.laws.plays.Goals as goal
 
 pub returns : goal.returns
-returns c = record { in_order = takes_in_order_always; by_number = takes_by_number_always; faults = breaks_for_want_always; breaks = gives_breaks_always }
+returns c = record {
+  in_order = takes_in_order_always;
+  by_number = takes_by_number_always;
+  faults = breaks_for_want_always;
+  breaks =
+      gives_breaks_always;
+}

@@ -3,5 +3,6 @@ use Rattle.link_run.proofs.laws.numbers_have_the_agreed_check.Goals as goal
 
 pub returns : goal.returns
 returns c =
-    let laws : KnowingLaws = record { reads = c.reads_allowed.ensures; keeps = c.keeps_taken.ensures; written = c.reads_written.ensures.read } in
+    let laws : KnowingLaws =
+    record { reads = c.reads_allowed.ensures; keeps = c.keeps_taken.ensures; written = c.reads_written.ensures.read } in
     record { sends = sends_agreed_check laws; hears = hears_agreed_check laws; judges = judges_by_its_check laws }

@@ -5,8 +5,11 @@ use Rattle.noise_script.proofs.offset.offset_of_noises.Goals as goal
 
 pub loop-noise-preserved : goal.loop-noise-preserved
 loop-noise-preserved c = record {
-  value = added (noise_offset c.args.sender c.args.symbol) c.args.noises.now c.loop-noise.noise-index no_noise c.loop-noise.sum c.noise_offset.result c.plus-sum.result c.loop-noise-test.true c.loop-noise.invariant.value c.noise_offset.ensures.value c.plus-sum.ensures;
-  small = subst (IsWithin (32767 * (c.loop-noise.noise-index + 1))) (sym c.plus-sum.ensures) (within-more 32767 c.loop-noise.noise-index _ _ c.loop-noise.invariant.small c.noise_offset.ensures.small);
+  value = added (noise_offset c.args.sender c.args.symbol) c.args.noises.now c.loop-noise.noise-index no_noise c.loop-noise.sum
+      c.noise_offset.result c.plus-sum.result c.loop-noise-test.true c.loop-noise.invariant.value c.noise_offset.ensures.value
+      c.plus-sum.ensures;
+  small = subst (IsWithin (32767 * (c.loop-noise.noise-index + 1))) (sym c.plus-sum.ensures)
+      (within-more 32767 c.loop-noise.noise-index _ _ c.loop-noise.invariant.small c.noise_offset.ensures.small);
 }
 
 pub noise_offset-requires : goal.noise_offset-requires

@@ -10,6 +10,8 @@ loop-rest-preserved c =
     let h = c.loop-rest.invariant.holds in
     let text = c.args.text.now in
     record {
-      holds = holds-more text c.loop-rest.rest.now c.next_line.result.0.now c.next_line.result.1.now c.loop-rest.number (c.loop-rest.number + 1) c.loop-rest.draft c.add_line.new.draft h c.next_line.ensures.lines refl (c.in_ok-add_line.ensures.ok h.said h.holds h.allowed);
+      holds = holds-more text c.loop-rest.rest.now c.next_line.result.0.now c.next_line.result.1.now c.loop-rest.number
+          (c.loop-rest.number + 1) c.loop-rest.draft c.add_line.new.draft h c.next_line.ensures.lines refl
+          (c.in_ok-add_line.ensures.ok h.said h.holds h.allowed);
       room = omega (arith, c.loop-rest.invariant.room, c.next_line.ensures.shorter);
     }

@@ -9,12 +9,15 @@ use Rattle.noise_script.proofs.Ranges.{draft-in-limits, read-spelling}
 use Rattle.noise_script.proofs.Unique.{spelling-fault, spelling-once, fault-once}
 use Rattle.noise_script.proofs.reader.read_script.Goals as goal
 
-only-memory : (text : List ℕ) (script : ScriptValue) (fault : ScriptFault) → ScriptSpelling text script → IsFaultOf text fault → fault ≡ faults.NoMemory
+only-memory : (text : List ℕ) (script : ScriptValue) (fault : ScriptFault) → ScriptSpelling text script → IsFaultOf text fault
+    → fault ≡ faults.NoMemory
 only-memory text script (faults.Line line cause) s f = absurd (spelling-fault text script line cause s f)
 only-memory text script faults.NoMemory s f = refl
 
-same-fault : (text : List ℕ) (line : ℕ) (cause : Cause) (fault : ScriptFault) → FirstFault text line cause → IsFaultOf text fault → (fault ≡ faults.Line line cause) ⊎ (fault ≡ faults.NoMemory)
-same-fault text line cause (faults.Line at other) s f = let same = fault-once text at line other cause f s in inl (rw (same.number_is, same.cause_is) refl)
+same-fault : (text : List ℕ) (line : ℕ) (cause : Cause) (fault : ScriptFault) → FirstFault text line cause → IsFaultOf text fault
+    → (fault ≡ faults.Line line cause) ⊎ (fault ≡ faults.NoMemory)
+same-fault text line cause (faults.Line at other) s f = let same = fault-once text at line other cause f s in
+    inl (rw (same.number_is, same.cause_is) refl)
 same-fault text line cause faults.NoMemory s f = inr refl
 
 pub returns-in_err-draft-clause-all : goal.returns-in_err-draft-clause-all
@@ -31,10 +34,17 @@ pub finish-requires : goal.finish-requires
 finish-requires c = draft-in-limits c.args.text.now c.in_ok-draft.ensures.ok.0 c.in_ok-draft.draft c.in_ok-draft.ensures.ok.1
 
 pub returns-clause-ok : goal.returns-clause-ok
-returns-clause-ok c = read-spelling c.args.text.now c.in_ok-draft.ensures.ok.0 c.in_ok-draft.draft c.finish.result c.in_ok-draft.ensures.ok.1 c.finish.ensures
+returns-clause-ok c =
+    read-spelling c.args.text.now c.in_ok-draft.ensures.ok.0 c.in_ok-draft.draft c.finish.result c.in_ok-draft.ensures.ok.1 c.finish.ensures
 
 pub returns-clause-all : goal.returns-clause-all
-returns-clause-all c script s = spelling-once c.args.text.now c.finish.result script (read-spelling c.args.text.now c.in_ok-draft.ensures.ok.0 c.in_ok-draft.draft c.finish.result c.in_ok-draft.ensures.ok.1 c.finish.ensures) s
+returns-clause-all c script s =
+    spelling-once c.args.text.now c.finish.result script
+    (read-spelling c.args.text.now c.in_ok-draft.ensures.ok.0 c.in_ok-draft.draft c.finish.result c.in_ok-draft.ensures.ok.1
+    c.finish.ensures) s
 
 pub returns-clause-first : goal.returns-clause-first
-returns-clause-first c line cause s = spelling-fault c.args.text.now c.finish.result line cause (read-spelling c.args.text.now c.in_ok-draft.ensures.ok.0 c.in_ok-draft.draft c.finish.result c.in_ok-draft.ensures.ok.1 c.finish.ensures) s
+returns-clause-first c line cause s =
+    spelling-fault c.args.text.now c.finish.result line cause
+    (read-spelling c.args.text.now c.in_ok-draft.ensures.ok.0 c.in_ok-draft.draft c.finish.result c.in_ok-draft.ensures.ok.1
+    c.finish.ensures) s

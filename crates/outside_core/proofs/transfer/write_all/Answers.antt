@@ -6,7 +6,8 @@ use Rattle.outside_core.proofs.transfer.write_all.Goals as goal
 
 pub returns-in_err-count-clause-err : goal.returns-in_err-count-clause-err
 returns-in_err-count-clause-err g c =
-    MatchResult-from_err _ _ _ c.from_residual.ensures.0 (λ _. WroteUpTo-part _ _ _ _ _ c.loop-written.invariant c.in_err-count.ensures.bytes)
+    MatchResult-from_err _ _ _ c.from_residual.ensures.0
+    (λ _. WroteUpTo-part _ _ _ _ _ c.loop-written.invariant c.in_err-count.ensures.bytes)
 
 pub returns-then-count-eq0-clause-err : goal.returns-then-count-eq0-clause-err
 returns-then-count-eq0-clause-err g c =

@@ -11,4 +11,10 @@ returns c =
       acked = c.acknowledgements.ensures.taken;
       agrees = c.frames_tell_how_far_ends_are.ensures.agrees;
     } in
-    gives-up-starved (record { plays = laws; together = c.ends_stand_together.ensures; reads = c.reads_written.ensures.read; quiet = c.ends_give_up_for_losses.ensures.waiting_for_none })
+    gives-up-starved (record {
+      plays = laws;
+      together = c.ends_stand_together.ensures;
+      reads = c.reads_written.ensures.read;
+      quiet =
+          c.ends_give_up_for_losses.ensures.waiting_for_none;
+    })

@@ -11,4 +11,8 @@ returns c =
       acked = c.acknowledgements.ensures.taken;
       agrees = c.frames_tell_how_far_ends_are.ensures.agrees;
     } in
-    record { each_period = originator-wants laws c.ends_stand_together.ensures; starved = originator-starved laws c.ends_stand_together.ensures }
+    record {
+      each_period = originator-wants laws c.ends_stand_together.ensures;
+      starved =
+          originator-starved laws c.ends_stand_together.ensures;
+    }

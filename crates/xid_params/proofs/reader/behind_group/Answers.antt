@@ -6,7 +6,8 @@ use Rattle.xid_params.proofs.reader.behind_group.Goals as goal
 pub returns-in_ok-offer-clause-ok : goal.returns-in_ok-offer-clause-ok
 returns-in_ok-offer-clause-ok c groups o new =
     let same : nat_eq c.args.identifier 128 ≡ true = let h = c.if-identifier-eq-PARAMETERS.true in grind (arith, nat_tests) in
-    offers-first groups (record { identifier = c.args.identifier; value = c.args.content.now }) c.in_ok-offer.offer (new c.if-identifier-eq-PARAMETERS.true) same c.in_ok-offer.ensures.ok
+    offers-first groups (record { identifier = c.args.identifier; value = c.args.content.now }) c.in_ok-offer.offer
+    (new c.if-identifier-eq-PARAMETERS.true) same c.in_ok-offer.ensures.ok
 
 pub returns-else-identifier-eq-PARAMETERS-clause-ok : goal.returns-else-identifier-eq-PARAMETERS-clause-ok
 returns-else-identifier-eq-PARAMETERS-clause-ok c groups o new =

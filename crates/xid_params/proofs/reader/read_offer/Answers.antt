@@ -22,7 +22,8 @@ pub returns-in-Some-clause-fault : goal.returns-in-Some-clause-fault
 returns-in-Some-clause-fault c = all-faults c.args.info.now c.read_groups.result (offer_is_right c) (fault_is_right c)
 
 pub returns-in-Some-clause-offer : goal.returns-in-Some-clause-offer
-returns-in-Some-clause-offer c = same-found c.args.info.now c.read_groups.result (λ i. omega (arith, c.type_inv.info i)) (offer_is_right c) (fault_is_right c)
+returns-in-Some-clause-offer c =
+    same-found c.args.info.now c.read_groups.result (λ i. omega (arith, c.type_inv.info i)) (offer_is_right c) (fault_is_right c)
 
 pub returns-in-Some-clause-allowed : goal.returns-in-Some-clause-allowed
 returns-in-Some-clause-allowed c = all-allowed c.args.info.now c.read_groups.result (offer_is_right c)

@@ -6,7 +6,8 @@ use Rattle.bit_stuffing.proofs.deframer.Deframer.gather.Goals as goal
 pub returns-in-Some-clause-gathers : goal.returns-in-Some-clause-gathers
 returns-in-Some-clause-gathers c = λ past bit h.
     let s = subst (λ v. DeframerStands v past) (sym c.self.view_is) h in
-    gathers-within past bit c.in-Some.bit _ _ (c.in-Some.ensures.far past s.finds) s.gathers (c.in-Some.ensures.bit past s.finds) c.push.ensures
+    gathers-within past bit c.in-Some.bit _ _ (c.in-Some.ensures.far past s.finds) s.gathers
+    (c.in-Some.ensures.bit past s.finds) c.push.ensures
 
 pub returns-in-None-clause-gathers : goal.returns-in-None-clause-gathers
 returns-in-None-clause-gathers c = λ past bit h.

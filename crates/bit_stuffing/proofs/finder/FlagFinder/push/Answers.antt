@@ -12,7 +12,8 @@ returns-then-ends_flag-clause-answer c = λ past h.
     let flag = at_end past c.args.bit ((c.ends_flag.ensures _ holds).0 c.if-ends_flag.true) in
     elim c.if-far.branch [
       | then-far w ↦ rw w.result-is (flag-closes past c.args.bit flag (c.is_far-far.ensures.far w.if-far.true past h))
-      | else-far w ↦ rw w.result-is (flag-near past c.args.bit flag (c.is_far-far.ensures.near (λ e. false≢true (sym w.if-far.false ∙ e)) past h))
+      | else-far w ↦ rw w.result-is
+          (flag-near past c.args.bit flag (c.is_far-far.ensures.near (λ e. false≢true (sym w.if-far.false ∙ e)) past h))
     ]
 
 pub returns-then-ends_flag-clause-stands : goal.returns-then-ends_flag-clause-stands
@@ -27,7 +28,8 @@ returns-in-Some-clause-answer c = λ past h.
     let s = subst (λ v. Finds v past) (sym c.self.view_is) h in
     let holds = c.shifted-self-inside.ensures past s.holds in
     let k = rw c.in-Some.is at s.counts in
-    let seven = seven_at_end past c.args.bit ((c.ends_seven_ones.ensures _ holds (room-open past c.args.bit _ k)).0 c.if-ends_seven_ones.true) in
+    let seven = seven_at_end past c.args.bit
+    ((c.ends_seven_ones.ensures _ holds (room-open past c.args.bit _ k)).0 c.if-ends_seven_ones.true) in
     seven-aborts past c.args.bit seven _ k
 
 pub returns-in-Some-clause-stands : goal.returns-in-Some-clause-stands
@@ -35,7 +37,8 @@ returns-in-Some-clause-stands c = λ past h.
     let s = subst (λ v. Finds v past) (sym c.self.view_is) h in
     let holds = c.shifted-self-inside.ensures past s.holds in
     let k = rw c.in-Some.is at s.counts in
-    let seven = seven_at_end past c.args.bit ((c.ends_seven_ones.ensures _ holds (room-open past c.args.bit _ k)).0 c.if-ends_seven_ones.true) in
+    let seven = seven_at_end past c.args.bit
+    ((c.ends_seven_ones.ensures _ holds (room-open past c.args.bit _ k)).0 c.if-ends_seven_ones.true) in
     record { holds = holds; counts = seven-shuts past c.args.bit seven }
 
 pub returns-in-Some-2-clause-answer : goal.returns-in-Some-2-clause-answer
@@ -45,7 +48,8 @@ returns-in-Some-2-clause-answer c = λ past h.
     let k = rw c.in-Some-2.is at s.counts in
     quiet past c.args.bit
     (λ f. false≢true (sym c.if-ends_flag.false ∙ (c.ends_flag.ensures _ holds).1 (from_end past c.args.bit f)))
-    (λ o. false≢true (sym c.if-ends_seven_ones.false ∙ (c.ends_seven_ones.ensures _ holds (room-open past c.args.bit _ k)).1 (seven_from_end past c.args.bit o)))
+    (λ o. false≢true (sym c.if-ends_seven_ones.false
+    ∙ (c.ends_seven_ones.ensures _ holds (room-open past c.args.bit _ k)).1 (seven_from_end past c.args.bit o)))
 
 pub returns-in-Some-2-clause-stands : goal.returns-in-Some-2-clause-stands
 returns-in-Some-2-clause-stands c = λ past h.
@@ -56,7 +60,8 @@ returns-in-Some-2-clause-stands c = λ past h.
       holds = holds;
       counts = rw c.min.ensures (counts-more past c.args.bit
           (λ f. false≢true (sym c.if-ends_flag.false ∙ (c.ends_flag.ensures _ holds).1 (from_end past c.args.bit f)))
-          (λ o. false≢true (sym c.if-ends_seven_ones.false ∙ (c.ends_seven_ones.ensures _ holds (room-open past c.args.bit _ k)).1 (seven_from_end past c.args.bit o))) _ k);
+          (λ o. false≢true (sym c.if-ends_seven_ones.false
+          ∙ (c.ends_seven_ones.ensures _ holds (room-open past c.args.bit _ k)).1 (seven_from_end past c.args.bit o))) _ k);
     }
 
 pub returns-in-None-clause-answer : goal.returns-in-None-clause-answer
@@ -70,5 +75,8 @@ returns-in-None-clause-stands c = λ past h.
     let holds = c.shifted-self-inside.ensures past s.holds in
     record {
       holds = holds;
-      counts = rw c.in-None.is (shut-stays past c.args.bit (λ f. false≢true (sym c.if-ends_flag.false ∙ (c.ends_flag.ensures _ holds).1 (from_end past c.args.bit f))) (rw c.in-None.is at s.counts));
+      counts = rw c.in-None.is
+          (shut-stays past c.args.bit
+          (λ f. false≢true (sym c.if-ends_flag.false ∙ (c.ends_flag.ensures _ holds).1 (from_end past c.args.bit f)))
+          (rw c.in-None.is at s.counts));
     }

@@ -10,13 +10,15 @@ pub content_octet-left-requires-clause-some : goal.content_octet-left-requires-c
 content_octet-left-requires-clause-some c =
     let start = written c.args.self.now c.args.out.now in
     let now = written c.loop-octet.self c.loop-octet.out in
-    (left-in start now (bits_of (take c.loop-octet.octet-index c.args.octets.now)) 5 c.loop-octet.left (omega arith) c.loop-octet.invariant.left c.loop-octet.invariant.bits (omega arith)).0
+    (left-in start now (bits_of (take c.loop-octet.octet-index c.args.octets.now)) 5 c.loop-octet.left
+    (omega arith) c.loop-octet.invariant.left c.loop-octet.invariant.bits (omega arith)).0
 
 pub content_octet-left-requires-clause-few : goal.content_octet-left-requires-clause-few
 content_octet-left-requires-clause-few c =
     let start = written c.args.self.now c.args.out.now in
     let now = written c.loop-octet.self c.loop-octet.out in
-    (left-in start now (bits_of (take c.loop-octet.octet-index c.args.octets.now)) 5 c.loop-octet.left (omega arith) c.loop-octet.invariant.left c.loop-octet.invariant.bits (omega arith)).1
+    (left-in start now (bits_of (take c.loop-octet.octet-index c.args.octets.now)) 5 c.loop-octet.left
+    (omega arith) c.loop-octet.invariant.left c.loop-octet.invariant.bits (omega arith)).1
 
 pub content_octet-left-requires-clause-fits : goal.content_octet-left-requires-clause-fits
 content_octet-left-requires-clause-fits c =
@@ -25,7 +27,8 @@ content_octet-left-requires-clause-fits c =
     let i = c.loop-octet.octet-index in
     let octets = c.args.octets.now in
     let split = octets-split octets i (omega arith) in
-    next-fits start now (bits_of (take i octets)) 5 c.loop-octet.left (omega arith) c.loop-octet.invariant.left c.loop-octet.invariant.bits (octet_bits (get_or octets i 0)) (bits_of (drop (i + 1) octets)) (4 * SLOT)
+    next-fits start now (bits_of (take i octets)) 5 c.loop-octet.left (omega arith) c.loop-octet.invariant.left c.loop-octet.invariant.bits
+    (octet_bits (get_or octets i 0)) (bits_of (drop (i + 1) octets)) (4 * SLOT)
     (subst (λ t. length start + length (stuffed 5 t) ≤ 4 * SLOT) (sym split) c.requires)
 
 pub loop-octet-preserved : goal.loop-octet-preserved
@@ -37,6 +40,11 @@ loop-octet-preserved c =
     let octets = c.args.octets.now in
     let part = octets-part octets i (omega arith) in
     record {
-      bits = next-written start now (bits_of (take i octets)) 5 c.loop-octet.left (omega arith) c.loop-octet.invariant.left c.loop-octet.invariant.bits next (octet_bits (get_or octets i 0)) c.content_octet-left.ensures.written ∙ ap (λ t. start ++ stuffed 5 t) (sym part);
-      left = c.content_octet-left.ensures.room ∙ next-left start now (bits_of (take i octets)) 5 c.loop-octet.left (omega arith) c.loop-octet.invariant.left c.loop-octet.invariant.bits (octet_bits (get_or octets i 0)) ∙ ap (room_behind 5) (sym part);
+      bits = next-written start now (bits_of (take i octets)) 5 c.loop-octet.left
+          (omega arith) c.loop-octet.invariant.left c.loop-octet.invariant.bits next
+          (octet_bits (get_or octets i 0)) c.content_octet-left.ensures.written ∙ ap (λ t. start ++ stuffed 5 t) (sym part);
+      left = c.content_octet-left.ensures.room
+          ∙ next-left start now (bits_of (take i octets)) 5 c.loop-octet.left
+          (omega arith) c.loop-octet.invariant.left c.loop-octet.invariant.bits (octet_bits (get_or octets i 0))
+          ∙ ap (room_behind 5) (sym part);
     }

@@ -10,13 +10,15 @@ pub content_bit-left-requires-clause-some : goal.content_bit-left-requires-claus
 content_bit-left-requires-clause-some c =
     let start = written c.args.self.now c.args.out.now in
     let now = written c.loop-place.self c.loop-place.out in
-    (left-in start now (take c.loop-place.place (octet_bits c.args.octet)) c.args.room c.loop-place.left c.requires.some c.loop-place.invariant.left c.loop-place.invariant.bits c.requires.few).0
+    (left-in start now (take c.loop-place.place (octet_bits c.args.octet)) c.args.room c.loop-place.left c.requires.some
+    c.loop-place.invariant.left c.loop-place.invariant.bits c.requires.few).0
 
 pub content_bit-left-requires-clause-few : goal.content_bit-left-requires-clause-few
 content_bit-left-requires-clause-few c =
     let start = written c.args.self.now c.args.out.now in
     let now = written c.loop-place.self c.loop-place.out in
-    (left-in start now (take c.loop-place.place (octet_bits c.args.octet)) c.args.room c.loop-place.left c.requires.some c.loop-place.invariant.left c.loop-place.invariant.bits c.requires.few).1
+    (left-in start now (take c.loop-place.place (octet_bits c.args.octet)) c.args.room c.loop-place.left c.requires.some
+    c.loop-place.invariant.left c.loop-place.invariant.bits c.requires.few).1
 
 pub content_bit-left-requires-clause-fits : goal.content_bit-left-requires-clause-fits
 content_bit-left-requires-clause-fits c =
@@ -26,7 +28,8 @@ content_bit-left-requires-clause-fits c =
     let b : Bool = nat_eq (bit_and (c.args.octet / 2 ^ place) 1) 1 in
     let bit = octet-bit c.args.octet place (omega arith) in
     let split = octet-split c.args.octet place b (omega arith) bit in
-    next-fits start now (take place (octet_bits c.args.octet)) c.args.room c.loop-place.left c.requires.some c.loop-place.invariant.left c.loop-place.invariant.bits (b ∷ []) (drop (place + 1) (octet_bits c.args.octet)) (4 * SLOT)
+    next-fits start now (take place (octet_bits c.args.octet)) c.args.room c.loop-place.left c.requires.some c.loop-place.invariant.left
+    c.loop-place.invariant.bits (b ∷ []) (drop (place + 1) (octet_bits c.args.octet)) (4 * SLOT)
     (subst (λ t. length start + length (stuffed c.args.room t) ≤ 4 * SLOT) (sym split) c.requires.fits)
 
 pub loop-place-preserved : goal.loop-place-preserved
@@ -38,6 +41,12 @@ loop-place-preserved c =
     let b : Bool = nat_eq (bit_and (c.args.octet / 2 ^ place) 1) 1 in
     let part = octet-part c.args.octet place b (omega arith) (octet-bit c.args.octet place (omega arith)) in
     record {
-      bits = next-written start now (take place (octet_bits c.args.octet)) c.args.room c.loop-place.left c.requires.some c.loop-place.invariant.left c.loop-place.invariant.bits next (b ∷ []) c.content_bit-left.ensures.written ∙ ap (λ t. start ++ stuffed c.args.room t) (sym part);
-      left = c.content_bit-left.ensures.room ∙ next-left start now (take place (octet_bits c.args.octet)) c.args.room c.loop-place.left c.requires.some c.loop-place.invariant.left c.loop-place.invariant.bits (b ∷ []) ∙ ap (room_behind c.args.room) (sym part);
+      bits = next-written start now
+          (take place (octet_bits c.args.octet)) c.args.room c.loop-place.left c.requires.some c.loop-place.invariant.left
+          c.loop-place.invariant.bits next (b ∷ []) c.content_bit-left.ensures.written
+          ∙ ap (λ t. start ++ stuffed c.args.room t) (sym part);
+      left = c.content_bit-left.ensures.room
+          ∙ next-left start now
+          (take place (octet_bits c.args.octet)) c.args.room c.loop-place.left c.requires.some c.loop-place.invariant.left
+          c.loop-place.invariant.bits (b ∷ []) ∙ ap (room_behind c.args.room) (sym part);
     }

@@ -12,19 +12,29 @@ overflow_sub-left c = omega (arith, c.requires.room, length-written c.args.self.
 pub bit-requires : goal.bit-requires
 bit-requires c =
     let start : List Bool = written c.args.self.now c.args.out.now in
-    omega (arith, c.requires.room, c.requires.few, length-written c.args.self.now c.args.out.now, ap length c.loop-place.invariant, length-append {A = Bool} start (fill c.loop-place.place), length-fill c.loop-place.place)
+    omega (
+      arith,
+      c.requires.room,
+      c.requires.few,
+      length-written c.args.self.now c.args.out.now,
+      ap length c.loop-place.invariant,
+      length-append {A = Bool} start (fill c.loop-place.place),
+      length-fill c.loop-place.place,
+    )
 
 pub loop-place-preserved : goal.loop-place-preserved
 loop-place-preserved c =
     let start : List Bool = written c.args.self.now c.args.out.now in
     let place = c.loop-place.place in
     c.bit.ensures ∙ ap (λ b. written c.loop-place.self c.loop-place.out ++ b ∷ []) c.flag_bit.ensures
-    ∙ ap (λ t. t ++ get_or flag (place % 8) false ∷ []) c.loop-place.invariant ∙ append_assoc start (fill place) (get_or flag (place % 8) false ∷ []) ∙ ap (λ t. start ++ t) (sym (fill-snoc place))
+    ∙ ap (λ t. t ++ get_or flag (place % 8) false ∷ []) c.loop-place.invariant
+    ∙ append_assoc start (fill place) (get_or flag (place % 8) false ∷ []) ∙ ap (λ t. start ++ t) (sym (fill-snoc place))
 
 pub returns-clause-written : goal.returns-clause-written
 returns-clause-written c =
     let start : List Bool = written c.args.self.now c.args.out.now in
-    let all : c.loop-place.place ≡ 4 * c.args.symbols - length start = omega (arith, c.requires.room, length-written c.args.self.now c.args.out.now) in
+    let all : c.loop-place.place ≡ 4 * c.args.symbols - length start =
+    omega (arith, c.requires.room, length-written c.args.self.now c.args.out.now) in
     c.loop-place.invariant ∙ ap (λ n. start ++ fill n) all
 
 pub returns-clause-phase : goal.returns-clause-phase

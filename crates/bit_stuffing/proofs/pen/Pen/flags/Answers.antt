@@ -8,10 +8,17 @@ use Rattle.bit_stuffing.proofs.pen.Pen.flags.Goals as goal
 pub flag-requires-clause-room : goal.flag-requires-clause-room
 flag-requires-clause-room c =
     let start : List Bool = written c.args.self.now c.args.out.now in
-    omega (arith, c.requires, ap length c.loop.invariant, length-append {A = Bool} start (flags c.loop.counter), length-flags c.loop.counter)
+    omega (
+      arith,
+      c.requires,
+      ap length c.loop.invariant,
+      length-append {A = Bool} start (flags c.loop.counter),
+      length-flags c.loop.counter,
+    )
 
 pub loop-preserved : goal.loop-preserved
 loop-preserved c =
     let start : List Bool = written c.args.self.now c.args.out.now in
     let next : suc c.loop.counter ≡ c.loop.counter + 1 = omega arith in
-    c.flag.ensures ∙ ap (λ t. t ++ flag) c.loop.invariant ∙ append_assoc start (flags c.loop.counter) flag ∙ ap (λ t. start ++ t) (flags-snoc c.loop.counter ∙ ap flags next)
+    c.flag.ensures ∙ ap (λ t. t ++ flag) c.loop.invariant ∙ append_assoc start (flags c.loop.counter) flag
+    ∙ ap (λ t. start ++ t) (flags-snoc c.loop.counter ∙ ap flags next)

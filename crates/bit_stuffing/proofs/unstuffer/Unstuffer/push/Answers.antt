@@ -14,6 +14,8 @@ pub returns-after-bit : goal.returns-after-bit
 returns-after-bit c = λ line h.
     let g = subst (λ v. Gathers v line) (sym c.self.view_is) h in
     elim c.if-bit.branch [
-      | then-bit w ↦ gathers-take _ _ line c.args.bit g c.if-self-eq0.false (c.keep.ensures.room ∙ rw (w.self-is, w.if-bit.true) refl) (c.keep.ensures.keeps (removed 5 line))
-      | else-bit w ↦ gathers-take _ _ line c.args.bit g c.if-self-eq0.false (c.keep.ensures.room ∙ rw (w.self-is, w.if-bit.false) refl) (c.keep.ensures.keeps (removed 5 line))
+      | then-bit w ↦ gathers-take _ _ line c.args.bit g c.if-self-eq0.false (c.keep.ensures.room ∙ rw (w.self-is, w.if-bit.true) refl)
+          (c.keep.ensures.keeps (removed 5 line))
+      | else-bit w ↦ gathers-take _ _ line c.args.bit g c.if-self-eq0.false (c.keep.ensures.room ∙ rw (w.self-is, w.if-bit.false) refl)
+          (c.keep.ensures.keeps (removed 5 line))
     ]

@@ -13,7 +13,8 @@ use Rattle.lapm_link.specs.Stands.{IsAsking, IsUnlinked, Speaks, StandsFor}
 use Rattle.lapm_link.proofs.asking.Asking.speak.Goals as goal
 
 -- an end that tries its offer again still asks
-asks : (asking : Asking) (attempt : Attempt) (a b : Account) → IsAsking asking a → Tries attempt b → b ≡ retried b a → IsAsking (record asking { attempt = attempt }) b
+asks : (asking : Asking) (attempt : Attempt) (a b : Account) → IsAsking asking a → Tries attempt b → b ≡ retried b a
+    → IsAsking (record asking { attempt = attempt }) b
 asks asking attempt a b h tries e = subst (λ (x : Account). IsAsking (record asking { attempt = attempt }) x) (sym e) (record {
   phase_is = h.phase_is;
   originates = h.originates;
@@ -38,14 +39,19 @@ asks asking attempt a b h tries e = subst (λ (x : Account). IsAsking (record as
       special_is = u.special_is;
     }
 
-spoken : (r : Result Said LinkFault) (asking : Asking) (attempt : Attempt) (a : Account) (before sent : Sent) (end : AnyEnd) → IsAsking asking a
-    → ((b : Account) → IsAsking (record asking { attempt = attempt }) b → StandsFor end b) → TriesSo r a attempt (Ok sent) → Speaks r a before sent (Ok end)
-spoken (Ok said) asking attempt a before sent end h stands s = (s.sent_is, stands said.account (asks asking attempt a said.account h s.tries s.rest_is))
+spoken : (r : Result Said LinkFault) (asking : Asking) (attempt : Attempt) (a : Account) (before sent : Sent) (end : AnyEnd)
+    → IsAsking asking a
+    → ((b : Account) → IsAsking (record asking { attempt = attempt }) b → StandsFor end b) → TriesSo r a attempt (Ok sent)
+    → Speaks r a before sent (Ok end)
+spoken (Ok said) asking attempt a before sent end h stands s =
+    (s.sent_is, stands said.account (asks asking attempt a said.account h s.tries s.rest_is))
 spoken (Err fault) asking attempt a before sent end h stands s = absurd s
 
 pub returns-in-Ok-clause-speaks : goal.returns-in-Ok-clause-speaks
 returns-in-Ok-clause-speaks c = λ a h.
     let front : 0 ≡ a.outgoing.front = ap (λ o. o.front) (sym h.unlinked.outgoing_is) in
     let offer : c.spelled.result ≡ written a.setup.offer = c.spelled.ensures.value ∙ ap (λ s. written s.offer) h.unlinked.setup_is in
-    let tries = subst (λ (info : List ℕ). TriesSo (u_try c.args.turn (Xid true false info) a) a c.speak.new.self (Ok c.in-Ok.said)) offer (c.in-Ok.ensures.tries a h.tries h.unlinked.setup_is front) in
-    spoken (u_try c.args.turn (Xid true false (written a.setup.offer)) a) c.args.self c.speak.new.self a c.args.sent.now c.in-Ok.said c.end.result h c.end.ensures.stands tries
+    let tries = subst (λ (info : List ℕ). TriesSo (u_try c.args.turn (Xid true false info) a) a c.speak.new.self (Ok c.in-Ok.said)) offer
+    (c.in-Ok.ensures.tries a h.tries h.unlinked.setup_is front) in
+    spoken (u_try c.args.turn (Xid true false (written a.setup.offer)) a) c.args.self c.speak.new.self a c.args.sent.now c.in-Ok.said
+    c.end.result h c.end.ensures.stands tries

@@ -12,7 +12,8 @@ use Rattle.lapm_link.proofs.unlinked.Agreed.connect.Goals as goal
 
 -- a sender that has begun by these terms
 sends : (s : Sending) (setup setup' : Setup) (terms terms' : Terms) (window size : ℕ) (polled : Bool)
-    → window ≡ window_for setup.role terms → size ≡ size_for setup.role terms → polled ≡ is_originator setup.role → setup ≡ setup' → terms ≡ terms'
+    → window ≡ window_for setup.role terms → size ≡ size_for setup.role terms → polled ≡ is_originator setup.role → setup ≡ setup'
+    → terms ≡ terms'
     → StandsOut s (outgoing.begun window size setup.tries polled)
     → StandsOut s (outgoing.begun (window_for setup'.role terms') (size_for setup'.role terms') setup'.tries (is_originator setup'.role))
 sends s setup setup' terms terms' window size polled w z p e f h = rw (← e, ← f, ← w, ← z, ← p) h
@@ -25,5 +26,6 @@ takes r setup setup' terms terms' window w e f h = rw (← e, ← f, ← w) h
 pub returns-clause-links : goal.returns-clause-links
 returns-clause-links c = λ a h t.
     c.new.ensures.links a _ _ h t
-    (sends _ _ _ _ _ _ _ _ c.window_for-window.ensures c.size_for-size.ensures c.is_originator-originates.ensures h.setup_is t c.begin.ensures.stands)
+    (sends _ _ _ _ _ _ _ _ c.window_for-window.ensures c.size_for-size.ensures c.is_originator-originates.ensures h.setup_is t
+    c.begin.ensures.stands)
     (takes _ _ _ _ _ _ (rw (← c.other.ensures) c.window_for-their_window.ensures) h.setup_is t c.begin-2.ensures.stands)

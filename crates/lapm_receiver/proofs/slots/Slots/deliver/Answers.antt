@@ -13,8 +13,10 @@ returns-in-None-clause-delivered c =
 
 pub returns-clause-delivered : goal.returns-clause-delivered
 returns-clause-delivered c =
-    rw (c.push_back.ensures.items, c.pop_front.ensures.items, next-row _ _ _ c.self.invariant.0 c.in-Some.ensures) (seen-deliver _ _ _ _ _ c.self.view_is c.in-Some.ensures)
+    rw (c.push_back.ensures.items, c.pop_front.ensures.items, next-row _ _ _ c.self.invariant.0 c.in-Some.ensures)
+    (seen-deliver _ _ _ _ _ c.self.view_is c.in-Some.ensures)
 
 pub returns-clause-some : goal.returns-clause-some
 returns-clause-some c =
-    rw (c.push_back.ensures.items, c.pop_front.ensures.items, c.copy.ensures, next-row _ _ _ c.self.invariant.0 c.in-Some.ensures) (ready-first _ _ _ _ _ c.self.view_is c.in-Some.ensures)
+    rw (c.push_back.ensures.items, c.pop_front.ensures.items, c.copy.ensures, next-row _ _ _ c.self.invariant.0 c.in-Some.ensures)
+    (ready-first _ _ _ _ _ c.self.view_is c.in-Some.ensures)

@@ -10,4 +10,6 @@ returns-clause-ok c =
 
 pub returns-clause-others : goal.returns-clause-others
 returns-clause-others c =
-    rw (← c.self.view_is) (get-updates_other c.self.inside.files c.insert.new.self c.args.name.now c.in_ok-value.value (rw (← c.in_ok-key.ensures.ok) c.in_ok-insert.ensures.updates))
+    rw (← c.self.view_is)
+    (get-updates_other c.self.inside.files c.insert.new.self c.args.name.now c.in_ok-value.value
+    (rw (← c.in_ok-key.ensures.ok) c.in_ok-insert.ensures.updates))

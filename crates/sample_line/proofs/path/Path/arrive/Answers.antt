@@ -11,6 +11,10 @@ returns-clause-arrives c = λ bits earlier h.
     let slot = c.args.slot in
     let samples = h.carries.samples ++ c.send-sample.result ∷ [] in
     let sent = c.send-sample.ensures.stands bits h.carries.samples h.carries.transmits in
-    let heard = c.hear.ensures.stands (mode_of c.args.self.now.transmitter.sender) h.carries.samples earlier (record { read = h.read; hears = h.carries.hears; tallies = h.tallies }) in
-    arrived c.send-sample.new.self c.hear.new.self c.args.script.now (bits ++ low_bits 4 c.args.quad) samples slot.check slot.sender slot.dlci slot.sent.now earlier c.hear.result sent
-    (subst (λ (r : Role). HearsSample (mode_of r) c.hear.new.self samples slot.check slot.sender slot.dlci slot.sent.now earlier c.hear.result) (sym c.send-sample.ensures.sender) heard)
+    let heard = c.hear.ensures.stands (mode_of c.args.self.now.transmitter.sender) h.carries.samples earlier
+    (record { read = h.read; hears = h.carries.hears; tallies = h.tallies }) in
+    arrived c.send-sample.new.self c.hear.new.self c.args.script.now
+    (bits ++ low_bits 4 c.args.quad) samples slot.check slot.sender slot.dlci slot.sent.now earlier c.hear.result sent
+    (subst (λ (r : Role). HearsSample
+    (mode_of r) c.hear.new.self samples slot.check slot.sender slot.dlci slot.sent.now earlier c.hear.result)
+    (sym c.send-sample.ensures.sender) heard)

@@ -8,5 +8,6 @@ pub returns-clause-stands : goal.returns-clause-stands
 returns-clause-stands c = λ script. record {
   samples = [];
   transmits = c.new.ensures.stands script;
-  hears = subst (λ (mode : Mode). Hears mode c.in_ok-new.field-0 [] []) (c.mode.ensures ∙ ap mode_of (sym c.new.ensures.sender)) c.in_ok-new.ensures.stands;
+  hears = subst (λ (mode : Mode). Hears mode c.in_ok-new.field-0 [] [])
+      (c.mode.ensures ∙ ap mode_of (sym c.new.ensures.sender)) c.in_ok-new.ensures.stands;
 }

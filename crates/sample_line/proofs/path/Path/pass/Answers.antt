@@ -12,7 +12,8 @@ use Rattle.sample_line.proofs.path.Path.pass.Goals as goal
 
 pub loop-place-init : goal.loop-place-init
 loop-place-init c = record {
-  carries = λ before earlier h. begun c.args.self.now c.args.script.now before earlier c.args.slot.check c.args.slot.sender c.args.slot.dlci c.args.slot.sent.now h;
+  carries = λ before earlier h. begun c.args.self.now c.args.script.now before earlier c.args.slot.check c.args.slot.sender c.args.slot.dlci
+      c.args.slot.sent.now h;
   sender = refl;
   symbol = omega arith;
   count = omega arith;
@@ -25,9 +26,13 @@ loop-place-preserved c = record {
   carries = λ before earlier h.
       let place : ℕ = c.loop-place.place in
       let within : place < length c.args.bits.now = omega (arith, c.loop-place-test.true, c.len-place-end.ensures.count) in
-      let came = c.arrive.ensures.arrives (before ++ line_bits (take place c.args.bits.now)) earlier (c.loop-place.invariant.carries before earlier h) in
-      let now = subst (λ (r : Result Tally Lost). Arrives c.arrive.new.self c.args.script.now ((before ++ line_bits (take place c.args.bits.now)) ++ low_bits 4 c.quad.result) c.args.slot.check c.args.slot.sender c.args.slot.dlci c.args.slot.sent.now earlier r) c.in_ok-tally.was came in
-      subst (λ (xs : List Bool). CarriesBetween c.arrive.new.self c.args.script.now xs c.args.slot.check c.args.slot.sender c.args.slot.dlci c.args.slot.sent.now earlier c.in_ok-tally.tally)
+      let came = c.arrive.ensures.arrives (before ++ line_bits (take place c.args.bits.now)) earlier
+      (c.loop-place.invariant.carries before earlier h) in
+      let now = subst (λ (r : Result Tally Lost). Arrives c.arrive.new.self c.args.script.now
+      ((before ++ line_bits (take place c.args.bits.now)) ++ low_bits 4 c.quad.result) c.args.slot.check c.args.slot.sender
+      c.args.slot.dlci c.args.slot.sent.now earlier r) c.in_ok-tally.was came in
+      subst (λ (xs : List Bool). CarriesBetween c.arrive.new.self c.args.script.now xs c.args.slot.check c.args.slot.sender c.args.slot.dlci
+      c.args.slot.sent.now earlier c.in_ok-tally.tally)
       (sent-part before c.args.bits.now place c.quad.result within c.quad.ensures.value) now;
   sender = c.arrive.ensures.sender ∙ c.loop-place.invariant.sender;
   symbol = omega (arith, c.arrive.ensures.symbol, c.loop-place.invariant.symbol);
@@ -41,13 +46,18 @@ returns-in_err-tally-clause-passes c = λ before earlier h.
     let p = err_from_is_err_and c.from_residual.result c.from_residual.ensures.1 in
     let place : ℕ = c.loop-place.place in
     let within : place < length c.args.bits.now = omega (arith, c.loop-place-test.true, c.len-place-end.ensures.count) in
-    let came = c.in_err-tally.ensures.arrives (before ++ line_bits (take place c.args.bits.now)) earlier (c.loop-place.invariant.carries before earlier h) in
-    subst (λ (r : Result Tally Lost). PassesBits c.arrive.new.self c.args.script.now before (line_bits c.args.bits.now) c.args.slot.check c.args.slot.sender c.args.slot.dlci c.args.slot.sent.now earlier r)
+    let came = c.in_err-tally.ensures.arrives (before ++ line_bits (take place c.args.bits.now)) earlier
+    (c.loop-place.invariant.carries before earlier h) in
+    subst (λ (r : Result Tally Lost). PassesBits c.arrive.new.self c.args.script.now before
+    (line_bits c.args.bits.now) c.args.slot.check c.args.slot.sender c.args.slot.dlci c.args.slot.sent.now earlier r)
     (sym (p.1 ∙ ap Err p.2))
-    (lost-within c.arrive.new.self.transmitter.sender c.args.script.now before _ c.args.bits.now (place + 1) c.in_err-tally.field-0.0.symbol (sent-part before c.args.bits.now place c.quad.result within c.quad.ensures.value) came)
+    (lost-within c.arrive.new.self.transmitter.sender c.args.script.now before _ c.args.bits.now (place + 1) c.in_err-tally.field-0.0.symbol
+    (sent-part before c.args.bits.now place c.quad.result within c.quad.ensures.value) came)
 
 pub returns-clause-passes : goal.returns-clause-passes
 returns-clause-passes c = λ before earlier h.
-    let all : take c.loop-place.place c.args.bits.now ≡ c.args.bits.now = take_all c.loop-place.place c.args.bits.now (omega (arith, c.loop-place-test.false, c.len-place-end.ensures.count)) in
-    subst (λ (xs : List ℕ). CarriesBetween c.loop-place.self c.args.script.now (before ++ line_bits xs) c.args.slot.check c.args.slot.sender c.args.slot.dlci c.args.slot.sent.now earlier c.loop-place.tally) all
+    let all : take c.loop-place.place c.args.bits.now ≡ c.args.bits.now =
+    take_all c.loop-place.place c.args.bits.now (omega (arith, c.loop-place-test.false, c.len-place-end.ensures.count)) in
+    subst (λ (xs : List ℕ). CarriesBetween c.loop-place.self c.args.script.now
+    (before ++ line_bits xs) c.args.slot.check c.args.slot.sender c.args.slot.dlci c.args.slot.sent.now earlier c.loop-place.tally) all
     (c.loop-place.invariant.carries before earlier h)

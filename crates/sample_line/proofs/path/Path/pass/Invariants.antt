@@ -6,7 +6,8 @@ use Rattle.sample_line.proofs.path.Path.pass.Given as goal
 abbrev pub invariant-loop-place : goal.invariant-loop-place
 invariant-loop-place l = record {
   carries : (before earlier : List Bool) → Carries l.fn.self l.script before earlier
-      → CarriesBetween l.self l.script (before ++ line_bits (take l.place l.bits)) l.slot.check l.slot.sender l.slot.dlci l.slot.sent.now earlier l.tally;
+      → CarriesBetween l.self l.script
+      (before ++ line_bits (take l.place l.bits)) l.slot.check l.slot.sender l.slot.dlci l.slot.sent.now earlier l.tally;
   sender : l.self.transmitter.sender ≡ l.fn.self.transmitter.sender;
   symbol : l.self.transmitter.symbol ≡ l.fn.self.transmitter.symbol + l.place;
   count : l.self.hearer.reader.decoder.count ≤ l.fn.self.hearer.reader.decoder.count + l.place;

@@ -4,7 +4,8 @@ use Rattle.sample_line.proofs.Finding.{found-more}
 use Rattle.sample_line.proofs.receiver.Finder.push.Goals as goal
 
 pub returns-clause-stands : goal.returns-clause-stands
-returns-clause-stands c = λ bits h. record { deframer = c.with_bit.ensures.stands bits h.deframer; reader = c.push-pattern.ensures.stands bits h.reader }
+returns-clause-stands c =
+    λ bits h. record { deframer = c.with_bit.ensures.stands bits h.deframer; reader = c.push-pattern.ensures.stands bits h.reader }
 
 pub returns-clause-tallies : goal.returns-clause-tallies
 returns-clause-tallies c = λ earlier bits has h.
@@ -13,7 +14,8 @@ returns-clause-tallies c = λ earlier bits has h.
     record {
       frames = h.frames ++ option_to_list b.frame;
       patterns = patterns;
-      found = found-more c.args.slot.check c.args.slot.sender c.args.slot.dlci earlier bits c.args.bit h.frames h.patterns b.frame c.push-pattern.result h.found
+      found = found-more c.args.slot.check c.args.slot.sender c.args.slot.dlci earlier bits c.args.bit h.frames h.patterns b.frame
+          c.push-pattern.result h.found
           b.found (c.push-pattern.ensures.value bits has.reader);
       tallies = b.tallies;
     }

@@ -9,7 +9,8 @@ use Rattle.sample_line.proofs.tally.Tally.with_pattern.Goals as goal
 pub returns-in-Some : goal.returns-in-Some
 returns-in-Some c = λ frames patterns h.
     subst (λ (o : Option Seen). Tallies c.args.sent.now frames (patterns ++ option_to_list o) c.after_pattern.result) (sym c.in-Some.is)
-    (subst (λ (t : Tally). Tallies c.args.sent.now frames (patterns ++ c.in-Some.pattern ∷ []) t) (sym (c.after_pattern.ensures ∙ ap (λ b. after_pattern b c.args.self) c.carries_pattern.ensures))
+    (subst (λ (t : Tally). Tallies c.args.sent.now frames (patterns ++ c.in-Some.pattern ∷ []) t)
+    (sym (c.after_pattern.ensures ∙ ap (λ b. after_pattern b c.args.self) c.carries_pattern.ensures))
     (pattern-more c.args.sent.now frames patterns c.in-Some.pattern c.args.self h))
 
 pub returns-in-None : goal.returns-in-None

@@ -13,6 +13,7 @@ returns-clause-stands c bits samples h =
       modulator = c.push-point.ensures (mode_of sender) bits h.points h.modulator;
       counted = omega (arith, h.counted, length-append h.points (c.push-point.result ∷ []));
       samples_are = ap (λ xs. xs ++ c.displaced.result ∷ []) h.samples_are
-          ∙ ap (λ x. displaced_from script sender 0 h.points ++ x ∷ []) (c.displaced.ensures ∙ ap (λ o. displaced o c.push-point.result) c.offset-offset.ensures.value)
+          ∙ ap (λ x. displaced_from script sender 0 h.points ++ x ∷ [])
+          (c.displaced.ensures ∙ ap (λ o. displaced o c.push-point.result) c.offset-offset.ensures.value)
           ∙ displaced-behind script sender c.args.self.now.symbol h.points c.push-point.result h.counted;
     }
