@@ -156,7 +156,7 @@ impl Link {
         hear_well(&mut self.answ, turn, to_answ);
     }
 
-    /// What both ends took is appended to the received files.
+    /// What both ends took is appended to the received files, the originator's first.
     pub fn deliver<F: Folder>(
         &mut self,
         folder: &mut F,

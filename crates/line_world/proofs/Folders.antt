@@ -2,18 +2,19 @@
 use Rattle.std.proofs.Common.{◌≡◌, ◌≢◌, inl, inr, ℕ, ◌++◌, List, length, take, IsTrue, refl, sym, ◌∙◌, ap, subst, Some}
 use Rattle.std.specs.List.{concat}
 use Rattle.outside_core.specs.Folder.{FolderState, KeepsName, GoesOn, OnlyReads, OnlyWrites, Appended, PartlyAppended, FaultsStand, CountsStand, Rose}
-use Rattle.outside_core.specs.Steps.{GoesOn-trans, told_later, KeepsName-trans, octets-kept, octets-held, Adds-kept, PartlyAppended-none, PartlyAppended-all, kept-PartlyAppended, FaultsStand-trans, CountsStand-trans}
+use Rattle.outside_core.specs.Steps.{GoesOn-trans, told_later, KeepsName-trans, octets-kept, octets-held, Adds-kept, PartlyAppended-none, kept-PartlyAppended, FaultsStand-trans, CountsStand-trans}
 use Rattle.roles.specs.Both.{Both}
 use Rattle.link_run.specs.Run.{Ends}
 use Rattle.turn_bound.specs.Limits.{file_limit}
 use Rattle.stations.specs.Station.{file_at}
 use Rattle.both_sides.specs.Names.{Written}
-use Rattle.both_sides.specs.Link.{AreWithin}
+use Rattle.both_sides.specs.Link.{AreWithin, DeliversPart}
+use Rattle.both_sides.specs.Link as links
 use Rattle.line_world.specs.declared.step.RunFault.{RunFault}
 use Rattle.line_world.specs.declared.step.RunFault.TheVariants as run_faults
 use Rattle.line_world.specs.World.{KnowsFiles, StayKnown, AreApart, OnlyOutputs}
-use Rattle.line_world.specs.Turn.{WritesTurn, WritesPart, FaultCounts, KeepsReceived}
-use Rattle.line_world.specs.Mid.{HasDelivered, HasPart, ReadsBoth, handed}
+use Rattle.line_world.specs.Turn.{WritesTurn, WritesPart, of_orig, of_answ, of_lines, HasDelivered, FaultCounts, KeepsReceived}
+use Rattle.line_world.specs.Mid.{HasPart, ReadsBoth, handed}
 
 -- ---- what was touched
 
@@ -77,22 +78,20 @@ writes-turn a b c n mid text apart g d w t = record {
 pub writes-part : (a b c : FolderState) (n : Written) (mid : Ends) (text : List ℕ) → AreApart n → GoesOn a b → HasDelivered a b n mid
     → OnlyWrites b c n.trace
     → PartlyAppended b c n.trace text → WritesPart a c n mid text
-writes-part a b c n mid text apart g d w t = record {
-  got_o = PartlyAppended-all a c n.got_o _ (Adds-kept a b c n.got_o _ g d.got_o (w.names n.got_o apart.got_o_trace));
-  got_a = PartlyAppended-all a c n.got_a _ (Adds-kept a b c n.got_a _ g d.got_a (w.names n.got_a apart.got_a_trace));
-  trace = kept-PartlyAppended a b c n.trace text g d.trace t;
-}
+writes-part a b c n mid text apart g d w t =
+    of_lines (Adds-kept a b c n.got_o _ g d.got_o (w.names n.got_o apart.got_o_trace))
+    (Adds-kept a b c n.got_a _ g d.got_a (w.names n.got_a apart.got_a_trace)) (kept-PartlyAppended a b c n.trace text g d.trace t)
 
 -- or none of them
 pub writes-none : (a b : FolderState) (n : Written) (mid : Ends) (text : List ℕ) → HasDelivered a b n mid → WritesPart a b n mid text
-writes-none a b n mid text d = record {
-  got_o = PartlyAppended-all a b n.got_o _ d.got_o;
-  got_a = PartlyAppended-all a b n.got_a _ d.got_a;
-  trace = PartlyAppended-none a b n.trace text d.trace;
-}
+writes-none a b n mid text d = of_lines d.got_o d.got_a (PartlyAppended-none a b n.trace text d.trace)
 
 pub part-none : (a b : FolderState) (n : Written) (mid : Ends) (text : List ℕ) → HasPart a b n mid → WritesPart a b n mid text
-part-none a b n mid text d = record { got_o = d.got_o; got_a = d.got_a; trace = PartlyAppended-none a b n.trace text d.trace }
+part-none a b n mid text d = by d.octets
+  where
+    by : DeliversPart a b n mid → WritesPart a b n mid text
+    by (links.of_orig got_o got_a) = of_orig got_o got_a d.trace
+    by (links.of_answ got_o got_a) = of_answ got_o got_a d.trace
 
 -- the line of a chance match touches no received file
 pub receives-none : (a b : FolderState) (n : Written) → AreApart n → OnlyWrites a b n.trace → KeepsReceived a b n

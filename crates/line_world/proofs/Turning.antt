@@ -28,8 +28,8 @@ use Rattle.line_world.specs.declared.step.RunFault.{RunFault}
 use Rattle.line_world.specs.declared.step.RunFault.TheVariants as run_faults
 use Rattle.line_world.specs.World.{IsReady, StayKnown, AreApart, OnlyOutputs}
 use Rattle.line_world.specs.Tally.{IsFew}
-use Rattle.line_world.specs.Turn.{DoneIn, MakesTurn, Stops, EndsBy, EndsInTurn, GoesOnBy, IsWriting, IsReading, WritesTurn}
-use Rattle.line_world.specs.Mid.{Overhears, HasPart, HasDelivered, HasGone, AddsLines, AddsPart, Finishes, SpeaksLast, turn_in}
+use Rattle.line_world.specs.Turn.{DoneIn, MakesTurn, HasDelivered, Stops, StopsReading, EndsBy, EndsInTurn, GoesOnBy, IsWriting, IsReading, WritesTurn}
+use Rattle.line_world.specs.Mid.{Overhears, HasPart, HasGone, AddsLines, AddsPart, Finishes, SpeaksLast, turn_in}
 use Rattle.line_world.proofs.Hearing.{heard-in, none-sent, runs-over}
 use Rattle.line_world.proofs.Serving.{hears-in}
 use Rattle.line_world.proofs.Folders.{part-none, writes-none, writes-turn, writes-part, stay-known}
@@ -125,9 +125,9 @@ writing-ends script a b n files ts ends (run_faults.LinkLost role segment turn) 
 
 pub reading-ends : (script : ScriptValue) (a b : FolderState) (n : Written) (files : Both (List ℕ)) (ts : List Turn) (ends : Ends)
     (fault : RunFault) → IsReading fault
-    → Stops script a b n files ts ends → EndsBy script a b n files ts ends fault
+    → StopsReading script a b n files ts ends → EndsBy script a b n files ts ends fault
 reading-ends script a b n files ts ends run_faults.ReadFault w h = h
-reading-ends script a b n files ts ends run_faults.NoMemory w h = h
+reading-ends script a b n files ts ends run_faults.NoMemory w h = inl h.0
 reading-ends script a b n files ts ends run_faults.WriteFault w h = absurd w
 reading-ends script a b n files ts ends (run_faults.LineLost role symbol) w h = absurd w
 reading-ends script a b n files ts ends (run_faults.ChanceMatch role turn) w h = absurd w
@@ -157,18 +157,20 @@ pub stops-reading : MakingLaws
     → (script : ScriptValue) (a b : FolderState) (n : Written) (files : Both (List ℕ)) (ts : List Turn) (ends : Ends) (heard : Each Heard)
     (mid : Ends)
     → IsInLimits script → AreApart n → AreWithin files → OnlyOutputs a b n → Overhears script files ts ends heard mid
-    → HasDelivered a b n mid → Stops script a b n files ts ends
+    → HasDelivered a b n mid → StopsReading script a b n files ts ends
 stops-reading laws script a b n files ts ends heard mid limits apart within only o delivered =
-    let m = making laws script files ts ends heard mid limits o in
-    inl (record {
-      others = files;
-      known = stay-known a b n files apart only within;
-      turn = m.turn;
-      mid = mid;
-      outcome = m.outcome;
-      makes = m.makes;
-      writes = writes-none a b n mid (turn_text (length ts) m.turn) delivered;
-    })
+    let m = making laws script files ts ends heard mid limits o in (
+      record {
+        others = files;
+        known = stay-known a b n files apart only within;
+        turn = m.turn;
+        mid = mid;
+        outcome = m.outcome;
+        makes = m.makes;
+        writes = writes-none a b n mid (turn_text (length ts) m.turn) delivered;
+      },
+      delivered,
+    )
 
 -- and as the lines go out.
 pub stops-writing : (script : ScriptValue) (a b c : FolderState) (n : Written) (files others : Both (List ℕ)) (ts : List Turn)

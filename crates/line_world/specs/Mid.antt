@@ -1,7 +1,6 @@
 -- A turn of a world in its middle: both ends have heard, and the rest of the turn is to come.
 use Rattle.std.specs.Prelude.{◌≡◌, ◌≢◌, ℕ, ◌+◌, false, ◌∷◌, List, length, Option, Result, Ok, Err}
-use Rattle.std.specs.List.{concat}
-use Rattle.outside_core.specs.Folder.{FolderState, KeepsName, Adds, Appended, PartlyAppended}
+use Rattle.outside_core.specs.Folder.{FolderState, KeepsName, Appended, PartlyAppended}
 use Rattle.roles.specs.declared.role.Role.{Role}
 use Rattle.roles.specs.declared.role.Role.TheVariants.{Originator, Answerer}
 use Rattle.roles.specs.Both.{Both}
@@ -12,7 +11,7 @@ use Rattle.link_faults.specs.declared.fault.LinkFault.{LinkFault}
 use Rattle.link_faults.specs.declared.fault.LinkFault.TheVariants as faults
 use Rattle.link_account.specs.Account.{Account, after_given, given_break, check_of}
 use Rattle.link_account.specs.Hear.{hear}
-use Rattle.link_run.specs.End.{deliveries, delivered, offered, is_closed}
+use Rattle.link_run.specs.End.{delivered, offered, is_closed}
 use Rattle.link_run.specs.Run.{Ends, Side, Spoken, Turn, GoingTurn, arrival}
 use Rattle.link_run.specs.Outcomes.{Outcome, Done, Broken}
 use Rattle.link_run.specs.Trace.{turn_text}
@@ -26,14 +25,14 @@ use Rattle.both_sides.specs.declared.lines.LineEnd.TheVariants as ways
 use Rattle.turn_bound.specs.Limits.{file_limit}
 use Rattle.stations.specs.Station.{ReadsOn}
 use Rattle.both_sides.specs.Names.{Written}
-use Rattle.both_sides.specs.Link.{LinkStands, both_ends, served_on}
+use Rattle.both_sides.specs.Link.{LinkStands, DeliversPart, both_ends, served_on}
 use Rattle.both_sides.specs.Lines.{HaveArrived}
 use Rattle.line_world.specs.declared.world.World.{World}
 use Rattle.line_world.specs.declared.tally.Tally.{Tally}
 use Rattle.line_world.specs.declared.step.RunFault.{RunFault}
 use Rattle.line_world.specs.declared.step.RunFault.TheVariants as run_faults
 use Rattle.line_world.specs.World.{WorldAfter}
-use Rattle.line_world.specs.Turn.{MakesTurn}
+use Rattle.line_world.specs.Turn.{MakesTurn, HasDelivered}
 
 -- What both ends hear in the turn after these, and are once they have heard.
 pub record Overhears (script : ScriptValue) (files : Both (List ℕ)) (ts : List Turn) (ends : Ends) (heard : Each Heard)
@@ -106,16 +105,9 @@ abbrev pub HearsTurn : World → Both (List ℕ) → List Turn → Ends → Resu
 HearsTurn w files ts ends (Ok heard) = HasHeard w files ts ends heard
 HearsTurn w files ts ends (Err end) = IsLineEnd w.script ts ends end
 
--- What both ends took stands behind what the received files held, and the trace is as it was.
-pub record HasDelivered (old now : FolderState) (n : Written) (mid : Ends) : Type 0 where
-  pub got_o : Adds old now n.got_o (concat (deliveries mid.orig))
-  pub got_a : Adds old now n.got_a (concat (deliveries mid.answ))
-  pub trace : KeepsName old now n.trace
-
--- A part of it does.
+-- A part of what both ends took stands behind what the received files held, and the trace is as it was.
 pub record HasPart (old now : FolderState) (n : Written) (mid : Ends) : Type 0 where
-  pub got_o : PartlyAppended old now n.got_o (concat (deliveries mid.orig))
-  pub got_a : PartlyAppended old now n.got_a (concat (deliveries mid.answ))
+  pub octets : DeliversPart old now n mid
   pub trace : KeepsName old now n.trace
 
 -- What both ends took is handed over, segments and the lengths of breaks.

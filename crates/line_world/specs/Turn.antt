@@ -33,11 +33,21 @@ pub record WritesTurn (old new : FolderState) (n : Written) (mid : Ends) (text :
   pub got_a : Adds old new n.got_a (concat (deliveries mid.answ))
   pub trace : Appended old new n.trace text
 
--- A part of that, where the folder took no more.
-pub record WritesPart (old new : FolderState) (n : Written) (mid : Ends) (text : List ℕ) : Type 0 where
-  pub got_o : PartlyAppended old new n.got_o (concat (deliveries mid.orig))
-  pub got_a : PartlyAppended old new n.got_a (concat (deliveries mid.answ))
-  pub trace : PartlyAppended old new n.trace text
+-- A part of that, where the folder took no more: one of what the originator took, and nothing else; one of what the answerer took, behind
+-- all of the originator's, and nothing of the lines; or one of both lines, behind all that both took.
+pub data WritesPart (old new : FolderState) (n : Written) (mid : Ends) (text : List ℕ) : Type 0 where
+  of_orig : PartlyAppended old new n.got_o (concat (deliveries mid.orig)) → KeepsName old new n.got_a → KeepsName old new n.trace
+      → WritesPart old new n mid text
+  of_answ : Adds old new n.got_o (concat (deliveries mid.orig)) → PartlyAppended old new n.got_a (concat (deliveries mid.answ))
+      → KeepsName old new n.trace → WritesPart old new n mid text
+  of_lines : Adds old new n.got_o (concat (deliveries mid.orig)) → Adds old new n.got_a (concat (deliveries mid.answ))
+      → PartlyAppended old new n.trace text → WritesPart old new n mid text
+
+-- What both ends took stands behind what the received files held, and the trace is as it was.
+pub record HasDelivered (old new : FolderState) (n : Written) (mid : Ends) : Type 0 where
+  pub got_o : Adds old new n.got_o (concat (deliveries mid.orig))
+  pub got_a : Adds old new n.got_a (concat (deliveries mid.answ))
+  pub trace : KeepsName old new n.trace
 
 -- The turn after these, over a script and files: what both ends hear in it, are once they have heard, and what it comes to.
 pub record MakesTurn (script : ScriptValue) (files : Both (List ℕ)) (ts : List Turn) (ends : Ends) (turn : Turn) (mid : Ends)
@@ -114,6 +124,10 @@ pub record StopsAtChance (script : ScriptValue) (old new : FolderState) (n : Wri
   pub received : KeepsReceived old new n
   pub trace : PartlyAppended old new n.trace (chance_line (length ts) role)
 
+-- A file that is sent isn't read: what both ends took is written, and nothing of the lines.
+abbrev pub StopsReading : ScriptValue → FolderState → FolderState → Written → Both (List ℕ) → List Turn → Ends → Type 0
+StopsReading script old new n files ts ends = (stops : StopsInTurn script old new n files ts ends) × HasDelivered old new n stops.mid
+
 abbrev pub Stops : ScriptValue → FolderState → FolderState → Written → Both (List ℕ) → List Turn → Ends → Type 0
 Stops script old new n files ts ends = StopsInTurn script old new n files ts ends ⊎ StopsAtChance script old new n ts ends
 
@@ -124,7 +138,7 @@ LosesLink script old new n files ts ends role segment number =
 
 -- why a run ends in this turn with less than both files
 abbrev pub EndsBy : ScriptValue → FolderState → FolderState → Written → Both (List ℕ) → List Turn → Ends → RunFault → Type 0
-EndsBy script old new n files ts ends run_faults.ReadFault = Stops script old new n files ts ends
+EndsBy script old new n files ts ends run_faults.ReadFault = StopsReading script old new n files ts ends
 EndsBy script old new n files ts ends run_faults.WriteFault = Stops script old new n files ts ends
 EndsBy script old new n files ts ends (run_faults.LineLost role symbol) = LosesLine script old new n ts ends role symbol
 EndsBy script old new n files ts ends (run_faults.ChanceMatch role turn) = MeetsChance script old new n ts ends role turn

@@ -1,5 +1,5 @@
 -- However a run ends, each received file is as it was, or holds the beginning of the other end's file.
-use Rattle.std.proofs.Common.{◌≡◌, ◌⊎◌, inl, inr, ℕ, List, [], ◌++◌, length, IsTrue, Result, Ok, Err, refl, sym, ◌∙◌, ap, subst, append_assoc}
+use Rattle.std.proofs.Common.{◌≡◌, ◌⊎◌, inl, inr, ℕ, List, [], ◌++◌, length, IsTrue, Some, Result, Ok, Err, refl, sym, ◌∙◌, ap, subst, append_assoc}
 use Rattle.std.proofs.lemmas.List.{append-nil}
 use Rattle.std.proofs.lemmas.List.Folds.{concat-append}
 use Rattle.std.specs.List.{concat}
@@ -18,7 +18,7 @@ use Rattle.link_run.specs.Outcomes.{Outcome, Going, Done, Broken, TurnIs}
 use Rattle.link_run.specs.Laws.{RunsOver, TakesPrefixes, HearsPrefixes, HearingsDeliver, HoldPrefixes}
 use Rattle.line_run.specs.Sampled.{LineRun}
 use Rattle.line_run.specs.LineLaws.{SamplesAreCarried, OneIsCarried}
-use Rattle.line_run.specs.Ends.{RunEnd, MayRun, RunsLeavePrefixes, DoneLeavesWhole, RunsLeaveWhatPassed}
+use Rattle.line_run.specs.Ends.{RunEnd, Left, MayRun, RunsLeavePrefixes, DoneLeavesWhole, RunsLeaveWhatPassed}
 use Rattle.line_run.specs.Scripted.{channel_of, link_of, ScriptsMayPlay, ScriptsHaveDelays}
 use Rattle.line_bound.specs.Scripts.{LineRunsEndSoon}
 use Rattle.line_causes.specs.Causes.{LostLinksWereStarved}
@@ -29,7 +29,8 @@ use Rattle.command_base.specs.declared.stop.Stop.TheVariants as stops
 use Rattle.command_base.specs.Outputs.{Holds, HoldsPart, KeptOrEmpty, KeepsAll, CreatesPart}
 use Rattle.run_inputs.specs.declared.limits.TheConstants.{LIMITS}
 use Rattle.run_inputs.specs.Words.{RunNames, outputs_of}
-use Rattle.run_command.specs.Turns.{AddsTurn, AddsChance, StopsAfter, names_written}
+use Rattle.both_sides.specs.Names.{Written}
+use Rattle.run_command.specs.Turns.{AddsTurn, AddsChance, StopsAfter, HoldPart, of_orig, of_answ, of_lines, names_written}
 use Rattle.run_command.specs.Ends.{RanTo, StopsInTurn, RanBy, EndsBy, Ends as EndsSo}
 use Rattle.run_command.specs.Headline.{KeptOrPrefix}
 
@@ -106,6 +107,23 @@ both-ran laws old before n end g e =
           (laws.prefixes c link end e.left may e.run Answerer);
     }
 
+-- each received file holds what is left, and a part of what comes behind it
+part-none : (f : FolderState) (name octets piece : List ℕ) → Holds f name octets → HoldsPart f name octets piece
+part-none f name octets piece holds told = ([], (piece, refl), holds told ∙ ap Some (sym (append-nil octets)))
+
+part-all : (f : FolderState) (name octets piece : List ℕ) → Holds f name (octets ++ piece) → HoldsPart f name octets piece
+part-all f name octets piece holds told = (piece, ([], append-nil piece), holds told)
+
+part-o : (f : FolderState) (n : Written) (left more : Left) → HoldPart f n left more → HoldsPart f n.got_o left.got.orig more.got.orig
+part-o f n left more (of_orig got_o got_a trace) = got_o
+part-o f n left more (of_answ got_o got_a trace) = part-all f n.got_o left.got.orig more.got.orig got_o
+part-o f n left more (of_lines got_o got_a trace) = part-all f n.got_o left.got.orig more.got.orig got_o
+
+part-a : (f : FolderState) (n : Written) (left more : Left) → HoldPart f n left more → HoldsPart f n.got_a left.got.answ more.got.answ
+part-a f n left more (of_orig got_o got_a trace) = part-none f n.got_a left.got.answ more.got.answ got_a
+part-a f n left more (of_answ got_o got_a trace) = got_a
+part-a f n left more (of_lines got_o got_a trace) = part-all f n.got_a left.got.answ more.got.answ got_a
+
 hears-of : (link : Link) (ts : List Turn) (ends : Ends) (t : Turn) (mid : Ends) (o : Outcome) → TurnIs link ts ends t mid o
     → Hears (length ts) ends t mid
 hears-of link ts ends t mid Going g = subst (Hears (length ts) ends t) g.2 g.1.hearing
@@ -146,9 +164,11 @@ both-stopped : RunLaws → (old before : FolderState) (n : RunNames) → GoesOn 
     → BothPrefix old before n
 both-stopped laws old before n g e =
     let s = e.stops in record {
-      got_o = part-of old before n.got_o n.answ e.files.answ s.left.got.orig s.more.got.orig g e.takes.answ s.holds.got_o
+      got_o = part-of old before n.got_o n.answ e.files.answ s.left.got.orig s.more.got.orig g e.takes.answ
+          (part-o before (names_written n) s.left s.more s.holds)
           (stopped-prefix laws e.script e.files before n e.takes.limits s Originator);
-      got_a = part-of old before n.got_a n.orig e.files.orig s.left.got.answ s.more.got.answ g e.takes.orig s.holds.got_a
+      got_a = part-of old before n.got_a n.orig e.files.orig s.left.got.answ s.more.got.answ g e.takes.orig
+          (part-a before (names_written n) s.left s.more s.holds)
           (stopped-prefix laws e.script e.files before n e.takes.limits s Answerer);
     }
 
@@ -176,7 +196,7 @@ both-by : RunLaws → (old before : FolderState) (n : RunNames) (stop : Stop) �
 both-by laws old before n (stops.Own answer) g (inl refused) = both-kept old before n refused.0
 both-by laws old before n (stops.Own answer) g (inr e) = both-own laws old before n answer g e
 both-by laws old before n (stops.Read fault) g (inl refused) = both-kept old before n refused.0
-both-by laws old before n (stops.Read fault) g (inr e) = both-stopped laws old before n g e
+both-by laws old before n (stops.Read fault) g (inr e) = both-stopped laws old before n g e.0
 both-by laws old before n stops.NoMemory g e = both-kept old before n e.0
 both-by laws old before n (stops.Write fault) g (inl c) = both-creating old before n g c.creates
 both-by laws old before n (stops.Write fault) g (inr e) = both-stopped laws old before n g e

@@ -1,5 +1,5 @@
 -- Where the turns of a run have come.
-use Rattle.std.proofs.Common.{◌≡◌, inl, inr, ℕ, ◌+◌, ◌-◌, ◌≤◌, ◌<◌, ◌^◌, IsTrue, List, [], ◌∷◌, ◌++◌, length, take, refl, sym, ◌∙◌, ap, subst, arith, Some}
+use Rattle.std.proofs.Common.{◌≡◌, inl, inr, ℕ, ◌+◌, ◌-◌, ◌≤◌, ◌<◌, ◌^◌, IsTrue, List, [], ◌∷◌, ◌++◌, length, take, refl, sym, ◌∙◌, ap, subst, arith}
 use Rattle.std.proofs.lemmas.List.{length-take, append-nil}
 use Rattle.std.proofs.lemmas.List.Folds.{concat-append}
 use Rattle.std.specs.List.{concat}
@@ -28,10 +28,12 @@ use Rattle.line_world.specs.declared.world.World.{World}
 use Rattle.line_world.specs.declared.step.RunFault.{RunFault}
 use Rattle.line_world.specs.declared.step.RunFault.TheVariants as faults
 use Rattle.line_world.specs.World.{AreApart, KnowsFiles, OnlyOutputs, WorldAfter, script_of, turn_of, lost_of, again_of}
-use Rattle.line_world.specs.Turn.{WritesTurn, GoesOnBy, EndsInTurn, KeepsReceived, LosesLine, MeetsChance, Stops, EndsBy as TurnEndsBy, DoneIn, FaultCounts}
-use Rattle.command_base.specs.Outputs.{Holds, HoldsPart}
+use Rattle.line_world.specs.Turn.{WritesTurn, WritesPart, GoesOnBy, EndsInTurn, KeepsReceived, LosesLine, MeetsChance, StopsInTurn, StopsReading, Stops}
+use Rattle.line_world.specs.Turn.{EndsBy as TurnEndsBy, DoneIn, FaultCounts}
+use Rattle.line_world.specs.Turn as written
+use Rattle.command_base.specs.Outputs.{Holds}
 use Rattle.command_base.proofs.Holding.{Holds-kept, Holds-more, Holds-add, HoldsPart-more}
-use Rattle.run_command.specs.Turns.{HoldLeft, RunEnds, RunCounts, RunStops, FaultEnds}
+use Rattle.run_command.specs.Turns.{HoldLeft, HoldPart, of_orig, of_answ, of_lines, AddsTurn, RunEnds, RunCounts, RunStops, RunStopsReading, FaultEnds}
 
 -- what ends and a text leave
 abbrev pub left_of : Ends → List ℕ → Left
@@ -265,53 +267,85 @@ reached-chance w script n old now next role number r apart e only =
 abbrev pub none_got : Both (List ℕ)
 none_got = record { orig = []; answ = [] }
 
--- the folder fails
-kept-part : (now next : FolderState) (name octets : List ℕ) → GoesOn now next → Holds now name octets → KeepsName now next name
-    → HoldsPart next name octets []
-kept-part now next name octets on holds kept =
-    λ told. ([], ([], refl), Holds-kept now next name octets on holds kept told ∙ ap Some (sym (append-nil octets)))
+kept-none : (now next : FolderState) (name octets : List ℕ) → GoesOn now next → Holds now name octets → KeepsName now next name
+    → Holds next name (octets ++ [])
+kept-none now next name octets on holds kept =
+    subst (Holds next name) (sym (append-nil octets)) (Holds-kept now next name octets on holds kept)
 
-reached-stops : (w : World) (script : ScriptValue) (n : Written) (old now next : FolderState) (r : Reached w script n old now) → AreApart n
-    → Stops script now next n r.files r.turns r.ends → OnlyOutputs now next n → RunStops script next n
-reached-stops w script n old now next r apart (inl s) only =
-    let added : Left = record {
-      got = record { orig = concat (deliveries s.mid.orig); answ = concat (deliveries s.mid.answ) };
-      trace =
-          turn_text (length r.turns) s.turn;
-    } in
-    record {
-      files = s.others;
-      knows = s.known.known r.knows;
-      stops = record {
-        turns = r.turns;
-        ends = r.ends;
-        run = s.makes.run;
-        left = left_of r.ends (trace_text r.turns);
-        leaves = leaves-so r.ends (trace_text r.turns);
-        more = added;
-        adds = inl (record {
-          turn = s.turn;
-          mid = s.mid;
-          outcome = s.outcome;
-          heard = s.makes.heard;
-          is = s.makes.is;
-          got_is =
-              got;
-          trace_is = refl;
-        });
-        holds = record {
-          got_o = HoldsPart-more now next n.got_o _ (concat (deliveries s.mid.orig)) only.goes_on r.holds.got_o s.writes.got_o;
-          got_a = HoldsPart-more now next n.got_a _ (concat (deliveries s.mid.answ)) only.goes_on r.holds.got_a s.writes.got_a;
-          trace = HoldsPart-more now next n.trace (trace_text r.turns)
-              (turn_text (length r.turns) s.turn) only.goes_on r.holds.trace s.writes.trace;
-        };
-      };
-    }
+-- what a turn adds to the outputs
+abbrev added : Ends → List ℕ → Left
+added mid text = record { got = record { orig = concat (deliveries mid.orig); answ = concat (deliveries mid.answ) }; trace = text }
+
+-- a part of it is held
+part-held : (now next : FolderState) (n : Written) (left : Left) (mid : Ends) (text : List ℕ) → GoesOn now next → HoldLeft now n left
+    → WritesPart now next n mid text → HoldPart next n left (added mid text)
+part-held now next n left mid text on h (written.of_orig got_o got_a trace) =
+    of_orig (HoldsPart-more now next n.got_o left.got.orig (concat (deliveries mid.orig)) on h.got_o got_o)
+    (Holds-kept now next n.got_a left.got.answ on h.got_a got_a) (Holds-kept now next n.trace left.trace on h.trace trace)
+part-held now next n left mid text on h (written.of_answ got_o got_a trace) =
+    of_answ (Holds-add now next n.got_o left.got.orig (concat (deliveries mid.orig)) on h.got_o got_o)
+    (HoldsPart-more now next n.got_a left.got.answ (concat (deliveries mid.answ)) on h.got_a got_a)
+    (Holds-kept now next n.trace left.trace on h.trace trace)
+part-held now next n left mid text on h (written.of_lines got_o got_a trace) =
+    of_lines (Holds-add now next n.got_o left.got.orig (concat (deliveries mid.orig)) on h.got_o got_o)
+    (Holds-add now next n.got_a left.got.answ (concat (deliveries mid.answ)) on h.got_a got_a)
+    (HoldsPart-more now next n.trace left.trace text on h.trace trace)
+
+-- the folder fails in a turn, whatever it comes to,
+adds-turn : (w : World) (script : ScriptValue) (n : Written) (old now next : FolderState) (r : Reached w script n old now)
+    → (s : StopsInTurn script now next n r.files r.turns r.ends)
+    → AddsTurn (channel_of script) (link_of script s.others) r.turns r.ends (added s.mid (turn_text (length r.turns) s.turn))
+adds-turn w script n old now next r s = record {
+  turn = s.turn;
+  mid = s.mid;
+  outcome = s.outcome;
+  heard = s.makes.heard;
+  is = s.makes.is;
+  got_is = got;
+  trace_is = refl;
+}
   where
     got : (role : Role) → of role (record { orig = concat (deliveries s.mid.orig); answ = concat (deliveries s.mid.answ) }) ≡ concat
         (deliveries (of role s.mid))
     got Originator = refl
     got Answerer = refl
+
+stopped-turn : (w : World) (script : ScriptValue) (n : Written) (old now next : FolderState) (r : Reached w script n old now)
+    → StopsInTurn script now next n r.files r.turns r.ends → OnlyOutputs now next n → RunStops script next n
+stopped-turn w script n old now next r s only = record {
+  files = s.others;
+  knows = s.known.known r.knows;
+  stops = record {
+    turns = r.turns;
+    ends = r.ends;
+    run = s.makes.run;
+    left = left_of r.ends (trace_text r.turns);
+    leaves = leaves-so r.ends (trace_text r.turns);
+    more = added s.mid (turn_text (length r.turns) s.turn);
+    adds = inl (adds-turn w script n old now next r s);
+    holds = part-held now next n (left_of r.ends (trace_text r.turns)) s.mid (turn_text (length r.turns) s.turn) only.goes_on r.holds
+        s.writes;
+  };
+}
+
+-- as a file is read,
+reached-reading : (w : World) (script : ScriptValue) (n : Written) (old now next : FolderState) (r : Reached w script n old now)
+    → StopsReading script now next n r.files r.turns r.ends → OnlyOutputs now next n → RunStopsReading script next n
+unfolding stopped-turn
+reached-reading w script n old now next r (s, delivered) only = (
+  stopped-turn w script n old now next r s only,
+  record {
+    adds = adds-turn w script n old now next r s;
+    got_o = Holds-add now next n.got_o _ (concat (deliveries s.mid.orig)) only.goes_on r.holds.got_o delivered.got_o;
+    got_a = Holds-add now next n.got_a _ (concat (deliveries s.mid.answ)) only.goes_on r.holds.got_a delivered.got_a;
+    trace = Holds-kept now next n.trace (trace_text r.turns) only.goes_on r.holds.trace delivered.trace;
+  },
+)
+
+-- or at any of its steps
+reached-stops : (w : World) (script : ScriptValue) (n : Written) (old now next : FolderState) (r : Reached w script n old now) → AreApart n
+    → Stops script now next n r.files r.turns r.ends → OnlyOutputs now next n → RunStops script next n
+reached-stops w script n old now next r apart (inl s) only = stopped-turn w script n old now next r s only
 reached-stops w script n old now next r apart (inr s) only = record {
   files = r.files;
   knows = knows-later now next n r.files apart only r.knows;
@@ -323,11 +357,9 @@ reached-stops w script n old now next r apart (inr s) only = record {
     leaves = leaves-so r.ends (trace_text r.turns);
     more = record { got = none_got; trace = chance_line (length r.turns) s.role };
     adds = inr (record { role = s.role; is = s.is; got_is = none; trace_is = refl });
-    holds = record {
-      got_o = kept-part now next n.got_o _ only.goes_on r.holds.got_o s.received.got_o;
-      got_a = kept-part now next n.got_a _ only.goes_on r.holds.got_a s.received.got_a;
-      trace = HoldsPart-more now next n.trace (trace_text r.turns) (chance_line (length r.turns) s.role) only.goes_on r.holds.trace s.trace;
-    };
+    holds = of_lines (kept-none now next n.got_o _ only.goes_on r.holds.got_o s.received.got_o)
+        (kept-none now next n.got_a _ only.goes_on r.holds.got_a s.received.got_a)
+        (HoldsPart-more now next n.trace (trace_text r.turns) (chance_line (length r.turns) s.role) only.goes_on r.holds.trace s.trace);
   };
 }
   where
@@ -345,7 +377,7 @@ reached-fault delivers w w' script n old now next fault r apart same e only =
     by fault (subst (λ s. TurnEndsBy s now next n r.files r.turns r.ends fault) (same ∙ r.script_is) e)
   where
     by : (fault : RunFault) → TurnEndsBy script now next n r.files r.turns r.ends fault → FaultEnds script next n fault
-    by faults.ReadFault e = reached-stops w script n old now next r apart e only
+    by faults.ReadFault e = reached-reading w script n old now next r e only
     by faults.WriteFault e = reached-stops w script n old now next r apart e only
     by faults.NoMemory e = reached-stops w script n old now next r apart e only
     by (faults.LineLost role symbol) e = reached-line w script n old now next role symbol r apart e only

@@ -22,8 +22,8 @@ use Rattle.run_inputs.specs.declared.limits.Limits.{Limits}
 use Rattle.run_inputs.specs.declared.limits.TheConstants.{LIMITS}
 use Rattle.run_inputs.specs.Words.{RunNames, AreNoneOf, inputs_of, outputs_of}
 use Rattle.run_inputs.specs.Inputs.{Refuses}
-use Rattle.run_command.specs.Turns.{names_written, RunEnds, RunStops, FaultEnds}
-use Rattle.run_command.specs.Ends.{IsBegun, Takes, RanTo, StopsInTurn, StopsCreating, EndsBy, fault_stop}
+use Rattle.run_command.specs.Turns.{names_written, RunEnds, RunStops, RunStopsReading, FaultEnds}
+use Rattle.run_command.specs.Ends.{IsBegun, Takes, RanTo, StopsInTurn, StopsInReading, StopsCreating, EndsBy, fault_stop}
 
 -- the inputs were not taken
 pub ends-refused : (l : Limits) (old new : FolderState) (n : RunNames) (stop : Stop) → OnlyReads old new → Refuses l old new n stop
@@ -123,10 +123,15 @@ stops-in : (old mid now next : FolderState) (n : RunNames) (script : ScriptValue
 stops-in old mid now next n script p r =
     record { script = script; files = r.files; takes = takes old mid now next n script r.files p r.knows; stops = r.stops }
 
+stops-in-reading : (old mid now next : FolderState) (n : RunNames) (script : ScriptValue) → Phases LIMITS old mid now next n script
+    → RunStopsReading script next (names_written n) → StopsInReading LIMITS old next n
+unfolding stops-in
+stops-in-reading old mid now next n script p r = (stops-in old mid now next n script p r.0, r.1)
+
 -- a turn's fault ended the run
 pub ends-in-turn : (old mid now next : FolderState) (n : RunNames) (script : ScriptValue) (fault : RunFault)
     → Phases LIMITS old mid now next n script → FaultEnds script next (names_written n) fault → EndsBy LIMITS old next n (fault_stop fault)
-ends-in-turn old mid now next n script faults.ReadFault p e = inr (stops-in old mid now next n script p e)
+ends-in-turn old mid now next n script faults.ReadFault p e = inr (stops-in-reading old mid now next n script p e)
 ends-in-turn old mid now next n script faults.WriteFault p e = inr (stops-in old mid now next n script p e)
 ends-in-turn old mid now next n script faults.NoMemory p e = inr (stops-in old mid now next n script p e)
 ends-in-turn old mid now next n script (faults.LineLost role symbol) p e =

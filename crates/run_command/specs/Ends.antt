@@ -23,7 +23,7 @@ use Rattle.run_inputs.specs.declared.limits.Limits.{Limits}
 use Rattle.run_inputs.specs.declared.limits.TheConstants.{LIMITS}
 use Rattle.run_inputs.specs.Words.{RunNames, inputs_of, outputs_of}
 use Rattle.run_inputs.specs.Inputs.{Opens, RefusesOwn, FailsToRead}
-use Rattle.run_command.specs.Turns.{names_written, HoldLeft, StopsAfter}
+use Rattle.run_command.specs.Turns.{names_written, HoldLeft, StopsAfter, StopsReading}
 
 -- The inputs were opened, and nothing else was done: they are within their limits, and this is the script.
 pub record IsBegun (l : Limits) (old now : FolderState) (n : RunNames) (script : ScriptValue) : Type 0 where
@@ -55,6 +55,11 @@ pub record StopsInTurn (l : Limits) (old new : FolderState) (n : RunNames) : Typ
   pub takes : Takes l old n script files
   pub stops : StopsAfter (channel_of script) (link_of script files) new (names_written n)
 
+-- It failed to read a file that is sent.
+abbrev pub StopsInReading : Limits → FolderState → FolderState → RunNames → Type 0
+StopsInReading l old new n =
+    (s : StopsInTurn l old new n) × StopsReading (channel_of s.script) (link_of s.script s.files) new (names_written n) s.stops
+
 -- An output was not created, once the inputs were opened.
 pub record StopsCreating (l : Limits) (old new : FolderState) (n : RunNames) : Type 0 where
   pub script : ScriptValue
@@ -72,7 +77,7 @@ RanBy l old new n answer = ⊥
 -- why a run stops with less than both files: for its inputs, before any output is created, for what becomes of it, or for the folder
 abbrev pub EndsBy : Limits → FolderState → FolderState → RunNames → Stop → Type 0
 EndsBy l old new n (Own answer) = (KeepsAll old new × RefusesOwn l old n answer) ⊎ RanBy l old new n answer
-EndsBy l old new n (Read fault) = (KeepsAll old new × FailsToRead l old new n fault) ⊎ StopsInTurn l old new n
+EndsBy l old new n (Read fault) = (KeepsAll old new × FailsToRead l old new n fault) ⊎ StopsInReading l old new n
 EndsBy l old new n (Write fault) = StopsCreating l old new n ⊎ StopsInTurn l old new n
 EndsBy l old new n (Say fault) = ⊥
 EndsBy l old new n NoMemory = KeepsAll old new × IsWithin old n.script l.script

@@ -1,5 +1,5 @@
 -- What the outputs hold of a run: what its turns left, and a part of what the next turn adds where the folder fails in it.
-use Rattle.std.specs.Prelude.{◌≡◌, ◌⊎◌, ℕ, List, [], ◌∷◌, length, Result, Ok, Err}
+use Rattle.std.specs.Prelude.{◌≡◌, ◌⊎◌, ℕ, List, [], ◌∷◌, ◌++◌, length, Result, Ok, Err}
 use Rattle.std.specs.List.{concat}
 use Rattle.outside_core.specs.Folder.{FolderState}
 use Rattle.roles.specs.declared.role.Role.{Role}
@@ -33,11 +33,15 @@ pub record HoldLeft (f : FolderState) (n : Written) (left : Left) : Type 0 where
   pub got_a : Holds f n.got_a left.got.answ
   pub trace : Holds f n.trace left.trace
 
--- They hold that, and each a part of what comes behind it.
-pub record HoldPart (f : FolderState) (n : Written) (left more : Left) : Type 0 where
-  pub got_o : HoldsPart f n.got_o left.got.orig more.got.orig
-  pub got_a : HoldsPart f n.got_a left.got.answ more.got.answ
-  pub trace : HoldsPart f n.trace left.trace more.trace
+-- They hold that, and a part of what comes behind it: one of what the originator's user is given, and nothing else; one of what the
+-- answerer's is given, behind all of the originator's, and nothing of the trace; or one of the trace, behind all that both are given.
+pub data HoldPart (f : FolderState) (n : Written) (left more : Left) : Type 0 where
+  of_orig : HoldsPart f n.got_o left.got.orig more.got.orig → Holds f n.got_a left.got.answ → Holds f n.trace left.trace
+      → HoldPart f n left more
+  of_answ : Holds f n.got_o (left.got.orig ++ more.got.orig) → HoldsPart f n.got_a left.got.answ more.got.answ
+      → Holds f n.trace left.trace → HoldPart f n left more
+  of_lines : Holds f n.got_o (left.got.orig ++ more.got.orig) → Holds f n.got_a (left.got.answ ++ more.got.answ)
+      → HoldsPart f n.trace left.trace more.trace → HoldPart f n left more
 
 -- What a turn after these adds, whatever it comes to: what both ends take in it, and its two lines of the trace.
 pub record AddsTurn (c : Channel) (link : Link) (ts : List Turn) (ends : Ends) (more : Left) : Type 0 where
@@ -67,6 +71,13 @@ pub record StopsAfter (c : Channel) (link : Link) (f : FolderState) (n : Written
   pub adds : AddsTurn c link turns ends more ⊎ AddsChance c turns ends more
   pub holds : HoldPart f n left more
 
+-- It failed to read a file that is sent: the outputs hold all that both users are given in that turn, and nothing of its lines.
+pub record StopsReading (c : Channel) (link : Link) (f : FolderState) (n : Written) (s : StopsAfter c link f n) : Type 0 where
+  pub adds : AddsTurn c link s.turns s.ends s.more
+  pub got_o : Holds f n.got_o (s.left.got.orig ++ s.more.got.orig)
+  pub got_a : Holds f n.got_a (s.left.got.answ ++ s.more.got.answ)
+  pub trace : Holds f n.trace s.left.trace
+
 -- ---- what turns come to that are made over a folder
 
 -- The run of a script and these files ended so.
@@ -89,9 +100,13 @@ pub record RunStops (script : ScriptValue) (f : FolderState) (n : Written) : Typ
   pub knows : KnowsFiles f n files
   pub stops : StopsAfter (channel_of script) (link_of script files) f n
 
+-- It failed to read a file that is sent.
+abbrev pub RunStopsReading : ScriptValue → FolderState → Written → Type 0
+RunStopsReading script f n = (s : RunStops script f n) × StopsReading (channel_of script) (link_of script s.files) f n s.stops
+
 -- how turns end with a fault
 abbrev pub FaultEnds : ScriptValue → FolderState → Written → RunFault → Type 0
-FaultEnds script f n faults.ReadFault = RunStops script f n
+FaultEnds script f n faults.ReadFault = RunStopsReading script f n
 FaultEnds script f n faults.WriteFault = RunStops script f n
 FaultEnds script f n (faults.LineLost role symbol) = RunEnds script f n (runs.LineLost role symbol)
 FaultEnds script f n (faults.ChanceMatch role turn) = RunEnds script f n (runs.ChanceMatch role turn)

@@ -29,5 +29,14 @@ returns-in-Ok-clause-hands g c = λ files ts ends heard mid h.
       };
     }
 
+pub returns-in-Err-clause-part : goal.returns-in-Err-clause-part
+returns-in-Err-clause-part g c = λ files ts ends heard mid h.
+    let n = written c.args.names.now in
+    let apart = c.requires.apart in
+    record {
+      octets = c.in-Err.ensures.err files mid h.link;
+      trace = c.in-Err.ensures.only.names n.trace (λ e. apart.got_o_trace (sym e)) (λ e. apart.got_a_trace (sym e));
+    }
+
 pub returns-in-Ok-clause-counted : goal.returns-in-Ok-clause-counted
 returns-in-Ok-clause-counted g c = λ heard asked h. c.given_breaks.ensures.counted heard asked (c.in-Ok.ensures.counted heard asked h)
