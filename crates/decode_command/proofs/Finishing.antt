@@ -19,5 +19,9 @@ finishes rate tap reads d waiting samples labels tail before octets carries leas
     record {
       labels = labels ++ tail;
       least = least;
-      carried = record { bits = j.bits; read = carries last (labels ++ tail) j.bits j.read; whole = whole-joined others j.bits octets j.joined };
+      carried = record {
+        bits = j.bits;
+        read = carries last (labels ++ tail) j.bits j.read;
+        whole = whole-joined others j.bits octets j.joined;
+      };
     }
