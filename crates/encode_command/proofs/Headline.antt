@@ -19,6 +19,7 @@ use Rattle.encode_command.specs.Words.{EncodeNames}
 use Rattle.encode_command.specs.Ends.{WritesAll, LeavesPart, Ends, encode_job}
 use Rattle.encode_command.specs.Completes.{Completes}
 use Rattle.encode_command.specs.Headline.{HoldsBeginning, HoldsWhole, Headline}
+use Rattle.encode_command.proofs.Making.{front-part}
 
 left-part : (old before : FolderState) (n : EncodeNames) → LeavesPart old before n → KeepsName old before n.rec
     ⊎ HoldsBeginning old before n
@@ -42,7 +43,8 @@ left-by old before n (Ok samples) w =
           HoldsFront-all before n.rec w.recording w.rec;
     }))
 left-by old before n (Err (Own answer)) e = inl (e.1 n.rec)
-left-by old before n (Err (Read fault)) e = left-part old before n e
+left-by old before n (Err (Read fault)) (inl kept) = inl kept
+left-by old before n (Err (Read fault)) (inr front) = left-part old before n (inr (front-part old before n front))
 left-by old before n (Err (Write fault)) e = left-part old before n e.1
 left-by old before n (Err (Say fault)) e = absurd e
 left-by old before n (Err NoMemory) e = absurd e

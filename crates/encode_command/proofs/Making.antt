@@ -21,7 +21,7 @@ use Rattle.command_base.proofs.Holding.{Holds-kept, Holds-more, HoldsFront-all, 
 use Rattle.command_base.proofs.OnlyOutputs.{OnlyOutput-reads, OnlyOutput-writes, OnlyOutput-trans}
 use Rattle.command_base.proofs.Reading.{ReadTo-kept, ReadTo-begins}
 use Rattle.encode_command.specs.Words.{EncodeNames, are_apart}
-use Rattle.encode_command.specs.Ends.{WritesAll, WritesPart, LeavesPart, EndsBy}
+use Rattle.encode_command.specs.Ends.{WritesAll, WritesPart, WritesFront, LeavesPart, EndsBy}
 use Rattle.encode_command.specs.Recorded.{Begun, RecordedTo}
 use Rattle.encode_command.proofs.Longer.{goes_on}
 
@@ -110,12 +110,21 @@ held-after : (old mid : FolderState) (name octets : List ℕ) → OnlyReads old 
 held-after old mid name octets r holds = Holds-kept old mid name octets r.goes_on holds (r.names name)
 
 -- what was recorded so far is left, also after a read
-pub recorded-part : (start old mid : FolderState) (n : EncodeNames) (kept : Recorder) (at : ℕ) → RecordedTo start old n kept at
-    → OnlyReads old mid → LeavesPart start mid n
-recorded-part start old mid n kept at r reads =
-    inr (part-of start mid n r.octets (header_at n.rate n.mode ++ r.recorded) (samples_each n.rate * length r.octets) r.read.within
-    (ReadTo-begins start old n.file FILE_LIMIT at r.octets r.read) (recorded-as n.rate n.mode kept r.octets r.recorded r.stands)
-    (HoldsFront-all mid n.rec (header_at n.rate n.mode ++ r.recorded) (held-after old mid n.rec _ reads r.rec)))
+pub recorded-front : (start old mid : FolderState) (n : EncodeNames) (kept : Recorder) (at : ℕ) → RecordedTo start old n kept at
+    → OnlyReads old mid → WritesFront start mid n
+recorded-front start old mid n kept at r reads = record {
+  octets = r.octets;
+  within = r.read.within;
+  front = ReadTo-begins start old n.file FILE_LIMIT at r.octets r.read;
+  recording = header_at n.rate n.mode ++ r.recorded;
+  samples = samples_each n.rate * length r.octets;
+  recorded = recorded-as n.rate n.mode kept r.octets r.recorded r.stands;
+  rec = held-after old mid n.rec (header_at n.rate n.mode ++ r.recorded) reads r.rec;
+}
+
+pub front-part : (start new : FolderState) (n : EncodeNames) → WritesFront start new n → WritesPart start new n
+front-part start new n w =
+    part-of start new n w.octets w.recording w.samples w.within w.front w.recorded (HoldsFront-all new n.rec w.recording w.rec)
 
 -- a write failed, behind what the output held
 write-part : (start mid new : FolderState) (n : EncodeNames) (octets held piece : List ℕ) (samples : ℕ) → IsWithin start n.file FILE_LIMIT

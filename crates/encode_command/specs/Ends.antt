@@ -1,6 +1,7 @@
 -- How the making of a recording ends, before its line is said. What is said of a name's octets holds where the folder
 -- tells that name.
 use Rattle.std.specs.Prelude.{◌≡◌, ◌⊎◌, ℕ, IsTrue, List, [], ◌∷◌, Result, Ok, Err}
+use Rattle.plain_lists.specs.Prefix.{IsPrefixOf}
 use Rattle.outside_core.specs.Folder.{FolderState, octets_at, KeepsName}
 use Rattle.recordings.specs.Recording.{IsRecordingOf}
 use Rattle.command_base.specs.declared.limits.TheConstants.{FILE_LIMIT}
@@ -33,6 +34,16 @@ pub record WritesPart (old new : FolderState) (n : EncodeNames) : Type 0 where
   pub records : RecordsFile old n recording samples
   pub rec : HoldsFront new n.rec recording
 
+-- The output holds the whole recording of octets with which the file begins.
+pub record WritesFront (old new : FolderState) (n : EncodeNames) : Type 0 where
+  pub octets : List ℕ
+  pub within : IsWithin old n.file FILE_LIMIT
+  pub front : IsTrue (old.tells n.file) → IsPrefixOf octets (octets_at old n.file)
+  pub recording : List ℕ
+  pub samples : ℕ
+  pub recorded : IsRecordingOf n.rate n.mode octets recording samples
+  pub rec : Holds new n.rec recording
+
 -- the output is as it was, or holds the beginning of the file's recording
 abbrev pub LeavesPart : FolderState → FolderState → EncodeNames → Type 0
 LeavesPart old new n = KeepsName old new n.rec ⊎ WritesPart old new n
@@ -40,7 +51,7 @@ LeavesPart old new n = KeepsName old new n.rec ⊎ WritesPart old new n
 -- why there is no recording, or no whole one; word 2 names the file
 abbrev pub EndsBy : FolderState → FolderState → EncodeNames → Stop → Type 0
 EndsBy old new n (Own answer) = (answer ≡ TooLong 2) × KeepsAll old new × IsLonger old n.file FILE_LIMIT
-EndsBy old new n (Read fault) = LeavesPart old new n
+EndsBy old new n (Read fault) = KeepsName old new n.rec ⊎ WritesFront old new n
 EndsBy old new n (Write fault) = IsWithin old n.file FILE_LIMIT × LeavesPart old new n
 EndsBy old new n (Say fault) = ⊥
 EndsBy old new n NoMemory = ⊥

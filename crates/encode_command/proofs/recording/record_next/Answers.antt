@@ -1,9 +1,9 @@
-use Rattle.std.proofs.Common.{◌≡◌, ℕ, ◌<◌, List, [], ◌++◌, IsTrue, take, subst, arith}
+use Rattle.std.proofs.Common.{◌≡◌, inr, ℕ, ◌<◌, List, [], ◌++◌, IsTrue, take, subst, arith}
 use Rattle.outside_core.specs.Folder.{FolderState, octets_at, Appended, PartlyAppended}
 use Rattle.recordings.specs.declared.recorder.Recorder.{Recorder}
 use Rattle.recordings.specs.Recording.{RecorderStands}
 use Rattle.encode_command.specs.Words.{EncodeNames, named}
-use Rattle.encode_command.proofs.Making.{recorded-part, recorded-more, recorded-whole, piece-part}
+use Rattle.encode_command.proofs.Making.{recorded-front, recorded-more, recorded-whole, piece-part}
 use Rattle.encode_command.proofs.recording.record_next.Goals as goal
 
 pub returns-in-Ok-eq0-clause-end : goal.returns-in-Ok-eq0-clause-end
@@ -20,8 +20,8 @@ returns-in-Ok-eq0-clause-end g c = λ start r zero.
 
 pub returns-in-Err-clause-err : goal.returns-in-Err-clause-err
 returns-in-Err-clause-err g c = λ start r.
-    recorded-part start (g.F.Folder.state c.args.folder.now) (g.F.Folder.state c.read_piece.new.folder)
-    (named c.args.names.now) c.args.recorder.now c.args.at r c.in-Err.ensures.reads
+    inr (recorded-front start (g.F.Folder.state c.args.folder.now) (g.F.Folder.state c.read_piece.new.folder)
+    (named c.args.names.now) c.args.recorder.now c.args.at r c.in-Err.ensures.reads)
 
 pub returns-in-Ok-append_output-clause-ok : goal.returns-in-Ok-append_output-clause-ok
 returns-in-Ok-append_output-clause-ok g c = λ start r.
