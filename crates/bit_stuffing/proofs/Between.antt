@@ -21,8 +21,7 @@ flag-lift bits n q within h =
     record {
       room = h.room;
       within = omega (arith, h.within, l);
-      spelled =
-          λ i less. sym (bit-take bits n (q - 8 + i) (omega (arith, h.room, h.within, l))) ∙ h.spelled i less;
+      spelled = λ i less. sym (bit-take bits n (q - 8 + i) (omega (arith, h.room, h.within, l))) ∙ h.spelled i less;
     }
 
 seven-lift : (bits : List Bool) (n q : ℕ) → n ≤ length bits → SevenOnesEndAt (take n bits) q → SevenOnesEndAt bits q
@@ -31,8 +30,7 @@ seven-lift bits n q within h =
     record {
       room = h.room;
       within = omega (arith, h.within, l);
-      ones =
-          λ i less. sym (bit-take bits n (q - 7 + i) (omega (arith, h.room, h.within, l))) ∙ h.ones i less;
+      ones = λ i less. sym (bit-take bits n (q - 7 + i) (omega (arith, h.room, h.within, l))) ∙ h.ones i less;
     }
 
 -- the bits behind place p, k of them

@@ -31,8 +31,7 @@ pub record Ends (text bits : List Bool) : Type 0 where
 pub ends : (text bits : List Bool) → ends_with beq bits text ≡ true → Ends text bits
 ends text bits e = record {
   room = omega (arith, ap length same, length-drop (length bits - length text) bits);
-  spelled =
-      λ i l. sym (get_or-drop (length bits - length text) bits i false) ∙ ap (λ t. get_or t i false) (sym same);
+  spelled = λ i l. sym (get_or-drop (length bits - length text) bits i false) ∙ ap (λ t. get_or t i false) (sym same);
 }
   where
     same : text ≡ drop (length bits - length text) bits

@@ -38,8 +38,7 @@ gathers-take g h bits b k e room more =
     let m : removed 5 (bits ++ b ∷ []) ≡ removed 5 bits ++ b ∷ [] = removed-snoc 5 bits b ∙ ap (λ l. removed 5 bits ++ l) o.0 in
     record {
       room_is = room ∙ each b (room_after 5 bits) k.room_is o.1 o.2 ∙ sym (room-snoc 5 bits b);
-      keeps =
-          subst (KeepsBits h.over h.octets h.part h.held) (sym m) (more k.keeps);
+      keeps = subst (KeepsBits h.over h.octets h.part h.held) (sym m) (more k.keeps);
     }
   where
     each : (b : Bool) (r : ℕ) → g.room ≡ r → next_room r true ≡ r - 1 → next_room r false ≡ 5 → cond b (g.room - 1) 5 ≡ next_room r b

@@ -98,8 +98,7 @@ module _ (bits : List Bool) (b : Bool) (f : FlagEndsAt (bits ++ b ∷ []) (lengt
     opened = far.opened;
     is_opened = far.is_opened;
     closing = rw (length-snoc bits b) f;
-    some =
-        omega (arith, far.far, length-snoc bits b);
+    some = omega (arith, far.far, length-snoc bits b);
   }
 
   no_abort : Aborts bits (bits ++ b ∷ []) → ⊥

@@ -22,8 +22,7 @@ sent-whole : (sent : List ℕ) → IsFrame sent → IsWhole (stuffed 5 (bits_of 
 sent-whole sent f = record {
   carries = record { small = f.small; stuffs = stuffs-stuffed 0 5 (bits_of sent) refl };
   low = f.low;
-  high =
-      f.high;
+  high = f.high;
 }
 
 -- the frame of a slot is found at its closing flag

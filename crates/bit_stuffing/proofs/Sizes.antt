@@ -62,8 +62,7 @@ plain-grows size more bits is =
     record {
       full = omega (arith, is.full, wide);
       no_flag = no_flag;
-      ones =
-          record { room = omega (arith, is.ones.room, wide); within = omega arith; ones = ones };
+      ones = record { room = omega (arith, is.ones.room, wide); within = omega arith; ones = ones };
     }
   where
     wide : length (bits ++ replicate more true) ≡ length bits + more
@@ -87,8 +86,7 @@ plain-grows size more bits is =
           record {
             room = f.room;
             within = front;
-            spelled =
-                λ i l. sym (bit-left bits (replicate more true) (n - 8 + i) (omega (arith, f.room))) ∙ f.spelled i l;
+            spelled = λ i l. sym (bit-left bits (replicate more true) (n - 8 + i) (omega (arith, f.room))) ∙ f.spelled i l;
           }
     ]
 

@@ -21,8 +21,7 @@ ragged = refl
 sabme : pieces_of (bits_of (0x7e ∷ 0x03 ∷ 0xdf ∷ 0x3e ∷ 0xb9 ∷ 0xfa ∷ 0xf9 ∷ [])) ≡ record {
   place = 50;
   piece = Whole;
-  octets =
-      0x03 ∷ 0x7f ∷ 0x5f ∷ 0xae ∷ [];
+  octets = 0x03 ∷ 0x7f ∷ 0x5f ∷ 0xae ∷ [];
 } ∷ []
 unfolding pieces_of found_at
 sabme = refl

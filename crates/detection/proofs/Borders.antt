@@ -248,8 +248,7 @@ inside-patterns size phase kind past h p low high seen x = each (split-ends past
       a_gap = x.a_gap;
       b_gap = x.b_gap;
       e_gap = x.e_gap;
-      ends =
-          w.bits_is;
+      ends = w.bits_is;
     }
     each (inr w) = absurd (elim (cases_lt (length w.lead) 9) [ inl near ↦ ninth near | inr far ↦ begins far ])
       where

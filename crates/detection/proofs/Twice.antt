@@ -117,6 +117,5 @@ split-ends (x ∷ past) bits (y ∷ before) text e = each (split-ends past bits 
       lead = o.lead;
       some = o.some;
       text_is = o.text_is;
-      past_is =
-          ap (λ l. x ∷ l) o.past_is ∙ ap (λ h. h ∷ (before ++ o.lead)) (head-of x y (past ++ bits) (before ++ text) e);
+      past_is = ap (λ l. x ∷ l) o.past_is ∙ ap (λ h. h ∷ (before ++ o.lead)) (head-of x y (past ++ bits) (before ++ text) e);
     })

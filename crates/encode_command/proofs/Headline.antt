@@ -39,8 +39,7 @@ left-by old before n (Ok samples) w =
       recording = w.recording;
       samples = samples;
       records = w.records;
-      rec =
-          HoldsFront-all before n.rec w.recording w.rec;
+      rec = HoldsFront-all before n.rec w.recording w.rec;
     }))
 left-by old before n (Err (Own answer)) e = inl (e.1 n.rec)
 left-by old before n (Err (Read fault)) (inl kept) = inl kept

@@ -185,10 +185,8 @@ few-lost table points states labels steps depth starts samples symbol front code
       code_sequence =
           record {
             from = q.code_sequence.from;
-            starts_there =
-                (and_parts (starts q.code_sequence.from) (nat_lt q.code_sequence.from states) q.code_sequence.starts_there).0;
-            leads =
-                q.code_sequence.leads;
+            starts_there = (and_parts (starts q.code_sequence.from) (nat_lt q.code_sequence.from states) q.code_sequence.starts_there).0;
+            leads = q.code_sequence.leads;
           };
       same_length = q.same_length;
     }
@@ -211,8 +209,7 @@ few-lost table points states labels steps depth starts samples symbol front code
         record {
           start = s;
           starts_there = and_from (starts s) (nat_lt s states) e (lt-ltb s states l);
-          within =
-              λ t f. ltb-true t states (and_parts (starts t) (nat_lt t states) f).1;
+          within = λ t f. ltb-true t states (and_parts (starts t) (nat_lt t states) f).1;
         } in
         let xs : List Sample = take symbol samples in
         let long : length xs ≡ symbol = length-take-le symbol samples (omega (arith, lost.within)) in

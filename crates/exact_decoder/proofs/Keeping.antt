@@ -217,8 +217,7 @@ stepped-of table points states labels parallel subsets ways steps before subset 
         let same : record {
           before = slice_index entered s % 256;
           label = slice_index entered s / 256 % 256;
-          sum =
-              slice_index entered s / 65536;
+          sum = slice_index entered s / 65536;
         } ≡ f = some_one (sym (entry-near (slice_index entered s) k.1) ∙ is) in
         let choice : choice_at column s ≡ choice_in (slice_index entered s) =
         made.choices s k.0 ∙ ap choice_in (settled-near (slice_index entered s) least k.1) in
@@ -378,8 +377,7 @@ released-of states sums columns unreleased left labels long some split covered =
           x = p.x;
           y = p.y;
           a = p.a;
-          b =
-              p.b;
+          b = p.b;
           s_begins = a.3;
           t_begins = b.3;
           apart = p.apart;
@@ -438,8 +436,7 @@ push-all table points states labels parallel subsets ways steps depth before sub
       states_in = holds.states_in;
       near = near;
       into = into;
-      small =
-          small;
+      small = small;
       close = λ q i l k. close q l i k;
     }
 
@@ -449,8 +446,7 @@ push-all table points states labels parallel subsets ways steps depth before sub
       column_long = settled.column_long;
       is_least = is_least;
       levels = settled.levels;
-      choices =
-          settled.choices;
+      choices = settled.choices;
     }
 
     far : least < far_key

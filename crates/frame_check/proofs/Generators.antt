@@ -42,8 +42,7 @@ divides16 = record {
   small = omega arith;
   wide = refl;
   top = refl;
-  mirrors =
-      mirrors 16 0x8408 (generator_of Sixteen) (lit< tt) refl;
+  mirrors = mirrors 16 0x8408 (generator_of Sixteen) (lit< tt) refl;
 }
 
 pub divides32 : Divides 32 0xedb88320 (generator_of ThirtyTwo)
@@ -52,8 +51,7 @@ divides32 = record {
   small = omega arith;
   wide = refl;
   top = refl;
-  mirrors =
-      mirrors 32 0xedb88320 (generator_of ThirtyTwo) (lit< tt) refl;
+  mirrors = mirrors 32 0xedb88320 (generator_of ThirtyTwo) (lit< tt) refl;
 }
 
 pub starts16 : Holds 16 0xffff (all_ones 16)

@@ -37,8 +37,7 @@ pub headline-of : (words : List (List ℕ)) (old new : FolderState) (n : FramesN
 headline-of words old new n s a =
     record {
       shared = shared-of (frames_job n) words old new s a (λ e name. a.only.names name tt);
-      lists =
-          λ e. lists-of old a.before new n (done-of (frames_job n) words old new s a e);
+      lists = λ e. lists-of old a.before new n (done-of (frames_job n) words old new s a e);
     }
 
 never-longer : (count : ℕ) → count ≤ 1048576 → FILE_LIMIT < count → ⊥

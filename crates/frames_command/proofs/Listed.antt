@@ -37,8 +37,7 @@ are-first start n octets heard rest lines front bits are = by (start.tells n.bit
           told = pieces_of heard;
           rest = added.0;
           pieces_are = ap pieces_of e ∙ added.1.all;
-          are_lines =
-              are;
+          are_lines = are;
         }
 
     by : (told : Bool) → start.tells n.bits ≡ told → AreFirst start n lines

@@ -35,8 +35,7 @@ begins-goes sender dlci command control tail h =
     (address_of command sender dlci) control (tail_octets (parts_of h.frame)) (tail ++ h.rest) h.goes_on in
     record {
       frame = h.frame;
-      has =
-          record { is_frame = h.is_frame; command_is = address-one (parts_of h.frame).command command sender dlci e.0; control_is = e.1 };
+      has = record { is_frame = h.is_frame; command_is = address-one (parts_of h.frame).command command sender dlci e.0; control_is = e.1 };
       rest = h.rest;
       tail_is = e.2;
     }

@@ -10,7 +10,6 @@ seen parts = record {
   control = parts.control;
   ns = parts.ns;
   nr = parts.nr;
-  pf =
-      parts.pf;
+  pf = parts.pf;
   info = option_map (λ info. info.now) parts.info;
 }

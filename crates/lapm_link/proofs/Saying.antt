@@ -38,8 +38,7 @@ polled h = record {
     own = h.breaks_stand.own;
     their = h.breaks_stand.their;
     told_within = h.breaks_stand.told_within;
-    given_is =
-        h.breaks_stand.given_is;
+    given_is = h.breaks_stand.given_is;
   };
   owes_is = h.owes_is;
   waits = record { poll_is = refl; urgent_is = h.waits.urgent_is; timer_is = h.waits.timer_is };
@@ -62,8 +61,7 @@ replied h = record {
     own = h.breaks_stand.own;
     their = h.breaks_stand.their;
     told_within = h.breaks_stand.told_within;
-    given_is =
-        h.breaks_stand.given_is;
+    given_is = h.breaks_stand.given_is;
   };
   owes_is = ap (λ (owes : Owes). record owes { reply = false }) h.owes_is;
   waits = record { poll_is = h.waits.poll_is; urgent_is = h.waits.urgent_is; timer_is = h.waits.timer_is };
@@ -85,8 +83,7 @@ forgotten h = record {
     own = h.breaks_stand.own;
     their = h.breaks_stand.their;
     told_within = h.breaks_stand.told_within;
-    given_is =
-        h.breaks_stand.given_is;
+    given_is = h.breaks_stand.given_is;
   };
   owes_is = h.owes_is;
   waits = record { poll_is = h.waits.poll_is; urgent_is = h.waits.urgent_is; timer_is = h.waits.timer_is };
@@ -141,8 +138,7 @@ as_before before sent (Err fault) (Err broken) turn a h = (
   h.0,
   record {
     fault_is = h.1.fault_is;
-    over =
-        record { setup_is = h.1.over.setup_is; answer_is = h.1.over.answer_is; terms_are = h.1.over.terms_are };
+    over = record { setup_is = h.1.over.setup_is; answer_is = h.1.over.answer_is; terms_are = h.1.over.terms_are };
   },
 )
 as_before before sent (Ok said) (Err broken) turn a h = absurd h

@@ -187,16 +187,14 @@ pub seen-take : (room taken : ℕ) (ss : Row) (info : List ℕ) (v : Arrived) �
     ≡ record v {
       taken = v.taken + length (info ∷ run_from (v.taken + 1) v.held);
       ready = info ∷ run_from (v.taken + 1) v.held;
-      held =
-          rest_from (v.taken + 1) v.held;
+      held = rest_from (v.taken + 1) v.held;
     }
 seen-take room taken ss info v e =
     subst (λ v. v.ready ≡ [] → 0 < length ss → seen room (taken + length (ready_of (set ss 0 (Some info)))) (set ss 0 (Some info))
     ≡ record v {
       taken = v.taken + length (info ∷ run_from (v.taken + 1) v.held);
       ready = info ∷ run_from (v.taken + 1) v.held;
-      held =
-          rest_from (v.taken + 1) v.held;
+      held = rest_from (v.taken + 1) v.held;
     }) e (core ss)
   where
     core : (ss : Row) → ready_of ss ≡ [] → 0 < length ss
@@ -204,8 +202,7 @@ seen-take room taken ss info v e =
         ≡ record {
           room = room;
           taken = taken + length (info ∷ run_from (taken + 1) (held_after taken ss));
-          ready =
-              info ∷ run_from (taken + 1) (held_after taken ss);
+          ready = info ∷ run_from (taken + 1) (held_after taken ss);
           held = rest_from (taken + 1) (held_after taken ss);
         }
     core [] r l = absurd (omega (arith, l))
@@ -215,8 +212,7 @@ seen-take room taken ss info v e =
           room = room;
           taken = taken + suc (length xs);
           ready = info ∷ run_from (taken + 1) (held_from (taken + 1) rest);
-          held =
-              rest_from (taken + 1) (held_from (taken + 1) rest);
+          held = rest_from (taken + 1) (held_from (taken + 1) rest);
         }) (sym (run-ready (taken + 1) rest))
         (same-seen room (taken + suc (length (ready_of rest))) (Some info ∷ rest)
         (info ∷ run_from (taken + 1) (held_from (taken + 1) rest)) (rest_from (taken + 1) (held_from (taken + 1) rest))

@@ -30,8 +30,7 @@ rest-held n r (h ∷ hs) l = by (nat_eq h.number r) refl l (rest-held n (r + 1) 
 pub stands-next : (t : Taking) (i : Incoming) (info : List ℕ) → StandsIn t i → length t.ready ≡ 0
     → StandsIn (record t {
       taken = t.taken + length (info ∷ run_from (t.taken + 1) t.held);
-      ready =
-          info ∷ run_from (t.taken + 1) t.held;
+      ready = info ∷ run_from (t.taken + 1) t.held;
       held = rest_from (t.taken + 1) t.held;
       gapped = false;
       owed = true;

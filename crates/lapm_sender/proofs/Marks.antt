@@ -211,8 +211,7 @@ seen-advance room front number ss v e = subst (λ v. v.front ≤ number → numb
           room = room;
           front = number;
           kept = drop (number - front) (infos ss);
-          chosen =
-              from_number number (marked_from front ss);
+          chosen = from_number number (marked_from front ss);
         }
     core low high =
         let gone : length ss - (length ss - (number - front)) ≡ number - front = omega (arith, low, high, infos-length ss) in

@@ -33,15 +33,13 @@ scripts-keep-time script files h = record { roles = roles; timed = timed; some_t
       tries_are = refl;
       period_is = refl;
       tx_window = h.offer_orig_allowed.tx_window_low;
-      rx_window =
-          h.offer_orig_allowed.rx_window_low;
+      rx_window = h.offer_orig_allowed.rx_window_low;
     }
     timed Answerer = record {
       tries_are = refl;
       period_is = refl;
       tx_window = h.offer_answ_allowed.tx_window_low;
-      rx_window =
-          h.offer_answ_allowed.rx_window_low;
+      rx_window = h.offer_answ_allowed.rx_window_low;
     }
 
     delays : (role : Role) → 1 ≤ delay_of script role

@@ -144,8 +144,7 @@ each-slot-becomes laws script files ts ends role h o r = go (sent_ago delay send
       arrives = ap is_some e;
       loses = record {
         samples = samples;
-        recorded =
-            subst (λ us. Records script sender (lines.bits_of c sender us) samples) (sym x.rest) recorded;
+        recorded = subst (λ us. Records script sender (lines.bits_of c sender us) samples) (sym x.rest) recorded;
         lost = lost;
       };
     })
@@ -249,8 +248,7 @@ broken-end laws script files ts ends h r m role fault e =
         turns = ts;
         ends = ends;
         run = r;
-        ended =
-            (since, in-turn script files ts ends m (Broken role (faults.Spent segment since)) e);
+        ended = (since, in-turn script files ts ends m (Broken role (faults.Spent segment since)) e);
       };
     }
     go role faults.NotDetected e n = record {
@@ -260,8 +258,7 @@ broken-end laws script files ts ends h r m role fault e =
         turns = ts;
         ends = ends;
         run = r;
-        ended =
-            in-turn script files ts ends m (Broken Originator faults.NotDetected) (e ∙ ap (λ x. Broken x faults.NotDetected) n);
+        ended = in-turn script files ts ends m (Broken Originator faults.NotDetected) (e ∙ ap (λ x. Broken x faults.NotDetected) n);
       };
     }
     go role (faults.BadAck nr va high) e n = absurd n

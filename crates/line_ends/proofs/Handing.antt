@@ -63,8 +63,7 @@ holds-delivered file a h = go (is_connected a.phase)
         allowed = h.offered.allowed;
         terms = h.offered.terms;
         size = h.offered.size;
-        cut =
-            h.offered.cut;
+        cut = h.offered.cut;
       };
       own = h.own;
       owes = h.owes;
@@ -74,8 +73,7 @@ holds-delivered file a h = go (is_connected a.phase)
         allowed = h.offered.allowed;
         terms = h.offered.terms;
         size = h.offered.size;
-        cut =
-            h.offered.cut;
+        cut = h.offered.cut;
       };
       own = h.own;
       owes = h.owes;
@@ -90,8 +88,7 @@ offers-at laws file a (Some n) e h =
     record {
       offered = subst (λ f. IsOffered f (offered_at file a (Some n))) (laws.own (piece_size a) n file) x.offered;
       own = h.own;
-      owes =
-          h.owes;
+      owes = h.owes;
     }
 
 offers-times : OfferLaws → (n : ℕ) (file : List ℕ) (a : Account) → Holds file a → Holds file (offered_times n file a)
@@ -107,8 +104,7 @@ holds-busy file busy a h = go (is_connected a.phase)
         allowed = h.offered.allowed;
         terms = h.offered.terms;
         size = h.offered.size;
-        cut =
-            h.offered.cut;
+        cut = h.offered.cut;
       };
       own = h.own;
       owes = h.owes;

@@ -57,8 +57,7 @@ over laws script files ts ends h r = record {
   may_play = laws.play script files h;
   delays = laws.delays script h;
   carried = laws.carried (channel_of script) ts r.heard;
-  run =
-      r.run;
+  run = r.run;
 }
 
 nine : (pattern : Seen) → IsPattern pattern [] (replicate 9 pattern)

@@ -96,8 +96,7 @@ lost-or-not samples = go (first-over samples (length samples + 1))
           record {
             within = omega (arith, f.within);
             over = subst (IsOver line_trellis line_depth samples) next f.over;
-            first =
-                λ n l o. f.first n (omega (arith, l)) o;
+            first = λ n l o. f.first n (omega (arith, l)) o;
           },
         )
 

@@ -169,8 +169,7 @@ due (Some (answers.Dm pf)) a h = record { sent = record { ns = tt; nr = tt; octe
 segment : (turn : ℕ) (o : Option ℕ) (a : Account) → IsReady a → AllGood (says_segment turn o a)
 segment turn None a h = tt
 segment turn (Some i) a h = record {
-  sent =
-      record { ns = omega arith; nr = omega arith; octets = piece-at a.outgoing.pieces i h.pieces };
+  sent = record { ns = omega arith; nr = omega arith; octets = piece-at a.outgoing.pieces i h.pieces };
   owes = h.owes;
 }
 

@@ -137,8 +137,7 @@ next-turn : SendLaws → (script : ScriptValue) (files : Both (List ℕ)) (ts : 
 next-turn laws script files ts before t after h o r c g k =
     record {
       sendable = ((λ role slot e. sends role slot e), k.sendable);
-      holds =
-          λ role. subst (Holds (file role)) (sym (g.speaking role).after_is) (after-holds role);
+      holds = λ role. subst (Holds (file role)) (sym (g.speaking role).after_is) (after-holds role);
     }
   where
     link : Link
@@ -185,8 +184,7 @@ next-turn laws script files ts before t after h o r c g k =
     over = record {
       may_play = laws.play script files h;
       delays = laws.delays script h;
-      carried =
-          laws.carried (channel_of script) ts r.heard;
+      carried = laws.carried (channel_of script) ts r.heard;
       run = r.run;
     }
 
@@ -211,8 +209,7 @@ holds-all : SendLaws → (script : ScriptValue) (files : Both (List ℕ)) (ts : 
 holds-all laws script files [] ends h o r =
     record {
       sendable = tt;
-      holds =
-          λ role. subst (λ (e : Ends). Holds (of role (link_of script files)).user.file (of role e)) (sym r.run) (begins role);
+      holds = λ role. subst (λ (e : Ends). Holds (of role (link_of script files)).user.file (of role e)) (sym r.run) (begins role);
     }
   where
     begins : (role : Role) → Holds (of role (link_of script files)).user.file (of role (start (link_of script files)))

@@ -54,13 +54,11 @@ passes-where Holds most lag f laws line script passed waiting signal check heari
 pub undisplaced : IsFollowed DisplacesNoneBefore 138 96
 undisplaced = record {
   follows = undisplaced-followed;
-  time =
-      λ symbols long. record { long = omega arith; frames = omega arith; patterns = omega arith };
+  time = λ symbols long. record { long = omega arith; frames = omega arith; patterns = omega arith };
 }
 
 pub faint : IsFollowed IsFaintBefore 215 504
 faint = record {
   follows = faint-followed;
-  time =
-      λ symbols long. record { long = omega arith; frames = omega arith; patterns = omega arith };
+  time = λ symbols long. record { long = omega arith; frames = omega arith; patterns = omega arith };
 }

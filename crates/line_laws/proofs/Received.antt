@@ -237,8 +237,7 @@ gives-some lag script sender count bits samples follows few r =
       record {
         labels = some.0;
         released = some.1;
-        read =
-            released-carry lag script sender count bits samples some.0 follows few r some.1;
+        read = released-carry lag script sender count bits samples some.0 follows few r some.1;
       },
     )
 

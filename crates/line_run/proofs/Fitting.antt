@@ -57,8 +57,7 @@ slots_are_codable few short sends script files ts ends t after h r k g role slot
         (record {
           may_play = scripts_may_play script files h;
           delays = scripts_have_delays script h;
-          carried =
-              samples_are_carried _ ts r.heard;
+          carried = samples_are_carried _ ts r.heard;
           run = r.run;
         }) (one_is_carried _ ts t k) g role slot frame e f
 

@@ -172,8 +172,7 @@ cut c link n (t ∷ ts) es h k l = go (n-or n (length ts) (omega (arith, l))) (c
       run = record { run = h.1; heard = k.1 };
       turn = t;
       after = es;
-      going =
-          h.2;
+      going = h.2;
       heard = k.0;
     }
     go (inr e) f = f e

@@ -191,8 +191,7 @@ heard-by : (c : Channel) (ts : List Turn) (ends : Ends) (t : Turn) (mid : Ends) 
 heard-by c ts ends t mid h k role =
     record {
       heard = (of role t).heard;
-      is =
-          subst (λ z. IsHeardOf c (other role) ts z (of role t).heard) (h role).check_is (k role).heard_of;
+      is = subst (λ z. IsHeardOf c (other role) ts z (of role t).heard) (h role).check_is (k role).heard_of;
       well = (k role).well;
     }
 

@@ -333,8 +333,7 @@ adds-part script f new n files ts ends heard mid sents outcome o is trace = reco
   makes = record {
     run = o.run;
     heard = heard-in script ts ends mid heard sents o.orig_heard o.answ_heard o.orig_well o.answ_well;
-    is =
-        is;
+    is = is;
   };
   trace = trace;
 }
@@ -376,8 +375,7 @@ adds-heard old new h = record {
   lost_low = h.lost_low;
   lost_high = h.lost_high;
   again_low = omega (arith, h.again);
-  again_high =
-      omega (arith, h.again);
+  again_high = omega (arith, h.again);
 }
 
 pub adds-kept : (old mid new : World) → HearsMore old.tally mid.tally → new.tally ≡ mid.tally → AddsNumbers old new

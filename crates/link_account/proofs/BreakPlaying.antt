@@ -598,8 +598,7 @@ delivered-pair q h = go (is_connected q.own.account.phase)
         (record {
           own = record
               q.own { account = cond b (record q.own.account { incoming = after_delivered q.own.account.incoming }) q.own.account };
-          peer =
-              q.peer;
+          peer = q.peer;
         })
     go true = h
     go false = h
@@ -612,8 +611,7 @@ busy-pair q busy h = go (is_connected q.own.account.phase)
         (record {
           own = record
               q.own { account = cond b (record q.own.account { owes = record q.own.account.owes { busy = busy } }) q.own.account };
-          peer =
-              q.peer;
+          peer = q.peer;
         })
     go true = h
     go false = h
@@ -660,8 +658,7 @@ no-breaks = record {
     taken = omega arith;
     waits_low = omega arith;
     waits_high = omega arith;
-    is =
-        refl;
+    is = refl;
   };
   due = λ e. absurd (false≢true e);
   pending = tt;

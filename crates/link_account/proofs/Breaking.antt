@@ -112,8 +112,7 @@ go-asked b t brks acks turn l h = go (nat_lt b.answered (length b.lengths)) refl
               low = o.low;
               high = o.high;
               number = o.number;
-              is =
-                  o.is ∙ sym (number-append b.lengths l e.place o.within);
+              is = o.is ∙ sym (number-append b.lengths l e.place o.within);
             }) h.brks.each;
         in_order = h.brks.in_order;
       };
@@ -198,8 +197,7 @@ go-brk-lost b t e brks acks h =
       given_are = h.given_are;
       due = h.due;
       pending = h.pending;
-      brks =
-          record { each = h.brks.each.1; in_order = h.brks.in_order.1 };
+      brks = record { each = h.brks.each.1; in_order = h.brks.in_order.1 };
       acks = h.acks;
     }
 
@@ -211,8 +209,7 @@ go-ack-lost b t e brks acks h =
       due = h.due;
       pending = h.pending;
       brks = h.brks;
-      acks =
-          record { each = h.acks.each.1; in_order = h.acks.in_order.1 };
+      acks = record { each = h.acks.each.1; in_order = h.acks.in_order.1 };
     }
 
 -- a BRK is heard

@@ -263,8 +263,7 @@ line-sent w srej o i line back n ns nr told pf h window e =
 
     q : Outgoing → Flow
     q b = record (flow w srej b i line back) {
-      segments =
-          segments_in line ++ (record { number = n; info = slice_index_or o.pieces n [] }) ∷ [];
+      segments = segments_in line ++ (record { number = n; info = slice_index_or o.pieces n [] }) ∷ [];
     }
 
     fresh_one : (t u : Bool) → nat_lt o.from (length o.pieces) ≡ t → nat_lt o.from (o.front + o.window) ≡ u → [] ≡ o.chosen
@@ -276,8 +275,7 @@ line-sent w srej o i line back n ns nr told pf h window e =
         subst (λ m. Sound (record
         p {
           segments = segments_in line ++ (record { number = n; info = slice_index_or o.pieces n [] }) ∷ [];
-          high =
-              max o.high (m + 1);
+          high = max o.high (m + 1);
           from = m + 1;
           chosen = o.chosen;
         })) (sym at)
@@ -296,8 +294,7 @@ line-sent w srej o i line back n ns nr told pf h window e =
         subst (λ m. Sound (record
         p {
           segments = segments_in line ++ (record { number = n; info = slice_index_or o.pieces n [] }) ∷ [];
-          high =
-              max o.high (m + 1);
+          high = max o.high (m + 1);
           from = o.from;
           chosen = rest;
         })) (sym at)

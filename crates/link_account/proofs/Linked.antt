@@ -110,8 +110,7 @@ hears-number wo wi srej a po pi line rest turn nr slot f g made h none et goes w
     a {
       numbered = true;
       outgoing = g (made slot.told);
-      wait =
-          record a.wait { timer = timer_after turn a.outgoing (g (made slot.told)) a.wait.timer };
+      wait = record a.wait { timer = timer_after turn a.outgoing (g (made slot.told)) a.wait.timer };
     } in
     let k = same b in
     subst (λ m. HearsWell wo wi srej a po pi line rest true (then_in f (on_number turn nr (option_map g (option_map made m)) a)))
@@ -404,8 +403,7 @@ segment-said wo wi srej a po pi line back turn h = go (may_send a) (allowed (is_
             (line ++ (record {
               sent = slots.Frame (I (n % 128) (nr_of a) false (slice_index_or a.outgoing.pieces n []));
               number = n;
-              told =
-                  next_expected a.incoming;
+              told = next_expected a.incoming;
             }) ∷ [])
         higher = back-told wi srej po a.incoming back line
             (slots.Frame (I (n % 128) (nr_of a) false (slice_index_or a.outgoing.pieces n []))) n h.theirs tt

@@ -161,8 +161,7 @@ offer-o so sa p h piece = go (is_some (wants p.originator.account) && nat_le (le
   where
     go : (b : Bool) → (is_some (wants p.originator.account) && nat_le (length piece) (piece_size p.originator.account)) ≡ b
         → GoodPlay so sa (record {
-          originator =
-              cond b (record p.originator { account = after_offer piece p.originator.account }) p.originator;
+          originator = cond b (record p.originator { account = after_offer piece p.originator.account }) p.originator;
           answerer = p.answerer;
         })
     go true e = replaced-o so sa p h (after_offer piece p.originator.account)
@@ -178,8 +177,7 @@ offer-a so sa p h piece = go (is_some (wants p.answerer.account) && nat_le (leng
     go : (b : Bool) → (is_some (wants p.answerer.account) && nat_le (length piece) (piece_size p.answerer.account)) ≡ b
         → GoodPlay so sa (record {
           originator = p.originator;
-          answerer =
-              cond b (record p.answerer { account = after_offer piece p.answerer.account }) p.answerer;
+          answerer = cond b (record p.answerer { account = after_offer piece p.answerer.account }) p.answerer;
         })
     go true e = replaced-a so sa p h (after_offer piece p.answerer.account)
         (offered-a so sa p.originator.account p.answerer.account p.originator.line p.answerer.line h.good
@@ -367,8 +365,7 @@ starts-well so sa m = record {
       role_o = m.originates;
       role_a = m.answers;
       read_o = reads_written_always so.offer m.offer_o;
-      read_a =
-          reads_written_always sa.offer m.offer_a;
+      read_a = reads_written_always sa.offer m.offer_a;
     };
     setup_o = refl;
     setup_a = refl;
@@ -575,12 +572,10 @@ sends_in_range_always so sa events m =
     let a = p.answerer.account in (
       record {
         range = in-range t.window_o t.srej o.outgoing a.incoming p.originator.line p.answerer.line h.flow_oa;
-        unsent =
-            λ e. unsent-o t o.phase o e h.place_o;
+        unsent = λ e. unsent-o t o.phase o e h.place_o;
       },
       record {
         range = in-range t.window_a t.srej a.outgoing o.incoming p.answerer.line p.originator.line h.flow_ao;
-        unsent =
-            λ e. unsent-a t a.phase a e h.place_a;
+        unsent = λ e. unsent-a t a.phase a e h.place_a;
       },
     )

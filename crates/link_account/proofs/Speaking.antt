@@ -80,8 +80,7 @@ break-timed wo wi srej a po pi line back b h turn = go (ticked turn b.setup.peri
         own = h.linked.own;
         theirs = h.linked.theirs;
         own_window = h.linked.own_window;
-        their_window =
-            h.linked.their_window;
+        their_window = h.linked.their_window;
         srej_is = h.linked.srej_is;
       };
       same = record { setup = h.same.setup; phase = h.same.phase; answer = h.same.answer };
@@ -96,8 +95,7 @@ unspecial wo wi srej a po pi line back b h = record {
     own = h.linked.own;
     theirs = h.linked.theirs;
     own_window = h.linked.own_window;
-    their_window =
-        h.linked.their_window;
+    their_window = h.linked.their_window;
     srej_is = h.linked.srej_is;
   };
   same = record { setup = h.same.setup; phase = h.same.phase; answer = h.same.answer };

@@ -111,8 +111,10 @@ break_waits a = if is_connected a.phase then waits a.own_breaks else false
 abbrev pub given_break : Account → Option ℕ
 given_break a =
     if is_connected a.phase then
-    (if nat_lt a.breaks_told (length a.their_breaks.lengths) then Some
-    (slice_index_or a.their_breaks.lengths a.breaks_told 0) else None) else None
+    (if nat_lt a.breaks_told (length a.their_breaks.lengths) then
+    Some (slice_index_or a.their_breaks.lengths a.breaks_told 0)
+    else None)
+    else None
 
 abbrev pub after_given : Account → Account
 after_given a = record a { breaks_told = length a.their_breaks.lengths }

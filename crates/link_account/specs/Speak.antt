@@ -133,8 +133,7 @@ says_segment turn (Some n) a = Some (record {
   number = n;
   account = record (telling a) {
     outgoing = after_next a.outgoing;
-    wait =
-        record a.wait { urgent = false; timer = running turn a.wait.timer };
+    wait = record a.wait { urgent = false; timer = running turn a.wait.timer };
   };
 })
 
@@ -161,8 +160,7 @@ says_asking true false (Some n) a =
     Some (record {
       sent = slots.Frame (Srej false (n % 128) false);
       number = n;
-      account =
-          record a { incoming = after_asked n a.incoming; special = true };
+      account = record a { incoming = after_asked n a.incoming; special = true };
     })
 
 -- RR, or RNR where the end is busy, with the next number expected: it tells which

@@ -29,14 +29,12 @@ abbrev broken : Role → Account → List Slot → Account → List Slot → Lin
 broken Originator x lx y ly fault =
     record {
       originator = record { account = x; line = lx; fault = None };
-      answerer =
-          record { account = y; line = ly; fault = Some fault };
+      answerer = record { account = y; line = ly; fault = Some fault };
     }
 broken Answerer x lx y ly fault =
     record {
       originator = record { account = y; line = ly; fault = Some fault };
-      answerer =
-          record { account = x; line = lx; fault = None };
+      answerer = record { account = x; line = lx; fault = None };
     }
 
 passes-breaks : (role : Role) (turn : ℕ) (x y : Account) (slot : Slot) (rest ly : List Slot) (fault : LinkFault)
@@ -45,14 +43,12 @@ passes-breaks : (role : Role) (turn : ℕ) (x y : Account) (slot : Slot) (rest l
 passes-breaks Originator turn x y slot rest ly fault e =
     ap (λ r. record {
       originator = record { account = x; line = rest; fault = None };
-      answerer =
-          heard r (record { account = y; line = ly; fault = None });
+      answerer = heard r (record { account = y; line = ly; fault = None });
     }) e
 passes-breaks Answerer turn x y slot rest ly fault e =
     ap (λ r. record {
       originator = heard r (record { account = y; line = ly; fault = None });
-      answerer =
-          record { account = x; line = rest; fault = None };
+      answerer = record { account = x; line = rest; fault = None };
     }) e
 
 wants-of : (role : Role) (x y : Account) (lx ly : List Slot) (fault : LinkFault)

@@ -108,8 +108,7 @@ spoke release a said (Keeps_on e) d =
     record {
       later = omega (arith, ap rank phase);
       two = ap (λ q. nat_le 2 (rank q)) phase;
-      three =
-          ap (λ q. nat_le 3 (rank q)) phase;
+      three = ap (λ q. nat_le 3 (rank q)) phase;
       terms = ap (λ (l : Ledger). l.terms) e;
       answer = d.left;
     }

@@ -53,8 +53,7 @@ books a = record {
   pieces = a.outgoing.pieces;
   ended = a.outgoing.ended;
   given = a.incoming.given;
-  told =
-      a.breaks_told;
+  told = a.breaks_told;
   lengths = a.own_breaks.lengths;
 }
 
@@ -172,8 +171,7 @@ allowed-default = record {
   tx_len_high = lit≤ tt;
   rx_len_low = lit≤ tt;
   rx_len_high = lit≤ tt;
-  tx_window_low =
-      lit≤ tt;
+  tx_window_low = lit≤ tt;
   tx_window_high = lit≤ tt;
   rx_window_low = lit≤ tt;
   rx_window_high = lit≤ tt;
@@ -303,8 +301,7 @@ out-books : (a : Account) (ps : List (List ℕ)) (e : Bool) → ps ≡ a.outgoin
       ended = e;
       given = a.incoming.given;
       told = a.breaks_told;
-      lengths =
-          a.own_breaks.lengths;
+      lengths = a.own_breaks.lengths;
     } ≡ books a
 out-books a ps e p q = rw (p, q) refl
 
@@ -399,8 +396,7 @@ word turn (Ok (Ack number length_octet)) a e =
       pieces = a.outgoing.pieces;
       ended = a.outgoing.ended;
       given = a.incoming.given;
-      told =
-          a.breaks_told;
+      told = a.breaks_told;
       lengths = l;
     }) (answer-lengths turn number a.own_breaks)) (refl, refl) refl refl refl (λ o t. t)
 word turn (Err fault) a e = kept a

@@ -341,8 +341,7 @@ a-frame so sa reads r Negotiating (Sabme pf) terms answer s d t n two four l =
       terms = t;
       never_two = λ z. omega (arith, z);
       never_four = λ z. omega (arith, z);
-      linked =
-          λ z. s.1;
+      linked = λ z. s.1;
       xid = refl;
       opened = refl;
     }
@@ -360,8 +359,7 @@ a-frame so sa reads r Connected (Disc pf) terms answer s d t n two four l =
       due = (s.0, omega (arith, s.1));
       terms = t;
       never_two = λ z. omega (arith, z);
-      never_four =
-          λ z. omega (arith, z);
+      never_four = λ z. omega (arith, z);
       linked = λ z. omega (arith, s.1);
       xid = refl;
       opened = refl;

@@ -172,8 +172,7 @@ speaking link ts ends mid heard h false e (Ok o) (Err fault) p q = record {
     hearing = turn-hears (length ts) ends mid heard none h;
     going = e;
     broken = (ap is_ok p, q);
-    silent =
-        turn-sent ends mid heard none;
+    silent = turn-sent ends mid heard none;
   };
   heard_is = turn-heard ends mid heard none;
 }

@@ -136,8 +136,7 @@ tells link ts before t mid Going h =
       going = g.going;
       said = λ r. (g.speaking r).said;
       says = λ r. (g.speaking r).says;
-      sent_is =
-          λ r. (g.speaking r).sent_is;
+      sent_is = λ r. (g.speaking r).sent_is;
     })
 tells link ts before t mid Done h = (h.done, h.silent)
 tells link ts before t mid (Broken role fault) h = (h.going, h.broken, h.silent)

@@ -55,14 +55,12 @@ hears-nothing : (role : Role) (turn : ℕ) (x b y : Account) (lx ly : List Slot)
 hears-nothing Originator turn x b y lx ly e =
     ap (λ r. record {
       originator = heard r (record { account = x; line = lx; fault = None });
-      answerer =
-          record { account = y; line = ly; fault = None };
+      answerer = record { account = y; line = ly; fault = None };
     }) e
 hears-nothing Answerer turn x b y lx ly e =
     ap (λ r. record {
       originator = record { account = y; line = ly; fault = None };
-      answerer =
-          heard r (record { account = x; line = lx; fault = None });
+      answerer = heard r (record { account = x; line = lx; fault = None });
     }) e
 
 passes-on : (role : Role) (turn : ℕ) (x y b : Account) (slot : Slot) (rest ly : List Slot) → hear turn (arrives slot.sent) y ≡ Ok b
@@ -70,14 +68,12 @@ passes-on : (role : Role) (turn : ℕ) (x y b : Account) (slot : Slot) (rest ly 
 passes-on Originator turn x y b slot rest ly e =
     ap (λ r. record {
       originator = record { account = x; line = rest; fault = None };
-      answerer =
-          heard r (record { account = y; line = ly; fault = None });
+      answerer = heard r (record { account = y; line = ly; fault = None });
     }) e
 passes-on Answerer turn x y b slot rest ly e =
     ap (λ r. record {
       originator = heard r (record { account = y; line = ly; fault = None });
-      answerer =
-          record { account = x; line = rest; fault = None };
+      answerer = record { account = x; line = rest; fault = None };
     }) e
 
 loses-one : (role : Role) (x y : Account) (slot : Slot) (rest ly : List Slot)
@@ -342,12 +338,10 @@ pub speaks-one : (role : Role) (turn : ℕ) (release : Bool) (x y : Account) (lx
 speaks-one Originator turn release x y lx ly said e =
     ap (λ r. record {
       originator = spoken r (record { account = x; line = lx; fault = None });
-      answerer =
-          record { account = y; line = ly; fault = None };
+      answerer = record { account = y; line = ly; fault = None };
     }) e
 speaks-one Answerer turn release x y lx ly said e =
     ap (λ r. record {
       originator = record { account = y; line = ly; fault = None };
-      answerer =
-          spoken r (record { account = x; line = lx; fault = None });
+      answerer = spoken r (record { account = x; line = lx; fault = None });
     }) e

@@ -76,8 +76,7 @@ due p (Some answers.Adp) a e =
       ua = λ z. absurd (false≢true z);
       owes = λ z. absurd (false≢true z);
       part_is = refl;
-      counted =
-          λ z. absurd (false≢true z);
+      counted = λ z. absurd (false≢true z);
       segment = λ z. absurd (false≢true z);
       disc = λ z. absurd (false≢true z);
     }
@@ -86,8 +85,7 @@ due p (Some answers.Xid) a e =
       ua = λ z. absurd (false≢true z);
       owes = λ z. absurd (false≢true z);
       part_is = refl;
-      counted =
-          λ z. absurd (false≢true z);
+      counted = λ z. absurd (false≢true z);
       segment = λ z. absurd (false≢true z);
       disc = λ z. absurd (false≢true z);
     }
@@ -97,8 +95,7 @@ due p (Some (answers.Ua pf)) a e =
       owes = λ z. absurd (false≢true z);
       part_is = refl;
       counted = λ z. absurd (false≢true z);
-      segment =
-          λ z. absurd (false≢true z);
+      segment = λ z. absurd (false≢true z);
       disc = λ z. absurd (false≢true z);
     }
 due p (Some (answers.Dm pf)) a e =
@@ -106,8 +103,7 @@ due p (Some (answers.Dm pf)) a e =
       ua = λ z. absurd (false≢true z);
       owes = λ z. absurd (false≢true z);
       part_is = refl;
-      counted =
-          λ z. absurd (false≢true z);
+      counted = λ z. absurd (false≢true z);
       segment = λ z. absurd (false≢true z);
       disc = λ z. absurd (false≢true z);
     }
@@ -123,8 +119,7 @@ segment turn a = go (is_originator a.setup.role || a.numbered) refl
       part_is = refl;
       counted = λ z. refl;
       segment = λ z. e;
-      disc =
-          λ z. absurd (false≢true z);
+      disc = λ z. absurd (false≢true z);
     }
 
     go : (b : Bool) → (is_originator a.setup.role || a.numbered) ≡ b

@@ -39,8 +39,7 @@ ledger a = record {
   size = a.outgoing.size;
   taken = a.incoming.taken;
   theirs = a.their_breaks.lengths;
-  terms =
-      a.terms;
+  terms = a.terms;
   phase = a.phase;
 }
 
@@ -77,15 +76,13 @@ out-ledger : (a : Account) (ps : List (List ℕ)) (e : Bool) (s : ℕ) → ps �
         ended = e;
         given = a.incoming.given;
         told = a.breaks_told;
-        lengths =
-            a.own_breaks.lengths;
+        lengths = a.own_breaks.lengths;
       };
       size = s;
       taken = a.incoming.taken;
       theirs = a.their_breaks.lengths;
       terms = a.terms;
-      phase =
-          a.phase;
+      phase = a.phase;
     } ≡ ledger a
 out-ledger a ps e s p q r = rw (p, q, r) refl
 
@@ -117,15 +114,13 @@ in-ledger : (a : Account) (g : ℕ) (t : List (List ℕ)) → g ≡ a.incoming.g
         pieces = a.outgoing.pieces;
         ended = a.outgoing.ended;
         given = g;
-        told =
-            a.breaks_told;
+        told = a.breaks_told;
         lengths = a.own_breaks.lengths;
       };
       size = a.outgoing.size;
       taken = t;
       theirs = a.their_breaks.lengths;
-      terms =
-          a.terms;
+      terms = a.terms;
       phase = a.phase;
     } ≡ ledger a
 in-ledger a g t p q = rw (p, q) refl

@@ -318,8 +318,7 @@ unoffered-kept link = record {
     }
     by a b h (inr e) = record {
       none = λ z. absurd (omega (arith, z, ap stage e.is));
-      going =
-          λ z. absurd (omega (arith, z, ap stage e.is));
+      going = λ z. absurd (omega (arith, z, ap stage e.is));
     }
 
     serves : (u : User) (turn : ℕ) (released : Bool) (a : Account) → Unoffered a → Unoffered (served u turn released a).account

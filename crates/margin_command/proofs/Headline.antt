@@ -54,8 +54,7 @@ pub headline-of : (words : List (List ℕ)) (old new : FolderState) (n : MarginN
 headline-of words old new n s a =
     record {
       shared = shared-of (margin_job n) words old new s a (λ e name. a.only.names name tt);
-      measures =
-          λ e. measures-of old a.before new n (done-of (margin_job n) words old new s a e);
+      measures = λ e. measures-of old a.before new n (done-of (margin_job n) words old new s a e);
     }
 
 file-never-longer : (count : ℕ) → count ≤ 1048576 → FILE_LIMIT < count → ⊥

@@ -80,8 +80,7 @@ sure-is-near mode octets samples price c low = record {
   end = c.modulated.end;
   sequence = record {
     code_sequence = record { from = 0; starts_there = refl; leads = c.modulated.encoded.leads };
-    same_length =
-        c.same_length;
+    same_length = c.same_length;
   };
   near = omega (arith, c.price_is);
 }

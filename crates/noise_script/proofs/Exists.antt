@@ -329,8 +329,7 @@ lines-read text [] before said e s a =
         said = said;
         says = subst (λ ls. Says ls said) (sym (e ∙ append-nil before)) s;
         allowed = a;
-        script_is =
-            refl;
+        script_is = refl;
       },
     )
 lines-read text (line ∷ lines) before said e s a =

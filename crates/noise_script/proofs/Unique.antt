@@ -203,16 +203,14 @@ entry_of forms.Hit v =
       from = number_of (at v 1);
       count = number_of (at v 2);
       re = signed_of (at v 3);
-      im =
-          signed_of (at v 4);
+      im = signed_of (at v 4);
     })
 entry_of forms.Noise v =
     entries.Noise (record {
       role = role_of (at v 0);
       from = number_of (at v 1);
       count = number_of (at v 2);
-      amplitude =
-          number_of (at v 3);
+      amplitude = number_of (at v 3);
       seed = number_of (at v 4);
     })
 entry_of forms.Break v = entries.Break (record { role = role_of (at v 0); turn = number_of (at v 1); length = number_of (at v 2) })
@@ -339,8 +337,7 @@ says-split (line ∷ before) rest (entry ∷ said) (spelled p s) =
       front = entry ∷ r.front;
       back = r.back;
       said_is = ap (λ es. entry ∷ es) r.said_is;
-      front_says =
-          spelled p r.front_says;
+      front_says = spelled p r.front_says;
       back_says = r.back_says;
     }
 
@@ -398,8 +395,7 @@ fault-once text m n a b f g = by (places f.before f.after g.before g.after f.lin
         let there : IsFaulty g.said (words_of g.line) a = subst (λ l. IsFaulty g.said (words_of l) a) q here in
         record {
           number_is = f.number_is ∙ ap (λ ls. length ls + 1) p ∙ sym g.number_is;
-          cause_is =
-              faulty-once g.said (words_of g.line) a b there g.faulty;
+          cause_is = faulty-once g.said (words_of g.line) a b there g.faulty;
         }
     by (Before more p) = absurd
         (no-fault f.before more f.line g.said f.said a (subst (λ ls. Says ls g.said) p g.says) g.allowed f.says f.faulty)

@@ -49,8 +49,7 @@ row forms.Lose = record { word = codes "lose"; arguments = ARole ∷ turn ∷ co
 row forms.Hit = record { word = codes "hit"; arguments = ARole ∷ symbol ∷ count ∷ coordinate ∷ coordinate ∷ []; bound = AtMost 1024 }
 row forms.Noise = record {
   word = codes "noise";
-  arguments =
-      ARole ∷ symbol ∷ count ∷ Number 0 32767 ∷ Number 0 18446744073709551615 ∷ [];
+  arguments = ARole ∷ symbol ∷ count ∷ Number 0 32767 ∷ Number 0 18446744073709551615 ∷ [];
   bound = AtMost 64;
 }
 row forms.Break = record { word = codes "break"; arguments = ARole ∷ turn ∷ Number 1 255 ∷ []; bound = AtMost 64 }

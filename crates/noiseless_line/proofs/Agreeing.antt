@@ -77,8 +77,7 @@ cheaper starts samples labels q from end to there l long many s =
       other = o.other;
       same_length = o.same_length;
       cheap = o.cheap;
-      best =
-          least_cost (v32_code starts) samples q o.other (s.best o.other another);
+      best = least_cost (v32_code starts) samples q o.other (s.best o.other another);
     }
 
 -- a survivor agrees with the labels up to the last state that both share
@@ -99,8 +98,7 @@ fronts-agree starts samples labels q from own_from to own there l s m =
     let sequence : IsSequence (v32_code starts) (take n samples) m.front m.mid =
     record {
       code_sequence = record { from = from; starts_there = there; leads = m.leads };
-      same_length =
-          m.same_length ∙ sym (length-take-le n samples few);
+      same_length = m.same_length ∙ sym (length-take-le n samples few);
     } in
     let cut = subst (λ k. IsSurvivor (v32_code starts) k q to) (sym (take-append-drop n samples)) s in
     let whole = subst (λ k. IsSurvivor (v32_code starts) (take n samples ++ drop n samples) k to) m.joined cut in

@@ -63,8 +63,7 @@ detour s x y u v to e f in_states = from-path path.0 path.1 path.2
           a = first.other;
           b = second.other;
           leads = (m, first.leads, (n, second.leads, last));
-          near =
-              omega (arith, first.near, second.near);
+          near = omega (arith, first.near, second.near);
         }
 
 -- the last two of at least two

@@ -66,8 +66,7 @@ only-least start end labels l = record {
   least = record {
     end = end;
     sequence = (survives-from start end labels l).sequence;
-    least =
-        λ other other_end o. omega (arith, cost-own labels);
+    least = λ other other_end o. omega (arith, cost-own labels);
   };
   only = λ other h.
       let none : cost far_from other (map point_of labels) ≡ 0 =

@@ -54,8 +54,7 @@ meets s t u v [] [] p o h = elim (cases_eq s t) [
     own_rest = [];
     joined = refl;
     own_joined = refl;
-    same_length =
-        refl;
+    same_length = refl;
     mid = s;
     leads = refl;
     own_leads = sym same;

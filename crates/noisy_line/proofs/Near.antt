@@ -74,8 +74,7 @@ near-front bound starts labels samples n h =
         code_sequence = record {
           from = h.sequence.code_sequence.from;
           starts_there = h.sequence.code_sequence.starts_there;
-          leads =
-              front.1;
+          leads = front.1;
         };
         same_length = omega (arith, length-take n labels, length-take n samples, h.sequence.same_length);
       };

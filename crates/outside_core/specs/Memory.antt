@@ -29,8 +29,7 @@ memory_code = code_by
       calls = p.1.1.0;
       fails = p.1.1.1.0;
       read_faults = p.1.1.1.1.0;
-      write_faults =
-          p.1.1.1.1.1.0;
+      write_faults = p.1.1.1.1.1.0;
       refusals = p.1.1.1.1.1.1;
     })
     (λ _. refl)

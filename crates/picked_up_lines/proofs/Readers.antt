@@ -48,7 +48,6 @@ readers_pick_up mode depth m samples bits h =
       picked_up = record {
         all = all;
         descrambled = behind;
-        bits_are =
-            h.bits_are ∙ sym (late tap 4 (line_of labels) all h.all (tap-low mode) whole part);
+        bits_are = h.bits_are ∙ sym (late tap 4 (line_of labels) all h.all (tap-low mode) whole part);
       };
     }

@@ -73,8 +73,7 @@ middle-sixth mode depth old new taken four samples bits six small reads h =
     record {
       all = h.all ++ low_bits 4 four;
       read = reads h.all h.read;
-      bits_are =
-          ap (λ l. bits ++ l) (last-bit four small) ∙ b.given_is;
+      bits_are = ap (λ l. bits ++ l) (last-bit four small) ∙ b.given_is;
       counted = b.counted;
     }
 

@@ -51,8 +51,7 @@ pub headline-of : (words : List (List ℕ)) (old new : FolderState) (rec : List 
 headline-of words old new rec s a =
     record {
       shared = shared-of (pickup_job rec) words old new s a (λ e name. a.only.names name tt);
-      lists =
-          λ e. lists-of old a.before new rec (done-of (pickup_job rec) words old new s a e);
+      lists = λ e. lists-of old a.before new rec (done-of (pickup_job rec) words old new s a e);
     }
 
 -- a line is not lost and followed to its end at once

@@ -64,8 +64,7 @@ stops-by start now rec mode content (Own answer) w h =
       content = content ++ w.rest;
       reads = w.reads;
       role_is = more.3.role_is;
-      lost =
-          more.3.lost;
+      lost = more.3.lost;
       says = more.3.says;
     })
 stops-by start now rec mode content (Say fault) w h =

@@ -59,8 +59,7 @@ ready-later p a b l r = record {
   not_lost = r.not_lost;
   all_taken = r.all_taken;
   count = omega (arith, r.count, l);
-  pieces =
-      omega (arith, r.pieces, l);
+  pieces = omega (arith, r.pieces, l);
 }
 
 -- up to where a line is lost, it isn't lost before the last sample
@@ -142,8 +141,7 @@ says-some start now mode reader samples bits sender read sender_is p =
           released = r.decoder.released;
           bits = bits ++ b.0;
           picked_up = b.1;
-          pieces_are =
-              sym added.1.all ∙ ap pieces_of (sym whole);
+          pieces_are = sym added.1.all ∙ ap pieces_of (sym whole);
         };
         lines = p.lines;
         are_lines = subst (λ (role : Role). AreLines role (pieces_of p.heard) p.lines) sender_is p.are_lines;

@@ -215,6 +215,5 @@ heard-after start old mid l bits reads h =
       lines = h.lines;
       are_lines = h.are_lines;
       said = said-after start old mid h.lines reads h.said;
-      count =
-          h.count;
+      count = h.count;
     }

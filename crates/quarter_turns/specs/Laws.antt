@@ -27,15 +27,15 @@ StatesComeBack = (state : ℕ) → state < 8 → rotated (rotated (rotated (rota
 -- turned labels cost against turned samples what the labels cost against the samples
 abbrev pub CostStays : Type 0
 CostStays = (starts : ℕ → Bool) (samples : List Sample) (labels : List ℕ) → All (λ label. label < 32) labels
-    → cost (v32_code starts).distance (map turned_label labels) (map quarter_turned samples) ≡ cost
-    (v32_code starts).distance labels samples
+    → cost (v32_code starts).distance (map turned_label labels) (map quarter_turned samples)
+    ≡ cost (v32_code starts).distance labels samples
 
 -- turned labels are a sequence exactly where the labels are one
 abbrev pub SequencesTurn : Type 0
 SequencesTurn = (starts turned_starts : ℕ → Bool) (samples : List Sample) (labels : List ℕ) (end : ℕ)
     → StartsTurn starts turned_starts → end < 8 → All (λ label. label < 32) labels
-    → IsSequence (v32_code starts) samples labels end ↔ IsSequence (v32_code turned_starts) (map quarter_turned samples)
-    (map turned_label labels) (rotated end)
+    → IsSequence (v32_code starts) samples labels end
+    ↔ IsSequence (v32_code turned_starts) (map quarter_turned samples) (map turned_label labels) (rotated end)
 
 -- and they are least exactly where the labels are
 abbrev pub LeastTurns : Type 0

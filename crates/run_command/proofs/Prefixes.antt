@@ -61,8 +61,7 @@ runs-over laws script files ts ends limits r =
     record {
       may_play = laws.play script files limits;
       delays = laws.delays script limits;
-      carried =
-          laws.carried (channel_of script) ts r.heard;
+      carried = laws.carried (channel_of script) ts r.heard;
       run = r.run;
     }
 

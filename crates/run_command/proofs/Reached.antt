@@ -76,8 +76,7 @@ pub knows-told : (f : FolderState) (n : Written) → KnowsFiles f n (files_at f 
 knows-told f n = record {
   within = record { orig = few (octets_at f n.orig); answ = few (octets_at f n.answ) };
   orig = λ told. refl;
-  answ =
-      λ told. refl;
+  answ = λ told. refl;
 }
   where
     few : (octets : List ℕ) → length (take file_limit octets) ≤ file_limit
@@ -184,8 +183,7 @@ ended-turn delivers w script n old now next r outcome number only e = (
     mid = e.mid;
     heard = e.makes.heard;
     is = e.makes.is;
-    leaves =
-        leaves-so e.mid (trace_text (e.turn ∷ r.turns));
+    leaves = leaves-so e.mid (trace_text (e.turn ∷ r.turns));
   },
   held-turn delivers (link_of (script_of w) r.files) r.turns r.ends e.turn e.mid now next n r.world.run.run
       (hears-of (link_of script e.others) r.turns r.ends e.turn e.mid outcome e.makes.is) only.goes_on r.holds e.writes,

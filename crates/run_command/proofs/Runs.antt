@@ -112,8 +112,7 @@ ran-to old mid now next n script end p r =
       files = r.files;
       takes = takes old mid now next n script r.files p r.knows;
       left = r.left;
-      run =
-          r.run;
+      run = r.run;
       holds = r.holds;
     }
 

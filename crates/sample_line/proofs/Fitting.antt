@@ -40,6 +40,5 @@ fits check sender dlci phase sent.Flags low h = tt
 fits check sender dlci phase (sent.Frame frame) low h =
     record {
       sendable = h;
-      room =
-          omega (arith, length-opening phase (checked check sender dlci frame) low, checked-short check sender dlci frame h.0);
+      room = omega (arith, length-opening phase (checked check sender dlci frame) low, checked-short check sender dlci frame h.0);
     }

@@ -86,8 +86,7 @@ pub record SoakLaws : Type 0 where
 may-run : SoakLaws → (seed : ℕ) (end : RunEnd) → SoakEnds seed end → MayRun (soak_channel seed) (soak_link seed)
 may-run laws seed end e = record {
   may_play = laws.play (soak_script seed) (soak_files seed) e.limits;
-  delays =
-      laws.delays (soak_script seed) e.limits;
+  delays = laws.delays (soak_script seed) e.limits;
 }
 
 -- the file that a role's user sends
@@ -148,8 +147,7 @@ pub headline-of : SoakLaws → (words : List (List ℕ)) (old new : FolderState)
 headline-of laws words old new seed s a =
     record {
       shared = shared-of (soak_job seed) words old new s a (λ e name. a.only.names name tt);
-      ran =
-          ran-by laws words old new seed s s a refl;
+      ran = ran-by laws words old new seed s s a refl;
     }
 
 -- ---- when a soak is done

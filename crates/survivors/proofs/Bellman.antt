@@ -81,8 +81,7 @@ survivor-cut c samples sample state labels s =
       label = cut.1;
       mid = parts.0;
       joined = cut.2;
-      survivor =
-          survivor-front c samples sample cut.0 cut.1 parts.0 state h parts.2 here;
+      survivor = survivor-front c samples sample cut.0 cut.1 parts.0 state h parts.2 here;
     }
 
 -- a branch into a state, with the survivor of the state before it
@@ -162,8 +161,7 @@ survivor-more {X} c samples sample to a once kept chosen = record {
         let n : length cut.0 ≡ length samples = omega (arith, here.same_length, length-snoc cut.0 cut.1, length-snoc samples sample) in
         let q : IsSequence c samples cut.0 parts.0 =
         record {
-          code_sequence =
-              record { from = here.code_sequence.from; starts_there = here.code_sequence.starts_there; leads = parts.1 };
+          code_sequence = record { from = here.code_sequence.from; starts_there = here.code_sequence.starts_there; leads = parts.1 };
           same_length = n;
         } in
         let p = kept parts.0 cut.0 q in

@@ -57,8 +57,7 @@ Keeps-more {X} c samples sample base sums next_sums paths next_paths column once
         let n : length cut.0 ≡ length samples = omega (arith, here.same_length, length-snoc cut.0 cut.1, length-snoc samples sample) in
         let front : IsSequence c samples cut.0 parts.0 =
         record {
-          code_sequence =
-              record { from = here.code_sequence.from; starts_there = here.code_sequence.starts_there; leads = parts.1 };
+          code_sequence = record { from = here.code_sequence.from; starts_there = here.code_sequence.starts_there; leads = parts.1 };
           same_length = n;
         } in
         let s = kept c samples base paths parts.0 cut.0 (sums parts.0) front (k.knows parts.0) in

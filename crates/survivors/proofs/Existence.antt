@@ -187,8 +187,7 @@ decided-more {X} c states labels steps samples sample laws decided to =
         let n : length cut.0 ≡ length samples = omega (arith, here.same_length, length-snoc cut.0 cut.1, length-snoc samples sample) in
         let front : IsSequence c samples cut.0 parts.0 =
         record {
-          code_sequence =
-              record { from = here.code_sequence.from; starts_there = here.code_sequence.starts_there; leads = parts.1 };
+          code_sequence = record { from = here.code_sequence.from; starts_there = here.code_sequence.starts_there; leads = parts.1 };
           same_length = n;
         } in
         let k = kept decided parts.0 cut.0 front in
@@ -229,8 +228,7 @@ decided-start {X} c state = each (c.starts state) refl
       [],
       record {
         sequence = record { code_sequence = record { from = state; starts_there = e; leads = refl }; same_length = refl };
-        best =
-            λ other o. inl (nothing other o.same_length);
+        best = λ other o. inl (nothing other o.same_length);
       },
     )
     each false e = inr (no-start e)

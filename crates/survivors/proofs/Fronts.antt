@@ -76,8 +76,7 @@ over-more c depth samples more n within h =
     record {
       front = h.front;
       released = subst (λ l. IsReleased c l h.front) (sym (take-append-le n samples more within)) h.released;
-      over =
-          h.over;
+      over = h.over;
     }
 
 pub over-before : {X : Type 0} (c : Trellis X) (depth : ℕ) (samples more : List X) (n : ℕ) → n ≤ length samples
@@ -86,8 +85,7 @@ over-before c depth samples more n within h =
     record {
       front = h.front;
       released = subst (λ l. IsReleased c l h.front) (take-append-le n samples more within) h.released;
-      over =
-          h.over;
+      over = h.over;
     }
 
 pub lost-stays : {X : Type 0} (c : Trellis X) (depth : ℕ) (samples more : List X) (symbol : ℕ) → IsLost c depth samples symbol

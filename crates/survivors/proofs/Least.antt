@@ -100,8 +100,7 @@ some-least {X} c states labels steps samples laws = found (least-below c samples
       record {
         end = end;
         sequence = s.sequence;
-        least =
-            λ other other_end q. against least other other_end best q (decided c states labels steps samples laws other_end);
+        least = λ other other_end q. against least other other_end best q (decided c states labels steps samples laws other_end);
       },
     )
     found (inr none) = absurd (none one.1 one.0 (ends-within c states labels steps samples one.0 one.1 laws one.2.sequence) one.2)

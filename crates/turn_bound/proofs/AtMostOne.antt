@@ -86,8 +86,7 @@ one-number role turn nr a f (Some o) e h same =
     record {
       one = inl (k.0 ∙ h.answer);
       calm = λ c r. let wrong : true ≡ false = ap is_connected (sym (k.1 ∙ e)) ∙ c in cc;
-      none =
-          λ r c. k.0 ∙ h.answer;
+      none = λ r c. k.0 ∙ h.answer;
     }
 
 one-connected : (role : Role) (frame : Frame) (turn : ℕ) (a : Account) → a.phase ≡ Connected → a.setup.role ≡ role → NoneDue a

@@ -129,8 +129,7 @@ ticked-well z breaks turn b c y s t = go (waits b) refl (nat_eq turn (b.set + z.
             low = s.low;
             high = s.high;
             due = s.due;
-            clock =
-                λ w. record { tied = r.tied; started = r.started; within = later; tried = r.tried };
+            clock = λ w. record { tied = r.tied; started = r.started; within = later; tried = r.tried };
             rests = s.rests;
           };
           falls = omega (arith, old, new, live, tries_fit z b.count y r.tried, r.within);
@@ -191,8 +190,7 @@ ticked-well z breaks turn b c y s t = go (waits b) refl (nat_eq turn (b.set + z.
               tied = omega (arith, r.tied, now);
               started = omega arith;
               within = omega (arith, y.period);
-              tried =
-                  omega (arith, fewer);
+              tried = omega (arith, fewer);
             };
             rests = omega (arith, s.rests);
           };

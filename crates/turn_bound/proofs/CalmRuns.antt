@@ -70,15 +70,13 @@ end-at tries period delay link ts ends role k run c = by role
       rates = f.rates;
       stands = h.orig;
       is_of = subst (IsOf z) (sym h.orig_setup) f.orig;
-      role_is =
-          ap (λ x. x.role) h.orig_setup ∙ f.originates;
+      role_is = ap (λ x. x.role) h.orig_setup ∙ f.originates;
     }
     by Answerer = record {
       rates = f.rates;
       stands = h.answ;
       is_of = subst (IsOf z) (sym h.answ_setup) f.answ;
-      role_is =
-          ap (λ x. x.role) h.answ_setup ∙ f.answers;
+      role_is = ap (λ x. x.role) h.answ_setup ∙ f.answers;
     }
 
 never-busy : (turn : ℕ) (lines : List BusyLine) → lines ≡ [] → is_busy turn lines ≡ false

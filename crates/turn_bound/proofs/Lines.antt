@@ -59,8 +59,7 @@ arrived-well delay loses (slot ∷ rest) = go (nat_lt (length (slot ∷ rest)) d
     go false e false = record {
       weighs = omega (arith, arrives-weight slot.sent);
       rnrs = omega (arith, arrives-rnrs slot.sent);
-      fits =
-          λ h k. omega (arith, h);
+      fits = λ h k. omega (arith, h);
       light = λ h. h.1;
     }
 

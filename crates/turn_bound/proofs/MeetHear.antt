@@ -318,8 +318,7 @@ a-connected (Srej command nr pf) turn a e = srej (selected nr a.outgoing)
       begun = λ h. h;
       closes = λ h. closed-released a.phase false h;
       due = λ d h. d h;
-      reply =
-          λ d h. refl;
+      reply = λ d h. refl;
       numbered = λ h. refl;
     }
 a-connected (Sabme pf) turn a e = go (a.numbered || is_originator a.setup.role)
@@ -357,8 +356,7 @@ a-negotiates disc a (Some offer) e =
       closes = λ h. cc;
       due = λ k h. cc;
       reply = λ k h. k h;
-      numbered =
-          λ h. h;
+      numbered = λ h. h;
     }
 
 a-frame : (p : Phase) (frame : Frame) (turn : ℕ) (a : Account) → a.phase ≡ p → a.setup.role ≡ Answerer
@@ -389,8 +387,7 @@ a-frame Releasing frame turn a e er = go frame
     ended disc = record {
       begun = λ h. refl;
       closes = λ h. or-first (is_released a.phase) disc (ap is_released e);
-      due =
-          λ k h. refl;
+      due = λ k h. refl;
       reply = λ k h. k h;
       numbered = λ h. h;
     }

@@ -70,8 +70,7 @@ says-answer a (Some answers.Adp) e =
       ua = λ h. cc;
       due = λ h. cc;
       final = λ h. cc;
-      reply =
-          λ h. h;
+      reply = λ h. h;
       numbered = refl;
       awaits = λ h. h;
     }
@@ -84,8 +83,7 @@ says-answer a (Some answers.Xid) e =
       ua = λ h. cc;
       due = λ h. cc;
       final = λ h. cc;
-      reply =
-          λ h. h;
+      reply = λ h. h;
       numbered = refl;
       awaits = λ h. h;
     }
@@ -97,8 +95,7 @@ says-answer a (Some (answers.Ua pf)) e =
       disc = λ h. cc;
       ua = λ h. ap is_ua_due e;
       due = λ h. cc;
-      final =
-          λ h. cc;
+      final = λ h. cc;
       reply = λ h. h;
       numbered = refl;
       awaits = λ h. h;
@@ -112,8 +109,7 @@ says-answer a (Some (answers.Dm pf)) e =
       ua = λ h. cc;
       due = λ h. cc;
       final = λ h. cc;
-      reply =
-          λ h. h;
+      reply = λ h. h;
       numbered = refl;
       awaits = λ h. h;
     }
@@ -214,8 +210,7 @@ timers-say turn a = go (timer_expires turn a a.wait.timer) (nat_eq a.outgoing.co
     go true false = by (record
         a {
           outgoing = record a.outgoing { count = a.outgoing.count + 1; awaited = true };
-          wait =
-              record a.wait { poll = true; timer = Some turn };
+          wait = record a.wait { poll = true; timer = Some turn };
         })
         (record { phase = refl; owes = refl; numbered = refl; awaits = λ h. refl }) (ticked turn a.setup.period a.setup.tries a.own_breaks)
 

@@ -128,8 +128,7 @@ meets-start link = record {
   discs = tt;
   uas = tt;
   finals = tt;
-  awaits =
-      λ e. cc;
+  awaits = λ e. cc;
 }
 
 meets-turn : (z : Rates) (link : Link) (turn : ℕ) (s : State) (t : Turn) (u : State) → Fits z link → Sound z link turn s → Meets s

@@ -80,8 +80,7 @@ goes-number turn nr a f (Some o) same k e =
       begun = λ h. ap is_begun s.0 ∙ h;
       released = λ h. ap is_released s.0 ∙ h;
       early = λ h. absurd (linked-begun a e h);
-      late =
-          λ h. absurd (linked-open a e h);
+      late = λ h. absurd (linked-open a e h);
       paused = λ h. ap (λ x. x.paused) s.2 ∙ k o refl h;
       told = s.1;
     }
@@ -106,8 +105,7 @@ same-goes a b p t o =
       begun = λ h. ap is_begun p ∙ h;
       released = λ h. ap is_released p ∙ h;
       early = λ h. ap is_released p ∙ unbegun a.phase h;
-      late =
-          λ h. o;
+      late = λ h. o;
       paused = λ h. ap (λ x. x.paused) o ∙ h;
       told = t;
     }
@@ -133,8 +131,7 @@ goes-connected (Srej command nr pf) turn a e n = go (is_outstanding a.outgoing) 
       begun = λ h. h;
       released = λ h. h;
       early = λ h. absurd (linked-begun a e h);
-      late =
-          λ h. absurd (linked-open a e h);
+      late = λ h. absurd (linked-open a e h);
       paused = λ h. h;
       told = refl;
     }
@@ -152,8 +149,7 @@ goes-connected (Disc pf) turn a e n = go a.setup.role
       begun = λ h. refl;
       released = λ h. refl;
       early = λ h. absurd (linked-begun a e h);
-      late =
-          λ h. absurd (linked-open a e h);
+      late = λ h. absurd (linked-open a e h);
       paused = λ h. h;
       told = refl;
     }
@@ -177,8 +173,7 @@ early-goes a b e r p t =
       begun = λ h. let wrong : true ≡ false = sym h ∙ e in cc;
       released = λ h. absurd (none a.phase e h);
       early = λ h. r;
-      late =
-          λ h. absurd (none a.phase e h);
+      late = λ h. absurd (none a.phase e h);
       paused = p;
       told = t;
     }
@@ -362,8 +357,7 @@ linked-calm turn a calm =
     timers true false = broke
         (record a {
           outgoing = record a.outgoing { count = a.outgoing.count + 1; awaited = true };
-          wait =
-              record a.wait { poll = true; timer = Some turn };
+          wait = record a.wait { poll = true; timer = Some turn };
         }) (refl, refl) (ticked turn a.setup.period a.setup.tries a.own_breaks)
 
     go : (r : Result Account LinkFault) → OnOk (KeepsCalm a) r → SpeaksCalm a (after_timers turn a.special r)

@@ -182,8 +182,7 @@ o-detecting z total breaks turn a Adp y u e = (
         breaks = u.breaks;
         ack = u.ack;
         window_o = u.window_o;
-        window_a =
-            u.window_a;
+        window_a = u.window_a;
       },
       tries-now z turn Negotiating a,
     );
@@ -214,8 +213,7 @@ o-negotiating z total breaks turn a (Some offer) info y k u t e f =
             breaks = u.breaks;
             ack = u.ack;
             window_o = windows.0;
-            window_a =
-                windows.1;
+            window_a = windows.1;
           },
           tries-now z turn Establishing a,
         );
@@ -277,8 +275,7 @@ same-unlinked a b u o t w k windows =
       breaks = w ∙ u.breaks;
       ack = k ∙ u.ack;
       window_o = windows.0;
-      window_a =
-          windows.1;
+      window_a = windows.1;
     }
 
 a-xid : (z : Rates) (total breaks turn : ℕ) (p : Phase) (a : Account) (offer : Option Offer) (info : List ℕ) → IsEarly p → AreRates z
@@ -345,8 +342,7 @@ more-well z total breaks turn more role p a (Ok b) h = (
     setup = h.1.setup;
     pieces = h.1.pieces;
     ended = h.1.ended;
-    lengths =
-        h.1.lengths;
+    lengths = h.1.lengths;
     falls = omega (arith, h.1.falls);
   },
 )
@@ -492,8 +488,7 @@ hears-o z total breaks turn Releasing frame a y k h e er all = go frame
         pieces = refl;
         ended = refl;
         lengths = refl;
-        falls =
-            omega (arith, tries_fit z a.wait.try_count y h.tried, h.within);
+        falls = omega (arith, tries_fit z a.wait.try_count y h.tried, h.within);
       },
     )
 

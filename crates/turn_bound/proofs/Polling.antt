@@ -155,8 +155,7 @@ timers-rated z turn role a y k h = go a.wait.timer refl h.sends.ticks
             let c : Account = record
             a {
               outgoing = record a.outgoing { count = a.outgoing.count + 1; awaited = true };
-              wait =
-                  record a.wait { poll = true; timer = Some turn };
+              wait = record a.wait { poll = true; timer = Some turn };
             } in
             let now : turn ≡ set + a.setup.period = grind (arith, nat_tests) in
             let long : 20 ≤ a.setup.period = omega (arith, k.period, y.period) in

@@ -70,8 +70,7 @@ waited-expired z total turn o set y s due more =
           tied = omega (arith, s.ticks.tied, now);
           started = omega arith;
           within = omega (arith, y.period);
-          tried =
-              omega (arith, fewer);
+          tried = omega (arith, fewer);
         };
       };
       waits = sym (polls (is_outstanding o) o.paused) ∙ s.cause;

@@ -107,10 +107,8 @@ served-connected z total breaks turn busy role a b y h e s = go role h.silent
 
     go : (r : Role) → IsSilent r a → ServesAs z total breaks turn r Connected a b
     go Originator i = record {
-      stands =
-          record { sends = sends; breaks = own.sound; ack = subst (λ t. IsAck t.ack) (sym s.ack) h.ack; silent = tt };
-      falls =
-          omega (arith, sender, own.falls, both);
+      stands = record { sends = sends; breaks = own.sound; ack = subst (λ t. IsAck t.ack) (sym s.ack) h.ack; silent = tt };
+      falls = omega (arith, sender, own.falls, both);
     }
     go Answerer i = record {
       stands = record {

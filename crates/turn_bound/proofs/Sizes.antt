@@ -268,8 +268,7 @@ linked-cut turn a = go (then_tries turn (on_timer turn a))
     timers true false = broke
         (record a {
           outgoing = record a.outgoing { count = a.outgoing.count + 1; awaited = true };
-          wait =
-              record a.wait { poll = true; timer = Some turn };
+          wait = record a.wait { poll = true; timer = Some turn };
         }) (refl, refl) (ticked turn a.setup.period a.setup.tries a.own_breaks)
 
     go : (r : Result Account LinkFault) → OnOk (λ c. IsSame a.outgoing c.outgoing) r → SpeaksCut a (after_timers turn a.special r)

@@ -87,8 +87,7 @@ quiet-step z total breaks turn role a b h outgoing timer own ack numbered phase 
     phase = phase;
     numbered = numbered;
     pieces = ap (λ o. o.pieces) outgoing;
-    ended =
-        ap (λ o. o.ended) outgoing;
+    ended = ap (λ o. o.ended) outgoing;
     lengths = ap (λ o. o.lengths) own;
   };
 }
@@ -144,8 +143,7 @@ segment-step z total breaks turn role a y h er all = go (may_send a) (λ n e. al
             phase = refl;
             numbered = refl;
             pieces = (sent-pieces a.outgoing).0;
-            ended =
-                (sent-pieces a.outgoing).1;
+            ended = (sent-pieces a.outgoing).1;
             lengths = refl;
           };
         }
@@ -262,8 +260,7 @@ break-timer z total breaks turn role a b y k h w own ack silent setup phase numb
           ticked = t;
           ack = ack;
           silent = silent-same role c silent;
-          same =
-              record { setup = setup; phase = phase; numbered = numbered; pieces = pieces; ended = ended; lengths = t.lengths };
+          same = record { setup = setup; phase = phase; numbered = numbered; pieces = pieces; ended = ended; lengths = t.lengths };
         }
 
 pub timers-well : (z : Rates) (total breaks turn : ℕ) (role : Role) (a : Account) → AreRates z → IsOf z a.setup

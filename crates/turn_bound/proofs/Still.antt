@@ -205,8 +205,7 @@ still-word total turn a (Ok (Brk number length_octet)) =
       free = refl;
       numbered = λ n. n;
       phase = p;
-      own =
-          λ x. refl;
+      own = λ x. refl;
     }
 still-word total turn a (Ok (Ack number length_octet)) =
     λ w p. record { dues = omega arith; free = refl; numbered = λ n. n; phase = p; own = unanswered turn number a.own_breaks }
@@ -222,8 +221,7 @@ still-sabme total pf a = go (a.numbered || is_originator a.setup.role)
       free = refl;
       numbered = λ n. n;
       phase = p;
-      own =
-          λ x. refl;
+      own = λ x. refl;
     }
 
 still-disc : (total : ℕ) (role : Role) (pf : Bool) (a : Account) → StaysStill total 0 a (on_disc role pf a)

@@ -52,11 +52,9 @@ tries-well z turn frame a y k h = go (nat_eq turn (a.wait.try_set + a.setup.peri
         → Tried z turn a (else_says (where_says due (says_frame frame (record c { wait = record c.wait { try = false } })))
         (says slots.Flags c)).account
     by c true t = record {
-      tries =
-          record { tied = t.tries.tied; started = t.tries.started; within = t.tries.within; tried = t.tries.tried };
+      tries = record { tied = t.tries.tied; started = t.tries.started; within = t.tries.within; tried = t.tries.tried };
       falls = t.falls;
-      setup =
-          t.setup;
+      setup = t.setup;
       phase = t.phase;
       terms = t.terms;
       outgoing = t.outgoing;
@@ -95,8 +93,7 @@ tries-well z turn frame a y k h = go (nat_eq turn (a.wait.try_set + a.setup.peri
             tied = omega (arith, h.tied, now);
             started = omega arith;
             within = omega (arith, y.period);
-            tried =
-                omega (arith, fewer);
+            tried = omega (arith, fewer);
           };
           falls = omega (arith, tries_fit z (a.wait.try_count + 1) y (omega (arith, fewer)), now);
           setup = refl;
@@ -274,8 +271,7 @@ detects z total breaks turn a y k u e = go (nat_le ((a.setup.tries + 1) * a.setu
             stands = u;
             setup = refl;
             pieces = refl;
-            ended =
-                refl;
+            ended = refl;
             lengths = refl;
             falls = omega (arith, less);
           },

@@ -63,16 +63,14 @@ ended-resumed o = by o.paused refl
       from = refl;
       chosen = refl;
       paused = refl;
-      idle =
-          λ h. ap (λ b. cond (b || false) (cond (is_outstanding o || o.paused) o.count 0) 0) h;
+      idle = λ h. ap (λ b. cond (b || false) (cond (is_outstanding o || o.paused) o.count 0) 0) h;
     }
     by false e = record {
       awaited = refl;
       from = refl;
       chosen = refl;
       paused = e;
-      idle =
-          λ h. ap (λ b. cond (b || o.paused) o.count 0) h ∙ ap (λ b. cond (false || b) o.count 0) e;
+      idle = λ h. ap (λ b. cond (b || o.paused) o.count 0) h ∙ ap (λ b. cond (false || b) o.count 0) e;
     }
 
 or-true : (b : Bool) → b || true ≡ true

@@ -81,8 +81,7 @@ last-expired period turns e o k from c0 z (suc t) low within c n h = elim (cases
           timer = s;
           count = q;
           connected = b;
-          since =
-              λ u l g'. let wrong : ⊥ = omega (arith, l, g') in absurd wrong;
+          since = λ u l g'. let wrong : ⊥ = omega (arith, l, g') in absurd wrong;
         }
         go (inr (m, q, runs)) = on m q runs (w.kept b)
 

@@ -135,8 +135,7 @@ count-connected z (Srej command nr pf) turn a s = go (is_outstanding a.outgoing)
               outgoing = record a.outgoing { chosen = with_number n a.outgoing.chosen };
               wait =
                   record a.wait {
-                    timer =
-                        timer_after turn a.outgoing (record a.outgoing { chosen = with_number n a.outgoing.chosen }) a.wait.timer;
+                    timer = timer_after turn a.outgoing (record a.outgoing { chosen = with_number n a.outgoing.chosen }) a.wait.timer;
                   };
             })
         by true e = let wrong : a.outgoing.front < a.outgoing.front = grind (arith, nat_tests, e) in let no : ⊥ = omega (arith, wrong) in

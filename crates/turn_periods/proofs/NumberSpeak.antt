@@ -217,8 +217,7 @@ timers-numbers turn a = timed (timer_expires turn a a.wait.timer) (nat_eq a.outg
     timed true false = by
         (record a {
           outgoing = record a.outgoing { count = a.outgoing.count + 1; awaited = true };
-          wait =
-              record a.wait { poll = true; timer = Some turn };
+          wait = record a.wait { poll = true; timer = Some turn };
         })
         (record { outgoing = record { window = refl; pieces = refl; front = refl }; incoming = refl; numbered = refl; owes = refl })
         (ticked turn a.setup.period a.setup.tries a.own_breaks)
@@ -235,8 +234,7 @@ linked-numbers turn a said e = go (then_tries turn (on_timer turn a)) (timers-nu
           outgoing = record {
             window = k.outgoing.window ∙ t.outgoing.window;
             pieces = k.outgoing.pieces ∙ t.outgoing.pieces;
-            front =
-                k.outgoing.front ∙ t.outgoing.front;
+            front = k.outgoing.front ∙ t.outgoing.front;
           };
           taken = k.taken ∙ ap (λ i. i.taken) t.incoming;
           numbered = k.numbered ∙ t.numbered;

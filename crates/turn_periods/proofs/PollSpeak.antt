@@ -231,8 +231,7 @@ timers-poll turn a = timed a.wait.timer refl
       numbered = t.numbered;
       yes = t.yes;
       counts = t.counts;
-      no =
-          t.no;
+      no = t.no;
     }
 
     calm : TimersPoll turn a a
@@ -252,8 +251,7 @@ timers-poll turn a = timed a.wait.timer refl
         go true q false = by (record
             a {
               outgoing = record a.outgoing { count = a.outgoing.count + 1; awaited = true };
-              wait =
-                  record a.wait { poll = true; timer = Some turn };
+              wait = record a.wait { poll = true; timer = Some turn };
             })
             (record {
               made = true;
@@ -261,8 +259,7 @@ timers-poll turn a = timed a.wait.timer refl
               owes = refl;
               numbered = refl;
               yes = λ h. (refl, refl, refl, (set, e, same));
-              counts =
-                  λ h. refl;
+              counts = λ h. refl;
               no = λ h. cc;
             }) (ticked turn a.setup.period a.setup.tries a.own_breaks)
           where

@@ -261,8 +261,7 @@ none-deed : Ends → Deed
 none-deed ends = record {
   turn = record {
     orig = record { heard = heards.Nothing; check = checks.Sixteen; sent = None; given = None };
-    answ =
-        record { heard = heards.Nothing; check = checks.Sixteen; sent = None; given = None };
+    answ = record { heard = heards.Nothing; check = checks.Sixteen; sent = None; given = None };
   };
   mid = ends;
   made = λ role. false;

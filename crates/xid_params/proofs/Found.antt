@@ -290,8 +290,7 @@ found-behind rest (Some groups) offer back e =
       groups = groups;
       rest = b.rest;
       passes = record { whole = ap (λ o. 130 ∷ o) b.whole; none_ends = b.none_ends };
-      ends =
-          b.ends;
+      ends = b.ends;
       offers = found-groups (named 128 groups) offer e;
     }
 

@@ -246,8 +246,7 @@ first-group octets tail groups offered identifier at fault p o no_end at_is wron
     passes = p;
     no_end = no_end;
     at_is = at_is;
-    wrong =
-        wrong;
+    wrong = wrong;
   }));
   first = λ q other h. elim (further octets (identifier ∷ tail) groups offered q other p o h) [
     | inl b ↦ group-before groups b.more identifier b.identifier tail b.tail at q fault other wrong least b.rest_is
@@ -464,8 +463,7 @@ groups-end groups rest None ends p =
       rest = rest;
       passes = p.passes;
       ends = ends;
-      offers =
-          subst (λ named_groups. GroupsSpell named_groups default_offer) (sym p.offers) refl;
+      offers = subst (λ named_groups. GroupsSpell named_groups default_offer) (sym p.offers) refl;
     }
 groups-end groups rest (Some offer) ends p =
     record {
@@ -473,6 +471,5 @@ groups-end groups rest (Some offer) ends p =
       rest = rest;
       passes = p.passes;
       ends = ends;
-      offers =
-          subst (λ named_groups. GroupsSpell named_groups offer) (sym p.offers.alone) p.offers.spells;
+      offers = subst (λ named_groups. GroupsSpell named_groups offer) (sym p.offers.alone) p.offers.spells;
     }

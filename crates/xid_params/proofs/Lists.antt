@@ -77,8 +77,7 @@ compare spell free (a ∷ xs) (b ∷ ys) x y e =
         next = g.next;
         more = g.more;
         parts_are = ap (λ h. h ∷ xs) p.0 ∙ ap (λ t. b ∷ t) g.parts_are;
-        rest_is =
-            g.rest_is;
+        rest_is = g.rest_is;
       })
     ]
 

@@ -247,8 +247,7 @@ identified-at content tail value after parts identifier start at (Length place) 
         parameter = t.parameter;
         identifier_is = t.identifier_is;
         count = length value;
-        rest =
-            value ++ after;
+        rest = value ++ after;
         tail_is = t_is;
         refused = t.wrong.1;
       }),
@@ -263,8 +262,7 @@ identified-at content tail value after parts identifier start at (Value place) w
         value = value;
         rest = after;
         tail_is = t_is;
-        accepted =
-            t.wrong.1;
+        accepted = t.wrong.1;
         low = t.wrong.2;
       },
     )

@@ -186,8 +186,7 @@ well-alone q [] [] part h =
     record {
       first = refl;
       accepted = and-left (accepts q (length part.value)) (not (is_low q part.value)) h;
-      high =
-          and-right (accepts q (length part.value)) (not (is_low q part.value)) h;
+      high = and-right (accepts q (length part.value)) (not (is_low q part.value)) h;
     }
 well-alone q [] (y ∷ ys) part h = absurd (false≢true h)
 well-alone q (x ∷ []) ys part h = absurd (false≢true h)

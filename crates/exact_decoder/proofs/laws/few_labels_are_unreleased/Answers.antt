@@ -6,8 +6,7 @@ returns g c = few-unreleased g.C.TrellisCode.table g.C.TrellisCode.points g.row.
     (record {
       bounded = g.met.C.TrellisCode.bounded;
       within = g.met.C.TrellisCode.within;
-      enters_once =
-          g.met.C.TrellisCode.enters_once;
+      enters_once = g.met.C.TrellisCode.enters_once;
       some_steps = g.met.C.TrellisCode.reach_some;
       reaches = g.met.C.TrellisCode.reaches;
     })

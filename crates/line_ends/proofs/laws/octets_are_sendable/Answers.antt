@@ -15,8 +15,7 @@ returns c =
       spoken = c.segments_are_offered_as_they_are_read.ensures.spoken;
       offers = record {
         next = c.segments_are_offered_as_they_are_read.ensures.next;
-        own =
-            c.segments_are_offered_as_they_are_read.ensures.own;
+        own = c.segments_are_offered_as_they_are_read.ensures.own;
       };
     } in
     octets-are-sendable laws

@@ -4,6 +4,5 @@ use Rattle.line_ends.proofs.laws.unstarved_runs_complete.Goals as goal
 pub returns : goal.returns
 returns c = record {
   unstarved = completes-unstarved c.lost_links_were_starved.ensures.starved;
-  few_losses =
-      completes-with-few c.few_losses_keep_links.ensures;
+  few_losses = completes-with-few c.few_losses_keep_links.ensures;
 }

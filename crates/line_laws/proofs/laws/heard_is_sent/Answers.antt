@@ -14,6 +14,5 @@ returns c =
     record {
       heard = heard-where DisplacesNoneBefore 138 96 undisplaced seen;
       never_chance = never-chance;
-      passes =
-          passes-where DisplacesNoneBefore 138 96 undisplaced seen;
+      passes = passes-where DisplacesNoneBefore 138 96 undisplaced seen;
     }

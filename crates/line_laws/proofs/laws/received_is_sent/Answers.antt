@@ -12,6 +12,5 @@ returns c =
     } in
     record {
       nothing_else = received-where DisplacesNoneBefore 138 96 undisplaced seen;
-      all =
-          sent-where DisplacesNoneBefore 138 96 undisplaced seen;
+      all = sent-where DisplacesNoneBefore 138 96 undisplaced seen;
     }

@@ -8,14 +8,12 @@ returns c =
     record {
       recorded = c.recordings_grow.ensures.once;
       received = c.one_outcome.ensures.received;
-      outcome =
-          c.one_outcome.ensures.outcome;
+      outcome = c.one_outcome.ensures.outcome;
       lost = c.lines_are_lost_once.ensures.once line_trellis;
     } in
     record {
       heard = heard_once laws;
       run = one_line_run laws c.one_run.ensures.run;
       end = one_line_end laws;
-      either =
-          ends_or_goes_on laws;
+      either = ends_or_goes_on laws;
     }

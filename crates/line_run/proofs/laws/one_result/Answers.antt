@@ -8,8 +8,7 @@ returns c =
       heard = c.one_line_run.ensures.heard;
       run = c.one_line_run.ensures.run;
       end = c.one_line_run.ensures.end;
-      either =
-          c.one_line_run.ensures.either;
+      either = c.one_line_run.ensures.either;
       outcome = c.one_run.ensures.outcome;
     } in
     one_result laws

@@ -6,6 +6,5 @@ returns c = record {
   ends = scripts_may_play;
   delays = scripts_have_delays;
   breaks = breaks_are_the_scripts;
-  pauses =
-      pauses_are_the_scripts;
+  pauses = pauses_are_the_scripts;
 }

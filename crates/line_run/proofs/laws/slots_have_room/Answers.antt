@@ -6,6 +6,5 @@ pub returns : goal.returns
 returns c = record {
   sizes = (refl, refl);
   room = slots_have_room;
-  codable =
-      slots_are_codable c.codable_slots_fit.ensures.few c.codable_slots_fit.ensures.short c.frames_are_short.ensures;
+  codable = slots_are_codable c.codable_slots_fit.ensures.few c.codable_slots_fit.ensures.short c.frames_are_short.ensures;
 }

@@ -7,6 +7,5 @@ returns c = record {
   in_order = takes_in_order_always;
   by_number = takes_by_number_always;
   faults = breaks_for_want_always;
-  breaks =
-      gives_breaks_always;
+  breaks = gives_breaks_always;
 }

@@ -11,15 +11,13 @@ returns c =
       in_order = c.plays.ensures.in_order;
       taken = c.acknowledgements.ensures.taken;
       breaks = c.plays.ensures.breaks;
-      answers =
-          c.acknowledgements.ensures.breaks;
+      answers = c.acknowledgements.ensures.breaks;
     } in
     let laws : OldLaws = record {
       knowing = knowing;
       plays = plays;
       by_number = c.numbers_on_the_line.ensures.segments;
-      offered =
-          c.frames_on_the_line.ensures.offered;
+      offered = c.frames_on_the_line.ensures.offered;
       breaks = c.numbers_on_the_line.ensures.breaks;
     } in
     releases_last laws

@@ -16,8 +16,7 @@ returns-in-Ok-run_turns c = λ seed same holds.
       names_are = c.soak_names.ensures;
       limits = c.requires.limits;
       holds = holds;
-      creates =
-          c.in-Ok.ensures.only;
+      creates = c.in-Ok.ensures.only;
       turns = c.in-Ok-run_turns.ensures.only;
     }) c.in-Ok-run_turns.ensures.tally in
     subst (λ (x : ℕ). Ends seed (Ok (record { turn = turn; lost = c.lost.result; again = x }))) (sym c.again.ensures)
@@ -33,7 +32,6 @@ returns-in-Err-run_turns c = λ seed same holds.
       names_are = c.soak_names.ensures;
       limits = c.requires.limits;
       holds = holds;
-      creates =
-          c.in-Ok.ensures.only;
+      creates = c.in-Ok.ensures.only;
       turns = c.in-Err-run_turns.ensures.only;
     }) c.in-Err-run_turns.ensures.counts c.in-Err-run_turns.ensures.run)

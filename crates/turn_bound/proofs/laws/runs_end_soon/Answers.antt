@@ -6,6 +6,5 @@ returns c = record {
   soon = ends-soon-always;
   by_files = by-files-always;
   by_octets = by-octets-always;
-  within_limits =
-      no-run-is-long-always;
+  within_limits = no-run-is-long-always;
 }

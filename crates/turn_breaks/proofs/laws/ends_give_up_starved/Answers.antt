@@ -15,6 +15,5 @@ returns c =
       plays = laws;
       together = c.ends_stand_together.ensures;
       reads = c.reads_written.ensures.read;
-      quiet =
-          c.ends_give_up_for_losses.ensures.waiting_for_none;
+      quiet = c.ends_give_up_for_losses.ensures.waiting_for_none;
     })

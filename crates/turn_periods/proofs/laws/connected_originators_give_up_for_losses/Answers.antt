@@ -13,6 +13,5 @@ returns c =
     } in
     record {
       each_period = originator-wants laws c.ends_stand_together.ensures;
-      starved =
-          originator-starved laws c.ends_stand_together.ensures;
+      starved = originator-starved laws c.ends_stand_together.ensures;
     }

@@ -39,8 +39,7 @@ returns-then-unreleased-clause-stands g c = λ starts samples taken h.
       between = c.push.new.self;
       stepped = c.push.ensures.stepped;
       labels = reverse c.release.new.labels;
-      released =
-          c.release.ensures.released;
+      released = c.release.ensures.released;
       pending_is = ap (λ l. l ++ reverse c.release.new.labels) (sym none);
       count = refl;
     } in
@@ -74,8 +73,7 @@ returns-clause-stands g c = λ starts samples taken h.
       between = c.push.new.self;
       stepped = c.push.ensures.stepped;
       labels = reverse c.release.new.labels;
-      released =
-          c.release.ensures.released;
+      released = c.release.ensures.released;
       pending_is = ap (λ l. l ++ reverse c.release.new.labels) (sym none);
       count = refl;
     } in

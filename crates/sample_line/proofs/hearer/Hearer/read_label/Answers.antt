@@ -9,8 +9,7 @@ returns-in-Some-clause-stands c = λ mode samples earlier h. record {
   read = h.read ++ low_bits 4 c.in-Some.four;
   hears = record {
     reader = c.in-Some.ensures.stands mode at_beginning samples h.read h.hears.reader;
-    finder =
-        c.push_four.ensures.stands h.read h.hears.finder;
+    finder = c.push_four.ensures.stands h.read h.hears.finder;
   };
   tallies = c.push_four.ensures.tallies earlier h.read h.hears.finder h.tallies;
 }
