@@ -1,8 +1,8 @@
 -- Parts of a turn of both ends.
 use Rattle.std.proofs.Common.{◌≡◌, ℕ, ◌+◌, Bool, true, false, is_ok, List, length, take, slice_get, arith, refl, sym, ◌∙◌, ap, Option, Result, Ok, Err}
 use Rattle.std.specs.Option.{option_map}
-use Rattle.outside_core.specs.Folder.{FolderState, OnlyReads}
-use Rattle.outside_core.specs.Steps.{told_later, octets-kept}
+use Rattle.outside_calls.specs.Folder.{FolderState, OnlyReads}
+use Rattle.outside_calls.specs.Steps.{told_later, octets-kept}
 use Rattle.std.proofs.lemmas.Bool.{false≢true}
 use Rattle.roles.specs.declared.role.Role.{Role}
 use Rattle.noise_script.specs.Script.{ScriptValue, break_of}

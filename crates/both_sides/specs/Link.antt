@@ -1,7 +1,7 @@
 -- The two ends of a run, each with its user.
 use Rattle.std.specs.Prelude.{◌≡◌, ℕ, ◌≤◌, Bool, true, false, ◌&&◌, is_ok, List, length, Result, Ok, Err}
 use Rattle.std.specs.List.{concat}
-use Rattle.outside_core.specs.Folder.{FolderState, KeepsName, Adds, PartlyAppended}
+use Rattle.outside_calls.specs.Folder.{FolderState, KeepsName, Adds, PartlyAppended}
 use Rattle.roles.specs.declared.role.Role.{Role}
 use Rattle.roles.specs.declared.role.Role.TheVariants.{Originator, Answerer}
 use Rattle.roles.specs.Both.{Both}

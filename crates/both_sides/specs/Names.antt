@@ -1,8 +1,8 @@
 -- The names of a run's files: those that both users send, those that they receive, and the trace.
 use Rattle.std.specs.Prelude.{◌≡◌, ◌≢◌, ◌⊎◌, ℕ, List, Result, IsErrOf}
-use Rattle.outside_core.specs.Folder.{FolderState, GoesOn, KeepsName, Rose}
-use Rattle.outside_core.specs.declared.folder.FolderFault.{FolderFault}
-use Rattle.outside_core.specs.declared.folder.FolderFault.TheVariants.{Failed, NoMemory}
+use Rattle.outside_calls.specs.Folder.{FolderState, GoesOn, KeepsName, Rose}
+use Rattle.outside_calls.specs.declared.folder.FolderFault.{FolderFault}
+use Rattle.outside_calls.specs.declared.folder.FolderFault.TheVariants.{Failed, NoMemory}
 use Rattle.both_sides.specs.declared.names.Names.{Names}
 
 -- names as octets

@@ -15,7 +15,7 @@ use delayed_line::DelayedLine;
 use frame_check::Check;
 use line_run::laws::slots_have_room;
 use noise_script::Script;
-use outside_core::NoMemory;
+use outside_calls::NoMemory;
 use roles::Role;
 use sample_line::{Heard, Line};
 use slot_contents::Sent;

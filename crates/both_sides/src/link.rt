@@ -1,7 +1,7 @@
 // The two ends of a run, each with its user.
 ghost use Rattle.std.specs.Prelude.{◌≡◌, ◌≢◌, ℕ, ◌+◌, ◌<◌, ◌≤◌, ◌^◌, List, length, true, is_ok, IfOk, OnOk, OnErr, IsErrOf};
 ghost use Rattle.std.specs.List.{concat};
-ghost use Rattle.outside_core.specs.Folder.{OnlyReads, OnlyWrites, HasCause, Adds, PartlyAppended, FaultsStand, CountsStand};
+ghost use Rattle.outside_calls.specs.Folder.{OnlyReads, OnlyWrites, HasCause, Adds, PartlyAppended, FaultsStand, CountsStand};
 ghost use Rattle.lapm_link.specs.Fits.{IsSetUp};
 ghost use Rattle.lapm_link.specs.Stands.{undelivered_of};
 ghost use Rattle.roles.specs.Both.{Both, of};
@@ -24,7 +24,7 @@ use frame_check::Check;
 use lapm_link::{Arrived, LinkFault, Phase, Sent, Setup};
 use line_run::laws::scripts_make_links;
 use noise_script::Script;
-use outside_core::{Folder, FolderFault, NoMemory};
+use outside_calls::{Folder, FolderFault, NoMemory};
 use roles::Role;
 use stations::Station;
 use std::alloc::Global;

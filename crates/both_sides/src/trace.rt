@@ -1,13 +1,13 @@
 // The two lines of a turn in the trace.
 ghost use Rattle.std.specs.Prelude.{◌≡◌, ◌≤◌, ◌++◌, length, OnOk, OnErr, IsErrOf};
-ghost use Rattle.outside_core.specs.Folder.{OnlyWrites, HasCause, Appended, PartlyAppended, FaultsStand, CountsStand};
+ghost use Rattle.outside_calls.specs.Folder.{OnlyWrites, HasCause, Appended, PartlyAppended, FaultsStand, CountsStand};
 ghost use Rattle.line_texts.specs.LineText.{line_text};
 ghost use Rattle.line_texts.specs.declared.words.TheConstants.{TEXT};
 
 use crate::each::Each;
 use frame_check::Octets;
 use line_texts::{LineText, TraceLine, write_line};
-use outside_core::{Folder, FolderFault};
+use outside_calls::{Folder, FolderFault};
 
 /// Appends both lines of a turn to the trace, the originator's first.
 pub fn append_turn<F: Folder>(

@@ -1,9 +1,9 @@
 -- Outputs that are created in order.
 use Rattle.std.proofs.Common.{inl, inr, ℕ, List, [], ◌∷◌, sym}
-use Rattle.outside_core.specs.Folder.{FolderState, GoesOn, KeepsName, OnlyWrites, CountsStand}
-use Rattle.outside_core.specs.Steps.{KeepsName-trans}
-use Rattle.outside_core.specs.declared.folder.FolderFault.{FolderFault}
-use Rattle.outside_core.specs.declared.folder.FolderFault.TheVariants as folder
+use Rattle.outside_calls.specs.Folder.{FolderState, GoesOn, KeepsName, OnlyWrites, CountsStand}
+use Rattle.outside_calls.specs.Steps.{KeepsName-trans}
+use Rattle.outside_calls.specs.declared.folder.FolderFault.{FolderFault}
+use Rattle.outside_calls.specs.declared.folder.FolderFault.TheVariants as folder
 use Rattle.command_base.specs.Outputs.{Holds, KeptOrEmpty, KeepsEach, IsNoneOf, CreatesPart, OnlyOutputs}
 use Rattle.command_base.specs.Stops.{WriteFails}
 use Rattle.command_base.proofs.Holding.{Holds-kept}

@@ -1,8 +1,8 @@
 -- What an output holds after one step more.
 use Rattle.std.proofs.Common.{◌∙◌, inl, inr, ℕ, List, [], ◌++◌, Some, refl, sym, ap, subst, append-nil, append_assoc}
 use Rattle.plain_lists.specs.Prefix.{IsPrefixOf}
-use Rattle.outside_core.specs.Folder.{FolderState, GoesOn, KeepsName, Adds, Appended, PartlyAppended}
-use Rattle.outside_core.specs.Steps.{octets-held}
+use Rattle.outside_calls.specs.Folder.{FolderState, GoesOn, KeepsName, Adds, Appended, PartlyAppended}
+use Rattle.outside_calls.specs.Steps.{octets-held}
 use Rattle.command_base.specs.Outputs.{Holds, HoldsFront, HoldsPart}
 use Rattle.command_base.proofs.OnlyOutputs.{told_earlier}
 

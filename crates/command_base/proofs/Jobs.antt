@@ -1,9 +1,9 @@
 -- From how a command answers to what every command promises.
 use Rattle.std.proofs.Common.{◌≡◌, ◌≢◌, ◌⊎◌, ◌∙◌, ◌≤◌, inl, inr, ℕ, List, [], ◌∷◌, Result, Ok, Err, refl, sym, subst, arith}
-use Rattle.outside_core.specs.Folder.{FolderState, GoesOn, Said, Rose, CountsStand}
-use Rattle.outside_core.specs.Steps.{KeepsName-trans, Rose-later, FaultsStand-trans, CountsStand-trans}
-use Rattle.outside_core.specs.declared.folder.FolderFault.{FolderFault}
-use Rattle.outside_core.specs.declared.folder.FolderFault.TheVariants as folder
+use Rattle.outside_calls.specs.Folder.{FolderState, GoesOn, Said, Rose, CountsStand}
+use Rattle.outside_calls.specs.Steps.{KeepsName-trans, Rose-later, FaultsStand-trans, CountsStand-trans}
+use Rattle.outside_calls.specs.declared.folder.FolderFault.{FolderFault}
+use Rattle.outside_calls.specs.declared.folder.FolderFault.TheVariants as folder
 use Rattle.command_base.specs.declared.status.Status.{Status}
 use Rattle.command_base.specs.declared.status.Status.TheVariants as status
 use Rattle.command_base.specs.declared.stop.Stop.{Stop}

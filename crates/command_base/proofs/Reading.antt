@@ -2,8 +2,8 @@
 use Rattle.std.proofs.Common.{◌≡◌, ◌∙◌, ℕ, ◌+◌, ◌-◌, ◌≤◌, ◌<◌, min, List, [], ◌++◌, IsTrue, length, take, take-add, drop, refl, sym, ap, subst, arith, length-append}
 use Rattle.std.proofs.lemmas.List.{take-append-drop, take_all}
 use Rattle.plain_lists.specs.Prefix.{IsPrefixOf}
-use Rattle.outside_core.specs.Folder.{FolderState, octets_at, GoesOn, KeepsName, OnlyReads}
-use Rattle.outside_core.specs.Steps.{GoesOn-trans, KeepsName-trans, told_later, octets-kept}
+use Rattle.outside_calls.specs.Folder.{FolderState, octets_at, GoesOn, KeepsName, OnlyReads}
+use Rattle.outside_calls.specs.Steps.{GoesOn-trans, KeepsName-trans, told_later, octets-kept}
 use Rattle.command_base.specs.Inputs.{IsWithin, IsLonger, ReadTo}
 
 -- an input that is within its limit, or longer, was so before others were read

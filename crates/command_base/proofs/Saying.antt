@@ -1,7 +1,7 @@
 -- Saying one thing behind another.
 use Rattle.std.proofs.Common.{◌≡◌, ◌∙◌, ℕ, List, ◌++◌, Option, Some, None, Result, Ok, Err, OnErr, IfErr, refl, sym, ap, append_assoc}
 use Rattle.std.specs.Option.{option_map}
-use Rattle.outside_core.specs.Folder.{FolderState, Said, PartlySaid}
+use Rattle.outside_calls.specs.Folder.{FolderState, Said, PartlySaid}
 
 behind : (said : Option (List ℕ)) (first second : List ℕ)
     → option_map (λ s. s ++ second) (option_map (λ s. s ++ first) said) ≡ option_map (λ s. s ++ (first ++ second)) said

@@ -1,6 +1,6 @@
 -- Inputs and their limits. What is said of an input's octets holds where the folder tells its name.
 use Rattle.std.specs.Prelude.{◌≡◌, ℕ, ◌<◌, ◌≤◌, IsTrue, List, [], ◌∷◌, length, take}
-use Rattle.outside_core.specs.Folder.{FolderState, octets_at, GoesOn, KeepsName, FaultsStand, CountsStand}
+use Rattle.outside_calls.specs.Folder.{FolderState, octets_at, GoesOn, KeepsName, FaultsStand, CountsStand}
 use Rattle.command_base.specs.declared.status.Status.TheVariants.{TooLong}
 use Rattle.command_base.specs.declared.stop.Stop.{Stop}
 use Rattle.command_base.specs.declared.stop.Stop.TheVariants.{Own, Read, NoMemory}

@@ -1,6 +1,6 @@
 -- What a command's job is, and how a command answers: its job ends, and then its last line is said.
 use Rattle.std.specs.Prelude.{◌≡◌, ◌≢◌, ◌⊎◌, ℕ, List, Result, Ok, Err}
-use Rattle.outside_core.specs.Folder.{FolderState, KeepsName, Rose}
+use Rattle.outside_calls.specs.Folder.{FolderState, KeepsName, Rose}
 use Rattle.command_base.specs.declared.status.Status.{Status}
 use Rattle.command_base.specs.declared.status.Status.TheVariants as status
 use Rattle.command_base.specs.declared.stop.Stop.{Stop}

@@ -2,7 +2,7 @@
 -- is held.
 use Rattle.std.specs.Prelude.{◌≡◌, ◌≢◌, ◌⊎◌, ℕ, ◌++◌, IsTrue, List, [], ◌∷◌, Some}
 use Rattle.plain_lists.specs.Prefix.{IsPrefixOf}
-use Rattle.outside_core.specs.Folder.{FolderState, held_at, GoesOn, KeepsName}
+use Rattle.outside_calls.specs.Folder.{FolderState, held_at, GoesOn, KeepsName}
 
 -- a name holds these octets
 abbrev pub Holds : FolderState → List ℕ → List ℕ → Type 0

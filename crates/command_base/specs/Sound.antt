@@ -1,6 +1,6 @@
 -- When a folder is sound for a call, and what is then left of the answers.
 use Rattle.std.specs.Prelude.{◌≡◌, ◌⊎◌, ℕ, List, [], ◌∷◌}
-use Rattle.outside_core.specs.Folder.{FolderState, Rose}
+use Rattle.outside_calls.specs.Folder.{FolderState, Rose}
 use Rattle.command_base.specs.declared.status.Status.{Status}
 use Rattle.command_base.specs.declared.status.Status.TheVariants.{Done, NoMemory}
 

@@ -1,6 +1,6 @@
 -- Exit statuses.
 use Rattle.std.specs.Prelude.{◌⊎◌, ℕ}
-use Rattle.outside_core.specs.Folder.{FolderState, CountsStand}
+use Rattle.outside_calls.specs.Folder.{FolderState, CountsStand}
 use Rattle.command_base.specs.declared.status.Status.{Status}
 use Rattle.command_base.specs.declared.status.Status.TheVariants.{Done, Usage, BadScript, BadRecording, BadHex, BadXid, TooLong, ReadFault, WriteFault, LineLost, NotDetected, LinkLost, ChanceMatch, NoMemory, PeerFault}
 

@@ -1,6 +1,6 @@
 -- What is said last.
 use Rattle.std.specs.Prelude.{◌≡◌, ◌⊎◌, ℕ, List}
-use Rattle.outside_core.specs.Folder.{FolderState, OnlySays, Said, PartlySaid, Rose, FaultsStand}
+use Rattle.outside_calls.specs.Folder.{FolderState, OnlySays, Said, PartlySaid, Rose, FaultsStand}
 use Rattle.command_base.specs.declared.status.Status.{Status}
 use Rattle.command_base.specs.declared.status.Status.TheVariants.{WriteFault, NoMemory}
 use Rattle.command_base.specs.Status.{PassesNoneOver}

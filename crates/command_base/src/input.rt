@@ -1,11 +1,11 @@
 // Steps of an input.
 ghost use Rattle.std.specs.Prelude.{◌≡◌, ◌≤◌, ◌<◌, ◌+◌, ◌-◌, ◌++◌, ℕ, List, [], ◌∷◌, IsTrue, IfOk, IfErr, OnOk, min, length, take, drop, vec_len};
-ghost use Rattle.outside_core.specs.Folder.{FolderState, OnlyReads, ReadsFront, CountsStand, octets_at};
+ghost use Rattle.outside_calls.specs.Folder.{FolderState, OnlyReads, ReadsFront, CountsStand, octets_at};
 ghost use Rattle.command_base.specs.Inputs.{IsWithin, IsNotWithin, FailsToHold, ReadTo};
 ghost use Rattle.command_base.specs.Stops.{ReadFails};
 
 use crate::{Status, Stop};
-use outside_core::{Folder, FolderFault};
+use outside_calls::{Folder, FolderFault};
 use std::alloc::Global;
 
 /// Looks whether an input is within its limit: one octet is read there. Where it is longer, the answer names this word.

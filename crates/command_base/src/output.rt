@@ -1,10 +1,10 @@
 // Steps of an output, and of what is said.
 ghost use Rattle.std.specs.Prelude.{[], ◌∷◌, map, OnOk, OnErr, IfErr};
-ghost use Rattle.outside_core.specs.Folder.{OnlyWrites, OnlySays, Appended, PartlyAppended, Said, PartlySaid, CountsStand};
+ghost use Rattle.outside_calls.specs.Folder.{OnlyWrites, OnlySays, Appended, PartlyAppended, Said, PartlySaid, CountsStand};
 ghost use Rattle.command_base.specs.Outputs.{Holds, KeptOrEmpty, AreApart, Creates, CreatesPart, OnlyOutputs, SaysNothing};
 ghost use Rattle.command_base.specs.Stops.{WriteFails, SayFails};
 
-use outside_core::{Folder, FolderFault};
+use outside_calls::{Folder, FolderFault};
 
 /// A file with no octets is made.
 pub fn create_output<F: Folder>(folder: &mut F, name: &str) -> Result<(), FolderFault>

@@ -3,7 +3,7 @@ ghost use Rattle.std.specs.Prelude.{◌≡◌};
 ghost use Rattle.command_base.specs.Stops.{fault_status, stop_status};
 
 use crate::Status;
-use outside_core::FolderFault;
+use outside_calls::FolderFault;
 
 /// Why a job stops before it is done.
 #[derive(Clone, Copy, Debug, PartialEq, Eq)]

@@ -1,6 +1,6 @@
 // Saying the line of an answer.
 ghost use Rattle.std.specs.Prelude.{map, string_bytes, OnOk, OnErr, IsErrOf};
-ghost use Rattle.outside_core.specs.Folder.{OnlySays, HasCause, FaultsStand, CountsStand, Said, PartlySaid};
+ghost use Rattle.outside_calls.specs.Folder.{OnlySays, HasCause, FaultsStand, CountsStand, Said, PartlySaid};
 ghost use Rattle.command_base.specs.Lines.{status_line, too_long_line};
 ghost use Rattle.command_base.specs.Job.{SaysStop};
 ghost use Rattle.command_base.specs.Tells.{Tells};
@@ -8,7 +8,7 @@ ghost use Rattle.command_base.specs.Tells.{Tells};
 use crate::lines::write_short;
 use crate::stop::fault_status;
 use crate::{Status, Stop};
-use outside_core::{Folder, FolderFault};
+use outside_calls::{Folder, FolderFault};
 
 /// Says the line of an answer. A fault then takes the place of the answer.
 pub fn tell<F: Folder>(folder: &mut F, line: &[u8], answer: Status) -> Status

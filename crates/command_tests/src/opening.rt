@@ -1,7 +1,8 @@
 // The inputs of a run, taken in order from a folder in memory.
 use command_base::{Status, Stop};
 use noise_script::Script;
-use outside_core::{FolderFault, MemoryFolder};
+use outside_calls::FolderFault;
+use outside_core::MemoryFolder;
 use roles::Role;
 use run_inputs::{LIMITS, are_apart, open_inputs, run_words};
 use script_causes::Cause;

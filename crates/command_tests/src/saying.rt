@@ -5,7 +5,8 @@ use command_base::{
     write_usage,
 };
 use lapm_frames::FrameFault;
-use outside_core::{FolderFault, MemoryFolder, NoMemory};
+use outside_calls::{FolderFault, NoMemory};
+use outside_core::MemoryFolder;
 use roles::Role;
 use script_causes::Cause;
 use std::alloc::Global;

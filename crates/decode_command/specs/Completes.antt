@@ -1,7 +1,7 @@
 -- When nothing but want of memory keeps the command from being done.
 use Rattle.std.specs.Prelude.{◌≡◌, ℕ, ◌%◌, ◌≤◌, IsTrue, List, [], ◌∷◌, ◌++◌, length, None}
 use Rattle.scramblers.specs.declared.mode.Mode.{Mode}
-use Rattle.outside_core.specs.Folder.{FolderState, octets_at}
+use Rattle.outside_calls.specs.Folder.{FolderState, octets_at}
 use Rattle.survivors.specs.Survivors.{LostIs}
 use Rattle.survivors.specs.V32.{line_depth}
 use Rattle.recordings.specs.declared.rate.Rate.{Rate}

@@ -1,7 +1,7 @@
 // A recording played from the folder, and its octets written into it.
 ghost use Rattle.std.specs.Prelude.{◌≡◌, ◌≤◌, ◌<◌, ◌+◌, ◌*◌, ◌%◌, ◌^◌, ◌++◌, ◌∷◌, ℕ, None, List, [], true, IfOk, IfErr, OnOk, length, slice_index};
 ghost use Rattle.symbol_map.specs.declared.sample.Sample.{Sample};
-ghost use Rattle.outside_core.specs.Folder.{FolderState};
+ghost use Rattle.outside_calls.specs.Folder.{FolderState};
 ghost use Rattle.scramblers.specs.declared.mode.Mode.{Mode};
 ghost use Rattle.recordings.specs.declared.rate.Rate.{Rate};
 ghost use Rattle.command_base.specs.declared.limits.TheConstants.{RECORDING_LIMIT};
@@ -19,7 +19,7 @@ use crate::words::DecodeWords;
 use command_base::{Status, Stop, append_output};
 use exact_decoder::Lost;
 use frame_check::Octets;
-use outside_core::Folder;
+use outside_calls::Folder;
 use recording_inputs::{PIECE, hearer_of, read_samples};
 use recordings::{HEADER, SAMPLE, sample_at};
 use scramblers::Mode;

@@ -10,7 +10,7 @@ ghost use Rattle.decode_command.specs.Playing.{decoding_of, ReadsAt, IsReady};
 use crate::octet_joiner::Bits;
 use exact_decoder::Lost;
 use line_decoding::LineReader;
-use outside_core::NoMemory;
+use outside_calls::NoMemory;
 use rate_4800::{QuarterReader, Rate4800};
 use recordings::Rate;
 use scramblers::Mode;

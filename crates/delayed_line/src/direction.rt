@@ -18,7 +18,7 @@ use exact_decoder::Lost;
 use frame_check::Check;
 use line_laws::laws::losses_stay;
 use noise_script::Script;
-use outside_core::NoMemory;
+use outside_calls::NoMemory;
 use roles::Role;
 use sample_line::Line;
 use sample_line::laws::recordings_grow;

@@ -1,8 +1,8 @@
 -- From single steps to how the making of a recording ends.
 use Rattle.std.proofs.Common.{◌≡◌, ◌≢◌, ◌∙◌, inl, inr, ℕ, ◌+◌, ◌*◌, Bool, true, false, IsTrue, List, [], ◌++◌, length, refl, sym, ap, subst, arith, rules, append-nil, append_assoc}
 use Rattle.plain_lists.specs.Prefix.{IsPrefixOf}
-use Rattle.outside_core.specs.Folder.{FolderState, octets_at, OnlyReads, OnlyWrites, Appended, PartlyAppended}
-use Rattle.outside_core.specs.Steps.{KeepsName-trans}
+use Rattle.outside_calls.specs.Folder.{FolderState, octets_at, OnlyReads, OnlyWrites, Appended, PartlyAppended}
+use Rattle.outside_calls.specs.Steps.{KeepsName-trans}
 use Rattle.scramblers.specs.declared.mode.Mode.{Mode}
 use Rattle.plain_lists.specs.Bits.{bits_of}
 use Rattle.line_coding.proofs.Standing.{modulated}

@@ -1,6 +1,6 @@
 -- When nothing but want of memory keeps the command from being done.
 use Rattle.std.specs.Prelude.{◌≤◌, IsTrue, [], ◌∷◌, length}
-use Rattle.outside_core.specs.Folder.{FolderState, octets_at}
+use Rattle.outside_calls.specs.Folder.{FolderState, octets_at}
 use Rattle.command_base.specs.declared.status.Status.{Status}
 use Rattle.command_base.specs.Sound.{IsSound, DoneUnlessMemory}
 use Rattle.encode_command.specs.Words.{EncodeNames}

@@ -1,7 +1,7 @@
 -- What the command promises, over the folder before and after it. What is said of a name's octets holds where the
 -- folder tells that name.
 use Rattle.std.specs.Prelude.{◌≡◌, ◌⊎◌, ℕ, IsTrue, List, [], ◌∷◌}
-use Rattle.outside_core.specs.Folder.{FolderState, octets_at, KeepsName, Said}
+use Rattle.outside_calls.specs.Folder.{FolderState, octets_at, KeepsName, Said}
 use Rattle.recordings.specs.Recording.{IsRecordingOf}
 use Rattle.command_base.specs.declared.status.Status.{Status}
 use Rattle.command_base.specs.declared.status.Status.TheVariants.{Done}

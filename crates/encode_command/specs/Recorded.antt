@@ -1,6 +1,6 @@
 -- How far a file is recorded.
 use Rattle.std.specs.Prelude.{ℕ, List, [], ◌++◌}
-use Rattle.outside_core.specs.Folder.{FolderState}
+use Rattle.outside_calls.specs.Folder.{FolderState}
 use Rattle.recordings.specs.declared.recorder.Recorder.{Recorder}
 use Rattle.recordings.specs.Recording.{header_at, RecorderStands}
 use Rattle.command_base.specs.declared.limits.TheConstants.{FILE_LIMIT}

@@ -9,7 +9,7 @@ ghost use Rattle.encode_command.specs.Headline.{Headline};
 use crate::recording::make_recording;
 use crate::words::EncodeWords;
 use command_base::{Status, tell, tell_stop, write_samples};
-use outside_core::Folder;
+use outside_calls::Folder;
 
 /// Makes the recording, and says how it ended.
 fn encode_and_tell<F: Folder>(folder: &mut F, words: &[String], names: &EncodeWords<'_>) -> Status

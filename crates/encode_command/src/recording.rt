@@ -1,6 +1,6 @@
 // A file's octets, recorded piece by piece.
 ghost use Rattle.std.specs.Prelude.{◌≡◌, ◌≤◌, ◌+◌, ◌*◌, ◌++◌, ℕ, List, [], ◌∷◌, IfOk, IfErr, length, true};
-ghost use Rattle.outside_core.specs.Folder.{FolderState};
+ghost use Rattle.outside_calls.specs.Folder.{FolderState};
 ghost use Rattle.scramblers.specs.declared.mode.Mode.{Mode};
 ghost use Rattle.recordings.specs.declared.rate.Rate.{Rate};
 ghost use Rattle.recordings.specs.Recording.{samples_each, RecorderStands};
@@ -14,7 +14,7 @@ ghost use Rattle.encode_command.specs.Recorded.{Begun, RecordedTo};
 use crate::words::EncodeWords;
 use command_base::{FILE_LIMIT, Stop, append_output, create_output, read_piece, within_limit};
 use frame_check::Octets;
-use outside_core::Folder;
+use outside_calls::Folder;
 use recordings::{Recorder, header_octets};
 
 /// The place of the file's name among the words.

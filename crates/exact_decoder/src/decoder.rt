@@ -8,7 +8,7 @@ ghost use Rattle.exact_decoder.specs.Decoder.{DecoderStands};
 use crate::kept::Survivors;
 use crate::labels::Labels;
 use crate::tail::Tail;
-use outside_core::NoMemory;
+use outside_calls::NoMemory;
 use std::alloc::Global;
 use std::marker::Model;
 use symbol_map::Sample;

@@ -1,6 +1,6 @@
 -- From every answer to what the command promises.
 use Rattle.std.proofs.Common.{ℕ, ◌≤◌, ◌<◌, List, [], ◌++◌, length, Result, subst, arith}
-use Rattle.outside_core.specs.Folder.{FolderState, octets_at, Said}
+use Rattle.outside_calls.specs.Folder.{FolderState, octets_at, Said}
 use Rattle.command_base.specs.declared.limits.TheConstants.{FILE_LIMIT}
 use Rattle.command_base.specs.declared.status.Status.{Status}
 use Rattle.command_base.specs.declared.stop.Stop.{Stop}

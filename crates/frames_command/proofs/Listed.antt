@@ -1,7 +1,7 @@
 -- From single steps to how a listing ends.
 use Rattle.std.proofs.Common.{◌≡◌, ◌∙◌, inl, ℕ, ◌+◌, Bool, true, false, IsTrue, List, [], ◌++◌, refl, sym, ap, subst, append-nil, append_assoc}
 use Rattle.plain_lists.specs.Prefix.{IsPrefixOf}
-use Rattle.outside_core.specs.Folder.{FolderState, octets_at, OnlyReads, OnlySays, Said}
+use Rattle.outside_calls.specs.Folder.{FolderState, octets_at, OnlyReads, OnlySays, Said}
 use Rattle.plain_lists.specs.Bits.{bits_of}
 use Rattle.frame_check.proofs.BitLists.{bits_of-append}
 use Rattle.bit_stuffing.specs.Found.{Found, pieces_of}

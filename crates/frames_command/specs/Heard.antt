@@ -1,6 +1,6 @@
 -- How far a file of bits was heard.
 use Rattle.std.specs.Prelude.{◌≡◌, ℕ, List, []}
-use Rattle.outside_core.specs.Folder.{FolderState, OnlyReads}
+use Rattle.outside_calls.specs.Folder.{FolderState, OnlyReads}
 use Rattle.plain_lists.specs.Bits.{bits_of}
 use Rattle.command_base.specs.declared.limits.TheConstants.{FILE_LIMIT}
 use Rattle.command_base.specs.Inputs.{IsWithin, ReadTo}

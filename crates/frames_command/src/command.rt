@@ -9,7 +9,7 @@ ghost use Rattle.frames_command.specs.Headline.{Headline};
 use crate::listing::list_pieces;
 use crate::words::FramesWords;
 use command_base::{Status, tell, tell_stop, write_pieces};
-use outside_core::Folder;
+use outside_calls::Folder;
 
 /// Lists the pieces, and says how it ended.
 fn list_and_tell<F: Folder>(folder: &mut F, words: &[String], names: &FramesWords<'_>) -> Status

@@ -1,6 +1,6 @@
 // A file's bits, listed piece by piece.
 ghost use Rattle.std.specs.Prelude.{◌≡◌, ◌≤◌, ◌+◌, ◌*◌, [], ◌∷◌, IfOk, IfErr};
-ghost use Rattle.outside_core.specs.Folder.{FolderState};
+ghost use Rattle.outside_calls.specs.Folder.{FolderState};
 ghost use Rattle.command_base.specs.declared.limits.TheConstants.{FILE_LIMIT};
 ghost use Rattle.command_base.specs.Outputs.{OnlyOutputs};
 ghost use Rattle.command_base.specs.Stops.{EndCounts};
@@ -10,7 +10,7 @@ ghost use Rattle.frames_command.specs.Ends.{SaysAll, EndsBy, Ends};
 
 use crate::words::FramesWords;
 use command_base::{FILE_LIMIT, Stop, read_piece, within_limit};
-use outside_core::Folder;
+use outside_calls::Folder;
 use piece_listener::Listener;
 
 /// The place of the stream's name among the words.

@@ -15,7 +15,7 @@ use crate::{AnyEnd, Arrived, Broken, LinkFault, Sent, Setup};
 use frame_check::Info;
 use lapm_frames::Frame;
 use link_account::Answer;
-use outside_core::NoMemory;
+use outside_calls::NoMemory;
 use roles::Role;
 use slot_contents::Seen;
 use std::alloc::Global;

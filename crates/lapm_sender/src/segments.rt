@@ -7,7 +7,7 @@ ghost use Rattle.lapm_sender.specs.Numbers.{with_number, from_number};
 
 use circular_buffer::HeapCircularBuffer;
 use frame_check::Info;
-use outside_core::NoMemory;
+use outside_calls::NoMemory;
 use std::alloc::Global;
 use std::marker::Model;
 

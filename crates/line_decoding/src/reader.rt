@@ -6,7 +6,7 @@ ghost use Rattle.line_decoding.specs.Reading.{SamplesRead, IsFinished, bits_in};
 
 use exact_decoder::{Decoder, Lost, Tail};
 use line_coding::Demodulate;
-use outside_core::NoMemory;
+use outside_calls::NoMemory;
 use scramblers::Mode;
 use std::alloc::Global;
 use std::marker::Model;

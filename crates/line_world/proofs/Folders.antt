@@ -1,8 +1,8 @@
 -- What the steps of a turn leave of the folder, in a row.
 use Rattle.std.proofs.Common.{◌≡◌, ◌≢◌, inl, inr, ℕ, ◌++◌, List, length, take, IsTrue, refl, sym, ◌∙◌, ap, subst, Some}
 use Rattle.std.specs.List.{concat}
-use Rattle.outside_core.specs.Folder.{FolderState, KeepsName, GoesOn, OnlyReads, OnlyWrites, Appended, PartlyAppended, FaultsStand, CountsStand, Rose}
-use Rattle.outside_core.specs.Steps.{GoesOn-trans, told_later, KeepsName-trans, octets-kept, octets-held, Adds-kept, PartlyAppended-none, kept-PartlyAppended, FaultsStand-trans, CountsStand-trans}
+use Rattle.outside_calls.specs.Folder.{FolderState, KeepsName, GoesOn, OnlyReads, OnlyWrites, Appended, PartlyAppended, FaultsStand, CountsStand, Rose}
+use Rattle.outside_calls.specs.Steps.{GoesOn-trans, told_later, KeepsName-trans, octets-kept, octets-held, Adds-kept, PartlyAppended-none, kept-PartlyAppended, FaultsStand-trans, CountsStand-trans}
 use Rattle.roles.specs.Both.{Both}
 use Rattle.link_run.specs.Run.{Ends}
 use Rattle.turn_bound.specs.Limits.{file_limit}

@@ -1,6 +1,6 @@
 -- What happens to both ends between hearing and speaking.
 use Rattle.std.proofs.Common.{◌≡◌, ◌≢◌, ◌-◌, ℕ, zero, suc, Bool, true, false, cond, List, length, drop, refl, sym, ◌∙◌, ap, subst, Option, Some, None}
-use Rattle.outside_core.specs.Folder.{FolderState}
+use Rattle.outside_calls.specs.Folder.{FolderState}
 use Rattle.roles.specs.declared.role.Role.{Role}
 use Rattle.roles.specs.declared.role.Role.TheVariants.{Originator, Answerer}
 use Rattle.roles.specs.Both.{Both, of}

@@ -1,6 +1,6 @@
 -- A whole turn.
 use Rattle.std.proofs.Common.{◌≡◌, inl, ℕ, List, ◌∷◌, length, refl, sym, ◌∙◌, ap, subst, Result, Ok, Err}
-use Rattle.outside_core.specs.Folder.{FolderState, OnlyWrites}
+use Rattle.outside_calls.specs.Folder.{FolderState, OnlyWrites}
 use Rattle.roles.specs.declared.role.Role.{Role}
 use Rattle.roles.specs.declared.role.Role.TheVariants.{Originator, Answerer}
 use Rattle.roles.specs.Role.{other}

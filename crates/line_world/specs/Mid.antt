@@ -1,6 +1,6 @@
 -- A turn of a world in its middle: both ends have heard, and the rest of the turn is to come.
 use Rattle.std.specs.Prelude.{◌≡◌, ◌≢◌, ℕ, ◌+◌, false, ◌∷◌, List, length, Option, Result, Ok, Err}
-use Rattle.outside_core.specs.Folder.{FolderState, KeepsName, Appended, PartlyAppended}
+use Rattle.outside_calls.specs.Folder.{FolderState, KeepsName, Appended, PartlyAppended}
 use Rattle.roles.specs.declared.role.Role.{Role}
 use Rattle.roles.specs.declared.role.Role.TheVariants.{Originator, Answerer}
 use Rattle.roles.specs.Both.{Both}

@@ -1,9 +1,9 @@
 -- What a turn answers, what it adds to each output, and what is left where the folder doesn't take that.
 use Rattle.std.specs.Prelude.{◌≡◌, ◌⊎◌, ℕ, ◌+◌, ◌∷◌, List, length, Result, Ok, Err}
 use Rattle.std.specs.List.{concat}
-use Rattle.outside_core.specs.Folder.{FolderState, KeepsName, Adds, Appended, PartlyAppended, Rose, FaultsStand, CountsStand}
-use Rattle.outside_core.specs.declared.folder.FolderFault.{FolderFault}
-use Rattle.outside_core.specs.declared.folder.FolderFault.TheVariants.{Failed, NoMemory}
+use Rattle.outside_calls.specs.Folder.{FolderState, KeepsName, Adds, Appended, PartlyAppended, Rose, FaultsStand, CountsStand}
+use Rattle.outside_calls.specs.declared.folder.FolderFault.{FolderFault}
+use Rattle.outside_calls.specs.declared.folder.FolderFault.TheVariants.{Failed, NoMemory}
 use Rattle.roles.specs.declared.role.Role.{Role}
 use Rattle.roles.specs.declared.role.Role.TheVariants.{Originator}
 use Rattle.roles.specs.Both.{Both}

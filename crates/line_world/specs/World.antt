@@ -1,6 +1,6 @@
 -- For which run a world stands: its turns so far, over two files that are known as far as they were read.
 use Rattle.std.specs.Prelude.{◌≡◌, ◌≢◌, ℕ, ◌+◌, ◌-◌, ◌≤◌, IsTrue, List, length, drop}
-use Rattle.outside_core.specs.Folder.{FolderState, GoesOn, KeepsName}
+use Rattle.outside_calls.specs.Folder.{FolderState, GoesOn, KeepsName}
 use Rattle.roles.specs.Both.{Both}
 use Rattle.noise_script.specs.Script.{ScriptValue, IsInLimits, delay_of}
 use Rattle.roles.specs.declared.role.Role.{Role}

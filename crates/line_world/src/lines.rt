@@ -1,6 +1,6 @@
 // The lines of a turn.
 ghost use Rattle.std.specs.Prelude.{◌≡◌, ◌++◌, is_some, true, Some, OnOk, OnErr, IfErr};
-ghost use Rattle.outside_core.specs.Folder.{Appended, OnlyWrites, PartlyAppended};
+ghost use Rattle.outside_calls.specs.Folder.{Appended, OnlyWrites, PartlyAppended};
 ghost use Rattle.roles.specs.declared.role.Role.{Role};
 ghost use Rattle.line_texts.specs.LineText.{chance_line, line_text};
 ghost use Rattle.both_sides.specs.declared.each.Each.{Each};
@@ -13,7 +13,7 @@ use crate::step::RunFault;
 use both_sides::{Breaking, Each, Names, append_line, append_turn};
 use lapm_link::LinkFault;
 use line_texts::TraceLine;
-use outside_core::{Folder, FolderFault};
+use outside_calls::{Folder, FolderFault};
 use roles::Role;
 use slot_contents::{Heard, Sent};
 

@@ -11,7 +11,7 @@ ghost use Rattle.both_sides.specs.declared.each.Each.{Each};
 ghost use Rattle.both_sides.specs.Names.{written};
 ghost use Rattle.both_sides.specs.Lines.{HaveArrived};
 ghost use Rattle.both_sides.specs.Link.{AreCounted, AreIdle, AreWithin, LinkStands};
-ghost use Rattle.outside_core.specs.Folder.{OnlyReads, OnlyWrites};
+ghost use Rattle.outside_calls.specs.Folder.{OnlyReads, OnlyWrites};
 ghost use Rattle.link_account.specs.Account.{check_of, given_break};
 ghost use Rattle.noise_script.specs.Script.{IsInLimits};
 
@@ -27,7 +27,7 @@ use link_run::laws::{
     segments_are_counted_by_their_numbers,
 };
 use noise_script::Script;
-use outside_core::{Folder, NoMemory};
+use outside_calls::{Folder, NoMemory};
 use roles::Role;
 use sample_line::{Heard, Line};
 use std::alloc::Global;

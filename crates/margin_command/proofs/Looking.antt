@@ -1,6 +1,6 @@
 -- Why an input is not taken for its length.
 use Rattle.std.proofs.Common.{◌≡◌, ℕ, List, [], ◌∷◌}
-use Rattle.outside_core.specs.Folder.{FolderState, OnlyReads, CountsStand}
+use Rattle.outside_calls.specs.Folder.{FolderState, OnlyReads, CountsStand}
 use Rattle.command_base.specs.declared.limits.TheConstants.{FILE_LIMIT, RECORDING_LIMIT}
 use Rattle.command_base.specs.declared.stop.Stop.{Stop}
 use Rattle.command_base.specs.declared.stop.Stop.TheVariants.{Own, Read, Write, Say, NoMemory}

@@ -2,7 +2,7 @@
 use Rattle.std.specs.Prelude.{◌≡◌, ℕ, ◌*◌, ◌≤◌, IsTrue, List, [], ◌++◌, length}
 use Rattle.scramblers.specs.declared.mode.Mode.{Mode}
 use Rattle.recordings.specs.Recording.{header_of}
-use Rattle.outside_core.specs.Folder.{FolderState, octets_at}
+use Rattle.outside_calls.specs.Folder.{FolderState, octets_at}
 use Rattle.command_base.specs.declared.status.Status.{Status}
 use Rattle.command_base.specs.Sound.{IsSound, DoneUnlessMemory}
 use Rattle.margin_command.specs.Words.{MarginNames, inputs_of}

@@ -2,8 +2,8 @@
 -- name.
 use Rattle.std.specs.Prelude.{◌≡◌, ◌≢◌, ℕ, ◌+◌, ◌*◌, min, nat_lt, IsTrue, List, [], ◌∷◌, length, take, Result, Ok, Err}
 use Rattle.scramblers.specs.declared.mode.Mode.{Mode}
-use Rattle.outside_core.specs.Folder.{FolderState, octets_at}
-use Rattle.outside_core.specs.declared.folder.FolderFault.{FolderFault}
+use Rattle.outside_calls.specs.Folder.{FolderState, octets_at}
+use Rattle.outside_calls.specs.declared.folder.FolderFault.{FolderFault}
 use Rattle.noisy_line.specs.Near.{sure}
 use Rattle.noise_bound.specs.Margins.{IsCostOf, Measured}
 use Rattle.recordings.specs.declared.rate.Rate.TheVariants as rates

@@ -6,7 +6,7 @@ use Rattle.symbol_map.specs.declared.sample.Sample.{Sample}
 use Rattle.plain_lists.specs.Prefix.{IsPrefixOf}
 use Rattle.survivors.specs.Survivors.{IsReleased, LostIs}
 use Rattle.survivors.specs.V32.{line_trellis, line_depth}
-use Rattle.outside_core.specs.Folder.{FolderState, octets_at, Said}
+use Rattle.outside_calls.specs.Folder.{FolderState, octets_at, Said}
 use Rattle.noise_bound.specs.Margins.{IsCostOf}
 use Rattle.recordings.specs.Recording.{header_of}
 use Rattle.recordings.specs.Samples.{samples_in}

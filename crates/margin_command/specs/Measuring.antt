@@ -1,7 +1,7 @@
 -- How far a recording is measured.
 use Rattle.std.specs.Prelude.{ℕ, ◌+◌, ◌*◌, List}
 use Rattle.scramblers.specs.declared.mode.Mode.{Mode}
-use Rattle.outside_core.specs.Folder.{FolderState, OnlyReads}
+use Rattle.outside_calls.specs.Folder.{FolderState, OnlyReads}
 use Rattle.noise_bound.specs.Margins.{Measured, MarginStands}
 use Rattle.recordings.specs.declared.rate.Rate.TheVariants as rates
 use Rattle.recordings.specs.declared.header.TheConstants.{HEADER}

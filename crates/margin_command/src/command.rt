@@ -1,6 +1,6 @@
 // The command: the file is measured against the recording, and its line is said.
 ghost use Rattle.std.specs.Prelude.{[], map, string_bytes};
-ghost use Rattle.outside_core.specs.Folder.{OnlyReads};
+ghost use Rattle.outside_calls.specs.Folder.{OnlyReads};
 ghost use Rattle.command_base.specs.Job.{Answers};
 ghost use Rattle.command_base.specs.Stops.{EndCounts};
 ghost use Rattle.margin_command.specs.Words.{named, inputs_of};
@@ -13,7 +13,7 @@ use crate::opening::open_inputs;
 use crate::words::MarginWords;
 use command_base::{Status, Stop, tell, tell_stop, write_margin};
 use noise_bound::Margin;
-use outside_core::Folder;
+use outside_calls::Folder;
 
 /// Opens both inputs, and measures the file against the recording.
 fn measure<F: Folder>(folder: &mut F, names: &MarginWords<'_>) -> Result<Margin, Stop>

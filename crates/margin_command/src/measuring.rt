@@ -2,7 +2,7 @@
 ghost use Rattle.std.specs.Prelude.{◌≡◌, ◌≤◌, ◌+◌, ◌*◌, ◌++◌, [], ℕ, List, IfOk, IfErr, length};
 ghost use Rattle.scramblers.specs.declared.mode.Mode.{Mode};
 ghost use Rattle.symbol_map.specs.declared.sample.Sample.{Sample};
-ghost use Rattle.outside_core.specs.Folder.{FolderState, OnlyReads};
+ghost use Rattle.outside_calls.specs.Folder.{FolderState, OnlyReads};
 ghost use Rattle.noise_bound.specs.Margins.{MarginStands};
 ghost use Rattle.command_base.specs.declared.limits.TheConstants.{FILE_LIMIT};
 ghost use Rattle.command_base.specs.Stops.{EndCounts};
@@ -16,7 +16,7 @@ ghost use Rattle.margin_command.specs.Measuring.{Opened, MeasuredTo};
 use crate::words::MarginWords;
 use command_base::{FILE_LIMIT, RECORDING_LIMIT, Status, Stop, read_piece};
 use noise_bound::Margin;
-use outside_core::Folder;
+use outside_calls::Folder;
 use recordings::{HEADER, SAMPLE, sample_at};
 use scramblers::Mode;
 

@@ -1,13 +1,13 @@
 // The lengths of both inputs, and the recording's header.
 ghost use Rattle.std.specs.Prelude.{[], IfOk, IfErr};
-ghost use Rattle.outside_core.specs.Folder.{OnlyReads};
+ghost use Rattle.outside_calls.specs.Folder.{OnlyReads};
 ghost use Rattle.command_base.specs.Stops.{EndCounts};
 ghost use Rattle.margin_command.specs.Words.{named, inputs_of};
 ghost use Rattle.margin_command.specs.Ends.{AreOpen, EndsBy};
 
 use crate::words::MarginWords;
 use command_base::{FILE_LIMIT, RECORDING_LIMIT, Status, Stop, read_piece, within_limit};
-use outside_core::Folder;
+use outside_calls::Folder;
 use recordings::{HEADER, Rate, read_header};
 use scramblers::Mode;
 

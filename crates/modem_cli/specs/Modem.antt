@@ -1,7 +1,7 @@
 -- What the top call promises and answers, over the folder before and after it: by the words, what their command does. A command has one
 -- line in the list of commands and in each record.
 use Rattle.std.specs.Prelude.{◌≡◌, Bool, true, false, ℕ, List, [], ◌∷◌, map, Option, Some, None, codes}
-use Rattle.outside_core.specs.Folder.{FolderState}
+use Rattle.outside_calls.specs.Folder.{FolderState}
 use Rattle.command_base.specs.declared.status.Status.{Status}
 use Rattle.command_base.specs.declared.status.Status.TheVariants.{Usage}
 use Rattle.command_base.specs.Job.{Answers as AnswersOf, Shared}

@@ -8,7 +8,7 @@ use decode_command::{decode, decode_words};
 use encode_command::{encode, encode_words};
 use frames_command::{frames, frames_words};
 use margin_command::{margin, margin_words};
-use outside_core::Folder;
+use outside_calls::Folder;
 use peer_command::{peer, peer_words};
 use pickup_command::{pickup, pickup_words};
 use run_command::{run, run_words};

@@ -9,7 +9,7 @@ ghost use Rattle.noise_script.specs.Script.{IsInLimits};
 use crate::entry::{Delays, Entry};
 use crate::offered::{NOTHING_OFFERED, Offered};
 use crate::{Break, Hit, Loss, Noise, Pause, Script};
-use outside_core::NoMemory;
+use outside_calls::NoMemory;
 use roles::Role;
 use std::alloc::Global;
 

@@ -2,7 +2,7 @@
 ghost use Rattle.std.specs.Prelude.{◌≡◌};
 
 use crate::Cause;
-use outside_core::NoMemory;
+use outside_calls::NoMemory;
 
 /// Why a text is read as no script.
 #[derive(Clone, Copy, Debug, PartialEq, Eq)]

@@ -12,7 +12,7 @@ use Rattle.std.specs.FinMap.{find, get, insert, get-insert, get-from_entries, sa
 use Rattle.std.proofs.lemmas.Map.Text.{btree_map_updates_text, is_eq-slice_cmp}
 use Rattle.std.specs.declared.cmp.Ordering.{Ordering}
 use Rattle.std.specs.declared.cmp.Ordering.TheVariants.{Less, Equal, Greater}
-use Rattle.outside_core.specs.Folder.{Files}
+use Rattle.outside_calls.specs.Folder.{Files}
 use Rattle.outside_core.specs.Store.{plain_entries, files_of}
 
 -- maps that answer alike are one

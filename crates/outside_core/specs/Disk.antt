@@ -1,12 +1,9 @@
 -- What a folder of the disk keeps, what it stands for, and how its faults are counted.
-use Rattle.std.specs.Prelude.{◌≡◌, ◌↔◌, ℕ, false, None, Result, Ok, Err}
+use Rattle.std.specs.Prelude.{◌≡◌, ℕ, false, None, Result, Ok, Err}
 use Rattle.std.specs.FinMap as finite
-use Rattle.std.specs.IoError.{error_kind}
-use Rattle.std.specs.declared.io.Error.{Error}
-use Rattle.std.specs.declared.io.ErrorKind.TheVariants.{OutOfMemory}
-use Rattle.outside_core.specs.Folder.{FolderState, raised}
-use Rattle.outside_core.specs.declared.folder.FolderFault.{FolderFault}
-use Rattle.outside_core.specs.declared.folder.FolderFault.TheVariants.{Failed, NoMemory}
+use Rattle.outside_calls.specs.Folder.{FolderState, raised}
+use Rattle.outside_calls.specs.declared.folder.FolderFault.{FolderFault}
+use Rattle.outside_calls.specs.declared.folder.FolderFault.TheVariants.{Failed, NoMemory}
 
 -- The faults of all reads, those of all writes and of `say`, and the memory refusals.
 pub record DiskCounts : Type 0 where
@@ -31,7 +28,3 @@ abbrev pub CountsFault : {T : Type 0} → Result T FolderFault → ℕ → ℕ �
 CountsFault (Ok value) faults faults_now refusals refusals_now = (faults_now ≡ faults) × (refusals_now ≡ refusals)
 CountsFault (Err Failed) faults faults_now refusals refusals_now = (faults_now ≡ raised faults) × (refusals_now ≡ refusals)
 CountsFault (Err NoMemory) faults faults_now refusals refusals_now = (faults_now ≡ faults) × (refusals_now ≡ raised refusals)
-
--- an error for want of memory is named so, and no other
-abbrev pub IsFaultOf : Error → FolderFault → Type 0
-IsFaultOf error fault = (fault ≡ NoMemory) ↔ (error_kind error ≡ OutOfMemory)

@@ -1,5 +1,3 @@
-pub mod Folder
-pub mod Steps
 pub mod Store
 pub mod Transfer
 pub mod Memory

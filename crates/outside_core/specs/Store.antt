@@ -1,7 +1,7 @@
 -- Files kept in a tree map, as a finite map from the octets of names.
 use Rattle.std.specs.Prelude.{ℕ, List, [], ◌∷◌, Vec, string_bytes, String}
 use Rattle.std.specs.FinMap as finite
-use Rattle.outside_core.specs.Folder.{Files}
+use Rattle.outside_calls.specs.Folder.{Files}
 
 -- the entries with their names and contents as octets
 abbrev pub plain_entries : {A B : Type 0} → List (String A × Vec ℕ B) → List (List ℕ × List ℕ)

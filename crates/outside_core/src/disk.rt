@@ -1,12 +1,12 @@
 // The folder of the disk: the edge to the operating system.
 ghost use Rattle.std.specs.Prelude.{◌≡◌, ◌≤◌, length, IfOk};
-ghost use Rattle.outside_core.specs.Folder.{HasCause};
+ghost use Rattle.outside_calls.specs.Folder.{HasCause};
 ghost use Rattle.outside_core.specs.Disk.{disk_folder, CountsFault};
 
 use crate::transfer::{fill_from, put_all};
-use crate::{Folder, FolderFault};
+use outside_calls::{Folder, FolderFault};
 use std::fs::OpenOptions;
-use std::io::{self, ErrorKind};
+use std::io;
 use std::marker::Model;
 use std::rt::Files;
 
@@ -73,19 +73,6 @@ impl<R: Files + Print + Clone + Drop> DiskFolder<R> {
 
     fn write_out(&self, piece: &[u8]) -> Result<(), FolderFault> {
         put_all(&mut io::writer(&self.rt), piece)
-    }
-}
-
-impl From<io::Error> for FolderFault {
-    ghost use Rattle.outside_core.specs.Disk.{IsFaultOf};
-
-    ghost from_gives = { IsFaultOf };
-
-    fn from(error: io::Error) -> FolderFault {
-        match error.kind() {
-            ErrorKind::OutOfMemory => FolderFault::NoMemory,
-            _ => FolderFault::Failed,
-        }
     }
 }
 

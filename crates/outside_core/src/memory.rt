@@ -2,12 +2,12 @@
 ghost use Rattle.std.specs.Prelude.{◌≡◌, ◌≤◌, ◌⊎◌, ◌++◌, [], ◌↔◌, length, unwrap_or, OnOk, OnErr, IfOk, IsErrOf, IsNone};
 ghost use Rattle.std.specs.Option.{option_map};
 ghost use Rattle.std.specs.FinMap as finite;
-ghost use Rattle.outside_core.specs.Folder.{ReadsFront, OnlyReads, OnlyWrites, OnlySays, HasCause, FaultsStand, CountsStand, KeepsName, Appended, PartlyAppended, Created, Said, PartlySaid};
+ghost use Rattle.outside_calls.specs.Folder.{ReadsFront, OnlyReads, OnlyWrites, OnlySays, HasCause, FaultsStand, CountsStand, KeepsName, Appended, PartlyAppended, Created, Said, PartlySaid};
 ghost use Rattle.outside_core.specs.Memory.{memory_folder, FailsNext, AfterRead, AfterWrite};
 
 use crate::store::Store;
 use crate::transfer::copy_from;
-use crate::{Folder, FolderFault, NoMemory};
+use outside_calls::{Folder, FolderFault, NoMemory};
 use std::alloc::Global;
 use std::marker::Model;
 

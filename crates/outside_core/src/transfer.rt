@@ -3,7 +3,7 @@ ghost use Rattle.std.specs.Prelude.{◌≡◌, ◌≤◌, ◌-◌, ◌++◌, len
 ghost use Rattle.std.specs.Io.KnownBytes.{Appends, Consumes};
 ghost use Rattle.outside_core.specs.Transfer.{AppendsPart, ReadsUp};
 
-use crate::FolderFault;
+use outside_calls::FolderFault;
 use std::io::{self, ErrorKind, Read, Seek, SeekFrom, Write};
 
 /// Fills the front of `buf` with the octets from `at` on, and answers how many.

@@ -4,9 +4,9 @@ use Rattle.std.proofs.Common.{refl, sym}
 use Rattle.std.proofs.Common.{ap, subst, arith}
 use Rattle.std.proofs.lemmas.Bool.{false≢true}
 use Rattle.std.specs.Option.{option_map}
-use Rattle.outside_core.specs.Folder.{FolderState, octets_at}
-use Rattle.outside_core.specs.declared.folder.FolderFault.{FolderFault}
-use Rattle.outside_core.specs.declared.folder.FolderFault.TheVariants as folder
+use Rattle.outside_calls.specs.Folder.{FolderState, octets_at}
+use Rattle.outside_calls.specs.declared.folder.FolderFault.{FolderFault}
+use Rattle.outside_calls.specs.declared.folder.FolderFault.TheVariants as folder
 use Rattle.roles.specs.declared.role.Role.{Role}
 use Rattle.link_faults.specs.declared.fault.LinkFault.{LinkFault}
 use Rattle.link_faults.specs.declared.fault.LinkFault.TheVariants as faults

@@ -5,8 +5,8 @@ use Rattle.std.proofs.lemmas.Bool.{false≢true, cases_lt}
 use Rattle.std.proofs.lemmas.List.{take_all}
 use Rattle.std.proofs.lemmas.List.Folds.{concat-append}
 use Rattle.std.specs.List.{concat}
-use Rattle.outside_core.specs.Folder.{FolderState, octets_at, GoesOn, KeepsName, OnlyReads}
-use Rattle.outside_core.specs.Steps.{GoesOn-trans, KeepsName-trans, octets-kept, told_later}
+use Rattle.outside_calls.specs.Folder.{FolderState, octets_at, GoesOn, KeepsName, OnlyReads}
+use Rattle.outside_calls.specs.Steps.{GoesOn-trans, KeepsName-trans, octets-kept, told_later}
 use Rattle.roles.specs.declared.role.Role.{Role}
 use Rattle.link_run.specs.End.{deliveries}
 use Rattle.link_run.specs.Alone.{LoneTurn, LoneHearingsDeliver, LoneSpeakingTakesNothing}

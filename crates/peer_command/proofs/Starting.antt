@@ -1,8 +1,8 @@
 -- Before the first turn, and what a turn's answer says of a run.
 use Rattle.std.proofs.Common.{◌≡◌, ◌∙◌, inl, inr, ℕ, ◌<◌, ◌≤◌, ◌+◌, List, [], ◌∷◌, length, take, refl, sym, subst, arith}
 use Rattle.std.proofs.lemmas.List.{length-take}
-use Rattle.outside_core.specs.Folder.{FolderState, octets_at, GoesOn, KeepsName, OnlyReads, CountsStand}
-use Rattle.outside_core.specs.Steps.{GoesOn-trans, KeepsName-trans, octets-kept, told_later}
+use Rattle.outside_calls.specs.Folder.{FolderState, octets_at, GoesOn, KeepsName, OnlyReads, CountsStand}
+use Rattle.outside_calls.specs.Steps.{GoesOn-trans, KeepsName-trans, octets-kept, told_later}
 use Rattle.roles.specs.declared.role.Role.{Role}
 use Rattle.link_account.specs.Account.{fresh}
 use Rattle.link_run.specs.Alone.{LoneHearingsDeliver, LoneSpeakingTakesNothing}

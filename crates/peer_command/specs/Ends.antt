@@ -1,7 +1,7 @@
 -- How the job of the command ends, before its line is said. What is said of a name's octets holds where the folder tells that name.
 use Rattle.std.specs.Prelude.{◌≡◌, ◌⊎◌, ℕ, IsTrue, List, [], ◌∷◌, ◌++◌, Result, Ok, Err}
-use Rattle.outside_core.specs.Folder.{FolderState, octets_at}
-use Rattle.outside_core.specs.declared.folder.FolderFault.{FolderFault}
+use Rattle.outside_calls.specs.Folder.{FolderState, octets_at}
+use Rattle.outside_calls.specs.declared.folder.FolderFault.{FolderFault}
 use Rattle.roles.specs.declared.role.Role.{Role}
 use Rattle.link_faults.specs.declared.fault.LinkFault.{LinkFault}
 use Rattle.link_faults.specs.declared.fault.LinkFault.TheVariants as faults

@@ -1,7 +1,7 @@
 // The command: the inputs' lengths are looked at, all memory is taken, the outputs are made, turns follow to the run's end, and its line
 // is said.
 ghost use Rattle.std.specs.Prelude.{◌≡◌, ℕ, [], List, true, map, string_bytes};
-ghost use Rattle.outside_core.specs.Folder.{FolderState};
+ghost use Rattle.outside_calls.specs.Folder.{FolderState};
 ghost use Rattle.command_base.specs.Job.{Answers};
 ghost use Rattle.command_base.specs.Outputs.{OnlyOutputs, SaysNothing};
 ghost use Rattle.command_base.specs.Stops.{EndCounts};
@@ -21,7 +21,7 @@ use crate::words::PeerWords;
 use command_base::{
     FILE_LIMIT, Status, Stop, create_outputs, tell, tell_stop, within_limit, write_done,
 };
-use outside_core::Folder;
+use outside_calls::Folder;
 use run_inputs::laws::apart_names_differ;
 use single_end::Single;
 use std::alloc::Global;

@@ -1,6 +1,6 @@
 // Turns against the peer's slots, up to the end of a run.
 ghost use Rattle.std.specs.Prelude.{◌≡◌, ℕ, ◌*◌, ◌+◌, ◌≤◌, Ok, None, true, length, IfOk, IfErr, IfSome};
-ghost use Rattle.outside_core.specs.Folder.{FolderState};
+ghost use Rattle.outside_calls.specs.Folder.{FolderState};
 ghost use Rattle.command_base.specs.declared.limits.TheConstants.{FILE_LIMIT};
 ghost use Rattle.command_base.specs.Outputs.{OnlyOutputs, SaysNothing};
 ghost use Rattle.command_base.specs.Stops.{EndCounts};
@@ -15,7 +15,7 @@ ghost use Rattle.peer_command.specs.Turns.{Reached, fault_stop};
 use crate::words::PeerWords;
 use command_base::{FILE_LIMIT, LinkFault, Status, Stop, read_piece};
 use link_run::laws::lone_turns_deliver_what_came;
-use outside_core::{Folder, FolderFault};
+use outside_calls::{Folder, FolderFault};
 use roles::Role;
 use run_inputs::laws::apart_names_differ;
 use single_end::{SLOT_OCTETS, Single, SingleFault, SingleStep};

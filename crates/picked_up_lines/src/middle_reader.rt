@@ -6,7 +6,7 @@ ghost use Rattle.picked_up_lines.specs.Reading.{MiddleRead, bits_taken};
 
 use exact_decoder::Lost;
 use line_decoding::LineReader;
-use outside_core::NoMemory;
+use outside_calls::NoMemory;
 use scramblers::Mode;
 use std::alloc::Global;
 use std::marker::Model;

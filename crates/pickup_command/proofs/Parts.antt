@@ -2,7 +2,7 @@
 use Rattle.std.proofs.Common.{◌≡◌, ◌≢◌, inl, inr, ℕ, ◌+◌, ◌%◌, List, [], ◌++◌, length, sym, subst, Option, None}
 use Rattle.scramblers.specs.declared.mode.Mode.{Mode}
 use Rattle.symbol_map.specs.declared.sample.Sample.{Sample}
-use Rattle.outside_core.specs.Folder.{FolderState, OnlyReads}
+use Rattle.outside_calls.specs.Folder.{FolderState, OnlyReads}
 use Rattle.survivors.specs.Survivors.{LostIs}
 use Rattle.survivors.specs.V32.{any_trellis, line_depth}
 use Rattle.exact_decoder.specs.Decoder.{heard}

@@ -5,7 +5,7 @@ use Rattle.scramblers.specs.declared.mode.Mode.{Mode}
 use Rattle.scramblers.specs.Mode.{tap_of}
 use Rattle.symbol_map.specs.declared.sample.Sample.{Sample}
 use Rattle.roles.specs.declared.role.Role.{Role}
-use Rattle.outside_core.specs.Folder.{FolderState, OnlyReads}
+use Rattle.outside_calls.specs.Folder.{FolderState, OnlyReads}
 use Rattle.survivors.specs.Survivors.{IsReleased, LostIs}
 use Rattle.survivors.proofs.Fronts.{lost-stays, over-before}
 use Rattle.survivors.specs.V32.{any_trellis, line_depth}

@@ -3,7 +3,7 @@
 use Rattle.std.specs.Prelude.{◌≡◌, ℕ, ◌%◌, IsTrue, List, [], ◌∷◌, ◌++◌, length, None}
 use Rattle.scramblers.specs.declared.mode.Mode.{Mode}
 use Rattle.bit_stuffing.specs.Found.{Found}
-use Rattle.outside_core.specs.Folder.{FolderState, octets_at, Said}
+use Rattle.outside_calls.specs.Folder.{FolderState, octets_at, Said}
 use Rattle.recordings.specs.Recording.{header_of}
 use Rattle.recordings.specs.Samples.{samples_in}
 use Rattle.survivors.specs.Survivors.{IsLeast, LostIs}

@@ -1,6 +1,6 @@
 // The command: the recording is picked up, and its last line is said.
 ghost use Rattle.std.specs.Prelude.{[], ◌∷◌, map, string_bytes};
-ghost use Rattle.outside_core.specs.Folder.{FolderState};
+ghost use Rattle.outside_calls.specs.Folder.{FolderState};
 ghost use Rattle.command_base.specs.Job.{Answers};
 ghost use Rattle.command_base.specs.Outputs.{OnlyOutputs};
 ghost use Rattle.command_base.specs.Stops.{EndCounts};
@@ -13,7 +13,7 @@ ghost use Rattle.pickup_command.specs.Headline.{Headline};
 use crate::player::Player;
 use crate::playing::play_to_end;
 use command_base::{Status, Stop, tell, tell_stop, write_pieces};
-use outside_core::Folder;
+use outside_calls::Folder;
 use recording_inputs::open_recording;
 use recordings::Rate;
 use scramblers::Mode;

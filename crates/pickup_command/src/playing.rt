@@ -1,7 +1,7 @@
 // A recording played from the folder.
 ghost use Rattle.std.specs.Prelude.{◌≡◌, ◌≤◌, ◌+◌, ◌++◌, ◌∷◌, [], ℕ, List, IfOk, IfErr, OnOk, length};
 ghost use Rattle.symbol_map.specs.declared.sample.Sample.{Sample};
-ghost use Rattle.outside_core.specs.Folder.{FolderState, OnlySays};
+ghost use Rattle.outside_calls.specs.Folder.{FolderState, OnlySays};
 ghost use Rattle.command_base.specs.declared.limits.TheConstants.{RECORDING_LIMIT};
 ghost use Rattle.command_base.specs.Outputs.{OnlyOutputs};
 ghost use Rattle.command_base.specs.Stops.{EndCounts};
@@ -13,7 +13,7 @@ ghost use Rattle.pickup_command.specs.Ends.{EndsBy, Ends};
 
 use crate::player::Player;
 use command_base::{Status, Stop};
-use outside_core::Folder;
+use outside_calls::Folder;
 use recording_inputs::{PIECE, read_samples};
 use recordings::{HEADER, SAMPLE, sample_at};
 use scramblers::Mode;

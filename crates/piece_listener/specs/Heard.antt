@@ -1,6 +1,6 @@
 -- How far a stream of bits was heard, and what was said of it.
 use Rattle.std.specs.Prelude.{◌≡◌, ℕ, Bool, List, ◌++◌, length}
-use Rattle.outside_core.specs.Folder.{FolderState, Said, PartlySaid}
+use Rattle.outside_calls.specs.Folder.{FolderState, Said, PartlySaid}
 use Rattle.bit_stuffing.specs.Deframer.{Kept, DeframerStands}
 use Rattle.bit_stuffing.specs.Found.{pieces_of}
 use Rattle.roles.specs.declared.role.Role.{Role}

@@ -1,6 +1,6 @@
 // A listener to a stream of bits, who says what each piece is.
 ghost use Rattle.std.specs.Prelude.{◌≡◌, ◌≤◌, ◌<◌, ◌+◌, ◌*◌, ◌^◌, ℕ, Bool, true, false, List, [], ◌∷◌, ◌++◌, OnOk, OnErr, IfErr, length};
-ghost use Rattle.outside_core.specs.Folder.{FolderState, OnlySays, CountsStand};
+ghost use Rattle.outside_calls.specs.Folder.{FolderState, OnlySays, CountsStand};
 ghost use Rattle.plain_lists.specs.Bits.{low_bits, octet_bits, bits_of};
 ghost use Rattle.command_base.specs.Stops.{SayFails};
 ghost use Rattle.piece_listener.specs.Heard.{Heard, PartlyHeard, LeftAt};
@@ -9,7 +9,7 @@ use crate::lines::write_reading;
 use crate::reading::read_piece;
 use bit_stuffing::Deframer;
 use command_base::say_line;
-use outside_core::{Folder, FolderFault};
+use outside_calls::{Folder, FolderFault};
 use roles::Role;
 use std::marker::Model;
 

@@ -1,7 +1,7 @@
 -- A recording that is read on behind its header.
 use Rattle.std.proofs.Common.{◌≡◌, ◌≢◌, ◌∙◌, ◌⊎◌, inl, inr, ℕ, ◌+◌, ◌%◌, ◌≤◌, ◌<◌, Bool, true, false, List, [], ◌++◌, IsTrue, length, length-append, drop, refl, sym, ap, subst, arith, append-nil, append_assoc}
 use Rattle.std.proofs.lemmas.List.{take_all, take-append-drop}
-use Rattle.outside_core.specs.Folder.{FolderState, octets_at, GoesOn, KeepsName}
+use Rattle.outside_calls.specs.Folder.{FolderState, octets_at, GoesOn, KeepsName}
 use Rattle.scramblers.specs.declared.mode.Mode.{Mode}
 use Rattle.recordings.specs.declared.header.TheConstants.{HEADER}
 use Rattle.recordings.specs.declared.rate.Rate.{Rate}

@@ -5,7 +5,7 @@ use Rattle.scramblers.specs.declared.mode.Mode.{Mode}
 use Rattle.scramblers.specs.declared.mode.Mode.TheVariants.{Call, Answer}
 use Rattle.roles.specs.declared.role.Role.{Role}
 use Rattle.roles.specs.declared.role.Role.TheVariants.{Originator, Answerer}
-use Rattle.outside_core.specs.Folder.{FolderState, octets_at, OnlyReads, CountsStand}
+use Rattle.outside_calls.specs.Folder.{FolderState, octets_at, OnlyReads, CountsStand}
 use Rattle.recordings.specs.declared.header.TheConstants.{HEADER}
 use Rattle.recordings.specs.declared.rate.Rate.{Rate}
 use Rattle.recordings.specs.Recording.{header_at}

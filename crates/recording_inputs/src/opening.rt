@@ -1,11 +1,11 @@
 // A recording's length and header.
 ghost use Rattle.std.specs.Prelude.{ℕ, List, [], ◌∷◌, IfOk, IfErr};
-ghost use Rattle.outside_core.specs.Folder.{OnlyReads};
+ghost use Rattle.outside_calls.specs.Folder.{OnlyReads};
 ghost use Rattle.command_base.specs.Stops.{StopCounts};
 ghost use Rattle.recording_inputs.specs.Recordings.{Opened, IsNotOpened};
 
 use command_base::{RECORDING_LIMIT, Status, Stop, read_piece, within_limit};
-use outside_core::Folder;
+use outside_calls::Folder;
 use recordings::{HEADER, Rate, read_header};
 use scramblers::Mode;
 

@@ -1,13 +1,13 @@
 // The octets behind a recording's header.
 ghost use Rattle.std.specs.Prelude.{◌≡◌, ◌≢◌, ◌⊎◌, ◌≤◌, ◌+◌, ◌%◌, ◌++◌, ◌∷◌, [], ℕ, List, IfOk, IfErr, OnOk, length, take};
 ghost use Rattle.scramblers.specs.declared.mode.Mode.{Mode};
-ghost use Rattle.outside_core.specs.Folder.{FolderState, OnlyReads, CountsStand};
+ghost use Rattle.outside_calls.specs.Folder.{FolderState, OnlyReads, CountsStand};
 ghost use Rattle.command_base.specs.Stops.{ReadFails};
 ghost use Rattle.recordings.specs.declared.rate.Rate.{Rate};
 ghost use Rattle.recording_inputs.specs.Recordings.{ReadBehind, IsAtEnd};
 
 use command_base::{RECORDING_LIMIT, read_piece};
-use outside_core::{Folder, FolderFault};
+use outside_calls::{Folder, FolderFault};
 
 /// How many octets of a recording are read at a time: whole samples.
 pub const PIECE: usize = 4_096;

@@ -1,7 +1,7 @@
 -- Where the inputs are right and the line carries their run to its end, the run is done, but for want of memory.
 use Rattle.std.proofs.Common.{◌≡◌, ◌⊎◌, inl, inr, ℕ, ◌≤◌, ◌<◌, List, length, sym, subst, arith}
 use Rattle.roles.specs.Both.{Both}
-use Rattle.outside_core.specs.Folder.{FolderState, octets_at}
+use Rattle.outside_calls.specs.Folder.{FolderState, octets_at}
 use Rattle.noise_script.specs.Script.{ScriptValue}
 use Rattle.noise_script.specs.Grammar.{ScriptSpelling}
 use Rattle.noise_script.specs.Laws.{ScriptsAreOne, NoFaultInScripts, SpelledIsInLimits, BreaksAreOctets}

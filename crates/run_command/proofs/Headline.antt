@@ -2,10 +2,10 @@
 use Rattle.std.proofs.Common.{◌≡◌, ◌⊎◌, inl, inr, ℕ, Bool, true, false, List, [], ◌++◌, Some, Result, Ok, Err, refl, sym, ◌∙◌, ap, subst}
 use Rattle.std.specs.Option.{option_map}
 use Rattle.std.proofs.lemmas.Bool.{false≢true}
-use Rattle.outside_core.specs.Folder.{FolderState, GoesOn, KeepsName}
-use Rattle.outside_core.specs.Steps.{KeepsName-trans, told_later}
-use Rattle.outside_core.specs.declared.folder.FolderFault.{FolderFault}
-use Rattle.outside_core.specs.declared.folder.FolderFault.TheVariants as folder
+use Rattle.outside_calls.specs.Folder.{FolderState, GoesOn, KeepsName}
+use Rattle.outside_calls.specs.Steps.{KeepsName-trans, told_later}
+use Rattle.outside_calls.specs.declared.folder.FolderFault.{FolderFault}
+use Rattle.outside_calls.specs.declared.folder.FolderFault.TheVariants as folder
 use Rattle.roles.specs.declared.role.Role.TheVariants.{Originator, Answerer}
 use Rattle.noise_script.specs.Script.{delay_of}
 use Rattle.link_run.specs.Laws.{agreed_srej}

@@ -3,8 +3,8 @@ use Rattle.std.proofs.Common.{◌≡◌, inl, inr, ℕ, ◌+◌, ◌-◌, ◌≤
 use Rattle.std.proofs.lemmas.List.{length-take, append-nil}
 use Rattle.std.proofs.lemmas.List.Folds.{concat-append}
 use Rattle.std.specs.List.{concat}
-use Rattle.outside_core.specs.Folder.{FolderState, octets_at, GoesOn, KeepsName, Adds, CountsStand, Rose}
-use Rattle.outside_core.specs.Steps.{GoesOn-refl, GoesOn-trans, KeepsName-trans, octets-kept, CountsStand-refl, CountsStand-trans, FaultsStand-trans}
+use Rattle.outside_calls.specs.Folder.{FolderState, octets_at, GoesOn, KeepsName, Adds, CountsStand, Rose}
+use Rattle.outside_calls.specs.Steps.{GoesOn-refl, GoesOn-trans, KeepsName-trans, octets-kept, CountsStand-refl, CountsStand-trans, FaultsStand-trans}
 use Rattle.roles.specs.declared.role.Role.{Role}
 use Rattle.roles.specs.declared.role.Role.TheVariants.{Originator, Answerer}
 use Rattle.roles.specs.Both.{Both, of}

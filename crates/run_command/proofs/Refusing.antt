@@ -1,6 +1,6 @@
 -- What is refused is refused before the outputs are created.
 use Rattle.std.proofs.Common.{inl, inr, ℕ, Result, subst}
-use Rattle.outside_core.specs.Folder.{FolderState}
+use Rattle.outside_calls.specs.Folder.{FolderState}
 use Rattle.command_base.specs.declared.status.Status.{Status}
 use Rattle.command_base.specs.declared.status.Status.TheVariants.{Usage, BadScript, BadHex, BadXid, TooLong}
 use Rattle.command_base.specs.declared.stop.Stop.{Stop}

@@ -1,8 +1,8 @@
 -- How a run ends, before its line is said: by its answer, which run it was, and what the outputs then hold. What is said of a name's octets
 -- holds where the folder tells that name.
 use Rattle.std.specs.Prelude.{◌≡◌, ◌⊎◌, ℕ, IsTrue, List, Result, Ok, Err}
-use Rattle.outside_core.specs.Folder.{FolderState, OnlyReads, octets_at}
-use Rattle.outside_core.specs.declared.folder.FolderFault.TheVariants as folder
+use Rattle.outside_calls.specs.Folder.{FolderState, OnlyReads, octets_at}
+use Rattle.outside_calls.specs.declared.folder.FolderFault.TheVariants as folder
 use Rattle.roles.specs.Both.{Both}
 use Rattle.noise_script.specs.Script.{ScriptValue, IsInLimits}
 use Rattle.line_run.specs.Ends.{RunEnd, Left, RunsTo}

@@ -1,7 +1,7 @@
 -- What the outputs hold of a run: what its turns left, and a part of what the next turn adds where the folder fails in it.
 use Rattle.std.specs.Prelude.{◌≡◌, ◌⊎◌, ℕ, List, [], ◌∷◌, ◌++◌, length, Result, Ok, Err}
 use Rattle.std.specs.List.{concat}
-use Rattle.outside_core.specs.Folder.{FolderState}
+use Rattle.outside_calls.specs.Folder.{FolderState}
 use Rattle.roles.specs.declared.role.Role.{Role}
 use Rattle.roles.specs.Both.{Both, of}
 use Rattle.line_texts.specs.LineText.{chance_line}

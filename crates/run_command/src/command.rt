@@ -1,6 +1,6 @@
 // The command: its inputs are opened, all memory is taken, its outputs are made, turns follow to its end, and its line is said.
 ghost use Rattle.std.specs.Prelude.{◌≡◌, [], List, ℕ, true, map, string_bytes};
-ghost use Rattle.outside_core.specs.Folder.{FolderState};
+ghost use Rattle.outside_calls.specs.Folder.{FolderState};
 ghost use Rattle.roles.specs.Both.{Both};
 ghost use Rattle.link_run.specs.Run.{start};
 ghost use Rattle.line_run.specs.Scripted.{link_of};
@@ -20,7 +20,7 @@ use crate::outputs::create_all;
 use crate::turns::run_turns;
 use command_base::{Status, Stop, tell, tell_stop, write_done};
 use line_world::{Names, RunFault, World};
-use outside_core::{Folder, FolderFault};
+use outside_calls::{Folder, FolderFault};
 use run_inputs::laws::apart_names_differ;
 use run_inputs::{LIMITS, RunWords, open_inputs};
 use std::alloc::Global;

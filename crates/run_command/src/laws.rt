@@ -1,6 +1,6 @@
 // What every answer of a run promises. The functions do nothing but name the laws that they rest on: each law is a contract.
 ghost use Rattle.std.specs.Prelude.{List, ℕ};
-ghost use Rattle.outside_core.specs.Folder.{FolderState};
+ghost use Rattle.outside_calls.specs.Folder.{FolderState};
 ghost use Rattle.command_base.specs.declared.status.Status.{Status};
 ghost use Rattle.command_base.specs.Job.{Answers};
 ghost use Rattle.run_inputs.specs.Words.{RunNames};

@@ -1,12 +1,12 @@
 // A run's outputs, made before its first turn.
 ghost use Rattle.std.specs.Prelude.{◌≡◌, true, OnOk, OnErr, IfErr};
-ghost use Rattle.outside_core.specs.Folder.{CountsStand};
+ghost use Rattle.outside_calls.specs.Folder.{CountsStand};
 ghost use Rattle.command_base.specs.Outputs.{Creates, CreatesPart, OnlyOutputs, SaysNothing};
 ghost use Rattle.command_base.specs.Stops.{WriteFails};
 ghost use Rattle.run_inputs.specs.Words.{named, are_apart, inputs_of, outputs_of};
 
 use command_base::create_outputs;
-use outside_core::{Folder, FolderFault};
+use outside_calls::{Folder, FolderFault};
 use run_inputs::RunWords;
 use run_inputs::laws::apart_names_differ;
 

@@ -12,7 +12,7 @@ ghost use Rattle.run_command.specs.Turns.{TurnsEnd, RunCounts};
 use line_world::laws::turns_are_few;
 use line_world::{Names, RunFault, Step, World};
 use link_run::laws::turns_deliver_what_came;
-use outside_core::Folder;
+use outside_calls::Folder;
 
 /// Turns are made until the run ends: the number of its last turn. The world has then counted all turns.
 pub fn run_turns<F: Folder>(

@@ -1,9 +1,9 @@
 -- Lengths that are looked at one after the other.
 use Rattle.std.proofs.Common.{inl, inr, ℕ, ◌+◌, ◌<◌, ◌≤◌, List, [], ◌∷◌, length, Result, Ok, Err, OnOk, refl, sym, subst}
-use Rattle.outside_core.specs.Folder.{FolderState, OnlyReads, CountsStand}
-use Rattle.outside_core.specs.Steps.{octets-kept, told_later, CountsStand-trans}
-use Rattle.outside_core.specs.declared.folder.FolderFault.{FolderFault}
-use Rattle.outside_core.specs.declared.folder.FolderFault.TheVariants as folder
+use Rattle.outside_calls.specs.Folder.{FolderState, OnlyReads, CountsStand}
+use Rattle.outside_calls.specs.Steps.{octets-kept, told_later, CountsStand-trans}
+use Rattle.outside_calls.specs.declared.folder.FolderFault.{FolderFault}
+use Rattle.outside_calls.specs.declared.folder.FolderFault.TheVariants as folder
 use Rattle.command_base.specs.declared.status.Status.TheVariants.{BadScript, TooLong}
 use Rattle.command_base.specs.declared.stop.Stop.{Stop}
 use Rattle.command_base.specs.declared.stop.Stop.TheVariants.{Own, Read, Write, Say, NoMemory}

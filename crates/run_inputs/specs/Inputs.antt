@@ -1,7 +1,7 @@
 -- Which inputs a run takes, and why it refuses others. What is said of a file holds where the folder tells its name.
 use Rattle.std.specs.Prelude.{◌⊎◌, ℕ, [], ◌∷◌}
-use Rattle.outside_core.specs.Folder.{FolderState}
-use Rattle.outside_core.specs.declared.folder.FolderFault.{FolderFault}
+use Rattle.outside_calls.specs.Folder.{FolderState}
+use Rattle.outside_calls.specs.declared.folder.FolderFault.{FolderFault}
 use Rattle.noise_script.specs.Script.{ScriptValue}
 use Rattle.command_base.specs.Inputs.{IsWithin}
 use Rattle.command_base.specs.declared.status.Status.{Status}

@@ -1,6 +1,6 @@
 // A run's inputs, taken in order.
 ghost use Rattle.std.specs.Prelude.{◌≡◌, ◌≤◌, List, ℕ, IfOk, IfErr};
-ghost use Rattle.outside_core.specs.Folder.{OnlyReads};
+ghost use Rattle.outside_calls.specs.Folder.{OnlyReads};
 ghost use Rattle.command_base.specs.Stops.{EndCounts};
 ghost use Rattle.noise_script.specs.declared.limits.TheConstants.{SCRIPT_OCTETS};
 ghost use Rattle.run_inputs.specs.Inputs.{Opens, Refuses};
@@ -12,7 +12,7 @@ use crate::script::open_script;
 use crate::words::RunWords;
 use command_base::Stop;
 use noise_script::Script;
-use outside_core::Folder;
+use outside_calls::Folder;
 use std::alloc::Global;
 
 /// The place of the first file's name among the words.

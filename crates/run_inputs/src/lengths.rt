@@ -1,11 +1,11 @@
 // The lengths of a run's files.
 ghost use Rattle.std.specs.Prelude.{◌≡◌, ◌≤◌, ◌<◌, ◌+◌, ◌^◌, List, ℕ, OnOk, IfErr, length, map};
-ghost use Rattle.outside_core.specs.Folder.{OnlyReads};
+ghost use Rattle.outside_calls.specs.Folder.{OnlyReads};
 ghost use Rattle.command_base.specs.Stops.{EndCounts};
 ghost use Rattle.run_inputs.specs.Lengths.{AreWithin, RefusesLengths};
 
 use command_base::{Stop, within_limit};
-use outside_core::Folder;
+use outside_calls::Folder;
 
 /// Looks whether these files are within their limit, one after the other: one octet of each is read there. The first file that is longer
 /// is named by its word, which is this one for the first of them, and the next one for each after it.

@@ -1,13 +1,13 @@
 // A run's script.
 ghost use Rattle.std.specs.Prelude.{◌≡◌, ◌≤◌, ◌∷◌, [], List, ℕ, IfOk, IfErr};
-ghost use Rattle.outside_core.specs.Folder.{OnlyReads};
+ghost use Rattle.outside_calls.specs.Folder.{OnlyReads};
 ghost use Rattle.command_base.specs.Stops.{EndCounts};
 ghost use Rattle.noise_script.specs.declared.limits.TheConstants.{SCRIPT_OCTETS};
 ghost use Rattle.run_inputs.specs.Scripts.{ReadsScript, RefusesScript};
 
 use command_base::{Status, Stop, read_file, within_limit};
 use noise_script::{Script, ScriptFault, read_script};
-use outside_core::Folder;
+use outside_calls::Folder;
 use std::alloc::Global;
 
 /// The script of that name: its length is looked at, it is read up to its limit, and understood. Where it is too long, the answer

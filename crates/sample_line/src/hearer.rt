@@ -8,7 +8,7 @@ use crate::receiver::{Finder, Slot};
 use crate::tally::Tally;
 use exact_decoder::{Decoder, Lost};
 use line_decoding::LineReader;
-use outside_core::NoMemory;
+use outside_calls::NoMemory;
 use scramblers::Mode;
 use std::alloc::Global;
 use symbol_map::Sample;

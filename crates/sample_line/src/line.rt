@@ -24,7 +24,7 @@ use bit_stuffing::{BitSlot, SlotWriter};
 use exact_decoder::Lost;
 use frame_check::Check;
 use noise_script::Script;
-use outside_core::NoMemory;
+use outside_calls::NoMemory;
 use roles::Role;
 use slot_contents::Sent;
 use std::alloc::Global;

@@ -13,7 +13,7 @@ use crate::transmitter::Transmitter;
 use bit_stuffing::BitSlot;
 use exact_decoder::Lost;
 use noise_script::Script;
-use outside_core::NoMemory;
+use outside_calls::NoMemory;
 use roles::Role;
 use std::alloc::Global;
 

@@ -2,7 +2,7 @@
 ghost use Rattle.std.specs.Prelude.{◌≡◌, [], OnOk};
 
 use line_coding::Modulator;
-use outside_core::NoMemory;
+use outside_calls::NoMemory;
 use picked_up_lines::{MiddleReader, Taken};
 use scramblers::Mode;
 use std::alloc::Global;

@@ -1,6 +1,6 @@
 // The rate of 4800 bit/s.
 use line_coding::Demodulate;
-use outside_core::NoMemory;
+use outside_calls::NoMemory;
 use rate_4800::{Demodulator, Modulator, QuarterReader, Rate4800};
 use scramblers::Mode;
 use symbol_map::Sample;

@@ -2,7 +2,7 @@
 ghost use Rattle.std.specs.Prelude.{◌≡◌, ◌<◌, ◌≤◌, ◌^◌, [], OnOk};
 
 use exact_decoder::Decoder;
-use outside_core::NoMemory;
+use outside_calls::NoMemory;
 use std::alloc::Global;
 use std::process::Abort;
 use symbol_map::{Sample, distance};

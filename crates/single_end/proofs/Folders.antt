@@ -1,9 +1,9 @@
 -- What the steps of a turn leave of the folder, in a row.
 use Rattle.std.proofs.Common.{◌≡◌, inl, inr, ℕ, ◌≤◌, ◌++◌, List, length, take, IsTrue, sym, ◌∙◌, ap, subst, Some, Err}
-use Rattle.outside_core.specs.Folder.{FolderState, KeepsName, GoesOn, OnlyReads, OnlyWrites, Adds, Appended, PartlyAppended, CountsStand}
-use Rattle.outside_core.specs.Folder.{Rose}
-use Rattle.outside_core.specs.Steps.{GoesOn-trans, told_later, KeepsName-trans, octets-kept, Adds-kept, kept-PartlyAppended}
-use Rattle.outside_core.specs.Steps.{FaultsStand-trans, CountsStand-trans}
+use Rattle.outside_calls.specs.Folder.{FolderState, KeepsName, GoesOn, OnlyReads, OnlyWrites, Adds, Appended, PartlyAppended, CountsStand}
+use Rattle.outside_calls.specs.Folder.{Rose}
+use Rattle.outside_calls.specs.Steps.{GoesOn-trans, told_later, KeepsName-trans, octets-kept, Adds-kept, kept-PartlyAppended}
+use Rattle.outside_calls.specs.Steps.{FaultsStand-trans, CountsStand-trans}
 use Rattle.stations.specs.Station.{file_at, ReadsOn}
 use Rattle.link_account.specs.Account.{Account}
 use Rattle.single_end.specs.declared.step.SingleFault.{SingleFault}

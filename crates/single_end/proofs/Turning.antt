@@ -5,8 +5,8 @@ use Rattle.std.specs.List.{concat}
 use Rattle.std.proofs.lemmas.Bool.{false≢true}
 use Rattle.std.specs.Prelude.{slice_get, is_ok}
 use Rattle.std.specs.Option.{option_map}
-use Rattle.outside_core.specs.Folder.{FolderState, KeepsName, GoesOn, OnlyReads, OnlyWrites, Adds, Appended, PartlyAppended}
-use Rattle.outside_core.specs.Steps.{GoesOn-refl, KeepsName-trans, Adds-kept, PartlyAppended-none}
+use Rattle.outside_calls.specs.Folder.{FolderState, KeepsName, GoesOn, OnlyReads, OnlyWrites, Adds, Appended, PartlyAppended}
+use Rattle.outside_calls.specs.Steps.{GoesOn-refl, KeepsName-trans, Adds-kept, PartlyAppended-none}
 use Rattle.roles.specs.declared.role.Role.{Role}
 use Rattle.roles.specs.declared.role.Role.TheVariants.{Originator, Answerer}
 use Rattle.roles.specs.Role.{is_originator, other}

@@ -1,6 +1,6 @@
 -- A turn of a single end in its middle: the end has heard, and the rest of the turn is to come.
 use Rattle.std.specs.Prelude.{◌≡◌, ℕ, false, List, ◌∷◌, length, Result, Ok, Err}
-use Rattle.outside_core.specs.Folder.{FolderState, Appended, PartlyAppended, Rose, FaultsStand, CountsStand}
+use Rattle.outside_calls.specs.Folder.{FolderState, Appended, PartlyAppended, Rose, FaultsStand, CountsStand}
 use Rattle.roles.specs.Role.{other}
 use Rattle.slot_contents.specs.declared.arrived.Arrived.{Arrived}
 use Rattle.link_faults.specs.declared.fault.LinkFault.{LinkFault}

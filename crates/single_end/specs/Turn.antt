@@ -1,8 +1,8 @@
 -- What a turn answers, what it adds to both outputs, and what is left where the folder doesn't take that.
 use Rattle.std.specs.Prelude.{◌⊎◌, ℕ, List, length, Result, Ok, Err}
-use Rattle.outside_core.specs.Folder.{FolderState, KeepsName, Adds, Appended, PartlyAppended, Rose, FaultsStand, CountsStand}
-use Rattle.outside_core.specs.declared.folder.FolderFault.{FolderFault}
-use Rattle.outside_core.specs.declared.folder.FolderFault.TheVariants as folder
+use Rattle.outside_calls.specs.Folder.{FolderState, KeepsName, Adds, Appended, PartlyAppended, Rose, FaultsStand, CountsStand}
+use Rattle.outside_calls.specs.declared.folder.FolderFault.{FolderFault}
+use Rattle.outside_calls.specs.declared.folder.FolderFault.TheVariants as folder
 use Rattle.roles.specs.declared.role.Role.{Role}
 use Rattle.link_run.specs.Alone.{LoneTurn}
 use Rattle.single_end.specs.Peer.{Past, Outcome, Going, Closed, Broken, PeerTurn, after, over, turn_line}

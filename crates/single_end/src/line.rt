@@ -1,6 +1,6 @@
 // The line of a turn in the trace, and the faults of a turn's calls.
 ghost use Rattle.std.specs.Prelude.{◌≡◌, OnOk, OnErr, IfErr};
-ghost use Rattle.outside_core.specs.Folder.{Appended, OnlyWrites, PartlyAppended, HasCause, FaultsStand, CountsStand};
+ghost use Rattle.outside_calls.specs.Folder.{Appended, OnlyWrites, PartlyAppended, HasCause, FaultsStand, CountsStand};
 ghost use Rattle.std.specs.Prelude.{IsErrOf};
 ghost use Rattle.line_texts.specs.LineText.{trace_line};
 ghost use Rattle.single_end.specs.Peer.{heard_as};
@@ -8,7 +8,7 @@ ghost use Rattle.single_end.specs.Turn.{fault_of};
 
 use crate::step::SingleFault;
 use line_texts::{LineText, TraceLine, write_line};
-use outside_core::{Folder, FolderFault};
+use outside_calls::{Folder, FolderFault};
 use roles::Role;
 use slot_contents::{Arrived, Heard, Seen, Sent};
 

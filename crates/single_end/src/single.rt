@@ -1,7 +1,7 @@
 // Turns of one end against a peer's bits.
 ghost use Rattle.std.specs.Prelude.{◌≡◌, ℕ, ◌+◌, ◌<◌, ◌≤◌, ◌^◌, [], true, false, List, length, Err, IfOk, IfErr, OnOk, OnErr};
 ghost use Rattle.std.specs.List.{concat};
-ghost use Rattle.outside_core.specs.Folder.{OnlyReads, OnlyWrites, Adds, Appended, PartlyAppended};
+ghost use Rattle.outside_calls.specs.Folder.{OnlyReads, OnlyWrites, Adds, Appended, PartlyAppended};
 ghost use Rattle.slot_contents.specs.declared.arrived.Arrived.{Arrived};
 ghost use Rattle.lapm_link.specs.Fits.{IsSetUp};
 ghost use Rattle.link_account.specs.Account.{Account, fresh, given_break};
@@ -19,7 +19,7 @@ use crate::step::{SingleFault, SingleStep};
 use lapm_link::{Phase, Setup};
 use link_faults::LinkFault;
 use link_run::laws::{one_lone_run, the_file_of_one_counts_as_far_as_it_was_read};
-use outside_core::{Folder, NoMemory};
+use outside_calls::{Folder, NoMemory};
 use roles::Role;
 use slot_contents::{Arrived, Sent};
 use stations::Station;

@@ -1,8 +1,8 @@
 -- From the turns of a soak to how it ends.
 use Rattle.std.proofs.Common.{◌≡◌, ◌∙◌, ℕ, List, ◌∷◌, length, take, Ok, Err, refl, sym, ap, subst, arith}
 use Rattle.std.proofs.lemmas.List.{take_all}
-use Rattle.outside_core.specs.Folder.{octets_at, KeepsName}
-use Rattle.outside_core.specs.Steps.{octets-kept}
+use Rattle.outside_calls.specs.Folder.{octets_at, KeepsName}
+use Rattle.outside_calls.specs.Steps.{octets-kept}
 use Rattle.outside_core.specs.Sure.{SureState, sure_folder}
 use Rattle.roles.specs.declared.role.Role.TheVariants.{Originator, Answerer}
 use Rattle.roles.specs.Both.{Both}

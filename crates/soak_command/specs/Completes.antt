@@ -1,6 +1,6 @@
 -- When nothing but want of memory keeps a soak from being done.
 use Rattle.std.specs.Prelude.{ℕ, []}
-use Rattle.outside_core.specs.Folder.{FolderState}
+use Rattle.outside_calls.specs.Folder.{FolderState}
 use Rattle.command_base.specs.declared.status.Status.{Status}
 use Rattle.command_base.specs.Sound.{IsSound, DoneUnlessMemory}
 use Rattle.run_command.specs.Completes.{IsCarried}

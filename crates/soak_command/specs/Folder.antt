@@ -1,6 +1,6 @@
 -- The folder of a soak: both files of a seed, and three outputs.
 use Rattle.std.specs.Prelude.{◌≡◌, ℕ, List, [], ◌∷◌, length, codes}
-use Rattle.outside_core.specs.Folder.{FolderState, octets_at}
+use Rattle.outside_calls.specs.Folder.{FolderState, octets_at}
 use Rattle.roles.specs.declared.role.Role.TheVariants.{Originator, Answerer}
 use Rattle.both_sides.specs.Names.{Written}
 use Rattle.soak_inputs.specs.Soak.{soak_file}

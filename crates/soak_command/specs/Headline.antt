@@ -1,7 +1,7 @@
 -- What a soak promises, over the folder before and after it.
 use Rattle.std.specs.Prelude.{◌≡◌, ℕ, []}
 use Rattle.plain_lists.specs.Prefix.{IsPrefixOf}
-use Rattle.outside_core.specs.Folder.{FolderState, Said}
+use Rattle.outside_calls.specs.Folder.{FolderState, Said}
 use Rattle.roles.specs.declared.role.Role.{Role}
 use Rattle.roles.specs.Role.{other}
 use Rattle.roles.specs.Both.{of}

@@ -8,7 +8,7 @@ ghost use Rattle.soak_command.specs.Headline.{Headline};
 use crate::laws::{answers_keep_the_headline, carried_soaks_are_done};
 use crate::soaking::soak_run;
 use command_base::{Status, tell, tell_stop, write_soak};
-use outside_core::Folder;
+use outside_calls::Folder;
 use std::alloc::Global;
 
 /// Makes the run of a seed, and says how it ended.

@@ -7,7 +7,8 @@ ghost use Rattle.soak_command.specs.Folder.{HoldsFiles, soak_names, soak_outputs
 
 use command_base::create_outputs;
 use line_world::Names;
-use outside_core::{FolderFault, NoMemory, SureFolder};
+use outside_calls::{FolderFault, NoMemory};
+use outside_core::SureFolder;
 use roles::Role;
 use soak_inputs::soak_file;
 use std::alloc::Global;

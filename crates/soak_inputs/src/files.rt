@@ -4,7 +4,7 @@ ghost use Rattle.soak_inputs.specs.Drawing.{word_octets, drawn_octets};
 ghost use Rattle.soak_inputs.specs.Soak.{soak_file};
 
 use crate::drawing::drawn_word;
-use outside_core::NoMemory;
+use outside_calls::NoMemory;
 use roles::Role;
 use std::alloc::Global;
 

@@ -8,7 +8,7 @@ use crate::files::FILE_WORDS;
 use itoa::Buffer;
 use noise_script::laws::noisy_lines_spell;
 use noise_script::{Script, ScriptFault, read_script};
-use outside_core::NoMemory;
+use outside_calls::NoMemory;
 use roles::Role;
 use std::alloc::Global;
 

@@ -5,9 +5,9 @@ use Rattle.std.proofs.lemmas.Bool.{cases_lt}
 use Rattle.std.proofs.lemmas.Bool.Decides.{nat_tests}
 use Rattle.std.proofs.lemmas.List.{append_assoc, take_all, take-take, drop-take, length-take, length-take-le, length-drop}
 use Rattle.std.specs.Prelude.{min, Result, Ok, IsErrOf}
-use Rattle.outside_core.specs.declared.folder.FolderFault.{FolderFault}
+use Rattle.outside_calls.specs.declared.folder.FolderFault.{FolderFault}
 use Rattle.std.proofs.Math.Seq.{take-append_seam, take-length}
-use Rattle.outside_core.specs.Folder.{FolderState}
+use Rattle.outside_calls.specs.Folder.{FolderState}
 use Rattle.lapm_sender.specs.Outgoing.{Outgoing}
 use Rattle.lapm_link.specs.Stands.{StandsFor}
 use Rattle.link_account.specs.Account.{Account, wants, piece_size, after_offer}

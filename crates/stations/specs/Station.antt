@@ -1,6 +1,6 @@
 -- For which end of a run a station stands, and what its calls leave.
 use Rattle.std.specs.Prelude.{◌≡◌, ℕ, ◌*◌, ◌≤◌, IsTrue, List, length, take, None, Result, Ok, Err}
-use Rattle.outside_core.specs.Folder.{FolderState, octets_at}
+use Rattle.outside_calls.specs.Folder.{FolderState, octets_at}
 use Rattle.slot_contents.specs.declared.sent.Sent.{Sent}
 use Rattle.lapm_link.specs.Stands.{StandsFor, taken_of, undelivered_of, waiting_of}
 use Rattle.link_faults.specs.declared.fault.LinkFault.{LinkFault}

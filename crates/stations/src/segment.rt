@@ -1,12 +1,12 @@
 // A segment of a user's file.
 ghost use Rattle.std.specs.Prelude.{◌≡◌, ◌≤◌, ◌+◌, ◌*◌, ◌^◌, ◌<◌, IfOk, OnOk, IsErrOf, IsTrue, length, take, drop, min};
-ghost use Rattle.outside_core.specs.Folder.{OnlyReads, HasCause, FaultsStand, CountsStand, octets_at};
+ghost use Rattle.outside_calls.specs.Folder.{OnlyReads, HasCause, FaultsStand, CountsStand, octets_at};
 ghost use Rattle.frame_check.specs.declared.sizes.TheConstants.{INFO};
 ghost use Rattle.link_run.specs.End.{piece_at};
 ghost use Rattle.stations.specs.Station.{file_at};
 
 use frame_check::INFO;
-use outside_core::{Folder, FolderFault};
+use outside_calls::{Folder, FolderFault};
 
 /// Reads the segment of that number of a file that ends at its limit, where segments have `size` octets: how many octets of `segment` it is.
 pub(crate) fn read_segment<F: Folder>(

@@ -8,7 +8,7 @@ use lapm_link::{AnyEnd, Arrived, Closed, Detecting, LinkFault, Phase, Sent, Setu
 use link_run::laws::{
     pieces_are_offered_until_none_is_wanted, segments_are_offered_as_they_are_read,
 };
-use outside_core::{Folder, FolderFault, NoMemory};
+use outside_calls::{Folder, FolderFault, NoMemory};
 use std::alloc::Global;
 use std::mem::replace;
 
@@ -28,7 +28,7 @@ impl Station {
     ghost use Rattle.std.specs.Prelude.{◌≡◌, ℕ, ◌+◌, ◌*◌, ◌≤◌, ◌<◌, ◌^◌, List, length, IfOk, OnOk, OnErr, IsErrOf, not, ◌&&◌, ◌||◌};
     ghost use Rattle.std.specs.List.{concat};
     ghost use Rattle.std.specs.Option.{option_map};
-    ghost use Rattle.outside_core.specs.Folder.{OnlyReads, OnlyWrites, HasCause, Adds, PartlyAppended, FaultsStand, CountsStand};
+    ghost use Rattle.outside_calls.specs.Folder.{OnlyReads, OnlyWrites, HasCause, Adds, PartlyAppended, FaultsStand, CountsStand};
     ghost use Rattle.slot_contents.specs.Sendable.{IsSendable};
     ghost use Rattle.lapm_link.specs.Stands.{TakesNothing, undelivered_of};
     ghost use Rattle.link_account.specs.Numbers.{IsNumbered};

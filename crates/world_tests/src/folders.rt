@@ -1,7 +1,8 @@
 // Folders in memory and on disk.
 ghost use Rattle.std.specs.Prelude.{◌≤◌, IfOk};
 
-use outside_core::{DiskFolder, Folder, FolderFault, MemoryFolder, SureFolder, fill, write_all};
+use outside_calls::{Folder, FolderFault};
+use outside_core::{DiskFolder, MemoryFolder, SureFolder, fill, write_all};
 use std::io::{self, ErrorKind, Read, Write};
 use std::process::Abort;
 use std::test::Fail;

@@ -1,7 +1,7 @@
 -- When nothing but want of memory keeps the command from being done.
 use Rattle.std.specs.Prelude.{◌≡◌, ℕ, ◌≤◌, List, [], length, Ok}
 use Rattle.hex.specs.Hex.{decode_of}
-use Rattle.outside_core.specs.Folder.{FolderState}
+use Rattle.outside_calls.specs.Folder.{FolderState}
 use Rattle.xid_params.specs.declared.offer.Offer.{Offer}
 use Rattle.xid_params.specs.Offers.{OfferSpelling}
 use Rattle.command_base.specs.declared.status.Status.{Status}

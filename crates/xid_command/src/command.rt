@@ -7,7 +7,7 @@ ghost use Rattle.xid_command.specs.Ends.{Explains, Refuses, xid_job};
 use crate::digits::read_digits;
 use crate::offer_line::write_offer_line;
 use command_base::{Status, Stop, tell, tell_stop};
-use outside_core::Folder;
+use outside_calls::Folder;
 use xid_params::{Offer, read_offer};
 
 /// The offer that the digits spell.

@@ -10,7 +10,7 @@ use super::slot::Slot;
 use super::stage::Stage;
 use frame_check::{Check, Info};
 use lapm_link::{AnyEnd, Arrived, Broken, Detecting, LinkFault, Phase, Sent, Setup};
-use outside_core::NoMemory;
+use outside_calls::NoMemory;
 use std::alloc::Global;
 use std::test::Fail;
 

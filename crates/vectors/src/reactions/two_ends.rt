@@ -13,7 +13,7 @@ use super::stage::Stage;
 use frame_check::Info;
 use lapm_frames::Frame;
 use lapm_link::{AnyEnd, Arrived, LinkFault, Phase, Sent, Setup};
-use outside_core::NoMemory;
+use outside_calls::NoMemory;
 use roles::Role;
 use slot_contents::Seen;
 use std::alloc::Global;

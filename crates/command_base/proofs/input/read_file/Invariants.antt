@@ -1,6 +1,6 @@
 use Rattle.std.proofs.Common.{◌≡◌, ◌≤◌, ◌-◌, vec_len, take, IsTrue}
-use Rattle.outside_core.specs.Folder.{octets_at}
-use Rattle.outside_core.specs.Folder.{OnlyReads, CountsStand}
+use Rattle.outside_calls.specs.Folder.{octets_at}
+use Rattle.outside_calls.specs.Folder.{OnlyReads, CountsStand}
 use Rattle.command_base.proofs.input.read_file.Given as goal
 
 abbrev pub invariant-loop-folder : goal.invariant-loop-folder

@@ -1,5 +1,5 @@
 use Rattle.std.proofs.Common.{◌++◌, codes}
-use Rattle.outside_core.specs.Folder.{FolderState, Said, PartlySaid}
+use Rattle.outside_calls.specs.Folder.{FolderState, Said, PartlySaid}
 use Rattle.command_base.proofs.Saying.{Said-Said, Said-PartlySaid, PartlySaid-longer, on-err, on-err-map}
 use Rattle.command_base.proofs.telling.say_too_long.Goals as goal
 

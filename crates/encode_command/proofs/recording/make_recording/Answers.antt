@@ -1,4 +1,4 @@
-use Rattle.outside_core.specs.Folder.{FolderState}
+use Rattle.outside_calls.specs.Folder.{FolderState}
 use Rattle.encode_command.specs.Words.{named}
 use Rattle.encode_command.proofs.Making.{create-part, not-begun}
 use Rattle.encode_command.proofs.recording.make_recording.Goals as goal

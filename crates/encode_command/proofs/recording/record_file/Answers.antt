@@ -1,5 +1,5 @@
 use Rattle.std.proofs.Common.{◌∙◌, ℕ, List, subst}
-use Rattle.outside_core.specs.Folder.{FolderState, PartlyAppended}
+use Rattle.outside_calls.specs.Folder.{FolderState, PartlyAppended}
 use Rattle.encode_command.specs.Words.{EncodeNames, named}
 use Rattle.encode_command.proofs.Making.{header-part}
 use Rattle.encode_command.proofs.recording.record_file.Goals as goal

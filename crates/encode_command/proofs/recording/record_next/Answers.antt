@@ -1,5 +1,5 @@
 use Rattle.std.proofs.Common.{◌≡◌, inr, ℕ, ◌<◌, List, [], ◌++◌, IsTrue, take, subst, arith}
-use Rattle.outside_core.specs.Folder.{FolderState, octets_at, Appended, PartlyAppended}
+use Rattle.outside_calls.specs.Folder.{FolderState, octets_at, Appended, PartlyAppended}
 use Rattle.recordings.specs.declared.recorder.Recorder.{Recorder}
 use Rattle.recordings.specs.Recording.{RecorderStands}
 use Rattle.encode_command.specs.Words.{EncodeNames, named}

@@ -1,5 +1,5 @@
 use Rattle.std.proofs.Common.{◌≡◌, inr, ℕ, ◌<◌, [], ◌++◌, IsTrue, take, subst, arith}
-use Rattle.outside_core.specs.Folder.{octets_at}
+use Rattle.outside_calls.specs.Folder.{octets_at}
 use Rattle.frames_command.specs.Words.{named}
 use Rattle.frames_command.proofs.Listed.{heard-part, heard-more, heard-whole, say-part}
 use Rattle.frames_command.proofs.listing.hear_next.Goals as goal

@@ -1,4 +1,4 @@
-use Rattle.outside_core.specs.Folder.{FolderState}
+use Rattle.outside_calls.specs.Folder.{FolderState}
 use Rattle.frames_command.specs.Words.{named}
 use Rattle.piece_listener.proofs.Hearing.{said-nothing}
 use Rattle.frames_command.proofs.Listed.{not-begun}

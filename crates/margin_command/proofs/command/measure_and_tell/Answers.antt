@@ -1,5 +1,5 @@
 use Rattle.std.proofs.Common.{◌∙◌, ℕ, List, [], Ok, Err, subst}
-use Rattle.outside_core.specs.Folder.{FolderState}
+use Rattle.outside_calls.specs.Folder.{FolderState}
 use Rattle.command_base.specs.declared.status.Status.TheVariants.{Done}
 use Rattle.command_base.specs.Lines.{margin_line}
 use Rattle.command_base.specs.Tells.{Tells}

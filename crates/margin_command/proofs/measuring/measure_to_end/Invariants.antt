@@ -1,5 +1,5 @@
 use Rattle.std.proofs.Common.{◌≡◌, ◌≤◌, ◌-◌}
-use Rattle.outside_core.specs.Folder.{FolderState, OnlyReads, CountsStand}
+use Rattle.outside_calls.specs.Folder.{FolderState, OnlyReads, CountsStand}
 use Rattle.command_base.specs.declared.limits.TheConstants.{FILE_LIMIT}
 use Rattle.margin_command.specs.Words.{named}
 use Rattle.margin_command.specs.Measuring.{Opened, MeasuredTo}

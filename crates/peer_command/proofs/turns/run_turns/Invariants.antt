@@ -1,5 +1,5 @@
 use Rattle.std.proofs.Common.{◌-◌, ◌*◌, ◌≤◌}
-use Rattle.outside_core.specs.Folder.{FolderState, CountsStand}
+use Rattle.outside_calls.specs.Folder.{FolderState, CountsStand}
 use Rattle.command_base.specs.declared.limits.TheConstants.{FILE_LIMIT}
 use Rattle.command_base.specs.Outputs.{OnlyOutputs, SaysNothing}
 use Rattle.single_end.specs.Heard.{slot_octets}

@@ -1,5 +1,5 @@
 use Rattle.std.proofs.Common.{[], refl}
-use Rattle.outside_core.specs.Folder.{FolderState}
+use Rattle.outside_calls.specs.Folder.{FolderState}
 use Rattle.command_base.proofs.OnlyOutputs.{OnlyOutputs-reads}
 use Rattle.recordings.specs.declared.rate.Rate.TheVariants as rates
 use Rattle.recording_inputs.proofs.Behind.{behind-none}

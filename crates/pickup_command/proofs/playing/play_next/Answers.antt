@@ -1,7 +1,7 @@
 use Rattle.std.proofs.Common.{◌≡◌, ◌≢◌, ◌∙◌, inl, inr, ℕ, ◌+◌, ◌-◌, ◌%◌, ◌++◌, ◌∷◌, [], List, length, length-append, take, refl, sym, subst, arith}
 use Rattle.std.proofs.lemmas.List.{length-take}
-use Rattle.outside_core.specs.Folder.{FolderState}
-use Rattle.outside_core.specs.Steps.{CountsStand-trans}
+use Rattle.outside_calls.specs.Folder.{FolderState}
+use Rattle.outside_calls.specs.Steps.{CountsStand-trans}
 use Rattle.symbol_map.specs.declared.sample.Sample.{Sample}
 use Rattle.command_base.proofs.Jobs.{stop-earlier}
 use Rattle.command_base.proofs.OnlyOutputs.{OnlyOutputs-reads, OnlyOutputs-says, OnlyOutputs-trans}

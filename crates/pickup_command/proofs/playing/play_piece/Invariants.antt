@@ -1,6 +1,6 @@
 use Rattle.std.proofs.Common.{ℕ, ◌+◌, ◌*◌, List, ◌++◌, take}
 use Rattle.symbol_map.specs.declared.sample.Sample.{Sample}
-use Rattle.outside_core.specs.Folder.{FolderState, OnlySays, CountsStand}
+use Rattle.outside_calls.specs.Folder.{FolderState, OnlySays, CountsStand}
 use Rattle.recordings.specs.Samples.{samples_in}
 use Rattle.pickup_command.specs.Playing.{Plays, IsReady}
 use Rattle.pickup_command.proofs.playing.play_piece.Given as goal

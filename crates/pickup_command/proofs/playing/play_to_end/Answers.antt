@@ -1,5 +1,5 @@
 use Rattle.std.proofs.Common.{ℕ, ◌+◌, List, sym, subst, arith}
-use Rattle.outside_core.specs.Folder.{FolderState}
+use Rattle.outside_calls.specs.Folder.{FolderState}
 use Rattle.recordings.specs.declared.rate.Rate.TheVariants as rates
 use Rattle.recording_inputs.proofs.Behind.{reads-all}
 use Rattle.pickup_command.specs.Ends.{PicksUpAll}

@@ -1,5 +1,5 @@
 use Rattle.std.proofs.Common.{◌≡◌, ◌≤◌, ◌-◌, [], length}
-use Rattle.outside_core.specs.Folder.{FolderState, CountsStand}
+use Rattle.outside_calls.specs.Folder.{FolderState, CountsStand}
 use Rattle.command_base.specs.declared.limits.TheConstants.{RECORDING_LIMIT}
 use Rattle.command_base.specs.Outputs.{OnlyOutputs}
 use Rattle.recordings.specs.declared.header.TheConstants.{HEADER}

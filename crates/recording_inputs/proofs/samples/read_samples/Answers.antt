@@ -1,6 +1,6 @@
 use Rattle.std.proofs.Common.{◌≡◌, ◌∙◌, ◌<◌, ℕ, List, ◌++◌, IsTrue, length, take, subst, arith}
 use Rattle.std.proofs.lemmas.List.{length-take}
-use Rattle.outside_core.specs.Folder.{octets_at}
+use Rattle.outside_calls.specs.Folder.{octets_at}
 use Rattle.recordings.specs.Recording.{header_at}
 use Rattle.recording_inputs.proofs.Behind.{behind-more, at-end}
 use Rattle.recording_inputs.proofs.samples.read_samples.Goals as goal

@@ -1,5 +1,5 @@
 use Rattle.std.proofs.Common.{inl, sym, subst}
-use Rattle.outside_core.specs.Folder.{FolderState}
+use Rattle.outside_calls.specs.Folder.{FolderState}
 use Rattle.noise_script.specs.Script.{ScriptValue}
 use Rattle.both_sides.specs.Names.{Written}
 use Rattle.line_world.specs.World.{AreApart, OnlyOutputs as OnlyWritten, script_of}

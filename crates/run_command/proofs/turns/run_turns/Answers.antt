@@ -1,6 +1,6 @@
 use Rattle.std.proofs.Common.{refl}
-use Rattle.outside_core.specs.Steps.{CountsStand-trans}
-use Rattle.outside_core.specs.Folder.{FolderState}
+use Rattle.outside_calls.specs.Steps.{CountsStand-trans}
+use Rattle.outside_calls.specs.Folder.{FolderState}
 use Rattle.both_sides.specs.Names.{Written, written}
 use Rattle.line_world.specs.World.{script_of}
 use Rattle.run_command.proofs.Reached.{reached-start, reached-going, reached-done, reached-counts, reached-fault, nearer, next-turn, only-trans, fault-earlier}

@@ -1,6 +1,6 @@
 use Rattle.std.proofs.Common.{◌≡◌, ◌∙◌, ℕ, List, length, ap}
 use Rattle.std.specs.FinMap as finite
-use Rattle.outside_core.specs.Folder.{Files}
+use Rattle.outside_calls.specs.Folder.{Files}
 use Rattle.outside_core.specs.Sure.{SureState}
 use Rattle.soak_command.specs.Folder.{soak_names}
 use Rattle.soak_command.proofs.Filling.{both-put}

@@ -1,8 +1,8 @@
 use Rattle.std.proofs.Common.{◌≡◌, ◌⊎◌, inl, inr, ◌-◌, ◌*◌, ◌≤◌, ℕ, IsTrue, ◌++◌, length, take, drop, arith, ap}
 use Rattle.std.proofs.Common.{◌∙◌, Result, Ok, Err, IfOk}
 use Rattle.std.proofs.lemmas.List.{length-take-le}
-use Rattle.outside_core.specs.Folder.{ReadsFront, octets_at}
-use Rattle.outside_core.specs.declared.folder.FolderFault.{FolderFault}
+use Rattle.outside_calls.specs.Folder.{ReadsFront, octets_at}
+use Rattle.outside_calls.specs.declared.folder.FolderFault.{FolderFault}
 use Rattle.link_run.specs.End.{piece_at}
 use Rattle.stations.specs.Station.{file_at}
 use Rattle.stations.proofs.Offering.{read-segment}

@@ -1,6 +1,6 @@
 use Rattle.std.proofs.Common.{sym}
 use Rattle.std.specs.List.{concat}
-use Rattle.outside_core.specs.Steps.{Adds-kept, kept-PartlyAppended}
+use Rattle.outside_calls.specs.Steps.{Adds-kept, kept-PartlyAppended}
 use Rattle.link_run.specs.End.{deliveries}
 use Rattle.both_sides.specs.Link.{of_orig, of_answ}
 use Rattle.both_sides.specs.Names.{written}

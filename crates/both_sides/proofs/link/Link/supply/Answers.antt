@@ -1,4 +1,4 @@
-use Rattle.outside_core.specs.Steps.{OnlyReads-trans}
+use Rattle.outside_calls.specs.Steps.{OnlyReads-trans}
 use Rattle.turn_bound.specs.Limits.{file_limit}
 use Rattle.stations.specs.Station.{Supplies}
 use Rattle.both_sides.specs.Names.{written}

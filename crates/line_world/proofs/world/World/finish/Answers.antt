@@ -1,5 +1,5 @@
 use Rattle.std.proofs.Common.{◌≡◌, length, refl, subst, None}
-use Rattle.outside_core.specs.Folder.{Appended, PartlyAppended}
+use Rattle.outside_calls.specs.Folder.{Appended, PartlyAppended}
 use Rattle.link_run.specs.Outcomes.{Done}
 use Rattle.link_run.specs.Run.{LastTurn}
 use Rattle.line_run.specs.Scripted.{link_of}

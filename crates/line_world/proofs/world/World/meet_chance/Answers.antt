@@ -1,5 +1,5 @@
 use Rattle.std.proofs.Common.{◌≡◌, ℕ, length, inr, ap, subst}
-use Rattle.outside_core.specs.Folder.{Appended, PartlyAppended}
+use Rattle.outside_calls.specs.Folder.{Appended, PartlyAppended}
 use Rattle.line_texts.specs.LineText.{chance_line}
 use Rattle.both_sides.specs.Names.{written}
 use Rattle.line_world.proofs.Folders.{receives-none}

@@ -1,5 +1,5 @@
 use Rattle.std.proofs.Common.{◌≡◌, ◌+◌, List, length, refl, sym, ◌∙◌, subst, Option, Some, None}
-use Rattle.outside_core.specs.Folder.{Appended, PartlyAppended}
+use Rattle.outside_calls.specs.Folder.{Appended, PartlyAppended}
 use Rattle.slot_contents.specs.declared.sent.Sent.{Sent}
 use Rattle.link_account.specs.Account.{check_of}
 use Rattle.link_run.specs.Counts.{sequence_in}

@@ -1,5 +1,5 @@
 use Rattle.std.proofs.Common.{◌≡◌, ℕ, ◌+◌, length, refl, sym, ◌∙◌, ap, subst}
-use Rattle.outside_core.specs.Steps.{CountsStand-trans}
+use Rattle.outside_calls.specs.Steps.{CountsStand-trans}
 use Rattle.noise_script.specs.Script.{ScriptValue, IsInLimits}
 use Rattle.link_run.specs.End.{is_closed}
 use Rattle.both_sides.specs.Names.{written}

@@ -1,7 +1,7 @@
 use Rattle.std.proofs.Common.{rules, ◌≡◌, sym, ◌∙◌, ap, OnOk, subst, None}
 use Rattle.std.specs.FinMap as finite
 use Rattle.std.specs.Option.{option_map}
-use Rattle.outside_core.specs.Folder.{Files}
+use Rattle.outside_calls.specs.Folder.{Files}
 use Rattle.outside_core.specs.Store.{files_of}
 use Rattle.outside_core.proofs.Stored.{grown_ok, grown_err, get-files_of, get-updates_other}
 use Rattle.outside_core.proofs.store.Store.append.Goals as goal

@@ -1,7 +1,7 @@
 use Rattle.std.proofs.Common.{◌≡◌, ◌≤◌, ◌+◌, ◌*◌, List, length}
 use Rattle.scramblers.specs.declared.mode.Mode.{Mode}
 use Rattle.symbol_map.specs.declared.sample.Sample.{Sample}
-use Rattle.outside_core.specs.Folder.{FolderState, OnlySays, CountsStand}
+use Rattle.outside_calls.specs.Folder.{FolderState, OnlySays, CountsStand}
 use Rattle.pickup_command.specs.Playing.{Plays, playing_of}
 use Rattle.pickup_command.proofs.player.Player.hear_released.Given as goal
 

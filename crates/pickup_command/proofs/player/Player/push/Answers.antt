@@ -1,6 +1,6 @@
 use Rattle.std.proofs.Common.{◌∙◌, ◌++◌, ◌∷◌, [], List, refl, sym, subst}
 use Rattle.symbol_map.specs.declared.sample.Sample.{Sample}
-use Rattle.outside_core.specs.Folder.{FolderState}
+use Rattle.outside_calls.specs.Folder.{FolderState}
 use Rattle.pickup_command.specs.Playing.{Playing, playing_of, Plays}
 use Rattle.pickup_command.proofs.Playings.{plays-pushed, loses-line}
 use Rattle.pickup_command.proofs.player.Player.push.Goals as goal

@@ -1,5 +1,5 @@
 use Rattle.std.proofs.Common.{◌∙◌, ◌+◌, ◌<◌, Bool, List, ◌++◌, length, take, drop, get_or, ap, subst, arith}
-use Rattle.outside_core.specs.Folder.{FolderState}
+use Rattle.outside_calls.specs.Folder.{FolderState}
 use Rattle.plain_lists.specs.Bits.{octet_bits, bits_of}
 use Rattle.roles.specs.declared.role.Role.{Role}
 use Rattle.piece_listener.specs.Heard.{PartlyHeard, LeftAt}

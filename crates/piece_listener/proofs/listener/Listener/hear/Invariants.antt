@@ -1,5 +1,5 @@
 use Rattle.std.proofs.Common.{◌≡◌, ◌≤◌, ◌+◌, ◌*◌, Bool, List, ◌++◌, take}
-use Rattle.outside_core.specs.Folder.{FolderState, OnlySays, CountsStand}
+use Rattle.outside_calls.specs.Folder.{FolderState, OnlySays, CountsStand}
 use Rattle.plain_lists.specs.Bits.{bits_of}
 use Rattle.piece_listener.specs.Heard.{Heard}
 use Rattle.piece_listener.proofs.listener.Listener.hear.Given as goal

@@ -1,5 +1,5 @@
 use Rattle.std.proofs.Common.{◌≡◌, ◌∙◌, ◌+◌, Bool, List, ℕ, [], ◌∷◌, ◌++◌, refl, sym, subst}
-use Rattle.outside_core.specs.Folder.{FolderState, Said, PartlySaid}
+use Rattle.outside_calls.specs.Folder.{FolderState, Said, PartlySaid}
 use Rattle.command_base.proofs.Saying.{on-err-map}
 use Rattle.piece_listener.specs.Readings.{Reads, reading_line}
 use Rattle.piece_listener.specs.Heard.{Listening, Heard}

@@ -1,6 +1,6 @@
 use Rattle.std.proofs.Common.{ℕ, List, arith, refl, sym, subst}
-use Rattle.outside_core.specs.Folder.{FolderState, Appended, PartlyAppended}
-use Rattle.outside_core.specs.Steps.{CountsStand-refl, CountsStand-trans}
+use Rattle.outside_calls.specs.Folder.{FolderState, Appended, PartlyAppended}
+use Rattle.outside_calls.specs.Steps.{CountsStand-refl, CountsStand-trans}
 use Rattle.stations.specs.declared.station.Station.{Station}
 use Rattle.stations.proofs.Handing.{handing-starts, handing-next, handing-ends, handing-stops, handed-segment, writes-on}
 use Rattle.stations.proofs.Handing.{writes-none}

@@ -1,5 +1,5 @@
 use Rattle.std.proofs.Common.{◌≡◌, ℕ, List}
-use Rattle.outside_core.specs.Folder.{OnlyWrites, CountsStand}
+use Rattle.outside_calls.specs.Folder.{OnlyWrites, CountsStand}
 use Rattle.lapm_link.specs.Stands.{TakesNothing, undelivered_of}
 use Rattle.link_account.specs.Account.{Account}
 use Rattle.stations.specs.Station.{Stands}

@@ -1,9 +1,9 @@
 use Rattle.std.proofs.Common.{◌≡◌, ◌<◌, ◌^◌, ℕ, List, length, take, arith, refl, sym, ap, subst, ◌∙◌, Option}
 use Rattle.std.proofs.lemmas.List.{length-take-le}
 use Rattle.std.specs.Option.{IsSomeAnd}
-use Rattle.outside_core.specs.Folder.{FolderState}
-use Rattle.outside_core.specs.Steps.{OnlyReads-refl, OnlyReads-trans, CountsStand-refl, CountsStand-trans, FaultsStand-trans, told_later}
-use Rattle.outside_core.specs.Steps.{octets-kept}
+use Rattle.outside_calls.specs.Folder.{FolderState}
+use Rattle.outside_calls.specs.Steps.{OnlyReads-refl, OnlyReads-trans, CountsStand-refl, CountsStand-trans, FaultsStand-trans, told_later}
+use Rattle.outside_calls.specs.Steps.{octets-kept}
 use Rattle.link_run.specs.End.{piece_at}
 use Rattle.stations.proofs.Offering.{supplying-starts, supplying-next, supplying-ends, wants-within, as-err}
 use Rattle.stations.proofs.station.Station.supply.Goals as goal

@@ -1,5 +1,5 @@
 use Rattle.std.proofs.Common.{◌≡◌, ◌≤◌, ℕ, List, length}
-use Rattle.outside_core.specs.Folder.{OnlyReads, CountsStand}
+use Rattle.outside_calls.specs.Folder.{OnlyReads, CountsStand}
 use Rattle.frame_check.specs.declared.sizes.TheConstants.{INFO}
 use Rattle.lapm_link.specs.Stands.{TakesNothing, room_of}
 use Rattle.link_account.specs.Account.{Account}

@@ -1,8 +1,9 @@
 // A folder as a program sees it. What it holds may be told or not; its counts of faults are always known.
 ghost use Rattle.std.specs.Prelude.{◌⊎◌, ◌≤◌, length, IfOk, OnOk, OnErr, IsErrOf};
-ghost use Rattle.outside_core.specs.Folder.{FolderState, OnlyReads, OnlyWrites, OnlySays, KeepsName, HasCause, FaultsStand, CountsStand, ReadsFront, Appended, PartlyAppended, Created, Said, PartlySaid};
+ghost use Rattle.outside_calls.specs.Folder.{FolderState, OnlyReads, OnlyWrites, OnlySays, KeepsName, HasCause, FaultsStand, CountsStand, ReadsFront, Appended, PartlyAppended, Created, Said, PartlySaid, IsFaultOf};
 
 use std::alloc::{AllocError, AllocFailed};
+use std::io::{self, ErrorKind};
 use thiserror::Error;
 
 /// Why a folder's call did nothing, or not all.
@@ -14,6 +15,17 @@ pub enum FolderFault {
     /// The folder found no memory.
     #[error("the folder found no memory")]
     NoMemory,
+}
+
+impl From<io::Error> for FolderFault {
+    ghost from_gives = { IsFaultOf };
+
+    fn from(error: io::Error) -> FolderFault {
+        match error.kind() {
+            ErrorKind::OutOfMemory => FolderFault::NoMemory,
+            _ => FolderFault::Failed,
+        }
+    }
 }
 
 /// Memory was not found.

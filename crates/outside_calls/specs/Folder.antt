@@ -1,12 +1,15 @@
 -- What a folder stands for, and what its calls leave.
-use Rattle.std.specs.Prelude.{◌≡◌, ◌≢◌, ◌⊎◌, ℕ, ◌+◌, ◌-◌, ◌^◌, ◌≤◌, min, Bool, IsTrue, List, [], ◌++◌, length, take, drop, Option, Some, unwrap_or, Result, IsErrOf}
+use Rattle.std.specs.Prelude.{◌≡◌, ◌≢◌, ◌↔◌, ◌⊎◌, ℕ, ◌+◌, ◌-◌, ◌^◌, ◌≤◌, min, Bool, IsTrue, List, [], ◌++◌, length, take, drop, Option, Some, unwrap_or, Result, IsErrOf}
 use Rattle.std.specs.Option.{option_map}
 use Rattle.std.specs.FinMap as map
 use Rattle.std.specs.Ordering.{nat_cmp}
 use Rattle.std.specs.Cmp.Lexicographic.{slice_cmp}
+use Rattle.std.specs.IoError.{error_kind}
+use Rattle.std.specs.declared.io.Error.{Error}
+use Rattle.std.specs.declared.io.ErrorKind.TheVariants.{OutOfMemory}
 use Rattle.plain_lists.specs.Prefix.{IsPrefixOf}
-use Rattle.outside_core.specs.declared.folder.FolderFault.{FolderFault}
-use Rattle.outside_core.specs.declared.folder.FolderFault.TheVariants.{Failed, NoMemory}
+use Rattle.outside_calls.specs.declared.folder.FolderFault.{FolderFault}
+use Rattle.outside_calls.specs.declared.folder.FolderFault.TheVariants.{Failed, NoMemory}
 
 -- a finite map from names to octets, a name being the octets of its text
 abbrev pub Files : Type 0
@@ -118,3 +121,7 @@ PartlySaid old new piece = (part : List ℕ) × IsPrefixOf part piece × Said ol
 -- octets stand behind what a name held; where there are none it may be left as it was
 abbrev pub Adds : FolderState → FolderState → List ℕ → List ℕ → Type 0
 Adds old new name piece = ((piece ≡ []) × KeepsName old new name) ⊎ Appended old new name piece
+
+-- an error for want of memory is named so, and no other
+abbrev pub IsFaultOf : Error → FolderFault → Type 0
+IsFaultOf error fault = (fault ≡ NoMemory) ↔ (error_kind error ≡ OutOfMemory)

@@ -1,0 +1,9 @@
+//! What a program asks of what is outside it: a folder of named files with a place to say lines, and memory.
+//!
+//! [`Folder`] is what a program is written against. It says of each call what it reads, writes or says, what it leaves
+//! alone, and which count rose where the call failed.
+#![tactic(auto)]
+
+mod folder;
+
+pub use folder::{Folder, FolderFault, NoMemory};
