@@ -1,2 +1,3 @@
 pub mod Completes
+pub mod Carried
 pub mod EachEnds

@@ -20,7 +20,8 @@ use Rattle.run_inputs.specs.declared.limits.TheConstants.{LIMITS}
 use Rattle.run_inputs.specs.Words.{RunNames}
 use Rattle.run_inputs.specs.Inputs.{RefusesOwn}
 use Rattle.run_command.specs.Ends.{RanTo, RanBy, EndsBy, run_job}
-use Rattle.run_command.specs.Completes.{IsCarried, LosesFew, NamesFew, RunsQuietly, IsUndisturbed, AreRight, files_at, DoneWhere, Completes}
+use Rattle.line_ends.specs.Carried.{IsCarried}
+use Rattle.run_command.specs.Completes.{LosesFew, NamesFew, RunsQuietly, IsUndisturbed, AreRight, files_at, DoneWhere, Completes}
 
 script-fits : (count : ℕ) → count ≤ 65536 → LIMITS.script < count → ⊥
 script-fits count within longer = omega (arith, within, longer)

@@ -1,4 +1,3 @@
-pub mod Reached
 pub mod Runs
 pub mod Refusing
 pub mod ReadingOff

@@ -30,7 +30,8 @@ use Rattle.command_base.specs.Outputs.{Holds, HoldsPart, KeptOrEmpty, KeepsAll, 
 use Rattle.run_inputs.specs.declared.limits.TheConstants.{LIMITS}
 use Rattle.run_inputs.specs.Words.{RunNames, outputs_of}
 use Rattle.both_sides.specs.Names.{Written}
-use Rattle.run_command.specs.Turns.{AddsTurn, AddsChance, StopsAfter, HoldPart, of_orig, of_answ, of_lines, names_written}
+use Rattle.run_loop.specs.Turns.{AddsTurn, AddsChance, StopsAfter, HoldPart, of_orig, of_answ, of_lines}
+use Rattle.run_command.specs.Names.{names_written}
 use Rattle.run_command.specs.Ends.{RanTo, StopsInTurn, RanBy, EndsBy, Ends as EndsSo}
 use Rattle.run_command.specs.Headline.{KeptOrPrefix}
 

@@ -22,7 +22,8 @@ use Rattle.run_inputs.specs.declared.limits.Limits.{Limits}
 use Rattle.run_inputs.specs.declared.limits.TheConstants.{LIMITS}
 use Rattle.run_inputs.specs.Words.{RunNames, AreNoneOf, inputs_of, outputs_of}
 use Rattle.run_inputs.specs.Inputs.{Refuses}
-use Rattle.run_command.specs.Turns.{names_written, RunEnds, RunStops, RunStopsReading, FaultEnds}
+use Rattle.run_loop.specs.Turns.{RunEnds, RunStops, RunStopsReading, FaultEnds}
+use Rattle.run_command.specs.Names.{names_written}
 use Rattle.run_command.specs.Ends.{IsBegun, Takes, RanTo, StopsInTurn, StopsInReading, StopsCreating, EndsBy, fault_stop}
 
 -- the inputs were not taken

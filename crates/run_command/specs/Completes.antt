@@ -7,22 +7,12 @@ use Rattle.roles.specs.Both.{Both, of}
 use Rattle.noise_script.specs.Script.{ScriptValue}
 use Rattle.noise_script.specs.Grammar.{ScriptSpelling}
 use Rattle.link_run.specs.Counts.{lost_slots}
-use Rattle.line_run.specs.Ends.{RunEnd, Left, StarvedBy}
-use Rattle.line_causes.specs.Causes.{GivesUp}
-use Rattle.line_ends.specs.Completes.{ScriptRunsTo, heard_turns, LineEnds, IsFaint, IsQuiet, slots_named}
+use Rattle.line_run.specs.Ends.{RunEnd, Left}
+use Rattle.line_ends.specs.Completes.{ScriptRunsTo, heard_turns, IsFaint, IsQuiet, slots_named}
+use Rattle.line_ends.specs.Carried.{LineStays, IsCarried}
 use Rattle.command_base.specs.declared.status.Status.{Status}
 use Rattle.command_base.specs.Sound.{IsSound, DoneUnlessMemory}
 use Rattle.run_inputs.specs.Words.{RunNames, inputs_of, outputs_of}
-
--- The line doesn't end the run of a script and two files: it isn't lost, and nothing received is a chance match.
-abbrev pub LineStays : ScriptValue → Both (List ℕ) → Type 0
-LineStays script files = (end : RunEnd) (left : Left) → ScriptRunsTo script files end left → LineEnds end → ⊥
-
--- The line doesn't end the run, and losses don't go on for so long in it that an end gives up.
-pub record IsCarried (script : ScriptValue) (files : Both (List ℕ)) : Type 0 where
-  pub stays : LineStays script files
-  pub not_starved : (end : RunEnd) (left : Left) (r : ScriptRunsTo script files end left) → GivesUp end
-      → StarvedBy script (heard_turns script files end left r) → ⊥
 
 -- The line doesn't end the run, and fewer slots are lost in it than one for each two tries.
 pub record LosesFew (script : ScriptValue) (files : Both (List ℕ)) : Type 0 where

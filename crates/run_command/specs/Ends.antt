@@ -23,7 +23,8 @@ use Rattle.run_inputs.specs.declared.limits.Limits.{Limits}
 use Rattle.run_inputs.specs.declared.limits.TheConstants.{LIMITS}
 use Rattle.run_inputs.specs.Words.{RunNames, inputs_of, outputs_of}
 use Rattle.run_inputs.specs.Inputs.{Opens, RefusesOwn, FailsToRead}
-use Rattle.run_command.specs.Turns.{names_written, HoldLeft, StopsAfter, StopsReading}
+use Rattle.run_loop.specs.Turns.{HoldLeft, StopsAfter, StopsReading}
+use Rattle.run_command.specs.Names.{names_written}
 
 -- The inputs were opened, and nothing else was done: they are within their limits, and this is the script.
 pub record IsBegun (l : Limits) (old now : FolderState) (n : RunNames) (script : ScriptValue) : Type 0 where

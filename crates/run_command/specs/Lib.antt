@@ -1,4 +1,4 @@
-pub mod Turns
+pub mod Names
 pub mod Ends
 pub mod ReadOff
 pub mod Headline

@@ -10,14 +10,14 @@ ghost use Rattle.command_base.specs.Job.{Answers};
 ghost use Rattle.command_base.specs.Outputs.{OnlyOutputs, SaysNothing};
 ghost use Rattle.command_base.specs.Stops.{EndCounts};
 ghost use Rattle.run_inputs.specs.Words.{named, are_apart, inputs_of, outputs_of};
-ghost use Rattle.run_command.specs.Turns.{names_written};
+ghost use Rattle.run_command.specs.Names.{names_written};
 ghost use Rattle.run_command.specs.Ends.{Ends, IsBegun, fault_stop, run_job};
 ghost use Rattle.run_command.specs.Headline.{Headline};
 ghost use Rattle.run_command.specs.Completes.{Completes};
 
 use crate::laws::{answers_keep_the_headline, right_runs_are_done};
 use crate::outputs::create_all;
-use crate::turns::run_turns;
+use run_loop::run_turns;
 use command_base::{Status, Stop, tell, tell_stop, write_done};
 use line_world::{Names, RunFault, World};
 use outside_calls::{Folder, FolderFault};

@@ -5,9 +5,7 @@
 mod command;
 mod laws;
 mod outputs;
-mod turns;
 
 pub use command::run;
 pub use run_inputs::laws::limits_of_inputs;
 pub use run_inputs::{RunWords, run_words};
-pub use turns::run_turns;

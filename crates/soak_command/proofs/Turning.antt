@@ -18,7 +18,7 @@ use Rattle.line_world.specs.declared.step.RunFault.{RunFault}
 use Rattle.line_world.specs.declared.step.RunFault.TheVariants as faults
 use Rattle.line_world.specs.Turn.{FaultCounts}
 use Rattle.command_base.specs.Outputs.{OnlyOutputs}
-use Rattle.run_command.specs.Turns.{RunEnds, RunCounts, FaultEnds}
+use Rattle.run_loop.specs.Turns.{RunEnds, RunCounts, FaultEnds}
 use Rattle.soak_inputs.specs.Soak.{soak_file, soak_script}
 use Rattle.soak_command.specs.Ends.{Ends, SoakEnds, IsTurnEnd, fault_stop, soak_channel, soak_files}
 use Rattle.soak_command.specs.Folder.{HoldsFiles, soak_names, soak_outputs}

@@ -3,7 +3,7 @@ use Rattle.std.specs.Prelude.{ℕ, []}
 use Rattle.outside_calls.specs.Folder.{FolderState}
 use Rattle.command_base.specs.declared.status.Status.{Status}
 use Rattle.command_base.specs.Sound.{IsSound, DoneUnlessMemory}
-use Rattle.run_command.specs.Completes.{IsCarried}
+use Rattle.line_ends.specs.Carried.{IsCarried}
 use Rattle.soak_inputs.specs.Soak.{soak_script}
 use Rattle.soak_command.specs.Ends.{soak_files}
 

@@ -15,7 +15,7 @@ use crate::folder::{make_outputs, soak_folder, soak_names};
 use command_base::{Status, Stop};
 use line_world::{RunFault, World};
 use outside_core::SureFolder;
-use run_command::run_turns;
+use run_loop::run_turns;
 use soak_inputs::soak_script;
 use std::alloc::Global;
 

@@ -9,7 +9,7 @@ use Rattle.command_base.proofs.Jobs.{stop-earlier}
 use Rattle.command_base.proofs.OnlyOutputs.{OnlyOutputs-trans}
 use Rattle.run_inputs.specs.declared.limits.TheConstants.{LIMITS}
 use Rattle.run_inputs.specs.Words.{RunNames, named, inputs_of, outputs_of}
-use Rattle.run_command.specs.Turns.{RunEnds, FaultEnds}
+use Rattle.run_loop.specs.Turns.{RunEnds, FaultEnds}
 use Rattle.run_command.specs.Ends.{EndsBy}
 use Rattle.line_run.specs.Ends as runs
 use Rattle.run_command.proofs.Runs.{apart-names, only-written, ends-creating, ran-to, ends-in-turn, turn-counts}

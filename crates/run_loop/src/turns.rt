@@ -7,7 +7,7 @@ ghost use Rattle.both_sides.specs.Names.{written};
 ghost use Rattle.line_world.specs.World.{AreApart, IsReady, OnlyOutputs, WorldAfter, script_of, lost_of, again_of};
 ghost use Rattle.line_world.specs.Turn.{TurnCounts};
 ghost use Rattle.command_base.specs.Outputs.{Holds};
-ghost use Rattle.run_command.specs.Turns.{TurnsEnd, RunCounts};
+ghost use Rattle.run_loop.specs.Turns.{TurnsEnd, RunCounts};
 
 use line_world::laws::turns_are_few;
 use line_world::{Names, RunFault, Step, World};

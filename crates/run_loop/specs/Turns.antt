@@ -21,11 +21,6 @@ use Rattle.both_sides.specs.Names.{Written}
 use Rattle.line_world.specs.World.{KnowsFiles}
 use Rattle.line_world.specs.declared.step.RunFault.{RunFault}
 use Rattle.line_world.specs.declared.step.RunFault.TheVariants as faults
-use Rattle.run_inputs.specs.Words.{RunNames}
-
--- the names that turns use
-abbrev pub names_written : RunNames → Written
-names_written n = record { orig = n.orig; answ = n.answ; got_o = n.got_o; got_a = n.got_a; trace = n.trace }
 
 -- The outputs hold what is left.
 pub record HoldLeft (f : FolderState) (n : Written) (left : Left) : Type 0 where

@@ -33,7 +33,7 @@ use Rattle.line_world.specs.Turn.{EndsBy as TurnEndsBy, DoneIn, FaultCounts}
 use Rattle.line_world.specs.Turn as written
 use Rattle.command_base.specs.Outputs.{Holds}
 use Rattle.command_base.proofs.Holding.{Holds-kept, Holds-more, Holds-add, HoldsPart-more}
-use Rattle.run_command.specs.Turns.{HoldLeft, HoldPart, of_orig, of_answ, of_lines, AddsTurn, RunEnds, RunCounts, RunStops, RunStopsReading, FaultEnds}
+use Rattle.run_loop.specs.Turns.{HoldLeft, HoldPart, of_orig, of_answ, of_lines, AddsTurn, RunEnds, RunCounts, RunStops, RunStopsReading, FaultEnds}
 
 -- what ends and a text leave
 abbrev pub left_of : Ends → List ℕ → Left

@@ -1,8 +1,8 @@
 use Rattle.std.proofs.Common.{◌-◌, ◌^◌}
 use Rattle.both_sides.specs.Names.{written}
 use Rattle.line_world.specs.World.{IsReady, script_of, turn_of}
-use Rattle.run_command.proofs.Reached.{Reached}
-use Rattle.run_command.proofs.turns.run_turns.Given as goal
+use Rattle.run_loop.proofs.Reached.{Reached}
+use Rattle.run_loop.proofs.turns.run_turns.Given as goal
 
 abbrev pub invariant-loop-turn : goal.invariant-loop-turn
 invariant-loop-turn g l = record {

@@ -1,0 +1,6 @@
+//! The turns of a world, up to the end of its run, and what the outputs then hold: [`run_turns`].
+#![tactic(auto)]
+
+mod turns;
+
+pub use turns::run_turns;
