@@ -31,12 +31,21 @@ pub enum LineEnd {
 }
 
 /// The direction from each end to the other.
-#[derive(Drop)]
 pub struct Lines {
     /// From the originator to the answerer.
     pub from_orig: DelayedLine,
     /// From the answerer to the originator.
     pub from_answ: DelayedLine,
+}
+
+impl Drop for Lines {
+    // for the prover: so it is dropped by a call, and its fields are not dropped anew wherever one is.
+    fn drop(self) {
+        let Lines {
+            from_orig: _,
+            from_answ: _,
+        } = self;
+    }
 }
 
 /// The longest information field that a slot of this script's line has room for.

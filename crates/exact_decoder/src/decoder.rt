@@ -23,7 +23,6 @@ pub struct Lost {
 
 /// The exact decoder of a code's sequences from one state, or from any. At most `DEPTH` labels of each survivor are unreleased
 /// while the line is not lost.
-#[derive(Drop)]
 pub struct Decoder<
     C: TrellisCode<STATES, LABELS> + Drop,
     const STATES: usize,
@@ -36,6 +35,25 @@ pub struct Decoder<
     // The oldest is the last.
     pending: Labels,
     lost: Option<u64>,
+}
+
+impl<
+    C: TrellisCode<STATES, LABELS> + Drop,
+    const STATES: usize,
+    const LABELS: usize,
+    const DEPTH: usize,
+> Drop
+    for Decoder<C, STATES, LABELS, DEPTH> {
+    // for the prover: so it is dropped by a call, and its fields are not dropped anew wherever one is.
+    fn drop(self) {
+        let Decoder {
+            code: _,
+            survivors: _,
+            count: _,
+            pending: _,
+            lost: _,
+        } = self;
+    }
 }
 
 impl<

@@ -15,7 +15,6 @@ use trellis_tables::TrellisCode;
 
 /// Reads the bits that a line's samples carry, those of each label that the decoder releases. At most `DEPTH` labels are unreleased while
 /// the line is not lost.
-#[derive(Drop)]
 pub struct SampleReader<
     C: TrellisCode<STATES, LABELS> + Drop,
     D: Demodulate<LABELS>,
@@ -25,6 +24,22 @@ pub struct SampleReader<
 > {
     decoder: Decoder<C, STATES, LABELS, DEPTH>,
     demodulator: D,
+}
+
+impl<
+    C: TrellisCode<STATES, LABELS> + Drop,
+    D: Demodulate<LABELS>,
+    const STATES: usize,
+    const LABELS: usize,
+    const DEPTH: usize,
+> Drop for SampleReader<C, D, STATES, LABELS, DEPTH> {
+    // for the prover: so it is dropped by a call, and its fields are not dropped anew wherever one is.
+    fn drop(self) {
+        let SampleReader {
+            decoder: _,
+            demodulator: _,
+        } = self;
+    }
 }
 
 impl<

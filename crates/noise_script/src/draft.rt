@@ -13,7 +13,6 @@ use outside_calls::NoMemory;
 use roles::Role;
 use std::alloc::Global;
 
-#[derive(Drop)]
 pub(crate) struct Draft {
     /// Where a line said them.
     delays: Option<Delays>,
@@ -33,6 +32,23 @@ pub(crate) struct Draft {
     breaks: Vec<Break>,
     /// In the order of the text.
     pauses: Vec<Pause>,
+}
+
+impl Drop for Draft {
+    // for the prover: so it is dropped by a call, and its fields are not dropped anew wherever one is.
+    fn drop(self) {
+        let Draft {
+            delays: _,
+            tries: _,
+            orig: _,
+            answ: _,
+            losses: _,
+            hits: _,
+            noises: _,
+            breaks: _,
+            pauses: _,
+        } = self;
+    }
 }
 
 const DEFAULT_DELAYS: Delays = Delays { orig: 1, answ: 1 };
@@ -158,18 +174,29 @@ impl Draft {
         requires { IsInLimits (draft_script self) }
         ensures { result ≡ draft_script self }
     {
-        let delays = self.delays.unwrap_or(DEFAULT_DELAYS);
+        let Draft {
+            delays,
+            tries,
+            orig,
+            answ,
+            losses,
+            hits,
+            noises,
+            breaks,
+            pauses,
+        } = self;
+        let delays = delays.unwrap_or(DEFAULT_DELAYS);
         Script {
             delay_orig: delays.orig,
             delay_answ: delays.answ,
-            tries: self.tries.unwrap_or(DEFAULT_TRIES),
-            offer_orig: self.orig.offer(),
-            offer_answ: self.answ.offer(),
-            losses: self.losses,
-            hits: self.hits,
-            noises: self.noises,
-            breaks: self.breaks,
-            pauses: self.pauses,
+            tries: tries.unwrap_or(DEFAULT_TRIES),
+            offer_orig: orig.offer(),
+            offer_answ: answ.offer(),
+            losses,
+            hits,
+            noises,
+            breaks,
+            pauses,
         }
     }
 }

@@ -13,7 +13,6 @@ use xid_params::Offer;
 
 /// What the line does to the slots and samples that cross it, what the ends offer and how often they try, and when their users
 /// ask for breaks and pauses.
-#[derive(Drop)]
 pub struct Script {
     /// From the originator to the answerer, 1 to 60 turns.
     pub(crate) delay_orig: u8,
@@ -35,6 +34,24 @@ pub struct Script {
     pub(crate) breaks: Vec<Break>,
     /// In the order of the text.
     pub(crate) pauses: Vec<Pause>,
+}
+
+impl Drop for Script {
+    // for the prover: so it is dropped by a call, and its fields are not dropped anew wherever one is.
+    fn drop(self) {
+        let Script {
+            delay_orig: _,
+            delay_answ: _,
+            tries: _,
+            offer_orig: _,
+            offer_answ: _,
+            losses: _,
+            hits: _,
+            noises: _,
+            breaks: _,
+            pauses: _,
+        } = self;
+    }
 }
 
 impl Model for Script {

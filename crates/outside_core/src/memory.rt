@@ -14,7 +14,6 @@ use std::marker::Model;
 /// A folder in memory, for tests. It tells every name, counts its calls, and fails at those whose numbers it was given.
 ///
 /// A call fails exactly where its number is one of those, or where it reads a name that isn't held.
-#[derive(Drop)]
 pub struct MemoryFolder {
     /// The files.
     store: Store,
@@ -32,6 +31,22 @@ pub struct MemoryFolder {
     refusals: u64,
     /// Where its memory comes from.
     alloc: Global,
+}
+
+impl Drop for MemoryFolder {
+    // for the prover: so it is dropped by a call, and its fields are not dropped anew wherever one is.
+    fn drop(self) {
+        let MemoryFolder {
+            store: _,
+            said: _,
+            calls: _,
+            fails: _,
+            read_faults: _,
+            write_faults: _,
+            refusals: _,
+            alloc: _,
+        } = self;
+    }
 }
 
 impl Model for MemoryFolder {
