@@ -6,9 +6,9 @@ pub loop-subset-preserved : goal.loop-subset-preserved
 loop-subset-preserved g c =
     let nearest = rw c.new-fine.ensures at c.nearest_in.ensures.nearest in
     let close = rw c.new-fine.ensures at c.nearest_in.ensures.close in (
-  simp length-set c.loop-subset.invariant.0,
-  below_more _ _
-      (λ i h. let other : i ≢ c.loop-subset.subset = omega arith in rw get_or-set_other (c.loop-subset.invariant.1 i h))
-      (let within : c.loop-subset.subset < length c.loop-subset.nearest = omega arith in
-      rw get_or-set_same (nearest, c.nearest_in.ensures.bound, close)),
-)
+      simp length-set c.loop-subset.invariant.0,
+      below_more _ _
+          (λ i h. let other : i ≢ c.loop-subset.subset = omega arith in rw get_or-set_other (c.loop-subset.invariant.1 i h))
+          (let within : c.loop-subset.subset < length c.loop-subset.nearest = omega arith in
+          rw get_or-set_same (nearest, c.nearest_in.ensures.bound, close)),
+    )
