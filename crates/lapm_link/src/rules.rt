@@ -1,7 +1,7 @@
 // What a Connected end becomes by what it hears: one function a rule.
-ghost use Rattle.std.specs.Prelude.{◌≡◌, ◌≢◌, Bool, ℕ, ◌+◌, ◌<◌, ◌≤◌, ◌^◌, length, IfOk, nat_lt, if◌then◌else◌, Option, None, Result, MatchResult};
+ghost use Rattle.std.specs.Prelude.{◌≡◌, ◌≢◌, ◌&&◌, Bool, ℕ, ◌+◌, ◌<◌, ◌≤◌, ◌^◌, length, IfOk, nat_lt, if◌then◌else◌, Option, None, Result, MatchResult};
 ghost use Rattle.std.specs.Option.{option_map};
-ghost use Rattle.lapm_sender.specs.Outgoing.{Outgoing};
+ghost use Rattle.lapm_sender.specs.Outgoing.{Outgoing, replied, resumed};
 ghost use Rattle.lapm_sender.specs.Sending.{StandsOut, Advances, RefusesAck};
 ghost use Rattle.lapm_link.specs.Taking.{taken_as, readied};
 ghost use Rattle.break_signals.specs.Words.{word_in};
@@ -118,7 +118,7 @@ impl Connected {
 impl Connected {
     ghost use Rattle.link_account.specs.declared.answer.Answer.{Answer};
     ghost use Rattle.link_account.specs.Account.{Account};
-    ghost use Rattle.link_account.specs.Hear.{on_number, ends_wait, on_i, on_ready, on_rnr, on_rej, on_srej, on_sabme, on_disc, on_word, peer_reset};
+    ghost use Rattle.link_account.specs.Hear.{on_number, ends_wait, then_in, hurrying, replying, on_i, on_rnr, on_srej, on_sabme, on_disc, on_word, peer_reset};
     ghost use Rattle.lapm_link.specs.Stands.{Links, StandsFor, Hears, Becomes, SameTaken, taken_of};
 
     fn on_i(&mut self, turn: u64, ns: u8, nr: u8, pf: bool, info: &Info) -> Result<(), LinkFault>
@@ -161,34 +161,23 @@ impl Connected {
         Ok(())
     }
 
-    fn on_ready(&mut self, turn: u64, command: bool, nr: u8, pf: bool) -> Result<(), LinkFault>
+    /// RR or REJ: the other end counts as busy no more.
+    fn on_ready(
+        &mut self,
+        turn: u64,
+        command: bool,
+        nr: u8,
+        pf: bool,
+        otherwise: Meaning,
+    ) -> Result<(), LinkFault>
         requires { nr < 128 }
-        ensures becomes { (a : Account) → Links self.old a → Becomes (on_ready turn command nr pf a) self.new result }
+        ensures becomes { (a : Account) → Links self.old a
+            → Becomes (then_in (λ b. hurrying (ends_wait command pf a) (replying (command && pf) b))
+            (on_number turn nr (option_map resumed (if ends_wait command pf a then replied nr a.outgoing else taken_as otherwise nr a.outgoing)) a)) self.new result }
         ensures same { SameTaken self.old self.new }
     {
         let ends = self.ends_wait(command, pf);
-        let meaning = if ends {
-            Meaning::Replies
-        } else {
-            Meaning::Acknowledges
-        };
-        self.on_number(turn, nr, meaning, Readiness::Ready)?;
-        self.owes.reply = self.owes.reply || command && pf;
-        self.wait.urgent = self.wait.urgent || ends;
-        Ok(())
-    }
-
-    fn on_rej(&mut self, turn: u64, command: bool, nr: u8, pf: bool) -> Result<(), LinkFault>
-        requires { nr < 128 }
-        ensures becomes { (a : Account) → Links self.old a → Becomes (on_rej turn command nr pf a) self.new result }
-        ensures same { SameTaken self.old self.new }
-    {
-        let ends = self.ends_wait(command, pf);
-        let meaning = if ends {
-            Meaning::Replies
-        } else {
-            Meaning::Rejects
-        };
+        let meaning = if ends { Meaning::Replies } else { otherwise };
         self.on_number(turn, nr, meaning, Readiness::Ready)?;
         self.owes.reply = self.owes.reply || command && pf;
         self.wait.urgent = self.wait.urgent || ends;
@@ -286,9 +275,13 @@ impl Connected {
     {
         match frame {
             Frame::I { ns, nr, pf, info } => self.on_i(turn, *ns, *nr, *pf, info),
-            Frame::Rr { command, nr, pf } => self.on_ready(turn, *command, *nr, *pf),
+            Frame::Rr { command, nr, pf } => {
+                self.on_ready(turn, *command, *nr, *pf, Meaning::Acknowledges)
+            }
             Frame::Rnr { command, nr, pf } => self.on_rnr(turn, *command, *nr, *pf),
-            Frame::Rej { command, nr, pf } => self.on_rej(turn, *command, *nr, *pf),
+            Frame::Rej { command, nr, pf } => {
+                self.on_ready(turn, *command, *nr, *pf, Meaning::Rejects)
+            }
             Frame::Srej { nr, .. } => {
                 self.on_number(turn, *nr, Meaning::Selects, Readiness::Unsaid)
             }
