@@ -11,7 +11,7 @@ use std::marker::Model;
 pub(crate) const FLAG: u8 = 0x7e;
 
 /// What ends at a bit.
-#[derive(Clone, Copy, Debug)]
+#[derive(Clone, Copy)]
 pub(crate) enum Event {
     /// The seventh one in a row.
     Aborted,

@@ -1,7 +1,7 @@
 // What a Connected end becomes by what it hears: one function a rule.
-ghost use Rattle.std.specs.Prelude.{◌≡◌, ℕ, ◌+◌, ◌<◌, ◌≤◌, ◌^◌, length, IfOk, nat_lt, if◌then◌else◌, Option, None, Result, MatchResult};
+ghost use Rattle.std.specs.Prelude.{◌≡◌, ◌≢◌, ◌&&◌, Bool, ℕ, ◌+◌, ◌<◌, ◌≤◌, ◌^◌, length, IfOk, nat_lt, if◌then◌else◌, Option, None, Result, MatchResult};
 ghost use Rattle.std.specs.Option.{option_map};
-ghost use Rattle.lapm_sender.specs.Outgoing.{Outgoing};
+ghost use Rattle.lapm_sender.specs.Outgoing.{Outgoing, replied, resumed};
 ghost use Rattle.lapm_sender.specs.Sending.{StandsOut, Advances, RefusesAck};
 ghost use Rattle.lapm_link.specs.Taking.{taken_as, readied};
 ghost use Rattle.break_signals.specs.Words.{word_in};
@@ -118,7 +118,7 @@ impl Connected {
 impl Connected {
     ghost use Rattle.link_account.specs.declared.answer.Answer.{Answer};
     ghost use Rattle.link_account.specs.Account.{Account};
-    ghost use Rattle.link_account.specs.Hear.{on_number, ends_wait, on_i, on_ready, on_rnr, on_rej, on_srej, on_sabme, on_disc, on_word, peer_reset};
+    ghost use Rattle.link_account.specs.Hear.{on_number, ends_wait, then_in, hurrying, replying, on_i, on_rnr, on_srej, on_sabme, on_disc, on_word, peer_reset};
     ghost use Rattle.lapm_link.specs.Stands.{Links, StandsFor, Hears, Becomes, SameTaken, taken_of};
 
     fn on_i(&mut self, turn: u64, ns: u8, nr: u8, pf: bool, info: &Info) -> Result<(), LinkFault>
@@ -161,34 +161,23 @@ impl Connected {
         Ok(())
     }
 
-    fn on_ready(&mut self, turn: u64, command: bool, nr: u8, pf: bool) -> Result<(), LinkFault>
+    /// RR or REJ: the other end counts as busy no more.
+    fn on_ready(
+        &mut self,
+        turn: u64,
+        command: bool,
+        nr: u8,
+        pf: bool,
+        otherwise: Meaning,
+    ) -> Result<(), LinkFault>
         requires { nr < 128 }
-        ensures becomes { (a : Account) → Links self.old a → Becomes (on_ready turn command nr pf a) self.new result }
+        ensures becomes { (a : Account) → Links self.old a
+            → Becomes (then_in (λ b. hurrying (ends_wait command pf a) (replying (command && pf) b))
+            (on_number turn nr (option_map resumed (if ends_wait command pf a then replied nr a.outgoing else taken_as otherwise nr a.outgoing)) a)) self.new result }
         ensures same { SameTaken self.old self.new }
     {
         let ends = self.ends_wait(command, pf);
-        let meaning = if ends {
-            Meaning::Replies
-        } else {
-            Meaning::Acknowledges
-        };
-        self.on_number(turn, nr, meaning, Readiness::Ready)?;
-        self.owes.reply = self.owes.reply || command && pf;
-        self.wait.urgent = self.wait.urgent || ends;
-        Ok(())
-    }
-
-    fn on_rej(&mut self, turn: u64, command: bool, nr: u8, pf: bool) -> Result<(), LinkFault>
-        requires { nr < 128 }
-        ensures becomes { (a : Account) → Links self.old a → Becomes (on_rej turn command nr pf a) self.new result }
-        ensures same { SameTaken self.old self.new }
-    {
-        let ends = self.ends_wait(command, pf);
-        let meaning = if ends {
-            Meaning::Replies
-        } else {
-            Meaning::Rejects
-        };
+        let meaning = if ends { Meaning::Replies } else { otherwise };
         self.on_number(turn, nr, meaning, Readiness::Ready)?;
         self.owes.reply = self.owes.reply || command && pf;
         self.wait.urgent = self.wait.urgent || ends;
@@ -236,6 +225,8 @@ impl Connected {
         requires turn { turn < 2 ^ 40 }
         requires given { self.old.breaks.given ≡ None }
         ensures links { (a : Account) → Links self.old a → Links self.new (on_word turn (word_in info.now) a) }
+        ensures setup { self.new.setup ≡ self.old.setup }
+        ensures terms { self.new.terms ≡ self.old.terms }
         ensures counted { self.new.receiver.taken ≡ self.old.receiver.taken }
     {
         match read_break(info.as_slice()) {
@@ -253,6 +244,7 @@ impl Connected {
     ghost use Rattle.link_account.specs.Account.{Account};
     ghost use Rattle.link_account.specs.Hear.{on_connected, hear};
     ghost use Rattle.link_faults.specs.declared.fault.LinkFault.{LinkFault};
+    ghost use Rattle.lapm_frames.specs.declared.frame.Frame.{Frame};
     ghost use Rattle.lapm_link.specs.Stands.{Links, StandsFor, Hears, Becomes, taken_of, undelivered_of, waiting_of};
     ghost use Rattle.link_account.specs.Numbers.{HasNumbers, IsNumbered};
 
@@ -268,6 +260,42 @@ impl Connected {
         }
     }
 
+    /// A frame that is no DISC.
+    fn on_other(&mut self, turn: u64, frame: &Frame) -> Result<(), LinkFault>
+        requires turn { turn < 2 ^ 40 }
+        requires numbers { HasNumbers frame.now }
+        requires counted { self.old.receiver.taken < 2 ^ 56 }
+        requires delivered { length self.old.receiver.ready ≡ 0 }
+        requires given { self.old.breaks.given ≡ None }
+        requires other { (pf : Bool) → frame.now ≢ Frame.Disc pf }
+        ensures becomes { (a : Account) → Links self.old a → Becomes (on_connected frame.now turn a) self.new result }
+        ensures setup { self.new.setup ≡ self.old.setup }
+        ensures terms { self.new.terms ≡ self.old.terms }
+        ensures counted { self.new.receiver.taken ≤ self.old.receiver.taken + 128 }
+    {
+        match frame {
+            Frame::I { ns, nr, pf, info } => self.on_i(turn, *ns, *nr, *pf, info),
+            Frame::Rr { command, nr, pf } => {
+                self.on_ready(turn, *command, *nr, *pf, Meaning::Acknowledges)
+            }
+            Frame::Rnr { command, nr, pf } => self.on_rnr(turn, *command, *nr, *pf),
+            Frame::Rej { command, nr, pf } => {
+                self.on_ready(turn, *command, *nr, *pf, Meaning::Rejects)
+            }
+            Frame::Srej { nr, .. } => {
+                self.on_number(turn, *nr, Meaning::Selects, Readiness::Unsaid)
+            }
+            Frame::Sabme { pf } => self.on_sabme(*pf),
+            Frame::Dm { .. } => Err(LinkFault::PeerRefused),
+            Frame::Frmr { .. } => Err(self.peer_reset()),
+            Frame::Ui { info, .. } => {
+                self.on_word(turn, info);
+                Ok(())
+            }
+            _ => Ok(()),
+        }
+    }
+
     fn on_frame(self, turn: u64, frame: &Frame) -> Result<AnyEnd, Broken>
         requires turn { turn < 2 ^ 40 }
         requires numbers { HasNumbers frame.now }
@@ -277,44 +305,12 @@ impl Connected {
         ensures hears { (a : Account) → Links self a → Hears (on_connected frame.now turn a) a result }
         ensures counted { IfOk result (λ end. taken_of end ≤ self.receiver.taken + 128) }
     {
-        let mut end = self;
-        match frame {
-            Frame::I { ns, nr, pf, info } => {
-                let heard = end.on_i(turn, *ns, *nr, *pf, info);
-                end.after(heard)
-            }
-            Frame::Rr { command, nr, pf } => {
-                let heard = end.on_ready(turn, *command, *nr, *pf);
-                end.after(heard)
-            }
-            Frame::Rnr { command, nr, pf } => {
-                let heard = end.on_rnr(turn, *command, *nr, *pf);
-                end.after(heard)
-            }
-            Frame::Rej { command, nr, pf } => {
-                let heard = end.on_rej(turn, *command, *nr, *pf);
-                end.after(heard)
-            }
-            Frame::Srej { nr, .. } => {
-                let heard = end.on_number(turn, *nr, Meaning::Selects, Readiness::Unsaid);
-                end.after(heard)
-            }
-            Frame::Sabme { pf } => {
-                let heard = end.on_sabme(*pf);
-                end.after(heard)
-            }
-            Frame::Disc { pf } => end.on_disc(*pf),
-            Frame::Dm { .. } => Err(Broken::new(LinkFault::PeerRefused, end.setup, end.terms)),
-            Frame::Frmr { .. } => {
-                let fault = end.peer_reset();
-                Err(Broken::new(fault, end.setup, end.terms))
-            }
-            Frame::Ui { info, .. } => {
-                end.on_word(turn, info);
-                Ok(AnyEnd::Connected(end))
-            }
-            _ => Ok(AnyEnd::Connected(end)),
+        if let Frame::Disc { pf } = frame {
+            return self.on_disc(*pf);
         }
+        let mut end = self;
+        let heard = end.on_other(turn, frame);
+        end.after(heard)
     }
 
     /// What the end becomes by what it hears in this turn. It breaks where an N(R) is of no number that was sent, and where the other

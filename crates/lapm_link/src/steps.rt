@@ -98,7 +98,7 @@ impl Connected {
 // The steps.
 impl Connected {
     ghost use Rattle.link_account.specs.Account.{Account};
-    ghost use Rattle.link_account.specs.Speak.{tells, has_news, says_asking, step1, step2, step3, step4, step5, step6, step7, step8, steps};
+    ghost use Rattle.link_account.specs.Speak.{tells, has_news, says_asking, else_says, step1, step2, step3, step4, step5, step6, step7, step8, step9, steps};
     ghost use Rattle.lapm_link.specs.Stands.{Links, Gives, SaysLinked, SameTaken};
 
     /// An answer that is due.
@@ -292,6 +292,16 @@ impl Connected {
         if let Some(sent) = self.say_urgent(turn) {
             return sent;
         }
+        self.later_step(turn, special)
+    }
+
+    /// The first that gives something of the steps behind an urgent segment, else flags.
+    fn later_step(&mut self, turn: u64, special: bool) -> Sent
+        ensures says { (a : Account) → Links self.old a
+            → SaysLinked (else_says (step5 special a) (else_says (step6 special a) (else_says (step7 turn a) (else_says (step8 a) (step9 a))))) self.new result }
+        ensures same { SameTaken self.old self.new }
+        ensures sendable { IsSendable result }
+    {
         if let Some(sent) = self.say_break(special) {
             return sent;
         }

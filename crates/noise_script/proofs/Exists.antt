@@ -1,8 +1,7 @@
 -- Each text spells a script or has a first fault.
-use Rattle.std.proofs.Common.{◌≡◌, ◌≢◌, ◌⊎◌, inl, inr, ℕ, ◌+◌, ◌<◌, ◌≤◌, true, false, ℤ, pos, neg_ℤ, ◌<ℤ◌, ◌≤ℤ◌, List, [], ◌∷◌, ◌++◌, length, refl, sym, ap, subst, ◌∙◌, arith, append-nil}
+use Rattle.std.proofs.Common.{◌≡◌, ◌≢◌, ◌⊎◌, inl, inr, ℕ, ◌+◌, ◌<◌, ◌≤◌, true, false, ℤ, ◌<ℤ◌, ◌≤ℤ◌, List, [], ◌∷◌, ◌++◌, length, refl, sym, ap, subst, ◌∙◌, arith, append-nil, append_assoc, length-append}
 use Rattle.std.proofs.lemmas.Bool.{cases_eq, cases_lt, cases_Bool}
 use Rattle.std.proofs.lemmas.Int.{by_lt_z}
-use Rattle.frame_check.specs.declared.sizes.TheConstants.{INFO}
 use Rattle.roles.specs.declared.role.Role.{Role}
 use Rattle.roles.specs.declared.role.Role.TheVariants.{Originator, Answerer}
 use Rattle.script_causes.specs.declared.cause.Cause.{Cause}
@@ -12,13 +11,13 @@ use Rattle.noise_script.specs.declared.forms.Form.{Form}
 use Rattle.noise_script.specs.declared.forms.Form.TheVariants as forms
 use Rattle.noise_script.specs.Lines.{begins_with, lines_of, words_of, is_passed_over}
 use Rattle.noise_script.specs.Numbers.{is_number, value_of, is_signed, signed_value_of}
-use Rattle.noise_script.specs.Forms.{Argument, ARole, Number, Signed, Value, RoleIs, NumberIs, SignedIs, row, word_of, arguments_of, form_of, kind_of, values_of, most, too_many, Spells, Fails, SpellsEach, FirstFails, turn, count, symbol, coordinate, SpellsLine, Misspells}
+use Rattle.noise_script.specs.Forms.{Argument, ARole, Number, Signed, Value, RoleIs, NumberIs, SignedIs, row, word_of, arguments_of, form_of, kind_of, values_of, most, too_many, Spells, Fails, SpellsEach, FirstFails, SpellsLine, Misspells}
 use Rattle.roles.specs.Role.{role_word}
 use Rattle.noise_script.specs.Grammar.{Says, nothing, standing, AreAllowed, IsFaulty, script_of}
 use Rattle.noise_script.specs.Laws.{SomeAnswer}
 use Rattle.noise_script.proofs.Entries.{allowed-none, allowed-more}
 use Rattle.noise_script.proofs.Progress.{says-passed, says-more, regrouped}
-use Rattle.noise_script.proofs.Unique.{role_of, number_of, signed_of, entry_of}
+use Rattle.noise_script.proofs.Unique.{role_of, number_of, signed_of, at, entry_of}
 
 -- one word
 
@@ -123,134 +122,59 @@ read-each (argument ∷ arguments) (word ∷ words) l = by (read argument word) 
     by (inl (value, s)) (inr (cause, f)) = inr (cause, inr (value, s, f))
     by (inl (value, s)) (inl (values, t)) = inl (value ∷ values, (s, t))
 
--- the first of these values, and the others
-record Peeled (argument : Argument) (arguments : List Argument) (values : List Value) : Type 0 where
-  word : List ℕ
-  rest : List (List ℕ)
-  value : Value
-  others : List Value
-  values_are : values ≡ value ∷ others
-  spells : Spells argument word value
-  each : SpellsEach arguments rest others
+-- what a value is, by what its word may be
+abbrev value_again : Argument → Value → Value
+value_again ARole value = RoleIs (role_of value)
+value_again (Number low high) value = NumberIs (number_of value)
+value_again (Signed low high) value = SignedIs (signed_of value)
 
-peel : (argument : Argument) (arguments : List Argument) (words : List (List ℕ)) (values : List Value)
-    → SpellsEach (argument ∷ arguments) words values → Peeled argument arguments values
-peel argument arguments [] values s = absurd s
-peel argument arguments (word ∷ words) [] s = absurd s
-peel argument arguments (word ∷ words) (value ∷ values) s =
-    record { word = word; rest = words; value = value; others = values; values_are = refl; spells = s.0; each = s.1 }
+value-again : (argument : Argument) (word : List ℕ) (value : Value) → Spells argument word value → value_again argument value ≡ value
+value-again ARole word (RoleIs role) s = refl
+value-again ARole word value s = absurd s
+value-again (Number low high) word (NumberIs n) s = refl
+value-again (Number low high) word value s = absurd s
+value-again (Signed low high) word (SignedIs z) s = refl
+value-again (Signed low high) word value s = absurd s
 
-role-is : (word : List ℕ) (value : Value) → Spells ARole word value → RoleIs (role_of value) ≡ value
-role-is word (RoleIs role) s = refl
-role-is word value s = absurd s
+-- what the values from the i-th on are
+abbrev values_from : ℕ → List Argument → List Value → List Value
+values_from i [] values = []
+values_from i (argument ∷ arguments) values = value_again argument (at values i) ∷ values_from (i + 1) arguments values
 
-number-is : (low high : ℕ) (word : List ℕ) (value : Value) → Spells (Number low high) word value → NumberIs (number_of value) ≡ value
-number-is low high word (NumberIs n) s = refl
-number-is low high word value s = absurd s
+middle : (front : List Value) (value : Value) (rest : List Value) → at (front ++ value ∷ rest) (length front) ≡ value
+middle [] value rest = refl
+middle (x ∷ front) value rest = middle front value rest
 
-signed-is : (low high : ℤ) (word : List ℕ) (value : Value) → Spells (Signed low high) word value → SignedIs (signed_of value) ≡ value
-signed-is low high word (SignedIs z) s = refl
-signed-is low high word value s = absurd s
+values-from : (arguments : List Argument) (words : List (List ℕ)) (front values : List Value) → SpellsEach arguments words values
+    → values_from (length front) arguments (front ++ values) ≡ values
+values-from [] words front values s = sym s.1
+values-from (argument ∷ arguments) [] front values s = absurd s
+values-from (argument ∷ arguments) (word ∷ words) front [] s = absurd s
+values-from (argument ∷ arguments) (word ∷ words) front (value ∷ values) s = both
+    (ap (value_again argument) (middle front value values) ∙ value-again argument word value s.0)
+    (rw (← length-append front (value ∷ []), ← append_assoc front (value ∷ []) values)
+    (values-from arguments words (front ++ value ∷ []) values s.1))
+  where
+    both : {x y : Value} {xs ys : List Value} → x ≡ y → xs ≡ ys → x ∷ xs ≡ y ∷ ys
+    both e f = rw (e, f) refl
 
 -- the values are those of an entry of the form
-onto : {values others rest : List Value} (value : Value) → values ≡ value ∷ others → others ≡ rest → values ≡ value ∷ rest
-onto value e f = e ∙ ap (λ vs. value ∷ vs) f
-
-both : {a b : Value} {xs ys : List Value} → a ≡ b → xs ≡ ys → a ∷ xs ≡ b ∷ ys
-both e f = rw (e, f) refl
-
-rests : (form : Form) (values list : List Value) → values ≡ list → values_of (entry_of form list) ≡ list
-    → values_of (entry_of form values) ≡ values
-rests form values list e f = subst (λ vs. values_of (entry_of form vs) ≡ vs) {x = list} (sym e) f
-
 values-again : (form : Form) (words : List (List ℕ)) (values : List Value) → SpellsEach (arguments_of form) words values
     → values_of (entry_of form values) ≡ values
-values-again forms.Delay words values s =
-    let a = peel (Number 1 60) ((Number 1 60) ∷ []) words values s in
-    let b = peel (Number 1 60) [] a.rest a.others a.each in
-    let all : values ≡ a.value ∷ b.value ∷ [] = onto a.value a.values_are (onto b.value b.values_are (b.each.1)) in
-    rests forms.Delay values (a.value ∷ b.value ∷ []) all
-    (both (number-is 1 60 a.word a.value a.spells) (both (number-is 1 60 b.word b.value b.spells) (refl)))
-values-again forms.Window words values s =
-    let a = peel ARole ((Number 1 127) ∷ []) words values s in
-    let b = peel (Number 1 127) [] a.rest a.others a.each in
-    let all : values ≡ a.value ∷ b.value ∷ [] = onto a.value a.values_are (onto b.value b.values_are (b.each.1)) in
-    rests forms.Window values (a.value ∷ b.value ∷ []) all
-    (both (role-is a.word a.value a.spells) (both (number-is 1 127 b.word b.value b.spells) (refl)))
-values-again forms.Length words values s =
-    let a = peel ARole ((Number 1 INFO) ∷ []) words values s in
-    let b = peel (Number 1 INFO) [] a.rest a.others a.each in
-    let all : values ≡ a.value ∷ b.value ∷ [] = onto a.value a.values_are (onto b.value b.values_are (b.each.1)) in
-    rests forms.Length values (a.value ∷ b.value ∷ []) all
-    (both (role-is a.word a.value a.spells) (both (number-is 1 INFO b.word b.value b.spells) (refl)))
-values-again forms.Tries words values s =
-    let a = peel (Number 1 20) [] words values s in
-    let all : values ≡ a.value ∷ [] = onto a.value a.values_are (a.each.1) in
-    rests forms.Tries values (a.value ∷ []) all (both (number-is 1 20 a.word a.value a.spells) (refl))
-values-again forms.Srej words values s =
-    let a = peel ARole [] words values s in
-    let all : values ≡ a.value ∷ [] = onto a.value a.values_are (a.each.1) in
-    rests forms.Srej values (a.value ∷ []) all (both (role-is a.word a.value a.spells) (refl))
-values-again forms.Check32 words values s =
-    let a = peel ARole [] words values s in
-    let all : values ≡ a.value ∷ [] = onto a.value a.values_are (a.each.1) in
-    rests forms.Check32 values (a.value ∷ []) all (both (role-is a.word a.value a.spells) (refl))
-values-again forms.Lose words values s =
-    let a = peel ARole (turn ∷ count ∷ []) words values s in
-    let b = peel turn (count ∷ []) a.rest a.others a.each in
-    let c = peel count [] b.rest b.others b.each in
-    let all : values ≡ a.value ∷ b.value ∷ c.value ∷ [] =
-    onto a.value a.values_are (onto b.value b.values_are (onto c.value c.values_are (c.each.1))) in
-    rests forms.Lose values (a.value ∷ b.value ∷ c.value ∷ []) all
-    (both (role-is a.word a.value a.spells)
-    (both (number-is 0 4294967295 b.word b.value b.spells) (both (number-is 1 4294967295 c.word c.value c.spells) (refl))))
-values-again forms.Hit words values s =
-    let a = peel ARole (symbol ∷ count ∷ coordinate ∷ coordinate ∷ []) words values s in
-    let b = peel symbol (count ∷ coordinate ∷ coordinate ∷ []) a.rest a.others a.each in
-    let c = peel count (coordinate ∷ coordinate ∷ []) b.rest b.others b.each in
-    let d = peel coordinate (coordinate ∷ []) c.rest c.others c.each in
-    let e = peel coordinate [] d.rest d.others d.each in
-    let all : values ≡ a.value ∷ b.value ∷ c.value ∷ d.value ∷ e.value ∷ [] =
-    onto a.value a.values_are
-    (onto b.value b.values_are (onto c.value c.values_are (onto d.value d.values_are (onto e.value e.values_are (e.each.1))))) in
-    rests forms.Hit values (a.value ∷ b.value ∷ c.value ∷ d.value ∷ e.value ∷ []) all
-    (both (role-is a.word a.value a.spells)
-    (both (number-is 0 1099511627775 b.word b.value b.spells)
-    (both (number-is 1 4294967295 c.word c.value c.spells)
-    (both (signed-is (neg_ℤ (pos 32768)) (pos 32767) d.word d.value d.spells)
-    (both (signed-is (neg_ℤ (pos 32768)) (pos 32767) e.word e.value e.spells) (refl))))))
-values-again forms.Noise words values s =
-    let a = peel ARole (symbol ∷ count ∷ (Number 0 32767) ∷ (Number 0 18446744073709551615) ∷ []) words values s in
-    let b = peel symbol (count ∷ (Number 0 32767) ∷ (Number 0 18446744073709551615) ∷ []) a.rest a.others a.each in
-    let c = peel count ((Number 0 32767) ∷ (Number 0 18446744073709551615) ∷ []) b.rest b.others b.each in
-    let d = peel (Number 0 32767) ((Number 0 18446744073709551615) ∷ []) c.rest c.others c.each in
-    let e = peel (Number 0 18446744073709551615) [] d.rest d.others d.each in
-    let all : values ≡ a.value ∷ b.value ∷ c.value ∷ d.value ∷ e.value ∷ [] =
-    onto a.value a.values_are
-    (onto b.value b.values_are (onto c.value c.values_are (onto d.value d.values_are (onto e.value e.values_are (e.each.1))))) in
-    rests forms.Noise values (a.value ∷ b.value ∷ c.value ∷ d.value ∷ e.value ∷ []) all
-    (both (role-is a.word a.value a.spells)
-    (both (number-is 0 1099511627775 b.word b.value b.spells)
-    (both (number-is 1 4294967295 c.word c.value c.spells)
-    (both (number-is 0 32767 d.word d.value d.spells) (both (number-is 0 18446744073709551615 e.word e.value e.spells) (refl))))))
-values-again forms.Break words values s =
-    let a = peel ARole (turn ∷ (Number 1 255) ∷ []) words values s in
-    let b = peel turn ((Number 1 255) ∷ []) a.rest a.others a.each in
-    let c = peel (Number 1 255) [] b.rest b.others b.each in
-    let all : values ≡ a.value ∷ b.value ∷ c.value ∷ [] =
-    onto a.value a.values_are (onto b.value b.values_are (onto c.value c.values_are (c.each.1))) in
-    rests forms.Break values (a.value ∷ b.value ∷ c.value ∷ []) all
-    (both (role-is a.word a.value a.spells)
-    (both (number-is 0 4294967295 b.word b.value b.spells) (both (number-is 1 255 c.word c.value c.spells) (refl))))
-values-again forms.Busy words values s =
-    let a = peel ARole (turn ∷ (Number 1 10000) ∷ []) words values s in
-    let b = peel turn ((Number 1 10000) ∷ []) a.rest a.others a.each in
-    let c = peel (Number 1 10000) [] b.rest b.others b.each in
-    let all : values ≡ a.value ∷ b.value ∷ c.value ∷ [] =
-    onto a.value a.values_are (onto b.value b.values_are (onto c.value c.values_are (c.each.1))) in
-    rests forms.Busy values (a.value ∷ b.value ∷ c.value ∷ []) all
-    (both (role-is a.word a.value a.spells)
-    (both (number-is 0 4294967295 b.word b.value b.spells) (both (number-is 1 10000 c.word c.value c.spells) (refl))))
+values-again form words values s = by form values ∙ values-from (arguments_of form) words [] values s
+  where
+    by : (form : Form) (values : List Value) → values_of (entry_of form values) ≡ values_from 0 (arguments_of form) values
+    by forms.Delay values = refl
+    by forms.Window values = refl
+    by forms.Length values = refl
+    by forms.Tries values = refl
+    by forms.Srej values = refl
+    by forms.Check32 values = refl
+    by forms.Lose values = refl
+    by forms.Hit values = refl
+    by forms.Noise values = refl
+    by forms.Break values = refl
+    by forms.Busy values = refl
 
 form-again : (form : Form) (values : List Value) → form_of (entry_of form values) ≡ form
 form-again forms.Delay values = refl

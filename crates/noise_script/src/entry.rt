@@ -67,7 +67,7 @@ pub struct Pause {
 }
 
 /// The window that a role offers both ways.
-#[derive(Clone, Copy, Debug, PartialEq, Eq)]
+#[derive(Clone, Copy)]
 pub(crate) struct Window {
     /// The end that offers it, both ways.
     pub(crate) role: Role,
@@ -76,7 +76,7 @@ pub(crate) struct Window {
 }
 
 /// The longest information field that a role offers both ways.
-#[derive(Clone, Copy, Debug, PartialEq, Eq)]
+#[derive(Clone, Copy)]
 pub(crate) struct Length {
     /// The end that offers it, both ways.
     pub(crate) role: Role,
@@ -85,7 +85,7 @@ pub(crate) struct Length {
 }
 
 /// How many turns a slot is on the line: from the originator to the answerer, and back.
-#[derive(Clone, Copy, Debug, PartialEq, Eq)]
+#[derive(Clone, Copy)]
 pub(crate) struct Delays {
     /// From the originator to the answerer, in turns.
     pub(crate) orig: u8,
@@ -94,7 +94,7 @@ pub(crate) struct Delays {
 }
 
 /// What one line says.
-#[derive(Clone, Copy, Debug, PartialEq, Eq)]
+#[derive(Clone, Copy)]
 pub(crate) enum Entry {
     /// `delay`
     Delay(Delays),

@@ -8,7 +8,7 @@ use crate::limits::{BREAK_LINES, BUSY_LINES, HIT_LINES, LOSE_LINES, NOISE_LINES}
 use frame_check::INFO;
 
 /// A line's form, by its first word.
-#[derive(Clone, Copy, Debug, PartialEq, Eq)]
+#[derive(Clone, Copy)]
 pub(crate) enum Form {
     /// `delay`
     Delay,
@@ -35,7 +35,7 @@ pub(crate) enum Form {
 }
 
 /// How many lines of a form there may be.
-#[derive(Clone, Copy, Debug, PartialEq, Eq)]
+#[derive(Clone, Copy)]
 pub(crate) enum Bound {
     /// Once in a script.
     Once,
@@ -46,7 +46,7 @@ pub(crate) enum Bound {
 }
 
 /// What a number may be, ends included.
-#[derive(Clone, Copy, Debug, PartialEq, Eq)]
+#[derive(Clone, Copy)]
 pub(crate) struct Range {
     /// The least number.
     pub(crate) low: u64,

@@ -5,7 +5,7 @@ ghost use Rattle.noise_script.specs.Grammar.{offer_by};
 use xid_params::Offer;
 
 /// What lines say of an end's offer, where they do.
-#[derive(Clone, Copy, Debug, PartialEq, Eq)]
+#[derive(Clone, Copy)]
 pub(crate) struct Offered {
     /// In segments, where a line said it.
     pub(crate) window: Option<u8>,

@@ -11,7 +11,7 @@ use lapm_frames::Frame;
 use slot_contents::{Seen, Sent};
 
 /// What was received in a slot so far.
-#[derive(Clone, Copy, Debug)]
+#[derive(Clone, Copy)]
 pub(crate) enum Tally {
     /// Nothing.
     Silent,

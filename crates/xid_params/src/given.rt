@@ -39,7 +39,7 @@ fn segments_of(value: &[u8]) -> u8
 }
 
 /// What each parameter said, where it stood.
-#[derive(Clone, Copy, Debug, PartialEq, Eq)]
+#[derive(Clone, Copy)]
 pub(crate) struct Given {
     /// Of the functions.
     srej: Option<bool>,

@@ -8,7 +8,7 @@ ghost use Rattle.xid_params.specs.Faults.{IsValueWrong};
 use crate::XidFault;
 
 /// A parameter that is read. All others are passed over.
-#[derive(Clone, Copy, Debug, PartialEq, Eq)]
+#[derive(Clone, Copy)]
 pub(crate) enum Parameter {
     /// Optional functions, a bit each.
     Functions,

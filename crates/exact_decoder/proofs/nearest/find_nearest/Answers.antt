@@ -1,0 +1,14 @@
+use Rattle.std.proofs.Common.{◌≢◌, ◌<◌, length, arith, get_or-set_other, get_or-set_same, below_more}
+use Rattle.std.proofs.Math.ListN.{length-set}
+use Rattle.exact_decoder.proofs.nearest.find_nearest.Goals as goal
+
+pub loop-subset-preserved : goal.loop-subset-preserved
+loop-subset-preserved g c =
+    let nearest = rw c.new-fine.ensures at c.nearest_in.ensures.nearest in
+    let close = rw c.new-fine.ensures at c.nearest_in.ensures.close in (
+      simp length-set c.loop-subset.invariant.0,
+      below_more _ _
+          (λ i h. let other : i ≢ c.loop-subset.subset = omega arith in rw get_or-set_other (c.loop-subset.invariant.1 i h))
+          (let within : c.loop-subset.subset < length c.loop-subset.nearest = omega arith in
+          rw get_or-set_same (nearest, c.nearest_in.ensures.bound, close)),
+    )
