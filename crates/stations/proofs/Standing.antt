@@ -5,7 +5,7 @@ use Rattle.break_signals.specs.Breaks.{OwnBreaks, takes_break, after_ask}
 use Rattle.slot_contents.specs.declared.arrived.Arrived.{Arrived}
 use Rattle.slot_contents.specs.declared.sent.Sent.{Sent}
 use Rattle.lapm_link.specs.declared.closed.Broken.{Broken}
-use Rattle.lapm_link.specs.Stands.{StandsFor, Hears, Speaks}
+use Rattle.lapm_link.specs.Stands.{StandsFor, Hears, Speaks, TakesNothing}
 use Rattle.link_faults.specs.declared.fault.LinkFault.{LinkFault}
 use Rattle.link_account.specs.Account.{Account, is_connected, takes_own, after_break_asked}
 use Rattle.link_account.specs.Hear.{hear}
@@ -13,7 +13,7 @@ use Rattle.link_account.specs.Speak.{Said, speak}
 use Rattle.link_run.specs.End.{asked_at}
 use Rattle.link_run.specs.Reading.{IsOffered, HearingStaysOffered, SpeakingStaysOffered}
 use Rattle.stations.specs.declared.station.Station.{Station}
-use Rattle.stations.specs.Station.{Stands, HearsAs, SpeaksAs, line_of}
+use Rattle.stations.specs.Station.{Stands, HearsAs, SpeaksAs, IsIdle, IsCounted, line_of}
 
 -- what was offered depends on these parts alone
 pub as-offered : (file : List ℕ) (a b : Account) → b.setup ≡ a.setup → b.terms ≡ a.terms → b.phase ≡ a.phase → b.outgoing ≡ a.outgoing
@@ -63,6 +63,15 @@ spoken-breaks turn release file a before sent new broken k = go (speak turn rele
     go : (r : Result Said LinkFault) → Speaks r a before sent (Err broken) → SpeaksAs r file sent new (Err broken.fault)
     go (Ok said) s = s
     go (Err fault) s = s.1.fault_is
+
+-- ---- a station whose end takes nothing
+
+pub idle-on : (old new : Station) → TakesNothing old.end new.end → IsIdle old → IsIdle new
+idle-on old new t h = record { delivered = omega (arith, t.undelivered_of, h.delivered); given = t.waiting_of h.given }
+
+pub counted-on : (old new : Station) → TakesNothing old.end new.end → new.breaks ≡ old.breaks → (heard asked : ℕ)
+    → IsCounted old heard asked → IsCounted new heard asked
+counted-on old new t e heard asked h = record { segments = omega (arith, t.taken_of, h.segments); breaks = omega (arith, e, h.breaks) }
 
 -- ---- breaks
 
