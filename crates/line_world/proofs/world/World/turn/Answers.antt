@@ -324,3 +324,6 @@ pub returns-in-Err-speak-clause-tally : goal.returns-in-Err-speak-clause-tally
 returns-in-Err-speak-clause-tally g c =
     adds-sent c.args.self.now c.hear.new.self c.serve.new.self c.speak.new.self c.hear.ensures.tally (c.serve.ensures.beside.tally
     ∙ c.hand_over.ensures.beside.tally) c.speak.ensures.tally
+
+pub returns-in-Ok-finish-clause-ready : goal.returns-in-Ok-finish-clause-ready
+returns-in-Ok-finish-clause-ready g c = λ going. cc going
