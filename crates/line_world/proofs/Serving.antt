@@ -1,5 +1,5 @@
 -- What happens to both ends between hearing and speaking.
-use Rattle.std.proofs.Common.{◌≡◌, ◌≢◌, ◌-◌, ℕ, zero, suc, Bool, true, false, cond, List, length, drop, refl, sym, ◌∙◌, ap, subst, Option, Some, None, Result, Err, IsErrOf}
+use Rattle.std.proofs.Common.{◌≡◌, ◌≢◌, ◌-◌, ℕ, zero, suc, Bool, true, false, cond, List, length, drop, refl, sym, ◌∙◌, ap, subst, Option, Some, None, Result, Ok, Err, IsErrOf}
 use Rattle.outside_calls.specs.Folder.{FolderState, FaultsStand}
 use Rattle.outside_calls.specs.declared.folder.FolderFault.{FolderFault}
 use Rattle.outside_calls.specs.declared.folder.FolderFault.TheVariants.{Failed, NoMemory}
@@ -26,6 +26,8 @@ use Rattle.slot_contents.specs.declared.heard.Heard.{Heard}
 use Rattle.both_sides.specs.Names.{Written, ReadCause}
 use Rattle.line_world.specs.declared.step.RunFault.{RunFault}
 use Rattle.line_world.specs.declared.step.RunFault.TheVariants.{ReadFault}
+use Rattle.line_world.specs.declared.step.Step.{Step}
+use Rattle.line_world.specs.declared.step.Step.TheVariants.{Going, Done}
 use Rattle.line_world.specs.Turn.{IsReading, FaultCounts, fault_of}
 use Rattle.line_world.specs.Mid.{Overhears, ReadsBoth, handed, served, turn_in}
 
@@ -141,3 +143,8 @@ pub reading-counts : (old new : FolderState) (n : Written) (x : RunFault) (fault
     → FaultCounts old new n x
 reading-counts old new n x Failed e cause spared = subst (FaultCounts old new n) (sym e) (cause.failed refl)
 reading-counts old new n x NoMemory e cause spared = subst (FaultCounts old new n) (sym e) (spared refl, cause.memory refl)
+
+-- ---- after the last turn there is none
+
+pub none-after : (r : Result Step RunFault) (turn : ℕ) → r ≡ Ok Going → r ≡ Ok (Done turn) → ⊥
+none-after r turn going done = cc (going, done)
