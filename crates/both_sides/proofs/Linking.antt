@@ -1,8 +1,8 @@
 -- Parts of a turn of both ends.
 use Rattle.std.proofs.Common.{◌≡◌, ℕ, ◌+◌, Bool, true, false, is_ok, List, length, take, slice_get, arith, refl, sym, ◌∙◌, ap, Option, Result, Ok, Err}
 use Rattle.std.specs.Option.{option_map}
-use Rattle.outside_calls.specs.Folder.{FolderState, OnlyReads}
-use Rattle.outside_calls.specs.Steps.{told_later, octets-kept}
+use Rattle.outside_calls.specs.Folder.{FolderState, OnlyReads, OnlyWrites}
+use Rattle.outside_calls.specs.Steps.{GoesOn-trans, KeepsName-trans, told_later, octets-kept}
 use Rattle.std.proofs.lemmas.Bool.{false≢true}
 use Rattle.roles.specs.declared.role.Role.{Role}
 use Rattle.noise_script.specs.Script.{ScriptValue, break_of}
@@ -18,6 +18,7 @@ use Rattle.line_run.specs.Scripted.{breaks_of, busy_of, BreaksAreTheScripts, Pau
 use Rattle.stations.specs.declared.station.Station.{Station}
 use Rattle.stations.specs.Station.{Stands, HearsAs, SpeaksAs, ReadsOn, IsCounted, line_of}
 use Rattle.both_sides.specs.Link.{HearsOn}
+use Rattle.both_sides.specs.Names.{Written, OnlyGot}
 
 pub heard-well : (s : Station) (file : List ℕ) (a : Account) (turn : ℕ) (arrived : Arrived) → is_ok (hear turn arrived a) ≡ true → HearsAs (hear turn arrived a) file s (Ok tt) → HearsOn s file a turn arrived
 heard-well s file a turn arrived well h = go (hear turn arrived a) refl well h
@@ -76,4 +77,13 @@ reads-later start mid name limit file a others only r = record {
   within = r.within;
   same = r.same;
   told = λ told e. r.told (told_later only.goes_on name told) (e ∙ ap (take limit) (sym (octets-kept start mid name (only.names name) told)));
+}
+
+-- Writing to the one received file, and then to the other.
+pub got-both : (start mid end : FolderState) (n : Written) → OnlyWrites start mid n.got_o → OnlyWrites mid end n.got_a → OnlyGot n start end
+got-both start mid end n h k = record {
+  goes_on = GoesOn-trans h.goes_on k.goes_on;
+  names = λ other orig answ. KeepsName-trans start mid end other h.goes_on (h.names other orig) (k.names other answ);
+  said = k.said ∙ h.said;
+  read_faults = λ other. k.read_faults other ∙ h.read_faults other;
 }

@@ -1,10 +1,13 @@
 -- An input that is read on, piece by piece.
-use Rattle.std.proofs.Common.{◌≡◌, ◌∙◌, ℕ, ◌+◌, ◌-◌, ◌≤◌, ◌<◌, min, List, [], ◌++◌, IsTrue, length, take, take-add, drop, refl, sym, ap, subst, arith, length-append}
+use Rattle.std.proofs.Common.{◌≡◌, ◌∙◌, ℕ, ◌+◌, ◌-◌, ◌≤◌, ◌<◌, min, List, [], ◌++◌, IsTrue, length, take, take-add, drop, refl, sym, ap, subst, arith, length-append, inl, ◌∷◌, Err, IsErrOf}
 use Rattle.std.proofs.lemmas.List.{take-append-drop, take_all}
 use Rattle.plain_lists.specs.Prefix.{IsPrefixOf}
-use Rattle.outside_calls.specs.Folder.{FolderState, octets_at, GoesOn, KeepsName, OnlyReads}
+use Rattle.outside_calls.specs.Folder.{FolderState, octets_at, GoesOn, KeepsName, OnlyReads, HasCause, FaultsStand}
+use Rattle.outside_calls.specs.declared.folder.FolderFault.{FolderFault}
+use Rattle.outside_calls.specs.declared.folder.FolderFault.TheVariants.{Failed, NoMemory}
 use Rattle.outside_calls.specs.Steps.{GoesOn-trans, KeepsName-trans, told_later, octets-kept}
 use Rattle.command_base.specs.Inputs.{IsWithin, IsLonger, ReadTo}
+use Rattle.command_base.specs.Stops.{ReadFails}
 
 -- an input that is within its limit, or longer, was so before others were read
 pub within-earlier : (old mid : FolderState) (name : List ℕ) (limit : ℕ) → OnlyReads old mid → IsWithin mid name limit
@@ -80,3 +83,10 @@ ReadTo-end start old new name limit at count room octets piece r reads long is c
     at_end : length (octets_at start name) ≤ at + count
     at_end = least room (length (octets_at start name)) limit at count (r.within told) (counts (told_later r.goes_on name told)
         ∙ ap (λ (m : ℕ). min (min room (limit - at)) (m - at)) same) few
+
+-- a call that fails, by the count of its name
+pub reads-fail : (old new : FolderState) (name : List ℕ) (fault : FolderFault)
+    → HasCause {T = ℕ} (old.read_faults name) (new.read_faults name) old.refusals new.refusals (Err fault)
+    → (IsErrOf {T = ℕ} {E = FolderFault} (Err fault) NoMemory → FaultsStand old new) → ReadFails old new (name ∷ []) fault
+reads-fail old new name Failed cause spared = inl (cause.failed refl)
+reads-fail old new name NoMemory cause spared = (spared refl, cause.memory refl)

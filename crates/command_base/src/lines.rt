@@ -1,5 +1,5 @@
 // The lines that answers say.
-ghost use Rattle.std.specs.Prelude.{◌≡◌, ◌<◌, ◌≤◌, ◌+◌, ◌*◌, ◌++◌, map, length, decimal, codes};
+ghost use Rattle.std.specs.Prelude.{◌≡◌, ◌<◌, ◌≤◌, ◌+◌, ◌*◌, [], ◌++◌, map, length, decimal, codes};
 ghost use Rattle.roles.specs.Role.{role_word};
 ghost use Rattle.command_base.specs.Lines.{xid_words, count_line, done_line, samples_line, octets_line, pieces_line, soak_line, margin_line, listed_behind, usage_line, AreShort, peer_words, short_line};
 ghost use Rattle.script_causes.specs.Cause.{cause_word};
@@ -72,9 +72,7 @@ pub fn write_count(word: &str, number: u64) -> Line
 {
     let mut line = Line::new();
     line.extend(word.as_bytes());
-    line.extend(b" ");
-    put_decimal(&mut line, number);
-    line.extend(b"\n");
+    put_last_number(&mut line, b" ", number);
     line
 }
 
@@ -124,8 +122,7 @@ pub fn write_soak(seed: u64, turn: u64, lost: u64, again: u64) -> Line
     put_number(&mut line, b"soak ", seed);
     put_number(&mut line, b" done ", turn);
     put_number(&mut line, b" lost ", lost);
-    put_number(&mut line, b" again ", again);
-    line.extend(b"\n");
+    put_last_number(&mut line, b" again ", again);
     line
 }
 
@@ -179,79 +176,88 @@ pub fn write_usage(commands: &[&str]) -> Line
     line
 }
 
-/// The line of a status that says no word of the command line.
-pub(crate) fn write_short(status: Status) -> Line
-    ensures { result ≡ short_line status }
+/// Puts words, a number in decimal digits behind them, and the line's end.
+fn put_last_number(line: &mut Line, words: &[u8], number: u64)
+    requires { length line.old + length words.now + 21 ≤ LINE }
+    ensures { line.new ≡ line.old ++ words.now ++ decimal number ++ codes "\n" }
 {
-    let mut line = Line::new();
+    put_number(line, words, number);
+    line.extend(b"\n");
+}
+
+/// Puts words, and the name of an end behind them.
+fn put_role(line: &mut Line, words: &[u8], role: Role)
+    requires { length line.old + length words.now + 10 ≤ LINE }
+    ensures text { line.new ≡ line.old ++ words.now ++ role_word role }
+    ensures room { length line.new ≤ length line.old + length words.now + 10 }
+{
+    line.extend(words);
+    line.extend(role.word().as_bytes());
+}
+
+/// Puts the line of a faulty script.
+fn put_script_fault(line: &mut Line, number: u32, cause: Cause)
+    requires { line.old ≡ [] }
+    ensures { line.new ≡ codes "bad script: line " ++ decimal number ++ codes ": " ++ cause_word cause ++ codes "\n" }
+{
+    put_number(line, b"bad script: line ", u64::from(number));
+    line.extend(b": ");
+    line.extend(cause.word().as_bytes());
+    line.extend(b"\n");
+}
+
+/// Puts the line of a status that says no word of the command line.
+fn put_short(line: &mut Line, status: Status)
+    requires { line.old ≡ [] }
+    ensures { line.new ≡ short_line status }
+{
     match status {
         Status::Done | Status::Usage | Status::TooLong { .. } => {}
         Status::BadScript {
             line: number,
             cause,
-        } => {
-            line.extend(b"bad script: line ");
-            put_decimal(&mut line, u64::from(number));
-            line.extend(b": ");
-            line.extend(cause.word().as_bytes());
-            line.extend(b"\n");
-        }
-        Status::BadRecording { at } => {
-            line.extend(b"bad recording: at ");
-            put_decimal(&mut line, at);
-            line.extend(b"\n");
-        }
-        Status::BadHex { at } => {
-            line.extend(b"bad hex: at ");
-            put_decimal(&mut line, at);
-            line.extend(b"\n");
-        }
+        } => put_script_fault(line, number, cause),
+        Status::BadRecording { at } => put_last_number(line, b"bad recording: at ", at),
+        Status::BadHex { at } => put_last_number(line, b"bad hex: at ", at),
         Status::BadXid(fault) => {
             line.extend(b"bad xid: ");
-            put_xid_fault(&mut line, fault);
+            put_xid_fault(line, fault);
             line.extend(b"\n");
         }
         Status::ReadFault => line.extend(b"read fault\n"),
         Status::WriteFault => line.extend(b"write fault\n"),
         Status::LineLost { role, symbol } => {
-            line.extend(b"line lost: ");
-            line.extend(role.word().as_bytes());
-            line.extend(b" symbol ");
-            put_decimal(&mut line, symbol);
-            line.extend(b"\n");
+            put_role(line, b"line lost: ", role);
+            put_last_number(line, b" symbol ", symbol);
         }
-        Status::NotDetected { turn } => {
-            line.extend(b"not detected: turn ");
-            put_decimal(&mut line, turn);
-            line.extend(b"\n");
-        }
+        Status::NotDetected { turn } => put_last_number(line, b"not detected: turn ", turn),
         Status::LinkLost {
             role,
             segment,
             turn,
         } => {
-            line.extend(b"link lost: ");
-            line.extend(role.word().as_bytes());
-            line.extend(b" segment ");
-            put_decimal(&mut line, segment);
-            line.extend(b" turn ");
-            put_decimal(&mut line, turn);
-            line.extend(b"\n");
+            put_role(line, b"link lost: ", role);
+            put_number(line, b" segment ", segment);
+            put_last_number(line, b" turn ", turn);
         }
         Status::ChanceMatch { role, turn } => {
-            line.extend(b"chance match: ");
-            line.extend(role.word().as_bytes());
-            line.extend(b" turn ");
-            put_decimal(&mut line, turn);
-            line.extend(b"\n");
+            put_role(line, b"chance match: ", role);
+            put_last_number(line, b" turn ", turn);
         }
         Status::NoMemory => line.extend(b"no memory\n"),
         Status::PeerFault { fault, turn } => {
             line.extend(b"peer fault: ");
-            put_peer_fault(&mut line, fault);
-            put_number(&mut line, b" turn ", turn);
-            line.extend(b"\n");
+            put_peer_fault(line, fault);
+            put_last_number(line, b" turn ", turn);
         }
     }
+}
+
+/// The line of a status that says no word of the command line.
+pub(crate) fn write_short(status: Status) -> Line
+    ensures { result ≡ short_line status }
+{
+    let mut line = Line::new();
+    put_short(&mut line, status);
     line
 }

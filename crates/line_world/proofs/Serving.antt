@@ -1,6 +1,8 @@
 -- What happens to both ends between hearing and speaking.
-use Rattle.std.proofs.Common.{◌≡◌, ◌≢◌, ◌-◌, ℕ, zero, suc, Bool, true, false, cond, List, length, drop, refl, sym, ◌∙◌, ap, subst, Option, Some, None}
-use Rattle.outside_calls.specs.Folder.{FolderState}
+use Rattle.std.proofs.Common.{◌≡◌, ◌≢◌, ◌-◌, ℕ, zero, suc, Bool, true, false, cond, List, length, drop, refl, sym, ◌∙◌, ap, subst, Option, Some, None, Result, Ok, Err, IsErrOf}
+use Rattle.outside_calls.specs.Folder.{FolderState, FaultsStand}
+use Rattle.outside_calls.specs.declared.folder.FolderFault.{FolderFault}
+use Rattle.outside_calls.specs.declared.folder.FolderFault.TheVariants.{Failed, NoMemory}
 use Rattle.roles.specs.declared.role.Role.{Role}
 use Rattle.roles.specs.declared.role.Role.TheVariants.{Originator, Answerer}
 use Rattle.roles.specs.Both.{Both, of}
@@ -21,7 +23,12 @@ use Rattle.both_sides.specs.Lines.{LinesWait, HaveArrived}
 use Rattle.line_world.specs.World.{HasPassed, HasPassedToo}
 use Rattle.both_sides.specs.declared.each.Each.{Each}
 use Rattle.slot_contents.specs.declared.heard.Heard.{Heard}
-use Rattle.both_sides.specs.Names.{Written}
+use Rattle.both_sides.specs.Names.{Written, ReadCause}
+use Rattle.line_world.specs.declared.step.RunFault.{RunFault}
+use Rattle.line_world.specs.declared.step.RunFault.TheVariants.{ReadFault}
+use Rattle.line_world.specs.declared.step.Step.{Step}
+use Rattle.line_world.specs.declared.step.Step.TheVariants.{Going, Done}
+use Rattle.line_world.specs.Turn.{IsReading, FaultCounts, fault_of}
 use Rattle.line_world.specs.Mid.{Overhears, ReadsBoth, handed, served, turn_in}
 
 -- handing segments over hands no break over
@@ -124,3 +131,20 @@ passed-too l script Originator ts line h orig answ =
     passed-by l.from_orig script Originator ts line (λ k. k - 1) h.from_orig h.orig_sends (orig refl)
 passed-too l script Answerer ts line h orig answ =
     passed-by l.from_answ script Answerer ts line (λ k. k - 1) h.from_answ h.answ_sends (answ refl)
+
+-- ---- a file that is not read
+
+pub reading-fault : (x : RunFault) (fault : FolderFault) → x ≡ fault_of ReadFault fault → IsReading x
+reading-fault x Failed e = subst IsReading (sym e) tt
+reading-fault x NoMemory e = subst IsReading (sym e) tt
+
+pub reading-counts : (old new : FolderState) (n : Written) (x : RunFault) (fault : FolderFault) → x ≡ fault_of ReadFault fault
+    → ReadCause old new n (Err fault) → (IsErrOf {T = Unit {0}} {E = FolderFault} (Err fault) NoMemory → FaultsStand old new)
+    → FaultCounts old new n x
+reading-counts old new n x Failed e cause spared = subst (FaultCounts old new n) (sym e) (cause.failed refl)
+reading-counts old new n x NoMemory e cause spared = subst (FaultCounts old new n) (sym e) (spared refl, cause.memory refl)
+
+-- ---- after the last turn there is none
+
+pub none-after : (r : Result Step RunFault) (turn : ℕ) → r ≡ Ok Going → r ≡ Ok (Done turn) → ⊥
+none-after r turn going done = cc (going, done)

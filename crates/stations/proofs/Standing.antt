@@ -1,11 +1,12 @@
 -- What a station stands for once its end has heard or spoken, or was asked for a break.
 use Rattle.std.proofs.Common.{◌≡◌, ℕ, ◌+◌, Bool, true, false, cond, nat_le, List, [], ◌∷◌, ◌++◌, length, arith, length-append}
-use Rattle.std.proofs.Common.{refl, sym, ◌∙◌, ap, subst, Some, Ok, Err, Result}
+use Rattle.std.proofs.Common.{refl, sym, ◌∙◌, ap, subst, Some, Ok, Err, Result, IfOk, OnOk, ◌≤◌}
 use Rattle.break_signals.specs.Breaks.{OwnBreaks, takes_break, after_ask}
 use Rattle.slot_contents.specs.declared.arrived.Arrived.{Arrived}
 use Rattle.slot_contents.specs.declared.sent.Sent.{Sent}
+use Rattle.lapm_link.specs.declared.any_end.AnyEnd.{AnyEnd}
 use Rattle.lapm_link.specs.declared.closed.Broken.{Broken}
-use Rattle.lapm_link.specs.Stands.{StandsFor, Hears, Speaks}
+use Rattle.lapm_link.specs.Stands.{StandsFor, Hears, Speaks, TakesNothing, taken_of}
 use Rattle.link_faults.specs.declared.fault.LinkFault.{LinkFault}
 use Rattle.link_account.specs.Account.{Account, is_connected, takes_own, after_break_asked}
 use Rattle.link_account.specs.Hear.{hear}
@@ -13,7 +14,7 @@ use Rattle.link_account.specs.Speak.{Said, speak}
 use Rattle.link_run.specs.End.{asked_at}
 use Rattle.link_run.specs.Reading.{IsOffered, HearingStaysOffered, SpeakingStaysOffered}
 use Rattle.stations.specs.declared.station.Station.{Station}
-use Rattle.stations.specs.Station.{Stands, HearsAs, SpeaksAs, line_of}
+use Rattle.stations.specs.Station.{Stands, IsKept, HearsAs, SpeaksAs, IsIdle, IsCounted, line_of}
 
 -- what was offered depends on these parts alone
 pub as-offered : (file : List ℕ) (a b : Account) → b.setup ≡ a.setup → b.terms ≡ a.terms → b.phase ≡ a.phase → b.outgoing ≡ a.outgoing
@@ -63,6 +64,73 @@ spoken-breaks turn release file a before sent new broken k = go (speak turn rele
     go : (r : Result Said LinkFault) → Speaks r a before sent (Err broken) → SpeaksAs r file sent new (Err broken.fault)
     go (Ok said) s = s
     go (Err fault) s = s.1.fault_is
+
+-- ---- a station whose end takes nothing
+
+pub idle-on : (old new : Station) → TakesNothing old.end new.end → IsIdle old → IsIdle new
+idle-on old new t h = record { delivered = omega (arith, t.undelivered_of, h.delivered); given = t.waiting_of h.given }
+
+pub counted-on : (old new : Station) → TakesNothing old.end new.end → new.breaks ≡ old.breaks → (heard asked : ℕ)
+    → IsCounted old heard asked → IsCounted new heard asked
+counted-on old new t e heard asked h = record { segments = omega (arith, t.taken_of, h.segments); breaks = omega (arith, e, h.breaks) }
+
+-- ---- a station that keeps what its end became
+
+pub kept-heard : (stays : HearingStaysOffered) (turn : ℕ) (arrived : Arrived) (file : List ℕ) (a : Account) (old new : Station)
+    (became : Result AnyEnd Broken) (result : Result (Unit {0}) LinkFault) → Stands old file a → new.breaks ≡ old.breaks
+    → IsKept became new result → Hears (hear turn arrived a) a became → HearsAs (hear turn arrived a) file new result
+kept-heard stays turn arrived file a old new (Ok end) result h breaks (is, so) k =
+    subst (HearsAs (hear turn arrived a) file new) (sym so) (heard-stands stays turn arrived file a old new h breaks
+    (subst (λ (e : AnyEnd). Hears (hear turn arrived a) a (Ok e)) (sym is) k))
+kept-heard stays turn arrived file a old new (Err broken) result h breaks (is, so) k =
+    subst (HearsAs (hear turn arrived a) file new) (sym so) (heard-breaks turn arrived file a new broken k)
+
+pub kept-spoken : (stays : SpeakingStaysOffered) (turn : ℕ) (release : Bool) (file : List ℕ) (a : Account) (before sent : Sent)
+    (old new : Station) (became : Result AnyEnd Broken) (result : Result (Unit {0}) LinkFault) → Stands old file a
+    → new.breaks ≡ old.breaks → IsKept became new result → Speaks (speak turn release a) a before sent became
+    → SpeaksAs (speak turn release a) file sent new result
+kept-spoken stays turn release file a before sent old new (Ok end) result h breaks (is, so) k =
+    subst (SpeaksAs (speak turn release a) file sent new) (sym so) (spoken-stands stays turn release file a before sent old new h breaks
+    (subst (λ (e : AnyEnd). Speaks (speak turn release a) a before sent (Ok e)) (sym is) k))
+kept-spoken stays turn release file a before sent old new (Err broken) result h breaks (is, so) k =
+    subst (SpeaksAs (speak turn release a) file sent new) (sym so) (spoken-breaks turn release file a before sent new broken k)
+
+-- what holds of it, where it answers no fault
+pub kept-so : (P : Type 0) (became : Result AnyEnd Broken) (new : Station) (result : Result (Unit {0}) LinkFault)
+    → IsKept became new result → IfOk became (λ end. new.end ≡ end → P) → OnOk result P
+kept-so P (Ok end) new result (is, so) p = subst (λ (r : Result (Unit {0}) LinkFault). OnOk r P) (sym so) (p is)
+kept-so P (Err broken) new result (is, so) p = subst (λ (r : Result (Unit {0}) LinkFault). OnOk r P) (sym so) tt
+
+if-ok : {P Q : AnyEnd → Type 0} (became : Result AnyEnd Broken) → ((end : AnyEnd) → P end → Q end) → IfOk became P → IfOk became Q
+if-ok (Ok end) f p = f end p
+if-ok (Err broken) f p = tt
+
+pub kept-counted : (old new : Station) (turn : ℕ) (became : Result AnyEnd Broken) (result : Result (Unit {0}) LinkFault)
+    → new.breaks ≡ old.breaks → IsKept became new result → IfOk became (λ end. taken_of end ≤ taken_of old.end + 128)
+    → IsCounted old turn turn → OnOk result (IsCounted new (turn + 1) turn)
+kept-counted old new turn became result breaks kept few h =
+    kept-so (IsCounted new (turn + 1) turn) became new result kept
+    (if-ok {Q = λ end. new.end ≡ end → IsCounted new (turn + 1) turn} became
+    (λ end few is. record { segments = omega (arith, few, ap taken_of is, h.segments); breaks = omega (arith, breaks, h.breaks) }) few)
+
+pub kept-idle : (old new : Station) (became : Result AnyEnd Broken) (result : Result (Unit {0}) LinkFault) → IsKept became new result
+    → IfOk became (TakesNothing old.end) → OnOk result (IsIdle old → IsIdle new)
+kept-idle old new became result kept takes =
+    kept-so (IsIdle old → IsIdle new) became new result kept
+    (if-ok {Q = λ end. new.end ≡ end → IsIdle old → IsIdle new} became
+    (λ end t is. idle-on old new (subst (TakesNothing old.end) (sym is) t)) takes)
+
+pub kept-counts : (old new : Station) (became : Result AnyEnd Broken) (result : Result (Unit {0}) LinkFault)
+    → new.breaks ≡ old.breaks → IsKept became new result → IfOk became (TakesNothing old.end)
+    → OnOk result ((heard asked : ℕ) → IsCounted old heard asked → IsCounted new heard asked)
+kept-counts old new became result breaks kept takes =
+    kept-so ((heard asked : ℕ) → IsCounted old heard asked → IsCounted new heard asked) became new result kept
+    (if-ok {Q = λ end. new.end ≡ end → (heard asked : ℕ) → IsCounted old heard asked → IsCounted new heard asked} became
+    (λ end t is. counted-on old new (subst (TakesNothing old.end) (sym is) t) breaks) takes)
+
+pub kept-sendable : (P : Type 0) (new : Station) (became : Result AnyEnd Broken) (result : Result (Unit {0}) LinkFault)
+    → IsKept became new result → IfOk became (λ end. P) → OnOk result P
+kept-sendable P new became result kept p = kept-so P became new result kept (if-ok {Q = λ end. new.end ≡ end → P} became (λ end p is. p) p)
 
 -- ---- breaks
 

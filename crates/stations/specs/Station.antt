@@ -2,6 +2,9 @@
 use Rattle.std.specs.Prelude.{◌≡◌, ℕ, ◌*◌, ◌≤◌, IsTrue, List, length, take, None, Result, Ok, Err}
 use Rattle.outside_calls.specs.Folder.{FolderState, octets_at}
 use Rattle.slot_contents.specs.declared.sent.Sent.{Sent}
+use Rattle.lapm_link.specs.declared.any_end.AnyEnd.{AnyEnd}
+use Rattle.lapm_link.specs.declared.any_end.AnyEnd.TheVariants.{Closed}
+use Rattle.lapm_link.specs.declared.closed.Broken.{Broken}
 use Rattle.lapm_link.specs.Stands.{StandsFor, taken_of, undelivered_of, waiting_of}
 use Rattle.link_faults.specs.declared.fault.LinkFault.{LinkFault}
 use Rattle.link_account.specs.Account.{Account}
@@ -25,6 +28,11 @@ pub record IsIdle (s : Station) : Type 0 where
 pub record IsCounted (s : Station) (heard asked : ℕ) : Type 0 where
   pub segments : taken_of s.end ≤ 128 * heard
   pub breaks : s.breaks ≤ asked
+
+-- what an end became was put back into its station, which answers its fault
+abbrev pub IsKept : Result AnyEnd Broken → Station → Result (Unit {0}) LinkFault → Type 0
+IsKept (Ok end) s result = (s.end ≡ end) × (result ≡ Ok tt)
+IsKept (Err broken) s result = (s.end ≡ Closed broken.end) × (result ≡ Err broken.fault)
 
 -- what hearing answers, where this is what it makes of the account
 abbrev pub HearsAs : Result Account LinkFault → List ℕ → Station → Result (Unit {0}) LinkFault → Type 0

@@ -4,7 +4,7 @@ ghost use Rattle.lapm_link.specs.Fits.{IsSetUp};
 
 use crate::segment::read_segment;
 use frame_check::{Check, INFO, Info};
-use lapm_link::{AnyEnd, Arrived, Closed, Detecting, LinkFault, Phase, Sent, Setup};
+use lapm_link::{AnyEnd, Arrived, Broken, Closed, Detecting, LinkFault, Phase, Sent, Setup};
 use link_run::laws::{
     pieces_are_offered_until_none_is_wanted, segments_are_offered_as_they_are_read,
 };
@@ -46,7 +46,7 @@ impl Station {
     ghost use Rattle.link_account.specs.Hear.{hear};
     ghost use Rattle.link_account.specs.Speak.{speak};
     ghost use Rattle.link_run.specs.End.{deliveries, delivered, asked_at, is_ready};
-    ghost use Rattle.stations.specs.Station.{Stands, HearsAs, SpeaksAs, Supplies, IsIdle, IsCounted, line_of};
+    ghost use Rattle.stations.specs.Station.{Stands, HearsAs, SpeaksAs, Supplies, IsKept, IsIdle, IsCounted, line_of};
 
     /// A station before its first turn. It takes all the memory that its end will need.
     pub fn new(alloc: Global, setup: Setup) -> Result<Station, NoMemory>
@@ -72,6 +72,23 @@ impl Station {
         replace(&mut self.end, AnyEnd::Closed(Closed::new(self.setup)))
     }
 
+    /// Puts back what the end became, which is closed after a fault.
+    fn keep_end(&mut self, became: Result<AnyEnd, Broken>) -> Result<(), LinkFault>
+        ensures kept { IsKept became self.new result }
+        ensures breaks { self.new.breaks ≡ self.old.breaks }
+    {
+        match became {
+            Ok(end) => {
+                drop(replace(&mut self.end, end));
+                Ok(())
+            }
+            Err(Broken { fault, end }) => {
+                drop(replace(&mut self.end, AnyEnd::Closed(end)));
+                Err(fault)
+            }
+        }
+    }
+
     /// Hears what arrives. After a fault the end is closed.
     pub fn hear(&mut self, turn: u64, arrived: &Arrived) -> Result<(), LinkFault>
         requires turn { turn < 2 ^ 40 }
@@ -82,16 +99,8 @@ impl Station {
         ensures counted { OnOk result (IsCounted self.new (turn + 1) turn) }
     {
         segments_are_offered_as_they_are_read();
-        match self.take_end().hear(turn, arrived) {
-            Ok(end) => {
-                self.end = end;
-                Ok(())
-            }
-            Err(broken) => {
-                self.end = AnyEnd::Closed(broken.end);
-                Err(broken.fault)
-            }
-        }
+        let became = self.take_end().hear(turn, arrived);
+        self.keep_end(became)
     }
 
     /// What the end took is appended to the file of that name, segment by segment.
@@ -222,16 +231,8 @@ impl Station {
         ensures counted { OnOk result ((heard asked : ℕ) → IsCounted self.old heard asked → IsCounted self.new heard asked) }
     {
         segments_are_offered_as_they_are_read();
-        match self.take_end().speak(turn, release, sent) {
-            Ok(end) => {
-                self.end = end;
-                Ok(())
-            }
-            Err(broken) => {
-                self.end = AnyEnd::Closed(broken.end);
-                Err(broken.fault)
-            }
-        }
+        let became = self.take_end().speak(turn, release, sent);
+        self.keep_end(became)
     }
 
     /// The phase that the end is in.

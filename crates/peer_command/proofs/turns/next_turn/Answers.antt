@@ -1,9 +1,10 @@
-use Rattle.std.proofs.Common.{◌≡◌, ◌∙◌, inr, ℕ, ◌*◌, ◌<◌, IsTrue, List, ◌++◌, length, take, sym, subst, arith}
+use Rattle.std.proofs.Common.{◌≡◌, ◌∙◌, inr, ℕ, ◌*◌, ◌<◌, IsTrue, List, ◌++◌, length, take, refl, sym, subst, arith, Option, Some, None, Result, Ok, Err}
 use Rattle.std.proofs.lemmas.List.{append-nil, length-take-le}
 use Rattle.outside_calls.specs.Folder.{FolderState, octets_at}
 use Rattle.roles.specs.declared.role.Role.{Role}
 use Rattle.command_base.specs.declared.limits.TheConstants.{FILE_LIMIT}
 use Rattle.command_base.specs.Inputs.{ReadTo}
+use Rattle.command_base.specs.declared.stop.Stop.{Stop}
 use Rattle.single_end.specs.Heard.{slot_octets}
 use Rattle.single_end.specs.Peer.{Closed}
 use Rattle.single_end.specs.Turn.{Makes, EndsBy as TurnEndsBy}
@@ -12,6 +13,13 @@ use Rattle.peer_command.specs.Ends.{EndsBy}
 use Rattle.peer_command.proofs.Starting.{distinct, goes-by, ends-short-by}
 use Rattle.peer_command.proofs.Reaching.{Around, Distinct, around, fault-ends, closed-ends, ends-whole, not-read}
 use Rattle.peer_command.proofs.turns.next_turn.Goals as goal
+
+-- a run that ends, or stops, has no next turn
+ends-here : (r : Result (Option ℕ) Stop) (turns : ℕ) → r ≡ Ok None → r ≡ Ok (Some turns) → ⊥
+ends-here r turns none some = cc (none, some)
+
+stops-here : (r : Result (Option ℕ) Stop) (stop : Stop) → r ≡ Ok None → r ≡ Err stop → ⊥
+stops-here r stop none err = cc (none, err)
 
 pub returns-in-Ok-eq0-clause-done : goal.returns-in-Ok-eq0-clause-done
 returns-in-Ok-eq0-clause-done g c = λ start r.
@@ -134,3 +142,63 @@ returns-in-Err-turn-clause-err g c = λ start r.
     (fault-ends start mid next n r.past r.octets slot c.turn_number-turn.result c.in-Err-turn.fault a number
     (subst (λ (x : Role). TurnEndsBy x mid next (turn_names n) r.past slot c.in-Err-turn.fault) (c.in-Err-turn.ensures.role ∙ r.role_is)
     (c.in-Err-turn.ensures.turn r.past r.after r.knows.within)))
+
+pub returns-in-Ok-eq0-clause-going : goal.returns-in-Ok-eq0-clause-going
+returns-in-Ok-eq0-clause-going g c = λ start r e. absurd (ends-here _ _ e refl)
+
+pub returns-in-Ok-eq0-clause-ready : goal.returns-in-Ok-eq0-clause-ready
+returns-in-Ok-eq0-clause-ready g c = λ e. absurd (ends-here _ _ e refl)
+
+pub returns-in-Ok-eq0-clause-within : goal.returns-in-Ok-eq0-clause-within
+returns-in-Ok-eq0-clause-within g c = λ e. absurd (ends-here _ _ e refl)
+
+pub returns-in-Ok-eq0-clause-number : goal.returns-in-Ok-eq0-clause-number
+returns-in-Ok-eq0-clause-number g c = λ e. absurd (ends-here _ _ e refl)
+
+pub returns-in-Err-clause-going : goal.returns-in-Err-clause-going
+returns-in-Err-clause-going g c = λ start r e. absurd (stops-here _ _ e refl)
+
+pub returns-in-Err-clause-ready : goal.returns-in-Err-clause-ready
+returns-in-Err-clause-ready g c = λ e. absurd (stops-here _ _ e refl)
+
+pub returns-in-Err-clause-within : goal.returns-in-Err-clause-within
+returns-in-Err-clause-within g c = λ e. absurd (stops-here _ _ e refl)
+
+pub returns-in-Err-clause-number : goal.returns-in-Err-clause-number
+returns-in-Err-clause-number g c = λ e. absurd (stops-here _ _ e refl)
+
+pub returns-then-count-lt-SLOT_OCTETS-clause-going : goal.returns-then-count-lt-SLOT_OCTETS-clause-going
+returns-then-count-lt-SLOT_OCTETS-clause-going g c = λ start r e. absurd (ends-here _ _ e refl)
+
+pub returns-then-count-lt-SLOT_OCTETS-clause-ready : goal.returns-then-count-lt-SLOT_OCTETS-clause-ready
+returns-then-count-lt-SLOT_OCTETS-clause-ready g c = λ e. absurd (ends-here _ _ e refl)
+
+pub returns-then-count-lt-SLOT_OCTETS-clause-within : goal.returns-then-count-lt-SLOT_OCTETS-clause-within
+returns-then-count-lt-SLOT_OCTETS-clause-within g c = λ e. absurd (ends-here _ _ e refl)
+
+pub returns-then-count-lt-SLOT_OCTETS-clause-number : goal.returns-then-count-lt-SLOT_OCTETS-clause-number
+returns-then-count-lt-SLOT_OCTETS-clause-number g c = λ e. absurd (ends-here _ _ e refl)
+
+pub returns-in-Ok-Closed-clause-going : goal.returns-in-Ok-Closed-clause-going
+returns-in-Ok-Closed-clause-going g c = λ start r e. absurd (ends-here _ _ e refl)
+
+pub returns-in-Ok-Closed-clause-ready : goal.returns-in-Ok-Closed-clause-ready
+returns-in-Ok-Closed-clause-ready g c = λ e. absurd (ends-here _ _ e refl)
+
+pub returns-in-Ok-Closed-clause-within : goal.returns-in-Ok-Closed-clause-within
+returns-in-Ok-Closed-clause-within g c = λ e. absurd (ends-here _ _ e refl)
+
+pub returns-in-Ok-Closed-clause-number : goal.returns-in-Ok-Closed-clause-number
+returns-in-Ok-Closed-clause-number g c = λ e. absurd (ends-here _ _ e refl)
+
+pub returns-in-Err-turn-clause-going : goal.returns-in-Err-turn-clause-going
+returns-in-Err-turn-clause-going g c = λ start r e. absurd (stops-here _ _ e refl)
+
+pub returns-in-Err-turn-clause-ready : goal.returns-in-Err-turn-clause-ready
+returns-in-Err-turn-clause-ready g c = λ e. absurd (stops-here _ _ e refl)
+
+pub returns-in-Err-turn-clause-within : goal.returns-in-Err-turn-clause-within
+returns-in-Err-turn-clause-within g c = λ e. absurd (stops-here _ _ e refl)
+
+pub returns-in-Err-turn-clause-number : goal.returns-in-Err-turn-clause-number
+returns-in-Err-turn-clause-number g c = λ e. absurd (stops-here _ _ e refl)

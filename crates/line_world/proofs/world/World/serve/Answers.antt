@@ -1,7 +1,7 @@
 use Rattle.std.proofs.Common.{◌+◌, length, subst}
 use Rattle.both_sides.specs.Link.{LinkStands}
 use Rattle.line_world.specs.Mid.{ReadsBoth, served, supplied, handed}
-use Rattle.line_world.proofs.Serving.{over-others}
+use Rattle.line_world.proofs.Serving.{over-others, reading-fault, reading-counts}
 use Rattle.both_sides.specs.Names.{written}
 use Rattle.line_world.proofs.world.World.serve.Goals as goal
 
@@ -28,3 +28,11 @@ returns-clause-serves g c = λ files ts ends heard mid h within.
         tally = h.tally;
       };
     }
+
+pub returns-in-Err-clause-read : goal.returns-in-Err-clause-read
+returns-in-Err-clause-read g c = reading-fault c.folder_fault.result c.in-Err.fault c.folder_fault.ensures
+
+pub returns-in-Err-clause-counts : goal.returns-in-Err-clause-counts
+returns-in-Err-clause-counts g c =
+    reading-counts (g.F.Folder.state c.args.folder.now) (g.F.Folder.state c.supply.new.folder) (written c.args.names.now)
+    c.folder_fault.result c.in-Err.fault c.folder_fault.ensures c.in-Err.ensures.cause c.in-Err.ensures.spared

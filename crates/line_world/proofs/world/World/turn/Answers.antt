@@ -7,7 +7,7 @@ use Rattle.both_sides.specs.Link.{AreCounted}
 use Rattle.both_sides.specs.declared.lines.LineEnd.{LineEnd}
 use Rattle.line_world.specs.Mid.{IsLineEnd, handed}
 use Rattle.line_world.specs.Turn.{EndsBy, GoesOnBy}
-use Rattle.line_world.proofs.Serving.{phase-delivered}
+use Rattle.line_world.proofs.Serving.{phase-delivered, none-after}
 use Rattle.line_world.proofs.Folders.{then-only, reads-only, lines-only, counts-later, delivered-kept, stay-known, others-known}
 use Rattle.line_world.proofs.Speaking.{adds-heard, adds-kept, adds-sent}
 use Rattle.line_world.proofs.Turning.{MakingLaws, writing-ends, reading-ends, stops-handing, stops-reading, stops-writing, done-in, speaks-last, goes-on-by, ready-on}
@@ -324,3 +324,6 @@ pub returns-in-Err-speak-clause-tally : goal.returns-in-Err-speak-clause-tally
 returns-in-Err-speak-clause-tally g c =
     adds-sent c.args.self.now c.hear.new.self c.serve.new.self c.speak.new.self c.hear.ensures.tally (c.serve.ensures.beside.tally
     ∙ c.hand_over.ensures.beside.tally) c.speak.ensures.tally
+
+pub returns-in-Ok-finish-clause-ready : goal.returns-in-Ok-finish-clause-ready
+returns-in-Ok-finish-clause-ready g c = λ going. absurd (none-after _ c.hand_over.new.self.turn going refl)

@@ -60,3 +60,12 @@ returns-in-Err-write-2-clause-speaks g c = λ p slot mid h up given.
     (concat (deliveries mid)) (Broken fault)
     (silent-turn c.args.arrived c.args.given) None h.turn refl
     (broken s p slot c.args.arrived mid c.args.given fault h up given e) c.in-Err-write-2.ensures.err)
+
+pub returns-in-Ok-write-2-clause-idle : goal.returns-in-Ok-write-2-clause-idle
+returns-in-Ok-write-2-clause-idle g c = tt
+
+pub returns-in-Ok-write-2-clause-counted : goal.returns-in-Ok-write-2-clause-counted
+returns-in-Ok-write-2-clause-counted g c = tt
+
+pub returns-in-Ok-write-2-clause-turn : goal.returns-in-Ok-write-2-clause-turn
+returns-in-Ok-write-2-clause-turn g c = tt

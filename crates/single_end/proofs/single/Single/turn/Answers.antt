@@ -1,12 +1,13 @@
 use Rattle.std.proofs.Common.{◌≡◌, ◌+◌, ◌∙◌, sym, ap, subst}
 use Rattle.std.specs.List.{concat}
+use Rattle.outside_calls.specs.Steps.{CountsStand-trans}
 use Rattle.roles.specs.declared.role.Role.{Role}
 use Rattle.link_run.specs.End.{deliveries}
 use Rattle.stations.specs.Station.{IsCounted}
 use Rattle.single_end.specs.Peer.{Closed, after, over}
 use Rattle.single_end.specs.Single.{named}
 use Rattle.single_end.specs.Turn.{EndsBy}
-use Rattle.single_end.proofs.Folders.{got-only, trace-only, reads-only, then-only, stays-known, others-known}
+use Rattle.single_end.proofs.Folders.{got-only, trace-only, reads-only, then-only, trace-counts, read-counts, counts-later, stays-known, others-known}
 use Rattle.single_end.proofs.Turning.{broke-off, not-handed, not-read, writing-ends, reading-ends, made, stopped-so, ended, gone-on}
 use Rattle.single_end.proofs.Turning.{counted-later, adds-on, keeps-on}
 use Rattle.single_end.specs.Mid.{handed}
@@ -175,3 +176,73 @@ returns-in-Err-speak-clause-turn g c = λ p h within.
     (keeps-on a b d n c.requires.apart c.hand_over.ensures.only c.serve.ensures.only) c.speak.ensures.only
     (others-known a b z n p.file s.others (handed mid) c.requires.apart first only-z s.reads)
     (c.in-Err-speak.ensures.speaks (over s.others p) slot mid s.stands still (c.in-Ok-hand_over.ensures.given p slot arrived mid has.1))
+
+pub returns-in-Err-clause-only : goal.returns-in-Err-clause-only
+returns-in-Err-clause-only g c =
+    let n = named c.args.file.now c.args.got.now c.args.trace.now in
+    trace-only _ _ n c.break_off.ensures.only
+
+pub returns-in-Err-clause-counts : goal.returns-in-Err-clause-counts
+returns-in-Err-clause-counts g c =
+    let n = named c.args.file.now c.args.got.now c.args.trace.now in
+    trace-counts (g.F.Folder.state c.args.folder.now) (g.F.Folder.state c.break_off.new.folder) n c.break_off.result c.break_off.ensures.counts
+
+pub returns-in-Err-hand_over-clause-only : goal.returns-in-Err-hand_over-clause-only
+returns-in-Err-hand_over-clause-only g c =
+    let n = named c.args.file.now c.args.got.now c.args.trace.now in
+    got-only _ _ n c.hand_over.ensures.only
+
+pub returns-in-Ok-finish-clause-only : goal.returns-in-Ok-finish-clause-only
+returns-in-Ok-finish-clause-only g c =
+    let n = named c.args.file.now c.args.got.now c.args.trace.now in
+    then-only _ _ _ n (got-only _ _ n c.hand_over.ensures.only) (trace-only _ _ n c.finish.ensures.only)
+
+pub returns-in-Err-finish-clause-only : goal.returns-in-Err-finish-clause-only
+returns-in-Err-finish-clause-only g c =
+    let n = named c.args.file.now c.args.got.now c.args.trace.now in
+    then-only _ _ _ n (got-only _ _ n c.hand_over.ensures.only) (trace-only _ _ n c.finish.ensures.only)
+
+pub returns-in-Err-serve-clause-only : goal.returns-in-Err-serve-clause-only
+returns-in-Err-serve-clause-only g c =
+    let n = named c.args.file.now c.args.got.now c.args.trace.now in
+    then-only _ _ _ n (got-only _ _ n c.hand_over.ensures.only) (reads-only _ _ n c.serve.ensures.only)
+
+pub returns-in-Ok-speak-clause-only : goal.returns-in-Ok-speak-clause-only
+returns-in-Ok-speak-clause-only g c =
+    let n = named c.args.file.now c.args.got.now c.args.trace.now in
+    then-only _ _ _ n (then-only _ _ _ n (got-only _ _ n c.hand_over.ensures.only) (reads-only _ _ n c.serve.ensures.only))
+    (trace-only _ _ n c.speak.ensures.only)
+
+pub returns-in-Err-speak-clause-only : goal.returns-in-Err-speak-clause-only
+returns-in-Err-speak-clause-only g c =
+    let n = named c.args.file.now c.args.got.now c.args.trace.now in
+    then-only _ _ _ n (then-only _ _ _ n (got-only _ _ n c.hand_over.ensures.only) (reads-only _ _ n c.serve.ensures.only))
+    (trace-only _ _ n c.speak.ensures.only)
+
+pub returns-in-Ok-finish-clause-counts : goal.returns-in-Ok-finish-clause-counts
+returns-in-Ok-finish-clause-counts g c = CountsStand-trans c.in-Ok-hand_over.ensures.counts c.in-Ok-finish.ensures.counts
+
+pub returns-in-Err-finish-clause-counts : goal.returns-in-Err-finish-clause-counts
+returns-in-Err-finish-clause-counts g c =
+    let n = named c.args.file.now c.args.got.now c.args.trace.now in
+    counts-later (g.F.Folder.state c.args.folder.now) (g.F.Folder.state c.hand_over.new.folder) (g.F.Folder.state c.finish.new.folder) n c.in-Err-finish.fault
+    c.in-Ok-hand_over.ensures.counts
+    (trace-counts (g.F.Folder.state c.hand_over.new.folder) (g.F.Folder.state c.finish.new.folder) n c.in-Err-finish.fault c.in-Err-finish.ensures.counts)
+
+pub returns-in-Err-serve-clause-counts : goal.returns-in-Err-serve-clause-counts
+returns-in-Err-serve-clause-counts g c =
+    let n = named c.args.file.now c.args.got.now c.args.trace.now in
+    counts-later (g.F.Folder.state c.args.folder.now) (g.F.Folder.state c.hand_over.new.folder) (g.F.Folder.state c.serve.new.folder) n c.in-Err-serve.fault
+    c.in-Ok-hand_over.ensures.counts
+    (read-counts (g.F.Folder.state c.hand_over.new.folder) (g.F.Folder.state c.serve.new.folder) n c.in-Err-serve.fault c.in-Err-serve.ensures.counts)
+
+pub returns-in-Ok-speak-clause-counts : goal.returns-in-Ok-speak-clause-counts
+returns-in-Ok-speak-clause-counts g c =
+    CountsStand-trans (CountsStand-trans c.in-Ok-hand_over.ensures.counts c.in-Ok-serve.ensures.counts) c.in-Ok-speak.ensures.counts
+
+pub returns-in-Err-speak-clause-counts : goal.returns-in-Err-speak-clause-counts
+returns-in-Err-speak-clause-counts g c =
+    let n = named c.args.file.now c.args.got.now c.args.trace.now in
+    counts-later (g.F.Folder.state c.args.folder.now) (g.F.Folder.state c.serve.new.folder) (g.F.Folder.state c.speak.new.folder) n c.in-Err-speak.fault
+    (CountsStand-trans c.in-Ok-hand_over.ensures.counts c.in-Ok-serve.ensures.counts)
+    (trace-counts (g.F.Folder.state c.serve.new.folder) (g.F.Folder.state c.speak.new.folder) n c.in-Err-speak.fault c.in-Err-speak.ensures.counts)

@@ -1,15 +1,18 @@
-use Rattle.std.proofs.Common.{subst, sym}
-use Rattle.lapm_link.specs.Stands.{StandsFor}
-use Rattle.stations.proofs.Standing.{heard-stands, heard-breaks}
+use Rattle.std.proofs.Common.{◌+◌, ◌≤◌, IfOk, subst, sym, ◌∙◌}
+use Rattle.lapm_link.specs.Stands.{StandsFor, taken_of}
+use Rattle.stations.proofs.Standing.{kept-heard, kept-counted}
 use Rattle.stations.proofs.station.Station.hear.Goals as goal
 
-pub returns-in-Ok-clause-hears : goal.returns-in-Ok-clause-hears
-returns-in-Ok-clause-hears c = λ file a h.
-    heard-stands c.segments_are_offered_as_they_are_read.ensures.heard c.args.turn c.args.arrived.now file a
-    c.args.self.now _ h c.take_end.ensures.breaks
-    (c.in-Ok.ensures.hears a (subst (λ e. StandsFor e a) (sym c.take_end.ensures.end) h.end))
+pub returns-clause-hears : goal.returns-clause-hears
+returns-clause-hears c = λ file a h.
+    kept-heard c.segments_are_offered_as_they_are_read.ensures.heard c.args.turn c.args.arrived.now file a
+    c.args.self.now c.keep_end.new.self c.hear-became.result c.keep_end.result h
+    (c.keep_end.ensures.breaks ∙ c.take_end.ensures.breaks) c.keep_end.ensures.kept
+    (c.hear-became.ensures.hears a (subst (λ e. StandsFor e a) (sym c.take_end.ensures.end) h.end))
 
-pub returns-in-Err-clause-hears : goal.returns-in-Err-clause-hears
-returns-in-Err-clause-hears c = λ file a h.
-    heard-breaks c.args.turn c.args.arrived.now file a _ c.in-Err.broken
-    (c.in-Err.ensures.hears a (subst (λ e. StandsFor e a) (sym c.take_end.ensures.end) h.end))
+pub returns-clause-counted : goal.returns-clause-counted
+returns-clause-counted c =
+    kept-counted c.args.self.now c.keep_end.new.self c.args.turn c.hear-became.result c.keep_end.result
+    (c.keep_end.ensures.breaks ∙ c.take_end.ensures.breaks) c.keep_end.ensures.kept
+    (subst (λ before. IfOk c.hear-became.result (λ end. taken_of end ≤ taken_of before + 128)) c.take_end.ensures.end
+    c.hear-became.ensures.counted) c.requires.counted

@@ -1,15 +1,27 @@
-use Rattle.std.proofs.Common.{subst, sym}
-use Rattle.lapm_link.specs.Stands.{StandsFor}
-use Rattle.stations.proofs.Standing.{spoken-stands, spoken-breaks}
+use Rattle.std.proofs.Common.{IfOk, subst, sym, ◌∙◌}
+use Rattle.lapm_link.specs.Stands.{StandsFor, TakesNothing}
+use Rattle.slot_contents.specs.Sendable.{IsSendable}
+use Rattle.stations.proofs.Standing.{kept-spoken, kept-idle, kept-counts, kept-sendable}
 use Rattle.stations.proofs.station.Station.speak.Goals as goal
 
-pub returns-in-Ok-clause-speaks : goal.returns-in-Ok-clause-speaks
-returns-in-Ok-clause-speaks c = λ file a h.
-    spoken-stands c.segments_are_offered_as_they_are_read.ensures.spoken c.args.turn c.args.release file a
-    c.args.sent.now c.speak.new.sent c.args.self.now _ h c.take_end.ensures.breaks
-    (c.in-Ok.ensures.speaks a (subst (λ e. StandsFor e a) (sym c.take_end.ensures.end) h.end))
+pub returns-clause-speaks : goal.returns-clause-speaks
+returns-clause-speaks c = λ file a h.
+    kept-spoken c.segments_are_offered_as_they_are_read.ensures.spoken c.args.turn c.args.release file a
+    c.args.sent.now c.speak-became.new.sent c.args.self.now c.keep_end.new.self c.speak-became.result c.keep_end.result h
+    (c.keep_end.ensures.breaks ∙ c.take_end.ensures.breaks) c.keep_end.ensures.kept
+    (c.speak-became.ensures.speaks a (subst (λ e. StandsFor e a) (sym c.take_end.ensures.end) h.end))
 
-pub returns-in-Err-clause-speaks : goal.returns-in-Err-clause-speaks
-returns-in-Err-clause-speaks c = λ file a h.
-    spoken-breaks c.args.turn c.args.release file a c.args.sent.now c.speak.new.sent _ c.in-Err.broken
-    (c.in-Err.ensures.speaks a (subst (λ e. StandsFor e a) (sym c.take_end.ensures.end) h.end))
+pub returns-clause-sendable : goal.returns-clause-sendable
+returns-clause-sendable c =
+    kept-sendable (IsSendable c.speak-became.new.sent) c.keep_end.new.self c.speak-became.result c.keep_end.result c.keep_end.ensures.kept c.speak-became.ensures.sendable
+
+pub returns-clause-idle : goal.returns-clause-idle
+returns-clause-idle c =
+    kept-idle c.args.self.now c.keep_end.new.self c.speak-became.result c.keep_end.result c.keep_end.ensures.kept
+    (subst (λ before. IfOk c.speak-became.result (TakesNothing before)) c.take_end.ensures.end c.speak-became.ensures.takes_nothing)
+
+pub returns-clause-counted : goal.returns-clause-counted
+returns-clause-counted c =
+    kept-counts c.args.self.now c.keep_end.new.self c.speak-became.result c.keep_end.result
+    (c.keep_end.ensures.breaks ∙ c.take_end.ensures.breaks) c.keep_end.ensures.kept
+    (subst (λ before. IfOk c.speak-became.result (TakesNothing before)) c.take_end.ensures.end c.speak-became.ensures.takes_nothing)

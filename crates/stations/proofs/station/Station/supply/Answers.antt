@@ -6,6 +6,7 @@ use Rattle.outside_calls.specs.Steps.{OnlyReads-refl, OnlyReads-trans, CountsSta
 use Rattle.outside_calls.specs.Steps.{octets-kept}
 use Rattle.link_run.specs.End.{piece_at}
 use Rattle.stations.proofs.Offering.{supplying-starts, supplying-next, supplying-ends, wants-within, as-err}
+use Rattle.stations.proofs.Standing.{idle-on, counted-on}
 use Rattle.stations.proofs.station.Station.supply.Goals as goal
 
 pub loop-number-init : goal.loop-number-init
@@ -93,3 +94,15 @@ returns-in-Err-clause-only g c = OnlyReads-trans c.loop-number.invariant.only c.
 pub returns-in-Err-clause-spared : goal.returns-in-Err-clause-spared
 returns-in-Err-clause-spared g c = λ e. FaultsStand-trans c.loop-number.invariant.stand.faults
     (c.in-Err.ensures.spared (as-err c.in-Err.fault _ e))
+
+pub returns-in-None-clause-idle : goal.returns-in-None-clause-idle
+returns-in-None-clause-idle g c = idle-on c.args.self.now _ c.loop-number.invariant.takes
+
+pub returns-in-None-clause-counted : goal.returns-in-None-clause-counted
+returns-in-None-clause-counted g c = counted-on c.args.self.now _ c.loop-number.invariant.takes c.loop-number.invariant.breaks
+
+pub returns-in-Err-clause-idle : goal.returns-in-Err-clause-idle
+returns-in-Err-clause-idle g c = idle-on c.args.self.now _ c.loop-number.invariant.takes
+
+pub returns-in-Err-clause-counted : goal.returns-in-Err-clause-counted
+returns-in-Err-clause-counted g c = counted-on c.args.self.now _ c.loop-number.invariant.takes c.loop-number.invariant.breaks
