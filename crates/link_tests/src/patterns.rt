@@ -1,4 +1,5 @@
 // Patterns in slots and in streams of bits.
+use super::slots::slot_of;
 use bit_stuffing::BitSlot;
 use detection::{PatternReader, Seen, mark_slot, pattern_slot};
 use frame_check::SLOT;
@@ -94,17 +95,6 @@ fn slots_of_patterns_and_of_ones(rt: HostRuntime) -> Result<(), Fail> {
         assert_eq!(rt; sights(&rt, &mut reader, &slot, seen), (0, 0));
     }
     Ok(())
-}
-
-/// A slot of these quads.
-fn slot_of(quads: &[u8]) -> BitSlot {
-    let mut slot = BitSlot::new();
-    for quad in quads {
-        if slot.len() < SLOT {
-            slot.push(quad % 16);
-        }
-    }
-    slot
 }
 
 #[test]

@@ -22,6 +22,17 @@ fn push_zeros(rt: &impl Abort, deframer: &mut Deframer, count: usize) {
     }
 }
 
+/// A slot of these quads.
+pub fn slot_of(quads: &[u8]) -> BitSlot {
+    let mut slot = BitSlot::new();
+    for quad in quads {
+        if slot.len() < SLOT {
+            slot.push(quad % 16);
+        }
+    }
+    slot
+}
+
 /// The digits of a slot's bits from this one on are these.
 fn assert_digits(rt: &impl Abort, slot: &BitSlot, from: usize, digits: &[u8]) {
     for i in 0..digits.len() {
@@ -78,6 +89,18 @@ fn five_ones_at_the_end_want_a_zero(rt: HostRuntime) -> Result<(), Fail> {
     Ok(())
 }
 
+/// Pushes a bit that has this answer, behind which these octets are lent.
+fn push_bit(
+    rt: &impl Abort,
+    deframer: &mut Deframer,
+    bit: bool,
+    answer: Option<Piece>,
+    whole: &[u8],
+) {
+    assert_eq!(rt; deframer.push(bit), answer);
+    assert_eq!(rt; deframer.whole(), whole);
+}
+
 #[test]
 fn a_frame_in_octets(rt: HostRuntime) -> Result<(), Fail> {
     let mut deframer = Deframer::new();
@@ -85,13 +108,17 @@ fn a_frame_in_octets(rt: HostRuntime) -> Result<(), Fail> {
     for octet in [0x7eu8, 0x03, 0xdf, 0x3e, 0xb9, 0xfa, 0xf9] {
         for shift in 0..8u32 {
             place = place.wrapping_add(1);
-            let answer = deframer.push((octet >> shift) & 1 == 1);
+            let bit = (octet >> shift) & 1 == 1;
             if place == 50 {
-                assert_eq!(rt; answer, Some(Piece::Whole));
-                assert_eq!(rt; deframer.whole(), [0x03, 0x7f, 0x5f, 0xae].as_slice());
+                push_bit(
+                    &rt,
+                    &mut deframer,
+                    bit,
+                    Some(Piece::Whole),
+                    b"\x03\x7f\x5f\xae",
+                );
             } else {
-                assert_eq!(rt; answer, None);
-                assert!(rt; deframer.whole().is_empty());
+                push_bit(&rt, &mut deframer, bit, None, b"");
             }
         }
     }
@@ -159,14 +186,18 @@ fn a_flag_that_is_cut_goes_on_in_the_next_slot(rt: HostRuntime) -> Result<(), Fa
     Ok(())
 }
 
+/// The quad at this place.
+fn assert_quad(rt: &impl Abort, slot: &BitSlot, place: usize, quad: u8) {
+    assert!(rt; place < slot.len());
+    assert_eq!(rt; slot.quad(place), quad);
+}
+
 #[test]
 fn quads_of_a_slot(rt: HostRuntime) -> Result<(), Fail> {
-    let mut slot = BitSlot::new();
-    assert!(rt; slot.is_empty());
-    slot.push(6);
-    slot.push(15);
+    assert!(rt; BitSlot::new().is_empty());
+    let mut slot = slot_of(&[6, 15]);
     assert_eq!(rt; slot.len(), 2);
-    assert_eq!(rt; slot.quad(1), 15);
+    assert_quad(&rt, &slot, 1, 15);
     assert_digits(&rt, &slot, 0, b"01101111");
     slot.clear();
     assert_eq!(rt; slot.len(), 0);

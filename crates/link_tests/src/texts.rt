@@ -30,20 +30,20 @@ const FRAMES: [(&[u8], &[u8]); 20] = [
     (b"\x03\xf3ab", b"test cmd p=1 n=2"),
 ];
 
+/// The frame of these octets of the originator.
+fn frame_of(octets: &[u8]) -> Result<Frame, Fail> {
+    Ok(read(octets, Role::Originator, 0).map_err(|_| "refused")?)
+}
+
 #[test]
 fn each_kind_has_its_text(rt: HostRuntime) -> Result<(), Fail> {
     for (octets, text) in FRAMES {
-        let frame = read(octets, Role::Originator, 0).map_err(|_| "refused")?;
+        let frame = frame_of(octets)?;
         let mut out = FrameText::new();
         write_frame_text(&frame, &mut out);
         assert_eq!(rt; out.as_slice(), text);
     }
     Ok(())
-}
-
-/// The frame of these octets of the originator.
-fn frame_of(octets: &[u8]) -> Result<Frame, Fail> {
-    Ok(read(octets, Role::Originator, 0).map_err(|_| "refused")?)
 }
 
 /// A line of a trace has that text.
