@@ -16,43 +16,40 @@ fn words_are_three_octets(rt: HostRuntime) -> Result<(), Fail> {
     };
     let mut info = Info::new();
     write_break(&brk, &mut info);
-    assert_eq!(rt; info.as_slice(), [0x40, 1, 30].as_slice());
-    assert_eq!(rt; read_break(info.as_slice()), Ok(brk));
+    assert!(rt; info.as_slice() == [0x40, 1, 30].as_slice());
+    assert!(rt; read_break(info.as_slice()) == Ok(brk));
     let ack = BreakWord::Ack {
         number: 0,
         length: 0,
     };
-    assert_eq!(rt; read_break(&[0x60, 0, 0]), Ok(ack));
+    assert!(rt; read_break(&[0x60, 0, 0]) == Ok(ack));
     Ok(())
 }
 
 #[test]
 fn faults_come_in_order(rt: HostRuntime) -> Result<(), Fail> {
-    assert_eq!(rt; read_break(&[]), Err(BreakFault::Length { len: 0 }));
-    assert_eq!(rt; read_break(&[0x41]), Err(BreakFault::Kind { octet: 0x41 }));
-    assert_eq!(rt; read_break(&[0x40, 2]), Err(BreakFault::Length { len: 2 }));
-    assert_eq!(rt;
-        read_break(&[0x40, 2, 0]),
-        Err(BreakFault::Number { octet: 2 })
-    );
+    assert!(rt; read_break(&[]) == Err(BreakFault::Length { len: 0 }));
+    assert!(rt; read_break(&[0x41]) == Err(BreakFault::Kind { octet: 0x41 }));
+    assert!(rt; read_break(&[0x40, 2]) == Err(BreakFault::Length { len: 2 }));
+    assert!(rt; read_break(&[0x40, 2, 0]) == Err(BreakFault::Number { octet: 2 }));
     Ok(())
 }
 
 /// A break of this length is asked for in this turn, and is taken on or not.
 fn ask(rt: &impl Abort, sender: &mut BreakSender, turn: u32, length: u8, taken: bool) {
-    assert_eq!(rt; sender.ask(u64::from(turn), length), taken);
+    assert!(rt; sender.ask(u64::from(turn), length) == taken);
 }
 
 /// This break is due until it is sent.
 fn send(rt: &impl Abort, sender: &mut BreakSender, brk: BreakWord) {
-    assert_eq!(rt; sender.due(), Some(brk));
+    assert!(rt; sender.due() == Some(brk));
     sender.sent();
-    assert_eq!(rt; sender.due(), None);
+    assert!(rt; sender.due() == None);
 }
 
 /// What a turn answers, with one try and four turns to wait.
 fn tick(rt: &impl Abort, sender: &mut BreakSender, turn: u32, answer: Result<(), Spent0>) {
-    assert_eq!(rt; sender.tick(u64::from(turn), 4, 1), answer);
+    assert!(rt; sender.tick(u64::from(turn), 4, 1) == answer);
 }
 
 /// The break is answered in this turn.
@@ -72,7 +69,7 @@ fn a_break_is_sent_again_until_it_is_answered(rt: HostRuntime) -> Result<(), Fai
     };
     send(&rt, &mut sender, brk);
     tick(&rt, &mut sender, 9, Ok(()));
-    assert_eq!(rt; sender.due(), Some(brk));
+    assert!(rt; sender.due() == Some(brk));
     tick(&rt, &mut sender, 13, Err(Spent0));
     answer(&rt, &mut sender, 13);
     ask(&rt, &mut sender, 20, 1, false);
@@ -84,14 +81,14 @@ fn a_break_is_sent_again_until_it_is_answered(rt: HostRuntime) -> Result<(), Fai
 fn hear(rt: &impl Abort, receiver: &mut BreakReceiver, number: u8, length: u8, given: Option<u8>)
     requires { number < 2 }
 {
-    assert_eq!(rt; receiver.take(number, length), given);
+    assert!(rt; receiver.take(number, length) == given);
 }
 
 /// This answer is due until it is sent.
 fn send_answer(rt: &impl Abort, receiver: &mut BreakReceiver, ack: BreakWord) {
-    assert_eq!(rt; receiver.due(), Some(ack));
+    assert!(rt; receiver.due() == Some(ack));
     receiver.sent();
-    assert_eq!(rt; receiver.due(), None);
+    assert!(rt; receiver.due() == None);
 }
 
 #[test]

@@ -17,7 +17,7 @@ fn begun(rt: &impl Abort, alloc: Global, room: u8, piece: u16) -> Result<Sender,
     ensures { IfOk result (λ sender. 1 ≤ sender.window) }
 {
     let mut sender = Sender::new(alloc, room)?;
-    assert_eq!(rt; sender.wants(), None);
+    assert!(rt; sender.wants() == None);
     sender.begin(2, piece, 1, false);
     Ok(sender)
 }
@@ -26,7 +26,7 @@ fn begun(rt: &impl Abort, alloc: Global, room: u8, piece: u16) -> Result<Sender,
 fn offer(rt: &impl Abort, sender: &mut Sender, number: u8, piece: &[u8])
     ensures { sender.new.window ≡ sender.old.window }
 {
-    assert_eq!(rt; sender.wants(), Some(u64::from(number)));
+    assert!(rt; sender.wants() == Some(u64::from(number)));
     assert!(rt; piece.len() <= usize::from(sender.size()));
     sender.offer(piece);
 }
@@ -36,8 +36,8 @@ fn assert_next(rt: &impl Abort, sender: &mut Sender, ns: u8, octets: &[u8])
     ensures { sender.new.window ≡ sender.old.window }
 {
     let mut out = Info::new();
-    assert_eq!(rt; sender.next(&mut out), Some(ns));
-    assert_eq!(rt; out.as_slice(), octets);
+    assert!(rt; sender.next(&mut out) == Some(ns));
+    assert!(rt; out.as_slice() == octets);
 }
 
 #[test]
@@ -46,12 +46,12 @@ fn segments_go_in_order(rt: HostRuntime) -> Result<(), Fail> {
     offer(&rt, &mut sender, 0, b"abcd");
     assert!(rt; sender.ready());
     offer(&rt, &mut sender, 1, b"ef");
-    assert_eq!(rt; sender.wants(), None);
+    assert!(rt; sender.wants() == None);
     assert_next(&rt, &mut sender, 0, b"abcd");
     assert_next(&rt, &mut sender, 1, b"ef");
     assert!(rt; sender.outstanding());
-    assert_eq!(rt; sender.acked(2), Ok(true));
-    assert_eq!(rt; sender.front(), 2);
+    assert!(rt; sender.acked(2) == Ok(true));
+    assert!(rt; sender.front() == 2);
     assert!(rt; sender.whole());
     Ok(())
 }
@@ -63,17 +63,17 @@ fn segments_go_again(rt: HostRuntime) -> Result<(), Fail> {
     offer(&rt, &mut sender, 1, b"b");
     assert_next(&rt, &mut sender, 0, b"a");
     assert_next(&rt, &mut sender, 1, b"b");
-    assert_eq!(rt; sender.selected(0), Ok(()));
+    assert!(rt; sender.selected(0) == Ok(()));
     assert_next(&rt, &mut sender, 0, b"a");
     assert!(rt; !sender.ready());
-    assert_eq!(rt; sender.rejected(1), Ok(true));
+    assert!(rt; sender.rejected(1) == Ok(true));
     assert_next(&rt, &mut sender, 1, b"b");
     let bad = BadAck {
         nr: 3,
         va: 1,
         high: 2,
     };
-    assert_eq!(rt; sender.acked(3), Err(bad));
+    assert!(rt; sender.acked(3) == Err(bad));
     Ok(())
 }
 
@@ -82,7 +82,7 @@ fn expire(rt: &impl Abort, sender: &mut Sender, answer: Result<(), Spent>)
     requires { 1 ≤ sender.old.window }
     ensures { sender.new.window ≡ sender.old.window }
 {
-    assert_eq!(rt; sender.expire(), answer);
+    assert!(rt; sender.expire() == answer);
 }
 
 /// The peer answers that it awaits the segment that was sent.
@@ -90,7 +90,7 @@ fn reply(rt: &impl Abort, sender: &mut Sender)
     ensures { sender.new.window ≡ sender.old.window }
 {
     assert!(rt; sender.awaiting());
-    assert_eq!(rt; sender.replied(0), Ok(false));
+    assert!(rt; sender.replied(0) == Ok(false));
 }
 
 #[test]

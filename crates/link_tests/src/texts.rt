@@ -41,7 +41,7 @@ fn each_kind_has_its_text(rt: HostRuntime) -> Result<(), Fail> {
         let frame = frame_of(octets)?;
         let mut out = FrameText::new();
         write_frame_text(&frame, &mut out);
-        assert_eq!(rt; out.as_slice(), text);
+        assert!(rt; out.as_slice() == text);
     }
     Ok(())
 }
@@ -102,6 +102,6 @@ fn numbers_stand_behind_what_is_there(rt: HostRuntime) -> Result<(), Fail> {
     put_decimal(&mut octets, 0);
     octets.push(b' ');
     put_decimal(&mut octets, u64::MAX);
-    assert_eq!(rt; octets.as_slice(), b"a 0 18446744073709551615".as_slice());
+    assert!(rt; octets.as_slice() == b"a 0 18446744073709551615".as_slice());
     Ok(())
 }
