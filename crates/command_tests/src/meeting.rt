@@ -1,7 +1,7 @@
 // Ends that meet recorded bits of a peer, with what each run says and leaves.
-use command_base::{LinkFault, Status};
-use modem_cli::modem;
-use outside_core::MemoryFolder;
+use super::asking::{Ran, leaves_none, run_over, says};
+use command_base::LinkFault;
+use modem_cli::Status;
 use roles::Role;
 use std::alloc::Global;
 use std::process::Abort;
@@ -39,13 +39,6 @@ const ADP: [u8; 14] = [
     0x8a, 0xfe, 0x1b, 0xfa, 0xaf, 0xe8, 0xbf, 0xa1, 0xff, 0x8a, 0xfe, 0x1b, 0xfa, 0xff,
 ];
 
-/// What a run answered and left.
-#[derive(Drop)]
-struct Ran {
-    status: Status,
-    folder: MemoryFolder,
-}
-
 /// A run of an end against these octets, over a folder that fails at these calls.
 fn meet_failing(
     alloc: Global,
@@ -54,16 +47,8 @@ fn meet_failing(
     bits: &[u8],
     fails: &[u64],
 ) -> Result<Ran, Fail> {
-    let mut words = Vec::new(alloc);
-    for text in ["peer", role, "f", "b", "g", "t"] {
-        words.push(String::from_str(alloc, text)?)?;
-    }
-    let mut folder = MemoryFolder::new(alloc);
-    folder.put("f", file)?;
-    folder.put("b", bits)?;
-    folder.fail_at(fails)?;
-    let status = modem(alloc, &words, &mut folder);
-    Ok(Ran { status, folder })
+    let words = ["peer", role, "f", "b", "g", "t"];
+    run_over(alloc, &words, &[("f", file), ("b", bits)], fails)
 }
 
 /// A run of an end against these octets.
@@ -84,15 +69,14 @@ fn slots(alloc: Global, contents: &[&[u8]]) -> Result<Vec<u8>, Fail> {
 
 /// Looks at the answer and at what was said, given, and written.
 fn leaves(rt: &impl Abort, ran: &Ran, status: Status, said: &str, got: &[u8], trace: &str) {
-    assert!(rt; ran.status == status, "{said}");
-    assert!(rt; ran.folder.said() == said.as_bytes(), "{said}");
+    says(rt, ran, status, said);
     assert!(rt; ran.folder.get("g") == Some(got), "{said}");
     assert!(rt; ran.folder.get("t") == Some(trace.as_bytes()), "{said}");
 }
 
 /// How many lines the trace has, and whether it ends with this one.
 fn ends_with(rt: &impl Abort, ran: &Ran, lines: usize, last: &str) {
-    let trace = ran.folder.get("t").unwrap_or_default();
+    let trace = ran.left("t");
     assert!(rt;
         trace.iter().filter(|octet| **octet == b'\n').count() == lines,
         "{last}"
@@ -127,20 +111,14 @@ fn a_number_that_was_never_sent_is_the_peers_fault(rt: HostRuntime) -> Result<()
     };
     let said = "peer fault: bad ack nr 5 va 0 high 0 turn 1\n";
     let trace = "0 answ sabme cmd p=1 > ua rsp p=1\n1 answ i s=0 r=5 p=0 n=1 > none\n";
-    leaves(
-        &rt,
-        &ran,
-        Status::PeerFault { fault, turn: 1 },
-        said,
-        b"",
-        trace,
-    );
+    let status = Status::PeerFault { fault, turn: 1 };
+    leaves(&rt, &ran, status, said, b"", trace);
     assert!(&rt; ran.status.code() == 12);
     Ok(())
 }
 
 #[test]
-fn a_peer_that_begins_anew_or_refuses_is_at_fault(rt: HostRuntime) -> Result<(), Fail> {
+fn a_peer_that_begins_anew_is_at_fault(rt: HostRuntime) -> Result<(), Fail> {
     let alloc = rt.alloc();
     let bits = slots(alloc, &[&SABME, &POLL, &SABME])?;
     let ran = meet(alloc, "answ", b"", &bits)?;
@@ -148,27 +126,21 @@ fn a_peer_that_begins_anew_or_refuses_is_at_fault(rt: HostRuntime) -> Result<(),
     let said = "peer fault: reset va 0 vr 0 turn 2\n";
     let trace =
         "0 answ sabme cmd p=1 > ua rsp p=1\n1 answ rr cmd r=0 p=1 > rr rsp r=0 p=1\n2 answ sabme cmd p=1 > none\n";
-    leaves(
-        &rt,
-        &ran,
-        Status::PeerFault { fault, turn: 2 },
-        said,
-        b"",
-        trace,
-    );
+    let status = Status::PeerFault { fault, turn: 2 };
+    leaves(&rt, &ran, status, said, b"", trace);
+    Ok(())
+}
+
+#[test]
+fn a_peer_that_refuses_is_at_fault(rt: HostRuntime) -> Result<(), Fail> {
+    let alloc = rt.alloc();
     let bits = slots(alloc, &[&ADP, &DM])?;
     let ran = meet(alloc, "orig", b"", &bits)?;
     let fault = LinkFault::PeerRefused;
     let said = "peer fault: refused turn 1\n";
     let trace = "0 orig adp > xid cmd p=0 n=23\n1 orig dm rsp p=0 > none\n";
-    leaves(
-        &rt,
-        &ran,
-        Status::PeerFault { fault, turn: 1 },
-        said,
-        b"",
-        trace,
-    );
+    let status = Status::PeerFault { fault, turn: 1 };
+    leaves(&rt, &ran, status, said, b"", trace);
     Ok(())
 }
 
@@ -220,34 +192,40 @@ fn an_originator_that_needs_the_link_no_more_takes_it_down(rt: HostRuntime) -> R
     Ok(())
 }
 
+/// So many slots, of which the first one begins with these octets.
+fn slots_of(alloc: Global, count: usize, first: &[u8]) -> Result<Vec<u8>, Fail> {
+    let mut octets = slots(alloc, &[first])?;
+    for _ in 0..count.wrapping_sub(1).wrapping_mul(SLOT) {
+        octets.push(0xff)?;
+    }
+    Ok(octets)
+}
+
 #[test]
 fn an_originator_that_is_never_answered_gives_up(rt: HostRuntime) -> Result<(), Fail> {
-    let alloc = rt.alloc();
-    let none: &[u8] = b"";
-    let mut contents = [none; 121];
-    let bits = slots(alloc, &contents)?;
-    let ran = meet(alloc, "orig", b"a", &bits)?;
-    assert!(&rt; ran.status == Status::NotDetected { turn: 120 });
-    assert!(&rt; ran.folder.said() == b"not detected: turn 120\n".as_slice());
+    let bits = slots_of(rt.alloc(), 121, b"")?;
+    let ran = meet(rt.alloc(), "orig", b"a", &bits)?;
+    let undetected = Status::NotDetected { turn: 120 };
+    says(&rt, &ran, undetected, "not detected: turn 120\n");
     ends_with(&rt, &ran, 121, "119 orig - > odp\n120 orig - > none\n");
-    let shorter = meet(
-        alloc,
-        "orig",
-        b"a",
-        bits.get(..SLOT * 120).unwrap_or_default(),
-    )?;
-    assert!(&rt; shorter.status == Status::Done);
-    assert!(&rt; shorter.folder.said() == b"done 120\n".as_slice());
-    contents[0] = &ADP;
-    let bits = slots(alloc, &contents)?;
-    let ran = meet(alloc, "orig", b"a", &bits)?;
+    let bits = slots_of(rt.alloc(), 120, b"")?;
+    let shorter = meet(rt.alloc(), "orig", b"a", &bits)?;
+    says(&rt, &shorter, Status::Done, "done 120\n");
+    Ok(())
+}
+
+#[test]
+fn an_originator_that_is_answered_by_its_pattern_alone_gives_up(
+    rt: HostRuntime,
+) -> Result<(), Fail> {
+    let bits = slots_of(rt.alloc(), 121, &ADP)?;
+    let ran = meet(rt.alloc(), "orig", b"a", &bits)?;
     let lost = Status::LinkLost {
         role: Role::Originator,
         segment: 0,
         turn: 120,
     };
-    assert!(&rt; ran.status == lost);
-    assert!(&rt; ran.folder.said() == b"link lost: orig segment 0 turn 120\n".as_slice());
+    says(&rt, &ran, lost, "link lost: orig segment 0 turn 120\n");
     ends_with(&rt, &ran, 121, "119 orig - > flags\n120 orig - > none\n");
     Ok(())
 }
@@ -258,12 +236,10 @@ fn inputs_that_are_too_long_are_refused(rt: HostRuntime) -> Result<(), Fail> {
     let alloc = rt.alloc();
     let long = vec![in alloc; 0xffu8; 1_048_577]?;
     let ran = meet(alloc, "answ", &long, &long)?;
-    assert!(&rt; ran.status == Status::TooLong { word: 3 });
-    assert!(&rt; ran.folder.said() == b"too long: b\n".as_slice());
+    says(&rt, &ran, Status::TooLong { word: 3 }, "too long: b\n");
     let ran = meet(alloc, "answ", &long, &SABME)?;
-    assert!(&rt; ran.status == Status::TooLong { word: 2 });
-    assert!(&rt; ran.folder.said() == b"too long: f\n".as_slice());
-    assert!(&rt; ran.folder.get("g").is_none());
+    says(&rt, &ran, Status::TooLong { word: 2 }, "too long: f\n");
+    leaves_none(&rt, &ran, "g");
     Ok(())
 }
 
@@ -272,6 +248,6 @@ fn other_words_are_no_peers(rt: HostRuntime) -> Result<(), Fail> {
     let alloc = rt.alloc();
     let ran = meet(alloc, "call", b"", &SABME)?;
     assert!(&rt; ran.status == Status::Usage);
-    assert!(&rt; ran.folder.get("t").is_none());
+    leaves_none(&rt, &ran, "t");
     Ok(())
 }
