@@ -27,7 +27,8 @@ fn octets(alloc: Global, octet: u8, count: usize) -> Result<Vec<u8>, Fail> {
 
 /// Puts so many octets into the folder.
 fn put(alloc: Global, folder: &mut MemoryFolder, name: &str, count: usize) -> Result<(), Fail> {
-    folder.put(name, &octets(alloc, 7, count)?)?;
+    let octets = octets(alloc, 7, count)?;
+    folder.put(name, octets.as_slice())?;
     Ok(())
 }
 
@@ -52,12 +53,12 @@ fn files_of_the_limit_are_recorded_and_decoded_and_picked_up_and_measured(
     rt: HostRuntime,
 ) -> Result<(), Fail> {
     let alloc = rt.alloc();
-    let mut folder = folder_with(alloc, &[], &[])?;
-    put(alloc, &mut folder, "f", 1_048_576)?;
+    let file = octets(alloc, 7, 1_048_576)?;
+    let mut folder = folder_with(alloc, &[("f", file.as_slice())], &[])?;
     for (words, line) in DONE {
         answers(&rt, alloc, &mut folder, words, Status::Done, line)?;
     }
-    assert!(&rt; folder.get("g") == folder.get("f"));
+    assert!(&rt; folder.get("g") == Some(file.as_slice()));
     put(alloc, &mut folder, "g", 1_048_577)?;
     let words = ["margin", "r", "g"];
     let status = Status::TooLong { word: 2 };
@@ -79,7 +80,7 @@ fn lists(
     line: &str,
 ) -> Result<(), Fail> {
     let bits = octets(alloc, 0, count)?;
-    let mut folder = folder_with(alloc, &[("b", &bits)], &[])?;
+    let mut folder = folder_with(alloc, &[("b", bits.as_slice())], &[])?;
     answers(
         rt,
         alloc,

@@ -84,6 +84,130 @@ fn ends_with(rt: &impl Abort, ran: &Ran, lines: usize, last: &str) {
     assert!(rt; trace.ends_with(last.as_bytes()), "{last}");
 }
 
+/// A run of an end, and what it leaves.
+struct Meeting {
+    role: &'static str,
+    file: &'static [u8],
+    slots: &'static [&'static [u8]],
+    status: Status,
+    said: &'static str,
+    got: &'static [u8],
+    trace: &'static str,
+}
+
+/// Runs that go on to the end of the peer's bits.
+const DONE: &[Meeting] = &[
+    // Segments and breaks are given in order.
+    Meeting {
+        role: "answ",
+        file: b"",
+        slots: &[&SABME, &FIRST, &SECOND, &BREAK],
+        status: Status::Done,
+        said: "done 4\n",
+        got: b"ab",
+        trace: "0 answ sabme cmd p=1 > ua rsp p=1\n1 answ i s=0 r=0 p=0 n=1 > rr rsp r=1 p=0\n2 answ i s=1 r=0 p=0 n=1 > rr rsp r=2 p=0\n3 answ ui cmd p=0 brk 0 30 > ui cmd p=0 brkack 0 30 break=30\n",
+    },
+    // The user's file is sent once the peer is heard.
+    Meeting {
+        role: "answ",
+        file: b"xyz",
+        slots: &[&SABME, &POLL, b""],
+        status: Status::Done,
+        said: "done 3\n",
+        got: b"",
+        trace: "0 answ sabme cmd p=1 > ua rsp p=1\n1 answ rr cmd r=0 p=1 > rr rsp r=0 p=1\n2 answ - > i s=0 r=0 p=0 n=3\n",
+    },
+    // An originator that needs the link no more takes it down.
+    Meeting {
+        role: "orig",
+        file: b"",
+        slots: &[&ADP, &XID_RESPONSE, &UA, &UA, &UA],
+        status: Status::Done,
+        said: "done 4\n",
+        got: b"",
+        trace: "0 orig adp > xid cmd p=0 n=23\n1 orig xid rsp p=0 n=23 > sabme cmd p=1\n2 orig ua rsp p=1 > disc cmd p=1\n3 orig ua rsp p=1 > none\n",
+    },
+];
+
+/// Runs that end with a fault of the peer.
+const FAULTS: &[Meeting] = &[
+    // The peer acknowledges what was never sent.
+    Meeting {
+        role: "answ",
+        file: b"",
+        slots: &[&SABME, &BAD_ACK],
+        status: Status::PeerFault {
+            fault: LinkFault::BadAck {
+                nr: 5,
+                va: 0,
+                high: 0,
+            },
+            turn: 1,
+        },
+        said: "peer fault: bad ack nr 5 va 0 high 0 turn 1\n",
+        got: b"",
+        trace: "0 answ sabme cmd p=1 > ua rsp p=1\n1 answ i s=0 r=5 p=0 n=1 > none\n",
+    },
+    // It begins anew.
+    Meeting {
+        role: "answ",
+        file: b"",
+        slots: &[&SABME, &POLL, &SABME],
+        status: Status::PeerFault {
+            fault: LinkFault::PeerReset { va: 0, vr: 0 },
+            turn: 2,
+        },
+        said: "peer fault: reset va 0 vr 0 turn 2\n",
+        got: b"",
+        trace: "0 answ sabme cmd p=1 > ua rsp p=1\n1 answ rr cmd r=0 p=1 > rr rsp r=0 p=1\n2 answ sabme cmd p=1 > none\n",
+    },
+    // It refuses.
+    Meeting {
+        role: "orig",
+        file: b"",
+        slots: &[&ADP, &DM],
+        status: Status::PeerFault {
+            fault: LinkFault::PeerRefused,
+            turn: 1,
+        },
+        said: "peer fault: refused turn 1\n",
+        got: b"",
+        trace: "0 orig adp > xid cmd p=0 n=23\n1 orig dm rsp p=0 > none\n",
+    },
+];
+
+/// Runs the end, and looks at what it leaves.
+fn compare(rt: &impl Abort, alloc: Global, meeting: &Meeting) -> Result<Status, Fail> {
+    let bits = slots(alloc, meeting.slots)?;
+    let ran = meet(alloc, meeting.role, meeting.file, bits.as_slice())?;
+    leaves(
+        rt,
+        &ran,
+        meeting.status,
+        meeting.said,
+        meeting.got,
+        meeting.trace,
+    );
+    Ok(ran.status)
+}
+
+#[test]
+fn frames_of_the_peer_are_answered(rt: HostRuntime) -> Result<(), Fail> {
+    for meeting in DONE {
+        compare(&rt, rt.alloc(), meeting)?;
+    }
+    Ok(())
+}
+
+#[test]
+fn faults_of_the_peer_are_named(rt: HostRuntime) -> Result<(), Fail> {
+    for meeting in FAULTS {
+        let status = compare(&rt, rt.alloc(), meeting)?;
+        assert!(&rt; status.code() == 12);
+    }
+    Ok(())
+}
+
 #[test]
 fn a_frame_that_was_never_asked_for_is_answered(rt: HostRuntime) -> Result<(), Fail> {
     let ran = meet(rt.alloc(), "answ", b"", &SABME)?;
@@ -99,73 +223,6 @@ fn no_bits_are_no_turns(rt: HostRuntime) -> Result<(), Fail> {
     Ok(())
 }
 
-#[test]
-fn a_number_that_was_never_sent_is_the_peers_fault(rt: HostRuntime) -> Result<(), Fail> {
-    let alloc = rt.alloc();
-    let bits = slots(alloc, &[&SABME, &BAD_ACK])?;
-    let ran = meet(alloc, "answ", b"", &bits)?;
-    let fault = LinkFault::BadAck {
-        nr: 5,
-        va: 0,
-        high: 0,
-    };
-    let said = "peer fault: bad ack nr 5 va 0 high 0 turn 1\n";
-    let trace = "0 answ sabme cmd p=1 > ua rsp p=1\n1 answ i s=0 r=5 p=0 n=1 > none\n";
-    let status = Status::PeerFault { fault, turn: 1 };
-    leaves(&rt, &ran, status, said, b"", trace);
-    assert!(&rt; ran.status.code() == 12);
-    Ok(())
-}
-
-#[test]
-fn a_peer_that_begins_anew_is_at_fault(rt: HostRuntime) -> Result<(), Fail> {
-    let alloc = rt.alloc();
-    let bits = slots(alloc, &[&SABME, &POLL, &SABME])?;
-    let ran = meet(alloc, "answ", b"", &bits)?;
-    let fault = LinkFault::PeerReset { va: 0, vr: 0 };
-    let said = "peer fault: reset va 0 vr 0 turn 2\n";
-    let trace =
-        "0 answ sabme cmd p=1 > ua rsp p=1\n1 answ rr cmd r=0 p=1 > rr rsp r=0 p=1\n2 answ sabme cmd p=1 > none\n";
-    let status = Status::PeerFault { fault, turn: 2 };
-    leaves(&rt, &ran, status, said, b"", trace);
-    Ok(())
-}
-
-#[test]
-fn a_peer_that_refuses_is_at_fault(rt: HostRuntime) -> Result<(), Fail> {
-    let alloc = rt.alloc();
-    let bits = slots(alloc, &[&ADP, &DM])?;
-    let ran = meet(alloc, "orig", b"", &bits)?;
-    let fault = LinkFault::PeerRefused;
-    let said = "peer fault: refused turn 1\n";
-    let trace = "0 orig adp > xid cmd p=0 n=23\n1 orig dm rsp p=0 > none\n";
-    let status = Status::PeerFault { fault, turn: 1 };
-    leaves(&rt, &ran, status, said, b"", trace);
-    Ok(())
-}
-
-#[test]
-fn segments_and_breaks_are_given_in_order(rt: HostRuntime) -> Result<(), Fail> {
-    let alloc = rt.alloc();
-    let bits = slots(alloc, &[&SABME, &FIRST, &SECOND, &BREAK])?;
-    let ran = meet(alloc, "answ", b"", &bits)?;
-    let trace =
-        "0 answ sabme cmd p=1 > ua rsp p=1\n1 answ i s=0 r=0 p=0 n=1 > rr rsp r=1 p=0\n2 answ i s=1 r=0 p=0 n=1 > rr rsp r=2 p=0\n3 answ ui cmd p=0 brk 0 30 > ui cmd p=0 brkack 0 30 break=30\n";
-    leaves(&rt, &ran, Status::Done, "done 4\n", b"ab", trace);
-    Ok(())
-}
-
-#[test]
-fn the_users_file_is_sent_once_the_peer_is_heard(rt: HostRuntime) -> Result<(), Fail> {
-    let alloc = rt.alloc();
-    let bits = slots(alloc, &[&SABME, &POLL, b""])?;
-    let ran = meet(alloc, "answ", b"xyz", &bits)?;
-    let trace =
-        "0 answ sabme cmd p=1 > ua rsp p=1\n1 answ rr cmd r=0 p=1 > rr rsp r=0 p=1\n2 answ - > i s=0 r=0 p=0 n=3\n";
-    leaves(&rt, &ran, Status::Done, "done 3\n", b"", trace);
-    Ok(())
-}
-
 /// Two frames in one slot: the first one is heard. A frame that ends in the next slot is heard there.
 #[test]
 fn a_slot_is_heard_up_to_its_first_frame(rt: HostRuntime) -> Result<(), Fail> {
@@ -178,17 +235,6 @@ fn a_slot_is_heard_up_to_its_first_frame(rt: HostRuntime) -> Result<(), Fail> {
     let ran = meet(alloc, "answ", b"", &bits)?;
     let trace = "0 answ - > mark\n1 answ i s=0 r=0 p=0 n=1 > mark\n";
     leaves(&rt, &ran, Status::Done, "done 2\n", b"", trace);
-    Ok(())
-}
-
-#[test]
-fn an_originator_that_needs_the_link_no_more_takes_it_down(rt: HostRuntime) -> Result<(), Fail> {
-    let alloc = rt.alloc();
-    let bits = slots(alloc, &[&ADP, &XID_RESPONSE, &UA, &UA, &UA])?;
-    let ran = meet(alloc, "orig", b"", &bits)?;
-    let trace =
-        "0 orig adp > xid cmd p=0 n=23\n1 orig xid rsp p=0 n=23 > sabme cmd p=1\n2 orig ua rsp p=1 > disc cmd p=1\n3 orig ua rsp p=1 > none\n";
-    leaves(&rt, &ran, Status::Done, "done 4\n", b"", trace);
     Ok(())
 }
 
