@@ -1,72 +1,61 @@
 // Fields in digits, and what is said of them.
+use super::asking::folder_with;
 use command_base::Status;
-use outside_core::MemoryFolder;
 use std::alloc::Global;
+use std::process::Abort;
 use std::test::Fail;
 use xid_command::xid;
 use xid_params::XidFault;
 
 /// What the command says of the digits, and its answer.
-fn said(alloc: Global, digits: &str, line: &[u8], answer: Status) -> bool {
-    let mut folder = MemoryFolder::new(alloc);
-    xid(&mut folder, &[], digits) == answer && folder.said() == line
+fn says(
+    rt: &impl Abort,
+    alloc: Global,
+    digits: &str,
+    said: &str,
+    answer: Status,
+) -> Result<(), Fail> {
+    let mut folder = folder_with(alloc, &[], &[])?;
+    assert!(rt; xid(&mut folder, &[], digits) == answer, "{digits}");
+    assert!(rt; folder.said() == said.as_bytes(), "{digits}");
+    Ok(())
 }
 
-const DEFAULT: &[u8] = b"window tx=15 rx=15 length tx=128 rx=128 srej=0 check32=0\n";
+const DEFAULT: &str = "window tx=15 rx=15 length tx=128 rx=128 srej=0 check32=0\n";
+
+/// Digits, what is said of them, and the answer.
+const FIELDS: [(&str, &str, Status); 9] = [
+    (
+        "8280001303038A8900050204000602040007010F08010FF0000F000356343201010302020800030120",
+        DEFAULT,
+        Status::Done,
+    ),
+    ("82", DEFAULT, Status::Done),
+    (
+        "8280000405024000",
+        "window tx=15 rx=15 length tx=1024 rx=128 srej=0 check32=0\n",
+        Status::Done,
+    ),
+    (
+        "8280000607010F07010F",
+        "bad xid: repeated at 7\n",
+        Status::BadXid(XidFault::Repeated { at: 7 }),
+    ),
+    (
+        "8280000407010F",
+        "bad xid: length at 2\n",
+        Status::BadXid(XidFault::Length { at: 2 }),
+    ),
+    ("81", "bad xid: format\n", Status::BadXid(XidFault::Format)),
+    ("", "bad xid: format\n", Status::BadXid(XidFault::Format)),
+    ("8", "bad hex: at 1\n", Status::BadHex { at: 1 }),
+    ("8g", "bad hex: at 1\n", Status::BadHex { at: 1 }),
+];
 
 #[test]
 fn fields_are_explained(rt: HostRuntime) -> Result<(), Fail> {
-    let alloc = rt.alloc();
-    assert!(&rt;
-        said(
-            alloc,
-            "8280001303038A8900050204000602040007010F08010FF0000F000356343201010302020800030120",
-            DEFAULT,
-            Status::Done
-        )
-    );
-    assert!(&rt; said(alloc, "82", DEFAULT, Status::Done));
-    assert!(&rt;
-        said(
-            alloc,
-            "8280000405024000",
-            b"window tx=15 rx=15 length tx=1024 rx=128 srej=0 check32=0\n",
-            Status::Done
-        )
-    );
-    assert!(&rt;
-        said(
-            alloc,
-            "8280000607010F07010F",
-            b"bad xid: repeated at 7\n",
-            Status::BadXid(XidFault::Repeated { at: 7 })
-        )
-    );
-    assert!(&rt;
-        said(
-            alloc,
-            "8280000407010F",
-            b"bad xid: length at 2\n",
-            Status::BadXid(XidFault::Length { at: 2 })
-        )
-    );
-    assert!(&rt;
-        said(
-            alloc,
-            "81",
-            b"bad xid: format\n",
-            Status::BadXid(XidFault::Format)
-        )
-    );
-    assert!(&rt;
-        said(
-            alloc,
-            "",
-            b"bad xid: format\n",
-            Status::BadXid(XidFault::Format)
-        )
-    );
-    assert!(&rt; said(alloc, "8", b"bad hex: at 1\n", Status::BadHex { at: 1 }));
-    assert!(&rt; said(alloc, "8g", b"bad hex: at 1\n", Status::BadHex { at: 1 }));
+    for (digits, said, answer) in FIELDS {
+        says(&rt, rt.alloc(), digits, said, answer)?;
+    }
     Ok(())
 }

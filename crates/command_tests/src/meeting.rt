@@ -1,7 +1,7 @@
 // Ends that meet recorded bits of a peer, with what each run says and leaves.
-use command_base::{LinkFault, Status};
-use modem_cli::modem;
-use outside_core::MemoryFolder;
+use super::asking::{Ran, leaves_none, run_over, says};
+use command_base::LinkFault;
+use modem_cli::Status;
 use roles::Role;
 use std::alloc::Global;
 use std::process::Abort;
@@ -39,13 +39,6 @@ const ADP: [u8; 14] = [
     0x8a, 0xfe, 0x1b, 0xfa, 0xaf, 0xe8, 0xbf, 0xa1, 0xff, 0x8a, 0xfe, 0x1b, 0xfa, 0xff,
 ];
 
-/// What a run answered and left.
-#[derive(Drop)]
-struct Ran {
-    status: Status,
-    folder: MemoryFolder,
-}
-
 /// A run of an end against these octets, over a folder that fails at these calls.
 fn meet_failing(
     alloc: Global,
@@ -54,16 +47,8 @@ fn meet_failing(
     bits: &[u8],
     fails: &[u64],
 ) -> Result<Ran, Fail> {
-    let mut words = Vec::new(alloc);
-    for text in ["peer", role, "f", "b", "g", "t"] {
-        words.push(String::from_str(alloc, text)?)?;
-    }
-    let mut folder = MemoryFolder::new(alloc);
-    folder.put("f", file)?;
-    folder.put("b", bits)?;
-    folder.fail_at(fails)?;
-    let status = modem(alloc, &words, &mut folder);
-    Ok(Ran { status, folder })
+    let words = ["peer", role, "f", "b", "g", "t"];
+    run_over(alloc, &words, &[("f", file), ("b", bits)], fails)
 }
 
 /// A run of an end against these octets.
@@ -84,20 +69,143 @@ fn slots(alloc: Global, contents: &[&[u8]]) -> Result<Vec<u8>, Fail> {
 
 /// Looks at the answer and at what was said, given, and written.
 fn leaves(rt: &impl Abort, ran: &Ran, status: Status, said: &str, got: &[u8], trace: &str) {
-    assert!(rt; ran.status == status, "{said}");
-    assert!(rt; ran.folder.said() == said.as_bytes(), "{said}");
+    says(rt, ran, status, said);
     assert!(rt; ran.folder.get("g") == Some(got), "{said}");
     assert!(rt; ran.folder.get("t") == Some(trace.as_bytes()), "{said}");
 }
 
 /// How many lines the trace has, and whether it ends with this one.
 fn ends_with(rt: &impl Abort, ran: &Ran, lines: usize, last: &str) {
-    let trace = ran.folder.get("t").unwrap_or_default();
+    let trace = ran.left("t");
     assert!(rt;
         trace.iter().filter(|octet| **octet == b'\n').count() == lines,
         "{last}"
     );
     assert!(rt; trace.ends_with(last.as_bytes()), "{last}");
+}
+
+/// A run of an end, and what it leaves.
+struct Meeting {
+    role: &'static str,
+    file: &'static [u8],
+    slots: &'static [&'static [u8]],
+    status: Status,
+    said: &'static str,
+    got: &'static [u8],
+    trace: &'static str,
+}
+
+/// Runs that go on to the end of the peer's bits.
+const DONE: &[Meeting] = &[
+    // Segments and breaks are given in order.
+    Meeting {
+        role: "answ",
+        file: b"",
+        slots: &[&SABME, &FIRST, &SECOND, &BREAK],
+        status: Status::Done,
+        said: "done 4\n",
+        got: b"ab",
+        trace: "0 answ sabme cmd p=1 > ua rsp p=1\n1 answ i s=0 r=0 p=0 n=1 > rr rsp r=1 p=0\n2 answ i s=1 r=0 p=0 n=1 > rr rsp r=2 p=0\n3 answ ui cmd p=0 brk 0 30 > ui cmd p=0 brkack 0 30 break=30\n",
+    },
+    // The user's file is sent once the peer is heard.
+    Meeting {
+        role: "answ",
+        file: b"xyz",
+        slots: &[&SABME, &POLL, b""],
+        status: Status::Done,
+        said: "done 3\n",
+        got: b"",
+        trace: "0 answ sabme cmd p=1 > ua rsp p=1\n1 answ rr cmd r=0 p=1 > rr rsp r=0 p=1\n2 answ - > i s=0 r=0 p=0 n=3\n",
+    },
+    // An originator that needs the link no more takes it down.
+    Meeting {
+        role: "orig",
+        file: b"",
+        slots: &[&ADP, &XID_RESPONSE, &UA, &UA, &UA],
+        status: Status::Done,
+        said: "done 4\n",
+        got: b"",
+        trace: "0 orig adp > xid cmd p=0 n=23\n1 orig xid rsp p=0 n=23 > sabme cmd p=1\n2 orig ua rsp p=1 > disc cmd p=1\n3 orig ua rsp p=1 > none\n",
+    },
+];
+
+/// Runs that end with a fault of the peer.
+const FAULTS: &[Meeting] = &[
+    // The peer acknowledges what was never sent.
+    Meeting {
+        role: "answ",
+        file: b"",
+        slots: &[&SABME, &BAD_ACK],
+        status: Status::PeerFault {
+            fault: LinkFault::BadAck {
+                nr: 5,
+                va: 0,
+                high: 0,
+            },
+            turn: 1,
+        },
+        said: "peer fault: bad ack nr 5 va 0 high 0 turn 1\n",
+        got: b"",
+        trace: "0 answ sabme cmd p=1 > ua rsp p=1\n1 answ i s=0 r=5 p=0 n=1 > none\n",
+    },
+    // It begins anew.
+    Meeting {
+        role: "answ",
+        file: b"",
+        slots: &[&SABME, &POLL, &SABME],
+        status: Status::PeerFault {
+            fault: LinkFault::PeerReset { va: 0, vr: 0 },
+            turn: 2,
+        },
+        said: "peer fault: reset va 0 vr 0 turn 2\n",
+        got: b"",
+        trace: "0 answ sabme cmd p=1 > ua rsp p=1\n1 answ rr cmd r=0 p=1 > rr rsp r=0 p=1\n2 answ sabme cmd p=1 > none\n",
+    },
+    // It refuses.
+    Meeting {
+        role: "orig",
+        file: b"",
+        slots: &[&ADP, &DM],
+        status: Status::PeerFault {
+            fault: LinkFault::PeerRefused,
+            turn: 1,
+        },
+        said: "peer fault: refused turn 1\n",
+        got: b"",
+        trace: "0 orig adp > xid cmd p=0 n=23\n1 orig dm rsp p=0 > none\n",
+    },
+];
+
+/// Runs the end, and looks at what it leaves.
+fn compare(rt: &impl Abort, alloc: Global, meeting: &Meeting) -> Result<Status, Fail> {
+    let bits = slots(alloc, meeting.slots)?;
+    let ran = meet(alloc, meeting.role, meeting.file, bits.as_slice())?;
+    leaves(
+        rt,
+        &ran,
+        meeting.status,
+        meeting.said,
+        meeting.got,
+        meeting.trace,
+    );
+    Ok(ran.status)
+}
+
+#[test]
+fn frames_of_the_peer_are_answered(rt: HostRuntime) -> Result<(), Fail> {
+    for meeting in DONE {
+        compare(&rt, rt.alloc(), meeting)?;
+    }
+    Ok(())
+}
+
+#[test]
+fn faults_of_the_peer_are_named(rt: HostRuntime) -> Result<(), Fail> {
+    for meeting in FAULTS {
+        let status = compare(&rt, rt.alloc(), meeting)?;
+        assert!(&rt; status.code() == 12);
+    }
+    Ok(())
 }
 
 #[test]
@@ -112,85 +220,6 @@ fn a_frame_that_was_never_asked_for_is_answered(rt: HostRuntime) -> Result<(), F
 fn no_bits_are_no_turns(rt: HostRuntime) -> Result<(), Fail> {
     let ran = meet(rt.alloc(), "answ", b"", b"")?;
     leaves(&rt, &ran, Status::Done, "done 0\n", b"", "");
-    Ok(())
-}
-
-#[test]
-fn a_number_that_was_never_sent_is_the_peers_fault(rt: HostRuntime) -> Result<(), Fail> {
-    let alloc = rt.alloc();
-    let bits = slots(alloc, &[&SABME, &BAD_ACK])?;
-    let ran = meet(alloc, "answ", b"", &bits)?;
-    let fault = LinkFault::BadAck {
-        nr: 5,
-        va: 0,
-        high: 0,
-    };
-    let said = "peer fault: bad ack nr 5 va 0 high 0 turn 1\n";
-    let trace = "0 answ sabme cmd p=1 > ua rsp p=1\n1 answ i s=0 r=5 p=0 n=1 > none\n";
-    leaves(
-        &rt,
-        &ran,
-        Status::PeerFault { fault, turn: 1 },
-        said,
-        b"",
-        trace,
-    );
-    assert!(&rt; ran.status.code() == 12);
-    Ok(())
-}
-
-#[test]
-fn a_peer_that_begins_anew_or_refuses_is_at_fault(rt: HostRuntime) -> Result<(), Fail> {
-    let alloc = rt.alloc();
-    let bits = slots(alloc, &[&SABME, &POLL, &SABME])?;
-    let ran = meet(alloc, "answ", b"", &bits)?;
-    let fault = LinkFault::PeerReset { va: 0, vr: 0 };
-    let said = "peer fault: reset va 0 vr 0 turn 2\n";
-    let trace =
-        "0 answ sabme cmd p=1 > ua rsp p=1\n1 answ rr cmd r=0 p=1 > rr rsp r=0 p=1\n2 answ sabme cmd p=1 > none\n";
-    leaves(
-        &rt,
-        &ran,
-        Status::PeerFault { fault, turn: 2 },
-        said,
-        b"",
-        trace,
-    );
-    let bits = slots(alloc, &[&ADP, &DM])?;
-    let ran = meet(alloc, "orig", b"", &bits)?;
-    let fault = LinkFault::PeerRefused;
-    let said = "peer fault: refused turn 1\n";
-    let trace = "0 orig adp > xid cmd p=0 n=23\n1 orig dm rsp p=0 > none\n";
-    leaves(
-        &rt,
-        &ran,
-        Status::PeerFault { fault, turn: 1 },
-        said,
-        b"",
-        trace,
-    );
-    Ok(())
-}
-
-#[test]
-fn segments_and_breaks_are_given_in_order(rt: HostRuntime) -> Result<(), Fail> {
-    let alloc = rt.alloc();
-    let bits = slots(alloc, &[&SABME, &FIRST, &SECOND, &BREAK])?;
-    let ran = meet(alloc, "answ", b"", &bits)?;
-    let trace =
-        "0 answ sabme cmd p=1 > ua rsp p=1\n1 answ i s=0 r=0 p=0 n=1 > rr rsp r=1 p=0\n2 answ i s=1 r=0 p=0 n=1 > rr rsp r=2 p=0\n3 answ ui cmd p=0 brk 0 30 > ui cmd p=0 brkack 0 30 break=30\n";
-    leaves(&rt, &ran, Status::Done, "done 4\n", b"ab", trace);
-    Ok(())
-}
-
-#[test]
-fn the_users_file_is_sent_once_the_peer_is_heard(rt: HostRuntime) -> Result<(), Fail> {
-    let alloc = rt.alloc();
-    let bits = slots(alloc, &[&SABME, &POLL, b""])?;
-    let ran = meet(alloc, "answ", b"xyz", &bits)?;
-    let trace =
-        "0 answ sabme cmd p=1 > ua rsp p=1\n1 answ rr cmd r=0 p=1 > rr rsp r=0 p=1\n2 answ - > i s=0 r=0 p=0 n=3\n";
-    leaves(&rt, &ran, Status::Done, "done 3\n", b"", trace);
     Ok(())
 }
 
@@ -209,45 +238,40 @@ fn a_slot_is_heard_up_to_its_first_frame(rt: HostRuntime) -> Result<(), Fail> {
     Ok(())
 }
 
-#[test]
-fn an_originator_that_needs_the_link_no_more_takes_it_down(rt: HostRuntime) -> Result<(), Fail> {
-    let alloc = rt.alloc();
-    let bits = slots(alloc, &[&ADP, &XID_RESPONSE, &UA, &UA, &UA])?;
-    let ran = meet(alloc, "orig", b"", &bits)?;
-    let trace =
-        "0 orig adp > xid cmd p=0 n=23\n1 orig xid rsp p=0 n=23 > sabme cmd p=1\n2 orig ua rsp p=1 > disc cmd p=1\n3 orig ua rsp p=1 > none\n";
-    leaves(&rt, &ran, Status::Done, "done 4\n", b"", trace);
-    Ok(())
+/// So many slots, of which the first one begins with these octets.
+fn slots_of(alloc: Global, count: usize, first: &[u8]) -> Result<Vec<u8>, Fail> {
+    let mut octets = slots(alloc, &[first])?;
+    for _ in 0..count.wrapping_sub(1).wrapping_mul(SLOT) {
+        octets.push(0xff)?;
+    }
+    Ok(octets)
 }
 
 #[test]
 fn an_originator_that_is_never_answered_gives_up(rt: HostRuntime) -> Result<(), Fail> {
-    let alloc = rt.alloc();
-    let none: &[u8] = b"";
-    let mut contents = [none; 121];
-    let bits = slots(alloc, &contents)?;
-    let ran = meet(alloc, "orig", b"a", &bits)?;
-    assert!(&rt; ran.status == Status::NotDetected { turn: 120 });
-    assert!(&rt; ran.folder.said() == b"not detected: turn 120\n".as_slice());
+    let bits = slots_of(rt.alloc(), 121, b"")?;
+    let ran = meet(rt.alloc(), "orig", b"a", &bits)?;
+    let undetected = Status::NotDetected { turn: 120 };
+    says(&rt, &ran, undetected, "not detected: turn 120\n");
     ends_with(&rt, &ran, 121, "119 orig - > odp\n120 orig - > none\n");
-    let shorter = meet(
-        alloc,
-        "orig",
-        b"a",
-        bits.get(..SLOT * 120).unwrap_or_default(),
-    )?;
-    assert!(&rt; shorter.status == Status::Done);
-    assert!(&rt; shorter.folder.said() == b"done 120\n".as_slice());
-    contents[0] = &ADP;
-    let bits = slots(alloc, &contents)?;
-    let ran = meet(alloc, "orig", b"a", &bits)?;
+    let bits = slots_of(rt.alloc(), 120, b"")?;
+    let shorter = meet(rt.alloc(), "orig", b"a", &bits)?;
+    says(&rt, &shorter, Status::Done, "done 120\n");
+    Ok(())
+}
+
+#[test]
+fn an_originator_that_is_answered_by_its_pattern_alone_gives_up(
+    rt: HostRuntime,
+) -> Result<(), Fail> {
+    let bits = slots_of(rt.alloc(), 121, &ADP)?;
+    let ran = meet(rt.alloc(), "orig", b"a", &bits)?;
     let lost = Status::LinkLost {
         role: Role::Originator,
         segment: 0,
         turn: 120,
     };
-    assert!(&rt; ran.status == lost);
-    assert!(&rt; ran.folder.said() == b"link lost: orig segment 0 turn 120\n".as_slice());
+    says(&rt, &ran, lost, "link lost: orig segment 0 turn 120\n");
     ends_with(&rt, &ran, 121, "119 orig - > flags\n120 orig - > none\n");
     Ok(())
 }
@@ -258,12 +282,10 @@ fn inputs_that_are_too_long_are_refused(rt: HostRuntime) -> Result<(), Fail> {
     let alloc = rt.alloc();
     let long = vec![in alloc; 0xffu8; 1_048_577]?;
     let ran = meet(alloc, "answ", &long, &long)?;
-    assert!(&rt; ran.status == Status::TooLong { word: 3 });
-    assert!(&rt; ran.folder.said() == b"too long: b\n".as_slice());
+    says(&rt, &ran, Status::TooLong { word: 3 }, "too long: b\n");
     let ran = meet(alloc, "answ", &long, &SABME)?;
-    assert!(&rt; ran.status == Status::TooLong { word: 2 });
-    assert!(&rt; ran.folder.said() == b"too long: f\n".as_slice());
-    assert!(&rt; ran.folder.get("g").is_none());
+    says(&rt, &ran, Status::TooLong { word: 2 }, "too long: f\n");
+    leaves_none(&rt, &ran, "g");
     Ok(())
 }
 
@@ -272,6 +294,6 @@ fn other_words_are_no_peers(rt: HostRuntime) -> Result<(), Fail> {
     let alloc = rt.alloc();
     let ran = meet(alloc, "call", b"", &SABME)?;
     assert!(&rt; ran.status == Status::Usage);
-    assert!(&rt; ran.folder.get("t").is_none());
+    leaves_none(&rt, &ran, "t");
     Ok(())
 }

@@ -1,6 +1,6 @@
 // Runs over a folder in memory, with what each says and leaves.
-use modem_cli::{Status, modem};
-use outside_core::MemoryFolder;
+use super::asking::{Ran, leaves, leaves_none, run_over, says};
+use modem_cli::Status;
 use roles::Role;
 use std::alloc::Global;
 use std::process::Abort;
@@ -12,12 +12,8 @@ mod hits;
 mod losses;
 mod traces;
 
-/// What a run answered and left.
-#[derive(Drop)]
-struct Ran {
-    status: Status,
-    folder: MemoryFolder,
-}
+/// The words of a run.
+const WORDS: &[&str] = &["run", "o", "a", "s", "go", "ga", "t"];
 
 /// A run of two files and a script, over a folder that fails at these calls.
 fn run_failing(
@@ -27,17 +23,8 @@ fn run_failing(
     script: &[u8],
     fails: &[u64],
 ) -> Result<Ran, Fail> {
-    let mut words = Vec::new(alloc);
-    for text in ["run", "o", "a", "s", "go", "ga", "t"] {
-        words.push(String::from_str(alloc, text)?)?;
-    }
-    let mut folder = MemoryFolder::new(alloc);
-    folder.put("o", orig)?;
-    folder.put("a", answ)?;
-    folder.put("s", script)?;
-    folder.fail_at(fails)?;
-    let status = modem(alloc, &words, &mut folder);
-    Ok(Ran { status, folder })
+    let files = [("o", orig), ("a", answ), ("s", script)];
+    run_over(alloc, WORDS, &files, fails)
 }
 
 /// A run of two files and a script.
@@ -54,16 +41,10 @@ fn octets(alloc: Global, count: usize) -> Result<Vec<u8>, Fail> {
     Ok(octets)
 }
 
-/// Looks at the answer and at what was said.
-fn says(rt: &impl Abort, ran: &Ran, status: Status, said: &str) {
-    assert!(rt; ran.status == status, "{said}");
-    assert!(rt; ran.folder.said() == said.as_bytes(), "{said}");
-}
-
 /// Looks at what both ends received.
 fn receives(rt: &impl Abort, ran: &Ran, got_o: &[u8], got_a: &[u8]) {
-    assert!(rt; ran.folder.get("go") == Some(got_o));
-    assert!(rt; ran.folder.get("ga") == Some(got_a));
+    leaves(rt, ran, "go", got_o);
+    leaves(rt, ran, "ga", got_a);
 }
 
 /// Runs, and looks whether both files crossed, with this said.
@@ -81,24 +62,29 @@ fn crosses(
     Ok(ran)
 }
 
+/// Whether an end received so many octets, the first ones of the other end's file.
+fn has_front(ran: &Ran, name: &str, file: &[u8], count: usize) -> bool {
+    ran.folder.get(name) == file.get(..count)
+}
+
 /// How many lines the trace has.
 fn count_lines(ran: &Ran) -> usize {
-    let trace = ran.folder.get("t").unwrap_or_default();
-    trace.iter().filter(|octet| **octet == b'\n').count()
+    ran.left("t")
+        .iter()
+        .filter(|octet| **octet == b'\n')
+        .count()
 }
 
 /// Whether a line stands in the trace.
 fn has_line(ran: &Ran, line: &str) -> bool {
-    let trace = ran.folder.get("t").unwrap_or_default();
-    trace
+    ran.left("t")
         .split(|octet| *octet == b'\n')
         .any(|found| found == line.as_bytes())
 }
 
 /// Whether an end sent this in a turn, whatever it heard: how the line begins and ends.
 fn has_sent(ran: &Ran, begins: &str, sent: &str) -> bool {
-    let trace = ran.folder.get("t").unwrap_or_default();
-    trace.split(|octet| *octet == b'\n').any(|line| line.starts_with(begins.as_bytes())
+    ran.left("t").split(|octet| *octet == b'\n').any(|line| line.starts_with(begins.as_bytes())
         && line.ends_with(sent.as_bytes()))
 }
 

@@ -1,4 +1,5 @@
 // The lines that answers say, and single steps over a folder in memory.
+use super::asking::{Ran, folder_with, words_of};
 use command_base::{
     LinkFault, Status, Stop, append_output, create_output, create_outputs, read_file, read_piece,
     say_line, tell_stop, within_limit, write_done, write_octets, write_pieces, write_samples,
@@ -15,6 +16,14 @@ use std::process::Abort;
 use std::test::Fail;
 use xid_params::XidFault;
 
+/// What is said in answer to a stop, over a folder that fails at these calls.
+fn told(alloc: Global, stop: Stop, fails: &[u64]) -> Result<Ran, Fail> {
+    let words = words_of(alloc, &["run", "o"])?;
+    let mut folder = folder_with(alloc, &[], fails)?;
+    let status = tell_stop(&mut folder, &words, stop);
+    Ok(Ran { status, folder })
+}
+
 fn says(
     rt: &impl Abort,
     alloc: Global,
@@ -23,132 +32,128 @@ fn says(
     code: u8,
     said: &str,
 ) -> Result<(), Fail> {
-    let words = vec![in alloc;
-        String::from_str(alloc, "run")?,
-        String::from_str(alloc, "o")?,
-    ]?;
-    let mut folder = MemoryFolder::new(alloc);
-    assert!(rt; tell_stop(&mut folder, &words, stop) == status);
-    assert!(rt; status.code() == code);
-    assert!(rt; folder.said() == said.as_bytes());
+    let ran = told(alloc, stop, &[])?;
+    super::asking::says(rt, &ran, status, said);
+    assert!(rt; status.code() == code, "{said}");
     Ok(())
 }
 
-/// The answer to a peer's fault in turn 7.
-fn peer_fault(fault: LinkFault) -> Status {
-    Status::PeerFault { fault, turn: 7 }
-}
+/// Answers, the program's statuses, and their lines.
+const LINES: [(Status, u8, &str); 10] = [
+    (
+        Status::BadScript {
+            line: 3,
+            cause: Cause::Range,
+        },
+        3,
+        "bad script: line 3: range\n",
+    ),
+    (Status::BadRecording { at: 12 }, 3, "bad recording: at 12\n"),
+    (Status::BadHex { at: 1 }, 3, "bad hex: at 1\n"),
+    (Status::BadXid(XidFault::Format), 3, "bad xid: format\n"),
+    (
+        Status::BadXid(XidFault::Repeated { at: 7 }),
+        3,
+        "bad xid: repeated at 7\n",
+    ),
+    (Status::TooLong { word: 1 }, 4, "too long: o\n"),
+    (
+        Status::LineLost {
+            role: Role::Answerer,
+            symbol: 128,
+        },
+        7,
+        "line lost: answ symbol 128\n",
+    ),
+    (
+        Status::LinkLost {
+            role: Role::Originator,
+            segment: 0,
+            turn: 120,
+        },
+        9,
+        "link lost: orig segment 0 turn 120\n",
+    ),
+    (
+        Status::NotDetected { turn: 120 },
+        8,
+        "not detected: turn 120\n",
+    ),
+    (
+        Status::ChanceMatch {
+            role: Role::Originator,
+            turn: 1,
+        },
+        10,
+        "chance match: orig turn 1\n",
+    ),
+];
+
+/// Faults of the peer in turn 7, and their lines.
+const PEER_FAULTS: [(LinkFault, &str); 3] = [
+    (
+        LinkFault::BadAck {
+            nr: 5,
+            va: 0,
+            high: 127,
+        },
+        "peer fault: bad ack nr 5 va 0 high 127 turn 7\n",
+    ),
+    (
+        LinkFault::PeerReset { va: 1, vr: 200 },
+        "peer fault: reset va 1 vr 200 turn 7\n",
+    ),
+    (LinkFault::PeerRefused, "peer fault: refused turn 7\n"),
+];
 
 #[test]
 fn each_status_says_its_line(rt: HostRuntime) -> Result<(), Fail> {
-    let lines = [
-        (
-            Status::BadScript {
-                line: 3,
-                cause: Cause::Range,
-            },
-            3,
-            "bad script: line 3: range\n",
-        ),
-        (Status::BadRecording { at: 12 }, 3, "bad recording: at 12\n"),
-        (Status::BadHex { at: 1 }, 3, "bad hex: at 1\n"),
-        (Status::BadXid(XidFault::Format), 3, "bad xid: format\n"),
-        (
-            Status::BadXid(XidFault::Repeated { at: 7 }),
-            3,
-            "bad xid: repeated at 7\n",
-        ),
-        (Status::TooLong { word: 1 }, 4, "too long: o\n"),
-        (
-            Status::LineLost {
-                role: Role::Answerer,
-                symbol: 128,
-            },
-            7,
-            "line lost: answ symbol 128\n",
-        ),
-        (
-            Status::LinkLost {
-                role: Role::Originator,
-                segment: 0,
-                turn: 120,
-            },
-            9,
-            "link lost: orig segment 0 turn 120\n",
-        ),
-        (
-            Status::NotDetected { turn: 120 },
-            8,
-            "not detected: turn 120\n",
-        ),
-        (
-            Status::ChanceMatch {
-                role: Role::Originator,
-                turn: 1,
-            },
-            10,
-            "chance match: orig turn 1\n",
-        ),
-        (
-            peer_fault(LinkFault::BadAck {
-                nr: 5,
-                va: 0,
-                high: 127,
-            }),
-            12,
-            "peer fault: bad ack nr 5 va 0 high 127 turn 7\n",
-        ),
-        (
-            peer_fault(LinkFault::PeerReset { va: 1, vr: 200 }),
-            12,
-            "peer fault: reset va 1 vr 200 turn 7\n",
-        ),
-        (
-            peer_fault(LinkFault::PeerRefused),
-            12,
-            "peer fault: refused turn 7\n",
-        ),
-    ];
-    for (status, code, said) in lines {
+    for (status, code, said) in LINES {
         says(&rt, rt.alloc(), Stop::Own(status), status, code, said)?;
+    }
+    for (fault, said) in PEER_FAULTS {
+        let status = Status::PeerFault { fault, turn: 7 };
+        says(&rt, rt.alloc(), Stop::Own(status), status, 12, said)?;
     }
     assert!(&rt; Status::Done.code() == 0);
     assert!(&rt; Status::Usage.code() == 2);
     Ok(())
 }
 
+/// Stops by faults of the folder, the answers, the program's statuses, and their lines.
+const STOPS: [(Stop, Status, u8, &str); 7] = [
+    (
+        Stop::Read(FolderFault::Failed),
+        Status::ReadFault,
+        5,
+        "read fault\n",
+    ),
+    (
+        Stop::Write(FolderFault::Failed),
+        Status::WriteFault,
+        6,
+        "write fault\n",
+    ),
+    (Stop::Say(FolderFault::Failed), Status::WriteFault, 6, ""),
+    (
+        Stop::Read(FolderFault::NoMemory),
+        Status::NoMemory,
+        11,
+        "no memory\n",
+    ),
+    (
+        Stop::Write(FolderFault::NoMemory),
+        Status::NoMemory,
+        11,
+        "no memory\n",
+    ),
+    (Stop::Say(FolderFault::NoMemory), Status::NoMemory, 11, ""),
+    (Stop::NoMemory, Status::NoMemory, 11, "no memory\n"),
+];
+
 #[test]
 fn each_fault_of_the_folder_says_its_line(rt: HostRuntime) -> Result<(), Fail> {
-    let stops = [
-        (
-            Stop::Read(FolderFault::Failed),
-            Status::ReadFault,
-            5,
-            "read fault\n",
-        ),
-        (
-            Stop::Write(FolderFault::Failed),
-            Status::WriteFault,
-            6,
-            "write fault\n",
-        ),
-        (Stop::Say(FolderFault::Failed), Status::WriteFault, 6, ""),
-        (
-            Stop::Read(FolderFault::NoMemory),
-            Status::NoMemory,
-            11,
-            "no memory\n",
-        ),
-        (
-            Stop::Write(FolderFault::NoMemory),
-            Status::NoMemory,
-            11,
-            "no memory\n",
-        ),
-        (Stop::Say(FolderFault::NoMemory), Status::NoMemory, 11, ""),
-        (Stop::NoMemory, Status::NoMemory, 11, "no memory\n"),
-    ];
-    for (stop, status, code, said) in stops {
+    for (stop, status, code, said) in STOPS {
         says(&rt, rt.alloc(), stop, status, code, said)?;
     }
     Ok(())
@@ -165,26 +170,39 @@ fn done_lines_have_their_numbers(rt: HostRuntime) {
 
 #[test]
 fn a_fault_in_the_middle_of_a_line_is_the_answer(rt: HostRuntime) -> Result<(), Fail> {
-    let words = vec![in rt.alloc(); String::from_str(rt.alloc(), "o")?]?;
-    let mut folder = MemoryFolder::new(rt.alloc());
-    folder.fail_at(&[3])?;
-    let told = tell_stop(&mut folder, &words, Stop::Own(Status::TooLong { word: 0 }));
-    assert!(&rt; told == Status::WriteFault);
-    assert!(&rt; folder.said() == b"too long: o".as_slice());
+    let stop = Stop::Own(Status::TooLong { word: 1 });
+    let ran = told(rt.alloc(), stop, &[3])?;
+    super::asking::says(&rt, &ran, Status::WriteFault, "too long: o");
     Ok(())
+}
+
+/// A folder with a file of five octets.
+fn five(alloc: Global) -> Result<MemoryFolder, Fail> {
+    folder_with(alloc, &[("f", b"abcde")], &[])
 }
 
 #[test]
 fn inputs_end_at_their_limit(rt: HostRuntime) -> Result<(), Fail> {
-    let mut folder = MemoryFolder::new(rt.alloc());
-    folder.put("f", b"abcde")?;
+    let mut folder = five(rt.alloc())?;
     assert!(&rt; within_limit(&mut folder, "f", 5, 1) == Ok(()));
     let long = Stop::Own(Status::TooLong { word: 1 });
     assert!(&rt; within_limit(&mut folder, "f", 4, 1) == Err(long));
+    Ok(())
+}
+
+#[test]
+fn pieces_are_read_at_their_place(rt: HostRuntime) -> Result<(), Fail> {
+    let mut folder = five(rt.alloc())?;
     let mut piece = [0u8; 3];
     assert!(&rt; read_piece(&mut folder, "f", 4, 2, &mut piece) == Ok(2));
     assert!(&rt; piece == [b'c', b'd', 0]);
     assert!(&rt; read_piece(&mut folder, "g", 4, 2, &mut piece) == Err(FolderFault::Failed));
+    Ok(())
+}
+
+#[test]
+fn files_are_read_to_their_limit(rt: HostRuntime) -> Result<(), Fail> {
+    let mut folder = five(rt.alloc())?;
     match read_file(rt.alloc(), &mut folder, "f", 4) {
         Ok(file) => assert!(&rt; file.as_slice() == b"abcd".as_slice()),
         Err(_) => assert!(&rt; false),
@@ -194,11 +212,16 @@ fn inputs_end_at_their_limit(rt: HostRuntime) -> Result<(), Fail> {
 
 #[test]
 fn outputs_are_made_empty_and_grow(rt: HostRuntime) -> Result<(), Fail> {
-    let mut folder = MemoryFolder::new(rt.alloc());
-    folder.put("f", b"abcde")?;
+    let mut folder = five(rt.alloc())?;
     assert!(&rt; create_output(&mut folder, "f") == Ok(()));
     assert!(&rt; append_output(&mut folder, "f", b"xy") == Ok(()));
     assert!(&rt; folder.get("f") == Some(b"xy".as_slice()));
+    Ok(())
+}
+
+#[test]
+fn a_line_is_said(rt: HostRuntime) -> Result<(), Fail> {
+    let mut folder = five(rt.alloc())?;
     assert!(&rt; say_line(&mut folder, b"xy") == Ok(()));
     assert!(&rt; folder.said() == b"xy".as_slice());
     Ok(())
@@ -206,8 +229,7 @@ fn outputs_are_made_empty_and_grow(rt: HostRuntime) -> Result<(), Fail> {
 
 #[test]
 fn outputs_are_made_up_to_the_first_that_fails(rt: HostRuntime) -> Result<(), Fail> {
-    let mut folder = MemoryFolder::new(rt.alloc());
-    folder.fail_at(&[2])?;
+    let mut folder = folder_with(rt.alloc(), &[], &[2])?;
     let made = create_outputs(&mut folder, &["a", "b", "c"]);
     assert!(&rt; made == Err(FolderFault::Failed));
     assert!(&rt; folder.get("a") == Some(b"".as_slice()));

@@ -13,20 +13,23 @@ fn with_check(check: Check) -> Octets<13> {
 }
 
 #[test]
-fn sixteen_of_nine_digits(rt: HostRuntime) -> Result<(), Fail> {
-    let whole = with_check(Check::Sixteen);
-    assert_eq!(rt; whole.as_slice(), b"123456789\x6e\x90".as_slice());
-    assert!(rt; passes(whole.as_slice(), Check::Sixteen));
-    assert!(rt; !passes(whole.as_slice(), Check::ThirtyTwo));
-    Ok(())
-}
-
-#[test]
-fn thirty_two_of_nine_digits(rt: HostRuntime) -> Result<(), Fail> {
-    let whole = with_check(Check::ThirtyTwo);
-    assert_eq!(rt; whole.as_slice(), b"123456789\x26\x39\xf4\xcb".as_slice());
-    assert!(rt; passes(whole.as_slice(), Check::ThirtyTwo));
-    assert!(rt; !passes(whole.as_slice(), Check::Sixteen));
+fn both_checks_of_nine_digits(rt: HostRuntime) -> Result<(), Fail> {
+    for (check, other, octets) in [
+        (
+            Check::Sixteen,
+            Check::ThirtyTwo,
+            b"123456789\x6e\x90".as_slice(),
+        ),
+        (
+            Check::ThirtyTwo,
+            Check::Sixteen,
+            b"123456789\x26\x39\xf4\xcb".as_slice(),
+        ),
+    ] {
+        assert!(rt; with_check(check).as_slice() == octets);
+        assert!(rt; passes(octets, check));
+        assert!(rt; !passes(octets, other));
+    }
     Ok(())
 }
 
@@ -61,17 +64,23 @@ fn a_correct_frame_leaves_the_residue(rt: HostRuntime) -> Result<(), Fail> {
     Ok(())
 }
 
-#[test]
-fn lists_of_octets(rt: HostRuntime) -> Result<(), Fail> {
+/// A list of three octets.
+fn three() -> Info {
     let mut octets = Info::new();
-    assert!(rt; octets.is_empty());
     octets.push(1);
     octets.extend(&[2, 3]);
-    assert_eq!(rt; octets.len(), 3);
+    octets
+}
+
+#[test]
+fn lists_of_octets(rt: HostRuntime) -> Result<(), Fail> {
+    assert!(rt; Info::new().is_empty());
+    let mut octets = three();
+    assert!(rt; octets.len() == 3);
     let copy = octets.copy();
     octets.clear();
     assert!(rt; octets.is_empty());
-    assert_eq!(rt; copy.as_slice(), [1, 2, 3].as_slice());
-    assert_eq!(rt; Whole::new().len(), 0);
+    assert!(rt; copy.as_slice() == [1, 2, 3].as_slice());
+    assert!(rt; Whole::new().len() == 0);
     Ok(())
 }

@@ -7,11 +7,11 @@ use std::process::Abort;
 use xid_params::{Offer, Terms, XidFault, agree, default_offer, read_offer, write_offer};
 
 fn reads(rt: &impl Abort, info: &[u8], offer: Offer) {
-    assert_eq!(rt; read_offer(info), Ok(offer));
+    assert!(rt; read_offer(info) == Ok(offer));
 }
 
 fn refuses(rt: &impl Abort, info: &[u8], fault: XidFault) {
-    assert_eq!(rt; read_offer(info), Err(fault));
+    assert!(rt; read_offer(info) == Err(fault));
 }
 
 #[test]
@@ -21,7 +21,7 @@ fn defaults_as_they_are_sent(rt: HostRuntime) {
     reads(&rt, sent, default_offer());
     let mut written = Info::new();
     write_offer(&default_offer(), &mut written);
-    assert_eq!(rt; written.as_slice(), sent.as_slice());
+    assert!(rt; written.as_slice() == sent.as_slice());
 }
 
 #[test]
@@ -39,7 +39,7 @@ fn functions_lengths_and_windows(rt: HostRuntime) {
     reads(&rt, sent, offer);
     let mut written = Info::new();
     write_offer(&offer, &mut written);
-    assert_eq!(rt; written.as_slice(), sent.as_slice());
+    assert!(rt; written.as_slice() == sent.as_slice());
 }
 
 #[test]
@@ -138,5 +138,5 @@ fn both_ends_keep_to_the_smaller(rt: HostRuntime) {
         window_o: 64,
         window_a: 16,
     };
-    assert_eq!(rt; agree(&originator, &answerer), terms);
+    assert!(rt; agree(&originator, &answerer) == terms);
 }

@@ -1,4 +1,5 @@
 // Patterns in slots and in streams of bits.
+use super::slots::slot_of;
 use bit_stuffing::BitSlot;
 use detection::{PatternReader, Seen, mark_slot, pattern_slot};
 use frame_check::SLOT;
@@ -12,10 +13,10 @@ const ADP: [&[u8]; 2] = [b"010100010", b"011000010"];
 /// Pushes a character and so many ones. No pattern ends at any of these bits.
 fn push_character(rt: &impl Abort, reader: &mut PatternReader, digits: &[u8], ones: usize) {
     for digit in digits {
-        assert_eq!(rt; reader.push(*digit == b'1'), None);
+        assert!(rt; reader.push(*digit == b'1') == None);
     }
     for _ in 0..ones {
-        assert_eq!(rt; reader.push(true), None);
+        assert!(rt; reader.push(true) == None);
     }
 }
 
@@ -37,21 +38,21 @@ fn seen_behind(rt: &impl Abort, one: [&[u8]; 2], other: [&[u8]; 2], ones: usize)
 #[test]
 fn gaps_of_eight_to_seventeen_ones(rt: HostRuntime) -> Result<(), Fail> {
     for ones in [8usize, 9, 16, 17] {
-        assert_eq!(rt; seen_behind(&rt, ODP, ODP, ones), Some(Seen::Odp));
-        assert_eq!(rt; seen_behind(&rt, ADP, ADP, ones), Some(Seen::Adp));
+        assert!(rt; seen_behind(&rt, ODP, ODP, ones) == Some(Seen::Odp));
+        assert!(rt; seen_behind(&rt, ADP, ADP, ones) == Some(Seen::Adp));
     }
     for ones in [7usize, 18] {
-        assert_eq!(rt; seen_behind(&rt, ODP, ODP, ones), None);
-        assert_eq!(rt; seen_behind(&rt, ADP, ADP, ones), None);
+        assert!(rt; seen_behind(&rt, ODP, ODP, ones) == None);
+        assert!(rt; seen_behind(&rt, ADP, ADP, ones) == None);
     }
     Ok(())
 }
 
 #[test]
 fn two_of_one_kind(rt: HostRuntime) -> Result<(), Fail> {
-    assert_eq!(rt; seen_behind(&rt, ODP, ADP, 9), None);
-    assert_eq!(rt; seen_behind(&rt, ADP, ODP, 9), None);
-    assert_eq!(rt; seen_behind(&rt, [ODP[1], ODP[0]], ODP, 9), None);
+    assert!(rt; seen_behind(&rt, ODP, ADP, 9) == None);
+    assert!(rt; seen_behind(&rt, ADP, ODP, 9) == None);
+    assert!(rt; seen_behind(&rt, [ODP[1], ODP[0]], ODP, 9) == None);
     Ok(())
 }
 
@@ -70,7 +71,7 @@ fn sights(
             let Some(answer) = reader.push((quad >> shift) & 1 == 1) else {
                 continue;
             };
-            assert_eq!(rt; answer, seen);
+            assert!(rt; answer == seen);
             count = count.wrapping_add(1);
             if count == 1 {
                 first = i.wrapping_mul(4).wrapping_add(shift as usize + 1);
@@ -86,25 +87,14 @@ fn slots_of_patterns_and_of_ones(rt: HostRuntime) -> Result<(), Fail> {
     for seen in [Seen::Odp, Seen::Adp] {
         let mut slot = BitSlot::new();
         pattern_slot(seen, SLOT as u16, &mut slot);
-        assert_eq!(rt; slot.len(), SLOT);
-        assert_eq!(rt; sights(&rt, &mut reader, &slot, seen), (71, 9));
+        assert!(rt; slot.len() == SLOT);
+        assert!(rt; sights(&rt, &mut reader, &slot, seen) == (71, 9));
         slot.clear();
         mark_slot(139, &mut slot);
-        assert_eq!(rt; slot.len(), 139);
-        assert_eq!(rt; sights(&rt, &mut reader, &slot, seen), (0, 0));
+        assert!(rt; slot.len() == 139);
+        assert!(rt; sights(&rt, &mut reader, &slot, seen) == (0, 0));
     }
     Ok(())
-}
-
-/// A slot of these quads.
-fn slot_of(quads: &[u8]) -> BitSlot {
-    let mut slot = BitSlot::new();
-    for quad in quads {
-        if slot.len() < SLOT {
-            slot.push(quad % 16);
-        }
-    }
-    slot
 }
 
 #[test]
@@ -112,7 +102,7 @@ fn a_pattern_cut_over_two_slots(rt: HostRuntime) -> Result<(), Fail> {
     let first = slot_of(&[2, 2, 14, 15, 15, 15, 5, 4, 14, 15, 15]);
     let second = slot_of(&[15, 11, 8, 8, 15, 15, 15, 7, 1, 9, 15, 15]);
     let mut reader = PatternReader::new();
-    assert_eq!(rt; sights(&rt, &mut reader, &first, Seen::Odp), (0, 0));
-    assert_eq!(rt; sights(&rt, &mut reader, &second, Seen::Odp), (48, 1));
+    assert!(rt; sights(&rt, &mut reader, &first, Seen::Odp) == (0, 0));
+    assert!(rt; sights(&rt, &mut reader, &second, Seen::Odp) == (48, 1));
     Ok(())
 }

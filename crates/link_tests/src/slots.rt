@@ -11,15 +11,26 @@ fn push(rt: &impl Abort, deframer: &mut Deframer, digits: &[u8], last: Option<Pi
     for i in 0..digits.len() {
         let answer = deframer.push(digits[i] == b'1');
         let expected = if i + 1 == digits.len() { last } else { None };
-        assert_eq!(rt; answer, expected);
+        assert!(rt; answer == expected);
     }
 }
 
 /// Pushes so many zeros.
 fn push_zeros(rt: &impl Abort, deframer: &mut Deframer, count: usize) {
     for _ in 0..count {
-        assert_eq!(rt; deframer.push(false), None);
+        assert!(rt; deframer.push(false) == None);
     }
+}
+
+/// A slot of these quads.
+pub fn slot_of(quads: &[u8]) -> BitSlot {
+    let mut slot = BitSlot::new();
+    for quad in quads {
+        if slot.len() < SLOT {
+            slot.push(quad % 16);
+        }
+    }
+    slot
 }
 
 /// The digits of a slot's bits from this one on are these.
@@ -28,7 +39,7 @@ fn assert_digits(rt: &impl Abort, slot: &BitSlot, from: usize, digits: &[u8]) {
         let place = from.wrapping_add(i);
         assert!(rt; place / 4 < slot.len());
         let bit = (slot.quad(place / 4) >> (place % 4)) & 1 == 1;
-        assert_eq!(rt; bit, digits[i] == b'1');
+        assert!(rt; bit == (digits[i] == b'1'));
     }
 }
 
@@ -37,7 +48,7 @@ fn a_zero_goes_behind_five_ones(rt: HostRuntime) -> Result<(), Fail> {
     let mut writer = SlotWriter::new(SLOT as u16);
     let mut slot = BitSlot::new();
     writer.slot(Some(&[0xff, 0xff]), &mut slot);
-    assert_eq!(rt; slot.len(), SLOT);
+    assert!(rt; slot.len() == SLOT);
     for place in 0..4 {
         assert_digits(&rt, &slot, 8 * place, FLAG);
     }
@@ -74,8 +85,20 @@ fn five_ones_at_the_end_want_a_zero(rt: HostRuntime) -> Result<(), Fail> {
         None,
     );
     push(&rt, &mut deframer, FLAG, Some(Piece::Whole));
-    assert_eq!(rt; deframer.whole(), [0x01, 0x02, 0x03, 0xf8].as_slice());
+    assert!(rt; deframer.whole() == [0x01, 0x02, 0x03, 0xf8].as_slice());
     Ok(())
+}
+
+/// Pushes a bit that has this answer, behind which these octets are lent.
+fn push_bit(
+    rt: &impl Abort,
+    deframer: &mut Deframer,
+    bit: bool,
+    answer: Option<Piece>,
+    whole: &[u8],
+) {
+    assert!(rt; deframer.push(bit) == answer);
+    assert!(rt; deframer.whole() == whole);
 }
 
 #[test]
@@ -85,13 +108,17 @@ fn a_frame_in_octets(rt: HostRuntime) -> Result<(), Fail> {
     for octet in [0x7eu8, 0x03, 0xdf, 0x3e, 0xb9, 0xfa, 0xf9] {
         for shift in 0..8u32 {
             place = place.wrapping_add(1);
-            let answer = deframer.push((octet >> shift) & 1 == 1);
+            let bit = (octet >> shift) & 1 == 1;
             if place == 50 {
-                assert_eq!(rt; answer, Some(Piece::Whole));
-                assert_eq!(rt; deframer.whole(), [0x03, 0x7f, 0x5f, 0xae].as_slice());
+                push_bit(
+                    &rt,
+                    &mut deframer,
+                    bit,
+                    Some(Piece::Whole),
+                    b"\x03\x7f\x5f\xae",
+                );
             } else {
-                assert_eq!(rt; answer, None);
-                assert!(rt; deframer.whole().is_empty());
+                push_bit(&rt, &mut deframer, bit, None, b"");
             }
         }
     }
@@ -116,10 +143,10 @@ fn pieces_too_short_and_too_long(rt: HostRuntime) -> Result<(), Fail> {
     push(&rt, &mut deframer, FLAG, Some(Piece::TooShort));
     push_zeros(&rt, &mut deframer, 32);
     push(&rt, &mut deframer, FLAG, Some(Piece::Whole));
-    assert_eq!(rt; deframer.whole(), [0, 0, 0, 0].as_slice());
+    assert!(rt; deframer.whole() == [0, 0, 0, 0].as_slice());
     push_zeros(&rt, &mut deframer, 8 * WHOLE);
     push(&rt, &mut deframer, FLAG, Some(Piece::Whole));
-    assert_eq!(rt; deframer.whole().len(), WHOLE);
+    assert!(rt; deframer.whole().len() == WHOLE);
     push_zeros(&rt, &mut deframer, 8 * WHOLE + 1);
     push(&rt, &mut deframer, FLAG, Some(Piece::TooLong));
     Ok(())
@@ -159,16 +186,20 @@ fn a_flag_that_is_cut_goes_on_in_the_next_slot(rt: HostRuntime) -> Result<(), Fa
     Ok(())
 }
 
+/// The quad at this place.
+fn assert_quad(rt: &impl Abort, slot: &BitSlot, place: usize, quad: u8) {
+    assert!(rt; place < slot.len());
+    assert!(rt; slot.quad(place) == quad);
+}
+
 #[test]
 fn quads_of_a_slot(rt: HostRuntime) -> Result<(), Fail> {
-    let mut slot = BitSlot::new();
-    assert!(rt; slot.is_empty());
-    slot.push(6);
-    slot.push(15);
-    assert_eq!(rt; slot.len(), 2);
-    assert_eq!(rt; slot.quad(1), 15);
+    assert!(rt; BitSlot::new().is_empty());
+    let mut slot = slot_of(&[6, 15]);
+    assert!(rt; slot.len() == 2);
+    assert_quad(&rt, &slot, 1, 15);
     assert_digits(&rt, &slot, 0, b"01101111");
     slot.clear();
-    assert_eq!(rt; slot.len(), 0);
+    assert!(rt; slot.len() == 0);
     Ok(())
 }

@@ -30,20 +30,20 @@ const FRAMES: [(&[u8], &[u8]); 20] = [
     (b"\x03\xf3ab", b"test cmd p=1 n=2"),
 ];
 
-#[test]
-fn each_kind_has_its_text(rt: HostRuntime) -> Result<(), Fail> {
-    for (octets, text) in FRAMES {
-        let frame = read(octets, Role::Originator, 0).map_err(|_| "refused")?;
-        let mut out = FrameText::new();
-        write_frame_text(&frame, &mut out);
-        assert_eq!(rt; out.as_slice(), text);
-    }
-    Ok(())
-}
-
 /// The frame of these octets of the originator.
 fn frame_of(octets: &[u8]) -> Result<Frame, Fail> {
     Ok(read(octets, Role::Originator, 0).map_err(|_| "refused")?)
+}
+
+#[test]
+fn each_kind_has_its_text(rt: HostRuntime) -> Result<(), Fail> {
+    for (octets, text) in FRAMES {
+        let frame = frame_of(octets)?;
+        let mut out = FrameText::new();
+        write_frame_text(&frame, &mut out);
+        assert!(rt; out.as_slice() == text);
+    }
+    Ok(())
 }
 
 /// A line of a trace has that text.
@@ -102,6 +102,6 @@ fn numbers_stand_behind_what_is_there(rt: HostRuntime) -> Result<(), Fail> {
     put_decimal(&mut octets, 0);
     octets.push(b' ');
     put_decimal(&mut octets, u64::MAX);
-    assert_eq!(rt; octets.as_slice(), b"a 0 18446744073709551615".as_slice());
+    assert!(rt; octets.as_slice() == b"a 0 18446744073709551615".as_slice());
     Ok(())
 }

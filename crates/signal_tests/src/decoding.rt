@@ -1,5 +1,5 @@
 // Ties, losses and the states of small codes.
-ghost use Rattle.std.specs.Prelude.{◌≡◌, ◌≤◌, ◌<◌, [], None, IfOk, length};
+ghost use Rattle.std.specs.Prelude.{◌≡◌, ◌+◌, ◌≤◌, ◌<◌, [], None, IfOk, All};
 
 use exact_decoder::{Decoder, Lost};
 use outside_calls::NoMemory;
@@ -12,6 +12,57 @@ const MIDDLE: Sample = Sample { re: 0, im: 0 };
 
 type Line = Decoder<V32Code, 8, 32, 128>;
 
+// A sample is taken, and then this label alone is released, or none.
+fn releases<
+    const STATES: usize,
+    const LABELS: usize,
+    const DEPTH: usize,
+    C: TrellisCode<STATES, LABELS> + Drop,
+>(
+    rt: &impl Abort,
+    decoder: &mut Decoder<C, STATES, LABELS, DEPTH>,
+    sample: Sample,
+    label: Option<u8>,
+)
+    requires taken { decoder.old.pending ≡ [] }
+    requires few { decoder.old.count ≤ 128 }
+    ensures taken { decoder.new.pending ≡ [] }
+    ensures count { decoder.new.count ≤ decoder.old.count + 1 }
+    ensures lost { decoder.new.lost ≡ None }
+{
+    assert!(rt; decoder.push(sample).is_ok());
+    if let Some(label) = label {
+        assert!(rt; decoder.take() == Some(label));
+    }
+    assert!(rt; decoder.take() == None);
+    assert!(rt; decoder.pending() == 0);
+}
+
+// The labels of a nearest sequence that were not released.
+fn ends_with<
+    const STATES: usize,
+    const LABELS: usize,
+    const DEPTH: usize,
+    C: TrellisCode<STATES, LABELS> + Drop,
+>(rt: &impl Abort, decoder: Decoder<C, STATES, LABELS, DEPTH>, labels: &[u8])
+    requires taken { decoder.pending ≡ [] }
+    requires lost { decoder.lost ≡ None }
+{
+    let tail = decoder.finish();
+    assert!(rt; tail.as_slice() == labels);
+}
+
+// The quads that the labels carry.
+fn carry(rt: &impl Abort, labels: &[u8], quads: &[u8])
+    requires { All (λ label. label < 32) labels.now }
+{
+    let mut reader = LabelReader::new();
+    assert!(rt; labels.len() == quads.len());
+    for (label, quad) in labels.iter().zip(quads) {
+        assert!(rt; reader.push(*label) == *quad);
+    }
+}
+
 // Decodes two points, and reads the quads that the labels carry.
 fn check_quads(
     rt: &impl Abort,
@@ -22,17 +73,10 @@ fn check_quads(
 ) -> Result<(), NoMemory> {
     let mut decoder: Line = Decoder::new(alloc, V32Code, 0)?;
     let (re, im) = first;
-    assert!(rt; decoder.push(Sample { re, im }).is_ok());
-    assert_eq!(rt; decoder.pending(), 0);
+    releases(rt, &mut decoder, Sample { re, im }, None);
     let (re, im) = second;
-    assert!(rt; decoder.push(Sample { re, im }).is_ok());
-    assert_eq!(rt; decoder.pending(), 0);
-    let tail = decoder.finish();
-    let mut reader = LabelReader::new();
-    assert_eq!(rt; tail.as_slice().len(), 2);
-    for (label, quad) in tail.as_slice().iter().zip(&quads) {
-        assert_eq!(rt; reader.push(*label), *quad);
-    }
+    releases(rt, &mut decoder, Sample { re, im }, None);
+    carry(rt, decoder.finish().as_slice(), &quads);
     Ok(())
 }
 
@@ -53,8 +97,7 @@ fn after_ties(rt: &impl Abort, alloc: Global) -> Result<Line, NoMemory>
 {
     let mut decoder: Line = Decoder::new(alloc, V32Code, 0)?;
     for symbol in 0..128u32 {
-        assert!(rt; decoder.push(MIDDLE).is_ok());
-        assert_eq!(rt; decoder.pending(), 0);
+        releases(rt, &mut decoder, MIDDLE, None);
     }
     Ok(decoder)
 }
@@ -62,27 +105,33 @@ fn after_ties(rt: &impl Abort, alloc: Global) -> Result<Line, NoMemory>
 #[test]
 fn of_ties_the_smallest_end_state(rt: HostRuntime) -> Result<(), NoMemory> {
     let tail = after_ties(&rt, rt.alloc())?.finish();
-    let mut reader = LabelReader::new();
-    assert_eq!(&rt; tail.as_slice().len(), 128);
-    for label in tail.as_slice() {
-        assert_eq!(&rt; reader.push(*label), 4);
-    }
+    carry(&rt, tail.as_slice(), &[4; 128]);
     Ok(())
+}
+
+// The line is lost with this symbol, as often as a sample is pushed.
+fn loses(rt: &impl Abort, decoder: &mut Line, symbol: u64)
+    requires taken { decoder.old.pending ≡ [] }
+    requires few { decoder.old.count ≤ 129 }
+    ensures taken { decoder.new.pending ≡ [] }
+    ensures count { decoder.new.count ≤ decoder.old.count + 1 }
+{
+    assert!(rt; decoder.push(MIDDLE) == Err(Lost { symbol }));
+    assert!(rt; decoder.pending() == 0);
+    assert!(rt; decoder.lost() == Some(Lost { symbol }));
 }
 
 #[test]
 fn lost_with_the_symbol_after_the_depth(rt: HostRuntime) -> Result<(), NoMemory> {
     let mut decoder = after_ties(&rt, rt.alloc())?;
-    assert_eq!(&rt; decoder.lost(), None);
-    assert_eq!(&rt; decoder.push(MIDDLE), Err(Lost { symbol: 128 }));
-    assert_eq!(&rt; decoder.pending(), 0);
-    assert_eq!(&rt; decoder.push(MIDDLE), Err(Lost { symbol: 128 }));
-    assert_eq!(&rt; decoder.lost(), Some(Lost { symbol: 128 }));
+    assert!(&rt; decoder.lost() == None);
+    loses(&rt, &mut decoder, 128);
+    loses(&rt, &mut decoder, 128);
     Ok(())
 }
 
 /// A code of two states, one of whose two labels changes the state.
-#[derive(Clone, Copy, Debug)]
+#[derive(Clone, Copy)]
 struct Flips;
 
 impl TrellisCode<2, 2> for Flips {
@@ -175,22 +224,16 @@ fn labels_of_two_starts_are_released(rt: HostRuntime) -> Result<(), NoMemory> {
     let left = Sample { re: -900, im: 0 };
     let right = Sample { re: 900, im: 0 };
     let mut any: Decoder<Flips, 2, 2, 3> = Decoder::new_any(rt.alloc(), Flips)?;
-    assert!(&rt; any.push(left).is_ok());
-    assert_eq!(&rt; any.take(), Some(0));
-    assert_eq!(&rt; any.take(), None);
-    assert!(&rt; any.push(right).is_ok());
-    assert_eq!(&rt; any.take(), Some(1));
-    assert_eq!(&rt; any.pending(), 0);
+    releases(&rt, &mut any, left, Some(0));
+    releases(&rt, &mut any, right, Some(1));
     let mut one: Decoder<Flips, 2, 2, 3> = Decoder::new(rt.alloc(), Flips, 1)?;
-    assert!(&rt; one.push(right).is_ok());
-    assert_eq!(&rt; one.pending(), 0);
-    let tail = one.finish();
-    assert_eq!(&rt; tail.as_slice(), [1].as_slice());
+    releases(&rt, &mut one, right, None);
+    ends_with(&rt, one, &[1]);
     Ok(())
 }
 
 /// A code of 80 states in a circle. Each of its 80 labels leads as many states on.
-#[derive(Clone, Copy, Debug)]
+#[derive(Clone, Copy)]
 struct Laps;
 
 impl TrellisCode<80, 80> for Laps {
@@ -284,15 +327,9 @@ impl TrellisCode<80, 80> for Laps {
 fn codes_may_have_many_states(rt: HostRuntime) -> Result<(), NoMemory> {
     let sent = Sample { re: 10_000, im: 0 };
     let mut decoder: Decoder<Laps, 80, 80, 2> = Decoder::new(rt.alloc(), Laps, 70)?;
-    assert!(&rt; decoder.push(sent).is_ok());
-    assert_eq!(&rt; decoder.pending(), 0);
-    assert!(&rt; decoder.push(sent).is_ok());
-    assert_eq!(&rt; decoder.take(), Some(79));
-    assert_eq!(&rt; decoder.pending(), 0);
-    assert!(&rt; decoder.push(sent).is_ok());
-    assert_eq!(&rt; decoder.take(), Some(79));
-    assert_eq!(&rt; decoder.pending(), 0);
-    let tail = decoder.finish();
-    assert_eq!(&rt; tail.as_slice(), [79].as_slice());
+    releases(&rt, &mut decoder, sent, None);
+    releases(&rt, &mut decoder, sent, Some(79));
+    releases(&rt, &mut decoder, sent, Some(79));
+    ends_with(&rt, decoder, &[79]);
     Ok(())
 }

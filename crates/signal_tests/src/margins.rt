@@ -18,16 +18,16 @@ fn margin_at(re: i16) -> Margin {
 #[test]
 fn samples_as_they_were_sent_cost_nothing(rt: HostRuntime) {
     let margin = margin_at(-8192);
-    assert_eq!(&rt; margin.cost(), 0);
+    assert!(&rt; margin.cost() == 0);
     assert!(&rt; margin.sure());
 }
 
 #[test]
 fn a_sample_a_unit_farther_is_not_sure(rt: HostRuntime) {
     let near = margin_at(-8192 + 3238);
-    assert_eq!(&rt; near.cost(), 10484644);
+    assert!(&rt; near.cost() == 10484644);
     assert!(&rt; near.sure());
     let far = margin_at(-8192 + 3239);
-    assert_eq!(&rt; far.cost(), 10491121);
+    assert!(&rt; far.cost() == 10491121);
     assert!(&rt; !far.sure());
 }

@@ -23,7 +23,7 @@ fn take_fours(
             fours.push(four)?;
         }
     }
-    assert_eq!(rt; reader.pending(), 0);
+    assert!(rt; reader.pending() == 0);
     Ok(())
 }
 
@@ -59,7 +59,7 @@ fn fours_from_the_middle(rt: &impl Abort, alloc: Global, turns: bool) -> Result<
 fn check_fours(rt: &impl Abort, fours: &[u8]) {
     assert!(rt; fours.len() > 50);
     for place in 0..fours.len() {
-        assert_eq!(rt; usize::from(fours[place]), (place + 12) % 16);
+        assert!(rt; usize::from(fours[place]) == (place + 12) % 16);
     }
 }
 

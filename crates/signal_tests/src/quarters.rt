@@ -13,18 +13,18 @@ const SECOND: Sample = Sample {
 #[test]
 fn an_octet_becomes_four_samples(rt: HostRuntime) {
     let mut modulator = Modulator::new(Mode::Call);
-    assert_eq!(&rt; modulator.push(1), SECOND);
-    assert_eq!(&rt; modulator.push(0), SECOND);
-    assert_eq!(&rt; modulator.push(0), SECOND);
-    assert_eq!(&rt; modulator.push(0), SECOND);
+    assert!(&rt; modulator.push(1) == SECOND);
+    assert!(&rt; modulator.push(0) == SECOND);
+    assert!(&rt; modulator.push(0) == SECOND);
+    assert!(&rt; modulator.push(0) == SECOND);
 }
 
 #[test]
 fn labels_carry_turns(rt: HostRuntime) {
     let mut demodulator = Demodulator::new(Mode::Call);
-    assert_eq!(&rt; demodulator.push(1), 1);
-    assert_eq!(&rt; demodulator.push(1), 0);
-    assert_eq!(&rt; demodulator.push(0), 3);
+    assert!(&rt; demodulator.push(1) == 1);
+    assert!(&rt; demodulator.push(1) == 0);
+    assert!(&rt; demodulator.push(0) == 3);
 }
 
 /// Samples up to 4579 units from their point, half the way to the next one, give their bits at once.
@@ -36,10 +36,10 @@ fn near_samples_are_read_at_once(rt: HostRuntime) -> Result<(), NoMemory> {
         im: -6144 + 3238,
     };
     assert!(&rt; reader.push(far).is_ok());
-    assert_eq!(&rt; reader.take(), Some(1));
-    assert_eq!(&rt; reader.take(), None);
+    assert!(&rt; reader.take() == Some(1));
+    assert!(&rt; reader.take() == None);
     assert!(&rt; reader.push(SECOND).is_ok());
-    assert_eq!(&rt; reader.take(), Some(0));
-    assert_eq!(&rt; reader.pending(), 0);
+    assert!(&rt; reader.take() == Some(0));
+    assert!(&rt; reader.pending() == 0);
     Ok(())
 }

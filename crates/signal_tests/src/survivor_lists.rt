@@ -150,7 +150,7 @@ fn take_all(rt: &impl Abort, decoder: &mut Line, taken: &mut Vec<u8>) -> Result<
             taken.push(label)?;
         }
     }
-    assert_eq!(rt; decoder.pending(), 0);
+    assert!(rt; decoder.pending() == 0);
     Ok(())
 }
 
@@ -182,10 +182,10 @@ fn lost_with(
         let pushed = decoder.push(sample);
         take_all(rt, &mut decoder, &mut taken)?;
         let (released, unreleased) = survivors.released();
-        assert_eq!(rt; taken.as_slice(), released);
-        assert_eq!(rt; pushed.is_err(), unreleased.len() > 128);
+        assert!(rt; taken.as_slice() == released);
+        assert!(rt; pushed.is_err() == (unreleased.len() > 128));
         if let Err(lost) = pushed {
-            assert_eq!(rt; lost.symbol, u64::from(symbol));
+            assert!(rt; lost.symbol == u64::from(symbol));
             return Ok(Some(lost.symbol));
         }
     }
@@ -195,7 +195,7 @@ fn lost_with(
 #[test]
 fn both_release_the_same(rt: HostRuntime) -> Result<(), NoMemory> {
     for spread in [1, 1001, 3001] {
-        assert_eq!(&rt; lost_with(&rt, rt.alloc(), spread, 400)?, None);
+        assert!(&rt; lost_with(&rt, rt.alloc(), spread, 400)? == None);
     }
     assert!(&rt; lost_with(&rt, rt.alloc(), 1001, 40)?.is_some());
     Ok(())

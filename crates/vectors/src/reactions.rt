@@ -66,13 +66,11 @@ fn closed(heard: Slot) -> Reaction {
     }
 }
 
-/// A pair at which an end did something else.
+/// A pair at which an end did something else, by its places in the tables of states and of what is heard.
 #[derive(Debug, Drop)]
 struct Differs {
-    stage: Stage,
-    heard: Slot,
-    observed: Observed,
-    expected: Observed,
+    stage: usize,
+    heard: usize,
 }
 
 /// Whether the end's user asks for a pause once the end is taken to the state.
@@ -80,32 +78,27 @@ fn is_busy(stage: Stage) -> bool {
     stage.busy_from().is_some()
 }
 
-/// One pair of the table.
-fn compare(alloc: Global, stage: Stage, heard: Slot) -> Result<(), Fail> {
+/// Whether an end does in this state at what it hears what the rules ask for.
+fn is_as_expected(alloc: Global, stage: Stage, heard: Slot) -> Result<bool, Fail> {
     let expected = Observed::of(expected(stage, heard));
     let observed = Standing::at(alloc, stage)?.react(heard, is_busy(stage));
-    if observed != expected {
-        return Err(Fail::from(Differs {
-            stage,
-            heard,
-            observed,
-            expected,
-        }));
-    }
-    Ok(())
+    Ok(observed == expected)
 }
 
-fn compare_each(alloc: Global, stage: Stage) -> Result<(), Fail> {
-    for heard in ARRIVALS {
-        compare(alloc, stage, *heard)?;
+/// One state of the table.
+fn compare_each(alloc: Global, stage: usize, state: Stage) -> Result<(), Fail> {
+    for (heard, slot) in ARRIVALS.iter().enumerate() {
+        if !is_as_expected(alloc, state, *slot)? {
+            return Err(Fail::from(Differs { stage, heard }));
+        }
     }
     Ok(())
 }
 
 #[test]
 fn each_state_at_each_arrival(rt: HostRuntime) -> Result<(), Fail> {
-    for stage in STAGES {
-        compare_each(rt.alloc(), *stage)?;
+    for (place, stage) in STAGES.iter().enumerate() {
+        compare_each(rt.alloc(), place, *stage)?;
     }
     Ok(())
 }

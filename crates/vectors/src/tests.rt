@@ -36,7 +36,7 @@ const SIZES: [(u64, u64); 16] = [
 #[test]
 fn sizes_and_limits(rt: HostRuntime) {
     for (size, number) in SIZES {
-        assert_eq!(rt; size, number);
+        assert!(rt; size == number);
     }
 }
 
@@ -54,7 +54,7 @@ fn octets_with_their_check(rt: HostRuntime) -> Result<(), Fail> {
         let mut octets = Octets::<13>::new();
         octets.extend(DIGITS);
         append(&mut octets, check);
-        assert_eq!(rt; octets.as_slice(), whole);
+        assert!(rt; octets.as_slice() == whole);
         assert!(rt; passes(whole, check));
         assert!(rt; !passes(&whole[1..], check));
     }
@@ -70,7 +70,7 @@ fn assert_line<const TAP: usize>(rt: &impl Abort, octets: &[u8], line: &[u8])
     for (octet, expected) in octets.iter().zip(line) {
         for place in 0..8u32 {
             let sent = scrambler.push((*octet >> place) & 1 == 1);
-            assert_eq!(rt; sent, (*expected >> place) & 1 == 1);
+            assert!(rt; sent == ((*expected >> place) & 1 == 1));
         }
     }
 }
@@ -87,8 +87,8 @@ fn assert_recording(rt: &impl Abort, mode: Mode, octet: u8, recording: &[u8; 16]
     let mut recorder = Recorder::new(Rate::Trellis, mode);
     let header = header_octets(Rate::Trellis, mode);
     let samples = recorder.push(octet);
-    assert_eq!(rt; header.as_slice(), &recording[..8]);
-    assert_eq!(rt; samples.as_slice(), &recording[8..]);
+    assert!(rt; header.as_slice() == &recording[..8]);
+    assert!(rt; samples.as_slice() == &recording[8..]);
 }
 
 #[test]
@@ -136,11 +136,11 @@ fn pieces_in_streams(rt: HostRuntime) -> Result<(), Fail> {
         let mut deframer = Deframer::new();
         let mut answer = None;
         for digit in digits {
-            assert_eq!(rt; answer, None);
+            assert!(rt; answer == None);
             answer = deframer.push(*digit == b'1');
         }
-        assert_eq!(rt; answer, Some(piece));
-        assert_eq!(rt; deframer.whole(), octets);
+        assert!(rt; answer == Some(piece));
+        assert!(rt; deframer.whole() == octets);
     }
     Ok(())
 }
@@ -162,7 +162,7 @@ fn frames_by_their_octets(rt: HostRuntime) -> Result<(), Fail> {
         let frame = read(octets, sender, 0).map_err(|_| "refused")?;
         let mut out = FrameText::new();
         write_frame_text(&frame, &mut out);
-        assert_eq!(rt; out.as_slice(), text);
+        assert!(rt; out.as_slice() == text);
     }
     Ok(())
 }

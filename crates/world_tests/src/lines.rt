@@ -1,5 +1,5 @@
 // Slots through a line and back.
-ghost use Rattle.std.specs.Prelude.{◌≡◌, ◌+◌, ◌<◌, ◌^◌, List, [], OnOk};
+ghost use Rattle.std.specs.Prelude.{◌≡◌, ◌+◌, ◌<◌, ◌≤◌, ◌^◌, List, [], OnOk};
 ghost use Rattle.frame_check.specs.declared.sizes.TheConstants.{SLOT};
 ghost use Rattle.detection.specs.Slots.{Signal};
 ghost use Rattle.slot_contents.specs.Sendable.{IsSendable};
@@ -41,6 +41,23 @@ fn through(
     let mut slot = BitSlot::new();
     line.code(sent, coded, 0, &mut slot);
     line.pass(script, &slot, sent, false, judged, 0)
+}
+
+/// What is heard of a line's first slot of so many symbols, where flags are sent and may be lost.
+fn flags_heard(
+    alloc: Global,
+    sender: Role,
+    symbols: u16,
+    script: &Script,
+    loses: bool,
+) -> Result<Result<Heard, Lost>, Fail>
+    requires some { 464 ≤ symbols }
+    requires few { symbols ≤ SLOT }
+{
+    let mut line = Line::new(alloc, sender, symbols)?;
+    let mut slot = BitSlot::new();
+    line.code(&Sent::Flags, Check::Sixteen, 0, &mut slot);
+    Ok(line.pass(script, &slot, &Sent::Flags, loses, Check::Sixteen, 0))
 }
 
 /// Whether a slot is heard as it was sent.

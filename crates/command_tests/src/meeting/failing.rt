@@ -1,39 +1,32 @@
 // Runs against a peer over a folder that fails at a call.
 use super::*;
 
-/// Whether the folder's fault is the answer, with its line, unless that was what was not said.
-fn blames_the_folder(ran: &Ran) -> bool {
-    let said = ran.folder.said();
-    match ran.status {
-        Status::ReadFault => said == b"read fault\n".as_slice(),
-        Status::WriteFault => said == b"write fault\n".as_slice() || said.is_empty(),
-        _ => false,
+/// Each call of a run of the answerer fails in turn: the answer is a fault of the folder, and what was given and written begins what the
+/// whole run gives.
+fn fails_at_each_call(
+    rt: &impl Abort,
+    alloc: Global,
+    file: &[u8],
+    bits: &[u8],
+    status: Status,
+) -> Result<(), Fail> {
+    let whole = meet(alloc, "answ", file, bits)?;
+    assert!(rt; whole.status == status);
+    for number in 1..=whole.calls() {
+        let ran = meet_failing(alloc, "answ", file, bits, &[number])?;
+        assert!(rt; ran.blames_the_folder(), "{number}");
+        assert!(rt; whole.left("g").starts_with(ran.left("g")), "{number}");
+        assert!(rt; whole.left("t").starts_with(ran.left("t")), "{number}");
     }
+    Ok(())
 }
 
-/// Each call of a run with a file, two segments and a break fails in turn: the answer is a fault of the folder, and what was given and
-/// written begins what the whole run gives.
+/// The run has a file, two segments and a break.
 #[test]
 fn each_call_that_fails_is_the_answer(rt: HostRuntime) -> Result<(), Fail> {
     let alloc = rt.alloc();
     let bits = slots(alloc, &[&SABME, &FIRST, &SECOND, &BREAK])?;
-    let whole = meet(alloc, "answ", b"xyz", &bits)?;
-    assert!(&rt; whole.status == Status::Done);
-    let got = whole.folder.get("g").unwrap_or_default();
-    let trace = whole.folder.get("t").unwrap_or_default();
-    for number in 1..=whole.folder.calls() {
-        let ran = meet_failing(alloc, "answ", b"xyz", &bits, &[number])?;
-        assert!(&rt; blames_the_folder(&ran), "{number}");
-        assert!(&rt;
-            got.starts_with(ran.folder.get("g").unwrap_or_default()),
-            "{number}"
-        );
-        assert!(&rt;
-            trace.starts_with(ran.folder.get("t").unwrap_or_default()),
-            "{number}"
-        );
-    }
-    Ok(())
+    fails_at_each_call(&rt, alloc, b"xyz", &bits, Status::Done)
 }
 
 /// An end that gives its link up says so only where its line was written.
@@ -41,15 +34,11 @@ fn each_call_that_fails_is_the_answer(rt: HostRuntime) -> Result<(), Fail> {
 fn a_fault_of_the_peer_waits_for_its_line(rt: HostRuntime) -> Result<(), Fail> {
     let alloc = rt.alloc();
     let bits = slots(alloc, &[&SABME, &BAD_ACK])?;
-    let whole = meet(alloc, "answ", b"", &bits)?;
-    let trace = whole.folder.get("t").unwrap_or_default();
-    for number in 1..=whole.folder.calls() {
-        let ran = meet_failing(alloc, "answ", b"", &bits, &[number])?;
-        assert!(&rt; blames_the_folder(&ran), "{number}");
-        assert!(&rt;
-            trace.starts_with(ran.folder.get("t").unwrap_or_default()),
-            "{number}"
-        );
-    }
-    Ok(())
+    let fault = LinkFault::BadAck {
+        nr: 5,
+        va: 0,
+        high: 0,
+    };
+    let status = Status::PeerFault { fault, turn: 1 };
+    fails_at_each_call(&rt, alloc, b"", &bits, status)
 }

@@ -51,7 +51,7 @@ fn long_segments_cross_with_either_check(rt: HostRuntime) -> Result<(), Fail> {
     );
     let long = b"n401 orig 1024\nn401 answ 1024\ncheck32 orig\ncheck32 answ\n";
     let thirty_two = crosses(&rt, alloc, &file, b"", long, "done 14\n")?;
-    assert!(rt; thirty_two.folder.get("t") == sixteen.folder.get("t"));
+    leaves(&rt, &thirty_two, "t", sixteen.left("t"));
     Ok(())
 }
 
@@ -66,6 +66,6 @@ fn a_file_past_the_limit_is_too_long(rt: HostRuntime) -> Result<(), Fail> {
     let long = vec![in alloc; b' '; 65_537]?;
     let script = run(alloc, b"", b"", &long)?;
     says(&rt, &script, Status::TooLong { word: 3 }, "too long: s\n");
-    assert!(&rt; script.folder.get("go").is_none());
+    leaves_none(&rt, &script, "go");
     Ok(())
 }

@@ -67,8 +67,8 @@ fn a_line_that_stays_silent_ends_the_link(rt: HostRuntime) -> Result<(), Fail> {
         turn: 160,
     };
     says(&rt, &ran, lost, "link lost: answ segment 31 turn 160\n");
-    assert!(&rt; ran.folder.get("go") == file.get(..5_888));
-    assert!(rt; ran.folder.get("ga") == file.get(..4_096));
+    assert!(&rt; has_front(&ran, "go", &file, 5_888));
+    assert!(&rt; has_front(&ran, "ga", &file, 4_096));
     Ok(())
 }
 

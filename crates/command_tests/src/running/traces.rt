@@ -56,13 +56,13 @@ const ONE_OCTET_EACH: &str = "\
 #[test]
 fn empty_files_cross_in_eight_turns(rt: HostRuntime) -> Result<(), Fail> {
     let ran = crosses(&rt, rt.alloc(), b"", b"", b"", "done 8\n")?;
-    assert!(rt; ran.folder.get("t") == Some(EMPTY_FILES.as_bytes()));
+    leaves(&rt, &ran, "t", EMPTY_FILES.as_bytes());
     Ok(())
 }
 
 #[test]
 fn octets_cross_both_ways(rt: HostRuntime) -> Result<(), Fail> {
     let ran = crosses(&rt, rt.alloc(), b"a", b"b", b"", "done 12\n")?;
-    assert!(rt; ran.folder.get("t") == Some(ONE_OCTET_EACH.as_bytes()));
+    leaves(&rt, &ran, "t", ONE_OCTET_EACH.as_bytes());
     Ok(())
 }

@@ -1,5 +1,5 @@
 // An end that is taken to a state, and what it then does.
-ghost use Rattle.std.specs.Prelude.{◌≡◌, ◌*◌, ◌≤◌, None, IfOk};
+ghost use Rattle.std.specs.Prelude.{◌≡◌, ◌+◌, ◌*◌, ◌≤◌, None, IfOk};
 ghost use Rattle.lapm_link.specs.Fits.{IsSetUp};
 ghost use Rattle.lapm_link.specs.Stands.{TakesNothing, taken_of, undelivered_of, waiting_of};
 ghost use Rattle.link_account.specs.Numbers.{IsNumbered};
@@ -15,7 +15,7 @@ use std::alloc::Global;
 use std::test::Fail;
 
 /// What an end was seen to do, with the words of a `Reaction`.
-#[derive(Debug, Drop, PartialEq, Eq)]
+#[derive(Drop, PartialEq, Eq)]
 pub(super) enum Observed {
     Sent(Phase, Sent),
     Broke(LinkFault),
@@ -69,6 +69,36 @@ fn feed(end: &mut AnyEnd, file: &[u8])
     }
 }
 
+/// What an end is once it has heard: of what it answers only how many segments it has taken.
+fn hear(end: AnyEnd, turn: u64, arrived: &Arrived) -> Result<AnyEnd, Broken>
+    requires early { turn ≤ LATEST }
+    requires numbers { IsNumbered arrived.now }
+    requires counted { taken_of end ≤ 128 * turn }
+    requires delivered { undelivered_of end ≡ 0 }
+    requires given { waiting_of end ≡ None }
+    ensures { IfOk result (λ heard. taken_of heard ≤ 128 * turn + 128) }
+{
+    end.hear(turn, arrived)
+}
+
+/// Takes the break that is given, offers the file, and tells the end whether its user is busy.
+fn serve(end: &mut AnyEnd, file: &[u8], busy: bool)
+    ensures takes_nothing { TakesNothing end.old end.new }
+    ensures given { waiting_of end.new ≡ None }
+{
+    let _ = end.given_break();
+    feed(end, file);
+    end.set_busy(busy);
+}
+
+/// What an end is once it has spoken, which takes nothing.
+fn speak(end: AnyEnd, turn: u64, release: bool, sent: &mut Sent) -> Result<AnyEnd, Broken>
+    requires { turn ≤ LATEST }
+    ensures { IfOk result (TakesNothing end) }
+{
+    end.speak(turn, release, sent)
+}
+
 /// Whether a turn that may be none has come.
 fn is_reached(from: Option<usize>, turn: usize) -> bool {
     match from {
@@ -119,14 +149,12 @@ impl Standing {
         requires { IsNumbered arrived.now }
     {
         let Standing { end, turn } = self;
-        let Ok(mut end) = end.hear(turn, arrived) else {
+        let Ok(mut end) = hear(end, turn, arrived) else {
             return Err("the link broke at hearing");
         };
         take(&mut end, got)?;
-        let _ = end.given_break();
-        feed(&mut end, file);
-        end.set_busy(busy);
-        let Ok(end) = end.speak(turn, release, sent) else {
+        serve(&mut end, file, busy);
+        let Ok(end) = speak(end, turn, release, sent) else {
             return Err("the link broke at speaking");
         };
         if turn >= LATEST {
@@ -149,7 +177,7 @@ impl Standing {
 
     /// How the link breaks by what the end hears in this turn.
     pub(super) fn broken_by(self, heard: Slot) -> Result<Broken, &'static str> {
-        match self.end.hear(self.turn, &heard.arrived()) {
+        match hear(self.end, self.turn, &heard.arrived()) {
             Ok(_) => Err("the link goes on"),
             Err(broken) => Ok(broken),
         }
@@ -158,13 +186,13 @@ impl Standing {
     /// What the end does in this turn.
     pub(super) fn react(self, heard: Slot, busy: bool) -> Observed {
         let Standing { end, turn } = self;
-        let mut end = match end.hear(turn, &heard.arrived()) {
+        let mut end = match hear(end, turn, &heard.arrived()) {
             Ok(end) => end,
             Err(broken) => return Observed::Broke(broken.fault),
         };
         end.set_busy(busy);
         let mut sent = Sent::Mark;
-        match end.speak(turn, false, &mut sent) {
+        match speak(end, turn, false, &mut sent) {
             Ok(end) => Observed::Sent(end.phase(), sent),
             Err(broken) => Observed::Broke(broken.fault),
         }

@@ -11,7 +11,7 @@ use xid_params::{Offer, default_offer, write_offer};
 
 /// What stands on the line in a turn: a frame by the fields of V.42, or what stands there without one. A P or F that isn't named
 /// is 0.
-#[derive(Clone, Copy, Debug)]
+#[derive(Clone, Copy)]
 pub(super) enum Slot {
     Mark,
     Odp,
@@ -31,7 +31,7 @@ pub(super) enum Slot {
     Test(Kind),
 }
 
-#[derive(Clone, Copy, Debug)]
+#[derive(Clone, Copy)]
 pub(super) enum Supervisory {
     Rr,
     Rnr,
@@ -39,14 +39,14 @@ pub(super) enum Supervisory {
     Srej,
 }
 
-#[derive(Clone, Copy, Debug)]
+#[derive(Clone, Copy)]
 pub(super) enum Kind {
     Command,
     Response,
 }
 
 /// What an information field says.
-#[derive(Clone, Copy, Debug)]
+#[derive(Clone, Copy)]
 pub(super) enum Says {
     /// It is empty, and is refused in a UI or XID frame.
     Nothing,

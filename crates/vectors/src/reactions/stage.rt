@@ -6,7 +6,7 @@ use lapm_link::Setup;
 use roles::Role;
 
 /// A state of an end. Its file is one segment, where nothing else is said.
-#[derive(Clone, Copy, Debug)]
+#[derive(Clone, Copy)]
 pub(super) enum Stage {
     OriginatorDetecting,
     /// Negotiating: the XID command is out.

@@ -61,10 +61,7 @@ fn ready() -> BitSlot {
 fn a_frame_that_was_not_sent_is_chance(rt: HostRuntime) -> Result<(), Fail> {
     let alloc = rt.alloc();
     let script = script_between(alloc, &flags(), &ready())?;
-    let mut line = Line::new(alloc, Role::Originator, SYMBOLS)?;
-    let mut slot = BitSlot::new();
-    line.code(&Sent::Flags, Check::Sixteen, 0, &mut slot);
-    let heard = line.pass(&script, &slot, &Sent::Flags, false, Check::Sixteen, 0)?;
+    let heard = flags_heard(alloc, Role::Originator, SYMBOLS, &script, false)??;
     assert!(&rt; matches!(heard, Heard::Chance));
     Ok(())
 }

@@ -16,10 +16,7 @@ fn what_is_lost_is_not_heard(rt: HostRuntime) -> Result<(), Fail> {
 #[test]
 fn of_flags_nothing_is_lost(rt: HostRuntime) -> Result<(), Fail> {
     let script = read_script(rt.alloc(), b"")?;
-    let mut line = Line::new(rt.alloc(), Role::Answerer, SLOT as u16)?;
-    let mut slot = BitSlot::new();
-    line.code(&Sent::Flags, Check::Sixteen, 0, &mut slot);
-    let heard = line.pass(&script, &slot, &Sent::Flags, true, Check::Sixteen, 0);
+    let heard = flags_heard(rt.alloc(), Role::Answerer, SLOT as u16, &script, true)?;
     assert!(&rt; matches!(heard, Ok(Heard::Nothing)));
     Ok(())
 }

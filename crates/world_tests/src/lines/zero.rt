@@ -4,10 +4,7 @@ use super::*;
 #[test]
 fn samples_that_are_all_zero_lose_the_line(rt: HostRuntime) -> Result<(), Fail> {
     let script = read_script(rt.alloc(), ZERO_SAMPLES)?;
-    let mut line = Line::new(rt.alloc(), Role::Originator, 464)?;
-    let mut slot = BitSlot::new();
-    line.code(&Sent::Flags, Check::Sixteen, 0, &mut slot);
-    let heard = line.pass(&script, &slot, &Sent::Flags, false, Check::Sixteen, 0);
+    let heard = flags_heard(rt.alloc(), Role::Originator, 464, &script, false)?;
     assert!(rt; matches!(heard, Err(Lost { symbol: 128 })));
     Ok(())
 }
