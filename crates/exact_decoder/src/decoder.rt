@@ -42,8 +42,7 @@ impl<
     const STATES: usize,
     const LABELS: usize,
     const DEPTH: usize,
-> Drop
-    for Decoder<C, STATES, LABELS, DEPTH> {
+> Drop for Decoder<C, STATES, LABELS, DEPTH> {
     // for the prover: so it is dropped by a call, and its fields are not dropped anew wherever one is.
     fn drop(self) {
         let Decoder {

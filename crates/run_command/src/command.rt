@@ -17,12 +17,12 @@ ghost use Rattle.run_command.specs.Completes.{Completes};
 
 use crate::laws::{answers_keep_the_headline, right_runs_are_done};
 use crate::outputs::create_all;
-use run_loop::run_turns;
 use command_base::{Status, Stop, tell, tell_stop, write_done};
 use line_world::{Names, RunFault, World};
 use outside_calls::{Folder, FolderFault};
 use run_inputs::laws::apart_names_differ;
 use run_inputs::{LIMITS, RunWords, open_inputs};
+use run_loop::run_turns;
 use std::alloc::Global;
 
 /// The names that turns use.
