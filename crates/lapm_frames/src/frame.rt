@@ -10,7 +10,7 @@ use frame_check::Info;
 
 /// A frame of ITU-T V.42. `command` tells a command from a response where the kind has both, `ns` and `nr` are the numbers N(S) and
 /// N(R) modulo 128, and `pf` is the poll bit of a command and the final bit of a response.
-#[derive(Debug, PartialEq, Eq)]
+#[derive(Debug, Drop, PartialEq, Eq)]
 pub enum Frame {
     /// A segment: N(S) is its number, N(R) the next one that is expected of the other end, both modulo 128.
     I {
@@ -82,60 +82,6 @@ pub enum Frame {
         pf: bool,
         info: Info,
     },
-}
-
-impl Drop for Frame {
-    // for the prover: so it is dropped by a call, and its fields are not dropped anew wherever one is.
-    fn drop(self) {
-        match self {
-            Frame::I {
-                ns: _,
-                nr: _,
-                pf: _,
-                info: _,
-            } => {}
-            Frame::Rr {
-                command: _,
-                nr: _,
-                pf: _,
-            } => {}
-            Frame::Rnr {
-                command: _,
-                nr: _,
-                pf: _,
-            } => {}
-            Frame::Rej {
-                command: _,
-                nr: _,
-                pf: _,
-            } => {}
-            Frame::Srej {
-                command: _,
-                nr: _,
-                pf: _,
-            } => {}
-            Frame::Sabme { pf: _ } => {}
-            Frame::Disc { pf: _ } => {}
-            Frame::Ua { pf: _ } => {}
-            Frame::Dm { pf: _ } => {}
-            Frame::Frmr { pf: _, info: _ } => {}
-            Frame::Ui {
-                command: _,
-                pf: _,
-                info: _,
-            } => {}
-            Frame::Xid {
-                command: _,
-                pf: _,
-                info: _,
-            } => {}
-            Frame::Test {
-                command: _,
-                pf: _,
-                info: _,
-            } => {}
-        }
-    }
 }
 
 impl Frame {

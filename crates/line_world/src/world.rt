@@ -85,17 +85,9 @@ impl World {
         ensures world { IfOk result (λ w. (files : Both (List ℕ)) → WorldAfter w files [] (start (link_of script files))) }
     {
         script.is_in_limits();
-        let link = Link::new(alloc, &script)?;
-        let lines = match Lines::new(alloc, &script) {
-            Ok(lines) => lines,
-            Err(fault) => {
-                drop(link);
-                return Err(fault);
-            }
-        };
         Ok(World {
-            link,
-            lines,
+            link: Link::new(alloc, &script)?,
+            lines: Lines::new(alloc, &script)?,
             script,
             turn: 0,
             tally: Tally::new(),

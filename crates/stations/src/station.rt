@@ -79,11 +79,11 @@ impl Station {
     {
         match became {
             Ok(end) => {
-                drop(replace(&mut self.end, end));
+                self.end = end;
                 Ok(())
             }
             Err(Broken { fault, end }) => {
-                drop(replace(&mut self.end, AnyEnd::Closed(end)));
+                self.end = AnyEnd::Closed(end);
                 Err(fault)
             }
         }
