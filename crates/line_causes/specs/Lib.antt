@@ -1,1 +1,2 @@
+pub use Rattle.line_bound.specs.Scripts
 pub mod Causes

@@ -1,6 +1,7 @@
 //! What the laws on losses say of a script's runs. The functions do nothing but name the laws that they rest on: each law is a contract.
 ghost use Rattle.line_causes.specs.Causes.{LostLinksWereStarved, LosesWithoutBreak, LosesUnbroken, FewLossesKeepLinks, HeardTurnsAreMade};
 
+pub use line_bound::laws::line_runs_end_soon;
 use line_bound::laws::scripts_keep_time;
 use line_run::laws::{samples_are_carried, scripts_make_links};
 use link_run::laws::each_turn_is_made;

@@ -35,7 +35,7 @@ use Rattle.line_run.specs.Sampled.{Channel, signal_in, signals, Arrives, Arrives
 use Rattle.line_run.specs.Sampled as lines
 use Rattle.line_run.specs.Scripted.{channel_of, link_of, ScriptsMayPlay, ScriptsHaveDelays, SlotsHaveRoom, SlotsAreCodable}
 use Rattle.line_run.specs.Ends.{IsDone, LinkLost, NotDetected, LineLost, ChanceMatch, Left, Leaves, EndsInTurn}
-use Rattle.line_bound.specs.Scripts.{NoLineRunIsLong}
+use Rattle.line_causes.specs.Scripts.{NoLineRunIsLong}
 use Rattle.line_causes.specs.Causes.{MadeOver, HeardTurnsAreMade}
 use Rattle.line_ends.specs.Completes.{AreOfOctets, OctetsAreSendable}
 use Rattle.line_ends.specs.EachEnds.{Becomes, EachSlotBecomes, EachTurnIsDecided, HasEnd, EachRunEnds}

@@ -5,8 +5,8 @@ ghost use Rattle.line_ends.specs.Completes.{OctetsAreSendable, CompletesWithFewN
 
 use break_signals::laws::is_spelled_back;
 use detection::laws::sights_stay;
-use line_bound::laws::line_runs_end_soon;
-use line_causes::laws::{few_losses_keep_links, heard_turns_are_made, lost_links_were_starved};
+use line_causes::laws::{few_losses_keep_links, heard_turns_are_made};
+pub use line_causes::laws::{line_runs_end_soon, lost_links_were_starved};
 use line_laws::laws::{
     each_list_of_fours_is_recorded, faint_lines_are_never_lost, heard_is_sent,
     scripts_displace_by_their_lines_alone, what_is_received_of_faint_lines_is_sent,

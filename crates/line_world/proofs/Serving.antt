@@ -16,8 +16,8 @@ use Rattle.line_run.specs.Scripted.{channel_of, link_of, breaks_of, busy_of}
 use Rattle.link_run.specs.Carried.{on_line}
 use Rattle.line_run.specs.Sampled.{signals}
 use Rattle.sample_line.specs.Line.{Kept, LineStands}
-use Rattle.delayed_line.specs.declared.direction.DelayedLine.{DelayedLine}
-use Rattle.delayed_line.specs.OnWay.{OnWay, signals_in}
+use Rattle.both_sides.specs.DelayedLine.{DelayedLine}
+use Rattle.both_sides.specs.OnWay.{OnWay, signals_in}
 use Rattle.both_sides.specs.declared.lines.Lines.{Lines}
 use Rattle.both_sides.specs.Lines.{LinesWait, HaveArrived}
 use Rattle.line_world.specs.World.{HasPassed, HasPassedToo}

@@ -8,7 +8,7 @@ use Rattle.sample_line.specs.Line.{Kept, LineStands}
 use Rattle.link_run.specs.Run.{Ends, Turn}
 use Rattle.link_run.specs.Carried.{on_line}
 use Rattle.line_run.specs.Sampled.{LineRun, signals}
-use Rattle.delayed_line.specs.OnWay.{signals_in}
+use Rattle.both_sides.specs.OnWay.{signals_in}
 use Rattle.line_run.specs.Scripted.{channel_of, link_of}
 use Rattle.turn_bound.specs.Limits.{file_limit}
 use Rattle.stations.specs.Station.{file_at}

@@ -8,7 +8,7 @@ use Rattle.noise_script.specs.Laws.{ScriptsAreOne, NoFaultInScripts, SpelledIsIn
 use Rattle.line_run.specs.Ends.{RunEnd}
 use Rattle.line_run.specs.Ends as runs
 use Rattle.line_run.specs.Scripted.{channel_of}
-use Rattle.line_causes.specs.Causes.{GivesUp, LostLinksWereStarved}
+use Rattle.line_ends.specs.Causes.{GivesUp, LostLinksWereStarved}
 use Rattle.line_ends.specs.Completes.{EndsDone, LineEnds, AreOfOctets, CompletesWithFewLosses, CompletesWithFewNamed, CompletesQuiet, CompletesUndisturbed}
 use Rattle.command_base.specs.declared.status.Status.{Status}
 use Rattle.command_base.specs.declared.status.Status.TheVariants.{BadScript, TooLong, LineLost, NotDetected, LinkLost, ChanceMatch}

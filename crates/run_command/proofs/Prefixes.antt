@@ -20,8 +20,8 @@ use Rattle.line_run.specs.Sampled.{LineRun}
 use Rattle.line_run.specs.LineLaws.{SamplesAreCarried, OneIsCarried}
 use Rattle.line_run.specs.Ends.{RunEnd, Left, MayRun, RunsLeavePrefixes, DoneLeavesWhole, RunsLeaveWhatPassed}
 use Rattle.line_run.specs.Scripted.{channel_of, link_of, ScriptsMayPlay, ScriptsHaveDelays}
-use Rattle.line_bound.specs.Scripts.{LineRunsEndSoon}
-use Rattle.line_causes.specs.Causes.{LostLinksWereStarved}
+use Rattle.line_ends.specs.Scripts.{LineRunsEndSoon}
+use Rattle.line_ends.specs.Causes.{LostLinksWereStarved}
 use Rattle.command_base.specs.declared.status.Status.{Status}
 use Rattle.command_base.specs.declared.status.Status.TheVariants.{LineLost, NotDetected, LinkLost, ChanceMatch}
 use Rattle.command_base.specs.declared.stop.Stop.{Stop}
@@ -29,7 +29,7 @@ use Rattle.command_base.specs.declared.stop.Stop.TheVariants as stops
 use Rattle.command_base.specs.Outputs.{Holds, HoldsPart, KeptOrEmpty, KeepsAll, CreatesPart}
 use Rattle.run_inputs.specs.declared.limits.TheConstants.{LIMITS}
 use Rattle.run_inputs.specs.Words.{RunNames, outputs_of}
-use Rattle.both_sides.specs.Names.{Written}
+use Rattle.run_loop.specs.Names.{Written}
 use Rattle.run_loop.specs.Turns.{AddsTurn, AddsChance, StopsAfter, HoldPart, of_orig, of_answ, of_lines}
 use Rattle.run_command.specs.Names.{names_written}
 use Rattle.run_command.specs.Ends.{RanTo, StopsInTurn, RanBy, EndsBy, Ends as EndsSo}

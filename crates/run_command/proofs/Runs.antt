@@ -7,11 +7,11 @@ use Rattle.roles.specs.Both.{Both}
 use Rattle.noise_script.specs.Script.{ScriptValue}
 use Rattle.line_run.specs.Ends.{RunEnd}
 use Rattle.line_run.specs.Ends as runs
-use Rattle.turn_bound.specs.Limits.{file_limit}
-use Rattle.line_world.specs.declared.step.RunFault.{RunFault}
-use Rattle.line_world.specs.declared.step.RunFault.TheVariants as faults
-use Rattle.line_world.specs.World.{AreApart, KnowsFiles, OnlyOutputs as OnlyWritten}
-use Rattle.line_world.specs.Turn.{FaultCounts}
+use Rattle.run_loop.specs.Limits.{file_limit}
+use Rattle.run_loop.specs.RunFault.{RunFault}
+use Rattle.run_loop.specs.RunFault.TheVariants as faults
+use Rattle.run_loop.specs.World.{AreApart, KnowsFiles, OnlyOutputs as OnlyWritten}
+use Rattle.run_loop.specs.Turn.{FaultCounts}
 use Rattle.command_base.specs.declared.stop.Stop.{Stop}
 use Rattle.command_base.specs.declared.stop.Stop.TheVariants as stops
 use Rattle.command_base.specs.Inputs.{IsWithin}

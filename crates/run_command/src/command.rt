@@ -4,8 +4,8 @@ ghost use Rattle.outside_calls.specs.Folder.{FolderState};
 ghost use Rattle.roles.specs.Both.{Both};
 ghost use Rattle.link_run.specs.Run.{start};
 ghost use Rattle.line_run.specs.Scripted.{link_of};
-ghost use Rattle.both_sides.specs.Names.{written};
-ghost use Rattle.line_world.specs.World.{IsReady, WorldAfter, script_of};
+ghost use Rattle.run_loop.specs.Names.{written};
+ghost use Rattle.run_loop.specs.World.{IsReady, WorldAfter, script_of};
 ghost use Rattle.command_base.specs.Job.{Answers};
 ghost use Rattle.command_base.specs.Outputs.{OnlyOutputs, SaysNothing};
 ghost use Rattle.command_base.specs.Stops.{EndCounts};
@@ -18,11 +18,10 @@ ghost use Rattle.run_command.specs.Completes.{Completes};
 use crate::laws::{answers_keep_the_headline, right_runs_are_done};
 use crate::outputs::create_all;
 use command_base::{Status, Stop, tell, tell_stop, write_done};
-use line_world::{Names, RunFault, World};
 use outside_calls::{Folder, FolderFault};
 use run_inputs::laws::apart_names_differ;
 use run_inputs::{LIMITS, RunWords, open_inputs};
-use run_loop::run_turns;
+use run_loop::{Names, RunFault, World, run_turns};
 use std::alloc::Global;
 
 /// The names that turns use.

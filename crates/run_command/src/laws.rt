@@ -8,9 +8,9 @@ ghost use Rattle.run_command.specs.Ends.{run_job};
 ghost use Rattle.run_command.specs.Headline.{Headline};
 ghost use Rattle.run_command.specs.Completes.{Completes};
 
-use line_bound::laws::line_runs_end_soon;
-use line_causes::laws::lost_links_were_starved;
-use line_ends::laws::{undisturbed_runs_complete, unstarved_runs_complete};
+use line_ends::laws::{
+    line_runs_end_soon, lost_links_were_starved, undisturbed_runs_complete, unstarved_runs_complete,
+};
 use line_run::laws::{runs_leave_prefixes, samples_are_carried, scripts_make_links};
 use link_run::laws::{prefixes, turns_deliver_what_came};
 use noise_script::laws::{one_answer, spelled_scripts_are_in_limits};

@@ -21,9 +21,9 @@ use Rattle.line_run.specs.Sampled.{LineRun}
 use Rattle.line_run.specs.Ends.{RunEnd, Left, Leaves, RunsTo, EndsBy}
 use Rattle.line_run.specs.Ends as runs
 use Rattle.line_run.specs.Scripted.{channel_of, link_of}
-use Rattle.turn_bound.specs.Limits.{file_limit}
-use Rattle.both_sides.specs.Names.{Written}
-use Rattle.stations.specs.Station.{file_at}
+use Rattle.line_world.specs.Limits.{file_limit}
+use Rattle.line_world.specs.Names.{Written}
+use Rattle.line_world.specs.Station.{file_at}
 use Rattle.line_world.specs.declared.world.World.{World}
 use Rattle.line_world.specs.declared.step.RunFault.{RunFault}
 use Rattle.line_world.specs.declared.step.RunFault.TheVariants as faults

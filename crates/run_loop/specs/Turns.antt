@@ -17,7 +17,7 @@ use Rattle.line_run.specs.Ends as runs
 use Rattle.line_run.specs.Scripted.{channel_of, link_of}
 use Rattle.noise_script.specs.Script.{ScriptValue}
 use Rattle.command_base.specs.Outputs.{Holds, HoldsPart}
-use Rattle.both_sides.specs.Names.{Written}
+use Rattle.line_world.specs.Names.{Written}
 use Rattle.line_world.specs.World.{KnowsFiles}
 use Rattle.line_world.specs.declared.step.RunFault.{RunFault}
 use Rattle.line_world.specs.declared.step.RunFault.TheVariants as faults

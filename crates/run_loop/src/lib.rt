@@ -3,4 +3,5 @@
 
 mod turns;
 
+pub use line_world::{Names, RunFault, World};
 pub use turns::run_turns;

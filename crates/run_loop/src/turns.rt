@@ -3,7 +3,7 @@ ghost use Rattle.std.specs.Prelude.{◌≡◌, [], List, ℕ, IfOk};
 ghost use Rattle.roles.specs.Both.{Both};
 ghost use Rattle.link_run.specs.Run.{start};
 ghost use Rattle.line_run.specs.Scripted.{link_of};
-ghost use Rattle.both_sides.specs.Names.{written};
+ghost use Rattle.line_world.specs.Names.{written};
 ghost use Rattle.line_world.specs.World.{AreApart, IsReady, OnlyOutputs, WorldAfter, script_of, lost_of, again_of};
 ghost use Rattle.line_world.specs.Turn.{TurnCounts};
 ghost use Rattle.command_base.specs.Outputs.{Holds};

@@ -10,8 +10,8 @@ use Rattle.roles.specs.Both.{of}
 use Rattle.line_run.specs.Ends.{RunEnd, MayRun, RunsLeavePrefixes, DoneLeavesWhole}
 use Rattle.line_run.specs.Ends as runs
 use Rattle.line_run.specs.Scripted.{ScriptsMayPlay, ScriptsHaveDelays}
-use Rattle.line_bound.specs.Scripts.{LineRunsEndSoon}
-use Rattle.line_causes.specs.Causes.{GivesUp, LostLinksWereStarved}
+use Rattle.line_ends.specs.Scripts.{LineRunsEndSoon}
+use Rattle.line_ends.specs.Causes.{GivesUp, LostLinksWereStarved}
 use Rattle.command_base.specs.declared.status.Status.{Status}
 use Rattle.command_base.specs.declared.status.Status.TheVariants.{Done, LineLost, NotDetected, LinkLost, ChanceMatch}
 use Rattle.command_base.specs.declared.stop.Stop.{Stop}

@@ -11,12 +11,12 @@ use Rattle.link_run.specs.Counts.{lost_slots, sent_again}
 use Rattle.line_run.specs.Ends.{RunEnd, RunsTo}
 use Rattle.line_run.specs.Ends as runs
 use Rattle.line_run.specs.Scripted.{link_of}
-use Rattle.turn_bound.specs.Limits.{file_limit}
-use Rattle.both_sides.specs.Names.{Written}
-use Rattle.line_world.specs.World.{KnowsFiles, OnlyOutputs as OnlyWritten}
-use Rattle.line_world.specs.declared.step.RunFault.{RunFault}
-use Rattle.line_world.specs.declared.step.RunFault.TheVariants as faults
-use Rattle.line_world.specs.Turn.{FaultCounts}
+use Rattle.run_loop.specs.Limits.{file_limit}
+use Rattle.run_loop.specs.Names.{Written}
+use Rattle.run_loop.specs.World.{KnowsFiles, OnlyOutputs as OnlyWritten}
+use Rattle.run_loop.specs.RunFault.{RunFault}
+use Rattle.run_loop.specs.RunFault.TheVariants as faults
+use Rattle.run_loop.specs.Turn.{FaultCounts}
 use Rattle.command_base.specs.Outputs.{OnlyOutputs}
 use Rattle.run_loop.specs.Turns.{RunEnds, RunCounts, FaultEnds}
 use Rattle.soak_inputs.specs.Soak.{soak_file, soak_script}

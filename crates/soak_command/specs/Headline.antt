@@ -7,8 +7,8 @@ use Rattle.roles.specs.Role.{other}
 use Rattle.roles.specs.Both.{of}
 use Rattle.line_run.specs.Ends.{RunEnd, StarvedBy, turns_heard}
 use Rattle.line_run.specs.Ends as runs
-use Rattle.line_bound.specs.Scripts.{HasFewTurns}
-use Rattle.line_causes.specs.Causes.{GivesUp}
+use Rattle.line_ends.specs.Scripts.{HasFewTurns}
+use Rattle.line_ends.specs.Causes.{GivesUp}
 use Rattle.command_base.specs.declared.status.Status.{Status}
 use Rattle.command_base.specs.declared.status.Status.TheVariants.{Done, LineLost, NotDetected, LinkLost, ChanceMatch}
 use Rattle.command_base.specs.Job.{Shared}

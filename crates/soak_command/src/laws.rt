@@ -7,8 +7,7 @@ ghost use Rattle.soak_command.specs.Ends.{soak_job};
 ghost use Rattle.soak_command.specs.Headline.{Headline};
 ghost use Rattle.soak_command.specs.Completes.{Completes};
 
-use line_bound::laws::line_runs_end_soon;
-use line_causes::laws::lost_links_were_starved;
+use line_ends::laws::{line_runs_end_soon, lost_links_were_starved};
 use line_run::laws::{runs_leave_prefixes, scripts_make_links};
 
 /// Whatever a soak answers, its headline holds.

@@ -3,7 +3,7 @@ use Rattle.outside_calls.specs.Folder.{FolderState}
 use Rattle.noise_script.specs.Script.{ScriptValue}
 use Rattle.link_run.specs.Run.{start}
 use Rattle.line_run.specs.Scripted.{link_of}
-use Rattle.line_world.specs.World.{WorldAfter}
+use Rattle.run_loop.specs.World.{WorldAfter}
 use Rattle.command_base.proofs.Jobs.{end-earlier}
 use Rattle.command_base.proofs.OnlyOutputs.{OnlyOutputs-reads, OnlyOutputs-trans}
 use Rattle.run_inputs.specs.declared.limits.TheConstants.{LIMITS}

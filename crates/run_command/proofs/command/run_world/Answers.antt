@@ -1,9 +1,9 @@
 use Rattle.std.proofs.Common.{inl, sym, subst}
 use Rattle.outside_calls.specs.Folder.{FolderState}
 use Rattle.noise_script.specs.Script.{ScriptValue}
-use Rattle.both_sides.specs.Names.{Written}
-use Rattle.line_world.specs.World.{AreApart, OnlyOutputs as OnlyWritten, script_of}
-use Rattle.line_world.specs.Turn.{FaultCounts}
+use Rattle.run_loop.specs.Names.{Written}
+use Rattle.run_loop.specs.World.{AreApart, OnlyOutputs as OnlyWritten, script_of}
+use Rattle.run_loop.specs.Turn.{FaultCounts}
 use Rattle.command_base.specs.Stops.{StopCounts}
 use Rattle.command_base.proofs.Jobs.{stop-earlier}
 use Rattle.command_base.proofs.OnlyOutputs.{OnlyOutputs-trans}

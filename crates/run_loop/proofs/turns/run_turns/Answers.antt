@@ -1,7 +1,7 @@
 use Rattle.std.proofs.Common.{refl}
 use Rattle.outside_calls.specs.Steps.{CountsStand-trans}
 use Rattle.outside_calls.specs.Folder.{FolderState}
-use Rattle.both_sides.specs.Names.{Written, written}
+use Rattle.line_world.specs.Names.{Written, written}
 use Rattle.line_world.specs.World.{script_of}
 use Rattle.run_loop.proofs.Reached.{reached-start, reached-going, reached-done, reached-counts, reached-fault, nearer, next-turn, only-trans, fault-earlier}
 use Rattle.run_loop.proofs.turns.run_turns.Goals as goal

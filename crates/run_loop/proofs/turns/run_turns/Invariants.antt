@@ -1,5 +1,5 @@
 use Rattle.std.proofs.Common.{◌-◌, ◌^◌}
-use Rattle.both_sides.specs.Names.{written}
+use Rattle.line_world.specs.Names.{written}
 use Rattle.line_world.specs.World.{IsReady, script_of, turn_of}
 use Rattle.run_loop.proofs.Reached.{Reached}
 use Rattle.run_loop.proofs.turns.run_turns.Given as goal
