@@ -193,3 +193,9 @@ returns-in-Some-margin_words-clause-completes g c =
     completed words (g.F.Folder.state c.args.folder.now) (g.F.Folder.state c.margin.new.folder) c.margin.result
     (Margin (margin_named c.in-Some-margin_words.names))
     (margin-asked words (margin_named c.in-Some-margin_words.names) (sym c.in-Some-margin_words.ensures)) c.margin.ensures.completes
+
+pub returns-in-Some-clause-stand : goal.returns-in-Some-clause-stand
+returns-in-Some-clause-stand g c = c.run.ensures.headline.shared.stand
+
+pub returns-in-Some-decode_words-clause-stand : goal.returns-in-Some-decode_words-clause-stand
+returns-in-Some-decode_words-clause-stand g c = c.decode.ensures.headline.shared.stand
