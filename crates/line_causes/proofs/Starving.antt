@@ -9,10 +9,10 @@ use Rattle.noise_script.specs.Script.{ScriptValue, IsInLimits, delay_of}
 use Rattle.link_faults.specs.declared.fault.LinkFault.TheVariants as faults
 use Rattle.link_run.specs.Run.{Ends, Turn}
 use Rattle.link_run.specs.Laws.{RunsOver}
-use Rattle.turn_periods.specs.Losses.{OriginatorWantsPattern, StarvedLosesMany}
-use Rattle.turn_tries.specs.Tries.{GivesUpForLosses, GivesUpUnbroken}
-use Rattle.turn_tries.proofs.Parting.{later-loses}
-use Rattle.turn_breaks.specs.Breaks.{GivesUpStarved}
+use Rattle.turn_losses.specs.Losses.{OriginatorWantsPattern, StarvedLosesMany}
+use Rattle.turn_losses.specs.Tries.{GivesUpForLosses, GivesUpUnbroken}
+use Rattle.turn_losses.proofs.Parting.{later-loses}
+use Rattle.turn_losses.specs.Breaks.{GivesUpStarved}
 use Rattle.line_run.specs.Sampled.{Channel, LineRun}
 use Rattle.line_run.specs.Scripted.{period_of, link_of, break_line, ScriptsMayPlay, ScriptsHaveDelays}
 use Rattle.line_run.specs.LineLaws.{SamplesAreCarried, OneIsCarried}

@@ -8,7 +8,7 @@ use Rattle.link_account.specs.Account.{break_waits, check_of}
 use Rattle.link_run.specs.Run.{Link, Ends, Turn, served_at}
 use Rattle.link_run.specs.Outcomes.{Outcome, TurnIs}
 use Rattle.link_run.specs.Counts.{lost_slots}
-use Rattle.turn_periods.specs.Losses.{LosesEach}
+use Rattle.turn_losses.specs.Losses.{LosesEach}
 use Rattle.line_run.specs.Sampled.{Channel, HeardIn, IsHeardWell, LineRun}
 use Rattle.line_run.specs.Scripted.{period_of, link_of}
 use Rattle.line_run.specs.Ends.{RunEnd, IsDone, LinkLost, NotDetected, LineLost, ChanceMatch, Left, EndsBy, RunsTo, turns_heard, StarvedBy}

@@ -5,9 +5,10 @@ pub use line_bound::laws::line_runs_end_soon;
 use line_bound::laws::scripts_keep_time;
 use line_run::laws::{samples_are_carried, scripts_make_links};
 use link_run::laws::each_turn_is_made;
-use turn_breaks::laws::ends_give_up_starved;
-use turn_periods::laws::{few_losses_starve_no_run, patterns_are_missed_for_losses};
-use turn_tries::laws::ends_give_up_for_losses;
+use turn_losses::laws::{
+    ends_give_up_for_losses, ends_give_up_starved, few_losses_starve_no_run,
+    patterns_are_missed_for_losses,
+};
 
 /// A run over the line of samples that ends by a link that is lost or not detected was starved. Where no break waits at the end that
 /// gives up, something was lost in each of its latest periods, as many as the script has tries, and one more where it isn't detected. In

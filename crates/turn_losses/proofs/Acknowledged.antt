@@ -1,0 +1,393 @@
+-- What an end sends at the answer to its poll is acknowledged, where no line is lost.
+use Rattle.std.proofs.Common.{◌⊎◌, inl, inr, ◌≡◌, ℕ, zero, suc, ◌+◌, ◌-◌, ◌%◌, ◌<◌, ◌≤◌, ◌&&◌, Bool, true, false, cond, nat_lt, nat_le, length, arith, refl, sym, ◌∙◌, ap, Option, Some, None}
+use Rattle.std.specs.Prelude.{is_some}
+use Rattle.std.proofs.lemmas.Bool.{cases_lt}
+use Rattle.std.proofs.lemmas.Bool.Decides.{nat_tests}
+use Rattle.lapm_frames.specs.declared.frame.Frame.{Frame}
+use Rattle.lapm_frames.specs.declared.frame.Frame.TheVariants.{I, Rr, Rnr, Rej, Srej, Sabme, Disc, Ua, Dm, Frmr, Ui, Xid, Test}
+use Rattle.lapm_sender.specs.Meant.{meant}
+use Rattle.slot_contents.specs.declared.sent.Sent.{Sent}
+use Rattle.slot_contents.specs.declared.sent.Sent.TheVariants as slots
+use Rattle.slot_contents.specs.declared.arrived.Arrived.{Arrived}
+use Rattle.slot_contents.specs.declared.arrived.Arrived.TheVariants as arrivals
+use Rattle.link_account.specs.Account.{is_connected}
+use Rattle.link_account.specs.Play.{arrives}
+use Rattle.turn_bound.proofs.MeetHear.{of_arrived}
+use Rattle.turn_losses.specs.Polls.{is_final}
+use Rattle.turn_losses.proofs.Polling.{is_linked}
+use Rattle.turn_losses.proofs.TwoEnds.{EndRun, ArrivesLate, TwoEnds, hears_final}
+use Rattle.turn_losses.proofs.KeepsPolls.{Answers}
+use Rattle.turn_losses.proofs.NumberHear.{frame_nr, nr_heard, ns_heard, nr_sent, ns_sent, NumbersHeard}
+use Rattle.turn_losses.proofs.NumberTurn.{NumberTurn}
+use Rattle.turn_losses.proofs.Room.{Room}
+use Rattle.turn_losses.proofs.PollLaws.{reply-matches}
+use Rattle.turn_losses.proofs.PeriodLaws.{linked-on, connected-back, awaits-on, NoneLost, StayConnected}
+
+-- What is known of the numbers of two ends: of e's segments, which o takes.
+pub record Counts (turns : ℕ) (e o : EndRun) : Type 0 where
+  pub own : (t : ℕ) → t < turns → is_connected (e.account t).phase ≡ true → is_connected (e.account (t + 1)).phase ≡ true
+      → NumberTurn (e.heard t) (e.slot t) (e.account t) (e.mid t) (e.account (t + 1))
+  pub other : (t : ℕ) → t < turns → is_connected (o.account t).phase ≡ true → is_connected (o.account (t + 1)).phase ≡ true
+      → NumberTurn (o.heard t) (o.slot t) (o.account t) (o.mid t) (o.account (t + 1))
+  pub acked : (t : ℕ) → t < turns → (e.mid t).outgoing.front ≤ length (o.mid t).incoming.taken
+  pub offered : (t : ℕ) → t < turns → length (o.account t).incoming.taken ≤ length (e.account t).outgoing.pieces
+  pub room : (t : ℕ) → t < turns → is_connected (e.account t).phase ≡ true → Room (e.account t)
+  pub not_first : is_connected (e.account 0).phase ≡ false
+  pub begins : (t : ℕ) → t < turns → is_linked (e.account t).phase ≡ false → is_connected (e.account (t + 1)).phase ≡ true
+      → (e.account (t + 1)).outgoing.count ≡ 0
+  pub count_is : (t : ℕ) → e.count t ≡ (e.mid t).outgoing.count
+  pub answered : (t : ℕ) → t < turns → is_connected (e.account t).phase ≡ true → is_connected (e.account (t + 1)).phase ≡ true
+      → hears_final e t ≡ true
+      → (e.count t ≡ 0) ⊎ (ns_sent (e.slot t) ≡ Some ((e.mid t).outgoing.front % 128))
+
+-- what is told of a slot, and of what arrives of it
+record Told (g : Arrived → Option ℕ) (k : Sent → Option ℕ) : Type 0 where
+  pub nothing : g arrivals.Nothing ≡ None
+  pub same : (s : Sent) → g (arrives s) ≡ k s
+
+nr-told : Told nr_heard nr_sent
+nr-told = record { nothing = refl; same = λ s. by s }
+  where
+    by : (s : Sent) → nr_heard (arrives s) ≡ nr_sent s
+    by slots.Mark = refl
+    by slots.Odp = refl
+    by slots.Adp = refl
+    by slots.Flags = refl
+    by (slots.Frame frame) = refl
+
+ns-told : Told ns_heard ns_sent
+ns-told = record { nothing = refl; same = λ s. by s }
+  where
+    by : (s : Sent) → ns_heard (arrives s) ≡ ns_sent s
+    by slots.Mark = refl
+    by slots.Odp = refl
+    by slots.Adp = refl
+    by slots.Flags = refl
+    by (slots.Frame frame) = refl
+
+told-from : (g : Arrived → Option ℕ) (k : Sent → Option ℕ) → Told g k → (delay turn : ℕ) (loses : Bool) (f : ℕ → Sent) (arrived : Arrived)
+    → ArrivesLate delay turn loses f arrived → (n : ℕ) → g arrived ≡ Some n
+    → (delay ≤ turn) × (k (f (turn - delay)) ≡ Some n)
+told-from g k w delay turn loses f arrived h n e = go (cases_lt turn delay)
+  where
+    by : (b : Bool) → g (cond b arrivals.Nothing (arrives (f (turn - delay)))) ≡ Some n → k (f (turn - delay)) ≡ Some n
+    by true q = let wrong : None ≡ Some n = sym w.nothing ∙ q in cc
+    by false q = sym (w.same (f (turn - delay))) ∙ q
+
+    go : (turn < delay) ⊎ (delay ≤ turn) → (delay ≤ turn) × (k (f (turn - delay)) ≡ Some n)
+    go (inl l) = let wrong : None ≡ Some n = sym (ap g (h.early l) ∙ w.nothing) ∙ e in cc
+    go (inr m) = (m, by loses (ap g (sym (h.late m)) ∙ e))
+
+told-to : (g : Arrived → Option ℕ) (k : Sent → Option ℕ) → Told g k → (delay turn : ℕ) (loses : Bool) (f : ℕ → Sent) (arrived : Arrived)
+    → ArrivesLate delay (turn + delay) loses f arrived → loses ≡ false → g arrived ≡ k (f turn)
+told-to g k w delay turn loses f arrived h none =
+    let back : turn + delay - delay ≡ turn = omega arith in
+    ap g (h.late (omega arith)
+    ∙ (ap (λ b. cond b arrivals.Nothing (arrives (f (turn + delay - delay)))) none ∙ ap (λ n. arrives (f n)) back)) ∙ w.same (f turn)
+
+is-some : (m : Option ℕ) → is_some m ≡ true → (n : ℕ) × (m ≡ Some n)
+is-some None e = cc
+is-some (Some n) e = (n, refl)
+
+final-nr : (frame : Frame) → is_final frame ≡ true → is_some (frame_nr frame) ≡ true
+final-nr (Rr c nr pf) e = refl
+final-nr (Rnr c nr pf) e = refl
+final-nr (Rej c nr pf) e = refl
+final-nr (I ns nr pf info) e = refl
+final-nr (Srej c nr pf) e = cc
+final-nr (Sabme pf) e = cc
+final-nr (Disc pf) e = cc
+final-nr (Ua pf) e = cc
+final-nr (Dm pf) e = cc
+final-nr (Frmr pf info) e = cc
+final-nr (Ui c pf info) e = cc
+final-nr (Xid c pf info) e = cc
+final-nr (Test c pf info) e = cc
+
+final-told : (x : Arrived) → of_arrived is_final x ≡ true → (n : ℕ) × (nr_heard x ≡ Some n)
+final-told arrivals.Nothing e = cc
+final-told (arrivals.Pattern seen) e = cc
+final-told (arrivals.Frame frame) e = is-some (frame_nr frame) (final-nr frame e)
+
+-- a number that is meant is the least from the low end that agrees
+meant-is : (low high nr n : ℕ) → meant low high nr ≡ Some n → (low ≤ n) × (n < low + 128) × (n % 128 ≡ nr)
+meant-is low high nr n e = go (nat_lt nr 128) refl (nat_le (low + (nr + 128 - low % 128) % 128) high) e
+  where
+    go : (x : Bool) → nat_lt nr 128 ≡ x → (y : Bool) → cond (x && y) (Some (low + (nr + 128 - low % 128) % 128)) None ≡ Some n
+        → (low ≤ n) × (n < low + 128) × (n % 128 ≡ nr)
+    go false q y f = cc
+    go true q false f = cc
+    go true q true f =
+        let less : nr < 128 = grind (arith, nat_tests, q) in
+        let same : low + (nr + 128 - low % 128) % 128 ≡ n = cc in
+        (omega (arith, same), omega (arith, same), omega (arith, same, less))
+
+one-number : (low n r nr : ℕ) → low ≤ n → n ≤ r → r ≤ low + 127 → n % 128 ≡ nr → nr ≡ r % 128 → n ≡ r
+one-number low n r nr h1 h2 h3 h4 h5 = omega (arith, h1, h2, h3, h4, h5)
+
+beyond : (f r nr : ℕ) → f + 1 ≤ r → r ≤ f + 127 → f % 128 ≡ nr → nr ≡ r % 128 → ⊥
+beyond f r nr h1 h2 h3 h4 = omega (arith, h1, h2, h3, h4)
+
+-- the front stands, or the retry count is 0 in a turn
+pub front-or-cleared : (turns : ℕ) (e o : EndRun) → Counts turns e o → (s : ℕ) → (n : ℕ) → s + n ≤ turns → StayConnected e s (s + n)
+    → ((e.account (s + n)).outgoing.front ≡ (e.account s).outgoing.front)
+    ⊎ ((v : ℕ) × (s ≤ v) × (v < s + n) × ((e.mid v).outgoing.count ≡ 0))
+front-or-cleared turns e o c s zero l h = inl (ap (λ t. (e.account t).outgoing.front) (omega arith))
+front-or-cleared turns e o c s (suc n) l h = go (front-or-cleared turns e o c s n (omega (arith, l)) (λ t x y. h t x (omega (arith, y))))
+  where
+    t : ℕ
+    t = s + n
+
+    w : NumberTurn (e.heard t) (e.slot t) (e.account t) (e.mid t) (e.account (t + 1))
+    w = c.own t (omega (arith, l)) (h t (omega arith) (omega arith)) (h (t + 1) (omega arith) (omega arith))
+
+    go : ((e.account t).outgoing.front ≡ (e.account s).outgoing.front) ⊎ ((v : ℕ) × (s ≤ v) × (v < s + n) × ((e.mid v).outgoing.count ≡ 0))
+        → ((e.account (s + suc n)).outgoing.front ≡ (e.account s).outgoing.front)
+        ⊎ ((v : ℕ) × (s ≤ v) × (v < s + suc n) × ((e.mid v).outgoing.count ≡ 0))
+    go (inr (v, x, y, z)) = inr (v, x, omega (arith, y), z)
+    go (inl q) = by w.heard.advance
+      where
+        by : ((e.mid t).outgoing.front ≡ (e.account t).outgoing.front) ⊎ ((e.mid t).outgoing.count ≡ 0)
+            → ((e.account (s + suc n)).outgoing.front ≡ (e.account s).outgoing.front)
+            ⊎ ((v : ℕ) × (s ≤ v) × (v < s + suc n) × ((e.mid v).outgoing.count ≡ 0))
+        by (inl p) = inl (ap (λ x. (e.account x).outgoing.front) (omega arith) ∙ (w.front ∙ (p ∙ q)))
+        by (inr p) = inr (t, omega arith, omega arith, p)
+
+-- what is taken stays taken
+taken-rises : (turns : ℕ) (e o : EndRun) → Counts turns e o → (s n : ℕ) → s + n ≤ turns → StayConnected o s (s + n)
+    → length (o.account s).incoming.taken ≤ length (o.account (s + n)).incoming.taken
+taken-rises turns e o c s zero l h = let q = ap (λ t. length (o.account t).incoming.taken) (same s) in omega (arith, q)
+  where
+    same : (x : ℕ) → x + 0 ≡ x
+    same x = omega arith
+taken-rises turns e o c s (suc n) l h =
+    let t : ℕ = s + n in
+    let w = c.other t (omega (arith, l)) (h t (omega arith) (omega arith)) (h (t + 1) (omega arith) (omega arith)) in
+    let before = taken-rises turns e o c s n (omega (arith, l)) (λ u x y. h u x (omega (arith, y))) in
+    let low = w.heard.incoming.low in
+    let after = ap length w.taken in
+    let there : length (o.account (s + suc n)).incoming.taken ≡ length (o.account (t + 1)).incoming.taken =
+    ap (λ u. length (o.account u).incoming.taken) (omega arith) in
+    omega (arith, before, low, after, there)
+
+-- The first segment that isn't acknowledged, sent in the turn in which the answer to a poll is heard: the retry count is 0 within a round trip and a turn.
+pub acknowledged : (period turns : ℕ) (e o : EndRun) → TwoEnds period turns e o → Counts turns e o → (u : ℕ)
+    → u + (e.delay + o.delay) + 1 < turns → hears_final e u ≡ true
+    → ns_sent (e.slot u) ≡ Some ((e.mid u).outgoing.front % 128)
+    → StayConnected e u (u + (e.delay + o.delay) + 2) → StayConnected o (u - o.delay) (u + (e.delay + o.delay) + 2)
+    → NoneLost e o (u + 1) (e.delay + o.delay + 1)
+    → (v : ℕ) × (u < v) × (v ≤ u + (e.delay + o.delay) + 1) × ((e.mid v).outgoing.count ≡ 0)
+acknowledged period turns e o k c u within final sends ce co lost = go-told (own-numbers.heard)
+  where
+    d : 1 ≤ e.delay
+    d = k.own_delay
+
+    d' : 1 ≤ o.delay
+    d' = k.other_delay
+
+    m : Answers u e o
+    m = reply-matches period turns e o k u (omega (arith, within)) final
+
+    trip : m.sent + (e.delay + o.delay) ≡ u
+    trip = m.round_trip
+
+    due-before : m.due ≤ m.sent
+    due-before = m.due_before
+
+    w : ℕ
+    w = u - o.delay
+
+    x : ℕ
+    x = u + e.delay
+
+    f : ℕ
+    f = (e.mid u).outgoing.front
+
+    own-numbers : NumberTurn (e.heard u) (e.slot u) (e.account u) (e.mid u) (e.account (u + 1))
+    own-numbers = c.own u (omega (arith, within)) (ce u (omega arith) (omega arith)) (ce (u + 1) (omega arith) (omega arith))
+
+    o-turn : (t : ℕ) → w ≤ t → t ≤ u + (e.delay + o.delay) + 1
+        → NumberTurn (o.heard t) (o.slot t) (o.account t) (o.mid t) (o.account (t + 1))
+    o-turn t l g = c.other t (omega (arith, g, within)) (co t l (omega (arith, g))) (co (t + 1) (omega (arith, l)) (omega (arith, g)))
+
+    r : ℕ
+    r = length (o.account (w + 1)).incoming.taken
+
+    -- o takes nothing from when it answered until that segment comes
+    stands : (n : ℕ) → w + 1 + n ≤ x → length (o.account (w + 1 + n)).incoming.taken ≡ r
+    stands zero l = ap (λ t. length (o.account t).incoming.taken) (same w)
+      where
+        same : (y : ℕ) → y + 1 + 0 ≡ y + 1
+        same y = omega arith
+    stands (suc n) l = ap (λ y. length (o.account y).incoming.taken) (next w n)
+        ∙ (ap length q.taken ∙ (ap (λ (i : _). length i.taken) (none (ns_heard (o.heard t)) refl) ∙ stands n (omega (arith, l))))
+      where
+        next : (y z : ℕ) → y + 1 + suc z ≡ y + 1 + z + 1
+        next y z = omega arith
+
+        t : ℕ
+        t = w + 1 + n
+
+        q : NumberTurn (o.heard t) (o.slot t) (o.account t) (o.mid t) (o.account (t + 1))
+        q = o-turn t (omega arith) (omega (arith, l, d))
+
+        none : (h : Option ℕ) → ns_heard (o.heard t) ≡ h → (o.mid t).incoming ≡ (o.account t).incoming
+        none None g = q.heard.incoming.same g
+        none (Some ns) g =
+            let from = told-from ns_heard ns_sent ns-told e.delay t (o.loses t) e.slot (o.heard t)
+            (k.is_heard t (omega (arith, l, within, d'))) ns g in
+            let y : ℕ = t - e.delay in
+            let fr = from.0 in
+            let tr = trip in
+            let low : m.due < y + 1 = omega (arith, fr, tr, due-before) in
+            let high : y + 1 ≤ u = omega (arith, fr, l) in
+            let linked : is_linked (e.account (m.due + 1)).phase ≡ true =
+            (k.own m.due (omega (arith, low, high, within))).made_linked m.made in
+            let cu = ce u (omega arith) (omega arith) in
+            let after-due : m.due + 1 ≤ y = omega (arith, fr, tr, due-before, d) in
+            let cy = connected-back period turns e o k y u (omega (arith, high)) (omega (arith, within))
+            (linked-on period turns e o k (m.due + 1) y after-due (omega (arith, high, within)) linked) cu in
+            let cy' = connected-back period turns e o k (y + 1) u high (omega (arith, within))
+            (linked-on period turns e o k (m.due + 1) (y + 1) (omega (arith, after-due)) (omega (arith, high, within)) linked) cu in
+            let sent = (c.own y (omega (arith, high, within)) cy cy').segment ns from.1 in
+            let waits = awaits-on period turns e o k u (omega (arith, within)) cu m (y + 1) low high in
+            let wrong : true ≡ false = sym waits ∙ sent in cc
+
+    stands-at : (t : ℕ) → w + 1 ≤ t → t ≤ x → length (o.account t).incoming.taken ≡ r
+    stands-at t l g = ap (λ y. length (o.account y).incoming.taken) (omega (arith, l)) ∙ stands (t - (w + 1)) (omega (arith, l, g))
+
+    -- so that segment is the next one expected
+    go-told : NumbersHeard (e.heard u) (e.account u) (e.mid u)
+        → (v : ℕ) × (u < v) × (v ≤ u + (e.delay + o.delay) + 1) × ((e.mid v).outgoing.count ≡ 0)
+    go-told h = from-answer (final-told (e.heard u) final)
+      where
+        from-answer : (nr : ℕ) × (nr_heard (e.heard u) ≡ Some nr)
+            → (v : ℕ) × (u < v) × (v ≤ u + (e.delay + o.delay) + 1) × ((e.mid v).outgoing.count ≡ 0)
+        from-answer (nr, heard) = arrived (next-taken)
+          where
+            sent-so : (o.delay ≤ u) × (nr_sent (o.slot w) ≡ Some nr)
+            sent-so = told-from nr_heard nr_sent nr-told o.delay u (e.loses u) o.slot (e.heard u)
+                (k.hears u (omega (arith, within))) nr heard
+
+            number : nr ≡ r % 128
+            number = (o-turn w (omega arith) (omega arith)).tells nr sent-so.1
+                ∙ ap (λ (l : _). length l % 128) (sym (o-turn w (omega arith) (omega arith)).taken)
+
+            means : ((e.account u).outgoing.front ≤ f) × (f < (e.account u).outgoing.front + 128) × (f % 128 ≡ nr)
+            means = meant-is (e.account u).outgoing.front (e.account u).outgoing.high nr f (h.acked nr heard)
+
+            before-u : w + 1 ≤ u
+            before-u = let l = sent-so.0 in omega (arith, l, d')
+
+            low : f ≤ r
+            low = let a = c.acked u (omega (arith, within)) in let b = ap length (o-turn u (omega arith) (omega arith)).taken in let s =
+                stands-at (u + 1) (omega (arith, before-u)) (omega (arith, d)) in omega (arith, a, b, s)
+
+            high : r ≤ (e.account u).outgoing.front + 127
+            high = let a = c.offered u (omega (arith, within)) in let s = stands-at u before-u (omega arith) in let p =
+                c.room u (omega (arith, within)) (ce u (omega arith) (omega arith)) in
+                let pw = p.window in let pp = p.pieces in omega (arith, a, s, pw, pp)
+
+            same : f ≡ r
+            same = one-number (e.account u).outgoing.front f r nr means.0 low high means.2 number
+
+            ox : NumberTurn (o.heard x) (o.slot x) (o.account x) (o.mid x) (o.account (x + 1))
+            ox = o-turn x (omega arith) (omega (arith, d'))
+
+            comes : ns_heard (o.heard x) ≡ Some (f % 128)
+            comes = told-to ns_heard ns_sent ns-told e.delay u (o.loses x) e.slot (o.heard x) (k.is_heard x (omega (arith, within, d')))
+                (lost x (omega (arith, d)) (omega (arith, d'))).1 ∙ sends
+
+            next-taken : (length (o.account x).incoming.taken < length (o.mid x).incoming.taken) × ((o.mid x).incoming.owed ≡ true)
+            next-taken = ox.heard.incoming.in_order (f % 128) comes
+                (ap (λ n. n % 128) (same ∙ sym (stands-at x (omega (arith, before-u)) (omega arith))))
+
+            -- it is told in that turn or the next one
+            arrived : (length (o.account x).incoming.taken < length (o.mid x).incoming.taken) × ((o.mid x).incoming.owed ≡ true)
+                → (v : ℕ) × (u < v) × (v ≤ u + (e.delay + o.delay) + 1) × ((e.mid v).outgoing.count ≡ 0)
+            arrived (more, owed) = told-now (ox.told owed (ox.heard.numbered (f % 128) comes))
+              where
+                numbered : (o.mid x).numbered ≡ true
+                numbered = ox.heard.numbered (f % 128) comes
+
+                more-than : f + 1 ≤ length (o.mid x).incoming.taken
+                more-than = let s = stands-at x (omega (arith, before-u)) (omega arith) in omega (arith, more, s, same)
+
+                -- what is told from then on clears the count
+                clears : (y : ℕ) → x ≤ y → y ≤ x + 1 → f + 1 ≤ length (o.mid y).incoming.taken → is_some (nr_sent (o.slot y)) ≡ true
+                    → (v : ℕ) × (u < v) × (v ≤ u + (e.delay + o.delay) + 1) × ((e.mid v).outgoing.count ≡ 0)
+                clears y ly gy much some = hears (is-some (nr_sent (o.slot y)) some)
+                  where
+                    v : ℕ
+                    v = y + o.delay
+
+                    u-v : u < v
+                    u-v = omega (arith, ly, d')
+
+                    v-in : v ≤ u + (e.delay + o.delay) + 1
+                    v-in = omega (arith, gy)
+
+                    oy : NumberTurn (o.heard y) (o.slot y) (o.account y) (o.mid y) (o.account (y + 1))
+                    oy = o-turn y (omega (arith, ly)) (omega (arith, gy, d'))
+
+                    ev : NumberTurn (e.heard v) (e.slot v) (e.account v) (e.mid v) (e.account (v + 1))
+                    ev = c.own v (omega (arith, v-in, within)) (ce v (omega (arith, u-v)) (omega (arith, v-in)))
+                        (ce (v + 1) (omega (arith, u-v)) (omega (arith, v-in)))
+
+                    hears : (nr' : ℕ) × (nr_sent (o.slot y) ≡ Some nr')
+                        → (v : ℕ) × (u < v) × (v ≤ u + (e.delay + o.delay) + 1) × ((e.mid v).outgoing.count ≡ 0)
+                    hears (nr', said) = moved
+                        (front-or-cleared turns e o c (u + 1) (v - (u + 1)) (omega (arith, u-v, v-in, within))
+                        (λ t a b. ce t (omega (arith, a)) (omega (arith, b, u-v, v-in)))) ev.heard.advance
+                      where
+                        comes-back : nr_heard (e.heard v) ≡ Some nr'
+                        comes-back = told-to nr_heard nr_sent nr-told o.delay y (e.loses v) o.slot (e.heard v)
+                            (k.hears v (omega (arith, v-in, within))) (lost v (omega (arith, u-v)) (omega (arith, v-in))).0 ∙ said
+
+                        told : nr' ≡ length (o.mid y).incoming.taken % 128
+                        told = oy.tells nr' said
+
+                        at-v : u + 1 + (v - (u + 1)) ≡ v
+                        at-v = omega (arith, u-v)
+
+                        moved : ((e.account (u + 1 + (v - (u + 1)))).outgoing.front ≡ (e.account (u + 1)).outgoing.front)
+                            ⊎ ((t : ℕ) × (u + 1 ≤ t) × (t < u + 1 + (v - (u + 1))) × ((e.mid t).outgoing.count ≡ 0))
+                            → ((e.mid v).outgoing.front ≡ (e.account v).outgoing.front) ⊎ ((e.mid v).outgoing.count ≡ 0)
+                            → (v : ℕ) × (u < v) × (v ≤ u + (e.delay + o.delay) + 1) × ((e.mid v).outgoing.count ≡ 0)
+                        moved (inr (t, a, b, z)) y' = (t, omega (arith, a), omega (arith, b, at-v, v-in), z)
+                        moved (inl q) (inr z) = (v, u-v, v-in, z)
+                        moved (inl q) (inl p) =
+                            let there : (e.account v).outgoing.front ≡ f =
+                            ap (λ n. (e.account n).outgoing.front) (sym at-v) ∙ (q ∙ own-numbers.front) in
+                            let means' = meant-is (e.account v).outgoing.front (e.account v).outgoing.high nr' (e.mid v).outgoing.front
+                            (ev.heard.acked nr' comes-back) in
+                            let agrees : f % 128 ≡ nr' = ap (λ n. n % 128) (sym (p ∙ there)) ∙ means'.2 in
+                            let rises = taken-rises turns e o c (y + 1) (v - (y + 1)) (omega (arith, d', v-in, within))
+                            (λ t a b. co t (omega (arith, a, ly)) (omega (arith, b, v-in, d'))) in
+                            let after = ap length oy.taken in
+                            let same-v : length (o.account (y + 1 + (v - (y + 1)))).incoming.taken ≡ length (o.account v).incoming.taken =
+                            ap (λ n. length (o.account n).incoming.taken) (omega (arith, d')) in
+                            let few = c.offered v (omega (arith, v-in, within)) in
+                            let p' = c.room v (omega (arith, v-in, within)) (ce v (omega (arith, u-v)) (omega (arith, v-in))) in
+                            let pw = p'.window in let pp = p'.pieces in
+                            absurd (beyond f (length (o.mid y).incoming.taken) nr' much
+                            (omega (arith, rises, after, same-v, few, pw, pp, there)) agrees told)
+
+                told-now : (is_some (nr_sent (o.slot x)) ≡ true)
+                    ⊎ (((o.account x).special ≡ false) × ((o.account (x + 1)).special ≡ true) × ((o.account (x + 1)).incoming.owed ≡ true))
+                    → (v : ℕ) × (u < v) × (v ≤ u + (e.delay + o.delay) + 1) × ((e.mid v).outgoing.count ≡ 0)
+                told-now (inl some) = clears x (omega arith) (omega arith) more-than some
+                told-now (inr (a, special, still)) =
+                    told-next (ox'.told (ox'.heard.incoming.owed still) (ox'.numbered (ox.numbered_on ∙ numbered)))
+                  where
+                    ox' : NumberTurn (o.heard (x + 1)) (o.slot (x + 1)) (o.account (x + 1)) (o.mid (x + 1)) (o.account (x + 1 + 1))
+                    ox' = o-turn (x + 1) (omega arith) (omega (arith, d'))
+
+                    told-next : (is_some (nr_sent (o.slot (x + 1))) ≡ true)
+                        ⊎ (((o.account (x + 1)).special ≡ false) × ((o.account (x + 1 + 1)).special ≡ true)
+                        × ((o.account (x + 1 + 1)).incoming.owed ≡ true))
+                        → (v : ℕ) × (u < v) × (v ≤ u + (e.delay + o.delay) + 1) × ((e.mid v).outgoing.count ≡ 0)
+                    told-next (inr (b, _, _)) = let wrong : true ≡ false = sym special ∙ b in cc
+                    told-next (inl some) =
+                        let on = ox'.heard.incoming.low in let after = ap length ox.taken in
+                        clears (x + 1) (omega arith) (omega arith) (omega (arith, on, after, more-than)) some

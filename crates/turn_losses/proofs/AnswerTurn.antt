@@ -1,0 +1,161 @@
+use Rattle.std.proofs.Common.{◌⊎◌, inl, inr, ◌≡◌, ℕ, ◌+◌, ◌*◌, ◌<◌, ◌&&◌, Bool, true, false, cond, nat_eq, length, arith, refl, sym, ◌∙◌, ap, subst, Option, Some, None, Result, Ok, Err}
+use Rattle.std.proofs.lemmas.Bool.Decides.{nat_tests}
+use Rattle.roles.specs.declared.role.Role.{Role}
+use Rattle.roles.specs.declared.role.Role.TheVariants.{Originator, Answerer}
+use Rattle.lapm_frames.specs.declared.frame.Frame.TheVariants.{Disc}
+use Rattle.lapm_sender.specs.Outgoing.{is_outstanding}
+use Rattle.slot_contents.specs.declared.arrived.Arrived.{Arrived}
+use Rattle.slot_contents.specs.declared.arrived.Arrived.TheVariants as arrivals
+use Rattle.link_account.specs.declared.phase.Phase.{Phase}
+use Rattle.link_account.specs.declared.phase.Phase.TheVariants.{Detecting, Negotiating, Establishing, Connected, Releasing, Closed}
+use Rattle.link_faults.specs.declared.fault.LinkFault.{LinkFault}
+use Rattle.link_account.specs.Account.{Account, is_connected}
+use Rattle.roles.specs.Role.{is_originator}
+use Rattle.link_account.specs.Hear.{hear, trying}
+use Rattle.link_account.specs.Speak.{Said, spent, trying_again, tries_frame, timer_expires, speak_linked, speak, speak_in, speak_releasing}
+use Rattle.turn_bound.proofs.Clock.{Rates, AreRates}
+use Rattle.turn_bound.proofs.Value.{IsOf, Stands, arrived_rnrs}
+use Rattle.link_run.specs.End.{User, is_busy, is_released}
+use Rattle.turn_bound.proofs.Run.{served_account}
+use Rattle.turn_bound.proofs.OneTurn.{heard-ok}
+use Rattle.turn_bound.proofs.Phases.{hears-well}
+use Rattle.turn_bound.proofs.Serves.{serves-well}
+use Rattle.turn_bound.specs.Due.{NoneDue}
+use Rattle.turn_bound.proofs.Serving.{Served, serves-all}
+use Rattle.turn_bound.proofs.Clock.{Sends}
+use Rattle.turn_losses.proofs.Answered.{SendsSegment, AnswerTurn}
+use Rattle.turn_losses.proofs.Answering.{AnswerHeard, frame_rnr, answer-hears, Segment, urgent-says, front-may}
+use Rattle.turn_losses.proofs.PollHear.{PollHeard, PollHears, poll-hears}
+use Rattle.turn_losses.specs.Polls.{is_poll, is_final}
+use Rattle.turn_bound.proofs.MeetHear.{of_arrived}
+
+pub linked-sends : (z : Rates) (before turn : ℕ) (r : Role) (p : Phase) (a : Account) → Stands z before turn r p a → is_connected p ≡ true
+    → Sends z before turn a.outgoing a.wait.timer
+linked-sends z before turn Originator Connected a st e = st.sends
+linked-sends z before turn Answerer Connected a st e = st.sends
+linked-sends z before turn r Detecting a st e = cc
+linked-sends z before turn r Negotiating a st e = cc
+linked-sends z before turn r Establishing a st e = cc
+linked-sends z before turn r Releasing a st e = cc
+linked-sends z before turn r Closed a st e = cc
+
+pub connected-is : (p : Phase) → is_connected p ≡ true → p ≡ Connected
+connected-is Connected e = refl
+connected-is Detecting e = cc
+connected-is Negotiating e = cc
+connected-is Establishing e = cc
+connected-is Releasing e = cc
+connected-is Closed e = cc
+
+not-expires : (turn : ℕ) (a : Account) (m : Option ℕ) → ((s : ℕ) → m ≡ Some s → turn < s + a.setup.period) → timer_expires turn a m ≡ false
+not-expires turn a None h = refl
+not-expires turn a (Some s) h = let less = h s refl in apart turn (s + a.setup.period) less
+  where
+    apart : (x y : ℕ) → x < y → nat_eq x y ≡ false
+    apart x y l = grind (arith, nat_tests, l)
+
+released-says : (turn : ℕ) (a : Account) (said : Said) → speak_releasing turn (trying Releasing turn a) ≡ Ok said
+    → is_connected said.account.phase ≡ false
+released-says turn a said h = go (nat_eq turn (turn + a.setup.period)) (nat_eq 0 a.setup.tries) h
+  where
+    of-said : (r : Result Said LinkFault) (x : Said) → r ≡ Ok x → is_connected x.account.phase ≡ false → r ≡ Ok said
+        → is_connected said.account.phase ≡ false
+    of-said r x f e q = let same : x ≡ said = cc in ap (λ y. is_connected y.account.phase) (sym same) ∙ e
+
+    go : (due spent' : Bool)
+        → cond due (cond spent' (Err (spent turn (trying Releasing turn a)))
+        (Ok (tries_frame (Disc true) (trying_again turn (trying Releasing turn a)))))
+        (Ok (tries_frame (Disc true) (trying Releasing turn a))) ≡ Ok said
+        → is_connected said.account.phase ≡ false
+    go false s q = of-said _ _ refl refl q
+    go true true q = cc
+    go true false q = of-said _ _ refl refl q
+
+pub linked-says : (turn : ℕ) (release : Bool) (a : Account) (said : Said) → a.phase ≡ Connected → is_connected said.account.phase ≡ true
+    → speak turn release a ≡ Ok said → speak_linked turn a ≡ Ok said
+linked-says turn release a said e c h = go (release && is_originator a.setup.role) (sym (ap (λ p. speak_in p turn release a) e) ∙ h)
+  where
+    go : (x : Bool) → cond x (speak_releasing turn (trying Releasing turn a)) (speak_linked turn a) ≡ Ok said
+        → speak_linked turn a ≡ Ok said
+    go false q = q
+    go true q = let wrong : true ≡ false = sym c ∙ released-says turn a said q in cc
+
+heard-now : (role : Role) (turn : ℕ) (polled : Bool) (a mid : Account) (r : Result Account LinkFault) → r ≡ Ok mid
+    → PollHears role turn polled a r → PollHeard role turn polled a mid
+heard-now role turn polled a mid (Err fault) e h = cc
+heard-now role turn polled a mid (Ok b) e h = let same : b ≡ mid = cc in subst (PollHeard role turn polled a) same h
+
+-- the turn of one end in which it hears the answer
+pub end-answers : (z : Rates) (user : User) (turn : ℕ) (role : Role) (arrived : Arrived) (a mid : Account) (released release : Bool)
+    (said : Said) → AreRates z → IsOf z a.setup → Stands z turn turn role a.phase a → a.setup.role ≡ role
+    → hear turn arrived a ≡ Ok mid → speak turn release (served_account user turn released mid) ≡ Ok said → NoneDue a
+    → AnswerTurn z.period turn arrived a mid (served_account user turn released mid) said
+end-answers z user turn role arrived a mid released release said y k h er hears speaks none c w p final c' bound =
+    framed arrived hears final
+  where
+    b : Account
+    b = served_account user turn released mid
+
+    framed : (x : Arrived) → hear turn x a ≡ Ok mid → of_arrived is_final x ≡ true
+        → (mid.outgoing.count ≡ 0) ⊎ SendsSegment mid.outgoing.front b said
+    framed arrivals.Nothing q f = cc
+    framed (arrivals.Pattern seen) q f = cc
+    framed (arrivals.Frame frame) q f = by (frame_rnr frame) refl
+      where
+        t : AnswerHeard (frame_rnr frame) a mid
+        t = answer-hears frame turn a mid (connected-is a.phase c) w f q
+
+        s : Served turn (length user.breaks) (is_busy turn user.busy) mid b
+        s = serves-all user turn released mid
+
+        polls : PollHeard role turn (is_poll frame) a mid
+        polls = heard-now role turn (is_poll frame) a mid (hear turn (arrivals.Frame frame) a) q
+            (poll-hears role (arrivals.Frame frame) turn a er none.answer)
+
+        front : b.outgoing.front ≡ mid.outgoing.front
+        front = ap (λ o. o.front) s.longer.outgoing
+
+        phase : b.phase ≡ Connected
+        phase = s.phase ∙ (t.phase ∙ connected-is a.phase c)
+
+        sends : Sends z (turn + 1) turn b.outgoing b.wait.timer
+        sends = let heard = heard-ok z (length a.outgoing.pieces) (length user.breaks) turn
+            (z.quota * arrived_rnrs arrived) role a.phase a mid (hear turn arrived a) hears
+            (hears-well z (length a.outgoing.pieces) (length user.breaks) turn role a.phase arrived a y k h refl er (omega arith)) in
+            linked-sends z (turn + 1) turn role heard.0 b
+            (serves-well z (length a.outgoing.pieces) (length user.breaks) turn
+            (is_busy turn user.busy) role heard.0 mid b y heard.1.stands heard.1.phase s).stands
+            (ap is_connected (sym (s.phase ∙ heard.1.phase)) ∙ ap is_connected phase)
+
+        period : b.setup.period ≡ z.period
+        period = let heard = heard-ok z (length a.outgoing.pieces) (length user.breaks) turn
+            (z.quota * arrived_rnrs arrived) role a.phase a mid (hear turn arrived a) hears
+            (hears-well z (length a.outgoing.pieces) (length user.breaks) turn role a.phase arrived a y k h refl er (omega arith)) in
+            ap (λ x. x.period) (s.setup ∙ heard.1.setup) ∙ k.period
+
+        unexpired : timer_expires turn b b.wait.timer ≡ false
+        unexpired = not-expires turn b b.wait.timer (λ n e. within n (polls.timer c n (ap (λ v. v.timer) (sym s.wait) ∙ e)))
+          where
+            within : (n : ℕ) → (n ≡ turn) ⊎ (a.wait.timer ≡ Some n) → turn < n + b.setup.period
+            within n (inl e) = let long = y.period in omega (arith, e, period, long)
+            within n (inr e) = let l = bound n e in omega (arith, l, period)
+
+        sent : frame_rnr frame ≡ false → is_outstanding mid.outgoing ≡ true → SendsSegment mid.outgoing.front b said
+        sent r o =
+            let g : Segment b.outgoing.front b said =
+            urgent-says turn b.outgoing.front b said (linked-says turn release b said phase c' speaks) unexpired
+            (s.answer ∙ (t.answer ∙ none.answer)) (s.reply ∙ (t.reply ∙ none.reply (ap is_released (connected-is a.phase c))))
+            (ap (λ v. v.poll) s.wait ∙ (t.poll ∙ p)) (ap (λ v. v.urgent) s.wait ∙ t.urgent r)
+            (front-may z (turn + 1) turn b sends (s.numbered ∙ t.numbered) (ap (λ v. v.awaited) s.longer.outgoing ∙ t.awaited)
+            (ap (λ v. v.paused) s.longer.outgoing ∙ t.paused r)
+            (ap (λ v. v.from) s.longer.outgoing ∙ (t.from ∙ sym front)) (ap (λ v. v.chosen) s.longer.outgoing ∙ t.chosen)
+            (ap is_outstanding s.longer.outgoing ∙ o)) in
+            subst (λ n. SendsSegment n b said) front (record { sent = g.sent; number = g.number })
+
+        by : (r : Bool) → frame_rnr frame ≡ r → (mid.outgoing.count ≡ 0) ⊎ SendsSegment mid.outgoing.front b said
+        by true r = inl (t.busy r)
+        by false r = on (is_outstanding mid.outgoing) refl
+          where
+            on : (o : Bool) → is_outstanding mid.outgoing ≡ o → (mid.outgoing.count ≡ 0) ⊎ SendsSegment mid.outgoing.front b said
+            on true o = inr (sent r o)
+            on false o = inl (t.idle r o)

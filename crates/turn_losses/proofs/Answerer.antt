@@ -1,0 +1,140 @@
+-- A Connected answerer that gives up was starved.
+use Rattle.std.proofs.Common.{◌⊎◌, inl, inr, ◌≡◌, ℕ, ◌<◌, ◌≤◌, Bool, true, false, List, length, arith, refl, sym, ◌∙◌, ap, subst, Some, None}
+use Rattle.roles.specs.declared.role.Role.{Role}
+use Rattle.roles.specs.declared.role.Role.TheVariants.{Originator, Answerer}
+use Rattle.link_account.specs.declared.phase.Phase.{Phase}
+use Rattle.link_account.specs.declared.phase.Phase.TheVariants.{Connected}
+use Rattle.link_account.specs.Account.{is_connected}
+use Rattle.link_run.specs.End.{is_released}
+use Rattle.link_run.specs.Run.{Link, Ends, Turn, Hears, arrival}
+use Rattle.link_run.specs.Laws.{RunsOver}
+use Rattle.turn_bound.specs.Time.{KeepsTime}
+use Rattle.turn_bound.proofs.Clock.{Rates, rates}
+use Rattle.turn_bound.proofs.Value.{IsOf}
+use Rattle.xid_params.specs.Offers.{IsAllowed}
+use Rattle.turn_losses.specs.Losses.{LosesEach, AnswererWantsAnswers}
+use Rattle.turn_losses.proofs.Room.{begins-roomy}
+use Rattle.turn_losses.proofs.Trace.{past}
+use Rattle.turn_losses.proofs.Tracing.{Known, known, Timed, timed, rated, Traced, traced}
+use Rattle.turn_losses.proofs.Numbering.{Plays, allowed, fits-at, counts-of}
+use Rattle.turn_losses.proofs.Wanting.{LastTry, last-try, wants-answers}
+use Rattle.link_account.specs.declared.phase.Phase.TheVariants.{Detecting, Negotiating, Establishing, Releasing, Closed}
+use Rattle.link_account.specs.Hear.{hear}
+use Rattle.turn_bound.proofs.MeetHear.{of_arrived}
+use Rattle.turn_losses.specs.Polls.{is_poll}
+use Rattle.turn_losses.proofs.Polling.{is_linked}
+use Rattle.turn_losses.proofs.PollHear.{PollHeard, poll-hears, linked-connected}
+use Rattle.turn_losses.proofs.NumberTurn.{poll-ok}
+use Rattle.turn_losses.proofs.TwoEnds.{EndRun, TwoEnds, end_run}
+use Rattle.turn_losses.proofs.Tracing.{silent-of}
+use Rattle.turn_losses.proofs.PollLaws.{two-ends, turned}
+use Rattle.turn_losses.proofs.PeriodLaws.{linked-on, connected-back}
+use Rattle.turn_losses.proofs.Numbered.{numbered-linked}
+use Rattle.turn_losses.proofs.Starving.{all-but-one}
+
+only-connected : (p : Phase) → is_linked p ≡ true → is_released p ≡ false → is_connected p ≡ true
+only-connected Detecting l r = cc
+only-connected Negotiating l r = cc
+only-connected Establishing l r = cc
+only-connected Connected l r = refl
+only-connected Releasing l r = cc
+only-connected Closed l r = cc
+
+pub answerer-each : Plays → (tries period : ℕ) (delay : Role → ℕ) (link : Link) (ts : List Turn) (before : Ends) (t : Turn) (mid : Ends)
+    → KeepsTime tries period delay link → RunsOver link delay ts before → Hears (length ts) before t mid
+    → is_released mid.orig.phase ≡ false → LastTry tries period (length ts) before.answ → LosesEach period tries (length ts) ts
+answerer-each laws tries period delay link ts before t mid kt run hearing going last =
+    wants-answers tries period delay link ts w.state w.deed kt w.trace Answerer
+    (counts-of laws tries period delay link ts w.state w.deed kt run.may_play w.trace Answerer)
+    (subst (λ (x : Ends). LastTry tries period turns x.answ) (sym w.last) last) both
+  where
+    z : Rates
+    z = rates tries period
+
+    turns : ℕ
+    turns = length ts
+
+    w : Traced period delay link ts before
+    w = traced tries period delay link ts before kt run.run run.carried
+
+    e : EndRun
+    e = end_run delay w.state w.deed Answerer
+
+    o : EndRun
+    o = end_run delay w.state w.deed Originator
+
+    ends : TwoEnds period turns e o
+    ends = two-ends tries period delay link ts w.state w.deed kt w.trace Answerer
+
+    k : (r : Role) → Known z link turns before r
+    k r = known tries period delay link ts before kt run.run run.carried r
+
+    tm : (r : Role) → Timed z link r
+    tm r = timed tries period delay link kt r
+
+    -- its clock runs once it heard a number, so its peer is Connected or was
+    counted : (b : Bool) (x : Ends) (us : List Turn) → Known z link (length us) x Answerer → is_connected x.answ.phase ≡ true → (s : ℕ)
+        → x.answ.wait.timer ≡ Some s → x.answ.numbered ≡ b → x.answ.numbered ≡ true
+    counted true x us h c s q n = n
+    counted false x us h c s q n = let wrong : None ≡ Some s = sym
+        (silent-of z (length us) (length us) Answerer x.answ.phase x.answ h.stands refl c n) ∙ q in cc
+
+    linked-last : is_linked before.orig.phase ≡ true
+    linked-last = ap (λ (x : Ends). is_linked x.orig.phase) (sym w.last)
+        ∙ numbered-linked tries period delay link ts w.state w.deed kt w.trace Answerer turns (omega arith)
+        (ap (λ (x : Ends). x.answ.numbered) w.last
+        ∙ counted before.answ.numbered before ts (k Answerer) last.connected last.set last.runs refl)
+
+    heard : PollHeard Originator turns (of_arrived is_poll (arrival t.orig.heard)) before.orig mid.orig
+    heard = poll-ok Originator turns (of_arrived is_poll (arrival t.orig.heard)) before.orig mid.orig
+        (hear turns (arrival t.orig.heard) before.orig) (hearing Originator).hears
+        (poll-hears Originator (arrival t.orig.heard) turns before.orig (ap (λ x. x.role) (k Originator).setup ∙ (tm Originator).role_is)
+        (k Originator).none_due.answer)
+
+    peer-last : is_connected before.orig.phase ≡ true
+    peer-last = by (heard.from (only-connected mid.orig.phase (heard.linked linked-last) going))
+      where
+        by : (is_connected before.orig.phase ≡ true) ⊎ (is_linked before.orig.phase ≡ false) → is_connected before.orig.phase ≡ true
+        by (inl c) = c
+        by (inr u) = let wrong : true ≡ false = sym linked-last ∙ u in cc
+
+    both : (s u : ℕ) → s < turns → s ≤ u → u ≤ turns → (w.deed s).made Answerer ≡ true → is_connected (w.state s).answ.phase ≡ true
+        → is_connected (w.state u).answ.phase ≡ true → is_connected (w.state u).orig.phase ≡ true
+    both s u l low high made c c' =
+        let h = w.trace.happens s l in
+        let from = (h.polls Answerer).made_from made (linked-connected (w.state s).answ.phase c) in
+        let n = counted (w.state s).answ.numbered (w.state s) (past ts s)
+        (known tries period delay link (past ts s) (w.state s) kt h.run h.carried Answerer) c from.1 from.2 refl in
+        let first = numbered-linked tries period delay link ts w.state w.deed kt w.trace Answerer s (omega (arith, l)) n in
+        let back = turned period turns e o ends in
+        connected-back period turns o e back u turns high (omega arith) (linked-on period turns o e back s u low high first)
+        (ap (λ (x : Ends). is_connected x.orig.phase) w.last ∙ peer-last)
+
+pub answerer-wants : Plays → AnswererWantsAnswers
+answerer-wants laws tries period delay link ts before t mid segment since kt run cs broken cm quiet
+    going = (each, all-but-one tries period delay t ts each)
+  where
+    turns : ℕ
+    turns = length ts
+
+    z : Rates
+    z = rates tries period
+
+    k : (r : Role) → Known z link turns before r
+    k r = known tries period delay link ts before kt run.run run.carried r
+
+    tm : (r : Role) → Timed z link r
+    tm r = timed tries period delay link kt r
+
+    last : LastTry tries period turns before.answ
+    last = last-try tries period link.answ.user turns Answerer (arrival t.answ.heard) before.answ mid.answ
+        (is_released mid.orig.phase) false _ (rated tries period delay link kt)
+        (subst (IsOf z) (sym (k Answerer).setup) (tm Answerer).is_of) (k Answerer).stands
+        (ap (λ x. x.role) (k Answerer).setup ∙ (tm Answerer).role_is) (k Answerer).none_due
+        (λ u c. ((begins-roomy (arrival t.answ.heard) turns before.answ mid.answ u (fits-at laws link delay ts before run Answerer)
+        (subst IsAllowed (ap (λ x. x.offer) (sym (k Answerer).setup)) (allowed link run.may_play Answerer))
+        (broken.hearing Answerer).hears).so c).2)
+        (broken.hearing Answerer).hears (ap is_connected cm) quiet broken.broken.1
+
+    each : LosesEach period tries turns ts
+    each = answerer-each laws tries period delay link ts before t mid kt run broken.hearing going last

@@ -1,0 +1,258 @@
+use Rattle.std.proofs.Common.{◌≡◌, ℕ, ◌+◌, ◌%◌, ◌<◌, ◌&&◌, ◌||◌, Bool, true, false, cond, nat_lt, List, [], ◌∷◌, length, arith, refl, sym, ◌∙◌, ap, subst, Option, Some, None, Result, Ok, Err, slice_index_or}
+use Rattle.std.proofs.lemmas.Bool.Decides.{nat_tests}
+use Rattle.lapm_frames.specs.declared.frame.Frame.{Frame}
+use Rattle.lapm_frames.specs.declared.frame.Frame.TheVariants.{I, Rr, Rnr, Rej, Srej, Sabme, Disc, Ua, Dm, Frmr, Ui, Xid, Test}
+use Rattle.lapm_sender.specs.Meant.{meant}
+use Rattle.lapm_sender.specs.Outgoing.{Outgoing, is_outstanding, acknowledged, rejected, replied, advanced, wait_ended, resumed, paused_at, next_number, after_next, expired}
+use Rattle.std.specs.Option.{option_map}
+use Rattle.break_signals.specs.Breaks.{OwnBreaks, ticked}
+use Rattle.slot_contents.specs.declared.arrived.Arrived.TheVariants as arrivals
+use Rattle.link_account.specs.declared.phase.Phase.TheVariants.{Connected}
+use Rattle.link_faults.specs.declared.fault.LinkFault.{LinkFault}
+use Rattle.slot_contents.specs.declared.sent.Sent.TheVariants as slots
+use Rattle.link_account.specs.Account.{Account}
+use Rattle.roles.specs.Role.{is_originator}
+use Rattle.link_account.specs.declared.answer.Answer.{Answer}
+use Rattle.link_account.specs.Hear.{hear, on_frame, on_connected, on_number, then_in, replying, hurrying, pausing}
+use Rattle.link_account.specs.Speak.{Said, else_says, where_says, answering, polling, timer_expires, breaking, nr_of, may_send, says_segment, steps, after_timers, then_tries, speak_linked}
+use Rattle.turn_bound.proofs.Clock.{Rates}
+use Rattle.turn_bound.proofs.Clock.{Sends}
+use Rattle.lapm_sender.specs.Outgoing.{next_among}
+use Rattle.turn_losses.specs.Polls.{is_final}
+
+-- RNR
+abbrev pub frame_rnr : Frame → Bool
+frame_rnr (Rnr command nr pf) = true
+frame_rnr frame = false
+
+-- What the answer to the poll that is awaited makes of an end: its wait ends.
+pub record AnswerHeard (rnr : Bool) (a b : Account) : Type 0 where
+  pub phase : b.phase ≡ a.phase
+  pub numbered : b.numbered ≡ true
+  pub awaited : b.outgoing.awaited ≡ false
+  pub from : b.outgoing.from ≡ b.outgoing.front
+  pub chosen : b.outgoing.chosen ≡ []
+  pub paused : rnr ≡ false → b.outgoing.paused ≡ false
+  pub urgent : rnr ≡ false → b.wait.urgent ≡ true
+  pub busy : rnr ≡ true → b.outgoing.count ≡ 0
+  pub idle : rnr ≡ false → is_outstanding b.outgoing ≡ false → b.outgoing.count ≡ 0
+  pub reply : b.owes.reply ≡ a.owes.reply
+  pub answer : b.owes.answer ≡ a.owes.answer
+  pub poll : b.wait.poll ≡ a.wait.poll
+
+abbrev pub AnswerHears : Bool → Account → Result Account LinkFault → Type 0
+AnswerHears rnr a (Err fault) = Unit {0}
+AnswerHears rnr a (Ok b) = AnswerHeard rnr a b
+
+record Ended (n : Outgoing) : Type 0 where
+  pub awaited : n.awaited ≡ false
+  pub from : n.from ≡ n.front
+  pub chosen : n.chosen ≡ []
+  pub paused : n.paused ≡ false
+  pub idle : is_outstanding n ≡ false → n.count ≡ 0
+
+ended-resumed : (o : Outgoing) → Ended (resumed (wait_ended o))
+ended-resumed o = by o.paused refl
+  where
+    by : (p : Bool) → o.paused ≡ p
+        → Ended (cond p (record
+        (wait_ended o) { paused = false; count = cond (is_outstanding o || false) (cond (is_outstanding o || o.paused) o.count 0) 0 })
+        (wait_ended o))
+    by true e = record {
+      awaited = refl;
+      from = refl;
+      chosen = refl;
+      paused = refl;
+      idle = λ h. ap (λ b. cond (b || false) (cond (is_outstanding o || o.paused) o.count 0) 0) h;
+    }
+    by false e = record {
+      awaited = refl;
+      from = refl;
+      chosen = refl;
+      paused = e;
+      idle = λ h. ap (λ b. cond (b || o.paused) o.count 0) h ∙ ap (λ b. cond (false || b) o.count 0) e;
+    }
+
+or-true : (b : Bool) → b || true ≡ true
+or-true true = refl
+or-true false = refl
+
+or-none : (b : Bool) → b || false ≡ b
+or-none true = refl
+or-none false = refl
+
+ready-answers : (turn : ℕ) (a : Account) (m : Option ℕ)
+    → AnswerHears false a
+    (then_in (λ b. hurrying true (replying false b))
+    (on_number turn 0 (option_map resumed (option_map (λ n. wait_ended (advanced a.outgoing n)) m)) a))
+ready-answers turn a None = tt
+ready-answers turn a (Some n) = let k = ended-resumed (advanced a.outgoing n) in record {
+  phase = refl;
+  numbered = refl;
+  awaited = k.awaited;
+  from = k.from;
+  chosen = k.chosen;
+  paused = λ r. k.paused;
+  urgent = λ r. or-true a.wait.urgent;
+  busy = λ r. cc;
+  idle = λ r h. k.idle h;
+  reply = or-none a.owes.reply;
+  answer = refl;
+  poll = refl;
+}
+
+-- a fault of the number is as good with another number
+same-number : (rnr : Bool) (turn nr : ℕ) (f : Account → Account) (m : Option Outgoing) (a : Account)
+    → AnswerHears rnr a (then_in f (on_number turn 0 m a)) → AnswerHears rnr a (then_in f (on_number turn nr m a))
+same-number rnr turn nr f None a h = tt
+same-number rnr turn nr f (Some o) a h = h
+
+paused-answers : (turn : ℕ) (a : Account) (m : Option ℕ)
+    → AnswerHears true a (then_in (λ b. pausing turn (replying false b))
+    (on_number turn 0 (option_map paused_at (option_map (λ n. wait_ended (advanced a.outgoing n)) m)) a))
+paused-answers turn a None = tt
+paused-answers turn a (Some n) = record {
+  phase = refl;
+  numbered = refl;
+  awaited = refl;
+  from = refl;
+  chosen = refl;
+  paused = λ r. cc;
+  urgent = λ r. cc;
+  busy = λ r. refl;
+  idle = λ r. cc;
+  reply = or-none a.owes.reply;
+  answer = refl;
+  poll = refl;
+}
+
+answer-connected : (frame : Frame) (turn : ℕ) (a : Account) → a.outgoing.awaited ≡ true → is_final frame ≡ true
+    → AnswerHears (frame_rnr frame) a (on_connected frame turn a)
+answer-connected (Rr false nr true) turn a w e =
+    subst (λ x. AnswerHears false a
+    (then_in (λ b. hurrying (x && true) (replying false b))
+    (on_number turn nr (option_map resumed (cond (x && true) (replied nr a.outgoing) (acknowledged nr a.outgoing))) a))) (sym w)
+    (same-number false turn nr (λ b. hurrying true (replying false b)) _ a
+    (ready-answers turn a (meant a.outgoing.front a.outgoing.high nr)))
+answer-connected (Rej false nr true) turn a w e =
+    subst (λ x. AnswerHears false a
+    (then_in (λ b. hurrying (x && true) (replying false b))
+    (on_number turn nr (option_map resumed (cond (x && true) (replied nr a.outgoing) (rejected nr a.outgoing))) a))) (sym w)
+    (same-number false turn nr (λ b. hurrying true (replying false b)) _ a
+    (ready-answers turn a (meant a.outgoing.front a.outgoing.high nr)))
+answer-connected (Rnr false nr true) turn a w e =
+    subst (λ x. AnswerHears true a
+    (then_in (λ b. pausing turn (replying false b))
+    (on_number turn nr (option_map paused_at (cond (x && true) (replied nr a.outgoing) (acknowledged nr a.outgoing))) a))) (sym w)
+    (same-number true turn nr (λ b. pausing turn (replying false b)) _ a
+    (paused-answers turn a (meant a.outgoing.front a.outgoing.high nr)))
+answer-connected (Rr true nr true) turn a w e = cc
+answer-connected (Rej true nr true) turn a w e = cc
+answer-connected (Rnr true nr true) turn a w e = cc
+answer-connected (Rr c nr false) turn a w e = cc
+answer-connected (Rej c nr false) turn a w e = cc
+answer-connected (Rnr c nr false) turn a w e = cc
+answer-connected (I ns nr pf info) turn a w e = cc
+answer-connected (Srej c nr pf) turn a w e = cc
+answer-connected (Sabme pf) turn a w e = cc
+answer-connected (Disc pf) turn a w e = cc
+answer-connected (Ua pf) turn a w e = cc
+answer-connected (Dm pf) turn a w e = cc
+answer-connected (Frmr pf info) turn a w e = cc
+answer-connected (Ui c pf info) turn a w e = cc
+answer-connected (Xid c pf info) turn a w e = cc
+answer-connected (Test c pf info) turn a w e = cc
+
+pub answer-hears : (frame : Frame) (turn : ℕ) (a mid : Account) → a.phase ≡ Connected → a.outgoing.awaited ≡ true → is_final frame ≡ true
+    → hear turn (arrivals.Frame frame) a ≡ Ok mid → AnswerHeard (frame_rnr frame) a mid
+answer-hears frame turn a mid e w f h =
+    go (on_connected frame turn a) (sym (ap (λ p. on_frame p frame turn a) e) ∙ h) (answer-connected frame turn a w f)
+  where
+    go : (r : Result Account LinkFault) → r ≡ Ok mid → AnswerHears (frame_rnr frame) a r → AnswerHeard (frame_rnr frame) a mid
+    go (Err fault) q k = cc
+    go (Ok b) q k = let same : b ≡ mid = cc in subst (AnswerHeard (frame_rnr frame) a) same k
+
+-- The first segment goes at once where it is urgent and nothing comes before it.
+pub record Segment (n : ℕ) (a : Account) (said : Said) : Type 0 where
+  pub sent : said.sent ≡ slots.Frame (I (n % 128) (nr_of a) false (slice_index_or a.outgoing.pieces n []))
+  pub number : said.number ≡ n
+  pub outgoing : said.account.outgoing ≡ after_next a.outgoing
+
+steps-urgent : (turn n : ℕ) (special : Bool) (a : Account) → a.owes.answer ≡ None → a.owes.reply ≡ false → a.wait.poll ≡ false
+    → a.wait.urgent ≡ true → may_send a ≡ Some n → Segment n a (steps turn special a)
+steps-urgent turn n special a e1 e2 e3 e4 e5 = go a.owes.answer a.owes.reply a.wait.poll a.wait.urgent (may_send a) _ _ _ e1 e2 e3 e4 e5
+  where
+    go : (m : Option Answer) (r p u : Bool) (s : Option ℕ) (x y rest : Said) → m ≡ None → r ≡ false → p ≡ false → u ≡ true → s ≡ Some n
+        → Segment n a (else_says (answering m a)
+        (else_says (where_says r x) (else_says (where_says p y) (else_says (cond u (says_segment turn s a) None) rest))))
+    go None false false true (Some k) x y rest f1 f2 f3 f4 f5 = let same : k ≡ n = cc in
+        subst (λ v. Segment v a (else_says (says_segment turn (Some k) a) rest)) same
+        (record { sent = refl; number = refl; outgoing = refl })
+    go (Some answer) r p u s x y rest f1 f2 f3 f4 f5 = cc
+    go None true p u s x y rest f1 f2 f3 f4 f5 = cc
+    go None false true u s x y rest f1 f2 f3 f4 f5 = cc
+    go None false false false s x y rest f1 f2 f3 f4 f5 = cc
+    go None false false true None x y rest f1 f2 f3 f4 f5 = cc
+
+pub urgent-says : (turn n : ℕ) (a : Account) (said : Said) → speak_linked turn a ≡ Ok said → timer_expires turn a a.wait.timer ≡ false
+    → a.owes.answer ≡ None → a.owes.reply ≡ false → a.wait.poll ≡ false → a.wait.urgent ≡ true
+    → may_send a ≡ Some n → Segment n a said
+urgent-says turn n a said h t e1 e2 e3 e4 e5 =
+    go (ticked turn a.setup.period a.setup.tries a.own_breaks)
+    (sym (ap (λ x. after_timers turn a.special (then_tries turn (cond x (polling turn (expired a.outgoing) a) (Ok a)))) t) ∙ h)
+  where
+    go : (m : Option OwnBreaks) → after_timers turn a.special (breaking turn m a) ≡ Ok said → Segment n a said
+    go None q = cc
+    go (Some b) q =
+        let k = steps-urgent turn n a.special (record (record a { own_breaks = b }) { special = false }) e1 e2 e3 e4 e5 in
+        let same : steps turn a.special (record (record a { own_breaks = b }) { special = false }) ≡ said = cc in
+        subst (Segment n a) same (record { sent = k.sent; number = k.number; outgoing = k.outgoing })
+
+-- where the wait has ended and something is outstanding, it may be sent
+pub front-may : (z : Rates) (before turn : ℕ) (a : Account) → Sends z before turn a.outgoing a.wait.timer → a.numbered ≡ true
+    → a.outgoing.awaited ≡ false → a.outgoing.paused ≡ false → a.outgoing.from ≡ a.outgoing.front → a.outgoing.chosen ≡ []
+    → is_outstanding a.outgoing ≡ true → may_send a ≡ Some a.outgoing.front
+front-may z before turn a s n w p f c o =
+    heard (is_originator a.setup.role) a.numbered n
+    ∙ (waits a.outgoing.awaited a.outgoing.paused w p
+    ∙ (chosen a.outgoing.chosen c
+    ∙ (inside (nat_lt a.outgoing.from (length a.outgoing.pieces))
+    (nat_lt a.outgoing.from (a.outgoing.front + a.outgoing.window)) below within ∙ ap (λ x. Some x) f)))
+  where
+    less : a.outgoing.front < a.outgoing.high
+    less = grind (arith, nat_tests, o)
+
+    in-pieces : a.outgoing.from < length a.outgoing.pieces
+    in-pieces = let h = s.high_pieces in omega (arith, f, less, h)
+
+    in-window : a.outgoing.from < a.outgoing.front + a.outgoing.window
+    in-window = let h = s.window in omega (arith, f, h)
+
+    below : nat_lt a.outgoing.from (length a.outgoing.pieces) ≡ true
+    below = grind (arith, nat_tests, in-pieces)
+
+    within : nat_lt a.outgoing.from (a.outgoing.front + a.outgoing.window) ≡ true
+    within = grind (arith, nat_tests, in-window)
+
+    heard : (x y : Bool) → y ≡ true → cond (x || y) (next_number a.outgoing) None ≡ next_number a.outgoing
+    heard true y q = refl
+    heard false true q = refl
+    heard false false q = cc
+
+    waits : (x y : Bool) → x ≡ false → y ≡ false
+        → cond (x || y) None (next_among a.outgoing.chosen a.outgoing) ≡ next_among a.outgoing.chosen a.outgoing
+    waits false false q r = refl
+    waits true y q r = cc
+    waits false true q r = cc
+
+    chosen : (l : List ℕ) → l ≡ []
+        → next_among l a.outgoing ≡ cond
+        (nat_lt a.outgoing.from (length a.outgoing.pieces) && nat_lt a.outgoing.from (a.outgoing.front + a.outgoing.window))
+        (Some a.outgoing.from) None
+    chosen [] q = refl
+    chosen (x ∷ l) q = cc
+
+    inside : (x y : Bool) → x ≡ true → y ≡ true → cond (x && y) (Some a.outgoing.from) None ≡ Some a.outgoing.from
+    inside true true q r = refl
+    inside false y q r = cc
+    inside true false q r = cc

@@ -1,0 +1,525 @@
+-- Where the originator sees no pattern, something was lost in each period.
+use Rattle.std.proofs.Common.{◌⊎◌, inl, inr, ◌≡◌, ℕ, zero, suc, ◌+◌, ◌-◌, ◌*◌, ◌<◌, ◌≤◌, ◌&&◌, Bool, true, false, cond, nat_eq, nat_le, List, length, arith, refl, sym, ◌∙◌, ap, subst, Option, Some, None, Result, Ok, Err}
+use Rattle.std.proofs.lemmas.Bool.{cases_lt}
+use Rattle.roles.specs.declared.role.Role.{Role}
+use Rattle.roles.specs.declared.role.Role.TheVariants.{Originator, Answerer}
+use Rattle.roles.specs.Role.{other, is_originator}
+use Rattle.roles.specs.Both.{of}
+use Rattle.lapm_frames.specs.declared.frame.Frame.{Frame}
+use Rattle.lapm_frames.specs.declared.frame.Frame.TheVariants.{Sabme, Disc, Ua, Dm, Xid}
+use Rattle.xid_params.specs.declared.offer.Offer.{Offer}
+use Rattle.xid_params.specs.Offers.{offer_in, written}
+use Rattle.lapm_sender.specs.Outgoing.{Outgoing, expired}
+use Rattle.break_signals.specs.Breaks.{OwnBreaks, ticked}
+use Rattle.slot_contents.specs.declared.seen.Seen.{Seen}
+use Rattle.slot_contents.specs.declared.seen.Seen.TheVariants as seens
+use Rattle.slot_contents.specs.declared.sent.Sent.TheVariants as slots
+use Rattle.slot_contents.specs.declared.arrived.Arrived.{Arrived}
+use Rattle.slot_contents.specs.declared.arrived.Arrived.TheVariants as arrivals
+use Rattle.link_account.specs.declared.phase.Phase.{Phase}
+use Rattle.link_account.specs.declared.phase.Phase.TheVariants.{Detecting, Negotiating, Establishing, Connected, Releasing, Closed}
+use Rattle.link_faults.specs.declared.fault.LinkFault.{LinkFault}
+use Rattle.link_faults.specs.declared.fault.LinkFault.TheVariants.{NotDetected}
+use Rattle.link_account.specs.declared.answer.Answer.{Answer}
+use Rattle.link_account.specs.declared.answer.Answer.TheVariants as answers
+use Rattle.link_account.specs.Account.{Account}
+use Rattle.link_account.specs.Hear.{hear, on_frame, on_seen, on_pattern, on_negotiating, on_establishing, on_xid_command, on_xid_response, trying}
+use Rattle.link_account.specs.Play.{arrives}
+use Rattle.link_account.specs.Speak.{Said, says, says_frame, else_says, where_says, spent, answering, trying_again, tries_frame, u_try, polling, timer_expires, breaking, after_timers, then_tries, speak_linked, speak, speak_in, speak_detecting, speak_answer, speak_negotiating, speak_releasing}
+use Rattle.link_run.specs.End.{User, is_busy, is_released}
+use Rattle.link_run.specs.Run.{Ends, Turn, RunOf, arrival, served_at, releases}
+use Rattle.link_run.specs.Carried.{IsCarried}
+use Rattle.link_run.specs.Starved.{LosesSome}
+use Rattle.turn_bound.specs.Due.{NoneDue}
+use Rattle.turn_bound.specs.Spent.{SpendsOnTime}
+use Rattle.turn_bound.proofs.Clock.{Rates, rates}
+use Rattle.turn_bound.proofs.Value.{IsOf, arrived_rnrs}
+use Rattle.turn_bound.proofs.Run.{served_account}
+use Rattle.turn_bound.proofs.OneTurn.{heard-ok}
+use Rattle.turn_bound.proofs.Phases.{hears-well}
+use Rattle.turn_bound.proofs.Serving.{Served, serves-all}
+use Rattle.turn_bound.proofs.MeetHear.{of_arrived}
+use Rattle.turn_losses.specs.Polls.{is_poll}
+use Rattle.turn_losses.specs.Losses.{PeriodLoses, OriginatorWantsPattern, UndetectedIsStarved}
+use Rattle.turn_losses.proofs.Polling.{is_linked}
+use Rattle.turn_losses.proofs.PollHear.{PollHeard, poll-hears}
+use Rattle.turn_losses.proofs.PollSpeak.{poll-speaks}
+use Rattle.turn_losses.proofs.NumberTurn.{poll-ok, speak-ok}
+use Rattle.turn_losses.proofs.Trace.{past, sent_or}
+use Rattle.turn_losses.proofs.TwoEnds.{EndRun, TwoEnds, end_run}
+use Rattle.turn_losses.proofs.Tracing.{Known, known, timed, rated, Traced, traced}
+use Rattle.turn_losses.proofs.PollLaws.{two-ends}
+use Rattle.turn_losses.proofs.PeriodLaws.{NoneLost}
+use Rattle.turn_losses.proofs.PeriodHolds.{LostIn, lost-or-none}
+use Rattle.turn_losses.proofs.Keeping.{turn-is}
+use Rattle.turn_losses.proofs.Wanting.{lost-is}
+use Rattle.turn_losses.proofs.Starving.{all-but-one}
+
+-- a try leaves the phase
+abbrev pub InPhase : Phase → Result Said LinkFault → Type 0
+InPhase p (Err fault) = Unit {0}
+InPhase p (Ok said) = said.account.phase ≡ p
+
+pub try-phase : (turn : ℕ) (frame : Frame) (a : Account) → InPhase a.phase (u_try turn frame a)
+try-phase turn frame a = go (nat_eq turn (a.wait.try_set + a.setup.period)) (nat_eq a.wait.try_count a.setup.tries)
+  where
+    by : (c : Account) → c.phase ≡ a.phase → (due : Bool)
+        → (else_says (where_says due (says_frame frame (record c { wait = record c.wait { try = false } })))
+        (says slots.Flags c)).account.phase ≡ a.phase
+    by c e true = e
+    by c e false = e
+
+    go : (due spent' : Bool)
+        → InPhase a.phase (cond due (cond spent' (Err (spent turn a)) (Ok (tries_frame frame (trying_again turn a))))
+        (Ok (tries_frame frame a)))
+    go false s = by a refl a.wait.try
+    go true true = tt
+    go true false = by (trying_again turn a) refl true
+
+pub answer-phase : (a : Account) → InPhase a.phase (speak_answer a)
+answer-phase a = by a.owes.answer
+  where
+    by : (m : Option Answer) → (else_says (answering m a) (says slots.Flags a)).account.phase ≡ a.phase
+    by None = refl
+    by (Some answer) = refl
+
+pub phase-ok : (p : Phase) (said : Said) (r : Result Said LinkFault) → r ≡ Ok said → InPhase p r → said.account.phase ≡ p
+phase-ok p said (Err fault) e h = cc
+phase-ok p said (Ok other) e h = let same : other ≡ said = cc in subst (λ s. s.account.phase ≡ p) same h
+
+-- an end that is Detecting after it spoke was so before
+said-from : (turn : ℕ) (release : Bool) (b : Account) (said : Said) → speak turn release b ≡ Ok said → said.account.phase ≡ Detecting
+    → b.phase ≡ Detecting
+said-from turn release b said h d = go b.phase refl h
+  where
+    linked : is_linked said.account.phase ≡ is_linked b.phase
+    linked = (speak-ok turn b said (speak turn release b) h (poll-speaks turn release b)).linked
+
+    late : (p : Phase) → b.phase ≡ p → is_linked p ≡ true → p ≡ Detecting
+    late p e l = let wrong : false ≡ true = sym (ap is_linked d) ∙ (linked ∙ (ap is_linked e ∙ l)) in cc
+
+    other-phase : (p : Phase) (r : Result Said LinkFault) → r ≡ Ok said → InPhase p r → p ≡ Detecting
+    other-phase p r q k = sym (phase-ok p said r q k) ∙ d
+
+    negotiating : (r : Role) → b.phase ≡ Negotiating → speak_negotiating r turn b ≡ Ok said → Negotiating ≡ Detecting
+    negotiating Originator e q = sym e ∙ other-phase b.phase _ q (try-phase turn (Xid true false (written b.setup.offer)) b)
+    negotiating Answerer e q = sym e ∙ other-phase b.phase _ q (answer-phase b)
+
+    go : (p : Phase) → b.phase ≡ p → speak_in p turn release b ≡ Ok said → p ≡ Detecting
+    go Detecting e q = refl
+    go Negotiating e q = negotiating b.setup.role e q
+    go Establishing e q = sym e ∙ other-phase b.phase _ q (try-phase turn (Sabme true) b)
+    go Connected e q = late Connected e refl
+    go Releasing e q = late Releasing e refl
+    go Closed e q = late Closed e refl
+
+-- an originator that is Detecting sends its pattern
+sends-odp : (turn : ℕ) (release : Bool) (b : Account) (said : Said) → b.phase ≡ Detecting → b.setup.role ≡ Originator
+    → speak turn release b ≡ Ok said → said.sent ≡ slots.Odp
+sends-odp turn release b said e r h =
+    go (nat_le ((b.setup.tries + 1) * b.setup.period) turn)
+    (sym (ap (λ x. speak_detecting x turn b) r) ∙ (sym (ap (λ p. speak_in p turn release b) e) ∙ h))
+  where
+    go : (x : Bool) → cond x (Err NotDetected) (Ok (says slots.Odp b)) ≡ Ok said → said.sent ≡ slots.Odp
+    go true q = cc
+    go false q = let same : says slots.Odp b ≡ said = cc in ap (λ s. s.sent) (sym same)
+
+-- and hears no pattern of the answerer's
+abbrev DetectsYet : Arrived → Account → Result Account LinkFault → Type 0
+DetectsYet arrived a (Err fault) = Unit {0}
+DetectsYet arrived a (Ok mid) = mid.phase ≡ Detecting → (a.phase ≡ Detecting) × (arrived ≡ arrivals.Pattern seens.Adp → ⊥)
+
+frame-no-pattern : (frame : Frame) → arrivals.Frame frame ≡ arrivals.Pattern seens.Adp → ⊥
+frame-no-pattern frame e = cc
+
+detects-frame : (p : Phase) (frame : Frame) (turn : ℕ) (a : Account) → a.phase ≡ p → is_linked p ≡ false
+    → DetectsYet (arrivals.Frame frame) a (on_frame p frame turn a)
+detects-frame Detecting frame turn a e l = go (on_frame Detecting frame turn a)
+  where
+    go : (r : Result Account LinkFault) → DetectsYet (arrivals.Frame frame) a r
+    go (Err fault) = tt
+    go (Ok mid) = λ d. (e, frame-no-pattern frame)
+detects-frame Negotiating frame turn a e l = go a.setup.role frame
+  where
+    stays : (f : Frame) (b : Account) → b.phase ≡ Negotiating → b.phase ≡ Detecting
+        → (a.phase ≡ Detecting) × (arrivals.Frame f ≡ arrivals.Pattern seens.Adp → ⊥)
+    stays f b q d = let wrong : Negotiating ≡ Detecting = sym q ∙ d in cc
+
+    commanded : (f : Frame) (m : Option Offer) → (on_xid_command m a).phase ≡ Detecting
+        → (a.phase ≡ Detecting) × (arrivals.Frame f ≡ arrivals.Pattern seens.Adp → ⊥)
+    commanded f None d = stays f a e d
+    commanded f (Some offer) d = cc
+
+    answered : (f : Frame) (m : Option Offer) → (on_xid_response m turn a).phase ≡ Detecting
+        → (a.phase ≡ Detecting) × (arrivals.Frame f ≡ arrivals.Pattern seens.Adp → ⊥)
+    answered f None d = stays f a e d
+    answered f (Some offer) d = cc
+
+    go : (r : Role) (f : Frame) → DetectsYet (arrivals.Frame f) a (on_negotiating r f turn a)
+    go Originator (Xid false pf info) = answered (Xid false pf info) (offer_in info)
+    go Originator (Dm pf) = tt
+    go Answerer (Xid true pf info) = commanded (Xid true pf info) (offer_in info)
+    go Answerer (Sabme pf) = λ d. cc
+    go Answerer (Disc pf) = stays (Disc pf) a e
+    go r f = stays f a e
+detects-frame Establishing frame turn a e l = go frame
+  where
+    stays : (f : Frame) → a.phase ≡ Detecting → (a.phase ≡ Detecting) × (arrivals.Frame f ≡ arrivals.Pattern seens.Adp → ⊥)
+    stays f d = let wrong : Establishing ≡ Detecting = sym e ∙ d in cc
+
+    go : (f : Frame) → DetectsYet (arrivals.Frame f) a (on_establishing f turn a)
+    go (Ua true) = λ d. cc
+    go (Dm true) = tt
+    go f = stays f
+detects-frame Connected frame turn a e l = cc
+detects-frame Releasing frame turn a e l = cc
+detects-frame Closed frame turn a e l = cc
+
+detects-all : (arrived : Arrived) (turn : ℕ) (a : Account) → a.setup.role ≡ Originator → is_linked a.phase ≡ false
+    → DetectsYet arrived a (hear turn arrived a)
+detects-all arrivals.Nothing turn a r l = λ d. (d, λ e. cc)
+detects-all (arrivals.Pattern seen) turn a r l = go a.phase refl l
+  where
+    on : (x : Role) (s : Seen) → x ≡ Originator → a.phase ≡ Detecting → DetectsYet (arrivals.Pattern s) a (Ok (on_pattern x s turn a))
+    on Originator seens.Adp q e = λ d. cc
+    on Originator seens.Odp q e = λ d. (e, λ f. cc)
+    on Answerer s q e = cc
+
+    go : (p : Phase) → a.phase ≡ p → is_linked p ≡ false → DetectsYet (arrivals.Pattern seen) a (Ok (on_seen p seen turn a))
+    go Detecting e f = on a.setup.role seen r e
+    go Negotiating e f = λ d. let wrong : Negotiating ≡ Detecting = sym e ∙ d in cc
+    go Establishing e f = λ d. let wrong : Establishing ≡ Detecting = sym e ∙ d in cc
+    go Connected e f = cc
+    go Releasing e f = cc
+    go Closed e f = cc
+detects-all (arrivals.Frame frame) turn a r l = detects-frame a.phase frame turn a refl l
+
+heard-from : (arrived : Arrived) (turn : ℕ) (a mid : Account) → a.setup.role ≡ Originator → NoneDue a → hear turn arrived a ≡ Ok mid
+    → mid.phase ≡ Detecting → (a.phase ≡ Detecting) × (arrived ≡ arrivals.Pattern seens.Adp → ⊥)
+heard-from arrived turn a mid r none h d = go (is_linked a.phase) refl
+  where
+    polls : PollHeard Originator turn (of_arrived is_poll arrived) a mid
+    polls = poll-ok Originator turn (of_arrived is_poll arrived) a mid (hear turn arrived a) h
+        (poll-hears Originator arrived turn a r none.answer)
+
+    by : (x : Result Account LinkFault) → x ≡ Ok mid → DetectsYet arrived a x
+        → (a.phase ≡ Detecting) × (arrived ≡ arrivals.Pattern seens.Adp → ⊥)
+    by (Err fault) q k = cc
+    by (Ok b) q k = let same : b ≡ mid = cc in k (ap (λ x. x.phase) same ∙ d)
+
+    go : (b : Bool) → is_linked a.phase ≡ b → (a.phase ≡ Detecting) × (arrived ≡ arrivals.Pattern seens.Adp → ⊥)
+    go true q = let wrong : false ≡ true = sym (ap is_linked d) ∙ polls.linked q in cc
+    go false q = by (hear turn arrived a) h (detects-all arrived turn a r q)
+
+abbrev says-ok : Said → Result Said LinkFault
+says-ok said = Ok said
+
+abbrev hears-ok : Account → Result Account LinkFault
+hears-ok a = Ok a
+
+abbrev PhaseOf : Result Account LinkFault → Phase → Type 0
+PhaseOf (Err fault) p = Unit {0}
+PhaseOf (Ok a) p = a.phase ≡ p
+
+-- An answerer that is Detecting and hears nothing but the originator's pattern stays so, and answers it at once.
+answers-odp : (user : User) (turn : ℕ) (arrived : Arrived) (a mid : Account) (released release : Bool) (said : Said) → a.phase ≡ Detecting
+    → a.setup.role ≡ Answerer → mid.setup.role ≡ Answerer → (arrived ≡ arrivals.Nothing) ⊎ (arrived ≡ arrivals.Pattern seens.Odp)
+    → hear turn arrived a ≡ Ok mid → speak turn release (served_account user turn released mid) ≡ Ok said
+    → (said.account.phase ≡ Detecting) × (arrived ≡ arrivals.Pattern seens.Odp → said.sent ≡ slots.Adp)
+answers-odp user turn arrived a mid released release said e r r' only hears speaks = heard only
+  where
+    b : Account
+    b = served_account user turn released mid
+
+    s : Served turn (length user.breaks) (is_busy turn user.busy) mid b
+    s = serves-all user turn released mid
+
+    spoken : b.phase ≡ Detecting → (m : Option Answer) → b.owes.answer ≡ m
+        → (else_says (answering m b) (says slots.Mark b) ≡ said) × (said.account.phase ≡ Detecting)
+    spoken d m q =
+        let detecting : speak_detecting Answerer turn b ≡ Ok said =
+        sym (ap (λ x. speak_detecting x turn b) (ap (λ x. x.role) s.setup ∙ r'))
+        ∙ (sym (ap (λ p. speak_in p turn release b) d) ∙ speaks) in
+        by m (ap (λ x. says-ok (else_says (answering x b) (says slots.Mark b))) (sym q) ∙ detecting)
+      where
+        by : (x : Option Answer) → says-ok (else_says (answering x b) (says slots.Mark b)) ≡ says-ok said
+            → (else_says (answering x b) (says slots.Mark b) ≡ said) × (said.account.phase ≡ Detecting)
+        by None f = let same : says slots.Mark b ≡ said = cc in (same, ap (λ y. y.account.phase) (sym same) ∙ d)
+        by (Some answer) f = let same : else_says (answering (Some answer) b) (says slots.Mark b) ≡ said = cc in
+            (same, ap (λ y. y.account.phase) (sym same) ∙ d)
+
+    nothing : arrived ≡ arrivals.Nothing → mid.phase ≡ Detecting
+    nothing q = let same : hear turn arrivals.Nothing a ≡ Ok mid = ap (λ x. hear turn x a) (sym q) ∙ hears in by same
+      where
+        by : hear turn arrivals.Nothing a ≡ Ok mid → mid.phase ≡ Detecting
+        by f = ok-phase (hear turn arrivals.Nothing a) f e
+          where
+            ok-phase : (x : Result Account LinkFault) → x ≡ Ok mid → PhaseOf x Detecting → mid.phase ≡ Detecting
+            ok-phase (Err fault) g k = cc
+            ok-phase (Ok y) g k = let same : y ≡ mid = cc in ap (λ z. z.phase) (sym same) ∙ k
+
+    odp : arrived ≡ arrivals.Pattern seens.Odp → (mid.phase ≡ Detecting) × (mid.owes.answer ≡ Some answers.Adp)
+    odp q =
+        let on-detecting : hear turn (arrivals.Pattern seens.Odp) a ≡ hears-ok (on_pattern Answerer seens.Odp turn a) =
+        ap (λ p. hears-ok (on_seen p seens.Odp turn a)) e ∙ ap (λ x. hears-ok (on_pattern x seens.Odp turn a)) r in
+        let same : hears-ok (on_pattern Answerer seens.Odp turn a) ≡ hears-ok mid =
+        sym on-detecting ∙ (ap (λ x. hear turn x a) (sym q) ∙ hears) in
+        let there : on_pattern Answerer seens.Odp turn a ≡ mid = cc in
+        (ap (λ x. x.phase) (sym there) ∙ e, ap (λ x. x.owes.answer) (sym there))
+
+    heard : (arrived ≡ arrivals.Nothing) ⊎ (arrived ≡ arrivals.Pattern seens.Odp)
+        → (said.account.phase ≡ Detecting) × (arrived ≡ arrivals.Pattern seens.Odp → said.sent ≡ slots.Adp)
+    heard (inl q) = (
+      (spoken (s.phase ∙ nothing q) b.owes.answer refl).1,
+      λ f. let wrong : arrivals.Nothing ≡ arrivals.Pattern seens.Odp =
+          sym q ∙ f in cc,
+    )
+    heard (inr q) =
+        let h = odp q in
+        let k = spoken (s.phase ∙ h.0) (Some answers.Adp) (s.answer ∙ h.1) in
+        (k.1, λ f. ap (λ y. y.sent) (sym k.0))
+
+-- only an end that is Detecting breaks so
+err-detecting : (turn : ℕ) (release : Bool) (b : Account) → speak turn release b ≡ Err NotDetected → b.phase ≡ Detecting
+err-detecting turn release b h = go b.phase refl h
+  where
+    tried : (frame : Frame) (a : Account) → u_try turn frame a ≡ Err NotDetected → ⊥
+    tried frame a q = by (nat_eq turn (a.wait.try_set + a.setup.period)) (nat_eq a.wait.try_count a.setup.tries) q
+      where
+        by : (due s : Bool) → cond due (cond s (Err (spent turn a)) (Ok (tries_frame frame (trying_again turn a))))
+            (Ok (tries_frame frame a)) ≡ Err NotDetected → ⊥
+        by false s q = cc
+        by true true q = cc
+        by true false q = cc
+
+    broke : (c : Account) (m : Option OwnBreaks) → after_timers turn b.special (breaking turn m c) ≡ Err NotDetected → ⊥
+    broke c None q = cc
+    broke c (Some d) q = cc
+
+    linked : speak_linked turn b ≡ Err NotDetected → ⊥
+    linked q = by (timer_expires turn b b.wait.timer) (expired b.outgoing) q
+      where
+        by : (x : Bool) (m : Option Outgoing)
+            → after_timers turn b.special (then_tries turn (cond x (polling turn m b) (Ok b))) ≡ Err NotDetected → ⊥
+        by false m q = broke b (ticked turn b.setup.period b.setup.tries b.own_breaks) q
+        by true None q = cc
+        by true (Some o) q = broke (record b { outgoing = o; wait = record b.wait { poll = true; timer = Some turn } })
+            (ticked turn b.setup.period b.setup.tries b.own_breaks) q
+
+    connected : (x : Bool) → cond x (speak_releasing turn (trying Releasing turn b)) (speak_linked turn b) ≡ Err NotDetected → ⊥
+    connected true q = tried (Disc true) (trying Releasing turn b) q
+    connected false q = linked q
+
+    negotiating : (r : Role) → speak_negotiating r turn b ≡ Err NotDetected → ⊥
+    negotiating Originator q = tried (Xid true false (written b.setup.offer)) b q
+    negotiating Answerer q = cc
+
+    go : (p : Phase) → b.phase ≡ p → speak_in p turn release b ≡ Err NotDetected → b.phase ≡ Detecting
+    go Detecting e q = e
+    go Negotiating e q = absurd (negotiating b.setup.role q)
+    go Establishing e q = absurd (tried (Sabme true) b q)
+    go Connected e q = absurd (connected (release && is_originator b.setup.role) q)
+    go Releasing e q = absurd (tried (Disc true) b q)
+    go Closed e q = cc
+
+pub wants-pattern : SpendsOnTime → OriginatorWantsPattern
+wants-pattern spends tries period delay link ts before t mid kt run c broken number less =
+    at-number (times (number + 1) (tries + 1) (omega (arith, less)))
+  where
+    z : Rates
+    z = rates tries period
+
+    turns : ℕ
+    turns = length ts
+
+    w : Traced period delay link ts before
+    w = traced tries period delay link ts before kt run c
+
+    e : EndRun
+    e = end_run delay w.state w.deed Originator
+
+    o : EndRun
+    o = end_run delay w.state w.deed Answerer
+
+    k : TwoEnds period turns e o
+    k = two-ends tries period delay link ts w.state w.deed kt w.trace Originator
+
+    role-at : (r : Role) (n : ℕ) (us : List Turn) (x : Ends) → RunOf link us x → IsCarried delay us → (of r x).setup.role ≡ r
+    role-at r n us x run' c' =
+        ap (λ s. s.role) (known tries period delay link us x kt run' c' r).setup ∙ (timed tries period delay link kt r).role_is
+
+    -- the originator is Detecting all through
+    last : before.orig.phase ≡ Detecting
+    last =
+        let h = err-detecting turns (releases link turns mid) (served_at link turns mid Originator).account broken.broken in
+        (heard-from (arrival t.orig.heard) turns before.orig mid.orig (role-at Originator turns ts before run c)
+        (known tries period delay link ts before kt run c Originator).none_due (broken.hearing Originator).hears
+        (sym (serves-all link.orig.user turns (is_released mid.orig.phase) mid.orig).phase ∙ h)).0
+
+    mid-role : (r : Role) (u : ℕ) → u < turns → (of r (w.deed u).mid).setup.role ≡ r
+    mid-role r u l =
+        let h = w.trace.happens u l in
+        let a : Account = of r (w.state u) in
+        let kn = known tries period delay link (past ts u) (w.state u) kt h.run h.carried r in
+        let kn' : Known z link u (w.state u) r = subst (λ n. Known z link n (w.state u) r) h.number kn in
+        let tm = timed tries period delay link kt r in
+        let role : a.setup.role ≡ r = ap (λ s. s.role) kn.setup ∙ tm.role_is in
+        let arrived : Arrived = arrival (of r (w.deed u).turn).heard in
+        let heard = heard-ok z (length a.outgoing.pieces) 0 u (z.quota * arrived_rnrs arrived) r a.phase a (of r (w.deed u).mid)
+        (hear u arrived a) (h.hearing r).hears
+        (hears-well z (length a.outgoing.pieces) 0 u r a.phase arrived a (rated tries period delay link kt)
+        (subst (IsOf z) (sym kn.setup) tm.is_of) kn'.stands refl role (omega arith)) in
+        ap (λ s. s.role) heard.1.setup ∙ role
+
+    served-role : (r : Role) (u : ℕ) → u < turns → (served_at link u (w.deed u).mid r).account.setup.role ≡ r
+    served-role r u l = ap (λ s. s.role) (serves-all (of r link).user u (is_released (w.deed u).mid.orig.phase) (of r (w.deed u).mid)).setup
+        ∙ mid-role r u l
+
+    one-turn : (u : ℕ) → u < turns → (w.state (u + 1)).orig.phase ≡ Detecting
+        → ((w.state u).orig.phase ≡ Detecting) × (e.slot u ≡ slots.Odp) × (e.heard u ≡ arrivals.Pattern seens.Adp → ⊥)
+    one-turn u l d =
+        let h = w.trace.happens u l in
+        let s = h.speaking Originator in
+        let b-detects = said-from u (releases link u (w.deed u).mid) (served_at link u (w.deed u).mid Originator).account s.said s.says
+        (ap (λ (x : Account). x.phase) (sym s.after_is) ∙ d) in
+        let f = heard-from (arrival (w.deed u).turn.orig.heard) u (w.state u).orig (w.deed u).mid.orig
+        (role-at Originator u (past ts u) (w.state u) h.run h.carried)
+        (known tries period delay link (past ts u) (w.state u) kt h.run h.carried Originator).none_due (h.hearing Originator).hears
+        (sym (serves-all link.orig.user u (is_released (w.deed u).mid.orig.phase) (w.deed u).mid.orig).phase ∙ b-detects) in (
+          f.0,
+          ap sent_or s.sent_is
+              ∙ sends-odp u (releases link u (w.deed u).mid) (served_at link u (w.deed u).mid Originator).account s.said b-detects
+              (served-role Originator u l) s.says,
+          f.1,
+        )
+
+    down : (n u : ℕ) → u + n ≡ turns → (w.state u).orig.phase ≡ Detecting
+    down zero u q = ap (λ (x : Ends). x.orig.phase) (ap w.state (same u q) ∙ w.last) ∙ last
+      where
+        same : (x : ℕ) → x + 0 ≡ turns → x ≡ turns
+        same x q = omega (arith, q)
+    down (suc n) u q = (one-turn u (omega (arith, q)) (down n (u + 1) (omega (arith, q)))).0
+
+    facts : (u : ℕ) → u < turns
+        → ((w.state u).orig.phase ≡ Detecting) × (e.slot u ≡ slots.Odp) × (e.heard u ≡ arrivals.Pattern seens.Adp → ⊥)
+    facts u l = one-turn u l (down (turns - (u + 1)) (u + 1) (omega (arith, l)))
+
+    -- so nothing but its pattern reaches the answerer
+    only-odp : (u : ℕ) → u < turns → (o.heard u ≡ arrivals.Nothing) ⊎ (o.heard u ≡ arrivals.Pattern seens.Odp)
+    only-odp u l = go (cases_lt u e.delay)
+      where
+        d : 1 ≤ e.delay
+        d = k.own_delay
+
+        late : e.delay ≤ u → (b : Bool) → o.heard u ≡ cond b arrivals.Nothing (arrives (e.slot (u - e.delay)))
+            → (o.heard u ≡ arrivals.Nothing) ⊎ (o.heard u ≡ arrivals.Pattern seens.Odp)
+        late g true q = inl q
+        late g false q = inr (q ∙ ap arrives (facts (u - e.delay) (omega (arith, g, l))).1)
+
+        go : (u < e.delay) ⊎ (e.delay ≤ u) → (o.heard u ≡ arrivals.Nothing) ⊎ (o.heard u ≡ arrivals.Pattern seens.Odp)
+        go (inl y) = inl ((k.is_heard u l).early y)
+        go (inr g) = late g (o.loses u) ((k.is_heard u l).late g)
+
+    answers-turn : (u : ℕ) → u < turns → (w.state u).answ.phase ≡ Detecting
+        → ((w.state (u + 1)).answ.phase ≡ Detecting) × (o.heard u ≡ arrivals.Pattern seens.Odp → o.slot u ≡ slots.Adp)
+    answers-turn u l d =
+        let h = w.trace.happens u l in
+        let s = h.speaking Answerer in
+        let f = answers-odp link.answ.user u (arrival (w.deed u).turn.answ.heard) (w.state u).answ (w.deed u).mid.answ
+        (is_released (w.deed u).mid.orig.phase) false s.said d (role-at Answerer u (past ts u) (w.state u) h.run h.carried)
+        (mid-role Answerer u l) (only-odp u l) (h.hearing Answerer).hears s.says in
+        (ap (λ (x : Account). x.phase) s.after_is ∙ f.0, λ q. ap sent_or s.sent_is ∙ f.1 q)
+
+    up : (u : ℕ) → u ≤ turns → (w.state u).answ.phase ≡ Detecting
+    up zero l = ap (λ (x : Ends). x.answ.phase) w.trace.starts
+    up (suc u) l = ap (λ n. (w.state n).answ.phase) (next u) ∙ (answers-turn u (omega (arith, l)) (up u (omega (arith, l)))).0
+      where
+        next : (x : ℕ) → suc x ≡ x + 1
+        next x = omega arith
+
+    p : period ≡ 2 * (delay Originator + delay Answerer) + 16
+    p = kt.period_is
+
+    d : 1 ≤ delay Originator
+    d = kt.delays Originator
+
+    d' : 1 ≤ delay Answerer
+    d' = kt.delays Answerer
+
+    -- a pattern and its answer cross unless something is lost
+    no-answer : (y : ℕ) → y + period ≤ turns → NoneLost e o (y + 1) (period - 1) → ⊥
+    no-answer y l none = (facts x (omega (arith, l, p))).2 hears
+      where
+        v : ℕ
+        v = y + delay Originator
+
+        x : ℕ
+        x = v + delay Answerer
+
+        back : (a b : ℕ) → a + b - b ≡ a
+        back a b = omega arith
+
+        reaches : o.heard v ≡ arrivals.Pattern seens.Odp
+        reaches =
+            (k.is_heard v (omega (arith, l, p))).late (omega arith)
+            ∙ (ap (λ b. cond b arrivals.Nothing (arrives (e.slot (v - delay Originator)))) (none v (omega (arith, d)) (omega (arith, p))).1
+            ∙ ap arrives ((facts (v - delay Originator) (omega (arith, l, p))).1))
+
+        answered : o.slot v ≡ slots.Adp
+        answered = (answers-turn v (omega (arith, l, p)) (up v (omega (arith, l, p)))).1 reaches
+
+        hears : e.heard x ≡ arrivals.Pattern seens.Adp
+        hears =
+            (k.hears x (omega (arith, l, p))).late (omega arith)
+            ∙ (ap (λ b. cond b arrivals.Nothing (arrives (o.slot (x - delay Answerer)))) (none x (omega (arith, d)) (omega (arith, p))).0
+            ∙ ap arrives (ap o.slot (back v (delay Answerer)) ∙ answered))
+
+    times : (a b : ℕ) → a ≤ b → a * period ≤ b * period
+    times a b l = let m : (b - a) * period + a * period ≡ b * period = sum (b - a) a ∙ ap (λ n. n * period) (whole a b l) in
+        omega (arith, m)
+      where
+        sum : (m n : ℕ) → m * period + n * period ≡ (m + n) * period
+        sum m n = grind (arith)
+
+        whole : (m n : ℕ) → m ≤ n → n - m + m ≡ n
+        whole m n q = omega (arith, q)
+
+    long-enough : (tries + 1) * period ≤ turns
+    long-enough = spends tries period delay link ts before t mid Originator NotDetected kt run c broken
+
+    at-number : (number + 1) * period ≤ (tries + 1) * period → PeriodLoses period turns ts number
+    at-number less' = go (lost-or-none e o (y + 1) (period - 1))
+      where
+        y : ℕ
+        y = turns - (number + 1) * period
+
+        split : (number + 1) * period ≡ number * period + period
+        split = each number
+          where
+            each : (n : ℕ) → (n + 1) * period ≡ n * period + period
+            each n = omega arith
+
+        room : y + period ≤ turns
+        room = let g = long-enough in omega (arith, less', g, split)
+
+        some : (u : ℕ) → (e.loses u ≡ true) ⊎ (o.loses u ≡ true) → LosesSome (Some (w.deed u).turn)
+        some u (inl q) = (Originator, lost-is (w.deed u).turn.orig.heard q)
+        some u (inr q) = (Answerer, lost-is (w.deed u).turn.answ.heard q)
+
+        go : LostIn e o (y + 1) (period - 1) ⊎ NoneLost e o (y + 1) (period - 1) → PeriodLoses period turns ts number
+        go (inr none) = absurd (no-answer y room none)
+        go (inl lost) =
+            let a = lost.low in let b = lost.high in let g = long-enough in
+            let within : lost.turn < turns = omega (arith, b, room, p) in
+            record {
+              turn = lost.turn;
+              within = within;
+              in_period = record { behind = omega (arith, a, less', g); before = omega (arith, b, less', g, split, p) };
+              lost = subst LosesSome (sym (turn-is period delay link ts w.state w.deed w.trace lost.turn within))
+                  (some lost.turn lost.loses);
+            }
+
+pub undetected-starved : SpendsOnTime → UndetectedIsStarved
+undetected-starved spends tries period delay link ts before t mid kt run c broken =
+    all-but-one tries period delay t ts
+    (λ n l. wants-pattern spends tries period delay link ts before t mid kt run c broken n (omega (arith, l)))

@@ -1,0 +1,114 @@
+-- An end that gives up while a break waits was starved.
+use Rattle.std.proofs.Common.{inl, inr, ◌≡◌, ℕ, ◌+◌, ◌-◌, ◌*◌, ◌%◌, ◌<◌, ◌≤◌, true, false, List, ◌∷◌, length, arith, refl, sym, ◌∙◌, ap, subst}
+use Rattle.std.proofs.lemmas.Bool.{cases_lt}
+use Rattle.roles.specs.declared.role.Role.{Role}
+use Rattle.roles.specs.declared.role.Role.TheVariants.{Originator, Answerer}
+use Rattle.roles.specs.Both.{of}
+use Rattle.xid_params.specs.Offers.{ReadsWritten}
+use Rattle.break_signals.specs.Breaks.{waits}
+use Rattle.link_account.specs.Account.{is_connected}
+use Rattle.link_run.specs.End.{is_released}
+use Rattle.link_run.specs.Run.{Link, Ends, Turn, Hears, arrival, served_at}
+use Rattle.link_run.specs.Carried.{Carries}
+use Rattle.link_run.specs.Laws.{RunsOver}
+use Rattle.turn_bound.specs.Time.{KeepsTime}
+use Rattle.turn_bound.specs.Together.{Together, StandTogether}
+use Rattle.turn_bound.proofs.MeetHear.{of_arrived}
+use Rattle.turn_losses.specs.Losses.{PeriodLoses, LosesEach}
+use Rattle.turn_losses.proofs.Trace.{Deed, Trace, past}
+use Rattle.turn_losses.proofs.TwoEnds.{TwoEnds, end_run}
+use Rattle.turn_losses.proofs.Tracing.{Traced, traced}
+use Rattle.turn_losses.proofs.AnswerTurn.{connected-is}
+use Rattle.turn_losses.proofs.LineLaw.{was-sent}
+use Rattle.turn_losses.proofs.PollLaws.{two-ends}
+use Rattle.turn_losses.proofs.Phasing.{is_sabme}
+use Rattle.turn_losses.proofs.BreakHear.{of_word, ack_of}
+use Rattle.turn_losses.proofs.BreakTurn.{number_of}
+use Rattle.turn_losses.proofs.View.{deeds-of, breaking}
+use Rattle.turn_losses.proofs.Windows.{off}
+use Rattle.turn_losses.proofs.Waiting.{BreakPeriod, break-periods}
+use Rattle.turn_losses.proofs.Losing.{connected-loses, last-ends}
+use Rattle.turn_losses.proofs.Quiet.{answ-no-sabme}
+use Rattle.turn_losses.proofs.Spending.{LastWait}
+
+-- the periods of the break that waits at the end
+pub periods-of : (tries period : ℕ) (delay : Role → ℕ) (link : Link) (ts : List Turn) (state : ℕ → Ends) (deed : ℕ → Deed)
+    → (kt : KeepsTime tries period delay link) → (w : Trace period delay link ts state deed) → (r : Role)
+    → LastWait tries period (length ts) (of r (state (length ts))) → (n : ℕ) → n < tries + 1
+    → (s : ℕ) × (s + (n + 1) * period ≡ length ts) × BreakPeriod period (length ts) (number_of (of r (state (length ts))))
+    (end_run delay state deed r) (deeds-of tries period delay link ts state deed kt w r) s
+periods-of tries period delay link ts state deed kt w r l n less =
+    break-periods period (length ts) (end_run delay state deed r) (deeds-of tries period delay link ts state deed kt w r)
+    (breaking tries period delay link ts state deed kt w r) (first r) tries (length ts) (number_of (of r (state (length ts))))
+    (omega arith)
+    (record { connected = l.connected; waiting = l.waiting; numbered = refl }) l.count l.now (λ x. absurd (omega (arith, x))) n
+    (omega (arith, less))
+  where
+    first : (r : Role) → is_connected (of r (state 0)).phase ≡ false
+    first Originator = ap (λ (y : Ends). is_connected y.orig.phase) w.starts
+    first Answerer = ap (λ (y : Ends). is_connected y.answ.phase) w.starts
+
+pub number-small : (x : ℕ) → x % 2 < 2
+number-small x = omega arith
+
+-- the answer isn't heard in the last turn
+pub none-last : (link : Link) (ts : List Turn) (before : Ends) (t : Turn) (mid : Ends) (r : Role) (tries period : ℕ)
+    → Hears (length ts) before t mid → is_connected (of r mid).phase ≡ true → LastWait tries period (length ts) (of r before)
+    → waits (served_at link (length ts) mid r).account.own_breaks ≡ true
+    → of_arrived (of_word (ack_of (number_of (of r before)))) (arrival (of r t).heard) ≡ true → ⊥
+none-last link ts before t mid r tries period hearing cm l w e =
+    off (waits (served_at link (length ts) mid r).account.own_breaks) w
+    (last-ends (of r link).user (length ts) (is_released mid.orig.phase) (arrival (of r t).heard) (of r before)
+    (of r mid) l.connected cm l.waiting l.high (hearing r).hears e)
+
+-- an originator
+pub originator-breaks : ReadsWritten → StandTogether → (tries period : ℕ) (delay : Role → ℕ) (link : Link) (ts : List Turn)
+    (before : Ends) (t : Turn) (mid : Ends) → KeepsTime tries period delay link → RunsOver link delay ts before → Carries delay ts t
+    → Hears (length ts) before t mid → is_connected mid.orig.phase ≡ true → LastWait tries period (length ts) before.orig
+    → waits (served_at link (length ts) mid Originator).account.own_breaks ≡ true → LosesEach period (tries + 1) (length ts) (t ∷ ts)
+originator-breaks reads together tries period delay link ts before t mid kt run cs hearing cm l waiting n less = go
+    (periods-of tries period delay link ts w.state w.deed kt w.trace Originator last n less)
+  where
+    turns : ℕ
+    turns = length ts
+
+    w : Traced period delay link ts before
+    w = traced tries period delay link ts before kt run.run run.carried
+
+    last : LastWait tries period turns (w.state turns).orig
+    last = subst (λ (x : Ends). LastWait tries period turns x.orig) (sym w.last) l
+
+    k : TwoEnds period turns (end_run delay w.state w.deed Originator) (end_run delay w.state w.deed Answerer)
+    k = two-ends tries period delay link ts w.state w.deed kt w.trace Originator
+
+    once : (y : ℕ) → (y + 1) * period ≡ y * period + period
+    once y = omega arith
+
+    same : (x : ℕ) → x ≤ turns → turns ≤ x → x ≡ turns
+    same x a b = omega (arith, a, b)
+
+    joined : (x : Ends) → Together x → is_connected x.orig.phase ≡ true → is_connected x.answ.phase ≡ true
+    joined x h c = ap is_connected (h.answ (connected-is x.orig.phase c))
+
+    peer : (u : ℕ) → u ≤ turns → is_connected (w.state u).orig.phase ≡ true → is_connected (w.state u).answ.phase ≡ true
+    peer u b = elim (cases_lt u turns) [
+      | inl y ↦ (let h = w.trace.happens u y in joined (w.state u)
+          (together tries period delay link (past ts u) (w.state u) kt h.run h.carried))
+      | inr y ↦ joined (w.state u)
+          (subst Together (sym (ap w.state (same u b y) ∙ w.last)) (together tries period delay link ts before kt run.run run.carried))
+    ]
+
+    go : (s : ℕ) × (s + (n + 1) * period ≡ turns) × BreakPeriod period turns (number_of (w.state turns).orig)
+        (end_run delay w.state w.deed Originator) (deeds-of tries period delay link ts w.state w.deed kt w.trace Originator) s
+        → PeriodLoses period turns (t ∷ ts) n
+    go (s, q, bp) =
+        let m = once n in
+        connected-loses reads tries period delay link ts w.state w.deed kt run.may_play w.trace t cs Originator
+        (number_of (w.state turns).orig) s n (number-small (w.state turns).orig.own_breaks.answered) q bp
+        (λ u a b. peer u (omega (arith, b, q, m)) (bp.stays u a b).connected)
+        (λ u a b f. let c = was-sent (delay Answerer) turns is_sabme (end_run delay w.state w.deed Answerer).slot
+        (end_run delay w.state w.deed Originator).heard (end_run delay w.state w.deed Originator).loses k.hears u
+        (omega (arith, b, q, m)) f in
+        answ-no-sabme tries period delay link ts w.state w.deed kt w.trace (u - delay Answerer) (omega (arith, b, q, m)) c.1)
+        (λ g f. none-last link ts before t mid Originator tries period hearing cm l waiting
+        (ap (λ (x : Ends). of_arrived (of_word (ack_of (number_of x.orig))) (arrival t.orig.heard)) (sym w.last) ∙ f))

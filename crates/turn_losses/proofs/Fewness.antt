@@ -1,0 +1,232 @@
+-- A starved run has many lost slots: each lies in two spans at most.
+use Rattle.std.proofs.Common.{inl, inr, ◌≡◌, ◌≢◌, ℕ, zero, suc, ◌+◌, ◌-◌, ◌*◌, ◌<◌, ◌≤◌, ◌&&◌, ◌||◌, Bool, true, false, max, nat_lt, nat_le, List, [], ◌∷◌, length, arith, refl, ◌∙◌, ap, subst, Some}
+use Rattle.std.specs.Prelude.{slice_get}
+use Rattle.std.proofs.lemmas.Bool.{cases_lt}
+use Rattle.std.proofs.lemmas.Bool.Decides.{nat_tests}
+use Rattle.roles.specs.declared.role.Role.TheVariants.{Originator, Answerer}
+use Rattle.slot_contents.specs.declared.heard.Heard.{Heard}
+use Rattle.slot_contents.specs.declared.heard.Heard.TheVariants.{Nothing, Passed, Lost, Chance}
+use Rattle.link_run.specs.Run.{Turn}
+use Rattle.link_run.specs.Counts.{lost_in, lost_slots}
+use Rattle.link_run.specs.Starved.{SpanLoses, IsLost, LosesSome, turn_at}
+use Rattle.turn_bound.proofs.Clock.{one_if}
+use Rattle.turn_bound.proofs.Tied.{is_lost}
+use Rattle.turn_losses.specs.Losses.{StarvedLosesMany, LosslessIsFed}
+use Rattle.turn_losses.proofs.Starving.{later-turn}
+
+-- how many numbers below that one meet a test
+abbrev count_of : ℕ → (ℕ → Bool) → ℕ
+count_of zero test = 0
+count_of (suc n) test = count_of n test + one_if (test n)
+
+count-none : (n : ℕ) (test : ℕ → Bool) → ((m : ℕ) → m < n → test m ≡ false) → count_of n test ≡ 0
+count-none zero test h = refl
+count-none (suc n) test h = let k = count-none n test (λ m l. h m (omega (arith, l))) in let e = ap one_if (h n (omega arith)) in
+    omega (arith, k, e)
+
+count-or : (n : ℕ) (a b : ℕ → Bool) → count_of n (λ m. a m || b m) ≤ count_of n a + count_of n b
+count-or zero a b = omega arith
+count-or (suc n) a b = let k = count-or n a b in let e = either (a n) (b n) in omega (arith, k, e)
+  where
+    either : (x y : Bool) → one_if (x || y) ≤ one_if x + one_if y
+    either true y = omega arith
+    either false y = omega arith
+
+one-most : (b : Bool) → one_if b ≤ 1
+one-most true = omega arith
+one-most false = omega arith
+
+-- where only the last one may meet it
+count-last : (n : ℕ) (test : ℕ → Bool) → ((m : ℕ) → m < n → test m ≡ true → n ≤ m + 1) → count_of n test ≤ 1
+count-last zero test h = omega arith
+count-last (suc n) test h =
+    let k = count-none n test (λ m l. none m l (test m) refl) in let e = one-most (test n) in omega (arith, k, e)
+  where
+    none : (m : ℕ) → m < n → (b : Bool) → test m ≡ b → test m ≡ false
+    none m l false q = q
+    none m l true q = let w = h m (omega (arith, l)) q in absurd (omega (arith, w, l))
+
+-- where two that meet it follow one another
+count-near : (n : ℕ) (test : ℕ → Bool) → ((m k : ℕ) → m < k → k < n → test m ≡ true → test k ≡ true → k ≤ m + 1) → count_of n test ≤ 2
+count-near zero test h = omega arith
+count-near (suc n) test h = go (test n) refl (count-near n test (λ m k l g. h m k l (omega (arith, g))))
+  where
+    go : (b : Bool) → test n ≡ b → count_of n test ≤ 2 → count_of n test + one_if (test n) ≤ 2
+    go false q b = let e = ap one_if q in omega (arith, e, b)
+    go true q b = let e = ap one_if q in let k = count-last n test (λ m l t. h m n l (omega arith) t q) in omega (arith, e, k)
+
+count-all : (n : ℕ) (test : ℕ → Bool) → ((m : ℕ) → m < n → test m ≡ true) → count_of n test ≡ n
+count-all zero test h = refl
+count-all (suc n) test h = let k = count-all n test (λ m l. h m (omega (arith, l))) in let e = ap one_if (h n (omega arith)) in
+    omega (arith, k, e)
+
+-- where all but one meet it
+count-but : (n spared : ℕ) (test : ℕ → Bool) → ((m : ℕ) → m < n → m ≢ spared → test m ≡ true) → n ≤ count_of n test + 1
+count-but zero spared test h = omega arith
+count-but (suc n) spared test h = go (count-but n spared test (λ m l d. h m (omega (arith, l)) d))
+  where
+    other : n ≤ count_of n test + 1 → n ≢ spared → suc n ≤ count_of n test + one_if (test n) + 1
+    other b d = let e = ap one_if (h n (omega arith) d) in omega (arith, e, b)
+
+    apart-below : n < spared → n ≢ spared
+    apart-below l e = omega (arith, e, l)
+
+    apart-above : spared < n → n ≢ spared
+    apart-above l e = omega (arith, e, l)
+
+    last : n ≡ spared → suc n ≤ count_of n test + one_if (test n) + 1
+    last e = let k = count-all n test (λ m l. h m (omega (arith, l)) (λ q. omega (arith, q, e, l))) in omega (arith, k)
+
+    go : n ≤ count_of n test + 1 → suc n ≤ count_of n test + one_if (test n) + 1
+    go b = elim (cases_lt n spared) [
+      | inl l ↦ other b (apart-below l)
+      | inr g ↦
+          elim (cases_lt spared n) [ inl l ↦ other b (apart-above l) | inr m ↦ last (omega (arith, g, m)) ]
+    ]
+
+-- whether a turn lies in a span, and whether something was lost in it
+abbrev in_span : (period delay last turn span : ℕ) → Bool
+in_span period delay last turn span = nat_lt last (turn + (span + 1) * period + delay) && nat_le (turn + span * period) last
+
+abbrev loses : Turn → Bool
+loses t = is_lost t.orig.heard || is_lost t.answ.heard
+
+abbrev covers : (period delay last : ℕ) → List Turn → ℕ → Bool
+covers period delay last [] span = false
+covers period delay last (t ∷ ts) span = (loses t && in_span period delay last (length ts) span) || covers period delay last ts span
+
+both-true : (x y : Bool) → x && y ≡ true → (x ≡ true) × (y ≡ true)
+both-true true y e = (refl, e)
+both-true false y e = cc
+
+spans-near : (period delay last turn m k : ℕ) → delay < period → m < k → in_span period delay last turn m ≡ true
+    → in_span period delay last turn k ≡ true → k ≤ m + 1
+spans-near period delay last turn m k short less em ek = elim (cases_lt (m + 1) k) [ inl l ↦ absurd (far l) | inr g ↦ g ]
+  where
+    xm : (nat_lt last (turn + (m + 1) * period + delay) ≡ true) × (nat_le (turn + m * period) last ≡ true)
+    xm = both-true _ _ em
+
+    xk : (nat_lt last (turn + (k + 1) * period + delay) ≡ true) × (nat_le (turn + k * period) last ≡ true)
+    xk = both-true _ _ ek
+
+    behind : last < turn + (m + 1) * period + delay
+    behind = let e = xm.0 in grind (arith, nat_tests, e)
+
+    before : turn + k * period ≤ last
+    before = let e = xk.1 in grind (arith, nat_tests, e)
+
+    spread : (a b : ℕ) → a * period + b * period ≡ (a + b) * period
+    spread a b = grind (arith)
+
+    far : m + 1 < k → ⊥
+    far l =
+        let sum : (m + 2) * period + (k - (m + 2)) * period ≡ k * period =
+        spread (m + 2) (k - (m + 2)) ∙ ap (λ n. n * period) (omega (arith, l)) in
+        let next : (m + 2) * period ≡ (m + 1) * period + period = omega arith in
+        omega (arith, sum, next, behind, before, short)
+
+lost-one : (h : Heard) → is_lost h ≡ true → lost_in h ≡ 1
+lost-one Nothing e = cc
+lost-one (Passed s) e = cc
+lost-one (Lost s) e = refl
+lost-one Chance e = cc
+
+-- the spans that losses cover
+covers-few : (period delay last n : ℕ) → delay < period → (ts : List Turn) → count_of n (covers period delay last ts) ≤ 2 * lost_slots ts
+covers-few period delay last n short [] = let k = count-none n (covers period delay last []) (λ m l. refl) in omega (arith, k)
+covers-few period delay last n short (t ∷ ts) =
+    go (is_lost t.orig.heard) (is_lost t.answ.heard) refl refl (covers-few period delay last n short ts)
+  where
+    here : ℕ → Bool
+    here span = loses t && in_span period delay last (length ts) span
+
+    all : count_of n (covers period delay last (t ∷ ts)) ≤ count_of n here + count_of n (covers period delay last ts)
+    all = count-or n here (covers period delay last ts)
+
+    two : count_of n here ≤ 2
+    two = count-near n here
+        (λ m k l g a b. spans-near period delay last (length ts) m k short l
+        (both-true (loses t) (in_span period delay last (length ts) m) a).1
+        (both-true (loses t) (in_span period delay last (length ts) k) b).1)
+
+    go : (x y : Bool) → is_lost t.orig.heard ≡ x → is_lost t.answ.heard ≡ y → count_of n (covers period delay last ts) ≤ 2 * lost_slots ts
+        → count_of n (covers period delay last (t ∷ ts)) ≤ 2 * (lost_slots ts + lost_in t.orig.heard + lost_in t.answ.heard)
+    go true y p q r = let one = lost-one t.orig.heard p in let a = all in let b = two in omega (arith, one, a, b, r)
+    go false true p q r = let one = lost-one t.answ.heard q in let a = all in let b = two in omega (arith, one, a, b, r)
+    go false false p q r =
+        let none = count-none n here
+        (λ m l. ap (λ b. (b || is_lost t.answ.heard) && in_span period delay last (length ts) m) p
+        ∙ ap (λ b. (false || b) && in_span period delay last (length ts) m) q) in
+        let a = all in omega (arith, none, a, r)
+
+is-loss : (h : Heard) → IsLost h → is_lost h ≡ true
+is-loss Nothing e = absurd e
+is-loss (Passed s) e = absurd e
+is-loss (Lost s) e = refl
+is-loss Chance e = absurd e
+
+loses-turn : (t : Turn) → LosesSome (Some t) → loses t ≡ true
+loses-turn t (Originator, h) = ap (λ b. b || is_lost t.answ.heard) (is-loss t.orig.heard h)
+loses-turn t (Answerer, h) = by (is_lost t.orig.heard) (is-loss t.answ.heard h)
+  where
+    by : (b : Bool) → is_lost t.answ.heard ≡ true → b || is_lost t.answ.heard ≡ true
+    by true e = refl
+    by false e = e
+
+covers-loss : (period delay last span : ℕ) (ts : List Turn) (turn : ℕ) → turn < length ts → LosesSome (turn_at turn ts)
+    → in_span period delay last turn span ≡ true → covers period delay last ts span ≡ true
+covers-loss period delay last span [] turn l h e = absurd (omega (arith, l))
+covers-loss period delay last span (t ∷ ts) turn l h e = elim (cases_lt turn (length ts)) [
+  | inl less ↦ later (covers-loss period delay last span ts turn less (subst LosesSome (later-turn turn t ts less) h) e)
+  | inr more ↦ here (omega (arith, l, more))
+]
+  where
+    or-second : (x y : Bool) → y ≡ true → x || y ≡ true
+    or-second true y q = refl
+    or-second false y q = q
+
+    later : covers period delay last ts span ≡ true → covers period delay last (t ∷ ts) span ≡ true
+    later q = or-second (loses t && in_span period delay last (length ts) span) (covers period delay last ts span) q
+
+    here : turn ≡ length ts → covers period delay last (t ∷ ts) span ≡ true
+    here q =
+        let first : turn_at turn (t ∷ ts) ≡ Some t = ap (λ n. slice_get (t ∷ ts) n) (index turn (length ts) q) in
+        let lost = loses-turn t (subst LosesSome first h) in
+        ap (λ b. (b && in_span period delay last (length ts) span) || covers period delay last ts span) lost
+        ∙ ap (λ b. b || covers period delay last ts span) (subst (λ n. in_span period delay last n span ≡ true) q e)
+      where
+        index : (a n : ℕ) → a ≡ n → suc n - 1 - a ≡ 0
+        index a n e = omega (arith, e)
+
+pub starved-loses-many : StarvedLosesMany
+starved-loses-many tries period delay link ts kt h =
+    let many = count-but (tries + 1) h.spared (covers period d last ts) (λ n l other. covered n (h.each n (omega (arith, l)) other)) in
+    let few = covers-few period d last (tries + 1) short ts in
+    omega (arith, many, few)
+  where
+    d : ℕ
+    d = max (delay Originator) (delay Answerer)
+
+    last : ℕ
+    last = length ts - 1
+
+    short : d < period
+    short = let p = kt.period_is in omega (arith, p)
+
+    covered : (n : ℕ) → SpanLoses period d ts n → covers period d last ts n ≡ true
+    covered n s = covers-loss period d last n ts s.turn s.within s.lost
+        (both (nat_lt last (s.turn + (n + 1) * period + d)) (nat_le (s.turn + n * period) last) behind before)
+      where
+        behind : nat_lt last (s.turn + (n + 1) * period + d) ≡ true
+        behind = let b = s.in_span.behind in grind (arith, nat_tests, b)
+
+        before : nat_le (s.turn + n * period) last ≡ true
+        before = let b = s.in_span.before in grind (arith, nat_tests, b)
+
+        both : (x y : Bool) → x ≡ true → y ≡ true → x && y ≡ true
+        both true y e f = f
+        both false y e f = cc
+
+pub lossless-is-fed : LosslessIsFed
+lossless-is-fed tries period delay link ts kt none h = let many = starved-loses-many tries period delay link ts kt h in let some =
+    kt.some_tries in omega (arith, many, some, none)

@@ -1,0 +1,93 @@
+-- Whatever an end gives up for, where no break waits.
+use Rattle.std.proofs.Common.{◌≡◌, ℕ, ◌+◌, Bool, true, false, cond, ◌∷◌, length, arith, refl, sym, ◌∙◌, ap}
+use Rattle.roles.specs.declared.role.Role.{Role}
+use Rattle.roles.specs.declared.role.Role.TheVariants.{Originator, Answerer}
+use Rattle.roles.specs.Both.{of}
+use Rattle.break_signals.specs.Breaks.{waits}
+use Rattle.link_faults.specs.declared.fault.LinkFault.{LinkFault}
+use Rattle.link_faults.specs.declared.fault.LinkFault.TheVariants.{Spent, NotDetected, BadAck, PeerReset, PeerRefused}
+use Rattle.link_account.specs.Account.{is_connected, break_waits}
+use Rattle.link_run.specs.End.{is_released}
+use Rattle.link_run.specs.Run.{BrokenTurn, served_at}
+use Rattle.link_run.specs.Laws.{EachEndIsNamed, IsNamed}
+use Rattle.turn_bound.proofs.Serving.{serves-all}
+use Rattle.turn_losses.specs.Losses.{LosesEach, OriginatorWantsAnswers, OriginatorIsStarved, OriginatorWantsPattern, UndetectedIsStarved}
+use Rattle.turn_losses.proofs.AnswerTurn.{connected-is}
+use Rattle.turn_losses.specs.Tries.{OriginatorWantsFrame, AnswererWantsAnswer, IsForLosses, GivesUpForLosses}
+use Rattle.turn_losses.proofs.Parting.{later-loses, answerer-gives-up}
+
+-- what the laws say of each case
+pub record Cases : Type 0 where
+  pub named : EachEndIsNamed
+  pub orig : OriginatorWantsAnswers
+  pub orig_starved : OriginatorIsStarved
+  pub pattern : OriginatorWantsPattern
+  pub pattern_starved : UndetectedIsStarved
+  pub frame : OriginatorWantsFrame
+  pub answ : AnswererWantsAnswer
+
+pub gives-up : Cases → GivesUpForLosses
+gives-up laws tries period delay link ts before t mid role fault kt run cs broken quiet = go role fault broken
+    (laws.named link ts before t mid role fault run.may_play run.run broken) quiet
+  where
+    waits-not : (r : Role) → is_connected (of r mid).phase ≡ true → break_waits (served_at link (length ts) mid r).account ≡ false
+        → waits (served_at link (length ts) mid r).account.own_breaks ≡ false
+    waits-not r c q = by (is_connected (served_at link (length ts) mid r).account.phase)
+        (ap is_connected (serves-all (of r link).user (length ts) (is_released mid.orig.phase) (of r mid)).phase ∙ c) q
+      where
+        by : (b : Bool) → b ≡ true → cond b (waits (served_at link (length ts) mid r).account.own_breaks) false ≡ false
+            → waits (served_at link (length ts) mid r).account.own_breaks ≡ false
+        by true e f = f
+        by false e f = cc
+
+    -- fewer of the latest periods
+    fewer : LosesEach period (tries + 1) (length ts) (t ∷ ts) → LosesEach period tries (length ts) (t ∷ ts)
+    fewer h n l = h n (omega (arith, l))
+
+    longer : (count : ℕ) → LosesEach period count (length ts) ts → LosesEach period count (length ts) (t ∷ ts)
+    longer count h n l = later-loses period t ts n (h n l)
+
+    spent : (segment since : ℕ) → BrokenTurn link ts before t mid Originator (Spent segment since)
+        → break_waits (served_at link (length ts) mid Originator).account ≡ false → (c : Bool) → is_connected mid.orig.phase ≡ c
+        → IsForLosses tries period delay ts t c
+    spent segment since b q true c =
+        let cm = connected-is mid.orig.phase c in
+        let no-break = waits-not Originator c q in
+        record {
+          each = longer tries (laws.orig tries period delay link ts before t mid segment since kt run cs b cm no-break);
+          all = λ e. cc;
+          starved = laws.orig_starved tries period delay link ts before t mid segment since kt run cs b cm no-break;
+        }
+    spent segment since b q false c =
+        let h = laws.frame tries period delay link ts before t mid segment since kt run cs b c in
+        record { each = fewer (longer (tries + 1) h.0); all = λ e. longer (tries + 1) h.0; starved = h.1 }
+
+    answ-spent : (segment since : ℕ) → BrokenTurn link ts before t mid Answerer (Spent segment since)
+        → break_waits (served_at link (length ts) mid Answerer).account ≡ false → (c : Bool) → is_connected mid.answ.phase ≡ c
+        → IsForLosses tries period delay ts t c
+    answ-spent segment since b q true c =
+        let h = laws.answ tries period delay link ts before t mid segment since kt run cs b (waits-not Answerer c q) in
+        record { each = h.0; all = λ e. cc; starved = h.1 }
+    answ-spent segment since b q false c = let wrong : true ≡ false = sym
+        (answerer-gives-up tries period delay link ts before t mid (Spent segment since) kt run b) ∙ c in cc
+
+    undetected : BrokenTurn link ts before t mid Originator NotDetected → (c : Bool) → IsForLosses tries period delay ts t c
+    undetected b c =
+        let h = longer (tries + 1) (laws.pattern tries period delay link ts before t mid kt run.run run.carried b) in
+        record {
+          each = fewer h;
+          all = λ e. h;
+          starved = laws.pattern_starved tries period delay link ts before t mid kt run.run
+              run.carried b;
+        }
+
+    go : (r : Role) (f : LinkFault) → BrokenTurn link ts before t mid r f → IsNamed r f
+        → break_waits (served_at link (length ts) mid r).account ≡ false
+        → IsForLosses tries period delay ts t (is_connected (of r mid).phase)
+    go Originator (Spent segment since) b n q = spent segment since b q (is_connected mid.orig.phase) refl
+    go Answerer (Spent segment since) b n q = answ-spent segment since b q (is_connected mid.answ.phase) refl
+    go Originator NotDetected b n q = undetected b (is_connected mid.orig.phase)
+    go Answerer NotDetected b n q = cc
+    go r (BadAck nr va high) b n q = absurd n
+    go r (PeerReset va vr) b n q = absurd n
+    go r PeerRefused b n q = absurd n

@@ -1,0 +1,179 @@
+use Rattle.std.proofs.Common.{◌≡◌, ℕ, ◌+◌, ◌-◌, ◌<◌, ◌&&◌, Bool, true, false, List, ◌∷◌, length, arith, refl, sym, ◌∙◌, ap, Option, Some, None}
+use Rattle.std.specs.Prelude.{slice_get}
+use Rattle.roles.specs.declared.role.Role.{Role}
+use Rattle.roles.specs.declared.role.Role.TheVariants.{Originator, Answerer}
+use Rattle.roles.specs.Role.{other}
+use Rattle.roles.specs.Both.{of}
+use Rattle.lapm_frames.specs.declared.frame.Frame.{Frame}
+use Rattle.slot_contents.specs.declared.sent.Sent.{Sent}
+use Rattle.slot_contents.specs.declared.sent.Sent.TheVariants as slots
+use Rattle.slot_contents.specs.declared.heard.Heard.{Heard}
+use Rattle.slot_contents.specs.declared.heard.Heard.TheVariants.{Nothing, Passed, Lost, Chance}
+use Rattle.link_account.specs.Account.{is_connected}
+use Rattle.link_run.specs.Run.{Link, Ends, Spoken, Turn, arrival}
+use Rattle.link_run.specs.Carried.{sent_in, sent_ago}
+use Rattle.link_run.specs.Overheard.{passes_in}
+use Rattle.link_run.specs.Starved.{turn_at}
+use Rattle.turn_bound.proofs.MeetHear.{of_frame, of_arrived}
+use Rattle.turn_losses.specs.Polls.{is_poll, is_final, is_frame_of, sends_of, PollsIn, PollsKeepApart, RepliesAtOnce, AnswersPoll, AnswersMatchPolls}
+use Rattle.turn_losses.proofs.Trace.{Deed, Trace, past, sent_or}
+use Rattle.turn_losses.proofs.TwoEnds.{EndRun, TwoEnds, end_run, sends_poll, hears_poll, sends_final, hears_final}
+use Rattle.turn_losses.proofs.KeepsPolls.{Answers, KeepsPolls, StillAwaited}
+use Rattle.turn_losses.proofs.Tracing.{Traced, traced, OneMore, traced-turn, past-all, past-before}
+use Rattle.turn_losses.proofs.LineLaw.{looked}
+use Rattle.turn_losses.proofs.PollLaws.{two-ends, due-apart, poll-fresh, poll-held-up, polls-apart, reply-from, reply-at-once, reply-matches}
+use Rattle.turn_losses.proofs.PeriodLaws.{still-awaited}
+
+keeps-polls : (period turns : ℕ) (e o : EndRun) → TwoEnds period turns e o → KeepsPolls period turns e o
+keeps-polls period turns e o k = record {
+  due_apart = due-apart period turns e o k;
+  fresh = λ t l d. (poll-fresh period turns e o k t l d, poll-held-up period turns e o k t l d);
+  sent_apart = polls-apart period turns e o k;
+  reply_from = reply-from period turns e o k;
+  reply_at_once = reply-at-once period turns e o k;
+  matches = reply-matches period turns e o k;
+  still = still-awaited period turns e o k;
+}
+
+same-kind : (is : Frame → Bool) (sent : Sent) → is_frame_of is sent ≡ of_frame is sent
+same-kind is slots.Mark = refl
+same-kind is slots.Flags = refl
+same-kind is slots.Odp = refl
+same-kind is slots.Adp = refl
+same-kind is (slots.Frame frame) = refl
+
+sends-kind : (is : Frame → Bool) (m : Option Spoken) (s : Spoken) → m ≡ Some s → sends_of is m ≡ of_frame is (sent_or m)
+sends-kind is None s e = cc
+sends-kind is (Some slot) s e = same-kind is slot.sent
+
+passes-kind : (is : Frame → Bool) (h : Heard) → passes_in is h ≡ of_arrived is (arrival h)
+passes-kind is Nothing = refl
+passes-kind is (Lost s) = refl
+passes-kind is Chance = refl
+passes-kind is (Passed slots.Mark) = refl
+passes-kind is (Passed slots.Flags) = refl
+passes-kind is (Passed slots.Odp) = refl
+passes-kind is (Passed slots.Adp) = refl
+passes-kind is (Passed (slots.Frame frame)) = refl
+
+-- the turn of that number
+pub turn-is : (period : ℕ) (delay : Role → ℕ) (link : Link) (ts : List Turn) (state : ℕ → Ends) (deed : ℕ → Deed)
+    → Trace period delay link ts state deed
+    → (t : ℕ) → t < length ts → turn_at t ts ≡ Some (deed t).turn
+turn-is period delay link ts state deed w t l =
+    ap (λ us. slice_get us (length ts - 1 - t)) (sym (ap (past ts) (omega (arith, l)) ∙ past-all ts))
+    ∙ looked period delay link ts state deed w (length ts - 1 - t) t (omega (arith, l))
+
+polls-of : (period : ℕ) (delay : Role → ℕ) (link : Link) (ts : List Turn) (state : ℕ → Ends) (deed : ℕ → Deed)
+    → Trace period delay link ts state deed
+    → (role : Role) (t : ℕ) → t < length ts → PollsIn role t ts → sends_poll (end_run delay state deed role) t ≡ true
+polls-of period delay link ts state deed w role t l p =
+    let s = (w.happens t l).speaking role in
+    sym (sends-kind is_poll (of role (deed t).turn).sent _ s.sent_is)
+    ∙ (ap (λ m. sends_of is_poll (sent_in role m)) (sym (turn-is period delay link ts state deed w t l)) ∙ p)
+
+pub polls-keep-apart : PollsKeepApart
+polls-keep-apart tries period delay link ts ends k run c role s t less within ps pt =
+    let w = traced tries period delay link ts ends k run c in
+    (keeps-polls period (length ts) (end_run delay w.state w.deed role) (end_run delay w.state w.deed (other role))
+    (two-ends tries period delay link ts w.state w.deed k w.trace role)).sent_apart s t less within
+    (polls-of period delay link ts w.state w.deed w.trace role s (omega (arith, less, within)) ps)
+    (polls-of period delay link ts w.state w.deed w.trace role t within pt)
+
+both-ways : (b c : Bool) → (b ≡ true → c ≡ true) → (c ≡ true → b ≡ true) → b ≡ c
+both-ways true c f g = sym (f refl)
+both-ways false true f g = g refl
+both-ways false false f g = refl
+
+pub replies-at-once : RepliesAtOnce
+replies-at-once tries period delay link ts before t after k run g c role cb ca =
+    go (traced-turn tries period delay link ts before t after k run g c)
+  where
+    go : (d : Deed) × (d.turn ≡ t) × OneMore period delay link t ts before d after
+        → sends_of is_final (of role t).sent ≡ passes_in is_poll (of role t).heard
+    go (d, dt, m) =
+        both-ways _ _ (λ e. hears ∙ keeps.reply_from n (omega arith) (sym sends ∙ e))
+        (λ e. sends ∙ keeps.reply_at_once n (omega arith) (sym hears ∙ e)
+        (ap (λ (x : Ends). is_connected (of role x).phase) m.before_is ∙ ap is_connected cb)
+        (ap (λ (x : Ends). is_connected (of role x).phase) (ap w.state (omega arith) ∙ w.last) ∙ ap is_connected ca))
+      where
+        n : ℕ
+        n = length ts
+
+        w : Traced period delay link (t ∷ ts) after
+        w = m.traced
+
+        keeps : KeepsPolls period (length (t ∷ ts)) (end_run delay w.state w.deed role) (end_run delay w.state w.deed (other role))
+        keeps = keeps-polls period (length (t ∷ ts)) (end_run delay w.state w.deed role) (end_run delay w.state w.deed (other role))
+            (two-ends tries period delay link (t ∷ ts) w.state w.deed k w.trace role)
+
+        turn : (w.deed n).turn ≡ t
+        turn = ap (λ x. x.turn) m.deed_is ∙ dt
+
+        sends : sends_of is_final (of role t).sent ≡ sends_final (end_run delay w.state w.deed role) n
+        sends = sends-kind is_final (of role t).sent _ (g.speaking role).sent_is
+            ∙ ap (λ (x : Turn). of_frame is_final (sent_or (of role x).sent)) (sym turn)
+
+        hears : passes_in is_poll (of role t).heard ≡ hears_poll (end_run delay w.state w.deed role) n
+        hears = passes-kind is_poll (of role t).heard ∙ ap (λ (x : Turn). of_arrived is_poll (arrival (of role x).heard)) (sym turn)
+
+pub answers-match : AnswersMatchPolls
+answers-match tries period delay link ts before t after k run g c role cb h =
+    go (traced-turn tries period delay link ts before t after k run g c)
+  where
+    go : (d : Deed) × (d.turn ≡ t) × OneMore period delay link t ts before d after → AnswersPoll delay ts before role
+    go (d, dt, m) = record {
+      polled = polled role refl;
+      awaited = ap (λ (x : Ends). (of role x).outgoing.awaited) (sym m.before_is) ∙ still.awaited;
+      none_due = not-due (is_connected (of role before).phase) (of role before).wait.poll (ap is_connected cb)
+          (ap (λ (x : Ends). is_connected (of role x).phase && (of role x).wait.poll) (sym m.before_is) ∙ still.none_due);
+    }
+      where
+        not-due : (x y : Bool) → x ≡ true → x && y ≡ false → y ≡ false
+        not-due true y p q = q
+        not-due false y p q = cc
+
+        n : ℕ
+        n = length ts
+
+        w : Traced period delay link (t ∷ ts) after
+        w = m.traced
+
+        keeps : KeepsPolls period (length (t ∷ ts)) (end_run delay w.state w.deed role) (end_run delay w.state w.deed (other role))
+        keeps = keeps-polls period (length (t ∷ ts)) (end_run delay w.state w.deed role) (end_run delay w.state w.deed (other role))
+            (two-ends tries period delay link (t ∷ ts) w.state w.deed k w.trace role)
+
+        turn : (w.deed n).turn ≡ t
+        turn = ap (λ x. x.turn) m.deed_is ∙ dt
+
+        hears : hears_final (end_run delay w.state w.deed role) n ≡ true
+        hears = ap (λ (x : Turn). of_arrived is_final (arrival (of role x).heard)) turn ∙ (sym (passes-kind is_final (of role t).heard) ∙ h)
+
+        still : StillAwaited (of role (w.state n))
+        still = keeps.still n (omega arith) (ap (λ (x : Ends). is_connected (of role x).phase) m.before_is ∙ ap is_connected cb) hears
+
+        a : Answers n (end_run delay w.state w.deed role) (end_run delay w.state w.deed (other role))
+        a = keeps.matches n (omega arith) hears
+
+        polled : (r : Role) → r ≡ role → sends_of is_poll (sent_ago (delay Originator + delay Answerer) role ts) ≡ true
+        polled r e =
+            let trip = a.round_trip in
+            let sum = both-delays role in
+            let one = k.delays Originator in
+            let seen : slice_get (past (t ∷ ts) (a.sent + (delay Originator + delay Answerer - 1) + 1))
+            (delay Originator + delay Answerer - 1) ≡ Some (w.deed a.sent).turn
+            = looked period delay link (t ∷ ts) w.state w.deed w.trace (delay Originator + delay Answerer - 1) a.sent
+            (omega (arith, trip, sum, one)) in
+            let there : slice_get ts (delay Originator + delay Answerer - 1) ≡ Some (w.deed a.sent).turn
+            = ap (λ us. slice_get us (delay Originator + delay Answerer - 1))
+            (sym (ap (past (t ∷ ts)) (omega (arith, trip, sum, one)) ∙ past-now)) ∙ seen in
+            let s = (w.trace.happens a.sent (omega (arith, trip))).speaking role in
+            ap (λ x. sends_of is_poll (sent_in role x)) there
+            ∙ (sends-kind is_poll (of role (w.deed a.sent).turn).sent _ s.sent_is ∙ a.is_sent)
+          where
+            both-delays : (x : Role) → delay x + delay (other x) ≡ delay Originator + delay Answerer
+            both-delays Originator = refl
+            both-delays Answerer = omega arith
+
+            past-now : past (t ∷ ts) n ≡ ts
+            past-now = past-before t ts

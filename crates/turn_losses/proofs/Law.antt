@@ -1,0 +1,129 @@
+-- Whatever an end gives up for, the run was starved.
+use Rattle.std.proofs.Common.{◌⊎◌, inl, inr, ◌≡◌, ℕ, ◌+◌, ◌≤◌, Bool, true, false, cond, ◌∷◌, length, arith, refl, sym, ◌∙◌, ap, subst}
+use Rattle.roles.specs.declared.role.Role.{Role}
+use Rattle.roles.specs.declared.role.Role.TheVariants.{Originator, Answerer}
+use Rattle.roles.specs.Both.{of}
+use Rattle.xid_params.specs.Offers.{ReadsWritten, IsAllowed}
+use Rattle.break_signals.specs.Breaks.{waits}
+use Rattle.link_account.specs.declared.phase.Phase.{Phase}
+use Rattle.link_account.specs.declared.phase.Phase.TheVariants.{Detecting, Negotiating, Establishing, Connected, Releasing, Closed}
+use Rattle.link_faults.specs.declared.fault.LinkFault.{LinkFault}
+use Rattle.link_account.specs.Account.{Account, is_connected, break_waits}
+use Rattle.link_run.specs.End.{is_released, is_closed}
+use Rattle.link_run.specs.Run.{BrokenTurn, arrival, served_at}
+use Rattle.link_run.specs.Starved.{IsStarved}
+use Rattle.turn_bound.specs.Together.{StandTogether}
+use Rattle.turn_bound.proofs.Clock.{Rates, rates}
+use Rattle.turn_bound.proofs.Value.{IsOf}
+use Rattle.turn_bound.proofs.Serving.{serves-all}
+use Rattle.turn_losses.proofs.AnswerTurn.{connected-is}
+use Rattle.turn_losses.proofs.Tracing.{Known, known, Timed, timed, rated, release_of}
+use Rattle.turn_losses.proofs.Numbering.{Plays, allowed, fits-at}
+use Rattle.turn_losses.proofs.Room.{begins-roomy}
+use Rattle.turn_losses.proofs.Wanting.{SpendsTries, LastTry, last-try-of}
+use Rattle.turn_losses.proofs.Starving.{originator-each, all-but-one}
+use Rattle.turn_losses.proofs.Answerer.{answerer-each}
+use Rattle.turn_losses.specs.Tries.{GivesUpForLosses}
+use Rattle.turn_losses.proofs.Setups.{heard-setup, served-setup}
+use Rattle.turn_losses.proofs.Parting.{parted-each, all-but-last}
+use Rattle.turn_losses.specs.Breaks.{GivesUpStarved}
+use Rattle.turn_losses.proofs.Spending.{SpendsBreak, connected-spends, LastWait, last-wait}
+use Rattle.turn_losses.proofs.Ending.{originator-breaks}
+use Rattle.turn_losses.proofs.Sparing.{answerer-breaks, of-period}
+
+pub record Base : Type 0 where
+  pub plays : Plays
+  pub together : StandTogether
+  pub reads : ReadsWritten
+  pub quiet : GivesUpForLosses
+
+only-releasing : (q : Phase) → is_released q ≡ true → is_closed q ≡ false → q ≡ Releasing
+only-releasing Detecting g h = cc
+only-releasing Negotiating g h = cc
+only-releasing Establishing g h = cc
+only-releasing Connected g h = cc
+only-releasing Releasing g h = refl
+only-releasing Closed g h = cc
+
+waiting-is : (c w : Bool) → cond c w false ≡ true → (c ≡ true) × (w ≡ true)
+waiting-is true w e = (refl, e)
+waiting-is false w e = cc
+
+pub gives-up-starved : Base → GivesUpStarved
+gives-up-starved laws tries period delay link ts before t mid role fault kt run cs broken = by (break_waits b) refl
+  where
+    turns : ℕ
+    turns = length ts
+
+    b : Account
+    b = (served_at link turns mid role).account
+
+    by : (x : Bool) → break_waits b ≡ x → IsStarved tries period delay (t ∷ ts)
+    by false q = (laws.quiet tries period delay link ts before t mid role fault kt run cs broken q).starved
+    by true q = go role fault broken (waiting-is (is_connected b.phase) (waits b.own_breaks) q)
+      where
+        z : Rates
+        z = rates tries period
+
+        setup : (r : Role) → (served_at link turns mid r).account.setup ≡ (of r link).setup
+        setup r = served-setup (of r link).user turns (is_released mid.orig.phase) (of r mid)
+            ∙ heard-setup tries period delay link ts before kt run.run run.carried r (arrival (of r t).heard) (of r mid)
+            (broken.hearing r).hears
+
+        long : (r : Role) → 1 ≤ (served_at link turns mid r).account.setup.period
+        long r = let p = kt.period_is in let e = ap (λ x. x.period) (setup r) ∙ (kt.timed r).period_is in omega (arith, p, e)
+
+        mid-connected : (r : Role) → is_connected (served_at link turns mid r).account.phase ≡ true → is_connected (of r mid).phase ≡ true
+        mid-connected r c = ap is_connected (sym (serves-all (of r link).user turns (is_released mid.orig.phase) (of r mid)).phase) ∙ c
+
+        try-of : (r : Role) → is_connected (of r mid).phase ≡ true → SpendsTries turns (served_at link turns mid r).account
+            → LastTry tries period turns (of r before)
+        try-of r cm s =
+            let kn : Known z link turns before r = known tries period delay link ts before kt run.run run.carried r in
+            let tm : Timed z link r = timed tries period delay link kt r in
+            last-try-of tries period (of r link).user turns r (arrival (of r t).heard) (of r before) (of r mid)
+            (is_released mid.orig.phase) (rated tries period delay link kt) (subst (IsOf z) (sym kn.setup) tm.is_of) kn.stands
+            (ap (λ x. x.role) kn.setup ∙ tm.role_is) kn.none_due
+            (λ u c. ((begins-roomy (arrival (of r t).heard) turns (of r before) (of r mid) u
+            (fits-at laws.plays link delay ts before run r)
+            (subst IsAllowed (ap (λ x. x.offer) (sym kn.setup)) (allowed link run.may_play r)) (broken.hearing r).hears).so c).2)
+            (broken.hearing r).hears cm s
+
+        wait-of : (r : Role) → is_connected (of r mid).phase ≡ true → SpendsBreak turns (served_at link turns mid r).account
+            → LastWait tries period turns (of r before)
+        wait-of r cm s = last-wait tries period delay link ts before kt run.run run.carried r (arrival (of r t).heard)
+            (is_released mid.orig.phase) (of r mid) (broken.hearing r).hears cm s
+
+        orig : is_connected mid.orig.phase ≡ true → waits (served_at link turns mid Originator).account.own_breaks ≡ true
+            → SpendsTries turns (served_at link turns mid Originator).account ⊎ SpendsBreak turns
+            (served_at link turns mid Originator).account → IsStarved tries period delay (t ∷ ts)
+        orig cm w (inl s) = all-but-one tries period delay t ts
+            (originator-each laws.plays laws.together tries period delay link ts before kt run (try-of Originator cm s))
+        orig cm w (inr s) =
+            let each = originator-breaks laws.reads laws.together tries period delay link ts before t mid kt run cs broken.hearing cm
+            (wait-of Originator cm s) w in
+            record { spared = tries + 1; each = λ n few other. of-period period delay t ts n (each n (omega (arith, few))) }
+
+        answ : is_connected mid.answ.phase ≡ true → waits (served_at link turns mid Answerer).account.own_breaks ≡ true
+            → SpendsTries turns (served_at link turns mid Answerer).account ⊎ SpendsBreak turns
+            (served_at link turns mid Answerer).account → IsStarved tries period delay (t ∷ ts)
+        answ cm w (inl s) = on (is_released mid.orig.phase) refl
+          where
+            on : (x : Bool) → is_released mid.orig.phase ≡ x → IsStarved tries period delay (t ∷ ts)
+            on false f = all-but-one tries period delay t ts
+                (answerer-each laws.plays tries period delay link ts before t mid kt run broken.hearing f (try-of Answerer cm s))
+            on true f = all-but-last tries period delay t ts
+                (parted-each laws.plays laws.reads tries period delay link ts before t mid kt run cs broken.hearing cm
+                (only-releasing mid.orig.phase f broken.going) (try-of Answerer cm s))
+        answ cm w (inr s) = answerer-breaks laws.reads tries period delay link ts before t mid kt run cs broken.hearing broken.going cm
+            (wait-of Answerer cm s) w
+
+        go : (r : Role) (f : LinkFault) → BrokenTurn link ts before t mid r f
+            → (is_connected (served_at link turns mid r).account.phase ≡ true)
+            × (waits (served_at link turns mid r).account.own_breaks ≡ true) → IsStarved tries period delay (t ∷ ts)
+        go Originator f x (c, w) = orig (mid-connected Originator c) w
+            (connected-spends turns (release_of link turns mid Originator) (served_at link turns mid Originator).account f
+            (connected-is (served_at link turns mid Originator).account.phase c) (long Originator) x.broken)
+        go Answerer f x (c, w) = answ (mid-connected Answerer c) w
+            (connected-spends turns false (served_at link turns mid Answerer).account f
+            (connected-is (served_at link turns mid Answerer).account.phase c) (long Answerer) x.broken.1)

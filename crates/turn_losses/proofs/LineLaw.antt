@@ -1,0 +1,151 @@
+use Rattle.std.proofs.Common.{◌⊎◌, inl, inr, ◌≡◌, ℕ, zero, suc, ◌+◌, ◌-◌, ◌<◌, ◌≤◌, Bool, true, false, cond, List, [], ◌∷◌, length, arith, refl, sym, ◌∙◌, ap, subst, Some, None}
+use Rattle.std.proofs.lemmas.Bool.{cases_lt}
+use Rattle.roles.specs.declared.role.Role.{Role}
+use Rattle.lapm_frames.specs.declared.frame.Frame.{Frame}
+use Rattle.slot_contents.specs.declared.sent.Sent.{Sent}
+use Rattle.slot_contents.specs.declared.arrived.Arrived.{Arrived}
+use Rattle.slot_contents.specs.declared.arrived.Arrived.TheVariants as arrivals
+use Rattle.link_account.specs.Account.{Account, is_connected}
+use Rattle.link_account.specs.Play.{arrives}
+use Rattle.std.specs.Prelude.{slice_get}
+use Rattle.roles.specs.Role.{other}
+use Rattle.roles.specs.Both.{of}
+use Rattle.link_run.specs.Run.{Link, Ends, Turn, arrival}
+use Rattle.link_run.specs.Carried.{Crosses, HasDelays, sent_in}
+use Rattle.turn_bound.proofs.Tied.{is_lost, sent_of, none-heard, one-heard}
+use Rattle.turn_losses.proofs.Trace.{past, sent_or}
+use Rattle.turn_losses.specs.Polls.{is_poll}
+use Rattle.turn_bound.proofs.MeetHear.{of_frame, of_arrived}
+use Rattle.turn_losses.proofs.Polling.{is_linked, poll_due, PollTurn}
+use Rattle.turn_losses.proofs.Polls.{Polls, WasSent}
+use Rattle.turn_losses.proofs.Trace.{Deed, Happens, Trace}
+use Rattle.turn_losses.proofs.TwoEnds.{ArrivesLate}
+use Rattle.turn_bound.proofs.Meeting.{arrives-flag}
+
+-- the turn so many turns ago
+pub looked : (period : ℕ) (delay : Role → ℕ) (link : Link) (ts : List Turn) (state : ℕ → Ends) (deed : ℕ → Deed)
+    → Trace period delay link ts state deed
+    → (k t : ℕ) → t + k < length ts → slice_get (past ts (t + k + 1)) k ≡ Some (deed t).turn
+looked period delay link ts state deed w zero t l =
+    ap (λ n. slice_get (past ts n) 0) (omega arith) ∙ ap (λ us. slice_get us 0) (w.grows t (omega (arith, l)))
+looked period delay link ts state deed w (suc k) t l =
+    ap (λ n. slice_get (past ts n) (suc k)) (omega arith)
+    ∙ (ap (λ us. slice_get us (suc k)) (w.grows (t + k + 1) (omega (arith, l)))
+    ∙ looked period delay link ts state deed w k t (omega (arith, l)))
+
+get-none : {A : Type 0} (xs : List A) (k : ℕ) → length xs ≤ k → slice_get xs k ≡ None
+get-none [] k l = refl
+get-none (x ∷ xs) zero l = absurd (omega (arith, l))
+get-none (x ∷ xs) (suc k) l = get-none xs k (omega (arith, l))
+
+-- both lines of a run
+pub arrives-late : (period : ℕ) (delay : Role → ℕ) (link : Link) (ts : List Turn) (state : ℕ → Ends) (deed : ℕ → Deed) → HasDelays delay
+    → Trace period delay link ts state deed → (role : Role)
+    → (t : ℕ) → t < length ts
+    → ArrivesLate (delay (other role)) t (is_lost (of role (deed t).turn).heard) (λ n. sent_or (of (other role) (deed n).turn).sent)
+    (arrival (of role (deed t).turn).heard)
+arrives-late period delay link ts state deed some w role t within = record { early = early; late = late }
+  where
+    d : ℕ
+    d = delay (other role)
+
+    h : Happens period delay link (past ts t) t (state t) (deed t) (state (t + 1))
+    h = w.happens t within
+
+    crosses : Crosses (sent_in (other role) (slice_get (past ts t) (d - 1))) (of role (deed t).turn).heard
+    crosses = h.carries role
+
+    early : t < d → arrival (of role (deed t).turn).heard ≡ arrivals.Nothing
+    early l =
+        let number = h.number in
+        sym (none-heard (sent_in (other role) (slice_get (past ts t) (d - 1))) (of role (deed t).turn).heard
+        (ap (sent_in (other role)) (get-none (past ts t) (d - 1) (omega (arith, number, l)))) crosses)
+
+    late : d ≤ t → arrival (of role (deed t).turn).heard ≡ cond (is_lost (of role (deed t).turn).heard) arrivals.Nothing
+        (arrives (sent_or (of (other role) (deed (t - d)).turn).sent))
+    late g =
+        let one = some (other role) in
+        let seen : slice_get (past ts (t - d + (d - 1) + 1)) (d - 1) ≡ Some (deed (t - d)).turn =
+        looked period delay link ts state deed w (d - 1) (t - d) (omega (arith, g, one, within)) in
+        let turn : slice_get (past ts t) (d - 1) ≡ Some (deed (t - d)).turn =
+        ap (λ n. slice_get (past ts n) (d - 1)) (omega (arith, g, one)) ∙ seen in
+        let s = (w.happens (t - d) (omega (arith, g, within))).speaking (other role) in
+        sym (one-heard (sent_in (other role) (slice_get (past ts t) (d - 1))) (sent_or (of (other role) (deed (t - d)).turn).sent)
+        (of role (deed t).turn).heard
+        (ap (λ m. sent_of (sent_in (other role) m)) turn ∙ (ap sent_of s.sent_is ∙ ap (λ m. Some (sent_or m)) (sym s.sent_is))) crosses)
+
+-- a frame of some kind that is heard was sent
+pub was-sent : (delay turns : ℕ) (kind : Frame → Bool) (f : ℕ → Sent) (arrived : ℕ → Arrived) (loses : ℕ → Bool)
+    → ((t : ℕ) → t < turns → ArrivesLate delay t (loses t) f (arrived t))
+    → WasSent delay turns (λ t. of_arrived kind (arrived t)) (λ t. of_frame kind (f t))
+was-sent delay turns kind f arrived loses h t within is_heard = go (cases_lt t delay)
+  where
+    by : (b : Bool) → of_arrived kind (cond b arrivals.Nothing (arrives (f (t - delay)))) ≡ true → of_frame kind (f (t - delay)) ≡ true
+    by true e = cc
+    by false e = sym (arrives-flag kind (f (t - delay))) ∙ e
+
+    go : (t < delay) ⊎ (delay ≤ t) → (delay ≤ t) × (of_frame kind (f (t - delay)) ≡ true)
+    go (inl l) = let wrong : false ≡ true = ap (of_arrived kind) (sym ((h t within).early l)) ∙ is_heard in cc
+    go (inr g) = (g, by (loses t) (ap (of_arrived kind) (sym ((h t within).late g)) ∙ is_heard))
+
+-- what is sent is heard unless it is lost
+pub is-heard : (delay turns : ℕ) (kind : Frame → Bool) (f : ℕ → Sent) (arrived : ℕ → Arrived) (loses : ℕ → Bool)
+    → ((t : ℕ) → t < turns → ArrivesLate delay t (loses t) f (arrived t))
+    → (t : ℕ) → t + delay < turns → loses (t + delay) ≡ false → of_arrived kind (arrived (t + delay)) ≡ of_frame kind (f t)
+is-heard delay turns kind f arrived loses h t within passes =
+    let back : t + delay - delay ≡ t = omega arith in
+    ap (of_arrived kind) ((h (t + delay) within).late (omega arith)
+    ∙ (ap (λ b. cond b arrivals.Nothing (arrives (f (t + delay - delay)))) passes ∙ ap (λ n. arrives (f n)) back))
+    ∙ arrives-flag kind (f t)
+
+-- Polls that became due at one end are a period apart: while its clock runs, it was set no earlier than the last of them.
+pub record SetSince (s : ℕ) (a : Account) : Type 0 where
+  pub linked : is_linked a.phase ≡ true
+  pub set : is_connected a.phase ≡ true → (r : ℕ) → a.wait.timer ≡ Some r → s ≤ r
+
+pub set-since : (period turns : ℕ) (role : Role) (account : ℕ → Account) (heard final made : ℕ → Bool) (count : ℕ → ℕ) (sent : ℕ → Sent)
+    → ((t : ℕ) → t < turns → PollTurn period t role (heard t) (final t) (made t) (count t) (sent t) (account t) (account (t + 1))) → (s : ℕ)
+    → made s ≡ true → (t : ℕ) → s < t → t ≤ turns → SetSince s (account t)
+set-since period turns role account heard final made count sent h s m zero less within = let wrong : ⊥ = omega (arith, less) in absurd wrong
+set-since period turns role account heard final made count sent h s m (suc t) less within =
+    subst (λ n. SetSince s (account n)) (omega arith)
+    (elim (cases_lt s t) [
+      | inl l ↦
+          later (set-since period turns role account heard final made count sent h s m t l (omega (arith, within)))
+      | inr g ↦
+          same (omega (arith, less, g))
+    ])
+  where
+    k : PollTurn period t role (heard t) (final t) (made t) (count t) (sent t) (account t) (account (t + 1))
+    k = h t (omega (arith, within))
+
+    same : t ≡ s → SetSince s (account (t + 1))
+    same q = let n : made t ≡ true = ap made q ∙ m in
+        record { linked = k.made_linked n; set = λ e r w. let v = k.made_timer n e r w in omega (arith, v, q) }
+
+    later : SetSince s (account t) → SetSince s (account (t + 1))
+    later i = record { linked = k.linked i.linked; set = λ e r w. by e r ((k.timer e i.linked).1 r w) }
+      where
+        by : is_connected (account (t + 1)).phase ≡ true → (r : ℕ) → (r ≡ t) ⊎ ((account t).wait.timer ≡ Some r) → s ≤ r
+        by e r (inl v) = omega (arith, v, less)
+        by e r (inr v) = i.set (k.timer e i.linked).0 r v
+
+pub are-polls : (period turns : ℕ) (role : Role) (account : ℕ → Account) (heard final made : ℕ → Bool) (count : ℕ → ℕ) (sent : ℕ → Sent)
+    → poll_due (account 0) ≡ false
+    → ((t : ℕ) → t < turns → PollTurn period t role (heard t) (final t) (made t) (count t) (sent t) (account t) (account (t + 1)))
+    → Polls period turns (λ t. poll_due (account t)) made (λ t. of_frame is_poll (sent t)) heard
+are-polls period turns role account heard final made count sent none h = record {
+  none_at_first = none;
+  due_from = λ t l d m. (h t l).due_from d m;
+  held_up = λ t l d. (h t l).held_up d;
+  sent_from = λ t l d m. (h t l).sent_from d m;
+  sent_done = λ t l d. (h t l).sent_done d;
+  apart = apart;
+}
+  where
+    apart : (s t : ℕ) → s < t → t < turns → made s ≡ true → made t ≡ true → s + period ≤ t
+    apart s t less within m n =
+        let i = set-since period turns role account heard final made count sent h s m t less (omega (arith, within)) in
+        let w = (h t within).made_from n i.linked in
+        let far : s ≤ w.1 = i.set w.0 w.1 w.2 in
+        let due = w.3 in omega (arith, far, due)

@@ -1,0 +1,240 @@
+-- What is lost in each period of a waiting break, while the other end is Connected.
+use Rattle.std.proofs.Common.{◌⊎◌, inl, inr, ◌≡◌, ℕ, ◌+◌, ◌-◌, ◌*◌, ◌<◌, ◌≤◌, Bool, true, false, List, ◌∷◌, length, arith, refl, sym, ◌∙◌, ap, subst, Ok}
+use Rattle.std.specs.Prelude.{slice_get}
+use Rattle.std.proofs.lemmas.Bool.{cases_lt}
+use Rattle.std.proofs.lemmas.Bool.Decides.{nat_tests}
+use Rattle.roles.specs.declared.role.Role.{Role}
+use Rattle.roles.specs.declared.role.Role.TheVariants.{Originator, Answerer}
+use Rattle.roles.specs.Role.{other}
+use Rattle.roles.specs.Both.{of}
+use Rattle.lapm_frames.specs.declared.frame.Frame.{Frame}
+use Rattle.xid_params.specs.Offers.{ReadsWritten}
+use Rattle.break_signals.specs.Breaks.{OwnBreaks, waits}
+use Rattle.slot_contents.specs.declared.arrived.Arrived.{Arrived}
+use Rattle.link_account.specs.Account.{Account, is_connected}
+use Rattle.link_account.specs.Laws.{MayPlay}
+use Rattle.link_account.specs.Hear.{hear}
+use Rattle.link_account.specs.Play.{arrives}
+use Rattle.link_run.specs.End.{User, is_busy}
+use Rattle.link_run.specs.Run.{Link, Ends, Turn, SpeaksAt, arrival, said_at}
+use Rattle.link_run.specs.Carried.{Carries, sent_in}
+use Rattle.link_run.specs.Starved.{LosesSome}
+use Rattle.turn_bound.specs.Time.{KeepsTime}
+use Rattle.turn_bound.proofs.MeetHear.{of_frame, of_arrived}
+use Rattle.turn_bound.proofs.Meeting.{arrives-flag}
+use Rattle.turn_bound.proofs.Serving.{serves-all}
+use Rattle.turn_bound.proofs.Run.{served_account}
+use Rattle.turn_bound.proofs.Tied.{is_lost}
+use Rattle.turn_losses.specs.Losses.{PeriodLoses}
+use Rattle.turn_losses.proofs.Trace.{Deed, Trace, past, sent_or}
+use Rattle.turn_losses.proofs.TwoEnds.{EndRun, TwoEnds, end_run}
+use Rattle.turn_losses.proofs.Tracing.{past-all}
+use Rattle.turn_losses.proofs.LineLaw.{is-heard, looked, was-sent}
+use Rattle.turn_losses.proofs.PollLaws.{two-ends}
+use Rattle.turn_losses.proofs.PeriodLaws.{NoneLost}
+use Rattle.turn_losses.proofs.PeriodHolds.{LostIn, lost-or-none}
+use Rattle.turn_losses.proofs.Keeping.{turn-is}
+use Rattle.turn_losses.proofs.Wanting.{lost-is}
+use Rattle.turn_losses.proofs.Starving.{later-turn}
+use Rattle.turn_losses.proofs.AnswerTurn.{connected-is}
+use Rattle.turn_losses.proofs.Parting.{passes-as, newest}
+use Rattle.turn_losses.proofs.Phasing.{is_sabme}
+use Rattle.turn_losses.proofs.BreakHear.{of_word, ack_of, break-heard}
+use Rattle.turn_losses.proofs.BreakTurn.{Deeds, ServedBreaks, number_of, brk_due}
+use Rattle.turn_losses.proofs.View.{deeds-of, breaking, served-own}
+use Rattle.turn_losses.proofs.Windows.{off}
+use Rattle.turn_losses.proofs.Waiting.{BreakPeriod, break-answered}
+use Rattle.turn_losses.proofs.Quiet.{answers-sabme, sends-sabme-so}
+
+not-true : (b : Bool) → (b ≡ true → ⊥) → b ≡ false
+not-true true f = absurd (f refl)
+not-true false f = refl
+
+waits-not : (b : OwnBreaks) → length b.lengths ≤ b.answered → waits b ≡ false
+waits-not b l = grind (arith, nat_tests, l)
+
+-- what one role sent so long before the last turn arrives in it, unless it is lost
+pub last-heard : (kind : Frame → Bool) (period : ℕ) (delay : Role → ℕ) (link : Link) (ts : List Turn) (state : ℕ → Ends) (deed : ℕ → Deed)
+    → Trace period delay link ts state deed → (t : Turn) → Carries delay ts t → (r : Role) → 1 ≤ delay (other r)
+    → (s : ℕ) → s + delay (other r) ≡ length ts → is_lost (of r t).heard ≡ false
+    → of_arrived kind (arrival (of r t).heard) ≡ of_frame kind (sent_or (of (other r) (deed s).turn).sent)
+last-heard kind period delay link ts state deed w t cs r d s same f =
+    ap (of_arrived kind) heard ∙ arrives-flag kind (sent_or (of (other r) (deed s).turn).sent)
+  where
+    within : s < length ts
+    within = omega (arith, same, d)
+
+    s' : SpeaksAt (said_at link s (deed s).mid (other r)) (of (other r) (deed s).turn) (of (other r) (state (s + 1)))
+    s' = (w.happens s within).speaking (other r)
+
+    on-line : sent_in (other r) (slice_get ts (delay (other r) - 1)) ≡ (of (other r) (deed s).turn).sent
+    on-line = ap (sent_in (other r)) (ap (λ us. slice_get us (delay (other r) - 1)) (sym (past-all ts))
+        ∙ (ap (λ m. slice_get (past ts m) (delay (other r) - 1)) (omega (arith, same, d))
+        ∙ looked period delay link ts state deed w (delay (other r) - 1) s (omega (arith, same, d))))
+
+    heard : arrival (of r t).heard ≡ arrives (sent_or (of (other r) (deed s).turn).sent)
+    heard = passes-as (sent_in (other r) (slice_get ts (delay (other r) - 1))) s'.said (of r t).heard (on-line ∙ s'.sent_is) (cs r) f
+        ∙ ap (λ j. arrives (sent_or j)) (sym s'.sent_is)
+
+-- a loss of a turn as one of a period
+pub loses-at : (period : ℕ) (delay : Role → ℕ) (link : Link) (ts : List Turn) (state : ℕ → Ends) (deed : ℕ → Deed)
+    → Trace period delay link ts state deed → (t : Turn) (s n : ℕ) → s + (n + 1) * period ≡ length ts
+    → (u : ℕ) → s < u → u ≤ s + period → u < length ts → (r : Role) → is_lost (of r (deed u).turn).heard ≡ true
+    → PeriodLoses period (length ts) (t ∷ ts) n
+loses-at period delay link ts state deed w t s n q u lo hi b r lost = let m = once n in record {
+  turn = u;
+  within = omega (arith, b);
+  in_period = record { behind = omega (arith, lo, q); before = omega (arith, hi, q, m) };
+  lost = subst LosesSome (sym (later-turn u t ts b ∙ turn-is period delay link ts state deed w u b))
+      (r, lost-is (of r (deed u).turn).heard lost);
+}
+  where
+    once : (y : ℕ) → (y + 1) * period ≡ y * period + period
+    once y = omega arith
+
+pub loses-last : (period : ℕ) (t : Turn) (ts : List Turn) (s n : ℕ) → 1 ≤ period → s + (n + 1) * period ≡ length ts
+    → s + period ≡ length ts → (r : Role) → is_lost (of r t).heard ≡ true → PeriodLoses period (length ts) (t ∷ ts) n
+loses-last period t ts s n long q f r lost = let m = once n in record {
+  turn = length ts;
+  within = omega arith;
+  in_period = record { behind = omega (arith, q, f, long); before = omega (arith, q, f, m) };
+  lost = subst LosesSome (sym (newest t ts)) (r, lost-is (of r t).heard lost);
+}
+  where
+    once : (y : ℕ) → (y + 1) * period ≡ y * period + period
+    once y = omega arith
+
+-- the answer in the last turn ends the wait
+pub last-ends : (user : User) (turn : ℕ) (released : Bool) (arrived : Arrived) (a mid : Account) → is_connected a.phase ≡ true
+    → is_connected mid.phase ≡ true → waits a.own_breaks ≡ true → length a.own_breaks.lengths ≤ a.own_breaks.answered + 1
+    → hear turn arrived a ≡ Ok mid → of_arrived (of_word (ack_of (number_of a))) arrived ≡ true
+    → waits (served_account user turn released mid).own_breaks ≡ false
+last-ends user turn released arrived a mid ca cm w high h e = by s.taken refl
+  where
+    b : Account
+    b = served_account user turn released mid
+
+    x : (mid.own_breaks.answered ≡ a.own_breaks.answered + 1) × (mid.own_breaks.lengths ≡ a.own_breaks.lengths)
+        × (mid.own_breaks.rest ≡ turn + 8)
+    x = (break-heard arrived turn a mid (connected-is a.phase ca) cm h).ends e w
+
+    more : a.own_breaks.answered < length a.own_breaks.lengths
+    more = grind (arith, nat_tests, w)
+
+    s : ServedBreaks turn mid.own_breaks b.own_breaks
+    s = served-own turn (length user.breaks) (is_busy turn user.busy) mid b (serves-all user turn released mid)
+        (let n = x.0 in let l = ap length x.1 in omega (arith, n, l, more))
+
+    none : waits mid.own_breaks ≡ false
+    none = let n = x.0 in let l = ap length x.1 in waits-not mid.own_breaks (omega (arith, n, l, high))
+
+    by : (t : Bool) → s.taken ≡ t → waits b.own_breaks ≡ false
+    by true q = let r = (s.yes q).1 in let z = x.2 in absurd (omega (arith, r, z))
+    by false q = ap waits (s.no q) ∙ none
+
+-- A period of a waiting break loses something, while the other end is Connected in it.
+pub connected-loses : ReadsWritten → (tries period : ℕ) (delay : Role → ℕ) (link : Link) (ts : List Turn) (state : ℕ → Ends)
+    (deed : ℕ → Deed) → (kt : KeepsTime tries period delay link) → MayPlay link.orig.setup link.answ.setup
+    → (w : Trace period delay link ts state deed) → (t : Turn) → Carries delay ts t → (r : Role) → (number s n : ℕ) → number < 2
+    → s + (n + 1) * period ≡ length ts
+    → BreakPeriod period (length ts) number (end_run delay state deed r) (deeds-of tries period delay link ts state deed kt w r) s
+    → ((u : ℕ) → s < u → u ≤ s + period → is_connected (of (other r) (state u)).phase ≡ true)
+    → ((u : ℕ) → s ≤ u → u < s + period → of_arrived is_sabme (arrival (of r (deed u).turn).heard) ≡ true → ⊥)
+    → (s + period ≡ length ts → of_arrived (of_word (ack_of number)) (arrival (of r t).heard) ≡ true → ⊥)
+    → PeriodLoses period (length ts) (t ∷ ts) n
+connected-loses reads tries period delay link ts state deed kt m w t cs r number s n small q bp co na last-no = go
+    (lost-or-none e o (s + 1) (period - 1))
+  where
+    turns : ℕ
+    turns = length ts
+
+    e : EndRun
+    e = end_run delay state deed r
+
+    o : EndRun
+    o = end_run delay state deed (other r)
+
+    k : TwoEnds period turns e o
+    k = two-ends tries period delay link ts state deed kt w r
+
+    d : ℕ → Deeds
+    d = deeds-of tries period delay link ts state deed kt w r
+
+    d' : ℕ → Deeds
+    d' = deeds-of tries period delay link ts state deed kt w (other r)
+
+    p : period ≡ 2 * (e.delay + o.delay) + 16
+    p = k.period_is
+
+    one : 1 ≤ e.delay
+    one = k.own_delay
+
+    one' : 1 ≤ o.delay
+    one' = k.other_delay
+
+    long : 1 ≤ period
+    long = omega (arith, p)
+
+    within : s + period ≤ turns
+    within = let x = once n in omega (arith, q, x)
+      where
+        once : (y : ℕ) → (y + 1) * period ≡ y * period + period
+        once y = omega arith
+
+    quiet : (u : ℕ) → s ≤ u → u < s + period → (d u).answers ≡ false
+    quiet u a b = not-true (d u).answers
+        (λ f. na u a b (answers-sabme tries period delay link ts state deed kt w r u (omega (arith, b, within))
+        (bp.stays (u + 1) (omega (arith, a)) (omega (arith, b))).connected f))
+
+    quiet' : (u : ℕ) → s + e.delay ≤ u → u < s + period → (d' u).answers ≡ false
+    quiet' u a b = not-true (d' u).answers (λ f.
+        let heard = answers-sabme tries period delay link ts state deed kt w (other r) u (omega (arith, b, within))
+        (co (u + 1) (omega (arith, a)) (omega (arith, b))) f in
+        let c = was-sent e.delay turns is_sabme e.slot o.heard o.loses k.is_heard u (omega (arith, b, within)) heard in
+        let v : ℕ = u - e.delay in
+        off (is_connected (e.account (v + 1)).phase) (bp.stays (v + 1) (omega (arith, a)) (omega (arith, a, b, one))).connected
+        (sends-sabme-so reads tries period delay link ts state deed kt m w r v (omega (arith, b, within)) c.1))
+
+    some : (u : ℕ) → s < u → u ≤ s + period → u < turns → (e.loses u ≡ true) ⊎ (o.loses u ≡ true) → PeriodLoses period turns (t ∷ ts) n
+    some u a b c (inl f) = loses-at period delay link ts state deed w t s n q u a b c r f
+    some u a b c (inr f) = loses-at period delay link ts state deed w t s n q u a b c (other r) f
+
+    go : LostIn e o (s + 1) (period - 1) ⊎ NoneLost e o (s + 1) (period - 1) → PeriodLoses period turns (t ∷ ts) n
+    go (inl x) = let a = x.low in let b = x.high in some x.turn (omega (arith, a)) (omega (arith, b, long))
+        (omega (arith, b, long, within)) x.loses
+    go (inr none) = late (break-answered period turns number e o d d' k (breaking tries period delay link ts state deed kt w r)
+        (breaking tries period delay link ts state deed kt w (other r)) first small s within bp co quiet quiet' none)
+      where
+        first : brk_due (o.account 0) ≡ false
+        first = start (other r)
+          where
+            start : (x : Role) → brk_due (of x (state 0)) ≡ false
+            start Originator = ap (λ (y : Ends). brk_due y.orig) w.starts
+            start Answerer = ap (λ (y : Ends). brk_due y.answ) w.starts
+
+        late : (z : ℕ) × (z + o.delay ≡ s + period) × (s < z) × (of_frame (of_word (ack_of number)) (o.slot z) ≡ true)
+            → PeriodLoses period turns (t ∷ ts) n
+        late (z, f, a, sent) = elim
+            (cases_lt (s + period) turns) [
+              | inl l ↦ inside l (e.loses (s + period)) refl
+              | inr g ↦ at-end (omega (arith, within, g))
+                  (is_lost (of r t).heard) refl
+            ]
+          where
+            inside : s + period < turns → (b : Bool) → e.loses (s + period) ≡ b → PeriodLoses period turns (t ∷ ts) n
+            inside l true g = some (s + period) (omega (arith, long)) (omega arith) l (inl g)
+            inside l false g =
+                let comes : of_arrived (of_word (ack_of number)) (e.heard (z + o.delay)) ≡ true = is-heard o.delay turns
+                (of_word (ack_of number)) o.slot e.heard e.loses k.hears z (omega (arith, f, l)) (ap e.loses f ∙ g) ∙ sent in
+                let here = bp.stays (s + period) (omega (arith, long)) (omega arith) in
+                let there = bp.goes_on l in
+                absurd (off (waits (e.account (s + period + 1)).own_breaks) there.waiting
+                (((breaking tries period delay link ts state deed kt w r).turn (s + period) l there.connected).ends here.connected
+                here.waiting
+                (ap (λ x. of_arrived (of_word (ack_of x)) (e.heard (s + period))) here.numbered
+                ∙ (ap (λ x. of_arrived (of_word (ack_of number)) (e.heard x)) (sym f) ∙ comes))))
+
+            at-end : s + period ≡ turns → (b : Bool) → is_lost (of r t).heard ≡ b → PeriodLoses period turns (t ∷ ts) n
+            at-end g true x = loses-last period t ts s n long q g r x
+            at-end g false x = absurd
+                (last-no g (last-heard (of_word (ack_of number)) period delay link ts state deed w t cs r one' z (f ∙ g) x ∙ sent))

@@ -1,0 +1,906 @@
+-- An answerer that gives up, also while the originator releases.
+use Rattle.std.proofs.Common.{◌⊎◌, inl, inr, ◌≡◌, ◌≢◌, ℕ, zero, suc, ◌+◌, ◌-◌, ◌*◌, ◌%◌, ◌<◌, ◌≤◌, ◌&&◌, ◌||◌, not, Bool, true, false, cond, nat_eq, max, List, ◌∷◌, length, arith, refl, sym, ◌∙◌, ap, subst, Option, Some, None, Ok, Err}
+use Rattle.std.specs.Prelude.{slice_get}
+use Rattle.std.proofs.lemmas.Bool.{cases_lt}
+use Rattle.std.proofs.lemmas.Bool.Decides.{nat_tests}
+use Rattle.roles.specs.declared.role.Role.{Role}
+use Rattle.roles.specs.declared.role.Role.TheVariants.{Originator, Answerer}
+use Rattle.roles.specs.Role.{is_originator}
+use Rattle.roles.specs.Both.{of}
+use Rattle.lapm_sender.specs.Outgoing.{Outgoing, is_outstanding, is_whole}
+use Rattle.xid_params.specs.Offers.{ReadsWritten, IsAllowed}
+use Rattle.break_signals.specs.Breaks.{waits}
+use Rattle.slot_contents.specs.declared.sent.Sent.{Sent}
+use Rattle.slot_contents.specs.declared.sent.Sent.TheVariants as slots
+use Rattle.slot_contents.specs.declared.heard.Heard.{Heard}
+use Rattle.slot_contents.specs.declared.heard.Heard.TheVariants.{Nothing, Passed, Lost, Chance}
+use Rattle.slot_contents.specs.declared.arrived.Arrived.{Arrived}
+use Rattle.slot_contents.specs.declared.arrived.Arrived.TheVariants as arrivals
+use Rattle.link_account.specs.declared.phase.Phase.{Phase}
+use Rattle.link_account.specs.declared.phase.Phase.TheVariants.{Detecting, Negotiating, Establishing, Connected, Releasing, Closed}
+use Rattle.link_faults.specs.declared.fault.LinkFault.{LinkFault}
+use Rattle.link_faults.specs.declared.fault.LinkFault.TheVariants.{Spent}
+use Rattle.link_account.specs.Account.{Account, is_connected}
+use Rattle.link_account.specs.Hear.{hear, trying}
+use Rattle.link_account.specs.Laws.{MayPlay}
+use Rattle.link_account.specs.Play.{arrives}
+use Rattle.link_account.specs.Speak.{Said, speak, speak_in, speak_linked, speak_releasing, speak_detecting, speak_negotiating}
+use Rattle.link_run.specs.End.{is_busy, is_released, is_closed, is_ready, next_break}
+use Rattle.link_run.specs.Run.{Link, Ends, Spoken, Turn, RunOf, Hears, BrokenTurn, SpeaksAt, arrival, served_at, said_at, finished_at, releases, spoken}
+use Rattle.link_run.specs.Carried.{Crosses, Carries, IsCarried, has_message, sent_in}
+use Rattle.link_run.specs.Laws.{RunsOver}
+use Rattle.link_run.specs.Starved.{LosesSome, SpanLoses, IsStarved, turn_at}
+use Rattle.turn_bound.specs.Time.{KeepsTime}
+use Rattle.turn_bound.proofs.Clock.{Rates, rates, Sends}
+use Rattle.turn_bound.proofs.Value.{IsOf, Stands, arrived_rnrs}
+use Rattle.turn_bound.proofs.Hearing.{HeardAs}
+use Rattle.turn_bound.proofs.MeetHear.{of_frame, of_arrived}
+use Rattle.turn_bound.proofs.Serving.{serves-all}
+use Rattle.turn_bound.proofs.Serves.{serves-well}
+use Rattle.turn_bound.proofs.Meeting.{arrives-flag}
+use Rattle.turn_bound.proofs.Tied.{is_lost}
+use Rattle.turn_losses.specs.Polls.{is_poll, is_final}
+use Rattle.turn_losses.specs.Losses.{PeriodLoses, LosesEach, AnswererWantsAnswers}
+use Rattle.turn_losses.proofs.Polling.{is_linked}
+use Rattle.turn_losses.proofs.PollHear.{PollHeard, poll-hears, linked-connected}
+use Rattle.turn_losses.proofs.PollSpeak.{poll-speaks}
+use Rattle.turn_losses.proofs.Answering.{frame_rnr, AnswerHeard, answer-hears}
+use Rattle.turn_losses.proofs.AnswerTurn.{connected-is, linked-sends, linked-says}
+use Rattle.turn_losses.proofs.NumberHear.{ns_sent}
+use Rattle.turn_losses.proofs.NumberSpeak.{linked-numbers}
+use Rattle.turn_losses.proofs.NumberTurn.{NumberTurn, poll-ok, speak-ok}
+use Rattle.turn_losses.proofs.Trace.{Deed, Happens, Trace, past, sent_or}
+use Rattle.turn_losses.proofs.TwoEnds.{EndRun, TwoEnds, end_run, hears_final}
+use Rattle.turn_losses.proofs.Tracing.{Known, known, Timed, timed, rated, Traced, traced, silent-of, past-all}
+use Rattle.turn_losses.proofs.Numbering.{Plays, allowed, fits-at, counts-of}
+use Rattle.turn_losses.proofs.Numbered.{numbered-linked}
+use Rattle.turn_losses.proofs.LineLaw.{is-heard, looked}
+use Rattle.turn_losses.proofs.PollLaws.{two-ends, turned}
+use Rattle.turn_losses.proofs.PeriodLaws.{linked-on, connected-back, still-awaited, answer-comes, NoneLost, StayConnected}
+use Rattle.turn_losses.proofs.PeriodHolds.{LostIn, lost-or-none}
+use Rattle.turn_losses.proofs.Expiries.{Expired, last-expired, First, first-connected, PeriodBefore, period-before, once-more, no-times}
+use Rattle.turn_losses.proofs.Acknowledged.{Counts, front-or-cleared, acknowledged}
+use Rattle.turn_losses.proofs.Keeping.{turn-is}
+use Rattle.turn_losses.proofs.Wanting.{LastTry, last-try, lost-is}
+use Rattle.turn_losses.proofs.Room.{begins-roomy}
+use Rattle.turn_losses.proofs.Starving.{later-turn}
+use Rattle.turn_losses.specs.Tries.{AnswererWantsAnswer}
+use Rattle.turn_losses.proofs.Moving.{asks, TryGoesOn, TryBegins, try-heard, linked-phase}
+use Rattle.turn_losses.proofs.Setups.{start-setup, heard-as}
+use Rattle.turn_losses.proofs.TryAnswering.{can_answer, answer-due}
+use Rattle.turn_losses.proofs.Trying.{TryTurn, TriesSo, Tried, tried, tries-so}
+
+-- The expiries before a turn by their number, each with its period, in which the retry count never is 0.
+pub record Uncleared (period : ℕ) (e : EndRun) (s : ℕ) : Type 0 where
+  pub made : e.made s ≡ true
+  pub connected : is_connected (e.account s).phase ≡ true
+  pub uncleared : (v : ℕ) → s < v → v < s + period → e.count v ≡ 0 → ⊥
+
+pub expiries : (period turns : ℕ) (e o : EndRun) → TwoEnds period turns e o → Counts turns e o → (f : First turns e) → (n t : ℕ)
+    → t ≤ turns → (x : Expired n t e) → x.at + period ≤ t → (i : ℕ) → i ≤ n
+    → (s : ℕ) × (s + i * period ≡ x.at) × Uncleared period e s
+expiries period turns e o k c f n t l x far zero q =
+    let none = no-times period in (
+      x.at,
+      omega (arith, none),
+      record {
+        made = x.made;
+        connected = x.connected;
+        uncleared = λ v a b z. let w = x.since v a
+            (omega (arith, b, far)) in omega (arith, w, z);
+      },
+    )
+expiries period turns e o k c f zero t l x far (suc j) q = absurd (omega (arith, q))
+expiries period turns e o k c f (suc n) t l x far (suc j) q = go
+    (expiries period turns e o k c f n x.at (let b = x.before in omega (arith, b, l)) last.expiry
+    (let r = last.exact in omega (arith, r)) j (omega (arith, q)))
+  where
+    low : f.from ≤ x.at
+    low = f.none_before x.at (let b = x.before in omega (arith, b, l)) x.connected
+
+    last : PeriodBefore period n x.at e
+    last = period-before period turns e o k f.from f.connected f.count n t l (subst (λ m. Expired m t e) (omega arith) x) low
+
+    go : (s : ℕ) × (s + j * period ≡ last.expiry.at) × Uncleared period e s → (s : ℕ) × (s + suc j * period ≡ x.at) × Uncleared period e s
+    go (s, r, w) = let m = once-more j period in let g = last.exact in (s, omega (arith, r, m, g), w)
+
+-- what is known of the segments of an end whose peer is told to release in a turn: it has no more to send
+pub record Parts (turns : ℕ) (e : EndRun) (release : ℕ) : Type 0 where
+  pub pieces : (x : ℕ) → x < turns → is_connected (e.account x).phase ≡ true → is_connected (e.account (x + 1)).phase ≡ true
+      → length (e.account x).outgoing.pieces ≤ length (e.account (x + 1)).outgoing.pieces
+  pub outstanding : (u : ℕ) → u < turns → is_connected (e.account u).phase ≡ true → is_connected (e.account (u + 1)).phase ≡ true
+      → (e.account u).outgoing.awaited ≡ true → hears_final e u ≡ true
+      → (e.count u ≡ 0) ⊎ ((e.mid u).outgoing.front < length (e.account (u + 1)).outgoing.pieces)
+  pub whole : is_connected (e.account release).phase ≡ true → length (e.account release).outgoing.pieces ≤ (e.mid release).outgoing.front
+
+pieces-rise : (turns : ℕ) (e : EndRun) (v : ℕ) → Parts turns e v → (s n : ℕ) → s + n ≤ turns → StayConnected e s (s + n)
+    → length (e.account s).outgoing.pieces ≤ length (e.account (s + n)).outgoing.pieces
+pieces-rise turns e v g s zero l h = let q = ap (λ x. length (e.account x).outgoing.pieces) (same s) in omega (arith, q)
+  where
+    same : (x : ℕ) → x + 0 ≡ x
+    same x = omega arith
+pieces-rise turns e v g s (suc n) l h =
+    let before = pieces-rise turns e v g s n (omega (arith, l)) (λ t a b. h t a (omega (arith, b))) in
+    let one = g.pieces (s + n) (omega (arith, l)) (h (s + n) (omega arith) (omega arith)) (h (s + n + 1) (omega arith) (omega arith)) in
+    let there : length (e.account (s + suc n)).outgoing.pieces ≡ length (e.account (s + n + 1)).outgoing.pieces = ap
+    (λ u. length (e.account u).outgoing.pieces) (omega arith) in
+    omega (arith, before, one, there)
+
+-- A period in which the peer is told to release so late that its DISC comes after it: where no line is lost in it, the retry count is 0
+-- in one of its turns.
+pub parted-cleared : (period turns : ℕ) (e o : EndRun) → TwoEnds period turns e o → Counts turns e o → (s v : ℕ) → s + period ≤ turns
+    → v < turns → Parts turns e v → e.made s ≡ true → StayConnected e s turns → StayConnected o s v → s + period < v + o.delay
+    → NoneLost e o (s + 1) (period - 1) → (w : ℕ) × (s < w) × (w < s + period) × (e.count w ≡ 0)
+parted-cleared period turns e o k c s v within before g m ce co late lost =
+    go (answer-comes period turns e o k s (omega (arith, p, within)) m (λ t l h. ce t l (omega (arith, h, p, within)))
+    (λ t l h. co t l (omega (arith, h, p, late))) (λ t l h. lost t l (omega (arith, h, p))))
+  where
+    p : period ≡ 2 * (e.delay + o.delay) + 16
+    p = k.period_is
+
+    d : 1 ≤ e.delay
+    d = k.own_delay
+
+    d' : 1 ≤ o.delay
+    d' = k.other_delay
+
+    go : (u : ℕ) × (s + (e.delay + o.delay) ≤ u) × (u ≤ s + (e.delay + o.delay) + 1) × (hears_final e u ≡ true)
+        → (w : ℕ) × (s < w) × (w < s + period) × (e.count w ≡ 0)
+    go (u, low, high, h) = first
+        (g.outstanding u inside (ce u (omega (arith, low)) (omega (arith, inside)))
+        (ce (u + 1) (omega (arith, low)) (omega (arith, inside))) awaited h)
+      where
+        inside : u < turns
+        inside = omega (arith, p, high, within)
+
+        awaited : (e.account u).outgoing.awaited ≡ true
+        awaited = (still-awaited period turns e o k u inside (ce u (omega (arith, low)) (omega (arith, inside))) h).awaited
+
+        released-later : u + 1 ≤ v
+        released-later = omega (arith, late, high, p)
+
+        clears : (w : ℕ) × (u < w) × (w ≤ u + (e.delay + o.delay) + 1) × ((e.mid w).outgoing.count ≡ 0)
+            → (w : ℕ) × (s < w) × (w < s + period) × (e.count w ≡ 0)
+        clears (w, x, y, z) = (w, omega (arith, x, low), omega (arith, y, high, p), c.count_is w ∙ z)
+
+        -- told to release while the acknowledgement is on its way: the front moved
+        moved : v ≤ u + (e.delay + o.delay) + 1 → (e.mid u).outgoing.front < length (e.account (u + 1)).outgoing.pieces
+            → (w : ℕ) × (u < w) × (w ≤ u + (e.delay + o.delay) + 1) × ((e.mid w).outgoing.count ≡ 0)
+        moved soon more = by (front-or-cleared turns e o c (u + 1) (v - (u + 1)) (omega (arith, released-later, before))
+            (λ t a b. ce t (omega (arith, a, low)) (omega (arith, b, released-later, before))))
+            (numbers v before (ce v (omega (arith, low, released-later)) (omega (arith, before)))
+            (ce (v + 1) (omega (arith, low, released-later)) (omega (arith, before)))).heard.advance
+          where
+            numbers : (t : ℕ) → t < turns → is_connected (e.account t).phase ≡ true → is_connected (e.account (t + 1)).phase ≡ true
+                → NumberTurn (e.heard t) (e.slot t) (e.account t) (e.mid t) (e.account (t + 1))
+            numbers t l a b = c.own t l a b
+
+            at-v : u + 1 + (v - (u + 1)) ≡ v
+            at-v = omega (arith, released-later)
+
+            rises : length (e.account (u + 1)).outgoing.pieces ≤ length (e.account v).outgoing.pieces
+            rises =
+                let r = pieces-rise turns e v g (u + 1) (v - (u + 1)) (omega (arith, released-later, before))
+                (λ t a b. ce t (omega (arith, a, low)) (omega (arith, b, released-later, before))) in
+                let q = ap (λ x. length (e.account x).outgoing.pieces) at-v in omega (arith, r, q)
+
+            all : length (e.account v).outgoing.pieces ≤ (e.mid v).outgoing.front
+            all = g.whole (ce v (omega (arith, low, released-later)) (omega (arith, before)))
+
+            own-front : (e.account (u + 1)).outgoing.front ≡ (e.mid u).outgoing.front
+            own-front = (numbers u inside (ce u (omega (arith, low)) (omega (arith, inside)))
+                (ce (u + 1) (omega (arith, low)) (omega (arith, inside)))).front
+
+            by : ((e.account (u + 1 + (v - (u + 1)))).outgoing.front ≡ (e.account (u + 1)).outgoing.front)
+                ⊎ ((t : ℕ) × (u + 1 ≤ t) × (t < u + 1 + (v - (u + 1))) × ((e.mid t).outgoing.count ≡ 0))
+                → ((e.mid v).outgoing.front ≡ (e.account v).outgoing.front) ⊎ ((e.mid v).outgoing.count ≡ 0)
+                → (w : ℕ) × (u < w) × (w ≤ u + (e.delay + o.delay) + 1) × ((e.mid w).outgoing.count ≡ 0)
+            by (inr (t, a, b, z)) y = (t, omega (arith, a), omega (arith, b, at-v, soon), z)
+            by (inl q) (inr z) = (v, omega (arith, released-later), soon, z)
+            by (inl q) (inl r) =
+                let there = ap (λ x. (e.account x).outgoing.front) at-v in
+                absurd (omega (arith, q, r, there, own-front, all, rises, more))
+
+        second : (e.mid u).outgoing.front < length (e.account (u + 1)).outgoing.pieces
+            → (e.count u ≡ 0) ⊎ (ns_sent (e.slot u) ≡ Some ((e.mid u).outgoing.front % 128))
+            → (w : ℕ) × (s < w) × (w < s + period) × (e.count w ≡ 0)
+        second more (inl z) = (u, omega (arith, low, d), omega (arith, high, p), z)
+        second more (inr sends) = elim (cases_lt v (u + (e.delay + o.delay) + 2)) [
+          | inl l ↦ clears (moved (omega (arith, l)) more)
+          | inr r ↦ clears (acknowledged period turns e o k c u (omega (arith, high, p, within)) h sends
+              (λ t a b. ce t (omega (arith, a, low)) (omega (arith, b, high, p, within)))
+              (λ t a b. co t (omega (arith, a, low)) (omega (arith, b, r)))
+              (λ t a b. lost t (omega (arith, a, low)) (omega (arith, b, high, p))))
+        ]
+
+        first : (e.count u ≡ 0) ⊎ ((e.mid u).outgoing.front < length (e.account (u + 1)).outgoing.pieces)
+            → (w : ℕ) × (s < w) × (w < s + period) × (e.count w ≡ 0)
+        first (inl z) = (u, omega (arith, low, d), omega (arith, high, p), z)
+        first (inr more) = second more
+            (c.answered u inside (ce u (omega (arith, low)) (omega (arith, inside)))
+            (ce (u + 1) (omega (arith, low)) (omega (arith, inside))) h)
+
+-- In the turn in which the originator is told to release, the answerer's file is wholly acknowledged and none of its breaks waits.
+pub record Released (link : Link) (t : ℕ) (mid : Ends) : Type 0 where
+  pub done : is_whole (served_at link t mid Answerer).account.outgoing ≡ true
+  pub breaks : waits (served_at link t mid Answerer).account.own_breaks ≡ false
+  pub connected : is_connected (served_at link t mid Answerer).account.phase ≡ true
+
+and-both : (x y : Bool) → x && y ≡ true → (x ≡ true) × (y ≡ true)
+and-both true true e = (refl, refl)
+and-both true false e = cc
+and-both false y e = cc
+
+not-either : (x : Bool) → not x ≡ true → x ≡ false
+not-either true e = cc
+not-either false e = refl
+
+pub told-release : (link : Link) (t : ℕ) (mid : Ends) → releases link t mid ≡ true → Released link t mid
+told-release link t mid e = go (is_connected a.phase) refl
+    (and-both (finished_at link t mid Originator) (finished_at link t mid Answerer) e).1
+  where
+    a : Account
+    a = (served_at link t mid Answerer).account
+
+    go : (c : Bool) → is_connected a.phase ≡ c
+        → (cond c (is_whole a.outgoing) false && not
+        (cond c (waits a.own_breaks) false || is_ready t (next_break link.answ.user.breaks a))) ≡ true → Released link t mid
+    go true q f =
+        let x = and-both (is_whole a.outgoing) _ f in
+        record {
+          done = x.0;
+          breaks = first (waits a.own_breaks) (is_ready t (next_break link.answ.user.breaks a))
+              (not-either _ x.1);
+          connected = q;
+        }
+      where
+        first : (x y : Bool) → x || y ≡ false → x ≡ false
+        first true y g = cc
+        first false y g = refl
+    go false q f = cc
+
+-- where a Connected originator comes to release, it was told
+told-says : (turn : ℕ) (release : Bool) (b : Account) (said : Said) → b.phase ≡ Connected → speak turn release b ≡ Ok said
+    → is_connected said.account.phase ≡ false → release ≡ true
+told-says turn release b said e h n = go release (is_originator b.setup.role) (sym (ap (λ p. speak_in p turn release b) e) ∙ h)
+  where
+    go : (x y : Bool) → cond (x && y) (speak_releasing turn (trying Releasing turn b)) (speak_linked turn b) ≡ Ok said → x ≡ true
+    go true y q = refl
+    go false y q = let wrong : true ≡ false = sym (ap is_connected (linked-phase turn b said q ∙ e)) ∙ n in cc
+
+-- The turn in which the originator is told to release: it releases from then on.
+pub record ToldIn (link : Link) (deed : ℕ → Deed) (o : EndRun) (t : ℕ) : Type 0 where
+  pub turn : ℕ
+  pub before : turn < t
+  pub was : is_linked (o.account turn).phase ≡ true → is_connected (o.account turn).phase ≡ true
+  pub since : (u : ℕ) → turn < u → u ≤ t → (o.account u).phase ≡ Releasing
+  pub told : Released link turn (deed turn).mid
+
+longer-told : (link : Link) (deed : ℕ → Deed) (o : EndRun) (u : ℕ) → ToldIn link deed o u → (o.account (u + 1)).phase ≡ Releasing
+    → ToldIn link deed o (u + 1)
+longer-told link deed o u a now = let b = a.before in record {
+  turn = a.turn;
+  before = omega (arith, b);
+  was = a.was;
+  since = λ m lo hi. elim (cases_lt u m) [ inl j ↦ ap (λ i. (o.account i).phase) (omega (arith, j, hi)) ∙ now | inr j ↦ a.since m lo j ];
+  told = a.told;
+}
+
+whole-is : (o : Outgoing) → is_whole o ≡ true → o.front ≡ length o.pieces
+whole-is o e = let x = (and-both o.ended (nat_eq o.front (length o.pieces)) e).1 in grind (arith, nat_tests, x)
+
+-- what passes of a slot
+pub passes-as : (m : Option Spoken) (said : Said) (heard : Heard) → m ≡ Some (spoken said) → Crosses m heard → is_lost heard ≡ false
+    → arrival heard ≡ arrives said.sent
+passes-as None said heard e c l = cc
+passes-as (Some slot) said Nothing e c l = let same : slot ≡ spoken said = cc in sym (silent-arrives slot.sent c)
+    ∙ ap (λ (x : Spoken). arrives x.sent) same
+  where
+    silent-arrives : (s : Sent) → has_message s ≡ false → arrives s ≡ arrivals.Nothing
+    silent-arrives slots.Mark f = refl
+    silent-arrives slots.Flags f = refl
+    silent-arrives slots.Odp f = cc
+    silent-arrives slots.Adp f = cc
+    silent-arrives (slots.Frame frame) f = cc
+passes-as (Some slot) said (Passed s) e c l = let same : slot ≡ spoken said = cc in ap arrives c.0
+    ∙ ap (λ (x : Spoken). arrives x.sent) same
+passes-as (Some slot) said (Lost s) e c l = cc
+passes-as (Some slot) said Chance e c l = absurd c
+
+-- the last of some turns
+pub newest : (t : Turn) (ts : List Turn) → turn_at (length ts) (t ∷ ts) ≡ Some t
+newest t ts = ap (slice_get (t ∷ ts)) (index (length ts))
+  where
+    index : (n : ℕ) → suc n - 1 - n ≡ 0
+    index n = omega arith
+
+pub connected-or : (p : Phase) → is_linked p ≡ true → is_connected p ≡ false → (p ≡ Releasing) ⊎ (p ≡ Closed)
+connected-or Detecting l c = cc
+connected-or Negotiating l c = cc
+connected-or Establishing l c = cc
+connected-or Connected l c = cc
+connected-or Releasing l c = inl refl
+connected-or Closed l c = inr refl
+
+-- what an end's setup says its role is
+pub setup-role : (tries period : ℕ) (delay : Role → ℕ) (link : Link) (us : List Turn) (y : Ends) → KeepsTime tries period delay link
+    → RunOf link us y → IsCarried delay us → (r : Role) → (of r y).setup.role ≡ r
+setup-role tries period delay link us y kt run c r = ap (λ s. s.role) (start-setup tries period delay link us y kt run c r) ∙ kt.roles r
+
+not-releasing : (tries period : ℕ) (delay : Role → ℕ) (link : Link) (ts : List Turn) (state : ℕ → Ends) (deed : ℕ → Deed)
+    → KeepsTime tries period delay link → Trace period delay link ts state deed → (state 0).orig.phase ≡ Releasing → ⊥
+not-releasing tries period delay link ts state deed kt w q = let there : Detecting ≡ Releasing = ap (λ (y : Ends). y.orig.phase)
+    (sym w.starts) ∙ q in cc
+
+-- when it was told
+pub told-at : ReadsWritten → (tries period : ℕ) (delay : Role → ℕ) (link : Link) (ts : List Turn) (state : ℕ → Ends) (deed : ℕ → Deed)
+    → KeepsTime tries period delay link → MayPlay link.orig.setup link.answ.setup → Trace period delay link ts state deed
+    → (u : ℕ) → u ≤ length ts → (state u).orig.phase ≡ Releasing → ToldIn link deed (end_run delay state deed Originator) u
+told-at reads tries period delay link ts state deed kt m w zero y q = absurd (not-releasing tries period delay link ts state deed kt w q)
+told-at reads tries period delay link ts state deed kt m w (suc u) y q = subst (ToldIn link deed (end_run delay state deed Originator))
+    (next u) (go (tries-so reads tries period delay link ts state deed kt m w Releasing refl u (omega (arith, y)) now)
+    (λ f. told-at reads tries period delay link ts state deed kt m w u (omega (arith, y)) f))
+  where
+    o : EndRun
+    o = end_run delay state deed Originator
+
+    next : (m : ℕ) → m + 1 ≡ suc m
+    next m = omega arith
+
+    now : (o.account (u + 1)).phase ≡ Releasing
+    now = ap (λ m. (o.account m).phase) (next u) ∙ q
+
+    h : Happens period delay link (past ts u) u (state u) (deed u) (state (u + 1))
+    h = w.happens u (omega (arith, y))
+
+    s : SpeaksAt (said_at link u (deed u).mid Originator) (deed u).turn.orig (state (u + 1)).orig
+    s = h.speaking Originator
+
+    b : Account
+    b = (served_at link u (deed u).mid Originator).account
+
+    b-is : b.phase ≡ (deed u).mid.orig.phase
+    b-is = (serves-all link.orig.user u (is_released (deed u).mid.orig.phase) (deed u).mid.orig).phase
+
+    role : (state u).orig.setup.role ≡ Originator
+    role = setup-role tries period delay link (past ts u) (state u) kt h.run h.carried Originator
+
+    polled : PollHeard Originator u (of_arrived is_poll (arrival (deed u).turn.orig.heard)) (state u).orig (deed u).mid.orig
+    polled = poll-ok Originator u (of_arrived is_poll (arrival (deed u).turn.orig.heard)) (state u).orig (deed u).mid.orig
+        (hear u (arrival (deed u).turn.orig.heard) (state u).orig) (h.hearing Originator).hears
+        (poll-hears Originator (arrival (deed u).turn.orig.heard) u (state u).orig role
+        (known tries period delay link (past ts u) (state u) kt h.run h.carried Originator).none_due.answer)
+
+    linked-b : is_linked b.phase ≡ true
+    linked-b = sym (speak-ok u b s.said (speak u (releases link u (deed u).mid) b) s.says
+        (poll-speaks u (releases link u (deed u).mid) b)).linked
+        ∙ (ap (λ (a : Account). is_linked a.phase) (sym s.after_is) ∙ ap is_linked now)
+
+    go : TryTurn period u Releasing (o.heard u) (o.slot u) (o.account u) (o.account (u + 1))
+        → ((o.account u).phase ≡ Releasing → ToldIn link deed o u) → ToldIn link deed o (u + 1)
+    go (inr (inl ((g, _), _, _, _, _))) again = longer-told link deed o u (again g) now
+    go (inr (inr ((g, _), _, _, _))) again = longer-told link deed o u (again g) now
+    go (inl (anew, set, count, sends)) again = record {
+      turn = u;
+      before = omega arith;
+      was = was;
+      since = λ m lo hi. ap (λ j. (o.account j).phase) (omega (arith, lo, hi)) ∙ now;
+      told = told-release link u (deed u).mid told;
+    }
+      where
+        connected-b : b.phase ≡ Connected
+        connected-b = by (is_connected b.phase) refl
+          where
+            trying-so : (deed u).mid.orig.phase ≡ Releasing → ⊥
+            trying-so g = on (try-heard (arrival (deed u).turn.orig.heard) u (state u).orig (deed u).mid.orig role
+                (h.hearing Originator).hears Releasing refl g)
+              where
+                on : TryGoesOn Releasing (arrival (deed u).turn.orig.heard) (state u).orig (deed u).mid.orig ⊎ TryBegins u Releasing
+                    (state u).orig (deed u).mid.orig → ⊥
+                on (inl m) = anew m.0
+                on (inr (_, never, _, _, _)) = never refl
+
+            either : (b.phase ≡ Releasing) ⊎ (b.phase ≡ Closed) → ⊥
+            either (inl g) = trying-so (sym b-is ∙ g)
+            either (inr g) = let wrong : true ≡ false = ap is_closed (sym (sym b-is ∙ g)) ∙ h.going in cc
+
+            by : (x : Bool) → is_connected b.phase ≡ x → b.phase ≡ Connected
+            by true f = connected-is b.phase f
+            by false f = absurd (either (connected-or b.phase linked-b f))
+
+        told : releases link u (deed u).mid ≡ true
+        told = told-says u (releases link u (deed u).mid) b s.said connected-b s.says
+            (ap (λ (a : Account). is_connected a.phase) (sym s.after_is) ∙ ap is_connected now)
+
+        was : is_linked (o.account u).phase ≡ true → is_connected (o.account u).phase ≡ true
+        was f = by (polled.from (ap is_connected (sym b-is ∙ connected-b)))
+          where
+            by : (is_connected (state u).orig.phase ≡ true) ⊎ (is_linked (state u).orig.phase ≡ false)
+                → is_connected (o.account u).phase ≡ true
+            by (inl m) = m
+            by (inr m) = let wrong : true ≡ false = sym f ∙ m in cc
+
+-- what is known of the answerer's segments then
+abbrev HeardIn : (tries period : ℕ) (delay : Role → ℕ) (ts : List Turn) (state : ℕ → Ends) (deed : ℕ → Deed) → ℕ → Type 0
+HeardIn tries period delay ts state deed u = (q : Phase) × HeardAs (rates tries period) (length (state u).answ.outgoing.pieces) 0
+    (length (past ts u)) ((rates tries period).quota * arrived_rnrs (arrival (deed u).turn.answ.heard)) Answerer (state u).answ.phase
+    (state u).answ q (deed u).mid.answ
+
+heard-at : (tries period : ℕ) (delay : Role → ℕ) (link : Link) (ts : List Turn) (state : ℕ → Ends) (deed : ℕ → Deed)
+    → KeepsTime tries period delay link → Trace period delay link ts state deed → (u : ℕ) → u < length ts
+    → HeardIn tries period delay ts state deed u
+heard-at tries period delay link ts state deed kt w u b =
+    let h = w.happens u b in
+    heard-as tries period delay link (past ts u) (state u) kt h.run h.carried Answerer (arrival (deed u).turn.answ.heard) (deed u).mid.answ
+    (ap (λ m. hear m (arrival (deed u).turn.answ.heard) (state u).answ) h.number ∙ (h.hearing Answerer).hears)
+
+served-pieces : (tries period : ℕ) (delay : Role → ℕ) (link : Link) (ts : List Turn) (state : ℕ → Ends) (deed : ℕ → Deed)
+    → KeepsTime tries period delay link → Trace period delay link ts state deed → (u : ℕ) → u < length ts
+    → length (state u).answ.outgoing.pieces ≤ length (served_at link u (deed u).mid Answerer).account.outgoing.pieces
+served-pieces tries period delay link ts state deed kt w u b =
+    let q = (serves-all link.answ.user u (is_released (deed u).mid.orig.phase) (deed u).mid.answ).longer.longer in
+    let r = ap length (heard-at tries period delay link ts state deed kt w u b).1.pieces in omega (arith, q, r)
+
+pub mid-connected : (tries period : ℕ) (delay : Role → ℕ) (link : Link) (ts : List Turn) (state : ℕ → Ends) (deed : ℕ → Deed)
+    → KeepsTime tries period delay link → Trace period delay link ts state deed → (u : ℕ) → u < length ts
+    → is_connected (state (u + 1)).answ.phase ≡ true → is_connected (deed u).mid.answ.phase ≡ true
+mid-connected tries period delay link ts state deed kt w u b g =
+    let h = w.happens u b in
+    let s = h.speaking Answerer in
+    let a : Account = (served_at link u (deed u).mid Answerer).account in
+    ap is_connected (sym (serves-all link.answ.user u (is_released (deed u).mid.orig.phase) (deed u).mid.answ).phase)
+    ∙ ((speak-ok u a s.said (speak u false a) s.says (poll-speaks u false a)).connected
+    (ap (λ (y : Account). is_connected y.phase) (sym s.after_is) ∙ g)).0
+
+said-pieces : (tries period : ℕ) (delay : Role → ℕ) (link : Link) (ts : List Turn) (state : ℕ → Ends) (deed : ℕ → Deed)
+    → KeepsTime tries period delay link → Trace period delay link ts state deed → (u : ℕ) → u < length ts
+    → is_connected (state (u + 1)).answ.phase ≡ true
+    → length (state (u + 1)).answ.outgoing.pieces ≡ length (served_at link u (deed u).mid Answerer).account.outgoing.pieces
+said-pieces tries period delay link ts state deed kt w u b g =
+    let h = w.happens u b in
+    let s = h.speaking Answerer in
+    let a : Account = (served_at link u (deed u).mid Answerer).account in
+    let phase : a.phase ≡ Connected = (serves-all link.answ.user u (is_released (deed u).mid.orig.phase) (deed u).mid.answ).phase
+    ∙ connected-is (deed u).mid.answ.phase (mid-connected tries period delay link ts state deed kt w u b g) in
+    let after : is_connected s.said.account.phase ≡ true = ap (λ (y : Account). is_connected y.phase) (sym s.after_is) ∙ g in
+    ap (λ (y : Account). length y.outgoing.pieces) s.after_is
+    ∙ ap length (linked-numbers u a s.said (linked-says u false a s.said phase after s.says)).outgoing.pieces
+
+outstanding-or : (tries period : ℕ) (delay : Role → ℕ) (link : Link) (ts : List Turn) (state : ℕ → Ends) (deed : ℕ → Deed)
+    → KeepsTime tries period delay link → Trace period delay link ts state deed → (u : ℕ) → u < length ts
+    → is_connected (state u).answ.phase ≡ true → is_connected (state (u + 1)).answ.phase ≡ true → (state u).answ.outgoing.awaited ≡ true
+    → hears_final (end_run delay state deed Answerer) u ≡ true
+    → ((deed u).mid.answ.outgoing.count ≡ 0) ⊎ ((deed u).mid.answ.outgoing.front < length (state (u + 1)).answ.outgoing.pieces)
+outstanding-or tries period delay link ts state deed kt w u b f g aw fin = framed (arrival (deed u).turn.answ.heard)
+    ((w.happens u b).hearing Answerer).hears fin
+  where
+    framed : (y : Arrived) → hear u y (state u).answ ≡ Ok (deed u).mid.answ → of_arrived is_final y ≡ true
+        → ((deed u).mid.answ.outgoing.count ≡ 0) ⊎ ((deed u).mid.answ.outgoing.front < length (state (u + 1)).answ.outgoing.pieces)
+    framed arrivals.Nothing q i = cc
+    framed (arrivals.Pattern seen) q i = cc
+    framed (arrivals.Frame frame) q i = by (frame_rnr frame) refl (is_outstanding (deed u).mid.answ.outgoing) refl
+      where
+        a : AnswerHeard (frame_rnr frame) (state u).answ (deed u).mid.answ
+        a = answer-hears frame u (state u).answ (deed u).mid.answ (connected-is (state u).answ.phase f) aw i q
+
+        by : (r : Bool) → frame_rnr frame ≡ r → (y : Bool) → is_outstanding (deed u).mid.answ.outgoing ≡ y
+            → ((deed u).mid.answ.outgoing.count ≡ 0) ⊎ ((deed u).mid.answ.outgoing.front < length (state (u + 1)).answ.outgoing.pieces)
+        by true r y j = inl (a.busy r)
+        by false r false j = inl (a.idle r j)
+        by false r true j =
+            let hd = heard-at tries period delay link ts state deed kt w u b in
+            let sends : Sends (rates tries period) (u' + 1) u' (deed u).mid.answ.outgoing (deed u).mid.answ.wait.timer = linked-sends
+            (rates tries period) (u' + 1) u' Answerer hd.0 (deed u).mid.answ hd.1.stands
+            (ap is_connected (sym hd.1.phase) ∙ mid-connected tries period delay link ts state deed kt w u b g) in
+            let less : (deed u).mid.answ.outgoing.front < (deed u).mid.answ.outgoing.high = grind (arith, nat_tests, j) in
+            let high = sends.high_pieces in
+            let longer = (serves-all link.answ.user u (is_released (deed u).mid.orig.phase) (deed u).mid.answ).longer.longer in
+            let after = said-pieces tries period delay link ts state deed kt w u b g in
+            inr (omega (arith, less, high, longer, after))
+          where
+            u' : ℕ
+            u' = length (past ts u)
+
+parts-of : (tries period : ℕ) (delay : Role → ℕ) (link : Link) (ts : List Turn) (state : ℕ → Ends) (deed : ℕ → Deed)
+    → KeepsTime tries period delay link → Trace period delay link ts state deed → (v : ℕ) → v < length ts → Released link v (deed v).mid
+    → Parts (length ts) (end_run delay state deed Answerer) v
+parts-of tries period delay link ts state deed kt w v b told = record {
+  pieces = λ m l f g. let q = said-pieces tries period delay link ts state deed kt w m l g in let r = served-pieces tries period delay
+      link ts state deed kt w m l in omega (arith, q, r);
+  outstanding = outstanding-or tries period delay link ts state deed kt w;
+  whole = λ f. whole;
+}
+  where
+    whole : length (state v).answ.outgoing.pieces ≤ (deed v).mid.answ.outgoing.front
+    whole =
+        let a : Account = (served_at link v (deed v).mid Answerer).account in
+        let q = served-pieces tries period delay link ts state deed kt w v b in
+        let r = ap (λ y. y.front) (serves-all link.answ.user v (is_released (deed v).mid.orig.phase) (deed v).mid.answ).longer.outgoing in
+        let m : a.outgoing.front ≡ length a.outgoing.pieces = whole-is a.outgoing told.done in
+        omega (arith, q, r, m)
+
+-- A DISC that is heard closes the answerer.
+disc-heard : (arrived : Arrived) (turn : ℕ) (a mid : Account) → a.setup.role ≡ Answerer → is_connected a.phase ≡ true
+    → of_arrived (asks Releasing) arrived ≡ true → hear turn arrived a ≡ Ok mid → is_connected mid.phase ≡ false
+disc-heard arrived turn a mid r c k h = ap is_connected
+    (answer-due Releasing arrived turn a mid r (ap (λ p. can_answer Releasing p a.numbered) (connected-is a.phase c)) k h).0
+
+disc-closes : (tries period : ℕ) (delay : Role → ℕ) (link : Link) (ts : List Turn) (state : ℕ → Ends) (deed : ℕ → Deed)
+    → KeepsTime tries period delay link → Trace period delay link ts state deed → (u : ℕ) → u < length ts
+    → is_connected (state u).answ.phase ≡ true → is_connected (state (u + 1)).answ.phase ≡ true
+    → of_arrived (asks Releasing) (arrival (deed u).turn.answ.heard) ≡ true → ⊥
+disc-closes tries period delay link ts state deed kt w u b f g k =
+    let h = w.happens u b in
+    let role = setup-role tries period delay link (past ts u) (state u) kt h.run h.carried Answerer in
+    let closed = disc-heard (arrival (deed u).turn.answ.heard) u (state u).answ (deed u).mid.answ role f k (h.hearing Answerer).hears in
+    let wrong : true ≡ false = sym (mid-connected tries period delay link ts state deed kt w u b g) ∙ closed in cc
+
+-- A DISC that comes in the last turn of a run, where the answerer is still Connected once it has heard, is lost.
+last-disc : (tries period : ℕ) (delay : Role → ℕ) (link : Link) (ts : List Turn) (state : ℕ → Ends) (deed : ℕ → Deed)
+    → KeepsTime tries period delay link → Trace period delay link ts state deed → (t : Turn) → Carries delay ts t → (before mid : Account)
+    → before.setup.role ≡ Answerer → is_connected before.phase ≡ true → hear (length ts) (arrival t.answ.heard) before ≡ Ok mid
+    → is_connected mid.phase ≡ true → (s : ℕ) → s + delay Originator ≡ length ts
+    → of_frame (asks Releasing) (sent_or (deed s).turn.orig.sent) ≡ true → is_lost t.answ.heard ≡ true
+last-disc tries period delay link ts state deed kt w t cs before mid r c h cm s same sends = by (is_lost t.answ.heard) refl
+  where
+    d : 1 ≤ delay Originator
+    d = kt.delays Originator
+
+    within : s < length ts
+    within = omega (arith, same, d)
+
+    s' : SpeaksAt (said_at link s (deed s).mid Originator) (deed s).turn.orig (state (s + 1)).orig
+    s' = (w.happens s within).speaking Originator
+
+    on-line : sent_in Originator (slice_get ts (delay Originator - 1)) ≡ (deed s).turn.orig.sent
+    on-line = ap (sent_in Originator) (ap (λ us. slice_get us (delay Originator - 1)) (sym (past-all ts))
+        ∙ (ap (λ m. slice_get (past ts m) (delay Originator - 1)) (omega (arith, same, d))
+        ∙ looked period delay link ts state deed w (delay Originator - 1) s (omega (arith, same, d))))
+
+    by : (x : Bool) → is_lost t.answ.heard ≡ x → is_lost t.answ.heard ≡ true
+    by true f = f
+    by false f =
+        let heard : arrival t.answ.heard ≡ arrives (sent_or (deed s).turn.orig.sent) = passes-as
+        (sent_in Originator (slice_get ts (delay Originator - 1))) s'.said t.answ.heard (on-line ∙ s'.sent_is) (cs Answerer) f
+        ∙ ap (λ j. arrives (sent_or j)) (sym s'.sent_is) in
+        let hears : of_arrived (asks Releasing) (arrival t.answ.heard) ≡ true = ap (of_arrived (asks Releasing)) heard
+        ∙ (arrives-flag (asks Releasing) (sent_or (deed s).turn.orig.sent) ∙ sends) in
+        let wrong : true ≡ false = sym cm ∙ disc-heard (arrival t.answ.heard) (length ts) before mid r c hears h in cc
+
+-- A run in which an answerer gives up that waits for no break's answer, while the originator releases.
+pub parted-each : Plays → ReadsWritten → (tries period : ℕ) (delay : Role → ℕ) (link : Link) (ts : List Turn) (before : Ends) (t : Turn)
+    (mid : Ends) → KeepsTime tries period delay link → RunsOver link delay ts before → Carries delay ts t
+    → Hears (length ts) before t mid → is_connected mid.answ.phase ≡ true → mid.orig.phase ≡ Releasing
+    → LastTry tries period (length ts) before.answ → LosesEach period tries (length ts) (t ∷ ts)
+parted-each laws reads tries period delay link ts before t mid kt run cs hearing cm om last n less = at-expiry
+    (expiries period turns e o k c first (tries - 1) turns (omega arith) x far n (omega (arith, less)))
+  where
+    turns : ℕ
+    turns = length ts
+
+    z : Rates
+    z = rates tries period
+
+    w : Traced period delay link ts before
+    w = traced tries period delay link ts before kt run.run run.carried
+
+    e : EndRun
+    e = end_run delay w.state w.deed Answerer
+
+    o : EndRun
+    o = end_run delay w.state w.deed Originator
+
+    k : TwoEnds period turns e o
+    k = two-ends tries period delay link ts w.state w.deed kt w.trace Answerer
+
+    k' : TwoEnds period turns o e
+    k' = turned period turns e o k
+
+    c : Counts turns e o
+    c = counts-of laws tries period delay link ts w.state w.deed kt run.may_play w.trace Answerer
+
+    p : period ≡ 2 * (e.delay + o.delay) + 16
+    p = k.period_is
+
+    d : 1 ≤ e.delay
+    d = k.own_delay
+
+    d' : 1 ≤ o.delay
+    d' = k.other_delay
+
+    long : 1 ≤ period
+    long = omega (arith, p)
+
+    l : LastTry tries period turns (w.state turns).answ
+    l = subst (λ (y : Ends). LastTry tries period turns y.answ) (sym w.last) last
+
+    some-tries : 1 ≤ tries
+    some-tries = kt.some_tries
+
+    first : First turns e
+    first = first-connected period turns e o k c turns (omega arith) l.connected
+
+    low : first.from ≤ turns
+    low = first.none_before turns (omega arith) l.connected
+
+    ce : StayConnected e first.from turns
+    ce u a b = connected-back period turns e o k u turns b (omega arith)
+        (linked-on period turns e o k first.from u a b (linked-connected (w.state first.from).answ.phase first.connected)) l.connected
+
+    x : Expired (tries - 1) turns e
+    x = last-expired period turns e o k first.from first.connected first.count turns low (omega arith) l.connected (tries - 1)
+        (let q = l.count in omega (arith, q, some-tries))
+
+    exact : x.at + period ≡ turns
+    exact = let there : Some x.at ≡ Some l.set = sym x.timer ∙ l.runs in let same : x.at ≡ l.set = cc in let q = l.now in omega
+        (arith, same, q)
+
+    far : x.at + period ≤ turns
+    far = omega (arith, exact)
+
+    -- the originator releases as the last turn begins
+    releasing : before.orig.phase ≡ Releasing
+    releasing = by (try-heard (arrival t.orig.heard) turns before.orig mid.orig
+        (setup-role tries period delay link ts before kt run.run run.carried Originator) (hearing Originator).hears Releasing refl om)
+      where
+        by : TryGoesOn Releasing (arrival t.orig.heard) before.orig mid.orig ⊎ TryBegins turns Releasing before.orig mid.orig
+            → before.orig.phase ≡ Releasing
+        by (inl y) = y.0
+        by (inr (_, never, _, _, _)) = absurd (never refl)
+
+    releasing-last : (o.account turns).phase ≡ Releasing
+    releasing-last = ap (λ (y : Ends). y.orig.phase) w.last ∙ releasing
+
+    tries-on : TriesSo period turns Releasing o
+    tries-on = tries-so reads tries period delay link ts w.state w.deed kt run.may_play w.trace Releasing refl
+
+    not-first : (o.account 0).phase ≡ Releasing → ⊥
+    not-first q = let there : Detecting ≡ Releasing = ap (λ (y : Ends). y.orig.phase) (sym w.trace.starts) ∙ q in cc
+
+    try-at : (u : ℕ) → u ≤ turns → (o.account u).phase ≡ Releasing → Tried period Releasing o u
+    try-at = tried period turns Releasing o long tries-on not-first
+
+    v : ToldIn link w.deed o turns
+    v = told-at reads tries period delay link ts w.state w.deed kt run.may_play w.trace turns (omega arith) releasing-last
+
+    parts : Parts turns e v.turn
+    parts = parts-of tries period delay link ts w.state w.deed kt w.trace v.turn v.before v.told
+
+    -- its clock runs once it heard a number, so its peer is Connected or was
+    counted : (b : Bool) (y : Ends) (us : List Turn) → Known z link (length us) y Answerer → is_connected y.answ.phase ≡ true → (s : ℕ)
+        → y.answ.wait.timer ≡ Some s → y.answ.numbered ≡ b → y.answ.numbered ≡ true
+    counted true y us h f s q m = m
+    counted false y us h f s q m = let wrong : None ≡ Some s = sym
+        (silent-of z (length us) (length us) Answerer y.answ.phase y.answ h.stands refl f m) ∙ q in cc
+
+    peer-linked : (s : ℕ) → s < turns → e.made s ≡ true → is_connected (e.account s).phase ≡ true → is_linked (o.account s).phase ≡ true
+    peer-linked s b made f =
+        let h = w.trace.happens s b in
+        let from = (h.polls Answerer).made_from made (linked-connected (w.state s).answ.phase f) in
+        let m = counted (w.state s).answ.numbered (w.state s) (past ts s)
+        (known tries period delay link (past ts s) (w.state s) kt h.run h.carried Answerer) f from.1 from.2 refl in
+        numbered-linked tries period delay link ts w.state w.deed kt w.trace Answerer s (omega (arith, b)) m
+
+    over-ts : (s : ℕ) → s + (n + 1) * period ≡ turns → (u : ℕ) → s < u → u ≤ s + period → u < turns
+        → (is_lost (w.deed u).turn.orig.heard ≡ true) ⊎ (is_lost (w.deed u).turn.answ.heard ≡ true) → PeriodLoses period turns (t ∷ ts) n
+    over-ts s q u lo hi b lost = let m = once n in record {
+      turn = u;
+      within = omega (arith, b);
+      in_period = record { behind = omega (arith, lo, q); before = omega (arith, hi, q, m) };
+      lost = subst LosesSome (sym (later-turn u t ts b ∙ turn-is period delay link ts w.state w.deed w.trace u b)) (some lost);
+    }
+      where
+        once : (y : ℕ) → (y + 1) * period ≡ y * period + period
+        once y = omega arith
+
+        some : (is_lost (w.deed u).turn.orig.heard ≡ true) ⊎ (is_lost (w.deed u).turn.answ.heard ≡ true) → LosesSome (Some (w.deed u).turn)
+        some (inl y) = (Originator, lost-is (w.deed u).turn.orig.heard y)
+        some (inr y) = (Answerer, lost-is (w.deed u).turn.answ.heard y)
+
+    -- its DISC was lost: in a turn of the run, or in the last one
+    disc-lost : (s : ℕ) → s + (n + 1) * period ≡ turns → s + period ≤ turns → is_connected (e.account s).phase ≡ true
+        → v.turn + o.delay ≤ s + period → PeriodLoses period turns (t ∷ ts) n
+    disc-lost s q within cs' soon = arrives-at (cases_lt (i.set + o.delay) turns)
+      where
+        ce-late : (u : ℕ) → s < u → u ≤ turns → is_connected (e.account u).phase ≡ true
+        ce-late u lo hi = ce u (let f = first.none_before s (omega (arith, lo, hi)) cs' in omega (arith, f, lo)) hi
+
+        y : ℕ
+        y = s + period - o.delay
+
+        i : Tried period Releasing o (y + 1)
+        i = try-at (y + 1) (omega (arith, within, p, d', soon)) (v.since (y + 1) (omega (arith, soon, p)) (omega (arith, within, p, d')))
+
+        early : i.set ≤ y
+        early = let b = i.before in omega (arith, b)
+
+        late : s < i.set + o.delay
+        late = let b = i.within in omega (arith, b, p)
+
+        in-time : i.set + o.delay ≤ s + period
+        in-time = omega (arith, early, p)
+
+        arrives-at : (i.set + o.delay < turns) ⊎ (turns ≤ i.set + o.delay) → PeriodLoses period turns (t ∷ ts) n
+        arrives-at (inl b) = over-ts s q (i.set + o.delay) late in-time b
+            (inr (lost-there (is_lost (w.deed (i.set + o.delay)).turn.answ.heard) refl))
+          where
+            lost-there : (x : Bool) → e.loses (i.set + o.delay) ≡ x → e.loses (i.set + o.delay) ≡ true
+            lost-there true f = f
+            lost-there false f = absurd
+                (disc-closes tries period delay link ts w.state w.deed kt w.trace (i.set + o.delay) b
+                (ce-late (i.set + o.delay) late (omega (arith, b)))
+                (ce-late (i.set + o.delay + 1) (omega (arith, late)) (omega (arith, b)))
+                (is-heard o.delay turns (asks Releasing) o.slot e.heard e.loses k.hears i.set b f ∙ i.sends))
+        arrives-at (inr b) = last-turn (omega (arith, in-time, within, b))
+          where
+            last-turn : i.set + o.delay ≡ turns → PeriodLoses period turns (t ∷ ts) n
+            last-turn same = record {
+              turn = turns;
+              within = omega arith;
+              in_period = record {
+                behind = omega (arith, q, late, same, in-time);
+                before = at-end
+                    (omega (arith, q, within, same, in-time));
+              };
+              lost = subst LosesSome (sym (newest t ts)) (Answerer, lost-is t.answ.heard lost-now);
+            }
+              where
+                at-end : s + period ≡ turns → turns + n * period ≤ turns
+                at-end f = let m = once n in omega (arith, f, q, m)
+                  where
+                    once : (x : ℕ) → (x + 1) * period ≡ x * period + period
+                    once x = omega arith
+
+                lost-now : is_lost t.answ.heard ≡ true
+                lost-now = last-disc tries period delay link ts w.state w.deed kt w.trace t cs before.answ mid.answ
+                    (setup-role tries period delay link ts before kt run.run run.carried Answerer) last.connected
+                    (hearing Answerer).hears cm i.set same i.sends
+
+    at-expiry : (s : ℕ) × (s + n * period ≡ x.at) × Uncleared period e s → PeriodLoses period turns (t ∷ ts) n
+    at-expiry (s, q, un) = by (cases_lt (s + period) (v.turn + o.delay))
+      where
+        q' : s + (n + 1) * period ≡ turns
+        q' = let m = once n in omega (arith, q, exact, m)
+          where
+            once : (y : ℕ) → (y + 1) * period ≡ y * period + period
+            once y = omega arith
+
+        within : s + period ≤ turns
+        within = let m = once n in omega (arith, q', m)
+          where
+            once : (y : ℕ) → (y + 1) * period ≡ y * period + period
+            once y = omega arith
+
+        by : (s + period < v.turn + o.delay) ⊎ (v.turn + o.delay ≤ s + period) → PeriodLoses period turns (t ∷ ts) n
+        by (inr soon) = disc-lost s q' within un.connected soon
+        by (inl late) = on (lost-or-none e o (s + 1) (period - 1))
+          where
+            before-end : v.turn < turns
+            before-end = v.before
+
+            linked-s : is_linked (o.account s).phase ≡ true
+            linked-s = peer-linked s (omega (arith, within, long)) un.made un.connected
+
+            co : StayConnected o s v.turn
+            co u lo hi = connected-back period turns o e k' u v.turn hi (omega (arith, before-end))
+                (linked-on period turns o e k' s u lo (omega (arith, hi, before-end)) linked-s)
+                (v.was (linked-on period turns o e k' s v.turn (omega (arith, lo, hi)) (omega (arith, before-end)) linked-s))
+
+            on : LostIn e o (s + 1) (period - 1) ⊎ NoneLost e o (s + 1) (period - 1) → PeriodLoses period turns (t ∷ ts) n
+            on (inl lost) =
+                let a = lost.low in let b = lost.high in
+                over-ts s q' lost.turn (omega (arith, a)) (omega (arith, b, long)) (omega (arith, b, within, long)) (swap lost.loses)
+              where
+                swap : (e.loses lost.turn ≡ true) ⊎ (o.loses lost.turn ≡ true)
+                    → (is_lost (w.deed lost.turn).turn.orig.heard ≡ true) ⊎ (is_lost (w.deed lost.turn).turn.answ.heard ≡ true)
+                swap (inl y) = inr y
+                swap (inr y) = inl y
+            on (inr none) =
+                let r = parted-cleared period turns e o k c s v.turn within before-end parts un.made
+                (λ u lo hi. ce u (let f = first.none_before s (omega (arith, within, long)) un.connected in omega (arith, f, lo)) hi)
+                co late none in
+                absurd (un.uncleared r.0 r.1 r.2 r.3)
+
+-- over all turns, the last one too
+pub later-loses : (period : ℕ) (t : Turn) (ts : List Turn) (n : ℕ) → PeriodLoses period (length ts) ts n
+    → PeriodLoses period (length ts) (t ∷ ts) n
+later-loses period t ts n h = let b = h.within in record {
+  turn = h.turn;
+  within = omega (arith, b);
+  in_period = h.in_period;
+  lost = subst LosesSome (sym (later-turn h.turn t ts b)) h.lost;
+}
+
+-- so the run was starved
+pub all-but-last : (tries period : ℕ) (delay : Role → ℕ) (t : Turn) (ts : List Turn) → LosesEach period tries (length ts) (t ∷ ts)
+    → IsStarved tries period delay (t ∷ ts)
+all-but-last tries period delay t ts h = record { spared = tries; each = λ n few other. span n (h n (less n few other)) }
+  where
+    less : (n : ℕ) → n ≤ tries → n ≢ tries → n < tries
+    less n few other = elim (cases_lt n tries) [ inl l ↦ l | inr g ↦ absurd (other (omega (arith, few, g))) ]
+
+    span : (n : ℕ) → PeriodLoses period (length ts) (t ∷ ts) n → SpanLoses period (max (delay Originator) (delay Answerer)) (t ∷ ts) n
+    span n h = let behind = h.in_period.behind in let before = h.in_period.before in record {
+      turn = h.turn;
+      within = h.within;
+      in_span = record { behind = omega (arith, behind); before = omega (arith, before) };
+      lost = h.lost;
+    }
+
+-- only a Connected answerer gives up
+pub answerer-connected : (z : Rates) (before turn : ℕ) (b : Account) (q : Phase) (fault : LinkFault) → Stands z before turn Answerer q b
+    → b.phase ≡ q → b.setup.role ≡ Answerer → speak turn false b ≡ Err fault → is_connected b.phase ≡ true
+answerer-connected z before turn b q fault st e r h = go q e st (ap (λ x. speak_in x turn false b) (sym e) ∙ h)
+  where
+    go : (x : Phase) → b.phase ≡ x → Stands z before turn Answerer x b → speak_in x turn false b ≡ Err fault → is_connected b.phase ≡ true
+    go Detecting f s q = let there : speak_detecting Answerer turn b ≡ Err fault = ap (λ y. speak_detecting y turn b) (sym r) ∙ q in cc
+    go Negotiating f s q = let there : speak_negotiating Answerer turn b ≡ Err fault = ap (λ y. speak_negotiating y turn b) (sym r)
+        ∙ q in cc
+    go Establishing f s q = absurd s
+    go Connected f s q = ap is_connected f
+    go Releasing f s q = absurd s
+    go Closed f s q = cc
+
+pub answerer-gives-up : (tries period : ℕ) (delay : Role → ℕ) (link : Link) (ts : List Turn) (before : Ends) (t : Turn) (mid : Ends)
+    (fault : LinkFault) → KeepsTime tries period delay link → RunsOver link delay ts before
+    → BrokenTurn link ts before t mid Answerer fault → is_connected mid.answ.phase ≡ true
+answerer-gives-up tries period delay link ts before t mid fault kt run broken =
+    let turns : ℕ = length ts in
+    let z : Rates = rates tries period in
+    let b : Account = (served_at link turns mid Answerer).account in
+    let hd = heard-as tries period delay link ts before kt run.run run.carried Answerer (arrival t.answ.heard) mid.answ
+    (broken.hearing Answerer).hears in
+    let s = serves-all link.answ.user turns (is_released mid.orig.phase) mid.answ in
+    let kn = known tries period delay link ts before kt run.run run.carried Answerer in
+    ap is_connected (sym s.phase)
+    ∙ answerer-connected z (turns + 1) turns b hd.0 fault
+    (serves-well z (length before.answ.outgoing.pieces) (length link.answ.user.breaks) turns
+    (is_busy turns link.answ.user.busy) Answerer hd.0 mid.answ b (rated tries period delay link kt) hd.1.stands hd.1.phase s).stands
+    (s.phase ∙ hd.1.phase)
+    (ap (λ x. x.role) (s.setup ∙ (hd.1.setup ∙ kn.setup)) ∙ kt.roles Answerer) broken.broken.1
+
+pub answerer-wants-answer : Plays → ReadsWritten → AnswererWantsAnswers → AnswererWantsAnswer
+answerer-wants-answer laws reads wants tries period delay link ts before t mid segment since kt run cs broken
+    quiet = (each, all-but-last tries period delay t ts each)
+  where
+    turns : ℕ
+    turns = length ts
+
+    z : Rates
+    z = rates tries period
+
+    kn : Known z link turns before Answerer
+    kn = known tries period delay link ts before kt run.run run.carried Answerer
+
+    tm : Timed z link Answerer
+    tm = timed tries period delay link kt Answerer
+
+    cm : is_connected mid.answ.phase ≡ true
+    cm = answerer-gives-up tries period delay link ts before t mid (Spent segment since) kt run broken
+
+    last : LastTry tries period turns before.answ
+    last = last-try tries period link.answ.user turns Answerer (arrival t.answ.heard) before.answ mid.answ
+        (is_released mid.orig.phase) false _ (rated tries period delay link kt)
+        (subst (IsOf z) (sym kn.setup) tm.is_of) kn.stands (ap (λ x. x.role) kn.setup ∙ tm.role_is) kn.none_due
+        (λ u c. ((begins-roomy (arrival t.answ.heard) turns before.answ mid.answ u (fits-at laws link delay ts before run Answerer)
+        (subst IsAllowed (ap (λ x. x.offer) (sym kn.setup)) (allowed link run.may_play Answerer))
+        (broken.hearing Answerer).hears).so c).2)
+        (broken.hearing Answerer).hears cm quiet broken.broken.1
+
+    each : LosesEach period tries turns (t ∷ ts)
+    each n less = by (is_released mid.orig.phase) refl
+      where
+        by : (y : Bool) → is_released mid.orig.phase ≡ y → PeriodLoses period turns (t ∷ ts) n
+        by false f = later-loses period t ts n
+            ((wants tries period delay link ts before t mid segment since kt run cs broken (connected-is mid.answ.phase cm) quiet f).0 n
+            less)
+        by true f = parted-each laws reads tries period delay link ts before t mid kt run cs broken.hearing cm
+            (only-releasing mid.orig.phase f broken.going) last n less
+          where
+            only-releasing : (q : Phase) → is_released q ≡ true → is_closed q ≡ false → q ≡ Releasing
+            only-releasing Detecting g h = cc
+            only-releasing Negotiating g h = cc
+            only-releasing Establishing g h = cc
+            only-releasing Connected g h = cc
+            only-releasing Releasing g h = refl
+            only-releasing Closed g h = cc

@@ -1,0 +1,137 @@
+use Rattle.std.proofs.Common.{◌⊎◌, inl, inr, ◌≡◌, ℕ, zero, suc, ◌+◌, ◌*◌, ◌<◌, ◌≤◌, ◌&&◌, Bool, true, false, arith, refl, sym, ◌∙◌, ap, Some}
+use Rattle.std.proofs.lemmas.Bool.{cases_lt}
+use Rattle.link_account.specs.Account.{Account, is_connected}
+use Rattle.link_account.specs.Speak.{Said}
+use Rattle.std.proofs.Common.{List, length}
+use Rattle.roles.specs.declared.role.Role.{Role}
+use Rattle.roles.specs.Role.{other}
+use Rattle.roles.specs.Both.{of}
+use Rattle.link_run.specs.Run.{Link, Ends, Turn, served_at}
+use Rattle.turn_bound.specs.Time.{KeepsTime}
+use Rattle.turn_losses.proofs.Trace.{past}
+use Rattle.turn_losses.proofs.Answered.{SendsSegment, AnswerTurn}
+use Rattle.turn_losses.proofs.Trace.{Deed, Happens, Trace}
+use Rattle.turn_losses.proofs.TwoEnds.{EndRun, TwoEnds, end_run, hears_poll, hears_final}
+use Rattle.turn_losses.proofs.KeepsPolls.{Answers, StillAwaited}
+use Rattle.turn_losses.proofs.LineLaw.{SetSince, set-since}
+use Rattle.turn_losses.proofs.PollLaws.{two-ends, reply-matches}
+use Rattle.turn_losses.proofs.PeriodLaws.{still-awaited, answer-comes, NoneLost, StayConnected}
+use Rattle.std.proofs.Common.{◌%◌, ◌-◌}
+use Rattle.turn_losses.proofs.NumberHear.{ns_sent}
+use Rattle.turn_losses.proofs.Acknowledged.{Counts, acknowledged}
+
+-- while the answer to a poll is on its way, the clock doesn't expire
+pub unexpired : (period turns : ℕ) (e o : EndRun) → TwoEnds period turns e o → (t : ℕ) → t < turns → is_connected (e.account t).phase ≡ true
+    → hears_final e t ≡ true → (r : ℕ) → (e.account t).wait.timer ≡ Some r → t < r + period
+unexpired period turns e o k t within c h r w =
+    let m : Answers t e o = reply-matches period turns e o k t within h in
+    let trip = m.round_trip in let before = m.due_before in let soon = m.due_soon in let p = k.period_is in let d = k.own_delay in
+    let s : SetSince m.due (e.account t) =
+    set-since period turns e.role e.account (hears_poll e) (hears_final e) e.made e.count (λ n. e.slot n) k.own m.due m.made t
+    (omega (arith, trip, before, d)) (omega (arith, within)) in
+    let set : m.due ≤ r = s.set c r w in omega (arith, set, trip, soon, p)
+
+-- In the turn in which the answer to its poll is heard, an end's retry count is 0 once it has heard, or it sends the first segment that isn't acknowledged.
+pub poll-answered : (period turns : ℕ) (e o : EndRun) → TwoEnds period turns e o → (t : ℕ) → t < turns
+    → is_connected (e.account t).phase ≡ true → hears_final e t ≡ true
+    → (mid b : Account) (said : Said) → e.account (t + 1) ≡ said.account → is_connected (e.account (t + 1)).phase ≡ true
+    → AnswerTurn period t (e.heard t) (e.account t) mid b said → (mid.outgoing.count ≡ 0) ⊎ SendsSegment mid.outgoing.front b said
+poll-answered period turns e o k t within c h mid b said after c' answers =
+    let s : StillAwaited (e.account t) = still-awaited period turns e o k t within c h in
+    answers c s.awaited (not-due (is_connected (e.account t).phase) (e.account t).wait.poll c s.none_due) h
+    (ap (λ a. is_connected a.phase) (sym after) ∙ c') (unexpired period turns e o k t within c h)
+  where
+    not-due : (x y : Bool) → x ≡ true → x && y ≡ false → y ≡ false
+    not-due true y p q = q
+    not-due false y p q = cc
+
+-- in a turn of a run an end's retry count is 0 once it has heard, or it sends the first segment that isn't acknowledged
+abbrev pub SendsFirst : (period : ℕ) (delay : Role → ℕ) (link : Link) (ts : List Turn) (state : ℕ → Ends) (deed : ℕ → Deed)
+    → Trace period delay link ts state deed → Role → ℕ → Type 0
+SendsFirst period delay link ts state deed w role t =
+    (l : t < length ts) × SendsSegment (of role (deed t).mid).outgoing.front (served_at link t (deed t).mid role).account
+    ((w.happens t l).speaking role).said
+
+pub end-answered : (tries period : ℕ) (delay : Role → ℕ) (link : Link) (ts : List Turn) (state : ℕ → Ends) (deed : ℕ → Deed)
+    → KeepsTime tries period delay link → (w : Trace period delay link ts state deed) → (role : Role)
+    → (t : ℕ) → t < length ts → is_connected (of role (state t)).phase ≡ true → is_connected (of role (state (t + 1))).phase ≡ true
+    → hears_final (end_run delay state deed role) t ≡ true
+    → ((of role (deed t).mid).outgoing.count ≡ 0) ⊎ SendsFirst period delay link ts state deed w role t
+end-answered tries period delay link ts state deed k w role t within c c' h =
+    let g : Happens period delay link (past ts t) t (state t) (deed t) (state (t + 1)) = w.happens t within in
+    elim (poll-answered period (length ts) (end_run delay state deed role) (end_run delay state deed (other role))
+    (two-ends tries period delay link ts state deed k w role) t within c h (of role (deed t).mid)
+    (served_at link t (deed t).mid role).account (g.speaking role).said (g.speaking role).after_is c' (g.answers role)) [
+      | inl x ↦
+          inl x
+      | inr y ↦ inr (within, y)
+    ]
+
+-- A period that an expiry begins, at two ends that stay Connected: where no line is lost in it the retry count is 0 in one of its turns.
+pub period-cleared : (period turns : ℕ) (e o : EndRun) → TwoEnds period turns e o → Counts turns e o → (s : ℕ) → s + period ≤ turns
+    → e.made s ≡ true
+    → StayConnected e s (s + period) → StayConnected o s (s + period) → NoneLost e o (s + 1) (period - 1)
+    → (v : ℕ) × (s < v) × (v < s + period) × (e.count v ≡ 0)
+period-cleared period turns e o k c s within m ce co lost =
+    go (answer-comes period turns e o k s (omega (arith, p, within)) m (λ t l g. ce t l (omega (arith, g, p)))
+    (λ t l g. co t l (omega (arith, g, p))) (λ t l g. lost t l (omega (arith, g, p))))
+  where
+    p : period ≡ 2 * (e.delay + o.delay) + 16
+    p = k.period_is
+
+    d : 1 ≤ e.delay
+    d = k.own_delay
+
+    go : (u : ℕ) × (s + (e.delay + o.delay) ≤ u) × (u ≤ s + (e.delay + o.delay) + 1) × (hears_final e u ≡ true)
+        → (v : ℕ) × (s < v) × (v < s + period) × (e.count v ≡ 0)
+    go (u, low, high, h) =
+        either (c.answered u (omega (arith, p, high, within)) (ce u (omega (arith, low)) (omega (arith, high, p)))
+        (ce (u + 1) (omega (arith, low)) (omega (arith, high, p))) h)
+      where
+        later : (v : ℕ) × (u < v) × (v ≤ u + (e.delay + o.delay) + 1) × ((e.mid v).outgoing.count ≡ 0)
+            → (v : ℕ) × (s < v) × (v < s + period) × (e.count v ≡ 0)
+        later (v, x, y, z) = (v, omega (arith, x, low), omega (arith, y, high, p), c.count_is v ∙ z)
+
+        either : (e.count u ≡ 0) ⊎ (ns_sent (e.slot u) ≡ Some ((e.mid u).outgoing.front % 128))
+            → (v : ℕ) × (s < v) × (v < s + period) × (e.count v ≡ 0)
+        either (inl x) = (u, omega (arith, low, d), omega (arith, high, p), x)
+        either (inr x) = later
+            (acknowledged period turns e o k c u (omega (arith, high, p, within)) h x
+            (λ t l g. ce t (omega (arith, l, low)) (omega (arith, g, high, p)))
+            (λ t l g. co t (omega (arith, l, low)) (omega (arith, g, high, p)))
+            (λ t l g. lost t (omega (arith, l, low)) (omega (arith, g, high, p))))
+
+-- a line is lost in one of these turns
+pub record LostIn (e o : EndRun) (from count : ℕ) : Type 0 where
+  pub turn : ℕ
+  pub low : from ≤ turn
+  pub high : turn < from + count
+  pub loses : (e.loses turn ≡ true) ⊎ (o.loses turn ≡ true)
+
+pub lost-or-none : (e o : EndRun) (from count : ℕ) → LostIn e o from count ⊎ NoneLost e o from count
+lost-or-none e o from zero = inr (λ t l g. let wrong : ⊥ = omega (arith, l, g) in absurd wrong)
+lost-or-none e o from (suc n) = go (lost-or-none e o from n)
+  where
+    at : NoneLost e o from n → (x y : Bool) → e.loses (from + n) ≡ x → o.loses (from + n) ≡ y
+        → LostIn e o from (suc n) ⊎ NoneLost e o from (suc n)
+    at h true y q r = inl (record { turn = from + n; low = omega arith; high = omega arith; loses = inl q })
+    at h false true q r = inl (record { turn = from + n; low = omega arith; high = omega arith; loses = inr r })
+    at h false false q r = inr (λ t l g. elim (cases_lt t (from + n)) [ inl x ↦ h t l x | inr y ↦ same t (omega (arith, y, g)) ])
+      where
+        same : (t : ℕ) → t ≡ from + n → (e.loses t ≡ false) × (o.loses t ≡ false)
+        same t w = (ap e.loses w ∙ q, ap o.loses w ∙ r)
+
+    go : LostIn e o from n ⊎ NoneLost e o from n → LostIn e o from (suc n) ⊎ NoneLost e o from (suc n)
+    go (inl x) = let l = x.low in let h = x.high in inl (record { turn = x.turn; low = l; high = omega (arith, h); loses = x.loses })
+    go (inr h) = at h (e.loses (from + n)) (o.loses (from + n)) refl refl
+
+-- A line is lost in each such period in which the retry count never is 0.
+pub period-loses : (period turns : ℕ) (e o : EndRun) → TwoEnds period turns e o → Counts turns e o → (s : ℕ) → s + period ≤ turns
+    → e.made s ≡ true
+    → StayConnected e s (s + period) → StayConnected o s (s + period) → ((v : ℕ) → s < v → v < s + period → e.count v ≡ 0 → ⊥)
+    → LostIn e o (s + 1) (period - 1)
+period-loses period turns e o k c s within m ce co none = go (lost-or-none e o (s + 1) (period - 1))
+  where
+    go : LostIn e o (s + 1) (period - 1) ⊎ NoneLost e o (s + 1) (period - 1) → LostIn e o (s + 1) (period - 1)
+    go (inl x) = x
+    go (inr h) = let v = period-cleared period turns e o k c s within m ce co h in absurd (none v.0 v.1 v.2 v.3)

@@ -1,0 +1,189 @@
+use Rattle.std.proofs.Common.{◌⊎◌, inl, inr, ◌≡◌, ℕ, zero, suc, ◌+◌, ◌*◌, ◌<◌, ◌≤◌, ◌||◌, Bool, true, false, cond, arith, refl, sym, ◌∙◌, ap, subst}
+use Rattle.std.proofs.lemmas.Bool.{cases_lt}
+use Rattle.link_account.specs.Account.{is_connected}
+use Rattle.turn_losses.specs.Polls.{is_poll, is_final}
+use Rattle.turn_losses.proofs.Polling.{is_linked, poll_due, PollTurn}
+use Rattle.turn_losses.proofs.TwoEnds.{EndRun, TwoEnds, sends_poll, hears_poll, sends_final, hears_final}
+use Rattle.turn_losses.proofs.KeepsPolls.{Answers, StillAwaited}
+use Rattle.turn_losses.proofs.LineLaw.{is-heard}
+use Rattle.turn_losses.proofs.PollLaws.{turned, due-apart, reply-at-once, poll-fresh, polls-apart, reply-matches}
+
+clash : {A : Type 0} (b : Bool) → b ≡ true → b ≡ false → A
+clash b e f = let wrong : true ≡ false = sym e ∙ f in cc
+
+-- an end that was Connected stays so, or is told to release or Closed, for good
+pub linked-on : (period turns : ℕ) (e o : EndRun) → TwoEnds period turns e o → (s t : ℕ) → s ≤ t → t ≤ turns
+    → is_linked (e.account s).phase ≡ true → is_linked (e.account t).phase ≡ true
+linked-on period turns e o k s zero less within h = subst (λ n. is_linked (e.account n).phase ≡ true) (omega (arith, less)) h
+linked-on period turns e o k s (suc t) less within h = elim (cases_lt t s) [
+  | inl l ↦ subst (λ n. is_linked (e.account n).phase ≡ true) (omega (arith, less, l)) h
+  | inr g ↦ subst (λ n. is_linked (e.account n).phase ≡ true) (omega arith)
+      ((k.own t (omega (arith, within))).linked (linked-on period turns e o k s t g (omega (arith, within)) h))
+]
+
+-- where it is Connected it was so ever since
+pub connected-back : (period turns : ℕ) (e o : EndRun) → TwoEnds period turns e o → (s t : ℕ) → s ≤ t → t ≤ turns
+    → is_linked (e.account s).phase ≡ true → is_connected (e.account t).phase ≡ true → is_connected (e.account s).phase ≡ true
+connected-back period turns e o k s zero less within h c = subst (λ n. is_connected (e.account n).phase ≡ true) (omega (arith, less)) c
+connected-back period turns e o k s (suc t) less within h c = elim (cases_lt t s) [
+  | inl l ↦ subst (λ n. is_connected (e.account n).phase ≡ true) (omega (arith, less, l)) c
+  | inr g ↦ connected-back period turns e o k s t g (omega (arith, within)) h
+      ((k.own t (omega (arith, within))).timer (subst (λ n. is_connected (e.account n).phase ≡ true) (omega arith) c)
+      (linked-on period turns e o k s t g (omega (arith, within)) h)).0
+]
+
+-- The poll that a response with F = 1 answers is awaited from when it became due.
+pub awaits-on : (period turns : ℕ) (e o : EndRun) → TwoEnds period turns e o → (t : ℕ) → t < turns → is_connected (e.account t).phase ≡ true
+    → (m : Answers t e o) → (u : ℕ) → m.due < u → u ≤ t → (e.account u).outgoing.awaited ≡ true
+awaits-on period turns e o k t within c m = awaits
+  where
+    d : 1 ≤ e.delay
+    d = k.own_delay
+
+    d' : 1 ≤ o.delay
+    d' = k.other_delay
+
+    p : period ≡ 2 * (e.delay + o.delay) + 16
+    p = k.period_is
+
+    trip : m.sent + (e.delay + o.delay) ≡ t
+    trip = m.round_trip
+
+    due-before : m.due ≤ m.sent
+    due-before = m.due_before
+
+    due-soon : m.sent ≤ m.due + 1
+    due-soon = m.due_soon
+
+    before : m.due < t
+    before = omega (arith, trip, due-before, d)
+
+    linked : is_linked (e.account (m.due + 1)).phase ≡ true
+    linked = (k.own m.due (omega (arith, before, within))).made_linked m.made
+
+    connected : (u : ℕ) → m.due < u → u ≤ t → is_connected (e.account u).phase ≡ true
+    connected u l g = connected-back period turns e o k u t g (omega (arith, within))
+        (linked-on period turns e o k (m.due + 1) u (omega (arith, l)) (omega (arith, g, within)) linked) c
+
+    -- no answer came between
+    no-answer : (u : ℕ) → m.due < u → u < t → (b : Bool) → hears_final e u ≡ b → b ≡ false
+    no-answer u l g false q = refl
+    no-answer u l g true q =
+        let w = reply-matches period turns e o k u (omega (arith, g, within)) q in
+        let there = w.round_trip in
+        let far : w.sent + period ≤ m.sent + 1 =
+        polls-apart period turns e o k w.sent m.sent (omega (arith, there, trip, g))
+        (omega (arith, trip, within)) w.is_sent m.is_sent in
+        let wrong : ⊥ = omega (arith, far, there, trip, l, due-soon, p) in absurd wrong
+
+    or-late : (x y : Bool) → y ≡ true → x || y ≡ true
+    or-late true y q = refl
+    or-late false y q = q
+
+    awaits : (u : ℕ) → m.due < u → u ≤ t → (e.account u).outgoing.awaited ≡ true
+    awaits zero l g = let wrong : ⊥ = omega (arith, l) in absurd wrong
+    awaits (suc u) l g = subst (λ n. (e.account n).outgoing.awaited ≡ true) (omega arith)
+        (elim (cases_lt m.due u) [ inl x ↦ later x (awaits u x (omega (arith, g))) | inr y ↦ first (omega (arith, l, y)) ])
+      where
+        now : is_connected (e.account (u + 1)).phase ≡ true
+        now = connected (u + 1) (omega (arith, l)) (omega (arith, g))
+
+        w : PollTurn period u e.role (hears_poll e u) (hears_final e u) (e.made u) (e.count u) (e.slot u) (e.account u) (e.account (u + 1))
+        w = k.own u (omega (arith, g, within))
+
+        first : u ≡ m.due → (e.account (u + 1)).outgoing.awaited ≡ true
+        first q = w.made_awaited (ap e.made q ∙ m.made) now
+
+        later : m.due < u → (e.account u).outgoing.awaited ≡ true → (e.account (u + 1)).outgoing.awaited ≡ true
+        later x i = w.awaited (connected u x (omega (arith, g))) now ∙ or-late (e.made u) _
+            (ap (λ b. cond b false (e.account u).outgoing.awaited) (no-answer u x (omega (arith, g)) (hears_final e u) refl) ∙ i)
+
+-- A response with F = 1 that is heard: the poll that it answers is still awaited, and none is due.
+pub still-awaited : (period turns : ℕ) (e o : EndRun) → TwoEnds period turns e o → (t : ℕ) → t < turns
+    → is_connected (e.account t).phase ≡ true → hears_final e t ≡ true → StillAwaited (e.account t)
+still-awaited period turns e o k t within c h =
+    record { awaited = awaits-on period turns e o k t within c m t before (omega arith); none_due = none (poll_due (e.account t)) refl }
+  where
+    m : Answers t e o
+    m = reply-matches period turns e o k t within h
+
+    d : 1 ≤ e.delay
+    d = k.own_delay
+
+    d' : 1 ≤ o.delay
+    d' = k.other_delay
+
+    trip : m.sent + (e.delay + o.delay) ≡ t
+    trip = m.round_trip
+
+    due-before : m.due ≤ m.sent
+    due-before = m.due_before
+
+    before : m.due < t
+    before = omega (arith, trip, due-before, d)
+
+    none : (b : Bool) → poll_due (e.account t) ≡ b → poll_due (e.account t) ≡ false
+    none false q = q
+    none true q = at t refl
+      where
+        at : (x : ℕ) → t ≡ x → poll_due (e.account t) ≡ false
+        at zero g = let wrong : ⊥ = omega (arith, g, before) in absurd wrong
+        at (suc x) g = absurd (m.none_since x (omega (arith, g, trip, due-before, d, d')) (omega (arith, g))
+            (poll-fresh period turns e o k x (omega (arith, g, within)) (subst (λ n. poll_due (e.account n) ≡ true) (omega (arith, g)) q)))
+
+-- A poll that became due at an end that was Connected goes in that turn or the next one.
+pub poll-goes : (period turns : ℕ) (e o : EndRun) → TwoEnds period turns e o → (s : ℕ) → s + 1 < turns → e.made s ≡ true
+    → is_connected (e.account s).phase ≡ true → is_connected (e.account (s + 1)).phase ≡ true
+    → is_connected (e.account (s + 2)).phase ≡ true → (sends_poll e s ≡ true) ⊎ (sends_poll e (s + 1) ≡ true)
+poll-goes period turns e o k s within m c0 c1 c2 = first ((k.own s (omega (arith, within))).goes c0 c1 (inl m))
+  where
+    second : (sends_poll e (s + 1) ≡ true) ⊎ (poll_due (e.account (s + 1 + 1)) ≡ true)
+        → (sends_poll e s ≡ true) ⊎ (sends_poll e (s + 1) ≡ true)
+    second (inl x) = inr x
+    second (inr x) =
+        let far : s + period ≤ s + 1 =
+        due-apart period turns e o k s (s + 1) (omega arith) within m (poll-fresh period turns e o k (s + 1) within x) in
+        let p = k.period_is in let wrong : ⊥ = omega (arith, far, p) in absurd wrong
+
+    first : (sends_poll e s ≡ true) ⊎ (poll_due (e.account (s + 1)) ≡ true) → (sends_poll e s ≡ true) ⊎ (sends_poll e (s + 1) ≡ true)
+    first (inl x) = inl x
+    first (inr x) = second ((k.own (s + 1) within).goes c1 (subst (λ n. is_connected (e.account n).phase ≡ true) (omega arith) c2) (inr x))
+
+-- no line is lost in the turns from one on
+abbrev pub NoneLost : EndRun → EndRun → ℕ → ℕ → Type 0
+NoneLost e o from count = (t : ℕ) → from ≤ t → t < from + count → (e.loses t ≡ false) × (o.loses t ≡ false)
+
+abbrev pub StayConnected : EndRun → ℕ → ℕ → Type 0
+StayConnected e from last = (t : ℕ) → from ≤ t → t ≤ last → is_connected (e.account t).phase ≡ true
+
+-- A poll that became due by an expiry is answered within a round trip and a turn, where no line is lost in that time and both ends stay Connected.
+pub answer-comes : (period turns : ℕ) (e o : EndRun) → TwoEnds period turns e o → (s : ℕ) → s + (e.delay + o.delay) + 1 < turns
+    → e.made s ≡ true → StayConnected e s (s + 2) → StayConnected o s (s + (e.delay + o.delay) + 2)
+    → NoneLost e o (s + 1) (e.delay + o.delay + 1)
+    → (u : ℕ) × (s + (e.delay + o.delay) ≤ u) × (u ≤ s + (e.delay + o.delay) + 1) × (hears_final e u ≡ true)
+answer-comes period turns e o k s within m ce co lost =
+    go (poll-goes period turns e o k s (omega (arith, within)) m (ce s (omega arith) (omega arith)) (ce (s + 1) (omega arith) (omega arith))
+    (ce (s + 2) (omega arith) (omega arith)))
+  where
+    d : 1 ≤ e.delay
+    d = k.own_delay
+
+    from : (q : ℕ) → s ≤ q → q ≤ s + 1 → sends_poll e q ≡ true
+        → (u : ℕ) × (s + (e.delay + o.delay) ≤ u) × (u ≤ s + (e.delay + o.delay) + 1) × (hears_final e u ≡ true)
+    from q low high sent =
+        let polled : hears_poll o (q + e.delay) ≡ true =
+        is-heard e.delay turns is_poll e.slot o.heard o.loses k.is_heard q (omega (arith, high, within))
+        (lost (q + e.delay) (omega (arith, low, d)) (omega (arith, high))).1 ∙ sent in
+        let replied : sends_final o (q + e.delay) ≡ true =
+        reply-at-once period turns o e (turned period turns e o k) (q + e.delay) (omega (arith, high, within)) polled
+        (co (q + e.delay) (omega (arith, low)) (omega (arith, high)))
+        (co (q + e.delay + 1) (omega (arith, low)) (omega (arith, high, k.other_delay))) in
+        let answered : hears_final e (q + e.delay + o.delay) ≡ true =
+        is-heard o.delay turns is_final o.slot e.heard e.loses k.hears (q + e.delay) (omega (arith, high, within))
+        (lost (q + e.delay + o.delay) (omega (arith, low, d)) (omega (arith, high))).0 ∙ replied in
+        (q + e.delay + o.delay, omega (arith, low), omega (arith, high), answered)
+
+    go : (sends_poll e s ≡ true) ⊎ (sends_poll e (s + 1) ≡ true)
+        → (u : ℕ) × (s + (e.delay + o.delay) ≤ u) × (u ≤ s + (e.delay + o.delay) + 1) × (hears_final e u ≡ true)
+    go (inl x) = from s (omega arith) (omega arith) x
+    go (inr x) = from (s + 1) (omega arith) (omega arith) x

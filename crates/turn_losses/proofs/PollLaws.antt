@@ -1,0 +1,145 @@
+use Rattle.std.proofs.Common.{◌⊎◌, inl, inr, ◌≡◌, ℕ, ◌+◌, ◌-◌, ◌*◌, ◌<◌, ◌≤◌, true, false, arith, ap}
+use Rattle.link_account.specs.Account.{is_connected}
+use Rattle.std.proofs.Common.{List, length}
+use Rattle.roles.specs.declared.role.Role.{Role}
+use Rattle.roles.specs.declared.role.Role.TheVariants.{Originator, Answerer}
+use Rattle.roles.specs.Role.{other}
+use Rattle.roles.specs.Both.{of}
+use Rattle.link_run.specs.Run.{Link, Ends, Turn, arrival}
+use Rattle.turn_bound.specs.Time.{KeepsTime}
+use Rattle.turn_bound.proofs.Tied.{is_lost}
+use Rattle.turn_losses.proofs.Trace.{sent_or}
+use Rattle.turn_losses.specs.Polls.{is_poll, is_final}
+use Rattle.turn_losses.proofs.Polling.{poll_due}
+use Rattle.turn_losses.proofs.Polls.{Polls, WasSent, Fresh}
+use Rattle.turn_losses.proofs.Trace.{Deed, Trace}
+use Rattle.turn_losses.proofs.TwoEnds.{EndRun, ArrivesLate, TwoEnds, end_run, sends_poll, hears_poll, sends_final, hears_final}
+use Rattle.turn_losses.proofs.KeepsPolls.{Answers}
+use Rattle.turn_losses.proofs.LineLaw.{arrives-late, was-sent, are-polls}
+use Rattle.turn_losses.proofs.PollsFresh.{polls-fresh, sent-soon, sent-apart}
+
+pub two-ends : (tries period : ℕ) (delay : Role → ℕ) (link : Link) (ts : List Turn) (state : ℕ → Ends) (deed : ℕ → Deed)
+    → KeepsTime tries period delay link → Trace period delay link ts state deed
+    → (role : Role) → TwoEnds period (length ts) (end_run delay state deed role) (end_run delay state deed (other role))
+two-ends tries period delay link ts state deed k w role = record {
+  own = λ t l. (w.happens t l).polls role;
+  other = λ t l. (w.happens t l).polls (other role);
+  hears = arrives-late period delay link ts state deed k.delays w role;
+  is_heard = heard role;
+  own_first = none role;
+  other_first = none (other role);
+  own_delay = k.delays role;
+  other_delay = k.delays (other role);
+  period_is = sum role;
+}
+  where
+    heard : (r : Role) → (t : ℕ) → t < length ts
+        → ArrivesLate (delay r) t (is_lost (of (other r) (deed t).turn).heard) (λ n. sent_or (of r (deed n).turn).sent)
+        (arrival (of (other r) (deed t).turn).heard)
+    heard Originator = arrives-late period delay link ts state deed k.delays w Answerer
+    heard Answerer = arrives-late period delay link ts state deed k.delays w Originator
+
+    none : (r : Role) → poll_due (of r (state 0)) ≡ false
+    none Originator = ap (λ s. poll_due s.orig) w.starts
+    none Answerer = ap (λ s. poll_due s.answ) w.starts
+
+    sum : (r : Role) → period ≡ 2 * (delay r + delay (other r)) + 16
+    sum Originator = k.period_is
+    sum Answerer = let p = k.period_is in omega (arith, p)
+
+-- the same seen from the other end
+pub turned : (period turns : ℕ) (e o : EndRun) → TwoEnds period turns e o → TwoEnds period turns o e
+turned period turns e o k = record {
+  own = k.other;
+  other = k.own;
+  hears = k.is_heard;
+  is_heard = k.hears;
+  own_first = k.other_first;
+  other_first = k.own_first;
+  own_delay = k.other_delay;
+  other_delay = k.own_delay;
+  period_is = let p = k.period_is in omega (arith, p);
+}
+
+own-polls : (period turns : ℕ) (e o : EndRun) → TwoEnds period turns e o
+    → Polls period turns (λ t. poll_due (e.account t)) e.made (sends_poll e) (hears_poll e)
+own-polls period turns e o k =
+    are-polls period turns e.role e.account (hears_poll e) (hears_final e) e.made e.count (λ t. e.slot t) k.own_first k.own
+
+heard-sent : (period turns : ℕ) (e o : EndRun) → TwoEnds period turns e o → WasSent o.delay turns (hears_poll e) (sends_poll o)
+heard-sent period turns e o k = was-sent o.delay turns is_poll o.slot e.heard e.loses k.hears
+
+-- Polls due at one end became due at least a period apart.
+pub due-apart : (period turns : ℕ) (e o : EndRun) → TwoEnds period turns e o → (s t : ℕ) → s < t → t < turns → e.made s ≡ true
+    → e.made t ≡ true → s + period ≤ t
+due-apart period turns e o k = (own-polls period turns e o k).apart
+
+-- A response with F = 1 is sent only where a poll is heard, and where one is heard at an end that is Connected and stays so, in that very turn.
+pub reply-from : (period turns : ℕ) (e o : EndRun) → TwoEnds period turns e o → (t : ℕ) → t < turns → sends_final e t ≡ true
+    → hears_poll e t ≡ true
+reply-from period turns e o k t l = (k.own t l).replied
+
+pub reply-at-once : (period turns : ℕ) (e o : EndRun) → TwoEnds period turns e o → (t : ℕ) → t < turns → hears_poll e t ≡ true
+    → is_connected (e.account t).phase ≡ true → is_connected (e.account (t + 1)).phase ≡ true → sends_final e t ≡ true
+reply-at-once period turns e o k t l = (k.own t l).replies
+
+-- A poll that is still due between turns became due in the last one, and a poll of the other end was heard in it.
+pub poll-fresh : (period turns : ℕ) (e o : EndRun) → TwoEnds period turns e o → Fresh turns (λ t. poll_due (e.account t)) e.made
+poll-fresh period turns e o k =
+    let p = k.period_is in
+    (polls-fresh period e.delay o.delay turns (λ t. poll_due (e.account t)) e.made (sends_poll e) (hears_poll e)
+    (λ t. poll_due (o.account t)) o.made (sends_poll o) (hears_poll o) (omega (arith, p)) k.own_delay k.other_delay
+    (own-polls period turns e o k) (own-polls period turns o e (turned period turns e o k)) (heard-sent period turns e o k)
+    (heard-sent period turns o e (turned period turns e o k))).0
+
+pub poll-held-up : (period turns : ℕ) (e o : EndRun) → TwoEnds period turns e o → (t : ℕ) → t < turns → poll_due (e.account (t + 1)) ≡ true
+    → hears_poll e t ≡ true
+poll-held-up period turns e o k t l = (k.own t l).held_up
+
+-- Polls are sent at least a period less one turn apart.
+pub polls-apart : (period turns : ℕ) (e o : EndRun) → TwoEnds period turns e o → (s t : ℕ) → s < t → t < turns → sends_poll e s ≡ true
+    → sends_poll e t ≡ true → s + period ≤ t + 1
+polls-apart period turns e o k =
+    sent-apart period turns (λ t. poll_due (e.account t)) e.made (sends_poll e) (hears_poll e) (own-polls period turns e o k)
+    (poll-fresh period turns e o k)
+
+-- A poll that became due goes in that turn or in the next one.
+pub poll-soon : (period turns : ℕ) (e o : EndRun) → TwoEnds period turns e o → (t : ℕ) → t < turns → sends_poll e t ≡ true
+    → (e.made t ≡ true) ⊎ ((s : ℕ) × (t ≡ s + 1) × (e.made s ≡ true) × (poll_due (e.account t) ≡ true))
+poll-soon period turns e o k =
+    sent-soon period turns (λ t. poll_due (e.account t)) e.made (sends_poll e) (hears_poll e) (own-polls period turns e o k)
+    (poll-fresh period turns e o k)
+
+pub reply-matches : (period turns : ℕ) (e o : EndRun) → TwoEnds period turns e o → (t : ℕ) → t < turns → hears_final e t ≡ true
+    → Answers t e o
+reply-matches period turns e o k t within h = go (poll-soon period turns e o k sent (omega (arith, within)) asked.1)
+  where
+    replied : (o.delay ≤ t) × (sends_final o (t - o.delay) ≡ true)
+    replied = was-sent o.delay turns is_final o.slot e.heard e.loses k.hears t within h
+
+    asked : (e.delay ≤ t - o.delay) × (sends_poll e (t - o.delay - e.delay) ≡ true)
+    asked = heard-sent period turns o e (turned period turns e o k) (t - o.delay) (omega (arith, within))
+        (reply-from period turns o e (turned period turns e o k) (t - o.delay) (omega (arith, within)) replied.1)
+
+    sent : ℕ
+    sent = t - o.delay - e.delay
+
+    back : sent + (e.delay + o.delay) ≡ t
+    back = let x = asked.0 in let y = replied.0 in omega (arith, x, y)
+
+    answers : (due : ℕ) → due ≤ sent → sent ≤ due + 1 → e.made due ≡ true → Answers t e o
+    answers due before soon made = record {
+      sent = sent;
+      round_trip = back;
+      is_sent = asked.1;
+      due = due;
+      due_before = before;
+      due_soon = soon;
+      made = made;
+      none_since = λ x l m n. let far = due-apart period turns e o k due x l (omega (arith, m, within)) made n in let p = k.period_is in
+          omega (arith, far, m, soon, back, p);
+    }
+
+    go : (e.made sent ≡ true) ⊎ ((s : ℕ) × (sent ≡ s + 1) × (e.made s ≡ true) × (poll_due (e.account sent) ≡ true)) → Answers t e o
+    go (inl m) = answers sent (omega arith) (omega arith) m
+    go (inr (s, q, m, d)) = answers s (omega (arith, q)) (omega (arith, q)) m

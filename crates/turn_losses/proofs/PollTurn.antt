@@ -1,0 +1,372 @@
+use Rattle.std.proofs.Common.{◌⊎◌, inl, inr, ◌≡◌, ℕ, ◌+◌, ◌≤◌, ◌&&◌, ◌||◌, Bool, true, false, cond, arith, refl, sym, ◌∙◌, ap, Some, None}
+use Rattle.roles.specs.declared.role.Role.{Role}
+use Rattle.roles.specs.declared.role.Role.TheVariants.{Originator, Answerer}
+use Rattle.link_account.specs.declared.phase.Phase.{Phase}
+use Rattle.link_account.specs.declared.phase.Phase.TheVariants.{Detecting, Negotiating, Establishing, Connected, Releasing, Closed}
+use Rattle.link_account.specs.Account.{Account, is_connected}
+use Rattle.link_account.specs.Speak.{Said}
+use Rattle.link_run.specs.End.{is_closed, is_released}
+use Rattle.turn_bound.specs.Due.{NoneDue}
+use Rattle.turn_bound.proofs.AtMostOne.{OneDue}
+use Rattle.turn_losses.proofs.PollHear.{PollHeard, linked-connected}
+use Rattle.turn_losses.proofs.PollSpeak.{SaidPoll, SpeakPoll}
+use Rattle.turn_losses.specs.Polls.{is_poll, is_final}
+use Rattle.turn_bound.proofs.MeetHear.{of_frame}
+use Rattle.turn_losses.proofs.Polling.{is_linked, poll_due, Early, PollTurn}
+
+and-left : (b c : Bool) → b && c ≡ true → b ≡ true
+and-left true c e = refl
+and-left false c e = cc
+
+and-right : (b c : Bool) → b && c ≡ true → c ≡ true
+and-right true c e = e
+and-right false c e = cc
+
+and-both : (b c : Bool) → b ≡ true → c ≡ true → b && c ≡ true
+and-both true c e f = f
+and-both false c e f = cc
+
+unlinked-released : (p : Phase) → is_linked p ≡ false → is_released p ≡ false
+unlinked-released Detecting e = refl
+unlinked-released Negotiating e = refl
+unlinked-released Establishing e = refl
+unlinked-released Connected e = refl
+unlinked-released Releasing e = cc
+unlinked-released Closed e = cc
+
+connected-released : (p : Phase) → is_connected p ≡ true → is_released p ≡ false
+connected-released Detecting e = cc
+connected-released Negotiating e = cc
+connected-released Establishing e = cc
+connected-released Connected e = refl
+connected-released Releasing e = cc
+connected-released Closed e = cc
+
+connected-closed : (p : Phase) → is_connected p ≡ true → is_closed p ≡ false
+connected-closed Detecting e = cc
+connected-closed Negotiating e = cc
+connected-closed Establishing e = cc
+connected-closed Connected e = refl
+connected-closed Releasing e = cc
+connected-closed Closed e = cc
+
+clash : {A : Type 0} (b : Bool) → b ≡ true → b ≡ false → A
+clash b e f = let wrong : true ≡ false = sym e ∙ f in cc
+
+or-late : (m n : Bool) → n ≡ true → m || n ≡ true
+or-late true n g = refl
+or-late false n g = g
+
+either-bool : (b : Bool) → (b ≡ true) ⊎ (b ≡ false)
+either-bool true = inl refl
+either-bool false = inr refl
+
+-- b is the account once it has heard, c once it has spoken
+pub poll-turn : (period turn : ℕ) (role : Role) (polled final : Bool) (a b : Account) (said : Said) → 1 ≤ period
+    → PollHeard role turn polled a b → SpeakPoll turn b said → OneDue role b → NoneDue a → Early role a
+    → (is_linked a.phase ≡ false → a.wait.timer ≡ None)
+    → (role ≡ Answerer → is_connected b.phase ≡ true → b.numbered ≡ false → b.wait.timer ≡ None) → b.setup.period ≡ period
+    → (is_connected a.phase ≡ true → b.outgoing.awaited ≡ cond final false a.outgoing.awaited) → (count : ℕ) → b.outgoing.count ≡ count
+    → (is_connected a.phase ≡ true → (count ≡ 0) ⊎ ((count ≡ a.outgoing.count) × (b.wait.timer ≡ a.wait.timer)))
+    → (made : Bool) × PollTurn period turn role polled final made count said.sent a said.account
+poll-turn period turn role polled final a b said some h k one none early untimed silent q wait count same-count keeps =
+    go (either-bool (is_connected said.account.phase))
+  where
+    c : Account
+    c = said.account
+
+    -- an end that isn't Connected after the turn, or wasn't before
+    unlinked-before : is_linked c.phase ≡ false → is_linked b.phase ≡ false
+    unlinked-before e = sym k.linked ∙ e
+
+    unlinked-first : is_linked b.phase ≡ false → is_linked a.phase ≡ false
+    unlinked-first e = by (either-bool (is_linked a.phase))
+      where
+        by : (is_linked a.phase ≡ true) ⊎ (is_linked a.phase ≡ false) → is_linked a.phase ≡ false
+        by (inl x) = clash (is_linked b.phase) (h.linked x) e
+        by (inr x) = x
+
+    not-connected : (p : Phase) → is_linked p ≡ false → is_connected p ≡ false
+    not-connected p e = by (either-bool (is_connected p))
+      where
+        by : (is_connected p ≡ true) ⊎ (is_connected p ≡ false) → is_connected p ≡ false
+        by (inl x) = clash (is_linked p) (linked-connected p x) e
+        by (inr x) = x
+
+    stays-linked : is_linked a.phase ≡ true → is_linked c.phase ≡ true
+    stays-linked e = k.linked ∙ h.linked e
+
+    early-poll : is_linked c.phase ≡ false → c.wait.poll ≡ false
+    early-poll e = let u = unlinked-before e in (k.other (not-connected c.phase e)).0 ∙ ((h.early u).0 ∙ early.poll (unlinked-first u))
+
+    early-numbered : is_linked c.phase ≡ false → c.numbered ≡ false
+    early-numbered e = let u = unlinked-before e in
+        (k.other (not-connected c.phase e)).1 ∙ ((h.early u).1 ∙ early.numbered (unlinked-first u))
+
+    -- whether a reply is due
+    reply-heard : is_connected b.phase ≡ true → b.owes.reply ≡ true → polled ≡ true
+    reply-heard e r = by (h.from e)
+      where
+        or-rest : (x y : Bool) → x ≡ false → x || y ≡ true → y ≡ true
+        or-rest true y f g = cc
+        or-rest false y f g = g
+
+        by : (is_connected a.phase ≡ true) ⊎ (is_linked a.phase ≡ false) → polled ≡ true
+        by (inl x) = or-rest a.owes.reply polled (none.reply (connected-released a.phase x)) (sym (h.asked x e) ∙ r)
+        by (inr x) = clash b.owes.reply r ((h.begun x e).0 ∙ none.reply (unlinked-released a.phase x))
+
+    -- an answerer that has heard no I frame and no supervisory frame polls for nothing
+    silent-poll : is_connected c.phase ≡ true → role ≡ Answerer → c.numbered ≡ false → c.wait.poll ≡ true → ⊥
+    silent-poll e r n p = by (k.connected e)
+      where
+        by : (is_connected b.phase ≡ true) × SaidPoll turn b said → ⊥
+        by (f, l) = on (either-bool l.made)
+          where
+            still : b.numbered ≡ false
+            still = sym l.numbered ∙ n
+
+            none-polled : (is_connected a.phase ≡ true) ⊎ (is_linked a.phase ≡ false) → b.wait.poll ≡ false
+            none-polled (inl x) = h.poll x ∙ early.silent r x (before (either-bool a.numbered))
+              where
+                before : (a.numbered ≡ true) ⊎ (a.numbered ≡ false) → a.numbered ≡ false
+                before (inl y) = clash b.numbered (h.heard x y) still
+                before (inr y) = y
+            none-polled (inr x) = (h.answers r x f).0 ∙ early.poll x
+
+            on : (l.made ≡ true) ⊎ (l.made ≡ false) → ⊥
+            on (inl m) = let w = l.made_from m in let wrong : None ≡ Some w.0 = sym (silent r f still) ∙ w.1 in cc
+            on (inr m) = clash b.wait.poll ((l.kept p).0 m) (none-polled (h.from f))
+
+    early-silent : role ≡ Answerer → is_connected c.phase ≡ true → c.numbered ≡ false → c.wait.poll ≡ false
+    early-silent r e n = by (either-bool c.wait.poll)
+      where
+        by : (c.wait.poll ≡ true) ⊎ (c.wait.poll ≡ false) → c.wait.poll ≡ false
+        by (inl p) = absurd (silent-poll e r n p)
+        by (inr p) = p
+
+    after-early : Early role c
+    after-early = record { poll = early-poll; numbered = early-numbered; silent = early-silent }
+
+    -- no answer is due where a poll is held up
+    no-answer : is_connected c.phase ≡ true → is_connected b.phase ≡ true → SaidPoll turn b said → c.wait.poll ≡ true → b.owes.answer ≡ None
+    no-answer e f l p = by role refl
+      where
+        by : (r : Role) → role ≡ r → b.owes.answer ≡ None
+        by Originator g = one.none g (connected-closed b.phase f)
+        by Answerer g = on (either-bool b.numbered) (h.from f)
+          where
+            on : (b.numbered ≡ true) ⊎ (b.numbered ≡ false) → (is_connected a.phase ≡ true) ⊎ (is_linked a.phase ≡ false)
+                → b.owes.answer ≡ None
+            on (inr n) x = absurd (silent-poll e g (l.numbered ∙ n) p)
+            on (inl n) (inl x) = h.answer x f n ∙ none.answer
+            on (inl n) (inr x) = clash b.numbered n ((h.begun x f).1 ∙ early.numbered x)
+
+    held : is_connected c.phase ≡ true → poll_due c ≡ true → polled ≡ true
+    held e d = by (k.connected e)
+      where
+        by : (is_connected b.phase ≡ true) × SaidPoll turn b said → polled ≡ true
+        by (f, l) = let p = and-right (is_connected c.phase) c.wait.poll d in reply-heard f ((l.kept p).1 (no-answer e f l p)).0
+
+    final-heard : is_connected c.phase ≡ true → of_frame is_final said.sent ≡ true → polled ≡ true
+    final-heard e d = by (k.connected e)
+      where
+        by : (is_connected b.phase ≡ true) × SaidPoll turn b said → polled ≡ true
+        by (f, l) = reply-heard f (l.final d)
+
+    answered : polled ≡ true → is_connected a.phase ≡ true → is_connected c.phase ≡ true → of_frame is_final said.sent ≡ true
+    answered p x e = by (k.connected e)
+      where
+        or-last : (m n : Bool) → n ≡ true → m || n ≡ true
+        or-last true n g = refl
+        or-last false n g = g
+
+        by : (is_connected b.phase ≡ true) × SaidPoll turn b said → of_frame is_final said.sent ≡ true
+        by (f, l) = l.replies (on one.one) reply
+          where
+            reply : b.owes.reply ≡ true
+            reply = h.asked x f ∙ or-last a.owes.reply polled p
+
+            on : (b.owes.answer ≡ None) ⊎ (is_released b.phase ≡ false → b.owes.reply ≡ false) → b.owes.answer ≡ None
+            on (inl n) = n
+            on (inr g) = clash b.owes.reply reply (g (connected-released b.phase f))
+
+    keeps-count : is_connected a.phase ≡ true → (count ≡ 0) ⊎ (count ≡ a.outgoing.count)
+    keeps-count x = by (keeps x)
+      where
+        by : (count ≡ 0) ⊎ ((count ≡ a.outgoing.count) × (b.wait.timer ≡ a.wait.timer)) → (count ≡ 0) ⊎ (count ≡ a.outgoing.count)
+        by (inl y) = inl y
+        by (inr (y, z)) = inr y
+
+    -- it isn't Connected after the turn
+    over : is_connected c.phase ≡ false → (made : Bool) × PollTurn period turn role polled final made count said.sent a c
+    over e = let o = k.other e in (
+      false,
+      record {
+        early = after-early;
+        linked = stays-linked;
+        due_from = λ d. clash (is_connected c.phase) (and-left (is_connected c.phase) c.wait.poll d) e;
+        held_up = λ d. clash (is_connected c.phase) (and-left (is_connected c.phase) c.wait.poll d) e;
+        sent_from = λ s. clash (of_frame is_poll said.sent) s o.2;
+        sent_done = λ s. clash (of_frame is_poll said.sent) s o.2;
+        timer = λ f. clash (is_connected c.phase) f e;
+        made_timer = λ m. cc;
+        made_awaited = λ m. cc;
+        made_linked = λ m. cc;
+        made_from = λ m. cc;
+        replied = λ s. clash (of_frame is_final said.sent) s o.3;
+        goes = λ x f. clash (is_connected c.phase) f e;
+        awaited = λ x f. clash (is_connected c.phase) f e;
+        counted = λ x f. clash (is_connected c.phase) f e;
+        kept = keeps-count;
+        replies = λ p x f. clash (is_connected c.phase) f e;
+      },
+    )
+
+    -- it was Connected before it
+    during : is_connected c.phase ≡ true → is_connected b.phase ≡ true → SaidPoll turn b said → is_connected a.phase ≡ true
+        → (made : Bool) × PollTurn period turn role polled final made count said.sent a c
+    during e f l x = (
+      l.made,
+      record {
+        early = after-early;
+        linked = stays-linked;
+        due_from = λ d m. was m ((l.kept (and-right (is_connected c.phase) c.wait.poll d)).0 m);
+        held_up = held e;
+        sent_from = λ s m. was m ((l.sent s).0 m);
+        sent_done = λ s. cleared ((l.sent s).1);
+        timer = λ g y. (x, λ s w. timed s (l.timer s w));
+        made_timer = λ m g. l.made_timer m;
+        made_awaited = λ m g. l.awaited ∙ ap (λ v. v || b.outgoing.awaited) m;
+        made_linked = λ m. linked-connected c.phase e;
+        made_from = λ m y. let w = expired-from (l.made_from m) in (x, w.0, w.1, w.2);
+        replied = final-heard e;
+        goes = λ y g w. still-due (l.goes (due w));
+        awaited = λ y g. l.awaited ∙ ap (λ v. l.made || v) (wait x);
+        counted = λ y g n h. counts n (l.counted n h) (keeps x);
+        kept = keeps-count;
+        replies = answered;
+      },
+    )
+      where
+        was : l.made ≡ false → b.wait.poll ≡ true → poll_due a ≡ true
+        was m p = and-both (is_connected a.phase) a.wait.poll x (sym (h.poll x) ∙ p)
+
+        counts : (n : ℕ) → ((l.made ≡ true) × (b.outgoing.count ≡ n) × (c.wait.timer ≡ Some turn))
+            ⊎ ((l.made ≡ false) × (b.outgoing.count ≡ n + 1) × ((r : ℕ) → b.wait.timer ≡ Some r → c.wait.timer ≡ Some r))
+            → (count ≡ 0) ⊎ ((count ≡ a.outgoing.count) × (b.wait.timer ≡ a.wait.timer))
+            → ((l.made ≡ true) × (count ≡ n) × (c.wait.timer ≡ Some turn))
+            ⊎ ((l.made ≡ false) × (count ≡ n + 1) × ((r : ℕ) → a.wait.timer ≡ Some r → c.wait.timer ≡ Some r))
+        counts n (inl (m, w, t)) v = inl (m, sym same-count ∙ w, t)
+        counts n (inr (m, w, t)) (inl v) = let wrong : ⊥ = omega (arith, same-count, w, v) in absurd wrong
+        counts n (inr (m, w, t)) (inr (v, u)) = inr (m, sym same-count ∙ w, (λ r g. t r (u ∙ g)))
+
+        due : (l.made ≡ true) ⊎ (poll_due a ≡ true) → (l.made ≡ true) ⊎ (b.wait.poll ≡ true)
+        due (inl m) = inl m
+        due (inr w) = inr (h.poll x ∙ and-right (is_connected a.phase) a.wait.poll w)
+
+        still-due : (of_frame is_poll said.sent ≡ true) ⊎ (c.wait.poll ≡ true) → (of_frame is_poll said.sent ≡ true) ⊎ (poll_due c ≡ true)
+        still-due (inl w) = inl w
+        still-due (inr w) = inr (and-both (is_connected c.phase) c.wait.poll e w)
+
+        cleared : c.wait.poll ≡ false → poll_due c ≡ false
+        cleared w = ap (λ v. is_connected c.phase && v) w ∙ and-false (is_connected c.phase)
+          where
+            and-false : (v : Bool) → v && false ≡ false
+            and-false true = refl
+            and-false false = refl
+
+        timed : (s : ℕ) → (s ≡ turn) ⊎ (b.wait.timer ≡ Some s) → (s ≡ turn) ⊎ (a.wait.timer ≡ Some s)
+        timed s (inl w) = inl w
+        timed s (inr w) = h.timer x s w
+
+        expired-from : (s : ℕ) × (b.wait.timer ≡ Some s) × (turn ≡ s + b.setup.period)
+            → (s : ℕ) × (a.wait.timer ≡ Some s) × (turn ≡ s + period)
+        expired-from (s, w, g) = by (h.timer x s w)
+          where
+            by : (s ≡ turn) ⊎ (a.wait.timer ≡ Some s) → (s : ℕ) × (a.wait.timer ≡ Some s) × (turn ≡ s + period)
+            by (inl v) = let wrong : ⊥ = omega (arith, v, g, q, some) in absurd wrong
+            by (inr v) = (s, v, omega (arith, g, q))
+
+    -- it becomes so in it
+    begins : is_connected c.phase ≡ true → is_connected b.phase ≡ true → SaidPoll turn b said → is_linked a.phase ≡ false → (r : Role)
+        → role ≡ r → (made : Bool) × PollTurn period turn role polled final made count said.sent a c
+    begins e f l x Originator g = (
+      true,
+      record {
+        early = after-early;
+        linked = stays-linked;
+        due_from = λ d m. cc;
+        held_up = held e;
+        sent_from = λ s m. cc;
+        sent_done = λ s. cleared ((l.sent s).1);
+        timer = λ v y. clash (is_linked a.phase) y x;
+        made_timer = λ m v s w. timed s (l.timer s w);
+        made_awaited = λ m v. l.awaited ∙ or-late l.made b.outgoing.awaited (h.awaits g x f);
+        made_linked = λ m. linked-connected c.phase e;
+        made_from = λ m y. clash (is_linked a.phase) y x;
+        replied = final-heard e;
+        goes = λ y g. clash (is_linked a.phase) (linked-connected a.phase y) x;
+        awaited = λ y g. clash (is_linked a.phase) (linked-connected a.phase y) x;
+        counted = λ y g. clash (is_linked a.phase) (linked-connected a.phase y) x;
+        kept = keeps-count;
+        replies = answered;
+      },
+    )
+      where
+        cleared : c.wait.poll ≡ false → poll_due c ≡ false
+        cleared w = ap (λ v. is_connected c.phase && v) w ∙ and-false (is_connected c.phase)
+          where
+            and-false : (v : Bool) → v && false ≡ false
+            and-false true = refl
+            and-false false = refl
+
+        begun-timer : (s : ℕ) → (s ≡ turn) ⊎ (a.wait.timer ≡ Some s) → s ≡ turn
+        begun-timer s (inl v) = v
+        begun-timer s (inr v) = let wrong : None ≡ Some s = sym (untimed x) ∙ v in cc
+
+        timed : (s : ℕ) → (s ≡ turn) ⊎ (b.wait.timer ≡ Some s) → s ≡ turn
+        timed s (inl v) = v
+        timed s (inr v) = begun-timer s ((h.begun x f).2 s v)
+    begins e f l x Answerer g = (
+      false,
+      record {
+        early = after-early;
+        linked = stays-linked;
+        due_from = λ d m. absurd (none-kept ((l.kept (and-right (is_connected c.phase) c.wait.poll d)).0));
+        held_up = held e;
+        sent_from = λ s m. absurd (none-kept ((l.sent s).0));
+        sent_done = λ s. absurd (none-kept ((l.sent s).0));
+        timer = λ v y. clash (is_linked a.phase) y x;
+        made_timer = λ m. cc;
+        made_awaited = λ m. cc;
+        made_linked = λ m. cc;
+        made_from = λ m. cc;
+        replied = final-heard e;
+        goes = λ y g. clash (is_linked a.phase) (linked-connected a.phase y) x;
+        awaited = λ y g. clash (is_linked a.phase) (linked-connected a.phase y) x;
+        counted = λ y g. clash (is_linked a.phase) (linked-connected a.phase y) x;
+        kept = keeps-count;
+        replies = answered;
+      },
+    )
+      where
+        none-kept : (l.made ≡ false → b.wait.poll ≡ true) → ⊥
+        none-kept w = by (either-bool l.made)
+          where
+            by : (l.made ≡ true) ⊎ (l.made ≡ false) → ⊥
+            by (inl m) = let v = l.made_from m in let wrong : None ≡ Some v.0 = sym (untimed x) ∙ (sym (h.answers g x f).1 ∙ v.1) in cc
+            by (inr m) = clash b.wait.poll (w m) ((h.answers g x f).0 ∙ early.poll x)
+
+    go : (is_connected c.phase ≡ true) ⊎ (is_connected c.phase ≡ false)
+        → (made : Bool) × PollTurn period turn role polled final made count said.sent a c
+    go (inr e) = over e
+    go (inl e) = by (k.connected e)
+      where
+        by : (is_connected b.phase ≡ true) × SaidPoll turn b said
+            → (made : Bool) × PollTurn period turn role polled final made count said.sent a c
+        by (f, l) = on (h.from f)
+          where
+            on : (is_connected a.phase ≡ true) ⊎ (is_linked a.phase ≡ false)
+                → (made : Bool) × PollTurn period turn role polled final made count said.sent a c
+            on (inl x) = during e f l x
+            on (inr x) = begins e f l x role refl

@@ -1,0 +1,223 @@
+-- What a Connected end was offered fits into its window, which is one of seven bits.
+use Rattle.std.proofs.Common.{◌≡◌, ℕ, zero, suc, ◌+◌, ◌<◌, ◌≤◌, ◌&&◌, not, min, Bool, true, false, cond, nat_lt, nat_le, List, [], ◌∷◌, length, length-append, arith, refl, sym, ◌∙◌, ap, subst, Option, Some, None, Result, Ok, Err}
+use Rattle.std.proofs.lemmas.Bool.Decides.{nat_tests}
+use Rattle.roles.specs.declared.role.Role.{Role}
+use Rattle.roles.specs.declared.role.Role.TheVariants.{Originator, Answerer}
+use Rattle.lapm_frames.specs.declared.frame.Frame.{Frame}
+use Rattle.lapm_frames.specs.declared.frame.Frame.TheVariants.{Sabme, Disc, Ua, Dm, Xid}
+use Rattle.xid_params.specs.declared.offer.Offer.{Offer}
+use Rattle.xid_params.specs.declared.terms.Terms.{Terms}
+use Rattle.xid_params.specs.Offers.{IsAllowed, offer_in}
+use Rattle.xid_params.specs.Terms.{agree, default_offer, lowered}
+use Rattle.lapm_sender.specs.Outgoing.{Outgoing, with_piece}
+use Rattle.break_signals.specs.Breaks.{after_ask}
+use Rattle.slot_contents.specs.declared.seen.Seen.{Seen}
+use Rattle.slot_contents.specs.declared.seen.Seen.TheVariants.{Odp, Adp}
+use Rattle.slot_contents.specs.declared.arrived.Arrived.{Arrived}
+use Rattle.slot_contents.specs.declared.arrived.Arrived.TheVariants as arrivals
+use Rattle.link_account.specs.declared.phase.Phase.{Phase}
+use Rattle.link_account.specs.declared.phase.Phase.TheVariants.{Detecting, Negotiating, Establishing, Connected, Releasing, Closed}
+use Rattle.link_faults.specs.declared.fault.LinkFault.{LinkFault}
+use Rattle.link_account.specs.Account.{Account, is_connected, window_for, wants, piece_size, after_given}
+use Rattle.link_account.specs.Hear.{hear, on_frame, on_seen, on_pattern, on_detecting, on_negotiating, on_establishing, on_xid_command, on_xid_response, on_nothing, owing}
+use Rattle.link_account.specs.declared.answer.Answer.TheVariants as answers
+use Rattle.link_run.specs.End.{User, BreakLine, delivered, offered_at, offered_times, offered, room_for, piece_at, is_busy, next_break, asked_at}
+use Rattle.turn_bound.proofs.Run.{served_account}
+use Rattle.turn_bound.proofs.Serving.{before_asking, offers-well}
+use Rattle.turn_losses.proofs.Polling.{is_linked}
+
+pub record Room (a : Account) : Type 0 where
+  pub window : a.outgoing.window ≤ 127
+  pub pieces : length a.outgoing.pieces ≤ a.outgoing.front + a.outgoing.window
+
+abbrev pub Fits : Terms → Type 0
+Fits terms = (terms.window_o ≤ 127) × (terms.window_a ≤ 127)
+
+first-less : (srej : Bool) (m n : ℕ) → m ≤ 127 → lowered srej (min m n) ≤ 127
+first-less true m n l = omega arith
+first-less false m n l = omega (arith, l)
+
+second-less : (srej : Bool) (m n : ℕ) → n ≤ 127 → lowered srej (min m n) ≤ 127
+second-less true m n l = omega arith
+second-less false m n l = omega (arith, l)
+
+pub fits-second : (o a : Offer) → IsAllowed a → Fits (agree o a)
+fits-second o a h = (
+  second-less (o.srej && a.srej) o.tx_window a.rx_window h.rx_window_high,
+  first-less (o.srej && a.srej) a.tx_window o.rx_window h.tx_window_high,
+)
+
+fits-for : (role : Role) (terms : Terms) → Fits terms → window_for role terms ≤ 127
+fits-for Originator terms h = h.0
+fits-for Answerer terms h = h.1
+
+-- becoming Connected
+pub record BeginsWith (b : Account) : Type 0 where
+  pub so : is_connected b.phase ≡ true → (b.outgoing.window ≤ 127) × (length b.outgoing.pieces ≡ 0) × (b.outgoing.count ≡ 0)
+
+abbrev pub BeginsSo : Result Account LinkFault → Type 0
+BeginsSo (Err fault) = Unit {0}
+BeginsSo (Ok b) = BeginsWith b
+
+not-connected : (b : Account) (p : Phase) → b.phase ≡ p → is_connected p ≡ false → BeginsWith b
+not-connected b p e f = record { so = λ h. let wrong : true ≡ false = sym h ∙ (ap is_connected e ∙ f) in cc }
+
+begins-frame : (p : Phase) (frame : Frame) (turn : ℕ) (a : Account) → a.phase ≡ p → is_linked p ≡ false → Fits a.terms
+    → IsAllowed a.setup.offer → BeginsSo (on_frame p frame turn a)
+begins-frame Detecting frame turn a e l h own = go a.setup.role frame
+  where
+    commanded : (m : Option Offer) → BeginsWith (on_xid_command m a)
+    commanded None = not-connected a Detecting e refl
+    commanded (Some offer) = not-connected _ Negotiating refl refl
+
+    go : (r : Role) (f : Frame) → BeginsSo (on_detecting r f turn a)
+    go Answerer (Xid true pf info) = commanded (offer_in info)
+    go Answerer (Sabme pf) =
+        record {
+          so = λ c. (
+            fits-for a.setup.role (agree default_offer a.setup.offer) (fits-second default_offer a.setup.offer own),
+            refl,
+            refl,
+          );
+        }
+    go r f = not-connected a Detecting e refl
+begins-frame Negotiating frame turn a e l h own = go a.setup.role frame
+  where
+    commanded : (m : Option Offer) → BeginsWith (on_xid_command m a)
+    commanded None = not-connected a Negotiating e refl
+    commanded (Some offer) = not-connected _ Negotiating refl refl
+
+    answered : (m : Option Offer) → BeginsWith (on_xid_response m turn a)
+    answered None = not-connected a Negotiating e refl
+    answered (Some offer) = not-connected _ Establishing refl refl
+
+    go : (r : Role) (f : Frame) → BeginsSo (on_negotiating r f turn a)
+    go Originator (Xid false pf info) = answered (offer_in info)
+    go Originator (Dm pf) = tt
+    go Answerer (Xid true pf info) = commanded (offer_in info)
+    go Answerer (Sabme pf) = record { so = λ c. (fits-for a.setup.role a.terms h, refl, refl) }
+    go Answerer (Disc pf) = not-connected (owing (answers.Dm pf) a) Negotiating e refl
+    go r f = not-connected a Negotiating e refl
+begins-frame Establishing frame turn a e l h own = go frame
+  where
+    go : (f : Frame) → BeginsSo (on_establishing f turn a)
+    go (Ua true) = record { so = λ c. (fits-for a.setup.role a.terms h, refl, refl) }
+    go (Dm true) = tt
+    go f = not-connected a Establishing e refl
+begins-frame Connected frame turn a e l h own = cc
+begins-frame Releasing frame turn a e l h own = cc
+begins-frame Closed frame turn a e l h own = cc
+
+unlinked-connected : (p : Phase) → is_linked p ≡ false → is_connected p ≡ false
+unlinked-connected Detecting e = refl
+unlinked-connected Negotiating e = refl
+unlinked-connected Establishing e = refl
+unlinked-connected Connected e = cc
+unlinked-connected Releasing e = refl
+unlinked-connected Closed e = refl
+
+begins-all : (arrived : Arrived) (turn : ℕ) (a : Account) → is_linked a.phase ≡ false → Fits a.terms → IsAllowed a.setup.offer
+    → BeginsSo (hear turn arrived a)
+begins-all arrivals.Nothing turn a l h own = not-connected (on_nothing a) a.phase refl (unlinked-connected a.phase l)
+begins-all (arrivals.Pattern seen) turn a l h own = go a.phase refl l
+  where
+    on : (r : Role) (s : Seen) → a.phase ≡ Detecting → BeginsWith (on_pattern r s turn a)
+    on Originator Adp e = not-connected _ Negotiating refl refl
+    on Originator Odp e = not-connected a Detecting e refl
+    on Answerer Odp e = not-connected (owing answers.Adp a) Detecting e refl
+    on Answerer Adp e = not-connected a Detecting e refl
+
+    go : (p : Phase) → a.phase ≡ p → is_linked p ≡ false → BeginsWith (on_seen p seen turn a)
+    go Detecting e f = on a.setup.role seen e
+    go Negotiating e f = not-connected a Negotiating e refl
+    go Establishing e f = not-connected a Establishing e refl
+    go Connected e f = cc
+    go Releasing e f = cc
+    go Closed e f = cc
+begins-all (arrivals.Frame frame) turn a l h own = begins-frame a.phase frame turn a refl l h own
+
+pub begins-roomy : (arrived : Arrived) (turn : ℕ) (a mid : Account) → is_linked a.phase ≡ false → Fits a.terms → IsAllowed a.setup.offer
+    → hear turn arrived a ≡ Ok mid → BeginsWith mid
+begins-roomy arrived turn a mid l h own e = go (hear turn arrived a) e (begins-all arrived turn a l h own)
+  where
+    go : (r : Result Account LinkFault) → r ≡ Ok mid → BeginsSo r → BeginsWith mid
+    go (Err fault) q k = cc
+    go (Ok b) q k = let same : b ≡ mid = cc in subst BeginsWith same k
+
+-- offers go on while there is room
+abbrev HasRoom : Outgoing → Type 0
+HasRoom o = length o.pieces ≤ o.front + o.window
+
+piece-room : (piece : List ℕ) (o : Outgoing) → length o.pieces < o.front + o.window → HasRoom o → HasRoom (with_piece piece o)
+piece-room [] o l h = h
+piece-room (octet ∷ octets) o l h = omega (arith, l, length-append {A = List ℕ})
+
+offer-room : (file : List ℕ) (a : Account) → HasRoom a.outgoing → HasRoom (offered_at file a (wants a)).outgoing
+offer-room file a h =
+    go (is_connected a.phase) (not a.outgoing.ended) (nat_lt (length a.outgoing.pieces) (a.outgoing.front + a.outgoing.window)) refl
+  where
+    go : (c e l : Bool) → nat_lt (length a.outgoing.pieces) (a.outgoing.front + a.outgoing.window) ≡ l
+        → HasRoom (offered_at file a (cond c (cond (e && l) (Some (length a.outgoing.pieces)) None) None)).outgoing
+    go false e l q = h
+    go true false l q = h
+    go true true false q = h
+    go true true true q = let less : length a.outgoing.pieces < a.outgoing.front + a.outgoing.window = grind (arith, nat_tests, q) in
+        piece-room (piece_at (piece_size a) file (length a.outgoing.pieces)) a.outgoing less h
+
+offers-room : (n : ℕ) (file : List ℕ) (a : Account) → HasRoom a.outgoing → HasRoom (offered_times n file a).outgoing
+offers-room zero file a h = h
+offers-room (suc n) file a h = offers-room n file (offered_at file a (wants a)) (offer-room file a h)
+
+-- what serving an end leaves
+pub record ServedLeft (a b : Account) : Type 0 where
+  pub taken : b.incoming.taken ≡ a.incoming.taken
+  pub owed : b.incoming.owed ≡ a.incoming.owed
+  pub room : HasRoom a.outgoing → HasRoom b.outgoing
+
+given-left : (a : Account) (c : Bool)
+    → ServedLeft a (after_given (cond c (record a { incoming = record a.incoming { given = length a.incoming.taken } }) a))
+given-left a true = record { taken = refl; owed = refl; room = λ h. h }
+given-left a false = record { taken = refl; owed = refl; room = λ h. h }
+
+both-left : (a b c : Account) → ServedLeft a b → ServedLeft b c → ServedLeft a c
+both-left a b c h k = record { taken = k.taken ∙ h.taken; owed = k.owed ∙ h.owed; room = λ r. k.room (h.room r) }
+
+offered-left : (file : List ℕ) (a : Account) → ServedLeft a (offered file a)
+offered-left file a = let k = (offers-well file a).0.only in record {
+  taken = ap (λ b. b.incoming.taken) k;
+  owed = ap (λ b. b.incoming.owed) k;
+  room = λ h. offers-room (room_for a) file a h;
+}
+
+busy-left : (b : Account) (busy c : Bool) → ServedLeft b (cond c (record b { owes = record b.owes { busy = busy } }) b)
+busy-left b busy true = record { taken = refl; owed = refl; room = λ h. h }
+busy-left b busy false = record { taken = refl; owed = refl; room = λ h. h }
+
+asked-left : (turn : ℕ) (n : Option BreakLine) (b : Account) → ServedLeft b (asked_at turn n b)
+asked-left turn None b = record { taken = refl; owed = refl; room = λ h. h }
+asked-left turn (Some line) b = go (nat_le line.turn turn) (is_connected b.phase)
+  where
+    go : (x c : Bool) → ServedLeft b (cond x (cond c (record b { own_breaks = after_ask turn line.length_octet b.own_breaks }) b) b)
+    go false c = record { taken = refl; owed = refl; room = λ h. h }
+    go true true = record { taken = refl; owed = refl; room = λ h. h }
+    go true false = record { taken = refl; owed = refl; room = λ h. h }
+
+pub served-left : (user : User) (turn : ℕ) (released : Bool) (a : Account) → ServedLeft a (served_account user turn released a)
+served-left user turn released a = go released
+  where
+    g : Account
+    g = after_given (delivered a)
+
+    o : Account
+    o = offered user.file g
+
+    m : Account
+    m = before_asking user turn a
+
+    first : ServedLeft a m
+    first = both-left a g m (given-left a (is_connected a.phase))
+        (both-left g o m (offered-left user.file g) (busy-left o (is_busy turn user.busy) (is_connected o.phase)))
+
+    go : (r : Bool) → ServedLeft a (cond r m (asked_at turn (next_break user.breaks m) m))
+    go true = first
+    go false = both-left a m _ first (asked-left turn (next_break user.breaks m) m)

@@ -1,0 +1,438 @@
+-- An answerer that gives up while its break waits was starved: one period is let off, that in which the originator becomes Connected.
+use Rattle.std.proofs.Common.{◌⊎◌, inl, inr, ◌≡◌, ◌≢◌, ℕ, zero, suc, ◌+◌, ◌-◌, ◌*◌, ◌<◌, ◌≤◌, Bool, true, false, max, List, ◌∷◌, length, arith, refl, sym, ◌∙◌, ap, subst}
+use Rattle.std.proofs.lemmas.Bool.{cases_lt}
+use Rattle.roles.specs.declared.role.Role.{Role}
+use Rattle.roles.specs.declared.role.Role.TheVariants.{Originator, Answerer}
+use Rattle.roles.specs.Both.{of}
+use Rattle.xid_params.specs.Offers.{ReadsWritten}
+use Rattle.break_signals.specs.Breaks.{waits}
+use Rattle.link_account.specs.declared.phase.Phase.{Phase}
+use Rattle.link_account.specs.declared.phase.Phase.TheVariants.{Detecting, Negotiating, Establishing, Connected, Releasing, Closed}
+use Rattle.link_account.specs.Account.{is_connected}
+use Rattle.link_account.specs.Hear.{hear}
+use Rattle.link_run.specs.End.{is_closed}
+use Rattle.link_run.specs.Run.{Link, Ends, Turn, RunOf, Hears, arrival, served_at}
+use Rattle.link_run.specs.Carried.{Carries, IsCarried}
+use Rattle.link_run.specs.Laws.{RunsOver}
+use Rattle.link_run.specs.Starved.{LosesSome, SpanLoses, IsStarved, turn_at}
+use Rattle.turn_bound.specs.Time.{KeepsTime}
+use Rattle.turn_bound.proofs.MeetHear.{is_begun, of_frame, of_arrived}
+use Rattle.turn_bound.proofs.Tied.{is_lost}
+use Rattle.turn_losses.specs.Losses.{PeriodLoses}
+use Rattle.turn_losses.specs.Polls.{is_poll}
+use Rattle.turn_losses.proofs.Polling.{is_linked}
+use Rattle.turn_losses.proofs.PollHear.{poll-hears}
+use Rattle.turn_losses.proofs.NumberTurn.{poll-ok}
+use Rattle.turn_losses.proofs.Trace.{past}
+use Rattle.turn_losses.proofs.TwoEnds.{EndRun, TwoEnds, end_run}
+use Rattle.turn_losses.proofs.Tracing.{known, Traced, traced}
+use Rattle.turn_losses.proofs.LineLaw.{is-heard}
+use Rattle.turn_losses.proofs.PollLaws.{two-ends}
+use Rattle.turn_losses.proofs.PeriodLaws.{linked-on}
+use Rattle.turn_losses.proofs.Keeping.{turn-is}
+use Rattle.turn_losses.proofs.Wanting.{lost-is}
+use Rattle.turn_losses.proofs.Starving.{later-turn}
+use Rattle.turn_losses.proofs.Moving.{asks, moves_on, TryGoesOn, TryBegins, try-heard}
+use Rattle.turn_losses.proofs.Parting.{newest, setup-role}
+use Rattle.turn_losses.proofs.Phasing.{is_established, established-on, stays-established, begun-established}
+use Rattle.turn_losses.proofs.Trying.{TryTurn, Tried, tried, tries-so, answers-so}
+use Rattle.turn_losses.proofs.BreakHear.{of_word, ack_of}
+use Rattle.turn_losses.proofs.BreakTurn.{number_of}
+use Rattle.turn_losses.proofs.View.{deeds-of}
+use Rattle.turn_losses.proofs.Flight.{no-sabme-heard, only-establishing}
+use Rattle.turn_losses.proofs.Waiting.{BreakPeriod}
+use Rattle.turn_losses.proofs.Losing.{connected-loses, last-heard}
+use Rattle.turn_losses.proofs.Quiet.{sabmes-of, meeting-of}
+use Rattle.turn_losses.proofs.Spending.{LastWait}
+use Rattle.turn_losses.proofs.Ending.{periods-of, number-small, none-last}
+use Rattle.turn_losses.proofs.Peering.{peer-connected, not-closed}
+
+-- a span's loss
+span-at : (period delay : ℕ) (t : Turn) (ts : List Turn) (s n u : ℕ) → s + (n + 1) * period ≡ length ts → s < u + delay → u ≤ s + period
+    → (u ≤ length ts) → LosesSome (turn_at u (t ∷ ts)) → SpanLoses period delay (t ∷ ts) n
+span-at period delay t ts s n u q lo hi b l = let m = once n in record {
+  turn = u;
+  within = omega (arith, b);
+  in_span = record { behind = omega (arith, lo, q); before = omega (arith, hi, q, m) };
+  lost = l;
+}
+  where
+    once : (y : ℕ) → (y + 1) * period ≡ y * period + period
+    once y = omega arith
+
+pub of-period : (period : ℕ) (delay : Role → ℕ) (t : Turn) (ts : List Turn) (n : ℕ) → PeriodLoses period (length ts) (t ∷ ts) n
+    → SpanLoses period (max (delay Originator) (delay Answerer)) (t ∷ ts) n
+of-period period delay t ts n h = let behind = h.in_period.behind in let before = h.in_period.before in record {
+  turn = h.turn;
+  within = h.within;
+  in_span = record { behind = omega (arith, behind); before = omega (arith, before) };
+  lost = h.lost;
+}
+
+times : (period a b : ℕ) → a ≤ b → a * period ≤ b * period
+times period a b l = let m : (b - a) * period + a * period ≡ b * period = sum (b - a) a
+    ∙ ap (λ n. n * period) (whole a b l) in omega (arith, m)
+  where
+    sum : (m n : ℕ) → m * period + n * period ≡ (m + n) * period
+    sum m n = grind (arith)
+
+    whole : (m n : ℕ) → m ≤ n → n - m + m ≡ n
+    whole m n q = omega (arith, q)
+
+max-second : (a b : ℕ) → b ≤ max a b
+max-second a b = grind (arith)
+
+not-true : (b : Bool) → (b ≡ true → ⊥) → b ≡ false
+not-true true f = absurd (f refl)
+not-true false f = refl
+
+connected-begun : (p : Phase) → is_connected p ≡ true → is_begun p ≡ true
+connected-begun Connected e = refl
+connected-begun Detecting e = cc
+connected-begun Negotiating e = cc
+connected-begun Establishing e = cc
+connected-begun Releasing e = cc
+connected-begun Closed e = cc
+
+-- While the originator isn't linked up to its end, a period loses a SABME or a UA, or did so a delay before it.
+pub unlinked-loses : ReadsWritten → (tries period : ℕ) (delay : Role → ℕ) (link : Link) (ts : List Turn) (before : Ends) (t : Turn)
+    (mid : Ends) → (kt : KeepsTime tries period delay link) → RunsOver link delay ts before → Carries delay ts t
+    → Hears (length ts) before t mid
+    → (w : Traced period delay link ts before) → (s n : ℕ) → s + (n + 1) * period ≡ length ts
+    → ((u : ℕ) → s < u → u ≤ s + period → is_connected (w.state u).answ.phase ≡ true)
+    → is_linked (w.state (s + period)).orig.phase ≡ false
+    → (s + period < length ts → is_linked (w.state (s + period + 1)).orig.phase ≡ false)
+    → (s + period ≡ length ts → is_linked mid.orig.phase ≡ false)
+    → SpanLoses period (max (delay Originator) (delay Answerer)) (t ∷ ts) n
+unlinked-loses reads tries period delay link ts before t mid kt run cs hearing w s n q answ un later last = sabme
+    (is_lost (w.deed u).turn.answ.heard) refl
+  where
+    turns : ℕ
+    turns = length ts
+
+    o : EndRun
+    o = end_run delay w.state w.deed Originator
+
+    e : EndRun
+    e = end_run delay w.state w.deed Answerer
+
+    k : TwoEnds period turns o e
+    k = two-ends tries period delay link ts w.state w.deed kt w.trace Originator
+
+    p : period ≡ 2 * (o.delay + e.delay) + 16
+    p = k.period_is
+
+    d : 1 ≤ o.delay
+    d = k.own_delay
+
+    d' : 1 ≤ e.delay
+    d' = k.other_delay
+
+    long : 1 ≤ period
+    long = omega (arith, p)
+
+    wide : e.delay ≤ max (delay Originator) (delay Answerer)
+    wide = max-second (delay Originator) (delay Answerer)
+
+    within : s + period ≤ turns
+    within = let m = once n in omega (arith, q, m)
+      where
+        once : (y : ℕ) → (y + 1) * period ≡ y * period + period
+        once y = omega arith
+
+    est : (u : ℕ) → s < u → u ≤ s + period → (w.state u).orig.phase ≡ Establishing
+    est u a b = only-establishing (w.state u).orig.phase
+        (begun-established tries period delay link ts w.state w.deed kt w.trace u (omega (arith, b, within))
+        (connected-begun (w.state u).answ.phase (answ u a b)))
+        (not-true (is_linked (w.state u).orig.phase)
+        (λ f. let wrong : true ≡ false = sym (linked-on period turns o e k u (s + period) b within f) ∙ un in cc))
+
+    x : ℕ
+    x = s + period - (o.delay + e.delay)
+
+    i : Tried period Establishing o (x + 1)
+    i = tried period turns Establishing o long
+        (tries-so reads tries period delay link ts w.state w.deed kt run.may_play w.trace Establishing refl)
+        (λ f. let wrong : Detecting ≡ Establishing = ap (λ (y : Ends). y.orig.phase) (sym w.trace.starts) ∙ f in cc) (x + 1)
+        (omega (arith, within, p, d)) (est (x + 1) (omega (arith, p)) (omega (arith, p, d)))
+
+    before-x : i.set ≤ x
+    before-x = let b = i.before in omega (arith, b)
+
+    after-x : x + 1 ≤ i.set + period
+    after-x = i.within
+
+    u : ℕ
+    u = i.set + o.delay
+
+    u-in : u < turns
+    u-in = omega (arith, before-x, within, p, d')
+
+    u-low : s < u + e.delay
+    u-low = omega (arith, after-x, p)
+
+    u-high : u + e.delay ≤ s + period
+    u-high = omega (arith, before-x, p)
+
+    u-phase : (w.state u).orig.phase ≡ Establishing
+    u-phase = elim (cases_lt (x + 1) u) [
+      | inl l ↦ est u (omega (arith, l, p)) (omega (arith, u-high))
+      | inr g ↦ i.since u
+          (omega (arith, d)) g
+    ]
+
+    at : (v : ℕ) → (b : v < turns) → (r : Role) → is_lost (of r (w.deed v).turn).heard ≡ true → LosesSome (turn_at v (t ∷ ts))
+    at v b r f = subst LosesSome (sym (later-turn v t ts b ∙ turn-is period delay link ts w.state w.deed w.trace v b))
+        (r, lost-is (of r (w.deed v).turn).heard f)
+
+    v : ℕ
+    v = u + e.delay
+
+    sabme : (b : Bool) → is_lost (w.deed u).turn.answ.heard ≡ b → SpanLoses period (max (delay Originator) (delay Answerer)) (t ∷ ts) n
+    sabme true f = span-at period (max (delay Originator) (delay Answerer)) t ts s n u q (omega (arith, u-low, wide))
+        (omega (arith, u-high)) (omega (arith, u-in)) (at u u-in Answerer f)
+    sabme false f = ua (cases_lt v turns)
+      where
+        heard : of_arrived (asks Establishing) (e.heard u) ≡ true
+        heard = is-heard o.delay turns (asks Establishing) o.slot e.heard e.loses k.is_heard i.set u-in f ∙ i.sends
+
+        answered : of_frame (moves_on Establishing) (e.slot u) ≡ true
+        answered = answers-so reads tries period delay link ts w.state w.deed kt run.may_play w.trace Establishing refl u u-in u-phase heard
+
+        ua : (v < turns) ⊎ (turns ≤ v) → SpanLoses period (max (delay Originator) (delay Answerer)) (t ∷ ts) n
+        ua (inl l) = on (is_lost (w.deed v).turn.orig.heard) refl
+          where
+            next : (w.state (v + 1)).orig.phase ≡ Establishing
+            next = elim (cases_lt v (s + period)) [
+              | inl g ↦ est (v + 1) (omega (arith, u-low)) (omega (arith, g))
+              | inr g ↦ at-border (omega (arith, g, u-high))
+            ]
+              where
+                at-border : v ≡ s + period → (w.state (v + 1)).orig.phase ≡ Establishing
+                at-border f' = only-establishing (w.state (v + 1)).orig.phase
+                    (established-on tries period delay link ts w.state w.deed kt w.trace v 1 (omega (arith, l))
+                    (ap is_established (est v (omega (arith, u-low)) u-high)))
+                    (ap (λ y. is_linked (w.state (y + 1)).orig.phase) f' ∙ later (omega (arith, f', l)))
+
+            on : (b : Bool) → is_lost (w.deed v).turn.orig.heard ≡ b → SpanLoses period (max (delay Originator) (delay Answerer)) (t ∷ ts) n
+            on true g = span-at period (max (delay Originator) (delay Answerer)) t ts s n v q (omega (arith, u-low)) u-high
+                (omega (arith, l)) (at v l Originator g)
+            on false g = absurd (unheard
+                (tries-so reads tries period delay link ts w.state w.deed kt run.may_play w.trace Establishing refl v l next))
+              where
+                hears : of_arrived (moves_on Establishing) (o.heard v) ≡ true
+                hears = is-heard e.delay turns (moves_on Establishing) e.slot o.heard o.loses k.hears u l g ∙ answered
+
+                unheard : TryTurn period v Establishing (o.heard v) (o.slot v) (o.account v) (o.account (v + 1)) → ⊥
+                unheard (inl (first, _, _, _)) = first (est v (omega (arith, u-low)) u-high)
+                unheard (inr (inl ((_, y), _, _, _, _))) = let wrong : true ≡ false = sym hears ∙ y in cc
+                unheard (inr (inr ((_, y), _, _, _))) = let wrong : true ≡ false = sym hears ∙ y in cc
+        ua (inr g) = on (is_lost t.orig.heard) refl
+          where
+            v-is : v ≡ turns
+            v-is = omega (arith, g, u-high, within)
+
+            border : s + period ≡ turns
+            border = omega (arith, g, u-high, within)
+
+            on : (b : Bool) → is_lost t.orig.heard ≡ b → SpanLoses period (max (delay Originator) (delay Answerer)) (t ∷ ts) n
+            on true f' = span-at period (max (delay Originator) (delay Answerer)) t ts s n turns q (omega (arith, border, long))
+                (omega (arith, border)) (omega arith) (subst LosesSome (sym (newest t ts)) (Originator, lost-is t.orig.heard f'))
+            on false f' =
+                let comes : of_arrived (moves_on Establishing) (arrival t.orig.heard) ≡ true = last-heard
+                (moves_on Establishing) period delay link ts w.state w.deed w.trace t cs Originator d' u v-is f' ∙ answered in
+                let was : before.orig.phase ≡ Establishing = ap (λ (y : Ends). y.orig.phase) (sym w.last)
+                ∙ (ap (λ y. (w.state y).orig.phase) (sym v-is) ∙ est v (omega (arith, u-low)) u-high) in
+                let role = setup-role tries period delay link ts before kt run.run run.carried Originator in
+                let none = (known tries period delay link ts before kt run.run run.carried Originator).none_due.answer in
+                let still = only-establishing mid.orig.phase
+                (stays-established Originator (arrival t.orig.heard) turns before.orig mid.orig role none (hearing Originator).hears
+                (ap is_established was)) (last border) in
+                absurd (unheard comes
+                (try-heard (arrival t.orig.heard) turns before.orig mid.orig role (hearing Originator).hears Establishing refl still)
+                was)
+              where
+                unheard : of_arrived (moves_on Establishing) (arrival t.orig.heard) ≡ true
+                    → TryGoesOn Establishing (arrival t.orig.heard) before.orig mid.orig
+                    ⊎ TryBegins turns Establishing before.orig mid.orig → before.orig.phase ≡ Establishing → ⊥
+                unheard comes (inl (_, _, y)) was = let wrong : true ≡ false = sym comes ∙ y in cc
+                unheard comes (inr (never, _, _, _, _)) was = never was
+
+-- whether the originator becomes Connected in a period: it isn't before, and is after
+pub record Joins (period : ℕ) (ts : List Turn) (state : ℕ → Ends) (mid : Ends) (n : ℕ) : Type 0 where
+  pub start : ℕ
+  pub number : start + (n + 1) * period ≡ length ts
+  pub before : is_linked (state (start + 1)).orig.phase ≡ false
+  pub after : start + period < length ts → is_linked (state (start + period + 1)).orig.phase ≡ true
+
+-- in one period at most
+one-joins : (period turns : ℕ) (o e : EndRun) → TwoEnds period turns o e → (ts : List Turn) (state : ℕ → Ends) (mid : Ends)
+    → turns ≡ length ts → ((u : ℕ) → (o.account u).phase ≡ (state u).orig.phase) → (n m : ℕ) → n < m → Joins period ts state mid n
+    → Joins period ts state mid m → ⊥
+one-joins period turns o e k ts state mid same at n m less a b =
+    let p = k.period_is in
+    let x = a.number in let y = b.number in
+    let more = times period (n + 2) (m + 1) (omega (arith, less)) in
+    let two = twice period n in
+    let one = once period n in
+    let low : b.start + period ≤ a.start = omega (arith, x, y, more, two, one) in
+    let there : is_linked (state (b.start + period + 1)).orig.phase ≡ true = b.after (omega (arith, low, x, one, p)) in
+    let linked = linked-on period turns o e k (b.start + period + 1) (a.start + 1) (omega (arith, low)) (omega (arith, x, one, p, same))
+    (ap is_linked (at (b.start + period + 1)) ∙ there) in
+    let wrong : true ≡ false = sym linked ∙ (ap is_linked (at (a.start + 1)) ∙ a.before) in cc
+  where
+    twice : (q j : ℕ) → (j + 2) * q ≡ (j + 1) * q + q
+    twice q j = grind (arith)
+
+    once : (q j : ℕ) → (j + 1) * q ≡ j * q + q
+    once q j = grind (arith)
+
+pub answerer-breaks : ReadsWritten → (tries period : ℕ) (delay : Role → ℕ) (link : Link) (ts : List Turn) (before : Ends) (t : Turn)
+    (mid : Ends) → (kt : KeepsTime tries period delay link) → RunsOver link delay ts before → Carries delay ts t
+    → Hears (length ts) before t mid → is_closed mid.orig.phase ≡ false → is_connected mid.answ.phase ≡ true
+    → LastWait tries period (length ts) before.answ → waits (served_at link (length ts) mid Answerer).account.own_breaks ≡ true
+    → IsStarved tries period delay (t ∷ ts)
+answerer-breaks reads tries period delay link ts before t mid kt run cs hearing going cm l waiting = starved
+    (search (tries + 1) (omega arith))
+  where
+    turns : ℕ
+    turns = length ts
+
+    w : Traced period delay link ts before
+    w = traced tries period delay link ts before kt run.run run.carried
+
+    last : LastWait tries period turns (w.state turns).answ
+    last = subst (λ (x : Ends). LastWait tries period turns x.answ) (sym w.last) l
+
+    o : EndRun
+    o = end_run delay w.state w.deed Originator
+
+    e : EndRun
+    e = end_run delay w.state w.deed Answerer
+
+    k : TwoEnds period turns o e
+    k = two-ends tries period delay link ts w.state w.deed kt w.trace Originator
+
+    p : period ≡ 2 * (o.delay + e.delay) + 16
+    p = k.period_is
+
+    once : (y : ℕ) → (y + 1) * period ≡ y * period + period
+    once y = omega arith
+
+    role : (us : List Turn) (y : Ends) → RunOf link us y → IsCarried delay us → y.orig.setup.role ≡ Originator
+    role us y run' c' = setup-role tries period delay link us y kt run' c' Originator
+
+    -- the originator is Closed at no time
+    open-at : (u : ℕ) → u ≤ turns → (w.state u).orig.phase ≡ Closed → ⊥
+    open-at u b f = elim (cases_lt u turns) [
+      | inl y ↦ (let h = w.trace.happens u y in not-closed (arrival (w.deed u).turn.orig.heard) u (w.state u).orig (w.deed u).mid.orig
+          (role (past ts u) (w.state u) h.run h.carried) (h.hearing Originator).hears h.going f)
+      | inr y ↦ not-closed (arrival t.orig.heard) turns before.orig mid.orig (role ts before run.run run.carried)
+          (hearing Originator).hears going
+          (ap (λ (x : Ends). x.orig.phase) (sym w.last) ∙ (ap (λ x. (w.state x).orig.phase) (omega (arith, b, y)) ∙ f))
+    ]
+
+    one-period : (n : ℕ) → n < tries + 1 → SpanLoses period (max (delay Originator) (delay Answerer)) (t ∷ ts) n
+        ⊎ Joins period ts w.state mid n
+    one-period n less = at (periods-of tries period delay link ts w.state w.deed kt w.trace Answerer last n less)
+      where
+        at : (s : ℕ) × (s + (n + 1) * period ≡ turns) × BreakPeriod period turns (number_of (w.state turns).answ) e
+            (deeds-of tries period delay link ts w.state w.deed kt w.trace Answerer) s
+            → SpanLoses period (max (delay Originator) (delay Answerer)) (t ∷ ts) n ⊎ Joins period ts w.state mid n
+        at (s, q, bp) = by (is_linked (w.state (s + 1)).orig.phase) refl
+          where
+            within : s + period ≤ turns
+            within = let m = once n in omega (arith, q, m)
+
+            by : (b : Bool) → is_linked (w.state (s + 1)).orig.phase ≡ b
+                → SpanLoses period (max (delay Originator) (delay Answerer)) (t ∷ ts) n ⊎ Joins period ts w.state mid n
+            by true f = inl (of-period period delay t ts n
+                (connected-loses reads tries period delay link ts w.state w.deed kt run.may_play w.trace t cs Answerer
+                (number_of (w.state turns).answ) s n (number-small (w.state turns).answ.own_breaks.answered) q bp
+                (λ u a b. let x = bp.stays u a b in peer-connected reads tries period delay link ts w.state w.deed kt run.may_play w.trace
+                u (omega (arith, b, within)) (open-at u (omega (arith, b, within)))
+                (linked-on period turns o e k (s + 1) u (omega (arith, a)) (omega (arith, b, within)) f) x.connected x.waiting)
+                (λ u a b g. no-sabme-heard period turns o e k
+                (sabmes-of reads tries period delay link ts w.state w.deed kt run.may_play w.trace)
+                (meeting-of tries period delay link ts w.state w.deed kt w.trace) s (omega (arith, within, p)) f u a
+                (omega (arith, b, within)) g)
+                (λ g h. none-last link ts before t mid Answerer tries period hearing cm l waiting
+                (ap (λ (x : Ends). of_arrived (of_word (ack_of (number_of x.answ))) (arrival t.answ.heard)) (sym w.last) ∙ h))))
+            by false f = after (cases_lt (s + period) turns)
+              where
+                out : (s + period < turns → is_linked (w.state (s + period + 1)).orig.phase ≡ false)
+                    → (s + period ≡ turns → is_linked mid.orig.phase ≡ false) → is_linked (w.state (s + period)).orig.phase ≡ false
+                    → SpanLoses period (max (delay Originator) (delay Answerer)) (t ∷ ts) n ⊎ Joins period ts w.state mid n
+                out a b c = inl (unlinked-loses reads tries period delay link ts before t mid kt run cs hearing w s n q
+                    (λ u x y. (bp.stays u x y).connected) c a b)
+
+                after : (s + period < turns) ⊎ (turns ≤ s + period)
+                    → SpanLoses period (max (delay Originator) (delay Answerer)) (t ∷ ts) n ⊎ Joins period ts w.state mid n
+                after (inl g) = on (is_linked (w.state (s + period + 1)).orig.phase) refl
+                  where
+                    on : (b : Bool) → is_linked (w.state (s + period + 1)).orig.phase ≡ b
+                        → SpanLoses period (max (delay Originator) (delay Answerer)) (t ∷ ts) n ⊎ Joins period ts w.state mid n
+                    on true x = inr (record { start = s; number = q; before = f; after = λ y. x })
+                    on false x = out (λ y. x) (λ y. absurd (omega (arith, y, g)))
+                        (not-true (is_linked (w.state (s + period)).orig.phase)
+                        (λ y. let wrong : true ≡ false = sym
+                        (linked-on period turns o e k (s + period) (s + period + 1) (omega arith) (omega (arith, g)) y) ∙ x in cc))
+                after (inr g) = on (is_linked mid.orig.phase) refl
+                  where
+                    border : s + period ≡ turns
+                    border = omega (arith, g, within)
+
+                    linked-heard : is_linked before.orig.phase ≡ true → is_linked mid.orig.phase ≡ true
+                    linked-heard y = (poll-ok Originator turns (of_arrived is_poll (arrival t.orig.heard)) before.orig mid.orig
+                        (hear turns (arrival t.orig.heard) before.orig) (hearing Originator).hears
+                        (poll-hears Originator (arrival t.orig.heard) turns before.orig (role ts before run.run run.carried)
+                        (known tries period delay link ts before kt run.run run.carried Originator).none_due.answer)).linked y
+
+                    on : (b : Bool) → is_linked mid.orig.phase ≡ b → SpanLoses period (max (delay Originator) (delay Answerer)) (t ∷ ts) n
+                        ⊎ Joins period ts w.state mid n
+                    on true x = inr (record { start = s; number = q; before = f; after = λ y. absurd (omega (arith, y, border)) })
+                    on false x = out (λ y. absurd (omega (arith, y, border))) (λ y. x)
+                        (not-true (is_linked (w.state (s + period)).orig.phase)
+                        (λ y. let wrong : true ≡ false = sym
+                        (linked-heard (ap (λ (z : Ends). is_linked z.orig.phase) (sym w.last)
+                        ∙ (ap (λ z. is_linked (w.state z).orig.phase) (sym border) ∙ y))) ∙ x in cc))
+
+    -- all of the latest periods, or the one that is let off
+    search : (m : ℕ) → m ≤ tries + 1 → ((n : ℕ) → n < m → SpanLoses period (max (delay Originator) (delay Answerer)) (t ∷ ts) n)
+        ⊎ ((n : ℕ) × (n < m) × Joins period ts w.state mid n)
+    search m b = up m b
+      where
+        up : (j : ℕ) → j ≤ tries + 1 → ((n : ℕ) → n < j → SpanLoses period (max (delay Originator) (delay Answerer)) (t ∷ ts) n)
+            ⊎ ((n : ℕ) × (n < j) × Joins period ts w.state mid n)
+        up zero g = inl (λ n x. absurd (omega (arith, x)))
+        up (suc j) g = step j (one-period j (omega (arith, g))) (up j (omega (arith, g)))
+          where
+            step : (j : ℕ) → SpanLoses period (max (delay Originator) (delay Answerer)) (t ∷ ts) j ⊎ Joins period ts w.state mid j
+                → ((n : ℕ) → n < j → SpanLoses period (max (delay Originator) (delay Answerer)) (t ∷ ts) n)
+                ⊎ ((n : ℕ) × (n < j) × Joins period ts w.state mid n)
+                → ((n : ℕ) → n < suc j → SpanLoses period (max (delay Originator) (delay Answerer)) (t ∷ ts) n)
+                ⊎ ((n : ℕ) × (n < suc j) × Joins period ts w.state mid n)
+            step j (inr x) r = inr (j, omega arith, x)
+            step j (inl x) (inr (n, y, z)) = inr (n, omega (arith, y), z)
+            step j (inl x) (inl f) = inl
+                (λ n y. elim (cases_lt n j) [
+                  | inl z ↦ f n z
+                  | inr z ↦ subst (SpanLoses period (max (delay Originator) (delay Answerer)) (t ∷ ts))
+                      (omega (arith, y, z)) x
+                ])
+
+    starved : ((n : ℕ) → n < tries + 1 → SpanLoses period (max (delay Originator) (delay Answerer)) (t ∷ ts) n)
+        ⊎ ((n : ℕ) × (n < tries + 1) × Joins period ts w.state mid n) → IsStarved tries period delay (t ∷ ts)
+    starved (inl f) = record { spared = tries + 1; each = λ n few other. f n (omega (arith, few)) }
+    starved (inr (m, y, joins)) = record { spared = m; each = λ n few other. by n other (one-period n (omega (arith, few))) }
+      where
+        by : (n : ℕ) → n ≢ m → SpanLoses period (max (delay Originator) (delay Answerer)) (t ∷ ts) n ⊎ Joins period ts w.state mid n
+            → SpanLoses period (max (delay Originator) (delay Answerer)) (t ∷ ts) n
+        by n other (inl x) = x
+        by n other (inr x) = elim (cases_lt n m) [
+          | inl z ↦ absurd (one-joins period turns o e k ts w.state mid refl (λ u. refl) n m z x joins)
+          | inr z ↦ absurd (one-joins period turns o e k ts w.state mid refl (λ u. refl) m n (differs n m z other) joins x)
+        ]
+          where
+            differs : (a b : ℕ) → b ≤ a → a ≢ b → b < a
+            differs a b g f = elim (cases_lt b a) [ inl c ↦ c | inr c ↦ absurd (f (omega (arith, g, c))) ]

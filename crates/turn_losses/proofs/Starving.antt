@@ -1,0 +1,112 @@
+-- An end that gives up was starved.
+use Rattle.std.proofs.Common.{inl, inr, ◌≡◌, ◌≢◌, ℕ, suc, ◌-◌, ◌<◌, ◌≤◌, true, max, List, ◌∷◌, length, arith, sym, ◌∙◌, ap, subst}
+use Rattle.std.specs.Prelude.{slice_get}
+use Rattle.std.proofs.lemmas.Bool.{cases_lt}
+use Rattle.roles.specs.declared.role.Role.{Role}
+use Rattle.roles.specs.declared.role.Role.TheVariants.{Originator, Answerer}
+use Rattle.roles.specs.Role.{other}
+use Rattle.link_account.specs.Account.{is_connected}
+use Rattle.link_run.specs.End.{is_released}
+use Rattle.link_run.specs.Run.{Link, Ends, Turn, arrival, releases}
+use Rattle.link_run.specs.Laws.{RunsOver}
+use Rattle.turn_bound.specs.Time.{KeepsTime}
+use Rattle.link_run.specs.Starved.{SpanLoses, IsStarved, LosesSome, turn_at}
+use Rattle.turn_bound.specs.Together.{Together, StandTogether}
+use Rattle.turn_bound.proofs.Clock.{Rates, rates}
+use Rattle.turn_bound.proofs.Value.{IsOf}
+use Rattle.xid_params.specs.Offers.{IsAllowed}
+use Rattle.turn_losses.specs.Losses.{PeriodLoses, LosesEach, OriginatorWantsAnswers, OriginatorIsStarved}
+use Rattle.turn_losses.proofs.AnswerTurn.{connected-is}
+use Rattle.turn_losses.proofs.Room.{begins-roomy}
+use Rattle.turn_losses.proofs.Trace.{past}
+use Rattle.turn_losses.proofs.Tracing.{Known, known, Timed, timed, rated, Traced, traced}
+use Rattle.turn_losses.proofs.Numbering.{Plays, allowed, fits-at, counts-of}
+use Rattle.turn_losses.proofs.Wanting.{LastTry, last-try, wants-answers}
+
+pub originator-each : Plays → StandTogether → (tries period : ℕ) (delay : Role → ℕ) (link : Link) (ts : List Turn) (before : Ends)
+    → KeepsTime tries period delay link → RunsOver link delay ts before → LastTry tries period (length ts) before.orig
+    → LosesEach period tries (length ts) ts
+originator-each laws together tries period delay link ts before kt run last =
+    wants-answers tries period delay link ts w.state w.deed kt w.trace Originator
+    (counts-of laws tries period delay link ts w.state w.deed kt run.may_play w.trace Originator)
+    (subst (λ (x : Ends). LastTry tries period (length ts) x.orig) (sym w.last) last) both
+  where
+    w : Traced period delay link ts before
+    w = traced tries period delay link ts before kt run.run run.carried
+
+    joined : (x : Ends) → Together x → is_connected x.orig.phase ≡ true → is_connected x.answ.phase ≡ true
+    joined x h c = ap is_connected (h.answ (connected-is x.orig.phase c))
+
+    both : (s u : ℕ) → s < length ts → s ≤ u → u ≤ length ts → (w.deed s).made Originator ≡ true
+        → is_connected (w.state s).orig.phase ≡ true → is_connected (w.state u).orig.phase ≡ true
+        → is_connected (w.state u).answ.phase ≡ true
+    both s u _ _ l _ _ = elim (cases_lt u (length ts)) [
+      | inl y ↦ (let h = w.trace.happens u y in joined (w.state u)
+          (together tries period delay link (past ts u) (w.state u) kt h.run h.carried))
+      | inr y ↦ joined (w.state u)
+          (subst Together (sym (ap w.state (same u l y) ∙ w.last)) (together tries period delay link ts before kt run.run run.carried))
+    ]
+      where
+        same : (x : ℕ) → x ≤ length ts → length ts ≤ x → x ≡ length ts
+        same x a b = omega (arith, a, b)
+
+pub originator-wants : Plays → StandTogether → OriginatorWantsAnswers
+originator-wants laws together tries period delay link ts before t mid segment since kt run cs broken cm quiet = originator-each laws
+    together tries period delay link ts before kt run last
+  where
+    z : Rates
+    z = rates tries period
+
+    k : Known z link (length ts) before Originator
+    k = known tries period delay link ts before kt run.run run.carried Originator
+
+    tm : Timed z link Originator
+    tm = timed tries period delay link kt Originator
+
+    last : LastTry tries period (length ts) before.orig
+    last = last-try tries period link.orig.user (length ts) Originator (arrival t.orig.heard) before.orig mid.orig
+        (is_released mid.orig.phase) (releases link (length ts) mid) _ (rated tries period delay link kt)
+        (subst (IsOf z) (sym k.setup) tm.is_of) k.stands (ap (λ x. x.role) k.setup ∙ tm.role_is) k.none_due
+        (λ u c. ((begins-roomy (arrival t.orig.heard) (length ts) before.orig mid.orig u
+        (fits-at laws link delay ts before run Originator)
+        (subst IsAllowed (ap (λ x. x.offer) (sym k.setup)) (allowed link run.may_play Originator))
+        (broken.hearing Originator).hears).so c).2)
+        (broken.hearing Originator).hears (ap is_connected cm) quiet broken.broken
+
+-- the turns with the last one
+pub later-turn : (turn : ℕ) (t : Turn) (ts : List Turn) → turn < length ts → turn_at turn (t ∷ ts) ≡ turn_at turn ts
+later-turn turn t ts l = ap (slice_get (t ∷ ts)) (index (length ts) l)
+  where
+    index : (n : ℕ) → turn < n → suc n - 1 - turn ≡ suc (n - 1 - turn)
+    index n l = omega (arith, l)
+
+-- the spans hold those periods
+span-loses : (period delay : ℕ) (t : Turn) (ts : List Turn) (n : ℕ) → PeriodLoses period (length ts) ts n
+    → SpanLoses period delay (t ∷ ts) n
+span-loses period delay t ts n h =
+    let behind = h.in_period.behind in let before = h.in_period.before in let within = h.within in
+    record {
+      turn = h.turn;
+      within = omega (arith, within);
+      in_span = record { behind = omega (arith, behind); before = omega (arith, before) };
+      lost = subst LosesSome (sym (later-turn h.turn t ts within)) h.lost;
+    }
+
+-- all but the earliest span, or all of them
+pub all-but-one : (tries period : ℕ) (delay : Role → ℕ) (t : Turn) (ts : List Turn) → LosesEach period tries (length ts) ts
+    → IsStarved tries period delay (t ∷ ts)
+all-but-one tries period delay t ts h = record {
+  spared = tries;
+  each = λ n few other. span-loses period (max (delay Originator) (delay Answerer)) t ts n (h n (less n few other));
+}
+  where
+    less : (n : ℕ) → n ≤ tries → n ≢ tries → n < tries
+    less n few other = elim (cases_lt n tries) [ inl l ↦ l | inr g ↦ absurd (other (same n few g)) ]
+      where
+        same : (x : ℕ) → x ≤ tries → tries ≤ x → x ≡ tries
+        same x a b = omega (arith, a, b)
+
+pub originator-starved : Plays → StandTogether → OriginatorIsStarved
+originator-starved laws together tries period delay link ts before t mid segment since kt run cs broken cm quiet =
+    all-but-one tries period delay t ts
+    (originator-wants laws together tries period delay link ts before t mid segment since kt run cs broken cm quiet)

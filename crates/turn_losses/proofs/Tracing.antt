@@ -1,0 +1,409 @@
+use Rattle.std.proofs.Common.{◌⊎◌, inl, inr, ◌≡◌, ℕ, suc, ◌+◌, ◌*◌, ◌<◌, ◌≤◌, Bool, true, false, cond, nat_lt, List, [], ◌∷◌, length, arith, refl, sym, ◌∙◌, ap, subst, None, Result, Ok, Err}
+use Rattle.std.proofs.lemmas.Bool.Decides.{nat_tests}
+use Rattle.roles.specs.declared.role.Role.{Role}
+use Rattle.roles.specs.declared.role.Role.TheVariants.{Originator, Answerer}
+use Rattle.roles.specs.Role.{other}
+use Rattle.slot_contents.specs.declared.arrived.Arrived.{Arrived}
+use Rattle.link_account.specs.declared.phase.Phase.{Phase}
+use Rattle.link_account.specs.declared.phase.Phase.TheVariants.{Detecting, Negotiating, Establishing, Connected, Releasing, Closed}
+use Rattle.link_faults.specs.declared.fault.LinkFault.{LinkFault}
+use Rattle.link_account.specs.Account.{Account, is_connected}
+use Rattle.link_account.specs.Hear.{hear}
+use Rattle.link_account.specs.Speak.{Said, speak}
+use Rattle.turn_bound.proofs.Clock.{Rates, AreRates, rates}
+use Rattle.turn_bound.proofs.Value.{IsOf, Stands, arrived_rnrs}
+use Rattle.link_run.specs.End.{User, is_busy, is_closed, is_released}
+use Rattle.turn_bound.proofs.Run.{served_account}
+use Rattle.turn_bound.proofs.OneTurn.{heard-ok}
+use Rattle.turn_bound.proofs.Phases.{hears-well}
+use Rattle.turn_bound.proofs.Serves.{serves-well}
+use Rattle.turn_bound.specs.Due.{NoneDue}
+use Rattle.turn_bound.proofs.Serving.{Served, serves-all}
+use Rattle.turn_bound.proofs.Falls.{Sound, Fits}
+use Rattle.turn_bound.proofs.Ending.{fits, sound-run}
+use Rattle.turn_bound.proofs.AtMostOne.{OneDue, one-hears, one-ok}
+use Rattle.turn_losses.proofs.PollHear.{PollHeard, PollHears, poll-hears}
+use Rattle.turn_losses.proofs.PollSpeak.{SpeakPoll, PollSpeaks, poll-speaks}
+use Rattle.turn_losses.proofs.PollTurn.{poll-turn}
+use Rattle.turn_losses.proofs.AnswerTurn.{end-answers, linked-sends}
+use Rattle.turn_losses.proofs.HeardCount.{CountKept, count-hears}
+use Rattle.turn_losses.proofs.Awaiting.{await-hears}
+use Rattle.std.proofs.lemmas.Bool.{cases_lt}
+use Rattle.turn_losses.proofs.Trace.{Deed, Happens, Trace}
+use Rattle.turn_bound.proofs.AtMostOne.{none-due-run}
+use Rattle.turn_losses.specs.Polls.{is_poll, is_final}
+use Rattle.turn_bound.proofs.MeetHear.{of_arrived}
+use Rattle.turn_losses.proofs.Polling.{is_linked, Early, PollTurn}
+use Rattle.std.proofs.Common.{map}
+use Rattle.roles.specs.Both.{of}
+use Rattle.link_run.specs.Run.{Link, Ends, Turn, RunOf, GoingTurn, start, arrival, served_at, said_at, releases}
+use Rattle.link_run.specs.Carried.{Carries, IsCarried}
+use Rattle.turn_bound.specs.Time.{KeepsTime}
+use Rattle.turn_bound.proofs.Tied.{Tied, tied, keeps, link_of, turn_of, state_of, turns-length}
+use Rattle.turn_losses.proofs.Trace.{past, sent_or}
+use Rattle.slot_contents.specs.declared.heard.Heard.TheVariants as heards
+use Rattle.frame_check.specs.declared.check.Check.TheVariants as checks
+
+served-heard : (role : Role) (turn breaks : ℕ) (busy polled : Bool) (a b c : Account) → Served turn breaks busy b c
+    → PollHeard role turn polled a b → PollHeard role turn polled a c
+served-heard role turn breaks busy polled a b c s h = record {
+  linked = λ e. ap is_linked s.phase ∙ h.linked e;
+  early = λ e. let k = h.early (ap is_linked (sym s.phase) ∙ e) in (ap (λ w. w.poll) s.wait ∙ k.0, s.numbered ∙ k.1);
+  from = λ e. h.from (ap is_connected (sym s.phase) ∙ e);
+  poll = λ e. ap (λ w. w.poll) s.wait ∙ h.poll e;
+  timer = λ e n k. h.timer e n (ap (λ w. w.timer) (sym s.wait) ∙ k);
+  asked = λ e f. s.reply ∙ h.asked e (ap is_connected (sym s.phase) ∙ f);
+  heard = λ e n. s.numbered ∙ h.heard e n;
+  answer = λ e f n. s.answer ∙ h.answer e (ap is_connected (sym s.phase) ∙ f) (sym s.numbered ∙ n);
+  begun = λ e f. let k = h.begun e (ap is_connected (sym s.phase) ∙ f) in
+      (s.reply ∙ k.0, s.numbered ∙ k.1, (λ n l. k.2 n (ap (λ w. w.timer) (sym s.wait) ∙ l)));
+  answers = λ r e f. let k = h.answers r e (ap is_connected (sym s.phase) ∙ f) in
+      (ap (λ w. w.poll) s.wait ∙ k.0, ap (λ w. w.timer) s.wait ∙ k.1);
+  awaits = λ r e f. ap (λ o. o.awaited) s.longer.outgoing ∙ h.awaits r e (ap is_connected (sym s.phase) ∙ f);
+}
+
+heard-poll-ok : (role : Role) (turn : ℕ) (polled : Bool) (a mid : Account) (r : Result Account LinkFault) → r ≡ Ok mid
+    → PollHears role turn polled a r → PollHeard role turn polled a mid
+heard-poll-ok role turn polled a mid (Err fault) e h = cc
+heard-poll-ok role turn polled a mid (Ok b) e h = let same : b ≡ mid = cc in subst (PollHeard role turn polled a) same h
+
+speak-poll-ok : (turn : ℕ) (a : Account) (said : Said) (r : Result Said LinkFault) → r ≡ Ok said → PollSpeaks turn a r
+    → SpeakPoll turn a said
+speak-poll-ok turn a said (Err fault) e h = cc
+speak-poll-ok turn a said (Ok other) e h = let same : other ≡ said = cc in subst (SpeakPoll turn a) same h
+
+pub silent-of : (z : Rates) (before turn : ℕ) (r : Role) (p : Phase) (a : Account) → Stands z before turn r p a → r ≡ Answerer
+    → is_connected p ≡ true → a.numbered ≡ false → a.wait.timer ≡ None
+silent-of z before turn Answerer Connected a st e f n = (st.silent n).1
+silent-of z before turn Originator p a st e f n = cc
+silent-of z before turn Answerer Detecting a st e f n = cc
+silent-of z before turn Answerer Negotiating a st e f n = cc
+silent-of z before turn Answerer Establishing a st e f n = cc
+silent-of z before turn Answerer Releasing a st e f n = cc
+silent-of z before turn Answerer Closed a st e f n = cc
+
+pub untimed-of : (z : Rates) (before turn : ℕ) (r : Role) (p : Phase) (a : Account) → Stands z before turn r p a → is_linked p ≡ false
+    → a.wait.timer ≡ None
+untimed-of z before turn Originator Detecting a st e = st.timer
+untimed-of z before turn Originator Negotiating a st e = st.0.timer
+untimed-of z before turn Originator Establishing a st e = st.0.timer
+untimed-of z before turn Answerer Detecting a st e = st.timer
+untimed-of z before turn Answerer Negotiating a st e = st.timer
+untimed-of z before turn Answerer Establishing a st e = absurd st
+untimed-of z before turn r Connected a st e = cc
+untimed-of z before turn r Releasing a st e = cc
+untimed-of z before turn r Closed a st e = cc
+
+-- a turn of one end
+end-polls : (z : Rates) (user : User) (turn : ℕ) (role : Role) (arrived : Arrived) (a mid : Account) (released release : Bool) (said : Said)
+    → AreRates z → IsOf z a.setup → Stands z turn turn role a.phase a → a.setup.role ≡ role
+    → hear turn arrived a ≡ Ok mid → speak turn release (served_account user turn released mid) ≡ Ok said → NoneDue a → Early role a
+    → (made : Bool) × PollTurn z.period turn role (of_arrived is_poll arrived)
+    (of_arrived is_final arrived) made mid.outgoing.count said.sent a said.account
+end-polls z user turn role arrived a mid released release said y k h er hears speaks none early =
+    let b : Account = served_account user turn released mid in
+    let heard = heard-ok z (length a.outgoing.pieces) (length user.breaks) turn (z.quota * arrived_rnrs arrived) role a.phase a mid
+    (hear turn arrived a) hears
+    (hears-well z (length a.outgoing.pieces) (length user.breaks) turn role a.phase arrived a y k h refl er (omega arith)) in
+    let s = serves-all user turn released mid in
+    let serves = serves-well z (length a.outgoing.pieces) (length user.breaks) turn
+    (is_busy turn user.busy) role heard.0 mid b y heard.1.stands heard.1.phase s in
+    let one = one-ok role mid (hear turn arrived a) hears (one-hears role arrived turn a er none) in
+    let long = y.period in
+    poll-turn z.period turn role (of_arrived is_poll arrived) (of_arrived is_final arrived) a b said (omega (arith, long))
+    (served-heard role turn (length user.breaks) (is_busy turn user.busy) (of_arrived is_poll arrived) a mid b s
+    (heard-poll-ok role turn (of_arrived is_poll arrived) a mid (hear turn arrived a) hears
+    (poll-hears role arrived turn a er none.answer)))
+    (speak-poll-ok turn b said (speak turn release b) speaks (poll-speaks turn release b))
+    (record {
+      one = served-one mid b s one;
+      calm = λ c x. s.reply ∙ one.calm (ap is_connected (sym s.phase) ∙ c) (ap is_released (sym s.phase) ∙ x);
+      none = λ r c. s.answer ∙ one.none r (ap is_closed (sym s.phase) ∙ c);
+    })
+    none early (λ e. untimed-of z turn turn role a.phase a h e)
+    (λ r e n. silent-of z (turn + 1) turn role heard.0 b serves.stands r (ap is_connected (sym (s.phase ∙ heard.1.phase)) ∙ e) n)
+    (ap (λ x. x.period) (s.setup ∙ heard.1.setup) ∙ k.period)
+    (λ e. ap (λ o. o.awaited) s.longer.outgoing ∙ await-hears arrived turn a mid e hears)
+    mid.outgoing.count (ap (λ o. o.count) s.longer.outgoing)
+    (λ e. served-count mid b s (count-hears z arrived turn a mid e (linked-sends z turn turn role a.phase a h e) hears))
+  where
+    served-count : (m c : Account) → Served turn (length user.breaks) (is_busy turn user.busy) m c → CountKept a m
+        → (m.outgoing.count ≡ 0) ⊎ ((m.outgoing.count ≡ a.outgoing.count) × (c.wait.timer ≡ a.wait.timer))
+    served-count m c s (inl x) = inl x
+    served-count m c s (inr (x, y)) = inr (x, ap (λ w. w.timer) s.wait ∙ y)
+
+    served-one : (m c : Account) → Served turn (length user.breaks) (is_busy turn user.busy) m c → OneDue role m
+        → (c.owes.answer ≡ None) ⊎ (is_released c.phase ≡ false → c.owes.reply ≡ false)
+    served-one m c s o = by o.one
+      where
+        by : (m.owes.answer ≡ None) ⊎ (is_released m.phase ≡ false → m.owes.reply ≡ false)
+            → (c.owes.answer ≡ None) ⊎ (is_released c.phase ≡ false → c.owes.reply ≡ false)
+        by (inl n) = inl (s.answer ∙ n)
+        by (inr f) = inr (λ x. s.reply ∙ f (ap is_released (sym s.phase) ∙ x))
+
+-- what is known of each end between turns
+pub record Known (z : Rates) (link : Link) (turn : ℕ) (ends : Ends) (role : Role) : Type 0 where
+  pub stands : Stands z turn turn role (of role ends).phase (of role ends)
+  pub setup : (of role ends).setup ≡ (of role link).setup
+  pub none_due : NoneDue (of role ends)
+
+pub record Timed (z : Rates) (link : Link) (role : Role) : Type 0 where
+  pub role_is : (of role link).setup.role ≡ role
+  pub is_of : IsOf z (of role link).setup
+
+pub timed : (tries period : ℕ) (delay : Role → ℕ) (link : Link) → KeepsTime tries period delay link → (role : Role)
+    → Timed (rates tries period) link role
+timed tries period delay link k role = record {
+  role_is = k.roles role;
+  is_of = let t = k.timed role in record { tries = t.tries_are; period = t.period_is; tx_window = t.tx_window; rx_window = t.rx_window };
+}
+
+pub rated : (tries period : ℕ) (delay : Role → ℕ) (link : Link) → KeepsTime tries period delay link → AreRates (rates tries period)
+rated tries period delay link k = (fits tries period (link_of delay link) (keeps tries period delay link k)).rates
+
+pub known : (tries period : ℕ) (delay : Role → ℕ) (link : Link) (ts : List Turn) (ends : Ends) → KeepsTime tries period delay link
+    → RunOf link ts ends → IsCarried delay ts
+    → (role : Role) → Known (rates tries period) link (length ts) ends role
+known tries period delay link ts ends k run c role = by role
+  where
+    z : Rates
+    z = rates tries period
+
+    i : Tied delay link ts ends
+    i = tied delay link ts ends k.delays run c
+
+    f : Fits z (link_of delay link)
+    f = fits tries period (link_of delay link) (keeps tries period delay link k)
+
+    h : Sound z (link_of delay link) (length ts) (state_of ends i.forward i.back)
+    h = subst (λ n. Sound z (link_of delay link) n (state_of ends i.forward i.back)) (turns-length ts)
+        (sound-run z (link_of delay link) (map turn_of ts) (state_of ends i.forward i.back) f i.run)
+
+    n : NoneDue ends.orig × NoneDue ends.answ
+    n = none-due-run z (link_of delay link) (map turn_of ts) (state_of ends i.forward i.back) f i.run
+
+    by : (r : Role) → Known z link (length ts) ends r
+    by Originator = record { stands = h.orig; setup = h.orig_setup; none_due = n.0 }
+    by Answerer = record { stands = h.answ; setup = h.answ_setup; none_due = n.1 }
+
+-- an end speaks as its role does
+abbrev pub release_of : Link → ℕ → Ends → Role → Bool
+release_of link turn mid Originator = releases link turn mid
+release_of link turn mid Answerer = false
+
+pub said-as : (link : Link) (turn : ℕ) (mid : Ends) (role : Role)
+    → said_at link turn mid role ≡ speak turn (release_of link turn mid role) (served_at link turn mid role).account
+said-as link turn mid Originator = refl
+said-as link turn mid Answerer = refl
+
+abbrev pub AllEarly : Ends → Type 0
+AllEarly ends = (role : Role) → Early role (of role ends)
+
+-- a turn of both
+turn-happens : (tries period : ℕ) (delay : Role → ℕ) (link : Link) (ts : List Turn) (before : Ends) (t : Turn) (after : Ends)
+    → KeepsTime tries period delay link → RunOf link ts before → IsCarried delay ts → Carries delay ts t
+    → GoingTurn link ts before t after → AllEarly before
+    → (d : Deed) × (d.turn ≡ t) × Happens period delay link ts (length ts) before d after
+turn-happens tries period delay link ts before t after k run c cs g early = (
+  record { turn = t; mid = g.mid; made = λ role. (polls role).0 },
+  refl,
+  record {
+    number = refl;
+    run = run;
+    carried = c;
+    carries = cs;
+    hearing = g.hearing;
+    going = g.going;
+    speaking = g.speaking;
+    polls = λ role.
+        let s = g.speaking role in
+        subst (λ x. PollTurn period (length ts) role (of_arrived is_poll (arrival (of role t).heard))
+        (of_arrived is_final (arrival (of role t).heard)) (polls role).0 (of role g.mid).outgoing.count x (of role before)
+        (of role after))
+        (ap sent_or (sym s.sent_is))
+        (subst (λ x. PollTurn period (length ts) role (of_arrived is_poll (arrival (of role t).heard))
+        (of_arrived is_final (arrival (of role t).heard)) (polls role).0 (of role g.mid).outgoing.count s.said.sent (of role before) x)
+        (sym s.after_is) (polls role).1);
+    answers = λ role.
+        let w = known tries period delay link ts before k run c role in
+        let m = timed tries period delay link k role in
+        end-answers z (of role link).user (length ts) role (arrival (of role t).heard) (of role before) (of role g.mid)
+        (is_released g.mid.orig.phase) (release_of link (length ts) g.mid role) (g.speaking role).said
+        (rated tries period delay link k) (subst (IsOf z) (sym w.setup) m.is_of) w.stands (ap (λ x. x.role) w.setup ∙ m.role_is)
+        (g.hearing role).hears (sym (said-as link (length ts) g.mid role) ∙ (g.speaking role).says) w.none_due;
+  },
+)
+  where
+    z : Rates
+    z = rates tries period
+
+    polls : (role : Role)
+        → (made : Bool) × PollTurn period (length ts) role (of_arrived is_poll (arrival (of role t).heard))
+        (of_arrived is_final (arrival (of role t).heard)) made (of role g.mid).outgoing.count (g.speaking role).said.sent (of role before)
+        (g.speaking role).said.account
+    polls role =
+        let w = known tries period delay link ts before k run c role in
+        let m = timed tries period delay link k role in
+        end-polls z (of role link).user (length ts) role (arrival (of role t).heard) (of role before) (of role g.mid)
+        (is_released g.mid.orig.phase) (release_of link (length ts) g.mid role) (g.speaking role).said
+        (rated tries period delay link k) (subst (IsOf z) (sym w.setup) m.is_of) w.stands (ap (λ x. x.role) w.setup ∙ m.role_is)
+        (g.hearing role).hears (sym (said-as link (length ts) g.mid role) ∙ (g.speaking role).says) w.none_due (early role)
+
+-- a run as it is looked up
+pub record Traced (period : ℕ) (delay : Role → ℕ) (link : Link) (ts : List Turn) (ends : Ends) : Type 0 where
+  pub state : ℕ → Ends
+  pub deed : ℕ → Deed
+  pub trace : Trace period delay link ts state deed
+  pub last : state (length ts) ≡ ends
+  pub early : AllEarly ends
+
+none-deed : Ends → Deed
+none-deed ends = record {
+  turn = record {
+    orig = record { heard = heards.Nothing; check = checks.Sixteen; sent = None; given = None };
+    answ = record { heard = heards.Nothing; check = checks.Sixteen; sent = None; given = None };
+  };
+  mid = ends;
+  made = λ role. false;
+}
+
+is-below : (m n : ℕ) → m < n → nat_lt m n ≡ true
+is-below m n l = grind (arith, nat_tests, l)
+
+not-below : (m n : ℕ) → n ≤ m → nat_lt m n ≡ false
+not-below m n l = grind (arith, nat_tests, l)
+
+-- the turns before a turn
+pub past-length : (ts : List Turn) (t : ℕ) → t ≤ length ts → length (past ts t) ≡ t
+past-length [] t l = omega (arith, l)
+past-length (x ∷ ts) t l = elim (cases_lt (length ts) t) [
+  | inl less ↦ ap (λ b. length (cond b (x ∷ ts) (past ts t))) (is-below (length ts) t less) ∙ omega (arith, less, l)
+  | inr more ↦ ap (λ b. length (cond b (x ∷ ts) (past ts t))) (not-below (length ts) t more) ∙ past-length ts t more
+]
+
+past-later : (x : Turn) (ts : List Turn) (t : ℕ) → t ≤ length ts → past (x ∷ ts) t ≡ past ts t
+past-later x ts t l = ap (λ b. cond b (x ∷ ts) (past ts t)) (not-below (length ts) t l)
+
+pub past-all : (ts : List Turn) → past ts (length ts) ≡ ts
+past-all [] = refl
+past-all (x ∷ ts) = ap (λ b. cond b (x ∷ ts) (past ts (suc (length ts)))) (is-below (length ts) (suc (length ts)) (omega arith))
+
+pub past-before : (x : Turn) (ts : List Turn) → past (x ∷ ts) (length ts) ≡ ts
+past-before x ts = past-later x ts (length ts) (omega arith) ∙ past-all ts
+
+-- A run with one more turn, and what that turn was.
+pub record OneMore (period : ℕ) (delay : Role → ℕ) (link : Link) (x : Turn) (ts : List Turn) (before : Ends) (d : Deed)
+    (after : Ends) : Type 0 where
+  pub traced : Traced period delay link (x ∷ ts) after
+  pub before_is : traced.state (length ts) ≡ before
+  pub deed_is : traced.deed (length ts) ≡ d
+
+pub longer : (period : ℕ) (delay : Role → ℕ) (link : Link) (ts : List Turn) (s : Ends) (x : Turn) (d : Deed) (u : Ends)
+    → Traced period delay link ts s → d.turn ≡ x → Happens period delay link ts (length ts) s d u → OneMore period delay link x ts s d u
+longer period delay link ts s x d u k dx h = record {
+  traced = record {
+    state = state;
+    deed = deed;
+    trace = record { starts = ap (λ b. cond b u (k.state 0)) first ∙ k.trace.starts; happens = happens; grows = grows };
+    last = ap (λ b. cond b u (k.state (suc n))) last;
+    early = λ role. (h.polls role).early;
+  };
+  before_is = early-state n (omega arith) ∙ k.last;
+  deed_is = late-deed n (omega arith);
+}
+  where
+    n : ℕ
+    n = length ts
+
+    state : ℕ → Ends
+    state t = cond (nat_lt n t) u (k.state t)
+
+    deed : ℕ → Deed
+    deed t = cond (nat_lt t n) (k.deed t) d
+
+    first : nat_lt n 0 ≡ false
+    first = not-below n 0 (omega arith)
+
+    last : nat_lt n (suc n) ≡ true
+    last = is-below n (suc n) (omega arith)
+
+    early-state : (t : ℕ) → t ≤ n → state t ≡ k.state t
+    early-state t l = let e : nat_lt n t ≡ false = not-below n t l in ap (λ b. cond b u (k.state t)) e
+
+    late-state : (t : ℕ) → n < t → state t ≡ u
+    late-state t l = let e : nat_lt n t ≡ true = is-below n t l in ap (λ b. cond b u (k.state t)) e
+
+    early-deed : (t : ℕ) → t < n → deed t ≡ k.deed t
+    early-deed t l = let e : nat_lt t n ≡ true = is-below t n l in ap (λ b. cond b (k.deed t) d) e
+
+    late-deed : (t : ℕ) → n ≤ t → deed t ≡ d
+    late-deed t l = let e : nat_lt t n ≡ false = not-below t n l in ap (λ b. cond b (k.deed t) d) e
+
+    moved : (t : ℕ) (us : List Turn) (a b : Ends) (w : Deed) → past (x ∷ ts) t ≡ us → state t ≡ a → deed t ≡ w → state (t + 1) ≡ b
+        → Happens period delay link us t a w b
+        → Happens period delay link (past (x ∷ ts) t) t (state t) (deed t) (state (t + 1))
+    moved t us a b w o p q r g = subst (λ y. Happens period delay link y t (state t) (deed t) (state (t + 1))) (sym o)
+        (subst (λ y. Happens period delay link us t (state t) (deed t) y) (sym r)
+        (subst (λ y. Happens period delay link us t (state t) y b) (sym q)
+        (subst (λ y. Happens period delay link us t y w b) (sym p) g)))
+
+    happens : (t : ℕ) → t < suc n → Happens period delay link (past (x ∷ ts) t) t (state t) (deed t) (state (t + 1))
+    happens t less = elim (cases_lt t n) [
+      | inl l ↦ moved t (past ts t) (k.state t) (k.state (t + 1)) (k.deed t) (past-later x ts t (omega (arith, l)))
+          (early-state t (omega (arith, l))) (early-deed t l) (early-state (t + 1) (omega (arith, l)))
+          (k.trace.happens t l)
+      | inr g ↦ at-last (omega (arith, less, g))
+    ]
+      where
+        at-last : t ≡ n → Happens period delay link (past (x ∷ ts) t) t (state t) (deed t) (state (t + 1))
+        at-last q = moved t ts s u d (ap (past (x ∷ ts)) q ∙ (past-later x ts n (omega arith) ∙ past-all ts))
+            (early-state t (omega (arith, q)) ∙ (ap k.state q ∙ k.last)) (late-deed t (omega (arith, q)))
+            (late-state (t + 1) (omega (arith, q))) (subst (λ y. Happens period delay link ts y s d u) (sym q) h)
+
+    grows : (t : ℕ) → t < suc n → past (x ∷ ts) (t + 1) ≡ (deed t).turn ∷ past (x ∷ ts) t
+    grows t less = elim (cases_lt t n) [
+      | inl l ↦ past-later x ts (t + 1) (omega (arith, l))
+          ∙ (k.trace.grows t l ∙
+          (ap (λ w. w.turn ∷ past ts t) (sym (early-deed t l))
+          ∙ ap (λ us. (deed t).turn ∷ us) (sym (past-later x ts t (omega (arith, l))))))
+      | inr g ↦ at-last (omega (arith, less, g))
+    ]
+      where
+        at-last : t ≡ n → past (x ∷ ts) (t + 1) ≡ (deed t).turn ∷ past (x ∷ ts) t
+        at-last q =
+            ap (λ b. cond b (x ∷ ts) (past ts (t + 1))) (is-below n (t + 1) (omega (arith, q)))
+            ∙ (ap (λ y. y ∷ ts) (sym (ap (λ w. w.turn) (late-deed t (omega (arith, q))) ∙ dx))
+            ∙ ap (λ us. (deed t).turn ∷ us) (sym (ap (past (x ∷ ts)) q ∙ (past-later x ts n (omega arith) ∙ past-all ts))))
+
+-- every run is traced
+pub traced : (tries period : ℕ) (delay : Role → ℕ) (link : Link) (ts : List Turn) (ends : Ends) → KeepsTime tries period delay link
+    → RunOf link ts ends → IsCarried delay ts → Traced period delay link ts ends
+traced tries period delay link [] ends k run c = record {
+  state = λ t. ends;
+  deed = λ t. none-deed ends;
+  trace = record {
+    starts = run;
+    happens = λ t l. let none : ⊥ = omega (arith, l) in absurd none;
+    grows = λ t l. let none : ⊥ =
+        omega (arith, l) in absurd none;
+  };
+  last = refl;
+  early = λ role. subst (λ x. Early role (of role x)) (sym run) (begins role);
+}
+  where
+    begins : (role : Role) → Early role (of role (start link))
+    begins Originator = record { poll = λ e. refl; numbered = λ e. refl; silent = λ r e n. refl }
+    begins Answerer = record { poll = λ e. refl; numbered = λ e. refl; silent = λ r e n. refl }
+traced tries period delay link (t ∷ ts) ends k (before, run, g) c =
+    let w = traced tries period delay link ts before k run c.1 in
+    let d = turn-happens tries period delay link ts before t ends k run c.1 c.0 g w.early in
+    (longer period delay link ts before t d.0 ends w d.1 d.2).traced
+
+-- and so is one more turn of it
+pub traced-turn : (tries period : ℕ) (delay : Role → ℕ) (link : Link) (ts : List Turn) (before : Ends) (t : Turn) (after : Ends)
+    → KeepsTime tries period delay link → RunOf link ts before → GoingTurn link ts before t after → IsCarried delay (t ∷ ts)
+    → (d : Deed) × (d.turn ≡ t) × OneMore period delay link t ts before d after
+traced-turn tries period delay link ts before t after k run g c =
+    let w = traced tries period delay link ts before k run c.1 in
+    let d = turn-happens tries period delay link ts before t after k run c.1 c.0 g w.early in
+    (d.0, d.1, longer period delay link ts before t d.0 after w d.1 d.2)

@@ -1,0 +1,152 @@
+-- An answerer answers what an originator tries in the turn in which it hears it.
+use Rattle.std.proofs.Common.{◌⊎◌, inl, inr, ◌≡◌, ℕ, ◌||◌, not, Bool, true, false, cond, refl, sym, ◌∙◌, ap, subst, Option, Some, None, Result, Ok, Err}
+use Rattle.std.specs.Prelude.{is_some}
+use Rattle.roles.specs.declared.role.Role.TheVariants.{Answerer}
+use Rattle.roles.specs.Role.{is_originator}
+use Rattle.lapm_frames.specs.declared.frame.Frame.{Frame}
+use Rattle.lapm_frames.specs.declared.frame.Frame.TheVariants.{Sabme, Disc, Xid}
+use Rattle.xid_params.specs.declared.offer.Offer.{Offer}
+use Rattle.xid_params.specs.Offers.{offer_in, written}
+use Rattle.lapm_sender.specs.Outgoing.{Outgoing, expired}
+use Rattle.break_signals.specs.Breaks.{OwnBreaks, ticked}
+use Rattle.slot_contents.specs.declared.sent.Sent.{Sent}
+use Rattle.slot_contents.specs.declared.sent.Sent.TheVariants as slots
+use Rattle.slot_contents.specs.declared.arrived.Arrived.{Arrived}
+use Rattle.slot_contents.specs.declared.arrived.Arrived.TheVariants as arrivals
+use Rattle.link_account.specs.declared.phase.Phase.{Phase}
+use Rattle.link_account.specs.declared.phase.Phase.TheVariants.{Detecting, Negotiating, Establishing, Connected, Releasing, Closed}
+use Rattle.link_faults.specs.declared.fault.LinkFault.{LinkFault}
+use Rattle.link_account.specs.declared.answer.Answer.{Answer}
+use Rattle.link_account.specs.declared.answer.Answer.TheVariants as answers
+use Rattle.link_account.specs.Account.{Account}
+use Rattle.link_account.specs.Hear.{hear, on_frame, on_detecting, on_negotiating, on_disc, on_xid_command, peer_reset, owing}
+use Rattle.link_account.specs.Speak.{Said, says, else_says, answering, frame_for, polling, timer_expires, on_timer, breaking, steps, after_timers, then_tries, speak_linked, speak, speak_in, speak_answer, speak_negotiating}
+use Rattle.turn_bound.proofs.MeetHear.{of_frame, of_arrived}
+use Rattle.turn_bound.proofs.Speaking.{OnOk}
+use Rattle.turn_losses.proofs.Moving.{asks, moves_on}
+
+-- whether an answerer in this phase answers what is tried
+abbrev pub can_answer : Phase → Phase → Bool → Bool
+can_answer Negotiating Detecting numbered = true
+can_answer Negotiating Negotiating numbered = true
+can_answer Establishing Detecting numbered = true
+can_answer Establishing Negotiating numbered = true
+can_answer Establishing Connected numbered = not numbered
+can_answer Releasing Connected numbered = true
+can_answer Releasing Closed numbered = true
+can_answer p q numbered = false
+
+-- the answer that is due then
+abbrev pub AnswerDue : Phase → Account → Type 0
+AnswerDue Negotiating b = (b.phase ≡ Negotiating) × (b.owes.answer ≡ Some answers.Xid)
+AnswerDue Establishing b = (b.phase ≡ Connected) × (b.owes.answer ≡ Some (answers.Ua true))
+AnswerDue Releasing b = (b.phase ≡ Closed) × ((b.owes.answer ≡ Some (answers.Ua true)) ⊎ (b.owes.answer ≡ Some (answers.Dm true)))
+AnswerDue Detecting b = ⊥
+AnswerDue Connected b = ⊥
+AnswerDue Closed b = ⊥
+
+abbrev DueOf : Phase → Result Account LinkFault → Type 0
+DueOf p (Err fault) = Unit {0}
+DueOf p (Ok b) = AnswerDue p b
+
+some-offer : (m : Option Offer) (a : Account) → is_some m ≡ true → AnswerDue Negotiating (on_xid_command m a)
+some-offer None a e = cc
+some-offer (Some offer) a e = (refl, refl)
+
+frame-answers : (p q : Phase) (frame : Frame) (turn : ℕ) (a : Account) → a.phase ≡ q → a.setup.role ≡ Answerer
+    → can_answer p q a.numbered ≡ true → asks p frame ≡ true → DueOf p (on_frame q frame turn a)
+frame-answers Negotiating Detecting (Xid true pf info) turn a e r c k = subst
+    (λ x. DueOf Negotiating (on_detecting x (Xid true pf info) turn a)) (sym r) (some-offer (offer_in info) a k)
+frame-answers Negotiating Negotiating (Xid true pf info) turn a e r c k = subst
+    (λ x. DueOf Negotiating (on_negotiating x (Xid true pf info) turn a)) (sym r) (some-offer (offer_in info) a k)
+frame-answers Establishing Detecting (Sabme true) turn a e r c k = subst (λ x. DueOf Establishing (on_detecting x (Sabme true) turn a))
+    (sym r) (refl, refl)
+frame-answers Establishing Negotiating (Sabme true) turn a e r c k = subst
+    (λ x. DueOf Establishing (on_negotiating x (Sabme true) turn a)) (sym r) (refl, refl)
+frame-answers Establishing Connected (Sabme true) turn a e r c k = go a.numbered (is_originator a.setup.role) c (ap is_originator r)
+  where
+    go : (n o : Bool) → not n ≡ true → o ≡ false → DueOf Establishing (cond (n || o) (Err (peer_reset a)) (Ok (owing (answers.Ua true) a)))
+    go true o x y = tt
+    go false true x y = cc
+    go false false x y = (e, refl)
+frame-answers Releasing Connected (Disc true) turn a e r c k = subst (λ x. DueOf Releasing (on_disc x true a)) (sym r) (refl, inl refl)
+frame-answers Releasing Closed (Disc true) turn a e r c k = (e, inr refl)
+frame-answers p q frame turn a e r c k = cc
+
+pub answer-due : (p : Phase) (arrived : Arrived) (turn : ℕ) (a mid : Account) → a.setup.role ≡ Answerer
+    → can_answer p a.phase a.numbered ≡ true → of_arrived (asks p) arrived ≡ true → hear turn arrived a ≡ Ok mid → AnswerDue p mid
+answer-due p arrivals.Nothing turn a mid r c k h = cc
+answer-due p (arrivals.Pattern seen) turn a mid r c k h = cc
+answer-due p (arrivals.Frame frame) turn a mid r c k h = go (on_frame a.phase frame turn a) h
+    (frame-answers p a.phase frame turn a refl r c k)
+  where
+    go : (x : Result Account LinkFault) → x ≡ Ok mid → DueOf p x → AnswerDue p mid
+    go (Err fault) q d = cc
+    go (Ok b) q d = let same : b ≡ mid = cc in subst (AnswerDue p) same d
+
+-- an answer that is due goes
+says-answer : (b : Account) (silence : Sent) (answer : Answer) → b.owes.answer ≡ Some answer
+    → (else_says (answering b.owes.answer b) (says silence b)).sent ≡ frame_for answer b
+says-answer b silence answer e = ap (λ m. (else_says (answering m b) (says silence b)).sent) e
+
+-- the timers leave what is owed
+timers-owe : (turn : ℕ) (a : Account) → OnOk (λ b. b.owes ≡ a.owes) (then_tries turn (on_timer turn a))
+timers-owe turn a = timed (timer_expires turn a a.wait.timer) (expired a.outgoing)
+  where
+    by : (b : Account) → b.owes ≡ a.owes → (m : Option OwnBreaks) → OnOk (λ x. x.owes ≡ a.owes) (breaking turn m b)
+    by b h None = tt
+    by b h (Some c) = h
+
+    timed : (x : Bool) (m : Option Outgoing) → OnOk (λ b. b.owes ≡ a.owes) (then_tries turn (cond x (polling turn m a) (Ok a)))
+    timed false m = by a refl (ticked turn a.setup.period a.setup.tries a.own_breaks)
+    timed true None = tt
+    timed true (Some o) = by (record a { outgoing = o; wait = record a.wait { poll = true; timer = Some turn } }) refl
+        (ticked turn a.setup.period a.setup.tries a.own_breaks)
+
+steps-answer : (turn : ℕ) (special : Bool) (c : Account) (answer : Answer) → c.owes.answer ≡ Some answer
+    → (steps turn special c).sent ≡ frame_for answer c
+steps-answer turn special c answer e = go c.owes.answer _ e
+  where
+    go : (m : Option Answer) (rest : Said) → m ≡ Some answer → (else_says (answering m c) rest).sent ≡ frame_for answer c
+    go None rest q = cc
+    go (Some x) rest q = let same : x ≡ answer = cc in ap (λ y. frame_for y c) same
+
+linked-answers : (turn : ℕ) (b : Account) (said : Said) (pf : Bool) → b.owes.answer ≡ Some (answers.Ua pf) → speak_linked turn b ≡ Ok said
+    → said.sent ≡ frame_for (answers.Ua pf) b
+linked-answers turn b said pf e h = go (then_tries turn (on_timer turn b)) (timers-owe turn b) h
+  where
+    go : (r : Result Account LinkFault) → OnOk (λ x. x.owes ≡ b.owes) r → after_timers turn b.special r ≡ Ok said
+        → said.sent ≡ frame_for (answers.Ua pf) b
+    go (Err fault) t q = cc
+    go (Ok c) t q =
+        let same : steps turn b.special (record c { special = false }) ≡ said = cc in
+        ap (λ s. s.sent) (sym same) ∙ steps-answer turn b.special (record c { special = false }) (answers.Ua pf) (ap (λ o. o.answer) t ∙ e)
+
+pub says-due : (p : Phase) (turn : ℕ) (b : Account) (said : Said) → b.setup.role ≡ Answerer
+    → is_some (offer_in (written b.setup.offer)) ≡ true → AnswerDue p b → speak turn false b ≡ Ok said
+    → of_frame (moves_on p) said.sent ≡ true
+says-due Negotiating turn b said r offers (e, d) h =
+    let there : speak_negotiating Answerer turn b ≡ Ok said = ap (λ x. speak_negotiating x turn b) (sym r)
+    ∙ (ap (λ q. speak_in q turn false b) (sym e) ∙ h) in
+    let same : else_says (answering b.owes.answer b) (says slots.Flags b) ≡ said = cc in
+    ap (λ s. of_frame (moves_on Negotiating) s.sent) (sym same)
+    ∙ (ap (of_frame (moves_on Negotiating)) (says-answer b slots.Flags answers.Xid d) ∙ offers)
+says-due Establishing turn b said r offers (e, d) h = ap (of_frame (moves_on Establishing))
+    (linked-answers turn b said true d (ap (λ q. speak_in q turn false b) (sym e) ∙ h))
+says-due Releasing turn b said r offers (e, d) h = go d
+  where
+    there : speak_answer b ≡ Ok said
+    there = ap (λ q. speak_in q turn false b) (sym e) ∙ h
+
+    same : else_says (answering b.owes.answer b) (says slots.Flags b) ≡ said
+    same = let w = there in cc
+
+    go : (b.owes.answer ≡ Some (answers.Ua true)) ⊎ (b.owes.answer ≡ Some (answers.Dm true))
+        → of_frame (moves_on Releasing) said.sent ≡ true
+    go (inl x) = ap (λ s. of_frame (moves_on Releasing) s.sent) (sym same)
+        ∙ ap (of_frame (moves_on Releasing)) (says-answer b slots.Flags (answers.Ua true) x)
+    go (inr x) = ap (λ s. of_frame (moves_on Releasing) s.sent) (sym same)
+        ∙ ap (of_frame (moves_on Releasing)) (says-answer b slots.Flags (answers.Dm true) x)
+says-due Detecting turn b said r offers d h = absurd d
+says-due Connected turn b said r offers d h = absurd d
+says-due Closed turn b said r offers d h = absurd d

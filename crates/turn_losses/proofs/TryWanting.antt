@@ -1,0 +1,160 @@
+-- An originator that gives up while it tries a frame.
+use Rattle.std.proofs.Common.{◌⊎◌, inl, inr, ◌≡◌, ℕ, ◌+◌, ◌-◌, ◌*◌, ◌<◌, ◌≤◌, Bool, true, false, cond, nat_le, List, length, arith, refl, sym, ◌∙◌, ap, subst, Some, Ok, Err}
+use Rattle.roles.specs.declared.role.Role.{Role}
+use Rattle.roles.specs.declared.role.Role.TheVariants.{Originator, Answerer}
+use Rattle.roles.specs.Both.{of}
+use Rattle.lapm_frames.specs.declared.frame.Frame.{Frame}
+use Rattle.lapm_frames.specs.declared.frame.Frame.TheVariants.{Sabme, Disc, Xid}
+use Rattle.xid_params.specs.Offers.{written, ReadsWritten}
+use Rattle.slot_contents.specs.declared.sent.Sent.TheVariants as slots
+use Rattle.link_account.specs.declared.phase.Phase.{Phase}
+use Rattle.link_account.specs.declared.phase.Phase.TheVariants.{Detecting, Negotiating, Establishing, Connected, Releasing, Closed}
+use Rattle.link_faults.specs.declared.fault.LinkFault.TheVariants.{Spent, NotDetected}
+use Rattle.link_account.specs.Account.{Account, is_connected}
+use Rattle.link_account.specs.Speak.{says, speak, speak_in, speak_detecting, speak_negotiating, u_try}
+use Rattle.link_run.specs.End.{is_busy, is_released, is_closed}
+use Rattle.link_run.specs.Run.{Link, Ends, Turn, arrival, served_at, releases}
+use Rattle.link_run.specs.Starved.{LosesSome}
+use Rattle.turn_bound.proofs.Serving.{Served, serves-all}
+use Rattle.turn_bound.proofs.Tied.{is_lost}
+use Rattle.turn_losses.specs.Losses.{PeriodLoses, LosesEach}
+use Rattle.turn_losses.proofs.Trace.{Deed, Trace}
+use Rattle.turn_losses.proofs.TwoEnds.{EndRun, end_run}
+use Rattle.turn_losses.proofs.Tracing.{Traced, traced}
+use Rattle.turn_losses.proofs.PeriodHolds.{LostIn}
+use Rattle.turn_losses.proofs.Keeping.{turn-is}
+use Rattle.turn_losses.proofs.Wanting.{lost-is}
+use Rattle.turn_losses.proofs.Starving.{all-but-one}
+use Rattle.turn_losses.specs.Tries.{OriginatorWantsFrame}
+use Rattle.turn_losses.proofs.Moving.{is_trying, try-heard, TryGoesOn, TryBegins, try-spent}
+use Rattle.turn_losses.proofs.Setups.{start-setup, heard-setup, served-setup}
+use Rattle.turn_losses.proofs.Trying.{TriesSo, tries-so, unanswered, unanswered-loses}
+
+-- something lost in a period of turns, as a period's loss
+pub lost-in-period : (period : ℕ) (delay : Role → ℕ) (link : Link) (ts : List Turn) (state : ℕ → Ends) (deed : ℕ → Deed)
+    → Trace period delay link ts state deed → 1 ≤ period → (s n : ℕ) → s + (n + 1) * period ≡ length ts
+    → LostIn (end_run delay state deed Originator) (end_run delay state deed Answerer) (s + 1) (period - 1)
+    → PeriodLoses period (length ts) ts n
+lost-in-period period delay link ts state deed w long s n q lost =
+    let a = lost.low in let b = lost.high in let m = once n in
+    let within : lost.turn < length ts = omega (arith, b, q, m, long) in
+    record {
+      turn = lost.turn;
+      within = within;
+      in_period = record { behind = omega (arith, a, q); before = omega (arith, b, q, m, long) };
+      lost = subst LosesSome (sym (turn-is period delay link ts state deed w lost.turn within)) (some lost.turn lost.loses);
+    }
+  where
+    once : (x : ℕ) → (x + 1) * period ≡ x * period + period
+    once x = omega arith
+
+    some : (u : ℕ) → (is_lost (of Originator (deed u).turn).heard ≡ true) ⊎ (is_lost (of Answerer (deed u).turn).heard ≡ true)
+        → LosesSome (Some (deed u).turn)
+    some u (inl x) = (Originator, lost-is (deed u).turn.orig.heard x)
+    some u (inr x) = (Answerer, lost-is (deed u).turn.answ.heard x)
+
+-- which try is spent
+pub which-try : (turn : ℕ) (release : Bool) (b : Account) (segment since : ℕ) → b.setup.role ≡ Originator → is_connected b.phase ≡ false
+    → is_closed b.phase ≡ false → speak turn release b ≡ Err (Spent segment since)
+    → (is_trying b.phase ≡ true) × (turn ≡ b.wait.try_set + b.setup.period) × (b.wait.try_count ≡ b.setup.tries)
+which-try turn release b segment since r c k h = go b.phase refl c k h
+  where
+    by : (x : Bool) → cond x (Err NotDetected) (Ok (says slots.Odp b)) ≡ Err (Spent segment since) → ⊥
+    by true q = cc
+    by false q = cc
+
+    tried : (p : Phase) (frame : Frame) → b.phase ≡ p → is_trying p ≡ true → u_try turn frame b ≡ Err (Spent segment since)
+        → (is_trying b.phase ≡ true) × (turn ≡ b.wait.try_set + b.setup.period) × (b.wait.try_count ≡ b.setup.tries)
+    tried p frame e t q = let x = try-spent turn frame b (Spent segment since) q in (ap is_trying e ∙ t, x.0, x.1)
+
+    go : (p : Phase) → b.phase ≡ p → is_connected p ≡ false → is_closed p ≡ false → speak_in p turn release b ≡ Err (Spent segment since)
+        → (is_trying b.phase ≡ true) × (turn ≡ b.wait.try_set + b.setup.period) × (b.wait.try_count ≡ b.setup.tries)
+    go Detecting e c k q = absurd (by (nat_le ((b.setup.tries + 1) * b.setup.period) turn) (sym (ap (λ x. speak_detecting x turn b) r) ∙ q))
+    go Negotiating e c k q = tried Negotiating (Xid true false (written b.setup.offer)) e refl
+        (sym (ap (λ x. speak_negotiating x turn b) r) ∙ q)
+    go Establishing e c k q = tried Establishing (Sabme true) e refl q
+    go Connected e c k q = cc
+    go Releasing e c k q = tried Releasing (Disc true) e refl q
+    go Closed e c k q = cc
+
+pub originator-wants-frame : ReadsWritten → OriginatorWantsFrame
+originator-wants-frame reads tries period delay link ts before t mid segment since kt run cs broken
+    unlinked = (each, all-but-one tries period delay t ts (λ n l. each n (omega (arith, l))))
+  where
+    turns : ℕ
+    turns = length ts
+
+    w : Traced period delay link ts before
+    w = traced tries period delay link ts before kt run.run run.carried
+
+    e : EndRun
+    e = end_run delay w.state w.deed Originator
+
+    long : 1 ≤ period
+    long = let q = kt.period_is in omega (arith, q)
+
+    b : Account
+    b = (served_at link turns mid Originator).account
+
+    s : Served turns (length link.orig.user.breaks) (is_busy turns link.orig.user.busy) mid.orig b
+    s = serves-all link.orig.user turns (is_released mid.orig.phase) mid.orig
+
+    b-setup : b.setup ≡ link.orig.setup
+    b-setup = served-setup link.orig.user turns (is_released mid.orig.phase) mid.orig
+        ∙ heard-setup tries period delay link ts before kt run.run run.carried Originator (arrival t.orig.heard) mid.orig
+        (broken.hearing Originator).hears
+
+    why : (is_trying b.phase ≡ true) × (turns ≡ b.wait.try_set + b.setup.period) × (b.wait.try_count ≡ b.setup.tries)
+    why = which-try turns (releases link turns mid) b segment since (ap (λ x. x.role) b-setup ∙ kt.roles Originator)
+        (ap is_connected s.phase ∙ unlinked) (ap is_closed s.phase ∙ broken.going) broken.broken
+
+    p : Phase
+    p = mid.orig.phase
+
+    trying : is_trying p ≡ true
+    trying = ap is_trying (sym s.phase) ∙ why.0
+
+    set-is : b.wait.try_set ≡ mid.orig.wait.try_set
+    set-is = ap (λ v. v.try_set) s.wait
+
+    due : turns ≡ mid.orig.wait.try_set + period
+    due = let q = why.1 in let r = ap (λ x. x.period) b-setup ∙ (kt.timed Originator).period_is in omega (arith, q, r, set-is)
+
+    count : mid.orig.wait.try_count ≡ tries
+    count = ap (λ v. v.try_count) (sym s.wait) ∙ (why.2 ∙ (ap (λ x. x.tries) b-setup ∙ (kt.timed Originator).tries_are))
+
+    tries-on : TriesSo period turns p e
+    tries-on = tries-so reads tries period delay link ts w.state w.deed kt run.may_play w.trace p trying
+
+    none : (w.state 0).orig.phase ≡ p → ⊥
+    none q = let there : is_trying Detecting ≡ true = ap (λ (x : Ends). is_trying x.orig.phase) (sym w.trace.starts)
+        ∙ (ap is_trying q ∙ trying) in cc
+
+    goes-on : TryGoesOn p (arrival t.orig.heard) before.orig mid.orig ⊎ TryBegins turns p before.orig mid.orig
+        → TryGoesOn p (arrival t.orig.heard) before.orig mid.orig
+    goes-on (inl x) = x
+    goes-on (inr (_, _, _, set, _)) = absurd (omega (arith, set, due, long))
+
+    still : TryGoesOn p (arrival t.orig.heard) before.orig mid.orig
+    still = goes-on (try-heard (arrival t.orig.heard) turns before.orig mid.orig
+        (ap (λ x. x.role) (start-setup tries period delay link ts before kt run.run run.carried Originator) ∙ kt.roles Originator)
+        (broken.hearing Originator).hears p trying refl)
+
+    account-is : (w.state turns).orig ≡ before.orig
+    account-is = ap (λ (x : Ends). x.orig) w.last
+
+    each : LosesEach period (tries + 1) turns ts
+    each n less =
+        let wait : (w.state turns).orig.wait ≡ mid.orig.wait = ap (λ (x : Account). x.wait) account-is ∙ sym still.1 in
+        let set = ap (λ v. v.try_set) wait in
+        let x = unanswered period turns p e long tries-on none tries turns (omega arith)
+        (ap (λ (y : Account). y.phase) account-is ∙ still.0) (ap (λ v. v.try_count) wait ∙ count) (omega (arith, set, due)) n
+        (omega (arith, less)) in
+        let one = times n in
+        let q = x.1 in
+        lost-in-period period delay link ts w.state w.deed w.trace long x.0 n q
+        (unanswered-loses reads tries period delay link ts w.state w.deed kt run.may_play w.trace p trying x.0
+        (omega (arith, q, one)) x.2)
+      where
+        times : (y : ℕ) → (y + 1) * period ≡ y * period + period
+        times y = omega arith

@@ -1,0 +1,383 @@
+-- The tries of an originator by the turn: when each went, and what is lost where none is answered.
+use Rattle.std.proofs.Common.{◌⊎◌, inl, inr, ◌≡◌, ℕ, zero, suc, ◌+◌, ◌-◌, ◌*◌, ◌<◌, ◌≤◌, not, Bool, true, false, List, length, arith, refl, sym, ◌∙◌, ap, subst, Some, Ok}
+use Rattle.std.specs.Prelude.{is_some}
+use Rattle.std.proofs.lemmas.Bool.{cases_lt}
+use Rattle.roles.specs.declared.role.Role.{Role}
+use Rattle.roles.specs.declared.role.Role.TheVariants.{Originator, Answerer}
+use Rattle.xid_params.specs.Offers.{offer_in, written, IsAllowed, ReadsWritten}
+use Rattle.slot_contents.specs.declared.sent.Sent.{Sent}
+use Rattle.slot_contents.specs.declared.arrived.Arrived.{Arrived}
+use Rattle.link_account.specs.declared.phase.Phase.{Phase}
+use Rattle.link_account.specs.declared.phase.Phase.TheVariants.{Detecting, Negotiating, Establishing, Connected, Releasing, Closed}
+use Rattle.link_account.specs.declared.setup.Setup.{Setup}
+use Rattle.link_account.specs.Account.{Account}
+use Rattle.link_account.specs.Hear.{hear}
+use Rattle.link_account.specs.Laws.{MayPlay}
+use Rattle.link_account.specs.Speak.{Said, speak}
+use Rattle.link_run.specs.End.{User, is_busy, is_released, is_closed}
+use Rattle.link_run.specs.Run.{Link, Ends, Turn, SpeaksAt, arrival, served_at, said_at}
+use Rattle.turn_bound.specs.Time.{KeepsTime}
+use Rattle.turn_bound.proofs.Clock.{rates}
+use Rattle.turn_bound.proofs.Value.{Stands}
+use Rattle.turn_bound.proofs.MeetHear.{is_begun, of_frame, of_arrived}
+use Rattle.turn_bound.proofs.Run.{served_account}
+use Rattle.turn_bound.proofs.Serving.{Served, serves-all}
+use Rattle.turn_losses.proofs.Polling.{is_linked}
+use Rattle.turn_losses.proofs.Numbering.{allowed}
+use Rattle.turn_losses.proofs.Numbered.{numbered-linked}
+use Rattle.turn_losses.proofs.Trace.{Deed, Happens, Trace, past, sent_or}
+use Rattle.turn_losses.proofs.TwoEnds.{EndRun, TwoEnds, end_run}
+use Rattle.turn_losses.proofs.Tracing.{known, release_of}
+use Rattle.turn_losses.proofs.LineLaw.{is-heard}
+use Rattle.turn_losses.proofs.PollLaws.{two-ends}
+use Rattle.turn_losses.proofs.PeriodLaws.{NoneLost}
+use Rattle.turn_losses.proofs.PeriodHolds.{LostIn, lost-or-none}
+use Rattle.turn_losses.proofs.Moving.{is_trying, asks, moves_on, TryGoesOn, TryBegins, try-heard, TriesAgain, TryStands, TryIsNew, try-says, releasing-stays}
+use Rattle.turn_losses.proofs.TryAnswering.{can_answer, AnswerDue, answer-due, says-due}
+use Rattle.turn_losses.proofs.Setups.{start-setup, heard-setup, served-setup, Met, met}
+use Rattle.turn_losses.proofs.Phasing.{is_established, begun-established}
+
+-- A turn after which an end tries: the try begins in it, or goes on unanswered, and goes again or not.
+abbrev pub GoesUnanswered : Phase → Arrived → Account → Type 0
+GoesUnanswered p arrived a = (a.phase ≡ p) × (of_arrived (moves_on p) arrived ≡ false)
+
+abbrev pub TryTurn : (period turn : ℕ) → Phase → Arrived → Sent → Account → Account → Type 0
+TryTurn period turn p arrived sent a c =
+    ((a.phase ≡ p → ⊥) × (c.wait.try_set ≡ turn) × (c.wait.try_count ≡ 0) × (of_frame (asks p) sent ≡ true))
+    ⊎ (GoesUnanswered p arrived a × (turn ≡ a.wait.try_set + period) × (c.wait.try_set ≡ turn) × (c.wait.try_count ≡ a.wait.try_count + 1)
+    × (of_frame (asks p) sent ≡ true))
+    ⊎ (GoesUnanswered p arrived a × (turn ≡ a.wait.try_set + period → ⊥) × (c.wait.try_set ≡ a.wait.try_set)
+    × (c.wait.try_count ≡ a.wait.try_count))
+
+try-turn : (user : User) (period turn : ℕ) (p : Phase) (arrived : Arrived) (a mid : Account) (released release : Bool) (said : Said)
+    → a.setup.role ≡ Originator → mid.setup.role ≡ Originator → mid.setup.period ≡ period → 1 ≤ period
+    → is_some (offer_in (written mid.setup.offer)) ≡ true → hear turn arrived a ≡ Ok mid
+    → speak turn release (served_account user turn released mid) ≡ Ok said → is_trying p ≡ true → said.account.phase ≡ p
+    → TryTurn period turn p arrived said.sent a said.account
+try-turn user period turn p arrived a mid released release said r r' per long offers hears speaks t e = go said-so
+  where
+    b : Account
+    b = served_account user turn released mid
+
+    s : Served turn (length user.breaks) (is_busy turn user.busy) mid b
+    s = serves-all user turn released mid
+
+    wait : b.wait ≡ mid.wait
+    wait = s.wait
+
+    heard : mid.phase ≡ p → TryGoesOn p arrived a mid ⊎ TryBegins turn p a mid
+    heard f = try-heard arrived turn a mid r hears p t f
+
+    said-so : ((b.phase ≡ p) × (TriesAgain p turn b said ⊎ TryStands p turn b said)) ⊎ TryIsNew p turn b said
+    said-so = try-says turn release b said (ap (λ x. x.role) s.setup ∙ r')
+        (let q = ap (λ x. x.period) s.setup in omega (arith, q, per, long)) (ap (λ x. is_some (offer_in (written x.offer))) s.setup
+        ∙ offers) speaks p t e
+
+    set-is : b.wait.try_set ≡ mid.wait.try_set
+    set-is = ap (λ w. w.try_set) wait
+
+    b-period : b.setup.period ≡ period
+    b-period = ap (λ x. x.period) s.setup ∙ per
+
+    again : TryGoesOn p arrived a mid ⊎ TryBegins turn p a mid → TriesAgain p turn b said
+        → TryTurn period turn p arrived said.sent a said.account
+    again (inl (x, w, n)) (due, set, count, sends) =
+        let same = ap (λ v. v.try_set) w in let same' = ap (λ v. v.try_count) w in let bc = ap (λ v. v.try_count) wait in
+        inr (inl ((x, n), omega (arith, due, set-is, same, b-period), set, omega (arith, count, bc, same'), sends))
+    again (inr (x, y, try, set', count')) (due, set, count, sends) = absurd (omega (arith, due, set-is, set', b-period, long))
+
+    stands : TryGoesOn p arrived a mid ⊎ TryBegins turn p a mid → TryStands p turn b said
+        → TryTurn period turn p arrived said.sent a said.account
+    stands (inl (x, w, n)) (due, set, count, sends) =
+        let same = ap (λ v. v.try_set) w in
+        inr (inr (
+          (x, n),
+          (λ q. due (omega (arith, q, set-is, same, b-period))),
+          set ∙ (set-is ∙ same),
+          count
+              ∙ (ap (λ v. v.try_count) wait ∙ ap (λ v. v.try_count) w),
+        ))
+    stands (inr (x, y, try, set', count')) (due, set, count, sends) = inl
+        (x, set ∙ (set-is ∙ set'), count ∙ (ap (λ v. v.try_count) wait ∙ count'), sends (ap (λ v. v.try) wait ∙ try))
+
+    go : ((b.phase ≡ p) × (TriesAgain p turn b said ⊎ TryStands p turn b said)) ⊎ TryIsNew p turn b said
+        → TryTurn period turn p arrived said.sent a said.account
+    go (inl (f, inl x)) = again (heard (sym s.phase ∙ f)) x
+    go (inl (f, inr x)) = stands (heard (sym s.phase ∙ f)) x
+    go (inr (f, q, set, count, sends)) = inl ((λ x. releasing-stays arrived turn a mid (x ∙ q) hears (sym s.phase ∙ f)), set, count, sends)
+
+-- A try between turns: when it last went, and the one before.
+pub record Tried (period : ℕ) (p : Phase) (e : EndRun) (t : ℕ) : Type 0 where
+  pub set : ℕ
+  pub set_is : (e.account t).wait.try_set ≡ set
+  pub before : set < t
+  pub within : t ≤ set + period
+  pub sends : of_frame (asks p) (e.slot set) ≡ true
+  pub since : (u : ℕ) → set < u → u ≤ t → (e.account u).phase ≡ p
+  pub earlier : (n : ℕ) → (e.account t).wait.try_count ≡ n + 1 → ((e.account set).phase ≡ p) × ((e.account set).wait.try_count ≡ n)
+      × ((e.account set).wait.try_set + period ≡ set)
+
+abbrev pub TriesSo : (period turns : ℕ) → Phase → EndRun → Type 0
+TriesSo period turns p e = (t : ℕ) → t < turns → (e.account (t + 1)).phase ≡ p
+    → TryTurn period t p (e.heard t) (e.slot t) (e.account t) (e.account (t + 1))
+
+pub tried : (period turns : ℕ) (p : Phase) (e : EndRun) → 1 ≤ period → TriesSo period turns p e → ((e.account 0).phase ≡ p → ⊥) → (t : ℕ)
+    → t ≤ turns → (e.account t).phase ≡ p → Tried period p e t
+tried period turns p e long h none zero l f = absurd (none f)
+tried period turns p e long h none (suc t) l f = subst (Tried period p e) (next t)
+    (go (h t (omega (arith, l)) now) (λ g. tried period turns p e long h none t (omega (arith, l)) g))
+  where
+    next : (x : ℕ) → x + 1 ≡ suc x
+    next x = omega arith
+
+    now : (e.account (t + 1)).phase ≡ p
+    now = ap (λ x. (e.account x).phase) (next t) ∙ f
+
+    at : (u : ℕ) → t < u → u ≤ t + 1 → (e.account u).phase ≡ p
+    at u x y = ap (λ v. (e.account v).phase) (omega (arith, x, y)) ∙ now
+
+    go : TryTurn period t p (e.heard t) (e.slot t) (e.account t) (e.account (t + 1)) → ((e.account t).phase ≡ p → Tried period p e t)
+        → Tried period p e (t + 1)
+    go (inl (first, set, count, sends)) again = record {
+      set = t;
+      set_is = set;
+      before = omega arith;
+      within = omega (arith, long);
+      sends = sends;
+      since = at;
+      earlier = λ n q. absurd (omega (arith, q, count));
+    }
+    go (inr (inl ((g, unheard), due, set, count, sends))) again = record {
+      set = t;
+      set_is = set;
+      before = omega arith;
+      within = omega (arith, long);
+      sends = sends;
+      since = at;
+      earlier = λ n q. (g, omega (arith, q, count), omega (arith, due));
+    }
+    go (inr (inr ((g, unheard), due, set, count))) again =
+        let i = again g in let b = i.before in let w = i.within in let s = i.set_is in
+        record {
+          set = i.set;
+          set_is = set ∙ s;
+          before = omega (arith, b);
+          within = strictly i.set (λ q. due (omega (arith, q, s))) w;
+          sends = i.sends;
+          since = λ u x y. elim (cases_lt t u) [ inl z ↦ at u z y | inr z ↦ i.since u x z ];
+          earlier = λ n q. i.earlier n (sym count ∙ q);
+        }
+      where
+        strictly : (s : ℕ) → (t ≡ s + period → ⊥) → t ≤ s + period → t + 1 ≤ s + period
+        strictly s n w = elim (cases_lt t (s + period)) [ inl x ↦ omega (arith, x) | inr x ↦ absurd (n (omega (arith, x, w))) ]
+
+-- A frame that is tried, and isn't answered for a whole period.
+pub record Unanswered (period : ℕ) (p : Phase) (e : EndRun) (s : ℕ) : Type 0 where
+  pub sends : of_frame (asks p) (e.slot s) ≡ true
+  pub stays : (u : ℕ) → s < u → u ≤ s + period → (e.account u).phase ≡ p
+
+pub times-suc : (j p : ℕ) → (suc j + 1) * p ≡ (j + 1) * p + p
+times-suc j p = grind (arith)
+
+pub one-time : (p : ℕ) → (0 + 1) * p ≡ p
+one-time p = omega arith
+
+-- so each of them went a period before the next one, or before the turn in which the last one's timer expires
+pub unanswered : (period turns : ℕ) (p : Phase) (e : EndRun) → 1 ≤ period → TriesSo period turns p e → ((e.account 0).phase ≡ p → ⊥)
+    → (n t : ℕ) → t ≤ turns → (e.account t).phase ≡ p → (e.account t).wait.try_count ≡ n
+    → (e.account t).wait.try_set + period ≡ t → (j : ℕ) → j ≤ n → (s : ℕ) × (s + (j + 1) * period ≡ t) × Unanswered period p e s
+unanswered period turns p e long h none n t l f c due zero less =
+    let i = tried period turns p e long h none t l f in
+    let q = i.set_is in
+    let one = one-time period in
+    (i.set, omega (arith, q, due, one), record { sends = i.sends; stays = λ u x y. i.since u x (omega (arith, y, q, due)) })
+unanswered period turns p e long h none zero t l f c due (suc j) less = absurd (omega (arith, less))
+unanswered period turns p e long h none (suc n) t l f c due (suc j) less =
+    let i = tried period turns p e long h none t l f in
+    let q = i.set_is in
+    let b = i.before in
+    let x = i.earlier n (omega (arith, c)) in
+    let r = unanswered period turns p e long h none n i.set (omega (arith, b, l)) x.0 x.1 x.2 j (omega (arith, less)) in
+    let m = times-suc j period in
+    let d = r.1 in
+    (r.0, omega (arith, d, m, q, due), r.2)
+
+-- What both ends of a run are to each other while the originator tries.
+pub tries-so : ReadsWritten → (tries period : ℕ) (delay : Role → ℕ) (link : Link) (ts : List Turn) (state : ℕ → Ends) (deed : ℕ → Deed)
+    → KeepsTime tries period delay link → MayPlay link.orig.setup link.answ.setup → Trace period delay link ts state deed
+    → (p : Phase) → is_trying p ≡ true → TriesSo period (length ts) p (end_run delay state deed Originator)
+tries-so reads tries period delay link ts state deed kt m w p t u l f =
+    subst (λ x. TryTurn period u p (arrival (deed u).turn.orig.heard) x (state u).orig (state (u + 1)).orig) (ap sent_or (sym s.sent_is))
+    (subst (λ x. TryTurn period u p (arrival (deed u).turn.orig.heard) s.said.sent (state u).orig x) (sym s.after_is)
+    (try-turn link.orig.user period u p (arrival (deed u).turn.orig.heard) (state u).orig (deed u).mid.orig
+    (is_released (deed u).mid.orig.phase) (release_of link u (deed u).mid Originator) s.said
+    (ap (λ x. x.role) (start-setup tries period delay link (past ts u) (state u) kt h.run h.carried Originator) ∙ kt.roles Originator)
+    (ap (λ x. x.role) mid-setup ∙ kt.roles Originator) (ap (λ x. x.period) mid-setup ∙ (kt.timed Originator).period_is)
+    (let q = kt.period_is in omega (arith, q))
+    (ap is_some (reads-own reads (deed u).mid.orig.setup (subst (λ x. IsAllowed x.offer) (sym mid-setup) (allowed link m Originator))))
+    (h.hearing Originator).hears s.says t (ap (λ (x : Account). x.phase) (sym s.after_is) ∙ f)))
+  where
+    h : Happens period delay link (past ts u) u (state u) (deed u) (state (u + 1))
+    h = w.happens u l
+
+    s : SpeaksAt (said_at link u (deed u).mid Originator) (deed u).turn.orig (state (u + 1)).orig
+    s = h.speaking Originator
+
+    mid-setup : (deed u).mid.orig.setup ≡ link.orig.setup
+    mid-setup = heard-setup tries period delay link (past ts u) (state u) kt h.run h.carried Originator (arrival (deed u).turn.orig.heard)
+        (deed u).mid.orig
+        (ap (λ n. hear n (arrival (deed u).turn.orig.heard) (state u).orig) h.number ∙ (h.hearing Originator).hears)
+
+    reads-own : ReadsWritten → (x : Setup) → IsAllowed x.offer → offer_in (written x.offer) ≡ Some x.offer
+    reads-own r x a = r x.offer a
+
+-- an answerer can answer what is tried
+answerable : (p q : Phase) (n : Bool) → is_trying p ≡ true → (q ≡ Establishing → ⊥) → (q ≡ Releasing → ⊥)
+    → (p ≡ Negotiating → is_begun q ≡ false) → (p ≡ Establishing → (n ≡ false) × (is_closed q ≡ false))
+    → (p ≡ Releasing → is_begun q ≡ true)
+    → can_answer p q n ≡ true
+answerable Detecting q n t e r x y z = cc
+answerable Connected q n t e r x y z = cc
+answerable Closed q n t e r x y z = cc
+answerable Negotiating Detecting n t e r x y z = refl
+answerable Negotiating Negotiating n t e r x y z = refl
+answerable Negotiating Establishing n t e r x y z = absurd (e refl)
+answerable Negotiating Connected n t e r x y z = let w = x refl in cc
+answerable Negotiating Releasing n t e r x y z = absurd (r refl)
+answerable Negotiating Closed n t e r x y z = let w = x refl in cc
+answerable Establishing Detecting n t e r x y z = refl
+answerable Establishing Negotiating n t e r x y z = refl
+answerable Establishing Establishing n t e r x y z = absurd (e refl)
+answerable Establishing Connected n t e r x y z = ap not (y refl).0
+answerable Establishing Releasing n t e r x y z = absurd (r refl)
+answerable Establishing Closed n t e r x y z = let w = (y refl).1 in cc
+answerable Releasing Detecting n t e r x y z = let w = z refl in cc
+answerable Releasing Negotiating n t e r x y z = let w = z refl in cc
+answerable Releasing Establishing n t e r x y z = absurd (e refl)
+answerable Releasing Connected n t e r x y z = refl
+answerable Releasing Releasing n t e r x y z = absurd (r refl)
+answerable Releasing Closed n t e r x y z = refl
+
+not-so : (b : Bool) → (b ≡ true → ⊥) → b ≡ false
+not-so true f = absurd (f refl)
+not-so false f = refl
+
+-- The answerer answers in the turn in which it hears.
+pub answers-so : ReadsWritten → (tries period : ℕ) (delay : Role → ℕ) (link : Link) (ts : List Turn) (state : ℕ → Ends) (deed : ℕ → Deed)
+    → KeepsTime tries period delay link → MayPlay link.orig.setup link.answ.setup → Trace period delay link ts state deed
+    → (p : Phase) → is_trying p ≡ true → (u : ℕ) → u < length ts → (state u).orig.phase ≡ p
+    → of_arrived (asks p) (arrival (deed u).turn.answ.heard) ≡ true → of_frame (moves_on p) (sent_or (deed u).turn.answ.sent) ≡ true
+answers-so reads tries period delay link ts state deed kt m w p t u l f k =
+    ap (λ x. of_frame (moves_on p) (sent_or x)) s.sent_is
+    ∙ says-due p u (served_at link u (deed u).mid Answerer).account s.said (ap (λ x. x.role) b-setup ∙ kt.roles Answerer)
+    (ap (λ x. is_some (offer_in (written x.offer))) b-setup ∙ ap is_some (reads link.answ.setup.offer (allowed link m Answerer)))
+    served-due s.says
+  where
+    h : Happens period delay link (past ts u) u (state u) (deed u) (state (u + 1))
+    h = w.happens u l
+
+    s : SpeaksAt (said_at link u (deed u).mid Answerer) (deed u).turn.answ (state (u + 1)).answ
+    s = h.speaking Answerer
+
+    mid : Account
+    mid = (deed u).mid.answ
+
+    mid-setup : mid.setup ≡ link.answ.setup
+    mid-setup = heard-setup tries period delay link (past ts u) (state u) kt h.run h.carried Answerer
+        (arrival (deed u).turn.answ.heard) mid (ap (λ n. hear n (arrival (deed u).turn.answ.heard) (state u).answ) h.number
+        ∙ (h.hearing Answerer).hears)
+
+    v : Served u (length link.answ.user.breaks) (is_busy u link.answ.user.busy) mid (served_at link u (deed u).mid Answerer).account
+    v = serves-all link.answ.user u (is_released (deed u).mid.orig.phase) mid
+
+    b-setup : (served_at link u (deed u).mid Answerer).account.setup ≡ link.answ.setup
+    b-setup = served-setup link.answ.user u (is_released (deed u).mid.orig.phase) mid ∙ mid-setup
+
+    never : (q : Phase) → Stands (rates tries period) (length (past ts u)) (length (past ts u)) Answerer q (state u).answ ≡ ⊥
+        → (state u).answ.phase ≡ q → ⊥
+    never q e g = subst (λ x. x) e
+        (subst (λ x. Stands (rates tries period) (length (past ts u)) (length (past ts u)) Answerer x (state u).answ) g
+        (known tries period delay link (past ts u) (state u) kt h.run h.carried Answerer).stands)
+
+    both : Met (state u)
+    both = met tries period delay link (past ts u) (state u) kt h.run h.carried
+
+    can : can_answer p (state u).answ.phase (state u).answ.numbered ≡ true
+    can = answerable p (state u).answ.phase (state u).answ.numbered t (never Establishing refl) (never Releasing refl)
+        (λ q. not-so (is_begun (state u).answ.phase)
+        (λ b. let wrong : true ≡ false = sym (begun-established tries period delay link ts state deed kt w u (omega (arith, l)) b)
+        ∙ ap is_established (f ∙ q) in cc))
+        (λ q. (
+          not-so (state u).answ.numbered
+              (λ n. let wrong : true ≡ false = sym
+              (numbered-linked tries period delay link ts state deed kt w Answerer u (omega (arith, l)) n) ∙ ap is_linked (f ∙ q) in cc),
+          not-so (is_closed (state u).answ.phase) (λ c. let wrong : true ≡ false = sym (both.closed c) ∙ ap is_released (f ∙ q) in cc),
+        ))
+        (λ q. both.begun (ap is_begun (f ∙ q)))
+
+    due : AnswerDue p mid
+    due = answer-due p (arrival (deed u).turn.answ.heard) u (state u).answ mid
+        (ap (λ x. x.role) (start-setup tries period delay link (past ts u) (state u) kt h.run h.carried Answerer) ∙ kt.roles Answerer) can
+        k (h.hearing Answerer).hears
+
+    moved : (q : Phase) (a b : Account) → b.phase ≡ a.phase → b.owes.answer ≡ a.owes.answer → AnswerDue q a → AnswerDue q b
+    moved Negotiating a b x y (g, d) = (x ∙ g, y ∙ d)
+    moved Establishing a b x y (g, d) = (x ∙ g, y ∙ d)
+    moved Releasing a b x y (g, inl d) = (x ∙ g, inl (y ∙ d))
+    moved Releasing a b x y (g, inr d) = (x ∙ g, inr (y ∙ d))
+    moved Detecting a b x y d = d
+    moved Connected a b x y d = d
+    moved Closed a b x y d = d
+
+    served-due : AnswerDue p (served_at link u (deed u).mid Answerer).account
+    served-due = moved p mid (served_at link u (deed u).mid Answerer).account v.phase v.answer due
+
+-- So where none moves the originator on for a whole period, something was lost in it.
+pub unanswered-loses : ReadsWritten → (tries period : ℕ) (delay : Role → ℕ) (link : Link) (ts : List Turn) (state : ℕ → Ends)
+    (deed : ℕ → Deed) → KeepsTime tries period delay link → MayPlay link.orig.setup link.answ.setup
+    → Trace period delay link ts state deed
+    → (p : Phase) → is_trying p ≡ true → (s : ℕ) → s + period ≤ length ts → Unanswered period p (end_run delay state deed Originator) s
+    → LostIn (end_run delay state deed Originator) (end_run delay state deed Answerer) (s + 1) (period - 1)
+unanswered-loses reads tries period delay link ts state deed kt m w p t s within x = go (lost-or-none e o (s + 1) (period - 1))
+  where
+    e : EndRun
+    e = end_run delay state deed Originator
+
+    o : EndRun
+    o = end_run delay state deed Answerer
+
+    k : TwoEnds period (length ts) e o
+    k = two-ends tries period delay link ts state deed kt w Originator
+
+    per : period ≡ 2 * (e.delay + o.delay) + 16
+    per = k.period_is
+
+    d : 1 ≤ e.delay
+    d = k.own_delay
+
+    d' : 1 ≤ o.delay
+    d' = k.other_delay
+
+    unheard : (u : ℕ) → s < u → u + 1 ≤ s + period → of_arrived (moves_on p) (e.heard u) ≡ false
+    unheard u a b = by (tries-so reads tries period delay link ts state deed kt m w p t u (omega (arith, b, within))
+        (x.stays (u + 1) (omega (arith, a)) b))
+      where
+        by : TryTurn period u p (e.heard u) (e.slot u) (e.account u) (e.account (u + 1)) → of_arrived (moves_on p) (e.heard u) ≡ false
+        by (inl (first, _, _, _)) = absurd (first (x.stays u a (omega (arith, b))))
+        by (inr (inl ((_, n), _, _, _, _))) = n
+        by (inr (inr ((_, n), _, _, _))) = n
+
+    go : LostIn e o (s + 1) (period - 1) ⊎ NoneLost e o (s + 1) (period - 1) → LostIn e o (s + 1) (period - 1)
+    go (inl lost) = lost
+    go (inr none) =
+        let v : ℕ = s + e.delay in
+        let y : ℕ = v + o.delay in
+        let reaches : of_arrived (asks p) (o.heard v) ≡ true = is-heard e.delay (length ts) (asks p) e.slot o.heard o.loses k.is_heard s
+        (omega (arith, within, per)) (none v (omega (arith, d)) (omega (arith, per))).1 ∙ x.sends in
+        let answered : of_frame (moves_on p) (o.slot v) ≡ true = answers-so reads tries period delay link ts state deed kt m w p t v
+        (omega (arith, within, per)) (x.stays v (omega (arith, d)) (omega (arith, per))) reaches in
+        let hears : of_arrived (moves_on p) (e.heard y) ≡ true = is-heard o.delay (length ts)
+        (moves_on p) o.slot e.heard e.loses k.hears v (omega (arith, within, per)) (none y (omega (arith, d)) (omega (arith, per))).0
+        ∙ answered in
+        let wrong : true ≡ false = sym hears ∙ unheard y (omega (arith, d)) (omega (arith, per)) in
+        cc

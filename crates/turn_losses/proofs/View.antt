@@ -1,0 +1,330 @@
+-- Each turn of a run after which an end is Connected, by its breaks.
+use Rattle.std.proofs.Common.{◌⊎◌, inl, inr, ◌≡◌, ℕ, ◌+◌, ◌<◌, ◌≤◌, ◌&&◌, Bool, true, false, nat_lt, List, length, arith, refl, sym, ◌∙◌, ap, subst, None, Ok}
+use Rattle.std.specs.Prelude.{is_some}
+use Rattle.std.proofs.lemmas.Bool.{cases_lt}
+use Rattle.roles.specs.declared.role.Role.{Role}
+use Rattle.roles.specs.declared.role.Role.TheVariants.{Originator, Answerer}
+use Rattle.roles.specs.Both.{of}
+use Rattle.break_signals.specs.Breaks.{waits, after_ask, no_breaks}
+use Rattle.slot_contents.specs.declared.sent.Sent.{Sent}
+use Rattle.slot_contents.specs.declared.arrived.Arrived.{Arrived}
+use Rattle.slot_contents.specs.declared.arrived.Arrived.TheVariants as arrivals
+use Rattle.link_account.specs.declared.phase.Phase.{Phase}
+use Rattle.link_account.specs.declared.phase.Phase.TheVariants.{Detecting, Negotiating, Establishing, Connected, Releasing, Closed}
+use Rattle.link_account.specs.Account.{Account, is_connected}
+use Rattle.link_account.specs.Hear.{hear}
+use Rattle.link_account.specs.Speak.{speak}
+use Rattle.link_run.specs.End.{is_busy, is_released}
+use Rattle.link_run.specs.Run.{Link, Ends, Turn, SpeaksAt, arrival, served_at, said_at}
+use Rattle.turn_bound.specs.Time.{KeepsTime}
+use Rattle.turn_bound.proofs.Clock.{Rates, rates}
+use Rattle.turn_bound.proofs.Value.{Stands, Linked, Unlinked, IsAck}
+use Rattle.turn_bound.proofs.MeetHear.{of_frame, of_arrived}
+use Rattle.turn_bound.proofs.Serving.{Served, serves-all}
+use Rattle.turn_losses.specs.Polls.{is_poll, is_final}
+use Rattle.turn_losses.proofs.Polling.{is_linked}
+use Rattle.turn_losses.proofs.PollHear.{PollHeard, poll-hears}
+use Rattle.turn_losses.proofs.PollSpeak.{poll-speaks}
+use Rattle.turn_losses.proofs.NumberTurn.{poll-ok, speak-ok}
+use Rattle.turn_losses.proofs.AnswerTurn.{connected-is, linked-says}
+use Rattle.turn_losses.proofs.Trace.{Deed, Happens, Trace, past, sent_or}
+use Rattle.turn_losses.proofs.Tracing.{Known, known, timed, release_of, said-as}
+use Rattle.turn_losses.proofs.Setups.{heard-as, heard-setup}
+use Rattle.turn_losses.proofs.BreakHear.{of_word, any_brk, pends, BreakHeard, break-heard}
+use Rattle.turn_losses.proofs.BreakSpeak.{holds, SaidBreaks, breaks-said}
+use Rattle.turn_losses.proofs.BreakTurn.{Deeds, BreakTurn, ServedBreaks, served-breaks, break-turn-of, brk_due, ack_due, is_urgent, was_special}
+use Rattle.turn_losses.proofs.Begun.{SameOld, old-heard, blank}
+use Rattle.turn_losses.proofs.Windows.{Breaking}
+use Rattle.turn_losses.proofs.Establishing.{word-connected}
+use Rattle.turn_losses.proofs.TwoEnds.{end_run}
+
+pub linked-of : (z : Rates) (before turn : ℕ) (r : Role) (p : Phase) (a : Account) → Stands z before turn r p a → is_connected p ≡ true
+    → Linked z before turn r a
+linked-of z before turn Originator Connected a s e = s
+linked-of z before turn Answerer Connected a s e = s
+linked-of z before turn r Detecting a s e = cc
+linked-of z before turn r Negotiating a s e = cc
+linked-of z before turn r Establishing a s e = cc
+linked-of z before turn r Releasing a s e = cc
+linked-of z before turn r Closed a s e = cc
+
+pub unlinked-of : (z : Rates) (before turn : ℕ) (r : Role) (p : Phase) (a : Account) → Stands z before turn r p a → is_linked p ≡ false
+    → Unlinked a
+unlinked-of z before turn Originator Detecting a s e = s
+unlinked-of z before turn Originator Negotiating a s e = s.0
+unlinked-of z before turn Originator Establishing a s e = s.0
+unlinked-of z before turn Answerer Detecting a s e = s
+unlinked-of z before turn Answerer Negotiating a s e = s
+unlinked-of z before turn Answerer Establishing a s e = absurd s
+unlinked-of z before turn r Connected a s e = cc
+unlinked-of z before turn r Releasing a s e = cc
+unlinked-of z before turn r Closed a s e = cc
+
+pub served-own : (turn breaks : ℕ) (busy : Bool) (a b : Account) → Served turn breaks busy a b
+    → a.own_breaks.answered ≤ length a.own_breaks.lengths → ServedBreaks turn a.own_breaks b.own_breaks
+served-own turn breaks busy a b s low = go s.own
+  where
+    go : (b.own_breaks ≡ a.own_breaks)
+        ⊎ ((l : ℕ) × (b.own_breaks ≡ after_ask turn l a.own_breaks) × (length a.own_breaks.lengths < breaks)
+        × (is_connected a.phase ≡ true)) → ServedBreaks turn a.own_breaks b.own_breaks
+    go (inl q) = record { taken = false; yes = λ e. cc; no = λ e. q }
+    go (inr (l, q, less, c)) = subst (ServedBreaks turn a.own_breaks) (sym q) (served-breaks turn l a.own_breaks low)
+
+-- an end as it becomes Connected, before it is served
+blank-heard : (turn : ℕ) (mid : Account) → BreakHeard turn arrivals.Nothing mid mid
+blank-heard turn mid = record { special = refl; own = inl refl; ends = λ h w. cc; asked = λ n h. cc; kept = λ h. refl; urgent = λ u. inl u }
+
+and-no : (x y : Bool) → y ≡ false → x && y ≡ false
+and-no true y e = e
+and-no false y e = refl
+
+no-and : (x y : Bool) → x ≡ false → x && y ≡ false
+no-and true y e = cc
+no-and false y e = refl
+
+off : {A : Type 0} (b : Bool) → b ≡ true → b ≡ false → A
+off b e f = let wrong : true ≡ false = sym e ∙ f in cc
+
+begun-turn : (period turn : ℕ) (arrived : Arrived) (sent : Sent) (d : Deeds) (a mid c : Account) → is_connected a.phase ≡ false
+    → is_connected mid.phase ≡ true → SameOld arrived a mid → a.own_breaks ≡ no_breaks → a.their_breaks.ack ≡ None → a.special ≡ false
+    → a.wait.urgent ≡ false
+    → BreakTurn period turn arrivals.Nothing sent d mid c → BreakTurn period turn arrived sent d a c
+begun-turn period turn arrived sent d a mid c n cm o own ack special urgent k = record {
+  made_set = k.made_set;
+  made_late = λ m x. off (is_connected a.phase) x n;
+  kept_set = λ m x. off (is_connected a.phase) x n;
+  kept_rest = λ m x. off (is_connected a.phase) x n;
+  first_made = λ m x. first m;
+  brk_from = λ e. made-so (k.brk_from e);
+  brk_sent = λ e. let x = k.brk_sent e in (made-so x.0, x.1, x.2);
+  brk_goes = λ w e. k.brk_goes w (was-made e);
+  held = λ e. ap (λ x. holds (of_frame is_final sent) (of_frame is_poll sent) d.hurries d.acks x d.answers)
+      (no-and (is_connected a.phase) a.special n ∙ sym mid-special) ∙ k.held e;
+  number = λ x. off (is_connected a.phase) x n;
+  ends = λ x. off (is_connected a.phase) x n;
+  counts = λ x. off (is_connected a.phase) x n;
+  newly = λ w e. k.newly w (and-no (is_connected mid.phase) (waits mid.own_breaks) mid-waits);
+  ack_from = λ e. absurd (never (k.ack_from e));
+  acked = λ e. absurd (none (k.acked e));
+  asked = λ i l x. off (is_connected a.phase) x n;
+  asked_on = λ i l e. off (is_connected a.phase && _) e (no-and (is_connected a.phase) _ n);
+  held_ack = λ e. ap (λ x. holds (of_frame is_final sent) (of_frame is_poll sent) d.hurries d.acks x d.answers)
+      (no-and (is_connected a.phase) a.special n ∙ sym mid-special) ∙ k.held_ack e;
+  urgent = λ e. absurd (calm (k.urgent e));
+  hurried = λ e. absurd (calm (k.hurried e).0);
+  special_own = k.special_own;
+  special_ack = k.special_ack;
+}
+  where
+    mid-own : mid.own_breaks ≡ no_breaks
+    mid-own = o.own ∙ own
+
+    mid-waits : waits mid.own_breaks ≡ false
+    mid-waits = ap waits mid-own
+
+    mid-special : was_special mid ≡ false
+    mid-special = and-no (is_connected mid.phase) mid.special (o.special ∙ special)
+
+    mid-due : brk_due mid ≡ false
+    mid-due = and-no (is_connected mid.phase) mid.own_breaks.brk (ap (λ x. x.brk) mid-own)
+
+    mid-ack : ack_due mid ≡ false
+    mid-ack = and-no (is_connected mid.phase) (pends mid.their_breaks.ack) (ap (λ t. pends t.ack) o.their ∙ ap pends ack)
+
+    mid-urgent : is_urgent mid ≡ false
+    mid-urgent = and-no (is_connected mid.phase) mid.wait.urgent (o.urgent ∙ urgent)
+
+    first : d.made ≡ false → waits c.own_breaks ≡ false
+    first m = by (waits c.own_breaks) refl
+      where
+        by : (x : Bool) → waits c.own_breaks ≡ x → waits c.own_breaks ≡ false
+        by false e = e
+        by true e = off (waits mid.own_breaks) (k.kept_set m cm e).0 mid-waits
+
+    made-so : (brk_due mid ≡ true) ⊎ (d.made ≡ true) → (brk_due a ≡ true) ⊎ (d.made ≡ true)
+    made-so (inl x) = off (brk_due mid) x mid-due
+    made-so (inr x) = inr x
+
+    was-made : (brk_due a ≡ true) ⊎ (d.made ≡ true) → (brk_due mid ≡ true) ⊎ (d.made ≡ true)
+    was-made (inl x) = off (brk_due a) x (no-and (is_connected a.phase) a.own_breaks.brk n)
+    was-made (inr x) = inr x
+
+    never : ((ack_due mid ≡ true) × (d.acks ≡ false)) ⊎ ((false ≡ true) × (d.acks ≡ false)) → ⊥
+    never (inl x) = off (ack_due mid) x.0 mid-ack
+    never (inr x) = let w = x.0 in cc
+
+    none : (ack_due mid ≡ true) ⊎ (false ≡ true) → ⊥
+    none (inl x) = off (ack_due mid) x mid-ack
+    none (inr x) = cc
+
+    calm : (is_urgent mid ≡ true) ⊎ (false ≡ true) → ⊥
+    calm (inl x) = off (is_urgent mid) x mid-urgent
+    calm (inr x) = cc
+
+-- a turn of a run
+abbrev pub TurnOf : (period : ℕ) (link : Link) (state : ℕ → Ends) (deed : ℕ → Deed) → Role → ℕ → Deeds → Type 0
+TurnOf period link state deed r u d = (d.answers ≡ is_some (served_at link u (deed u).mid r).account.owes.answer)
+    × BreakTurn period u (arrival (of r (deed u).turn).heard) (sent_or (of r (deed u).turn).sent) d (of r (state u)) (of r (state (u + 1)))
+    × (waits (of r (state (u + 1))).own_breaks ≡ waits (served_at link u (deed u).mid r).account.own_breaks)
+
+pub turn-of : (tries period : ℕ) (delay : Role → ℕ) (link : Link) (ts : List Turn) (state : ℕ → Ends) (deed : ℕ → Deed)
+    → KeepsTime tries period delay link → Trace period delay link ts state deed → (r : Role)
+    → (u : ℕ) → u < length ts → is_connected (of r (state (u + 1))).phase ≡ true → (d : Deeds) × TurnOf period link state deed r u d
+turn-of tries period delay link ts state deed kt w r u l c = moved (by (polls.from mid-connected))
+  where
+    h : Happens period delay link (past ts u) u (state u) (deed u) (state (u + 1))
+    h = w.happens u l
+
+    a : Account
+    a = of r (state u)
+
+    mid : Account
+    mid = of r (deed u).mid
+
+    arrived : Arrived
+    arrived = arrival (of r (deed u).turn).heard
+
+    b : Account
+    b = (served_at link u (deed u).mid r).account
+
+    s : SpeaksAt (said_at link u (deed u).mid r) (of r (deed u).turn) (of r (state (u + 1)))
+    s = h.speaking r
+
+    says-so : speak u (release_of link u (deed u).mid r) b ≡ Ok s.said
+    says-so = sym (said-as link u (deed u).mid r) ∙ s.says
+
+    after : is_connected s.said.account.phase ≡ true
+    after = ap (λ (x : Account). is_connected x.phase) (sym s.after_is) ∙ c
+
+    v : Served u (length (of r link).user.breaks) (is_busy u (of r link).user.busy) mid b
+    v = serves-all (of r link).user u (is_released (deed u).mid.orig.phase) mid
+
+    b-connected : is_connected b.phase ≡ true
+    b-connected = ((speak-ok u b s.said (speak u (release_of link u (deed u).mid r) b) says-so
+        (poll-speaks u (release_of link u (deed u).mid r) b)).connected after).0
+
+    mid-connected : is_connected mid.phase ≡ true
+    mid-connected = ap is_connected (sym v.phase) ∙ b-connected
+
+    k : Known (rates tries period) link (length (past ts u)) (state u) r
+    k = known tries period delay link (past ts u) (state u) kt h.run h.carried r
+
+    role : a.setup.role ≡ r
+    role = ap (λ x. x.role) k.setup ∙ (timed tries period delay link kt r).role_is
+
+    hears-so : hear (length (past ts u)) arrived a ≡ Ok mid
+    hears-so = ap (λ n. hear n arrived a) h.number ∙ (h.hearing r).hears
+
+    polls : PollHeard r u (of_arrived is_poll arrived) a mid
+    polls = poll-ok r u (of_arrived is_poll arrived) a mid (hear u arrived a) (h.hearing r).hears
+        (poll-hears r arrived u a role k.none_due.answer)
+
+    mid-linked : Linked (rates tries period) (length (past ts u) + 1) (length (past ts u)) r mid
+    mid-linked = let hd = heard-as tries period delay link (past ts u) (state u) kt h.run h.carried r arrived mid hears-so in
+        linked-of (rates tries period) (length (past ts u) + 1) (length (past ts u)) r hd.0 mid hd.1.stands
+        (ap is_connected (sym hd.1.phase) ∙ mid-connected)
+
+    says : SaidBreaks u b s.said
+    says = breaks-said u b s.said (subst (λ t. IsAck t.ack) (sym v.ack) mid-linked.ack)
+        (linked-says u (release_of link u (deed u).mid r) b s.said (connected-is b.phase b-connected) after says-so)
+
+    per : b.setup.period ≡ period
+    per = ap (λ x. x.period)
+        (v.setup ∙ heard-setup tries period delay link (past ts u) (state u) kt h.run h.carried r arrived mid hears-so)
+        ∙ (kt.timed r).period_is
+
+    long : 1 ≤ period
+    long = let q = kt.period_is in omega (arith, q)
+
+    waits-said : waits (of r (state (u + 1))).own_breaks ≡ waits b.own_breaks
+    waits-said = ap (λ (x : Account). waits x.own_breaks) s.after_is
+        ∙ (ap (λ n. nat_lt n (length s.said.account.own_breaks.lengths)) says.answered
+        ∙ ap (λ (l : List ℕ). nat_lt b.own_breaks.answered (length l)) says.lengths)
+
+    served : ServedBreaks u mid.own_breaks b.own_breaks
+    served = served-own u (length (of r link).user.breaks) (is_busy u (of r link).user.busy) mid b v mid-linked.breaks.low
+
+    moved : (d : Deeds) × (d.answers ≡ is_some b.owes.answer) × BreakTurn period u arrived s.said.sent d a s.said.account
+        → (d : Deeds) × TurnOf period link state deed r u d
+    moved (d, q, x) = (
+      d,
+      (
+        q,
+        subst (λ y. BreakTurn period u arrived y d a (of r (state (u + 1)))) (ap sent_or (sym s.sent_is))
+            (subst (λ y. BreakTurn period u arrived s.said.sent d a y) (sym s.after_is) x),
+        waits-said,
+      ),
+    )
+
+    by : (is_connected a.phase ≡ true) ⊎ (is_linked a.phase ≡ false)
+        → (d : Deeds) × (d.answers ≡ is_some b.owes.answer) × BreakTurn period u arrived s.said.sent d a s.said.account
+    by (inl ca) =
+        let lk = linked-of (rates tries period) (length (past ts u)) (length (past ts u)) r a.phase a k.stands ca in
+        break-turn-of period u arrived a mid b s.said ca after lk.breaks.high per long v.special v.ack (ap (λ x. x.urgent) v.wait)
+        (break-heard arrived u a mid (connected-is a.phase ca) mid-connected (h.hearing r).hears) served says
+    by (inr un) =
+        let x = break-turn-of period u arrivals.Nothing mid mid b s.said mid-connected after mid-linked.breaks.high per long v.special
+        v.ack (ap (λ x. x.urgent) v.wait) (blank-heard u mid) served says in
+        let o = old-heard arrived u a mid un (h.hearing r).hears in
+        let q = unlinked-of (rates tries period) (length (past ts u)) (length (past ts u)) r a.phase a k.stands un in
+        let z = blank tries period delay link ts state deed kt w r u (omega (arith, l)) un in (
+          x.0,
+          x.1,
+          begun-turn period u arrived s.said.sent x.0 a mid s.said.account
+              (not-connected a.phase un) mid-connected o q.breaks q.ack z.0 z.1 x.2,
+        )
+      where
+        not-connected : (p : Phase) → is_linked p ≡ false → is_connected p ≡ false
+        not-connected Detecting e = refl
+        not-connected Negotiating e = refl
+        not-connected Establishing e = refl
+        not-connected Connected e = cc
+        not-connected Releasing e = refl
+        not-connected Closed e = refl
+
+-- all of them, one function a kind
+none-done : Deeds
+none-done = record { made = false; hurries = false; acks = false; answers = false }
+
+abbrev pub Taken : (period : ℕ) (link : Link) (ts : List Turn) (state : ℕ → Ends) (deed : ℕ → Deed) → Role → ℕ → Deeds → Type 0
+Taken period link ts state deed r u d = u < length ts → is_connected (of r (state (u + 1))).phase ≡ true
+    → TurnOf period link state deed r u d
+
+pub chosen : (tries period : ℕ) (delay : Role → ℕ) (link : Link) (ts : List Turn) (state : ℕ → Ends) (deed : ℕ → Deed)
+    → KeepsTime tries period delay link → Trace period delay link ts state deed → (r : Role) (u : ℕ)
+    → (d : Deeds) × Taken period link ts state deed r u d
+chosen tries period delay link ts state deed kt w r u = go (cases_lt u (length ts)) (is_connected (of r (state (u + 1))).phase) refl
+  where
+    go : (u < length ts) ⊎ (length ts ≤ u) → (c : Bool) → is_connected (of r (state (u + 1))).phase ≡ c
+        → (d : Deeds) × Taken period link ts state deed r u d
+    go (inr g) c e = (none-done, λ l f. absurd (omega (arith, g, l)))
+    go (inl l) false e = (none-done, λ l' f. off (is_connected (of r (state (u + 1))).phase) f e)
+    go (inl l) true e = let x = turn-of tries period delay link ts state deed kt w r u l e in (x.0, λ l' f. x.1)
+
+abbrev pub deeds-of : (tries period : ℕ) (delay : Role → ℕ) (link : Link) (ts : List Turn) (state : ℕ → Ends) (deed : ℕ → Deed)
+    → KeepsTime tries period delay link → Trace period delay link ts state deed → Role → ℕ → Deeds
+deeds-of tries period delay link ts state deed kt w r u = (chosen tries period delay link ts state deed kt w r u).0
+
+pub breaking : (tries period : ℕ) (delay : Role → ℕ) (link : Link) (ts : List Turn) (state : ℕ → Ends) (deed : ℕ → Deed)
+    → (kt : KeepsTime tries period delay link) → (w : Trace period delay link ts state deed) → (r : Role)
+    → Breaking period (length ts) (end_run delay state deed r) (deeds-of tries period delay link ts state deed kt w r)
+breaking tries period delay link ts state deed kt w r = record {
+  turn = λ t l c. ((chosen tries period delay link ts state deed kt w r t).1 l c).1;
+  says = λ t l e. let s = (w.happens t l).speaking r in
+      ap (λ (x : Account). is_connected x.phase) s.after_is
+      ∙ word-connected t (release_of link t (deed t).mid r) (served_at link t (deed t).mid r).account s.said
+      (sym (said-as link t (deed t).mid r) ∙ s.says) (ap (λ x. of_frame (of_word any_brk) (sent_or x)) (sym s.sent_is) ∙ e);
+}
+
+pub answers-are : (tries period : ℕ) (delay : Role → ℕ) (link : Link) (ts : List Turn) (state : ℕ → Ends) (deed : ℕ → Deed)
+    → (kt : KeepsTime tries period delay link) → (w : Trace period delay link ts state deed) → (r : Role)
+    → (u : ℕ) → u < length ts → is_connected (of r (state (u + 1))).phase ≡ true
+    → (deeds-of tries period delay link ts state deed kt w r u).answers ≡ is_some
+    (served_at link u (deed u).mid r).account.owes.answer
+answers-are tries period delay link ts state deed kt w r u l c = ((chosen tries period delay link ts state deed kt w r u).1 l c).0
+
+pub waits-are : (tries period : ℕ) (delay : Role → ℕ) (link : Link) (ts : List Turn) (state : ℕ → Ends) (deed : ℕ → Deed)
+    → (kt : KeepsTime tries period delay link) → (w : Trace period delay link ts state deed) → (r : Role)
+    → (u : ℕ) → u < length ts → is_connected (of r (state (u + 1))).phase ≡ true
+    → waits (of r (state (u + 1))).own_breaks ≡ waits (served_at link u (deed u).mid r).account.own_breaks
+waits-are tries period delay link ts state deed kt w r u l c = ((chosen tries period delay link ts state deed kt w r u).1 l c).2

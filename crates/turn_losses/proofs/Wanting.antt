@@ -1,0 +1,285 @@
+-- Why a Connected end breaks, and what was lost then.
+use Rattle.std.proofs.Common.{◌⊎◌, inl, inr, ◌≡◌, ℕ, ◌+◌, ◌-◌, ◌*◌, ◌<◌, ◌≤◌, ◌&&◌, Bool, true, false, cond, nat_eq, List, length, arith, refl, sym, ◌∙◌, ap, subst, Option, Some, None, Ok, Err}
+use Rattle.std.proofs.lemmas.Bool.Decides.{nat_tests}
+use Rattle.roles.specs.declared.role.Role.{Role}
+use Rattle.roles.specs.Role.{other, is_originator}
+use Rattle.roles.specs.Both.{of}
+use Rattle.lapm_frames.specs.declared.frame.Frame.TheVariants.{Disc}
+use Rattle.lapm_sender.specs.Outgoing.{expired}
+use Rattle.break_signals.specs.Breaks.{waits}
+use Rattle.slot_contents.specs.declared.arrived.Arrived.{Arrived}
+use Rattle.slot_contents.specs.declared.heard.Heard.{Heard}
+use Rattle.slot_contents.specs.declared.heard.Heard.TheVariants.{Nothing, Passed, Lost, Chance}
+use Rattle.link_account.specs.declared.phase.Phase.TheVariants.{Connected, Releasing}
+use Rattle.link_faults.specs.declared.fault.LinkFault.{LinkFault}
+use Rattle.link_account.specs.Account.{Account, is_connected}
+use Rattle.link_account.specs.Hear.{hear, trying}
+use Rattle.link_account.specs.Speak.{spent, trying_again, tries_frame, polling, timer_expires, breaking, on_break_timer, after_timers, then_tries, speak_linked, speak, speak_in, speak_releasing}
+use Rattle.link_run.specs.End.{User, is_busy}
+use Rattle.link_run.specs.Run.{Link, Ends, Turn}
+use Rattle.link_run.specs.Starved.{IsLost, LosesSome}
+use Rattle.turn_bound.specs.Time.{KeepsTime}
+use Rattle.turn_bound.specs.Due.{NoneDue}
+use Rattle.turn_bound.proofs.Clock.{Rates, rates, AreRates, Sends}
+use Rattle.turn_bound.proofs.Value.{IsOf, Stands, arrived_rnrs}
+use Rattle.turn_bound.proofs.Run.{served_account}
+use Rattle.turn_bound.proofs.Hearing.{HeardAs}
+use Rattle.turn_bound.proofs.MeetHear.{of_arrived}
+use Rattle.turn_bound.proofs.OneTurn.{heard-ok}
+use Rattle.turn_losses.specs.Polls.{is_poll}
+use Rattle.turn_losses.proofs.NumberTurn.{poll-ok}
+use Rattle.link_account.specs.declared.phase.Phase.{Phase}
+use Rattle.turn_bound.proofs.Phases.{hears-well}
+use Rattle.turn_bound.proofs.Serves.{serves-well}
+use Rattle.turn_bound.proofs.Serving.{Served, serves-all}
+use Rattle.turn_bound.proofs.Tied.{is_lost}
+use Rattle.turn_losses.specs.Losses.{PeriodLoses, LosesEach}
+use Rattle.turn_losses.proofs.Polling.{is_linked}
+use Rattle.turn_losses.proofs.PollHear.{PollHeard, poll-hears, linked-connected}
+use Rattle.turn_losses.proofs.Trace.{Deed, Trace}
+use Rattle.turn_losses.proofs.TwoEnds.{EndRun, TwoEnds, end_run}
+use Rattle.turn_losses.proofs.AnswerTurn.{linked-sends, connected-is}
+use Rattle.turn_losses.proofs.HeardCount.{CountKept, count-hears}
+use Rattle.turn_losses.proofs.PollLaws.{two-ends}
+use Rattle.turn_losses.proofs.PeriodLaws.{linked-on, connected-back, StayConnected}
+use Rattle.turn_losses.proofs.PeriodHolds.{LostIn}
+use Rattle.turn_losses.proofs.Expiries.{Expired, last-expired, First, first-connected, losses}
+use Rattle.turn_losses.proofs.Acknowledged.{Counts}
+use Rattle.turn_losses.proofs.Keeping.{turn-is}
+
+-- where a Connected end breaks though no break waits: its clock expires with the last try
+pub record SpendsTries (turn : ℕ) (b : Account) : Type 0 where
+  pub set : ℕ
+  pub runs : b.wait.timer ≡ Some set
+  pub now : turn ≡ set + b.setup.period
+  pub count : b.outgoing.count ≡ b.outgoing.tries
+
+linked-why : (turn : ℕ) (b : Account) (fault : LinkFault) → waits b.own_breaks ≡ false → speak_linked turn b ≡ Err fault
+    → SpendsTries turn b
+linked-why turn b fault none h = timed b.wait.timer refl h
+  where
+    well : (c : Account) → c.own_breaks ≡ b.own_breaks → after_timers turn b.special (on_break_timer turn c) ≡ Err fault → ⊥
+    well c own q = by (waits c.own_breaks) (ap waits own ∙ none) (nat_eq turn (c.own_breaks.set + c.setup.period))
+        (nat_eq c.own_breaks.count c.setup.tries) q
+      where
+        by : (w : Bool) → w ≡ false → (due s : Bool)
+            → after_timers turn b.special
+            (breaking turn (cond (w && due)
+            (cond s None (Some (record c.own_breaks { brk = true; set = turn; count = c.own_breaks.count + 1 }))) (Some c.own_breaks))
+            c) ≡ Err fault → ⊥
+        by false e due s q = cc
+        by true e due s q = cc
+
+    timed : (timer : Option ℕ) → b.wait.timer ≡ timer
+        → after_timers turn b.special
+        (then_tries turn (cond (timer_expires turn b timer) (polling turn (expired b.outgoing) b) (Ok b))) ≡ Err fault
+        → SpendsTries turn b
+    timed None e q = absurd (well b refl q)
+    timed (Some set) e q = go (nat_eq turn (set + b.setup.period)) refl (nat_eq b.outgoing.count b.outgoing.tries) refl q
+      where
+        go : (due : Bool) → nat_eq turn (set + b.setup.period) ≡ due → (s : Bool) → nat_eq b.outgoing.count b.outgoing.tries ≡ s
+            → after_timers turn b.special
+            (then_tries turn (cond due
+            (polling turn (cond s None (Some (record b.outgoing { count = b.outgoing.count + 1; awaited = true }))) b) (Ok b))) ≡ Err
+            fault → SpendsTries turn b
+        go false d s f q = absurd (well b refl q)
+        go true d false f q = absurd
+            (well (record b {
+              outgoing = record b.outgoing { count = b.outgoing.count + 1; awaited = true };
+              wait = record b.wait
+                  { poll = true; timer = Some turn };
+            }) refl q)
+        go true d true f q = record { set = set; runs = e; now = grind (arith, nat_tests, d); count = grind (arith, nat_tests, f) }
+
+pub connected-why : (turn : ℕ) (release : Bool) (b : Account) (fault : LinkFault) → b.phase ≡ Connected → 1 ≤ b.setup.period
+    → waits b.own_breaks ≡ false → speak turn release b ≡ Err fault → SpendsTries turn b
+connected-why turn release b fault e long none h = go (release && is_originator b.setup.role)
+    (sym (ap (λ p. speak_in p turn release b) e) ∙ h)
+  where
+    later : nat_eq turn (turn + b.setup.period) ≡ false
+    later = grind (arith, nat_tests, long)
+
+    by : (due : Bool) → due ≡ false
+        → cond due (cond (nat_eq 0 b.setup.tries) (Err (spent turn (trying Releasing turn b)))
+        (Ok (tries_frame (Disc true) (trying_again turn (trying Releasing turn b)))))
+        (Ok (tries_frame (Disc true) (trying Releasing turn b))) ≡ Err fault → SpendsTries turn b
+    by false f q = cc
+    by true f q = cc
+
+    go : (x : Bool) → cond x (speak_releasing turn (trying Releasing turn b)) (speak_linked turn b) ≡ Err fault → SpendsTries turn b
+    go false q = linked-why turn b fault none q
+    go true q = by (nat_eq turn (turn + b.setup.period)) later q
+
+-- what is known of its account before that turn
+pub record LastTry (tries period turn : ℕ) (a : Account) : Type 0 where
+  pub connected : is_connected a.phase ≡ true
+  pub set : ℕ
+  pub runs : a.wait.timer ≡ Some set
+  pub now : turn ≡ set + period
+  pub count : a.outgoing.count ≡ tries
+
+pub last-try-of : (tries period : ℕ) (user : User) (turn : ℕ) (role : Role) (arrived : Arrived) (a mid : Account) (released : Bool)
+    → AreRates (rates tries period) → IsOf (rates tries period) a.setup
+    → Stands (rates tries period) turn turn role a.phase a → a.setup.role ≡ role → NoneDue a
+    → (is_linked a.phase ≡ false → is_connected mid.phase ≡ true → mid.outgoing.count ≡ 0)
+    → hear turn arrived a ≡ Ok mid → is_connected mid.phase ≡ true → SpendsTries turn (served_account user turn released mid)
+    → LastTry tries period turn a
+last-try-of tries period user turn role arrived a mid released y k h er none begins hears cm why = from (polls.from cm)
+  where
+    z : Rates
+    z = rates tries period
+
+    b : Account
+    b = served_account user turn released mid
+
+    s : Served turn (length user.breaks) (is_busy turn user.busy) mid b
+    s = serves-all user turn released mid
+
+    heard : (q : Phase) × HeardAs z (length a.outgoing.pieces) (length user.breaks) turn
+        (z.quota * arrived_rnrs arrived) role a.phase a q mid
+    heard = heard-ok z (length a.outgoing.pieces) (length user.breaks) turn (z.quota * arrived_rnrs arrived) role a.phase a mid
+        (hear turn arrived a) hears
+        (hears-well z (length a.outgoing.pieces) (length user.breaks) turn role a.phase arrived a y k h refl er (omega arith))
+
+    sends : Sends z (turn + 1) turn b.outgoing b.wait.timer
+    sends = linked-sends z (turn + 1) turn role heard.0 b
+        (serves-well z (length a.outgoing.pieces) (length user.breaks) turn
+        (is_busy turn user.busy) role heard.0 mid b y heard.1.stands heard.1.phase s).stands
+        (ap is_connected (sym heard.1.phase) ∙ cm)
+
+    per : b.setup.period ≡ period
+    per = ap (λ x. x.period) (s.setup ∙ heard.1.setup) ∙ k.period
+
+    polls : PollHeard role turn (of_arrived is_poll arrived) a mid
+    polls = poll-ok role turn (of_arrived is_poll arrived) a mid (hear turn arrived a) hears (poll-hears role arrived turn a er none.answer)
+
+    mid-count : mid.outgoing.count ≡ tries
+    mid-count = ap (λ o. o.count) (sym s.longer.outgoing) ∙ (why.count ∙ sends.tries_are)
+
+    some-tries : 1 ≤ tries
+    some-tries = y.tries
+
+    from : (is_connected a.phase ≡ true) ⊎ (is_linked a.phase ≡ false) → LastTry tries period turn a
+    from (inr u) = let c = begins u cm in absurd (omega (arith, c, mid-count, some-tries))
+    from (inl ca) = by (count-hears z arrived turn a mid ca (linked-sends z turn turn role a.phase a h ca) hears)
+      where
+        by : CountKept a mid → LastTry tries period turn a
+        by (inl c) = absurd (omega (arith, c, mid-count, some-tries))
+        by (inr (c, w)) = record {
+          connected = ca;
+          set = why.set;
+          runs = sym w ∙ (ap (λ v. v.timer) (sym s.wait) ∙ why.runs);
+          now = let n = why.now in omega (arith, n, per);
+          count = sym c ∙ mid-count;
+        }
+
+-- so it is where no break waits
+pub last-try : (tries period : ℕ) (user : User) (turn : ℕ) (role : Role) (arrived : Arrived) (a mid : Account) (released release : Bool)
+    (fault : LinkFault) → AreRates (rates tries period) → IsOf (rates tries period) a.setup
+    → Stands (rates tries period) turn turn role a.phase a → a.setup.role ≡ role → NoneDue a
+    → (is_linked a.phase ≡ false → is_connected mid.phase ≡ true → mid.outgoing.count ≡ 0)
+    → hear turn arrived a ≡ Ok mid → is_connected mid.phase ≡ true → waits (served_account user turn released mid).own_breaks ≡ false
+    → speak turn release (served_account user turn released mid) ≡ Err fault
+    → LastTry tries period turn a
+last-try tries period user turn role arrived a mid released release fault y k h er none begins hears cm quiet breaks = last-try-of tries
+    period user turn role arrived a mid released y k h er none begins hears cm why
+  where
+    z : Rates
+    z = rates tries period
+
+    b : Account
+    b = served_account user turn released mid
+
+    s : Served turn (length user.breaks) (is_busy turn user.busy) mid b
+    s = serves-all user turn released mid
+
+    heard : (q : Phase) × HeardAs z (length a.outgoing.pieces) (length user.breaks) turn
+        (z.quota * arrived_rnrs arrived) role a.phase a q mid
+    heard = heard-ok z (length a.outgoing.pieces) (length user.breaks) turn (z.quota * arrived_rnrs arrived) role a.phase a mid
+        (hear turn arrived a) hears
+        (hears-well z (length a.outgoing.pieces) (length user.breaks) turn role a.phase arrived a y k h refl er (omega arith))
+
+    per : b.setup.period ≡ period
+    per = ap (λ x. x.period) (s.setup ∙ heard.1.setup) ∙ k.period
+
+    why : SpendsTries turn b
+    why = let long = y.period in connected-why turn release b fault (s.phase ∙ connected-is mid.phase cm)
+        (omega (arith, per, long)) quiet breaks
+
+-- a turn in which an end hears nothing of what was sent
+pub lost-is : (h : Heard) → is_lost h ≡ true → IsLost h
+lost-is Nothing e = cc
+lost-is (Passed s) e = cc
+lost-is (Lost s) e = tt
+lost-is Chance e = cc
+
+-- So where both ends stay Connected, something was lost in each of the last periods.
+pub wants-answers : (tries period : ℕ) (delay : Role → ℕ) (link : Link) (ts : List Turn) (state : ℕ → Ends) (deed : ℕ → Deed)
+    → KeepsTime tries period delay link → (w : Trace period delay link ts state deed) → (role : Role)
+    → Counts (length ts) (end_run delay state deed role) (end_run delay state deed (other role))
+    → LastTry tries period (length ts) (of role (state (length ts)))
+    → ((s u : ℕ) → s < length ts → s ≤ u → u ≤ length ts → (deed s).made role ≡ true → is_connected (of role (state s)).phase ≡ true
+    → is_connected (of role (state u)).phase ≡ true → is_connected (of (other role) (state u)).phase ≡ true)
+    → LosesEach period tries (length ts) ts
+wants-answers tries period delay link ts state deed kt w role c l both n less = go
+    (losses period turns e o k c first ce both (tries - 1) turns (omega arith) x far n (omega (arith, less)))
+  where
+    turns : ℕ
+    turns = length ts
+
+    e : EndRun
+    e = end_run delay state deed role
+
+    o : EndRun
+    o = end_run delay state deed (other role)
+
+    k : TwoEnds period turns e o
+    k = two-ends tries period delay link ts state deed kt w role
+
+    first : First turns e
+    first = first-connected period turns e o k c turns (omega arith) l.connected
+
+    some-tries : 1 ≤ tries
+    some-tries = kt.some_tries
+
+    low : first.from ≤ turns
+    low = first.none_before turns (omega arith) l.connected
+
+    ce : StayConnected e first.from turns
+    ce u a b = connected-back period turns e o k u turns b (omega arith)
+        (linked-on period turns e o k first.from u a b (linked-connected (of role (state first.from)).phase first.connected)) l.connected
+
+    x : Expired (tries - 1) turns e
+    x = last-expired period turns e o k first.from first.connected first.count turns low (omega arith) l.connected (tries - 1)
+        (let q = l.count in omega (arith, q, some-tries))
+
+    far : x.at + period ≤ turns
+    far = let there : Some x.at ≡ Some l.set = sym x.timer ∙ l.runs in let same : x.at ≡ l.set = cc in let q = l.now in omega
+        (arith, same, q)
+
+    exact : x.at + period ≡ turns
+    exact = let there : Some x.at ≡ Some l.set = sym x.timer ∙ l.runs in let same : x.at ≡ l.set = cc in let q = l.now in omega
+        (arith, same, q)
+
+    go : (s : ℕ) × (s + n * period ≡ x.at) × LostIn e o (s + 1) (period - 1) → PeriodLoses period turns ts n
+    go (s, q, lost) =
+        let same : (n + 1) * period ≡ n * period + period = next n in
+        let a = lost.low in let b = lost.high in let f = exact in
+        let within : lost.turn < turns = omega (arith, b, f, q, long) in
+        record {
+          turn = lost.turn;
+          within = within;
+          in_period = record { behind = omega (arith, a, q, f, same); before = omega (arith, b, q, f, long) };
+          lost = subst LosesSome (sym (turn-is period delay link ts state deed w lost.turn within)) (some lost.turn lost.loses);
+        }
+      where
+        next : (y : ℕ) → (y + 1) * period ≡ y * period + period
+        next y = omega arith
+
+        long : 1 ≤ period
+        long = let p = kt.period_is in omega (arith, p)
+
+        some : (t : ℕ) → (is_lost (of role (deed t).turn).heard ≡ true) ⊎ (is_lost (of (other role) (deed t).turn).heard ≡ true)
+            → LosesSome (Some (deed t).turn)
+        some t (inl y) = (role, lost-is (of role (deed t).turn).heard y)
+        some t (inr y) = (other role, lost-is (of (other role) (deed t).turn).heard y)

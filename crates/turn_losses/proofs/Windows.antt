@@ -1,0 +1,270 @@
+-- How soon a BRK goes, and the BRKACK that answers it.
+use Rattle.std.proofs.Common.{◌⊎◌, inl, inr, ◌≡◌, ℕ, zero, suc, ◌+◌, ◌-◌, ◌*◌, ◌<◌, ◌≤◌, ◌&&◌, Bool, true, false, nat_le, arith, refl, sym, ◌∙◌, ap, subst}
+use Rattle.std.proofs.lemmas.Bool.{cases_lt}
+use Rattle.std.proofs.lemmas.Bool.Decides.{nat_tests}
+use Rattle.break_signals.specs.Breaks.{waits}
+use Rattle.link_account.specs.Account.{Account, is_connected}
+use Rattle.turn_bound.proofs.MeetHear.{of_frame, of_arrived}
+use Rattle.turn_losses.specs.Polls.{is_poll}
+use Rattle.turn_losses.proofs.PollHear.{linked-connected}
+use Rattle.turn_losses.proofs.TwoEnds.{EndRun, TwoEnds, sends_poll, sends_final, hears_final}
+use Rattle.turn_losses.proofs.LineLaw.{was-sent}
+use Rattle.turn_losses.proofs.PollLaws.{turned, polls-apart, reply-from, reply-matches}
+use Rattle.turn_losses.proofs.PeriodLaws.{linked-on, connected-back}
+use Rattle.turn_losses.proofs.BreakHear.{of_word, any_brk}
+use Rattle.turn_losses.proofs.BreakTurn.{Deeds, BreakTurn, brk_due, is_urgent}
+use Rattle.turn_losses.proofs.Counting.{hits, one_if, once, twice, at-most-made}
+
+-- an end's breaks by the turn
+pub record Breaking (period turns : ℕ) (e : EndRun) (d : ℕ → Deeds) : Type 0 where
+  pub turn : (t : ℕ) → t < turns → is_connected (e.account (t + 1)).phase ≡ true
+      → BreakTurn period t (e.heard t) (e.slot t) (d t) (e.account t) (e.account (t + 1))
+  pub says : (t : ℕ) → t < turns → of_frame (of_word any_brk) (e.slot t) ≡ true → is_connected (e.account (t + 1)).phase ≡ true
+
+pub off : {A : Type 0} (b : Bool) → b ≡ true → b ≡ false → A
+off b e f = let wrong : true ≡ false = sym e ∙ f in cc
+
+pub no-and : (x y : Bool) → x ≡ false → x && y ≡ false
+no-and true y e = cc
+no-and false y e = refl
+
+-- since a BRK became due: the break's timer was set no earlier, or no break is taken for eight turns
+pub record Since (m : ℕ) (a : Account) : Type 0 where
+  pub set : waits a.own_breaks ≡ true → m ≤ a.own_breaks.set
+  pub rest : waits a.own_breaks ≡ false → m + 8 ≤ a.own_breaks.rest
+
+since-made : (period turns : ℕ) (e o : EndRun) (d : ℕ → Deeds) → TwoEnds period turns e o → Breaking period turns e d → (m n : ℕ)
+    → m + 1 + n ≤ turns → (d m).made ≡ true → is_connected (e.account (m + 1)).phase ≡ true
+    → is_connected (e.account (m + 1 + n)).phase ≡ true
+    → Since m (e.account (m + 1 + n))
+since-made period turns e o d k h m zero l made c1 c =
+    let x = (h.turn m (omega (arith, l)) c1).made_set made in
+    subst (λ t. Since m (e.account t)) (omega arith)
+    (record { set = λ w. let q = x.1 in omega (arith, q); rest = λ w. off (waits (e.account (m + 1)).own_breaks) x.0 w })
+since-made period turns e o d k h m (suc n) l made c1 c = subst (λ t. Since m (e.account t)) (omega arith)
+    (step (since-made period turns e o d k h m n (omega (arith, l)) made c1 before))
+  where
+    t : ℕ
+    t = m + 1 + n
+
+    now : is_connected (e.account (t + 1)).phase ≡ true
+    now = ap (λ x. is_connected (e.account x).phase) (omega arith) ∙ c
+
+    before : is_connected (e.account t).phase ≡ true
+    before = connected-back period turns e o k t (t + 1) (omega arith) (omega (arith, l))
+        (linked-on period turns e o k (m + 1) t (omega arith) (omega (arith, l)) (linked-connected (e.account (m + 1)).phase c1)) now
+
+    x : BreakTurn period t (e.heard t) (e.slot t) (d t) (e.account t) (e.account (t + 1))
+    x = h.turn t (omega (arith, l)) now
+
+    step : Since m (e.account t) → Since m (e.account (t + 1))
+    step i = by (d t).made refl
+      where
+        by : (b : Bool) → (d t).made ≡ b → Since m (e.account (t + 1))
+        by true q = let y = x.made_set q in record {
+          set = λ w. let z = y.1 in omega (arith, z);
+          rest = λ w. off
+              (waits (e.account (t + 1)).own_breaks) y.0 w;
+        }
+        by false q = record {
+          set = λ w. let y = x.kept_set q before w in let z = i.set y.0 in let s = y.1 in omega
+              (arith, z, s);
+          rest = λ w. rests (x.kept_rest q before w);
+        }
+          where
+            rests : ((waits (e.account t).own_breaks ≡ false) × ((e.account (t + 1)).own_breaks.rest ≡ (e.account t).own_breaks.rest))
+                ⊎ ((e.account (t + 1)).own_breaks.rest ≡ t + 8) → m + 8 ≤ (e.account (t + 1)).own_breaks.rest
+            rests (inl (y, z)) = let r = i.rest y in omega (arith, r, z)
+            rests (inr z) = omega (arith, z)
+
+-- so they become due at least eight turns apart
+pub made-apart : (period turns : ℕ) (e o : EndRun) (d : ℕ → Deeds) → TwoEnds period turns e o → Breaking period turns e d → (s t : ℕ)
+    → s < t → t < turns → (d s).made ≡ true → (d t).made ≡ true → is_connected (e.account (s + 1)).phase ≡ true
+    → is_connected (e.account (t + 1)).phase ≡ true
+    → s + 8 ≤ t
+made-apart period turns e o d k h s t less within ms mt cs ct = by ((h.turn t within ct).made_late mt before)
+  where
+    p : period ≡ 2 * (e.delay + o.delay) + 16
+    p = k.period_is
+
+    before : is_connected (e.account t).phase ≡ true
+    before = connected-back period turns e o k t (t + 1) (omega arith) (omega (arith, within))
+        (linked-on period turns e o k (s + 1) t (omega (arith, less)) (omega (arith, within))
+        (linked-connected (e.account (s + 1)).phase cs)) ct
+
+    same : s + 1 + (t - (s + 1)) ≡ t
+    same = omega (arith, less)
+
+    i : Since s (e.account t)
+    i = subst (λ x. Since s (e.account x)) same
+        (since-made period turns e o d k h s (t - (s + 1)) (omega (arith, less, within)) ms cs
+        (ap (λ x. is_connected (e.account x).phase) same ∙ before))
+
+    by : ((waits (e.account t).own_breaks ≡ true) × (t ≡ (e.account t).own_breaks.set + period))
+        ⊎ ((waits (e.account t).own_breaks ≡ false) × ((e.account t).own_breaks.rest ≤ t)) → s + 8 ≤ t
+    by (inl (w, q)) = let z = i.set w in omega (arith, z, q, p)
+    by (inr (w, q)) = let z = i.rest w in omega (arith, z, q)
+
+-- F replies are sent, and answers heard, as far apart as polls
+pub replies-apart : (period turns : ℕ) (e o : EndRun) → TwoEnds period turns e o → (s t : ℕ) → s < t → t < turns → sends_final e s ≡ true
+    → sends_final e t ≡ true → s + (period - 1) ≤ t
+replies-apart period turns e o k s t less within a b =
+    let p = k.period_is in
+    let x = was-sent o.delay turns is_poll o.slot e.heard e.loses k.hears s (omega (arith, less, within))
+    (reply-from period turns e o k s (omega (arith, less, within)) a) in
+    let y = was-sent o.delay turns is_poll o.slot e.heard e.loses k.hears t within (reply-from period turns e o k t within b) in
+    let x0 = x.0 in let y0 = y.0 in
+    let far = polls-apart period turns o e (turned period turns e o k) (s - o.delay) (t - o.delay) (omega (arith, less, x0, y0))
+    (omega (arith, within)) x.1 y.1 in
+    omega (arith, far, x0, y0, p)
+
+pub answers-apart : (period turns : ℕ) (e o : EndRun) → TwoEnds period turns e o → (s t : ℕ) → s < t → t < turns → hears_final e s ≡ true
+    → hears_final e t ≡ true → s + (period - 1) ≤ t
+answers-apart period turns e o k s t less within a b =
+    let p = k.period_is in
+    let x = reply-matches period turns e o k s (omega (arith, less, within)) a in
+    let y = reply-matches period turns e o k t within b in
+    let x0 = x.round_trip in let y0 = y.round_trip in
+    let far = polls-apart period turns e o k x.sent y.sent (omega (arith, less, x0, y0)) (omega (arith, y0, within)) x.is_sent y.is_sent in
+    omega (arith, far, x0, y0, p)
+
+pub polls-far : (period turns : ℕ) (e o : EndRun) → TwoEnds period turns e o → (s t : ℕ) → s < t → t < turns → sends_poll e s ≡ true
+    → sends_poll e t ≡ true → s + (period - 1) ≤ t
+polls-far period turns e o k s t less within a b = let p = k.period_is in let far = polls-apart period turns e o k s t less within a b in
+    omega (arith, far, p)
+
+pub sum-at-most : (x y z w : Bool) → (x ≡ true → (z ≡ true) ⊎ (w ≡ true)) → (y ≡ true → ((z ≡ true) ⊎ (w ≡ true)) × (x ≡ false))
+    → one_if x + one_if y ≤ one_if z + one_if w
+sum-at-most true true z w f g = off true refl (g refl).1
+sum-at-most false false z w f g = omega arith
+sum-at-most true false z w f g = by (f refl)
+  where
+    by : (z ≡ true) ⊎ (w ≡ true) → 1 + 0 ≤ one_if z + one_if w
+    by (inl q) = let n = ap one_if q in omega (arith, n)
+    by (inr q) = let n = ap one_if q in omega (arith, n)
+sum-at-most false true z w f g = by (g refl).0
+  where
+    by : (z ≡ true) ⊎ (w ≡ true) → 0 + 1 ≤ one_if z + one_if w
+    by (inl q) = let n = ap one_if q in omega (arith, n)
+    by (inr q) = let n = ap one_if q in omega (arith, n)
+
+-- urgent segments go twice at most
+pub hurries-twice : (period turns : ℕ) (e o : EndRun) (d : ℕ → Deeds) → TwoEnds period turns e o → Breaking period turns e d → (s n : ℕ)
+    → n + 1 ≤ period → s + n ≤ turns → ((t : ℕ) → s < t → t ≤ s + n → is_connected (e.account t).phase ≡ true)
+    → hits (λ t. (d t).hurries) s n ≤ 2
+hurries-twice period turns e o d k h s n l w c =
+    let made = at-most-made (λ t. (d t).hurries) (λ t. is_urgent (e.account t)) (hears_final e) s n
+    (λ t a b. let x = h.turn t (omega (arith, b, w)) (c (t + 1) (omega (arith, a)) (omega (arith, b))) in
+    sum-at-most (is_urgent (e.account (t + 1))) (d t).hurries (is_urgent (e.account t)) (hears_final e t) x.urgent x.hurried) in
+    let one = once (hears_final e) (period - 1) turns (answers-apart period turns e o k) s n (omega (arith, l)) w in
+    omega (arith, made, one)
+
+-- of the other end's BRKs three at most are heard in fourteen turns
+abbrev pub shifted : ℕ → (ℕ → Bool) → ℕ → Bool
+shifted delay f t = nat_le delay t && f (t - delay)
+
+pub brks-heard : (period turns : ℕ) (e o : EndRun) (d : ℕ → Deeds) → TwoEnds period turns e o → Breaking period turns o d
+    → brk_due (o.account 0) ≡ false → (s n : ℕ) → n ≤ 16 → s + n ≤ turns → hits (λ t. of_arrived (of_word any_brk) (e.heard t)) s n ≤ 3
+brks-heard period turns e o d k h first s n l w =
+    let made = at-most-made (λ t. of_arrived (of_word any_brk) (e.heard t)) (shifted o.delay (λ t. brk_due (o.account t)))
+    (shifted o.delay (λ t. is_connected (o.account (t + 1)).phase && (d t).made)) s n (λ t a b. each t (omega (arith, b, w))) in
+    let two = twice (shifted o.delay (λ t. is_connected (o.account (t + 1)).phase && (d t).made)) 8 turns apart s n (omega (arith, l)) w in
+    omega (arith, made, two)
+  where
+    and-two : (x y : Bool) → x && y ≡ true → (x ≡ true) × (y ≡ true)
+    and-two true true e = (refl, refl)
+    and-two true false e = cc
+    and-two false y e = cc
+
+    below : (a b : ℕ) → nat_le a b ≡ true → a ≤ b
+    below a b e = grind (arith, nat_tests, e)
+
+    is-below : (a b : ℕ) → a ≤ b → nat_le a b ≡ true
+    is-below a b e = grind (arith, nat_tests, e)
+
+    apart : (x y : ℕ) → x < y → y < turns → shifted o.delay (λ t. is_connected (o.account (t + 1)).phase && (d t).made) x ≡ true
+        → shifted o.delay (λ t. is_connected (o.account (t + 1)).phase && (d t).made) y ≡ true → x + 8 ≤ y
+    apart x y less within p q =
+        let a = and-two (nat_le o.delay x) (is_connected (o.account (x - o.delay + 1)).phase && (d (x - o.delay)).made) p in
+        let b = and-two (nat_le o.delay y) (is_connected (o.account (y - o.delay + 1)).phase && (d (y - o.delay)).made) q in
+        let a' = and-two (is_connected (o.account (x - o.delay + 1)).phase) (d (x - o.delay)).made a.1 in
+        let b' = and-two (is_connected (o.account (y - o.delay + 1)).phase) (d (y - o.delay)).made b.1 in
+        let lx = below o.delay x a.0 in let ly = below o.delay y b.0 in
+        let far = made-apart period turns o e d (turned period turns e o k) h (x - o.delay) (y - o.delay) (omega (arith, less, lx, ly))
+        (omega (arith, within)) a'.1 b'.1 a'.0 b'.0 in
+        omega (arith, far, lx, ly)
+
+    each : (t : ℕ) → t < turns → one_if (shifted o.delay (λ t. brk_due (o.account t)) (t + 1)) + one_if
+        (of_arrived (of_word any_brk) (e.heard t))
+        ≤ one_if (shifted o.delay (λ t. brk_due (o.account t)) t) + one_if
+        (shifted o.delay (λ t. is_connected (o.account (t + 1)).phase && (d t).made) t)
+    each t within = go (cases_lt t o.delay)
+      where
+        heard-so : of_arrived (of_word any_brk) (e.heard t) ≡ true
+            → (o.delay ≤ t) × (of_frame (of_word any_brk) (o.slot (t - o.delay)) ≡ true)
+        heard-so q = was-sent o.delay turns (of_word any_brk) o.slot e.heard e.loses k.hears t within q
+
+        go : (t < o.delay) ⊎ (o.delay ≤ t) → one_if (shifted o.delay (λ t. brk_due (o.account t)) (t + 1)) + one_if
+            (of_arrived (of_word any_brk) (e.heard t))
+            ≤ one_if (shifted o.delay (λ t. brk_due (o.account t)) t) + one_if
+            (shifted o.delay (λ t. is_connected (o.account (t + 1)).phase && (d t).made) t)
+        go (inl early) =
+            let none = ap one_if (not-true (shifted o.delay (λ t. brk_due (o.account t)) (t + 1))
+            (λ q. let x = and-two (nat_le o.delay (t + 1)) (brk_due (o.account (t + 1 - o.delay))) q in
+            let lx = below o.delay (t + 1) x.0 in off (brk_due (o.account 0)) (ap (λ n. brk_due (o.account n)) (omega (arith, lx, early))
+            ∙ x.1) first)) in
+            let quiet = ap one_if
+            (not-true (of_arrived (of_word any_brk) (e.heard t))
+            (λ q. let x = (heard-so q).0 in let wrong : ⊥ = omega (arith, x, early) in wrong)) in
+            omega (arith, none, quiet)
+          where
+            not-true : (b : Bool) → (b ≡ true → ⊥) → b ≡ false
+            not-true true f = absurd (f refl)
+            not-true false f = refl
+        go (inr late) = sum-at-most (shifted o.delay (λ t. brk_due (o.account t)) (t + 1)) (of_arrived (of_word any_brk) (e.heard t))
+            (shifted o.delay (λ t. brk_due (o.account t)) t)
+            (shifted o.delay (λ t. is_connected (o.account (t + 1)).phase && (d t).made) t) due heard
+          where
+            u : ℕ
+            u = t - o.delay
+
+            next : t + 1 - o.delay ≡ u + 1
+            next = omega (arith, late)
+
+            both : (f : ℕ → Bool) → f u ≡ true → shifted o.delay f t ≡ true
+            both f q = ap (λ b. b && f u) (is-below o.delay t late) ∙ q
+
+            turn : is_connected (o.account (u + 1)).phase ≡ true
+                → BreakTurn period u (o.heard u) (o.slot u) (d u) (o.account u) (o.account (u + 1))
+            turn c = h.turn u (omega (arith, within)) c
+
+            from : is_connected (o.account (u + 1)).phase ≡ true → (brk_due (o.account u) ≡ true) ⊎ ((d u).made ≡ true)
+                → (shifted o.delay (λ t. brk_due (o.account t)) t ≡ true)
+                ⊎ (shifted o.delay (λ t. is_connected (o.account (t + 1)).phase && (d t).made) t ≡ true)
+            from c (inl x) = inl (both (λ t. brk_due (o.account t)) x)
+            from c (inr x) = inr (both (λ t. is_connected (o.account (t + 1)).phase && (d t).made) (ap (λ b. b && (d u).made) c ∙ x))
+
+            due : shifted o.delay (λ t. brk_due (o.account t)) (t + 1) ≡ true → (shifted o.delay (λ t. brk_due (o.account t)) t ≡ true)
+                ⊎ (shifted o.delay (λ t. is_connected (o.account (t + 1)).phase && (d t).made) t ≡ true)
+            due q =
+                let x = (and-two (nat_le o.delay (t + 1)) (brk_due (o.account (t + 1 - o.delay))) q).1 in
+                let y = ap (λ n. brk_due (o.account n)) (sym next) ∙ x in
+                let c = (and-two (is_connected (o.account (u + 1)).phase) (o.account (u + 1)).own_breaks.brk y).0 in
+                from c ((turn c).brk_from y)
+
+            heard : of_arrived (of_word any_brk) (e.heard t) ≡ true
+                → ((shifted o.delay (λ t. brk_due (o.account t)) t ≡ true)
+                ⊎ (shifted o.delay (λ t. is_connected (o.account (t + 1)).phase && (d t).made) t ≡ true))
+                × (shifted o.delay (λ t. brk_due (o.account t)) (t + 1) ≡ false)
+            heard q =
+                let sent = (heard-so q).1 in
+                let c = h.says u (omega (arith, within)) sent in
+                let x = (turn c).brk_sent sent in (
+                  from c x.0,
+                  ap (λ n. nat_le o.delay (t + 1) && brk_due (o.account n)) next
+                      ∙ and-no (nat_le o.delay (t + 1)) (brk_due (o.account (u + 1))) x.1,
+                )
+              where
+                and-no : (x y : Bool) → y ≡ false → x && y ≡ false
+                and-no true y e = e
+                and-no false y e = refl

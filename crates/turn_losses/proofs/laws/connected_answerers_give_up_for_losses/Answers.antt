@@ -1,0 +1,14 @@
+use Rattle.turn_losses.proofs.Numbering.{Plays}
+use Rattle.turn_losses.proofs.Answerer.{answerer-wants}
+use Rattle.turn_losses.proofs.laws.connected_answerers_give_up_for_losses.Goals as goal
+
+pub returns : goal.returns
+returns c =
+    let laws : Plays = record {
+      runs = c.runs_are_plays.ensures.runs;
+      hearings = c.runs_are_plays.ensures.hearings;
+      in_order = c.plays.ensures.in_order;
+      acked = c.acknowledgements.ensures.taken;
+      agrees = c.frames_tell_how_far_ends_are.ensures.agrees;
+    } in
+    answerer-wants laws

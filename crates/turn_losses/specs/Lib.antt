@@ -1,0 +1,4 @@
+pub mod Polls
+pub mod Losses
+pub mod Tries
+pub mod Breaks

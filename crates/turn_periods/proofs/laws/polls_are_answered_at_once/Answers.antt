@@ -1,5 +1,0 @@
-use Rattle.turn_periods.proofs.Keeping.{polls-keep-apart, replies-at-once, answers-match}
-use Rattle.turn_periods.proofs.laws.polls_are_answered_at_once.Goals as goal
-
-pub returns : goal.returns
-returns c = record { apart = polls-keep-apart; replies = replies-at-once; awaited = answers-match }

@@ -1,9 +1,0 @@
-pub mod Moving
-pub mod Answering
-pub mod Setups
-pub mod Phasing
-pub mod Trying
-pub mod Wanting
-pub mod Parting
-pub mod GivingUp
-pub mod Unbroken
