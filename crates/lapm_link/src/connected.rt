@@ -11,7 +11,6 @@ use link_account::{Answer, Owes};
 use xid_params::Terms;
 
 /// An end whose link is up.
-#[derive(Drop)]
 pub struct Connected {
     /// What it was made with.
     pub(crate) setup: Setup,
@@ -36,6 +35,23 @@ pub struct Connected {
     ghost receiver_begun: { 1 ≤ receiver.window },
     ghost sender_size: { sender.size ≡ size_for setup.role terms },
     ghost receiver_srej: { receiver.srej ≡ terms.srej },
+}
+
+impl Drop for Connected {
+    // for the prover: so it is dropped by a call, and its fields are not dropped anew wherever one is.
+    fn drop(self) {
+        let Connected {
+            setup: _,
+            terms: _,
+            sender: _,
+            receiver: _,
+            breaks: _,
+            owes: _,
+            wait: _,
+            numbered: _,
+            special: _,
+        } = self;
+    }
 }
 
 /// Breaks both ways.

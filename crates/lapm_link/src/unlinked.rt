@@ -17,7 +17,6 @@ use std::alloc::Global;
 use xid_params::{Offer, Terms};
 
 /// An end that isn't connected yet, with all the memory that it will need.
-#[derive(Drop)]
 pub(crate) struct Unlinked {
     /// What it was made with.
     pub(crate) setup: Setup,
@@ -32,6 +31,18 @@ pub(crate) struct Unlinked {
     ghost sender_rests: { sender.window ≡ 0 },
     ghost receiver_room: { receiver.room ≡ setup.offer.rx_window },
     ghost receiver_rests: { receiver.window ≡ 0 },
+}
+
+impl Drop for Unlinked {
+    // for the prover: so it is dropped by a call, and its fields are not dropped anew wherever one is.
+    fn drop(self) {
+        let Unlinked {
+            setup: _,
+            answer: _,
+            sender: _,
+            receiver: _,
+        } = self;
+    }
 }
 
 /// The same, and it has agreed on these terms.
@@ -119,6 +130,33 @@ impl Unlinked {
     }
 }
 
+impl Unlinked {
+    ghost use Rattle.link_account.specs.Account.{Account};
+    ghost use Rattle.link_account.specs.Hear.{connected};
+    ghost use Rattle.lapm_link.specs.Stands.{IsUnlinked, Links};
+
+    /// The link is up on these terms.
+    fn connect(self, terms: Terms, turn: u64) -> Connected
+        requires fits { Fits self.setup terms }
+        ensures links { (a : Account) → IsUnlinked self.setup self.answer a → terms ≡ a.terms → Links result (connected turn a) }
+        ensures counted { result.receiver.taken ≡ 0 }
+    {
+        let Unlinked {
+            setup,
+            answer,
+            mut sender,
+            mut receiver,
+        } = self;
+        let originates = setup.role.is_originator();
+        let window = window_for(setup.role, &terms);
+        let size = size_for(setup.role, &terms);
+        let their_window = window_for(setup.role.other(), &terms);
+        sender.begin(window, size, setup.tries, originates);
+        receiver.begin(their_window, terms.srej);
+        Connected::new(setup, answer, terms, sender, receiver, turn)
+    }
+}
+
 impl Agreed {
     ghost use Rattle.link_account.specs.Account.{Account};
     ghost use Rattle.link_account.specs.Hear.{connected, owing};
@@ -131,20 +169,7 @@ impl Agreed {
             → Links result (connected turn a) }
         ensures counted { result.receiver.taken ≡ 0 }
     {
-        let Unlinked {
-            setup,
-            answer,
-            mut sender,
-            mut receiver,
-        } = self.memory;
-        let terms = self.terms;
-        let originates = setup.role.is_originator();
-        let window = window_for(setup.role, &terms);
-        let size = size_for(setup.role, &terms);
-        let their_window = window_for(setup.role.other(), &terms);
-        sender.begin(window, size, setup.tries, originates);
-        receiver.begin(their_window, terms.srej);
-        Connected::new(setup, answer, terms, sender, receiver, turn)
+        self.memory.connect(self.terms, turn)
     }
 
     /// The link is up at an answerer, which owes a UA.

@@ -70,6 +70,13 @@ spoken-breaks turn release file a before sent new broken k = go (speak turn rele
 pub idle-on : (old new : Station) → TakesNothing old.end new.end → IsIdle old → IsIdle new
 idle-on old new t h = record { delivered = omega (arith, t.undelivered_of, h.delivered); given = t.waiting_of h.given }
 
+pub takes-on : (first mid last : AnyEnd) → TakesNothing first mid → TakesNothing mid last → TakesNothing first last
+takes-on first mid last h k = record {
+  taken_of = omega (arith, h.taken_of, k.taken_of);
+  undelivered_of = omega (arith, h.undelivered_of, k.undelivered_of);
+  waiting_of = λ e. k.waiting_of (h.waiting_of e);
+}
+
 pub counted-on : (old new : Station) → TakesNothing old.end new.end → new.breaks ≡ old.breaks → (heard asked : ℕ)
     → IsCounted old heard asked → IsCounted new heard asked
 counted-on old new t e heard asked h = record { segments = omega (arith, t.taken_of, h.segments); breaks = omega (arith, e, h.breaks) }

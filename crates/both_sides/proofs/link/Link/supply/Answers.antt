@@ -66,3 +66,9 @@ returns-in-Err-supply-clause-cause g c =
 
 pub returns-in-Err-supply-clause-spared : goal.returns-in-Err-supply-clause-spared
 returns-in-Err-supply-clause-spared g c = λ e. FaultsStand-trans c.in-Ok.ensures.stand.faults (c.in-Err-supply.ensures.spared e)
+
+pub returns-in-Err-clause-idle : goal.returns-in-Err-clause-idle
+returns-in-Err-clause-idle g c = λ h. record { orig = c.supply.ensures.idle h.orig; answ = h.answ }
+
+pub returns-in-Err-clause-only : goal.returns-in-Err-clause-only
+returns-in-Err-clause-only g c = c.supply.ensures.only

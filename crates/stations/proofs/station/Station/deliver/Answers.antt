@@ -1,9 +1,10 @@
 use Rattle.std.proofs.Common.{ℕ, List, arith, refl, sym, subst}
-use Rattle.outside_calls.specs.Folder.{FolderState, Appended, PartlyAppended}
-use Rattle.outside_calls.specs.Steps.{CountsStand-refl, CountsStand-trans}
+use Rattle.outside_calls.specs.Folder.{FolderState, Appended, PartlyAppended, Rose}
+use Rattle.outside_calls.specs.Steps.{CountsStand-refl, CountsStand-trans, FaultsStand-trans}
 use Rattle.stations.specs.declared.station.Station.{Station}
 use Rattle.stations.proofs.Handing.{handing-starts, handing-next, handing-ends, handing-stops, handed-segment, writes-on}
 use Rattle.stations.proofs.Handing.{writes-none}
+use Rattle.stations.proofs.Standing.{takes-on}
 use Rattle.stations.proofs.station.Station.deliver.Goals as goal
 
 pub loop-segment-init : goal.loop-segment-init
@@ -49,11 +50,7 @@ loop-segment-preserved g c =
           (c.if-not-deliver.ensures.answer i.after i.stands.end) c.if-not-deliver.ensures.segment in
           handing-next start now next name c.deliver.new.out c.loop-segment.self _ file a old.only.goes_on i e
           (c.if-not-deliver.ensures.account i.after i.stands.end) refl put;
-      takes = record {
-        taken_of = omega (arith, old.takes.taken_of, c.if-not-deliver.ensures.takes_nothing.taken_of);
-        undelivered_of = omega (arith, old.takes.undelivered_of, c.if-not-deliver.ensures.takes_nothing.undelivered_of);
-        waiting_of = λ e. c.if-not-deliver.ensures.takes_nothing.waiting_of (old.takes.waiting_of e);
-      };
+      takes = takes-on _ _ _ old.takes c.if-not-deliver.ensures.takes_nothing;
       breaks = old.breaks;
       only = writes-on start now next name old.only c.in-Ok.ensures.only;
       stand = CountsStand-trans old.stand c.in-Ok.ensures.stand;
@@ -71,3 +68,28 @@ returns-in-Err-clause-err g c = λ file a h.
     let e = handed-segment c.loop-segment.self.end c.deliver.new.out i.after i.stands.end
     (c.if-not-deliver.ensures.answer i.after i.stands.end) c.if-not-deliver.ensures.segment in
     handing-stops start now next name c.deliver.new.out c.loop-segment.self file a c.loop-segment.invariant.only.goes_on i e part
+
+pub returns-in-Err-clause-only : goal.returns-in-Err-clause-only
+returns-in-Err-clause-only g c =
+    writes-on (g.F.Folder.state c.args.folder.now) (g.F.Folder.state c.loop-segment.folder) (g.F.Folder.state c.append.new.self) c.args.name.now
+    c.loop-segment.invariant.only c.in-Err.ensures.only
+
+pub returns-in-Err-clause-cause : goal.returns-in-Err-clause-cause
+returns-in-Err-clause-cause g c =
+    let next : FolderState = g.F.Folder.state c.append.new.self in
+    let stand = c.loop-segment.invariant.stand in
+    record {
+      failed = λ e. subst (λ before. Rose before (next.write_faults c.args.name.now)) (stand.faults.writes c.args.name.now) (c.in-Err.ensures.cause.failed e);
+      memory = λ e. subst (λ before. Rose before next.refusals) stand.refusals (c.in-Err.ensures.cause.memory e);
+    }
+
+pub returns-in-Err-clause-spared : goal.returns-in-Err-clause-spared
+returns-in-Err-clause-spared g c = λ e. FaultsStand-trans c.loop-segment.invariant.stand.faults (c.in-Err.ensures.spared e)
+
+pub returns-in-Err-clause-takes_nothing : goal.returns-in-Err-clause-takes_nothing
+returns-in-Err-clause-takes_nothing g c =
+    takes-on _ _ _ c.loop-segment.invariant.takes c.if-not-deliver.ensures.takes_nothing
+
+pub returns-then-not-deliver-clause-takes_nothing : goal.returns-then-not-deliver-clause-takes_nothing
+returns-then-not-deliver-clause-takes_nothing g c =
+    takes-on _ _ _ c.loop-segment.invariant.takes c.if-not-deliver.ensures.takes_nothing

@@ -1,12 +1,12 @@
 use Rattle.std.proofs.Common.{◌≡◌, ◌<◌, ◌^◌, ℕ, List, length, take, arith, refl, sym, ap, subst, ◌∙◌, Option}
 use Rattle.std.proofs.lemmas.List.{length-take-le}
 use Rattle.std.specs.Option.{IsSomeAnd}
-use Rattle.outside_calls.specs.Folder.{FolderState}
+use Rattle.outside_calls.specs.Folder.{FolderState, Rose}
 use Rattle.outside_calls.specs.Steps.{OnlyReads-refl, OnlyReads-trans, CountsStand-refl, CountsStand-trans, FaultsStand-trans, told_later}
 use Rattle.outside_calls.specs.Steps.{octets-kept}
 use Rattle.link_run.specs.End.{piece_at}
 use Rattle.stations.proofs.Offering.{supplying-starts, supplying-next, supplying-ends, wants-within, as-err}
-use Rattle.stations.proofs.Standing.{idle-on, counted-on}
+use Rattle.stations.proofs.Standing.{idle-on, counted-on, takes-on}
 use Rattle.stations.proofs.station.Station.supply.Goals as goal
 
 pub loop-number-init : goal.loop-number-init
@@ -77,11 +77,7 @@ loop-number-preserved g c =
           ∙ ap (λ l. piece_at c.piece-size.result (take c.args.limit l) c.in-Some.number)
           (octets-kept start now name (old.only.names name) told))
           (c.offer.ensures.account i.now i.stands.end) refl;
-      takes = record {
-        taken_of = omega (arith, old.takes.taken_of, c.offer.ensures.takes_nothing.taken_of);
-        undelivered_of = omega (arith, old.takes.undelivered_of, c.offer.ensures.takes_nothing.undelivered_of);
-        waiting_of = λ e. c.offer.ensures.takes_nothing.waiting_of (old.takes.waiting_of e);
-      };
+      takes = takes-on _ _ _ old.takes c.offer.ensures.takes_nothing;
       breaks = old.breaks;
       room = c.read_segment.ensures.length ∙ old.room;
       only = OnlyReads-trans old.only c.read_segment.ensures.only;
@@ -106,3 +102,13 @@ returns-in-Err-clause-idle g c = idle-on c.args.self.now _ c.loop-number.invaria
 
 pub returns-in-Err-clause-counted : goal.returns-in-Err-clause-counted
 returns-in-Err-clause-counted g c = counted-on c.args.self.now _ c.loop-number.invariant.takes c.loop-number.invariant.breaks
+
+pub returns-in-Err-clause-cause : goal.returns-in-Err-clause-cause
+returns-in-Err-clause-cause g c =
+    let next : FolderState = g.F.Folder.state c.read_segment.new.folder in
+    let stand = c.loop-number.invariant.stand in
+    record {
+      failed = λ e. subst (λ before. Rose before (next.read_faults c.args.name.now)) (stand.faults.reads c.args.name.now)
+          (c.in-Err.ensures.cause.failed (as-err c.in-Err.fault _ e));
+      memory = λ e. subst (λ before. Rose before next.refusals) stand.refusals (c.in-Err.ensures.cause.memory (as-err c.in-Err.fault _ e));
+    }

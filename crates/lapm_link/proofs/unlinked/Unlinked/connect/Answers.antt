@@ -8,7 +8,7 @@ use Rattle.link_account.specs.declared.setup.Setup.{Setup}
 use Rattle.roles.specs.Role.{other}
 use Rattle.link_account.specs.Account.{size_for, window_for}
 use Rattle.roles.specs.Role.{is_originator}
-use Rattle.lapm_link.proofs.unlinked.Agreed.connect.Goals as goal
+use Rattle.lapm_link.proofs.unlinked.Unlinked.connect.Goals as goal
 
 -- a sender that has begun by these terms
 sends : (s : Sending) (setup setup' : Setup) (terms terms' : Terms) (window size : ℕ) (polled : Bool)
