@@ -19,7 +19,8 @@ place forms.Break = (9, omega arith, refl)
 place forms.Busy = (10, omega arith, refl)
 
 -- a word that none in the table is the word of is of no form
-pub none-in-table : (word : List ℕ) → ((at : ℕ) → at < 11 → word ≢ word_of (get_or FORMS at forms.Delay)) → (form : Form) → word ≢ word_of form
+pub none-in-table : (word : List ℕ) → ((at : ℕ) → at < 11 → word ≢ word_of (get_or FORMS at forms.Delay)) → (form : Form)
+    → word ≢ word_of form
 none-in-table word h form e =
     let p = place form in
     h p.0 p.1 (e ∙ sym (ap word_of p.2))

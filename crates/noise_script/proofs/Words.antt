@@ -14,8 +14,8 @@ fails-later argument arguments words rest value cause r f =
     subst (λ ws. FirstFails (argument ∷ arguments) ws cause) (sym r.words_are) (inr (value, r.spells, f))
 
 -- a role and two values were read, and a word behind them fails
-pub fails-behind : (second third : Argument) (more : List Argument) (words rest : List (List ℕ)) (role : Role) (from count : ℕ) (cause : Cause)
-    → ReadsSpan second third words role from count rest → FirstFails more rest cause
+pub fails-behind : (second third : Argument) (more : List Argument) (words rest : List (List ℕ)) (role : Role) (from count : ℕ)
+    (cause : Cause) → ReadsSpan second third words role from count rest → FirstFails more rest cause
     → FirstFails (ARole ∷ second ∷ third ∷ more) words cause
 fails-behind second third more words rest role from count cause s f =
     fails-later ARole (second ∷ third ∷ more) words s.behind_role (RoleIs role) cause s.role_is
