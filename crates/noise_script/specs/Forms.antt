@@ -211,6 +211,14 @@ pub record Reads (argument : Argument) (words : List (List ℕ)) (value : Value)
   pub words_are : words ≡ word ∷ rest
   pub spells : Spells argument word value
 
+-- the first of these words spell a role and two values, and these are the others
+pub record ReadsSpan (second third : Argument) (words : List (List ℕ)) (role : Role) (from count : ℕ) (rest : List (List ℕ)) : Type 0 where
+  pub behind_role : List (List ℕ)
+  pub behind_from : List (List ℕ)
+  pub role_is : Reads ARole words (RoleIs role) behind_role
+  pub from_is : Reads second behind_role (NumberIs from) behind_from
+  pub count_is : Reads third behind_from (NumberIs count) rest
+
 -- the first of these words spells none
 pub record FailsToRead (argument : Argument) (words : List (List ℕ)) (cause : Cause) : Type 0 where
   pub word : List ℕ

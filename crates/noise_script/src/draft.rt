@@ -6,7 +6,7 @@ ghost use Rattle.noise_script.specs.Breaks.{placed};
 ghost use Rattle.noise_script.specs.Draft.{Holds, Adds, offered_of, with_offered, draft_script};
 ghost use Rattle.noise_script.specs.Script.{IsInLimits};
 
-use crate::entry::{Delays, Entry};
+use crate::entry::{Delays, Entry, Length, Window};
 use crate::offered::{NOTHING_OFFERED, Offered};
 use crate::{Break, Hit, Loss, Noise, Pause, Script};
 use outside_calls::NoMemory;
@@ -66,6 +66,21 @@ fn place_of(breaks: &[Break], line: Break) -> usize
         }
     }
     breaks.len()
+}
+
+/// Adds a break where it stands in rising order of turn.
+fn insert_break(breaks: &mut Vec<Break>, line: Break) -> Result<(), NoMemory>
+    ensures { OnOk result (breaks.new.items ≡ placed line breaks.old.items) }
+{
+    breaks.insert(place_of(breaks, line), line)?;
+    Ok(())
+}
+
+fn push<T: Copy>(items: &mut Vec<T>, item: T) -> Result<(), NoMemory>
+    ensures { OnOk result (items.new.items ≡ items.old.items ++ item ∷ []) }
+{
+    items.push(item)?;
+    Ok(())
 }
 
 impl Draft {
@@ -130,41 +145,54 @@ impl Draft {
         entry.form().bound().most() <= self.standing(entry)
     }
 
+    fn add_window(&mut self, window: Window)
+        ensures { Adds self.old (Entry.Window window) self.new }
+    {
+        let mut offered = self.offered(window.role);
+        offered.window = Some(window.segments);
+        self.set_offered(window.role, offered);
+    }
+
+    fn add_length(&mut self, length: Length)
+        ensures { Adds self.old (Entry.Length length) self.new }
+    {
+        let mut offered = self.offered(length.role);
+        offered.length = Some(length.octets);
+        self.set_offered(length.role, offered);
+    }
+
+    fn add_srej(&mut self, role: Role)
+        ensures { Adds self.old (Entry.Srej role) self.new }
+    {
+        let mut offered = self.offered(role);
+        offered.srej = true;
+        self.set_offered(role, offered);
+    }
+
+    fn add_check32(&mut self, role: Role)
+        ensures { Adds self.old (Entry.Check32 role) self.new }
+    {
+        let mut offered = self.offered(role);
+        offered.check32 = true;
+        self.set_offered(role, offered);
+    }
+
     /// Adds what one line more says.
     pub(crate) fn add(&mut self, entry: Entry) -> Result<(), NoMemory>
         ensures { OnOk result (Adds self.old entry self.new) }
     {
         match entry {
             Entry::Delay(delays) => self.delays = Some(delays),
-            Entry::Window(window) => {
-                let mut offered = self.offered(window.role);
-                offered.window = Some(window.segments);
-                self.set_offered(window.role, offered);
-            }
-            Entry::Length(length) => {
-                let mut offered = self.offered(length.role);
-                offered.length = Some(length.octets);
-                self.set_offered(length.role, offered);
-            }
+            Entry::Window(window) => self.add_window(window),
+            Entry::Length(length) => self.add_length(length),
             Entry::Tries(tries) => self.tries = Some(tries),
-            Entry::Srej(role) => {
-                let mut offered = self.offered(role);
-                offered.srej = true;
-                self.set_offered(role, offered);
-            }
-            Entry::Check32(role) => {
-                let mut offered = self.offered(role);
-                offered.check32 = true;
-                self.set_offered(role, offered);
-            }
-            Entry::Lose(loss) => self.losses.push(loss)?,
-            Entry::Hit(hit) => self.hits.push(hit)?,
-            Entry::Noise(noise) => self.noises.push(noise)?,
-            Entry::Break(line) => {
-                let place = place_of(&self.breaks, line);
-                self.breaks.insert(place, line)?;
-            }
-            Entry::Busy(pause) => self.pauses.push(pause)?,
+            Entry::Srej(role) => self.add_srej(role),
+            Entry::Check32(role) => self.add_check32(role),
+            Entry::Lose(loss) => return push(&mut self.losses, loss),
+            Entry::Hit(hit) => return push(&mut self.hits, hit),
+            Entry::Noise(noise) => return push(&mut self.noises, noise),
+            Entry::Break(line) => return insert_break(&mut self.breaks, line),
+            Entry::Busy(pause) => return push(&mut self.pauses, pause),
         }
         Ok(())
     }

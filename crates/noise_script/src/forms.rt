@@ -97,44 +97,50 @@ pub(crate) const PAUSE: Range = Range {
     high: 10000,
 };
 
+/// All of them.
+const FORMS: [Form; 11] = [
+    Form::Delay,
+    Form::Window,
+    Form::Length,
+    Form::Tries,
+    Form::Srej,
+    Form::Check32,
+    Form::Lose,
+    Form::Hit,
+    Form::Noise,
+    Form::Break,
+    Form::Busy,
+];
+
 impl Form {
+    /// The word that lines of the form begin with.
+    fn word(self) -> &'static [u8]
+        ensures { result.now ≡ word_of self }
+    {
+        match self {
+            Form::Delay => b"delay",
+            Form::Window => b"k",
+            Form::Length => b"n401",
+            Form::Tries => b"n400",
+            Form::Srej => b"srej",
+            Form::Check32 => b"check32",
+            Form::Lose => b"lose",
+            Form::Hit => b"hit",
+            Form::Noise => b"noise",
+            Form::Break => b"break",
+            Form::Busy => b"busy",
+        }
+    }
+
     /// The form of the lines that begin with a word.
     pub(crate) fn of_word(word: &[u8]) -> Option<Form>
         ensures some { IfSome result (λ form. word.now ≡ word_of form) }
         ensures none { IfNone result ((form : Form) → word.now ≢ word_of form) }
     {
-        if word == b"delay".as_slice() {
-            return Some(Form::Delay);
-        }
-        if word == b"k".as_slice() {
-            return Some(Form::Window);
-        }
-        if word == b"n401".as_slice() {
-            return Some(Form::Length);
-        }
-        if word == b"n400".as_slice() {
-            return Some(Form::Tries);
-        }
-        if word == b"srej".as_slice() {
-            return Some(Form::Srej);
-        }
-        if word == b"check32".as_slice() {
-            return Some(Form::Check32);
-        }
-        if word == b"lose".as_slice() {
-            return Some(Form::Lose);
-        }
-        if word == b"hit".as_slice() {
-            return Some(Form::Hit);
-        }
-        if word == b"noise".as_slice() {
-            return Some(Form::Noise);
-        }
-        if word == b"break".as_slice() {
-            return Some(Form::Break);
-        }
-        if word == b"busy".as_slice() {
-            return Some(Form::Busy);
+        for form in FORMS.iter() {
+            if word == form.word() {
+                return Some(*form);
+            }
         }
         None
     }

@@ -60,6 +60,14 @@ fn cut_word(line: &[u8]) -> (&[u8], &[u8])
     (line, &[])
 }
 
+/// The first word of a line that has one, and the line behind it.
+pub(crate) fn first_word(line: &[u8]) -> (&[u8], &[u8])
+    requires { words_of line.now ≢ [] }
+    ensures { words_of line.now ≡ result.0.now ∷ words_of result.1.now }
+{
+    cut_word(without_blanks(line))
+}
+
 /// The first word of a line, and the line behind it, where it has a word.
 pub(crate) fn next_word(line: &[u8]) -> Option<(&[u8], &[u8])>
     ensures some { IfSome result (λ cut. words_of line.now ≡ cut.0.now ∷ words_of cut.1.now) }

@@ -1,43 +1,25 @@
 use Rattle.std.proofs.Common.{[], ◌∷◌}
 use Rattle.std.proofs.lemmas.Result.{err_from_is_err_and}
-use Rattle.noise_script.specs.Forms.{ARole, Number, count, symbol}
-use Rattle.noise_script.proofs.Words.{fails-here, fails-later}
+use Rattle.noise_script.specs.Forms.{Number, count, symbol}
+use Rattle.noise_script.proofs.Words.{fails-here, fails-later, fails-behind}
 use Rattle.noise_script.proofs.reading.read_noise.Goals as goal
 
-pub returns-in_err-from : goal.returns-in_err-from
-returns-in_err-from c =
-    let p = err_from_is_err_and c.from_residual-in_err-from.result c.from_residual-in_err-from.ensures.1 in
-    rw (p.1, p.2) (fails-later ARole
-    (symbol ∷ count ∷ (Number 0 32767) ∷ (Number 0 18446744073709551615) ∷ []) _ _ _ c.in_err-from.field-0.0 c.in_ok-role.ensures
-    (fails-here symbol (count ∷ (Number 0 32767) ∷ (Number 0 18446744073709551615) ∷ []) _ c.in_err-from.field-0.0
-    c.in_err-from.ensures))
-
-pub returns-in_err-count : goal.returns-in_err-count
-returns-in_err-count c =
-    let p = err_from_is_err_and c.from_residual-in_err-count.result c.from_residual-in_err-count.ensures.1 in
-    rw (p.1, p.2) (fails-later ARole
-    (symbol ∷ count ∷ (Number 0 32767) ∷ (Number 0 18446744073709551615) ∷ []) _ _ _ c.in_err-count.field-0.0 c.in_ok-role.ensures
-    (fails-later symbol (count ∷ (Number 0 32767) ∷ (Number 0 18446744073709551615) ∷ []) _ _ _ c.in_err-count.field-0.0
-    c.in_ok-from.ensures (fails-here count
-    ((Number 0 32767) ∷ (Number 0 18446744073709551615) ∷ []) _ c.in_err-count.field-0.0 c.in_err-count.ensures)))
+pub returns-in_err-role : goal.returns-in_err-role
+returns-in_err-role c =
+    let p = err_from_is_err_and c.from_residual.result c.from_residual.ensures.1 in
+    rw (p.1, p.2) (c.in_err-role.ensures.err (Number 0 32767 ∷ Number 0 18446744073709551615 ∷ []))
 
 pub returns-in_err-amplitude : goal.returns-in_err-amplitude
 returns-in_err-amplitude c =
     let p = err_from_is_err_and c.from_residual-in_err-amplitude.result c.from_residual-in_err-amplitude.ensures.1 in
-    rw (p.1, p.2) (fails-later ARole
-    (symbol ∷ count ∷ (Number 0 32767) ∷ (Number 0 18446744073709551615) ∷ []) _ _ _ c.in_err-amplitude.field-0.0 c.in_ok-role.ensures
-    (fails-later symbol (count ∷ (Number 0 32767) ∷ (Number 0 18446744073709551615) ∷ []) _ _ _ c.in_err-amplitude.field-0.0
-    c.in_ok-from.ensures (fails-later count
-    ((Number 0 32767) ∷ (Number 0 18446744073709551615) ∷ []) _ _ _ c.in_err-amplitude.field-0.0 c.in_ok-count.ensures
-    (fails-here (Number 0 32767) ((Number 0 18446744073709551615) ∷ []) _ c.in_err-amplitude.field-0.0 c.in_err-amplitude.ensures))))
+    rw (p.1, p.2) (fails-behind symbol count (Number 0 32767 ∷ Number 0 18446744073709551615 ∷ []) _ _ _ _ _
+    c.in_err-amplitude.field-0.0 c.in_ok-role.ensures.ok (fails-here (Number 0 32767)
+    (Number 0 18446744073709551615 ∷ []) _ c.in_err-amplitude.field-0.0 c.in_err-amplitude.ensures))
 
 pub returns-in_err-seed : goal.returns-in_err-seed
 returns-in_err-seed c =
     let p = err_from_is_err_and c.from_residual-in_err-seed.result c.from_residual-in_err-seed.ensures.1 in
-    rw (p.1, p.2) (fails-later ARole
-    (symbol ∷ count ∷ (Number 0 32767) ∷ (Number 0 18446744073709551615) ∷ []) _ _ _ c.in_err-seed.field-0.0 c.in_ok-role.ensures
-    (fails-later symbol (count ∷ (Number 0 32767) ∷ (Number 0 18446744073709551615) ∷ []) _ _ _ c.in_err-seed.field-0.0
-    c.in_ok-from.ensures (fails-later count
-    ((Number 0 32767) ∷ (Number 0 18446744073709551615) ∷ []) _ _ _ c.in_err-seed.field-0.0 c.in_ok-count.ensures
-    (fails-later (Number 0 32767) ((Number 0 18446744073709551615) ∷ []) _ _ _ c.in_err-seed.field-0.0 c.in_ok-amplitude.ensures
-    (fails-here (Number 0 18446744073709551615) [] _ c.in_err-seed.field-0.0 c.in_err-seed.ensures)))))
+    rw (p.1, p.2) (fails-behind symbol count (Number 0 32767 ∷ Number 0 18446744073709551615 ∷ []) _ _ _ _ _
+    c.in_err-seed.field-0.0 c.in_ok-role.ensures.ok (fails-later (Number 0 32767)
+    (Number 0 18446744073709551615 ∷ []) _ _ _ c.in_err-seed.field-0.0 c.in_ok-amplitude.ensures
+    (fails-here (Number 0 18446744073709551615) [] _ c.in_err-seed.field-0.0 c.in_err-seed.ensures)))
