@@ -16,16 +16,16 @@ use Rattle.single_end.specs.declared.step.SingleFault.TheVariants as faults
 use Rattle.single_end.specs.Heard.{slot_octets}
 use Rattle.single_end.specs.Peer.{Past, PeerRun, PeerTurn, Outcome, Going, Closed, Broken, party_of, after, over, trace_of, turn_line}
 use Rattle.single_end.specs.Single.{KnowsFile, OnlyOutputs, SingleAfter, file_limit}
-use Rattle.single_end.specs.Turn.{Makes, Stops, WritesPart, EndsBy as TurnEndsBy}
+use Rattle.single_end.specs.Turn.{Makes, Stops, WritesPart, StopsInReading as TurnStopsInReading, EndsBy as TurnEndsBy}
 use Rattle.single_end.specs.Turn as turns
 use Rattle.command_base.specs.declared.limits.TheConstants.{FILE_LIMIT}
 use Rattle.command_base.specs.Inputs.{IsWithin, ReadTo}
-use Rattle.command_base.specs.Outputs.{Holds, HoldsPart}
+use Rattle.command_base.specs.Outputs.{Holds}
 use Rattle.command_base.proofs.Holding.{Holds-kept, Holds-more, Holds-add, HoldsPart-more}
 use Rattle.command_base.proofs.Reading.{ReadTo-begins, ReadTo-kept}
 use Rattle.peer_command.specs.Words.{Names, turn_names}
 use Rattle.peer_command.specs.Runs.{Left, PeerEnd, IsDone, GivesUp, MakesTurn, RunsTo, left_of, left_after, slot_at, slots_before}
-use Rattle.peer_command.specs.Ends.{Takes, HoldLeft, HoldPart, of_octets, of_line, RanTo, StopsRunning, EndsBy}
+use Rattle.peer_command.specs.Ends.{Takes, HoldLeft, HoldPart, of_octets, of_line, RanTo, StopsBetween, StopsInTurn, StopsInReading, EndsBy}
 use Rattle.peer_command.specs.Turns.{Reached, fault_stop}
 use Rattle.peer_command.proofs.Slots.{slots-front, slot-behind, full-slot, short-slot, slots-whole, slots-short, slots-more}
 
@@ -197,7 +197,7 @@ stopped-holds mid next n p octets line on h (turns.of_line got trace) =
 -- the folder fails in it
 pub stops-in : (start mid next : FolderState) (n : Names) (p : Past) (octets slot : List ℕ) (turn : ℕ)
     → Around start mid next n p octets slot → turn ≡ length p.turns
-    → Stops n.role mid next (turn_names n) p slot → StopsRunning start next n
+    → Stops n.role mid next (turn_names n) p slot → StopsInTurn start next n
 unfolding makes-turn
 stops-in start mid next n p octets slot turn a number s =
     let k = known-slot start mid n.bits FILE_LIMIT _ octets slot a.read a.few a.end in
@@ -206,7 +206,7 @@ stops-in start mid next n p octets slot turn a number s =
       file = s.others;
       octets = all;
       takes = taken start mid next n p octets slot s.others all a (s.known.known a.knows) k.told;
-      stops = inr (record {
+      stops = record {
         turn = turn;
         outcome = s.outcome;
         left = left_after n.role (over s.others p) s.turn s.octets;
@@ -214,14 +214,28 @@ stops-in start mid next n p octets slot turn a number s =
             (over s.others p) octets slot k.rest turn s.outcome s.turn s.octets number a.count a.slots_are a.some k.cut s.is;
         holds = subst (λ m. HoldPart next n (left_of n.role p) s.octets (turn_line n.role m s.turn)) (sym number)
             (stopped-holds mid next n p s.octets (turn_line n.role (length p.turns) s.turn) a.only.goes_on a.holds s.writes);
-      });
+      };
     }
+
+-- to read the file
+reads-in : (start mid next : FolderState) (n : Names) (p : Past) (octets slot : List ℕ) (turn : ℕ)
+    → Around start mid next n p octets slot → turn ≡ length p.turns
+    → TurnStopsInReading n.role mid next (turn_names n) p slot → StopsInReading start next n
+unfolding makes-turn stops-in
+reads-in start mid next n p octets slot turn a number s = (
+  stops-in start mid next n p octets slot turn a number s.0,
+  record {
+    got = Holds-add mid next n.got (concat p.account.incoming.taken) s.0.octets a.only.goes_on a.holds.got s.1.got;
+    trace = Holds-kept mid next n.trace (trace_of n.role p.turns) a.only.goes_on a.holds.trace s.1.trace;
+  },
+)
 
 -- a fault of the turn
 pub fault-ends : (start mid next : FolderState) (n : Names) (p : Past) (octets slot : List ℕ) (turn : ℕ) (fault : SingleFault)
     → Around start mid next n p octets slot → turn ≡ length p.turns
     → TurnEndsBy n.role mid next (turn_names n) p slot fault → EndsBy start next n (fault_stop n.role turn fault)
-fault-ends start mid next n p octets slot turn faults.ReadFault a number e = inr (stops-in start mid next n p octets slot turn a number e)
+fault-ends start mid next n p octets slot turn faults.ReadFault a number e =
+    inr (inr (refl, reads-in start mid next n p octets slot turn a number e))
 fault-ends start mid next n p octets slot turn faults.WriteFault a number e = inr (stops-in start mid next n p octets slot turn a number e)
 fault-ends start mid next n p octets slot turn faults.NoMemory a number e = inr (stops-in start mid next n p octets slot turn a number e)
 fault-ends start mid next n p octets slot turn (faults.Link fault) a number e =
@@ -370,22 +384,20 @@ ends-whole start old mid n s r turn number reads bits = record {
 
 -- a slot isn't read
 pub not-read : (start old mid : FolderState) (n : Names) (s : Single) (r : Reached start old n s) → OnlyReads old mid
-    → StopsRunning start mid n
+    → StopsBetween start mid n
 not-read start old mid n s r reads =
     let k = known start old n.bits FILE_LIMIT _ r.octets r.read in
     record {
       file = r.past.file;
       octets = r.octets ++ k.rest;
       takes = took-so start old mid n s r (r.octets ++ k.rest) reads k.told;
-      stops = inl (record {
-        past = r.past;
-        is_past = record {
-          run = run-of n s r.past r.after r.role_is;
-          file_is = refl;
-          slots_are = r.slots_are ∙ sym (slots-front (length r.past.turns) r.octets k.rest (omega (arith, r.read.count)));
-        };
-        holds = holds-read old mid n (left_of n.role r.past) reads r.holds;
-      });
+      past = r.past;
+      is_past = record {
+        run = run-of n s r.past r.after r.role_is;
+        file_is = refl;
+        slots_are = r.slots_are ∙ sym (slots-front (length r.past.turns) r.octets k.rest (omega (arith, r.read.count)));
+      };
+      holds = holds-read old mid n (left_of n.role r.past) reads r.holds;
     }
 
 -- a slot is read, and a turn made

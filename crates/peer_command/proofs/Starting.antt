@@ -2,7 +2,7 @@
 use Rattle.std.proofs.Common.{◌≡◌, ◌∙◌, inl, inr, ℕ, ◌<◌, ◌≤◌, ◌+◌, List, [], ◌∷◌, length, take, refl, sym, subst, arith}
 use Rattle.std.proofs.lemmas.List.{length-take}
 use Rattle.outside_calls.specs.Folder.{FolderState, octets_at, GoesOn, KeepsName, OnlyReads, CountsStand}
-use Rattle.outside_calls.specs.Steps.{GoesOn-trans, KeepsName-trans, octets-kept, told_later}
+use Rattle.outside_calls.specs.Steps.{GoesOn-trans, KeepsName-trans}
 use Rattle.roles.specs.declared.role.Role.{Role}
 use Rattle.link_account.specs.Account.{fresh}
 use Rattle.link_run.specs.Alone.{LoneHearingsDeliver, LoneSpeakingTakesNothing}
@@ -15,7 +15,7 @@ use Rattle.single_end.specs.Turn.{Makes, GoesOnBy}
 use Rattle.command_base.specs.declared.limits.TheConstants.{FILE_LIMIT}
 use Rattle.command_base.specs.declared.stop.Stop.{Stop}
 use Rattle.command_base.specs.declared.stop.Stop.TheVariants.{Own, Read, Write, Say, NoMemory}
-use Rattle.command_base.specs.Inputs.{IsWithin, IsLonger, IsNotWithin}
+use Rattle.command_base.specs.Inputs.{IsWithin, IsNotWithin}
 use Rattle.command_base.specs.Outputs.{KeepsAll, AreApart, CreatesPart, Creates, IsNoneOf, KeepsEach, OnlyOutputs}
 use Rattle.command_base.proofs.Creating.{CreatesPart-earlier}
 use Rattle.command_base.proofs.Reading.{ReadTo-none, longer-earlier}

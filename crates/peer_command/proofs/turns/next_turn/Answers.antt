@@ -1,4 +1,4 @@
-use Rattle.std.proofs.Common.{◌≡◌, ◌∙◌, inr, ℕ, ◌*◌, ◌<◌, IsTrue, List, ◌++◌, length, take, refl, sym, subst, arith, Option, Some, None, Result, Ok, Err}
+use Rattle.std.proofs.Common.{◌≡◌, ◌∙◌, inl, inr, ℕ, ◌*◌, ◌<◌, IsTrue, List, ◌++◌, length, take, refl, sym, subst, arith, Option, Some, None, Result, Ok, Err}
 use Rattle.std.proofs.lemmas.List.{append-nil, length-take-le}
 use Rattle.outside_calls.specs.Folder.{FolderState, octets_at}
 use Rattle.roles.specs.declared.role.Role.{Role}
@@ -40,8 +40,8 @@ returns-in-Ok-eq0-clause-done g c = λ start r.
 
 pub returns-in-Err-clause-err : goal.returns-in-Err-clause-err
 returns-in-Err-clause-err g c = λ start r.
-    inr (not-read start (g.F.Folder.state c.args.folder.now) (g.F.Folder.state c.read_piece.new.folder)
-    (named c.args.words.now) c.args.single.now r c.in-Err.ensures.reads)
+    inr (inl (not-read start (g.F.Folder.state c.args.folder.now) (g.F.Folder.state c.read_piece.new.folder)
+    (named c.args.words.now) c.args.single.now r c.in-Err.ensures.reads))
 
 pub returns-then-count-lt-SLOT_OCTETS-clause-done : goal.returns-then-count-lt-SLOT_OCTETS-clause-done
 returns-then-count-lt-SLOT_OCTETS-clause-done g c = λ start r.
