@@ -1,5 +1,5 @@
 -- From the phases of a run to how it ends.
-use Rattle.std.proofs.Common.{◌≡◌, ◌≢◌, inl, inr, ℕ, ◌≤◌, IsTrue, List, [], ◌∷◌, sym, ◌∙◌, ap, take, arith}
+use Rattle.std.proofs.Common.{◌≡◌, ◌≢◌, inl, inr, ℕ, ◌≤◌, IsTrue, List, [], ◌∷◌, refl, sym, ◌∙◌, ap, take, arith}
 use Rattle.std.proofs.lemmas.List.{take_all}
 use Rattle.outside_calls.specs.Folder.{FolderState, octets_at, GoesOn, KeepsName, OnlyReads}
 use Rattle.outside_calls.specs.Steps.{GoesOn-trans, KeepsName-trans, octets-kept, told_later}
@@ -131,7 +131,7 @@ stops-in-reading old mid now next n script p r = (stops-in old mid now next n sc
 -- a turn's fault ended the run
 pub ends-in-turn : (old mid now next : FolderState) (n : RunNames) (script : ScriptValue) (fault : RunFault)
     → Phases LIMITS old mid now next n script → FaultEnds script next (names_written n) fault → EndsBy LIMITS old next n (fault_stop fault)
-ends-in-turn old mid now next n script faults.ReadFault p e = inr (stops-in-reading old mid now next n script p e)
+ends-in-turn old mid now next n script faults.ReadFault p e = inr (refl, stops-in-reading old mid now next n script p e)
 ends-in-turn old mid now next n script faults.WriteFault p e = inr (stops-in old mid now next n script p e)
 ends-in-turn old mid now next n script faults.NoMemory p e = inr (stops-in old mid now next n script p e)
 ends-in-turn old mid now next n script (faults.LineLost role symbol) p e =

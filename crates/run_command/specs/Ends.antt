@@ -78,7 +78,8 @@ RanBy l old new n answer = ⊥
 -- why a run stops with less than both files: for its inputs, before any output is created, for what becomes of it, or for the folder
 abbrev pub EndsBy : Limits → FolderState → FolderState → RunNames → Stop → Type 0
 EndsBy l old new n (Own answer) = (KeepsAll old new × RefusesOwn l old n answer) ⊎ RanBy l old new n answer
-EndsBy l old new n (Read fault) = (KeepsAll old new × FailsToRead l old new n fault) ⊎ StopsInReading l old new n
+EndsBy l old new n (Read fault) =
+    (KeepsAll old new × FailsToRead l old new n fault) ⊎ ((fault ≡ folder.Failed) × StopsInReading l old new n)
 EndsBy l old new n (Write fault) = StopsCreating l old new n ⊎ StopsInTurn l old new n
 EndsBy l old new n (Say fault) = ⊥
 EndsBy l old new n NoMemory = KeepsAll old new × IsWithin old n.script l.script
