@@ -5,8 +5,10 @@ use Rattle.std.proofs.lemmas.Bool.{false≢true, cases_lt}
 use Rattle.std.proofs.lemmas.List.{take_all}
 use Rattle.std.proofs.lemmas.List.Folds.{concat-append}
 use Rattle.std.specs.List.{concat}
-use Rattle.outside_calls.specs.Folder.{FolderState, octets_at, GoesOn, KeepsName, OnlyReads}
-use Rattle.outside_calls.specs.Steps.{GoesOn-trans, KeepsName-trans, octets-kept, told_later}
+use Rattle.outside_calls.specs.Folder.{FolderState, octets_at, GoesOn, KeepsName, OnlyReads, CountsStand}
+use Rattle.outside_calls.specs.Steps.{GoesOn-trans, KeepsName-trans, octets-kept, told_later, CountsStand-trans}
+use Rattle.outside_calls.specs.declared.folder.FolderFault.{FolderFault}
+use Rattle.outside_calls.specs.declared.folder.FolderFault.TheVariants as folder
 use Rattle.roles.specs.declared.role.Role.{Role}
 use Rattle.link_run.specs.End.{deliveries}
 use Rattle.link_run.specs.Alone.{LoneTurn, LoneHearingsDeliver, LoneSpeakingTakesNothing}
@@ -16,10 +18,13 @@ use Rattle.single_end.specs.declared.step.SingleFault.TheVariants as faults
 use Rattle.single_end.specs.Heard.{slot_octets}
 use Rattle.single_end.specs.Peer.{Past, PeerRun, PeerTurn, Outcome, Going, Closed, Broken, party_of, after, over, trace_of, turn_line}
 use Rattle.single_end.specs.Single.{KnowsFile, OnlyOutputs, SingleAfter, file_limit}
-use Rattle.single_end.specs.Turn.{Makes, Stops, WritesPart, StopsInReading as TurnStopsInReading, EndsBy as TurnEndsBy}
+use Rattle.single_end.specs.Turn.{Makes, Stops, WritesPart, StopsInReading as TurnStopsInReading, EndsBy as TurnEndsBy, FaultCounts}
 use Rattle.single_end.specs.Turn as turns
 use Rattle.command_base.specs.declared.limits.TheConstants.{FILE_LIMIT}
+use Rattle.command_base.specs.declared.stop.Stop.TheVariants.{Read}
 use Rattle.command_base.specs.Inputs.{IsWithin, ReadTo}
+use Rattle.command_base.specs.Stops.{ReadFails}
+use Rattle.command_base.proofs.Jobs.{stop-earlier}
 use Rattle.command_base.specs.Outputs.{Holds}
 use Rattle.command_base.proofs.Holding.{Holds-kept, Holds-more, Holds-add, HoldsPart-more}
 use Rattle.command_base.proofs.Reading.{ReadTo-begins, ReadTo-kept}
@@ -100,6 +105,7 @@ pub record Around (start mid next : FolderState) (n : Names) (p : Past) (octets 
   pub knows : KnowsFile mid n.file p.file
   pub holds : HoldLeft mid n (left_of n.role p)
   pub only : OnlyOutputs mid next (turn_names n)
+  pub stand : CountsStand start mid
 
 abbrev on-to : (start mid next : FolderState) (n : Names) (p : Past) (octets slot : List ℕ) → Around start mid next n p octets slot
     → GoesOn start next
@@ -230,15 +236,21 @@ reads-in start mid next n p octets slot turn a number s = (
   },
 )
 
+-- the faults of one input, behind what counted none
+pub fails-later : (start mid next : FolderState) (name : List ℕ) (fault : FolderFault) → CountsStand start mid
+    → ReadFails mid next (name ∷ []) fault → ReadFails start next (name ∷ []) fault
+fails-later start mid next name fault stand fails = stop-earlier start mid next (name ∷ []) [] (Read fault) stand fails
+
 -- a fault of the turn
 pub fault-ends : (start mid next : FolderState) (n : Names) (p : Past) (octets slot : List ℕ) (turn : ℕ) (fault : SingleFault)
     → Around start mid next n p octets slot → turn ≡ length p.turns
-    → TurnEndsBy n.role mid next (turn_names n) p slot fault → EndsBy start next n (fault_stop n.role turn fault)
-fault-ends start mid next n p octets slot turn faults.ReadFault a number e =
-    inr (inr (refl, reads-in start mid next n p octets slot turn a number e))
-fault-ends start mid next n p octets slot turn faults.WriteFault a number e = inr (stops-in start mid next n p octets slot turn a number e)
-fault-ends start mid next n p octets slot turn faults.NoMemory a number e = inr (stops-in start mid next n p octets slot turn a number e)
-fault-ends start mid next n p octets slot turn (faults.Link fault) a number e =
+    → FaultCounts mid next (turn_names n) fault → TurnEndsBy n.role mid next (turn_names n) p slot fault
+    → EndsBy start next n (fault_stop n.role turn fault)
+fault-ends start mid next n p octets slot turn faults.ReadFault a number rose e =
+    inr (inr (refl, fails-later start mid next n.file folder.Failed a.stand (inl rose), reads-in start mid next n p octets slot turn a number e))
+fault-ends start mid next n p octets slot turn faults.WriteFault a number counts e = inr (stops-in start mid next n p octets slot turn a number e)
+fault-ends start mid next n p octets slot turn faults.NoMemory a number counts e = inr (stops-in start mid next n p octets slot turn a number e)
+fault-ends start mid next n p octets slot turn (faults.Link fault) a number counts e =
     inr (
       fault,
       turn,
@@ -290,9 +302,9 @@ slots-on p octets slot count slots few =
 -- the slot was whole
 pub goes-on : LoneHearingsDeliver → LoneSpeakingTakesNothing
     → (start mid next : FolderState) (n : Names) (s : Single) (p : Past) (octets slot : List ℕ) → Around start mid next n p octets slot
-    → s.role ≡ n.role → (m : Makes n.role mid next (turn_names n) p slot Going)
+    → s.role ≡ n.role → CountsStand mid next → (m : Makes n.role mid next (turn_names n) p slot Going)
     → SingleAfter s (after slot m.turn m.is.is.0 (over m.others p)) → length slot ≡ slot_octets → Reached start next n s
-goes-on hearing speaking start mid next n s p octets slot a role m after-is full = record {
+goes-on hearing speaking start mid next n s p octets slot a role stand m after-is full = record {
   past = after slot m.turn m.is.is.0 (over m.others p);
   after = after-is;
   role_is = role;
@@ -304,6 +316,7 @@ goes-on hearing speaking start mid next n s p octets slot a role m after-is full
   file_kept = file-on start mid next n p octets slot a;
   knows = m.known.known a.knows;
   holds = gone-holds hearing speaking mid next n p slot a.only.goes_on a.holds m;
+  stand = CountsStand-trans a.stand stand;
 }
   where
     more : (turns count : ℕ) → count ≡ slot_octets → slot_octets * turns + count ≡ slot_octets * suc turns
@@ -406,8 +419,8 @@ pub around : (start old mid next : FolderState) (n : Names) (s : Single) (r : Re
     → ReadTo start mid n.bits FILE_LIMIT (slot_octets * length r.past.turns + length slot) (r.octets ++ slot) → 1 ≤ length slot
     → length slot ≤ slot_octets
     → (length slot < slot_octets → IsTrue (start.tells n.bits) → r.octets ++ slot ≡ octets_at start n.bits)
-    → OnlyOutputs mid next (turn_names n) → Around start mid next n r.past r.octets slot
-around start old mid next n s r slot apart reads read some few end only = record {
+    → OnlyOutputs mid next (turn_names n) → CountsStand old mid → Around start mid next n r.past r.octets slot
+around start old mid next n s r slot apart reads read some few end only stand = record {
   apart = apart;
   read = read;
   count = sym r.read.count;
@@ -420,4 +433,5 @@ around start old mid next n s r slot apart reads read some few end only = record
   knows = known-later old mid n.file r.past.file reads.goes_on (reads.names n.file) r.knows;
   holds = holds-read old mid n (left_of n.role r.past) reads r.holds;
   only = only;
+  stand = CountsStand-trans r.stand stand;
 }

@@ -115,7 +115,9 @@ RanBy old new n answer = (fault : LinkFault) × (turn : ℕ) × (answer ≡ stat
 abbrev pub EndsBy : FolderState → FolderState → Names → Stop → Type 0
 EndsBy old new n (Own answer) = (KeepsAll old new × IsTooLong old n answer) ⊎ RanBy old new n answer
 EndsBy old new n (Read fault) =
-    (KeepsAll old new × FailsToLook old new n fault) ⊎ StopsBetween old new n ⊎ ((fault ≡ folder.Failed) × StopsInReading old new n)
+    (KeepsAll old new × FailsToLook old new n fault)
+    ⊎ (ReadFails old new (n.bits ∷ []) fault × StopsBetween old new n)
+    ⊎ ((fault ≡ folder.Failed) × ReadFails old new (n.file ∷ []) fault × StopsInReading old new n)
 EndsBy old new n (Write fault) = StopsCreating old new n ⊎ StopsInTurn old new n
 EndsBy old new n (Say fault) = ⊥
 EndsBy old new n NoMemory = KeepsAll old new × IsWithin old n.bits FILE_LIMIT × IsWithin old n.file FILE_LIMIT
