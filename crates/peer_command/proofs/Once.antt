@@ -1,14 +1,14 @@
 -- A role, a file and octets have one result at most.
-use Rattle.std.proofs.Common.{◌≡◌, ◌≢◌, ◌∙◌, inl, inr, ℕ, suc, ◌+◌, ◌<◌, ◌≤◌, List, [], ◌∷◌, length, refl, sym, ap, subst, arith}
+use Rattle.std.proofs.Common.{◌≡◌, ◌≢◌, ◌∙◌, inl, inr, ℕ, ◌+◌, ◌<◌, List, [], ◌∷◌, length, refl, sym, ap, subst, arith}
 use Rattle.std.proofs.lemmas.Bool.{cases_lt}
 use Rattle.roles.specs.declared.role.Role.{Role}
 use Rattle.roles.specs.Role.{other}
 use Rattle.link_account.specs.Account.{Account}
 use Rattle.link_run.specs.Alone.{LoneTurn, LoneRun}
-use Rattle.single_end.specs.Peer.{Past, PeerRun, PeerTurn, Outcome, Going, Closed, Broken, HearsSlots, party_of}
+use Rattle.single_end.specs.Peer.{Past, PeerTurn, Outcome, Going, Closed, Broken, HearsSlots, party_of}
 use Rattle.single_end.specs.Laws.{OnePeerRun, OnePeerTurn}
 use Rattle.peer_command.specs.Runs.{Left, PeerEnd, IsDone, GivesUp, HearsAll, IsPast, MakesTurn, RunsTo, left_of, left_after, slot_at}
-use Rattle.peer_command.specs.Runs.{slots_before, slots_in}
+use Rattle.peer_command.specs.Runs.{slots_before}
 use Rattle.peer_command.specs.Laws.{OneResult}
 
 pub record RunLaws : Type 0 where

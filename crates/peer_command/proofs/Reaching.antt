@@ -5,8 +5,10 @@ use Rattle.std.proofs.lemmas.Bool.{false≢true, cases_lt}
 use Rattle.std.proofs.lemmas.List.{take_all}
 use Rattle.std.proofs.lemmas.List.Folds.{concat-append}
 use Rattle.std.specs.List.{concat}
-use Rattle.outside_calls.specs.Folder.{FolderState, octets_at, GoesOn, KeepsName, OnlyReads}
-use Rattle.outside_calls.specs.Steps.{GoesOn-trans, KeepsName-trans, octets-kept, told_later}
+use Rattle.outside_calls.specs.Folder.{FolderState, octets_at, GoesOn, KeepsName, OnlyReads, CountsStand}
+use Rattle.outside_calls.specs.Steps.{GoesOn-trans, KeepsName-trans, octets-kept, told_later, CountsStand-trans}
+use Rattle.outside_calls.specs.declared.folder.FolderFault.{FolderFault}
+use Rattle.outside_calls.specs.declared.folder.FolderFault.TheVariants as folder
 use Rattle.roles.specs.declared.role.Role.{Role}
 use Rattle.link_run.specs.End.{deliveries}
 use Rattle.link_run.specs.Alone.{LoneTurn, LoneHearingsDeliver, LoneSpeakingTakesNothing}
@@ -16,16 +18,19 @@ use Rattle.single_end.specs.declared.step.SingleFault.TheVariants as faults
 use Rattle.single_end.specs.Heard.{slot_octets}
 use Rattle.single_end.specs.Peer.{Past, PeerRun, PeerTurn, Outcome, Going, Closed, Broken, party_of, after, over, trace_of, turn_line}
 use Rattle.single_end.specs.Single.{KnowsFile, OnlyOutputs, SingleAfter, file_limit}
-use Rattle.single_end.specs.Turn.{Makes, Stops, WritesPart, EndsBy as TurnEndsBy}
+use Rattle.single_end.specs.Turn.{Makes, Stops, WritesPart, StopsInReading as TurnStopsInReading, EndsBy as TurnEndsBy, FaultCounts}
 use Rattle.single_end.specs.Turn as turns
 use Rattle.command_base.specs.declared.limits.TheConstants.{FILE_LIMIT}
+use Rattle.command_base.specs.declared.stop.Stop.TheVariants.{Read}
 use Rattle.command_base.specs.Inputs.{IsWithin, ReadTo}
-use Rattle.command_base.specs.Outputs.{Holds, HoldsPart}
+use Rattle.command_base.specs.Stops.{ReadFails}
+use Rattle.command_base.proofs.Jobs.{stop-earlier}
+use Rattle.command_base.specs.Outputs.{Holds}
 use Rattle.command_base.proofs.Holding.{Holds-kept, Holds-more, Holds-add, HoldsPart-more}
 use Rattle.command_base.proofs.Reading.{ReadTo-begins, ReadTo-kept}
 use Rattle.peer_command.specs.Words.{Names, turn_names}
 use Rattle.peer_command.specs.Runs.{Left, PeerEnd, IsDone, GivesUp, MakesTurn, RunsTo, left_of, left_after, slot_at, slots_before}
-use Rattle.peer_command.specs.Ends.{Takes, HoldLeft, HoldPart, of_octets, of_line, RanTo, StopsRunning, EndsBy}
+use Rattle.peer_command.specs.Ends.{Takes, HoldLeft, HoldPart, of_octets, of_line, RanTo, StopsBetween, StopsInTurn, StopsInReading, EndsBy}
 use Rattle.peer_command.specs.Turns.{Reached, fault_stop}
 use Rattle.peer_command.proofs.Slots.{slots-front, slot-behind, full-slot, short-slot, slots-whole, slots-short, slots-more}
 
@@ -100,6 +105,7 @@ pub record Around (start mid next : FolderState) (n : Names) (p : Past) (octets 
   pub knows : KnowsFile mid n.file p.file
   pub holds : HoldLeft mid n (left_of n.role p)
   pub only : OnlyOutputs mid next (turn_names n)
+  pub stand : CountsStand start mid
 
 abbrev on-to : (start mid next : FolderState) (n : Names) (p : Past) (octets slot : List ℕ) → Around start mid next n p octets slot
     → GoesOn start next
@@ -197,7 +203,7 @@ stopped-holds mid next n p octets line on h (turns.of_line got trace) =
 -- the folder fails in it
 pub stops-in : (start mid next : FolderState) (n : Names) (p : Past) (octets slot : List ℕ) (turn : ℕ)
     → Around start mid next n p octets slot → turn ≡ length p.turns
-    → Stops n.role mid next (turn_names n) p slot → StopsRunning start next n
+    → Stops n.role mid next (turn_names n) p slot → StopsInTurn start next n
 unfolding makes-turn
 stops-in start mid next n p octets slot turn a number s =
     let k = known-slot start mid n.bits FILE_LIMIT _ octets slot a.read a.few a.end in
@@ -206,7 +212,7 @@ stops-in start mid next n p octets slot turn a number s =
       file = s.others;
       octets = all;
       takes = taken start mid next n p octets slot s.others all a (s.known.known a.knows) k.told;
-      stops = inr (record {
+      stops = record {
         turn = turn;
         outcome = s.outcome;
         left = left_after n.role (over s.others p) s.turn s.octets;
@@ -214,17 +220,37 @@ stops-in start mid next n p octets slot turn a number s =
             (over s.others p) octets slot k.rest turn s.outcome s.turn s.octets number a.count a.slots_are a.some k.cut s.is;
         holds = subst (λ m. HoldPart next n (left_of n.role p) s.octets (turn_line n.role m s.turn)) (sym number)
             (stopped-holds mid next n p s.octets (turn_line n.role (length p.turns) s.turn) a.only.goes_on a.holds s.writes);
-      });
+      };
     }
+
+-- to read the file
+reads-in : (start mid next : FolderState) (n : Names) (p : Past) (octets slot : List ℕ) (turn : ℕ)
+    → Around start mid next n p octets slot → turn ≡ length p.turns
+    → TurnStopsInReading n.role mid next (turn_names n) p slot → StopsInReading start next n
+unfolding makes-turn stops-in
+reads-in start mid next n p octets slot turn a number s = (
+  stops-in start mid next n p octets slot turn a number s.0,
+  record {
+    got = Holds-add mid next n.got (concat p.account.incoming.taken) s.0.octets a.only.goes_on a.holds.got s.1.got;
+    trace = Holds-kept mid next n.trace (trace_of n.role p.turns) a.only.goes_on a.holds.trace s.1.trace;
+  },
+)
+
+-- the faults of one input, behind what counted none
+pub fails-later : (start mid next : FolderState) (name : List ℕ) (fault : FolderFault) → CountsStand start mid
+    → ReadFails mid next (name ∷ []) fault → ReadFails start next (name ∷ []) fault
+fails-later start mid next name fault stand fails = stop-earlier start mid next (name ∷ []) [] (Read fault) stand fails
 
 -- a fault of the turn
 pub fault-ends : (start mid next : FolderState) (n : Names) (p : Past) (octets slot : List ℕ) (turn : ℕ) (fault : SingleFault)
     → Around start mid next n p octets slot → turn ≡ length p.turns
-    → TurnEndsBy n.role mid next (turn_names n) p slot fault → EndsBy start next n (fault_stop n.role turn fault)
-fault-ends start mid next n p octets slot turn faults.ReadFault a number e = inr (stops-in start mid next n p octets slot turn a number e)
-fault-ends start mid next n p octets slot turn faults.WriteFault a number e = inr (stops-in start mid next n p octets slot turn a number e)
-fault-ends start mid next n p octets slot turn faults.NoMemory a number e = inr (stops-in start mid next n p octets slot turn a number e)
-fault-ends start mid next n p octets slot turn (faults.Link fault) a number e =
+    → FaultCounts mid next (turn_names n) fault → TurnEndsBy n.role mid next (turn_names n) p slot fault
+    → EndsBy start next n (fault_stop n.role turn fault)
+fault-ends start mid next n p octets slot turn faults.ReadFault a number rose e =
+    inr (inr (refl, fails-later start mid next n.file folder.Failed a.stand (inl rose), reads-in start mid next n p octets slot turn a number e))
+fault-ends start mid next n p octets slot turn faults.WriteFault a number counts e = inr (stops-in start mid next n p octets slot turn a number e)
+fault-ends start mid next n p octets slot turn faults.NoMemory a number counts e = inr (stops-in start mid next n p octets slot turn a number e)
+fault-ends start mid next n p octets slot turn (faults.Link fault) a number counts e =
     inr (
       fault,
       turn,
@@ -276,9 +302,9 @@ slots-on p octets slot count slots few =
 -- the slot was whole
 pub goes-on : LoneHearingsDeliver → LoneSpeakingTakesNothing
     → (start mid next : FolderState) (n : Names) (s : Single) (p : Past) (octets slot : List ℕ) → Around start mid next n p octets slot
-    → s.role ≡ n.role → (m : Makes n.role mid next (turn_names n) p slot Going)
+    → s.role ≡ n.role → CountsStand mid next → (m : Makes n.role mid next (turn_names n) p slot Going)
     → SingleAfter s (after slot m.turn m.is.is.0 (over m.others p)) → length slot ≡ slot_octets → Reached start next n s
-goes-on hearing speaking start mid next n s p octets slot a role m after-is full = record {
+goes-on hearing speaking start mid next n s p octets slot a role stand m after-is full = record {
   past = after slot m.turn m.is.is.0 (over m.others p);
   after = after-is;
   role_is = role;
@@ -290,6 +316,7 @@ goes-on hearing speaking start mid next n s p octets slot a role m after-is full
   file_kept = file-on start mid next n p octets slot a;
   knows = m.known.known a.knows;
   holds = gone-holds hearing speaking mid next n p slot a.only.goes_on a.holds m;
+  stand = CountsStand-trans a.stand stand;
 }
   where
     more : (turns count : ℕ) → count ≡ slot_octets → slot_octets * turns + count ≡ slot_octets * suc turns
@@ -370,22 +397,20 @@ ends-whole start old mid n s r turn number reads bits = record {
 
 -- a slot isn't read
 pub not-read : (start old mid : FolderState) (n : Names) (s : Single) (r : Reached start old n s) → OnlyReads old mid
-    → StopsRunning start mid n
+    → StopsBetween start mid n
 not-read start old mid n s r reads =
     let k = known start old n.bits FILE_LIMIT _ r.octets r.read in
     record {
       file = r.past.file;
       octets = r.octets ++ k.rest;
       takes = took-so start old mid n s r (r.octets ++ k.rest) reads k.told;
-      stops = inl (record {
-        past = r.past;
-        is_past = record {
-          run = run-of n s r.past r.after r.role_is;
-          file_is = refl;
-          slots_are = r.slots_are ∙ sym (slots-front (length r.past.turns) r.octets k.rest (omega (arith, r.read.count)));
-        };
-        holds = holds-read old mid n (left_of n.role r.past) reads r.holds;
-      });
+      past = r.past;
+      is_past = record {
+        run = run-of n s r.past r.after r.role_is;
+        file_is = refl;
+        slots_are = r.slots_are ∙ sym (slots-front (length r.past.turns) r.octets k.rest (omega (arith, r.read.count)));
+      };
+      holds = holds-read old mid n (left_of n.role r.past) reads r.holds;
     }
 
 -- a slot is read, and a turn made
@@ -394,8 +419,8 @@ pub around : (start old mid next : FolderState) (n : Names) (s : Single) (r : Re
     → ReadTo start mid n.bits FILE_LIMIT (slot_octets * length r.past.turns + length slot) (r.octets ++ slot) → 1 ≤ length slot
     → length slot ≤ slot_octets
     → (length slot < slot_octets → IsTrue (start.tells n.bits) → r.octets ++ slot ≡ octets_at start n.bits)
-    → OnlyOutputs mid next (turn_names n) → Around start mid next n r.past r.octets slot
-around start old mid next n s r slot apart reads read some few end only = record {
+    → OnlyOutputs mid next (turn_names n) → CountsStand old mid → Around start mid next n r.past r.octets slot
+around start old mid next n s r slot apart reads read some few end only stand = record {
   apart = apart;
   read = read;
   count = sym r.read.count;
@@ -408,4 +433,5 @@ around start old mid next n s r slot apart reads read some few end only = record
   knows = known-later old mid n.file r.past.file reads.goes_on (reads.names n.file) r.knows;
   holds = holds-read old mid n (left_of n.role r.past) reads r.holds;
   only = only;
+  stand = CountsStand-trans r.stand stand;
 }

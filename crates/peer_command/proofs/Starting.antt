@@ -2,7 +2,7 @@
 use Rattle.std.proofs.Common.{◌≡◌, ◌∙◌, inl, inr, ℕ, ◌<◌, ◌≤◌, ◌+◌, List, [], ◌∷◌, length, take, refl, sym, subst, arith}
 use Rattle.std.proofs.lemmas.List.{length-take}
 use Rattle.outside_calls.specs.Folder.{FolderState, octets_at, GoesOn, KeepsName, OnlyReads, CountsStand}
-use Rattle.outside_calls.specs.Steps.{GoesOn-trans, KeepsName-trans, octets-kept, told_later}
+use Rattle.outside_calls.specs.Steps.{GoesOn-trans, KeepsName-trans, CountsStand-trans}
 use Rattle.roles.specs.declared.role.Role.{Role}
 use Rattle.link_account.specs.Account.{fresh}
 use Rattle.link_run.specs.Alone.{LoneHearingsDeliver, LoneSpeakingTakesNothing}
@@ -15,7 +15,7 @@ use Rattle.single_end.specs.Turn.{Makes, GoesOnBy}
 use Rattle.command_base.specs.declared.limits.TheConstants.{FILE_LIMIT}
 use Rattle.command_base.specs.declared.stop.Stop.{Stop}
 use Rattle.command_base.specs.declared.stop.Stop.TheVariants.{Own, Read, Write, Say, NoMemory}
-use Rattle.command_base.specs.Inputs.{IsWithin, IsLonger, IsNotWithin}
+use Rattle.command_base.specs.Inputs.{IsWithin, IsNotWithin}
 use Rattle.command_base.specs.Outputs.{KeepsAll, AreApart, CreatesPart, Creates, IsNoneOf, KeepsEach, OnlyOutputs}
 use Rattle.command_base.proofs.Creating.{CreatesPart-earlier}
 use Rattle.command_base.proofs.Reading.{ReadTo-none, longer-earlier}
@@ -34,16 +34,17 @@ distinct n d i = record { got_file = i.0.0; got_bits = i.0.1.0; trace_file = i.1
 pub goes-by : LoneHearingsDeliver → LoneSpeakingTakesNothing
     → (start mid next : FolderState) (n : Names) (old new : Single) (p : Past) (octets slot : List ℕ)
     → Around start mid next n p octets slot
-    → old.role ≡ n.role → new.role ≡ old.role → GoesOnBy new mid next (turn_names n) p slot → length slot ≡ slot_octets
+    → old.role ≡ n.role → new.role ≡ old.role → CountsStand mid next → GoesOnBy new mid next (turn_names n) p slot
+    → length slot ≡ slot_octets
     → Reached start next n new
-goes-by hearing speaking start mid next n old new p octets slot a role same g full = by new.role (same ∙ role) g.makes g.single
+goes-by hearing speaking start mid next n old new p octets slot a role same stand g full = by new.role (same ∙ role) g.makes g.single
   where
     by : (r : Role) → r ≡ n.role → (m : Makes r mid next (turn_names n) p slot Going)
         → SingleAfter new (after slot m.turn m.is.is.0 (over m.others p)) → Reached start next n new
     by r e m s =
         (subst (λ x. (k : Makes x mid next (turn_names n) p slot Going) → SingleAfter new (after slot k.turn k.is.is.0 (over k.others p))
         → Reached start next n new) (sym e)
-        (λ k t. goes-on hearing speaking start mid next n new p octets slot a (same ∙ role) k t full)) m s
+        (λ k t. goes-on hearing speaking start mid next n new p octets slot a (same ∙ role) stand k t full)) m s
 
 pub ends-short-by : LoneHearingsDeliver → LoneSpeakingTakesNothing
     → (start mid next : FolderState) (n : Names) (old new : Single) (p : Past) (octets slot : List ℕ) (turn : ℕ)
@@ -72,11 +73,12 @@ ends-creating begin mid now n b c = record {
 few : (octets : List ℕ) → length (take file_limit octets) ≤ file_limit
 few octets = omega (arith, length-take file_limit octets)
 
-pub reached-first : (begin mid now : FolderState) (n : Names) (s : Single) → IsBegun begin mid n → OnlyOutputs mid now (outputs_of n)
+pub reached-first : (begin mid now : FolderState) (n : Names) (s : Single) → IsBegun begin mid n
+    → OnlyOutputs mid now (outputs_of n) → CountsStand mid now
     → Creates now (outputs_of n) → Distinct n → s.role ≡ n.role
     → ((file : List ℕ) → SingleAfter s (record { file = file; slots = []; turns = []; account = fresh (setup_of n.role) }))
     → Reached begin now n s
-reached-first begin mid now n s b only c d role first = record {
+reached-first begin mid now n s b only stand c d role first = record {
   past = record { file = file_at now n.file file_limit; slots = []; turns = []; account = fresh (setup_of n.role) };
   after = first (file_at now n.file file_limit);
   role_is = role;
@@ -87,6 +89,7 @@ reached-first begin mid now n s b only c d role first = record {
   file_kept = kept n.file (λ e. d.got_file (sym e), (λ e. d.trace_file (sym e), tt));
   knows = record { within = few (octets_at now n.file); told = λ told. refl };
   holds = record { got = c.0; trace = c.1.0 };
+  stand = CountsStand-trans b.stand stand;
 }
   where
     on : GoesOn begin now

@@ -2,6 +2,7 @@
 use Rattle.std.specs.Prelude.{◌≡◌, ◌⊎◌, ℕ, IsTrue, List, [], ◌∷◌, ◌++◌, Result, Ok, Err}
 use Rattle.outside_calls.specs.Folder.{FolderState, octets_at}
 use Rattle.outside_calls.specs.declared.folder.FolderFault.{FolderFault}
+use Rattle.outside_calls.specs.declared.folder.FolderFault.TheVariants as folder
 use Rattle.roles.specs.declared.role.Role.{Role}
 use Rattle.link_faults.specs.declared.fault.LinkFault.{LinkFault}
 use Rattle.link_faults.specs.declared.fault.LinkFault.TheVariants as faults
@@ -40,8 +41,11 @@ pub record RanTo (old new : FolderState) (n : Names) (end : PeerEnd) : Type 0 wh
   pub run : RunsTo n.role file octets end left
   pub holds : HoldLeft new n left
 
--- The folder failed before a turn was made: the outputs hold what those before it left.
-pub record StopsBetween (new : FolderState) (n : Names) (file octets : List ℕ) : Type 0 where
+-- It failed to read a slot of the bits: the outputs hold what the turns before left.
+pub record StopsBetween (old new : FolderState) (n : Names) : Type 0 where
+  pub file : List ℕ
+  pub octets : List ℕ
+  pub takes : Takes old n file octets
   pub past : Past
   pub is_past : IsPast n.role file octets past
   pub holds : HoldLeft new n (left_of n.role past)
@@ -60,12 +64,20 @@ pub record StopsWithin (new : FolderState) (n : Names) (file octets : List ℕ) 
   pub makes : MakesTurn n.role file octets turn outcome left
   pub holds : HoldPart new n (left_of n.role makes.past) makes.given (turn_line n.role turn makes.last)
 
--- The folder failed once the outputs were created.
-pub record StopsRunning (old new : FolderState) (n : Names) : Type 0 where
+-- The folder failed in a turn of the run of the inputs.
+pub record StopsInTurn (old new : FolderState) (n : Names) : Type 0 where
   pub file : List ℕ
   pub octets : List ℕ
   pub takes : Takes old n file octets
-  pub stops : StopsBetween new n file octets ⊎ StopsWithin new n file octets
+  pub stops : StopsWithin new n file octets
+
+-- It failed to read the file in it: the outputs hold all octets of this turn too, and nothing of its line.
+pub record StopsReading (new : FolderState) (n : Names) (file octets : List ℕ) (s : StopsWithin new n file octets) : Type 0 where
+  pub got : Holds new n.got ((left_of n.role s.makes.past).got ++ s.makes.given)
+  pub trace : Holds new n.trace (left_of n.role s.makes.past).trace
+
+abbrev pub StopsInReading : FolderState → FolderState → Names → Type 0
+StopsInReading old new n = (s : StopsInTurn old new n) × StopsReading new n s.file s.octets s.stops
 
 -- or as they were
 pub record StopsCreating (old new : FolderState) (n : Names) : Type 0 where
@@ -102,8 +114,11 @@ RanBy old new n answer = (fault : LinkFault) × (turn : ℕ) × (answer ≡ stat
 -- why the job is not done: for the inputs' lengths, for what becomes of the run, or for the folder
 abbrev pub EndsBy : FolderState → FolderState → Names → Stop → Type 0
 EndsBy old new n (Own answer) = (KeepsAll old new × IsTooLong old n answer) ⊎ RanBy old new n answer
-EndsBy old new n (Read fault) = (KeepsAll old new × FailsToLook old new n fault) ⊎ StopsRunning old new n
-EndsBy old new n (Write fault) = StopsCreating old new n ⊎ StopsRunning old new n
+EndsBy old new n (Read fault) =
+    (KeepsAll old new × FailsToLook old new n fault)
+    ⊎ (ReadFails old new (n.bits ∷ []) fault × StopsBetween old new n)
+    ⊎ ((fault ≡ folder.Failed) × ReadFails old new (n.file ∷ []) fault × StopsInReading old new n)
+EndsBy old new n (Write fault) = StopsCreating old new n ⊎ StopsInTurn old new n
 EndsBy old new n (Say fault) = ⊥
 EndsBy old new n NoMemory = KeepsAll old new × IsWithin old n.bits FILE_LIMIT × IsWithin old n.file FILE_LIMIT
 

@@ -1,6 +1,6 @@
 -- How far a run has come, and why it stops in a turn.
 use Rattle.std.specs.Prelude.{◌≡◌, ℕ, ◌*◌, List, length}
-use Rattle.outside_calls.specs.Folder.{FolderState, KeepsName, OnlyReads}
+use Rattle.outside_calls.specs.Folder.{FolderState, KeepsName, OnlyReads, CountsStand}
 use Rattle.outside_calls.specs.declared.folder.FolderFault.TheVariants as folder
 use Rattle.roles.specs.declared.role.Role.{Role}
 use Rattle.command_base.specs.declared.limits.TheConstants.{FILE_LIMIT}
@@ -17,11 +17,12 @@ use Rattle.peer_command.specs.Words.{Names}
 use Rattle.peer_command.specs.Runs.{left_of, slots_before}
 use Rattle.peer_command.specs.Ends.{HoldLeft, status_of}
 
--- Both inputs are within their limits, and nothing was written.
+-- Both inputs are within their limits, nothing was written, and no fault was counted.
 pub record IsBegun (old now : FolderState) (n : Names) : Type 0 where
   pub bits_within : IsWithin old n.bits FILE_LIMIT
   pub file_within : IsWithin old n.file FILE_LIMIT
   pub reads : OnlyReads old now
+  pub stand : CountsStand old now
 
 -- Turns were made against the slots of all that was read of the bits, and the outputs hold what they left.
 pub record Reached (start now : FolderState) (n : Names) (s : Single) : Type 0 where
@@ -35,6 +36,7 @@ pub record Reached (start now : FolderState) (n : Names) (s : Single) : Type 0 w
   pub file_kept : KeepsName start now n.file
   pub knows : KnowsFile now n.file past.file
   pub holds : HoldLeft now n (left_of n.role past)
+  pub stand : CountsStand start now
 
 -- why a run stops where there is this fault in its turn of that number
 abbrev pub fault_stop : Role → ℕ → SingleFault → Stop

@@ -30,7 +30,7 @@ use Rattle.single_end.specs.Heard.{IsHeard, stream, slot_bits}
 use Rattle.single_end.specs.Ear.{HasHeard}
 use Rattle.single_end.specs.Peer.{Past, PeerRun, PeerTurn, Outcome, Going, Closed, Broken, party_of, over, heard_as, turn_line}
 use Rattle.single_end.specs.Single.{PeerNames, AreApart, StaysKnown, file_limit}
-use Rattle.single_end.specs.Turn.{Makes, Stops, GoesOnBy, EndsBy, of_octets, of_line}
+use Rattle.single_end.specs.Turn.{Makes, Stops, StopsInReading, GoesOnBy, EndsBy, of_octets, of_line}
 use Rattle.single_end.specs.Mid.{InTurn, BreaksOff, Serves, AddsLine, AddsPart, HasGone, EndsLine, IsWriting, ReadCounts, handed}
 use Rattle.single_end.specs.Mid.{served_with}
 use Rattle.single_end.proofs.Folders.{got-only, trace-only, reads-only, then-only, writes-turn, writes-part, stays-known}
@@ -462,35 +462,6 @@ not-handed law s a b n p slot arrived mid apart within h w part =
       writes = of_octets part (w.names n.trace (λ e. apart.got_trace (sym e)));
     }
 
--- or the file isn't read
-pub not-read : EachLoneTurnIsMade
-    → (s : Single) (a b d : FolderState) (n : PeerNames) (p : Past) (slot : List ℕ) (arrived : Arrived) (mid now : Account) → AreApart n
-    → length p.file ≤ file_limit
-    → InTurn s p slot arrived mid now → OnlyWrites a b n.got → Adds a b n.got (concat (deliveries mid)) → OnlyReads b d
-    → Stops s.role a d n p slot
-not-read law s a b d n p slot arrived mid now apart within h w adds r =
-    let m = comes law s p slot arrived mid now h in
-    let only = then-only a b d n (got-only a b n w) (reads-only b d n r) in
-    record {
-      others = p.file;
-      known = stays-known a d n p.file apart only within;
-      turn = m.turn;
-      octets = concat (deliveries mid);
-      outcome = m.outcome;
-      is = m.is;
-      writes = of_line (Adds-kept a b d n.got _ w.goes_on adds (r.names n.got))
-          (PartlyAppended-none a d n.trace _
-          (KeepsName-trans a b d n.trace w.goes_on (w.names n.trace (λ e. apart.got_trace (sym e))) (r.names n.trace)));
-    }
-
-pub reading-ends : (role : Role) (a b d : FolderState) (n : PeerNames) (p : Past) (slot : List ℕ) (fault : SingleFault)
-    → ReadCounts {T = Unit {0}} b d n.file (Err fault) → Stops role a d n p slot
-    → EndsBy role a d n p slot fault
-reading-ends role a b d n p slot faults.ReadFault w s = s
-reading-ends role a b d n p slot faults.NoMemory w s = s
-reading-ends role a b d n p slot faults.WriteFault w s = absurd w
-reading-ends role a b d n p slot (faults.Link fault) w s = absurd w
-
 -- what is handed over stays as the file is read
 pub adds-on : (a b d : FolderState) (n : PeerNames) (octets : List ℕ) → OnlyWrites a b n.got → Adds a b n.got octets → OnlyReads b d
     → Adds a d n.got octets
@@ -498,3 +469,34 @@ adds-on a b d n octets w adds r = Adds-kept a b d n.got octets w.goes_on adds (r
 
 pub keeps-on : (a b d : FolderState) (n : PeerNames) → AreApart n → OnlyWrites a b n.got → OnlyReads b d → KeepsName a d n.trace
 keeps-on a b d n apart w r = KeepsName-trans a b d n.trace w.goes_on (w.names n.trace (λ e. apart.got_trace (sym e))) (r.names n.trace)
+
+-- or the file isn't read
+pub not-read : EachLoneTurnIsMade
+    → (s : Single) (a b d : FolderState) (n : PeerNames) (p : Past) (slot : List ℕ) (arrived : Arrived) (mid now : Account) → AreApart n
+    → length p.file ≤ file_limit
+    → InTurn s p slot arrived mid now → OnlyWrites a b n.got → Adds a b n.got (concat (deliveries mid)) → OnlyReads b d
+    → StopsInReading s.role a d n p slot
+not-read law s a b d n p slot arrived mid now apart within h w adds r =
+    let m = comes law s p slot arrived mid now h in
+    let only = then-only a b d n (got-only a b n w) (reads-only b d n r) in
+    let got = adds-on a b d n (concat (deliveries mid)) w adds r in
+    let trace = keeps-on a b d n apart w r in (
+      record {
+        others = p.file;
+        known = stays-known a d n p.file apart only within;
+        turn = m.turn;
+        octets = concat (deliveries mid);
+        outcome = m.outcome;
+        is = m.is;
+        writes = of_line got (PartlyAppended-none a d n.trace _ trace);
+      },
+      record { got = got; trace = trace },
+    )
+
+pub reading-ends : (role : Role) (a b d : FolderState) (n : PeerNames) (p : Past) (slot : List ℕ) (fault : SingleFault)
+    → ReadCounts {T = Unit {0}} b d n.file (Err fault) → StopsInReading role a d n p slot
+    → EndsBy role a d n p slot fault
+reading-ends role a b d n p slot faults.ReadFault w s = s
+reading-ends role a b d n p slot faults.NoMemory w s = s.0
+reading-ends role a b d n p slot faults.WriteFault w s = absurd w
+reading-ends role a b d n p slot (faults.Link fault) w s = absurd w

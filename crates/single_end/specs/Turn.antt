@@ -47,9 +47,20 @@ pub record Stops (role : Role) (old new : FolderState) (n : PeerNames) (p : Past
   pub is : PeerTurn role (over others p) slot turn octets outcome
   pub writes : WritesPart old new n octets (turn_line role (length p.turns) turn)
 
+-- It fails to read the user's file: all octets of the turn are written, and nothing of its line.
+pub record StopsReading (role : Role) (old new : FolderState) (n : PeerNames) (p : Past) (slot : List ℕ)
+    (s : Stops role old new n p slot) : Type 0 where
+  pub got : Adds old new n.got s.octets
+  pub trace : KeepsName old new n.trace
+
+-- The turn stops so.
+abbrev pub StopsInReading : Role → FolderState → FolderState → PeerNames → Past → List ℕ → Type 0
+StopsInReading role old new n p slot = (s : Stops role old new n p slot) × StopsReading role old new n p slot s
+
 -- why there is no further turn
 abbrev pub EndsBy : Role → FolderState → FolderState → PeerNames → Past → List ℕ → SingleFault → Type 0
 EndsBy role old new n p slot (faults.Link fault) = Makes role old new n p slot (Broken fault)
+EndsBy role old new n p slot faults.ReadFault = StopsInReading role old new n p slot
 EndsBy role old new n p slot fault = Stops role old new n p slot
 
 -- what a turn answers after this past, against this slot

@@ -16,6 +16,7 @@ returns-clause-ends g c =
       bits_within = c.in-Ok.ensures.within;
       file_within = within-earlier old mid n.file FILE_LIMIT c.in-Ok.ensures.reads c.in-Ok-within_limit.ensures.within;
       reads = OnlyReads-trans c.in-Ok.ensures.reads c.in-Ok-within_limit.ensures.reads;
+      stand = CountsStand-trans c.in-Ok.ensures.stand c.in-Ok-within_limit.ensures.stand;
     })
 
 pub returns-clause-only : goal.returns-clause-only

@@ -7,7 +7,7 @@ returns-clause-ends g c = λ begin b.
     let n : Names = named c.args.words.now in
     c.run_turns.ensures.ends begin
     (reached-first begin (g.F.Folder.state c.args.folder.now)
-    (g.F.Folder.state c.create_outputs.new.folder) n c.args.single.now b c.in-Ok.ensures.only c.in-Ok.ensures.ok
+    (g.F.Folder.state c.create_outputs.new.folder) n c.args.single.now b c.in-Ok.ensures.only c.in-Ok.ensures.stand c.in-Ok.ensures.ok
     (distinct n (c.apart_names_differ.ensures.outputs (inputs_of n) (outputs_of n) c.requires.apart)
     (c.apart_names_differ.ensures.inputs (inputs_of n) (outputs_of n) c.requires.apart))
     c.requires.role c.requires.first)

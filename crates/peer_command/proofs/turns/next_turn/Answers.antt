@@ -1,4 +1,5 @@
-use Rattle.std.proofs.Common.{◌≡◌, ◌∙◌, inr, ℕ, ◌*◌, ◌<◌, IsTrue, List, ◌++◌, length, take, refl, sym, subst, arith, Option, Some, None, Result, Ok, Err}
+use Rattle.std.proofs.Common.{◌≡◌, ◌∙◌, inl, inr, ℕ, ◌*◌, ◌<◌, IsTrue, List, ◌++◌, length, take, refl, sym, subst, arith, Option, Some}
+use Rattle.std.proofs.Common.{None, Result, Ok, Err}
 use Rattle.std.proofs.lemmas.List.{append-nil, length-take-le}
 use Rattle.outside_calls.specs.Folder.{FolderState, octets_at}
 use Rattle.roles.specs.declared.role.Role.{Role}
@@ -11,7 +12,7 @@ use Rattle.single_end.specs.Turn.{Makes, EndsBy as TurnEndsBy}
 use Rattle.peer_command.specs.Words.{Names, named, turn_names, inputs_of, outputs_of}
 use Rattle.peer_command.specs.Ends.{EndsBy}
 use Rattle.peer_command.proofs.Starting.{distinct, goes-by, ends-short-by}
-use Rattle.peer_command.proofs.Reaching.{Around, Distinct, around, fault-ends, closed-ends, ends-whole, not-read}
+use Rattle.peer_command.proofs.Reaching.{fails-later, Around, Distinct, around, fault-ends, closed-ends, ends-whole, not-read}
 use Rattle.peer_command.proofs.turns.next_turn.Goals as goal
 
 -- a run that ends, or stops, has no next turn
@@ -40,8 +41,13 @@ returns-in-Ok-eq0-clause-done g c = λ start r.
 
 pub returns-in-Err-clause-err : goal.returns-in-Err-clause-err
 returns-in-Err-clause-err g c = λ start r.
-    inr (not-read start (g.F.Folder.state c.args.folder.now) (g.F.Folder.state c.read_piece.new.folder)
-    (named c.args.words.now) c.args.single.now r c.in-Err.ensures.reads)
+    let n : Names = named c.args.words.now in
+    let old : FolderState = g.F.Folder.state c.args.folder.now in
+    let mid : FolderState = g.F.Folder.state c.read_piece.new.folder in
+    inr (inl (
+      fails-later start old mid n.bits c.in-Err.fault r.stand c.in-Err.ensures.fails,
+      not-read start old mid n c.args.single.now r c.in-Err.ensures.reads,
+    ))
 
 pub returns-then-count-lt-SLOT_OCTETS-clause-done : goal.returns-then-count-lt-SLOT_OCTETS-clause-done
 returns-then-count-lt-SLOT_OCTETS-clause-done g c = λ start r.
@@ -62,7 +68,7 @@ returns-then-count-lt-SLOT_OCTETS-clause-done g c = λ start r.
     (subst (λ x. ReadTo start mid n.bits FILE_LIMIT x (r.octets ++ slot)) (omega (arith, number, long))
     (c.in-Ok.ensures.more start r.octets read))
     (omega (arith, long, c.in-Ok.count-test)) (omega (arith, long, c.in-Ok.ensures.bound))
-    (λ less. c.in-Ok.ensures.end start r.octets read (omega (arith, less, long))) c.in-Ok-Going.ensures.only in
+    (λ less. c.in-Ok.ensures.end start r.octets read (omega (arith, less, long))) c.in-Ok-Going.ensures.only c.in-Ok.ensures.stand in
     ends-short-by c.lone_turns_deliver_what_came.ensures.hearing c.lone_turns_deliver_what_came.ensures.speaking
     start mid next n c.args.single.now c.turn.new.self r.past r.octets slot c.turn_number-turn.result a number
     r.after r.role_is c.in-Ok-Going.ensures.role
@@ -88,10 +94,11 @@ returns-else-count-lt-SLOT_OCTETS-clause-going g c = λ start r going.
     (subst (λ x. ReadTo start mid n.bits FILE_LIMIT x (r.octets ++ slot)) (omega (arith, number, long))
     (c.in-Ok.ensures.more start r.octets read))
     (omega (arith, long, c.in-Ok.count-test)) (omega (arith, long, c.in-Ok.ensures.bound))
-    (λ less. c.in-Ok.ensures.end start r.octets read (omega (arith, less, long))) c.in-Ok-Going.ensures.only in
+    (λ less. c.in-Ok.ensures.end start r.octets read (omega (arith, less, long))) c.in-Ok-Going.ensures.only c.in-Ok.ensures.stand in
     goes-by c.lone_turns_deliver_what_came.ensures.hearing c.lone_turns_deliver_what_came.ensures.speaking
     start mid next n c.args.single.now c.turn.new.self r.past r.octets slot a
-    r.role_is c.in-Ok-Going.ensures.role ((rw c.in-Ok-Going.field-0-is at c.in-Ok-Going.ensures.turn) r.past r.after r.knows.within)
+    r.role_is c.in-Ok-Going.ensures.role c.in-Ok-Going.ensures.counts
+    ((rw c.in-Ok-Going.field-0-is at c.in-Ok-Going.ensures.turn) r.past r.after r.knows.within)
     (omega (arith, long, c.in-Ok.ensures.bound, c.if-count-lt-SLOT_OCTETS.false))
 
 pub returns-in-Ok-Closed-clause-done : goal.returns-in-Ok-Closed-clause-done
@@ -113,7 +120,7 @@ returns-in-Ok-Closed-clause-done g c = λ start r.
     (subst (λ x. ReadTo start mid n.bits FILE_LIMIT x (r.octets ++ slot)) (omega (arith, number, long))
     (c.in-Ok.ensures.more start r.octets read))
     (omega (arith, long, c.in-Ok.count-test)) (omega (arith, long, c.in-Ok.ensures.bound))
-    (λ less. c.in-Ok.ensures.end start r.octets read (omega (arith, less, long))) c.in-Ok-Closed.ensures.only in
+    (λ less. c.in-Ok.ensures.end start r.octets read (omega (arith, less, long))) c.in-Ok-Closed.ensures.only c.in-Ok.ensures.stand in
     let m = (rw c.in-Ok-Closed.field-0-is at c.in-Ok-Closed.ensures.turn) r.past r.after r.knows.within in
     closed-ends start mid next n r.past r.octets slot c.turn_number-turn.result a number
     (subst (λ (x : Role). Makes x mid next (turn_names n) r.past slot Closed) (c.in-Ok-Closed.ensures.role ∙ r.role_is) m)
@@ -137,9 +144,9 @@ returns-in-Err-turn-clause-err g c = λ start r.
     (subst (λ x. ReadTo start mid n.bits FILE_LIMIT x (r.octets ++ slot)) (omega (arith, number, long))
     (c.in-Ok.ensures.more start r.octets read))
     (omega (arith, long, c.in-Ok.count-test)) (omega (arith, long, c.in-Ok.ensures.bound))
-    (λ less. c.in-Ok.ensures.end start r.octets read (omega (arith, less, long))) c.in-Err-turn.ensures.only in
+    (λ less. c.in-Ok.ensures.end start r.octets read (omega (arith, less, long))) c.in-Err-turn.ensures.only c.in-Ok.ensures.stand in
     subst (EndsBy start next n) (sym c.stop_of.ensures)
-    (fault-ends start mid next n r.past r.octets slot c.turn_number-turn.result c.in-Err-turn.fault a number
+    (fault-ends start mid next n r.past r.octets slot c.turn_number-turn.result c.in-Err-turn.fault a number c.in-Err-turn.ensures.counts
     (subst (λ (x : Role). TurnEndsBy x mid next (turn_names n) r.past slot c.in-Err-turn.fault) (c.in-Err-turn.ensures.role ∙ r.role_is)
     (c.in-Err-turn.ensures.turn r.past r.after r.knows.within)))
 
