@@ -1,5 +1,6 @@
 -- Parts of a turn of both ends.
-use Rattle.std.proofs.Common.{◌≡◌, ℕ, ◌+◌, Bool, true, false, is_ok, List, length, take, slice_get, arith, refl, sym, ◌∙◌, ap, inl, inr, ◌++◌, Some, Option, Result, Ok, Err}
+use Rattle.std.proofs.Common.{◌≡◌, ℕ, ◌+◌, Bool, true, false, is_ok, List, length, take, slice_get, arith, refl, sym, ◌∙◌, ap, Option, Result, Ok, Err}
+use Rattle.std.proofs.Common.{inl, inr, ◌++◌, Some}
 use Rattle.std.specs.Option.{option_map}
 use Rattle.outside_calls.specs.Folder.{FolderState, GoesOn, KeepsName, Adds, OnlyReads, OnlyWrites}
 use Rattle.outside_calls.specs.Steps.{GoesOn-trans, KeepsName-trans, told_later, octets-kept}
@@ -89,7 +90,8 @@ got-both start mid end n h k = record {
 }
 
 -- What is added behind a name that was kept is added to what it held before.
-pub kept-Adds : (start mid end : FolderState) (name xs : List ℕ) → GoesOn start mid → KeepsName start mid name → Adds mid end name xs → Adds start end name xs
+pub kept-Adds : (start mid end : FolderState) (name xs : List ℕ) → GoesOn start mid → KeepsName start mid name → Adds mid end name xs
+    → Adds start end name xs
 kept-Adds start mid end name xs on kept h = elim h [
   | inl none ↦ inl (none.0, KeepsName-trans start mid end name on kept none.1)
   | inr put ↦ inr (λ told. put (told_later on name told) ∙ ap (λ o. Some (o ++ xs)) (octets-kept start mid name kept told))

@@ -148,3 +148,6 @@ reading-counts old new n x NoMemory e cause spared = subst (FaultCounts old new 
 
 pub none-after : (r : Result Step RunFault) (turn : ℕ) → r ≡ Ok Going → r ≡ Ok (Done turn) → ⊥
 none-after r turn going done = cc (going, done)
+
+pub none-faulty : (fault : RunFault) → Err fault ≡ Ok Going → ⊥
+none-faulty fault going = cc going

@@ -44,7 +44,8 @@ returns c = record {
 pub returns-in-Err-clause-arrives : goal.returns-in-Err-clause-arrives
 returns-in-Err-clause-arrives c = λ ts ends h number orig answ.
     let channel = channel_of c.args.script.now in
-    lost-of channel _ _ ts c.in-Err.lost.symbol (c.arrive.ensures.sender ∙ h.answ_sends) (c.in-Err.ensures.arrives channel ts h.from_answ refl refl number)
+    lost-of channel _ _ ts c.in-Err.lost.symbol (c.arrive.ensures.sender ∙ h.answ_sends)
+    (c.in-Err.ensures.arrives channel ts h.from_answ refl refl number)
 
 pub returns-in-Chance-clause-arrives : goal.returns-in-Chance-clause-arrives
 returns-in-Chance-clause-arrives c = λ ts ends h number orig answ.
@@ -77,5 +78,6 @@ returns-in-Chance-answ-clause-arrives c = λ ts ends h number orig answ.
         well = c.in_default.not-Chance;
       },
       subst (λ (x : Heard). IsHeardOf channel Originator ts (check_of ends.answ) x) c.in-Chance-answ.is
-          (heard-of channel _ Originator ts _ (check_of ends.answ) c.in-Ok-arrive.heard (c.arrive-2.ensures.sender ∙ h.orig_sends) answ from_orig.0),
+          (heard-of channel _ Originator ts _ (check_of ends.answ) c.in-Ok-arrive.heard (c.arrive-2.ensures.sender ∙ h.orig_sends) answ
+          from_orig.0),
     )

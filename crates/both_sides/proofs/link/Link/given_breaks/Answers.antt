@@ -14,4 +14,7 @@ returns-clause-stands c = λ files ends h. record {
 }
 
 pub returns-clause-idle : goal.returns-clause-idle
-returns-clause-idle c = record { orig = c.given_break-orig.ensures.idle c.requires.orig; answ = c.given_break-answ.ensures.idle c.requires.answ }
+returns-clause-idle c = record {
+  orig = c.given_break-orig.ensures.idle c.requires.orig;
+  answ = c.given_break-answ.ensures.idle c.requires.answ;
+}

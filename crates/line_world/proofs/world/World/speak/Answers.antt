@@ -185,3 +185,30 @@ returns-in-Ok-write_turn-2-clause-tally g c = sends-none c.args.self.now.tally
 
 pub returns-in-Err-write_turn-2-clause-tally : goal.returns-in-Err-write_turn-2-clause-tally
 returns-in-Err-write_turn-2-clause-tally g c = sends-none c.args.self.now.tally
+
+pub returns-in-Ok-write_turn-clause-idle : goal.returns-in-Ok-write_turn-clause-idle
+returns-in-Ok-write_turn-clause-idle g c = c.in-Ok.ensures.idle
+
+pub returns-in-Ok-write_turn-clause-counted : goal.returns-in-Ok-write_turn-clause-counted
+returns-in-Ok-write_turn-clause-counted g c = c.in-Ok.ensures.counted
+
+pub returns-in-Ok-write_turn-clause-only : goal.returns-in-Ok-write_turn-clause-only
+returns-in-Ok-write_turn-clause-only g c = c.write_turn.ensures.only
+
+pub returns-in-Ok-write_turn-clause-counts : goal.returns-in-Ok-write_turn-clause-counts
+returns-in-Ok-write_turn-clause-counts g c = c.in-Ok-write_turn.ensures.counts
+
+pub returns-in-Err-write_turn-clause-only : goal.returns-in-Err-write_turn-clause-only
+returns-in-Err-write_turn-clause-only g c = c.write_turn.ensures.only
+
+pub returns-in-Err-write_turn-clause-counts : goal.returns-in-Err-write_turn-clause-counts
+returns-in-Err-write_turn-clause-counts g c = c.in-Err-write_turn.ensures.counts
+
+pub returns-in-Ok-write_turn-2-clause-only : goal.returns-in-Ok-write_turn-2-clause-only
+returns-in-Ok-write_turn-2-clause-only g c = c.write_turn-in-Err.ensures.only
+
+pub returns-in-Err-write_turn-2-clause-only : goal.returns-in-Err-write_turn-2-clause-only
+returns-in-Err-write_turn-2-clause-only g c = c.write_turn-in-Err.ensures.only
+
+pub returns-in-Err-write_turn-2-clause-counts : goal.returns-in-Err-write_turn-2-clause-counts
+returns-in-Err-write_turn-2-clause-counts g c = c.in-Err-write_turn-2.ensures.counts

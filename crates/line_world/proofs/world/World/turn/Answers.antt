@@ -7,7 +7,7 @@ use Rattle.both_sides.specs.Link.{AreCounted}
 use Rattle.both_sides.specs.declared.lines.LineEnd.{LineEnd}
 use Rattle.line_world.specs.Mid.{IsLineEnd, handed}
 use Rattle.line_world.specs.Turn.{EndsBy, GoesOnBy}
-use Rattle.line_world.proofs.Serving.{phase-delivered, none-after}
+use Rattle.line_world.proofs.Serving.{phase-delivered, none-after, none-faulty}
 use Rattle.line_world.proofs.Folders.{then-only, reads-only, lines-only, counts-later, delivered-kept, stay-known, others-known}
 use Rattle.line_world.proofs.Speaking.{adds-heard, adds-kept, adds-sent}
 use Rattle.line_world.proofs.Turning.{MakingLaws, writing-ends, reading-ends, stops-handing, stops-reading, stops-writing, done-in, speaks-last, goes-on-by, ready-on}
@@ -327,3 +327,63 @@ returns-in-Err-speak-clause-tally g c =
 
 pub returns-in-Ok-finish-clause-ready : goal.returns-in-Ok-finish-clause-ready
 returns-in-Ok-finish-clause-ready g c = λ going. absurd (none-after _ c.hand_over.new.self.turn going refl)
+
+pub returns-in-Err-Lost-clause-script : goal.returns-in-Err-Lost-clause-script
+returns-in-Err-Lost-clause-script g c = c.hear.ensures.script
+
+pub returns-in-Err-Chance-clause-script : goal.returns-in-Err-Chance-clause-script
+returns-in-Err-Chance-clause-script g c = c.hear.ensures.script
+
+pub returns-in-Err-clause-script : goal.returns-in-Err-clause-script
+returns-in-Err-clause-script g c = c.hand_over.ensures.beside.script ∙ c.hear.ensures.script
+
+pub returns-in-Ok-finish-clause-script : goal.returns-in-Ok-finish-clause-script
+returns-in-Ok-finish-clause-script g c = c.hand_over.ensures.beside.script ∙ c.hear.ensures.script
+
+pub returns-in-Err-finish-clause-script : goal.returns-in-Err-finish-clause-script
+returns-in-Err-finish-clause-script g c = c.hand_over.ensures.beside.script ∙ c.hear.ensures.script
+
+pub returns-in-Err-serve-clause-script : goal.returns-in-Err-serve-clause-script
+returns-in-Err-serve-clause-script g c = c.serve.ensures.beside.script ∙ c.hand_over.ensures.beside.script ∙ c.hear.ensures.script
+
+pub returns-in-Ok-speak-clause-script : goal.returns-in-Ok-speak-clause-script
+returns-in-Ok-speak-clause-script g c =
+    c.speak.ensures.script ∙ c.serve.ensures.beside.script ∙ c.hand_over.ensures.beside.script ∙ c.hear.ensures.script
+
+pub returns-in-Err-speak-clause-script : goal.returns-in-Err-speak-clause-script
+returns-in-Err-speak-clause-script g c =
+    c.speak.ensures.script ∙ c.serve.ensures.beside.script ∙ c.hand_over.ensures.beside.script ∙ c.hear.ensures.script
+
+pub returns-in-Err-Lost-clause-ready : goal.returns-in-Err-Lost-clause-ready
+returns-in-Err-Lost-clause-ready g c = λ going. absurd (none-faulty _ going)
+
+pub returns-in-Err-Chance-clause-ready : goal.returns-in-Err-Chance-clause-ready
+returns-in-Err-Chance-clause-ready g c = λ going. absurd (none-faulty _ going)
+
+pub returns-in-Err-clause-ready : goal.returns-in-Err-clause-ready
+returns-in-Err-clause-ready g c = λ going. absurd (none-faulty _ going)
+
+pub returns-in-Err-finish-clause-ready : goal.returns-in-Err-finish-clause-ready
+returns-in-Err-finish-clause-ready g c = λ going. absurd (none-faulty _ going)
+
+pub returns-in-Err-serve-clause-ready : goal.returns-in-Err-serve-clause-ready
+returns-in-Err-serve-clause-ready g c = λ going. absurd (none-faulty _ going)
+
+pub returns-in-Err-speak-clause-ready : goal.returns-in-Err-speak-clause-ready
+returns-in-Err-speak-clause-ready g c = λ going. absurd (none-faulty _ going)
+
+pub returns-in-Err-clause-only : goal.returns-in-Err-clause-only
+returns-in-Err-clause-only g c = c.hand_over.ensures.only
+
+pub returns-in-Err-clause-counts : goal.returns-in-Err-clause-counts
+returns-in-Err-clause-counts g c = c.in-Err.ensures.counts
+
+pub returns-in-Err-Chance-clause-only : goal.returns-in-Err-Chance-clause-only
+returns-in-Err-Chance-clause-only g c = lines-only _ _ (written c.args.names.now) c.meet_chance.ensures.only
+
+pub returns-in-Err-Chance-clause-counts : goal.returns-in-Err-Chance-clause-counts
+returns-in-Err-Chance-clause-counts g c = c.meet_chance.ensures.counts
+
+pub serve-requires-clause-early : goal.serve-requires-clause-early
+serve-requires-clause-early g c =
+    rw (c.hand_over.ensures.beside.turn, c.hear.ensures.turn) (c.turns_are_few.ensures c.args.self.now c.requires.ready)

@@ -71,15 +71,15 @@ returns-in-Err-clause-err g c = λ file a h.
 
 pub returns-in-Err-clause-only : goal.returns-in-Err-clause-only
 returns-in-Err-clause-only g c =
-    writes-on (g.F.Folder.state c.args.folder.now) (g.F.Folder.state c.loop-segment.folder) (g.F.Folder.state c.append.new.self) c.args.name.now
-    c.loop-segment.invariant.only c.in-Err.ensures.only
+    writes-on _ _ _ c.args.name.now c.loop-segment.invariant.only c.in-Err.ensures.only
 
 pub returns-in-Err-clause-cause : goal.returns-in-Err-clause-cause
 returns-in-Err-clause-cause g c =
     let next : FolderState = g.F.Folder.state c.append.new.self in
     let stand = c.loop-segment.invariant.stand in
     record {
-      failed = λ e. subst (λ before. Rose before (next.write_faults c.args.name.now)) (stand.faults.writes c.args.name.now) (c.in-Err.ensures.cause.failed e);
+      failed = λ e. subst (λ before. Rose before (next.write_faults c.args.name.now)) (stand.faults.writes c.args.name.now)
+          (c.in-Err.ensures.cause.failed e);
       memory = λ e. subst (λ before. Rose before next.refusals) stand.refusals (c.in-Err.ensures.cause.memory e);
     }
 
