@@ -1,6 +1,6 @@
 -- An input that is read on, piece by piece.
 use Rattle.std.proofs.Common.{◌≡◌, ◌∙◌, ℕ, ◌+◌, ◌-◌, ◌≤◌, ◌<◌, min, List, [], ◌++◌, IsTrue, length, take, take-add, drop, refl, sym, ap, subst, arith, length-append, inl, ◌∷◌, Err, IsErrOf}
-use Rattle.std.proofs.lemmas.List.{take-append-drop, take_all}
+use Rattle.std.proofs.lemmas.List.{take-append-drop, take_all, drop_all}
 use Rattle.plain_lists.specs.Prefix.{IsPrefixOf}
 use Rattle.outside_calls.specs.Folder.{FolderState, octets_at, GoesOn, KeepsName, OnlyReads, HasCause, FaultsStand}
 use Rattle.outside_calls.specs.declared.folder.FolderFault.{FolderFault}
@@ -90,3 +90,20 @@ pub reads-fail : (old new : FolderState) (name : List ℕ) (fault : FolderFault)
     → (IsErrOf {T = ℕ} {E = FolderFault} (Err fault) NoMemory → FaultsStand old new) → ReadFails old new (name ∷ []) fault
 reads-fail old new name Failed cause spared = inl (cause.failed refl)
 reads-fail old new name NoMemory cause spared = (spared refl, cause.memory refl)
+
+-- what is held of a file, and what is read behind it
+pub held-more : (start now : FolderState) (name before after : List ℕ) (len later count : ℕ) → GoesOn start now → KeepsName start now name
+    → IsTrue (start.tells name) → before ≡ take len (octets_at start name) → later ≡ len + count
+    → (IsTrue (now.tells name) → after ≡ before ++ take count (drop len (octets_at now name)))
+    → after ≡ take later (octets_at start name)
+held-more start now name before after len later count on kept told held is more =
+    let same : octets_at now name ≡ octets_at start name = octets-kept start now name kept told in
+    more (told_later on name told) ∙ rw (same, held, is) (sym (take-add len count (octets_at start name)))
+
+-- where a read below the limit and with room gives nothing, nothing is left
+pub none-left : (octets : List ℕ) (room limit at count : ℕ) → 0 < room → at < limit
+    → count ≡ min (min room (limit - at)) (length octets - at) → count ≡ 0 → drop at octets ≡ []
+none-left octets room limit at count some low is none = drop_all at octets (least room (length octets) limit at count some low is none)
+  where
+    least : (a b limit at count : ℕ) → 0 < a → at < limit → count ≡ min (min a (limit - at)) (b - at) → count ≡ 0 → b ≤ at
+    least a b limit at count k l e none = omega arith

@@ -1,7 +1,14 @@
 -- Saying one thing behind another.
-use Rattle.std.proofs.Common.{◌≡◌, ◌∙◌, ℕ, List, ◌++◌, Option, Some, None, Result, Ok, Err, OnErr, IfErr, refl, sym, ap, append_assoc}
+use Rattle.std.proofs.Common.{inl, inr, IsErrOf, ◌≡◌, ◌∙◌, ℕ, List, ◌++◌, Option, Some, None, Result, Ok, Err, OnOk, OnErr, IfErr, arith, refl, sym, ap, append_assoc}
 use Rattle.std.specs.Option.{option_map}
-use Rattle.outside_calls.specs.Folder.{FolderState, Said, PartlySaid}
+use Rattle.outside_calls.specs.Folder.{FolderState, GoesOn, FaultsStand, OnlySays, HasCause, Said, PartlySaid}
+use Rattle.outside_calls.specs.Steps.{GoesOn-trans, KeepsName-trans, Rose-later}
+use Rattle.outside_calls.specs.declared.folder.FolderFault.{FolderFault}
+use Rattle.outside_calls.specs.declared.folder.FolderFault.TheVariants.{Failed, NoMemory}
+use Rattle.command_base.specs.declared.status.Status.{Status}
+use Rattle.command_base.specs.declared.status.Status.TheVariants.{WriteFault}
+use Rattle.command_base.specs.Stops.{fault_status}
+use Rattle.command_base.specs.Tells.{Tells}
 
 behind : (said : Option (List ℕ)) (first second : List ℕ)
     → option_map (λ s. s ++ second) (option_map (λ s. s ++ first) said) ≡ option_map (λ s. s ++ (first ++ second)) said
@@ -33,3 +40,33 @@ on-err-map (Err fault) f p = f p
 pub if-err-map : {T E : Type 0} {P Q : E → Type 0} (r : Result T E) → ((e : E) → P e → Q e) → IfErr r P → IfErr r Q
 if-err-map (Ok value) f p = tt
 if-err-map (Err fault) f p = f fault p
+
+pub on-ok-map : {T E : Type 0} {P Q : Type 0} (r : Result T E) → (P → Q) → OnOk r P → OnOk r Q
+on-ok-map (Ok value) f p = f p
+on-ok-map (Err fault) f p = tt
+
+-- saying more says alone
+pub OnlySays-trans : {a b c : FolderState} → OnlySays a b → OnlySays b c → OnlySays a c
+OnlySays-trans {a} {b} {c} p q = record {
+  goes_on = GoesOn-trans p.goes_on q.goes_on;
+  names = λ n. KeepsName-trans a b c n p.goes_on (p.names n) (q.names n);
+  read_faults = λ n. q.read_faults n ∙ p.read_faults n;
+}
+
+-- what caused a fault in saying was counted since any earlier time
+pub HasCause-earlier : {T : Type 0} (a b c : FolderState) (r : Result T FolderFault) → GoesOn a b
+    → HasCause b.say_faults c.say_faults b.refusals c.refusals r → HasCause a.say_faults c.say_faults a.refusals c.refusals r
+HasCause-earlier a b c r on cause = record {
+  failed = λ e. Rose-later _ _ _ _ on.says (cause.failed e) (omega arith);
+  memory = λ e. Rose-later _ _ _ _ on.refused (cause.memory e) (omega arith);
+}
+
+-- a line that was not said whole
+pub tells-fault : (old new : FolderState) (line : List ℕ) (answer : Status) (fault : FolderFault) → OnlySays old new
+    → PartlySaid old new line → HasCause {T = Unit {0}} old.say_faults new.say_faults old.refusals new.refusals (Err fault)
+    → (IsErrOf {T = Unit {0}} {E = FolderFault} (Err fault) NoMemory → FaultsStand old new)
+    → Tells old new line answer (fault_status WriteFault fault)
+tells-fault old new line answer Failed only part cause spared =
+    record { only = only; said = inr (inl (refl, cause.failed refl, part)); stand = inl tt }
+tells-fault old new line answer NoMemory only part cause spared =
+    record { only = only; said = inr (inr (refl, spared refl, cause.memory refl, part)); stand = inl tt }

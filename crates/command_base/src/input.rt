@@ -120,9 +120,7 @@ fn read_more<F: Folder>(
     ensures stand { OnOk result (CountsStand (F.state folder.old) (F.state folder.new)) }
 {
     let mut piece = [0u8; 1024];
-    let room = limit - file.len() as u64;
-    let want = if room < 1024 { room as usize } else { 1024 };
-    let count = match read_front(folder, name, file.len() as u64, &mut piece[..want]) {
+    let count = match read_part(folder, name, limit, file.len() as u64, &mut piece) {
         Ok(count) => count,
         Err(fault) => return Err(Stop::Read(fault)),
     };

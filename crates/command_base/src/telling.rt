@@ -34,6 +34,16 @@ fn say_too_long<F: Folder>(folder: &mut F, name: &str) -> Result<(), FolderFault
     folder.say(b"\n")
 }
 
+/// Says that an input is too long. A fault then takes the place of the answer.
+fn tell_too_long<F: Folder>(folder: &mut F, name: &str, answer: Status) -> Status
+    ensures { Tells (F.state folder.old) (F.state folder.new) (too_long_line name.now) answer result }
+{
+    match say_too_long(folder, name) {
+        Ok(()) => answer,
+        Err(fault) => fault_status(Status::WriteFault, fault),
+    }
+}
+
 /// Says the line of an answer that is neither `Done` nor `Usage`.
 fn tell_status<F: Folder>(folder: &mut F, words: &[String], status: Status) -> Status
     ensures { Tells (F.state folder.old) (F.state folder.new) (status_line (map string_bytes words.now) status) status result }
@@ -44,10 +54,7 @@ fn tell_status<F: Folder>(folder: &mut F, words: &[String], status: Status) -> S
                 Some(name) => name.as_str(),
                 None => "",
             };
-            match say_too_long(folder, name) {
-                Ok(()) => status,
-                Err(fault) => fault_status(Status::WriteFault, fault),
-            }
+            tell_too_long(folder, name, status)
         }
         _ => tell(folder, write_short(status).as_slice(), status),
     }

@@ -1,5 +1,9 @@
-use Rattle.std.proofs.Common.{◌+◌, refl, arith}
-use Rattle.noise_script.proofs.Progress.{holds-none, holds-more}
+use Rattle.std.proofs.Common.{◌≡◌, ◌+◌, length, refl, subst, arith}
+use Rattle.std.proofs.lemmas.Bool.Decides.{nat_tests}
+use Rattle.std.proofs.lemmas.List.{nil_from_length}
+use Rattle.std.proofs.lemmas.Result.{err_from_is_err_and}
+use Rattle.noise_script.specs.Draft.{HoldsUpTo}
+use Rattle.noise_script.proofs.Progress.{holds-none, holds-more, fault-of}
 use Rattle.noise_script.proofs.reader.read_draft.Goals as goal
 
 pub loop-rest-init : goal.loop-rest-init
@@ -15,3 +19,22 @@ loop-rest-preserved c =
           (c.in_ok-add_line.ensures.ok h.said h.holds h.allowed);
       room = omega (arith, c.loop-rest.invariant.room, c.next_line.ensures.shorter);
     }
+
+pub loop-rest-smaller : goal.loop-rest-smaller
+loop-rest-smaller c = c.next_line.ensures.shorter
+
+pub returns-in_err-add_line-clause-fault : goal.returns-in_err-add_line-clause-fault
+returns-in_err-add_line-clause-fault c =
+    let h = c.loop-rest.invariant.holds in
+    let q = err_from_is_err_and c.from_residual.result c.from_residual.ensures.1 in
+    rw (q.1, q.2) (fault-of c.args.text.now c.loop-rest.rest.now c.next_line.result.0.now c.next_line.result.1.now c.loop-rest.number
+    (c.loop-rest.number + 1) c.loop-rest.draft c.in_err-add_line.field-0.0 h c.next_line.ensures.lines refl
+    (c.in_err-add_line.ensures.fault h.said h.holds h.allowed))
+
+pub returns-clause-ok : goal.returns-clause-ok
+returns-clause-ok c =
+    let none : length c.loop-rest.rest.now ≡ 0 = let h = c.loop-rest-test.ensures in grind (arith, nat_tests) in (
+      c.loop-rest.number,
+      subst (λ rest. HoldsUpTo c.args.text.now rest c.loop-rest.number c.loop-rest.draft) (nil_from_length c.loop-rest.rest.now none)
+          c.loop-rest.invariant.holds,
+    )

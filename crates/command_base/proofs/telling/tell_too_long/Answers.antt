@@ -1,0 +1,13 @@
+use Rattle.std.proofs.Common.{sym, subst}
+use Rattle.command_base.specs.Lines.{too_long_line}
+use Rattle.command_base.specs.Tells.{Tells}
+use Rattle.command_base.proofs.Saying.{tells-fault}
+use Rattle.command_base.proofs.telling.tell_too_long.Goals as goal
+
+pub returns-in-Err : goal.returns-in-Err
+returns-in-Err g c =
+    let old = g.F.Folder.state c.args.folder.now in
+    let new = g.F.Folder.state c.say_too_long.new.folder in
+    subst (λ s. Tells old new (too_long_line c.args.name.now) c.args.answer s) (sym c.fault_status.ensures)
+    (tells-fault old new (too_long_line c.args.name.now) c.args.answer c.in-Err.fault c.in-Err.ensures.only c.in-Err.ensures.err
+    c.in-Err.ensures.cause c.in-Err.ensures.spared)

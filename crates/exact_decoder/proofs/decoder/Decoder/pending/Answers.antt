@@ -1,0 +1,12 @@
+use Rattle.std.proofs.Common.{◌≤◌, ◌+◌, length, ap, sym, subst, ◌∙◌}
+use Rattle.std.proofs.lemmas.List.{length-reverse}
+use Rattle.exact_decoder.proofs.decoder.Decoder.pending.Goals as goal
+
+pub returns-clause-value : goal.returns-clause-value
+returns-clause-value g c =
+    ap length c.as_slice.ensures.value ∙ sym (length-reverse c.self.inside.pending) ∙ ap (λ v. length v.pending) c.self.view_is
+
+pub returns-clause-few : goal.returns-clause-few
+returns-clause-few g c =
+    subst (λ n. n ≤ g.row.DEPTH + 1)
+    (sym (ap length c.as_slice.ensures.value ∙ sym (length-reverse c.self.inside.pending))) c.self.invariant.few_pending
