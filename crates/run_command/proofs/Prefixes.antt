@@ -196,7 +196,7 @@ both-by : RunLaws â†’ (old before : FolderState) (n : RunNames) (stop : Stop) â†
 both-by laws old before n (stops.Own answer) g (inl refused) = both-kept old before n refused.0
 both-by laws old before n (stops.Own answer) g (inr e) = both-own laws old before n answer g e
 both-by laws old before n (stops.Read fault) g (inl refused) = both-kept old before n refused.0
-both-by laws old before n (stops.Read fault) g (inr e) = both-stopped laws old before n g e.1.0
+both-by laws old before n (stops.Read fault) g (inr (failed, rose, s)) = both-stopped laws old before n g s.0
 both-by laws old before n stops.NoMemory g e = both-kept old before n e.0
 both-by laws old before n (stops.Write fault) g (inl c) = both-creating old before n g c.creates
 both-by laws old before n (stops.Write fault) g (inr e) = both-stopped laws old before n g e

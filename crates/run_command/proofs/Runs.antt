@@ -1,13 +1,14 @@
 -- From the phases of a run to how it ends.
-use Rattle.std.proofs.Common.{◌≡◌, ◌≢◌, inl, inr, ℕ, ◌≤◌, IsTrue, List, [], ◌∷◌, refl, sym, ◌∙◌, ap, take, arith}
+use Rattle.std.proofs.Common.{◌≡◌, ◌≢◌, inl, inr, ℕ, ◌≤◌, IsTrue, List, [], ◌∷◌, refl, sym, ◌∙◌, ap, subst, take, arith}
 use Rattle.std.proofs.lemmas.List.{take_all}
-use Rattle.outside_calls.specs.Folder.{FolderState, octets_at, GoesOn, KeepsName, OnlyReads}
-use Rattle.outside_calls.specs.Steps.{GoesOn-trans, KeepsName-trans, octets-kept, told_later}
+use Rattle.outside_calls.specs.Folder.{FolderState, octets_at, GoesOn, KeepsName, OnlyReads, Rose, CountsStand}
+use Rattle.outside_calls.specs.Steps.{GoesOn-trans, KeepsName-trans, octets-kept, told_later, CountsStand-trans}
 use Rattle.roles.specs.Both.{Both}
 use Rattle.noise_script.specs.Script.{ScriptValue}
 use Rattle.line_run.specs.Ends.{RunEnd}
 use Rattle.line_run.specs.Ends as runs
 use Rattle.turn_bound.specs.Limits.{file_limit}
+use Rattle.both_sides.specs.Names.{Written, ReadRose}
 use Rattle.line_world.specs.declared.step.RunFault.{RunFault}
 use Rattle.line_world.specs.declared.step.RunFault.TheVariants as faults
 use Rattle.line_world.specs.World.{AreApart, KnowsFiles, OnlyOutputs as OnlyWritten}
@@ -72,6 +73,7 @@ pub record Phases (l : Limits) (old mid now next : FolderState) (n : RunNames) (
   pub creates : OnlyOutputs mid now (outputs_of n)
   pub turns : OnlyWritten now next (names_written n)
   pub apart : AreApart (names_written n)
+  pub stand : CountsStand mid now
 
 -- a file as it was before all of them
 file-is : (old next : FolderState) (name file : List ℕ) (limit : ℕ) → GoesOn old next → KeepsName old next name → IsWithin old name limit
@@ -128,18 +130,30 @@ stops-in-reading : (old mid now next : FolderState) (n : RunNames) (script : Scr
 unfolding stops-in
 stops-in-reading old mid now next n script p r = (stops-in old mid now next n script p r.0, r.1)
 
+-- a file that is sent was not read, behind what counted no fault
+rose-later : (old mid next : FolderState) (n : Written) → CountsStand old mid → ReadRose mid next n → ReadRose old next n
+rose-later old mid next n s (inl rose) = inl (subst (λ (x : ℕ). Rose x (next.read_faults n.orig)) (s.faults.reads n.orig) rose)
+rose-later old mid next n s (inr rose) = inr (subst (λ (x : ℕ). Rose x (next.read_faults n.answ)) (s.faults.reads n.answ) rose)
+
 -- a turn's fault ended the run
 pub ends-in-turn : (old mid now next : FolderState) (n : RunNames) (script : ScriptValue) (fault : RunFault)
-    → Phases LIMITS old mid now next n script → FaultEnds script next (names_written n) fault → EndsBy LIMITS old next n (fault_stop fault)
-ends-in-turn old mid now next n script faults.ReadFault p e = inr (refl, stops-in-reading old mid now next n script p e)
-ends-in-turn old mid now next n script faults.WriteFault p e = inr (stops-in old mid now next n script p e)
-ends-in-turn old mid now next n script faults.NoMemory p e = inr (stops-in old mid now next n script p e)
-ends-in-turn old mid now next n script (faults.LineLost role symbol) p e =
+    → Phases LIMITS old mid now next n script → FaultCounts now next (names_written n) fault → FaultEnds script next (names_written n) fault
+    → EndsBy LIMITS old next n (fault_stop fault)
+ends-in-turn old mid now next n script faults.ReadFault p counts e =
+    inr (
+      refl,
+      rose-later old now next (names_written n) (CountsStand-trans p.begun.stand p.stand) counts,
+      stops-in-reading old mid now next n script p e,
+    )
+ends-in-turn old mid now next n script faults.WriteFault p counts e = inr (stops-in old mid now next n script p e)
+ends-in-turn old mid now next n script faults.NoMemory p counts e = inr (stops-in old mid now next n script p e)
+ends-in-turn old mid now next n script (faults.LineLost role symbol) p counts e =
     inr (ran-to old mid now next n script (runs.LineLost role symbol) p e)
-ends-in-turn old mid now next n script (faults.ChanceMatch role turn) p e =
+ends-in-turn old mid now next n script (faults.ChanceMatch role turn) p counts e =
     inr (ran-to old mid now next n script (runs.ChanceMatch role turn) p e)
-ends-in-turn old mid now next n script (faults.NotDetected turn) p e = inr (ran-to old mid now next n script (runs.NotDetected turn) p e)
-ends-in-turn old mid now next n script (faults.LinkLost role segment turn) p e =
+ends-in-turn old mid now next n script (faults.NotDetected turn) p counts e =
+    inr (ran-to old mid now next n script (runs.NotDetected turn) p e)
+ends-in-turn old mid now next n script (faults.LinkLost role segment turn) p counts e =
     inr (ran-to old mid now next n script (runs.LinkLost role segment turn) p e)
 
 -- what a turn's fault counts

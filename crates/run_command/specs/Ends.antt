@@ -1,13 +1,14 @@
 -- How a run ends, before its line is said: by its answer, which run it was, and what the outputs then hold. What is said of a name's octets
 -- holds where the folder tells that name.
 use Rattle.std.specs.Prelude.{◌≡◌, ◌⊎◌, ℕ, IsTrue, List, Result, Ok, Err}
-use Rattle.outside_calls.specs.Folder.{FolderState, OnlyReads, octets_at}
+use Rattle.outside_calls.specs.Folder.{FolderState, OnlyReads, CountsStand, octets_at}
 use Rattle.outside_calls.specs.declared.folder.FolderFault.TheVariants as folder
 use Rattle.roles.specs.Both.{Both}
 use Rattle.noise_script.specs.Script.{ScriptValue, IsInLimits}
 use Rattle.line_run.specs.Ends.{RunEnd, Left, RunsTo}
 use Rattle.line_run.specs.Ends as runs
 use Rattle.line_run.specs.Scripted.{channel_of, link_of}
+use Rattle.both_sides.specs.Names.{ReadRose}
 use Rattle.both_sides.specs.Link.{AreWithin}
 use Rattle.line_world.specs.declared.step.RunFault.{RunFault}
 use Rattle.line_world.specs.declared.step.RunFault.TheVariants as faults
@@ -26,11 +27,12 @@ use Rattle.run_inputs.specs.Inputs.{Opens, RefusesOwn, FailsToRead}
 use Rattle.run_loop.specs.Turns.{HoldLeft, StopsAfter, StopsReading}
 use Rattle.run_command.specs.Names.{names_written}
 
--- The inputs were opened, and nothing else was done: they are within their limits, and this is the script.
+-- The inputs were opened, nothing else was done, and no fault was counted: they are within their limits, and this is the script.
 pub record IsBegun (l : Limits) (old now : FolderState) (n : RunNames) (script : ScriptValue) : Type 0 where
   pub opens : Opens l old n script
   pub limits : IsInLimits script
   pub reads : OnlyReads old now
+  pub stand : CountsStand old now
 
 -- The inputs are within their limits, and are this script and these files.
 pub record Takes (l : Limits) (f : FolderState) (n : RunNames) (script : ScriptValue) (files : Both (List ℕ)) : Type 0 where
@@ -79,7 +81,8 @@ RanBy l old new n answer = ⊥
 abbrev pub EndsBy : Limits → FolderState → FolderState → RunNames → Stop → Type 0
 EndsBy l old new n (Own answer) = (KeepsAll old new × RefusesOwn l old n answer) ⊎ RanBy l old new n answer
 EndsBy l old new n (Read fault) =
-    (KeepsAll old new × FailsToRead l old new n fault) ⊎ ((fault ≡ folder.Failed) × StopsInReading l old new n)
+    (KeepsAll old new × FailsToRead l old new n fault)
+    ⊎ ((fault ≡ folder.Failed) × ReadRose old new (names_written n) × StopsInReading l old new n)
 EndsBy l old new n (Write fault) = StopsCreating l old new n ⊎ StopsInTurn l old new n
 EndsBy l old new n (Say fault) = ⊥
 EndsBy l old new n NoMemory = KeepsAll old new × IsWithin old n.script l.script

@@ -34,7 +34,12 @@ returns-clause-ends g c =
     let mid : FolderState = g.F.Folder.state c.open_inputs.new.folder in
     c.run_world.ensures.ends old
     (subst (IsBegun LIMITS old mid (named c.args.words.now)) (sym c.in-Ok-new.ensures.script)
-    (record { opens = c.in-Ok.ensures.opened; limits = c.is_in_limits.ensures; reads = c.in-Ok.ensures.reads }))
+    (record {
+      opens = c.in-Ok.ensures.opened;
+      limits = c.is_in_limits.ensures;
+      reads = c.in-Ok.ensures.reads;
+      stand = c.in-Ok.ensures.counts (outputs_of (named c.args.words.now));
+    }))
 
 pub returns-clause-only : goal.returns-clause-only
 returns-clause-only g c =

@@ -41,6 +41,7 @@ returns-in-Ok-run_turns-clause-ends g c = λ begin b.
       turns = subst (OnlyWritten now next) c.names_of.ensures c.in-Ok-run_turns.ensures.only;
       apart = apart-names n (c.apart_names_differ.ensures.outputs (inputs_of n) (outputs_of n) c.requires.apart)
           (c.apart_names_differ.ensures.inputs (inputs_of n) (outputs_of n) c.requires.apart);
+      stand = c.in-Ok.ensures.stand;
     }) (subst (λ (w : Written). RunEnds script next w end) c.names_of.ensures c.in-Ok-run_turns.ensures.run)
 
 pub returns-in-Ok-run_turns-clause-only : goal.returns-in-Ok-run_turns-clause-only
@@ -66,7 +67,9 @@ returns-in-Err-run_turns-clause-ends g c = λ begin b.
       turns = subst (OnlyWritten now next) c.names_of.ensures c.in-Err-run_turns.ensures.only;
       apart = apart-names n (c.apart_names_differ.ensures.outputs (inputs_of n) (outputs_of n) c.requires.apart)
           (c.apart_names_differ.ensures.inputs (inputs_of n) (outputs_of n) c.requires.apart);
-    }) (subst (λ (w : Written). FaultEnds script next w fault) c.names_of.ensures c.in-Err-run_turns.ensures.run))
+      stand = c.in-Ok.ensures.stand;
+    }) (subst (λ (w : Written). FaultCounts now next w fault) c.names_of.ensures c.in-Err-run_turns.ensures.counts)
+    (subst (λ (w : Written). FaultEnds script next w fault) c.names_of.ensures c.in-Err-run_turns.ensures.run))
 
 pub returns-in-Err-run_turns-clause-only : goal.returns-in-Err-run_turns-clause-only
 returns-in-Err-run_turns-clause-only g c =
