@@ -151,7 +151,8 @@ ends-in-turn old mid now next n script (faults.LineLost role symbol) p counts e 
     inr (ran-to old mid now next n script (runs.LineLost role symbol) p e)
 ends-in-turn old mid now next n script (faults.ChanceMatch role turn) p counts e =
     inr (ran-to old mid now next n script (runs.ChanceMatch role turn) p e)
-ends-in-turn old mid now next n script (faults.NotDetected turn) p counts e = inr (ran-to old mid now next n script (runs.NotDetected turn) p e)
+ends-in-turn old mid now next n script (faults.NotDetected turn) p counts e =
+    inr (ran-to old mid now next n script (runs.NotDetected turn) p e)
 ends-in-turn old mid now next n script (faults.LinkLost role segment turn) p counts e =
     inr (ran-to old mid now next n script (runs.LinkLost role segment turn) p e)
 

@@ -1,5 +1,5 @@
 -- What a turn answers, what it adds to both outputs, and what is left where the folder doesn't take that.
-use Rattle.std.specs.Prelude.{◌⊎◌, ℕ, List, length, Result, Ok, Err}
+use Rattle.std.specs.Prelude.{◌⊎◌, ℕ, ◌+◌, List, length, Result, Ok, Err}
 use Rattle.outside_calls.specs.Folder.{FolderState, KeepsName, Adds, Appended, PartlyAppended, Rose, FaultsStand, CountsStand}
 use Rattle.outside_calls.specs.declared.folder.FolderFault.{FolderFault}
 use Rattle.outside_calls.specs.declared.folder.FolderFault.TheVariants as folder
@@ -68,6 +68,11 @@ abbrev pub TurnAnswers : Single → FolderState → FolderState → PeerNames �
 TurnAnswers s old new n p slot (Ok steps.Going) = GoesOnBy s old new n p slot
 TurnAnswers s old new n p slot (Ok steps.Closed) = Makes s.role old new n p slot Closed
 TurnAnswers s old new n p slot (Err fault) = EndsBy s.role old new n p slot fault
+
+-- how many turns were made, once a turn is answered: one more where the run goes on
+abbrev pub turns_made : ℕ → Result SingleStep SingleFault → ℕ
+turns_made turn (Ok steps.Going) = turn + 1
+turns_made turn answer = turn
 
 -- why there is no further turn where a call of the folder is not done: this, where it failed
 abbrev pub fault_of : SingleFault → FolderFault → SingleFault

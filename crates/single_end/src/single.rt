@@ -85,7 +85,7 @@ fn is_closed(phase: Phase) -> bool
 impl Single {
     ghost use Rattle.single_end.specs.declared.single.Single.{Single};
     ghost use Rattle.single_end.specs.Single.{AreApart, IsReady, OnlyOutputs, SingleAfter, file_limit, named, role_of, turn_of};
-    ghost use Rattle.single_end.specs.Turn.{TurnAnswers, TurnCounts};
+    ghost use Rattle.single_end.specs.Turn.{TurnAnswers, TurnCounts, turns_made};
     ghost use Rattle.single_end.specs.Mid.{AddsLine, AddsPart, BreaksOff, EndsLine, HearsTurn, InTurn, IsWriting, ReadCounts};
     ghost use Rattle.single_end.specs.Mid.{Serves, SpeaksTurn, WriteCounts, handed, served_with};
 
@@ -281,6 +281,7 @@ impl Single {
         ensures counted { OnOk result
             ((heard asked : ℕ) → IsCounted self.old.station heard asked → IsCounted self.new.station heard asked) }
         ensures turn { OnOk result (self.new.turn ≡ self.old.turn + 1) }
+        ensures halts { OnErr result (self.new.turn ≡ self.old.turn) }
         ensures role { self.new.role ≡ self.old.role }
         ensures only { OnlyWrites (F.state folder.old) (F.state folder.new) trace.now }
         ensures counts { WriteCounts (F.state folder.old) (F.state folder.new) trace.now result }
@@ -337,7 +338,7 @@ impl Single {
             → TurnAnswers self.new (F.state folder.old) (F.state folder.new) (named file.now got.now trace.now) p bits.now result }
         ensures role { role_of self.new ≡ role_of self.old }
         ensures ready { result ≡ Ok SingleStep.Going → IsReady self.new }
-        ensures number { result ≡ Ok SingleStep.Going → turn_of self.new ≡ turn_of self.old + 1 }
+        ensures number { turn_of self.new ≡ turns_made (turn_of self.old) result }
 
         // It touches the outputs alone, and a fault has its cause.
         ensures only { OnlyOutputs (F.state folder.old) (F.state folder.new) (named file.now got.now trace.now) }

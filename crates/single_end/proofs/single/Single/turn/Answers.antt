@@ -246,3 +246,26 @@ returns-in-Err-speak-clause-counts g c =
     counts-later (g.F.Folder.state c.args.folder.now) (g.F.Folder.state c.serve.new.folder) (g.F.Folder.state c.speak.new.folder) n c.in-Err-speak.fault
     (CountsStand-trans c.in-Ok-hand_over.ensures.counts c.in-Ok-serve.ensures.counts)
     (trace-counts (g.F.Folder.state c.serve.new.folder) (g.F.Folder.state c.speak.new.folder) n c.in-Err-speak.fault c.in-Err-speak.ensures.counts)
+
+pub returns-in-Err-clause-number : goal.returns-in-Err-clause-number
+returns-in-Err-clause-number g c = c.hear.ensures.turn
+
+pub returns-in-Err-hand_over-clause-number : goal.returns-in-Err-hand_over-clause-number
+returns-in-Err-hand_over-clause-number g c = c.hand_over.ensures.turn ∙ c.hear.ensures.turn
+
+pub returns-in-Ok-finish-clause-number : goal.returns-in-Ok-finish-clause-number
+returns-in-Ok-finish-clause-number g c = c.hand_over.ensures.turn ∙ c.hear.ensures.turn
+
+pub returns-in-Err-finish-clause-number : goal.returns-in-Err-finish-clause-number
+returns-in-Err-finish-clause-number g c = c.hand_over.ensures.turn ∙ c.hear.ensures.turn
+
+pub returns-in-Err-serve-clause-number : goal.returns-in-Err-serve-clause-number
+returns-in-Err-serve-clause-number g c = c.serve.ensures.turn ∙ c.hand_over.ensures.turn ∙ c.hear.ensures.turn
+
+pub returns-in-Ok-speak-clause-number : goal.returns-in-Ok-speak-clause-number
+returns-in-Ok-speak-clause-number g c =
+    c.in-Ok-speak.ensures.turn ∙ ap (λ x. x + 1) (c.serve.ensures.turn ∙ c.hand_over.ensures.turn ∙ c.hear.ensures.turn)
+
+pub returns-in-Err-speak-clause-number : goal.returns-in-Err-speak-clause-number
+returns-in-Err-speak-clause-number g c =
+    c.in-Err-speak.ensures.halts ∙ c.serve.ensures.turn ∙ c.hand_over.ensures.turn ∙ c.hear.ensures.turn
