@@ -1,8 +1,12 @@
 -- Reading words one behind another.
-use Rattle.std.proofs.Common.{inl, inr, ℕ, List, ◌∷◌, sym, subst}
+use Rattle.std.proofs.Common.{◌≡◌, ◌≢◌, ◌∙◌, ◌+◌, inl, inr, ℕ, List, ◌∷◌, [], length, refl, sym, ap, subst, arith}
+use Rattle.std.proofs.lemmas.List.{nil_from_length}
 use Rattle.script_causes.specs.declared.cause.Cause.{Cause}
+use Rattle.script_causes.specs.declared.cause.Cause.TheVariants as causes
 use Rattle.roles.specs.declared.role.Role.{Role}
-use Rattle.noise_script.specs.Forms.{Argument, ARole, Value, RoleIs, NumberIs, Reads, ReadsSpan, FailsToRead, FirstFails}
+use Rattle.noise_script.specs.declared.entry.Entry.{Entry}
+use Rattle.noise_script.specs.declared.forms.Form.{Form}
+use Rattle.noise_script.specs.Forms.{Argument, ARole, Value, RoleIs, NumberIs, Reads, ReadsSpan, FailsToRead, FirstFails, SpellsEach, SpellsForm, SpellsLine, Misspells, word_of, arguments_of, values_of}
 
 pub fails-here : (argument : Argument) (arguments : List Argument) (words : List (List ℕ)) (cause : Cause)
     → FailsToRead argument words cause → FirstFails (argument ∷ arguments) words cause
@@ -21,3 +25,66 @@ fails-behind second third more words rest role from count cause s f =
     fails-later ARole (second ∷ third ∷ more) words s.behind_role (RoleIs role) cause s.role_is
     (fails-later second (third ∷ more) s.behind_role s.behind_from (NumberIs from) cause s.from_is
     (fails-later third more s.behind_from rest (NumberIs count) cause s.count_is f))
+
+-- a word was read, and the words behind it spell the other values
+pub spells-here : (argument : Argument) (more : List Argument) (words rest : List (List ℕ)) (value : Value) (values : List Value)
+    → Reads argument words value rest → SpellsEach more rest values → SpellsEach (argument ∷ more) words (value ∷ values)
+spells-here argument more words rest value values r s =
+    subst (λ ws. SpellsEach (argument ∷ more) ws (value ∷ values)) (sym r.words_are) (r.spells, s)
+
+pub spells-behind : (second third : Argument) (more : List Argument) (words rest : List (List ℕ)) (role : Role) (from count : ℕ)
+    (values : List Value) → ReadsSpan second third words role from count rest → SpellsEach more rest values
+    → SpellsEach (ARole ∷ second ∷ third ∷ more) words (RoleIs role ∷ NumberIs from ∷ NumberIs count ∷ values)
+spells-behind second third more words rest role from count values r s =
+    spells-here ARole (second ∷ third ∷ more) words r.behind_role (RoleIs role) (NumberIs from ∷ NumberIs count ∷ values) r.role_is
+    (spells-here second (third ∷ more) r.behind_role r.behind_from (NumberIs from) (NumberIs count ∷ values) r.from_is
+    (spells-here third more r.behind_from rest (NumberIs count) values r.count_is s))
+
+pub spells-none : (words : List (List ℕ)) → length words ≡ 0 → SpellsEach [] words []
+spells-none words none = (nil_from_length words none, refl)
+
+-- how many words there were
+pub one-less : (argument : Argument) (words rest : List (List ℕ)) (value : Value) → Reads argument words value rest
+    → length words ≡ length rest + 1
+one-less argument words rest value r = ap length r.words_are ∙ omega arith
+
+pub three-less : (second third : Argument) (words rest : List (List ℕ)) (role : Role) (from count : ℕ)
+    → ReadsSpan second third words role from count rest → length words ≡ length rest + 3
+three-less second third words rest role from count r =
+    omega (
+      arith,
+      one-less ARole words r.behind_role (RoleIs role) r.role_is,
+      one-less second r.behind_role r.behind_from (NumberIs from) r.from_is,
+      one-less third r.behind_from rest (NumberIs count) r.count_is,
+    )
+
+-- a line of a form's word, and words that spell what it says
+pub spells-line : (words : List (List ℕ)) (first : List ℕ) (rest : List (List ℕ)) (form : Form) (entry : Entry) → words ≡ first ∷ rest
+    → first ≡ word_of form → SpellsForm form rest entry → SpellsLine words entry
+spells-line words first rest form entry are is s = record {
+  rest = rest;
+  words_are = are ∙ ap (λ word. word ∷ rest) (is ∙ sym (ap word_of s.form_is));
+  each = subst (λ f. SpellsEach (arguments_of f) rest (values_of entry)) (sym s.form_is) s.each;
+}
+
+-- a line of a form's word, and of another number of words
+pub miscounts : (words : List (List ℕ)) (first : List ℕ) (rest : List (List ℕ)) (form : Form) → words ≡ first ∷ rest
+    → first ≡ word_of form → length rest ≢ length (arguments_of form) → Misspells words causes.Count
+miscounts words first rest form are is other = inr (inl (record {
+  form = form;
+  rest = rest;
+  words_are = are ∙ ap (λ word. word ∷ rest) is;
+  other = other;
+  cause_is = refl;
+}))
+
+-- a line of a form's word, and of words of which one fails
+pub misreads : (words : List (List ℕ)) (first : List ℕ) (rest : List (List ℕ)) (form : Form) (cause : Cause) → words ≡ first ∷ rest
+    → first ≡ word_of form → length rest ≡ length (arguments_of form) → FirstFails (arguments_of form) rest cause → Misspells words cause
+misreads words first rest form cause are is as_many fails = inr (inr (record {
+  form = form;
+  rest = rest;
+  words_are = are ∙ ap (λ word. word ∷ rest) is;
+  as_many = as_many;
+  fails = fails;
+}))

@@ -1,4 +1,4 @@
-use Rattle.std.proofs.Common.{◌≡◌, ◌++◌, [], subst, take, drop, vec_len, arith}
+use Rattle.std.proofs.Common.{◌≡◌, ◌++◌, [], subst, take, drop, arith}
 use Rattle.outside_calls.specs.Folder.{octets_at}
 use Rattle.command_base.proofs.Reading.{none-left}
 use Rattle.command_base.proofs.input.read_more.Goals as goal

@@ -1,7 +1,10 @@
-use Rattle.std.proofs.Common.{[], ◌∷◌}
+use Rattle.std.proofs.Common.{◌≡◌, [], ◌∷◌, length, refl, sym, subst, arith}
+use Rattle.std.specs.Int.{w16, cast_signed, cast_unsigned}
+use Rattle.std.proofs.lemmas.Int.{ints}
 use Rattle.std.proofs.lemmas.Result.{err_from_is_err_and}
-use Rattle.noise_script.specs.Forms.{count, symbol, coordinate}
-use Rattle.noise_script.proofs.Words.{fails-here, fails-later, fails-behind}
+use Rattle.noise_script.specs.Lines.{words_of}
+use Rattle.noise_script.specs.Forms.{Reads, SignedIs, count, symbol, coordinate}
+use Rattle.noise_script.proofs.Words.{fails-here, fails-later, fails-behind, spells-here, spells-behind, spells-none, one-less, three-less}
 use Rattle.noise_script.proofs.reading.read_hit.Goals as goal
 
 pub returns-in_err-role : goal.returns-in_err-role
@@ -21,3 +24,29 @@ returns-in_err-im c =
     rw (p.1, p.2) (fails-behind symbol count (coordinate ∷ coordinate ∷ []) _ _ _ _ _ c.in_err-im.field-0.0 c.in_ok-role.ensures.ok
     (fails-later coordinate (coordinate ∷ []) _ _ _ c.in_err-im.field-0.0 c.in_ok-re.ensures
     (fails-here coordinate [] _ c.in_err-im.field-0.0 c.in_err-im.ensures)))
+
+pub returns : goal.returns
+returns c =
+    let re = c.in_ok-re.ensures in
+    let im = c.in_ok-im.ensures in
+    let re_is : cast_signed w16 (cast_unsigned w16 c.in_ok-re.re) ≡ c.in_ok-re.re =
+    omega (arith, ints, re.spells.not_below, re.spells.not_above) in
+    let im_is : cast_signed w16 (cast_unsigned w16 c.in_ok-im.im) ≡ c.in_ok-im.im =
+    omega (arith, ints, im.spells.not_below, im.spells.not_above) in
+    let none : length (words_of c.in_ok-im.field-0-1.now) ≡ 0 =
+    omega (
+      arith,
+      c.requires,
+      three-less symbol count _ _ _ _ _ c.in_ok-role.ensures.ok,
+      one-less coordinate _ _ _ re,
+      one-less coordinate _ _ _ im,
+    ) in
+    record {
+      form_is = refl;
+      each = spells-behind symbol count (coordinate ∷ coordinate ∷ []) _ _ _ _ _ _ c.in_ok-role.ensures.ok
+          (spells-here coordinate (coordinate ∷ []) _ _ _ _
+          (subst (λ z. Reads coordinate (words_of c.in_ok-role.words.now) (SignedIs z) (words_of c.in_ok-re.words.now)) (sym re_is) re)
+          (spells-here coordinate [] _ _ _ _
+          (subst (λ z. Reads coordinate (words_of c.in_ok-re.words.now) (SignedIs z) (words_of c.in_ok-im.field-0-1.now)) (sym im_is) im)
+          (spells-none (words_of c.in_ok-im.field-0-1.now) none)));
+    }
