@@ -1,7 +1,7 @@
 //! The program.
 #![tactic(auto)]
 
-use modem_edge::program;
+use modem_cli::program;
 use std::process::ExitCode;
 
 fn main(rt: HostRuntime) -> ExitCode {
