@@ -4,7 +4,7 @@
 pub const SHORTEST: usize = 4;
 
 /// What stood between two flags, or an abort.
-#[derive(Clone, Copy, Debug, PartialEq, Eq)]
+#[derive(Clone, Copy, PartialEq, Eq)]
 pub enum Piece {
     /// Octets, no fewer and no more than a frame may have.
     Whole,

@@ -10,7 +10,7 @@ use turn_timers::is_expired;
 const REST: u64 = 8;
 
 /// All tries of a break are spent.
-#[derive(Clone, Copy, Debug, PartialEq, Eq)]
+#[derive(Clone, Copy, PartialEq, Eq)]
 pub struct Spent0;
 
 /// A break that waits for its answer.

@@ -7,7 +7,7 @@ use script_causes::Cause;
 use xid_params::XidFault;
 
 /// How a command ends. Everything but `Done` has one cause, which the contract of the command names.
-#[derive(Clone, Copy, Debug, PartialEq, Eq)]
+#[derive(Clone, Copy, PartialEq, Eq)]
 pub enum Status {
     Done,
     /// The words are no command's.

@@ -6,7 +6,7 @@ use crate::Status;
 use outside_calls::FolderFault;
 
 /// Why a job stops before it is done.
-#[derive(Clone, Copy, Debug, PartialEq, Eq)]
+#[derive(Clone, Copy, PartialEq, Eq)]
 pub enum Stop {
     /// For what its inputs are, or what became of them: the command's own answer, and no fault of the folder.
     Own(Status),

@@ -5,7 +5,7 @@ ghost use Rattle.differential.specs.Machines.{TurnerStands};
 use std::marker::Model;
 
 /// Adds up quarter turns. It keeps the sum modulo 4.
-#[derive(Debug, Drop)]
+#[derive(Drop)]
 pub struct Turner {
     /// The sum of all quarter turns so far, modulo 4.
     latest: u8,

@@ -5,7 +5,7 @@ ghost use Rattle.differential.specs.Machines.{UnturnerStands};
 use std::marker::Model;
 
 /// The inverse of the [`Turner`](crate::Turner). It keeps the latest number.
-#[derive(Debug, Drop)]
+#[derive(Drop)]
 pub struct Unturner {
     /// The turn of the label before, 0 before the first.
     latest: u8,

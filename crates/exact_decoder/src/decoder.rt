@@ -15,7 +15,7 @@ use symbol_map::Sample;
 use trellis_tables::TrellisCode;
 
 /// The line was lost with this symbol: more labels than the depth were unreleased after it.
-#[derive(Clone, Copy, Debug, PartialEq, Eq)]
+#[derive(Clone, Copy, PartialEq, Eq)]
 pub struct Lost {
     /// The symbol's number, from 0.
     pub symbol: u64,

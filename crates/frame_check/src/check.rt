@@ -8,7 +8,7 @@ use crate::Octets;
 use crate::register::after_octets;
 
 /// One of the two checks of ITU-T V.42, by its number of bits.
-#[derive(Clone, Copy, Debug, PartialEq, Eq)]
+#[derive(Clone, Copy, PartialEq, Eq)]
 pub enum Check {
     /// Two octets; generator x^16 + x^12 + x^5 + 1.
     Sixteen,

@@ -6,7 +6,6 @@ ghost use Rattle.std.specs.Cmp.Lexicographic.{pointwise, nat_list_eq_equiv};
 
 use crate::{INFO, WHOLE};
 use arrayvec::ArrayVec;
-use std::fmt;
 use std::marker::Model;
 
 /// At most `CAP` octets, which lie in the value itself.
@@ -114,10 +113,4 @@ impl<const CAP: usize> PartialEq for Octets<CAP> {
 
 impl<const CAP: usize> Eq for Octets<CAP> {
     ghost laws = { nat_list_eq_equiv };
-}
-
-impl<const CAP: usize> fmt::Debug for Octets<CAP> {
-    fn fmt<W: fmt::Write>(&self, f: &mut fmt::Formatter<W>) -> fmt::Result {
-        fmt::Debug::fmt(&self.as_slice(), f)
-    }
 }

@@ -10,7 +10,7 @@ use frame_check::Info;
 
 /// A frame of ITU-T V.42. `command` tells a command from a response where the kind has both, `ns` and `nr` are the numbers N(S) and
 /// N(R) modulo 128, and `pf` is the poll bit of a command and the final bit of a response.
-#[derive(Debug, Drop, PartialEq, Eq)]
+#[derive(Drop, PartialEq, Eq)]
 pub enum Frame {
     /// A segment: N(S) is its number, N(R) the next one that is expected of the other end, both modulo 128.
     I {

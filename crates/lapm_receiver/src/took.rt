@@ -1,7 +1,7 @@
 // What becomes of a segment that arrives.
 
 /// What becomes of a segment that arrives.
-#[derive(Clone, Copy, Debug, PartialEq, Eq)]
+#[derive(Clone, Copy, PartialEq, Eq)]
 pub enum Took {
     /// It was the next one in order.
     InOrder,

@@ -2,7 +2,7 @@
 
 /// An acknowledgement of a number that wasn't sent. All three are modulo 128: the number received, the number of segments
 /// acknowledged, and one more than the highest number sent.
-#[derive(Clone, Copy, Debug, PartialEq, Eq)]
+#[derive(Clone, Copy, PartialEq, Eq)]
 pub struct BadAck {
     /// The number received [N(R)].
     pub nr: u8,
@@ -13,7 +13,7 @@ pub struct BadAck {
 }
 
 /// All tries are spent. `segment` is the number of the oldest segment that isn't acknowledged.
-#[derive(Clone, Copy, Debug, PartialEq, Eq)]
+#[derive(Clone, Copy, PartialEq, Eq)]
 pub struct Spent {
     /// Counted from 0, without a modulus.
     pub segment: u64,

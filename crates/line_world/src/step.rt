@@ -3,7 +3,7 @@
 use roles::Role;
 
 /// What comes after a turn.
-#[derive(Clone, Copy, Debug, PartialEq, Eq)]
+#[derive(Clone, Copy, PartialEq, Eq)]
 pub enum Step {
     /// There is a next turn.
     Going,
@@ -12,7 +12,7 @@ pub enum Step {
 }
 
 /// Why a run ends with less than both files. Where the line ends it, the role is that of the end that hears.
-#[derive(Clone, Copy, Debug, PartialEq, Eq)]
+#[derive(Clone, Copy, PartialEq, Eq)]
 pub enum RunFault {
     /// A file that is sent was not read.
     ReadFault,

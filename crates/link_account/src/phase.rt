@@ -1,7 +1,7 @@
 // The phases of a link.
 
 /// The phase that an end is in.
-#[derive(Clone, Copy, Debug, PartialEq, Eq)]
+#[derive(Clone, Copy, PartialEq, Eq)]
 pub enum Phase {
     /// Patterns are sent and looked for.
     Detecting,

@@ -4,7 +4,7 @@ use roles::Role;
 use xid_params::Offer;
 
 /// How an end is set up: what it is and offers, how often it tries, and its timer's length in turns.
-#[derive(Clone, Copy, Debug, PartialEq, Eq)]
+#[derive(Clone, Copy, PartialEq, Eq)]
 pub struct Setup {
     /// Which end it is.
     pub role: Role,

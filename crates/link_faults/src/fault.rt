@@ -1,7 +1,7 @@
 // Why a link ends.
 
 /// Why an end gives its link up.
-#[derive(Clone, Copy, Debug, PartialEq, Eq)]
+#[derive(Clone, Copy, PartialEq, Eq)]
 pub enum LinkFault {
     /// The other end answered no pattern.
     NotDetected,

@@ -10,7 +10,7 @@ use rand_pcg::Lcg64Xsh32;
 use roles::Role;
 
 /// What the line adds to a sample, in the units of samples.
-#[derive(Clone, Copy, Debug, PartialEq, Eq)]
+#[derive(Clone, Copy, PartialEq, Eq)]
 pub struct Offset {
     /// Units of a sample.
     pub re: i32,

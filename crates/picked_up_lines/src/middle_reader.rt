@@ -14,7 +14,7 @@ use symbol_map::Sample;
 use trellis_tables::V32Code;
 
 /// What a label gives.
-#[derive(Clone, Copy, Debug, PartialEq, Eq)]
+#[derive(Clone, Copy, PartialEq, Eq)]
 pub enum Taken {
     /// No bit: it is the first one, or fills the register of the descrambler.
     Nothing,

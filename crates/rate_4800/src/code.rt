@@ -7,7 +7,7 @@ use symbol_map::Sample;
 use trellis_tables::{TrellisCode, Way};
 
 /// Four points, each a quarter turn from the one before it, and one state, from which each label leads to itself.
-#[derive(Clone, Copy, Debug)]
+#[derive(Clone, Copy)]
 pub struct Rate4800;
 
 impl TrellisCode<1, 4> for Rate4800 {

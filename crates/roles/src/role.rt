@@ -5,7 +5,7 @@ ghost use Rattle.roles.specs.Role.{is_originator, other, role_word, role_named, 
 use scramblers::Mode;
 
 /// An end of the link: the one that called, or the one that answered.
-#[derive(Clone, Copy, Debug, PartialEq, Eq)]
+#[derive(Clone, Copy, PartialEq, Eq)]
 pub enum Role {
     /// `orig`: it calls.
     Originator,

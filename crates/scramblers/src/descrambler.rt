@@ -8,7 +8,7 @@ use std::marker::Model;
 
 /// The inverse of the [`Scrambler`](crate::Scrambler) with the same TAP. It keeps the latest bits of the line,
 /// so a wrong bit is forgotten after 23 more.
-#[derive(Debug, Drop)]
+#[derive(Drop)]
 pub struct Descrambler<const TAP: usize> {
     /// The latest 32 bits on the line, the last one highest. 23 of them count.
     register: u32,

@@ -7,7 +7,7 @@ use crate::register::{DEGREE, bit_before, four_before, shifted, shifted_by_four}
 use std::marker::Model;
 
 /// A scrambler with the generating polynomial 1 + x^-TAP + x^-23. It keeps the latest bits of the line.
-#[derive(Debug, Drop)]
+#[derive(Drop)]
 pub struct Scrambler<const TAP: usize> {
     /// The latest 32 bits on the line, the last one highest. 23 of them count.
     register: u32,

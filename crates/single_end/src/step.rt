@@ -3,7 +3,7 @@
 use link_faults::LinkFault;
 
 /// What comes after a turn.
-#[derive(Clone, Copy, Debug, PartialEq, Eq)]
+#[derive(Clone, Copy, PartialEq, Eq)]
 pub enum SingleStep {
     Going,
     /// The link was taken down. An originator alone is told.
@@ -11,7 +11,7 @@ pub enum SingleStep {
 }
 
 /// Why there is no further turn.
-#[derive(Clone, Copy, Debug, PartialEq, Eq)]
+#[derive(Clone, Copy, PartialEq, Eq)]
 pub enum SingleFault {
     /// The user's file was not read.
     ReadFault,

@@ -4,7 +4,7 @@ use crate::Seen;
 use lapm_frames::Frame;
 
 /// What arrives at an end in a turn.
-#[derive(Debug, Drop, PartialEq, Eq)]
+#[derive(Drop, PartialEq, Eq)]
 pub enum Arrived {
     /// An idle slot, or none.
     Nothing,

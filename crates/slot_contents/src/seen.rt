@@ -1,7 +1,7 @@
 // Which pattern is seen.
 
 /// A pattern of the detection phase: the originator's and the answerer's.
-#[derive(Clone, Copy, Debug, PartialEq, Eq)]
+#[derive(Clone, Copy, PartialEq, Eq)]
 pub enum Seen {
     /// The originator's.
     Odp,

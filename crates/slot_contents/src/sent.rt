@@ -3,7 +3,7 @@
 use lapm_frames::Frame;
 
 /// What an end sends in a turn.
-#[derive(Debug, Drop, PartialEq, Eq)]
+#[derive(Drop, PartialEq, Eq)]
 pub enum Sent {
     /// Nothing but ones.
     Mark,

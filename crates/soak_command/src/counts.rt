@@ -1,7 +1,7 @@
 // What a soak shows.
 
 /// What the turns of a soak show that is done.
-#[derive(Clone, Copy, Debug, PartialEq, Eq)]
+#[derive(Clone, Copy, PartialEq, Eq)]
 pub struct SoakCounts {
     /// The number of the last turn.
     pub turn: u64,

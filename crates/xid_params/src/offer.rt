@@ -2,7 +2,7 @@
 
 /// What an end offers: functions that it has, and for both ways the longest information field in octets and the window in
 /// segments.
-#[derive(Clone, Copy, Debug, PartialEq, Eq)]
+#[derive(Clone, Copy, PartialEq, Eq)]
 pub struct Offer {
     /// Selective reject.
     pub srej: bool,

@@ -2,7 +2,7 @@
 
 /// What two ends agree on: functions that both use, and for the segments of the originator (`_o`) and of the answerer (`_a`)
 /// the longest one in octets and the window in segments.
-#[derive(Clone, Copy, Debug, PartialEq, Eq)]
+#[derive(Clone, Copy, PartialEq, Eq)]
 pub struct Terms {
     /// Selective reject.
     pub srej: bool,
