@@ -1,1 +1,3 @@
 pub mod Linking
+pub mod Waiting
+pub mod Arriving

@@ -2,15 +2,15 @@
 use Rattle.std.specs.Prelude.{◌≡◌, ◌≢◌, List, Some, Result, Ok, Err}
 use Rattle.frame_check.specs.declared.check.Check.{Check}
 use Rattle.roles.specs.declared.role.Role.TheVariants.{Originator, Answerer}
-use Rattle.slot_contents.specs.declared.sent.Sent.{Sent}
-use Rattle.slot_contents.specs.declared.heard.Heard.{Heard}
-use Rattle.slot_contents.specs.declared.heard.Heard.TheVariants.{Chance}
+use Rattle.lapm_frames.specs.declared.sent.Sent.{Sent}
+use Rattle.lapm_frames.specs.declared.heard.Heard.{Heard}
+use Rattle.lapm_frames.specs.declared.heard.Heard.TheVariants.{Chance}
 use Rattle.sample_line.specs.Signals.{IsCodable}
 use Rattle.link_account.specs.Account.{check_of}
 use Rattle.link_run.specs.Run.{Ends, Spoken, Turn}
 use Rattle.line_run.specs.Sampled.{Channel, IsHeardOf, EndsLine}
 use Rattle.line_run.specs.Sampled as line_ends
-use Rattle.delayed_line.specs.OnWay.{WaitsFor, HasArrived}
+use Rattle.both_sides.specs.OnWay.{WaitsFor, HasArrived}
 use Rattle.both_sides.specs.declared.each.Each.{Each}
 use Rattle.both_sides.specs.declared.lines.Lines.{Lines}
 use Rattle.both_sides.specs.declared.lines.LineEnd.{LineEnd}

@@ -5,7 +5,7 @@ ghost use Rattle.link_account.specs.Play.{arrives};
 
 use lapm_link::Arrived;
 use sample_line::Heard;
-use slot_contents::{Seen, Sent};
+use lapm_frames::{Seen, Sent};
 
 /// What of this slot arrives at its hearer.
 fn contents(sent: &Sent) -> Arrived

@@ -2,7 +2,7 @@
 ghost use Rattle.std.specs.Prelude.{◌≡◌, ◌+◌, ◌<◌, ◌≤◌, ◌^◌, List, [], ◌∷◌, length, IfOk};
 ghost use Rattle.frame_check.specs.declared.sizes.TheConstants.{SLOT};
 ghost use Rattle.bit_stuffing.specs.declared.slot_writer.TheConstants.{HEAD, TAIL};
-ghost use Rattle.slot_contents.specs.Sendable.{IsSendable};
+ghost use Rattle.lapm_frames.specs.Sendable.{IsSendable};
 ghost use Rattle.link_account.specs.Numbers.{IsNumbered};
 ghost use Rattle.link_account.specs.Account.{check_of};
 ghost use Rattle.link_run.specs.Run.{Ends, Turn, arrival};
@@ -11,14 +11,14 @@ ghost use Rattle.line_run.specs.Scripted.{channel_of, slot_symbols, longest_of};
 ghost use Rattle.both_sides.specs.Lines.{LinesWait, HaveArrived, ArrivesSo, AreCodable, Sends};
 
 use crate::each::Each;
-use delayed_line::DelayedLine;
+use crate::DelayedLine;
 use frame_check::Check;
 use line_run::laws::slots_have_room;
 use noise_script::Script;
 use outside_calls::NoMemory;
 use roles::Role;
 use sample_line::{Heard, Line};
-use slot_contents::Sent;
+use lapm_frames::Sent;
 use std::alloc::Global;
 
 /// How the line ends a run as a turn begins. The role is that of the end that hears.

@@ -7,7 +7,7 @@ ghost use Rattle.lapm_link.specs.Stands.{undelivered_of};
 ghost use Rattle.roles.specs.Both.{Both, of};
 ghost use Rattle.roles.specs.declared.role.Role.{Role};
 ghost use Rattle.noise_script.specs.Script.{ScriptValue};
-ghost use Rattle.slot_contents.specs.Sendable.{IsSendable};
+ghost use Rattle.lapm_frames.specs.Sendable.{IsSendable};
 ghost use Rattle.link_account.specs.Numbers.{IsNumbered};
 ghost use Rattle.link_account.specs.Account.{Account, fresh, after_given, after_busy, given_break, check_of};
 ghost use Rattle.link_run.specs.End.{deliveries, delivered, asked, is_busy, is_closed, is_released, has_finished};

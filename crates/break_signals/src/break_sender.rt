@@ -4,7 +4,7 @@ ghost use Rattle.break_signals.specs.Words.{number_of};
 
 use crate::word::BreakWord;
 use std::marker::Model;
-use turn_timers::is_expired;
+use causes::is_expired;
 
 /// After a break was answered no other one is taken for so many turns.
 const REST: u64 = 8;

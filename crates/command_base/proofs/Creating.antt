@@ -4,9 +4,9 @@ use Rattle.outside_calls.specs.Folder.{FolderState, GoesOn, KeepsName, OnlyWrite
 use Rattle.outside_calls.specs.Steps.{KeepsName-trans}
 use Rattle.outside_calls.specs.declared.folder.FolderFault.{FolderFault}
 use Rattle.outside_calls.specs.declared.folder.FolderFault.TheVariants as folder
-use Rattle.command_base.specs.Outputs.{Holds, KeptOrEmpty, KeepsEach, IsNoneOf, CreatesPart, OnlyOutputs}
+use Rattle.outside_calls.specs.Outputs.{Holds, KeptOrEmpty, KeepsEach, IsNoneOf, CreatesPart, OnlyOutputs}
 use Rattle.command_base.specs.Stops.{WriteFails}
-use Rattle.command_base.proofs.Holding.{Holds-kept}
+use Rattle.outside_calls.proofs.Holding.{Holds-kept}
 use Rattle.command_base.proofs.Jobs.{write-earlier}
 
 -- a write to one name keeps each of the others

@@ -1,6 +1,5 @@
 pub mod Status
 pub mod Inputs
-pub mod Outputs
 pub mod Lines
 pub mod Tells
 pub mod Stops

@@ -2,12 +2,12 @@
 use Rattle.std.specs.Prelude.{ℕ, ◌≤◌, Bool, if◌then◌else◌, List, [], ◌∷◌, ◌++◌, length, codes, decimal, slice_index_or}
 use Rattle.xid_params.specs.declared.fault.XidFault.{XidFault}
 use Rattle.xid_params.specs.declared.fault.XidFault.TheVariants as xid
-use Rattle.link_faults.specs.declared.fault.LinkFault.{LinkFault}
-use Rattle.link_faults.specs.declared.fault.LinkFault.TheVariants.{BadAck, PeerReset, PeerRefused}
+use Rattle.causes.specs.declared.fault.LinkFault.{LinkFault}
+use Rattle.causes.specs.declared.fault.LinkFault.TheVariants.{BadAck, PeerReset, PeerRefused}
 use Rattle.command_base.specs.declared.status.Status.{Status}
 use Rattle.command_base.specs.declared.status.Status.TheVariants.{BadScript, BadRecording, BadHex, BadXid, TooLong, ReadFault, WriteFault, LineLost, NotDetected, LinkLost, ChanceMatch, NoMemory, PeerFault}
 use Rattle.roles.specs.Role.{role_word}
-use Rattle.script_causes.specs.Cause.{cause_word}
+use Rattle.causes.specs.Cause.{cause_word}
 
 -- why a field spells no offer
 abbrev pub xid_words : XidFault → List ℕ

@@ -19,10 +19,9 @@ pub use lines::{
     LINE, Line, write_count, write_done, write_margin, write_octets, write_pieces, write_samples,
     write_soak, write_usage,
 };
-pub use link_faults::LinkFault;
+pub use causes::{Cause, LinkFault};
 pub use output::{append_output, create_output, create_outputs, say_line};
 pub use roles::Role;
-pub use script_causes::Cause;
 pub use status::Status;
 pub use stop::Stop;
 pub use telling::{tell, tell_stop};

@@ -2,14 +2,13 @@
 ghost use Rattle.std.specs.Prelude.{◌≡◌, ◌<◌, ◌≤◌, ◌+◌, ◌*◌, [], ◌++◌, map, length, decimal, codes};
 ghost use Rattle.roles.specs.Role.{role_word};
 ghost use Rattle.command_base.specs.Lines.{xid_words, count_line, done_line, samples_line, octets_line, pieces_line, soak_line, margin_line, listed_behind, usage_line, AreShort, peer_words, short_line};
-ghost use Rattle.script_causes.specs.Cause.{cause_word};
+ghost use Rattle.causes.specs.Cause.{cause_word};
 
 use crate::Status;
 use frame_check::Octets;
 use line_texts::put_decimal;
-use link_faults::LinkFault;
+use causes::{Cause, LinkFault};
 use roles::Role;
-use script_causes::Cause;
 use xid_params::XidFault;
 
 /// The most octets of a line that says no word of the command line.

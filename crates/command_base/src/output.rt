@@ -1,7 +1,7 @@
 // Steps of an output, and of what is said.
 ghost use Rattle.std.specs.Prelude.{[], ◌∷◌, map, OnOk, OnErr, IfErr};
 ghost use Rattle.outside_calls.specs.Folder.{OnlyWrites, OnlySays, Appended, PartlyAppended, Said, PartlySaid, CountsStand};
-ghost use Rattle.command_base.specs.Outputs.{Holds, KeptOrEmpty, AreApart, Creates, CreatesPart, OnlyOutputs, SaysNothing};
+ghost use Rattle.outside_calls.specs.Outputs.{Holds, KeptOrEmpty, AreApart, Creates, CreatesPart, OnlyOutputs, SaysNothing};
 ghost use Rattle.command_base.specs.Stops.{WriteFails, SayFails};
 
 use outside_calls::{Folder, FolderFault};

@@ -1,9 +1,8 @@
 // How a command ends.
 ghost use Rattle.std.specs.Prelude.{◌≡◌};
 
-use link_faults::LinkFault;
+use causes::{Cause, LinkFault};
 use roles::Role;
-use script_causes::Cause;
 use xid_params::XidFault;
 
 /// How a command ends. Everything but `Done` has one cause, which the contract of the command names.

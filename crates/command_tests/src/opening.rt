@@ -6,7 +6,7 @@ use outside_calls::FolderFault;
 use outside_core::MemoryFolder;
 use roles::Role;
 use run_inputs::{LIMITS, are_apart, open_inputs, run_words};
-use script_causes::Cause;
+use causes::Cause;
 use std::alloc::Global;
 use std::process::Abort;
 use std::test::Fail;

@@ -9,7 +9,7 @@ use lapm_frames::FrameFault;
 use outside_calls::{FolderFault, NoMemory};
 use outside_core::MemoryFolder;
 use roles::Role;
-use script_causes::Cause;
+use causes::Cause;
 use std::alloc::Global;
 use std::fmt::{Debug, Display};
 use std::process::Abort;

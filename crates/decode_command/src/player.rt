@@ -5,7 +5,7 @@ ghost use Rattle.outside_calls.specs.Folder.{FolderState};
 ghost use Rattle.scramblers.specs.declared.mode.Mode.{Mode};
 ghost use Rattle.recordings.specs.declared.rate.Rate.{Rate};
 ghost use Rattle.command_base.specs.declared.limits.TheConstants.{RECORDING_LIMIT};
-ghost use Rattle.command_base.specs.Outputs.{OnlyOutput};
+ghost use Rattle.outside_calls.specs.Outputs.{OnlyOutput};
 ghost use Rattle.command_base.specs.Stops.{EndCounts};
 ghost use Rattle.decode_command.specs.Words.{named, are_apart};
 ghost use Rattle.decode_command.specs.Playing.{decoding_of, Hears, IsReady};

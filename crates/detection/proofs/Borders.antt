@@ -6,8 +6,8 @@ use Rattle.bit_stuffing.specs.Flags.{flag}
 use Rattle.bit_stuffing.specs.Slots.{Slot, flags, opening, slot_bits, next_phase, bits_from, phase_from, IsSlot, AreSlots}
 use Rattle.bit_stuffing.specs.Slots.Slot.{Flags}
 use Rattle.bit_stuffing.proofs.Sizes.{length-slot_bits}
-use Rattle.slot_contents.specs.declared.seen.Seen.{Seen}
-use Rattle.slot_contents.specs.declared.seen.Seen.TheVariants.{Odp, Adp}
+use Rattle.lapm_frames.specs.declared.seen.Seen.{Seen}
+use Rattle.lapm_frames.specs.declared.seen.Seen.TheVariants.{Odp, Adp}
 use Rattle.detection.specs.Patterns.{second, ones, twice, EndsPattern}
 use Rattle.detection.specs.Slots.{Signal, patterns, pattern_bits, slot_of, slots_of}
 use Rattle.detection.specs.Slots.Signal.{PatternSlot, MarkSlot, FlagSlot}

@@ -6,7 +6,7 @@ use Rattle.std.proofs.lemmas.List.Elements.{All-head, All-tail}
 use Rattle.bit_stuffing.specs.Slots.{slot_bits, sent_bits, next_phase, phase_after, IsSlot, AreSlots}
 use Rattle.bit_stuffing.proofs.Fill.{bits-append, next-low}
 use Rattle.bit_stuffing.proofs.Sizes.{length-slot_bits, length-empty, length-opening}
-use Rattle.slot_contents.specs.declared.seen.Seen.{Seen}
+use Rattle.lapm_frames.specs.declared.seen.Seen.{Seen}
 use Rattle.detection.specs.Patterns.{EndsPattern, IsSeen, seen_at}
 use Rattle.detection.specs.Slots.{Signal, CanCarry, pattern_bits, slot_of, slots_of, signal_bits}
 use Rattle.detection.specs.Slots.Signal.{PatternSlot, MarkSlot, FlagSlot}

@@ -1,7 +1,7 @@
 -- Worked values of the definitions.
 use Rattle.std.proofs.Common.{◌≡◌, true, false, [], ◌∷◌, ◌++◌, refl, Some, None}
 use Rattle.bit_stuffing.specs.BitSlot.{line_bits}
-use Rattle.slot_contents.specs.declared.seen.Seen.TheVariants.{Odp, Adp}
+use Rattle.lapm_frames.specs.declared.seen.Seen.TheVariants.{Odp, Adp}
 use Rattle.detection.specs.Patterns.{ones, first, second, twice, seen_at}
 use Rattle.detection.specs.Slots.{pattern}
 

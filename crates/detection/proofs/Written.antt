@@ -5,8 +5,8 @@ use Rattle.plain_lists.specs.Bits.{low_bits}
 use Rattle.bit_stuffing.specs.BitSlot.{line_bits}
 use Rattle.bit_stuffing.specs.Slots.{IsPlain}
 use Rattle.bit_stuffing.proofs.Sizes.{plain-by_tests, plain-grows}
-use Rattle.slot_contents.specs.declared.seen.Seen.{Seen}
-use Rattle.slot_contents.specs.declared.seen.Seen.TheVariants.{Odp, Adp}
+use Rattle.lapm_frames.specs.declared.seen.Seen.{Seen}
+use Rattle.lapm_frames.specs.declared.seen.Seen.TheVariants.{Odp, Adp}
 use Rattle.detection.specs.Patterns.{ones}
 use Rattle.detection.specs.Slots.{pattern, patterns, pattern_bits}
 

@@ -1,6 +1,6 @@
 -- The patterns in a stream of bits, and those that slots add.
 use Rattle.std.specs.Prelude.{◌≡◌, ℕ, zero, suc, ◌+◌, ◌<◌, ◌≤◌, Bool, List, [], ◌∷◌, ◌++◌, All, length, take, Option, Some, None}
-use Rattle.slot_contents.specs.declared.seen.Seen.{Seen}
+use Rattle.lapm_frames.specs.declared.seen.Seen.{Seen}
 use Rattle.detection.specs.Patterns.{EndsPattern, seen_at}
 use Rattle.detection.specs.Slots.{Signal, pattern_bits, signal_bits}
 use Rattle.detection.specs.Slots.Signal.{PatternSlot, MarkSlot, FlagSlot}

@@ -1,6 +1,6 @@
 -- Slots that carry patterns, ones or flags.
 use Rattle.std.specs.Prelude.{ℕ, zero, suc, ◌+◌, ◌-◌, ◌*◌, ◌/◌, ◌≤◌, Bool, List, [], ◌++◌, length, map, Option, Some, None}
-use Rattle.slot_contents.specs.declared.seen.Seen.{Seen}
+use Rattle.lapm_frames.specs.declared.seen.Seen.{Seen}
 use Rattle.detection.specs.Patterns.{first, second, ones}
 use Rattle.bit_stuffing.specs.Slots.{Slot, IsFrame, sent_bits}
 use Rattle.bit_stuffing.specs.Slots.Slot.{Plain, Flags}

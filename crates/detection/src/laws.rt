@@ -2,7 +2,7 @@
 ghost use Rattle.std.specs.Prelude.{◌≡◌, ℕ, ◌+◌, ◌*◌, ◌<◌, ◌≤◌, All, Bool, List, [], ◌∷◌, ◌++◌, length, Option};
 ghost use Rattle.bit_stuffing.specs.Slots.{AreSlots, IsPlain, IsSlot, phase_after, slot_bits};
 ghost use Rattle.bit_stuffing.specs.declared.slot_writer.TheConstants.{HEAD, TAIL};
-ghost use Rattle.slot_contents.specs.declared.seen.Seen.{Seen};
+ghost use Rattle.lapm_frames.specs.declared.seen.Seen.{Seen};
 ghost use Rattle.detection.specs.Patterns.{EndsPattern, IsSeen, ones, seen_at};
 ghost use Rattle.detection.specs.Slots.{Signal, CanCarry, pattern_bits, signal_bits, slot_of, slots_of};
 ghost use Rattle.detection.specs.Slots.Signal.{PatternSlot};

@@ -10,5 +10,5 @@ mod reader;
 mod slots;
 
 pub use reader::PatternReader;
-pub use slot_contents::Seen;
+pub use lapm_frames::Seen;
 pub use slots::{mark_slot, pattern_slot};

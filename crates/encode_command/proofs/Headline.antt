@@ -12,8 +12,8 @@ use Rattle.command_base.specs.Job.{Answers}
 use Rattle.command_base.specs.Status.{IsRefusal}
 use Rattle.command_base.specs.Stops.{end_status}
 use Rattle.command_base.specs.Lines.{samples_line}
-use Rattle.command_base.specs.Outputs.{KeepsAll, OnlyOutputs}
-use Rattle.command_base.proofs.Holding.{Holds-kept, HoldsFront-all, HoldsFront-kept}
+use Rattle.outside_calls.specs.Outputs.{KeepsAll, OnlyOutputs}
+use Rattle.outside_calls.proofs.Holding.{Holds-kept, HoldsFront-all, HoldsFront-kept}
 use Rattle.command_base.proofs.Jobs.{IsDone, refusal-own, last-only, done-of, shared-of, done-unless-memory}
 use Rattle.encode_command.specs.Words.{EncodeNames}
 use Rattle.encode_command.specs.Ends.{WritesAll, LeavesPart, Ends, encode_job}

@@ -16,9 +16,9 @@ use Rattle.command_base.specs.declared.limits.TheConstants.{FILE_LIMIT}
 use Rattle.command_base.specs.declared.stop.Stop.{Stop}
 use Rattle.command_base.specs.declared.stop.Stop.TheVariants.{Own, Read, Write, Say, NoMemory}
 use Rattle.command_base.specs.Inputs.{IsWithin, IsNotWithin, ReadTo}
-use Rattle.command_base.specs.Outputs.{Holds, HoldsFront, KeptOrEmpty}
-use Rattle.command_base.proofs.Holding.{Holds-kept, Holds-more, HoldsFront-all, HoldsFront-more, HoldsFront-longer}
-use Rattle.command_base.proofs.OnlyOutputs.{OnlyOutput-reads, OnlyOutput-writes, OnlyOutput-trans}
+use Rattle.outside_calls.specs.Outputs.{Holds, HoldsFront, KeptOrEmpty}
+use Rattle.outside_calls.proofs.Holding.{Holds-kept, Holds-more, HoldsFront-all, HoldsFront-more, HoldsFront-longer}
+use Rattle.outside_calls.proofs.OnlyOutputs.{OnlyOutput-reads, OnlyOutput-writes, OnlyOutput-trans}
 use Rattle.command_base.proofs.Reading.{ReadTo-kept, ReadTo-begins}
 use Rattle.encode_command.specs.Words.{EncodeNames, are_apart}
 use Rattle.encode_command.specs.Ends.{WritesAll, WritesPart, WritesFront, LeavesPart, EndsBy}

@@ -6,7 +6,7 @@ use Rattle.outside_calls.specs.Folder.{FolderState, octets_at, KeepsName}
 use Rattle.recordings.specs.Recording.{IsRecordingOf}
 use Rattle.command_base.specs.declared.limits.TheConstants.{FILE_LIMIT}
 use Rattle.command_base.specs.Inputs.{IsWithin, IsLonger}
-use Rattle.command_base.specs.Outputs.{Holds, HoldsFront, KeepsAll, SaysNothing}
+use Rattle.outside_calls.specs.Outputs.{Holds, HoldsFront, KeepsAll, SaysNothing}
 use Rattle.command_base.specs.Job.{Job}
 use Rattle.command_base.specs.Lines.{samples_line}
 use Rattle.command_base.specs.declared.status.Status.TheVariants.{TooLong}

@@ -7,7 +7,7 @@ use Rattle.command_base.specs.declared.status.Status.{Status}
 use Rattle.command_base.specs.declared.status.Status.TheVariants.{Done}
 use Rattle.command_base.specs.Job.{Shared}
 use Rattle.command_base.specs.Lines.{samples_line}
-use Rattle.command_base.specs.Outputs.{Holds, HoldsFront}
+use Rattle.outside_calls.specs.Outputs.{Holds, HoldsFront}
 use Rattle.encode_command.specs.Words.{EncodeNames}
 
 -- the file's octets have a recording, and the output holds the beginning of it

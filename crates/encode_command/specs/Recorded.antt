@@ -5,7 +5,7 @@ use Rattle.recordings.specs.declared.recorder.Recorder.{Recorder}
 use Rattle.recordings.specs.Recording.{header_at, RecorderStands}
 use Rattle.command_base.specs.declared.limits.TheConstants.{FILE_LIMIT}
 use Rattle.command_base.specs.Inputs.{IsWithin, ReadTo}
-use Rattle.command_base.specs.Outputs.{Holds, OnlyOutput}
+use Rattle.outside_calls.specs.Outputs.{Holds, OnlyOutput}
 use Rattle.encode_command.specs.Words.{EncodeNames}
 
 -- The file is within its limit, and the output was made.

@@ -5,7 +5,7 @@ ghost use Rattle.scramblers.specs.declared.mode.Mode.{Mode};
 ghost use Rattle.recordings.specs.declared.rate.Rate.{Rate};
 ghost use Rattle.recordings.specs.Recording.{samples_each, RecorderStands};
 ghost use Rattle.command_base.specs.declared.limits.TheConstants.{FILE_LIMIT};
-ghost use Rattle.command_base.specs.Outputs.{OnlyOutput};
+ghost use Rattle.outside_calls.specs.Outputs.{OnlyOutput};
 ghost use Rattle.command_base.specs.Stops.{EndCounts};
 ghost use Rattle.encode_command.specs.Words.{named, are_apart};
 ghost use Rattle.encode_command.specs.Ends.{WritesAll, EndsBy, Ends};

@@ -11,7 +11,7 @@ use Rattle.command_base.specs.declared.limits.TheConstants.{FILE_LIMIT}
 use Rattle.command_base.specs.declared.stop.Stop.{Stop}
 use Rattle.command_base.specs.declared.stop.Stop.TheVariants.{Own, Read, Write, Say, NoMemory}
 use Rattle.command_base.specs.Inputs.{IsNotWithin, ReadTo}
-use Rattle.command_base.proofs.OnlyOutputs.{OnlyOutputs-reads, OnlyOutputs-says, OnlyOutputs-trans}
+use Rattle.outside_calls.proofs.OnlyOutputs.{OnlyOutputs-reads, OnlyOutputs-says, OnlyOutputs-trans}
 use Rattle.command_base.proofs.Reading.{ReadTo-none, ReadTo-kept, ReadTo-begins}
 use Rattle.frames_command.specs.Words.{FramesNames}
 use Rattle.piece_listener.specs.Readings.{AreLines}

@@ -4,7 +4,7 @@ use Rattle.outside_calls.specs.Folder.{FolderState, OnlyReads}
 use Rattle.plain_lists.specs.Bits.{bits_of}
 use Rattle.command_base.specs.declared.limits.TheConstants.{FILE_LIMIT}
 use Rattle.command_base.specs.Inputs.{IsWithin, ReadTo}
-use Rattle.command_base.specs.Outputs.{OnlyOutputs}
+use Rattle.outside_calls.specs.Outputs.{OnlyOutputs}
 use Rattle.frames_command.specs.Words.{FramesNames}
 use Rattle.piece_listener.specs.Heard.{Listening, Heard}
 

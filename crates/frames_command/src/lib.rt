@@ -7,5 +7,4 @@ mod listing;
 mod words;
 
 pub use command::frames;
-pub use piece_listener::Reading;
 pub use words::{FramesWords, frames_words};

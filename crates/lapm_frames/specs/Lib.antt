@@ -4,3 +4,4 @@ pub mod Fault
 pub mod Controls
 pub mod Seen
 pub mod Checked
+pub mod Sendable

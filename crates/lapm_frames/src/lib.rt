@@ -3,24 +3,35 @@
 //! A pure function of the octets, of the end that sends them and of the channel. The central types are [`Frame`], a frame's
 //! content, [`Parts`], what a frame of any kind consists of, and [`FrameFault`], why octets are no frame. [`read`] and [`write`]
 //! take octets without the check that goes behind them, [`read_checked`] and [`write_checked`] with it.
+//!
+//! What a slot of the line holds, a frame or what stands between frames, is here too: what an end sends in it ([`Sent`]), what
+//! of it arrives at the other end ([`Arrived`]), and what becomes of it on the way ([`Heard`]).
 #![tactic(auto)]
 
 mod address;
+mod arrived;
 mod checked;
 mod control;
 mod fault;
 mod frame;
+mod heard;
 mod information;
 pub mod laws;
 mod numbers;
 mod parts;
+mod seen;
+mod sent;
 mod spelling;
 mod supervisory;
 mod unnumbered;
 
+pub use arrived::Arrived;
 pub use checked::{read_checked, write_checked};
 pub use fault::{CheckedFault, FrameFault};
 pub use frame::Frame;
+pub use heard::Heard;
 pub use parts::Parts;
 pub use roles::Role;
+pub use seen::Seen;
+pub use sent::Sent;
 pub use spelling::{read, write};

@@ -11,8 +11,8 @@ use Rattle.break_signals.specs.Breaks.{no_breaks, none_heard}
 use Rattle.break_signals.specs.Keeping.{StandsOwn, StandsTheirs}
 use Rattle.link_account.specs.declared.setup.Setup.{Setup}
 use Rattle.link_account.specs.declared.answer.Answer.{Answer}
-use Rattle.slot_contents.specs.declared.sent.Sent.{Sent}
-use Rattle.link_faults.specs.declared.fault.LinkFault.{LinkFault}
+use Rattle.lapm_frames.specs.declared.sent.Sent.{Sent}
+use Rattle.causes.specs.declared.fault.LinkFault.{LinkFault}
 use Rattle.link_account.specs.declared.phase.Phase.{Phase}
 use Rattle.link_account.specs.declared.phase.Phase.TheVariants as phases
 use Rattle.lapm_link.specs.declared.attempt.Attempt.{Attempt}

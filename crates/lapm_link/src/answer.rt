@@ -1,5 +1,5 @@
 // Answers that an end owes at once.
-ghost use Rattle.slot_contents.specs.Sendable.{IsSendable};
+ghost use Rattle.lapm_frames.specs.Sendable.{IsSendable};
 ghost use Rattle.std.specs.Prelude.{◌≡◌};
 ghost use Rattle.xid_params.specs.Offers.{IsAllowed};
 ghost use Rattle.link_account.specs.Account.{Account};

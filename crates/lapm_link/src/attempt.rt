@@ -1,13 +1,13 @@
 // A frame that goes until it is answered.
 ghost use Rattle.lapm_frames.specs.declared.frame.Frame.{Frame};
-ghost use Rattle.slot_contents.specs.Sendable.{IsSendable};
-ghost use Rattle.slot_contents.specs.declared.sent.Sent.{Sent};
+ghost use Rattle.lapm_frames.specs.Sendable.{IsSendable};
+ghost use Rattle.lapm_frames.specs.declared.sent.Sent.{Sent};
 ghost use Rattle.std.specs.Prelude.{◌≡◌, true, IfOk};
 
 use crate::timer::spent;
 use crate::{LinkFault, Sent, Setup};
 use lapm_frames::Frame;
-use turn_timers::is_expired;
+use causes::is_expired;
 
 /// A frame that goes until it is answered: an originator's XID command, SABME or DISC.
 #[derive(Clone, Copy)]

@@ -1,5 +1,5 @@
 // An end whose link is over.
-ghost use Rattle.slot_contents.specs.Sendable.{IsSendable};
+ghost use Rattle.lapm_frames.specs.Sendable.{IsSendable};
 ghost use Rattle.std.specs.Prelude.{◌≡◌, ◌<◌, ◌^◌, None, IfOk, OnErr};
 ghost use Rattle.lapm_link.specs.Fits.{IsSetUp};
 

@@ -1,9 +1,9 @@
 // An end that looks for the other one.
-ghost use Rattle.slot_contents.specs.Sendable.{IsSendable};
+ghost use Rattle.lapm_frames.specs.Sendable.{IsSendable};
 ghost use Rattle.std.specs.Prelude.{◌≡◌, ◌<◌, ◌^◌, nat_le, IfOk, OnErr};
 ghost use Rattle.roles.specs.declared.role.Role.{Role};
 ghost use Rattle.xid_params.specs.Offers.{offer_in};
-ghost use Rattle.turn_timers.specs.Timer.{wait};
+ghost use Rattle.causes.specs.Timer.{wait};
 ghost use Rattle.lapm_link.specs.Fits.{IsSetUp};
 
 use crate::answering::Answering;
@@ -13,13 +13,12 @@ use crate::terms::first_terms;
 use crate::unlinked::Unlinked;
 use crate::{AnyEnd, Arrived, Broken, LinkFault, Sent, Setup};
 use frame_check::Info;
-use lapm_frames::Frame;
+use lapm_frames::{Frame, Seen};
 use link_account::Answer;
 use outside_calls::NoMemory;
 use roles::Role;
-use slot_contents::Seen;
 use std::alloc::Global;
-use turn_timers::wait;
+use causes::wait;
 use xid_params::default_offer;
 
 /// An end that looks for the other one: the originator sends its pattern, and the answerer waits for it.

@@ -34,4 +34,4 @@ pub use establishing::Establishing;
 pub use link_account::{LinkFault, Phase, Setup};
 pub use negotiating::Negotiating;
 pub use releasing::Releasing;
-pub use slot_contents::{Arrived, Seen, Sent};
+pub use lapm_frames::{Arrived, Seen, Sent};

@@ -1,5 +1,5 @@
 // An originator that takes the link down.
-ghost use Rattle.slot_contents.specs.Sendable.{IsSendable};
+ghost use Rattle.lapm_frames.specs.Sendable.{IsSendable};
 ghost use Rattle.std.specs.Prelude.{◌≡◌, ◌<◌, ◌^◌, IfOk, OnErr};
 ghost use Rattle.lapm_link.specs.Fits.{IsSetUp};
 

@@ -243,7 +243,7 @@ impl Connected {
 impl Connected {
     ghost use Rattle.link_account.specs.Account.{Account};
     ghost use Rattle.link_account.specs.Hear.{on_connected, hear};
-    ghost use Rattle.link_faults.specs.declared.fault.LinkFault.{LinkFault};
+    ghost use Rattle.causes.specs.declared.fault.LinkFault.{LinkFault};
     ghost use Rattle.lapm_frames.specs.declared.frame.Frame.{Frame};
     ghost use Rattle.lapm_link.specs.Stands.{Links, StandsFor, Hears, Becomes, taken_of, undelivered_of, waiting_of};
     ghost use Rattle.link_account.specs.Numbers.{HasNumbers, IsNumbered};

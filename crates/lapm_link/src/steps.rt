@@ -2,8 +2,8 @@
 ghost use Rattle.std.specs.Prelude.{◌≡◌, ◌<◌, ◌^◌, true, false, IfOk, IfSome, OnErr};
 ghost use Rattle.lapm_frames.specs.declared.frame.Frame.{Frame};
 ghost use Rattle.break_signals.specs.Words.{number_of, spelled};
-ghost use Rattle.slot_contents.specs.Sendable.{IsSendable};
-ghost use Rattle.slot_contents.specs.declared.sent.Sent.{Sent};
+ghost use Rattle.lapm_frames.specs.Sendable.{IsSendable};
+ghost use Rattle.lapm_frames.specs.declared.sent.Sent.{Sent};
 ghost use Rattle.lapm_receiver.specs.Incoming.{asks};
 ghost use Rattle.link_account.specs.Speak.{ready_frame};
 
@@ -17,7 +17,7 @@ use crate::{AnyEnd, Broken, LinkFault, Sent};
 use break_signals::{BreakWord, write_break};
 use frame_check::Info;
 use lapm_frames::Frame;
-use turn_timers::is_expired;
+use causes::is_expired;
 
 /// A break's word as it is sent.
 fn word_slot(word: &BreakWord) -> Sent

@@ -1,10 +1,10 @@
 // Timers by turns.
 ghost use Rattle.std.specs.Prelude.{◌≡◌};
-ghost use Rattle.turn_timers.specs.Timer.{waited_since};
+ghost use Rattle.causes.specs.Timer.{waited_since};
 ghost use Rattle.link_account.specs.Speak.{running};
 
 use crate::{LinkFault, Setup};
-use turn_timers::waited_since;
+use causes::waited_since;
 
 /// All tries are spent in this turn. `front` is the oldest segment that isn't acknowledged.
 pub(crate) fn spent(front: u64, turn: u64, setup: &Setup) -> LinkFault

@@ -1,5 +1,5 @@
 // What an end has before it is connected.
-ghost use Rattle.slot_contents.specs.Sendable.{IsSendable};
+ghost use Rattle.lapm_frames.specs.Sendable.{IsSendable};
 ghost use Rattle.std.specs.Prelude.{◌≡◌, ℕ, ◌≤◌, ◌<◌, Some, None, IfOk};
 ghost use Rattle.xid_params.specs.Offers.{IsAllowed};
 ghost use Rattle.lapm_link.specs.Fits.{IsSetUp, Fits, agreed_by};

@@ -2,7 +2,7 @@
 use Rattle.std.proofs.Common.{refl}
 use Rattle.line_run.specs.Scripted.{channel_of}
 use Rattle.line_run.specs.Ends.{RunEnd, IsDone, LinkLost, NotDetected, LineLost, ChanceMatch}
-use Rattle.line_causes.specs.Causes.{GivesUp, LostLinksWereStarved, FewLossesKeepLinks}
+use Rattle.line_ends.specs.Causes.{GivesUp, LostLinksWereStarved, FewLossesKeepLinks}
 use Rattle.line_ends.specs.Completes.{EndsDone, LineEnds, CompletesUnstarved, CompletesWithFewLosses}
 
 pub done-else : (end : RunEnd) → (GivesUp end → ⊥) → (LineEnds end → ⊥) → EndsDone end

@@ -11,8 +11,8 @@ use Rattle.symbol_map.specs.declared.sample.Sample.{Sample}
 use Rattle.survivors.specs.Survivors.{LostIs}
 use Rattle.survivors.specs.V32.{line_depth, line_trellis}
 use Rattle.detection.specs.Slots.{Signal, signal_bits, slots_of, slot_of}
-use Rattle.slot_contents.specs.declared.heard.Heard.{Heard}
-use Rattle.slot_contents.specs.declared.heard.Heard.TheVariants.{Nothing, Passed, Lost, Chance}
+use Rattle.lapm_frames.specs.declared.heard.Heard.{Heard}
+use Rattle.lapm_frames.specs.declared.heard.Heard.TheVariants.{Nothing, Passed, Lost, Chance}
 use Rattle.noise_script.specs.Script.{ScriptValue, IsInLimits, delay_of, loses}
 use Rattle.bit_stuffing.specs.Slots.{slot_bits, phase_after, sent_bits}
 use Rattle.bit_stuffing.proofs.Fill.{bits-append}
@@ -21,8 +21,8 @@ use Rattle.sample_line.specs.Signals.{signal_of}
 use Rattle.sample_line.specs.Recorded.{Records}
 use Rattle.line_laws.specs.Fitting.{AreFit}
 use Rattle.line_laws.specs.Laws.{SlotsAreRecorded}
-use Rattle.link_faults.specs.declared.fault.LinkFault.{LinkFault}
-use Rattle.link_faults.specs.declared.fault.LinkFault.TheVariants as faults
+use Rattle.causes.specs.declared.fault.LinkFault.{LinkFault}
+use Rattle.causes.specs.declared.fault.LinkFault.TheVariants as faults
 use Rattle.link_account.specs.Account.{check_of}
 use Rattle.link_run.specs.Run.{Ends, Spoken, Turn, start}
 use Rattle.link_run.specs.Carried.{sent_ago}
@@ -35,8 +35,8 @@ use Rattle.line_run.specs.Sampled.{Channel, signal_in, signals, Arrives, Arrives
 use Rattle.line_run.specs.Sampled as lines
 use Rattle.line_run.specs.Scripted.{channel_of, link_of, ScriptsMayPlay, ScriptsHaveDelays, SlotsHaveRoom, SlotsAreCodable}
 use Rattle.line_run.specs.Ends.{IsDone, LinkLost, NotDetected, LineLost, ChanceMatch, Left, Leaves, EndsInTurn}
-use Rattle.line_causes.specs.Scripts.{NoLineRunIsLong}
-use Rattle.line_causes.specs.Causes.{MadeOver, HeardTurnsAreMade}
+use Rattle.line_ends.specs.Scripts.{NoLineRunIsLong}
+use Rattle.line_ends.specs.Causes.{MadeOver, HeardTurnsAreMade}
 use Rattle.line_ends.specs.Completes.{AreOfOctets, OctetsAreSendable}
 use Rattle.line_ends.specs.EachEnds.{Becomes, EachSlotBecomes, EachTurnIsDecided, HasEnd, EachRunEnds}
 use Rattle.line_ends.specs.EachEnds as becomes

@@ -5,7 +5,7 @@ use Rattle.bit_stuffing.proofs.Fill.{phase-low}
 use Rattle.roles.specs.declared.role.Role.{Role}
 use Rattle.roles.specs.Both.{Both, of}
 use Rattle.detection.specs.Slots.{slots_of}
-use Rattle.slot_contents.specs.Sendable.{IsSendable}
+use Rattle.lapm_frames.specs.Sendable.{IsSendable}
 use Rattle.noise_script.specs.Script.{ScriptValue, IsInLimits}
 use Rattle.sample_line.specs.Signals.{signal_of}
 use Rattle.line_laws.specs.Fitting.{Fits, AreFit}

@@ -11,3 +11,5 @@ mod Sending
 mod Deciding
 mod Receiving
 mod EachEnds
+mod Starving
+mod Making

@@ -3,7 +3,7 @@ use Rattle.std.proofs.Common.{◌≡◌, ℕ, zero, suc, ◌+◌, ◌-◌, ◌�
 use Rattle.std.specs.Prelude.{slice_get}
 use Rattle.roles.specs.declared.role.Role.{Role}
 use Rattle.roles.specs.Both.{of}
-use Rattle.slot_contents.specs.Sendable.{IsSendable}
+use Rattle.lapm_frames.specs.Sendable.{IsSendable}
 use Rattle.link_run.specs.Run.{Spoken, Turn}
 use Rattle.link_run.specs.Carried.{sent_in, sent_ago}
 use Rattle.line_ends.specs.Completes.{AllSendable}

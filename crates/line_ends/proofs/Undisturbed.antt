@@ -6,7 +6,7 @@ use Rattle.roles.specs.Role.{other}
 use Rattle.roles.specs.Both.{Both, of}
 use Rattle.noise_script.specs.Script.{ScriptValue, IsInLimits}
 use Rattle.line_laws.specs.Laws.{EmptyScriptDisplacesNone, UndisplacedIsFaint}
-use Rattle.link_faults.specs.declared.fault.LinkFault.TheVariants as faults
+use Rattle.causes.specs.declared.fault.LinkFault.TheVariants as faults
 use Rattle.link_run.specs.Run.{Link, Ends, Turn, Hears}
 use Rattle.link_run.specs.Outcomes.{Outcome, Going, Done, Broken, TurnIs}
 use Rattle.line_run.specs.Sampled.{Channel, IsHeardOf, HeardIn, LineRun}

@@ -3,7 +3,7 @@ use Rattle.std.specs.Prelude.{List, ℕ}
 use Rattle.roles.specs.Both.{Both}
 use Rattle.noise_script.specs.Script.{ScriptValue}
 use Rattle.line_run.specs.Ends.{RunEnd, Left, StarvedBy}
-use Rattle.line_causes.specs.Causes.{GivesUp}
+use Rattle.line_ends.specs.Causes.{GivesUp}
 use Rattle.line_ends.specs.Completes.{ScriptRunsTo, heard_turns, LineEnds}
 
 -- The line doesn't end the run of a script and two files: it isn't lost, and nothing received is a chance match.

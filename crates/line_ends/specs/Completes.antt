@@ -3,7 +3,7 @@ use Rattle.std.specs.Prelude.{◌≡◌, ℕ, ◌+◌, ◌*◌, ◌<◌, ◌≤�
 use Rattle.plain_lists.specs.Octets.{AreOctets}
 use Rattle.roles.specs.declared.role.Role.{Role}
 use Rattle.roles.specs.Both.{Both, of}
-use Rattle.slot_contents.specs.Sendable.{IsSendable}
+use Rattle.lapm_frames.specs.Sendable.{IsSendable}
 use Rattle.noise_script.specs.declared.entry.Break.{Break}
 use Rattle.noise_script.specs.declared.entry.Loss.{Loss}
 use Rattle.noise_script.specs.Script.{ScriptValue, IsInLimits}

@@ -4,7 +4,7 @@ use Rattle.frame_check.specs.declared.check.Check.{Check}
 use Rattle.roles.specs.declared.role.Role.{Role}
 use Rattle.roles.specs.Role.{other}
 use Rattle.roles.specs.Both.{Both, of}
-use Rattle.slot_contents.specs.declared.heard.Heard.TheVariants.{Chance}
+use Rattle.lapm_frames.specs.declared.heard.Heard.TheVariants.{Chance}
 use Rattle.noise_script.specs.Script.{ScriptValue, IsInLimits}
 use Rattle.link_account.specs.Account.{check_of}
 use Rattle.link_run.specs.Run.{Ends, Turn}
@@ -12,7 +12,7 @@ use Rattle.turn_bound.specs.Limits.{file_limit}
 use Rattle.line_run.specs.Sampled.{Channel, IsHeardOf, LineRun, LineEnd, LosesLine, IsHeardWell, EndsLine}
 use Rattle.line_run.specs.Scripted.{channel_of, link_of}
 use Rattle.line_run.specs.Ends.{RunEnd, IsDone, Left}
-use Rattle.line_causes.specs.Causes.{MadeOver}
+use Rattle.line_ends.specs.Causes.{MadeOver}
 use Rattle.line_ends.specs.Completes.{ScriptRunsTo, AreOfOctets, IsQuiet}
 
 -- What becomes of the slot of a sender that arrives in the turn after these.

@@ -1,5 +1,5 @@
-pub use Rattle.line_causes.specs.Causes
-pub use Rattle.line_causes.specs.Scripts
 pub mod Completes
 pub mod Carried
 pub mod EachEnds
+pub use Rattle.line_run.specs.Scripts
+pub mod Causes

@@ -1,24 +1,63 @@
 //! Which runs of a script are done. The functions do nothing but name the laws that they rest on: each law is a contract.
+ghost use Rattle.line_ends.specs.Causes.{LostLinksWereStarved, LosesWithoutBreak, LosesUnbroken, FewLossesKeepLinks, HeardTurnsAreMade};
 ghost use Rattle.line_ends.specs.Completes.{CompletesUnstarved, CompletesWithFewLosses, DisplacesNoneIsFaint, FaintGoOn, LosesWhatIsNamed};
 ghost use Rattle.line_ends.specs.EachEnds.{EachSlotBecomes, EachTurnIsDecided, EachRunEnds, QuietRunsDeliver, UndisturbedRunsDeliver};
 ghost use Rattle.line_ends.specs.Completes.{OctetsAreSendable, CompletesWithFewNamed, CompletesQuiet, CompletesUndisturbed};
 
 use break_signals::laws::is_spelled_back;
 use detection::laws::sights_stay;
-use line_causes::laws::{few_losses_keep_links, heard_turns_are_made};
-pub use line_causes::laws::{line_runs_end_soon, lost_links_were_starved};
 use line_laws::laws::{
     each_list_of_fours_is_recorded, faint_lines_are_never_lost, heard_is_sent,
     scripts_displace_by_their_lines_alone, what_is_received_of_faint_lines_is_sent,
 };
+pub use line_run::laws::line_runs_end_soon;
 use line_run::laws::{
-    runs_leave_prefixes, samples_are_carried, scripts_make_links, slots_have_room,
+    runs_leave_prefixes, samples_are_carried, scripts_keep_time, scripts_make_links,
+    slots_have_room,
 };
 use link_run::laws::{
     each_turn_is_made, frames_are_short, numbers_have_the_agreed_check,
     segments_are_offered_as_they_are_read,
 };
 use sample_line::laws::{given_bits_stay, one_outcome, recordings_grow};
+use turn_losses::laws::{
+    ends_give_up_for_losses, ends_give_up_starved, few_losses_starve_no_run,
+    patterns_are_missed_for_losses,
+};
+
+/// A run over the line of samples that ends by a link that is lost or not detected was starved. Where no break waits at the end that
+/// gives up, something was lost in each of its latest periods, as many as the script has tries, and one more where it isn't detected. In
+/// a script without break lines none waits.
+pub fn lost_links_were_starved()
+    ensures starved { LostLinksWereStarved }
+    ensures waiting_for_none { LosesWithoutBreak }
+    ensures asked_for_none { LosesUnbroken }
+{
+    scripts_make_links();
+    scripts_keep_time();
+    samples_are_carried();
+    ends_give_up_starved();
+    ends_give_up_for_losses();
+    patterns_are_missed_for_losses();
+}
+
+/// Where fewer slots were lost than one for each two tries, no end gave the link up: the run ends by Done, or the line ends it.
+pub fn few_losses_keep_links()
+    ensures { FewLossesKeepLinks }
+{
+    scripts_keep_time();
+    lost_links_were_starved();
+    few_losses_starve_no_run();
+}
+
+/// What is heard of the slots that arrive makes a next turn, where none is a chance match: it goes on, is done, or an end gives up.
+pub fn heard_turns_are_made()
+    ensures { HeardTurnsAreMade }
+{
+    scripts_make_links();
+    samples_are_carried();
+    each_turn_is_made();
+}
 
 /// A run that isn't starved is done, unless the line ends it; and so is one in which fewer slots are lost than one for each two tries.
 pub fn unstarved_runs_complete()

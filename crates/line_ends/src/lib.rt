@@ -1,4 +1,5 @@
-//! Which runs over the line of samples are done, and that each run ends, as laws. Nothing runs here.
+//! Which runs over the line of samples are done, that each run ends, and why one ends by a lost link (it was starved), as laws.
+//! Nothing runs here.
 #![tactic(auto)]
 
 pub mod laws;

@@ -14,9 +14,9 @@ use Rattle.trellis_tables.specs.Table.{next_state}
 use Rattle.trellis_tables.proofs.Tables.{branch_of}
 use Rattle.survivors.proofs.Fronts.{lost-once}
 use Rattle.survivors.specs.V32.{line_depth, line_trellis}
-use Rattle.noiseless_line.proofs.Costs.{length-points}
-use Rattle.noisy_line.specs.Near.{only, sure, IsNear}
-use Rattle.noisy_line.proofs.Near.{few-unreleased, never-lost, releases-near}
+use Rattle.decoder_laws.proofs.NoiselessCosts.{length-points}
+use Rattle.decoder_laws.specs.Near.{only, sure, IsNear}
+use Rattle.decoder_laws.proofs.Near.{few-unreleased, never-lost, releases-near}
 use Rattle.line_coding.proofs.Readings.{four-each}
 use Rattle.roles.specs.declared.role.Role.{Role}
 use Rattle.roles.specs.Role.{mode_of}

@@ -17,10 +17,10 @@ use Rattle.lapm_frames.specs.declared.frame.Frame.{Frame}
 use Rattle.lapm_frames.specs.Frame.{IsFrame, information_of, spelled}
 use Rattle.lapm_frames.specs.Checked.{check_for, checked}
 use Rattle.lapm_frames.proofs.Octets.{length-information, length-spelled, spelled-small}
-use Rattle.slot_contents.specs.declared.sent.Sent.{Sent}
-use Rattle.slot_contents.specs.declared.sent.Sent.TheVariants as sent
+use Rattle.lapm_frames.specs.declared.sent.Sent.{Sent}
+use Rattle.lapm_frames.specs.declared.sent.Sent.TheVariants as sent
 use Rattle.sample_line.specs.Signals.{signal_of, IsCodable}
-use Rattle.slot_contents.specs.Sendable.{IsSendable}
+use Rattle.lapm_frames.specs.Sendable.{IsSendable}
 use Rattle.line_laws.specs.Fitting.{Fits, AreFit, OfOctets}
 use Rattle.line_laws.proofs.Patterns.{ArePlain}
 

@@ -4,9 +4,9 @@ use Rattle.frame_check.specs.declared.check.Check.{Check}
 use Rattle.roles.specs.declared.role.Role.{Role}
 use Rattle.lapm_frames.specs.Checked.{checked, SpellsFrame}
 use Rattle.lapm_frames.proofs.Checking.{spells, spells-one}
-use Rattle.slot_contents.specs.declared.sent.Sent.{Sent}
-use Rattle.slot_contents.specs.declared.sent.Sent.TheVariants as sent
-use Rattle.slot_contents.specs.Sendable.{IsSendable}
+use Rattle.lapm_frames.specs.declared.sent.Sent.{Sent}
+use Rattle.lapm_frames.specs.declared.sent.Sent.TheVariants as sent
+use Rattle.lapm_frames.specs.Sendable.{IsSendable}
 use Rattle.detection.specs.Slots.{Signal}
 use Rattle.detection.specs.Slots.Signal.{PatternSlot, MarkSlot, FlagSlot}
 use Rattle.detection.proofs.OneSignal.{one-signal}

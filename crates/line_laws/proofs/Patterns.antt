@@ -1,7 +1,7 @@
 -- The laws of pattern slots that the lemmas here are handed.
 use Rattle.std.proofs.Common.{◌≡◌, ℕ, ◌<◌, Bool, List, [], ◌∷◌, ◌++◌, length, refl}
 use Rattle.bit_stuffing.specs.Slots.{AreSlots, IsPlain}
-use Rattle.slot_contents.specs.declared.seen.Seen.{Seen}
+use Rattle.lapm_frames.specs.declared.seen.Seen.{Seen}
 use Rattle.detection.specs.Patterns.{ones}
 use Rattle.detection.specs.Slots.{Signal, pattern_bits, signal_bits, slots_of}
 use Rattle.detection.specs.Sights.{Sight, SightsAdded, seen_in, sights_of}

@@ -20,8 +20,8 @@ use Rattle.bit_stuffing.specs.Sent.{FoundIn, wholes}
 use Rattle.bit_stuffing.specs.Slots.{phase_after, sent_bits, slot_bits}
 use Rattle.bit_stuffing.proofs.Fill.{bits-append}
 use Rattle.bit_stuffing.proofs.Sent.{pieces-stay}
-use Rattle.slot_contents.specs.declared.seen.Seen.{Seen}
-use Rattle.slot_contents.specs.declared.seen.Seen.TheVariants as seen
+use Rattle.lapm_frames.specs.declared.seen.Seen.{Seen}
+use Rattle.lapm_frames.specs.declared.seen.Seen.TheVariants as seen
 use Rattle.detection.specs.Sights.{Sight, seen_in, sights_of}
 use Rattle.detection.specs.Slots.{Signal, signal_bits, slot_of, slots_of}
 use Rattle.roles.specs.declared.role.Role.{Role}
@@ -30,17 +30,17 @@ use Rattle.frame_check.specs.Division.{with_check}
 use Rattle.lapm_frames.specs.Frame.{spelled}
 use Rattle.lapm_frames.specs.Checked.{check_for, checked, SpellsFrame}
 use Rattle.lapm_frames.proofs.Checking.{spells}
-use Rattle.slot_contents.specs.declared.sent.Sent.{Sent}
-use Rattle.slot_contents.specs.declared.sent.Sent.TheVariants as sent
+use Rattle.lapm_frames.specs.declared.sent.Sent.{Sent}
+use Rattle.lapm_frames.specs.declared.sent.Sent.TheVariants as sent
 use Rattle.noise_script.specs.Script.{ScriptValue}
-use Rattle.slot_contents.specs.declared.heard.Heard.{Heard}
-use Rattle.slot_contents.specs.declared.heard.Heard.TheVariants.{Chance}
+use Rattle.lapm_frames.specs.declared.heard.Heard.{Heard}
+use Rattle.lapm_frames.specs.declared.heard.Heard.TheVariants.{Chance}
 use Rattle.sample_line.specs.Outcomes.{IsPattern, IsOutcome}
 use Rattle.sample_line.specs.Recorded.{Records}
 use Rattle.roles.specs.Role.{mode_of}
 use Rattle.sample_line.specs.Received.{AreFrames, FoundBetween, Gives, Receives}
 use Rattle.sample_line.specs.Signals.{signal_of}
-use Rattle.slot_contents.specs.Sendable.{IsSendable}
+use Rattle.lapm_frames.specs.Sendable.{IsSendable}
 use Rattle.sample_line.specs.Line.{bits_behind, Kept, Passes, PassesSlot, sender_of, size_of}
 use Rattle.sample_line.proofs.Finding.{wholes-append}
 use Rattle.sample_line.proofs.Once.{given-stays, outcome-once, received-once, recordings-grow}

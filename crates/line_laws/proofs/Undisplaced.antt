@@ -9,9 +9,9 @@ use Rattle.std.specs.Prelude.{slice_index_or}
 use Rattle.scramblers.specs.Mode.{tap_of}
 use Rattle.survivors.proofs.Fronts.{lost-once}
 use Rattle.survivors.specs.V32.{line_depth, line_trellis}
-use Rattle.noiseless_line.specs.Noiseless.{IsNoiseless}
-use Rattle.noiseless_line.proofs.Costs.{length-points}
-use Rattle.noiseless_line.proofs.Followed.{few-unreleased_at, never-lost, released-sent_at}
+use Rattle.decoder_laws.specs.Noiseless.{IsNoiseless}
+use Rattle.decoder_laws.proofs.NoiselessCosts.{length-points}
+use Rattle.decoder_laws.proofs.Followed.{few-unreleased_at, never-lost, released-sent_at}
 use Rattle.line_coding.specs.Demodulates.{Demodulates}
 use Rattle.line_coding.proofs.Readings.{comes-back, four-each}
 use Rattle.roles.specs.declared.role.Role.{Role}

@@ -8,9 +8,9 @@ use Rattle.roles.specs.Both.{of}
 use Rattle.lapm_frames.specs.declared.frame.Frame.{Frame}
 use Rattle.lapm_frames.specs.Checked.{checked}
 use Rattle.lapm_frames.specs.Frame.{information_of}
-use Rattle.slot_contents.specs.declared.sent.Sent.{Sent}
-use Rattle.slot_contents.specs.declared.sent.Sent.TheVariants as sent
-use Rattle.slot_contents.specs.Sendable.{IsSendable}
+use Rattle.lapm_frames.specs.declared.sent.Sent.{Sent}
+use Rattle.lapm_frames.specs.declared.sent.Sent.TheVariants as sent
+use Rattle.lapm_frames.specs.Sendable.{IsSendable}
 use Rattle.noise_script.specs.Script.{delay_of}
 use Rattle.sample_line.specs.Signals.{IsCodable}
 use Rattle.line_laws.specs.Laws.{FewOctetsBesidesInformation, ShortIsCodable}

@@ -3,3 +3,5 @@ mod Leaving
 mod Resulting
 mod Scripting
 mod Fitting
+mod Pausing
+mod Timing

@@ -11,11 +11,11 @@ use Rattle.roles.specs.declared.role.Role.TheVariants.{Originator, Answerer}
 use Rattle.roles.specs.Role.{other}
 use Rattle.roles.specs.Both.{of}
 use Rattle.lapm_frames.specs.declared.frame.Frame.{Frame}
-use Rattle.slot_contents.specs.declared.seen.Seen.{Seen}
-use Rattle.slot_contents.specs.declared.sent.Sent.{Sent}
-use Rattle.slot_contents.specs.declared.sent.Sent.TheVariants as sent
-use Rattle.slot_contents.specs.declared.heard.Heard.{Heard}
-use Rattle.slot_contents.specs.declared.heard.Heard.TheVariants.{Nothing, Passed, Lost, Chance}
+use Rattle.lapm_frames.specs.declared.seen.Seen.{Seen}
+use Rattle.lapm_frames.specs.declared.sent.Sent.{Sent}
+use Rattle.lapm_frames.specs.declared.sent.Sent.TheVariants as sent
+use Rattle.lapm_frames.specs.declared.heard.Heard.{Heard}
+use Rattle.lapm_frames.specs.declared.heard.Heard.TheVariants.{Nothing, Passed, Lost, Chance}
 use Rattle.noise_script.specs.Script.{delay_of}
 use Rattle.sample_line.specs.Outcomes.{is_message, IsWhatWasSent, IsOutcome}
 use Rattle.sample_line.specs.Received.{Receives}

@@ -7,7 +7,7 @@ use Rattle.roles.specs.Role.{other}
 use Rattle.roles.specs.Both.{Both, of}
 use Rattle.plain_lists.specs.Prefix.{IsPrefixOf}
 use Rattle.noise_script.specs.Script.{ScriptValue, delay_of}
-use Rattle.link_faults.specs.declared.fault.LinkFault.TheVariants as faults
+use Rattle.causes.specs.declared.fault.LinkFault.TheVariants as faults
 use Rattle.link_account.specs.Laws.{MayPlay}
 use Rattle.link_run.specs.Run.{Link, Ends, Turn}
 use Rattle.link_run.specs.Carried.{HasDelays}

@@ -11,9 +11,9 @@ use Rattle.roles.specs.Role.{other}
 use Rattle.roles.specs.Both.{of}
 use Rattle.detection.specs.Slots.{Signal, signal_bits}
 use Rattle.lapm_frames.specs.declared.frame.Frame.{Frame}
-use Rattle.slot_contents.specs.declared.seen.Seen.{Seen}
-use Rattle.slot_contents.specs.declared.heard.Heard.{Heard}
-use Rattle.slot_contents.specs.declared.heard.Heard.TheVariants.{Nothing, Chance}
+use Rattle.lapm_frames.specs.declared.seen.Seen.{Seen}
+use Rattle.lapm_frames.specs.declared.heard.Heard.{Heard}
+use Rattle.lapm_frames.specs.declared.heard.Heard.TheVariants.{Nothing, Chance}
 use Rattle.noise_script.specs.Script.{ScriptValue, delay_of, loses}
 use Rattle.sample_line.specs.Signals.{signal_of}
 use Rattle.sample_line.specs.Recorded.{Records}

@@ -16,7 +16,7 @@ use Rattle.link_account.specs.declared.setup.Setup.{Setup}
 use Rattle.link_account.specs.Laws.{MayPlay}
 use Rattle.link_run.specs.Carried.{HasDelays}
 use Rattle.link_run.specs.End.{BreakLine, BusyLine, is_busy}
-use Rattle.slot_contents.specs.Sendable.{IsSendable}
+use Rattle.lapm_frames.specs.Sendable.{IsSendable}
 use Rattle.sample_line.specs.Signals.{IsCodable}
 use Rattle.link_run.specs.Run.{Party, Link, Ends, Spoken, Turn, GoingTurn}
 use Rattle.line_run.specs.Sampled.{Channel, HeardIn, LineRun}

@@ -2,12 +2,14 @@
 ghost use Rattle.line_run.specs.Ends.{RunsLeavePrefixes, DoneLeavesWhole, RunsLeaveWhatPassed, OneResult};
 ghost use Rattle.line_run.specs.LineLaws.{SamplesAreCarried, OneIsCarried, HeardOnce, OneLineRun, OneLineEnd, EndsOrGoesOn};
 ghost use Rattle.line_run.specs.Scripted.{ScriptsMayPlay, ScriptsHaveDelays, BreaksAreTheScripts, PausesAreTheScripts};
+ghost use Rattle.line_run.specs.Scripts.{ScriptsKeepTime, LineRunsEndSoon, LineRunsAdvance, NoLineRunIsLong};
 ghost use Rattle.line_run.specs.Scripted.{SlotSizesAreKnown, SlotsHaveRoom, SlotsAreCodable};
 
 use line_laws::laws::codable_slots_fit;
 use link_run::laws::{done_is_whole, frames_are_short, one_run, prefixes, what_passed_is_taken};
 use sample_line::laws::{one_outcome, recordings_grow};
 use survivors::laws::lines_are_lost_once;
+use turn_bound::laws::{fronts_advance_soon, runs_end_soon};
 
 /// What a script says makes two ends that may play, over a line with delays, and their users ask for what it names.
 pub fn scripts_make_links()
@@ -64,4 +66,22 @@ pub fn one_result()
 {
     one_run();
     one_line_run();
+}
+
+/// The ends of a script's link keep one time: its tries, and the period of its delays.
+pub fn scripts_keep_time()
+    ensures { ScriptsKeepTime }
+{}
+
+/// A script's run over the line of samples ends within its tries, its delays, its breaks and pauses, and what its files bring. A front
+/// that isn't at its file's end moves within the turns of one segment where the script has no pauses. Within the limits of scripts
+/// and files no run has as many turns as an end can count.
+pub fn line_runs_end_soon()
+    ensures soon { LineRunsEndSoon }
+    ensures fronts { LineRunsAdvance }
+    ensures within_limits { NoLineRunIsLong }
+{
+    samples_are_carried();
+    runs_end_soon();
+    fronts_advance_soon();
 }

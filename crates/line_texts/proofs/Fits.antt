@@ -17,10 +17,10 @@ use Rattle.break_signals.specs.declared.word.BreakWord.TheVariants.{Brk, Ack}
 use Rattle.break_signals.specs.declared.fault.BreakFault.{BreakFault}
 use Rattle.break_signals.specs.Words.{word_in, spelled}
 use Rattle.break_signals.proofs.Spelling.{is_spelled_back_always}
-use Rattle.slot_contents.specs.declared.sent.Sent.{Sent}
-use Rattle.slot_contents.specs.declared.sent.Sent.TheVariants as slots
-use Rattle.slot_contents.specs.declared.heard.Heard.{Heard}
-use Rattle.slot_contents.specs.declared.heard.Heard.TheVariants.{Nothing, Passed, Lost, Chance}
+use Rattle.lapm_frames.specs.declared.sent.Sent.{Sent}
+use Rattle.lapm_frames.specs.declared.sent.Sent.TheVariants as slots
+use Rattle.lapm_frames.specs.declared.heard.Heard.{Heard}
+use Rattle.lapm_frames.specs.declared.heard.Heard.TheVariants.{Nothing, Passed, Lost, Chance}
 use Rattle.line_texts.specs.FrameText.{IsInformation, IsPrintable, number_word, if_numbered, if_informed, if_word, break_in, break_words}
 use Rattle.line_texts.specs.FrameText.{information_words, direction_word, poll_word, frame_text, text_of}
 use Rattle.line_texts.specs.LineText.{IsPrintableSlot, IsPrintableHeard, IsPrintableLine, slot_word, heard_word, sent_word, break_word}

@@ -7,7 +7,7 @@ ghost use Rattle.line_texts.specs.declared.words.TheConstants.{TEXT};
 use crate::LineText;
 use crate::text::put_frame;
 use crate::words::put_number;
-use slot_contents::{Heard, Sent};
+use lapm_frames::{Heard, Sent};
 
 /// Puts what a slot holds.
 fn put_slot(slot: &Sent, out: &mut LineText)

@@ -12,8 +12,8 @@ use Rattle.lapm_sender.specs.Outgoing.{Outgoing, selected, advanced, gone_back, 
 use Rattle.lapm_receiver.specs.Held.{Held, is_held, with_held, missing_from, first_outside, is_among}
 use Rattle.lapm_receiver.specs.Incoming.{Incoming, after_take, after_kind, kind_of, next_expected, asks}
 use Rattle.lapm_receiver.specs.declared.took.Took.TheVariants.{InOrder, Kept, Repeat, Gap}
-use Rattle.slot_contents.specs.declared.sent.Sent.{Sent}
-use Rattle.slot_contents.specs.declared.sent.Sent.TheVariants as slots
+use Rattle.lapm_frames.specs.declared.sent.Sent.{Sent}
+use Rattle.lapm_frames.specs.declared.sent.Sent.TheVariants as slots
 use Rattle.link_account.specs.Play.{Slot}
 use Rattle.link_account.proofs.Flow.{Segment, Reply, Flow, Sound, IsChoice, IsAskable, IsRising, IsHeldRight, keeps-sent, keeps-told, keeps-dropped, keeps-forgotten, keeps-acked, keeps-chosen, keeps-taken, keeps-kept, meant-found, with_number-all, from_number-choices, all_weaker, rising-lower}
 

@@ -10,8 +10,8 @@ use Rattle.lapm_sender.specs.Outgoing.{Outgoing}
 use Rattle.lapm_sender.specs.Outgoing as outgoing
 use Rattle.lapm_receiver.specs.Incoming.{Incoming, next_expected}
 use Rattle.lapm_receiver.specs.Incoming as incoming
-use Rattle.slot_contents.specs.declared.sent.Sent.{Sent}
-use Rattle.slot_contents.specs.declared.sent.Sent.TheVariants as slots
+use Rattle.lapm_frames.specs.declared.sent.Sent.{Sent}
+use Rattle.lapm_frames.specs.declared.sent.Sent.TheVariants as slots
 use Rattle.link_account.specs.declared.setup.Setup.{Setup}
 use Rattle.link_account.specs.declared.phase.Phase.{Phase}
 use Rattle.link_account.specs.declared.phase.Phase.TheVariants.{Detecting, Negotiating, Establishing, Connected, Releasing, Closed}

@@ -13,9 +13,9 @@ use Rattle.break_signals.specs.declared.word.BreakWord.TheVariants.{Brk, Ack}
 use Rattle.break_signals.specs.declared.fault.BreakFault.{BreakFault}
 use Rattle.break_signals.specs.Words.{word_in, spelled}
 use Rattle.break_signals.specs.Breaks.{own_due}
-use Rattle.slot_contents.specs.declared.sent.Sent.{Sent}
-use Rattle.slot_contents.specs.declared.sent.Sent.TheVariants as slots
-use Rattle.link_faults.specs.declared.fault.LinkFault.{LinkFault}
+use Rattle.lapm_frames.specs.declared.sent.Sent.{Sent}
+use Rattle.lapm_frames.specs.declared.sent.Sent.TheVariants as slots
+use Rattle.causes.specs.declared.fault.LinkFault.{LinkFault}
 use Rattle.link_account.specs.Account.{Account}
 use Rattle.roles.specs.Role.{is_originator}
 use Rattle.link_account.specs.Hear.{on_connected, on_i, on_ready, on_rej, on_srej, on_number, on_word, then_in, replying, hurrying, taking, ends_wait, timer_after, on_rnr, pausing}

@@ -13,9 +13,9 @@ use Rattle.lapm_sender.specs.Outgoing as outgoing
 use Rattle.lapm_receiver.specs.Incoming as incoming
 use Rattle.break_signals.specs.Breaks.{after_ask}
 use Rattle.lapm_receiver.specs.Incoming.{Incoming, after_delivered, next_expected}
-use Rattle.slot_contents.specs.declared.sent.Sent.TheVariants as slots
-use Rattle.link_faults.specs.declared.fault.LinkFault.{LinkFault}
-use Rattle.link_faults.specs.declared.fault.LinkFault.TheVariants.{NotDetected, Spent, BadAck, PeerReset, PeerRefused}
+use Rattle.lapm_frames.specs.declared.sent.Sent.TheVariants as slots
+use Rattle.causes.specs.declared.fault.LinkFault.{LinkFault}
+use Rattle.causes.specs.declared.fault.LinkFault.TheVariants.{NotDetected, Spent, BadAck, PeerReset, PeerRefused}
 use Rattle.link_account.specs.declared.setup.Setup.{Setup}
 use Rattle.link_account.specs.declared.phase.Phase.{Phase}
 use Rattle.link_account.specs.declared.phase.Phase.TheVariants.{Detecting, Negotiating, Establishing, Connected, Releasing, Closed}

@@ -8,9 +8,9 @@ use Rattle.xid_params.specs.Offers.{written}
 use Rattle.lapm_receiver.specs.Incoming.{asks}
 use Rattle.break_signals.specs.declared.word.BreakWord.{BreakWord}
 use Rattle.break_signals.specs.Breaks.{own_due}
-use Rattle.slot_contents.specs.declared.sent.Sent.TheVariants as slots
-use Rattle.link_faults.specs.declared.fault.LinkFault.{LinkFault}
-use Rattle.link_faults.specs.declared.fault.LinkFault.TheVariants.{NotDetected}
+use Rattle.lapm_frames.specs.declared.sent.Sent.TheVariants as slots
+use Rattle.causes.specs.declared.fault.LinkFault.{LinkFault}
+use Rattle.causes.specs.declared.fault.LinkFault.TheVariants.{NotDetected}
 use Rattle.link_account.specs.declared.phase.Phase.{Phase}
 use Rattle.link_account.specs.declared.phase.Phase.TheVariants as phases
 use Rattle.link_account.specs.declared.answer.Answer.{Answer}

@@ -11,12 +11,12 @@ use Rattle.xid_params.specs.Terms.{agree}
 use Rattle.break_signals.specs.declared.word.BreakWord.TheVariants.{Brk}
 use Rattle.break_signals.specs.Words.{word_in}
 use Rattle.break_signals.specs.Breaks.{OwnBreaks, TheirBreaks}
-use Rattle.slot_contents.specs.declared.sent.Sent.TheVariants as slots
+use Rattle.lapm_frames.specs.declared.sent.Sent.TheVariants as slots
 use Rattle.link_account.specs.declared.setup.Setup.{Setup}
 use Rattle.link_account.specs.declared.phase.Phase.{Phase}
 use Rattle.link_account.specs.declared.phase.Phase.TheVariants.{Detecting, Negotiating, Establishing, Connected, Releasing, Closed}
-use Rattle.link_faults.specs.declared.fault.LinkFault.{LinkFault}
-use Rattle.link_faults.specs.declared.fault.LinkFault.TheVariants.{NotDetected, Spent, BadAck, PeerReset, PeerRefused}
+use Rattle.causes.specs.declared.fault.LinkFault.{LinkFault}
+use Rattle.causes.specs.declared.fault.LinkFault.TheVariants.{NotDetected, Spent, BadAck, PeerReset, PeerRefused}
 use Rattle.link_account.specs.Account.{Account, fresh}
 use Rattle.link_account.specs.Play.{arrives, Slot, Side, Play, Event, play, start}
 use Rattle.link_account.specs.Speak.{Said, speak}

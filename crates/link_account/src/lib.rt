@@ -12,7 +12,7 @@ mod phase;
 mod setup;
 
 pub use answer::Answer;
-pub use link_faults::LinkFault;
+pub use causes::LinkFault;
 pub use owes::Owes;
 pub use phase::Phase;
 pub use setup::Setup;

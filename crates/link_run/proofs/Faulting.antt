@@ -7,13 +7,13 @@ use Rattle.roles.specs.declared.role.Role.{Role}
 use Rattle.roles.specs.declared.role.Role.TheVariants.{Originator, Answerer}
 use Rattle.xid_params.specs.Offers.{ReadsAllowed}
 use Rattle.lapm_receiver.specs.Incoming.{KeepsTaken}
-use Rattle.link_faults.specs.declared.fault.LinkFault.{LinkFault}
+use Rattle.causes.specs.declared.fault.LinkFault.{LinkFault}
 use Rattle.link_account.specs.Account.{Account}
 use Rattle.link_account.specs.Hear.{hear}
 use Rattle.link_account.specs.Play.{Slot, Play, Passes, arrives, heard, happens}
 use Rattle.link_account.specs.Laws.{MayPlay, WantsAnswers, BreaksForWantAlone}
-use Rattle.slot_contents.specs.declared.heard.Heard.{Heard}
-use Rattle.slot_contents.specs.declared.heard.Heard.TheVariants.{Nothing, Passed, Lost, Chance}
+use Rattle.lapm_frames.specs.declared.heard.Heard.{Heard}
+use Rattle.lapm_frames.specs.declared.heard.Heard.TheVariants.{Nothing, Passed, Lost, Chance}
 use Rattle.link_run.specs.Run.{Link, Turn, arrival, served_at, releases}
 use Rattle.link_run.specs.Run as run
 use Rattle.link_run.specs.Carried.{sent_in, Crosses, on_line}

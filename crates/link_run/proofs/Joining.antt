@@ -11,8 +11,8 @@ use Rattle.link_account.specs.declared.setup.Setup.{Setup}
 use Rattle.link_account.specs.Account.{Account, is_connected, after_busy, after_given}
 use Rattle.link_account.specs.Speak.{Said}
 use Rattle.link_account.specs.Laws.{MayPlay}
-use Rattle.slot_contents.specs.declared.heard.Heard.{Heard}
-use Rattle.slot_contents.specs.declared.heard.Heard.TheVariants.{Nothing, Passed, Lost, Chance}
+use Rattle.lapm_frames.specs.declared.heard.Heard.{Heard}
+use Rattle.lapm_frames.specs.declared.heard.Heard.TheVariants.{Nothing, Passed, Lost, Chance}
 use Rattle.link_run.specs.End.{User, delivered, room_for, offered, is_busy, served, is_released}
 use Rattle.link_run.specs.Run.{Link, Ends, Turn, Spoken, spoken, arrival, Hears, RunOf, served_at}
 use Rattle.link_run.specs.Carried.{sent_in, sent_ago, Crosses, Carries, IsCarried}

@@ -13,13 +13,13 @@ use Rattle.break_signals.specs.Breaks.{OwnBreaks, ticked}
 use Rattle.link_account.specs.declared.setup.Setup.{Setup}
 use Rattle.link_account.specs.declared.phase.Phase.{Phase}
 use Rattle.link_account.specs.declared.phase.Phase.TheVariants.{Detecting, Negotiating, Establishing, Connected, Releasing, Closed}
-use Rattle.link_faults.specs.declared.fault.LinkFault.{LinkFault}
-use Rattle.link_faults.specs.declared.fault.LinkFault.TheVariants.{NotDetected, Spent, BadAck, PeerReset, PeerRefused}
+use Rattle.causes.specs.declared.fault.LinkFault.{LinkFault}
+use Rattle.causes.specs.declared.fault.LinkFault.TheVariants.{NotDetected, Spent, BadAck, PeerReset, PeerRefused}
 use Rattle.link_account.specs.Account.{Account, given_break, check_of}
 use Rattle.link_account.specs.Hear.{hear, trying}
 use Rattle.link_account.specs.Speak.{Said, says, tries_frame, trying_again, spent, speak, speak_in, speak_detecting, speak_negotiating, speak_releasing, speak_linked, u_try, on_timer, timer_expires, polling, breaking, then_tries, after_timers}
-use Rattle.slot_contents.specs.declared.sent.Sent.TheVariants as slots
-use Rattle.slot_contents.specs.declared.heard.Heard.{Heard}
+use Rattle.lapm_frames.specs.declared.sent.Sent.TheVariants as slots
+use Rattle.lapm_frames.specs.declared.heard.Heard.{Heard}
 use Rattle.link_run.specs.End.{is_closed, is_released}
 use Rattle.link_run.specs.Run.{Link, Ends, Turn, Spoken, spoken, arrival, served_at, said_at, Hears, Speaks}
 use Rattle.link_run.specs.Outcomes.{Going, Done, Broken}

@@ -21,14 +21,14 @@ use Rattle.lapm_receiver.specs.declared.took.Took.TheVariants.{InOrder, Kept}
 use Rattle.break_signals.specs.declared.word.BreakWord.TheVariants.{Brk}
 use Rattle.break_signals.specs.Words.{word_in}
 use Rattle.break_signals.specs.Breaks.{gives}
-use Rattle.slot_contents.specs.declared.sent.Sent.{Sent}
-use Rattle.slot_contents.specs.declared.sent.Sent.TheVariants as slots
-use Rattle.slot_contents.specs.declared.arrived.Arrived.TheVariants as arrivals
-use Rattle.slot_contents.specs.declared.heard.Heard.TheVariants.{Passed}
+use Rattle.lapm_frames.specs.declared.sent.Sent.{Sent}
+use Rattle.lapm_frames.specs.declared.sent.Sent.TheVariants as slots
+use Rattle.lapm_frames.specs.declared.arrived.Arrived.TheVariants as arrivals
+use Rattle.lapm_frames.specs.declared.heard.Heard.TheVariants.{Passed}
 use Rattle.link_account.specs.declared.setup.Setup.{Setup}
 use Rattle.link_account.specs.declared.phase.Phase.{Phase}
 use Rattle.link_account.specs.declared.phase.Phase.TheVariants.{Detecting, Negotiating, Establishing, Connected, Releasing, Closed}
-use Rattle.link_faults.specs.declared.fault.LinkFault.{LinkFault}
+use Rattle.causes.specs.declared.fault.LinkFault.{LinkFault}
 use Rattle.link_account.specs.Account.{Account, check_of, first_terms}
 use Rattle.link_account.specs.Hear.{hear, on_frame, on_detecting, on_negotiating}
 use Rattle.link_account.specs.Play.{Slot, Play}

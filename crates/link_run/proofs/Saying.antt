@@ -11,11 +11,11 @@ use Rattle.lapm_receiver.specs.Incoming.{Incoming, asks, after_asked}
 use Rattle.lapm_receiver.specs.Held.{Held}
 use Rattle.break_signals.specs.declared.word.BreakWord.{BreakWord}
 use Rattle.break_signals.specs.Breaks.{OwnBreaks, own_due}
-use Rattle.slot_contents.specs.declared.sent.Sent.TheVariants as slots
+use Rattle.lapm_frames.specs.declared.sent.Sent.TheVariants as slots
 use Rattle.link_account.specs.declared.phase.Phase.{Phase}
 use Rattle.link_account.specs.declared.phase.Phase.TheVariants.{Detecting, Negotiating, Establishing, Connected, Releasing, Closed}
-use Rattle.link_faults.specs.declared.fault.LinkFault.{LinkFault}
-use Rattle.link_faults.specs.declared.fault.LinkFault.TheVariants.{NotDetected}
+use Rattle.causes.specs.declared.fault.LinkFault.{LinkFault}
+use Rattle.causes.specs.declared.fault.LinkFault.TheVariants.{NotDetected}
 use Rattle.link_account.specs.declared.answer.Answer.{Answer}
 use Rattle.link_account.specs.declared.answer.Answer.TheVariants as answers
 use Rattle.link_account.specs.Account.{Account}

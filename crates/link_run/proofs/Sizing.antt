@@ -8,7 +8,7 @@ use Rattle.xid_params.specs.declared.terms.Terms.{Terms}
 use Rattle.xid_params.specs.Offers.{ReadsAllowed, ReadsWritten}
 use Rattle.lapm_sender.specs.Outgoing.{Outgoing, with_piece}
 use Rattle.lapm_receiver.specs.Incoming.{KeepsTaken}
-use Rattle.slot_contents.specs.declared.sent.Sent.{Sent}
+use Rattle.lapm_frames.specs.declared.sent.Sent.{Sent}
 use Rattle.link_account.specs.declared.setup.Setup.{Setup}
 use Rattle.link_account.specs.declared.phase.Phase.TheVariants.{Connected}
 use Rattle.link_account.specs.Account.{Account, is_connected, wants, piece_size, after_given, after_busy, size_for, first_terms}

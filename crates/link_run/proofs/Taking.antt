@@ -11,18 +11,18 @@ use Rattle.lapm_frames.specs.declared.frame.Frame.TheVariants.{I}
 use Rattle.xid_params.specs.Offers.{ReadsAllowed}
 use Rattle.lapm_sender.specs.Outgoing.{Outgoing, wanted, with_piece}
 use Rattle.lapm_receiver.specs.Incoming.{Incoming, KeepsTaken, after_take}
-use Rattle.slot_contents.specs.declared.arrived.Arrived.{Arrived}
-use Rattle.slot_contents.specs.declared.arrived.Arrived.TheVariants as arrivals
-use Rattle.slot_contents.specs.declared.sent.Sent.{Sent}
-use Rattle.slot_contents.specs.declared.sent.Sent.TheVariants as slots
+use Rattle.lapm_frames.specs.declared.arrived.Arrived.{Arrived}
+use Rattle.lapm_frames.specs.declared.arrived.Arrived.TheVariants as arrivals
+use Rattle.lapm_frames.specs.declared.sent.Sent.{Sent}
+use Rattle.lapm_frames.specs.declared.sent.Sent.TheVariants as slots
 use Rattle.link_account.specs.declared.phase.Phase.{Phase}
 use Rattle.link_account.specs.declared.phase.Phase.TheVariants.{Detecting, Negotiating, Establishing, Connected, Releasing, Closed}
 use Rattle.link_account.specs.Account.{Account, is_connected, wants, piece_size, after_given}
 use Rattle.link_account.specs.Hear.{hear}
 use Rattle.link_account.specs.Play.{Slot, Side, Play, arrives}
 use Rattle.link_account.specs.Laws.{MayPlay, NextIsTaken, TakesByNumber, NextWasOffered, SendsWhatWasOffered, AgreesOnSrej}
-use Rattle.slot_contents.specs.declared.heard.Heard.{Heard}
-use Rattle.slot_contents.specs.declared.heard.Heard.TheVariants.{Nothing, Passed, Lost, Chance}
+use Rattle.lapm_frames.specs.declared.heard.Heard.{Heard}
+use Rattle.lapm_frames.specs.declared.heard.Heard.TheVariants.{Nothing, Passed, Lost, Chance}
 use Rattle.link_run.specs.End.{User, delivered, piece_at, offered_at, offered_times, room_for, offered, served, is_released}
 use Rattle.link_run.specs.Run.{Link, Ends, Turn, Spoken, arrival, Hears, RunOf, served_at}
 use Rattle.link_run.specs.Carried.{sent_in, sent_ago, Crosses, Carries, IsCarried, HasDelays, on_line}

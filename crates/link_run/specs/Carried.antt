@@ -3,11 +3,11 @@ use Rattle.std.specs.Prelude.{◌≡◌, ℕ, zero, suc, ◌-◌, ◌≤◌, Boo
 use Rattle.roles.specs.declared.role.Role.{Role}
 use Rattle.roles.specs.Role.{other}
 use Rattle.roles.specs.Both.{of}
-use Rattle.slot_contents.specs.declared.arrived.Arrived.{Arrived}
-use Rattle.slot_contents.specs.declared.arrived.Arrived.TheVariants as arrivals
-use Rattle.slot_contents.specs.declared.sent.Sent.{Sent}
-use Rattle.slot_contents.specs.declared.heard.Heard.{Heard}
-use Rattle.slot_contents.specs.declared.heard.Heard.TheVariants.{Nothing, Passed, Lost, Chance}
+use Rattle.lapm_frames.specs.declared.arrived.Arrived.{Arrived}
+use Rattle.lapm_frames.specs.declared.arrived.Arrived.TheVariants as arrivals
+use Rattle.lapm_frames.specs.declared.sent.Sent.{Sent}
+use Rattle.lapm_frames.specs.declared.heard.Heard.{Heard}
+use Rattle.lapm_frames.specs.declared.heard.Heard.TheVariants.{Nothing, Passed, Lost, Chance}
 use Rattle.link_account.specs.Play.{arrives}
 use Rattle.link_run.specs.Run.{Spoken, Turn}
 

@@ -17,9 +17,9 @@ use Rattle.lapm_receiver.specs.declared.took.Took.TheVariants.{InOrder, Kept}
 use Rattle.break_signals.specs.declared.word.BreakWord.TheVariants.{Brk}
 use Rattle.break_signals.specs.Words.{word_in}
 use Rattle.break_signals.specs.Breaks.{gives}
-use Rattle.slot_contents.specs.declared.sent.Sent.TheVariants as slots
-use Rattle.slot_contents.specs.declared.heard.Heard.{Heard}
-use Rattle.slot_contents.specs.declared.heard.Heard.TheVariants.{Passed}
+use Rattle.lapm_frames.specs.declared.sent.Sent.TheVariants as slots
+use Rattle.lapm_frames.specs.declared.heard.Heard.{Heard}
+use Rattle.lapm_frames.specs.declared.heard.Heard.TheVariants.{Passed}
 use Rattle.link_account.specs.Account.{Account, first_terms, check_of}
 use Rattle.link_account.specs.Laws.{has_begun}
 use Rattle.link_run.specs.End.{is_released}

@@ -6,7 +6,7 @@ use Rattle.roles.specs.Both.{Both, of}
 use Rattle.xid_params.specs.declared.terms.Terms.{Terms}
 use Rattle.xid_params.specs.Offers.{IsAllowed}
 use Rattle.lapm_sender.specs.Outgoing.{Outgoing}
-use Rattle.slot_contents.specs.declared.arrived.Arrived.{Arrived}
+use Rattle.lapm_frames.specs.declared.arrived.Arrived.{Arrived}
 use Rattle.link_account.specs.declared.setup.Setup.{Setup}
 use Rattle.link_account.specs.Account.{Account, fresh, is_connected, wants, piece_size, after_offer, after_given}
 use Rattle.link_account.specs.Hear.{hear}

@@ -6,9 +6,9 @@ use Rattle.roles.specs.Role.{other}
 use Rattle.roles.specs.Both.{of}
 use Rattle.lapm_frames.specs.declared.frame.Frame.{Frame}
 use Rattle.lapm_frames.specs.declared.frame.Frame.TheVariants.{I}
-use Rattle.slot_contents.specs.declared.sent.Sent.TheVariants as slots
-use Rattle.slot_contents.specs.declared.heard.Heard.{Heard}
-use Rattle.slot_contents.specs.declared.heard.Heard.TheVariants.{Passed}
+use Rattle.lapm_frames.specs.declared.sent.Sent.TheVariants as slots
+use Rattle.lapm_frames.specs.declared.heard.Heard.{Heard}
+use Rattle.lapm_frames.specs.declared.heard.Heard.TheVariants.{Passed}
 use Rattle.link_run.specs.Run.{Spoken, Turn}
 use Rattle.link_run.specs.Carried.{sent_ago}
 

@@ -1,9 +1,8 @@
 // The text of each kind of frame, lines of a trace, and numbers as texts.
 use frame_check::Octets;
-use lapm_frames::{Frame, read};
+use lapm_frames::{Frame, Heard, Sent, read};
 use line_texts::{FrameText, LineText, TraceLine, put_decimal, write_frame_text, write_line};
 use roles::Role;
-use slot_contents::{Heard, Sent};
 use std::test::Fail;
 
 /// The octets of a frame of the originator, and its text.

@@ -4,7 +4,7 @@ use Rattle.std.specs.Prelude.{◌≡◌, ◌≢◌, ℕ, ◌+◌, ◌*◌, min, 
 use Rattle.scramblers.specs.declared.mode.Mode.{Mode}
 use Rattle.outside_calls.specs.Folder.{FolderState, octets_at}
 use Rattle.outside_calls.specs.declared.folder.FolderFault.{FolderFault}
-use Rattle.noisy_line.specs.Near.{sure}
+use Rattle.decoder_laws.specs.Near.{sure}
 use Rattle.noise_bound.specs.Margins.{IsCostOf, Measured}
 use Rattle.recordings.specs.declared.rate.Rate.TheVariants as rates
 use Rattle.recordings.specs.declared.header.TheConstants.{HEADER}
@@ -19,7 +19,7 @@ use Rattle.command_base.specs.declared.stop.Stop.TheVariants.{Own, Read}
 use Rattle.command_base.specs.Inputs.{IsWithin, IsLonger}
 use Rattle.command_base.specs.Job.{Job}
 use Rattle.command_base.specs.Lines.{margin_line}
-use Rattle.command_base.specs.Outputs.{SaysNothing}
+use Rattle.outside_calls.specs.Outputs.{SaysNothing}
 use Rattle.command_base.specs.Stops.{ReadFails}
 use Rattle.margin_command.specs.Words.{MarginNames, inputs_of}
 

@@ -6,7 +6,7 @@ use Rattle.command_base.specs.declared.status.Status.{Status}
 use Rattle.command_base.specs.declared.status.Status.TheVariants.{Usage}
 use Rattle.command_base.specs.Job.{Answers as AnswersOf, Shared}
 use Rattle.command_base.specs.Lines.{usage_line}
-use Rattle.command_base.specs.Outputs.{KeepsAll}
+use Rattle.outside_calls.specs.Outputs.{KeepsAll}
 use Rattle.command_base.specs.Tells.{Tells}
 use Rattle.run_inputs.specs.Words.{RunNames, names_of as run_names}
 use Rattle.run_command.specs.Ends.{run_job}

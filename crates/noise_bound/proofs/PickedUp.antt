@@ -15,8 +15,8 @@ use Rattle.symbol_map.specs.declared.sample.Sample.{Sample}
 use Rattle.symbol_map.specs.Distance.{quarter_turned}
 use Rattle.symbol_map.specs.Laws.{turned_label}
 use Rattle.survivors.specs.V32.{at_any}
-use Rattle.quarter_turns.proofs.Least.{all_states_turn}
-use Rattle.noisy_line.specs.Near.{sure_of_any, IsNear}
+use Rattle.decoder_laws.proofs.Least.{all_states_turn}
+use Rattle.decoder_laws.specs.Near.{sure_of_any, IsNear}
 use Rattle.picked_up_lines.specs.PickedUp.{IsPickedUp, line_behind}
 use Rattle.picked_up_lines.specs.Reading.{Middle}
 use Rattle.picked_up_lines.specs.Laws.{ReadsMiddle}

@@ -1,6 +1,6 @@
-pub use Rattle.noisy_line.specs.Near
-pub use Rattle.noisy_line.specs.Laws as NearLaws
-pub use Rattle.quarter_turns.specs.Turned as Turns
+pub use Rattle.decoder_laws.specs.Near
+pub use Rattle.decoder_laws.specs.NoisyLaws as NearLaws
+pub use Rattle.decoder_laws.specs.Turned as Turns
 pub use Rattle.line_coding.specs.Demodulates
 pub use Rattle.picked_up_lines.specs.PickedUp
 pub use Rattle.picked_up_lines.specs.Reading

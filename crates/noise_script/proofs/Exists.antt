@@ -4,8 +4,8 @@ use Rattle.std.proofs.lemmas.Bool.{cases_eq, cases_lt, cases_Bool}
 use Rattle.std.proofs.lemmas.Int.{by_lt_z}
 use Rattle.roles.specs.declared.role.Role.{Role}
 use Rattle.roles.specs.declared.role.Role.TheVariants.{Originator, Answerer}
-use Rattle.script_causes.specs.declared.cause.Cause.{Cause}
-use Rattle.script_causes.specs.declared.cause.Cause.TheVariants as causes
+use Rattle.causes.specs.declared.cause.Cause.{Cause}
+use Rattle.causes.specs.declared.cause.Cause.TheVariants as causes
 use Rattle.noise_script.specs.declared.entry.Entry.{Entry}
 use Rattle.noise_script.specs.declared.forms.Form.{Form}
 use Rattle.noise_script.specs.declared.forms.Form.TheVariants as forms

@@ -1,8 +1,8 @@
 -- The forms of a script's lines, and how a line is spelled and misspelled.
 use Rattle.std.specs.Prelude.{◌≡◌, ◌≢◌, ◌⊎◌, ℕ, ◌<◌, ◌≤◌, true, false, ℤ, pos, neg_ℤ, ◌<ℤ◌, ◌≤ℤ◌, List, [], ◌∷◌, length, codes, Option, Some, None}
 use Rattle.roles.specs.declared.role.Role.{Role}
-use Rattle.script_causes.specs.declared.cause.Cause.{Cause}
-use Rattle.script_causes.specs.declared.cause.Cause.TheVariants as causes
+use Rattle.causes.specs.declared.cause.Cause.{Cause}
+use Rattle.causes.specs.declared.cause.Cause.TheVariants as causes
 use Rattle.frame_check.specs.declared.sizes.TheConstants.{INFO}
 use Rattle.noise_script.specs.declared.entry.Entry.{Entry}
 use Rattle.noise_script.specs.declared.entry.Entry.TheVariants as entries

@@ -27,4 +27,4 @@ pub use limits::{
 pub use offset::Offset;
 pub use reader::read_script;
 pub use script::Script;
-pub use script_causes::Cause;
+pub use causes::Cause;

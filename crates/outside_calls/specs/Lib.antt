@@ -1,2 +1,3 @@
 pub mod Folder
 pub mod Steps
+pub mod Outputs

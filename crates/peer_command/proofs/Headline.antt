@@ -8,8 +8,8 @@ use Rattle.outside_calls.specs.Folder.{FolderState, octets_at}
 use Rattle.outside_calls.specs.declared.folder.FolderFault.{FolderFault}
 use Rattle.outside_calls.specs.declared.folder.FolderFault.TheVariants as folder
 use Rattle.roles.specs.declared.role.Role.{Role}
-use Rattle.link_faults.specs.declared.fault.LinkFault.{LinkFault}
-use Rattle.link_faults.specs.declared.fault.LinkFault.TheVariants as faults
+use Rattle.causes.specs.declared.fault.LinkFault.{LinkFault}
+use Rattle.causes.specs.declared.fault.LinkFault.TheVariants as faults
 use Rattle.command_base.specs.declared.limits.TheConstants.{FILE_LIMIT}
 use Rattle.command_base.specs.declared.status.Status.{Status}
 use Rattle.command_base.specs.declared.status.Status.TheVariants.{Done, TooLong, ReadFault, WriteFault, NotDetected, LinkLost, NoMemory}
@@ -21,9 +21,9 @@ use Rattle.command_base.specs.Job.{Answers}
 use Rattle.command_base.specs.Status.{IsRefusal}
 use Rattle.command_base.specs.Stops.{end_status, fault_status}
 use Rattle.command_base.specs.Lines.{done_line}
-use Rattle.command_base.specs.Outputs.{KeepsAll, OnlyOutputs}
+use Rattle.outside_calls.specs.Outputs.{KeepsAll, OnlyOutputs}
 use Rattle.command_base.proofs.Answering.{IsPlain}
-use Rattle.command_base.proofs.Holding.{Holds-kept}
+use Rattle.outside_calls.proofs.Holding.{Holds-kept}
 use Rattle.command_base.proofs.Jobs.{refusal-own, last-only, last-plain, done-of, shared-of}
 use Rattle.command_base.proofs.Jobs.{done-unless-memory, Comes, is_done, is_own, is_memory, comes-to}
 use Rattle.command_base.specs.Sound.{IsSound}

@@ -25,8 +25,8 @@ use Rattle.command_base.specs.declared.stop.Stop.TheVariants.{Read}
 use Rattle.command_base.specs.Inputs.{IsWithin, ReadTo}
 use Rattle.command_base.specs.Stops.{ReadFails}
 use Rattle.command_base.proofs.Jobs.{stop-earlier}
-use Rattle.command_base.specs.Outputs.{Holds}
-use Rattle.command_base.proofs.Holding.{Holds-kept, Holds-more, Holds-add, HoldsPart-more}
+use Rattle.outside_calls.specs.Outputs.{Holds}
+use Rattle.outside_calls.proofs.Holding.{Holds-kept, Holds-more, Holds-add, HoldsPart-more}
 use Rattle.command_base.proofs.Reading.{ReadTo-begins, ReadTo-kept}
 use Rattle.peer_command.specs.Words.{Names, turn_names}
 use Rattle.peer_command.specs.Runs.{Left, PeerEnd, IsDone, GivesUp, MakesTurn, RunsTo, left_of, left_after, slot_at, slots_before}

@@ -16,7 +16,7 @@ use Rattle.command_base.specs.declared.limits.TheConstants.{FILE_LIMIT}
 use Rattle.command_base.specs.declared.stop.Stop.{Stop}
 use Rattle.command_base.specs.declared.stop.Stop.TheVariants.{Own, Read, Write, Say, NoMemory}
 use Rattle.command_base.specs.Inputs.{IsWithin, IsNotWithin}
-use Rattle.command_base.specs.Outputs.{KeepsAll, AreApart, CreatesPart, Creates, IsNoneOf, KeepsEach, OnlyOutputs}
+use Rattle.outside_calls.specs.Outputs.{KeepsAll, AreApart, CreatesPart, Creates, IsNoneOf, KeepsEach, OnlyOutputs}
 use Rattle.command_base.proofs.Creating.{CreatesPart-earlier}
 use Rattle.command_base.proofs.Reading.{ReadTo-none, longer-earlier}
 use Rattle.command_base.proofs.Jobs.{stop-earlier}

@@ -4,8 +4,8 @@ use Rattle.outside_calls.specs.Folder.{FolderState, octets_at}
 use Rattle.outside_calls.specs.declared.folder.FolderFault.{FolderFault}
 use Rattle.outside_calls.specs.declared.folder.FolderFault.TheVariants as folder
 use Rattle.roles.specs.declared.role.Role.{Role}
-use Rattle.link_faults.specs.declared.fault.LinkFault.{LinkFault}
-use Rattle.link_faults.specs.declared.fault.LinkFault.TheVariants as faults
+use Rattle.causes.specs.declared.fault.LinkFault.{LinkFault}
+use Rattle.causes.specs.declared.fault.LinkFault.TheVariants as faults
 use Rattle.command_base.specs.declared.limits.TheConstants.{FILE_LIMIT}
 use Rattle.command_base.specs.declared.status.Status.{Status}
 use Rattle.command_base.specs.declared.status.Status.TheVariants.{Done, TooLong, NotDetected, LinkLost, PeerFault}
@@ -15,7 +15,7 @@ use Rattle.command_base.specs.Inputs.{IsWithin, IsLonger}
 use Rattle.command_base.specs.Job.{Job}
 use Rattle.command_base.specs.Lines.{done_line}
 use Rattle.command_base.specs.Stops.{ReadFails}
-use Rattle.command_base.specs.Outputs.{Holds, HoldsPart, KeepsAll, CreatesPart, SaysNothing}
+use Rattle.outside_calls.specs.Outputs.{Holds, HoldsPart, KeepsAll, CreatesPart, SaysNothing}
 use Rattle.single_end.specs.Peer.{Past, Outcome, turn_line}
 use Rattle.peer_command.specs.Words.{Names, inputs_of, outputs_of}
 use Rattle.peer_command.specs.Runs.{Left, PeerEnd, IsDone, GivesUp, IsPast, MakesTurn, RunsTo, left_of}

@@ -2,7 +2,7 @@
 use Rattle.std.specs.Prelude.{◌≡◌, ◌⊎◌, ℕ, zero, suc, ◌+◌, ◌*◌, ◌/◌, ◌<◌, List, [], ◌∷◌, ◌++◌, length, take, drop}
 use Rattle.std.specs.List.{concat}
 use Rattle.roles.specs.declared.role.Role.{Role}
-use Rattle.link_faults.specs.declared.fault.LinkFault.{LinkFault}
+use Rattle.causes.specs.declared.fault.LinkFault.{LinkFault}
 use Rattle.link_run.specs.Alone.{LoneTurn}
 use Rattle.single_end.specs.Heard.{slot_octets}
 use Rattle.single_end.specs.Peer.{Past, PeerRun, PeerTurn, Outcome, Closed, Broken, trace_of, turn_line}

@@ -3,7 +3,7 @@
 ghost use Rattle.std.specs.Prelude.{◌≡◌, ℕ, [], List, true, map, string_bytes};
 ghost use Rattle.outside_calls.specs.Folder.{FolderState};
 ghost use Rattle.command_base.specs.Job.{Answers};
-ghost use Rattle.command_base.specs.Outputs.{OnlyOutputs, SaysNothing};
+ghost use Rattle.outside_calls.specs.Outputs.{OnlyOutputs, SaysNothing};
 ghost use Rattle.command_base.specs.Stops.{EndCounts};
 ghost use Rattle.run_inputs.specs.Words.{are_apart};
 ghost use Rattle.link_account.specs.Account.{fresh};

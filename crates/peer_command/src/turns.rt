@@ -2,7 +2,7 @@
 ghost use Rattle.std.specs.Prelude.{◌≡◌, ℕ, ◌*◌, ◌+◌, ◌≤◌, Ok, None, true, length, IfOk, IfErr, IfSome};
 ghost use Rattle.outside_calls.specs.Folder.{FolderState};
 ghost use Rattle.command_base.specs.declared.limits.TheConstants.{FILE_LIMIT};
-ghost use Rattle.command_base.specs.Outputs.{OnlyOutputs, SaysNothing};
+ghost use Rattle.outside_calls.specs.Outputs.{OnlyOutputs, SaysNothing};
 ghost use Rattle.command_base.specs.Stops.{EndCounts};
 ghost use Rattle.run_inputs.specs.Words.{are_apart};
 ghost use Rattle.single_end.specs.Heard.{slot_octets};

@@ -9,7 +9,7 @@ use Rattle.command_base.specs.declared.status.Status.{Status}
 use Rattle.command_base.specs.declared.stop.Stop.{Stop}
 use Rattle.command_base.specs.Job.{Answers}
 use Rattle.command_base.specs.Lines.{pieces_line}
-use Rattle.command_base.specs.Outputs.{KeepsAll, OnlyOutputs}
+use Rattle.outside_calls.specs.Outputs.{KeepsAll, OnlyOutputs}
 use Rattle.command_base.specs.Status.{IsRefusal}
 use Rattle.command_base.specs.Stops.{end_status}
 use Rattle.command_base.proofs.Jobs.{IsDone, done-of, shared-of, done-unless-memory}

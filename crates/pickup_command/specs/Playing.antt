@@ -9,7 +9,7 @@ use Rattle.survivors.specs.V32.{any_trellis, line_depth}
 use Rattle.command_base.specs.declared.status.Status.TheVariants.{LineLost}
 use Rattle.command_base.specs.declared.stop.Stop.{Stop}
 use Rattle.command_base.specs.declared.stop.Stop.TheVariants.{Own, Say}
-use Rattle.command_base.specs.Outputs.{OnlyOutputs}
+use Rattle.outside_calls.specs.Outputs.{OnlyOutputs}
 use Rattle.picked_up_lines.specs.Reading.{Middle, MiddleRead}
 use Rattle.piece_listener.specs.Heard.{Listening, Heard}
 use Rattle.recordings.specs.declared.rate.Rate.TheVariants as rates

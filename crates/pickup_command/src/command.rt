@@ -2,7 +2,7 @@
 ghost use Rattle.std.specs.Prelude.{[], ◌∷◌, map, string_bytes};
 ghost use Rattle.outside_calls.specs.Folder.{FolderState};
 ghost use Rattle.command_base.specs.Job.{Answers};
-ghost use Rattle.command_base.specs.Outputs.{OnlyOutputs};
+ghost use Rattle.outside_calls.specs.Outputs.{OnlyOutputs};
 ghost use Rattle.command_base.specs.Stops.{EndCounts};
 ghost use Rattle.recordings.specs.declared.rate.Rate.TheVariants as rates;
 ghost use Rattle.recording_inputs.specs.Recordings.{Opened};

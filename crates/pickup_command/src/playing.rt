@@ -3,7 +3,7 @@ ghost use Rattle.std.specs.Prelude.{◌≡◌, ◌≤◌, ◌+◌, ◌++◌, ◌
 ghost use Rattle.symbol_map.specs.declared.sample.Sample.{Sample};
 ghost use Rattle.outside_calls.specs.Folder.{FolderState, OnlySays};
 ghost use Rattle.command_base.specs.declared.limits.TheConstants.{RECORDING_LIMIT};
-ghost use Rattle.command_base.specs.Outputs.{OnlyOutputs};
+ghost use Rattle.outside_calls.specs.Outputs.{OnlyOutputs};
 ghost use Rattle.command_base.specs.Stops.{EndCounts};
 ghost use Rattle.recordings.specs.Samples.{samples_in};
 ghost use Rattle.recordings.specs.declared.header.TheConstants.{HEADER};

@@ -21,9 +21,9 @@ use Rattle.command_base.specs.declared.stop.Stop.TheVariants as stops
 use Rattle.command_base.specs.Stops.{fault_status, end_status}
 use Rattle.command_base.specs.Job.{Answers}
 use Rattle.command_base.specs.Lines.{done_line}
-use Rattle.command_base.specs.Outputs.{Holds, KeepsAll, OnlyOutputs}
+use Rattle.outside_calls.specs.Outputs.{Holds, KeepsAll, OnlyOutputs}
 use Rattle.command_base.proofs.Answering.{IsPlain}
-use Rattle.command_base.proofs.Holding.{Holds-kept}
+use Rattle.outside_calls.proofs.Holding.{Holds-kept}
 use Rattle.command_base.proofs.Jobs.{last-only, last-plain, done-of, shared-of}
 use Rattle.run_inputs.specs.declared.limits.TheConstants.{LIMITS}
 use Rattle.run_inputs.specs.Words.{RunNames}

@@ -26,11 +26,11 @@ use Rattle.command_base.specs.declared.status.Status.{Status}
 use Rattle.command_base.specs.declared.status.Status.TheVariants.{LineLost, NotDetected, LinkLost, ChanceMatch}
 use Rattle.command_base.specs.declared.stop.Stop.{Stop}
 use Rattle.command_base.specs.declared.stop.Stop.TheVariants as stops
-use Rattle.command_base.specs.Outputs.{Holds, HoldsPart, KeptOrEmpty, KeepsAll, CreatesPart}
+use Rattle.outside_calls.specs.Outputs.{Holds, HoldsPart, KeptOrEmpty, KeepsAll, CreatesPart}
 use Rattle.run_inputs.specs.declared.limits.TheConstants.{LIMITS}
 use Rattle.run_inputs.specs.Words.{RunNames, outputs_of}
-use Rattle.run_loop.specs.Names.{Written}
-use Rattle.run_loop.specs.Turns.{AddsTurn, AddsChance, StopsAfter, HoldPart, of_orig, of_answ, of_lines}
+use Rattle.run_world.specs.Names.{Written}
+use Rattle.run_world.specs.Turns.{AddsTurn, AddsChance, StopsAfter, HoldPart, of_orig, of_answ, of_lines}
 use Rattle.run_command.specs.Names.{names_written}
 use Rattle.run_command.specs.Ends.{RanTo, StopsInTurn, RanBy, EndsBy, Ends as EndsSo}
 use Rattle.run_command.specs.Headline.{KeptOrPrefix}

@@ -7,7 +7,7 @@ use Rattle.roles.specs.Both.{of}
 use Rattle.survivors.specs.Laws.{ReleasedIsLeast, OfEachCode}
 use Rattle.survivors.proofs.V32.{line-has-laws}
 use Rattle.survivors.specs.V32.{line_trellis}
-use Rattle.slot_contents.specs.declared.heard.Heard.{Heard}
+use Rattle.lapm_frames.specs.declared.heard.Heard.{Heard}
 use Rattle.noise_script.specs.Script.{delay_of}
 use Rattle.link_run.specs.Run.{Link, Ends, Spoken, Turn}
 use Rattle.link_run.specs.Carried.{sent_ago}

@@ -7,7 +7,7 @@ use Rattle.command_base.specs.declared.stop.Stop.{Stop}
 use Rattle.command_base.specs.declared.stop.Stop.TheVariants as stops
 use Rattle.command_base.specs.Status.{IsRefusal}
 use Rattle.command_base.specs.Stops.{end_status}
-use Rattle.command_base.specs.Outputs.{KeepsAll}
+use Rattle.outside_calls.specs.Outputs.{KeepsAll}
 use Rattle.command_base.proofs.Jobs.{refusal-own}
 use Rattle.run_inputs.specs.declared.limits.TheConstants.{LIMITS}
 use Rattle.run_inputs.specs.Words.{RunNames}

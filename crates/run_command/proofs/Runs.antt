@@ -7,23 +7,23 @@ use Rattle.roles.specs.Both.{Both}
 use Rattle.noise_script.specs.Script.{ScriptValue}
 use Rattle.line_run.specs.Ends.{RunEnd}
 use Rattle.line_run.specs.Ends as runs
-use Rattle.run_loop.specs.Limits.{file_limit}
-use Rattle.run_loop.specs.Names.{Written, ReadRose}
-use Rattle.run_loop.specs.RunFault.{RunFault}
-use Rattle.run_loop.specs.RunFault.TheVariants as faults
-use Rattle.run_loop.specs.World.{AreApart, KnowsFiles, OnlyOutputs as OnlyWritten}
-use Rattle.run_loop.specs.Turn.{FaultCounts}
+use Rattle.run_world.specs.Limits.{file_limit}
+use Rattle.run_world.specs.Names.{Written, ReadRose}
+use Rattle.run_world.specs.RunFault.{RunFault}
+use Rattle.run_world.specs.RunFault.TheVariants as faults
+use Rattle.run_world.specs.World.{AreApart, KnowsFiles, OnlyOutputs as OnlyWritten}
+use Rattle.run_world.specs.Turn.{FaultCounts}
 use Rattle.command_base.specs.declared.stop.Stop.{Stop}
 use Rattle.command_base.specs.declared.stop.Stop.TheVariants as stops
 use Rattle.command_base.specs.Inputs.{IsWithin}
-use Rattle.command_base.specs.Outputs.{IsNoneOf, OnlyOutputs, KeepsEach, CreatesPart, AreApart as AreDistinct}
+use Rattle.outside_calls.specs.Outputs.{IsNoneOf, OnlyOutputs, KeepsEach, CreatesPart, AreApart as AreDistinct}
 use Rattle.command_base.specs.Stops.{StopCounts}
 use Rattle.command_base.proofs.Creating.{CreatesPart-earlier}
 use Rattle.run_inputs.specs.declared.limits.Limits.{Limits}
 use Rattle.run_inputs.specs.declared.limits.TheConstants.{LIMITS}
 use Rattle.run_inputs.specs.Words.{RunNames, AreNoneOf, inputs_of, outputs_of}
 use Rattle.run_inputs.specs.Inputs.{Refuses}
-use Rattle.run_loop.specs.Turns.{RunEnds, RunStops, RunStopsReading, FaultEnds}
+use Rattle.run_world.specs.Turns.{RunEnds, RunStops, RunStopsReading, FaultEnds}
 use Rattle.run_command.specs.Names.{names_written}
 use Rattle.run_command.specs.Ends.{IsBegun, Takes, RanTo, StopsInTurn, StopsInReading, StopsCreating, EndsBy, fault_stop}
 

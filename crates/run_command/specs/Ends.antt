@@ -8,10 +8,10 @@ use Rattle.noise_script.specs.Script.{ScriptValue, IsInLimits}
 use Rattle.line_run.specs.Ends.{RunEnd, Left, RunsTo}
 use Rattle.line_run.specs.Ends as runs
 use Rattle.line_run.specs.Scripted.{channel_of, link_of}
-use Rattle.run_loop.specs.Names.{ReadRose}
-use Rattle.run_loop.specs.Sides.{AreWithin}
-use Rattle.run_loop.specs.RunFault.{RunFault}
-use Rattle.run_loop.specs.RunFault.TheVariants as faults
+use Rattle.run_world.specs.Names.{ReadRose}
+use Rattle.run_world.specs.Sides.{AreWithin}
+use Rattle.run_world.specs.RunFault.{RunFault}
+use Rattle.run_world.specs.RunFault.TheVariants as faults
 use Rattle.command_base.specs.declared.status.Status.{Status}
 use Rattle.command_base.specs.declared.status.Status.TheVariants.{LineLost, NotDetected, LinkLost, ChanceMatch}
 use Rattle.command_base.specs.declared.stop.Stop.{Stop}
@@ -19,12 +19,12 @@ use Rattle.command_base.specs.declared.stop.Stop.TheVariants.{Own, Read, Write, 
 use Rattle.command_base.specs.Inputs.{IsWithin}
 use Rattle.command_base.specs.Job.{Job}
 use Rattle.command_base.specs.Lines.{done_line}
-use Rattle.command_base.specs.Outputs.{KeepsAll, SaysNothing, CreatesPart}
+use Rattle.outside_calls.specs.Outputs.{KeepsAll, SaysNothing, CreatesPart}
 use Rattle.run_inputs.specs.declared.limits.Limits.{Limits}
 use Rattle.run_inputs.specs.declared.limits.TheConstants.{LIMITS}
 use Rattle.run_inputs.specs.Words.{RunNames, inputs_of, outputs_of}
 use Rattle.run_inputs.specs.Inputs.{Opens, RefusesOwn, FailsToRead}
-use Rattle.run_loop.specs.Turns.{HoldLeft, StopsAfter, StopsReading}
+use Rattle.run_world.specs.Turns.{HoldLeft, StopsAfter, StopsReading}
 use Rattle.run_command.specs.Names.{names_written}
 
 -- The inputs were opened, nothing else was done, and no fault was counted: they are within their limits, and this is the script.

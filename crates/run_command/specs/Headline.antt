@@ -18,7 +18,7 @@ use Rattle.command_base.specs.declared.status.Status.{Status}
 use Rattle.command_base.specs.declared.status.Status.TheVariants.{Done, LineLost, NotDetected, LinkLost, ChanceMatch}
 use Rattle.command_base.specs.Job.{Shared}
 use Rattle.command_base.specs.Lines.{done_line}
-use Rattle.command_base.specs.Outputs.{Holds}
+use Rattle.outside_calls.specs.Outputs.{Holds}
 use Rattle.run_inputs.specs.Words.{RunNames, inputs_of, outputs_of}
 use Rattle.run_command.specs.ReadOff.{AreReadOff}
 

@@ -1,5 +1,5 @@
 -- The names of a run's files, as its turns use them.
-use Rattle.run_loop.specs.Names.{Written}
+use Rattle.run_world.specs.Names.{Written}
 use Rattle.run_inputs.specs.Words.{RunNames}
 
 abbrev pub names_written : RunNames → Written

@@ -7,7 +7,7 @@ use Rattle.survivors.specs.V32.{line_trellis}
 use Rattle.roles.specs.declared.role.Role.{Role}
 use Rattle.roles.specs.Role.{other}
 use Rattle.roles.specs.Both.{of}
-use Rattle.slot_contents.specs.declared.heard.Heard.{Heard}
+use Rattle.lapm_frames.specs.declared.heard.Heard.{Heard}
 use Rattle.noise_script.specs.Script.{delay_of}
 use Rattle.link_run.specs.Run.{Spoken, Turn}
 use Rattle.link_run.specs.Carried.{sent_ago}

@@ -4,10 +4,10 @@ ghost use Rattle.outside_calls.specs.Folder.{FolderState};
 ghost use Rattle.roles.specs.Both.{Both};
 ghost use Rattle.link_run.specs.Run.{start};
 ghost use Rattle.line_run.specs.Scripted.{link_of};
-ghost use Rattle.run_loop.specs.Names.{written};
-ghost use Rattle.run_loop.specs.World.{IsReady, WorldAfter, script_of};
+ghost use Rattle.run_world.specs.Names.{written};
+ghost use Rattle.run_world.specs.World.{IsReady, WorldAfter, script_of};
 ghost use Rattle.command_base.specs.Job.{Answers};
-ghost use Rattle.command_base.specs.Outputs.{OnlyOutputs, SaysNothing};
+ghost use Rattle.outside_calls.specs.Outputs.{OnlyOutputs, SaysNothing};
 ghost use Rattle.command_base.specs.Stops.{EndCounts};
 ghost use Rattle.run_inputs.specs.Words.{named, are_apart, inputs_of, outputs_of};
 ghost use Rattle.run_command.specs.Names.{names_written};
@@ -21,7 +21,7 @@ use command_base::{Status, Stop, tell, tell_stop, write_done};
 use outside_calls::{Folder, FolderFault};
 use run_inputs::laws::apart_names_differ;
 use run_inputs::{LIMITS, RunWords, open_inputs};
-use run_loop::{Names, RunFault, World, run_turns};
+use run_world::{Names, RunFault, World, run_turns};
 use std::alloc::Global;
 
 /// The names that turns use.

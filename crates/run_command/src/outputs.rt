@@ -1,7 +1,7 @@
 // A run's outputs, made before its first turn.
 ghost use Rattle.std.specs.Prelude.{◌≡◌, true, OnOk, OnErr, IfErr};
 ghost use Rattle.outside_calls.specs.Folder.{CountsStand};
-ghost use Rattle.command_base.specs.Outputs.{Creates, CreatesPart, OnlyOutputs, SaysNothing};
+ghost use Rattle.outside_calls.specs.Outputs.{Creates, CreatesPart, OnlyOutputs, SaysNothing};
 ghost use Rattle.command_base.specs.Stops.{WriteFails};
 ghost use Rattle.run_inputs.specs.Words.{named, are_apart, inputs_of, outputs_of};
 

@@ -2,7 +2,7 @@
 use Rattle.std.proofs.Common.{◌≡◌, ◌≢◌, ◌∙◌, ℕ, Bool, true, false, not, ◌&&◌, List, [], ◌∷◌, refl, sym, ap}
 use Rattle.std.specs.Str.{bytes_eq}
 use Rattle.std.proofs.lemmas.Slice.Eq.{bytes_eq-Decides}
-use Rattle.command_base.specs.Outputs.{AreApart, IsNoneOf}
+use Rattle.outside_calls.specs.Outputs.{AreApart, IsNoneOf}
 use Rattle.run_inputs.specs.Words.{are_apart, is_none_of, AreNoneOf}
 
 -- both halves of a test

@@ -1,7 +1,7 @@
 -- The words of a run, as octets.
 use Rattle.std.specs.Prelude.{ℕ, Bool, true, not, ◌&&◌, List, [], ◌∷◌, Option, Some, None, if◌then◌else◌, codes}
 use Rattle.std.specs.Str.{bytes_eq}
-use Rattle.command_base.specs.Outputs.{IsNoneOf}
+use Rattle.outside_calls.specs.Outputs.{IsNoneOf}
 use Rattle.run_inputs.specs.declared.words.RunWords.{RunWords}
 
 -- the names of a run

@@ -1,6 +1,6 @@
 //! Laws over the definitions alone, and the limits of a run as numbers. The functions do nothing: each law is a contract.
 ghost use Rattle.std.specs.Prelude.{◌≡◌, ℕ, List, true};
-ghost use Rattle.command_base.specs.Outputs.{AreApart};
+ghost use Rattle.outside_calls.specs.Outputs.{AreApart};
 ghost use Rattle.run_inputs.specs.Words.{are_apart, AreNoneOf};
 ghost use Rattle.run_inputs.specs.declared.limits.TheConstants.{LIMITS};
 

@@ -5,7 +5,7 @@ use Rattle.std.proofs.lemmas.List.{append_assoc, map-append, take_all, take-appe
 use Rattle.frame_check.specs.declared.check.Check.{Check}
 use Rattle.roles.specs.declared.role.Role.{Role}
 use Rattle.lapm_frames.specs.declared.frame.Frame.{Frame}
-use Rattle.slot_contents.specs.declared.seen.Seen.{Seen}
+use Rattle.lapm_frames.specs.declared.seen.Seen.{Seen}
 use Rattle.detection.specs.Patterns.{seen_at}
 use Rattle.detection.specs.Sights.{Sight, sights_at, sights_before, sights_of}
 use Rattle.std.specs.Option.{option_map, option_map_or}

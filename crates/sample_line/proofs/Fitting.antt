@@ -9,12 +9,12 @@ use Rattle.bit_stuffing.proofs.Sizes.{length-opening}
 use Rattle.roles.specs.declared.role.Role.{Role}
 use Rattle.lapm_frames.specs.declared.frame.Frame.{Frame}
 use Rattle.lapm_frames.specs.Frame.{spelled, IsFrame}
-use Rattle.slot_contents.specs.declared.sent.Sent.{Sent}
-use Rattle.slot_contents.specs.declared.sent.Sent.TheVariants as sent
+use Rattle.lapm_frames.specs.declared.sent.Sent.{Sent}
+use Rattle.lapm_frames.specs.declared.sent.Sent.TheVariants as sent
 use Rattle.lapm_frames.specs.Checked.{check_for, checked}
 use Rattle.lapm_frames.proofs.Octets.{spelled-short}
 use Rattle.sample_line.specs.Signals.{IsCodable}
-use Rattle.slot_contents.specs.Sendable.{IsSendable}
+use Rattle.lapm_frames.specs.Sendable.{IsSendable}
 
 count-small : (check : Check) → count_of check ≤ 4
 count-small Sixteen = lit≤ tt

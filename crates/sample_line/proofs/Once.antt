@@ -18,18 +18,18 @@ use Rattle.survivors.specs.V32.{line_trellis}
 use Rattle.line_coding.specs.Modulates.{Modulates}
 use Rattle.line_coding.specs.Demodulates.{line_of, Demodulates}
 use Rattle.line_coding.proofs.Readings.{length-fours, first-stay}
-use Rattle.slot_contents.specs.declared.seen.Seen.{Seen}
+use Rattle.lapm_frames.specs.declared.seen.Seen.{Seen}
 use Rattle.detection.specs.Sights.{Sight, sights_of}
 use Rattle.bit_stuffing.specs.Found.{Found, pieces_of}
 use Rattle.bit_stuffing.specs.Sent.{wholes}
 use Rattle.roles.specs.declared.role.Role.{Role}
 use Rattle.roles.specs.declared.role.Role.TheVariants.{Originator, Answerer}
 use Rattle.lapm_frames.specs.declared.frame.Frame.{Frame}
-use Rattle.slot_contents.specs.declared.sent.Sent.{Sent}
-use Rattle.slot_contents.specs.declared.sent.Sent.TheVariants as sent
+use Rattle.lapm_frames.specs.declared.sent.Sent.{Sent}
+use Rattle.lapm_frames.specs.declared.sent.Sent.TheVariants as sent
 use Rattle.noise_script.specs.Script.{ScriptValue, offset_of}
-use Rattle.slot_contents.specs.declared.heard.Heard.{Heard}
-use Rattle.slot_contents.specs.declared.heard.Heard.TheVariants as heard
+use Rattle.lapm_frames.specs.declared.heard.Heard.{Heard}
+use Rattle.lapm_frames.specs.declared.heard.Heard.TheVariants as heard
 use Rattle.sample_line.specs.Outcomes.{IsSilent, IsWhatWasSent, IsOutcome}
 use Rattle.sample_line.specs.Recorded.{displaced, displaced_from, Records}
 use Rattle.roles.specs.Role.{mode_of}

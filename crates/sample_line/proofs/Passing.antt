@@ -8,14 +8,14 @@ use Rattle.trellis_tables.specs.Table.{next_state}
 use Rattle.exact_decoder.specs.Decoder.{DecoderStands}
 use Rattle.bit_stuffing.specs.Slots.{Slot, slot_bits, sent_bits}
 use Rattle.bit_stuffing.specs.SlotWriter.{Writer, WriterStands}
-use Rattle.slot_contents.specs.declared.seen.Seen.{Seen}
+use Rattle.lapm_frames.specs.declared.seen.Seen.{Seen}
 use Rattle.detection.specs.Slots.{Signal, signal_bits, slot_of, slots_of}
 use Rattle.bit_stuffing.proofs.Fill.{bits-append}
 use Rattle.roles.specs.declared.role.Role.{Role}
 use Rattle.lapm_frames.specs.declared.frame.Frame.{Frame}
-use Rattle.slot_contents.specs.declared.sent.Sent.{Sent}
+use Rattle.lapm_frames.specs.declared.sent.Sent.{Sent}
 use Rattle.noise_script.specs.Script.{ScriptValue}
-use Rattle.slot_contents.specs.declared.heard.Heard.{Heard}
+use Rattle.lapm_frames.specs.declared.heard.Heard.{Heard}
 use Rattle.sample_line.specs.declared.tally.Tally.{Tally}
 use Rattle.sample_line.specs.declared.path.Path.{Path}
 use Rattle.sample_line.specs.Recorded.{Records}

@@ -6,13 +6,13 @@ use Rattle.exact_decoder.specs.Decoder.{Decoding}
 use Rattle.exact_decoder.specs.declared.decoder.Lost.{Lost}
 use Rattle.bit_stuffing.specs.Slots.{slot_bits, phase_after}
 use Rattle.bit_stuffing.specs.SlotWriter.{Writer, WriterStands}
-use Rattle.slot_contents.specs.declared.seen.Seen.{Seen}
+use Rattle.lapm_frames.specs.declared.seen.Seen.{Seen}
 use Rattle.detection.specs.Slots.{Signal, signal_bits, slot_of, slots_of}
 use Rattle.roles.specs.declared.role.Role.{Role}
 use Rattle.lapm_frames.specs.declared.frame.Frame.{Frame}
-use Rattle.slot_contents.specs.declared.sent.Sent.{Sent}
+use Rattle.lapm_frames.specs.declared.sent.Sent.{Sent}
 use Rattle.noise_script.specs.Script.{ScriptValue}
-use Rattle.slot_contents.specs.declared.heard.Heard.{Heard}
+use Rattle.lapm_frames.specs.declared.heard.Heard.{Heard}
 use Rattle.sample_line.specs.declared.path.Path.{Path}
 use Rattle.sample_line.specs.Recorded.{Records}
 use Rattle.sample_line.specs.Received.{Receives}

@@ -8,7 +8,7 @@ use Rattle.survivors.specs.V32.{line_trellis}
 use Rattle.line_coding.specs.Demodulates.{Demodulates}
 use Rattle.bit_stuffing.specs.Found.{Found, pieces_of}
 use Rattle.bit_stuffing.specs.Sent.{wholes}
-use Rattle.slot_contents.specs.declared.seen.Seen.{Seen}
+use Rattle.lapm_frames.specs.declared.seen.Seen.{Seen}
 use Rattle.detection.specs.Sights.{Sight, sights_of}
 use Rattle.roles.specs.declared.role.Role.{Role}
 use Rattle.lapm_frames.specs.declared.frame.Frame.{Frame}

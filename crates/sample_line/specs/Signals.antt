@@ -6,12 +6,12 @@ use Rattle.lapm_frames.specs.declared.frame.Frame.{Frame}
 use Rattle.lapm_frames.specs.Checked.{checked}
 use Rattle.bit_stuffing.specs.declared.slot_writer.TheConstants.{TAIL}
 use Rattle.bit_stuffing.specs.Slots.{opening}
-use Rattle.slot_contents.specs.declared.seen.Seen.TheVariants as seen
+use Rattle.lapm_frames.specs.declared.seen.Seen.TheVariants as seen
 use Rattle.detection.specs.Slots.{Signal}
 use Rattle.detection.specs.Slots.Signal.{PatternSlot, MarkSlot, FlagSlot}
-use Rattle.slot_contents.specs.Sendable.{IsSendable}
-use Rattle.slot_contents.specs.declared.sent.Sent.{Sent}
-use Rattle.slot_contents.specs.declared.sent.Sent.TheVariants as sent
+use Rattle.lapm_frames.specs.Sendable.{IsSendable}
+use Rattle.lapm_frames.specs.declared.sent.Sent.{Sent}
+use Rattle.lapm_frames.specs.declared.sent.Sent.TheVariants as sent
 
 -- what an end's slot carries
 abbrev pub signal_of : Check → Role → ℕ → Sent → Signal

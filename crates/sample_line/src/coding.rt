@@ -12,9 +12,8 @@ ghost use Rattle.sample_line.specs.Signals.{signal_of, IsCodable};
 use bit_stuffing::{BitSlot, SlotWriter};
 use detection::{mark_slot, pattern_slot};
 use frame_check::Check;
-use lapm_frames::write_checked;
+use lapm_frames::{Seen, Sent, write_checked};
 use roles::Role;
-use slot_contents::{Seen, Sent};
 
 /// Writes a slot of ones.
 fn write_mark(writer: &mut SlotWriter, symbols: u16, out: &mut BitSlot)

@@ -14,4 +14,4 @@ mod transmitter;
 
 pub use hearer::{DEPTH, LineDecoder};
 pub use line::Line;
-pub use slot_contents::Heard;
+pub use lapm_frames::Heard;

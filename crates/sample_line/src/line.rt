@@ -26,7 +26,7 @@ use frame_check::Check;
 use noise_script::Script;
 use outside_calls::NoMemory;
 use roles::Role;
-use slot_contents::Sent;
+use lapm_frames::Sent;
 use std::alloc::Global;
 use std::marker::Model;
 

@@ -4,7 +4,7 @@ ghost use Rattle.plain_lists.specs.Bits.{low_bits};
 ghost use Rattle.bit_stuffing.specs.Deframer.{DeframerStands};
 ghost use Rattle.bit_stuffing.specs.declared.piece.Piece.{Piece};
 ghost use Rattle.lapm_frames.specs.declared.frame.Frame.{Frame};
-ghost use Rattle.slot_contents.specs.declared.seen.Seen.{Seen};
+ghost use Rattle.lapm_frames.specs.declared.seen.Seen.{Seen};
 ghost use Rattle.sample_line.specs.Tallies.{BitIsTallied, Tallies, TalliesBetween, WholeIsTallied};
 ghost use Rattle.sample_line.specs.Receiver.{HasRead};
 
@@ -14,7 +14,7 @@ use bit_stuffing::{Deframer, Piece};
 use detection::PatternReader;
 use frame_check::Check;
 use roles::Role;
-use slot_contents::Sent;
+use lapm_frames::Sent;
 
 /// What is known of the slot that is received: what was sent in it, and how its receiver judges frames.
 #[derive(Clone, Copy)]

@@ -1,14 +1,13 @@
 // What was received in a slot so far, beside what was sent in it.
 ghost use Rattle.std.specs.Prelude.{◌≡◌, true, false, [], ◌∷◌, ◌++◌, List, option_to_list};
 ghost use Rattle.lapm_frames.specs.declared.frame.Frame.{Frame};
-ghost use Rattle.slot_contents.specs.declared.seen.Seen.{Seen};
-ghost use Rattle.slot_contents.specs.declared.sent.Sent.{Sent};
+ghost use Rattle.lapm_frames.specs.declared.seen.Seen.{Seen};
+ghost use Rattle.lapm_frames.specs.declared.sent.Sent.{Sent};
 ghost use Rattle.sample_line.specs.Outcomes.{is_message, IsLostAs, IsOutcome};
 ghost use Rattle.sample_line.specs.Tallies.{Tallies, carries, after_frame, after_pattern};
 
 use crate::Heard;
-use lapm_frames::Frame;
-use slot_contents::{Seen, Sent};
+use lapm_frames::{Frame, Seen, Sent};
 
 /// What was received in a slot so far.
 #[derive(Clone, Copy)]

@@ -8,13 +8,13 @@ use Rattle.roles.specs.Role.{is_originator}
 use Rattle.lapm_frames.specs.declared.frame.Frame.{Frame}
 use Rattle.lapm_frames.specs.declared.frame.Frame.TheVariants.{I, Rr, Rnr, Rej, Srej, Sabme, Disc, Ua, Dm, Frmr, Ui, Xid}
 use Rattle.xid_params.specs.Offers.{written}
-use Rattle.turn_timers.specs.Timer.{expires, wait}
+use Rattle.causes.specs.Timer.{expires, wait}
 use Rattle.lapm_sender.specs.Outgoing.{Outgoing, acknowledged, rejected, replied, selected, paused_at, resumed, expired}
 use Rattle.break_signals.specs.Breaks.{OwnBreaks, ticked}
-use Rattle.slot_contents.specs.declared.arrived.Arrived.{Arrived}
-use Rattle.slot_contents.specs.declared.arrived.Arrived.TheVariants as arrivals
-use Rattle.link_faults.specs.declared.fault.LinkFault.{LinkFault}
-use Rattle.link_faults.specs.declared.fault.LinkFault.TheVariants.{NotDetected}
+use Rattle.lapm_frames.specs.declared.arrived.Arrived.{Arrived}
+use Rattle.lapm_frames.specs.declared.arrived.Arrived.TheVariants as arrivals
+use Rattle.causes.specs.declared.fault.LinkFault.{LinkFault}
+use Rattle.causes.specs.declared.fault.LinkFault.TheVariants.{NotDetected}
 use Rattle.link_account.specs.declared.phase.Phase.{Phase}
 use Rattle.link_account.specs.declared.phase.Phase.TheVariants.{Detecting, Negotiating, Establishing, Connected, Releasing, Closed}
 use Rattle.link_account.specs.declared.answer.Answer.TheVariants as answers
@@ -25,7 +25,7 @@ use Rattle.link_account.specs.Hear.{owing, peer_reset, trying}
 use Rattle.link_account.specs.Speak.{Said, speak, speak_in, speak_detecting, speak_negotiating, speak_connected, speak_linked}
 use Rattle.link_account.specs.Speak.{speak_releasing, u_try, spent, tries_frame, trying_again, polling, breaking, on_timer}
 use Rattle.link_account.specs.Speak.{timer_expires, then_tries, after_timers, says}
-use Rattle.slot_contents.specs.declared.sent.Sent.TheVariants as slots
+use Rattle.lapm_frames.specs.declared.sent.Sent.TheVariants as slots
 use Rattle.single_end.specs.Laws.{IsPeers}
 
 -- ---- hearing

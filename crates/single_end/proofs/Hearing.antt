@@ -15,9 +15,9 @@ use Rattle.bit_stuffing.specs.Found.{lent_of}
 use Rattle.detection.specs.Patterns.{EndsPattern}
 use Rattle.lapm_frames.specs.declared.frame.Frame.{Frame}
 use Rattle.lapm_frames.specs.Checked.{SpellsFrame}
-use Rattle.slot_contents.specs.declared.seen.Seen.{Seen}
-use Rattle.slot_contents.specs.declared.arrived.Arrived.{Arrived}
-use Rattle.slot_contents.specs.declared.arrived.Arrived.TheVariants as arrivals
+use Rattle.lapm_frames.specs.declared.seen.Seen.{Seen}
+use Rattle.lapm_frames.specs.declared.arrived.Arrived.{Arrived}
+use Rattle.lapm_frames.specs.declared.arrived.Arrived.TheVariants as arrivals
 use Rattle.single_end.specs.Heard.{EndsWith, EndsSo, IsQuiet, AreQuiet, IsFirst, IsHeard, first, filled, slot_octets}
 
 -- ---- what ends with one bit

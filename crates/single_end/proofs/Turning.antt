@@ -12,9 +12,9 @@ use Rattle.roles.specs.declared.role.Role.TheVariants.{Originator, Answerer}
 use Rattle.roles.specs.Role.{is_originator, other}
 use Rattle.xid_params.specs.Offers.{IsAllowed}
 use Rattle.xid_params.specs.Terms.{default_offer}
-use Rattle.slot_contents.specs.declared.arrived.Arrived.{Arrived}
-use Rattle.slot_contents.specs.declared.sent.Sent.{Sent}
-use Rattle.link_faults.specs.declared.fault.LinkFault.{LinkFault}
+use Rattle.lapm_frames.specs.declared.arrived.Arrived.{Arrived}
+use Rattle.lapm_frames.specs.declared.sent.Sent.{Sent}
+use Rattle.causes.specs.declared.fault.LinkFault.{LinkFault}
 use Rattle.link_account.specs.declared.setup.Setup.{Setup}
 use Rattle.link_account.specs.Account.{Account, is_connected, is_done, break_waits, given_break, after_given}
 use Rattle.link_account.specs.Hear.{hear}

@@ -6,8 +6,8 @@ use Rattle.roles.specs.declared.role.Role.{Role}
 use Rattle.bit_stuffing.specs.Pieces.{EndsWhole}
 use Rattle.detection.specs.Patterns.{EndsPattern}
 use Rattle.lapm_frames.specs.Checked.{SpellsFrame}
-use Rattle.slot_contents.specs.declared.arrived.Arrived.{Arrived}
-use Rattle.slot_contents.specs.declared.arrived.Arrived.TheVariants.{Nothing, Pattern, Frame}
+use Rattle.lapm_frames.specs.declared.arrived.Arrived.{Arrived}
+use Rattle.lapm_frames.specs.declared.arrived.Arrived.TheVariants.{Nothing, Pattern, Frame}
 
 -- how many octets of bits a slot has: 464 symbols of four bits
 abbrev pub slot_octets : ℕ

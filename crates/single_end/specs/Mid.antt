@@ -2,8 +2,8 @@
 use Rattle.std.specs.Prelude.{◌≡◌, ℕ, false, List, ◌∷◌, length, Result, Ok, Err}
 use Rattle.outside_calls.specs.Folder.{FolderState, Appended, PartlyAppended, Rose, FaultsStand, CountsStand}
 use Rattle.roles.specs.Role.{other}
-use Rattle.slot_contents.specs.declared.arrived.Arrived.{Arrived}
-use Rattle.link_faults.specs.declared.fault.LinkFault.{LinkFault}
+use Rattle.lapm_frames.specs.declared.arrived.Arrived.{Arrived}
+use Rattle.causes.specs.declared.fault.LinkFault.{LinkFault}
 use Rattle.link_account.specs.Account.{Account, after_given, after_busy}
 use Rattle.link_account.specs.Hear.{hear}
 use Rattle.link_run.specs.End.{delivered, offered}

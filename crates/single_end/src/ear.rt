@@ -14,9 +14,8 @@ use bit_stuffing::Deframer;
 use bit_stuffing::laws::one_lent;
 use detection::PatternReader;
 use frame_check::Check;
-use lapm_frames::{Frame, read_checked};
+use lapm_frames::{Arrived, Frame, read_checked};
 use roles::Role;
-use slot_contents::Arrived;
 
 /// The frame of the peer that these octets are, where they pass the check of 16 bits.
 fn frame_in(whole: &[u8], peer: Role) -> Option<Frame>

@@ -10,6 +10,6 @@ mod single;
 mod step;
 
 pub use limits::{FILE_LIMIT, SLOT_OCTETS};
-pub use link_faults::LinkFault;
+pub use causes::LinkFault;
 pub use single::Single;
 pub use step::{SingleFault, SingleStep};

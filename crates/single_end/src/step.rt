@@ -1,6 +1,6 @@
 // What a turn answers.
 
-use link_faults::LinkFault;
+use causes::LinkFault;
 
 /// What comes after a turn.
 #[derive(Clone, Copy, PartialEq, Eq)]

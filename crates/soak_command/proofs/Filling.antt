@@ -6,10 +6,10 @@ use Rattle.std.specs.Cmp.Lexicographic.{nat_list_cmp_total}
 use Rattle.outside_calls.specs.Folder.{Files}
 use Rattle.outside_core.specs.Sure.{SureState, sure_folder}
 use Rattle.roles.specs.declared.role.Role.TheVariants.{Originator, Answerer}
-use Rattle.run_loop.specs.World.{AreApart}
-use Rattle.run_loop.specs.RunFault.{RunFault}
-use Rattle.run_loop.specs.RunFault.TheVariants as faults
-use Rattle.run_loop.specs.Turn.{FaultCounts}
+use Rattle.run_world.specs.World.{AreApart}
+use Rattle.run_world.specs.RunFault.{RunFault}
+use Rattle.run_world.specs.RunFault.TheVariants as faults
+use Rattle.run_world.specs.Turn.{FaultCounts}
 use Rattle.command_base.specs.Stops.{SomeRose}
 use Rattle.soak_inputs.specs.Soak.{soak_file}
 use Rattle.soak_command.specs.Ends.{IsTurnEnd}

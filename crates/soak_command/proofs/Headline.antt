@@ -22,7 +22,7 @@ use Rattle.command_base.specs.Lines.{soak_line}
 use Rattle.command_base.specs.Tells.{Tells}
 use Rattle.command_base.proofs.Answering.{IsPlain}
 use Rattle.command_base.proofs.Jobs.{last-plain, done-of, done-unless-memory, shared-of}
-use Rattle.command_base.proofs.OnlyOutputs.{OnlyOutputs-refl}
+use Rattle.outside_calls.proofs.OnlyOutputs.{OnlyOutputs-refl}
 use Rattle.line_ends.specs.Carried.{IsCarried}
 use Rattle.soak_inputs.specs.Soak.{soak_file, soak_script}
 use Rattle.soak_command.specs.declared.counts.SoakCounts.{SoakCounts}

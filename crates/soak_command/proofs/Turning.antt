@@ -11,14 +11,14 @@ use Rattle.link_run.specs.Counts.{lost_slots, sent_again}
 use Rattle.line_run.specs.Ends.{RunEnd, RunsTo}
 use Rattle.line_run.specs.Ends as runs
 use Rattle.line_run.specs.Scripted.{link_of}
-use Rattle.run_loop.specs.Limits.{file_limit}
-use Rattle.run_loop.specs.Names.{Written}
-use Rattle.run_loop.specs.World.{KnowsFiles, OnlyOutputs as OnlyWritten}
-use Rattle.run_loop.specs.RunFault.{RunFault}
-use Rattle.run_loop.specs.RunFault.TheVariants as faults
-use Rattle.run_loop.specs.Turn.{FaultCounts}
-use Rattle.command_base.specs.Outputs.{OnlyOutputs}
-use Rattle.run_loop.specs.Turns.{RunEnds, RunCounts, FaultEnds}
+use Rattle.run_world.specs.Limits.{file_limit}
+use Rattle.run_world.specs.Names.{Written}
+use Rattle.run_world.specs.World.{KnowsFiles, OnlyOutputs as OnlyWritten}
+use Rattle.run_world.specs.RunFault.{RunFault}
+use Rattle.run_world.specs.RunFault.TheVariants as faults
+use Rattle.run_world.specs.Turn.{FaultCounts}
+use Rattle.outside_calls.specs.Outputs.{OnlyOutputs}
+use Rattle.run_world.specs.Turns.{RunEnds, RunCounts, FaultEnds}
 use Rattle.soak_inputs.specs.Soak.{soak_file, soak_script}
 use Rattle.soak_command.specs.Ends.{Ends, SoakEnds, IsTurnEnd, fault_stop, soak_channel, soak_files}
 use Rattle.soak_command.specs.Folder.{HoldsFiles, soak_names, soak_outputs}

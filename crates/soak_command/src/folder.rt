@@ -1,7 +1,7 @@
 // The folder of a soak.
 ghost use Rattle.std.specs.Prelude.{◌≡◌, IfOk, OnOk, true};
-ghost use Rattle.run_loop.specs.Names.{written};
-ghost use Rattle.command_base.specs.Outputs.{OnlyOutputs, Creates};
+ghost use Rattle.run_world.specs.Names.{written};
+ghost use Rattle.outside_calls.specs.Outputs.{OnlyOutputs, Creates};
 ghost use Rattle.outside_core.specs.Sure.{sure_folder};
 ghost use Rattle.soak_command.specs.Folder.{HoldsFiles, soak_names, soak_outputs};
 
@@ -9,7 +9,7 @@ use command_base::create_outputs;
 use outside_calls::{FolderFault, NoMemory};
 use outside_core::SureFolder;
 use roles::Role;
-use run_loop::Names;
+use run_world::Names;
 use soak_inputs::soak_file;
 use std::alloc::Global;
 

@@ -3,7 +3,7 @@ ghost use Rattle.std.specs.Prelude.{◌≡◌, [], List, ℕ};
 ghost use Rattle.roles.specs.Both.{Both};
 ghost use Rattle.link_run.specs.Run.{start};
 ghost use Rattle.line_run.specs.Scripted.{link_of};
-ghost use Rattle.run_loop.specs.World.{IsReady, WorldAfter, script_of};
+ghost use Rattle.run_world.specs.World.{IsReady, WorldAfter, script_of};
 ghost use Rattle.noise_script.specs.Script.{IsInLimits};
 ghost use Rattle.outside_core.specs.Sure.{sure_folder};
 ghost use Rattle.soak_inputs.specs.Soak.{soak_script};
@@ -14,7 +14,7 @@ use crate::counts::SoakCounts;
 use crate::folder::{make_outputs, soak_folder, soak_names};
 use command_base::{Status, Stop};
 use outside_core::SureFolder;
-use run_loop::{RunFault, World, run_turns};
+use run_world::{RunFault, World, run_turns};
 use soak_inputs::soak_script;
 use std::alloc::Global;
 

@@ -39,7 +39,7 @@ impl Station {
     ghost use Rattle.std.specs.List.{concat};
     ghost use Rattle.std.specs.Option.{option_map};
     ghost use Rattle.outside_calls.specs.Folder.{OnlyReads, OnlyWrites, HasCause, Adds, PartlyAppended, FaultsStand, CountsStand};
-    ghost use Rattle.slot_contents.specs.Sendable.{IsSendable};
+    ghost use Rattle.lapm_frames.specs.Sendable.{IsSendable};
     ghost use Rattle.lapm_link.specs.Stands.{TakesNothing, undelivered_of};
     ghost use Rattle.link_account.specs.Numbers.{IsNumbered};
     ghost use Rattle.link_account.specs.Account.{Account, fresh, after_given, after_busy, given_break, is_done, break_waits, check_of};

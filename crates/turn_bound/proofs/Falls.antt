@@ -3,10 +3,10 @@ use Rattle.std.proofs.lemmas.Bool.Decides.{nat_tests}
 use Rattle.roles.specs.declared.role.Role.{Role}
 use Rattle.roles.specs.declared.role.Role.TheVariants.{Originator, Answerer}
 use Rattle.lapm_sender.specs.Outgoing.{Outgoing, wanted}
-use Rattle.slot_contents.specs.declared.arrived.Arrived.{Arrived}
+use Rattle.lapm_frames.specs.declared.arrived.Arrived.{Arrived}
 use Rattle.link_account.specs.declared.phase.Phase.{Phase}
 use Rattle.link_account.specs.declared.phase.Phase.TheVariants.{Detecting, Negotiating, Establishing, Connected, Releasing, Closed}
-use Rattle.link_faults.specs.declared.fault.LinkFault.{LinkFault}
+use Rattle.causes.specs.declared.fault.LinkFault.{LinkFault}
 use Rattle.link_account.specs.Account.{Account, is_connected}
 use Rattle.roles.specs.Role.{is_originator}
 use Rattle.link_account.specs.Hear.{hear}

@@ -12,7 +12,7 @@ use Rattle.break_signals.specs.declared.fault.BreakFault.{BreakFault}
 use Rattle.break_signals.specs.Breaks.{OwnBreaks, after_answer, waits}
 use Rattle.link_account.specs.declared.phase.Phase.{Phase}
 use Rattle.link_account.specs.declared.phase.Phase.TheVariants.{Connected}
-use Rattle.link_faults.specs.declared.fault.LinkFault.{LinkFault}
+use Rattle.causes.specs.declared.fault.LinkFault.{LinkFault}
 use Rattle.link_account.specs.Account.{Account}
 use Rattle.link_account.specs.Hear.{on_i, on_ready, on_rnr, on_rej, on_srej, on_word, on_number, then_in, replying, taking, hurrying, pausing, ends_wait}
 use Rattle.turn_bound.proofs.Clock.{Rates, AreRates, is_waiting, Sends, ends, Breaks, is_breaking}

@@ -14,13 +14,13 @@ use Rattle.lapm_sender.specs.Outgoing.{Outgoing}
 use Rattle.lapm_receiver.specs.Incoming as incoming
 use Rattle.break_signals.specs.Words.{word_in}
 use Rattle.break_signals.specs.Breaks.{OwnBreaks, no_breaks, waits}
-use Rattle.slot_contents.specs.declared.seen.Seen.{Seen}
-use Rattle.slot_contents.specs.declared.seen.Seen.TheVariants.{Odp, Adp}
-use Rattle.slot_contents.specs.declared.arrived.Arrived.{Arrived}
-use Rattle.slot_contents.specs.declared.arrived.Arrived.TheVariants as arrivals
+use Rattle.lapm_frames.specs.declared.seen.Seen.{Seen}
+use Rattle.lapm_frames.specs.declared.seen.Seen.TheVariants.{Odp, Adp}
+use Rattle.lapm_frames.specs.declared.arrived.Arrived.{Arrived}
+use Rattle.lapm_frames.specs.declared.arrived.Arrived.TheVariants as arrivals
 use Rattle.link_account.specs.declared.phase.Phase.{Phase}
 use Rattle.link_account.specs.declared.phase.Phase.TheVariants.{Detecting, Negotiating, Establishing, Connected, Releasing, Closed}
-use Rattle.link_faults.specs.declared.fault.LinkFault.{LinkFault}
+use Rattle.causes.specs.declared.fault.LinkFault.{LinkFault}
 use Rattle.link_account.specs.Account.{Account, window_for, size_for}
 use Rattle.link_account.specs.declared.answer.Answer.TheVariants as answers
 use Rattle.link_account.specs.Hear.{hear, on_frame, on_seen, on_nothing, on_pattern, on_detecting, on_negotiating, on_establishing, on_releasing, on_closed, on_connected, on_i, on_ready, on_rnr, on_rej, on_srej, on_sabme, on_disc, on_word, peer_reset, connected, trying, owing, on_xid_command, on_xid_response, first_wait}

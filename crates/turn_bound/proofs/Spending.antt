@@ -7,11 +7,11 @@ use Rattle.lapm_frames.specs.declared.frame.Frame.TheVariants.{Sabme, Disc, Xid}
 use Rattle.xid_params.specs.Offers.{written}
 use Rattle.lapm_sender.specs.Outgoing.{expired}
 use Rattle.break_signals.specs.Breaks.{waits, ticked}
-use Rattle.slot_contents.specs.declared.sent.Sent.TheVariants as slots
+use Rattle.lapm_frames.specs.declared.sent.Sent.TheVariants as slots
 use Rattle.link_account.specs.declared.phase.Phase.{Phase}
 use Rattle.link_account.specs.declared.phase.Phase.TheVariants.{Detecting, Negotiating, Establishing, Connected, Releasing, Closed}
-use Rattle.link_faults.specs.declared.fault.LinkFault.{LinkFault}
-use Rattle.link_faults.specs.declared.fault.LinkFault.TheVariants.{NotDetected, Spent}
+use Rattle.causes.specs.declared.fault.LinkFault.{LinkFault}
+use Rattle.causes.specs.declared.fault.LinkFault.TheVariants.{NotDetected, Spent}
 use Rattle.link_account.specs.Account.{Account, is_connected}
 use Rattle.roles.specs.Role.{is_originator}
 use Rattle.link_account.specs.Hear.{trying}
@@ -19,7 +19,7 @@ use Rattle.link_account.specs.Speak.{says, spent, trying_again, tries_frame, u_t
 use Rattle.turn_bound.proofs.Clock.{Rates, AreRates, Runs, Ticks}
 use Rattle.turn_bound.proofs.Value.{IsOf, Linked, Tries, Stands}
 use Rattle.turn_bound.specs.Spent.{since, SpentOnTime, IsTimely}
-use Rattle.slot_contents.specs.declared.arrived.Arrived.{Arrived}
+use Rattle.lapm_frames.specs.declared.arrived.Arrived.{Arrived}
 use Rattle.link_account.specs.Hear.{hear}
 use Rattle.turn_bound.proofs.Value.{arrived_rnrs}
 use Rattle.link_run.specs.End.{User, is_busy}

@@ -5,10 +5,10 @@ use Rattle.roles.specs.declared.role.Role.{Role}
 use Rattle.roles.specs.declared.role.Role.TheVariants.{Originator, Answerer}
 use Rattle.lapm_sender.specs.Outgoing.{expired, Outgoing, is_outstanding, wanted, is_whole}
 use Rattle.break_signals.specs.Breaks.{OwnBreaks, after_ask, waits}
-use Rattle.slot_contents.specs.declared.arrived.Arrived.{Arrived}
+use Rattle.lapm_frames.specs.declared.arrived.Arrived.{Arrived}
 use Rattle.link_account.specs.declared.phase.Phase.{Phase}
 use Rattle.link_account.specs.declared.phase.Phase.TheVariants.{Detecting, Negotiating, Establishing, Connected, Releasing, Closed}
-use Rattle.link_faults.specs.declared.fault.LinkFault.{LinkFault}
+use Rattle.causes.specs.declared.fault.LinkFault.{LinkFault}
 use Rattle.link_account.specs.Account.{Account, is_connected, is_done, break_waits, after_break_asked}
 use Rattle.roles.specs.Role.{is_originator}
 use Rattle.link_account.specs.Hear.{hear, trying}

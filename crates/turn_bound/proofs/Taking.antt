@@ -19,10 +19,10 @@ use Rattle.break_signals.specs.declared.word.BreakWord.TheVariants.{Brk, Ack}
 use Rattle.break_signals.specs.declared.fault.BreakFault.{BreakFault}
 use Rattle.break_signals.specs.Words.{word_in}
 use Rattle.break_signals.specs.Breaks.{OwnBreaks, after_answer, waits}
-use Rattle.slot_contents.specs.declared.arrived.Arrived.{Arrived}
-use Rattle.slot_contents.specs.declared.arrived.Arrived.TheVariants as arrivals
+use Rattle.lapm_frames.specs.declared.arrived.Arrived.{Arrived}
+use Rattle.lapm_frames.specs.declared.arrived.Arrived.TheVariants as arrivals
 use Rattle.link_account.specs.declared.phase.Phase.TheVariants.{Connected, Closed}
-use Rattle.link_faults.specs.declared.fault.LinkFault.{LinkFault}
+use Rattle.causes.specs.declared.fault.LinkFault.{LinkFault}
 use Rattle.link_account.specs.Account.{Account}
 use Rattle.link_account.specs.declared.answer.Answer.TheVariants as answers
 use Rattle.link_account.specs.Hear.{hear, on_frame, on_seen, on_connected, on_i, on_ready, on_rej, on_srej, on_sabme, on_disc, on_word, on_number, timer_after, then_in, replying, taking, hurrying, ends_wait, peer_reset, owing, without_adp}

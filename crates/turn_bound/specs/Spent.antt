@@ -2,8 +2,8 @@
 use Rattle.std.specs.Prelude.{◌≡◌, ℕ, ◌+◌, ◌-◌, ◌*◌, ◌≤◌, ◌⊎◌, true, false, List, length, Some}
 use Rattle.roles.specs.declared.role.Role.{Role}
 use Rattle.break_signals.specs.Breaks.{waits}
-use Rattle.link_faults.specs.declared.fault.LinkFault.{LinkFault}
-use Rattle.link_faults.specs.declared.fault.LinkFault.TheVariants.{NotDetected, Spent, BadAck, PeerReset, PeerRefused}
+use Rattle.causes.specs.declared.fault.LinkFault.{LinkFault}
+use Rattle.causes.specs.declared.fault.LinkFault.TheVariants.{NotDetected, Spent, BadAck, PeerReset, PeerRefused}
 use Rattle.link_account.specs.Account.{Account, is_connected}
 use Rattle.link_run.specs.Run.{Link, Ends, Turn, RunOf, BrokenTurn, served_at}
 use Rattle.link_run.specs.Carried.{IsCarried}

@@ -1,8 +1,8 @@
 -- The turn in which a poll's answer is heard.
 use Rattle.std.specs.Prelude.{◌≡◌, ◌⊎◌, ℕ, ◌+◌, ◌%◌, ◌<◌, true, false, [], Some, slice_index_or}
 use Rattle.lapm_frames.specs.declared.frame.Frame.TheVariants.{I}
-use Rattle.slot_contents.specs.declared.arrived.Arrived.{Arrived}
-use Rattle.slot_contents.specs.declared.sent.Sent.TheVariants as slots
+use Rattle.lapm_frames.specs.declared.arrived.Arrived.{Arrived}
+use Rattle.lapm_frames.specs.declared.sent.Sent.TheVariants as slots
 use Rattle.link_account.specs.Account.{Account, is_connected}
 use Rattle.link_account.specs.Speak.{Said, nr_of}
 use Rattle.turn_losses.specs.Polls.{is_final}

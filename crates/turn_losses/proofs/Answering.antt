@@ -6,10 +6,10 @@ use Rattle.lapm_sender.specs.Meant.{meant}
 use Rattle.lapm_sender.specs.Outgoing.{Outgoing, is_outstanding, acknowledged, rejected, replied, advanced, wait_ended, resumed, paused_at, next_number, after_next, expired}
 use Rattle.std.specs.Option.{option_map}
 use Rattle.break_signals.specs.Breaks.{OwnBreaks, ticked}
-use Rattle.slot_contents.specs.declared.arrived.Arrived.TheVariants as arrivals
+use Rattle.lapm_frames.specs.declared.arrived.Arrived.TheVariants as arrivals
 use Rattle.link_account.specs.declared.phase.Phase.TheVariants.{Connected}
-use Rattle.link_faults.specs.declared.fault.LinkFault.{LinkFault}
-use Rattle.slot_contents.specs.declared.sent.Sent.TheVariants as slots
+use Rattle.causes.specs.declared.fault.LinkFault.{LinkFault}
+use Rattle.lapm_frames.specs.declared.sent.Sent.TheVariants as slots
 use Rattle.link_account.specs.Account.{Account}
 use Rattle.roles.specs.Role.{is_originator}
 use Rattle.link_account.specs.declared.answer.Answer.{Answer}

@@ -12,7 +12,7 @@ use Rattle.break_signals.specs.Breaks.{OwnBreaks, waits, after_brk, after_ack, t
 use Rattle.break_signals.specs.declared.fault.BreakFault.TheVariants.{Number}
 use Rattle.link_account.specs.declared.answer.Answer.{Answer}
 use Rattle.link_account.specs.declared.answer.Answer.TheVariants as answers
-use Rattle.link_faults.specs.declared.fault.LinkFault.{LinkFault}
+use Rattle.causes.specs.declared.fault.LinkFault.{LinkFault}
 use Rattle.link_account.specs.Account.{Account}
 use Rattle.link_account.specs.Speak.{Said, answering, polling, timer_expires, on_timer, breaking, on_break_timer, frame_for, says_word, where_says, may_send, says_segment, says_own, says_break, says_asking, step1, step2, step3, step4, step5, step6, step7, step8, step9, steps, tells, ready_frame, differs, after_timers, then_tries, speak_linked, nr_of}
 use Rattle.turn_bound.proofs.MeetHear.{of_frame}

@@ -4,8 +4,8 @@ use Rattle.roles.specs.declared.role.Role.{Role}
 use Rattle.roles.specs.declared.role.Role.TheVariants.{Originator, Answerer}
 use Rattle.roles.specs.Both.{of}
 use Rattle.break_signals.specs.Breaks.{waits}
-use Rattle.link_faults.specs.declared.fault.LinkFault.{LinkFault}
-use Rattle.link_faults.specs.declared.fault.LinkFault.TheVariants.{Spent, NotDetected, BadAck, PeerReset, PeerRefused}
+use Rattle.causes.specs.declared.fault.LinkFault.{LinkFault}
+use Rattle.causes.specs.declared.fault.LinkFault.TheVariants.{Spent, NotDetected, BadAck, PeerReset, PeerRefused}
 use Rattle.link_account.specs.Account.{is_connected, break_waits}
 use Rattle.link_run.specs.End.{is_released}
 use Rattle.link_run.specs.Run.{BrokenTurn, served_at}

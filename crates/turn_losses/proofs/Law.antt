@@ -7,7 +7,7 @@ use Rattle.xid_params.specs.Offers.{ReadsWritten, IsAllowed}
 use Rattle.break_signals.specs.Breaks.{waits}
 use Rattle.link_account.specs.declared.phase.Phase.{Phase}
 use Rattle.link_account.specs.declared.phase.Phase.TheVariants.{Detecting, Negotiating, Establishing, Connected, Releasing, Closed}
-use Rattle.link_faults.specs.declared.fault.LinkFault.{LinkFault}
+use Rattle.causes.specs.declared.fault.LinkFault.{LinkFault}
 use Rattle.link_account.specs.Account.{Account, is_connected, break_waits}
 use Rattle.link_run.specs.End.{is_released, is_closed}
 use Rattle.link_run.specs.Run.{BrokenTurn, arrival, served_at}

@@ -10,7 +10,7 @@ use Rattle.roles.specs.Both.{of}
 use Rattle.lapm_frames.specs.declared.frame.Frame.{Frame}
 use Rattle.xid_params.specs.Offers.{ReadsWritten}
 use Rattle.break_signals.specs.Breaks.{OwnBreaks, waits}
-use Rattle.slot_contents.specs.declared.arrived.Arrived.{Arrived}
+use Rattle.lapm_frames.specs.declared.arrived.Arrived.{Arrived}
 use Rattle.link_account.specs.Account.{Account, is_connected}
 use Rattle.link_account.specs.Laws.{MayPlay}
 use Rattle.link_account.specs.Hear.{hear}

@@ -15,15 +15,15 @@ use Rattle.break_signals.specs.declared.word.BreakWord.{BreakWord}
 use Rattle.break_signals.specs.declared.word.BreakWord.TheVariants.{Brk, Ack}
 use Rattle.break_signals.specs.declared.fault.BreakFault.{BreakFault}
 use Rattle.break_signals.specs.Words.{word_in}
-use Rattle.slot_contents.specs.declared.seen.Seen.{Seen}
-use Rattle.slot_contents.specs.declared.seen.Seen.TheVariants.{Odp, Adp}
-use Rattle.slot_contents.specs.declared.sent.Sent.TheVariants as slots
-use Rattle.slot_contents.specs.declared.arrived.Arrived.{Arrived}
-use Rattle.slot_contents.specs.declared.arrived.Arrived.TheVariants as arrivals
+use Rattle.lapm_frames.specs.declared.seen.Seen.{Seen}
+use Rattle.lapm_frames.specs.declared.seen.Seen.TheVariants.{Odp, Adp}
+use Rattle.lapm_frames.specs.declared.sent.Sent.TheVariants as slots
+use Rattle.lapm_frames.specs.declared.arrived.Arrived.{Arrived}
+use Rattle.lapm_frames.specs.declared.arrived.Arrived.TheVariants as arrivals
 use Rattle.link_account.specs.declared.phase.Phase.{Phase}
 use Rattle.link_account.specs.declared.phase.Phase.TheVariants.{Detecting, Negotiating, Establishing, Connected, Releasing, Closed}
-use Rattle.link_faults.specs.declared.fault.LinkFault.{LinkFault}
-use Rattle.link_faults.specs.declared.fault.LinkFault.TheVariants.{NotDetected}
+use Rattle.causes.specs.declared.fault.LinkFault.{LinkFault}
+use Rattle.causes.specs.declared.fault.LinkFault.TheVariants.{NotDetected}
 use Rattle.link_account.specs.declared.answer.Answer.TheVariants as answers
 use Rattle.link_account.specs.Account.{Account}
 use Rattle.link_account.specs.Hear.{hear, on_frame, on_seen, on_nothing, on_pattern, on_detecting, on_negotiating, on_establishing, on_releasing, on_closed, on_connected, on_number, then_in, replying, taking, hurrying, pausing, ends_wait, on_disc, on_word, peer_reset, owing, on_xid_response, trying, timer_after, connected}

@@ -6,7 +6,7 @@ use Rattle.lapm_sender.specs.Outgoing.{Outgoing, after_next, sent_among, next_am
 use Rattle.lapm_receiver.specs.Incoming.{Incoming, asks, after_asked}
 use Rattle.break_signals.specs.declared.word.BreakWord.{BreakWord}
 use Rattle.break_signals.specs.Breaks.{OwnBreaks, own_due, ticked}
-use Rattle.link_faults.specs.declared.fault.LinkFault.{LinkFault}
+use Rattle.causes.specs.declared.fault.LinkFault.{LinkFault}
 use Rattle.link_account.specs.Account.{Account}
 use Rattle.link_account.specs.declared.answer.Answer.{Answer}
 use Rattle.link_account.specs.declared.answer.Answer.TheVariants as answers

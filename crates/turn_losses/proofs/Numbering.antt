@@ -6,7 +6,7 @@ use Rattle.roles.specs.Role.{other}
 use Rattle.roles.specs.Both.{of}
 use Rattle.plain_lists.specs.Prefix.{IsPrefixOf}
 use Rattle.xid_params.specs.Offers.{IsAllowed}
-use Rattle.slot_contents.specs.declared.arrived.Arrived.{Arrived}
+use Rattle.lapm_frames.specs.declared.arrived.Arrived.{Arrived}
 use Rattle.link_account.specs.Account.{Account, is_connected, first_terms}
 use Rattle.link_account.specs.Hear.{hear}
 use Rattle.link_account.specs.Laws.{MayPlay, TakesInOrder, AcknowledgesTaken}

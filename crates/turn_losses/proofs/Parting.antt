@@ -10,16 +10,16 @@ use Rattle.roles.specs.Both.{of}
 use Rattle.lapm_sender.specs.Outgoing.{Outgoing, is_outstanding, is_whole}
 use Rattle.xid_params.specs.Offers.{ReadsWritten, IsAllowed}
 use Rattle.break_signals.specs.Breaks.{waits}
-use Rattle.slot_contents.specs.declared.sent.Sent.{Sent}
-use Rattle.slot_contents.specs.declared.sent.Sent.TheVariants as slots
-use Rattle.slot_contents.specs.declared.heard.Heard.{Heard}
-use Rattle.slot_contents.specs.declared.heard.Heard.TheVariants.{Nothing, Passed, Lost, Chance}
-use Rattle.slot_contents.specs.declared.arrived.Arrived.{Arrived}
-use Rattle.slot_contents.specs.declared.arrived.Arrived.TheVariants as arrivals
+use Rattle.lapm_frames.specs.declared.sent.Sent.{Sent}
+use Rattle.lapm_frames.specs.declared.sent.Sent.TheVariants as slots
+use Rattle.lapm_frames.specs.declared.heard.Heard.{Heard}
+use Rattle.lapm_frames.specs.declared.heard.Heard.TheVariants.{Nothing, Passed, Lost, Chance}
+use Rattle.lapm_frames.specs.declared.arrived.Arrived.{Arrived}
+use Rattle.lapm_frames.specs.declared.arrived.Arrived.TheVariants as arrivals
 use Rattle.link_account.specs.declared.phase.Phase.{Phase}
 use Rattle.link_account.specs.declared.phase.Phase.TheVariants.{Detecting, Negotiating, Establishing, Connected, Releasing, Closed}
-use Rattle.link_faults.specs.declared.fault.LinkFault.{LinkFault}
-use Rattle.link_faults.specs.declared.fault.LinkFault.TheVariants.{Spent}
+use Rattle.causes.specs.declared.fault.LinkFault.{LinkFault}
+use Rattle.causes.specs.declared.fault.LinkFault.TheVariants.{Spent}
 use Rattle.link_account.specs.Account.{Account, is_connected}
 use Rattle.link_account.specs.Hear.{hear, trying}
 use Rattle.link_account.specs.Laws.{MayPlay}

@@ -10,16 +10,16 @@ use Rattle.break_signals.specs.declared.word.BreakWord.{BreakWord}
 use Rattle.break_signals.specs.Breaks.{OwnBreaks, own_due, ticked}
 use Rattle.link_account.specs.declared.phase.Phase.{Phase}
 use Rattle.link_account.specs.declared.phase.Phase.TheVariants.{Detecting, Negotiating, Establishing, Connected, Releasing, Closed}
-use Rattle.link_faults.specs.declared.fault.LinkFault.{LinkFault}
-use Rattle.slot_contents.specs.declared.sent.Sent.{Sent}
-use Rattle.slot_contents.specs.declared.sent.Sent.TheVariants as slots
+use Rattle.causes.specs.declared.fault.LinkFault.{LinkFault}
+use Rattle.lapm_frames.specs.declared.sent.Sent.{Sent}
+use Rattle.lapm_frames.specs.declared.sent.Sent.TheVariants as slots
 use Rattle.link_account.specs.Account.{Account, is_connected}
 use Rattle.roles.specs.Role.{is_originator}
 use Rattle.link_account.specs.declared.answer.Answer.{Answer}
 use Rattle.link_account.specs.declared.answer.Answer.TheVariants as answers
 use Rattle.link_account.specs.Hear.{trying}
 use Rattle.lapm_receiver.specs.Incoming.{asks}
-use Rattle.link_faults.specs.declared.fault.LinkFault.TheVariants.{NotDetected}
+use Rattle.causes.specs.declared.fault.LinkFault.TheVariants.{NotDetected}
 use Rattle.link_account.specs.Speak.{Said, says, says_frame, else_says, where_says, spent, answering, frame_for, trying_again, tries_frame, u_try, polling, timer_expires, on_timer, breaking, nr_of, may_send, running, says_segment, says_own, says_break, says_asking, step1, step2, step3, step4, step5, step6, step7, step8, step9, steps, tells, ready_frame, differs, after_timers, then_tries, speak_linked, speak, speak_in, speak_detecting, speak_negotiating, speak_releasing}
 use Rattle.turn_bound.proofs.Speaking.{AllSaid, OnOk, else-says, where-says}
 use Rattle.turn_bound.proofs.AtMostOne.{by-steps}

@@ -2,8 +2,8 @@
 use Rattle.std.specs.Prelude.{◌≡◌, ℕ, ◌+◌, ◌<◌, Bool, if◌then◌else◌, false, nat_lt, List, [], ◌∷◌, length, Option, Some, None}
 use Rattle.roles.specs.declared.role.Role.{Role}
 use Rattle.roles.specs.Both.{of}
-use Rattle.slot_contents.specs.declared.sent.Sent.{Sent}
-use Rattle.slot_contents.specs.declared.sent.Sent.TheVariants as slots
+use Rattle.lapm_frames.specs.declared.sent.Sent.{Sent}
+use Rattle.lapm_frames.specs.declared.sent.Sent.TheVariants as slots
 use Rattle.link_run.specs.End.{is_closed}
 use Rattle.link_run.specs.Run.{Link, Ends, Spoken, Turn, RunOf, Hears, Speaks, served_at, start, arrival}
 use Rattle.link_run.specs.Carried.{Carries, IsCarried}

@@ -3,10 +3,10 @@ use Rattle.std.proofs.lemmas.Bool.Decides.{nat_tests}
 use Rattle.roles.specs.declared.role.Role.{Role}
 use Rattle.roles.specs.declared.role.Role.TheVariants.{Originator, Answerer}
 use Rattle.roles.specs.Role.{other}
-use Rattle.slot_contents.specs.declared.arrived.Arrived.{Arrived}
+use Rattle.lapm_frames.specs.declared.arrived.Arrived.{Arrived}
 use Rattle.link_account.specs.declared.phase.Phase.{Phase}
 use Rattle.link_account.specs.declared.phase.Phase.TheVariants.{Detecting, Negotiating, Establishing, Connected, Releasing, Closed}
-use Rattle.link_faults.specs.declared.fault.LinkFault.{LinkFault}
+use Rattle.causes.specs.declared.fault.LinkFault.{LinkFault}
 use Rattle.link_account.specs.Account.{Account, is_connected}
 use Rattle.link_account.specs.Hear.{hear}
 use Rattle.link_account.specs.Speak.{Said, speak}
@@ -41,7 +41,7 @@ use Rattle.link_run.specs.Carried.{Carries, IsCarried}
 use Rattle.turn_bound.specs.Time.{KeepsTime}
 use Rattle.turn_bound.proofs.Tied.{Tied, tied, keeps, link_of, turn_of, state_of, turns-length}
 use Rattle.turn_losses.proofs.Trace.{past, sent_or}
-use Rattle.slot_contents.specs.declared.heard.Heard.TheVariants as heards
+use Rattle.lapm_frames.specs.declared.heard.Heard.TheVariants as heards
 use Rattle.frame_check.specs.declared.check.Check.TheVariants as checks
 
 served-heard : (role : Role) (turn breaks : ℕ) (busy polled : Bool) (a b c : Account) → Served turn breaks busy b c

@@ -6,10 +6,10 @@ use Rattle.roles.specs.Both.{of}
 use Rattle.lapm_frames.specs.declared.frame.Frame.{Frame}
 use Rattle.lapm_frames.specs.declared.frame.Frame.TheVariants.{Sabme, Disc, Xid}
 use Rattle.xid_params.specs.Offers.{written, ReadsWritten}
-use Rattle.slot_contents.specs.declared.sent.Sent.TheVariants as slots
+use Rattle.lapm_frames.specs.declared.sent.Sent.TheVariants as slots
 use Rattle.link_account.specs.declared.phase.Phase.{Phase}
 use Rattle.link_account.specs.declared.phase.Phase.TheVariants.{Detecting, Negotiating, Establishing, Connected, Releasing, Closed}
-use Rattle.link_faults.specs.declared.fault.LinkFault.TheVariants.{Spent, NotDetected}
+use Rattle.causes.specs.declared.fault.LinkFault.TheVariants.{Spent, NotDetected}
 use Rattle.link_account.specs.Account.{Account, is_connected}
 use Rattle.link_account.specs.Speak.{says, speak, speak_in, speak_detecting, speak_negotiating, u_try}
 use Rattle.link_run.specs.End.{is_busy, is_released, is_closed}

@@ -5,8 +5,8 @@ use Rattle.std.proofs.lemmas.Bool.{cases_lt}
 use Rattle.roles.specs.declared.role.Role.{Role}
 use Rattle.roles.specs.declared.role.Role.TheVariants.{Originator, Answerer}
 use Rattle.xid_params.specs.Offers.{offer_in, written, IsAllowed, ReadsWritten}
-use Rattle.slot_contents.specs.declared.sent.Sent.{Sent}
-use Rattle.slot_contents.specs.declared.arrived.Arrived.{Arrived}
+use Rattle.lapm_frames.specs.declared.sent.Sent.{Sent}
+use Rattle.lapm_frames.specs.declared.arrived.Arrived.{Arrived}
 use Rattle.link_account.specs.declared.phase.Phase.{Phase}
 use Rattle.link_account.specs.declared.phase.Phase.TheVariants.{Detecting, Negotiating, Establishing, Connected, Releasing, Closed}
 use Rattle.link_account.specs.declared.setup.Setup.{Setup}

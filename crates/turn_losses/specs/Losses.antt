@@ -4,7 +4,7 @@ use Rattle.roles.specs.declared.role.Role.{Role}
 use Rattle.roles.specs.declared.role.Role.TheVariants.{Originator, Answerer}
 use Rattle.break_signals.specs.Breaks.{waits}
 use Rattle.link_account.specs.declared.phase.Phase.TheVariants.{Connected}
-use Rattle.link_faults.specs.declared.fault.LinkFault.TheVariants.{Spent, NotDetected}
+use Rattle.causes.specs.declared.fault.LinkFault.TheVariants.{Spent, NotDetected}
 use Rattle.link_run.specs.End.{is_released}
 use Rattle.link_run.specs.Run.{Link, Ends, Turn, RunOf, BrokenTurn, served_at}
 use Rattle.link_run.specs.Carried.{IsCarried, Carries}

@@ -2,7 +2,7 @@
 ghost use Rattle.std.specs.Prelude.{◌≡◌, ◌+◌, ◌<◌, ◌≤◌, ◌^◌, List, [], OnOk};
 ghost use Rattle.frame_check.specs.declared.sizes.TheConstants.{SLOT};
 ghost use Rattle.detection.specs.Slots.{Signal};
-ghost use Rattle.slot_contents.specs.Sendable.{IsSendable};
+ghost use Rattle.lapm_frames.specs.Sendable.{IsSendable};
 ghost use Rattle.sample_line.specs.Line.{LineStands};
 
 use bit_stuffing::BitSlot;
@@ -11,7 +11,7 @@ use frame_check::{Check, SLOT};
 use noise_script::{Script, read_script};
 use roles::Role;
 use sample_line::{Heard, Line, laws};
-use slot_contents::Sent;
+use lapm_frames::Sent;
 use std::alloc::Global;
 use std::test::Fail;
 

@@ -15,7 +15,7 @@ use Rattle.command_base.specs.declared.stop.Stop.TheVariants.{Own}
 use Rattle.command_base.specs.Stops.{IsOwn}
 use Rattle.command_base.specs.Job.{SaysStop, Answers}
 use Rattle.command_base.specs.Tells.{Tells}
-use Rattle.command_base.proofs.OnlyOutputs.{OnlyOutputs-refl}
+use Rattle.outside_calls.proofs.OnlyOutputs.{OnlyOutputs-refl}
 use Rattle.command_base.proofs.Jobs.{done-unless-memory}
 use Rattle.xid_command.specs.Digits.{IsBadHex}
 use Rattle.xid_command.specs.Ends.{Explains, Refuses, xid_job}

@@ -5,7 +5,7 @@ use detection::{mark_slot, pattern_slot};
 use line_coding::Modulator;
 use noise_script::read_script;
 use scramblers::Mode;
-use slot_contents::Seen;
+use lapm_frames::Seen;
 use symbol_map::Sample;
 
 /// The symbols of a slot.

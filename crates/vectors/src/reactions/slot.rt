@@ -4,9 +4,8 @@ ghost use Rattle.xid_params.specs.Offers.{IsAllowed};
 ghost use Rattle.link_account.specs.Numbers.{HasNumbers, IsNumbered};
 
 use frame_check::Info;
-use lapm_frames::Frame;
+use lapm_frames::{Frame, Seen};
 use lapm_link::{Arrived, Sent};
-use slot_contents::Seen;
 use xid_params::{Offer, default_offer, write_offer};
 
 /// What stands on the line in a turn: a frame by the fields of V.42, or what stands there without one. A P or F that isn't named

@@ -11,11 +11,10 @@ use super::slot::Supervisory::Rr;
 use super::slot::offer;
 use super::stage::Stage;
 use frame_check::Info;
-use lapm_frames::Frame;
+use lapm_frames::{Frame, Seen};
 use lapm_link::{AnyEnd, Arrived, LinkFault, Phase, Sent, Setup};
 use outside_calls::NoMemory;
 use roles::Role;
-use slot_contents::Seen;
 use std::alloc::Global;
 use std::test::Fail;
 

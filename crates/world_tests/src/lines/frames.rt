@@ -1,5 +1,5 @@
 // Frames through a line and back.
-ghost use Rattle.slot_contents.specs.Sendable.{IsSendable};
+ghost use Rattle.lapm_frames.specs.Sendable.{IsSendable};
 
 use super::*;
 use frame_check::{INFO, Info};

@@ -1,5 +1,5 @@
 // Slots through noise.
-ghost use Rattle.slot_contents.specs.Sendable.{IsSendable};
+ghost use Rattle.lapm_frames.specs.Sendable.{IsSendable};
 
 use super::*;
 use frame_check::Info;

@@ -1,7 +1,7 @@
 use Rattle.std.proofs.Common.{◌≡◌, ◌∷◌, map, ℕ, List, Bor, ap, subst, sym}
 use Rattle.outside_calls.specs.Folder.{FolderState}
 use Rattle.outside_calls.specs.declared.folder.FolderFault.{FolderFault}
-use Rattle.command_base.specs.Outputs.{AreApart, CreatesPart}
+use Rattle.outside_calls.specs.Outputs.{AreApart, CreatesPart}
 use Rattle.command_base.specs.Stops.{WriteFails}
 use Rattle.command_base.proofs.Creating.{CreatesPart-first, CreatesPart-none, WriteFails-later}
 use Rattle.command_base.proofs.Saying.{on-err-map, if-err-map}

@@ -2,7 +2,7 @@ use Rattle.std.proofs.Common.{◌∙◌, ℕ, List, Ok, Err, subst}
 use Rattle.outside_calls.specs.Folder.{FolderState}
 use Rattle.command_base.specs.declared.status.Status.TheVariants.{Done}
 use Rattle.command_base.specs.Tells.{Tells}
-use Rattle.command_base.proofs.OnlyOutputs.{OnlyOutputs-one}
+use Rattle.outside_calls.proofs.OnlyOutputs.{OnlyOutputs-one}
 use Rattle.encode_command.specs.Words.{EncodeNames, named}
 use Rattle.encode_command.proofs.Headline.{refused-by}
 use Rattle.encode_command.proofs.command.encode_and_tell.Goals as goal

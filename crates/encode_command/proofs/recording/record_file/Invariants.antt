@@ -1,7 +1,7 @@
 use Rattle.std.proofs.Common.{◌≤◌, ◌-◌}
 use Rattle.outside_calls.specs.Folder.{FolderState, CountsStand}
 use Rattle.command_base.specs.declared.limits.TheConstants.{FILE_LIMIT}
-use Rattle.command_base.specs.Outputs.{OnlyOutput}
+use Rattle.outside_calls.specs.Outputs.{OnlyOutput}
 use Rattle.encode_command.specs.Words.{named}
 use Rattle.encode_command.specs.Recorded.{Begun, RecordedTo}
 use Rattle.encode_command.proofs.recording.record_file.Given as goal

@@ -1,7 +1,7 @@
 use Rattle.std.proofs.Common.{[], arith}
 use Rattle.outside_calls.specs.Folder.{FolderState}
 use Rattle.outside_calls.specs.Steps.{CountsStand-refl}
-use Rattle.command_base.proofs.OnlyOutputs.{OnlyOutputs-refl}
+use Rattle.outside_calls.proofs.OnlyOutputs.{OnlyOutputs-refl}
 use Rattle.frames_command.specs.Words.{named}
 use Rattle.frames_command.proofs.Listed.{heard-none-yet}
 use Rattle.frames_command.proofs.listing.hear_file.Goals as goal

@@ -1,7 +1,7 @@
 use Rattle.std.proofs.Common.{◌≤◌, ◌-◌, ◌*◌, []}
 use Rattle.outside_calls.specs.Folder.{FolderState, CountsStand}
 use Rattle.command_base.specs.declared.limits.TheConstants.{FILE_LIMIT}
-use Rattle.command_base.specs.Outputs.{OnlyOutputs}
+use Rattle.outside_calls.specs.Outputs.{OnlyOutputs}
 use Rattle.frames_command.specs.Words.{named}
 use Rattle.frames_command.specs.Heard.{Begun, HeardTo}
 use Rattle.frames_command.proofs.listing.hear_file.Given as goal

@@ -3,7 +3,7 @@ use Rattle.outside_calls.specs.Folder.{FolderState}
 use Rattle.command_base.specs.declared.status.Status.TheVariants.{Done}
 use Rattle.command_base.specs.Lines.{margin_line}
 use Rattle.command_base.specs.Tells.{Tells}
-use Rattle.command_base.proofs.OnlyOutputs.{OnlyOutputs-reads}
+use Rattle.outside_calls.proofs.OnlyOutputs.{OnlyOutputs-reads}
 use Rattle.margin_command.proofs.Headline.{refused-by}
 use Rattle.margin_command.proofs.command.measure_and_tell.Goals as goal
 

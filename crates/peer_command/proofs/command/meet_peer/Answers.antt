@@ -2,7 +2,7 @@ use Rattle.outside_calls.specs.Folder.{FolderState}
 use Rattle.outside_calls.specs.Steps.{OnlyReads-trans, CountsStand-trans}
 use Rattle.command_base.specs.declared.limits.TheConstants.{FILE_LIMIT}
 use Rattle.command_base.proofs.Jobs.{end-earlier}
-use Rattle.command_base.proofs.OnlyOutputs.{OnlyOutputs-reads, OnlyOutputs-trans}
+use Rattle.outside_calls.proofs.OnlyOutputs.{OnlyOutputs-reads, OnlyOutputs-trans}
 use Rattle.peer_command.specs.Words.{Names, named, inputs_of, outputs_of}
 use Rattle.command_base.proofs.Reading.{within-earlier}
 use Rattle.peer_command.proofs.command.meet_peer.Goals as goal

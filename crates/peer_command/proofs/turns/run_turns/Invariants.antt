@@ -1,7 +1,7 @@
 use Rattle.std.proofs.Common.{◌-◌, ◌*◌, ◌≤◌}
 use Rattle.outside_calls.specs.Folder.{FolderState, CountsStand}
 use Rattle.command_base.specs.declared.limits.TheConstants.{FILE_LIMIT}
-use Rattle.command_base.specs.Outputs.{OnlyOutputs, SaysNothing}
+use Rattle.outside_calls.specs.Outputs.{OnlyOutputs, SaysNothing}
 use Rattle.single_end.specs.Heard.{slot_octets}
 use Rattle.single_end.specs.Single.{IsReady, turn_of}
 use Rattle.peer_command.specs.Words.{named, outputs_of}

@@ -4,7 +4,7 @@ use Rattle.outside_calls.specs.Folder.{FolderState}
 use Rattle.outside_calls.specs.Steps.{CountsStand-trans}
 use Rattle.symbol_map.specs.declared.sample.Sample.{Sample}
 use Rattle.command_base.proofs.Jobs.{stop-earlier}
-use Rattle.command_base.proofs.OnlyOutputs.{OnlyOutputs-reads, OnlyOutputs-says, OnlyOutputs-trans}
+use Rattle.outside_calls.proofs.OnlyOutputs.{OnlyOutputs-reads, OnlyOutputs-says, OnlyOutputs-trans}
 use Rattle.recordings.specs.declared.rate.Rate.TheVariants as rates
 use Rattle.recordings.specs.Samples.{samples_in}
 use Rattle.recordings.proofs.Samples.{samples_in-append}

@@ -1,7 +1,7 @@
 use Rattle.std.proofs.Common.{◌≡◌, ◌≤◌, ◌-◌, [], length}
 use Rattle.outside_calls.specs.Folder.{FolderState, CountsStand}
 use Rattle.command_base.specs.declared.limits.TheConstants.{RECORDING_LIMIT}
-use Rattle.command_base.specs.Outputs.{OnlyOutputs}
+use Rattle.outside_calls.specs.Outputs.{OnlyOutputs}
 use Rattle.recordings.specs.declared.header.TheConstants.{HEADER}
 use Rattle.recording_inputs.specs.declared.samples.TheConstants.{PIECE}
 use Rattle.pickup_command.specs.Playing.{IsReady, PlayedTo}

@@ -3,9 +3,9 @@ use Rattle.outside_calls.specs.Folder.{FolderState}
 use Rattle.noise_script.specs.Script.{ScriptValue}
 use Rattle.link_run.specs.Run.{start}
 use Rattle.line_run.specs.Scripted.{link_of}
-use Rattle.run_loop.specs.World.{WorldAfter}
+use Rattle.run_world.specs.World.{WorldAfter}
 use Rattle.command_base.proofs.Jobs.{end-earlier}
-use Rattle.command_base.proofs.OnlyOutputs.{OnlyOutputs-reads, OnlyOutputs-trans}
+use Rattle.outside_calls.proofs.OnlyOutputs.{OnlyOutputs-reads, OnlyOutputs-trans}
 use Rattle.run_inputs.specs.declared.limits.TheConstants.{LIMITS}
 use Rattle.run_inputs.specs.Words.{RunNames, named, inputs_of, outputs_of}
 use Rattle.run_command.specs.Ends.{IsBegun}

@@ -1,15 +1,15 @@
 use Rattle.std.proofs.Common.{inl, sym, subst}
 use Rattle.outside_calls.specs.Folder.{FolderState}
 use Rattle.noise_script.specs.Script.{ScriptValue}
-use Rattle.run_loop.specs.Names.{Written}
-use Rattle.run_loop.specs.World.{AreApart, OnlyOutputs as OnlyWritten, script_of}
-use Rattle.run_loop.specs.Turn.{FaultCounts}
+use Rattle.run_world.specs.Names.{Written}
+use Rattle.run_world.specs.World.{AreApart, OnlyOutputs as OnlyWritten, script_of}
+use Rattle.run_world.specs.Turn.{FaultCounts}
 use Rattle.command_base.specs.Stops.{StopCounts}
 use Rattle.command_base.proofs.Jobs.{stop-earlier}
-use Rattle.command_base.proofs.OnlyOutputs.{OnlyOutputs-trans}
+use Rattle.outside_calls.proofs.OnlyOutputs.{OnlyOutputs-trans}
 use Rattle.run_inputs.specs.declared.limits.TheConstants.{LIMITS}
 use Rattle.run_inputs.specs.Words.{RunNames, named, inputs_of, outputs_of}
-use Rattle.run_loop.specs.Turns.{RunEnds, FaultEnds}
+use Rattle.run_world.specs.Turns.{RunEnds, FaultEnds}
 use Rattle.run_command.specs.Ends.{EndsBy}
 use Rattle.line_run.specs.Ends as runs
 use Rattle.run_command.proofs.Runs.{apart-names, only-written, ends-creating, ran-to, ends-in-turn, turn-counts}

@@ -3,7 +3,7 @@ use Rattle.bit_stuffing.specs.declared.slot_writer.TheConstants.{TAIL}
 use Rattle.bit_stuffing.specs.Slots.{opening, slot_bits}
 use Rattle.detection.specs.Slots.{slot_of}
 use Rattle.detection.specs.Slots.Signal.{FlagSlot}
-use Rattle.slot_contents.specs.declared.sent.Sent.{Sent}
+use Rattle.lapm_frames.specs.declared.sent.Sent.{Sent}
 use Rattle.sample_line.specs.Signals.{signal_of, IsCodable}
 use Rattle.sample_line.proofs.coding.write_sent.Goals as goal
 use Rattle.sample_line.proofs.coding.write_sent.Goals.{After-as_slice}

@@ -2,7 +2,7 @@ use Rattle.std.proofs.Common.{◌∙◌, [], sym, subst}
 use Rattle.noise_script.specs.Script.{ScriptValue}
 use Rattle.link_run.specs.Run.{start}
 use Rattle.line_run.specs.Scripted.{link_of}
-use Rattle.run_loop.specs.World.{WorldAfter}
+use Rattle.run_world.specs.World.{WorldAfter}
 use Rattle.soak_command.proofs.soaking.soak_run.Goals as goal
 
 pub soak_world-requires-clause-first : goal.soak_world-requires-clause-first

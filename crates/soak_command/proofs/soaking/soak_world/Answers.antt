@@ -1,6 +1,6 @@
 use Rattle.std.proofs.Common.{ℕ, Ok, Err, sym, subst}
-use Rattle.run_loop.specs.Names.{written}
-use Rattle.run_loop.specs.World.{script_of, lost_of, again_of}
+use Rattle.run_world.specs.Names.{written}
+use Rattle.run_world.specs.World.{script_of, lost_of, again_of}
 use Rattle.command_base.specs.declared.stop.Stop.{Stop}
 use Rattle.soak_command.specs.Ends.{Ends}
 use Rattle.soak_command.proofs.Turning.{soaked-over, ended-over}

@@ -4,9 +4,9 @@ use Rattle.frame_check.specs.declared.check.Check.{Check}
 use Rattle.exact_decoder.specs.declared.decoder.Lost.{Lost}
 use Rattle.bit_stuffing.specs.BitSlot.{line_bits}
 use Rattle.detection.specs.Slots.{Signal}
-use Rattle.slot_contents.specs.declared.sent.Sent.{Sent}
+use Rattle.lapm_frames.specs.declared.sent.Sent.{Sent}
 use Rattle.noise_script.specs.Script.{ScriptValue}
-use Rattle.slot_contents.specs.declared.heard.Heard.{Heard}
+use Rattle.lapm_frames.specs.declared.heard.Heard.{Heard}
 use Rattle.sample_line.specs.Signals.{IsCodable, signal_of}
 use Rattle.sample_line.specs.Line.{Kept, LineStands, Passes, bits_behind, size_of, sender_of}
 use Rattle.world_tests.proofs.lines.through.Goals as goal

@@ -2,7 +2,7 @@ use Rattle.std.proofs.Common.{◌≡◌, ℕ, true, false, ◌+◌, nat_eq, Ok, 
 use Rattle.std.proofs.lemmas.Bool.Decides.{nat_tests}
 use Rattle.lapm_frames.specs.declared.frame.Frame.{Frame}
 use Rattle.lapm_link.specs.declared.attempt.Attempt.{Attempt}
-use Rattle.slot_contents.specs.declared.sent.Sent.{Sent}
+use Rattle.lapm_frames.specs.declared.sent.Sent.{Sent}
 use Rattle.link_account.specs.Account.{Account}
 use Rattle.link_account.specs.Speak.{tries_frame, u_try, trying_again}
 use Rattle.lapm_link.specs.Attempt.{TriesOnce, TriesSo}

@@ -1,5 +1,5 @@
 use Rattle.std.proofs.Common.{refl}
-use Rattle.slot_contents.specs.declared.sent.Sent.TheVariants as slots
+use Rattle.lapm_frames.specs.declared.sent.Sent.TheVariants as slots
 use Rattle.link_account.specs.Speak.{else_says, step5, step6, step7, step8, step9}
 use Rattle.lapm_link.proofs.Saying.{first, next}
 use Rattle.lapm_link.proofs.connected.Connected.later_step.Goals as goal

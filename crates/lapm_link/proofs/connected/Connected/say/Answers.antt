@@ -1,7 +1,7 @@
 use Rattle.std.proofs.Common.{◌≡◌, Bool, false}
 use Rattle.std.proofs.lemmas.Result.{err_from_is_err_and}
 use Rattle.lapm_link.specs.declared.connected.Connected.{Connected}
-use Rattle.slot_contents.specs.declared.sent.Sent.{Sent}
+use Rattle.lapm_frames.specs.declared.sent.Sent.{Sent}
 use Rattle.link_account.specs.Account.{Account}
 use Rattle.link_account.specs.Speak.{steps, on_timer}
 use Rattle.lapm_link.specs.Stands.{SaysLinked}

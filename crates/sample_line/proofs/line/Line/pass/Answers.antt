@@ -3,7 +3,7 @@ use Rattle.std.proofs.lemmas.Result.{err_from_is_err_and}
 use Rattle.bit_stuffing.specs.BitSlot.{line_bits}
 use Rattle.exact_decoder.specs.declared.decoder.Lost.{Lost}
 use Rattle.detection.specs.Slots.{signal_bits}
-use Rattle.slot_contents.specs.declared.heard.Heard.{Heard}
+use Rattle.lapm_frames.specs.declared.heard.Heard.{Heard}
 use Rattle.sample_line.specs.Path.{LosesWithin}
 use Rattle.sample_line.specs.Line.{Kept, LineStands, Passes, bits_behind, size_of}
 use Rattle.sample_line.proofs.Passing.{kept, slot-passes}

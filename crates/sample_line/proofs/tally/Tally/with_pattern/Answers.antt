@@ -1,6 +1,6 @@
 use Rattle.std.proofs.Common.{◌∙◌, List, Option, [], ◌∷◌, ◌++◌, ap, sym, subst, append-nil}
 use Rattle.std.specs.Prelude.{option_to_list}
-use Rattle.slot_contents.specs.declared.seen.Seen.{Seen}
+use Rattle.lapm_frames.specs.declared.seen.Seen.{Seen}
 use Rattle.sample_line.specs.declared.tally.Tally.{Tally}
 use Rattle.sample_line.specs.Tallies.{Tallies, after_pattern}
 use Rattle.sample_line.proofs.Tallying.{pattern-more}

@@ -1,6 +1,6 @@
 use Rattle.std.proofs.Common.{◌+◌, ◌/◌, ◌^◌, Bool, List, ◌++◌, take, nat_eq, bit_and, sym, subst, arith}
 use Rattle.plain_lists.specs.Bits.{octet_bits}
-use Rattle.slot_contents.specs.declared.arrived.Arrived.{Arrived}
+use Rattle.lapm_frames.specs.declared.arrived.Arrived.{Arrived}
 use Rattle.single_end.specs.Heard.{IsHeard, first}
 use Rattle.single_end.specs.Ear.{HasHeard}
 use Rattle.single_end.proofs.Hearing.{bit-more, heard-more, append-again}

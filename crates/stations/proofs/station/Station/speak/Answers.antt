@@ -1,6 +1,6 @@
 use Rattle.std.proofs.Common.{IfOk, subst, sym, ◌∙◌}
 use Rattle.lapm_link.specs.Stands.{StandsFor, TakesNothing}
-use Rattle.slot_contents.specs.Sendable.{IsSendable}
+use Rattle.lapm_frames.specs.Sendable.{IsSendable}
 use Rattle.stations.proofs.Standing.{kept-spoken, kept-idle, kept-counts, kept-sendable}
 use Rattle.stations.proofs.station.Station.speak.Goals as goal
 

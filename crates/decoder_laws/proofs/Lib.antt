@@ -1,0 +1,11 @@
+pub mod NoiselessCosts
+pub mod Meetings
+pub mod Detours
+pub mod Agreeing
+pub mod Followed
+pub mod Distances
+pub mod NoisyCosts
+pub mod Near
+pub mod Turning
+pub mod Lists
+pub mod Least

@@ -1,0 +1,14 @@
+// What arrives at an end.
+
+use crate::{Frame, Seen};
+
+/// What arrives at an end in a turn.
+#[derive(Drop, PartialEq, Eq)]
+pub enum Arrived {
+    /// An idle slot, or none.
+    Nothing,
+    /// A pattern was seen.
+    Pattern(Seen),
+    /// A frame came, and passed its check.
+    Frame(Frame),
+}

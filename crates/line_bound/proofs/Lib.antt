@@ -1,2 +1,0 @@
-mod Pausing
-mod Scripting

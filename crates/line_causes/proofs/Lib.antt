@@ -1,2 +1,0 @@
-mod Starving
-mod Making

@@ -1,2 +1,0 @@
-pub use Rattle.line_bound.specs.Scripts
-pub mod Causes

@@ -1,0 +1,96 @@
+-- A run that ends by a lost link was starved.
+use Rattle.std.proofs.Common.{arith, ◌≡◌, ℕ, List, [], map, filter, ap}
+use Rattle.roles.specs.declared.role.Role.{Role}
+use Rattle.roles.specs.declared.role.Role.TheVariants.{Originator, Answerer}
+use Rattle.roles.specs.Role.{same_role}
+use Rattle.roles.specs.Both.{Both, of}
+use Rattle.noise_script.specs.declared.entry.Break.{Break}
+use Rattle.noise_script.specs.Script.{ScriptValue, IsInLimits, delay_of}
+use Rattle.causes.specs.declared.fault.LinkFault.TheVariants as faults
+use Rattle.link_run.specs.Run.{Ends, Turn}
+use Rattle.link_run.specs.Laws.{RunsOver}
+use Rattle.turn_losses.specs.Losses.{OriginatorWantsPattern, StarvedLosesMany}
+use Rattle.turn_losses.specs.Tries.{GivesUpForLosses, GivesUpUnbroken}
+use Rattle.turn_losses.proofs.Parting.{later-loses}
+use Rattle.turn_losses.specs.Breaks.{GivesUpStarved}
+use Rattle.line_run.specs.Sampled.{Channel, LineRun}
+use Rattle.line_run.specs.Scripted.{period_of, link_of, break_line, ScriptsMayPlay, ScriptsHaveDelays}
+use Rattle.line_run.specs.LineLaws.{SamplesAreCarried, OneIsCarried}
+use Rattle.line_run.specs.Ends.{IsDone, LinkLost, NotDetected, LineLost, ChanceMatch, Left, RunsTo, turns_heard}
+use Rattle.line_run.specs.Scripts.{ScriptsKeepTime}
+use Rattle.line_ends.specs.Causes.{LostLinksWereStarved, LosesInPeriods, LosesWithoutBreak, LosesUnbroken, FewLossesKeepLinks}
+
+pub record Laws : Type 0 where
+  pub play : ScriptsMayPlay
+  pub delays : ScriptsHaveDelays
+  pub time : ScriptsKeepTime
+  pub carried : SamplesAreCarried
+  pub one : OneIsCarried
+  pub quiet : GivesUpForLosses
+  pub unbroken : GivesUpUnbroken
+  pub pattern : OriginatorWantsPattern
+  pub starves : GivesUpStarved
+
+-- the line of samples as any line
+over : Laws → (c : Channel) (files : Both (List ℕ)) (ts : List Turn) (ends : Ends) → IsInLimits c.script
+    → LineRun c (link_of c.script files) ts ends → RunsOver (link_of c.script files) (delay_of c.script) ts ends
+over laws c files ts ends h r = record
+    { may_play = laws.play c.script files h; delays = laws.delays c.script h; carried = laws.carried c ts r.heard; run = r.run }
+
+pub lost-links-were-starved : Laws → LostLinksWereStarved
+lost-links-were-starved laws c files (LinkLost role segment turn) left h r g =
+    let e = r.ended.1 in
+    laws.starves c.script.tries (period_of c.script) (delay_of c.script) (link_of c.script files) r.turns r.ends e.last e.mid role
+    (faults.Spent segment r.ended.0) (laws.time c.script files h)
+    (over laws c files r.turns r.ends h r.run) (laws.one c r.turns e.last e.heard) e.is
+lost-links-were-starved laws c files (NotDetected turn) left h r g =
+    let e = r.ended in
+    laws.starves c.script.tries (period_of c.script) (delay_of c.script)
+    (link_of c.script files) r.turns r.ends e.last e.mid Originator faults.NotDetected (laws.time c.script files h)
+    (over laws c files r.turns r.ends h r.run) (laws.one c r.turns e.last e.heard) e.is
+lost-links-were-starved laws c files (IsDone turn) left h r g = absurd g
+lost-links-were-starved laws c files (LineLost role symbol) left h r g = absurd g
+lost-links-were-starved laws c files (ChanceMatch role turn) left h r g = absurd g
+
+undetected : Laws → (c : Channel) (files : Both (List ℕ)) (turn : ℕ) (left : Left) → IsInLimits c.script
+    → (r : RunsTo c (link_of c.script files) (NotDetected turn) left) → LosesInPeriods c files (NotDetected turn) left r
+undetected laws c files turn left h r n l =
+    let e = r.ended in
+    let run = over laws c files r.turns r.ends h r.run in
+    later-loses (period_of c.script) e.last r.turns n
+    (laws.pattern c.script.tries (period_of c.script) (delay_of c.script) (link_of c.script files) r.turns r.ends e.last e.mid
+    (laws.time c.script files h) run.run run.carried e.is n l)
+
+pub loses-without-break : Laws → LosesWithoutBreak
+loses-without-break laws c files (LinkLost role segment turn) left h r g quiet =
+    let e = r.ended.1 in
+    (laws.quiet c.script.tries (period_of c.script) (delay_of c.script) (link_of c.script files) r.turns r.ends e.last e.mid role
+    (faults.Spent segment r.ended.0) (laws.time c.script files h)
+    (over laws c files r.turns r.ends h r.run) (laws.one c r.turns e.last e.heard) e.is quiet).each
+loses-without-break laws c files (NotDetected turn) left h r g quiet = undetected laws c files turn left h r
+loses-without-break laws c files (IsDone turn) left h r g quiet = absurd g
+loses-without-break laws c files (LineLost role symbol) left h r g quiet = absurd g
+loses-without-break laws c files (ChanceMatch role turn) left h r g quiet = absurd g
+
+no-breaks : (script : ScriptValue) (files : Both (List ℕ)) → script.breaks ≡ [] → (role : Role)
+    → (of role (link_of script files)).user.breaks ≡ []
+no-breaks script files e Originator = ap (λ (l : List Break). map break_line (filter (λ (b : Break). same_role b.role Originator) l)) e
+no-breaks script files e Answerer = ap (λ (l : List Break). map break_line (filter (λ (b : Break). same_role b.role Answerer) l)) e
+
+pub loses-unbroken : Laws → LosesUnbroken
+loses-unbroken laws c files (LinkLost role segment turn) left h none r g =
+    let e = r.ended.1 in
+    (laws.unbroken c.script.tries (period_of c.script) (delay_of c.script) (link_of c.script files) r.turns r.ends e.last e.mid role
+    (faults.Spent segment r.ended.0) (laws.time c.script files h)
+    (no-breaks c.script files none role) (over laws c files r.turns r.ends h r.run) (laws.one c r.turns e.last e.heard) e.is).each
+loses-unbroken laws c files (NotDetected turn) left h none r g = undetected laws c files turn left h r
+loses-unbroken laws c files (IsDone turn) left h none r g = absurd g
+loses-unbroken laws c files (LineLost role symbol) left h none r g = absurd g
+loses-unbroken laws c files (ChanceMatch role turn) left h none r g = absurd g
+
+pub few-losses-keep-links : ScriptsKeepTime → LostLinksWereStarved → StarvedLosesMany → FewLossesKeepLinks
+few-losses-keep-links time starved many c files end left h r few g =
+    let lost = many c.script.tries (period_of c.script) (delay_of c.script) (link_of c.script files)
+    (turns_heard c (link_of c.script files) r.turns r.ends end left r.ended) (time c.script files h)
+    (starved c files end left h r g) in
+    omega (arith, few, lost)

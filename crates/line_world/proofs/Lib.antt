@@ -1,5 +1,0 @@
-pub mod Hearing
-pub mod Serving
-pub mod Speaking
-pub mod Folders
-pub mod Turning

@@ -1,5 +1,0 @@
-use Rattle.line_world.proofs.Hearing.{few-turns}
-use Rattle.line_world.proofs.laws.turns_are_few.Goals as goal
-
-pub returns : goal.returns
-returns c = few-turns c.line_runs_end_soon.ensures.within_limits

@@ -1,4 +1,0 @@
-pub mod Runs
-pub mod Lines
-pub mod Settings
-pub mod Traces

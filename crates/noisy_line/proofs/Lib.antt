@@ -1,3 +1,0 @@
-pub mod Distances
-pub mod Costs
-pub mod Near

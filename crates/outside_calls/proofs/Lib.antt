@@ -1,0 +1,2 @@
+pub mod OnlyOutputs
+pub mod Holding

@@ -1,0 +1,6 @@
+pub mod Hearing
+pub mod Serving
+pub mod Speaking
+pub mod Folders
+pub mod Turning
+pub mod Reached

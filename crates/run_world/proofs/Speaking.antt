@@ -1,0 +1,391 @@
+-- Both ends speak, and a turn is made.
+use Rattle.std.proofs.Common.{◌≡◌, ◌≢◌, if◌then◌else◌, nat_eq, ℕ, ◌+◌, ◌%◌, ◌<◌, ◌≤◌, Bool, true, false, is_ok, List, ◌∷◌, ◌++◌, length, arith, refl, sym, ◌∙◌, ap, subst, Option, Some, None, unwrap_or, Ok, Err}
+use Rattle.std.specs.Option.{option_map}
+use Rattle.outside_calls.specs.Folder.{FolderState, Appended, PartlyAppended, CountsStand}
+use Rattle.frame_check.specs.declared.check.Check.{Check}
+use Rattle.roles.specs.declared.role.Role.{Role}
+use Rattle.roles.specs.declared.role.Role.TheVariants.{Originator, Answerer}
+use Rattle.roles.specs.Both.{Both, of}
+use Rattle.noise_script.specs.Script.{ScriptValue, IsInLimits, delay_of}
+use Rattle.lapm_frames.specs.declared.sent.Sent.{Sent}
+use Rattle.lapm_frames.specs.declared.heard.Heard.{Heard}
+use Rattle.lapm_frames.specs.declared.heard.Heard.TheVariants.{Nothing, Passed, Lost, Chance}
+use Rattle.lapm_frames.specs.Sendable.{IsSendable}
+use Rattle.line_texts.specs.LineText.{line_text, trace_line}
+use Rattle.line_texts.specs.declared.trace_line.TraceLine.{TraceLine}
+use Rattle.sample_line.specs.Signals.{IsCodable}
+use Rattle.causes.specs.declared.fault.LinkFault.{LinkFault}
+use Rattle.causes.specs.declared.fault.LinkFault.TheVariants as faults
+use Rattle.link_account.specs.Account.{given_break, check_of}
+use Rattle.link_account.specs.Speak.{Said, speak}
+use Rattle.link_run.specs.Run.{Ends, Side, Spoken, Turn, GoingTurn, LastTurn, BrokenTurn, IsBroken, SpeaksAt, spoken, said_at, releases, served_at}
+use Rattle.link_run.specs.Counts.{CountsByNumber, CountsOn, next_count, again_in, sequence_in}
+use Rattle.link_run.specs.Laws.{EachEndIsNamed, IsNamed, RunsOver}
+use Rattle.link_run.specs.Outcomes.{Outcome, TurnIs}
+use Rattle.link_run.specs.End.{is_closed}
+use Rattle.link_run.specs.Trace.{side_line, turn_text}
+use Rattle.line_run.specs.Sampled.{HeardIn, LineRun}
+use Rattle.line_run.specs.Scripted.{channel_of, link_of, longest_of, slot_symbols, ScriptsMayPlay, ScriptsHaveDelays, SlotsAreCodable}
+use Rattle.line_run.specs.LineLaws.{SamplesAreCarried, OneIsCarried}
+use Rattle.both_sides.specs.declared.each.Each.{Each}
+use Rattle.both_sides.specs.declared.link.Link.{Link}
+use Rattle.both_sides.specs.declared.lines.Lines.{Lines}
+use Rattle.both_sides.specs.Names.{Written}
+use Rattle.both_sides.specs.Link.{LinkStands, SaysBoth, BreaksSo, both_finished}
+use Rattle.both_sides.specs.Lines.{LinesWait, HaveArrived, AreCodable, Sends}
+use Rattle.run_world.specs.declared.world.World.{World}
+use Rattle.run_world.specs.declared.tally.Tally.{Tally}
+use Rattle.run_world.specs.declared.step.RunFault.{RunFault}
+use Rattle.run_world.specs.declared.step.RunFault.TheVariants as run_faults
+use Rattle.run_world.specs.Tally.{Tallies, HearsMore, SendsMore}
+use Rattle.run_world.specs.World.{WorldAfter, AddsNumbers}
+use Rattle.run_world.specs.Turn.{MakesTurn, IsWriting, FaultCounts}
+use Rattle.run_world.specs.Mid.{Overhears, IsToSpeak, TalliesHeard, HasGone, AddsLines, AddsPart, SpeaksLast, fault_named, served, side_of, turn_in}
+use Rattle.run_world.proofs.Hearing.{heard-in, none-sent, runs-over}
+use Rattle.run_world.proofs.Serving.{hears-in, served-is}
+
+-- ---- what is made of what both say
+
+abbrev pub sent_by : Said → Said → Both (Option Spoken)
+sent_by orig answ = record { orig = Some (spoken orig); answ = Some (spoken answ) }
+
+abbrev pub ends_of : Said → Said → Ends
+ends_of orig answ = record { orig = orig.account; answ = answ.account }
+
+pub record SpokenTurn (script : ScriptValue) (files : Both (List ℕ)) (ts : List Turn) (ends : Ends) (heard : Each Heard) (mid : Ends)
+    (from_orig from_answ : Sent) (l : Link) : Type 0 where
+  pub orig : Said
+  pub answ : Said
+  pub orig_sent : from_orig ≡ orig.sent
+  pub answ_sent : from_answ ≡ answ.sent
+  pub going : GoingTurn (link_of script files) ts ends (turn_in heard ends mid (sent_by orig answ)) (ends_of orig answ)
+  pub mid_is : going.mid ≡ mid
+  pub heard_in : HeardIn (channel_of script) ts (turn_in heard ends mid (sent_by orig answ))
+  pub stands : LinkStands l files (ends_of orig answ)
+
+pub spoken-turn : (script : ScriptValue) (files : Both (List ℕ)) (ts : List Turn) (ends : Ends) (heard : Each Heard) (mid : Ends)
+    (from_orig from_answ : Sent) (l : Link) (turn : ℕ)
+    → turn ≡ length ts → Overhears script files ts ends heard mid → is_closed mid.orig.phase ≡ false
+    → SaysBoth l files (link_of script files) turn (served script files (length ts) mid) from_orig from_answ
+    → SpokenTurn script files ts ends heard mid from_orig from_answ l
+spoken-turn script files ts ends heard mid from_orig from_answ l turn number o open-still s = record {
+  orig = s.orig;
+  answ = s.answ;
+  orig_sent = s.orig_sent;
+  answ_sent = s.answ_sent;
+  going = record {
+    mid = mid;
+    hearing = hears-in script files ts ends mid heard (sent_by s.orig s.answ) o;
+    going = open-still;
+    speaking = says;
+  };
+  mid_is = refl;
+  heard_in = heard-in script ts ends mid heard (sent_by s.orig s.answ) o.orig_heard o.answ_heard o.orig_well o.answ_well;
+  stands = s.stands;
+}
+  where
+    orig-says : said_at (link_of script files) (length ts) mid Originator ≡ Ok s.orig
+    orig-says = subst (λ (e : Ends). speak (length ts) (both_finished (link_of script files) (length ts) e) e.orig ≡ Ok s.orig)
+        (served-is script files (length ts) mid)
+        (subst (λ t. speak t (both_finished (link_of script files) t (served script files (length ts) mid))
+        (served script files (length ts) mid).orig ≡ Ok s.orig) number s.orig_says)
+
+    answ-says : said_at (link_of script files) (length ts) mid Answerer ≡ Ok s.answ
+    answ-says = subst (λ (e : Ends). speak (length ts) false e.answ ≡ Ok s.answ) (served-is script files (length ts) mid)
+        (subst (λ t. speak t false (served script files (length ts) mid).answ ≡ Ok s.answ) number s.answ_says)
+
+    says : (role : Role) → SpeaksAt (said_at (link_of script files) (length ts) mid role)
+        (of role (turn_in heard ends mid (sent_by s.orig s.answ))) (of role (ends_of s.orig s.answ))
+    says Originator = record { said = s.orig; says = orig-says; sent_is = refl; after_is = refl }
+    says Answerer = record { said = s.answ; says = answ-says; sent_is = refl; after_is = refl }
+
+-- an end that breaks does so by a run's definition
+broken-so : (script : ScriptValue) (files : Both (List ℕ)) (number turn : ℕ) (mid : Ends) (role : Role) (fault : LinkFault) → turn ≡ number
+    → BreaksSo (link_of script files) turn (served script files number mid) role fault
+    → IsBroken (link_of script files) number mid role fault
+broken-so script files number turn mid Originator fault e h =
+    subst (λ (x : Ends). speak number (both_finished (link_of script files) number x) x.orig ≡ Err fault)
+    (served-is script files number mid)
+    (subst (λ t. speak t (both_finished (link_of script files) t (served script files number mid))
+    (served script files number mid).orig ≡ Err fault) e h)
+broken-so script files number turn mid Answerer fault e h = (
+  subst (λ (x : Ends). is_ok (speak number (both_finished (link_of script files) number x) x.orig) ≡ true)
+      (served-is script files number mid)
+      (subst (λ t. is_ok (speak t (both_finished (link_of script files) t (served script files number mid))
+      (served script files number mid).orig) ≡ true) e h.0),
+  subst (λ (x : Ends). speak number false x.answ ≡ Err fault) (served-is script files number mid)
+      (subst (λ t. speak t false (served script files number mid).answ ≡ Err fault) e h.1),
+)
+
+silent : (heard : Each Heard) (ends mid : Ends) (role : Role) → (of role (turn_in heard ends mid none-sent)).sent ≡ None
+silent heard ends mid Originator = refl
+silent heard ends mid Answerer = refl
+
+pub broken-turn : (script : ScriptValue) (files : Both (List ℕ)) (ts : List Turn) (ends : Ends) (heard : Each Heard) (mid : Ends) (turn : ℕ)
+    (role : Role) (fault : LinkFault)
+    → turn ≡ length ts → Overhears script files ts ends heard mid → is_closed mid.orig.phase ≡ false
+    → BreaksSo (link_of script files) turn (served script files (length ts) mid) role fault
+    → BrokenTurn (link_of script files) ts ends (turn_in heard ends mid none-sent) mid role fault
+broken-turn script files ts ends heard mid turn role fault number o open-still b = record {
+  hearing = hears-in script files ts ends mid heard none-sent o;
+  going = open-still;
+  broken = broken-so script files (length ts) turn mid role fault number b;
+  silent = silent heard ends mid;
+}
+
+-- ---- its text
+
+line-of : (turn : ℕ) (role : Role) (heard : Heard) (sent : Option Sent) (given : Option ℕ) → heard ≢ Chance
+    → line_text (record { turn = turn; role = role; arrived = heard; sent = sent; given = given }) ≡ trace_line turn role heard sent given
+line-of turn role Nothing sent given well = refl
+line-of turn role (Passed s) sent given well = refl
+line-of turn role (Lost s) sent given well = refl
+line-of turn role Chance sent given well = absurd (well refl)
+
+side-text : (line : TraceLine) (number t : ℕ) (role : Role) (heard : Heard) (sent : Option Sent) (given : Option ℕ) (s : Side)
+    → line ≡ record { turn = number; role = role; arrived = heard; sent = sent; given = given } → heard ≢ Chance → number ≡ t
+    → heard ≡ s.heard
+    → sent ≡ option_map (λ (slot : Spoken). slot.sent) s.sent → given ≡ s.given → line_text line ≡ side_line t role s
+side-text line number t role heard sent given s e well n h x g =
+    ap line_text e ∙ line-of number role heard sent given well ∙ (λ k. trace_line (n k) role (h k) (x k) (g k))
+
+pub text-is : (lines : Each TraceLine) (number : ℕ) (ts : List Turn) (ends mid : Ends) (heard : Each Heard) (given : Each (Option ℕ))
+    (sent : Each (Option Sent)) (sents : Both (Option Spoken))
+    → lines ≡ record {
+      orig = record { turn = number; role = Originator; arrived = heard.orig; sent = sent.orig; given = given.orig };
+      answ = record { turn = number; role = Answerer; arrived = heard.answ; sent = sent.answ; given = given.answ };
+    }
+    → heard.orig ≢ Chance → heard.answ ≢ Chance → number ≡ length ts → given.orig ≡ given_break mid.orig → given.answ ≡ given_break mid.answ
+    → sent.orig ≡ option_map (λ (slot : Spoken). slot.sent) sents.orig → sent.answ ≡ option_map (λ (slot : Spoken). slot.sent) sents.answ
+    → line_text lines.orig ++ line_text lines.answ ≡ turn_text (length ts) (turn_in heard ends mid sents)
+text-is lines number ts ends mid heard given sent sents e wo wa n go ga so sa =
+    let o : line_text lines.orig ≡ side_line (length ts) Originator (side_of heard.orig ends.orig mid.orig sents.orig) =
+    side-text lines.orig number (length ts) Originator heard.orig sent.orig given.orig (side_of heard.orig ends.orig mid.orig sents.orig)
+    (ap (λ (l : Each TraceLine). l.orig) e) wo n refl so go in
+    let a : line_text lines.answ ≡ side_line (length ts) Answerer (side_of heard.answ ends.answ mid.answ sents.answ) =
+    side-text lines.answ number (length ts) Answerer heard.answ sent.answ given.answ (side_of heard.answ ends.answ mid.answ sents.answ)
+    (ap (λ (l : Each TraceLine). l.answ) e) wa n refl sa ga in
+    λ k. o k ++ a k
+
+-- what was taken back of the lines is what was put there
+pub taken-back : {A : Type 0} (x y : A) (a b : Option A) → a ≡ Some x → b ≡ Some y → a ≡ b → x ≡ y
+taken-back x y a b e f g = ap (λ o. unwrap_or o x) (sym e ∙ g ∙ f)
+
+-- ---- what is sent can be coded
+
+pub all-codable : SlotsAreCodable
+    → (script : ScriptValue) (files : Both (List ℕ)) (ts : List Turn) (ends : Ends) (heard : Each Heard) (mid : Ends)
+    (from_orig from_answ so sa : Sent)
+    (k : Link) (l : Lines) (checks : Each Check) → IsInLimits script → Overhears script files ts ends heard mid
+    → (t : SpokenTurn script files ts ends heard mid from_orig from_answ k) → HaveArrived l (channel_of script) ts
+    → IsSendable from_orig → IsSendable from_answ → so ≡ from_orig → sa ≡ from_answ
+    → checks.orig ≡ check_of t.orig.account → checks.answ ≡ check_of t.answ.account → AreCodable l so sa checks
+all-codable law script files ts ends heard mid from_orig from_answ so sa k l checks limits o t h sendo senda eo ea co ca =
+    let orig : IsCodable (check_of t.orig.account) Originator 0
+    (slot_symbols (longest_of script)) l.from_orig.line.writer.phase t.orig.sent =
+    law script files ts ends (turn_in heard ends mid (sent_by t.orig t.answ))
+    (ends_of t.orig t.answ) limits o.run t.heard_in t.going Originator (spoken t.orig)
+    l.from_orig.line.writer.phase h.from_orig.line.writer.low refl (subst IsSendable t.orig_sent sendo) in
+    let answ : IsCodable (check_of t.answ.account) Answerer 0 (slot_symbols (longest_of script)) l.from_answ.line.writer.phase t.answ.sent =
+    law script files ts ends (turn_in heard ends mid (sent_by t.orig t.answ))
+    (ends_of t.orig t.answ) limits o.run t.heard_in t.going Answerer (spoken t.answ)
+    l.from_answ.line.writer.phase h.from_answ.line.writer.low refl (subst IsSendable t.answ_sent senda) in
+    record {
+      orig = rw (co, h.orig_sends, h.from_orig.symbols, eo, t.orig_sent) orig;
+      answ = rw (ca, h.answ_sends, h.from_answ.symbols, ea, t.answ_sent) answ;
+    }
+
+-- ---- the run goes on
+
+pub record GoingLaws : Type 0 where
+  pub play : ScriptsMayPlay
+  pub delays : ScriptsHaveDelays
+  pub carried : SamplesAreCarried
+  pub one : OneIsCarried
+  pub counted : CountsByNumber
+
+-- a tally counted what both sent
+pub record CountsSent (old new : Tally) (from_orig from_answ : Sent) : Type 0 where
+  pub lost : new.lost ≡ old.lost
+  pub again : new.again ≡ old.again + again_in (sequence_in from_orig) old.orig + again_in (sequence_in from_answ) old.answ
+  pub orig : new.orig ≡ next_count (sequence_in from_orig) old.orig
+  pub answ : new.answ ≡ next_count (sequence_in from_answ) old.answ
+
+pub tallies-on : GoingLaws → (script : ScriptValue) (files : Both (List ℕ)) (ts : List Turn) (ends : Ends) (heard : Each Heard) (mid : Ends)
+    (from_orig from_answ : Sent) (k : Link)
+    (old new : Tally) → IsInLimits script → Overhears script files ts ends heard mid
+    → (t : SpokenTurn script files ts ends heard mid from_orig from_answ k)
+    → TalliesHeard old ts ends heard → CountsSent old new from_orig from_answ
+    → Tallies new (turn_in heard ends mid (sent_by t.orig t.answ) ∷ ts) (ends_of t.orig t.answ)
+tallies-on laws script files ts ends heard mid from_orig from_answ k old new limits o t h n =
+    let turn : Turn = turn_in heard ends mid (sent_by t.orig t.answ) in
+    let carries = laws.one (channel_of script) ts turn t.heard_in in
+    let over = runs-over laws.play laws.delays laws.carried script files ts ends limits o.run in
+    let counts = laws.counted (link_of script files) (delay_of script) ts ends turn (ends_of t.orig t.answ) over carries t.going in
+    let co : CountsOn Originator ts ends turn (ends_of t.orig t.answ) = counts Originator in
+    let ca : CountsOn Answerer ts ends turn (ends_of t.orig t.answ) = counts Answerer in
+    let ao : again_in (sequence_in from_orig) old.orig ≡ again_in (sequence_in t.orig.sent) ends.orig.outgoing.high =
+    λ i. again_in (sequence_in (t.orig_sent i)) (h.orig i) in
+    let aa : again_in (sequence_in from_answ) old.answ ≡ again_in (sequence_in t.answ.sent) ends.answ.outgoing.high =
+    λ i. again_in (sequence_in (t.answ_sent i)) (h.answ i) in
+    record {
+      lost = n.lost ∙ h.lost;
+      again = omega (arith, n.again, h.again, ao, aa, co.again, ca.again);
+      orig = n.orig ∙ (λ i. next_count (sequence_in (t.orig_sent i)) (h.orig i)) ∙ sym co.high;
+      answ = n.answ ∙ (λ i. next_count (sequence_in (t.answ_sent i)) (h.answ i)) ∙ sym ca.high;
+    }
+
+pub goes-on : GoingLaws → (script : ScriptValue) (old : Tally) (w : World) (f new : FolderState) (n : Written) (files : Both (List ℕ))
+    (ts : List Turn) (ends : Ends) (heard : Each Heard) (mid : Ends)
+    (from_orig from_answ : Sent) → IsInLimits script → w.script ≡ script → w.turn ≡ length ts + 1
+    → Overhears script files ts ends heard mid → (t : SpokenTurn script files ts ends heard mid from_orig from_answ w.link)
+    → TalliesHeard old ts ends heard → CountsSent old w.tally from_orig from_answ
+    → LinesWait w.lines (channel_of script) (turn_in heard ends mid (sent_by t.orig t.answ) ∷ ts)
+    → Appended f new n.trace (turn_text (length ts) (turn_in heard ends mid (sent_by t.orig t.answ)))
+    → HasGone w script f new n files ts ends mid
+goes-on laws script old w f new n files ts ends heard mid from_orig from_answ limits is number o t tally counts lines trace =
+    let turn : Turn = turn_in heard ends mid (sent_by t.orig t.answ) in
+    let after : Ends = ends_of t.orig t.answ in
+    record {
+      turn = turn;
+      after = after;
+      going = t.going;
+      mid_is = t.mid_is;
+      heard = t.heard_in;
+      world = record {
+        run = subst (λ s. LineRun (channel_of s) (link_of s files) (turn ∷ ts) after) (sym is)
+            (record { run = (ends, o.run.run, t.going); heard = (t.heard_in, o.run.heard) });
+        link = t.stands;
+        lines = subst (λ s. LinesWait w.lines (channel_of s) (turn ∷ ts)) (sym is) lines;
+        turn = omega (arith, number);
+        tally = tallies-on laws script files ts ends heard mid from_orig from_answ w.link old w.tally limits o t tally counts;
+      };
+      trace = trace;
+    }
+
+-- ---- the run ends as an end breaks
+
+pub ends-so : (script : ScriptValue) (f new : FolderState) (n : Written) (files : Both (List ℕ)) (ts : List Turn) (ends : Ends)
+    (heard : Each Heard) (mid : Ends) (turn : ℕ) (role : Role)
+    (fault : LinkFault) → turn ≡ length ts → IsNamed role fault → Overhears script files ts ends heard mid
+    → BrokenTurn (link_of script files) ts ends (turn_in heard ends mid none-sent) mid role fault
+    → Appended f new n.trace (turn_text (length ts) (turn_in heard ends mid none-sent))
+    → SpeaksLast script f new n files ts ends mid (fault_named turn role fault)
+ends-so script f new n files ts ends heard mid turn role faults.NotDetected number named o b trace = (
+  number,
+  record {
+    turn = turn_in heard ends mid none-sent;
+    makes = record {
+      run = o.run;
+      heard = heard-in script ts ends mid heard none-sent o.orig_heard o.answ_heard o.orig_well o.answ_well;
+      is = subst (λ r. BrokenTurn (link_of script files) ts ends (turn_in heard ends mid none-sent) mid r faults.NotDetected) named b;
+    };
+    trace = trace;
+  },
+)
+ends-so script f new n files ts ends heard mid turn role (faults.Spent segment since) number named o b trace = (
+  number,
+  since,
+  record {
+    turn = turn_in heard ends mid none-sent;
+    makes = record {
+      run = o.run;
+      heard = heard-in script ts ends mid heard none-sent o.orig_heard o.answ_heard o.orig_well o.answ_well;
+      is = b;
+    };
+    trace = trace;
+  },
+)
+ends-so script f new n files ts ends heard mid turn role (faults.BadAck nr va high) number named o b trace = absurd named
+ends-so script f new n files ts ends heard mid turn role (faults.PeerReset va vr) number named o b trace = absurd named
+ends-so script f new n files ts ends heard mid turn role faults.PeerRefused number named o b trace = absurd named
+
+-- such an end is no fault of the folder
+pub counts-so : (f new : FolderState) (n : Written) (turn : ℕ) (role : Role) (fault : LinkFault) → IsNamed role fault → CountsStand f new
+    → FaultCounts f new n (fault_named turn role fault)
+counts-so f new n turn role faults.NotDetected named stand = stand
+counts-so f new n turn role (faults.Spent segment since) named stand = stand
+counts-so f new n turn role (faults.BadAck nr va high) named stand = absurd named
+counts-so f new n turn role (faults.PeerReset va vr) named stand = absurd named
+counts-so f new n turn role faults.PeerRefused named stand = absurd named
+
+-- ---- the folder doesn't take the lines
+
+pub stops-so : (script : ScriptValue) (f new : FolderState) (n : Written) (files : Both (List ℕ)) (ts : List Turn) (ends mid : Ends)
+    (fault : RunFault) → IsWriting fault
+    → AddsPart script f new n files ts ends mid → SpeaksLast script f new n files ts ends mid fault
+stops-so script f new n files ts ends mid run_faults.WriteFault w h = h
+stops-so script f new n files ts ends mid run_faults.NoMemory w h = h
+stops-so script f new n files ts ends mid run_faults.ReadFault w h = absurd w
+stops-so script f new n files ts ends mid (run_faults.LineLost role symbol) w h = absurd w
+stops-so script f new n files ts ends mid (run_faults.ChanceMatch role turn) w h = absurd w
+stops-so script f new n files ts ends mid (run_faults.NotDetected turn) w h = absurd w
+stops-so script f new n files ts ends mid (run_faults.LinkLost role segment turn) w h = absurd w
+
+pub adds-part : (script : ScriptValue) (f new : FolderState) (n : Written) (files : Both (List ℕ)) (ts : List Turn) (ends : Ends)
+    (heard : Each Heard) (mid : Ends) (sents : Both (Option Spoken))
+    (outcome : Outcome) → Overhears script files ts ends heard mid
+    → TurnIs (link_of script files) ts ends (turn_in heard ends mid sents) mid outcome
+    → PartlyAppended f new n.trace (turn_text (length ts) (turn_in heard ends mid sents)) → AddsPart script f new n files ts ends mid
+adds-part script f new n files ts ends heard mid sents outcome o is trace = record {
+  outcome = outcome;
+  turn = turn_in heard ends mid sents;
+  makes = record {
+    run = o.run;
+    heard = heard-in script ts ends mid heard sents o.orig_heard o.answ_heard o.orig_well o.answ_well;
+    is = is;
+  };
+  trace = trace;
+}
+
+-- ---- the run is done
+
+pub last-turn : (script : ScriptValue) (files : Both (List ℕ)) (ts : List Turn) (ends : Ends) (heard : Each Heard) (mid : Ends)
+    → Overhears script files ts ends heard mid
+    → is_closed mid.orig.phase ≡ true → LastTurn ts ends (turn_in heard ends mid none-sent) mid
+last-turn script files ts ends heard mid o closed = record {
+  hearing = hears-in script files ts ends mid heard none-sent o;
+  done = closed;
+  silent = silent heard ends mid;
+}
+
+-- ---- what a turn may add to the numbers
+
+again-one : (ns : Option ℕ) (sent : ℕ) → again_in ns sent ≤ 1
+again-one None sent = omega arith
+again-one (Some ns) sent = by (nat_eq ns (sent % 128))
+  where
+    by : (b : Bool) → (if b then 0 else 1) ≤ 1
+    by true = omega arith
+    by false = omega arith
+
+pub sends-more : (old new : Tally) (orig answ : Option ℕ) → new.lost ≡ old.lost
+    → new.again ≡ old.again + again_in orig old.orig + again_in answ old.answ → SendsMore old new
+sends-more old new orig answ lost again = record {
+  lost = lost;
+  again_low = omega (arith, again);
+  again_high = omega (arith, again, again-one orig old.orig, again-one answ old.answ);
+}
+
+pub sends-none : (t : Tally) → SendsMore t t
+sends-none t = record { lost = refl; again_low = omega arith; again_high = omega arith }
+
+pub adds-heard : (old new : World) → HearsMore old.tally new.tally → AddsNumbers old new
+adds-heard old new h = record {
+  lost_low = h.lost_low;
+  lost_high = h.lost_high;
+  again_low = omega (arith, h.again);
+  again_high = omega (arith, h.again);
+}
+
+pub adds-kept : (old mid new : World) → HearsMore old.tally mid.tally → new.tally ≡ mid.tally → AddsNumbers old new
+adds-kept old mid new h e = adds-heard old new (subst (HearsMore old.tally) (sym e) h)
+
+pub adds-sent : (old mid now new : World) → HearsMore old.tally mid.tally → now.tally ≡ mid.tally → SendsMore now.tally new.tally
+    → AddsNumbers old new
+adds-sent old mid now new h e s = record {
+  lost_low = omega (arith, h.lost_low, ap (λ (t : Tally). t.lost) e, s.lost);
+  lost_high = omega (arith, h.lost_high, ap (λ (t : Tally). t.lost) e, s.lost);
+  again_low = omega (arith, h.again, ap (λ (t : Tally). t.again) e, s.again_low);
+  again_high = omega (arith, h.again, ap (λ (t : Tally). t.again) e, s.again_high);
+}

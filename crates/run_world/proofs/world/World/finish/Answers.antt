@@ -1,0 +1,47 @@
+use Rattle.std.proofs.Common.{◌≡◌, length, refl, subst, None}
+use Rattle.outside_calls.specs.Folder.{Appended, PartlyAppended}
+use Rattle.link_run.specs.Outcomes.{Done}
+use Rattle.link_run.specs.Run.{LastTurn}
+use Rattle.line_run.specs.Scripted.{link_of}
+use Rattle.both_sides.specs.Names.{written}
+use Rattle.run_world.specs.Mid.{turn_in}
+use Rattle.run_world.proofs.Hearing.{heard-in, none-sent}
+use Rattle.run_world.proofs.Speaking.{last-turn, text-is, adds-part}
+use Rattle.run_world.proofs.world.World.finish.Goals as goal
+
+pub returns-in-Ok-clause-adds : goal.returns-in-Ok-clause-adds
+returns-in-Ok-clause-adds g c = λ files ts ends mid h closed go ga.
+    let script = c.args.self.now.script in
+    let o = h.overhears in
+    let f = g.F.Folder.state c.args.folder.now in
+    let new = g.F.Folder.state c.write_turn.new.folder in
+    let n = written c.args.names.now in
+    let text = text-is c.turn_lines-lines.result c.args.self.now.turn ts ends mid c.args.heard c.args.given.now
+    (record { orig = None; answ = None }) none-sent
+    c.turn_lines-lines.ensures o.orig_well o.answ_well h.turn go ga refl refl in
+    record {
+      adds = record {
+        turn = turn_in c.args.heard ends mid none-sent;
+        makes = record {
+          run = o.run;
+          heard = heard-in script ts ends mid c.args.heard none-sent o.orig_heard o.answ_heard o.orig_well o.answ_well;
+          is = last-turn script files ts ends c.args.heard mid o closed;
+        };
+        trace = subst (Appended f new n.trace) text c.in-Ok.ensures.ok;
+      };
+      lost = h.tally.lost;
+      again = h.tally.again;
+    }
+
+pub returns-in-Err-clause-part : goal.returns-in-Err-clause-part
+returns-in-Err-clause-part g c = λ files ts ends mid h closed go ga.
+    let script = c.args.self.now.script in
+    let o = h.overhears in
+    let f = g.F.Folder.state c.args.folder.now in
+    let new = g.F.Folder.state c.write_turn.new.folder in
+    let n = written c.args.names.now in
+    let text = text-is c.turn_lines-lines.result c.args.self.now.turn ts ends mid c.args.heard c.args.given.now
+    (record { orig = None; answ = None }) none-sent
+    c.turn_lines-lines.ensures o.orig_well o.answ_well h.turn go ga refl refl in
+    adds-part script f new n files ts ends c.args.heard mid none-sent Done o (last-turn script files ts ends c.args.heard mid o closed)
+    (subst (PartlyAppended f new n.trace) text c.in-Err.ensures.err)

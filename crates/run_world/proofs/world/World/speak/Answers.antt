@@ -1,0 +1,214 @@
+use Rattle.std.proofs.Common.{◌≡◌, ◌+◌, List, length, refl, sym, ◌∙◌, subst, Option, Some, None}
+use Rattle.outside_calls.specs.Folder.{Appended, PartlyAppended}
+use Rattle.lapm_frames.specs.declared.sent.Sent.{Sent}
+use Rattle.link_account.specs.Account.{check_of}
+use Rattle.link_run.specs.Counts.{sequence_in}
+use Rattle.link_run.specs.Run.{spoken}
+use Rattle.link_run.specs.Outcomes.{Outcome, Going, Broken}
+use Rattle.both_sides.specs.Names.{written}
+use Rattle.both_sides.specs.Link.{SaysBoth}
+use Rattle.run_world.specs.Mid.{served, turn_in}
+use Rattle.run_world.proofs.Hearing.{none-sent}
+use Rattle.run_world.proofs.Speaking.{SpokenTurn, GoingLaws, CountsSent, sent_by, ends_of, spoken-turn, broken-turn, text-is, taken-back, all-codable, goes-on, ends-so, counts-so, stops-so, adds-part, sends-more, sends-none}
+use Rattle.run_world.proofs.world.World.speak.Goals as goal
+
+-- the turn that both ends' words make
+pub returns-in-Err-write_turn-clause-speaks : goal.returns-in-Err-write_turn-clause-speaks
+returns-in-Err-write_turn-clause-speaks g c = λ files ts ends mid h go ga.
+    let script = c.args.self.now.script in
+    let o = h.stands.overhears in
+    let n = written c.args.names.now in
+    let f = g.F.Folder.state c.args.folder.now in
+    let new = g.F.Folder.state c.write_turn.new.folder in
+    let t : SpokenTurn script files ts ends c.args.heard mid c.in-Ok.sent.orig c.in-Ok.sent.answ c.speak.new.self =
+    spoken-turn script files ts ends c.args.heard mid c.in-Ok.sent.orig c.in-Ok.sent.answ c.speak.new.self c.args.self.now.turn
+    h.stands.turn o h.going
+    (c.in-Ok.ensures.speaks files (served script files (length ts) mid) h.stands.link) in
+    let sents = sent_by t.orig t.answ in
+    let text = text-is c.turn_lines-lines.result c.args.self.now.turn ts ends mid c.args.heard c.args.given.now
+    (record { orig = Some c.in-Ok.sent.orig; answ = Some c.in-Ok.sent.answ }) sents
+    c.turn_lines-lines.ensures o.orig_well o.answ_well h.stands.turn go ga (λ k. Some (t.orig_sent k)) (λ k. Some (t.answ_sent k)) in
+    stops-so script f new n files ts ends mid c.in-Err-write_turn.fault c.in-Err-write_turn.ensures.write
+    (adds-part script f new n files ts ends c.args.heard mid sents Going o (ends_of t.orig t.answ, t.going, t.mid_is)
+    (subst (PartlyAppended f new n.trace) text c.in-Err-write_turn.ensures.err))
+
+pub send-requires-in-Ok-clause-codable : goal.send-requires-in-Ok-clause-codable
+send-requires-in-Ok-clause-codable g c =
+    let script = c.args.self.now.script in
+    let files = c.requires.stands.0 in
+    let ts = c.requires.stands.1 in
+    let ends = c.requires.stands.2 in
+    let mid = c.requires.stands.3 in
+    let h = c.requires.stands.4 in
+    let o = h.stands.overhears in
+    let t : SpokenTurn script files ts ends c.args.heard mid c.in-Ok.sent.orig c.in-Ok.sent.answ c.speak.new.self =
+    spoken-turn script files ts ends c.args.heard mid c.in-Ok.sent.orig c.in-Ok.sent.answ c.speak.new.self c.args.self.now.turn
+    h.stands.turn o h.going
+    (c.in-Ok.ensures.speaks files (served script files (length ts) mid) h.stands.link) in
+    all-codable c.slots_have_room.ensures.codable script files ts ends c.args.heard mid c.in-Ok.sent.orig c.in-Ok.sent.answ
+    c.sent_in.result.orig c.sent_in.result.answ
+    c.speak.new.self c.args.self.now.lines c.checks-checks.result c.requires.limits o t h.stands.lines
+    c.in-Ok.ensures.orig_sendable c.in-Ok.ensures.answ_sendable
+    (taken-back c.sent_in.result.orig c.in-Ok.sent.orig _ _ c.sent_in.ensures.orig (λ k. (c.turn_lines-lines.ensures k).orig.sent) refl)
+    (taken-back c.sent_in.result.answ c.in-Ok.sent.answ _ _ c.sent_in.ensures.answ (λ k. (c.turn_lines-lines.ensures k).answ.sent) refl)
+    (c.checks-checks.ensures.orig files (ends_of t.orig t.answ) t.stands)
+    (c.checks-checks.ensures.answ files (ends_of t.orig t.answ) t.stands)
+
+pub link_fault-requires : goal.link_fault-requires
+link_fault-requires g c =
+    let script = c.args.self.now.script in
+    let files = c.requires.stands.0 in
+    let ts = c.requires.stands.1 in
+    let ends = c.requires.stands.2 in
+    let mid = c.requires.stands.3 in
+    let h = c.requires.stands.4 in
+    let o = h.stands.overhears in
+    let b = broken-turn script files ts ends c.args.heard mid c.args.self.now.turn c.in-Err.breaking.role c.in-Err.breaking.fault
+    h.stands.turn o h.going
+    (c.in-Err.ensures.speaks files (served script files (length ts) mid) h.stands.link) in
+    c.each_turn_is_made.ensures.named _ ts ends (turn_in c.args.heard ends mid none-sent) mid c.in-Err.breaking.role c.in-Err.breaking.fault
+    (c.scripts_make_links.ensures.ends script files c.requires.limits) o.run.run b
+
+pub returns-in-Ok-write_turn-clause-speaks : goal.returns-in-Ok-write_turn-clause-speaks
+returns-in-Ok-write_turn-clause-speaks g c = λ files ts ends mid h go ga.
+    let script = c.args.self.now.script in
+    let o = h.stands.overhears in
+    let n = written c.args.names.now in
+    let f = g.F.Folder.state c.args.folder.now in
+    let new = g.F.Folder.state c.write_turn.new.folder in
+    let t : SpokenTurn script files ts ends c.args.heard mid c.in-Ok.sent.orig c.in-Ok.sent.answ c.speak.new.self =
+    spoken-turn script files ts ends c.args.heard mid c.in-Ok.sent.orig c.in-Ok.sent.answ c.speak.new.self c.args.self.now.turn
+    h.stands.turn o h.going
+    (c.in-Ok.ensures.speaks files (served script files (length ts) mid) h.stands.link) in
+    let sents = sent_by t.orig t.answ in
+    let text = text-is c.turn_lines-lines.result c.args.self.now.turn ts ends mid c.args.heard c.args.given.now
+    (record { orig = Some c.in-Ok.sent.orig; answ = Some c.in-Ok.sent.answ }) sents
+    c.turn_lines-lines.ensures o.orig_well o.answ_well h.stands.turn go ga (λ k. Some (t.orig_sent k)) (λ k. Some (t.answ_sent k)) in
+    let laws : GoingLaws = record {
+      play = c.scripts_make_links.ensures.ends;
+      delays = c.scripts_make_links.ensures.delays;
+      carried = c.samples_are_carried.ensures.runs;
+      one = c.samples_are_carried.ensures.turn;
+      counted = c.segments_are_counted_by_their_numbers.ensures.turn;
+    } in
+    let so : c.sent_in.result.orig ≡ c.in-Ok.sent.orig =
+    taken-back c.sent_in.result.orig c.in-Ok.sent.orig _ _ c.sent_in.ensures.orig (λ k. (c.turn_lines-lines.ensures k).orig.sent) refl in
+    let sa : c.sent_in.result.answ ≡ c.in-Ok.sent.answ =
+    taken-back c.sent_in.result.answ c.in-Ok.sent.answ _ _ c.sent_in.ensures.answ (λ k. (c.turn_lines-lines.ensures k).answ.sent) refl in
+    goes-on laws script c.args.self.now.tally _ f new n files ts ends c.args.heard mid c.in-Ok.sent.orig c.in-Ok.sent.answ c.requires.limits
+    refl (λ k. h.stands.turn k + 1) o t h.stands.tally
+    (record { lost = c.send.ensures.lost; again = c.send.ensures.again; orig = c.send.ensures.orig; answ = c.send.ensures.answ })
+    (c.send-in-Ok.ensures.waits _ ts (turn_in c.args.heard ends mid sents) h.stands.lines refl
+    (record {
+      orig = spoken t.orig;
+      answ = spoken t.answ;
+      orig_is = refl;
+      answ_is = refl;
+      orig_sent = sym t.orig_sent ∙ sym so;
+      answ_sent = sym t.answ_sent ∙ sym sa;
+      orig_check = sym (c.checks-checks.ensures.orig files (ends_of t.orig t.answ) t.stands);
+      answ_check = sym (c.checks-checks.ensures.answ files (ends_of t.orig t.answ) t.stands);
+    }))
+    (subst (Appended f new n.trace) text c.in-Ok-write_turn.ensures.ok)
+
+pub returns-in-Ok-write_turn-clause-few : goal.returns-in-Ok-write_turn-clause-few
+returns-in-Ok-write_turn-clause-few g c = c.send.ensures.few (c.args.self.now.turn + 1) c.args.self.now.turn c.requires.few
+
+pub returns-in-Ok-write_turn-2-clause-speaks : goal.returns-in-Ok-write_turn-2-clause-speaks
+returns-in-Ok-write_turn-2-clause-speaks g c = λ files ts ends mid h go ga.
+    let script = c.args.self.now.script in
+    let o = h.stands.overhears in
+    let n = written c.args.names.now in
+    let f = g.F.Folder.state c.args.folder.now in
+    let new = g.F.Folder.state c.write_turn-in-Err.new.folder in
+    let role = c.in-Err.breaking.role in
+    let fault = c.in-Err.breaking.fault in
+    let b = broken-turn script files ts ends c.args.heard mid c.args.self.now.turn role fault h.stands.turn o h.going
+    (c.in-Err.ensures.speaks files (served script files (length ts) mid) h.stands.link) in
+    let named = c.each_turn_is_made.ensures.named _ ts ends (turn_in c.args.heard ends mid none-sent) mid role fault
+    (c.scripts_make_links.ensures.ends script files c.requires.limits) o.run.run b in
+    let text = text-is c.turn_lines-lines-in-Err.result c.args.self.now.turn ts ends mid c.args.heard c.args.given.now
+    (record { orig = None; answ = None }) none-sent
+    c.turn_lines-lines-in-Err.ensures o.orig_well o.answ_well h.stands.turn go ga refl refl in
+    rw c.link_fault.ensures (ends-so script f new n files ts ends c.args.heard mid c.args.self.now.turn role fault h.stands.turn named o b
+    (subst (Appended f new n.trace) text c.in-Ok-write_turn-2.ensures.ok))
+
+pub returns-in-Ok-write_turn-2-clause-counts : goal.returns-in-Ok-write_turn-2-clause-counts
+returns-in-Ok-write_turn-2-clause-counts g c =
+    let script = c.args.self.now.script in
+    let files = c.requires.stands.0 in
+    let ts = c.requires.stands.1 in
+    let ends = c.requires.stands.2 in
+    let mid = c.requires.stands.3 in
+    let h = c.requires.stands.4 in
+    let o = h.stands.overhears in
+    let b = broken-turn script files ts ends c.args.heard mid c.args.self.now.turn c.in-Err.breaking.role c.in-Err.breaking.fault
+    h.stands.turn o h.going
+    (c.in-Err.ensures.speaks files (served script files (length ts) mid) h.stands.link) in
+    let named = c.each_turn_is_made.ensures.named _ ts ends
+    (turn_in c.args.heard ends mid none-sent) mid c.in-Err.breaking.role c.in-Err.breaking.fault
+    (c.scripts_make_links.ensures.ends script files c.requires.limits) o.run.run b in
+    rw c.link_fault.ensures (counts-so _ _
+    (written c.args.names.now) c.args.self.now.turn c.in-Err.breaking.role c.in-Err.breaking.fault named
+    c.in-Ok-write_turn-2.ensures.counts)
+
+pub returns-in-Err-write_turn-2-clause-speaks : goal.returns-in-Err-write_turn-2-clause-speaks
+returns-in-Err-write_turn-2-clause-speaks g c = λ files ts ends mid h go ga.
+    let script = c.args.self.now.script in
+    let o = h.stands.overhears in
+    let n = written c.args.names.now in
+    let f = g.F.Folder.state c.args.folder.now in
+    let new = g.F.Folder.state c.write_turn-in-Err.new.folder in
+    let role = c.in-Err.breaking.role in
+    let fault = c.in-Err.breaking.fault in
+    let b = broken-turn script files ts ends c.args.heard mid c.args.self.now.turn role fault h.stands.turn o h.going
+    (c.in-Err.ensures.speaks files (served script files (length ts) mid) h.stands.link) in
+    let text = text-is c.turn_lines-lines-in-Err.result c.args.self.now.turn ts ends mid c.args.heard c.args.given.now
+    (record { orig = None; answ = None }) none-sent
+    c.turn_lines-lines-in-Err.ensures o.orig_well o.answ_well h.stands.turn go ga refl refl in
+    stops-so script f new n files ts ends mid c.in-Err-write_turn-2.fault c.in-Err-write_turn-2.ensures.write
+    (adds-part script f new n files ts ends c.args.heard mid none-sent (Broken role fault) o b
+    (subst (PartlyAppended f new n.trace) text c.in-Err-write_turn-2.ensures.err))
+
+pub returns-in-Err-write_turn-clause-tally : goal.returns-in-Err-write_turn-clause-tally
+returns-in-Err-write_turn-clause-tally g c =
+    sends-more c.args.self.now.tally c.send.new.self (sequence_in c.in-Ok.sent.orig)
+    (sequence_in c.in-Ok.sent.answ) c.send.ensures.lost c.send.ensures.again
+
+pub returns-in-Ok-write_turn-clause-tally : goal.returns-in-Ok-write_turn-clause-tally
+returns-in-Ok-write_turn-clause-tally g c =
+    sends-more c.args.self.now.tally c.send.new.self (sequence_in c.in-Ok.sent.orig)
+    (sequence_in c.in-Ok.sent.answ) c.send.ensures.lost c.send.ensures.again
+
+pub returns-in-Ok-write_turn-2-clause-tally : goal.returns-in-Ok-write_turn-2-clause-tally
+returns-in-Ok-write_turn-2-clause-tally g c = sends-none c.args.self.now.tally
+
+pub returns-in-Err-write_turn-2-clause-tally : goal.returns-in-Err-write_turn-2-clause-tally
+returns-in-Err-write_turn-2-clause-tally g c = sends-none c.args.self.now.tally
+
+pub returns-in-Ok-write_turn-clause-idle : goal.returns-in-Ok-write_turn-clause-idle
+returns-in-Ok-write_turn-clause-idle g c = c.in-Ok.ensures.idle
+
+pub returns-in-Ok-write_turn-clause-counted : goal.returns-in-Ok-write_turn-clause-counted
+returns-in-Ok-write_turn-clause-counted g c = c.in-Ok.ensures.counted
+
+pub returns-in-Ok-write_turn-clause-only : goal.returns-in-Ok-write_turn-clause-only
+returns-in-Ok-write_turn-clause-only g c = c.write_turn.ensures.only
+
+pub returns-in-Ok-write_turn-clause-counts : goal.returns-in-Ok-write_turn-clause-counts
+returns-in-Ok-write_turn-clause-counts g c = c.in-Ok-write_turn.ensures.counts
+
+pub returns-in-Err-write_turn-clause-only : goal.returns-in-Err-write_turn-clause-only
+returns-in-Err-write_turn-clause-only g c = c.write_turn.ensures.only
+
+pub returns-in-Err-write_turn-clause-counts : goal.returns-in-Err-write_turn-clause-counts
+returns-in-Err-write_turn-clause-counts g c = c.in-Err-write_turn.ensures.counts
+
+pub returns-in-Ok-write_turn-2-clause-only : goal.returns-in-Ok-write_turn-2-clause-only
+returns-in-Ok-write_turn-2-clause-only g c = c.write_turn-in-Err.ensures.only
+
+pub returns-in-Err-write_turn-2-clause-only : goal.returns-in-Err-write_turn-2-clause-only
+returns-in-Err-write_turn-2-clause-only g c = c.write_turn-in-Err.ensures.only
+
+pub returns-in-Err-write_turn-2-clause-counts : goal.returns-in-Err-write_turn-2-clause-counts
+returns-in-Err-write_turn-2-clause-counts g c = c.in-Err-write_turn-2.ensures.counts

@@ -1,0 +1,194 @@
+-- A turn of a world in its middle: both ends have heard, and the rest of the turn is to come.
+use Rattle.std.specs.Prelude.{◌≡◌, ◌≢◌, ℕ, ◌+◌, false, ◌∷◌, List, length, Option, Result, Ok, Err}
+use Rattle.outside_calls.specs.Folder.{FolderState, KeepsName, Appended, PartlyAppended}
+use Rattle.roles.specs.declared.role.Role.{Role}
+use Rattle.roles.specs.declared.role.Role.TheVariants.{Originator, Answerer}
+use Rattle.roles.specs.Both.{Both}
+use Rattle.noise_script.specs.Script.{ScriptValue}
+use Rattle.lapm_frames.specs.declared.heard.Heard.{Heard}
+use Rattle.lapm_frames.specs.declared.heard.Heard.TheVariants.{Chance}
+use Rattle.causes.specs.declared.fault.LinkFault.{LinkFault}
+use Rattle.causes.specs.declared.fault.LinkFault.TheVariants as faults
+use Rattle.link_account.specs.Account.{Account, after_given, given_break, check_of}
+use Rattle.link_account.specs.Hear.{hear}
+use Rattle.link_run.specs.End.{delivered, offered, is_closed}
+use Rattle.link_run.specs.Run.{Ends, Side, Spoken, Turn, GoingTurn, arrival}
+use Rattle.link_run.specs.Outcomes.{Outcome, Done, Broken}
+use Rattle.link_run.specs.Trace.{turn_text}
+use Rattle.link_run.specs.Counts.{lost_in, lost_slots, sent_again}
+use Rattle.line_run.specs.Sampled.{IsHeardOf, HeardIn, LineRun, EndsLine}
+use Rattle.line_run.specs.Sampled as line_ends
+use Rattle.line_run.specs.Scripted.{channel_of, link_of}
+use Rattle.both_sides.specs.declared.each.Each.{Each}
+use Rattle.both_sides.specs.declared.lines.LineEnd.{LineEnd}
+use Rattle.both_sides.specs.declared.lines.LineEnd.TheVariants as ways
+use Rattle.turn_bound.specs.Limits.{file_limit}
+use Rattle.stations.specs.Station.{ReadsOn}
+use Rattle.both_sides.specs.Names.{Written}
+use Rattle.both_sides.specs.Link.{LinkStands, DeliversPart, both_ends, served_on}
+use Rattle.both_sides.specs.Lines.{HaveArrived}
+use Rattle.run_world.specs.declared.world.World.{World}
+use Rattle.run_world.specs.declared.tally.Tally.{Tally}
+use Rattle.run_world.specs.declared.step.RunFault.{RunFault}
+use Rattle.run_world.specs.declared.step.RunFault.TheVariants as run_faults
+use Rattle.run_world.specs.World.{WorldAfter}
+use Rattle.run_world.specs.Turn.{MakesTurn, HasDelivered}
+
+-- What both ends hear in the turn after these, and are once they have heard.
+pub record Overhears (script : ScriptValue) (files : Both (List ℕ)) (ts : List Turn) (ends : Ends) (heard : Each Heard)
+    (mid : Ends) : Type 0 where
+  pub run : LineRun (channel_of script) (link_of script files) ts ends
+  pub orig_heard : IsHeardOf (channel_of script) Answerer ts (check_of ends.orig) heard.orig
+  pub answ_heard : IsHeardOf (channel_of script) Originator ts (check_of ends.answ) heard.answ
+  pub orig_well : heard.orig ≢ Chance
+  pub answ_well : heard.answ ≢ Chance
+  pub orig_hears : hear (length ts) (arrival heard.orig) ends.orig ≡ Ok mid.orig
+  pub answ_hears : hear (length ts) (arrival heard.answ) ends.answ ≡ Ok mid.answ
+
+-- an end's side of that turn
+abbrev pub side_of : Heard → Account → Account → Option Spoken → Side
+side_of heard before mid sent = record { heard = heard; check = check_of before; sent = sent; given = given_break mid }
+
+-- the turn, where this is sent in it
+abbrev pub turn_in : Each Heard → Ends → Ends → Both (Option Spoken) → Turn
+turn_in heard ends mid sent = record {
+  orig = side_of heard.orig ends.orig mid.orig sent.orig;
+  answ = side_of heard.answ ends.answ mid.answ sent.answ;
+}
+
+-- what both took is handed over
+abbrev pub handed : Ends → Ends
+handed mid = both_ends after_given (both_ends delivered mid)
+
+-- and both are offered what they want of their users' files
+abbrev pub supplied : Both (List ℕ) → Ends → Ends
+supplied files ends = record { orig = offered files.orig ends.orig; answ = offered files.answ ends.answ }
+
+-- as both are when they are to speak
+abbrev pub served : ScriptValue → Both (List ℕ) → ℕ → Ends → Ends
+served script files turn mid = served_on script turn (supplied files (handed mid))
+
+-- A tally of these turns, and of what is heard in the next one.
+pub record TalliesHeard (t : Tally) (ts : List Turn) (ends : Ends) (heard : Each Heard) : Type 0 where
+  pub lost : t.lost ≡ lost_slots ts + lost_in heard.orig + lost_in heard.answ
+  pub again : t.again ≡ sent_again ts
+  pub orig : t.orig ≡ ends.orig.outgoing.high
+  pub answ : t.answ ≡ ends.answ.outgoing.high
+
+-- A world in the turn after these, whose ends are by now these.
+pub record InTurn (w : World) (files : Both (List ℕ)) (ts : List Turn) (ends : Ends) (heard : Each Heard) (mid now : Ends) : Type 0 where
+  pub overhears : Overhears w.script files ts ends heard mid
+  pub link : LinkStands w.link files now
+  pub lines : HaveArrived w.lines (channel_of w.script) ts
+  pub turn : w.turn ≡ length ts
+  pub tally : TalliesHeard w.tally ts ends heard
+
+-- the call left all of a world but its ends as it was
+pub record SameBeside (old new : World) : Type 0 where
+  pub lines : new.lines ≡ old.lines
+  pub script : new.script ≡ old.script
+  pub turn : new.turn ≡ old.turn
+  pub tally : new.tally ≡ old.tally
+
+-- both ends have heard
+pub record HasHeard (w : World) (files : Both (List ℕ)) (ts : List Turn) (ends : Ends) (heard : Each Heard) : Type 0 where
+  pub mid : Ends
+  pub stands : InTurn w files ts ends heard mid mid
+
+-- the line ends the run
+abbrev pub IsLineEnd : ScriptValue → List Turn → Ends → LineEnd → Type 0
+IsLineEnd script ts ends (ways.Lost role symbol) = EndsLine (channel_of script) ts ends (line_ends.LineLost role symbol)
+IsLineEnd script ts ends (ways.Chance role) = EndsLine (channel_of script) ts ends (line_ends.ChanceMatch role)
+
+-- what hearing answers
+abbrev pub HearsTurn : World → Both (List ℕ) → List Turn → Ends → Result (Each Heard) LineEnd → Type 0
+HearsTurn w files ts ends (Ok heard) = HasHeard w files ts ends heard
+HearsTurn w files ts ends (Err end) = IsLineEnd w.script ts ends end
+
+-- A part of what both ends took stands behind what the received files held, and the trace is as it was.
+pub record HasPart (old now : FolderState) (n : Written) (mid : Ends) : Type 0 where
+  pub octets : DeliversPart old now n mid
+  pub trace : KeepsName old now n.trace
+
+-- What both ends took is handed over, segments and the lengths of breaks.
+pub record HandsOver (w : World) (old new : FolderState) (n : Written) (files : Both (List ℕ)) (ts : List Turn) (ends : Ends)
+    (heard : Each Heard) (mid : Ends)
+    (given : Each (Option ℕ)) : Type 0 where
+  pub stands : InTurn w files ts ends heard mid (handed mid)
+  pub orig_given : given.orig ≡ given_break mid.orig
+  pub answ_given : given.answ ≡ given_break mid.answ
+  pub delivered : HasDelivered old new n mid
+
+-- Both files were read on, as far as the ends want them.
+pub record ReadsBoth (f : FolderState) (n : Written) (files : Both (List ℕ)) (ends : Ends) (others : Both (List ℕ)) : Type 0 where
+  pub orig : ReadsOn f n.orig file_limit files.orig ends.orig others.orig
+  pub answ : ReadsOn f n.answ file_limit files.answ ends.answ others.answ
+
+-- Both ends are served, and are to speak.
+pub record Serves (w : World) (f : FolderState) (n : Written) (files : Both (List ℕ)) (ts : List Turn) (ends : Ends) (heard : Each Heard)
+    (mid : Ends) : Type 0 where
+  pub others : Both (List ℕ)
+  pub reads : ReadsBoth f n files (handed mid) others
+  pub stands : InTurn w others ts ends heard mid (served w.script others (length ts) mid)
+
+-- The turn after these is made, with that outcome, and its lines stand behind the trace.
+pub record AddsLines (script : ScriptValue) (old new : FolderState) (n : Written) (files : Both (List ℕ)) (ts : List Turn) (ends mid : Ends)
+    (outcome : Outcome) : Type 0 where
+  pub turn : Turn
+  pub makes : MakesTurn script files ts ends turn mid outcome
+  pub trace : Appended old new n.trace (turn_text (length ts) turn)
+
+-- A part of its lines does, whatever it comes to.
+pub record AddsPart (script : ScriptValue) (old new : FolderState) (n : Written) (files : Both (List ℕ)) (ts : List Turn)
+    (ends mid : Ends) : Type 0 where
+  pub outcome : Outcome
+  pub turn : Turn
+  pub makes : MakesTurn script files ts ends turn mid outcome
+  pub trace : PartlyAppended old new n.trace (turn_text (length ts) turn)
+
+-- The run goes on.
+pub record HasGone (w : World) (script : ScriptValue) (old new : FolderState) (n : Written) (files : Both (List ℕ)) (ts : List Turn)
+    (ends mid : Ends) : Type 0 where
+  pub turn : Turn
+  pub after : Ends
+  pub going : GoingTurn (link_of script files) ts ends turn after
+  pub mid_is : going.mid ≡ mid
+  pub heard : HeardIn (channel_of script) ts turn
+  pub world : WorldAfter w files (turn ∷ ts) after
+  pub trace : Appended old new n.trace (turn_text (length ts) turn)
+
+-- The run is done in this turn, and all its turns are counted.
+pub record Finishes (w : World) (old new : FolderState) (n : Written) (files : Both (List ℕ)) (ts : List Turn)
+    (ends mid : Ends) : Type 0 where
+  pub adds : AddsLines w.script old new n files ts ends mid Done
+  pub lost : w.tally.lost ≡ lost_slots (adds.turn ∷ ts)
+  pub again : w.tally.again ≡ sent_again (adds.turn ∷ ts)
+
+-- why the run ends as the ends speak
+abbrev pub SpeaksLast : ScriptValue → FolderState → FolderState → Written → Both (List ℕ) → List Turn → Ends → Ends → RunFault → Type 0
+SpeaksLast script old new n files ts ends mid run_faults.WriteFault = AddsPart script old new n files ts ends mid
+SpeaksLast script old new n files ts ends mid run_faults.NoMemory = AddsPart script old new n files ts ends mid
+SpeaksLast script old new n files ts ends mid (run_faults.LinkLost role segment turn) =
+    (turn ≡ length ts) × (since : ℕ) × AddsLines script old new n files ts ends mid (Broken role (faults.Spent segment since))
+SpeaksLast script old new n files ts ends mid (run_faults.NotDetected turn) =
+    (turn ≡ length ts) × AddsLines script old new n files ts ends mid (Broken Originator faults.NotDetected)
+SpeaksLast script old new n files ts ends mid run_faults.ReadFault = ⊥
+SpeaksLast script old new n files ts ends mid (run_faults.LineLost role symbol) = ⊥
+SpeaksLast script old new n files ts ends mid (run_faults.ChanceMatch role turn) = ⊥
+
+-- what speaking answers
+abbrev pub SpeaksTurn : World → FolderState → FolderState → Written → Both (List ℕ) → List Turn → Ends → Ends → Result (Unit {0}) RunFault
+    → Type 0
+SpeaksTurn w old new n files ts ends mid (Ok done) = HasGone w w.script old new n files ts ends mid
+SpeaksTurn w old new n files ts ends mid (Err fault) = SpeaksLast w.script old new n files ts ends mid fault
+
+-- Both ends are to speak, in a turn in which the originator isn't closed.
+pub record IsToSpeak (w : World) (files : Both (List ℕ)) (ts : List Turn) (ends : Ends) (heard : Each Heard) (mid : Ends) : Type 0 where
+  pub stands : InTurn w files ts ends heard mid (served w.script files (length ts) mid)
+  pub going : is_closed mid.orig.phase ≡ false
+
+-- why a run ends in which an end breaks
+abbrev pub fault_named : ℕ → Role → LinkFault → RunFault
+fault_named turn role faults.NotDetected = run_faults.NotDetected turn
+fault_named turn role (faults.Spent segment since) = run_faults.LinkLost role segment turn
+fault_named turn role fault = run_faults.NoMemory

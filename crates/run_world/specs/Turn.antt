@@ -1,0 +1,197 @@
+-- What a turn answers, what it adds to each output, and what is left where the folder doesn't take that.
+use Rattle.std.specs.Prelude.{◌≡◌, ◌⊎◌, ℕ, ◌+◌, ◌∷◌, List, length, Result, Ok, Err}
+use Rattle.std.specs.List.{concat}
+use Rattle.outside_calls.specs.Folder.{FolderState, KeepsName, Adds, Appended, PartlyAppended, Rose, FaultsStand, CountsStand}
+use Rattle.outside_calls.specs.declared.folder.FolderFault.{FolderFault}
+use Rattle.outside_calls.specs.declared.folder.FolderFault.TheVariants.{Failed, NoMemory}
+use Rattle.roles.specs.declared.role.Role.{Role}
+use Rattle.roles.specs.declared.role.Role.TheVariants.{Originator}
+use Rattle.roles.specs.Both.{Both}
+use Rattle.noise_script.specs.Script.{ScriptValue}
+use Rattle.line_texts.specs.LineText.{chance_line}
+use Rattle.causes.specs.declared.fault.LinkFault.TheVariants as faults
+use Rattle.link_run.specs.End.{deliveries}
+use Rattle.link_run.specs.Run.{Ends, Turn, GoingTurn}
+use Rattle.link_run.specs.Outcomes.{Outcome, Done, Broken, TurnIs}
+use Rattle.link_run.specs.Trace.{turn_text}
+use Rattle.link_run.specs.Counts.{lost_slots, sent_again}
+use Rattle.line_run.specs.Sampled.{HeardIn, LineRun, EndsLine}
+use Rattle.line_run.specs.Sampled as lines
+use Rattle.line_run.specs.Scripted.{channel_of, link_of}
+use Rattle.both_sides.specs.Names.{Written, ReadRose}
+use Rattle.both_sides.specs.Lines.{HaveArrived}
+use Rattle.run_world.specs.declared.world.World.{World}
+use Rattle.run_world.specs.declared.step.Step.{Step}
+use Rattle.run_world.specs.declared.step.Step.TheVariants as steps
+use Rattle.run_world.specs.declared.step.RunFault.{RunFault}
+use Rattle.run_world.specs.declared.step.RunFault.TheVariants as run_faults
+use Rattle.run_world.specs.World.{StayKnown, WorldAfter, script_of, lines_of, lost_of, again_of}
+
+-- What a turn adds to the outputs: to each received file what its end took, and to the trace both lines.
+pub record WritesTurn (old new : FolderState) (n : Written) (mid : Ends) (text : List ℕ) : Type 0 where
+  pub got_o : Adds old new n.got_o (concat (deliveries mid.orig))
+  pub got_a : Adds old new n.got_a (concat (deliveries mid.answ))
+  pub trace : Appended old new n.trace text
+
+-- A part of that, where the folder took no more: one of what the originator took, and nothing else; one of what the answerer took, behind
+-- all of the originator's, and nothing of the lines; or one of both lines, behind all that both took.
+pub data WritesPart (old new : FolderState) (n : Written) (mid : Ends) (text : List ℕ) : Type 0 where
+  of_orig : PartlyAppended old new n.got_o (concat (deliveries mid.orig)) → KeepsName old new n.got_a → KeepsName old new n.trace
+      → WritesPart old new n mid text
+  of_answ : Adds old new n.got_o (concat (deliveries mid.orig)) → PartlyAppended old new n.got_a (concat (deliveries mid.answ))
+      → KeepsName old new n.trace → WritesPart old new n mid text
+  of_lines : Adds old new n.got_o (concat (deliveries mid.orig)) → Adds old new n.got_a (concat (deliveries mid.answ))
+      → PartlyAppended old new n.trace text → WritesPart old new n mid text
+
+-- What both ends took stands behind what the received files held, and the trace is as it was.
+pub record HasDelivered (old new : FolderState) (n : Written) (mid : Ends) : Type 0 where
+  pub got_o : Adds old new n.got_o (concat (deliveries mid.orig))
+  pub got_a : Adds old new n.got_a (concat (deliveries mid.answ))
+  pub trace : KeepsName old new n.trace
+
+-- The turn after these, over a script and files: what both ends hear in it, are once they have heard, and what it comes to.
+pub record MakesTurn (script : ScriptValue) (files : Both (List ℕ)) (ts : List Turn) (ends : Ends) (turn : Turn) (mid : Ends)
+    (outcome : Outcome) : Type 0 where
+  pub run : LineRun (channel_of script) (link_of script files) ts ends
+  pub heard : HeardIn (channel_of script) ts turn
+  pub is : TurnIs (link_of script files) ts ends turn mid outcome
+
+-- The run goes on by one turn.
+pub record GoesOnBy (w : World) (old new : FolderState) (n : Written) (files : Both (List ℕ)) (ts : List Turn) (ends : Ends) : Type 0 where
+  pub others : Both (List ℕ)
+  pub known : StayKnown old new n files others
+  pub turn : Turn
+  pub after : Ends
+  pub going : GoingTurn (link_of (script_of w) others) ts ends turn after
+  pub heard : HeardIn (channel_of (script_of w)) ts turn
+  pub world : WorldAfter w others (turn ∷ ts) after
+  pub writes : WritesTurn old new n going.mid (turn_text (length ts) turn)
+
+-- The run ends in this turn, with that outcome.
+pub record EndsInTurn (script : ScriptValue) (old new : FolderState) (n : Written) (files : Both (List ℕ)) (ts : List Turn) (ends : Ends)
+    (outcome : Outcome) (number : ℕ) : Type 0 where
+  pub number_is : number ≡ length ts
+  pub others : Both (List ℕ)
+  pub known : StayKnown old new n files others
+  pub turn : Turn
+  pub mid : Ends
+  pub makes : MakesTurn script others ts ends turn mid outcome
+  pub writes : WritesTurn old new n mid (turn_text (length ts) turn)
+
+-- The run is done in this turn: the lines have passed the slots that arrived in it too, and all turns are counted.
+pub record DoneIn (w : World) (old new : FolderState) (n : Written) (files : Both (List ℕ)) (ts : List Turn) (ends : Ends)
+    (number : ℕ) : Type 0 where
+  pub ended : EndsInTurn (script_of w) old new n files ts ends Done number
+  pub lines : HaveArrived (lines_of w) (channel_of (script_of w)) ts
+  pub lost : lost_of w ≡ lost_slots (ended.turn ∷ ts)
+  pub again : again_of w ≡ sent_again (ended.turn ∷ ts)
+
+-- neither received file was written to
+pub record KeepsReceived (old new : FolderState) (n : Written) : Type 0 where
+  pub got_o : KeepsName old new n.got_o
+  pub got_a : KeepsName old new n.got_a
+
+-- The line is lost as this turn begins: nothing is written.
+pub record LosesLine (script : ScriptValue) (old new : FolderState) (n : Written) (ts : List Turn) (ends : Ends) (role : Role)
+    (symbol : ℕ) : Type 0 where
+  pub is : EndsLine (channel_of script) ts ends (lines.LineLost role symbol)
+  pub received : KeepsReceived old new n
+  pub trace : KeepsName old new n.trace
+
+-- A slot is a chance match: the one line of it is written.
+pub record MeetsChance (script : ScriptValue) (old new : FolderState) (n : Written) (ts : List Turn) (ends : Ends) (role : Role)
+    (number : ℕ) : Type 0 where
+  pub number_is : number ≡ length ts
+  pub is : EndsLine (channel_of script) ts ends (lines.ChanceMatch role)
+  pub received : KeepsReceived old new n
+  pub trace : Appended old new n.trace (chance_line (length ts) role)
+
+-- The folder fails in this turn, and a part of what it adds is written: whatever the turn comes to,
+pub record StopsInTurn (script : ScriptValue) (old new : FolderState) (n : Written) (files : Both (List ℕ)) (ts : List Turn)
+    (ends : Ends) : Type 0 where
+  pub others : Both (List ℕ)
+  pub known : StayKnown old new n files others
+  pub turn : Turn
+  pub mid : Ends
+  pub outcome : Outcome
+  pub makes : MakesTurn script others ts ends turn mid outcome
+  pub writes : WritesPart old new n mid (turn_text (length ts) turn)
+
+-- or where a slot is a chance match.
+pub record StopsAtChance (script : ScriptValue) (old new : FolderState) (n : Written) (ts : List Turn) (ends : Ends) : Type 0 where
+  pub role : Role
+  pub is : EndsLine (channel_of script) ts ends (lines.ChanceMatch role)
+  pub received : KeepsReceived old new n
+  pub trace : PartlyAppended old new n.trace (chance_line (length ts) role)
+
+-- A file that is sent isn't read: what both ends took is written, and nothing of the lines.
+abbrev pub StopsReading : ScriptValue → FolderState → FolderState → Written → Both (List ℕ) → List Turn → Ends → Type 0
+StopsReading script old new n files ts ends = (stops : StopsInTurn script old new n files ts ends) × HasDelivered old new n stops.mid
+
+abbrev pub Stops : ScriptValue → FolderState → FolderState → Written → Both (List ℕ) → List Turn → Ends → Type 0
+Stops script old new n files ts ends = StopsInTurn script old new n files ts ends ⊎ StopsAtChance script old new n ts ends
+
+-- an end's tries are spent, at its front
+abbrev pub LosesLink : ScriptValue → FolderState → FolderState → Written → Both (List ℕ) → List Turn → Ends → Role → ℕ → ℕ → Type 0
+LosesLink script old new n files ts ends role segment number =
+    (since : ℕ) × EndsInTurn script old new n files ts ends (Broken role (faults.Spent segment since)) number
+
+-- why a run ends in this turn with less than both files
+abbrev pub EndsBy : ScriptValue → FolderState → FolderState → Written → Both (List ℕ) → List Turn → Ends → RunFault → Type 0
+EndsBy script old new n files ts ends run_faults.ReadFault = StopsReading script old new n files ts ends
+EndsBy script old new n files ts ends run_faults.WriteFault = Stops script old new n files ts ends
+EndsBy script old new n files ts ends (run_faults.LineLost role symbol) = LosesLine script old new n ts ends role symbol
+EndsBy script old new n files ts ends (run_faults.ChanceMatch role turn) = MeetsChance script old new n ts ends role turn
+EndsBy script old new n files ts ends (run_faults.NotDetected turn) =
+    EndsInTurn script old new n files ts ends (Broken Originator faults.NotDetected) turn
+EndsBy script old new n files ts ends (run_faults.LinkLost role segment turn) = LosesLink script old new n files ts ends role segment turn
+EndsBy script old new n files ts ends run_faults.NoMemory = Stops script old new n files ts ends
+
+-- what a turn answers, after these turns
+abbrev pub TurnAnswers : World → FolderState → FolderState → Written → Both (List ℕ) → List Turn → Ends → Result Step RunFault → Type 0
+TurnAnswers w old new n files ts ends (Ok steps.Going) = GoesOnBy w old new n files ts ends
+TurnAnswers w old new n files ts ends (Ok (steps.Done turn)) = DoneIn w old new n files ts ends turn
+TurnAnswers w old new n files ts ends (Err fault) = EndsBy (script_of w) old new n files ts ends fault
+
+-- how many turns were made, once a turn is answered: one more where the run goes on
+abbrev pub turns_made : ℕ → Result Step RunFault → ℕ
+turns_made turn (Ok steps.Going) = turn + 1
+turns_made turn answer = turn
+
+-- why a run ends where a call of the folder is not done: this, where it failed
+abbrev pub fault_of : RunFault → FolderFault → RunFault
+fault_of failed Failed = failed
+fault_of failed NoMemory = run_faults.NoMemory
+
+-- an output was not written
+abbrev pub IsWriting : RunFault → Type 0
+IsWriting run_faults.WriteFault = Unit {0}
+IsWriting run_faults.NoMemory = Unit {0}
+IsWriting fault = ⊥
+
+-- a file that is sent was not read
+abbrev pub IsReading : RunFault → Type 0
+IsReading run_faults.ReadFault = Unit {0}
+IsReading run_faults.NoMemory = Unit {0}
+IsReading fault = ⊥
+
+-- a count of writing an output rose, or stands at its last value
+abbrev pub OutputRose : FolderState → FolderState → Written → Type 0
+OutputRose old new n =
+    Rose (old.write_faults n.got_o) (new.write_faults n.got_o) ⊎ (Rose (old.write_faults n.got_a) (new.write_faults n.got_a)
+    ⊎ Rose (old.write_faults n.trace) (new.write_faults n.trace))
+
+-- what was counted where a run ends in this turn: a fault of its own names, a refusal of memory by the folder, or nothing
+abbrev pub FaultCounts : FolderState → FolderState → Written → RunFault → Type 0
+FaultCounts old new n run_faults.ReadFault = ReadRose old new n
+FaultCounts old new n run_faults.WriteFault = OutputRose old new n
+FaultCounts old new n run_faults.NoMemory = FaultsStand old new × Rose old.refusals new.refusals
+FaultCounts old new n (run_faults.LineLost role symbol) = CountsStand old new
+FaultCounts old new n (run_faults.ChanceMatch role turn) = CountsStand old new
+FaultCounts old new n (run_faults.NotDetected turn) = CountsStand old new
+FaultCounts old new n (run_faults.LinkLost role segment turn) = CountsStand old new
+
+-- what a turn counted, or a part of it
+abbrev pub TurnCounts : {T : Type 0} → FolderState → FolderState → Written → Result T RunFault → Type 0
+TurnCounts old new n (Ok done) = CountsStand old new
+TurnCounts old new n (Err fault) = FaultCounts old new n fault

@@ -1,0 +1,115 @@
+-- What the outputs hold of a run: what its turns left, and a part of what the next turn adds where the folder fails in it.
+use Rattle.std.specs.Prelude.{◌≡◌, ◌⊎◌, ℕ, List, [], ◌∷◌, ◌++◌, length, Result, Ok, Err}
+use Rattle.std.specs.List.{concat}
+use Rattle.outside_calls.specs.Folder.{FolderState}
+use Rattle.roles.specs.declared.role.Role.{Role}
+use Rattle.roles.specs.Both.{Both, of}
+use Rattle.line_texts.specs.LineText.{chance_line}
+use Rattle.link_run.specs.Counts.{lost_slots, sent_again}
+use Rattle.link_run.specs.End.{deliveries}
+use Rattle.link_run.specs.Run.{Link, Ends, Turn}
+use Rattle.link_run.specs.Outcomes.{Outcome, TurnIs}
+use Rattle.link_run.specs.Trace.{trace_text, turn_text}
+use Rattle.line_run.specs.Sampled.{Channel, HeardIn, LineRun, EndsLine}
+use Rattle.line_run.specs.Sampled as lines
+use Rattle.line_run.specs.Ends.{RunEnd, Left, Leaves, RunsTo}
+use Rattle.line_run.specs.Ends as runs
+use Rattle.line_run.specs.Scripted.{channel_of, link_of}
+use Rattle.noise_script.specs.Script.{ScriptValue}
+use Rattle.outside_calls.specs.Outputs.{Holds, HoldsPart}
+use Rattle.run_world.specs.Names.{Written}
+use Rattle.run_world.specs.World.{KnowsFiles}
+use Rattle.run_world.specs.declared.step.RunFault.{RunFault}
+use Rattle.run_world.specs.declared.step.RunFault.TheVariants as faults
+
+-- The outputs hold what is left.
+pub record HoldLeft (f : FolderState) (n : Written) (left : Left) : Type 0 where
+  pub got_o : Holds f n.got_o left.got.orig
+  pub got_a : Holds f n.got_a left.got.answ
+  pub trace : Holds f n.trace left.trace
+
+-- They hold that, and a part of what comes behind it: one of what the originator's user is given, and nothing else; one of what the
+-- answerer's is given, behind all of the originator's, and nothing of the trace; or one of the trace, behind all that both are given.
+pub data HoldPart (f : FolderState) (n : Written) (left more : Left) : Type 0 where
+  of_orig : HoldsPart f n.got_o left.got.orig more.got.orig → Holds f n.got_a left.got.answ → Holds f n.trace left.trace
+      → HoldPart f n left more
+  of_answ : Holds f n.got_o (left.got.orig ++ more.got.orig) → HoldsPart f n.got_a left.got.answ more.got.answ
+      → Holds f n.trace left.trace → HoldPart f n left more
+  of_lines : Holds f n.got_o (left.got.orig ++ more.got.orig) → Holds f n.got_a (left.got.answ ++ more.got.answ)
+      → HoldsPart f n.trace left.trace more.trace → HoldPart f n left more
+
+-- What a turn after these adds, whatever it comes to: what both ends take in it, and its two lines of the trace.
+pub record AddsTurn (c : Channel) (link : Link) (ts : List Turn) (ends : Ends) (more : Left) : Type 0 where
+  pub turn : Turn
+  pub mid : Ends
+  pub outcome : Outcome
+  pub heard : HeardIn c ts turn
+  pub is : TurnIs link ts ends turn mid outcome
+  pub got_is : (role : Role) → of role more.got ≡ concat (deliveries (of role mid))
+  pub trace_is : more.trace ≡ turn_text (length ts) turn
+
+-- What is added where a slot of that turn is a chance match: one line of the trace.
+pub record AddsChance (c : Channel) (ts : List Turn) (ends : Ends) (more : Left) : Type 0 where
+  pub role : Role
+  pub is : EndsLine c ts ends (lines.ChanceMatch role)
+  pub got_is : (side : Role) → of side more.got ≡ []
+  pub trace_is : more.trace ≡ chance_line (length ts) role
+
+-- The folder failed in the turn after some: the outputs hold what these left, and a part of what that turn adds.
+pub record StopsAfter (c : Channel) (link : Link) (f : FolderState) (n : Written) : Type 0 where
+  pub turns : List Turn
+  pub ends : Ends
+  pub run : LineRun c link turns ends
+  pub left : Left
+  pub leaves : Leaves ends (trace_text turns) left
+  pub more : Left
+  pub adds : AddsTurn c link turns ends more ⊎ AddsChance c turns ends more
+  pub holds : HoldPart f n left more
+
+-- It failed to read a file that is sent: the outputs hold all that both users are given in that turn, and nothing of its lines.
+pub record StopsReading (c : Channel) (link : Link) (f : FolderState) (n : Written) (s : StopsAfter c link f n) : Type 0 where
+  pub adds : AddsTurn c link s.turns s.ends s.more
+  pub got_o : Holds f n.got_o (s.left.got.orig ++ s.more.got.orig)
+  pub got_a : Holds f n.got_a (s.left.got.answ ++ s.more.got.answ)
+  pub trace : Holds f n.trace s.left.trace
+
+-- ---- what turns come to that are made over a folder
+
+-- The run of a script and these files ended so.
+pub record RunEnds (script : ScriptValue) (f : FolderState) (n : Written) (end : RunEnd) : Type 0 where
+  pub files : Both (List ℕ)
+  pub knows : KnowsFiles f n files
+  pub left : Left
+  pub run : RunsTo (channel_of script) (link_of script files) end left
+  pub holds : HoldLeft f n left
+
+-- It was done in this turn, with so many slots lost and so many segments sent again in all its turns.
+pub record RunCounts (script : ScriptValue) (f : FolderState) (n : Written) (turn lost again : ℕ) : Type 0 where
+  pub ran : RunEnds script f n (runs.IsDone turn)
+  pub lost_is : lost ≡ lost_slots (ran.run.ended.last ∷ ran.run.turns)
+  pub again_is : again ≡ sent_again (ran.run.ended.last ∷ ran.run.turns)
+
+-- The folder failed in a turn of it.
+pub record RunStops (script : ScriptValue) (f : FolderState) (n : Written) : Type 0 where
+  pub files : Both (List ℕ)
+  pub knows : KnowsFiles f n files
+  pub stops : StopsAfter (channel_of script) (link_of script files) f n
+
+-- It failed to read a file that is sent.
+abbrev pub RunStopsReading : ScriptValue → FolderState → Written → Type 0
+RunStopsReading script f n = (s : RunStops script f n) × StopsReading (channel_of script) (link_of script s.files) f n s.stops
+
+-- how turns end with a fault
+abbrev pub FaultEnds : ScriptValue → FolderState → Written → RunFault → Type 0
+FaultEnds script f n faults.ReadFault = RunStopsReading script f n
+FaultEnds script f n faults.WriteFault = RunStops script f n
+FaultEnds script f n (faults.LineLost role symbol) = RunEnds script f n (runs.LineLost role symbol)
+FaultEnds script f n (faults.ChanceMatch role turn) = RunEnds script f n (runs.ChanceMatch role turn)
+FaultEnds script f n (faults.NotDetected turn) = RunEnds script f n (runs.NotDetected turn)
+FaultEnds script f n (faults.LinkLost role segment turn) = RunEnds script f n (runs.LinkLost role segment turn)
+FaultEnds script f n faults.NoMemory = RunStops script f n
+
+-- how turns end
+abbrev pub TurnsEnd : ScriptValue → FolderState → Written → Result ℕ RunFault → Type 0
+TurnsEnd script f n (Ok turn) = RunEnds script f n (runs.IsDone turn)
+TurnsEnd script f n (Err fault) = FaultEnds script f n fault

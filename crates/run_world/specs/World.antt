@@ -1,0 +1,105 @@
+-- For which run a world stands: its turns so far, over two files that are known as far as they were read.
+use Rattle.std.specs.Prelude.{◌≡◌, ◌≢◌, ℕ, ◌+◌, ◌-◌, ◌≤◌, IsTrue, List, length, drop}
+use Rattle.outside_calls.specs.Folder.{FolderState, GoesOn, KeepsName}
+use Rattle.roles.specs.Both.{Both}
+use Rattle.noise_script.specs.Script.{ScriptValue, IsInLimits, delay_of}
+use Rattle.roles.specs.declared.role.Role.{Role}
+use Rattle.sample_line.specs.Line.{Kept, LineStands}
+use Rattle.link_run.specs.Run.{Ends, Turn}
+use Rattle.link_run.specs.Carried.{on_line}
+use Rattle.line_run.specs.Sampled.{LineRun, signals}
+use Rattle.both_sides.specs.OnWay.{signals_in}
+use Rattle.line_run.specs.Scripted.{channel_of, link_of}
+use Rattle.turn_bound.specs.Limits.{file_limit}
+use Rattle.stations.specs.Station.{file_at}
+use Rattle.both_sides.specs.Names.{Written}
+use Rattle.both_sides.specs.Link.{LinkStands, AreIdle, AreCounted, AreWithin}
+use Rattle.both_sides.specs.Lines.{LinesWait}
+use Rattle.both_sides.specs.declared.lines.Lines.{Lines}
+use Rattle.run_world.specs.declared.world.World.{World}
+use Rattle.run_world.specs.Tally.{Tallies, IsFew}
+
+-- the script of a world, its two directions of the line, and how many turns it made
+abbrev pub script_of : World → ScriptValue
+script_of w = w.script
+
+abbrev pub lines_of : World → Lines
+lines_of w = w.lines
+
+abbrev pub turn_of : World → ℕ
+turn_of w = w.turn
+
+-- how many slots were lost in them, and how many segments went again
+abbrev pub lost_of : World → ℕ
+lost_of w = w.tally.lost
+
+abbrev pub again_of : World → ℕ
+again_of w = w.tally.again
+
+-- The files are within the limit at which they end for who reads them. One that the folder tells is what it tells, up to there.
+pub record KnowsFiles (f : FolderState) (n : Written) (files : Both (List ℕ)) : Type 0 where
+  pub within : AreWithin files
+  pub orig : IsTrue (f.tells n.orig) → files.orig ≡ file_at f n.orig file_limit
+  pub answ : IsTrue (f.tells n.answ) → files.answ ≡ file_at f n.answ file_limit
+
+-- Files that were known so before are others now, the same where the folder tells them: more of them was read.
+pub record StayKnown (old new : FolderState) (n : Written) (files others : Both (List ℕ)) : Type 0 where
+  pub within : AreWithin others
+  pub known : KnowsFiles old n files → KnowsFiles new n others
+
+-- The world made these turns of the run of its script and these files, which has come to these ends, and counted what they show.
+pub record WorldAfter (w : World) (files : Both (List ℕ)) (ts : List Turn) (ends : Ends) : Type 0 where
+  pub run : LineRun (channel_of w.script) (link_of w.script files) ts ends
+  pub link : LinkStands w.link files ends
+  pub lines : LinesWait w.lines (channel_of w.script) ts
+  pub turn : w.turn ≡ length ts
+  pub tally : Tallies w.tally ts ends
+
+-- the line of this role stands for its slots of these turns: those sent as many turns ago as its delay has passed, the others wait
+abbrev pub HasPassed : Kept → ScriptValue → Role → List Turn → Type 0
+HasPassed line script role ts =
+    LineStands line script (signals (channel_of script) role (drop (delay_of script role) ts))
+    (signals_in (channel_of script) role (on_line (delay_of script role) role ts))
+
+-- so it does for one slot more, once that of the turn after these has arrived
+abbrev pub HasPassedToo : Kept → ScriptValue → Role → List Turn → Type 0
+HasPassedToo line script role ts =
+    LineStands line script (signals (channel_of script) role (drop (delay_of script role - 1) ts))
+    (signals_in (channel_of script) role (on_line (delay_of script role - 1) role ts))
+
+-- What a turn may add to the numbers, however it is answered: both slots that are heard may be lost, and both that are sent may go again.
+pub record AddsNumbers (old new : World) : Type 0 where
+  pub lost_low : lost_of old ≤ lost_of new
+  pub lost_high : lost_of new ≤ lost_of old + 2
+  pub again_low : again_of old ≤ again_of new
+  pub again_high : again_of new ≤ again_of old + 2
+
+-- A turn may be made: the world stands for a run of some files, and what its ends took is handed over.
+pub record IsReady (w : World) : Type 0 where
+  pub limits : IsInLimits w.script
+  pub files : Both (List ℕ)
+  pub within : AreWithin files
+  pub turns : List Turn
+  pub ends : Ends
+  pub after : WorldAfter w files turns ends
+  pub idle : AreIdle w.link
+  pub counted : AreCounted w.link w.turn w.turn
+  pub few : IsFew w.tally w.turn w.turn
+
+-- outputs differ from one another and from the inputs
+pub record AreApart (n : Written) : Type 0 where
+  pub got : n.got_o ≢ n.got_a
+  pub got_o_trace : n.got_o ≢ n.trace
+  pub got_a_trace : n.got_a ≢ n.trace
+  pub got_o_orig : n.got_o ≢ n.orig
+  pub got_o_answ : n.got_o ≢ n.answ
+  pub got_a_orig : n.got_a ≢ n.orig
+  pub got_a_answ : n.got_a ≢ n.answ
+  pub trace_orig : n.trace ≢ n.orig
+  pub trace_answ : n.trace ≢ n.answ
+
+-- The outputs alone were touched, and nothing was said.
+pub record OnlyOutputs (old new : FolderState) (n : Written) : Type 0 where
+  pub goes_on : GoesOn old new
+  pub names : (other : List ℕ) → other ≢ n.got_o → other ≢ n.got_a → other ≢ n.trace → KeepsName old new other
+  pub said : new.said ≡ old.said
