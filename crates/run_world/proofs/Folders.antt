@@ -7,9 +7,9 @@ use Rattle.roles.specs.Both.{Both}
 use Rattle.link_run.specs.Run.{Ends}
 use Rattle.turn_bound.specs.Limits.{file_limit}
 use Rattle.stations.specs.Station.{file_at}
-use Rattle.both_sides.specs.Names.{Written}
-use Rattle.both_sides.specs.Link.{AreWithin, DeliversPart}
-use Rattle.both_sides.specs.Link as links
+use Rattle.run_world.specs.Names.{Written}
+use Rattle.run_world.specs.Link.{AreWithin, DeliversPart}
+use Rattle.run_world.specs.Link as links
 use Rattle.run_world.specs.declared.step.RunFault.{RunFault}
 use Rattle.run_world.specs.declared.step.RunFault.TheVariants as run_faults
 use Rattle.run_world.specs.World.{KnowsFiles, StayKnown, AreApart, OnlyOutputs}

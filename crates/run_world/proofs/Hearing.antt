@@ -19,13 +19,13 @@ use Rattle.line_run.specs.Scripted.{channel_of, link_of, ScriptsMayPlay, Scripts
 use Rattle.line_run.specs.LineLaws.{SamplesAreCarried, OneIsCarried}
 use Rattle.line_run.specs.Scripts.{NoLineRunIsLong}
 use Rattle.turn_bound.specs.Limits.{file_limit}
-use Rattle.both_sides.specs.declared.each.Each.{Each}
-use Rattle.both_sides.specs.declared.lines.Lines.{Lines}
-use Rattle.both_sides.specs.declared.link.Link.{Link}
-use Rattle.both_sides.specs.Link.{LinkStands, AreIdle, AreCounted, HearsBoth, HearsWell}
-use Rattle.both_sides.specs.Lines.{LinesWait, ArrivesBoth, ArrivesSo, HaveArrived}
-use Rattle.both_sides.specs.declared.lines.LineEnd.{LineEnd}
-use Rattle.both_sides.specs.declared.lines.LineEnd.TheVariants as ways
+use Rattle.run_world.specs.declared.each.Each.{Each}
+use Rattle.run_world.specs.declared.lines.Lines.{Lines}
+use Rattle.run_world.specs.declared.link.Link.{Link}
+use Rattle.run_world.specs.Link.{LinkStands, AreIdle, AreCounted, HearsBoth, HearsWell}
+use Rattle.run_world.specs.Lines.{LinesWait, ArrivesBoth, ArrivesSo, HaveArrived}
+use Rattle.run_world.specs.declared.lines.LineEnd.{LineEnd}
+use Rattle.run_world.specs.declared.lines.LineEnd.TheVariants as ways
 use Rattle.run_world.specs.declared.world.World.{World}
 use Rattle.run_world.specs.declared.tally.Tally.{Tally}
 use Rattle.run_world.specs.World.{IsReady, WorldAfter}

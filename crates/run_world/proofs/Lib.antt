@@ -4,3 +4,6 @@ pub mod Speaking
 pub mod Folders
 pub mod Turning
 pub mod Reached
+pub mod Linking
+pub mod Waiting
+pub mod Arriving

@@ -16,14 +16,14 @@ use Rattle.line_run.specs.Scripted.{channel_of, link_of, breaks_of, busy_of}
 use Rattle.link_run.specs.Carried.{on_line}
 use Rattle.line_run.specs.Sampled.{signals}
 use Rattle.sample_line.specs.Line.{Kept, LineStands}
-use Rattle.both_sides.specs.DelayedLine.{DelayedLine}
-use Rattle.both_sides.specs.OnWay.{OnWay, signals_in}
-use Rattle.both_sides.specs.declared.lines.Lines.{Lines}
-use Rattle.both_sides.specs.Lines.{LinesWait, HaveArrived}
+use Rattle.run_world.specs.DelayedLine.{DelayedLine}
+use Rattle.run_world.specs.OnWay.{OnWay, signals_in}
+use Rattle.run_world.specs.declared.lines.Lines.{Lines}
+use Rattle.run_world.specs.Lines.{LinesWait, HaveArrived}
 use Rattle.run_world.specs.World.{HasPassed, HasPassedToo}
-use Rattle.both_sides.specs.declared.each.Each.{Each}
+use Rattle.run_world.specs.declared.each.Each.{Each}
 use Rattle.lapm_frames.specs.declared.heard.Heard.{Heard}
-use Rattle.both_sides.specs.Names.{Written, ReadCause}
+use Rattle.run_world.specs.Names.{Written, ReadCause}
 use Rattle.run_world.specs.declared.step.RunFault.{RunFault}
 use Rattle.run_world.specs.declared.step.RunFault.TheVariants.{ReadFault}
 use Rattle.run_world.specs.declared.step.Step.{Step}

@@ -27,12 +27,12 @@ use Rattle.link_run.specs.Trace.{side_line, turn_text}
 use Rattle.line_run.specs.Sampled.{HeardIn, LineRun}
 use Rattle.line_run.specs.Scripted.{channel_of, link_of, longest_of, slot_symbols, ScriptsMayPlay, ScriptsHaveDelays, SlotsAreCodable}
 use Rattle.line_run.specs.LineLaws.{SamplesAreCarried, OneIsCarried}
-use Rattle.both_sides.specs.declared.each.Each.{Each}
-use Rattle.both_sides.specs.declared.link.Link.{Link}
-use Rattle.both_sides.specs.declared.lines.Lines.{Lines}
-use Rattle.both_sides.specs.Names.{Written}
-use Rattle.both_sides.specs.Link.{LinkStands, SaysBoth, BreaksSo, both_finished}
-use Rattle.both_sides.specs.Lines.{LinesWait, HaveArrived, AreCodable, Sends}
+use Rattle.run_world.specs.declared.each.Each.{Each}
+use Rattle.run_world.specs.declared.link.Link.{Link}
+use Rattle.run_world.specs.declared.lines.Lines.{Lines}
+use Rattle.run_world.specs.Names.{Written}
+use Rattle.run_world.specs.Link.{LinkStands, SaysBoth, BreaksSo, both_finished}
+use Rattle.run_world.specs.Lines.{LinesWait, HaveArrived, AreCodable, Sends}
 use Rattle.run_world.specs.declared.world.World.{World}
 use Rattle.run_world.specs.declared.tally.Tally.{Tally}
 use Rattle.run_world.specs.declared.step.RunFault.{RunFault}

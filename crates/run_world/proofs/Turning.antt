@@ -19,10 +19,10 @@ use Rattle.link_run.specs.Trace.{turn_text}
 use Rattle.line_run.specs.Sampled.{HeardIn, IsHeardOf}
 use Rattle.line_run.specs.Scripted.{channel_of, link_of, ScriptsMayPlay, ScriptsHaveDelays}
 use Rattle.line_run.specs.LineLaws.{SamplesAreCarried, OneIsCarried}
-use Rattle.both_sides.specs.declared.each.Each.{Each}
-use Rattle.both_sides.specs.Names.{Written}
-use Rattle.both_sides.specs.Lines.{HaveArrived}
-use Rattle.both_sides.specs.Link.{AreCounted, AreIdle, AreWithin}
+use Rattle.run_world.specs.declared.each.Each.{Each}
+use Rattle.run_world.specs.Names.{Written}
+use Rattle.run_world.specs.Lines.{HaveArrived}
+use Rattle.run_world.specs.Link.{AreCounted, AreIdle, AreWithin}
 use Rattle.run_world.specs.declared.world.World.{World}
 use Rattle.run_world.specs.declared.step.RunFault.{RunFault}
 use Rattle.run_world.specs.declared.step.RunFault.TheVariants as run_faults

@@ -1,5 +1,3 @@
-pub use Rattle.both_sides.specs.Names
-pub use Rattle.both_sides.specs.Link as Sides
 pub use Rattle.stations.specs.Station
 pub use Rattle.turn_bound.specs.Limits
 pub mod Tally
@@ -7,3 +5,7 @@ pub mod World
 pub mod Turn
 pub mod Mid
 pub mod Turns
+pub mod Names
+pub mod Link
+pub mod Lines
+pub mod OnWay

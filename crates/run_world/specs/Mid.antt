@@ -19,14 +19,14 @@ use Rattle.link_run.specs.Counts.{lost_in, lost_slots, sent_again}
 use Rattle.line_run.specs.Sampled.{IsHeardOf, HeardIn, LineRun, EndsLine}
 use Rattle.line_run.specs.Sampled as line_ends
 use Rattle.line_run.specs.Scripted.{channel_of, link_of}
-use Rattle.both_sides.specs.declared.each.Each.{Each}
-use Rattle.both_sides.specs.declared.lines.LineEnd.{LineEnd}
-use Rattle.both_sides.specs.declared.lines.LineEnd.TheVariants as ways
+use Rattle.run_world.specs.declared.each.Each.{Each}
+use Rattle.run_world.specs.declared.lines.LineEnd.{LineEnd}
+use Rattle.run_world.specs.declared.lines.LineEnd.TheVariants as ways
 use Rattle.turn_bound.specs.Limits.{file_limit}
 use Rattle.stations.specs.Station.{ReadsOn}
-use Rattle.both_sides.specs.Names.{Written}
-use Rattle.both_sides.specs.Link.{LinkStands, DeliversPart, both_ends, served_on}
-use Rattle.both_sides.specs.Lines.{HaveArrived}
+use Rattle.run_world.specs.Names.{Written}
+use Rattle.run_world.specs.Link.{LinkStands, DeliversPart, both_ends, served_on}
+use Rattle.run_world.specs.Lines.{HaveArrived}
 use Rattle.run_world.specs.declared.world.World.{World}
 use Rattle.run_world.specs.declared.tally.Tally.{Tally}
 use Rattle.run_world.specs.declared.step.RunFault.{RunFault}

@@ -18,8 +18,8 @@ use Rattle.link_run.specs.Counts.{lost_slots, sent_again}
 use Rattle.line_run.specs.Sampled.{HeardIn, LineRun, EndsLine}
 use Rattle.line_run.specs.Sampled as lines
 use Rattle.line_run.specs.Scripted.{channel_of, link_of}
-use Rattle.both_sides.specs.Names.{Written, ReadRose}
-use Rattle.both_sides.specs.Lines.{HaveArrived}
+use Rattle.run_world.specs.Names.{Written, ReadRose}
+use Rattle.run_world.specs.Lines.{HaveArrived}
 use Rattle.run_world.specs.declared.world.World.{World}
 use Rattle.run_world.specs.declared.step.Step.{Step}
 use Rattle.run_world.specs.declared.step.Step.TheVariants as steps

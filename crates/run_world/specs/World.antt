@@ -8,14 +8,14 @@ use Rattle.sample_line.specs.Line.{Kept, LineStands}
 use Rattle.link_run.specs.Run.{Ends, Turn}
 use Rattle.link_run.specs.Carried.{on_line}
 use Rattle.line_run.specs.Sampled.{LineRun, signals}
-use Rattle.both_sides.specs.OnWay.{signals_in}
+use Rattle.run_world.specs.OnWay.{signals_in}
 use Rattle.line_run.specs.Scripted.{channel_of, link_of}
 use Rattle.turn_bound.specs.Limits.{file_limit}
 use Rattle.stations.specs.Station.{file_at}
-use Rattle.both_sides.specs.Names.{Written}
-use Rattle.both_sides.specs.Link.{LinkStands, AreIdle, AreCounted, AreWithin}
-use Rattle.both_sides.specs.Lines.{LinesWait}
-use Rattle.both_sides.specs.declared.lines.Lines.{Lines}
+use Rattle.run_world.specs.Names.{Written}
+use Rattle.run_world.specs.Link.{LinkStands, AreIdle, AreCounted, AreWithin}
+use Rattle.run_world.specs.Lines.{LinesWait}
+use Rattle.run_world.specs.declared.lines.Lines.{Lines}
 use Rattle.run_world.specs.declared.world.World.{World}
 use Rattle.run_world.specs.Tally.{Tallies, IsFew}
 

@@ -1,133 +1,161 @@
-// The lines of a turn.
-ghost use Rattle.std.specs.Prelude.{◌≡◌, ◌++◌, is_some, true, Some, OnOk, OnErr, IfErr};
-ghost use Rattle.outside_calls.specs.Folder.{Appended, OnlyWrites, PartlyAppended};
-ghost use Rattle.roles.specs.declared.role.Role.{Role};
-ghost use Rattle.line_texts.specs.LineText.{chance_line, line_text};
-ghost use Rattle.both_sides.specs.declared.each.Each.{Each};
-ghost use Rattle.both_sides.specs.Names.{written};
-ghost use Rattle.run_world.specs.Turn.{IsWriting, TurnCounts, fault_of};
-ghost use Rattle.run_world.specs.Mid.{fault_named};
-ghost use Rattle.link_run.specs.Laws.{IsNamed};
+// The two directions of the line.
+ghost use Rattle.std.specs.Prelude.{◌≡◌, ◌+◌, ◌<◌, ◌≤◌, ◌^◌, List, [], ◌∷◌, length, IfOk};
+ghost use Rattle.frame_check.specs.declared.sizes.TheConstants.{SLOT};
+ghost use Rattle.bit_stuffing.specs.declared.slot_writer.TheConstants.{HEAD, TAIL};
+ghost use Rattle.lapm_frames.specs.Sendable.{IsSendable};
+ghost use Rattle.link_account.specs.Numbers.{IsNumbered};
+ghost use Rattle.link_account.specs.Account.{check_of};
+ghost use Rattle.link_run.specs.Run.{Ends, Turn, arrival};
+ghost use Rattle.line_run.specs.Sampled.{Channel};
+ghost use Rattle.line_run.specs.Scripted.{channel_of, slot_symbols, longest_of};
+ghost use Rattle.run_world.specs.Lines.{LinesWait, HaveArrived, ArrivesSo, AreCodable, Sends};
 
-use crate::step::RunFault;
-use both_sides::{Breaking, Each, Names, append_line, append_turn};
-use lapm_link::LinkFault;
-use line_texts::TraceLine;
-use outside_calls::{Folder, FolderFault};
+use crate::each::Each;
+use crate::DelayedLine;
+use frame_check::Check;
+use line_run::laws::slots_have_room;
+use noise_script::Script;
+use outside_calls::NoMemory;
 use roles::Role;
-use lapm_frames::{Heard, Sent};
+use sample_line::{Heard, Line};
+use lapm_frames::Sent;
+use std::alloc::Global;
 
-/// Why a run ends whose folder doesn't do a call: this, where it failed.
-pub(crate) fn folder_fault(failed: RunFault, fault: FolderFault) -> RunFault
-    ensures { result ≡ fault_of failed fault }
-{
-    match fault {
-        FolderFault::Failed => failed,
-        FolderFault::NoMemory => RunFault::NoMemory,
+/// How the line ends a run as a turn begins. The role is that of the end that hears.
+#[derive(Clone, Copy)]
+pub enum LineEnd {
+    /// The line is lost with this symbol of all that the end hears in the run.
+    Lost { role: Role, symbol: u64 },
+    /// Something else than what was sent was received.
+    Chance { role: Role },
+}
+
+/// The direction from each end to the other.
+pub struct Lines {
+    /// From the originator to the answerer.
+    pub from_orig: DelayedLine,
+    /// From the answerer to the originator.
+    pub from_answ: DelayedLine,
+}
+
+impl Drop for Lines {
+    // for the prover: so it is dropped by a call, and its fields are not dropped anew wherever one is.
+    fn drop(self) {
+        let Lines {
+            from_orig: _,
+            from_answ: _,
+        } = self;
     }
 }
 
-/// Both lines of a turn.
-pub(crate) fn turn_lines(
-    turn: u64,
-    heard: Each<Heard>,
-    given: &Each<Option<u8>>,
-    sent: Each<Option<Sent>>,
-) -> Each<TraceLine>
-    ensures { result ≡ record {
-      orig = record { turn = turn; role = Role.Originator; arrived = heard.orig; sent = sent.orig; given = given.now.orig };
-      answ = record { turn = turn; role = Role.Answerer; arrived = heard.answ; sent = sent.answ; given = given.now.answ };
-    } }
+/// The longest information field that a slot of this script's line has room for.
+fn longest(script: &Script) -> u16
+    ensures { result ≡ longest_of script.now }
 {
-    Each {
-        orig: TraceLine {
-            turn,
-            role: Role::Originator,
-            arrived: heard.orig,
-            sent: sent.orig,
-            given: given.orig,
-        },
-        answ: TraceLine {
-            turn,
-            role: Role::Answerer,
-            arrived: heard.answ,
-            sent: sent.answ,
-            given: given.answ,
-        },
-    }
+    let orig = script.offer(Role::Originator);
+    let answ = script.offer(Role::Answerer);
+    128.max(
+        orig.tx_len
+            .max(orig.rx_len)
+            .max(answ.tx_len.max(answ.rx_len)),
+    )
 }
 
-/// Appends both lines of a turn to the trace.
-pub(crate) fn write_turn<F: Folder>(
-    folder: &mut F,
-    names: &Names<'_>,
-    lines: &Each<TraceLine>,
-) -> Result<(), RunFault>
-    ensures ok { OnOk result (Appended (F.state folder.old) (F.state folder.new) (written names.now).trace (line_text lines.now.orig ++ line_text lines.now.answ)) }
-    ensures err { OnErr result (PartlyAppended (F.state folder.old) (F.state folder.new) (written names.now).trace (line_text lines.now.orig ++ line_text lines.now.answ)) }
-    ensures only { OnlyWrites (F.state folder.old) (F.state folder.new) (written names.now).trace }
-    ensures counts { TurnCounts (F.state folder.old) (F.state folder.new) (written names.now) result }
-    ensures write { IfErr result IsWriting }
+/// The symbols of a slot: room for the longest frame that the ends may send, and 128 symbols behind it.
+fn symbols(script: &Script) -> u16
+    ensures value { result ≡ slot_symbols (longest_of script.now) }
+    ensures low { HEAD + TAIL < result }
+    ensures high { result ≤ SLOT }
 {
-    match append_turn(folder, names.trace, lines) {
-        Ok(()) => Ok(()),
-        Err(fault) => Err(folder_fault(RunFault::WriteFault, fault)),
-    }
+    slots_have_room();
+    script.is_in_limits();
+    let octets = longest(script) + 7;
+    10 + (8 * octets + 8 * octets / 5 + 8 + 3) / 4 + 128
 }
 
-/// Appends the one line of a turn in which that role's slot is a chance match.
-pub(crate) fn write_chance<F: Folder>(
-    folder: &mut F,
-    names: &Names<'_>,
-    turn: u64,
-    role: Role,
-) -> Result<(), RunFault>
-    ensures ok { OnOk result (Appended (F.state folder.old) (F.state folder.new) (written names.now).trace (chance_line turn role)) }
-    ensures err { OnErr result (PartlyAppended (F.state folder.old) (F.state folder.new) (written names.now).trace (chance_line turn role)) }
-    ensures only { OnlyWrites (F.state folder.old) (F.state folder.new) (written names.now).trace }
-    ensures counts { TurnCounts (F.state folder.old) (F.state folder.new) (written names.now) result }
-    ensures write { IfErr result IsWriting }
-{
-    let line = TraceLine {
-        turn,
-        role,
-        arrived: Heard::Chance,
-        sent: None,
-        given: None,
-    };
-    match append_line(folder, names.trace, &line) {
-        Ok(()) => Ok(()),
-        Err(fault) => Err(folder_fault(RunFault::WriteFault, fault)),
-    }
-}
+impl Lines {
+    ghost use Rattle.run_world.specs.declared.lines.Lines.{Lines};
 
-/// What both ends send in a turn, taken back from its lines.
-pub(crate) fn sent_in(lines: Each<TraceLine>) -> Each<Sent>
-    requires orig { is_some lines.orig.sent ≡ true }
-    requires answ { is_some lines.answ.sent ≡ true }
-    ensures orig { lines.orig.sent ≡ Some result.orig }
-    ensures answ { lines.answ.sent ≡ Some result.answ }
-{
-    match (lines.orig.sent, lines.answ.sent) {
-        (Some(orig), Some(answ)) => Each { orig, answ },
-        _ => unreachable!(),
+    /// Both directions before the first turn. They take all their memory.
+    pub fn new(alloc: Global, script: &Script) -> Result<Lines, NoMemory>
+        ensures { IfOk result (λ lines. LinesWait lines (channel_of script.now) []) }
+    {
+        let symbols = symbols(script);
+        let delay_orig = script.delay(Role::Originator);
+        let delay_answ = script.delay(Role::Answerer);
+        Ok(Lines {
+            from_orig: DelayedLine::new(alloc, Role::Originator, symbols, delay_orig)?,
+            from_answ: DelayedLine::new(alloc, Role::Answerer, symbols, delay_answ)?,
+        })
     }
-}
 
-/// Why a run ends in which an end breaks.
-pub(crate) fn link_fault(turn: u64, breaking: Breaking) -> RunFault
-    requires { IsNamed breaking.role breaking.fault }
-    ensures { result ≡ fault_named turn breaking.role breaking.fault }
-{
-    match breaking.fault {
-        LinkFault::NotDetected => RunFault::NotDetected { turn },
-        LinkFault::Spent { segment, .. } => RunFault::LinkLost {
-            role: breaking.role,
-            segment,
-            turn,
-        },
-        LinkFault::BadAck { .. } | LinkFault::PeerReset { .. } | LinkFault::PeerRefused => {
-            unreachable!()
+    /// What both ends hear in this turn, with these checks, or how the line ends the run: the originator's slot first.
+    pub fn arrive(
+        &mut self,
+        script: &Script,
+        turn: u64,
+        checks: &Each<Check>,
+    ) -> Result<Each<Heard>, LineEnd>
+        requires early { turn < 2 ^ 40 }
+        requires waits { (ts : List Turn) × LinesWait self.old (channel_of script.now) ts × (turn ≡ length ts) }
+        ensures arrives { (ts : List Turn) (ends : Ends) → LinesWait self.old (channel_of script.now) ts → turn ≡ length ts
+            → checks.now.orig ≡ check_of ends.orig → checks.now.answ ≡ check_of ends.answ
+            → ArrivesSo self.new (channel_of script.now) ts ends result }
+        ensures orig_numbered { IfOk result (λ heard. IsNumbered (arrival heard.orig)) }
+        ensures answ_numbered { IfOk result (λ heard. IsNumbered (arrival heard.answ)) }
+    {
+        let orig = match self.from_answ.arrive(script, turn, checks.orig, 0) {
+            Ok(heard) => heard,
+            Err(lost) => {
+                return Err(LineEnd::Lost {
+                    role: Role::Originator,
+                    symbol: lost.symbol,
+                });
+            }
+        };
+        if let Heard::Chance = orig {
+            return Err(LineEnd::Chance {
+                role: Role::Originator,
+            });
+        }
+        let answ = match self.from_orig.arrive(script, turn, checks.answ, 0) {
+            Ok(heard) => heard,
+            Err(lost) => {
+                return Err(LineEnd::Lost {
+                    role: Role::Answerer,
+                    symbol: lost.symbol,
+                });
+            }
+        };
+        if let Heard::Chance = answ {
+            return Err(LineEnd::Chance {
+                role: Role::Answerer,
+            });
+        }
+        Ok(Each { orig, answ })
+    }
+
+    /// Puts what both ends send in this turn on the line, with these checks.
+    pub fn send(&mut self, sent: Each<Sent>, checks: &Each<Check>)
+        requires orig_sendable { IsSendable sent.orig }
+        requires answ_sendable { IsSendable sent.answ }
+        requires codable { AreCodable self.old sent.orig sent.answ checks.now }
+        requires arrived { (c : Channel) × (ts : List Turn) × HaveArrived self.old c ts × (c.dlci ≡ 0) }
+        ensures waits { (c : Channel) (ts : List Turn) (t : Turn) → HaveArrived self.old c ts → c.dlci ≡ 0 → Sends t sent.orig sent.answ checks.now
+            → LinesWait self.new c (t ∷ ts) }
+    {
+        self.from_orig.send(sent.orig, checks.orig, 0);
+        self.from_answ.send(sent.answ, checks.answ, 0);
+    }
+
+    /// The direction in which this role sends.
+    pub fn line(&self, role: Role) -> &Line
+        ensures orig { role ≡ Role.Originator → result.now ≡ self.now.from_orig.line }
+        ensures answ { role ≡ Role.Answerer → result.now ≡ self.now.from_answ.line }
+    {
+        match role {
+            Role::Originator => self.from_orig.line(),
+            Role::Answerer => self.from_answ.line(),
         }
     }
 }

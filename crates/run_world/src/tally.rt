@@ -2,7 +2,7 @@
 ghost use Rattle.std.specs.Prelude.{◌≡◌, ℕ, ◌+◌, ◌<◌, ◌≤◌, ◌^◌};
 ghost use Rattle.link_run.specs.Counts.{again_in, lost_in, next_count, sequence_in};
 
-use both_sides::Each;
+use crate::Each;
 use lapm_frames::{Frame, Heard, Sent};
 
 /// Counts over the turns of a run.

@@ -7,19 +7,19 @@ ghost use Rattle.link_run.specs.End.{is_closed};
 ghost use Rattle.line_run.specs.Sampled.{EndsLine};
 ghost use Rattle.line_run.specs.Sampled as line_ends;
 ghost use Rattle.line_run.specs.Scripted.{channel_of, link_of};
-ghost use Rattle.both_sides.specs.declared.each.Each.{Each};
-ghost use Rattle.both_sides.specs.Names.{written};
-ghost use Rattle.both_sides.specs.Lines.{HaveArrived};
-ghost use Rattle.both_sides.specs.Link.{AreCounted, AreIdle, AreWithin, LinkStands};
+ghost use Rattle.run_world.specs.declared.each.Each.{Each};
+ghost use Rattle.run_world.specs.Names.{written};
+ghost use Rattle.run_world.specs.Lines.{HaveArrived};
+ghost use Rattle.run_world.specs.Link.{AreCounted, AreIdle, AreWithin, LinkStands};
 ghost use Rattle.outside_calls.specs.Folder.{OnlyReads, OnlyWrites};
 ghost use Rattle.link_account.specs.Account.{check_of, given_break};
 ghost use Rattle.noise_script.specs.Script.{IsInLimits};
 
 use crate::laws::turns_are_few;
-use crate::lines::{folder_fault, link_fault, sent_in, turn_lines, write_chance, write_turn};
+use crate::turn_text::{folder_fault, link_fault, sent_in, turn_lines, write_chance, write_turn};
 use crate::step::{RunFault, Step};
 use crate::tally::Tally;
-use both_sides::{Each, LineEnd, Lines, Link, Names, arrived};
+use crate::{Each, LineEnd, Lines, Link, Names, arrived};
 use frame_check::Check;
 use line_run::laws::{samples_are_carried, scripts_make_links, slots_have_room};
 use link_run::laws::{
@@ -284,7 +284,7 @@ impl World {
     }
 
     /// One turn: both ends hear, what they took is written, they are offered what they want and served, and they speak. The names of all
-    /// turns are the same. A file that is sent ends at [`both_sides::FILE_LIMIT`] octets.
+    /// turns are the same. A file that is sent ends at [`crate::FILE_LIMIT`] octets.
     pub fn turn<F: Folder>(&mut self, folder: &mut F, names: &Names<'_>) -> Result<Step, RunFault>
         requires ready { IsReady self.old }
         requires apart { AreApart (written names.now) }

@@ -3,7 +3,7 @@ use Rattle.outside_calls.specs.Folder.{Appended, PartlyAppended}
 use Rattle.link_run.specs.Outcomes.{Done}
 use Rattle.link_run.specs.Run.{LastTurn}
 use Rattle.line_run.specs.Scripted.{link_of}
-use Rattle.both_sides.specs.Names.{written}
+use Rattle.run_world.specs.Names.{written}
 use Rattle.run_world.specs.Mid.{turn_in}
 use Rattle.run_world.proofs.Hearing.{heard-in, none-sent}
 use Rattle.run_world.proofs.Speaking.{last-turn, text-is, adds-part}

@@ -1,6 +1,6 @@
 use Rattle.std.proofs.Common.{sym, ◌∙◌}
-use Rattle.both_sides.specs.Link.{both_ends}
-use Rattle.both_sides.specs.Names.{written}
+use Rattle.run_world.specs.Link.{both_ends}
+use Rattle.run_world.specs.Names.{written}
 use Rattle.link_run.specs.End.{delivered}
 use Rattle.run_world.proofs.Serving.{given-delivered}
 use Rattle.run_world.proofs.world.World.hand_over.Goals as goal

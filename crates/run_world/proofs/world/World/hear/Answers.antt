@@ -1,7 +1,7 @@
 use Rattle.std.proofs.Common.{refl, subst, sym, ap, ◌∙◌}
 use Rattle.line_run.specs.Scripted.{channel_of}
-use Rattle.both_sides.specs.Link.{HearsWell}
-use Rattle.both_sides.specs.Lines.{ArrivesBoth}
+use Rattle.run_world.specs.Link.{HearsWell}
+use Rattle.run_world.specs.Lines.{ArrivesBoth}
 use Rattle.link_run.specs.Run.{arrival}
 use Rattle.run_world.proofs.Hearing.{HearingLaws, hears-well, has-heard, tallies-heard, hears-more, hears-none, lost-so}
 use Rattle.run_world.proofs.world.World.hear.Goals as goal

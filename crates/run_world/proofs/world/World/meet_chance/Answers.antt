@@ -1,7 +1,7 @@
 use Rattle.std.proofs.Common.{◌≡◌, ℕ, length, inr, ap, subst}
 use Rattle.outside_calls.specs.Folder.{Appended, PartlyAppended}
 use Rattle.line_texts.specs.LineText.{chance_line}
-use Rattle.both_sides.specs.Names.{written}
+use Rattle.run_world.specs.Names.{written}
 use Rattle.run_world.proofs.Folders.{receives-none}
 use Rattle.run_world.proofs.Turning.{writing-ends}
 use Rattle.run_world.proofs.world.World.meet_chance.Goals as goal

@@ -1,8 +1,8 @@
 use Rattle.std.proofs.Common.{◌+◌, length, subst}
-use Rattle.both_sides.specs.Link.{LinkStands}
+use Rattle.run_world.specs.Link.{LinkStands}
 use Rattle.run_world.specs.Mid.{ReadsBoth, served, supplied, handed}
 use Rattle.run_world.proofs.Serving.{over-others, reading-fault, reading-counts}
-use Rattle.both_sides.specs.Names.{written}
+use Rattle.run_world.specs.Names.{written}
 use Rattle.run_world.proofs.world.World.serve.Goals as goal
 
 pub serve-requires-clause-counted : goal.serve-requires-clause-counted

@@ -5,8 +5,8 @@ use Rattle.link_account.specs.Account.{check_of}
 use Rattle.link_run.specs.Counts.{sequence_in}
 use Rattle.link_run.specs.Run.{spoken}
 use Rattle.link_run.specs.Outcomes.{Outcome, Going, Broken}
-use Rattle.both_sides.specs.Names.{written}
-use Rattle.both_sides.specs.Link.{SaysBoth}
+use Rattle.run_world.specs.Names.{written}
+use Rattle.run_world.specs.Link.{SaysBoth}
 use Rattle.run_world.specs.Mid.{served, turn_in}
 use Rattle.run_world.proofs.Hearing.{none-sent}
 use Rattle.run_world.proofs.Speaking.{SpokenTurn, GoingLaws, CountsSent, sent_by, ends_of, spoken-turn, broken-turn, text-is, taken-back, all-codable, goes-on, ends-so, counts-so, stops-so, adds-part, sends-more, sends-none}

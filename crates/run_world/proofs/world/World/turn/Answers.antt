@@ -2,9 +2,9 @@ use Rattle.std.proofs.Common.{◌≡◌, ℕ, ◌+◌, length, refl, sym, ◌∙
 use Rattle.outside_calls.specs.Steps.{CountsStand-trans}
 use Rattle.noise_script.specs.Script.{ScriptValue, IsInLimits}
 use Rattle.link_run.specs.End.{is_closed}
-use Rattle.both_sides.specs.Names.{written}
-use Rattle.both_sides.specs.Link.{AreCounted}
-use Rattle.both_sides.specs.declared.lines.LineEnd.{LineEnd}
+use Rattle.run_world.specs.Names.{written}
+use Rattle.run_world.specs.Link.{AreCounted}
+use Rattle.run_world.specs.declared.lines.LineEnd.{LineEnd}
 use Rattle.run_world.specs.Mid.{IsLineEnd, handed}
 use Rattle.run_world.specs.Turn.{EndsBy, GoesOnBy}
 use Rattle.run_world.proofs.Serving.{phase-delivered, none-after, none-faulty}

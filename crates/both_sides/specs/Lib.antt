@@ -1,4 +1,0 @@
-pub mod Names
-pub mod Link
-pub mod Lines
-pub mod OnWay

@@ -1,0 +1,124 @@
+-- The two ends of a run, each with its user.
+use Rattle.std.specs.Prelude.{◌≡◌, ℕ, ◌≤◌, Bool, true, false, ◌&&◌, is_ok, List, length, Result, Ok, Err}
+use Rattle.std.specs.List.{concat}
+use Rattle.outside_calls.specs.Folder.{FolderState, KeepsName, Adds, PartlyAppended}
+use Rattle.roles.specs.declared.role.Role.{Role}
+use Rattle.roles.specs.declared.role.Role.TheVariants.{Originator, Answerer}
+use Rattle.roles.specs.Both.{Both}
+use Rattle.noise_script.specs.Script.{ScriptValue}
+use Rattle.lapm_frames.specs.declared.arrived.Arrived.{Arrived}
+use Rattle.lapm_frames.specs.declared.sent.Sent.{Sent}
+use Rattle.lapm_link.specs.Stands.{undelivered_of}
+use Rattle.causes.specs.declared.fault.LinkFault.{LinkFault}
+use Rattle.link_account.specs.Account.{Account, after_busy}
+use Rattle.link_account.specs.Hear.{hear}
+use Rattle.link_account.specs.Speak.{Said, speak}
+use Rattle.link_run.specs.End.{deliveries, offered, asked, is_busy, is_released, has_finished}
+use Rattle.link_run.specs.Run.{Link as RunLink, Ends}
+use Rattle.line_run.specs.Scripted.{breaks_of, busy_of}
+use Rattle.turn_bound.specs.Limits.{file_limit}
+use Rattle.stations.specs.declared.station.Station.{Station}
+use Rattle.stations.specs.Station.{Stands, ReadsOn, IsIdle, IsCounted}
+use Rattle.run_world.specs.declared.each.Each.{Each}
+use Rattle.run_world.specs.declared.link.Link.{Link}
+use Rattle.run_world.specs.declared.link.Breaking.{Breaking}
+use Rattle.run_world.specs.Names.{Written}
+
+-- Both stations stand for these ends, whose users send these files.
+pub record LinkStands (l : Link) (files : Both (List ℕ)) (ends : Ends) : Type 0 where
+  pub orig : Stands l.orig files.orig ends.orig
+  pub answ : Stands l.answ files.answ ends.answ
+
+-- both may hear
+pub record AreIdle (l : Link) : Type 0 where
+  pub orig : IsIdle l.orig
+  pub answ : IsIdle l.answ
+
+-- what both took in so many turns is bounded by them
+pub record AreCounted (l : Link) (heard asked : ℕ) : Type 0 where
+  pub orig : IsCounted l.orig heard asked
+  pub answ : IsCounted l.answ heard asked
+
+-- Both ends hear these, and neither breaks.
+pub record HearsBoth (l : Link) (files : Both (List ℕ)) (ends : Ends) (turn : ℕ) (to_orig to_answ : Arrived) : Type 0 where
+  pub mid : Ends
+  pub orig : hear turn to_orig ends.orig ≡ Ok mid.orig
+  pub answ : hear turn to_answ ends.answ ≡ Ok mid.answ
+  pub stands : LinkStands l files mid
+
+-- hearing these breaks no end
+pub record HearsWell (ends : Ends) (turn : ℕ) (to_orig to_answ : Arrived) : Type 0 where
+  pub orig : is_ok (hear turn to_orig ends.orig) ≡ true
+  pub answ : is_ok (hear turn to_answ ends.answ) ≡ true
+
+-- An end hears this, and doesn't break.
+pub record HearsOn (s : Station) (file : List ℕ) (a : Account) (turn : ℕ) (arrived : Arrived) : Type 0 where
+  pub mid : Account
+  pub hears : hear turn arrived a ≡ Ok mid
+  pub stands : Stands s file mid
+
+-- what both took is handed over
+pub record HaveDelivered (l : Link) : Type 0 where
+  pub orig : undelivered_of l.orig.end ≡ 0
+  pub answ : undelivered_of l.answ.end ≡ 0
+
+-- both files are within the limit, at which they end for who reads them
+pub record AreWithin (files : Both (List ℕ)) : Type 0 where
+  pub orig : length files.orig ≤ file_limit
+  pub answ : length files.answ ≤ file_limit
+
+-- What both ends took stands behind what the received files held.
+pub record Delivers (old new : FolderState) (n : Written) (ends : Ends) : Type 0 where
+  pub got_o : Adds old new n.got_o (concat (deliveries ends.orig))
+  pub got_a : Adds old new n.got_a (concat (deliveries ends.answ))
+
+-- A part of that does, where the folder took no more: one of what the originator took, and nothing of the answerer's; or one of what the
+-- answerer took, behind all of the originator's.
+pub data DeliversPart (old new : FolderState) (n : Written) (ends : Ends) : Type 0 where
+  of_orig : PartlyAppended old new n.got_o (concat (deliveries ends.orig)) → KeepsName old new n.got_a → DeliversPart old new n ends
+  of_answ : Adds old new n.got_o (concat (deliveries ends.orig)) → PartlyAppended old new n.got_a (concat (deliveries ends.answ))
+      → DeliversPart old new n ends
+
+-- each end, as a function of its account
+abbrev pub both_ends : (Account → Account) → Ends → Ends
+both_ends f ends = record { orig = f ends.orig; answ = f ends.answ }
+
+-- both need the link no more
+abbrev pub both_finished : RunLink → ℕ → Ends → Bool
+both_finished link turn ends = has_finished link.orig.user turn ends.orig && has_finished link.answ.user turn ends.answ
+
+-- what happens to both ends behind their offers
+abbrev pub served_on : ScriptValue → ℕ → Ends → Ends
+served_on script turn ends =
+    let released = is_released ends.orig.phase in
+    record {
+      orig = asked turn released (breaks_of script Originator) (after_busy (is_busy turn (busy_of script Originator)) ends.orig);
+      answ = asked turn released (breaks_of script Answerer) (after_busy (is_busy turn (busy_of script Answerer)) ends.answ);
+    }
+
+-- Both were offered all that they want of their users' files, which are known as far as they were read.
+pub record SuppliesBoth (f : FolderState) (n : Written) (l : Link) (files : Both (List ℕ)) (ends : Ends) : Type 0 where
+  pub others : Both (List ℕ)
+  pub orig : ReadsOn f n.orig file_limit files.orig ends.orig others.orig
+  pub answ : ReadsOn f n.answ file_limit files.answ ends.answ others.answ
+  pub stands : LinkStands l others (record { orig = offered others.orig ends.orig; answ = offered others.answ ends.answ })
+
+-- Both ends speak, and neither breaks.
+pub record SaysBoth (l : Link) (files : Both (List ℕ)) (link : RunLink) (turn : ℕ) (ends : Ends) (from_orig from_answ : Sent) : Type 0 where
+  pub orig : Said
+  pub answ : Said
+  pub orig_says : speak turn (both_finished link turn ends) ends.orig ≡ Ok orig
+  pub answ_says : speak turn false ends.answ ≡ Ok answ
+  pub orig_sent : from_orig ≡ orig.sent
+  pub answ_sent : from_answ ≡ answ.sent
+  pub stands : LinkStands l files (record { orig = orig.account; answ = answ.account })
+
+-- an end breaks, the originator first
+abbrev pub BreaksSo : RunLink → ℕ → Ends → Role → LinkFault → Type 0
+BreaksSo link turn ends Originator fault = speak turn (both_finished link turn ends) ends.orig ≡ Err fault
+BreaksSo link turn ends Answerer fault = (is_ok (speak turn (both_finished link turn ends) ends.orig) ≡ true) × (speak turn false ends.answ ≡ Err fault)
+
+-- what speaking answers
+abbrev pub SpeaksBoth : Link → Both (List ℕ) → RunLink → ℕ → Ends → Result (Each Sent) Breaking → Type 0
+SpeaksBoth l files link turn ends (Ok sent) = SaysBoth l files link turn ends sent.orig sent.answ
+SpeaksBoth l files link turn ends (Err breaking) = BreaksSo link turn ends breaking.role breaking.fault
