@@ -1,7 +1,7 @@
 // The edge of the program: the words of its command line are handed to `modem`, over the disk and standard output, and the exit
 // status of the answer is the program's.
 use crate::{Status, modem};
-use outside_core::DiskFolder;
+use program_folders::DiskFolder;
 use std::env;
 use std::io::{self, ErrorKind};
 use std::process::ExitCode;

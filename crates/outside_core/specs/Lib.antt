@@ -1,5 +1,1 @@
-pub mod Store
-pub mod Transfer
 pub mod Memory
-pub mod Sure
-pub mod Disk

@@ -5,9 +5,8 @@ ghost use Rattle.std.specs.FinMap as finite;
 ghost use Rattle.outside_calls.specs.Folder.{ReadsFront, OnlyReads, OnlyWrites, OnlySays, HasCause, FaultsStand, CountsStand, KeepsName, Appended, PartlyAppended, Created, Said, PartlySaid};
 ghost use Rattle.outside_core.specs.Memory.{memory_folder, FailsNext, AfterRead, AfterWrite};
 
-use crate::store::Store;
-use crate::transfer::copy_from;
 use outside_calls::{Folder, FolderFault, NoMemory};
+use program_folders::{Store, copy_from};
 use std::alloc::Global;
 use std::marker::Model;
 
@@ -159,7 +158,7 @@ impl Folder for MemoryFolder {
         }
     }
 
-    #[tactic(auto, using(crate::proofs::Stored::stored_names))]
+    #[tactic(auto, using(program_folders::proofs::Stored::stored_names))]
     fn create(&mut self, name: &str) -> Result<(), FolderFault>
         ensures ok { OnOk result (Created (memory_folder self.old) (memory_folder self.new) name.now) }
         ensures err { OnErr result (KeepsName (memory_folder self.old) (memory_folder self.new) name.now ⊎ Created (memory_folder self.old) (memory_folder self.new) name.now) }
@@ -185,7 +184,7 @@ impl Folder for MemoryFolder {
         }
     }
 
-    #[tactic(auto, using(crate::proofs::Stored::stored_names))]
+    #[tactic(auto, using(program_folders::proofs::Stored::stored_names))]
     fn append(&mut self, name: &str, piece: &[u8]) -> Result<(), FolderFault>
         ensures ok { OnOk result (Appended (memory_folder self.old) (memory_folder self.new) name.now piece.now) }
         ensures err { OnErr result (PartlyAppended (memory_folder self.old) (memory_folder self.new) name.now piece.now) }

@@ -4,7 +4,7 @@ use Rattle.std.proofs.lemmas.Bool.Decides.{nat_tests}
 use Rattle.std.specs.FinMap as finite
 use Rattle.std.specs.Cmp.Lexicographic.{nat_list_cmp_total}
 use Rattle.outside_calls.specs.Folder.{Files}
-use Rattle.outside_core.specs.Sure.{SureState, sure_folder}
+use Rattle.program_folders.specs.Sure.{SureState, sure_folder}
 use Rattle.roles.specs.declared.role.Role.TheVariants.{Originator, Answerer}
 use Rattle.run_world.specs.World.{AreApart}
 use Rattle.run_world.specs.RunFault.{RunFault}

@@ -3,7 +3,7 @@ use Rattle.std.proofs.Common.{◌≡◌, ◌∙◌, ℕ, List, ◌∷◌, length
 use Rattle.std.proofs.lemmas.List.{take_all}
 use Rattle.outside_calls.specs.Folder.{octets_at, KeepsName}
 use Rattle.outside_calls.specs.Steps.{octets-kept}
-use Rattle.outside_core.specs.Sure.{SureState, sure_folder}
+use Rattle.program_folders.specs.Sure.{SureState, sure_folder}
 use Rattle.roles.specs.declared.role.Role.TheVariants.{Originator, Answerer}
 use Rattle.roles.specs.Both.{Both}
 use Rattle.noise_script.specs.Script.{ScriptValue, IsInLimits}

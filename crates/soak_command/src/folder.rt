@@ -2,12 +2,12 @@
 ghost use Rattle.std.specs.Prelude.{◌≡◌, IfOk, OnOk, true};
 ghost use Rattle.run_world.specs.Names.{written};
 ghost use Rattle.outside_calls.specs.Outputs.{OnlyOutputs, Creates};
-ghost use Rattle.outside_core.specs.Sure.{sure_folder};
+ghost use Rattle.program_folders.specs.Sure.{sure_folder};
 ghost use Rattle.soak_command.specs.Folder.{HoldsFiles, soak_names, soak_outputs};
 
 use command_base::create_outputs;
 use outside_calls::{FolderFault, NoMemory};
-use outside_core::SureFolder;
+use program_folders::SureFolder;
 use roles::Role;
 use run_world::Names;
 use soak_inputs::soak_file;

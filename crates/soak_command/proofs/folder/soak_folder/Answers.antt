@@ -1,7 +1,7 @@
 use Rattle.std.proofs.Common.{◌≡◌, ◌∙◌, ℕ, List, length, ap}
 use Rattle.std.specs.FinMap as finite
 use Rattle.outside_calls.specs.Folder.{Files}
-use Rattle.outside_core.specs.Sure.{SureState}
+use Rattle.program_folders.specs.Sure.{SureState}
 use Rattle.soak_command.specs.Folder.{soak_names}
 use Rattle.soak_command.proofs.Filling.{both-put}
 use Rattle.soak_command.proofs.folder.soak_folder.Goals as goal

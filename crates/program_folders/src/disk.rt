@@ -1,7 +1,7 @@
 // The folder of the disk: the edge to the operating system.
 ghost use Rattle.std.specs.Prelude.{◌≡◌, ◌≤◌, length, IfOk};
 ghost use Rattle.outside_calls.specs.Folder.{HasCause};
-ghost use Rattle.outside_core.specs.Disk.{disk_folder, CountsFault};
+ghost use Rattle.program_folders.specs.Disk.{disk_folder, CountsFault};
 
 use crate::transfer::{fill_from, put_all};
 use outside_calls::{Folder, FolderFault};
@@ -27,7 +27,7 @@ pub struct DiskFolder<R> {
 }
 
 impl<R> Model for DiskFolder<R> {
-    ghost use Rattle.outside_core.specs.Disk.{DiskCounts};
+    ghost use Rattle.program_folders.specs.Disk.{DiskCounts};
 
     ghost Value = { DiskCounts };
 

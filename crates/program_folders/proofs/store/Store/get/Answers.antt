@@ -1,8 +1,8 @@
 use Rattle.std.proofs.Common.{sym, ◌∙◌, ap, Some}
 use Rattle.std.specs.Option.{option_map}
 use Rattle.std.specs.FinMap as finite
-use Rattle.outside_core.proofs.Stored.{get-files_of}
-use Rattle.outside_core.proofs.store.Store.get.Goals as goal
+use Rattle.program_folders.proofs.Stored.{get-files_of}
+use Rattle.program_folders.proofs.store.Store.get.Goals as goal
 
 pub returns-in-Some : goal.returns-in-Some
 returns-in-Some c =

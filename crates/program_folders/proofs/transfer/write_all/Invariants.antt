@@ -1,6 +1,6 @@
 use Rattle.std.proofs.Common.{◌-◌, length}
-use Rattle.outside_core.proofs.Moved.{WroteUpTo}
-use Rattle.outside_core.proofs.transfer.write_all.Given as goal
+use Rattle.program_folders.proofs.Moved.{WroteUpTo}
+use Rattle.program_folders.proofs.transfer.write_all.Given as goal
 
 abbrev pub invariant-loop-written : goal.invariant-loop-written
 invariant-loop-written g l = WroteUpTo (g.W.Write.contents l.fn.writer) (g.W.Write.contents l.writer) l.piece l.written

@@ -1,7 +1,7 @@
 use Rattle.std.proofs.Common.{◌∙◌}
 use Rattle.std.specs.FinMap as finite
-use Rattle.outside_core.proofs.Stored.{files_of-updates, get-updates_other}
-use Rattle.outside_core.proofs.store.Store.put.Goals as goal
+use Rattle.program_folders.proofs.Stored.{files_of-updates, get-updates_other}
+use Rattle.program_folders.proofs.store.Store.put.Goals as goal
 
 pub returns-clause-ok : goal.returns-clause-ok
 returns-clause-ok c =

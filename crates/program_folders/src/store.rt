@@ -21,7 +21,7 @@ impl Model for Store {
     ghost use Rattle.std.specs.Prelude.{ℕ};
     ghost use Rattle.std.specs.Coded.{coded_ℕ, coded_list};
     ghost use Rattle.outside_calls.specs.Folder.{Files};
-    ghost use Rattle.outside_core.specs.Store.{files_of};
+    ghost use Rattle.program_folders.specs.Store.{files_of};
 
     ghost Value = { Files };
 

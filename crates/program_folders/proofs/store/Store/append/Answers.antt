@@ -2,9 +2,9 @@ use Rattle.std.proofs.Common.{rules, ◌≡◌, sym, ◌∙◌, ap, OnOk, subst,
 use Rattle.std.specs.FinMap as finite
 use Rattle.std.specs.Option.{option_map}
 use Rattle.outside_calls.specs.Folder.{Files}
-use Rattle.outside_core.specs.Store.{files_of}
-use Rattle.outside_core.proofs.Stored.{grown_ok, grown_err, get-files_of, get-updates_other}
-use Rattle.outside_core.proofs.store.Store.append.Goals as goal
+use Rattle.program_folders.specs.Store.{files_of}
+use Rattle.program_folders.proofs.Stored.{grown_ok, grown_err, get-files_of, get-updates_other}
+use Rattle.program_folders.proofs.store.Store.append.Goals as goal
 
 pub returns-in-Some-clause-ok : goal.returns-in-Some-clause-ok
 returns-in-Some-clause-ok c =

@@ -1,7 +1,7 @@
 // Octets between files and buffers.
 ghost use Rattle.std.specs.Prelude.{◌≡◌, ◌≤◌, ◌-◌, ◌++◌, length, take, drop, min, IfOk, OnOk, OnErr};
 ghost use Rattle.std.specs.Io.KnownBytes.{Appends, Consumes};
-ghost use Rattle.outside_core.specs.Transfer.{AppendsPart, ReadsUp};
+ghost use Rattle.program_folders.specs.Transfer.{AppendsPart, ReadsUp};
 
 use outside_calls::FolderFault;
 use std::io::{self, ErrorKind, Read, Seek, SeekFrom, Write};

@@ -1,8 +1,8 @@
 use Rattle.std.proofs.Common.{rules}
 use Rattle.std.proofs.lemmas.Result.{MatchResult-from_err}
 use Rattle.std.proofs.KnownBytes.{Keeps-refl}
-use Rattle.outside_core.proofs.Moved.{WroteUpTo-more, WroteUpTo-part}
-use Rattle.outside_core.proofs.transfer.write_all.Goals as goal
+use Rattle.program_folders.proofs.Moved.{WroteUpTo-more, WroteUpTo-part}
+use Rattle.program_folders.proofs.transfer.write_all.Goals as goal
 
 pub returns-in_err-count-clause-err : goal.returns-in_err-count-clause-err
 returns-in_err-count-clause-err g c =

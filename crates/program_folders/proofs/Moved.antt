@@ -5,7 +5,7 @@ use Rattle.std.proofs.lemmas.List.{take-append-le, take-take}
 use Rattle.std.specs.Io.KnownBytes.{Appends, Consumes, Keeps}
 use Rattle.std.proofs.KnownBytes.{Appends-trans, Appends-kept, Consumes-trans}
 use borrow.Rule.Slice.PartMut.{put_mid, post_of}
-use Rattle.outside_core.specs.Transfer.{AppendsPart}
+use Rattle.program_folders.specs.Transfer.{AppendsPart}
 
 -- What was written is the piece up to there.
 pub record WroteUpTo (old new : Option (List ℕ)) (piece : List ℕ) (written : ℕ) : Type 0 where

@@ -1,6 +1,6 @@
 use Rattle.std.proofs.Common.{rules}
-use Rattle.outside_core.proofs.Moved.{FilledUpTo-more}
-use Rattle.outside_core.proofs.transfer.fill.Goals as goal
+use Rattle.program_folders.proofs.Moved.{FilledUpTo-more}
+use Rattle.program_folders.proofs.transfer.fill.Goals as goal
 
 pub loop-filled-preserved : goal.loop-filled-preserved
 loop-filled-preserved g c =

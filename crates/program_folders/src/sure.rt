@@ -3,7 +3,7 @@ ghost use Rattle.std.specs.Prelude.{◌≡◌, ◌≤◌, ◌⊎◌, ◌++◌, [
 ghost use Rattle.std.specs.Option.{option_map};
 ghost use Rattle.std.specs.FinMap as finite;
 ghost use Rattle.outside_calls.specs.Folder.{ReadsFront, OnlyReads, OnlyWrites, OnlySays, HasCause, FaultsStand, CountsStand, KeepsName, Appended, PartlyAppended, Created, Said, PartlySaid};
-ghost use Rattle.outside_core.specs.Sure.{sure_folder, counted, AfterSureWrite};
+ghost use Rattle.program_folders.specs.Sure.{sure_folder, counted, AfterSureWrite};
 
 use crate::store::Store;
 use crate::transfer::copy_from;
@@ -36,7 +36,7 @@ impl Drop for SureFolder {
 }
 
 impl Model for SureFolder {
-    ghost use Rattle.outside_core.specs.Sure.{SureState, sure_code};
+    ghost use Rattle.program_folders.specs.Sure.{SureState, sure_code};
 
     ghost Value = { SureState };
 

@@ -13,7 +13,7 @@ use Rattle.std.proofs.lemmas.Map.Text.{btree_map_updates_text, is_eq-slice_cmp}
 use Rattle.std.specs.declared.cmp.Ordering.{Ordering}
 use Rattle.std.specs.declared.cmp.Ordering.TheVariants.{Less, Equal, Greater}
 use Rattle.outside_calls.specs.Folder.{Files}
-use Rattle.outside_core.specs.Store.{plain_entries, files_of}
+use Rattle.program_folders.specs.Store.{plain_entries, files_of}
 
 -- maps that answer alike are one
 pub same_files : (m n : Files) → ((q : List ℕ) → get m q ≡ get n q) → m ≡ n

@@ -1,0 +1,4 @@
+pub mod Store
+pub mod Transfer
+pub mod Sure
+pub mod Disk

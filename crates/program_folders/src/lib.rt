@@ -1,0 +1,18 @@
+//! The folders that the program runs over: in memory, and on disk.
+//!
+//! [`SureFolder`] keeps its files in memory, tells all of them, and fails for want of memory alone. [`DiskFolder`] is the
+//! folder that the program runs in: it tells nothing of its files. Each is a `Folder`, which stands in `outside_calls`, so
+//! that what only asks a folder needs none of them. A [`Store`] is the files that a folder in memory holds.
+//!
+//! Trusted is what the operating system reads and writes for [`DiskFolder`]; all else is a function of the calls made.
+#![tactic(auto)]
+
+mod disk;
+mod store;
+mod sure;
+mod transfer;
+
+pub use disk::DiskFolder;
+pub use store::Store;
+pub use sure::SureFolder;
+pub use transfer::{copy_from, fill, write_all};
