@@ -12,6 +12,7 @@ mod status;
 mod stop;
 mod telling;
 
+pub use causes::{Cause, LinkFault};
 pub use input::{read_file, read_piece, within_limit};
 pub use laws::limits_in_octets;
 pub use limits::{FILE_LIMIT, HEX_LIMIT, RECORDING_LIMIT, RUN_FILE_LIMIT};
@@ -19,7 +20,6 @@ pub use lines::{
     LINE, Line, write_count, write_done, write_margin, write_octets, write_pieces, write_samples,
     write_soak, write_usage,
 };
-pub use causes::{Cause, LinkFault};
 pub use output::{append_output, create_output, create_outputs, say_line};
 pub use roles::Role;
 pub use status::Status;

@@ -5,9 +5,9 @@ ghost use Rattle.command_base.specs.Lines.{xid_words, count_line, done_line, sam
 ghost use Rattle.causes.specs.Cause.{cause_word};
 
 use crate::Status;
+use causes::{Cause, LinkFault};
 use frame_check::Octets;
 use line_texts::put_decimal;
-use causes::{Cause, LinkFault};
 use roles::Role;
 use xid_params::XidFault;
 

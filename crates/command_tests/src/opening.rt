@@ -1,12 +1,12 @@
 // The inputs of a run, taken in order from a folder in memory.
 use super::asking::{folder_with, words_of};
+use causes::Cause;
 use command_base::{Status, Stop};
 use noise_script::Script;
 use outside_calls::FolderFault;
 use outside_core::MemoryFolder;
 use roles::Role;
 use run_inputs::{LIMITS, are_apart, open_inputs, run_words};
-use causes::Cause;
 use std::alloc::Global;
 use std::process::Abort;
 use std::test::Fail;

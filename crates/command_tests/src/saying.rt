@@ -1,5 +1,6 @@
 // The lines that answers say, and single steps over a folder in memory.
 use super::asking::{Ran, folder_with, words_of};
+use causes::Cause;
 use command_base::{
     LinkFault, Status, Stop, append_output, create_output, create_outputs, read_file, read_piece,
     say_line, tell_stop, within_limit, write_done, write_octets, write_pieces, write_samples,
@@ -9,7 +10,6 @@ use lapm_frames::FrameFault;
 use outside_calls::{FolderFault, NoMemory};
 use outside_core::MemoryFolder;
 use roles::Role;
-use causes::Cause;
 use std::alloc::Global;
 use std::fmt::{Debug, Display};
 use std::process::Abort;

@@ -9,6 +9,6 @@ pub mod laws;
 mod reader;
 mod slots;
 
-pub use reader::PatternReader;
 pub use lapm_frames::Seen;
+pub use reader::PatternReader;
 pub use slots::{mark_slot, pattern_slot};

@@ -12,13 +12,13 @@ use crate::offers::offer_of;
 use crate::terms::first_terms;
 use crate::unlinked::Unlinked;
 use crate::{AnyEnd, Arrived, Broken, LinkFault, Sent, Setup};
+use causes::wait;
 use frame_check::Info;
 use lapm_frames::{Frame, Seen};
 use link_account::Answer;
 use outside_calls::NoMemory;
 use roles::Role;
 use std::alloc::Global;
-use causes::wait;
 use xid_params::default_offer;
 
 /// An end that looks for the other one: the originator sends its pattern, and the answerer waits for it.

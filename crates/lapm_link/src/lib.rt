@@ -31,7 +31,7 @@ pub use closed::{Broken, Closed};
 pub use connected::Connected;
 pub use detecting::Detecting;
 pub use establishing::Establishing;
+pub use lapm_frames::{Arrived, Seen, Sent};
 pub use link_account::{LinkFault, Phase, Setup};
 pub use negotiating::Negotiating;
 pub use releasing::Releasing;
-pub use lapm_frames::{Arrived, Seen, Sent};

@@ -5,8 +5,8 @@ ghost use Rattle.line_texts.specs.declared.words.TheConstants.{TEXT};
 
 use crate::slots::{is_chance, put_given, put_heard, put_sent};
 use crate::{LineText, put_decimal};
-use roles::Role;
 use lapm_frames::{Heard, Sent};
+use roles::Role;
 
 /// A line of a trace: what an end heard and sent in a turn.
 #[derive(Drop)]

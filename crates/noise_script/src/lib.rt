@@ -19,6 +19,7 @@ mod reader;
 mod reading;
 mod script;
 
+pub use causes::Cause;
 pub use entry::{Break, Hit, Loss, Noise, Pause};
 pub use fault::ScriptFault;
 pub use limits::{
@@ -27,4 +28,3 @@ pub use limits::{
 pub use offset::Offset;
 pub use reader::read_script;
 pub use script::Script;
-pub use causes::Cause;

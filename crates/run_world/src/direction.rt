@@ -16,13 +16,13 @@ use bit_stuffing::BitSlot;
 use circular_buffer::HeapCircularBuffer;
 use exact_decoder::Lost;
 use frame_check::Check;
+use lapm_frames::{Heard, Sent};
 use line_laws::laws::losses_stay;
 use noise_script::Script;
 use outside_calls::NoMemory;
 use roles::Role;
 use sample_line::Line;
 use sample_line::laws::recordings_grow;
-use lapm_frames::{Heard, Sent};
 use std::alloc::Global;
 
 /// A direction of the line: what its sender sends in a turn arrives after its delay.

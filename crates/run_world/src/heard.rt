@@ -3,9 +3,9 @@ ghost use Rattle.std.specs.Prelude.{◌≡◌};
 ghost use Rattle.link_run.specs.Run.{arrival};
 ghost use Rattle.link_account.specs.Play.{arrives};
 
+use lapm_frames::{Seen, Sent};
 use lapm_link::Arrived;
 use sample_line::Heard;
-use lapm_frames::{Seen, Sent};
 
 /// What of this slot arrives at its hearer.
 fn contents(sent: &Sent) -> Arrived

@@ -10,15 +10,15 @@ ghost use Rattle.line_run.specs.Sampled.{Channel};
 ghost use Rattle.line_run.specs.Scripted.{channel_of, slot_symbols, longest_of};
 ghost use Rattle.run_world.specs.Lines.{LinesWait, HaveArrived, ArrivesSo, AreCodable, Sends};
 
-use crate::each::Each;
 use crate::DelayedLine;
+use crate::each::Each;
 use frame_check::Check;
+use lapm_frames::Sent;
 use line_run::laws::slots_have_room;
 use noise_script::Script;
 use outside_calls::NoMemory;
 use roles::Role;
 use sample_line::{Heard, Line};
-use lapm_frames::Sent;
 use std::alloc::Global;
 
 /// How the line ends a run as a turn begins. The role is that of the end that hears.

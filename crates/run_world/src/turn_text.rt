@@ -11,11 +11,11 @@ ghost use Rattle.link_run.specs.Laws.{IsNamed};
 
 use crate::step::RunFault;
 use crate::{Breaking, Each, Names, append_line, append_turn};
+use lapm_frames::{Heard, Sent};
 use lapm_link::LinkFault;
 use line_texts::TraceLine;
 use outside_calls::{Folder, FolderFault};
 use roles::Role;
-use lapm_frames::{Heard, Sent};
 
 /// Why a run ends whose folder doesn't do a call: this, where it failed.
 pub(crate) fn folder_fault(failed: RunFault, fault: FolderFault) -> RunFault

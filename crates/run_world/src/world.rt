@@ -16,9 +16,9 @@ ghost use Rattle.link_account.specs.Account.{check_of, given_break};
 ghost use Rattle.noise_script.specs.Script.{IsInLimits};
 
 use crate::laws::turns_are_few;
-use crate::turn_text::{folder_fault, link_fault, sent_in, turn_lines, write_chance, write_turn};
 use crate::step::{RunFault, Step};
 use crate::tally::Tally;
+use crate::turn_text::{folder_fault, link_fault, sent_in, turn_lines, write_chance, write_turn};
 use crate::{Each, LineEnd, Lines, Link, Names, arrived};
 use frame_check::Check;
 use line_run::laws::{samples_are_carried, scripts_make_links, slots_have_room};

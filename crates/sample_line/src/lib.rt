@@ -13,5 +13,5 @@ mod tally;
 mod transmitter;
 
 pub use hearer::{DEPTH, LineDecoder};
-pub use line::Line;
 pub use lapm_frames::Heard;
+pub use line::Line;

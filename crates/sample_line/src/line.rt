@@ -23,10 +23,10 @@ use crate::receiver::Slot;
 use bit_stuffing::{BitSlot, SlotWriter};
 use exact_decoder::Lost;
 use frame_check::Check;
+use lapm_frames::Sent;
 use noise_script::Script;
 use outside_calls::NoMemory;
 use roles::Role;
-use lapm_frames::Sent;
 use std::alloc::Global;
 use std::marker::Model;
 

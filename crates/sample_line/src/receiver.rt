@@ -13,8 +13,8 @@ use crate::tally::Tally;
 use bit_stuffing::{Deframer, Piece};
 use detection::PatternReader;
 use frame_check::Check;
-use roles::Role;
 use lapm_frames::Sent;
+use roles::Role;
 
 /// What is known of the slot that is received: what was sent in it, and how its receiver judges frames.
 #[derive(Clone, Copy)]

@@ -7,10 +7,10 @@ ghost use Rattle.single_end.specs.Peer.{heard_as};
 ghost use Rattle.single_end.specs.Turn.{fault_of};
 
 use crate::step::SingleFault;
+use lapm_frames::{Arrived, Heard, Seen, Sent};
 use line_texts::{LineText, TraceLine, write_line};
 use outside_calls::{Folder, FolderFault};
 use roles::Role;
-use lapm_frames::{Arrived, Heard, Seen, Sent};
 
 /// Why there is no further turn where a call of the folder is not done: `failed`, where it failed.
 pub(crate) fn folder_fault(failed: SingleFault, fault: FolderFault) -> SingleFault

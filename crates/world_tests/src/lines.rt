@@ -8,10 +8,10 @@ ghost use Rattle.sample_line.specs.Line.{LineStands};
 use bit_stuffing::BitSlot;
 use exact_decoder::Lost;
 use frame_check::{Check, SLOT};
+use lapm_frames::Sent;
 use noise_script::{Script, read_script};
 use roles::Role;
 use sample_line::{Heard, Line, laws};
-use lapm_frames::Sent;
 use std::alloc::Global;
 use std::test::Fail;
 

@@ -1,7 +1,7 @@
 // Scripts: their faults, offers, offsets, breaks and pauses.
+use causes::Cause;
 use noise_script::{Offset, SCRIPT_OCTETS, Script, ScriptFault, read_script};
 use roles::Role;
-use causes::Cause;
 use std::alloc::Global;
 use std::process::Abort;
 use std::test::Fail;

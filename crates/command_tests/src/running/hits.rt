@@ -2,10 +2,10 @@
 use super::*;
 use bit_stuffing::BitSlot;
 use detection::{mark_slot, pattern_slot};
+use lapm_frames::Seen;
 use line_coding::Modulator;
 use noise_script::read_script;
 use scramblers::Mode;
-use lapm_frames::Seen;
 use symbol_map::Sample;
 
 /// The symbols of a slot.
