@@ -9,8 +9,8 @@ use Rattle.line_run.specs.Ends.{RunEnd}
 use Rattle.line_run.specs.Ends as runs
 use Rattle.run_world.specs.Limits.{file_limit}
 use Rattle.run_world.specs.Names.{Written, ReadRose}
-use Rattle.run_world.specs.RunFault.{RunFault}
-use Rattle.run_world.specs.RunFault.TheVariants as faults
+use Rattle.run_world.specs.declared.step.RunFault.{RunFault}
+use Rattle.run_world.specs.declared.step.RunFault.TheVariants as faults
 use Rattle.run_world.specs.World.{AreApart, KnowsFiles, OnlyOutputs as OnlyWritten}
 use Rattle.run_world.specs.Turn.{FaultCounts}
 use Rattle.command_base.specs.declared.stop.Stop.{Stop}

@@ -16,7 +16,7 @@ use Rattle.line_run.specs.Scripted.{channel_of, link_of, breaks_of, busy_of}
 use Rattle.link_run.specs.Carried.{on_line}
 use Rattle.line_run.specs.Sampled.{signals}
 use Rattle.sample_line.specs.Line.{Kept, LineStands}
-use Rattle.run_world.specs.DelayedLine.{DelayedLine}
+use Rattle.run_world.specs.declared.direction.DelayedLine.{DelayedLine}
 use Rattle.run_world.specs.OnWay.{OnWay, signals_in}
 use Rattle.run_world.specs.declared.lines.Lines.{Lines}
 use Rattle.run_world.specs.Lines.{LinesWait, HaveArrived}

@@ -7,8 +7,8 @@ use Rattle.outside_calls.specs.Folder.{Files}
 use Rattle.program_folders.specs.Sure.{SureState, sure_folder}
 use Rattle.roles.specs.declared.role.Role.TheVariants.{Originator, Answerer}
 use Rattle.run_world.specs.World.{AreApart}
-use Rattle.run_world.specs.RunFault.{RunFault}
-use Rattle.run_world.specs.RunFault.TheVariants as faults
+use Rattle.run_world.specs.declared.step.RunFault.{RunFault}
+use Rattle.run_world.specs.declared.step.RunFault.TheVariants as faults
 use Rattle.run_world.specs.Turn.{FaultCounts}
 use Rattle.command_base.specs.Stops.{SomeRose}
 use Rattle.soak_inputs.specs.Soak.{soak_file}

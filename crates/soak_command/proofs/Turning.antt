@@ -14,8 +14,8 @@ use Rattle.line_run.specs.Scripted.{link_of}
 use Rattle.run_world.specs.Limits.{file_limit}
 use Rattle.run_world.specs.Names.{Written}
 use Rattle.run_world.specs.World.{KnowsFiles, OnlyOutputs as OnlyWritten}
-use Rattle.run_world.specs.RunFault.{RunFault}
-use Rattle.run_world.specs.RunFault.TheVariants as faults
+use Rattle.run_world.specs.declared.step.RunFault.{RunFault}
+use Rattle.run_world.specs.declared.step.RunFault.TheVariants as faults
 use Rattle.run_world.specs.Turn.{FaultCounts}
 use Rattle.outside_calls.specs.Outputs.{OnlyOutputs}
 use Rattle.run_world.specs.Turns.{RunEnds, RunCounts, FaultEnds}
