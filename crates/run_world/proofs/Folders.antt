@@ -1,8 +1,7 @@
 -- What the steps of a turn leave of the folder, in a row.
-use Rattle.std.proofs.Common.{◌≡◌, ◌≢◌, inl, inr, ℕ, ◌++◌, List, length, take, IsTrue, refl, sym, ◌∙◌, ap, subst, Some}
-use Rattle.std.specs.List.{concat}
-use Rattle.outside_calls.specs.Folder.{FolderState, KeepsName, GoesOn, OnlyReads, OnlyWrites, Appended, PartlyAppended, FaultsStand, CountsStand, Rose}
-use Rattle.outside_calls.specs.Steps.{GoesOn-trans, told_later, KeepsName-trans, octets-kept, octets-held, Adds-kept, PartlyAppended-none, kept-PartlyAppended, FaultsStand-trans, CountsStand-trans}
+use Rattle.std.proofs.Common.{◌≡◌, inl, inr, ℕ, ◌++◌, List, take, IsTrue, refl, sym, ◌∙◌, ap, subst, Some}
+use Rattle.outside_calls.specs.Folder.{FolderState, KeepsName, GoesOn, OnlyReads, OnlyWrites, Appended, PartlyAppended, CountsStand, Rose}
+use Rattle.outside_calls.specs.Steps.{GoesOn-trans, told_later, KeepsName-trans, octets-kept, Adds-kept, PartlyAppended-none, kept-PartlyAppended, FaultsStand-trans, CountsStand-trans}
 use Rattle.roles.specs.Both.{Both}
 use Rattle.link_run.specs.Run.{Ends}
 use Rattle.turn_bound.specs.Limits.{file_limit}
@@ -12,7 +11,7 @@ use Rattle.run_world.specs.Link.{AreWithin, DeliversPart}
 use Rattle.run_world.specs.Link as links
 use Rattle.run_world.specs.declared.step.RunFault.{RunFault}
 use Rattle.run_world.specs.declared.step.RunFault.TheVariants as run_faults
-use Rattle.run_world.specs.World.{KnowsFiles, StayKnown, AreApart, OnlyOutputs}
+use Rattle.run_world.specs.World.{StayKnown, AreApart, OnlyOutputs}
 use Rattle.run_world.specs.Turn.{WritesTurn, WritesPart, of_orig, of_answ, of_lines, HasDelivered, FaultCounts, KeepsReceived}
 use Rattle.run_world.specs.Mid.{HasPart, ReadsBoth, handed}
 

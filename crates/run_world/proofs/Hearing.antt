@@ -1,6 +1,5 @@
 -- What both ends hear in a turn, and are then.
-use Rattle.std.proofs.Common.{◌≡◌, ◌≢◌, ℕ, ◌<◌, ◌≤◌, ◌+◌, ◌^◌, List, [], length, arith, refl, sym, ◌∙◌, ap, subst, Option, None, true, is_ok, Ok, Err}
-use Rattle.frame_check.specs.declared.check.Check.{Check}
+use Rattle.std.proofs.Common.{◌≡◌, ◌≢◌, ℕ, ◌<◌, ◌≤◌, ◌+◌, ◌^◌, List, [], length, arith, refl, sym, ◌∙◌, ap, subst, Option, None, Err}
 use Rattle.roles.specs.declared.role.Role.{Role}
 use Rattle.roles.specs.declared.role.Role.TheVariants.{Originator, Answerer}
 use Rattle.roles.specs.Both.{Both, of}
@@ -8,13 +7,12 @@ use Rattle.noise_script.specs.Script.{ScriptValue, IsInLimits, delay_of}
 use Rattle.lapm_frames.specs.declared.arrived.Arrived.{Arrived}
 use Rattle.lapm_frames.specs.declared.heard.Heard.{Heard}
 use Rattle.lapm_frames.specs.declared.heard.Heard.TheVariants.{Nothing, Passed, Lost, Chance}
-use Rattle.link_account.specs.Account.{Account, check_of}
+use Rattle.link_account.specs.Account.{check_of}
 use Rattle.link_account.specs.Hear.{hear}
 use Rattle.link_run.specs.Run.{Ends, Spoken, Turn, arrival, start}
 use Rattle.link_run.specs.Counts.{lost_in}
 use Rattle.link_run.specs.Laws.{RunsOver, HearingsAreWell}
-use Rattle.line_run.specs.Sampled.{HeardIn, IsHeardOf, LineRun, EndsLine}
-use Rattle.line_run.specs.Sampled as line_ends
+use Rattle.line_run.specs.Sampled.{HeardIn, IsHeardOf, LineRun}
 use Rattle.line_run.specs.Scripted.{channel_of, link_of, ScriptsMayPlay, ScriptsHaveDelays}
 use Rattle.line_run.specs.LineLaws.{SamplesAreCarried, OneIsCarried}
 use Rattle.line_run.specs.Scripts.{NoLineRunIsLong}
@@ -29,7 +27,7 @@ use Rattle.run_world.specs.declared.lines.LineEnd.TheVariants as ways
 use Rattle.run_world.specs.declared.world.World.{World}
 use Rattle.run_world.specs.declared.tally.Tally.{Tally}
 use Rattle.run_world.specs.World.{IsReady, WorldAfter}
-use Rattle.run_world.specs.Tally.{Tallies, IsFew, HearsMore}
+use Rattle.run_world.specs.Tally.{Tallies, HearsMore}
 use Rattle.run_world.specs.Mid.{Overhears, TalliesHeard, HasHeard, IsLineEnd, turn_in}
 
 pub few-turns : NoLineRunIsLong → (w : World) → IsReady w → w.turn < 2 ^ 40

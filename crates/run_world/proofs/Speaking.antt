@@ -1,5 +1,5 @@
 -- Both ends speak, and a turn is made.
-use Rattle.std.proofs.Common.{◌≡◌, ◌≢◌, if◌then◌else◌, nat_eq, ℕ, ◌+◌, ◌%◌, ◌<◌, ◌≤◌, Bool, true, false, is_ok, List, ◌∷◌, ◌++◌, length, arith, refl, sym, ◌∙◌, ap, subst, Option, Some, None, unwrap_or, Ok, Err}
+use Rattle.std.proofs.Common.{◌≡◌, ◌≢◌, if◌then◌else◌, nat_eq, ℕ, ◌+◌, ◌%◌, ◌≤◌, Bool, true, false, is_ok, List, ◌∷◌, ◌++◌, length, arith, refl, sym, ◌∙◌, ap, subst, Option, Some, None, unwrap_or, Ok, Err}
 use Rattle.std.specs.Option.{option_map}
 use Rattle.outside_calls.specs.Folder.{FolderState, Appended, PartlyAppended, CountsStand}
 use Rattle.frame_check.specs.declared.check.Check.{Check}
@@ -18,9 +18,9 @@ use Rattle.causes.specs.declared.fault.LinkFault.{LinkFault}
 use Rattle.causes.specs.declared.fault.LinkFault.TheVariants as faults
 use Rattle.link_account.specs.Account.{given_break, check_of}
 use Rattle.link_account.specs.Speak.{Said, speak}
-use Rattle.link_run.specs.Run.{Ends, Side, Spoken, Turn, GoingTurn, LastTurn, BrokenTurn, IsBroken, SpeaksAt, spoken, said_at, releases, served_at}
+use Rattle.link_run.specs.Run.{Ends, Side, Spoken, Turn, GoingTurn, LastTurn, BrokenTurn, IsBroken, SpeaksAt, spoken, said_at}
 use Rattle.link_run.specs.Counts.{CountsByNumber, CountsOn, next_count, again_in, sequence_in}
-use Rattle.link_run.specs.Laws.{EachEndIsNamed, IsNamed, RunsOver}
+use Rattle.link_run.specs.Laws.{IsNamed}
 use Rattle.link_run.specs.Outcomes.{Outcome, TurnIs}
 use Rattle.link_run.specs.End.{is_closed}
 use Rattle.link_run.specs.Trace.{side_line, turn_text}
@@ -32,15 +32,15 @@ use Rattle.run_world.specs.declared.link.Link.{Link}
 use Rattle.run_world.specs.declared.lines.Lines.{Lines}
 use Rattle.run_world.specs.Names.{Written}
 use Rattle.run_world.specs.Link.{LinkStands, SaysBoth, BreaksSo, both_finished}
-use Rattle.run_world.specs.Lines.{LinesWait, HaveArrived, AreCodable, Sends}
+use Rattle.run_world.specs.Lines.{LinesWait, HaveArrived, AreCodable}
 use Rattle.run_world.specs.declared.world.World.{World}
 use Rattle.run_world.specs.declared.tally.Tally.{Tally}
 use Rattle.run_world.specs.declared.step.RunFault.{RunFault}
 use Rattle.run_world.specs.declared.step.RunFault.TheVariants as run_faults
 use Rattle.run_world.specs.Tally.{Tallies, HearsMore, SendsMore}
-use Rattle.run_world.specs.World.{WorldAfter, AddsNumbers}
-use Rattle.run_world.specs.Turn.{MakesTurn, IsWriting, FaultCounts}
-use Rattle.run_world.specs.Mid.{Overhears, IsToSpeak, TalliesHeard, HasGone, AddsLines, AddsPart, SpeaksLast, fault_named, served, side_of, turn_in}
+use Rattle.run_world.specs.World.{AddsNumbers}
+use Rattle.run_world.specs.Turn.{IsWriting, FaultCounts}
+use Rattle.run_world.specs.Mid.{Overhears, TalliesHeard, HasGone, AddsPart, SpeaksLast, fault_named, served, side_of, turn_in}
 use Rattle.run_world.proofs.Hearing.{heard-in, none-sent, runs-over}
 use Rattle.run_world.proofs.Serving.{hears-in, served-is}
 

@@ -1,8 +1,6 @@
-use Rattle.std.proofs.Common.{◌≡◌, length, refl, subst, None}
+use Rattle.std.proofs.Common.{refl, subst, None}
 use Rattle.outside_calls.specs.Folder.{Appended, PartlyAppended}
 use Rattle.link_run.specs.Outcomes.{Done}
-use Rattle.link_run.specs.Run.{LastTurn}
-use Rattle.line_run.specs.Scripted.{link_of}
 use Rattle.run_world.specs.Names.{written}
 use Rattle.run_world.specs.Mid.{turn_in}
 use Rattle.run_world.proofs.Hearing.{heard-in, none-sent}

@@ -1,4 +1,4 @@
-use Rattle.std.proofs.Common.{refl, subst, sym, ap, ◌∙◌}
+use Rattle.std.proofs.Common.{refl}
 use Rattle.line_run.specs.Scripted.{channel_of}
 use Rattle.run_world.specs.Link.{HearsWell}
 use Rattle.run_world.specs.Lines.{ArrivesBoth}

@@ -1,4 +1,4 @@
-use Rattle.std.proofs.Common.{◌≡◌, ℕ, length, inr, ap, subst}
+use Rattle.std.proofs.Common.{inr, subst}
 use Rattle.outside_calls.specs.Folder.{Appended, PartlyAppended}
 use Rattle.line_texts.specs.LineText.{chance_line}
 use Rattle.run_world.specs.Names.{written}

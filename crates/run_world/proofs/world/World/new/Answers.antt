@@ -1,7 +1,4 @@
 use Rattle.std.proofs.Common.{refl}
-use Rattle.link_run.specs.Run.{start}
-use Rattle.line_run.specs.Scripted.{link_of}
-use Rattle.run_world.specs.World.{WorldAfter}
 use Rattle.run_world.proofs.Hearing.{begins, ready-first}
 use Rattle.run_world.proofs.world.World.new.Goals as goal
 

@@ -1,4 +1,4 @@
-use Rattle.std.proofs.Common.{◌+◌, length, subst}
+use Rattle.std.proofs.Common.{◌+◌, subst}
 use Rattle.run_world.specs.Link.{LinkStands}
 use Rattle.run_world.specs.Mid.{ReadsBoth, served, supplied, handed}
 use Rattle.run_world.proofs.Serving.{over-others, reading-fault, reading-counts}

@@ -1,15 +1,12 @@
-use Rattle.std.proofs.Common.{◌≡◌, ◌+◌, List, length, refl, sym, ◌∙◌, subst, Option, Some, None}
+use Rattle.std.proofs.Common.{◌≡◌, ◌+◌, length, refl, sym, ◌∙◌, subst, Some, None}
 use Rattle.outside_calls.specs.Folder.{Appended, PartlyAppended}
-use Rattle.lapm_frames.specs.declared.sent.Sent.{Sent}
-use Rattle.link_account.specs.Account.{check_of}
 use Rattle.link_run.specs.Counts.{sequence_in}
 use Rattle.link_run.specs.Run.{spoken}
-use Rattle.link_run.specs.Outcomes.{Outcome, Going, Broken}
+use Rattle.link_run.specs.Outcomes.{Going, Broken}
 use Rattle.run_world.specs.Names.{written}
-use Rattle.run_world.specs.Link.{SaysBoth}
 use Rattle.run_world.specs.Mid.{served, turn_in}
 use Rattle.run_world.proofs.Hearing.{none-sent}
-use Rattle.run_world.proofs.Speaking.{SpokenTurn, GoingLaws, CountsSent, sent_by, ends_of, spoken-turn, broken-turn, text-is, taken-back, all-codable, goes-on, ends-so, counts-so, stops-so, adds-part, sends-more, sends-none}
+use Rattle.run_world.proofs.Speaking.{SpokenTurn, GoingLaws, sent_by, ends_of, spoken-turn, broken-turn, text-is, taken-back, all-codable, goes-on, ends-so, counts-so, stops-so, adds-part, sends-more, sends-none}
 use Rattle.run_world.proofs.world.World.speak.Goals as goal
 
 -- the turn that both ends' words make
