@@ -88,6 +88,13 @@ fn refuses_long(
     refuses(rt, alloc, folder, calls, stop)
 }
 
+/// What is put into the folder and how many octets of it; how many calls were made, and which input is then too long.
+const LENGTHS: &[(&str, usize, u64, usize)] = &[
+    ("s", 0, 6, 1),
+    ("o", 16_777_216, 10, 2),
+    ("s", 65_537, 11, 3),
+];
+
 /// A faulty script with two files that are too long, of which one after another is put right, and then a script that is too long.
 fn refuses_in_turn(rt: &impl Abort, alloc: Global, folder: &mut MemoryFolder) -> Result<(), Fail> {
     let faulty = Stop::Own(Status::BadScript {
@@ -98,12 +105,11 @@ fn refuses_in_turn(rt: &impl Abort, alloc: Global, folder: &mut MemoryFolder) ->
     put(alloc, folder, "a", 16_777_217)?;
     folder.put("s", b"# a comment\nspeed 3\n")?;
     refuses(rt, alloc, folder, 3, faulty)?;
-    put(alloc, folder, "s", 0)?;
-    refuses_long(rt, alloc, folder, 6, 1)?;
-    put(alloc, folder, "o", 16_777_216)?;
-    refuses_long(rt, alloc, folder, 10, 2)?;
-    put(alloc, folder, "s", 65_537)?;
-    refuses_long(rt, alloc, folder, 11, 3)
+    for (name, count, calls, word) in LENGTHS {
+        put(alloc, folder, name, *count)?;
+        refuses_long(rt, alloc, folder, *calls, *word)?;
+    }
+    Ok(())
 }
 
 #[test]

@@ -162,13 +162,22 @@ fn each_fault_of_the_folder_says_its_line(rt: HostRuntime) -> Result<(), Fail> {
     Ok(())
 }
 
+/// Looks at a line.
+fn is_line(rt: &impl Abort, line: &[u8], expected: &[u8]) {
+    assert!(rt; line == expected);
+}
+
 #[test]
 fn done_lines_have_their_numbers(rt: HostRuntime) {
-    assert!(&rt; write_done(12).as_slice() == b"done 12\n".as_slice());
-    assert!(&rt; write_samples(0).as_slice() == b"samples 0\n".as_slice());
-    assert!(&rt; write_octets(64).as_slice() == b"octets 64\n".as_slice());
-    assert!(&rt; write_pieces(1).as_slice() == b"pieces 1\n".as_slice());
-    assert!(&rt; write_usage(&["run", "xid"]).as_slice() == b"usage: modem run, xid\n".as_slice());
+    is_line(&rt, write_done(12).as_slice(), b"done 12\n");
+    is_line(&rt, write_samples(0).as_slice(), b"samples 0\n");
+    is_line(&rt, write_octets(64).as_slice(), b"octets 64\n");
+    is_line(&rt, write_pieces(1).as_slice(), b"pieces 1\n");
+    is_line(
+        &rt,
+        write_usage(&["run", "xid"]).as_slice(),
+        b"usage: modem run, xid\n",
+    );
 }
 
 #[test]
@@ -221,14 +230,18 @@ fn a_file_of_five_octets_is_read_and_written(rt: HostRuntime) -> Result<(), Fail
     Ok(())
 }
 
+fn outputs_are_made(rt: &impl Abort, folder: &mut MemoryFolder) {
+    let made = create_outputs(folder, &["a", "b", "c"]);
+    assert!(rt; made == Err(FolderFault::Failed));
+    assert!(rt; folder.get("a") == Some(b"".as_slice()));
+    assert!(rt; folder.get("b").is_none());
+    assert!(rt; folder.get("c").is_none());
+}
+
 #[test]
 fn outputs_are_made_up_to_the_first_that_fails(rt: HostRuntime) -> Result<(), Fail> {
     let mut folder = folder_with(rt.alloc(), &[], &[2])?;
-    let made = create_outputs(&mut folder, &["a", "b", "c"]);
-    assert!(&rt; made == Err(FolderFault::Failed));
-    assert!(&rt; folder.get("a") == Some(b"".as_slice()));
-    assert!(&rt; folder.get("b").is_none());
-    assert!(&rt; folder.get("c").is_none());
+    outputs_are_made(&rt, &mut folder);
     Ok(())
 }
 

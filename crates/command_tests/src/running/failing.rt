@@ -12,15 +12,20 @@ fn calls_of(alloc: Global, orig: &[u8], answ: &[u8]) -> Result<u64, Fail> {
     Ok(whole.calls())
 }
 
+/// Looks whether a run of the two small files ends with a fault of the folder.
+fn is_failed(rt: &impl Abort, ran: &Ran, calls: u64) {
+    assert!(rt; ran.blames_the_folder());
+    assert!(rt; are_prefixes(ran, b"a", b"b"));
+    assert!(rt; ran.calls() <= calls);
+}
+
 /// Each call of the run of two small files fails in turn: the answer is a fault of the folder, and what was received begins the files.
 #[test]
 fn each_call_that_fails_is_the_answer(rt: HostRuntime) -> Result<(), Fail> {
     let calls = calls_of(rt.alloc(), b"a", b"b")?;
     for number in 1..=calls {
         let ran = run_failing(rt.alloc(), b"a", b"b", b"", &[number])?;
-        assert!(&rt; ran.blames_the_folder(), "{number}");
-        assert!(&rt; are_prefixes(&ran, b"a", b"b"), "{number}");
-        assert!(&rt; ran.calls() <= calls, "{number}");
+        is_failed(&rt, &ran, calls);
     }
     Ok(())
 }
