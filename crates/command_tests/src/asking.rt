@@ -19,6 +19,18 @@ pub(crate) fn folder_with(
     Ok(folder)
 }
 
+/// Puts so many octets into the folder.
+pub(crate) fn put(
+    alloc: Global,
+    folder: &mut MemoryFolder,
+    name: &str,
+    count: usize,
+) -> Result<(), Fail> {
+    let octets = vec![in alloc; 7u8; count]?;
+    folder.put(name, &octets)?;
+    Ok(())
+}
+
 /// Texts as words.
 pub(crate) fn words_of(alloc: Global, texts: &[&str]) -> Result<Vec<String>, Fail> {
     let mut words = Vec::new(alloc);
@@ -77,6 +89,14 @@ impl Ran {
     /// The octets of a file, or none where there is no such file.
     pub(crate) fn left(&self, name: &str) -> &[u8] {
         self.folder.get(name).unwrap_or_default()
+    }
+
+    /// How many lines stand in a file.
+    pub(crate) fn count_lines(&self, name: &str) -> usize {
+        self.left(name)
+            .iter()
+            .filter(|octet| **octet == b'\n')
+            .count()
     }
 
     /// How often the folder was called.

@@ -1,9 +1,8 @@
 // Each command over a folder in memory, and words that are no command's.
-use super::asking::{leaves, run_over, says};
+use super::asking::{Ran, leaves, run_over, says};
 use modem_cli::Status;
 use roles::Role;
 use std::alloc::Global;
-use std::process::Abort;
 use std::test::Fail;
 
 /// The recording of an octet of zeros, as the end that calls sends it.
@@ -20,38 +19,67 @@ const FILES: &[(&str, &[u8])] = &[
     ("z", b"\0"),
 ];
 
-/// Does what the words say, with the five files, and looks at the answer and at what was said.
-fn answers(
-    rt: &impl Abort,
-    alloc: Global,
-    texts: &[&str],
-    status: Status,
-    said: &str,
-) -> Result<(), Fail> {
-    let ran = run_over(alloc, texts, FILES, &[])?;
-    says(rt, &ran, status, said);
-    Ok(())
-}
+const USAGE: &str =
+    "usage: modem run, encode, decode, frames, xid, soak, peer, pickup, margin, encode4, decode4\n";
 
-/// Words of each command, and what is said once it is done.
-const COMMANDS: [(&[&str], &str); 8] = [
-    (&["run", "o", "a", "s", "go", "ga", "t"], "done 12\n"),
-    (&["encode", "call", "o", "r"], "samples 2\n"),
-    (&["decode", "r", "f"], "octets 1\n"),
-    (&["frames", "orig", "o"], "pieces 0\n"),
+/// Words of each command with what is said once it is done, and words that are no command's.
+const WORDS: &[(&[&str], Status, &str)] = &[
+    (
+        &["run", "o", "a", "s", "go", "ga", "t"],
+        Status::Done,
+        "done 12\n",
+    ),
+    (&["encode", "call", "o", "r"], Status::Done, "samples 2\n"),
+    (&["decode", "r", "f"], Status::Done, "octets 1\n"),
+    (&["frames", "orig", "o"], Status::Done, "pieces 0\n"),
     (
         &["xid", "82"],
+        Status::Done,
         "window tx=15 rx=15 length tx=128 rx=128 srej=0 check32=0\n",
     ),
-    (&["peer", "answ", "o", "s", "g", "t"], "done 0\n"),
-    (&["pickup", "r"], "pieces 0\n"),
-    (&["margin", "r", "z"], "cost 0 sure 1\n"),
+    (
+        &["peer", "answ", "o", "s", "g", "t"],
+        Status::Done,
+        "done 0\n",
+    ),
+    (&["pickup", "r"], Status::Done, "pieces 0\n"),
+    (&["margin", "r", "z"], Status::Done, "cost 0 sure 1\n"),
+    (
+        &["run", "o", "a", "s", "go", "go", "t"],
+        Status::Usage,
+        USAGE,
+    ),
+    (
+        &["run", "o", "a", "s", "go", "ga", "s"],
+        Status::Usage,
+        USAGE,
+    ),
+    (
+        &["ran", "o", "a", "s", "go", "ga", "t"],
+        Status::Usage,
+        USAGE,
+    ),
+    (&["encode", "calls", "o", "r"], Status::Usage, USAGE),
+    (&["encode", "call", "o", "o"], Status::Usage, USAGE),
+    (&["record", "call", "o", "r"], Status::Usage, USAGE),
+    (&["frames", "originator", "o"], Status::Usage, USAGE),
+    (&["frame", "orig", "o"], Status::Usage, USAGE),
+    (&["decode", "r", "r"], Status::Usage, USAGE),
+    (&["decode4", "r", "r"], Status::Usage, USAGE),
+    (&["decode5", "r", "f"], Status::Usage, USAGE),
+    (&["pickup"], Status::Usage, USAGE),
+    (&["pick", "r"], Status::Usage, USAGE),
+    (&["pickup", "r", "f"], Status::Usage, USAGE),
+    (&["margin", "r"], Status::Usage, USAGE),
+    (&["margins", "r", "z"], Status::Usage, USAGE),
+    (&[], Status::Usage, USAGE),
 ];
 
 #[test]
-fn each_command_is_done(rt: HostRuntime) -> Result<(), Fail> {
-    for (words, said) in COMMANDS {
-        answers(&rt, rt.alloc(), words, Status::Done, said)?;
+fn each_command_is_done_and_other_words_are_told_the_usage(rt: HostRuntime) -> Result<(), Fail> {
+    for (words, status, said) in WORDS {
+        let ran = run_over(rt.alloc(), words, FILES, &[])?;
+        says(&rt, &ran, *status, said);
     }
     Ok(())
 }
@@ -66,69 +94,42 @@ fn empty_files_are_done_once_the_link_was_up(rt: HostRuntime) -> Result<(), Fail
     Ok(())
 }
 
-/// Decodes a call recording of so many samples at the origin, and looks at the answer, its line and the file.
-fn decodes_zeros(
-    rt: &impl Abort,
-    alloc: Global,
-    samples: usize,
-    status: Status,
-    said: &str,
-    octets: &[u8],
-) -> Result<(), Fail> {
+/// A call recording of so many samples at the origin.
+fn zeros(alloc: Global, samples: usize) -> Result<Vec<u8>, Fail> {
     let mut recording = Vec::from_slice(alloc, &RECORDING[..8])?;
     for _ in 0..samples {
         recording.extend_from_slice(&[0; 4])?;
     }
-    let ran = run_over(alloc, &["decode", "r", "f"], &[("r", &recording)], &[])?;
-    says(rt, &ran, status, said);
-    leaves(rt, &ran, "f", octets);
-    Ok(())
+    Ok(recording)
+}
+
+/// Decodes a call recording of so many samples at the origin.
+fn decoded_zeros(alloc: Global, samples: usize) -> Result<Ran, Fail> {
+    let recording = zeros(alloc, samples)?;
+    run_over(alloc, &["decode", "r", "f"], &[("r", &recording)], &[])
 }
 
 #[test]
 fn samples_at_the_origin_are_followed_as_far_as_the_depth(rt: HostRuntime) -> Result<(), Fail> {
+    let ran = decoded_zeros(rt.alloc(), 128)?;
+    says(&rt, &ran, Status::Done, "octets 64\n");
     let mut octets = [0x77; 64];
     octets[0] = 0x44;
     octets[1] = 0x44;
     octets[2] = 0x54;
-    decodes_zeros(&rt, rt.alloc(), 128, Status::Done, "octets 64\n", &octets)?;
+    leaves(&rt, &ran, "f", &octets);
+    Ok(())
+}
+
+#[test]
+fn samples_at_the_origin_lose_the_line_past_the_depth(rt: HostRuntime) -> Result<(), Fail> {
+    let ran = decoded_zeros(rt.alloc(), 129)?;
     let lost = Status::LineLost {
         role: Role::Answerer,
         symbol: 128,
     };
-    let said = "line lost: answ symbol 128\n";
-    decodes_zeros(&rt, rt.alloc(), 129, lost, said, b"")?;
+    says(&rt, &ran, lost, "line lost: answ symbol 128\n");
+    leaves(&rt, &ran, "f", b"");
     assert!(&rt; lost.code() == 7);
-    Ok(())
-}
-
-/// Words that are no command's.
-const OTHER_WORDS: [&[&str]; 17] = [
-    &["run", "o", "a", "s", "go", "go", "t"],
-    &["run", "o", "a", "s", "go", "ga", "s"],
-    &["ran", "o", "a", "s", "go", "ga", "t"],
-    &["encode", "calls", "o", "r"],
-    &["encode", "call", "o", "o"],
-    &["record", "call", "o", "r"],
-    &["frames", "originator", "o"],
-    &["frame", "orig", "o"],
-    &["decode", "r", "r"],
-    &["decode4", "r", "r"],
-    &["decode5", "r", "f"],
-    &["pickup"],
-    &["pick", "r"],
-    &["pickup", "r", "f"],
-    &["margin", "r"],
-    &["margins", "r", "z"],
-    &[],
-];
-
-#[test]
-fn other_words_are_told_the_usage(rt: HostRuntime) -> Result<(), Fail> {
-    let usage =
-        "usage: modem run, encode, decode, frames, xid, soak, peer, pickup, margin, encode4, decode4\n";
-    for words in OTHER_WORDS {
-        answers(&rt, rt.alloc(), words, Status::Usage, usage)?;
-    }
     Ok(())
 }

@@ -33,13 +33,17 @@ fn expected(count: usize) -> Status {
     }
 }
 
+/// The octets of so much of the recording.
+fn octets_of(count: usize) -> &'static [u8] {
+    if count == 16 { b"\0" } else { b"" }
+}
+
 #[test]
 fn recordings(rt: HostRuntime) -> Result<(), Fail> {
     for count in 0..=16usize {
         let ran = decoded_to(rt.alloc(), count, &[])?;
-        let whole: &[u8] = if count == 16 { &[0] } else { &[] };
         assert!(&rt; ran.status == expected(count), "{count}");
-        assert!(&rt; ran.left("f") == whole, "{count}");
+        assert!(&rt; ran.left("f") == octets_of(count), "{count}");
     }
     Ok(())
 }
@@ -64,8 +68,8 @@ fn is_blamed(ran: &Ran) -> bool {
 
 #[test]
 fn decoding_over_a_failing_folder(rt: HostRuntime) -> Result<(), Fail> {
-    let whole = decoded_to(rt.alloc(), 16, &[])?;
-    for number in 1..=whole.calls() {
+    let calls = decoded_to(rt.alloc(), 16, &[])?.calls();
+    for number in 1..=calls {
         let ran = decoded_to(rt.alloc(), 16, &[number])?;
         assert!(&rt; is_blamed(&ran), "{number}");
         assert!(&rt; b"\0".starts_with(ran.left("f")), "{number}");
@@ -75,8 +79,8 @@ fn decoding_over_a_failing_folder(rt: HostRuntime) -> Result<(), Fail> {
 
 #[test]
 fn listing_over_a_failing_folder(rt: HostRuntime) -> Result<(), Fail> {
-    let whole = listed_to(rt.alloc(), 7, &[])?;
-    for number in 1..=whole.calls() {
+    let calls = listed_to(rt.alloc(), 7, &[])?.calls();
+    for number in 1..=calls {
         let ran = listed_to(rt.alloc(), 7, &[number])?;
         assert!(&rt; is_blamed(&ran), "{number}");
     }

@@ -27,58 +27,6 @@ pub(super) fn decoded(alloc: Global, rate: Rate, rec: &[u8], fails: &[u64]) -> R
     Ok(Ran { status, folder })
 }
 
-/// What the command of a rate answers to a recording, says, and leaves in the file.
-fn decodes(
-    rt: &impl Abort,
-    alloc: Global,
-    rate: Rate,
-    rec: &[u8],
-    answer: Status,
-    line: &str,
-    octets: &[u8],
-) -> Result<(), Fail> {
-    let ran = decoded(alloc, rate, rec, &[])?;
-    says(rt, &ran, answer, line);
-    assert!(rt; ran.left("f") == octets, "{line}");
-    Ok(())
-}
-
-/// Recordings that are whole, and their octets. The third one is noisy.
-const DECODED: [(&[u8], &str, &[u8]); 4] = [
-    (b"V32R\0\0\0\0", "octets 0\n", b""),
-    (
-        b"V32R\0\0\0\0\x00\xe0\x00\x08\x00\xe0\x00\x08",
-        "octets 1\n",
-        b"\x00",
-    ),
-    (
-        b"V32R\0\0\0\0\x00\xe0\x00\x08\x00\x00\x00\x08",
-        "octets 1\n",
-        b"\x40",
-    ),
-    (
-        b"V32R\x01\0\0\0\x00\xf0\x00\x18\x00\x10\x00\xe8",
-        "octets 1\n",
-        b"\x01",
-    ),
-];
-
-#[test]
-fn recordings_are_decoded(rt: HostRuntime) -> Result<(), Fail> {
-    for (rec, line, octets) in DECODED {
-        decodes(
-            &rt,
-            rt.alloc(),
-            Rate::Trellis,
-            rec,
-            Status::Done,
-            line,
-            octets,
-        )?;
-    }
-    Ok(())
-}
-
 /// What `encode4 call` makes of the octet 01.
 const ONE: &[u8] =
     b"V32R\x02\0\0\0\x00\x08\x00\xe8\x00\x08\x00\xe8\x00\x08\x00\xe8\x00\x08\x00\xe8";
@@ -87,70 +35,118 @@ const ONE: &[u8] =
 const NOISY_ONE: &[u8] =
     b"V32R\x02\0\0\0\xb8\x13\x48\xf5\x48\xfc\xb8\xda\xe3\x19\x00\xe8\x00\x08\xe3\xf9";
 
-#[test]
-fn recordings_of_the_second_rate_are_decoded(rt: HostRuntime) -> Result<(), Fail> {
-    for (rec, line, octets) in [
-        (b"V32R\x02\0\0\0".as_slice(), "octets 0\n", b"".as_slice()),
-        (ONE, "octets 1\n", b"\x01".as_slice()),
-        (NOISY_ONE, "octets 1\n", b"\x01".as_slice()),
-    ] {
-        decodes(
-            &rt,
-            rt.alloc(),
-            Rate::Quarters,
-            rec,
-            Status::Done,
-            line,
-            octets,
-        )?;
-    }
-    Ok(())
-}
+/// A recording, the rate of the command, its answer, what it says, and what it leaves in the file.
+type Decoding = (Rate, &'static [u8], Status, &'static str, &'static [u8]);
 
-/// Recordings that are refused, where, and what is said.
-const REFUSED: [(Rate, &[u8], u64, &str); 5] = [
+/// Recordings that are whole, and recordings that are refused at their place. The third one and the last whole one are noisy.
+const DECODINGS: &[Decoding] = &[
+    (
+        Rate::Trellis,
+        b"V32R\0\0\0\0",
+        Status::Done,
+        "octets 0\n",
+        b"",
+    ),
+    (
+        Rate::Trellis,
+        b"V32R\0\0\0\0\x00\xe0\x00\x08\x00\xe0\x00\x08",
+        Status::Done,
+        "octets 1\n",
+        b"\x00",
+    ),
+    (
+        Rate::Trellis,
+        b"V32R\0\0\0\0\x00\xe0\x00\x08\x00\x00\x00\x08",
+        Status::Done,
+        "octets 1\n",
+        b"\x40",
+    ),
+    (
+        Rate::Trellis,
+        b"V32R\x01\0\0\0\x00\xf0\x00\x18\x00\x10\x00\xe8",
+        Status::Done,
+        "octets 1\n",
+        b"\x01",
+    ),
+    (
+        Rate::Quarters,
+        b"V32R\x02\0\0\0",
+        Status::Done,
+        "octets 0\n",
+        b"",
+    ),
+    (Rate::Quarters, ONE, Status::Done, "octets 1\n", b"\x01"),
+    (
+        Rate::Quarters,
+        NOISY_ONE,
+        Status::Done,
+        "octets 1\n",
+        b"\x01",
+    ),
     (
         Rate::Trellis,
         b"V32R\0\0\0\0\x00\xe0\x00\x08\x00\xe0\x00",
-        12,
+        Status::BadRecording { at: 12 },
         "bad recording: at 12\n",
+        b"",
     ),
-    (Rate::Trellis, b"V32R\x02\0\0\0", 4, "bad recording: at 4\n"),
-    (Rate::Trellis, ONE, 4, "bad recording: at 4\n"),
+    (
+        Rate::Trellis,
+        b"V32R\x02\0\0\0",
+        Status::BadRecording { at: 4 },
+        "bad recording: at 4\n",
+        b"",
+    ),
+    (
+        Rate::Trellis,
+        ONE,
+        Status::BadRecording { at: 4 },
+        "bad recording: at 4\n",
+        b"",
+    ),
     (
         Rate::Quarters,
         b"V32R\x02\0\0\0\x00\x08\x00\xe8\x00\x08\x00\xe8\x00\x08\x00\xe8\x00\x08\x00",
-        20,
+        Status::BadRecording { at: 20 },
         "bad recording: at 20\n",
+        b"",
     ),
-    (Rate::Quarters, b"V32R\0\0\0\0", 4, "bad recording: at 4\n"),
+    (
+        Rate::Quarters,
+        b"V32R\0\0\0\0",
+        Status::BadRecording { at: 4 },
+        "bad recording: at 4\n",
+        b"",
+    ),
 ];
 
+/// Looks at what is answered, said and left.
+fn compare(rt: &impl Abort, ran: &Ran, answer: Status, line: &str, octets: &[u8]) {
+    says(rt, ran, answer, line);
+    assert!(rt; ran.left("f") == octets, "{line}");
+}
+
 #[test]
-fn recordings_are_refused_at_their_place(rt: HostRuntime) -> Result<(), Fail> {
-    for (rate, rec, at, line) in REFUSED {
-        let answer = Status::BadRecording { at };
-        decodes(&rt, rt.alloc(), rate, rec, answer, line, b"")?;
+fn recordings_are_decoded_or_refused_at_their_place(rt: HostRuntime) -> Result<(), Fail> {
+    for (rate, rec, answer, line, octets) in DECODINGS {
+        let ran = decoded(rt.alloc(), *rate, rec, &[])?;
+        compare(&rt, &ran, *answer, line, octets);
     }
     Ok(())
 }
 
-/// As many samples at the origin as would lose a line of the trellis code.
-#[test]
-fn no_line_of_four_points_is_lost(rt: HostRuntime) -> Result<(), Fail> {
-    let alloc = rt.alloc();
+/// A recording at the second rate of as many samples at the origin as would lose a line of the trellis code.
+fn zeros(alloc: Global) -> Result<Vec<u8>, Fail> {
     let mut zeros = Vec::from_slice(alloc, b"V32R\x02\0\0\0")?;
     zeros.extend_from_slice(&[0; 516])?;
-    let line = "octets 32\n";
-    decodes(
-        &rt,
-        alloc,
-        Rate::Quarters,
-        &zeros,
-        Status::Done,
-        line,
-        &[0; 32],
-    )
+    Ok(zeros)
+}
+
+#[test]
+fn no_line_of_four_points_is_lost(rt: HostRuntime) -> Result<(), Fail> {
+    let ran = decoded(rt.alloc(), Rate::Quarters, &zeros(rt.alloc())?, &[])?;
+    compare(&rt, &ran, Status::Done, "octets 32\n", &[0; 32]);
+    Ok(())
 }
 
 /// Records the file at that rate.
@@ -165,20 +161,27 @@ fn encode_at(rate: Rate, mode: Mode, folder: &mut MemoryFolder) -> Status {
 }
 
 /// What was encoded is decoded.
-fn comes_back(rt: &impl Abort, alloc: Global, rate: Rate, mode: Mode) -> Result<(), Fail> {
-    let mut folder = folder_with(alloc, &[("g", b"What was encoded comes back.")], &[])?;
-    assert!(rt; encode_at(rate, mode, &mut folder) == Status::Done);
-    assert!(rt; decode_at(alloc, rate, &mut folder) == Status::Done);
+fn comes_back(rt: &impl Abort, alloc: Global, rate: Rate, mode: Mode, folder: &mut MemoryFolder) {
+    assert!(rt; encode_at(rate, mode, folder) == Status::Done);
+    assert!(rt; decode_at(alloc, rate, folder) == Status::Done);
     assert!(rt; folder.get("f") == folder.get("g"));
-    Ok(())
 }
+
+const TEXT: &[(&str, &[u8])] = &[("g", b"What was encoded comes back.")];
+
+/// Rates and the ends that send.
+const SENDERS: &[(Rate, Mode)] = &[
+    (Rate::Trellis, Mode::Call),
+    (Rate::Trellis, Mode::Answer),
+    (Rate::Quarters, Mode::Call),
+    (Rate::Quarters, Mode::Answer),
+];
 
 #[test]
 fn what_was_encoded_comes_back(rt: HostRuntime) -> Result<(), Fail> {
-    for rate in [Rate::Trellis, Rate::Quarters] {
-        for mode in [Mode::Call, Mode::Answer] {
-            comes_back(&rt, rt.alloc(), rate, mode)?;
-        }
+    for (rate, mode) in SENDERS {
+        let mut folder = folder_with(rt.alloc(), TEXT, &[])?;
+        comes_back(&rt, rt.alloc(), *rate, *mode, &mut folder);
     }
     Ok(())
 }

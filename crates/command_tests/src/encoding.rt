@@ -2,9 +2,27 @@
 use super::asking::{Ran, folder_with, leaves, leaves_none, says, words_of};
 use command_base::Status;
 use encode_command::{encode, encode_words};
+use outside_core::MemoryFolder;
 use std::alloc::Global;
 use std::process::Abort;
 use std::test::Fail;
+
+/// Does what the words of a recording say.
+fn encode_by(folder: &mut MemoryFolder, words: &[String]) -> Result<Status, Fail> {
+    let names = encode_words(words).ok_or("no words of a recording")?;
+    Ok(encode(folder, words, &names))
+}
+
+/// Records the file of the folder.
+fn record_in(
+    alloc: Global,
+    command: &str,
+    mode: &str,
+    folder: &mut MemoryFolder,
+) -> Result<Status, Fail> {
+    let words = words_of(alloc, &[command, mode, "f", "r"])?;
+    encode_by(folder, &words)
+}
 
 /// Records the file, where the folder fails at these calls.
 fn record(
@@ -14,15 +32,13 @@ fn record(
     file: &[u8],
     fails: &[u64],
 ) -> Result<Ran, Fail> {
-    let words = words_of(alloc, &[command, mode, "f", "r"])?;
     let mut folder = folder_with(alloc, &[("f", file)], fails)?;
-    let names = encode_words(&words).ok_or("no words of a recording")?;
-    let status = encode(&mut folder, &words, &names);
+    let status = record_in(alloc, command, mode, &mut folder)?;
     Ok(Ran { status, folder })
 }
 
 /// The words, the file, and what is said and made of it.
-const RECORDINGS: [(&str, &str, &[u8], &str, &[u8]); 7] = [
+const RECORDINGS: &[(&str, &str, &[u8], &str, &[u8])] = &[
     ("encode", "call", b"", "samples 0\n", b"V32R\0\0\0\0"),
     (
         "encode",
@@ -66,26 +82,37 @@ fn files_become_recordings_at_both_rates(rt: HostRuntime) -> Result<(), Fail> {
     Ok(())
 }
 
+/// A file of three pieces.
+const PIECES: [u8; 300] = [7; 300];
+
 /// A file of three pieces takes an octet at its limit, the output, its header, and four reads with three appends
-/// between. Where the folder fails at a call, the answer is named by the call's kind.
+/// between.
+fn kind_of(number: u64) -> Status {
+    match number {
+        1 | 4 | 6 | 8 | 10 => Status::ReadFault,
+        _ => Status::WriteFault,
+    }
+}
+
+/// Where the folder fails at a call, the answer is named by the call's kind.
 #[test]
 fn each_call_that_fails_is_named_by_its_kind(rt: HostRuntime) -> Result<(), Fail> {
-    let file = vec![in rt.alloc(); 7u8; 300]?;
     for number in 1..=11u64 {
-        let kind = match number {
-            1 | 4 | 6 | 8 | 10 => Status::ReadFault,
-            _ => Status::WriteFault,
-        };
-        let ran = record(rt.alloc(), "encode", "call", &file, &[number])?;
-        assert!(&rt; ran.status == kind, "{number}");
+        let ran = record(rt.alloc(), "encode", "call", &PIECES, &[number])?;
+        assert!(&rt; ran.status == kind_of(number), "{number}");
     }
     Ok(())
 }
 
+/// Records a file of an octet more than there may be.
+fn record_long(alloc: Global) -> Result<Ran, Fail> {
+    let long = vec![in alloc; 7u8; 1_048_577]?;
+    record(alloc, "encode", "call", &long, &[])
+}
+
 #[test]
 fn a_file_that_is_too_long_is_named(rt: HostRuntime) -> Result<(), Fail> {
-    let long = vec![in rt.alloc(); 7u8; 1_048_577]?;
-    let ran = record(rt.alloc(), "encode", "call", &long, &[])?;
+    let ran = record_long(rt.alloc())?;
     says(&rt, &ran, Status::TooLong { word: 2 }, "too long: f\n");
     leaves_none(&rt, &ran, "r");
     Ok(())

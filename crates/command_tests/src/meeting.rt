@@ -1,5 +1,5 @@
 // Ends that meet recorded bits of a peer, with what each run says and leaves.
-use super::asking::{Ran, leaves_none, run_over, says};
+use super::asking::{Ran, leaves, leaves_none, run_over, says};
 use command_base::LinkFault;
 use modem_cli::Status;
 use roles::Role;
@@ -67,21 +67,10 @@ fn slots(alloc: Global, contents: &[&[u8]]) -> Result<Vec<u8>, Fail> {
     Ok(octets)
 }
 
-/// Looks at the answer and at what was said, given, and written.
-fn leaves(rt: &impl Abort, ran: &Ran, status: Status, said: &str, got: &[u8], trace: &str) {
-    says(rt, ran, status, said);
-    assert!(rt; ran.folder.get("g") == Some(got), "{said}");
-    assert!(rt; ran.folder.get("t") == Some(trace.as_bytes()), "{said}");
-}
-
-/// How many lines the trace has, and whether it ends with this one.
+/// How many lines the trace has, and whether it ends with these.
 fn ends_with(rt: &impl Abort, ran: &Ran, lines: usize, last: &str) {
-    let trace = ran.left("t");
-    assert!(rt;
-        trace.iter().filter(|octet| **octet == b'\n').count() == lines,
-        "{last}"
-    );
-    assert!(rt; trace.ends_with(last.as_bytes()), "{last}");
+    assert!(rt; ran.count_lines("t") == lines);
+    assert!(rt; ran.left("t").ends_with(last.as_bytes()));
 }
 
 /// A run of an end, and what it leaves.
@@ -89,20 +78,25 @@ struct Meeting {
     role: &'static str,
     file: &'static [u8],
     slots: &'static [&'static [u8]],
+    /// What stands behind the slots.
+    rest: &'static [u8],
     status: Status,
+    code: u8,
     said: &'static str,
     got: &'static [u8],
     trace: &'static str,
 }
 
-/// Runs that go on to the end of the peer's bits.
-const DONE: &[Meeting] = &[
+/// Runs that go on to the end of the peer's bits, and runs that end with a fault of the peer.
+const MEETINGS: &[Meeting] = &[
     // Segments and breaks are given in order.
     Meeting {
         role: "answ",
         file: b"",
         slots: &[&SABME, &FIRST, &SECOND, &BREAK],
+        rest: b"",
         status: Status::Done,
+        code: 0,
         said: "done 4\n",
         got: b"ab",
         trace: "0 answ sabme cmd p=1 > ua rsp p=1\n1 answ i s=0 r=0 p=0 n=1 > rr rsp r=1 p=0\n2 answ i s=1 r=0 p=0 n=1 > rr rsp r=2 p=0\n3 answ ui cmd p=0 brk 0 30 > ui cmd p=0 brkack 0 30 break=30\n",
@@ -112,7 +106,9 @@ const DONE: &[Meeting] = &[
         role: "answ",
         file: b"xyz",
         slots: &[&SABME, &POLL, b""],
+        rest: b"",
         status: Status::Done,
+        code: 0,
         said: "done 3\n",
         got: b"",
         trace: "0 answ sabme cmd p=1 > ua rsp p=1\n1 answ rr cmd r=0 p=1 > rr rsp r=0 p=1\n2 answ - > i s=0 r=0 p=0 n=3\n",
@@ -122,20 +118,43 @@ const DONE: &[Meeting] = &[
         role: "orig",
         file: b"",
         slots: &[&ADP, &XID_RESPONSE, &UA, &UA, &UA],
+        rest: b"",
         status: Status::Done,
+        code: 0,
         said: "done 4\n",
         got: b"",
         trace: "0 orig adp > xid cmd p=0 n=23\n1 orig xid rsp p=0 n=23 > sabme cmd p=1\n2 orig ua rsp p=1 > disc cmd p=1\n3 orig ua rsp p=1 > none\n",
     },
-];
-
-/// Runs that end with a fault of the peer.
-const FAULTS: &[Meeting] = &[
+    // A frame that was never asked for is answered.
+    Meeting {
+        role: "answ",
+        file: b"",
+        slots: &[],
+        rest: &SABME,
+        status: Status::Done,
+        code: 0,
+        said: "done 1\n",
+        got: b"",
+        trace: "0 answ sabme cmd p=1 > ua rsp p=1\n",
+    },
+    // No bits are no turns.
+    Meeting {
+        role: "answ",
+        file: b"",
+        slots: &[],
+        rest: b"",
+        status: Status::Done,
+        code: 0,
+        said: "done 0\n",
+        got: b"",
+        trace: "",
+    },
     // The peer acknowledges what was never sent.
     Meeting {
         role: "answ",
         file: b"",
         slots: &[&SABME, &BAD_ACK],
+        rest: b"",
         status: Status::PeerFault {
             fault: LinkFault::BadAck {
                 nr: 5,
@@ -144,6 +163,7 @@ const FAULTS: &[Meeting] = &[
             },
             turn: 1,
         },
+        code: 12,
         said: "peer fault: bad ack nr 5 va 0 high 0 turn 1\n",
         got: b"",
         trace: "0 answ sabme cmd p=1 > ua rsp p=1\n1 answ i s=0 r=5 p=0 n=1 > none\n",
@@ -153,10 +173,12 @@ const FAULTS: &[Meeting] = &[
         role: "answ",
         file: b"",
         slots: &[&SABME, &POLL, &SABME],
+        rest: b"",
         status: Status::PeerFault {
             fault: LinkFault::PeerReset { va: 0, vr: 0 },
             turn: 2,
         },
+        code: 12,
         said: "peer fault: reset va 0 vr 0 turn 2\n",
         got: b"",
         trace: "0 answ sabme cmd p=1 > ua rsp p=1\n1 answ rr cmd r=0 p=1 > rr rsp r=0 p=1\n2 answ sabme cmd p=1 > none\n",
@@ -166,133 +188,135 @@ const FAULTS: &[Meeting] = &[
         role: "orig",
         file: b"",
         slots: &[&ADP, &DM],
+        rest: b"",
         status: Status::PeerFault {
             fault: LinkFault::PeerRefused,
             turn: 1,
         },
+        code: 12,
         said: "peer fault: refused turn 1\n",
         got: b"",
         trace: "0 orig adp > xid cmd p=0 n=23\n1 orig dm rsp p=0 > none\n",
     },
 ];
 
+/// Runs the end.
+fn meet_all(alloc: Global, meeting: &Meeting) -> Result<Ran, Fail> {
+    let mut bits = slots(alloc, meeting.slots)?;
+    bits.extend_from_slice(meeting.rest)?;
+    meet(alloc, meeting.role, meeting.file, &bits)
+}
+
 /// Runs the end, and looks at what it leaves.
-fn compare(rt: &impl Abort, alloc: Global, meeting: &Meeting) -> Result<Status, Fail> {
-    let bits = slots(alloc, meeting.slots)?;
-    let ran = meet(alloc, meeting.role, meeting.file, bits.as_slice())?;
-    leaves(
-        rt,
-        &ran,
-        meeting.status,
-        meeting.said,
-        meeting.got,
-        meeting.trace,
-    );
-    Ok(ran.status)
+fn compare(rt: &impl Abort, alloc: Global, meeting: &Meeting) -> Result<(), Fail> {
+    let ran = meet_all(alloc, meeting)?;
+    says(rt, &ran, meeting.status, meeting.said);
+    leaves(rt, &ran, "g", meeting.got);
+    leaves(rt, &ran, "t", meeting.trace.as_bytes());
+    assert!(rt; ran.status.code() == meeting.code);
+    Ok(())
 }
 
 #[test]
-fn frames_of_the_peer_are_answered(rt: HostRuntime) -> Result<(), Fail> {
-    for meeting in DONE {
+fn frames_of_the_peer_are_answered_and_its_faults_are_named(rt: HostRuntime) -> Result<(), Fail> {
+    for meeting in MEETINGS {
         compare(&rt, rt.alloc(), meeting)?;
     }
     Ok(())
 }
 
-#[test]
-fn faults_of_the_peer_are_named(rt: HostRuntime) -> Result<(), Fail> {
-    for meeting in FAULTS {
-        let status = compare(&rt, rt.alloc(), meeting)?;
-        assert!(&rt; status.code() == 12);
+/// A frame that begins in one slot and ends in the next, and two more there.
+const CROWDED: &[&[u8]] = &[&FIRST, &SABME, &FIRST];
+
+/// The frames behind all but three octets of a slot.
+fn crowded(alloc: Global) -> Result<Vec<u8>, Fail> {
+    let mut bits = vec![in alloc; 0xffu8; SLOT - 3]?;
+    for frame in CROWDED {
+        bits.extend_from_slice(frame)?;
     }
-    Ok(())
-}
-
-#[test]
-fn a_frame_that_was_never_asked_for_is_answered(rt: HostRuntime) -> Result<(), Fail> {
-    let ran = meet(rt.alloc(), "answ", b"", &SABME)?;
-    let trace = "0 answ sabme cmd p=1 > ua rsp p=1\n";
-    leaves(&rt, &ran, Status::Done, "done 1\n", b"", trace);
-    Ok(())
-}
-
-#[test]
-fn no_bits_are_no_turns(rt: HostRuntime) -> Result<(), Fail> {
-    let ran = meet(rt.alloc(), "answ", b"", b"")?;
-    leaves(&rt, &ran, Status::Done, "done 0\n", b"", "");
-    Ok(())
+    Ok(bits)
 }
 
 /// Two frames in one slot: the first one is heard. A frame that ends in the next slot is heard there.
 #[test]
 fn a_slot_is_heard_up_to_its_first_frame(rt: HostRuntime) -> Result<(), Fail> {
-    let alloc = rt.alloc();
-    let mut bits = slots(alloc, &[b""])?;
-    bits.truncate(SLOT - 3);
-    bits.extend_from_slice(&FIRST)?;
-    bits.extend_from_slice(&SABME)?;
-    bits.extend_from_slice(&FIRST)?;
-    let ran = meet(alloc, "answ", b"", &bits)?;
-    let trace = "0 answ - > mark\n1 answ i s=0 r=0 p=0 n=1 > mark\n";
-    leaves(&rt, &ran, Status::Done, "done 2\n", b"", trace);
+    let ran = meet(rt.alloc(), "answ", b"", &crowded(rt.alloc())?)?;
+    says(&rt, &ran, Status::Done, "done 2\n");
+    leaves(&rt, &ran, "g", b"");
+    let trace = b"0 answ - > mark\n1 answ i s=0 r=0 p=0 n=1 > mark\n";
+    leaves(&rt, &ran, "t", trace);
     Ok(())
 }
 
-/// So many slots, of which the first one begins with these octets.
-fn slots_of(alloc: Global, count: usize, first: &[u8]) -> Result<Vec<u8>, Fail> {
-    let mut octets = slots(alloc, &[first])?;
+/// A run of an originator against so many slots, of which the first one begins with these octets.
+fn meet_slots(alloc: Global, count: usize, first: &[u8]) -> Result<Ran, Fail> {
+    let mut bits = slots(alloc, &[first])?;
     for _ in 0..count.wrapping_sub(1).wrapping_mul(SLOT) {
-        octets.push(0xff)?;
+        bits.push(0xff)?;
     }
-    Ok(octets)
+    meet(alloc, "orig", b"a", &bits)
 }
 
+/// So many slots, what the first one begins with, the answer, what is said, and what the trace ends with: it has a line for each slot.
+const UNANSWERED: &[(usize, &[u8], Status, &str, &str)] = &[
+    (
+        121,
+        b"",
+        Status::NotDetected { turn: 120 },
+        "not detected: turn 120\n",
+        "119 orig - > odp\n120 orig - > none\n",
+    ),
+    (120, b"", Status::Done, "done 120\n", "119 orig - > odp\n"),
+    (
+        121,
+        &ADP,
+        Status::LinkLost {
+            role: Role::Originator,
+            segment: 0,
+            turn: 120,
+        },
+        "link lost: orig segment 0 turn 120\n",
+        "119 orig - > flags\n120 orig - > none\n",
+    ),
+];
+
+/// It is never answered, or by the pattern alone.
 #[test]
-fn an_originator_that_is_never_answered_gives_up(rt: HostRuntime) -> Result<(), Fail> {
-    let bits = slots_of(rt.alloc(), 121, b"")?;
-    let ran = meet(rt.alloc(), "orig", b"a", &bits)?;
-    let undetected = Status::NotDetected { turn: 120 };
-    says(&rt, &ran, undetected, "not detected: turn 120\n");
-    ends_with(&rt, &ran, 121, "119 orig - > odp\n120 orig - > none\n");
-    let bits = slots_of(rt.alloc(), 120, b"")?;
-    let shorter = meet(rt.alloc(), "orig", b"a", &bits)?;
-    says(&rt, &shorter, Status::Done, "done 120\n");
+fn an_originator_that_is_not_answered_gives_up(rt: HostRuntime) -> Result<(), Fail> {
+    for (count, first, status, said, last) in UNANSWERED {
+        let ran = meet_slots(rt.alloc(), *count, first)?;
+        says(&rt, &ran, *status, said);
+        ends_with(&rt, &ran, *count, last);
+    }
     Ok(())
 }
 
-#[test]
-fn an_originator_that_is_answered_by_its_pattern_alone_gives_up(
-    rt: HostRuntime,
+/// Looks at which input of the answerer's run is too long.
+fn refuses(
+    rt: &impl Abort,
+    alloc: Global,
+    file: &[u8],
+    bits: &[u8],
+    word: usize,
+    said: &str,
 ) -> Result<(), Fail> {
-    let bits = slots_of(rt.alloc(), 121, &ADP)?;
-    let ran = meet(rt.alloc(), "orig", b"a", &bits)?;
-    let lost = Status::LinkLost {
-        role: Role::Originator,
-        segment: 0,
-        turn: 120,
-    };
-    says(&rt, &ran, lost, "link lost: orig segment 0 turn 120\n");
-    ends_with(&rt, &ran, 121, "119 orig - > flags\n120 orig - > none\n");
+    let ran = meet(alloc, "answ", file, bits)?;
+    says(rt, &ran, Status::TooLong { word }, said);
+    leaves_none(rt, &ran, "g");
     Ok(())
 }
 
 /// Octets past their limit, in both inputs: the bits are named first, by the words as they were given.
 #[test]
 fn inputs_that_are_too_long_are_refused(rt: HostRuntime) -> Result<(), Fail> {
-    let alloc = rt.alloc();
-    let long = vec![in alloc; 0xffu8; 1_048_577]?;
-    let ran = meet(alloc, "answ", &long, &long)?;
-    says(&rt, &ran, Status::TooLong { word: 3 }, "too long: b\n");
-    let ran = meet(alloc, "answ", &long, &SABME)?;
-    says(&rt, &ran, Status::TooLong { word: 2 }, "too long: f\n");
-    leaves_none(&rt, &ran, "g");
-    Ok(())
+    let long = vec![in rt.alloc(); 0xffu8; 1_048_577]?;
+    refuses(&rt, rt.alloc(), &long, &long, 3, "too long: b\n")?;
+    refuses(&rt, rt.alloc(), &long, &SABME, 2, "too long: f\n")
 }
 
 #[test]
 fn other_words_are_no_peers(rt: HostRuntime) -> Result<(), Fail> {
-    let alloc = rt.alloc();
-    let ran = meet(alloc, "call", b"", &SABME)?;
+    let ran = meet(rt.alloc(), "call", b"", &SABME)?;
     assert!(&rt; ran.status == Status::Usage);
     leaves_none(&rt, &ran, "t");
     Ok(())

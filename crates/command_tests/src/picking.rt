@@ -1,5 +1,5 @@
 // Recordings that begin anywhere, picked up from a folder in memory.
-use super::asking::{Ran, folder_with};
+use super::asking::{Ran, folder_with, says};
 use bit_stuffing::{BitSlot, SlotWriter};
 use command_base::Status;
 use line_coding::Modulator;
@@ -45,17 +45,13 @@ fn frame() -> BitSlot {
     slot
 }
 
-/// What is sent in this mode in a slot of flags and then in one with the frame, without the first five samples.
+/// What is sent in this mode in a slot of flags and then in one with the frame.
 fn samples(alloc: Global, mode: Mode) -> Result<Vec<Sample>, Fail> {
     let mut modulator = Modulator::new(mode);
     let mut sent = Vec::new(alloc);
     put(&flags(), &mut modulator, &mut sent)?;
     put(&frame(), &mut modulator, &mut sent)?;
-    let mut samples = Vec::new(alloc);
-    for sample in sent.iter().skip(5) {
-        samples.push(*sample)?;
-    }
-    Ok(samples)
+    Ok(sent)
 }
 
 /// A quarter turn of a point.
@@ -73,18 +69,13 @@ fn record(recording: &mut Vec<u8>, sample: &Sample) -> Result<(), Fail> {
     Ok(())
 }
 
-/// A recording of these samples behind a header.
+/// A recording behind a header of these samples without the first five.
 fn recording(alloc: Global, header: &[u8], samples: &[Sample]) -> Result<Vec<u8>, Fail> {
     let mut recording = Vec::from_slice(alloc, header)?;
-    for sample in samples {
+    for sample in samples.iter().skip(5) {
         record(&mut recording, sample)?;
     }
     Ok(recording)
-}
-
-/// The call recording that has the frame.
-fn call_recording(alloc: Global) -> Result<Vec<u8>, Fail> {
-    recording(alloc, &HEADER, &samples(alloc, Mode::Call)?)
 }
 
 /// Puts so many samples at the origin behind a recording.
@@ -95,116 +86,190 @@ fn record_zeros(recording: &mut Vec<u8>, count: u32) -> Result<(), Fail> {
     Ok(())
 }
 
-/// Picks the recording up, where the folder fails at these calls.
-fn picked_up(alloc: Global, rec: &[u8], fails: &[u64]) -> Result<Ran, Fail> {
-    let mut folder = folder_with(alloc, &[("r", rec)], fails)?;
+/// A recording that is picked up.
+enum Picked {
+    /// These octets.
+    Octets(&'static [u8]),
+    /// The call recording that has the frame, each sample turned by a quarter.
+    Turned,
+    /// The answer recording that has the frame.
+    Answer,
+    /// The call recording that has the frame, without its last octet.
+    Cut,
+    /// The header of an answer recording, and so many samples at the origin.
+    Zeros(u32),
+    /// The call recording that has the frame, and so many samples at the origin.
+    FrameAndZeros(u32),
+}
+
+/// The call recording that has the frame, each sample turned by a quarter.
+fn turned_recording(alloc: Global) -> Result<Vec<u8>, Fail> {
+    let mut quarter = Vec::from_slice(alloc, &HEADER)?;
+    for sample in samples(alloc, Mode::Call)?.iter().skip(5) {
+        record(&mut quarter, &turned(sample))?;
+    }
+    Ok(quarter)
+}
+
+/// The call recording that has the frame, without its last octet.
+fn cut_recording(alloc: Global) -> Result<Vec<u8>, Fail> {
+    let mut recording = frame_and_zeros(alloc, 0)?;
+    recording.pop();
+    Ok(recording)
+}
+
+/// The header of an answer recording, and so many samples at the origin.
+fn zeros(alloc: Global, count: u32) -> Result<Vec<u8>, Fail> {
+    let mut recording = Vec::from_slice(alloc, &ANSWER)?;
+    record_zeros(&mut recording, count)?;
+    Ok(recording)
+}
+
+/// The call recording that has the frame, and so many samples at the origin.
+fn frame_and_zeros(alloc: Global, count: u32) -> Result<Vec<u8>, Fail> {
+    let mut recording = recording(alloc, &HEADER, &samples(alloc, Mode::Call)?)?;
+    record_zeros(&mut recording, count)?;
+    Ok(recording)
+}
+
+/// The octets of a recording.
+fn octets_of(alloc: Global, rec: &Picked) -> Result<Vec<u8>, Fail> {
+    match rec {
+        Picked::Octets(octets) => Ok(Vec::from_slice(alloc, octets)?),
+        Picked::Turned => turned_recording(alloc),
+        Picked::Answer => recording(alloc, &ANSWER, &samples(alloc, Mode::Answer)?),
+        Picked::Cut => cut_recording(alloc),
+        Picked::Zeros(count) => zeros(alloc, *count),
+        Picked::FrameAndZeros(count) => frame_and_zeros(alloc, *count),
+    }
+}
+
+/// Picks the recording up, where the folder fails at that call.
+fn picked_up(alloc: Global, rec: &[u8], fails: u64) -> Result<Ran, Fail> {
+    let mut folder = folder_with(alloc, &[("r", rec)], &[fails])?;
     let status = pickup(alloc, &mut folder, &[], "r");
     Ok(Ran { status, folder })
 }
 
-/// Picks the recording up, where the folder fails at that call, and looks at the answer and at what was said.
-fn says(
+/// A recording, the call that fails, the answer, and what is said.
+type Pickup = (Picked, u64, Status, &'static str);
+
+const PICKUPS: &[Pickup] = &[
+    // A frame is found behind a cut beginning.
+    (
+        Picked::FrameAndZeros(0),
+        0,
+        Status::Done,
+        "frame sabme cmd p=1\npieces 1\n",
+    ),
+    (Picked::Octets(&HEADER), 0, Status::Done, "pieces 0\n"),
+    // A frame is found behind a quarter turn.
+    (
+        Picked::Turned,
+        0,
+        Status::Done,
+        "frame sabme cmd p=1\npieces 1\n",
+    ),
+    // An answer recording is read as the answerer sent it.
+    (
+        Picked::Answer,
+        0,
+        Status::Done,
+        "refused control 7f\npieces 1\n",
+    ),
+    // Recordings are refused at their place.
+    (
+        Picked::Octets(b"V32R\x02\0\0\0"),
+        0,
+        Status::BadRecording { at: 4 },
+        "bad recording: at 4\n",
+    ),
+    (
+        Picked::Octets(b"V32R\0\0\0"),
+        0,
+        Status::BadRecording { at: 7 },
+        "bad recording: at 7\n",
+    ),
+    (
+        Picked::Cut,
+        0,
+        Status::BadRecording { at: 3696 },
+        "frame sabme cmd p=1\nbad recording: at 3696\n",
+    ),
+    // Of samples at the origin all sequences are as near, whatever state they begin in: none is released, so the line is lost with the 129th.
+    (Picked::Zeros(128), 0, Status::Done, "pieces 0\n"),
+    (
+        Picked::Zeros(129),
+        0,
+        Status::LineLost {
+            role: Role::Originator,
+            symbol: 128,
+        },
+        "line lost: orig symbol 128\n",
+    ),
+    (
+        Picked::FrameAndZeros(129),
+        0,
+        Status::LineLost {
+            role: Role::Answerer,
+            symbol: 1051,
+        },
+        "frame sabme cmd p=1\nline lost: answ symbol 1051\n",
+    ),
+    // An octet at the limit, the header and the samples are read, a line is said, the end is read and the last line is said: each call that
+    // fails is named by its kind.
+    (
+        Picked::FrameAndZeros(0),
+        1,
+        Status::ReadFault,
+        "read fault\n",
+    ),
+    (
+        Picked::FrameAndZeros(0),
+        2,
+        Status::ReadFault,
+        "read fault\n",
+    ),
+    (
+        Picked::FrameAndZeros(0),
+        3,
+        Status::ReadFault,
+        "read fault\n",
+    ),
+    (Picked::FrameAndZeros(0), 4, Status::WriteFault, ""),
+    (
+        Picked::FrameAndZeros(0),
+        5,
+        Status::ReadFault,
+        "frame sabme cmd p=1\nread fault\n",
+    ),
+    (
+        Picked::FrameAndZeros(0),
+        6,
+        Status::WriteFault,
+        "frame sabme cmd p=1\n",
+    ),
+];
+
+/// Picks a recording up, and looks at the answer and at what was said.
+fn compare(
     rt: &impl Abort,
     alloc: Global,
-    rec: &[u8],
+    rec: &Picked,
     fails: u64,
     status: Status,
     said: &str,
 ) -> Result<(), Fail> {
-    let ran = picked_up(alloc, rec, &[fails])?;
-    super::asking::says(rt, &ran, status, said);
+    let octets = octets_of(alloc, rec)?;
+    let ran = picked_up(alloc, &octets, fails)?;
+    says(rt, &ran, status, said);
     Ok(())
 }
 
 #[test]
-fn a_frame_is_found_behind_a_cut_beginning(rt: HostRuntime) -> Result<(), Fail> {
-    let alloc = rt.alloc();
-    let said = "frame sabme cmd p=1\npieces 1\n";
-    says(&rt, alloc, &call_recording(alloc)?, 0, Status::Done, said)?;
-    says(&rt, alloc, &HEADER, 0, Status::Done, "pieces 0\n")
-}
-
-#[test]
-fn a_frame_is_found_behind_a_quarter_turn(rt: HostRuntime) -> Result<(), Fail> {
-    let alloc = rt.alloc();
-    let mut quarter = Vec::from_slice(alloc, &HEADER)?;
-    for sample in &samples(alloc, Mode::Call)? {
-        record(&mut quarter, &turned(sample))?;
-    }
-    let said = "frame sabme cmd p=1\npieces 1\n";
-    says(&rt, alloc, &quarter, 0, Status::Done, said)
-}
-
-#[test]
-fn an_answer_recording_is_read_as_the_answerer_sent_it(rt: HostRuntime) -> Result<(), Fail> {
-    let alloc = rt.alloc();
-    let recording = recording(alloc, &ANSWER, &samples(alloc, Mode::Answer)?)?;
-    let said = "refused control 7f\npieces 1\n";
-    says(&rt, alloc, &recording, 0, Status::Done, said)
-}
-
-#[test]
-fn recordings_are_refused_at_their_place(rt: HostRuntime) -> Result<(), Fail> {
-    let alloc = rt.alloc();
-    let other = Status::BadRecording { at: 4 };
-    says(
-        &rt,
-        alloc,
-        b"V32R\x02\0\0\0",
-        0,
-        other,
-        "bad recording: at 4\n",
-    )?;
-    let short = Status::BadRecording { at: 7 };
-    says(&rt, alloc, &HEADER[..7], 0, short, "bad recording: at 7\n")?;
-    let mut recording = call_recording(alloc)?;
-    recording.pop();
-    let cut = Status::BadRecording { at: 3696 };
-    let said = "frame sabme cmd p=1\nbad recording: at 3696\n";
-    says(&rt, alloc, &recording, 0, cut, said)
-}
-
-/// Of samples at the origin all sequences are as near, whatever state they begin in: none is released, so the line is lost with the 129th.
-#[test]
-fn samples_that_say_nothing_lose_the_line(rt: HostRuntime) -> Result<(), Fail> {
-    let alloc = rt.alloc();
-    let mut zeros = Vec::from_slice(alloc, &ANSWER)?;
-    record_zeros(&mut zeros, 128)?;
-    says(&rt, alloc, &zeros, 0, Status::Done, "pieces 0\n")?;
-    record_zeros(&mut zeros, 1)?;
-    let lost = Status::LineLost {
-        role: Role::Originator,
-        symbol: 128,
-    };
-    says(&rt, alloc, &zeros, 0, lost, "line lost: orig symbol 128\n")
-}
-
-#[test]
-fn samples_that_say_nothing_lose_the_line_behind_a_frame(rt: HostRuntime) -> Result<(), Fail> {
-    let alloc = rt.alloc();
-    let mut behind = call_recording(alloc)?;
-    record_zeros(&mut behind, 129)?;
-    let later = Status::LineLost {
-        role: Role::Answerer,
-        symbol: 1051,
-    };
-    let said = "frame sabme cmd p=1\nline lost: answ symbol 1051\n";
-    says(&rt, alloc, &behind, 0, later, said)
-}
-
-/// An octet at the limit, the header and the samples are read, a line is said, the end is read and the last line is said.
-#[test]
-fn each_call_that_fails_is_named_by_its_kind(rt: HostRuntime) -> Result<(), Fail> {
-    let alloc = rt.alloc();
-    let recording = call_recording(alloc)?;
-    for call in 1..=6u64 {
-        let (status, said) = match call {
-            1..=3 => (Status::ReadFault, "read fault\n"),
-            4 => (Status::WriteFault, ""),
-            5 => (Status::ReadFault, "frame sabme cmd p=1\nread fault\n"),
-            _ => (Status::WriteFault, "frame sabme cmd p=1\n"),
-        };
-        says(&rt, alloc, &recording, call, status, said)?;
+fn recordings_are_picked_up(rt: HostRuntime) -> Result<(), Fail> {
+    for (rec, fails, status, said) in PICKUPS {
+        compare(&rt, rt.alloc(), rec, *fails, *status, said)?;
     }
     Ok(())
 }

@@ -6,6 +6,7 @@ use std::alloc::Global;
 use std::process::Abort;
 use std::test::Fail;
 
+mod crossing;
 mod failing;
 mod files;
 mod hits;
@@ -28,7 +29,7 @@ fn run_failing(
 }
 
 /// A run of two files and a script.
-fn run(alloc: Global, orig: &[u8], answ: &[u8], script: &[u8]) -> Result<Ran, Fail> {
+pub(super) fn run(alloc: Global, orig: &[u8], answ: &[u8], script: &[u8]) -> Result<Ran, Fail> {
     run_failing(alloc, orig, answ, script, &[])
 }
 
@@ -65,14 +66,6 @@ fn crosses(
 /// Whether an end received so many octets, the first ones of the other end's file.
 fn has_front(ran: &Ran, name: &str, file: &[u8], count: usize) -> bool {
     ran.folder.get(name) == file.get(..count)
-}
-
-/// How many lines the trace has.
-fn count_lines(ran: &Ran) -> usize {
-    ran.left("t")
-        .iter()
-        .filter(|octet| **octet == b'\n')
-        .count()
 }
 
 /// Whether a line stands in the trace.

@@ -39,7 +39,7 @@ fn says(
 }
 
 /// Answers, the program's statuses, and their lines.
-const LINES: [(Status, u8, &str); 10] = [
+const LINES: &[(Status, u8, &str)] = &[
     (
         Status::BadScript {
             line: 3,
@@ -90,7 +90,7 @@ const LINES: [(Status, u8, &str); 10] = [
 ];
 
 /// Faults of the peer in turn 7, and their lines.
-const PEER_FAULTS: [(LinkFault, &str); 3] = [
+const PEER_FAULTS: &[(LinkFault, &str)] = &[
     (
         LinkFault::BadAck {
             nr: 5,
@@ -109,10 +109,13 @@ const PEER_FAULTS: [(LinkFault, &str); 3] = [
 #[test]
 fn each_status_says_its_line(rt: HostRuntime) -> Result<(), Fail> {
     for (status, code, said) in LINES {
-        says(&rt, rt.alloc(), Stop::Own(status), status, code, said)?;
+        says(&rt, rt.alloc(), Stop::Own(*status), *status, *code, said)?;
     }
     for (fault, said) in PEER_FAULTS {
-        let status = Status::PeerFault { fault, turn: 7 };
+        let status = Status::PeerFault {
+            fault: *fault,
+            turn: 7,
+        };
         says(&rt, rt.alloc(), Stop::Own(status), status, 12, said)?;
     }
     assert!(&rt; Status::Done.code() == 0);
@@ -121,7 +124,7 @@ fn each_status_says_its_line(rt: HostRuntime) -> Result<(), Fail> {
 }
 
 /// Stops by faults of the folder, the answers, the program's statuses, and their lines.
-const STOPS: [(Stop, Status, u8, &str); 7] = [
+const STOPS: &[(Stop, Status, u8, &str)] = &[
     (
         Stop::Read(FolderFault::Failed),
         Status::ReadFault,
@@ -154,18 +157,27 @@ const STOPS: [(Stop, Status, u8, &str); 7] = [
 #[test]
 fn each_fault_of_the_folder_says_its_line(rt: HostRuntime) -> Result<(), Fail> {
     for (stop, status, code, said) in STOPS {
-        says(&rt, rt.alloc(), stop, status, code, said)?;
+        says(&rt, rt.alloc(), *stop, *status, *code, said)?;
     }
     Ok(())
 }
 
+/// Looks at a line.
+fn is_line(rt: &impl Abort, line: &[u8], expected: &[u8]) {
+    assert!(rt; line == expected);
+}
+
 #[test]
 fn done_lines_have_their_numbers(rt: HostRuntime) {
-    assert!(&rt; write_done(12).as_slice() == b"done 12\n".as_slice());
-    assert!(&rt; write_samples(0).as_slice() == b"samples 0\n".as_slice());
-    assert!(&rt; write_octets(64).as_slice() == b"octets 64\n".as_slice());
-    assert!(&rt; write_pieces(1).as_slice() == b"pieces 1\n".as_slice());
-    assert!(&rt; write_usage(&["run", "xid"]).as_slice() == b"usage: modem run, xid\n".as_slice());
+    is_line(&rt, write_done(12).as_slice(), b"done 12\n");
+    is_line(&rt, write_samples(0).as_slice(), b"samples 0\n");
+    is_line(&rt, write_octets(64).as_slice(), b"octets 64\n");
+    is_line(&rt, write_pieces(1).as_slice(), b"pieces 1\n");
+    is_line(
+        &rt,
+        write_usage(&["run", "xid"]).as_slice(),
+        b"usage: modem run, xid\n",
+    );
 }
 
 #[test]
@@ -176,65 +188,60 @@ fn a_fault_in_the_middle_of_a_line_is_the_answer(rt: HostRuntime) -> Result<(), 
     Ok(())
 }
 
-/// A folder with a file of five octets.
-fn five(alloc: Global) -> Result<MemoryFolder, Fail> {
-    folder_with(alloc, &[("f", b"abcde")], &[])
-}
-
-#[test]
-fn inputs_end_at_their_limit(rt: HostRuntime) -> Result<(), Fail> {
-    let mut folder = five(rt.alloc())?;
-    assert!(&rt; within_limit(&mut folder, "f", 5, 1) == Ok(()));
+fn inputs_end_at_their_limit(rt: &impl Abort, folder: &mut MemoryFolder) {
+    assert!(rt; within_limit(folder, "f", 5, 1) == Ok(()));
     let long = Stop::Own(Status::TooLong { word: 1 });
-    assert!(&rt; within_limit(&mut folder, "f", 4, 1) == Err(long));
-    Ok(())
+    assert!(rt; within_limit(folder, "f", 4, 1) == Err(long));
 }
 
-#[test]
-fn pieces_are_read_at_their_place(rt: HostRuntime) -> Result<(), Fail> {
-    let mut folder = five(rt.alloc())?;
+fn pieces_are_read_at_their_place(rt: &impl Abort, folder: &mut MemoryFolder) {
     let mut piece = [0u8; 3];
-    assert!(&rt; read_piece(&mut folder, "f", 4, 2, &mut piece) == Ok(2));
-    assert!(&rt; piece == [b'c', b'd', 0]);
-    assert!(&rt; read_piece(&mut folder, "g", 4, 2, &mut piece) == Err(FolderFault::Failed));
-    Ok(())
+    assert!(rt; read_piece(folder, "f", 4, 2, &mut piece) == Ok(2));
+    assert!(rt; piece == [b'c', b'd', 0]);
+    assert!(rt; read_piece(folder, "g", 4, 2, &mut piece) == Err(FolderFault::Failed));
 }
 
-#[test]
-fn files_are_read_to_their_limit(rt: HostRuntime) -> Result<(), Fail> {
-    let mut folder = five(rt.alloc())?;
-    match read_file(rt.alloc(), &mut folder, "f", 4) {
-        Ok(file) => assert!(&rt; file.as_slice() == b"abcd".as_slice()),
-        Err(_) => assert!(&rt; false),
+fn files_are_read_to_their_limit(rt: &impl Abort, alloc: Global, folder: &mut MemoryFolder) {
+    match read_file(alloc, folder, "f", 4) {
+        Ok(file) => assert!(rt; file.as_slice() == b"abcd".as_slice()),
+        Err(_) => assert!(rt; false),
     }
-    Ok(())
+}
+
+fn outputs_are_made_empty_and_grow(rt: &impl Abort, folder: &mut MemoryFolder) {
+    assert!(rt; create_output(folder, "f") == Ok(()));
+    assert!(rt; append_output(folder, "f", b"xy") == Ok(()));
+    assert!(rt; folder.get("f") == Some(b"xy".as_slice()));
+}
+
+fn a_line_is_said(rt: &impl Abort, folder: &mut MemoryFolder) {
+    assert!(rt; say_line(folder, b"xy") == Ok(()));
+    assert!(rt; folder.said() == b"xy".as_slice());
 }
 
 #[test]
-fn outputs_are_made_empty_and_grow(rt: HostRuntime) -> Result<(), Fail> {
-    let mut folder = five(rt.alloc())?;
-    assert!(&rt; create_output(&mut folder, "f") == Ok(()));
-    assert!(&rt; append_output(&mut folder, "f", b"xy") == Ok(()));
-    assert!(&rt; folder.get("f") == Some(b"xy".as_slice()));
+fn a_file_of_five_octets_is_read_and_written(rt: HostRuntime) -> Result<(), Fail> {
+    let mut folder = folder_with(rt.alloc(), &[("f", b"abcde")], &[])?;
+    inputs_end_at_their_limit(&rt, &mut folder);
+    pieces_are_read_at_their_place(&rt, &mut folder);
+    files_are_read_to_their_limit(&rt, rt.alloc(), &mut folder);
+    outputs_are_made_empty_and_grow(&rt, &mut folder);
+    a_line_is_said(&rt, &mut folder);
     Ok(())
 }
 
-#[test]
-fn a_line_is_said(rt: HostRuntime) -> Result<(), Fail> {
-    let mut folder = five(rt.alloc())?;
-    assert!(&rt; say_line(&mut folder, b"xy") == Ok(()));
-    assert!(&rt; folder.said() == b"xy".as_slice());
-    Ok(())
+fn outputs_are_made(rt: &impl Abort, folder: &mut MemoryFolder) {
+    let made = create_outputs(folder, &["a", "b", "c"]);
+    assert!(rt; made == Err(FolderFault::Failed));
+    assert!(rt; folder.get("a") == Some(b"".as_slice()));
+    assert!(rt; folder.get("b").is_none());
+    assert!(rt; folder.get("c").is_none());
 }
 
 #[test]
 fn outputs_are_made_up_to_the_first_that_fails(rt: HostRuntime) -> Result<(), Fail> {
     let mut folder = folder_with(rt.alloc(), &[], &[2])?;
-    let made = create_outputs(&mut folder, &["a", "b", "c"]);
-    assert!(&rt; made == Err(FolderFault::Failed));
-    assert!(&rt; folder.get("a") == Some(b"".as_slice()));
-    assert!(&rt; folder.get("b").is_none());
-    assert!(&rt; folder.get("c").is_none());
+    outputs_are_made(&rt, &mut folder);
     Ok(())
 }
 
@@ -257,62 +264,63 @@ fn shows<T: Display + Debug>(
     Ok(())
 }
 
-#[test]
-fn faults_of_folders_have_their_texts(rt: HostRuntime) -> Result<(), Fail> {
-    let alloc = rt.alloc();
-    let failed = "the folder failed";
-    shows(&rt, alloc, &FolderFault::Failed, failed, "Failed")?;
-    let memory = "the folder found no memory";
-    shows(&rt, alloc, &FolderFault::NoMemory, memory, "NoMemory")?;
-    shows(&rt, alloc, &NoMemory, "no memory", "NoMemory")?;
-    Ok(())
-}
+/// Faults of fields and their texts.
+const FIELD_FAULTS: &[(XidFault, &str, &str)] = &[
+    (XidFault::Format, "format", "Format"),
+    (XidFault::Group { at: 3 }, "group at 3", "Group { at: 3 }"),
+    (
+        XidFault::Length { at: 4 },
+        "length at 4",
+        "Length { at: 4 }",
+    ),
+    (XidFault::Value { at: 5 }, "value at 5", "Value { at: 5 }"),
+    (
+        XidFault::Repeated { at: 16 },
+        "repeated at 16",
+        "Repeated { at: 16 }",
+    ),
+];
+
+/// Faults of frames and their texts.
+const FRAME_FAULTS: &[(FrameFault, &str, &str)] = &[
+    (
+        FrameFault::Address { octet: 0x0a },
+        "address 0a",
+        "Address { octet: 10 }",
+    ),
+    (
+        FrameFault::Control { octet: 0x7f },
+        "control 7f",
+        "Control { octet: 127 }",
+    ),
+    (FrameFault::Short, "short", "Short"),
+    (
+        FrameFault::Long { len: 131 },
+        "long 131",
+        "Long { len: 131 }",
+    ),
+];
+
+/// Faults of folders and their texts.
+const FOLDER_FAULTS: &[(FolderFault, &str, &str)] = &[
+    (FolderFault::Failed, "the folder failed", "Failed"),
+    (
+        FolderFault::NoMemory,
+        "the folder found no memory",
+        "NoMemory",
+    ),
+];
 
 #[test]
-fn faults_of_fields_have_their_texts(rt: HostRuntime) -> Result<(), Fail> {
-    let faults = [
-        (XidFault::Format, "format", "Format"),
-        (XidFault::Group { at: 3 }, "group at 3", "Group { at: 3 }"),
-        (
-            XidFault::Length { at: 4 },
-            "length at 4",
-            "Length { at: 4 }",
-        ),
-        (XidFault::Value { at: 5 }, "value at 5", "Value { at: 5 }"),
-        (
-            XidFault::Repeated { at: 16 },
-            "repeated at 16",
-            "Repeated { at: 16 }",
-        ),
-    ];
-    for (fault, display, debug) in faults {
-        shows(&rt, rt.alloc(), &fault, display, debug)?;
+fn faults_have_their_texts(rt: HostRuntime) -> Result<(), Fail> {
+    for (fault, display, debug) in FIELD_FAULTS {
+        shows(&rt, rt.alloc(), fault, display, debug)?;
     }
-    Ok(())
-}
-
-#[test]
-fn faults_of_frames_have_their_texts(rt: HostRuntime) -> Result<(), Fail> {
-    let faults = [
-        (
-            FrameFault::Address { octet: 0x0a },
-            "address 0a",
-            "Address { octet: 10 }",
-        ),
-        (
-            FrameFault::Control { octet: 0x7f },
-            "control 7f",
-            "Control { octet: 127 }",
-        ),
-        (FrameFault::Short, "short", "Short"),
-        (
-            FrameFault::Long { len: 131 },
-            "long 131",
-            "Long { len: 131 }",
-        ),
-    ];
-    for (fault, display, debug) in faults {
-        shows(&rt, rt.alloc(), &fault, display, debug)?;
+    for (fault, display, debug) in FRAME_FAULTS {
+        shows(&rt, rt.alloc(), fault, display, debug)?;
     }
-    Ok(())
+    for (fault, display, debug) in FOLDER_FAULTS {
+        shows(&rt, rt.alloc(), fault, display, debug)?;
+    }
+    shows(&rt, rt.alloc(), &NoMemory, "no memory", "NoMemory")
 }

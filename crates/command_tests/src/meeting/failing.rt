@@ -1,8 +1,29 @@
 // Runs against a peer over a folder that fails at a call.
 use super::*;
 
-/// Each call of a run of the answerer fails in turn: the answer is a fault of the folder, and what was given and written begins what the
-/// whole run gives.
+/// Looks whether what a run left of a file begins what the whole run leaves of it.
+fn begins(rt: &impl Abort, ran: &Ran, whole: &Ran, name: &str) {
+    assert!(rt; whole.left(name).starts_with(ran.left(name)));
+}
+
+/// Looks whether a run of the answerer that fails at this call ends with a fault of the folder, and gives and writes what begins that of the
+/// whole run.
+fn fails_at(
+    rt: &impl Abort,
+    alloc: Global,
+    file: &[u8],
+    bits: &[u8],
+    number: u64,
+    whole: &Ran,
+) -> Result<(), Fail> {
+    let ran = meet_failing(alloc, "answ", file, bits, &[number])?;
+    assert!(rt; ran.blames_the_folder(), "{number}");
+    begins(rt, &ran, whole, "g");
+    begins(rt, &ran, whole, "t");
+    Ok(())
+}
+
+/// Each call of a run of the answerer fails in turn.
 fn fails_at_each_call(
     rt: &impl Abort,
     alloc: Global,
@@ -13,10 +34,7 @@ fn fails_at_each_call(
     let whole = meet(alloc, "answ", file, bits)?;
     assert!(rt; whole.status == status);
     for number in 1..=whole.calls() {
-        let ran = meet_failing(alloc, "answ", file, bits, &[number])?;
-        assert!(rt; ran.blames_the_folder(), "{number}");
-        assert!(rt; whole.left("g").starts_with(ran.left("g")), "{number}");
-        assert!(rt; whole.left("t").starts_with(ran.left("t")), "{number}");
+        fails_at(rt, alloc, file, bits, number, &whole)?;
     }
     Ok(())
 }

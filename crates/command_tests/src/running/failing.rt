@@ -6,16 +6,26 @@ fn are_prefixes(ran: &Ran, orig: &[u8], answ: &[u8]) -> bool {
     orig.starts_with(ran.left("ga")) && answ.starts_with(ran.left("go"))
 }
 
+/// How many calls a whole run makes.
+fn calls_of(alloc: Global, orig: &[u8], answ: &[u8]) -> Result<u64, Fail> {
+    let whole = run(alloc, orig, answ, b"")?;
+    Ok(whole.calls())
+}
+
+/// Looks whether a run of the two small files ends with a fault of the folder.
+fn is_failed(rt: &impl Abort, ran: &Ran, calls: u64) {
+    assert!(rt; ran.blames_the_folder());
+    assert!(rt; are_prefixes(ran, b"a", b"b"));
+    assert!(rt; ran.calls() <= calls);
+}
+
 /// Each call of the run of two small files fails in turn: the answer is a fault of the folder, and what was received begins the files.
 #[test]
 fn each_call_that_fails_is_the_answer(rt: HostRuntime) -> Result<(), Fail> {
-    let alloc = rt.alloc();
-    let whole = run(alloc, b"a", b"b", b"")?;
-    for number in 1..=whole.calls() {
-        let ran = run_failing(alloc, b"a", b"b", b"", &[number])?;
-        assert!(&rt; ran.blames_the_folder(), "{number}");
-        assert!(&rt; are_prefixes(&ran, b"a", b"b"), "{number}");
-        assert!(&rt; ran.calls() <= whole.calls(), "{number}");
+    let calls = calls_of(rt.alloc(), b"a", b"b")?;
+    for number in 1..=calls {
+        let ran = run_failing(rt.alloc(), b"a", b"b", b"", &[number])?;
+        is_failed(&rt, &ran, calls);
     }
     Ok(())
 }
@@ -27,19 +37,30 @@ fn lacks_the_third(ran: &Ran, file: &[u8]) -> bool {
         && has_front(ran, "ga", file, 256)
 }
 
+/// Looks at what is received of two equal files where this call fails, and whether it is the third append to the answerer.
+fn fails_at_the_third(
+    rt: &impl Abort,
+    alloc: Global,
+    file: &[u8],
+    number: u64,
+) -> Result<bool, Fail> {
+    let ran = run_failing(alloc, file, file, b"", &[number])?;
+    assert!(rt; are_prefixes(&ran, file, file), "{number}");
+    let is_third = lacks_the_third(&ran, file);
+    if is_third {
+        says(rt, &ran, Status::WriteFault, "write fault\n");
+        assert!(rt; ran.count_lines("t") == 22);
+        assert!(rt; has_line(&ran, "10 answ i s=1 r=1 p=0 n=128 > i s=2 r=2 p=0 n=128"));
+    }
+    Ok(is_third)
+}
+
 /// The folder fails at one call after another, up to the one that leaves the answerer two segments: its third append.
 #[test]
 fn a_failed_append_leaves_the_turns_before(rt: HostRuntime) -> Result<(), Fail> {
-    let alloc = rt.alloc();
-    let file = octets(alloc, 512)?;
-    let whole = run(alloc, &file, &file, b"")?;
-    for number in 1..=whole.calls() {
-        let ran = run_failing(alloc, &file, &file, b"", &[number])?;
-        assert!(&rt; are_prefixes(&ran, &file, &file), "{number}");
-        if lacks_the_third(&ran, &file) {
-            says(&rt, &ran, Status::WriteFault, "write fault\n");
-            assert!(&rt; count_lines(&ran) == 22);
-            assert!(&rt; has_line(&ran, "10 answ i s=1 r=1 p=0 n=128 > i s=2 r=2 p=0 n=128"));
+    let file = octets(rt.alloc(), 512)?;
+    for number in 1..=calls_of(rt.alloc(), &file, &file)? {
+        if fails_at_the_third(&rt, rt.alloc(), &file, number)? {
             return Ok(());
         }
     }
@@ -51,19 +72,25 @@ fn is_read_in_a_turn(ran: &Ran) -> bool {
     ran.status == Status::ReadFault && ran.folder.get("t").is_some()
 }
 
+/// Looks at what is received of the originator's file where this call fails and is a read in a turn.
+fn fails_at_a_read(rt: &impl Abort, alloc: Global, file: &[u8], number: u64) -> Result<bool, Fail> {
+    let ran = run_failing(alloc, file, b"", b"", &[number])?;
+    let is_read = is_read_in_a_turn(&ran);
+    if is_read {
+        says(rt, &ran, Status::ReadFault, "read fault\n");
+        assert!(rt; are_prefixes(&ran, file, b""), "{number}");
+    }
+    Ok(is_read)
+}
+
 /// Once the outputs are made a file is read segment by segment, and each of these reads fails in turn.
 #[test]
 fn a_failed_read_leaves_prefixes(rt: HostRuntime) -> Result<(), Fail> {
-    let alloc = rt.alloc();
-    let file = octets(alloc, 512)?;
-    let whole = run(alloc, &file, b"", b"")?;
+    let file = octets(rt.alloc(), 512)?;
     let mut reads = 0u32;
-    for number in 1..=whole.calls() {
-        let ran = run_failing(alloc, &file, b"", b"", &[number])?;
-        if is_read_in_a_turn(&ran) {
+    for number in 1..=calls_of(rt.alloc(), &file, b"")? {
+        if fails_at_a_read(&rt, rt.alloc(), &file, number)? {
             reads = reads.saturating_add(1);
-            says(&rt, &ran, Status::ReadFault, "read fault\n");
-            assert!(&rt; are_prefixes(&ran, &file, b""), "{number}");
         }
     }
     assert!(&rt; reads >= 3);

@@ -43,19 +43,28 @@ fn write_hit(text: &mut String, symbol: usize, from: &Sample, to: &Sample) -> Re
     Ok(())
 }
 
+/// A script that moves the first symbols of the answerer to these points.
+fn hits(alloc: Global, to: &[Sample]) -> Result<String, Fail> {
+    let sent = points(alloc, Mode::Answer, &marks())?;
+    let mut script = String::new(alloc);
+    for (symbol, (from, to)) in sent.iter().zip(to).enumerate() {
+        write_hit(&mut script, symbol, from, to)?;
+    }
+    Ok(script)
+}
+
+/// A run in which the first symbols of the answerer are moved to these points.
+fn run_hit(alloc: Global, to: &[Sample]) -> Result<Ran, Fail> {
+    let script = hits(alloc, to)?;
+    run(alloc, b"a", b"b", script.as_bytes())
+}
+
+/// As many samples that say nothing as lose a line.
+const ZEROS: [Sample; 129] = [Sample { re: 0, im: 0 }; 129];
+
 #[test]
 fn samples_that_say_nothing_lose_the_line(rt: HostRuntime) -> Result<(), Fail> {
-    let alloc = rt.alloc();
-    let mut script = String::new(alloc);
-    let zero = Sample { re: 0, im: 0 };
-    for (symbol, point) in points(alloc, Mode::Answer, &marks())?
-        .iter()
-        .take(129)
-        .enumerate()
-    {
-        write_hit(&mut script, symbol, point, &zero)?;
-    }
-    let ran = run(alloc, b"a", b"b", script.as_bytes())?;
+    let ran = run_hit(rt.alloc(), &ZEROS)?;
     let lost = Status::LineLost {
         role: Role::Originator,
         symbol: 128,
@@ -68,14 +77,8 @@ fn samples_that_say_nothing_lose_the_line(rt: HostRuntime) -> Result<(), Fail> {
 
 #[test]
 fn a_pattern_that_was_not_sent_is_a_chance_match(rt: HostRuntime) -> Result<(), Fail> {
-    let alloc = rt.alloc();
-    let mut script = String::new(alloc);
-    let sent = points(alloc, Mode::Answer, &marks())?;
-    let other = points(alloc, Mode::Answer, &patterns(Seen::Adp))?;
-    for (symbol, (from, to)) in sent.iter().zip(&other).enumerate() {
-        write_hit(&mut script, symbol, from, to)?;
-    }
-    let ran = run(alloc, b"a", b"b", script.as_bytes())?;
+    let other = points(rt.alloc(), Mode::Answer, &patterns(Seen::Adp))?;
+    let ran = run_hit(rt.alloc(), &other)?;
     let chance = Status::ChanceMatch {
         role: Role::Originator,
         turn: 1,
@@ -86,28 +89,31 @@ fn a_pattern_that_was_not_sent_is_a_chance_match(rt: HostRuntime) -> Result<(), 
     Ok(())
 }
 
-#[test]
-fn noise_moves_the_first_sample(rt: HostRuntime) -> Result<(), Fail> {
-    let alloc = rt.alloc();
+/// The originator's first sample and its noise.
+fn moved(alloc: Global) -> Result<(i32, i32), Fail> {
     let script = read_script(alloc, b"noise orig 0 2 500 42")?;
     let offset = script.offset(Role::Originator, 0);
     let sent = points(alloc, Mode::Call, &patterns(Seen::Odp))?;
-    let Some(point) = sent.first() else {
-        panic!(rt; "no points");
-    };
-    assert!(rt; offset.re + i32::from(point.re) == 8387);
-    assert!(rt; offset.im + i32::from(point.im) == -2281);
+    let point = sent.first().ok_or("no points")?;
+    Ok((
+        offset.re.wrapping_add(i32::from(point.re)),
+        offset.im.wrapping_add(i32::from(point.im)),
+    ))
+}
+
+#[test]
+fn noise_moves_the_first_sample(rt: HostRuntime) -> Result<(), Fail> {
+    assert!(&rt; moved(rt.alloc())? == (8387, -2281));
     Ok(())
 }
 
 #[test]
 fn noise_changes_nothing_that_is_received(rt: HostRuntime) -> Result<(), Fail> {
-    let alloc = rt.alloc();
+    let file = octets(rt.alloc(), 1_000)?;
     let noisy = b"noise orig 0 4294967295 500 1\nnoise answ 0 4294967295 500 2\n";
-    let file = octets(alloc, 1_000)?;
-    let ran = run(alloc, &file, b"b", noisy)?;
+    let plain = run(rt.alloc(), &file, b"b", b"")?;
+    let ran = run(rt.alloc(), &file, b"b", noisy)?;
     receives(&rt, &ran, b"b", &file);
-    let plain = run(alloc, &file, b"b", b"")?;
     leaves(&rt, &ran, "t", plain.left("t"));
     Ok(())
 }

@@ -53,16 +53,17 @@ const ONE_OCTET_EACH: &str = "\
 12 answ - > none\n\
 ";
 
-#[test]
-fn empty_files_cross_in_eight_turns(rt: HostRuntime) -> Result<(), Fail> {
-    let ran = crosses(&rt, rt.alloc(), b"", b"", b"", "done 8\n")?;
-    leaves(&rt, &ran, "t", EMPTY_FILES.as_bytes());
-    Ok(())
-}
+/// Both files, what is said, and the trace.
+const TRACES: &[(&[u8], &[u8], &str, &str)] = &[
+    (b"", b"", "done 8\n", EMPTY_FILES),
+    (b"a", b"b", "done 12\n", ONE_OCTET_EACH),
+];
 
 #[test]
-fn octets_cross_both_ways(rt: HostRuntime) -> Result<(), Fail> {
-    let ran = crosses(&rt, rt.alloc(), b"a", b"b", b"", "done 12\n")?;
-    leaves(&rt, &ran, "t", ONE_OCTET_EACH.as_bytes());
+fn whole_traces_are_written(rt: HostRuntime) -> Result<(), Fail> {
+    for (orig, answ, said, trace) in TRACES {
+        let ran = crosses(&rt, rt.alloc(), orig, answ, b"", said)?;
+        leaves(&rt, &ran, "t", trace.as_bytes());
+    }
     Ok(())
 }
