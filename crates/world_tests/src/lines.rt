@@ -69,6 +69,11 @@ fn is_as_sent(heard: &Heard, sent: &Sent) -> bool {
     }
 }
 
+/// What is heard over a line that isn't lost.
+fn kept(heard: Result<Heard, Lost>) -> Result<Heard, Fail> {
+    Ok(heard.map_err(|_| "the line is lost")?)
+}
+
 /// What is heard of a line's first slot.
 fn first_slot(
     alloc: Global,
@@ -81,5 +86,5 @@ fn first_slot(
     requires { IsSendable sent.now }
 {
     let mut line = Line::new(alloc, sender, SLOT as u16)?;
-    Ok(through(&mut line, script, sent, coded, judged)?)
+    kept(through(&mut line, script, sent, coded, judged))
 }

@@ -61,7 +61,7 @@ fn ready() -> BitSlot {
 fn a_frame_that_was_not_sent_is_chance(rt: HostRuntime) -> Result<(), Fail> {
     let alloc = rt.alloc();
     let script = script_between(alloc, &flags(), &ready())?;
-    let heard = flags_heard(alloc, Role::Originator, SYMBOLS, &script, false)??;
+    let heard = kept(flags_heard(alloc, Role::Originator, SYMBOLS, &script, false)?)?;
     assert!(&rt; matches!(heard, Heard::Chance));
     Ok(())
 }
