@@ -37,7 +37,9 @@ fn are_heard(alloc: Global, script: &Script, sender: Role) -> Result<bool, Fail>
     let mut line = Line::new(alloc, sender, SLOT as u16)?;
     for turn in 0..12u32 {
         let sent = sent_in(turn);
-        let heard = kept(through(&mut line, script, &sent, Check::ThirtyTwo, Check::ThirtyTwo))?;
+        let Ok(heard) = through(&mut line, script, &sent, Check::ThirtyTwo, Check::ThirtyTwo) else {
+            return Ok(false);
+        };
         if !is_as_sent(&heard, &sent) {
             return Ok(false);
         }
