@@ -1,5 +1,6 @@
 -- What is found at a bit, as a relation and as a function.
-use Rattle.std.proofs.Common.{◌≡◌, ℕ, zero, suc, ◌+◌, ◌-◌, ◌<◌, ◌≤◌, inl, inr, Bool, true, false, if◌then◌else◌, nat_lt, List, [], ◌∷◌, ◌++◌, All, length, take, get_or, Option, Some, None, arith, refl, sym, ◌∙◌, ap, subst}
+use Rattle.std.proofs.Common.{◌≡◌, ℕ, zero, suc, ◌+◌, ◌-◌, ◌<◌, ◌≤◌, inl, inr, Bool, true, false, if◌then◌else◌, nat_lt, List, [], ◌∷◌}
+use Rattle.std.proofs.Common.{◌++◌, All, length, take, get_or, Option, Some, None, arith, refl, sym, ◌∙◌, ap, subst}
 use Rattle.std.specs.Bool.{beq}
 use Rattle.std.specs.List.{ends_with}
 use Rattle.std.specs.Option.{option_map, option_map_or}
@@ -10,9 +11,11 @@ use Rattle.bit_stuffing.specs.declared.piece.Piece.{Piece}
 use Rattle.bit_stuffing.specs.declared.piece.Piece.TheVariants.{Whole, Ragged, Aborted, TooLong, TooShort}
 use Rattle.bit_stuffing.specs.Flags.{flag, FlagEndsAt, OpenedAt, Aborts, Closes}
 use Rattle.bit_stuffing.specs.Pieces.{content, IsWhole, Judged, IsAnswer, EndsWhole, IsLent}
-use Rattle.bit_stuffing.specs.Found.{Found, seven_ones, opened_before, judged, octets_in, found_from, found_at, answer_of, lent_of, listed, found_before, pieces_of}
+use Rattle.bit_stuffing.specs.Found.{Found, seven_ones, opened_before, judged, octets_in, found_from, found_at, answer_of, lent_of, listed}
+use Rattle.bit_stuffing.specs.Found.{found_before, pieces_of}
 use Rattle.bit_stuffing.proofs.Places.{length-snoc}
-use Rattle.bit_stuffing.proofs.Openings.{opened-once, opened-stays, opened-by_flag, at_end, from_end, seven_at_end, seven_from_end, shut-stays, shut-quiet, seven-shuts, flag-near, quiet}
+use Rattle.bit_stuffing.proofs.Openings.{opened-once, opened-stays, opened-by_flag, at_end, from_end, seven_at_end, seven_from_end}
+use Rattle.bit_stuffing.proofs.Openings.{shut-stays, shut-quiet, seven-shuts, flag-near, quiet}
 use Rattle.bit_stuffing.proofs.Between.{take-length}
 use Rattle.bit_stuffing.proofs.EndsWith.{ends-flag, flag-ends, ends-seven, seven-ends}
 use Rattle.bit_stuffing.proofs.Judged.{judged-is, judged-once, octets-whole, carries_once}

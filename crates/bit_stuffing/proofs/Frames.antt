@@ -1,5 +1,6 @@
 -- A frame in a flag slot.
-use Rattle.std.proofs.Common.{◌≡◌, ℕ, ◌+◌, ◌-◌, ◌≤◌, min, Bool, true, false, List, [], ◌∷◌, ◌++◌, length, take, drop, Some, arith, append_assoc, length-append, refl, sym, ◌∙◌, ap, subst}
+use Rattle.std.proofs.Common.{◌≡◌, ℕ, ◌+◌, ◌-◌, ◌≤◌, min, Bool, true, false, List, [], ◌∷◌, ◌++◌, length, take, drop, Some, arith}
+use Rattle.std.proofs.Common.{append_assoc, length-append, refl, sym, ◌∙◌, ap, subst}
 use Rattle.std.proofs.lemmas.List.{take-append-le, drop-append-le, take_all, drop_all}
 use Rattle.plain_lists.specs.Bits.{bits_of}
 use Rattle.frame_check.proofs.BitLists.{length-bits_of}
@@ -11,7 +12,8 @@ use Rattle.bit_stuffing.specs.Slots.{flags, fill, rest_of_flag, opening, slot_bi
 use Rattle.bit_stuffing.specs.Slots.Slot.{Flags}
 use Rattle.bit_stuffing.proofs.Ones.{flag-six}
 use Rattle.bit_stuffing.proofs.Openings.{opened-once, flag-closes, is_far}
-use Rattle.bit_stuffing.proofs.Counters.{Counters, Counts, run, Still, run-append, counts-run, Below6, below-append, below-still, open-run, run-both}
+use Rattle.bit_stuffing.proofs.Counters.{Counters, Counts, run, Still, run-append, counts-run, Below6, below-append, below-still, open-run}
+use Rattle.bit_stuffing.proofs.Counters.{run-both}
 use Rattle.bit_stuffing.proofs.States.{open_at, Between, run-stuffed, seven, run-seven, run-opens}
 
 -- a frame between an open flag and the closing one

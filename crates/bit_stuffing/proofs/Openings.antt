@@ -1,5 +1,6 @@
 -- The flag that is open, at one more bit.
-use Rattle.std.proofs.Common.{◌≡◌, ◌≢◌, ℕ, ◌+◌, ◌-◌, ◌<◌, ◌≤◌, inl, inr, Bool, true, false, List, [], ◌∷◌, ◌++◌, length, arith, sym, ◌∙◌, min, Some, None, IsTrue, nat_eq}
+use Rattle.std.proofs.Common.{◌≡◌, ◌≢◌, ℕ, ◌+◌, ◌-◌, ◌<◌, ◌≤◌, inl, inr, Bool, true, false, List, [], ◌∷◌, ◌++◌, length, arith, sym, ◌∙◌}
+use Rattle.std.proofs.Common.{min, Some, None, IsTrue, nat_eq}
 use Rattle.std.proofs.lemmas.Bool.{cases_lt, false≢true, eq-eqb}
 use Rattle.bit_stuffing.specs.Flags.{bit_of, FlagEndsAt, SevenOnesEndAt, OpenedAt, IsFar, IsNear, Aborts, Closes}
 use Rattle.bit_stuffing.specs.Deframer.{CountsSince}

@@ -1,5 +1,6 @@
 -- Given bits in a slot: no flag stands in them, and they end with seven ones.
-use Rattle.std.proofs.Common.{◌≡◌, ℕ, ◌+◌, ◌-◌, ◌<◌, ◌≤◌, ◌⊎◌, inl, inr, Bool, true, false, List, [], ◌∷◌, ◌++◌, length, min, None, arith, append_assoc, length-append, refl, sym, ◌∙◌, ap, subst}
+use Rattle.std.proofs.Common.{◌≡◌, ℕ, ◌+◌, ◌-◌, ◌<◌, ◌≤◌, ◌⊎◌, inl, inr, Bool, true, false, List, [], ◌∷◌, ◌++◌, length, min, None, arith}
+use Rattle.std.proofs.Common.{append_assoc, length-append, refl, sym, ◌∙◌, ap, subst}
 use Rattle.std.specs.Bool.{beq}
 use Rattle.std.specs.List.{ends_with}
 use Rattle.std.proofs.lemmas.Bool.{cases_lt, false≢true}
@@ -11,7 +12,8 @@ use Rattle.bit_stuffing.specs.Found.{seven_ones, found_at}
 use Rattle.bit_stuffing.specs.Slots.{IsPlain}
 use Rattle.bit_stuffing.proofs.Places.{length-snoc}
 use Rattle.bit_stuffing.proofs.Ones.{CountsOnes, ones-shut}
-use Rattle.bit_stuffing.proofs.Openings.{at_end, from_end, seven_at_end, seven_from_end, opened-once, opened-stays, opened-by_flag, seven_behind, seven-aborts, seven-shuts, shut-stays, shut-quiet, flag-near, quiet}
+use Rattle.bit_stuffing.proofs.Openings.{at_end, from_end, seven_at_end, seven_from_end, opened-once, opened-stays, opened-by_flag}
+use Rattle.bit_stuffing.proofs.Openings.{seven_behind, seven-aborts, seven-shuts, shut-stays, shut-quiet, flag-near, quiet}
 use Rattle.bit_stuffing.proofs.EndsWith.{ends-flag, flag-ends, ends-seven, seven-ends}
 use Rattle.bit_stuffing.proofs.Found.{found-quiet, found-ones}
 use Rattle.bit_stuffing.proofs.Counters.{Counts, along}
@@ -99,7 +101,8 @@ along-shut all past (b ∷ rest) e never s =
     (shut-stays past b no_flag s) in
     rw (here, after) refl
 
--- What is found where a flag is open, and each flag that still ends is no farther than eight bits behind the one before: either nothing, and a flag
+-- What is found where a flag is open, and each flag that still ends is no farther than eight bits behind the one before: either nothing,
+-- and a flag
 -- stays open, or one abort.
 abbrev pub OnceAborted : List Bool → List Bool → List Bool → Type 0
 OnceAborted all past rest =

@@ -1,5 +1,6 @@
 -- What is found in slots is what was sent in them.
-use Rattle.std.proofs.Common.{◌≡◌, ◌⊎◌, inl, inr, ℕ, ◌+◌, ◌-◌, ◌%◌, ◌<◌, ◌≤◌, Bool, true, false, List, [], ◌∷◌, ◌++◌, All, length, Some, None, arith, append_assoc, length-append, refl, sym, ◌∙◌, ap, subst}
+use Rattle.std.proofs.Common.{◌≡◌, ◌⊎◌, inl, inr, ℕ, ◌+◌, ◌-◌, ◌%◌, ◌<◌, ◌≤◌, Bool, true, false, List, [], ◌∷◌, ◌++◌, All, length, Some}
+use Rattle.std.proofs.Common.{None, arith, append_assoc, length-append, refl, sym, ◌∙◌, ap, subst}
 use Rattle.std.proofs.lemmas.List.{append-nil}
 use Rattle.std.proofs.lemmas.List.Elements.{All-append, All-cons, All-nil}
 use Rattle.plain_lists.specs.Bits.{bits_of}
@@ -7,13 +8,15 @@ use Rattle.bit_stuffing.specs.declared.piece.Piece.TheVariants.{Whole, Aborted}
 use Rattle.bit_stuffing.specs.Stuffing.{stuffed}
 use Rattle.bit_stuffing.specs.Pieces.{IsWhole, content}
 use Rattle.bit_stuffing.specs.Found.{Found, found_at, listed, pieces_of}
-use Rattle.bit_stuffing.specs.Slots.{Slot, flags, fill, rest_of_flag, opening, slot_bits, next_phase, bits_from, phase_from, sent_bits, phase_after, flags_behind, frames_of, IsFrame, IsSlot, AreSlots}
+use Rattle.bit_stuffing.specs.Slots.{Slot, flags, fill, rest_of_flag, opening, slot_bits, next_phase, bits_from, phase_from, sent_bits}
+use Rattle.bit_stuffing.specs.Slots.{phase_after, flags_behind, frames_of, IsFrame, IsSlot, AreSlots}
 use Rattle.bit_stuffing.specs.Slots.Slot.{Plain, Flags}
 use Rattle.bit_stuffing.specs.Sent.{Added, whole_at, aborted_at, FoundIn, SlotAdds, octets_if_whole, wholes}
 use Rattle.bit_stuffing.proofs.Stuffed.{stuffs-stuffed}
 use Rattle.bit_stuffing.proofs.Found.{found-place, found-whole, pieces-none}
 use Rattle.bit_stuffing.proofs.Fill.{bits-append}
-use Rattle.bit_stuffing.proofs.Counters.{Counters, Counts, run, run-append, counts-run, counts-step, along, along-append, along-still, pieces-along}
+use Rattle.bit_stuffing.proofs.Counters.{Counters, Counts, run, run-append, counts-run, counts-step, along, along-append, along-still}
+use Rattle.bit_stuffing.proofs.Counters.{pieces-along}
 use Rattle.bit_stuffing.proofs.States.{open_at, shut, Between, seven, run-fill, run-empty}
 use Rattle.bit_stuffing.proofs.Frames.{Framed, frame-found, before_last, slot-split, last_place, bits-some, InFrame, in-frame}
 use Rattle.bit_stuffing.proofs.Plain.{counts-start, plain-shut, plain-none, plain-once}

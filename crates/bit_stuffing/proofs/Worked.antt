@@ -9,7 +9,8 @@ use Rattle.bit_stuffing.specs.Slots.{sent_bits}
 use Rattle.bit_stuffing.specs.Slots.Slot.{Plain, Flags}
 
 ones_stuffed : stuffed 5
-    (bits_of (255 ∷ 255 ∷ [])) ≡ true ∷ true ∷ true ∷ true ∷ true ∷ false ∷ true ∷ true ∷ true ∷ true ∷ true ∷ false ∷ true ∷ true ∷ true ∷ true ∷ true ∷ false ∷ true ∷ []
+    (bits_of (255 ∷ 255 ∷ [])) ≡ true ∷ true ∷ true ∷ true ∷ true ∷ false ∷ true ∷ true ∷ true ∷ true ∷ true ∷ false ∷ true ∷ true ∷ true ∷
+    true ∷ true ∷ false ∷ true ∷ []
 ones_stuffed = refl
 
 ragged : pieces_of (flag

@@ -10,12 +10,14 @@ use Rattle.command_base.specs.declared.stop.Stop.{Stop}
 use Rattle.command_base.specs.declared.stop.Stop.TheVariants.{Own, Read, Write, Say, NoMemory}
 use Rattle.command_base.specs.Status.{IsRefusal, IsFolderFault, PassesNoneOver}
 use Rattle.outside_calls.specs.Outputs.{KeepsAll, OnlyOutputs}
-use Rattle.command_base.specs.Stops.{SomeRose, IsOwn, ReadFails, WriteFails, SayFails, StopCounts, EndCounts, fault_status, stop_status, end_status}
+use Rattle.command_base.specs.Stops.{SomeRose, IsOwn, ReadFails, WriteFails, SayFails, StopCounts, EndCounts, fault_status, stop_status}
+use Rattle.command_base.specs.Stops.{end_status}
 use Rattle.command_base.specs.Job.{Job, SaysLast, Answers, Shared}
 use Rattle.command_base.specs.Sound.{NoneRose, IsSound, DoneUnlessMemory}
 use Rattle.command_base.specs.Tells.{Tells}
 use Rattle.outside_calls.proofs.OnlyOutputs.{OnlyOutputs-refl, OnlyOutputs-says}
-use Rattle.command_base.proofs.Answering.{IsPlain, done-plain, read-plain, usage-plain, tells-plain, tells-fault, tells-memory, tells-refusal, told-or-memory, stand-later}
+use Rattle.command_base.proofs.Answering.{IsPlain, done-plain, read-plain, usage-plain, tells-plain, tells-fault, tells-memory}
+use Rattle.command_base.proofs.Answering.{tells-refusal, told-or-memory, stand-later}
 
 -- ---- counts over several steps
 

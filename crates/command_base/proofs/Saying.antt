@@ -1,5 +1,6 @@
 -- Saying one thing behind another.
-use Rattle.std.proofs.Common.{inl, inr, IsErrOf, ◌≡◌, ◌∙◌, ℕ, List, ◌++◌, Option, Some, None, Result, Ok, Err, OnOk, OnErr, IfErr, arith, refl, sym, ap, append_assoc}
+use Rattle.std.proofs.Common.{inl, inr, IsErrOf, ◌≡◌, ◌∙◌, ℕ, List, ◌++◌, Option, Some, None, Result, Ok, Err, OnOk, OnErr, IfErr, arith}
+use Rattle.std.proofs.Common.{refl, sym, ap, append_assoc}
 use Rattle.std.specs.Option.{option_map}
 use Rattle.outside_calls.specs.Folder.{FolderState, GoesOn, FaultsStand, OnlySays, HasCause, Said, PartlySaid}
 use Rattle.outside_calls.specs.Steps.{GoesOn-trans, KeepsName-trans, Rose-later}

@@ -1,5 +1,6 @@
 -- Each state is reached from the sent labels at a cost of at most 18: the last two labels are others.
-use Rattle.std.proofs.Common.{◌≡◌, ℕ, ◌+◌, ◌*◌, ◌<◌, ◌≤◌, List, [], ◌∷◌, ◌++◌, length, map, arith, length-append, Some, refl, sym, ◌∙◌, ap, subst}
+use Rattle.std.proofs.Common.{◌≡◌, ℕ, ◌+◌, ◌*◌, ◌<◌, ◌≤◌, List, [], ◌∷◌, ◌++◌, length, map, arith, length-append, Some, refl, sym, ◌∙◌, ap}
+use Rattle.std.proofs.Common.{subst}
 use Rattle.std.proofs.lemmas.List.{map-append}
 use Rattle.symbol_map.specs.Labels.{y0_of, y_of, IsInSubset}
 use Rattle.symbol_map.specs.Points.{point_of}

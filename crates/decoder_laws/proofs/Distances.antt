@@ -1,5 +1,6 @@
 -- How far two sequences are apart that meet: each fact is a test over pairs of states and labels that computes, and what it shows.
-use Rattle.std.proofs.Common.{◌≡◌, ◌≢◌, ℕ, suc, ◌+◌, ◌*◌, ◌/◌, ◌≤◌, ◌⊎◌, inl, inr, Bool, true, ◌||◌, if◌then◌else◌, nat_eq, List, [], ◌∷◌, length, map, arith, Option, Some, None, refl, sym, ◌∙◌, ap, subst, eq-eqb}
+use Rattle.std.proofs.Common.{◌≡◌, ◌≢◌, ℕ, suc, ◌+◌, ◌*◌, ◌/◌, ◌≤◌, ◌⊎◌, inl, inr, Bool, true, ◌||◌, if◌then◌else◌, nat_eq, List, [], ◌∷◌}
+use Rattle.std.proofs.Common.{length, map, arith, Option, Some, None, refl, sym, ◌∙◌, ap, subst, eq-eqb}
 use Rattle.std.specs.Prelude.{nat_le, slice_index}
 use Rattle.std.proofs.lemmas.Bool.{leb-true, eqb-true, or_cases, cases_eq}
 use Rattle.symbol_map.specs.Finite.{each_below, at_each, at_each_pair}

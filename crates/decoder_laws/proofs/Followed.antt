@@ -1,5 +1,6 @@
 -- Survivors of samples without noise, and what they release.
-use Rattle.std.proofs.Common.{◌≡◌, ℕ, ◌+◌, ◌<◌, ◌≤◌, ◌⊎◌, inl, inr, Bool, true, nat_eq, List, ◌++◌, length, map, take, drop, arith, append_assoc, None, refl, sym, ◌∙◌, ap, subst, eq-eqb}
+use Rattle.std.proofs.Common.{◌≡◌, ℕ, ◌+◌, ◌<◌, ◌≤◌, ◌⊎◌, inl, inr, Bool, true, nat_eq, List, ◌++◌, length, map, take, drop, arith}
+use Rattle.std.proofs.Common.{append_assoc, None, refl, sym, ◌∙◌, ap, subst, eq-eqb}
 use Rattle.std.proofs.lemmas.Bool.{cases_lt, cases_eq, eqb-true}
 use Rattle.std.proofs.lemmas.List.{take-map, take_all, take-append-drop, length-take-le}
 use Rattle.symbol_map.specs.declared.sample.Sample.{Sample}

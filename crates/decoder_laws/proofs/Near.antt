@@ -1,5 +1,6 @@
 -- Survivors of samples that are near the points of a code sequence, and what they release.
-use Rattle.std.proofs.Common.{◌≡◌, ℕ, ◌+◌, ◌*◌, ◌<◌, ◌≤◌, ◌⊎◌, inl, inr, Bool, true, List, ◌++◌, length, map, take, drop, arith, append_assoc, length-take, None, sym, ◌∙◌, ap, subst}
+use Rattle.std.proofs.Common.{◌≡◌, ℕ, ◌+◌, ◌*◌, ◌<◌, ◌≤◌, ◌⊎◌, inl, inr, Bool, true, List, ◌++◌, length, map, take, drop, arith}
+use Rattle.std.proofs.Common.{append_assoc, length-take, None, sym, ◌∙◌, ap, subst}
 use Rattle.std.proofs.lemmas.Bool.{cases_lt, cases_eq, eqb-true}
 use Rattle.std.proofs.lemmas.List.{take-append-drop, take_all}
 use Rattle.plain_lists.specs.Prefix.{IsPrefixOf}
@@ -19,7 +20,8 @@ use Rattle.decoder_laws.proofs.Agreeing.{Survives, AreNear, cheaper, released-be
 use Rattle.decoder_laws.proofs.Followed.{few-unreleased_of_any}
 use Rattle.decoder_laws.specs.Distances.{apart_in_all}
 use Rattle.decoder_laws.specs.Near.{only, sure, sure_of_any, IsNear}
-use Rattle.decoder_laws.specs.NoisyLaws.{ReleasesNear, FewUnreleased, NeverLost, DecodesNear, ReleasesNearOfAny, FewUnreleasedOfAny, NeverLostOfAny, DecodesNearOfAny, FewUnreleasedWithoutNoise}
+use Rattle.decoder_laws.specs.NoisyLaws.{ReleasesNear, FewUnreleased, NeverLost, DecodesNear, ReleasesNearOfAny, FewUnreleasedOfAny}
+use Rattle.decoder_laws.specs.NoisyLaws.{NeverLostOfAny, DecodesNearOfAny, FewUnreleasedWithoutNoise}
 use Rattle.decoder_laws.proofs.Distances.{meeting-is-far, one-or-far, cost-is-distance}
 use Rattle.decoder_laws.proofs.NoisyCosts.{cost-over_others, distance-over_samples, cost-take, points-of_no-cost}
 

@@ -1,7 +1,9 @@
 -- A pattern never reaches over a border of slots.
-use Rattle.std.proofs.Common.{◌≡◌, ◌⊎◌, inl, inr, ℕ, ◌+◌, ◌-◌, ◌/◌, ◌%◌, ◌<◌, ◌≤◌, Bool, true, false, List, [], ◌∷◌, ◌++◌, length, get_or, take, drop, Option, arith, append_assoc, length-append, refl, sym, ◌∙◌, ap, subst}
+use Rattle.std.proofs.Common.{◌≡◌, ◌⊎◌, inl, inr, ℕ, ◌+◌, ◌-◌, ◌/◌, ◌%◌, ◌<◌, ◌≤◌, Bool, true, false, List, [], ◌∷◌, ◌++◌, length, get_or}
+use Rattle.std.proofs.Common.{take, drop, Option, arith, append_assoc, length-append, refl, sym, ◌∙◌, ap, subst}
 use Rattle.std.proofs.lemmas.Bool.{cases_lt, false≢true}
-use Rattle.std.proofs.lemmas.List.{append-nil, take-append-drop, length-take-le, length-replicate, get_or-take, get_or-replicate, get_or_append_left, get_or-append_right, get_or-append-add}
+use Rattle.std.proofs.lemmas.List.{append-nil, take-append-drop, length-take-le, length-replicate, get_or-take, get_or-replicate}
+use Rattle.std.proofs.lemmas.List.{get_or_append_left, get_or-append_right, get_or-append-add}
 use Rattle.bit_stuffing.specs.Flags.{flag}
 use Rattle.bit_stuffing.specs.Slots.{Slot, flags, opening, slot_bits, next_phase, bits_from, phase_from, IsSlot, AreSlots}
 use Rattle.bit_stuffing.specs.Slots.Slot.{Flags}

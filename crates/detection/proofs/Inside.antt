@@ -1,11 +1,14 @@
 -- Where patterns end in a pattern slot.
-use Rattle.std.proofs.Common.{◌≡◌, inl, inr, ℕ, zero, suc, ◌+◌, ◌-◌, ◌*◌, ◌/◌, ◌%◌, ◌<◌, ◌≤◌, Bool, true, false, not, ◌&&◌, ◌||◌, if◌then◌else◌, nat_eq, nat_lt, List, ◌++◌, length, get_or, take, Option, Some, None, lit≤, arith, append_assoc, length-append, refl, sym, ◌∙◌, ap}
+use Rattle.std.proofs.Common.{◌≡◌, inl, inr, ℕ, zero, suc, ◌+◌, ◌-◌, ◌*◌, ◌/◌, ◌%◌, ◌<◌, ◌≤◌, Bool, true, false, not, ◌&&◌, ◌||◌}
+use Rattle.std.proofs.Common.{if◌then◌else◌, nat_eq, nat_lt, List, ◌++◌, length, get_or, take, Option, Some, None, lit≤, arith}
+use Rattle.std.proofs.Common.{append_assoc, length-append, refl, sym, ◌∙◌, ap}
 use Rattle.std.specs.Bool.{beq}
 use Rattle.std.specs.List.{ends_with}
 use Rattle.std.specs.Cmp.Lexicographic.{pointwise}
 use Rattle.std.proofs.lemmas.Bool.Decides.{nat_tests}
 use Rattle.std.proofs.lemmas.Bool.{cases_lt, false≢true, eqb-true}
-use Rattle.std.proofs.lemmas.List.{take-append-le, length-take-le, length-replicate, get_or-take, get_or-replicate, get_or-append_right, get_or-append-add}
+use Rattle.std.proofs.lemmas.List.{take-append-le, length-take-le, length-replicate, get_or-take, get_or-replicate, get_or-append_right}
+use Rattle.std.proofs.lemmas.List.{get_or-append-add}
 use Rattle.lapm_frames.specs.declared.seen.Seen.{Seen}
 use Rattle.lapm_frames.specs.declared.seen.Seen.TheVariants.{Odp, Adp}
 use Rattle.detection.specs.Patterns.{second, ones, twice, EndsPattern, IsGap}
@@ -45,7 +48,8 @@ at_each (suc n) test e i l = elim (cases_lt i n) [
   | inr here ↦ let same : i ≡ n = omega arith in ap test same ∙ (both (test n) (each_below n test) e).0
 ]
 
--- Where the bits of a pattern slot end with a second character and eight ones, some bits from its start, a pattern ends, if it is not too near the start.
+-- Where the bits of a pattern slot end with a second character and eight ones, some bits from its start, a pattern ends, if it is not too
+-- near the start.
 abbrev pub place_test : Seen → Seen → ℕ → Bool
 place_test kind seen p =
     not (ends_with beq (take p (patterns 10 kind ++ ones 8)) (second seen ++ ones 8)) || (nat_lt p 68 || (is_end p && same_kind kind seen))

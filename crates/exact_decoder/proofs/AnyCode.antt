@@ -1,5 +1,6 @@
 -- What the laws of any code's table make of its survivors, whatever the states that sequences start in.
-use Rattle.std.proofs.Common.{◌≡◌, ℕ, zero, suc, ◌+◌, ◌<◌, ◌≤◌, ◌⊎◌, inl, inr, nat_lt, Bool, true, false, ◌&&◌, List, [], ◌∷◌, ◌++◌, length, map, take, drop, arith, length-append, append_assoc, refl, sym, ◌∙◌, ap, subst, Option, Some, None}
+use Rattle.std.proofs.Common.{◌≡◌, ℕ, zero, suc, ◌+◌, ◌<◌, ◌≤◌, ◌⊎◌, inl, inr, nat_lt, Bool, true, false, ◌&&◌, List, [], ◌∷◌, ◌++◌, length}
+use Rattle.std.proofs.Common.{map, take, drop, arith, length-append, append_assoc, refl, sym, ◌∙◌, ap, subst, Option, Some, None}
 use Rattle.std.proofs.lemmas.Bool.{cases_lt, cases_eq, lt-ltb, ltb-true, and_parts, and_from, false≢true}
 use Rattle.std.proofs.lemmas.List.{take-take, take-append-drop, take-append-le, take_all, length-take-le}
 use Rattle.symbol_map.specs.declared.sample.Sample.{Sample}
@@ -15,7 +16,8 @@ use Rattle.survivors.specs.Survivors.{IsSurvivor, IsReleased, IsLost, LostIs}
 use Rattle.survivors.proofs.Fronts.{stays-prefix, released-once, lost-once, lost-stays, over-before}
 use Rattle.survivors.proofs.Least.{some-released, released-is_least}
 use Rattle.exact_decoder.specs.Decoder.{heard}
-use Rattle.exact_decoder.specs.Laws.{AreStarts, IsOnlyLeast, OnlySentIsLeast, ReleasesSent, DecoderReleasesLeast, DecoderReleasesStay, DecodersAgree, FewUnreleased}
+use Rattle.exact_decoder.specs.Laws.{AreStarts, IsOnlyLeast, OnlySentIsLeast, ReleasesSent, DecoderReleasesLeast, DecoderReleasesStay}
+use Rattle.exact_decoder.specs.Laws.{DecodersAgree, FewUnreleased}
 
 -- what a code's laws say of its table
 pub record IsCodeTable (table : ℕ → ℕ → Option ℕ) (states labels steps : ℕ) : Type 0 where

@@ -1,10 +1,13 @@
 -- What is kept of the survivors, over sums and columns.
-use Rattle.std.proofs.Common.{◌≡◌, ◌≢◌, ℕ, zero, suc, ◌+◌, ◌-◌, ◌*◌, ◌/◌, ◌%◌, ◌^◌, ◌<◌, ◌≤◌, ◌⊎◌, inl, inr, Bool, true, false, nat_lt, List, [], ◌∷◌, ◌++◌, length, map, take, reverse, All, get_or, slice_index, set, replicate, Option, Some, None, option_map, arith, add-one, refl, sym, ◌∙◌, ap, subst}
+use Rattle.std.proofs.Common.{◌≡◌, ◌≢◌, ℕ, zero, suc, ◌+◌, ◌-◌, ◌*◌, ◌/◌, ◌%◌, ◌^◌, ◌<◌, ◌≤◌, ◌⊎◌, inl, inr, Bool, true, false, nat_lt}
+use Rattle.std.proofs.Common.{List, [], ◌∷◌, ◌++◌, length, map, take, reverse, All, get_or, slice_index, set, replicate, Option, Some, None}
+use Rattle.std.proofs.Common.{option_map, arith, add-one, refl, sym, ◌∙◌, ap, subst}
 use Rattle.std.specs.List.{range_with_len}
 use Rattle.std.proofs.lemmas.Grind.{common_steps}
 use Rattle.std.proofs.lemmas.Bool.{cases_lt, cases_eq}
 use Rattle.std.proofs.lemmas.Bool.Decides.{nat_tests}
-use Rattle.std.proofs.lemmas.List.{take_at, append_cancel_left, length-reverse, reverse-reverse, reverse-append, length-set, length-replicate}
+use Rattle.std.proofs.lemmas.List.{take_at, append_cancel_left, length-reverse, reverse-reverse, reverse-append, length-set}
+use Rattle.std.proofs.lemmas.List.{length-replicate}
 use Rattle.std.proofs.lemmas.List.FromFn.{get_or-map-range_with_len}
 use Rattle.std.proofs.lemmas.List.Elements.{All-cons, All-take, All-same, All-push, All-head, All-tail}
 use Rattle.symbol_map.specs.declared.sample.Sample.{Sample}
@@ -20,7 +23,8 @@ use Rattle.exact_decoder.specs.Columns.{Entry, branch_of, sum_of, sum_in, entry_
 use Rattle.exact_decoder.specs.Traced.{traced, IsColumn, AreColumns, Part, Splits}
 use Rattle.exact_decoder.specs.Kept.{kept_of, HoldsColumns, AreSums, AllChosen, Stepped, Covered, IsParted, Released, IsLeastSum}
 use Rattle.exact_decoder.proofs.Subsets.{label-within}
-use Rattle.exact_decoder.proofs.Stepping.{IsCode, AreKeys, map-at, map-past, sum-near, entry-near, entry-far, known-at, key-parts, chosen-all}
+use Rattle.exact_decoder.proofs.Stepping.{IsCode, AreKeys, map-at, map-past, sum-near, entry-near, entry-far, known-at, key-parts}
+use Rattle.exact_decoder.proofs.Stepping.{chosen-all}
 use Rattle.exact_decoder.proofs.Walking.{length-traced, traced-below}
 
 -- the labels of a state

@@ -1,5 +1,6 @@
 -- The decoder after one sample more.
-use Rattle.std.proofs.Common.{◌≡◌, ℕ, ◌+◌, ◌-◌, ◌<◌, ◌≤◌, inl, inr, Bool, List, [], ◌∷◌, ◌++◌, length, take, Option, Some, None, option_map, arith, append_assoc, length-append, refl, sym, ◌∙◌, ap, subst}
+use Rattle.std.proofs.Common.{◌≡◌, ℕ, ◌+◌, ◌-◌, ◌<◌, ◌≤◌, inl, inr, Bool, List, [], ◌∷◌, ◌++◌, length, take, Option, Some, None, option_map}
+use Rattle.std.proofs.Common.{arith, append_assoc, length-append, refl, sym, ◌∙◌, ap, subst}
 use Rattle.std.proofs.lemmas.Bool.{cases_lt}
 use Rattle.std.proofs.lemmas.List.{append-nil, take-append-le, take_all}
 use Rattle.symbol_map.specs.declared.sample.Sample.{Sample}

@@ -1,5 +1,6 @@
 -- The decoder after a label is taken, and at its end.
-use Rattle.std.proofs.Common.{◌≡◌, ℕ, ◌<◌, Bool, List, [], ◌∷◌, ◌++◌, length, reverse, All, Option, Some, None, IfSome, MatchOption, option_to_list, append_assoc, refl, sym, ◌∙◌, ap, subst, arith}
+use Rattle.std.proofs.Common.{◌≡◌, ℕ, ◌<◌, Bool, List, [], ◌∷◌, ◌++◌, length, reverse, All, Option, Some, None, IfSome, MatchOption}
+use Rattle.std.proofs.Common.{option_to_list, append_assoc, refl, sym, ◌∙◌, ap, subst, arith}
 use Rattle.std.proofs.lemmas.List.{append-nil, reverse-append}
 use Rattle.std.proofs.lemmas.List.Elements.{All-head, All-tail, All-same}
 use Rattle.symbol_map.specs.declared.sample.Sample.{Sample}

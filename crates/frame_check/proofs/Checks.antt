@@ -1,5 +1,6 @@
 -- The check that the register gives, and that the definition has just one.
-use Rattle.std.proofs.Common.{◌≡◌, ℕ, zero, suc, ◌+◌, ◌-◌, ◌*◌, ◌/◌, ◌%◌, ◌^◌, ◌<◌, Bool, true, false, not, List, [], ◌∷◌, ◌++◌, All, length, map, reverse, get_or, take, drop, nat_eq, ◌≤◌, arith, length-append, refl, sym, ◌∙◌, ap, subst}
+use Rattle.std.proofs.Common.{◌≡◌, ℕ, zero, suc, ◌+◌, ◌-◌, ◌*◌, ◌/◌, ◌%◌, ◌^◌, ◌<◌, Bool, true, false, not, List, [], ◌∷◌, ◌++◌, All}
+use Rattle.std.proofs.Common.{length, map, reverse, get_or, take, drop, nat_eq, ◌≤◌, arith, length-append, refl, sym, ◌∙◌, ap, subst}
 use Rattle.std.specs.Int.{bit_at, w16, w32}
 use Rattle.std.proofs.lemmas.List.{length-map, length-reverse, get_or-map, get_or-reverse}
 use Rattle.std.proofs.lemmas.Nat.Bits.{bit_at_not}
@@ -15,7 +16,8 @@ use Rattle.plain_lists.specs.Bits.{bits_of, low_bits, number}
 use Rattle.frame_check.specs.FrameCheck.{coefficient, width_of, generator_of, Leaves, IsCheckOf, IsChecked, Passes}
 use Rattle.frame_check.specs.Division.{remainder_of, check_of, with_check, count_of}
 use Rattle.frame_check.specs.Register.{Holds}
-use Rattle.frame_check.proofs.BitLists.{low_bits-by_place, same_octets, length-octets_of, octets_of-are_octets, bits_of-octets_of, bits_of-two, bits_of-four}
+use Rattle.frame_check.proofs.BitLists.{low_bits-by_place, same_octets, length-octets_of, octets_of-are_octets, bits_of-octets_of}
+use Rattle.frame_check.proofs.BitLists.{bits_of-two, bits_of-four}
 use Rattle.frame_check.proofs.Remainders.{Leaves-all}
 use Rattle.frame_check.proofs.Unique.{one_remainder}
 

@@ -1,5 +1,6 @@
 -- The register after one more bit holds the next remainder.
-use Rattle.std.proofs.Common.{◌++◌, ◌^◌, get_or, take, ◌≡◌, ℕ, suc, ◌+◌, ◌-◌, ◌/◌, ◌%◌, ◌<◌, ◌≤◌, inl, inr, Bool, true, false, not, List, [], ◌∷◌, length, arith, refl, sym, ◌∙◌, ap, cond, nat_eq, bit_and, bit_xor}
+use Rattle.std.proofs.Common.{◌++◌, ◌^◌, get_or, take, ◌≡◌, ℕ, suc, ◌+◌, ◌-◌, ◌/◌, ◌%◌, ◌<◌, ◌≤◌, inl, inr, Bool, true, false, not, List}
+use Rattle.std.proofs.Common.{[], ◌∷◌, length, arith, refl, sym, ◌∙◌, ap, cond, nat_eq, bit_and, bit_xor}
 use Rattle.std.proofs.lemmas.Bool.{cases_lt}
 use Rattle.std.proofs.lemmas.Nat.Bits.{bit_at-suc, bit_at_above, bit_at_xor, bit_at_lowest}
 use Rattle.std.specs.Int.{bit_at}

@@ -1,5 +1,6 @@
 -- From single steps to how a listing ends.
-use Rattle.std.proofs.Common.{◌≡◌, ◌∙◌, inl, ℕ, ◌+◌, Bool, true, false, IsTrue, List, [], ◌++◌, refl, sym, ap, subst, append-nil, append_assoc}
+use Rattle.std.proofs.Common.{◌≡◌, ◌∙◌, inl, ℕ, ◌+◌, Bool, true, false, IsTrue, List, [], ◌++◌, refl, sym, ap, subst, append-nil}
+use Rattle.std.proofs.Common.{append_assoc}
 use Rattle.plain_lists.specs.Prefix.{IsPrefixOf}
 use Rattle.outside_calls.specs.Folder.{FolderState, octets_at, OnlyReads, OnlySays, Said}
 use Rattle.plain_lists.specs.Bits.{bits_of}

@@ -1,5 +1,6 @@
 -- Frames with their check: the octets tell by which check they are judged, and are one frame or have one fault.
-use Rattle.std.proofs.Common.{Bool, true, false, ◌≡◌, ℕ, ◌-◌, ◌*◌, ◌%◌, ◌≤◌, nat_eq, false, if◌then◌else◌, is_some, List, length, take, Result, Ok, Err, refl, sym, ◌∙◌, ap, subst, arith}
+use Rattle.std.proofs.Common.{Bool, true, false, ◌≡◌, ℕ, ◌-◌, ◌*◌, ◌%◌, ◌≤◌, nat_eq, false, if◌then◌else◌, is_some, List, length, take}
+use Rattle.std.proofs.Common.{Result, Ok, Err, refl, sym, ◌∙◌, ap, subst, arith}
 use Rattle.std.specs.Prelude.{slice_index_or, IfSome, IfNone, IfOk, IfErr, ◌↔◌}
 use Rattle.std.specs.Result.{result_ok}
 use Rattle.std.proofs.lemmas.Bool.{ne_eqb}

@@ -1,5 +1,6 @@
 -- Which frames a control octet can belong to, and how long their tails are.
-use Rattle.std.proofs.Common.{◌≡◌, ℕ, ◌+◌, ◌/◌, ◌%◌, ◌<◌, ◌≤◌, Bool, true, false, if◌then◌else◌, List, length, [], Option, Some, None, is_some, arith, refl, sym}
+use Rattle.std.proofs.Common.{◌≡◌, ℕ, ◌+◌, ◌/◌, ◌%◌, ◌<◌, ◌≤◌, Bool, true, false, if◌then◌else◌, List, length, [], Option, Some, None}
+use Rattle.std.proofs.Common.{is_some, arith, refl, sym}
 use Rattle.std.specs.Prelude.{IfSome, unwrap_or}
 use Rattle.frame_check.specs.declared.sizes.TheConstants.{INFO}
 use Rattle.lapm_frames.specs.declared.frame.Frame.{Frame}

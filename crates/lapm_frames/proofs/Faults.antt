@@ -1,5 +1,6 @@
 -- The first fault of octets with an address and a control octet, by the frames that have these.
-use Rattle.std.proofs.Common.{◌≡◌, ℕ, ◌+◌, ◌/◌, ◌%◌, ◌<◌, ◌≤◌, Bool, true, false, List, [], ◌∷◌, length, arith, length-append, refl, sym, ◌∙◌, ap, subst, lit<}
+use Rattle.std.proofs.Common.{◌≡◌, ℕ, ◌+◌, ◌/◌, ◌%◌, ◌<◌, ◌≤◌, Bool, true, false, List, [], ◌∷◌, length, arith, length-append, refl, sym}
+use Rattle.std.proofs.Common.{◌∙◌, ap, subst, lit<}
 use Rattle.std.proofs.lemmas.Bool.{false≢true}
 use Rattle.frame_check.specs.declared.sizes.TheConstants.{INFO}
 use Rattle.roles.specs.declared.role.Role.{Role}

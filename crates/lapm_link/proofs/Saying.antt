@@ -15,7 +15,8 @@ use Rattle.lapm_link.specs.declared.any_end.AnyEnd.{AnyEnd}
 use Rattle.link_account.specs.declared.phase.Phase.TheVariants as phases
 use Rattle.roles.specs.Role.{is_originator}
 use Rattle.link_account.specs.Hear.{trying}
-use Rattle.link_account.specs.Speak.{Said, where_says, else_says, steps, on_break_timer, then_tries, after_timers, speak_connected, speak_releasing}
+use Rattle.link_account.specs.Speak.{Said, where_says, else_says, steps, on_break_timer, then_tries, after_timers, speak_connected}
+use Rattle.link_account.specs.Speak.{speak_releasing}
 use Rattle.lapm_link.specs.Stands.{Gives, SaysLinked, Links, LinksBeside, Becomes, SpeaksLinked, Speaks}
 
 pub gives_where : {end : Connected} {sent : Sent} (b : Bool) (said : Said) (a : Account) → b ≡ true → SaysLinked said end sent

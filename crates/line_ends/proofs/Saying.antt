@@ -1,5 +1,6 @@
 -- What an end says consists of octets and of numbers below 128, where its segments and the breaks that it asks for consist of octets.
-use Rattle.std.proofs.Common.{◌≡◌, ℕ, zero, suc, ◌+◌, ◌*◌, ◌/◌, ◌%◌, ◌<◌, ◌&&◌, Bool, true, false, cond, nat_eq, nat_le, List, [], ◌∷◌, slice_index_or, arith, subst, Option, Some, None, IfSome, Result, Ok, Err}
+use Rattle.std.proofs.Common.{◌≡◌, ℕ, zero, suc, ◌+◌, ◌*◌, ◌/◌, ◌%◌, ◌<◌, ◌&&◌, Bool, true, false, cond, nat_eq, nat_le, List, [], ◌∷◌}
+use Rattle.std.proofs.Common.{slice_index_or, arith, subst, Option, Some, None, IfSome, Result, Ok, Err}
 use Rattle.std.proofs.lemmas.List.Elements.{All-from_recursion, All-nil, All-cons, All-head, All-tail}
 use Rattle.plain_lists.specs.Octets.{AreOctets}
 use Rattle.roles.specs.declared.role.Role.{Role}
@@ -23,7 +24,11 @@ use Rattle.link_account.specs.declared.answer.Answer.{Answer}
 use Rattle.link_account.specs.declared.answer.Answer.TheVariants as answers
 use Rattle.link_account.specs.Account.{Account}
 use Rattle.link_account.specs.Hear.{trying}
-use Rattle.link_account.specs.Speak.{Said, says, says_segment, says_own, says_break, says_asking, where_says, else_says, answering, may_send, step1, step2, step3, step4, step5, step6, step7, step8, steps, speak, speak_in, speak_detecting, speak_negotiating, speak_releasing, speak_linked, speak_answer, u_try, tries_frame, trying_again, spent, on_timer, timer_expires, polling, on_break_timer, breaking, then_tries, after_timers, tells, ready_frame, nr_of, has_news}
+use Rattle.link_account.specs.Speak.{Said, says, says_segment, says_own, says_break, says_asking, where_says, else_says, answering}
+use Rattle.link_account.specs.Speak.{may_send, step1, step2, step3, step4, step5, step6, step7, step8, steps, speak, speak_in}
+use Rattle.link_account.specs.Speak.{speak_detecting, speak_negotiating, speak_releasing, speak_linked, speak_answer, u_try, tries_frame}
+use Rattle.link_account.specs.Speak.{trying_again, spent, on_timer, timer_expires, polling, on_break_timer, breaking, then_tries}
+use Rattle.link_account.specs.Speak.{after_timers, tells, ready_frame, nr_of, has_news}
 use Rattle.lapm_frames.specs.declared.sent.Sent.{Sent}
 use Rattle.line_ends.proofs.Words.{OfOctets, Owes, InOctets}
 

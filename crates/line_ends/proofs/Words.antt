@@ -1,5 +1,6 @@
 -- The word of a break that an end owes consists of octets, where the frames that it hears do.
-use Rattle.std.proofs.Common.{◌≡◌, ℕ, ◌<◌, ◌&&◌, ◌||◌, Bool, true, false, cond, List, [], ◌∷◌, arith, refl, sym, subst, Option, Some, None, Result, Ok, Err}
+use Rattle.std.proofs.Common.{◌≡◌, ℕ, ◌<◌, ◌&&◌, ◌||◌, Bool, true, false, cond, List, [], ◌∷◌, arith, refl, sym, subst, Option, Some, None}
+use Rattle.std.proofs.Common.{Result, Ok, Err}
 use Rattle.std.specs.Option.{option_map}
 use Rattle.std.proofs.lemmas.List.Elements.{All-cons, All-tail}
 use Rattle.plain_lists.specs.Octets.{AreOctets}
@@ -25,7 +26,9 @@ use Rattle.link_account.specs.declared.phase.Phase.TheVariants.{Detecting, Negot
 use Rattle.causes.specs.declared.fault.LinkFault.{LinkFault}
 use Rattle.link_account.specs.declared.answer.Answer.TheVariants as answers
 use Rattle.link_account.specs.Account.{Account}
-use Rattle.link_account.specs.Hear.{hear, on_frame, on_seen, on_pattern, on_detecting, on_negotiating, on_establishing, on_connected, on_releasing, on_closed, on_xid_command, on_xid_response, on_number, on_disc, on_word, then_in, taking, replying, hurrying, ends_wait, owing, peer_reset, pausing}
+use Rattle.link_account.specs.Hear.{hear, on_frame, on_seen, on_pattern, on_detecting, on_negotiating, on_establishing, on_connected}
+use Rattle.link_account.specs.Hear.{on_releasing, on_closed, on_xid_command, on_xid_response, on_number, on_disc, on_word, then_in, taking}
+use Rattle.link_account.specs.Hear.{replying, hurrying, ends_wait, owing, peer_reset, pausing}
 
 -- a word of octets, if there is one
 abbrev pub OfOctets : Option BreakWord → Type 0

@@ -10,7 +10,8 @@ use Rattle.noise_script.specs.Script.{ScriptValue}
 use Rattle.sample_line.specs.Recorded.{Records}
 use Rattle.sample_line.specs.Path.{LosesAt, LosesWithin}
 
--- Of a sender's first symbols, so many: the labels that are released were sent, all that was sent is released but for the last bits, at most
+-- Of a sender's first symbols, so many: the labels that are released were sent, all that was sent is released but for the last bits, at
+-- most
 -- so many, and the line isn't lost.
 pub record Follows (lag : ℕ) (script : ScriptValue) (sender : Role) (count : ℕ) : Type 0 where
   pub sent : (bits : List Bool) (samples : List Sample) (labels : List ℕ) → length bits ≤ 4 * count

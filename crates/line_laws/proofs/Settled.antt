@@ -1,5 +1,7 @@
--- What is found in the bits of slots ends well before their last bit, so that it is found as well where some of the last bits are not yet read.
-use Rattle.std.proofs.Common.{◌≡◌, ◌∙◌, ℕ, zero, suc, ◌+◌, ◌*◌, ◌<◌, ◌≤◌, Bool, true, false, List, [], ◌∷◌, ◌++◌, length, All, Some, None, refl, sym, ap, subst, arith, append-nil, append_assoc, length-append}
+-- What is found in the bits of slots ends well before their last bit, so that it is found as well where some of the last bits are not yet
+-- read.
+use Rattle.std.proofs.Common.{◌≡◌, ◌∙◌, ℕ, zero, suc, ◌+◌, ◌*◌, ◌<◌, ◌≤◌, Bool, true, false, List, [], ◌∷◌, ◌++◌, length, All, Some, None}
+use Rattle.std.proofs.Common.{refl, sym, ap, subst, arith, append-nil, append_assoc, length-append}
 use Rattle.std.proofs.Math.Seq.{drop-append_seam}
 use Rattle.std.proofs.lemmas.List.Elements.{All-nil, All-cons, All-append, All-drop, All-head, All-tail, All-weaker}
 use Rattle.bit_stuffing.specs.declared.piece.Piece.{Piece}

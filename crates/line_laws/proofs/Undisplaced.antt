@@ -1,5 +1,6 @@
 -- Samples that no line of a script displaces, up to some symbol.
-use Rattle.std.proofs.Common.{◌≡◌, ◌∙◌, ℕ, zero, suc, ◌+◌, ◌*◌, ◌-◌, ◌<◌, ◌≤◌, nat_le, Bool, true, false, cond, ◌&&◌, All, List, [], ◌∷◌, length, map, refl, ap, arith, Some, None}
+use Rattle.std.proofs.Common.{◌≡◌, ◌∙◌, ℕ, zero, suc, ◌+◌, ◌*◌, ◌-◌, ◌<◌, ◌≤◌, nat_le, Bool, true, false, cond, ◌&&◌, All, List, [], ◌∷◌}
+use Rattle.std.proofs.Common.{length, map, refl, ap, arith, Some, None}
 use Rattle.std.proofs.lemmas.Bool.Decides.{nat_tests}
 use Rattle.std.proofs.lemmas.List.Elements.{All-head, All-nil, All-same, All-tail}
 use Rattle.std.specs.Prelude.{ℤ, pos, ◌*ℤ◌}

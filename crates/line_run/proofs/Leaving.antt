@@ -8,10 +8,12 @@ use Rattle.noise_script.specs.Script.{delay_of}
 use Rattle.link_run.specs.Run.{Link, Ends, Turn, Hears}
 use Rattle.link_run.specs.Outcomes.{Outcome, Going, Done, Broken, TurnIs}
 use Rattle.link_run.specs.Taken.{taken_octets}
-use Rattle.link_run.specs.Laws.{RunsOver, agreed_srej, HoldPrefixes, TakesPrefixes, HearsPrefixes, DoneIsWhole, TakesWhatPassed, HearsWhatPassed}
+use Rattle.link_run.specs.Laws.{RunsOver, agreed_srej, HoldPrefixes, TakesPrefixes, HearsPrefixes, DoneIsWhole, TakesWhatPassed}
+use Rattle.link_run.specs.Laws.{HearsWhatPassed}
 use Rattle.line_run.specs.Sampled.{Channel, LineRun, LineEnd}
 use Rattle.line_run.specs.LineLaws.{SamplesAreCarried, OneIsCarried}
-use Rattle.line_run.specs.Ends.{IsDone, LinkLost, NotDetected, LineLost, ChanceMatch, Left, Leaves, EndsInTurn, EndsOnLine, MayRun, RunsLeavePrefixes, DoneLeavesWhole, RunsLeaveWhatPassed}
+use Rattle.line_run.specs.Ends.{IsDone, LinkLost, NotDetected, LineLost, ChanceMatch, Left, Leaves, EndsInTurn, EndsOnLine, MayRun}
+use Rattle.line_run.specs.Ends.{RunsLeavePrefixes, DoneLeavesWhole, RunsLeaveWhatPassed}
 
 pub record RunLaws : Type 0 where
   pub takes : TakesPrefixes

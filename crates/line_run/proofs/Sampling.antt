@@ -1,5 +1,6 @@
 -- The line of samples as a line: what is heard of it, and once.
-use Rattle.std.proofs.Common.{◌≡◌, ◌≢◌, ℕ, ◌-◌, Bool, true, false, List, [], ◌∷◌, length, map, drop, arith, refl, sym, ◌∙◌, ap, subst, Option, Some, None}
+use Rattle.std.proofs.Common.{◌≡◌, ◌≢◌, ℕ, ◌-◌, Bool, true, false, List, [], ◌∷◌, length, map, drop, arith, refl, sym, ◌∙◌, ap, subst}
+use Rattle.std.proofs.Common.{Option, Some, None}
 use Rattle.std.specs.Prelude.{is_some, unwrap_or}
 use Rattle.std.proofs.lemmas.Bool.{false≢true}
 use Rattle.frame_check.specs.declared.check.Check.{Check}
@@ -24,7 +25,8 @@ use Rattle.link_account.specs.Account.{check_of}
 use Rattle.link_run.specs.Run.{Link, Ends, Spoken, Turn, Hears, RunOf}
 use Rattle.link_run.specs.Carried.{sent_ago, has_message, Crosses}
 use Rattle.link_run.specs.Laws.{heard_in, OneRun}
-use Rattle.line_run.specs.Sampled.{Channel, bits_of, ArrivesAs, IsHeardOf, HeardIn, IsHeardOver, LineLost, ChanceMatch, LosesLine, IsHeardWell}
+use Rattle.line_run.specs.Sampled.{Channel, bits_of, ArrivesAs, IsHeardOf, HeardIn, IsHeardOver, LineLost, ChanceMatch, LosesLine}
+use Rattle.line_run.specs.Sampled.{IsHeardWell}
 use Rattle.line_run.specs.LineLaws.{SamplesAreCarried, OneIsCarried, HeardOnce, OneLineRun, OneLineEnd, EndsOrGoesOn}
 
 -- a message is what arrives as something

@@ -1,5 +1,6 @@
 -- The breaks in a play of two ends of ours, whatever is lost.
-use Rattle.std.proofs.Common.{◌≡◌, ℕ, ◌+◌, ◌-◌, ◌*◌, ◌%◌, ◌<◌, ◌&&◌, ◌||◌, Bool, true, false, cond, nat_eq, nat_le, List, [], ◌∷◌, ◌++◌, length, drop, slice_index_or, arith, refl, sym, ◌∙◌, ap, subst, Option, Some, None, Result, Ok, Err}
+use Rattle.std.proofs.Common.{◌≡◌, ℕ, ◌+◌, ◌-◌, ◌*◌, ◌%◌, ◌<◌, ◌&&◌, ◌||◌, Bool, true, false, cond, nat_eq, nat_le, List, [], ◌∷◌, ◌++◌}
+use Rattle.std.proofs.Common.{length, drop, slice_index_or, arith, refl, sym, ◌∙◌, ap, subst, Option, Some, None, Result, Ok, Err}
 use Rattle.std.specs.Option.{option_map}
 use Rattle.std.specs.Prelude.{is_some}
 use Rattle.std.proofs.lemmas.Bool.{false≢true}
@@ -28,15 +29,26 @@ use Rattle.link_account.specs.declared.phase.Phase.{Phase}
 use Rattle.link_account.specs.declared.phase.Phase.TheVariants.{Detecting, Negotiating, Establishing, Connected, Releasing, Closed}
 use Rattle.link_account.specs.declared.answer.Answer.{Answer}
 use Rattle.link_account.specs.declared.answer.Answer.TheVariants as answers
-use Rattle.link_account.specs.Account.{Account, Wait, fresh, is_connected, after_offer, after_delivery, after_break_asked, wants, piece_size, after_busy}
+use Rattle.link_account.specs.Account.{Account, Wait, fresh, is_connected, after_offer, after_delivery, after_break_asked, wants}
+use Rattle.link_account.specs.Account.{piece_size, after_busy}
 use Rattle.roles.specs.Role.{is_originator}
-use Rattle.link_account.specs.Hear.{hear, on_frame, on_connected, on_detecting, on_negotiating, on_establishing, on_releasing, on_closed, on_xid_command, on_xid_response, on_i, on_ready, on_rej, on_srej, on_number, on_sabme, peer_reset, on_disc, on_word, on_seen, on_pattern, then_in, replying, hurrying, taking, ends_wait, owing, trying, on_rnr, pausing}
-use Rattle.link_account.specs.Speak.{Said, says, says_frame, says_own, says_break, says_asking, says_segment, else_says, where_says, steps, step1, step2, step3, step4, step5, step6, step7, step8, step9, may_send, nr_of, telling, running, speak, speak_in, speak_detecting, speak_negotiating, speak_releasing, speak_linked, u_try, tries_frame, trying_again, answering, on_timer, on_break_timer, then_tries, after_timers, polling, breaking, spent, timer_expires, tells, ready_frame, differs}
-use Rattle.link_account.specs.Play.{Slot, Side, Play, Pair, Event, Speaks, Passes, Is_lost, Hears_nothing, Is_offered, Is_asked, Delivers, Gives_break, arrives, seen_from, play_of, spoken, heard, passes, is_lost, is_offered, happens_at, role_of, goes_on, happens, play, start, Is_busy}
+use Rattle.link_account.specs.Hear.{hear, on_frame, on_connected, on_detecting, on_negotiating, on_establishing, on_releasing, on_closed}
+use Rattle.link_account.specs.Hear.{on_xid_command, on_xid_response, on_i, on_ready, on_rej, on_srej, on_number, on_sabme, peer_reset}
+use Rattle.link_account.specs.Hear.{on_disc, on_word, on_seen, on_pattern, then_in, replying, hurrying, taking, ends_wait, owing, trying}
+use Rattle.link_account.specs.Hear.{on_rnr, pausing}
+use Rattle.link_account.specs.Speak.{Said, says, says_frame, says_own, says_break, says_asking, says_segment, else_says, where_says, steps}
+use Rattle.link_account.specs.Speak.{step1, step2, step3, step4, step5, step6, step7, step8, step9, may_send, nr_of, telling, running}
+use Rattle.link_account.specs.Speak.{speak, speak_in, speak_detecting, speak_negotiating, speak_releasing, speak_linked, u_try, tries_frame}
+use Rattle.link_account.specs.Speak.{trying_again, answering, on_timer, on_break_timer, then_tries, after_timers, polling, breaking, spent}
+use Rattle.link_account.specs.Speak.{timer_expires, tells, ready_frame, differs}
+use Rattle.link_account.specs.Play.{Slot, Side, Play, Pair, Event, Speaks, Passes, Is_lost, Hears_nothing, Is_offered, Is_asked, Delivers}
+use Rattle.link_account.specs.Play.{Gives_break, arrives, seen_from, play_of, spoken, heard, passes, is_lost, is_offered, happens_at}
+use Rattle.link_account.specs.Play.{role_of, goes_on, happens, play, start, Is_busy}
 use Rattle.link_account.specs.Laws.{played, GivesBreaksInOrder, AnswersGiven, IsBreakOf, SendsBreaksTaken}
 use Rattle.plain_lists.specs.Prefix.{IsPrefixOf}
 use Rattle.link_account.proofs.Linked.{AllSaid, else-says, where-says}
-use Rattle.link_account.proofs.Breaking.{BrkOn, AckOn, BreaksGo, Go, OnTicked, go-asked, go-ticked, go-brk, go-ack, go-brk-lost, go-ack-lost, go-brk-heard, go-ack-heard, IsPending}
+use Rattle.link_account.proofs.Breaking.{BrkOn, AckOn, BreaksGo, Go, OnTicked, go-asked, go-ticked, go-brk, go-ack, go-brk-lost}
+use Rattle.link_account.proofs.Breaking.{go-ack-lost, go-brk-heard, go-ack-heard, IsPending}
 
 -- the break words of a slot
 abbrev pub brk_of_word : Result BreakWord BreakFault → ℕ → List BrkOn

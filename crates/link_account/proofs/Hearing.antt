@@ -1,5 +1,6 @@
 -- Hearing keeps a play good.
-use Rattle.std.proofs.Common.{◌≡◌, ℕ, ◌≤◌, ◌||◌, Bool, true, false, cond, List, ◌∷◌, arith, refl, sym, ◌∙◌, ap, subst, Option, Some, None, Result, Ok, Err}
+use Rattle.std.proofs.Common.{◌≡◌, ℕ, ◌≤◌, ◌||◌, Bool, true, false, cond, List, ◌∷◌, arith, refl, sym, ◌∙◌, ap, subst, Option, Some, None}
+use Rattle.std.proofs.Common.{Result, Ok, Err}
 use Rattle.roles.specs.declared.role.Role.{Role}
 use Rattle.roles.specs.declared.role.Role.TheVariants.{Originator, Answerer}
 use Rattle.roles.specs.Role.{other}
@@ -18,11 +19,14 @@ use Rattle.link_account.specs.declared.answer.Answer.{Answer}
 use Rattle.link_account.specs.declared.answer.Answer.TheVariants as answers
 use Rattle.link_account.specs.Account.{Account, window_for}
 use Rattle.roles.specs.Role.{is_originator}
-use Rattle.link_account.specs.Hear.{hear, on_frame, on_connected, on_detecting, on_negotiating, on_establishing, on_releasing, on_closed, on_xid_command, on_xid_response, on_sabme, peer_reset, on_disc, on_seen, on_pattern, owing, connected, trying, on_nothing, without_adp}
+use Rattle.link_account.specs.Hear.{hear, on_frame, on_connected, on_detecting, on_negotiating, on_establishing, on_releasing, on_closed}
+use Rattle.link_account.specs.Hear.{on_xid_command, on_xid_response, on_sabme, peer_reset, on_disc, on_seen, on_pattern, owing, connected}
+use Rattle.link_account.specs.Hear.{trying, on_nothing, without_adp}
 use Rattle.link_account.specs.Play.{Slot, arrives}
 use Rattle.link_account.proofs.Ends.{Goes}
 use Rattle.link_account.proofs.Linked.{IsNumbered, IsLinked, HearsWell, hears-linked, counts_as_numbered}
-use Rattle.link_account.proofs.Good.{rank, DueA, IsFresh, PlaceO, PlaceA, NoSabme, terms_of, Good, linked-o, linked-a, lost-o, lost-a, changed-o, changed-a}
+use Rattle.link_account.proofs.Good.{rank, DueA, IsFresh, PlaceO, PlaceA, NoSabme, terms_of, Good, linked-o, linked-a, lost-o, lost-a}
+use Rattle.link_account.proofs.Good.{changed-o, changed-a}
 
 -- what an answerer hears leaves all well
 abbrev pub WellA : Setup → Setup → Account → List Slot → List Slot → Result Account LinkFault → Type 0

@@ -1,10 +1,12 @@
 -- A linked end hears: both flows go on.
-use Rattle.std.proofs.Common.{◌≡◌, ℕ, ◌-◌, ◌%◌, ◌≤◌, ◌||◌, ◌&&◌, Bool, true, false, cond, List, [], ◌∷◌, ◌++◌, length, slice_index_or, refl, sym, ◌∙◌, ap, subst, Option, Some, None, Result, Ok, Err}
+use Rattle.std.proofs.Common.{◌≡◌, ℕ, ◌-◌, ◌%◌, ◌≤◌, ◌||◌, ◌&&◌, Bool, true, false, cond, List, [], ◌∷◌, ◌++◌, length, slice_index_or, refl}
+use Rattle.std.proofs.Common.{sym, ◌∙◌, ap, subst, Option, Some, None, Result, Ok, Err}
 use Rattle.std.specs.Option.{option_map}
 use Rattle.lapm_frames.specs.declared.frame.Frame.{Frame}
 use Rattle.lapm_frames.specs.declared.frame.Frame.TheVariants.{I, Rr, Rnr, Rej, Srej, Ui}
 use Rattle.lapm_sender.specs.Meant.{meant}
-use Rattle.lapm_sender.specs.Outgoing.{Outgoing, is_outstanding, paused_at, resumed, acknowledged, rejected, replied, advanced, gone_back, wait_ended, next_number, sent_among}
+use Rattle.lapm_sender.specs.Outgoing.{Outgoing, is_outstanding, paused_at, resumed, acknowledged, rejected, replied, advanced, gone_back}
+use Rattle.lapm_sender.specs.Outgoing.{wait_ended, next_number, sent_among}
 use Rattle.lapm_receiver.specs.Incoming.{Incoming, after_kind, kind_of, offset, next_expected, asks, after_asked, after_told}
 use Rattle.lapm_receiver.specs.declared.took.Took.{Took}
 use Rattle.lapm_receiver.specs.declared.took.Took.TheVariants.{InOrder, Kept, Repeat, Gap}
@@ -18,11 +20,15 @@ use Rattle.lapm_frames.specs.declared.sent.Sent.TheVariants as slots
 use Rattle.causes.specs.declared.fault.LinkFault.{LinkFault}
 use Rattle.link_account.specs.Account.{Account}
 use Rattle.roles.specs.Role.{is_originator}
-use Rattle.link_account.specs.Hear.{on_connected, on_i, on_ready, on_rej, on_srej, on_number, on_word, then_in, replying, hurrying, taking, ends_wait, timer_after, on_rnr, pausing}
-use Rattle.link_account.specs.Speak.{Said, says, says_frame, else_says, where_says, steps, step1, step2, step3, step4, step5, step6, step7, step8, step9, may_send, says_segment, says_asking, says_break, says_own, says_word, nr_of, telling, tells, ready_frame, differs}
+use Rattle.link_account.specs.Hear.{on_connected, on_i, on_ready, on_rej, on_srej, on_number, on_word, then_in, replying, hurrying, taking}
+use Rattle.link_account.specs.Hear.{ends_wait, timer_after, on_rnr, pausing}
+use Rattle.link_account.specs.Speak.{Said, says, says_frame, else_says, where_says, steps, step1, step2, step3, step4, step5, step6, step7}
+use Rattle.link_account.specs.Speak.{step8, step9, may_send, says_segment, says_asking, says_break, says_own, says_word, nr_of, telling}
+use Rattle.link_account.specs.Speak.{tells, ready_frame, differs}
 use Rattle.link_account.specs.Play.{Slot}
 use Rattle.link_account.proofs.Flow.{IsAskable}
-use Rattle.link_account.proofs.Ends.{segment_of, asked_of, Goes, back-forgotten, ack-found, back-advanced, back-rejected, back-replied, back-selected, line-passed, line-lost, line-taken, line-quiet, line-sent, back-told, asked-lies}
+use Rattle.link_account.proofs.Ends.{segment_of, asked_of, Goes, back-forgotten, ack-found, back-advanced, back-rejected, back-replied}
+use Rattle.link_account.proofs.Ends.{back-selected, line-passed, line-lost, line-taken, line-quiet, line-sent, back-told, asked-lies}
 
 -- An account whose parts are begun, the other end's parts, and both lines: both flows go.
 pub record Linked (wo wi : ℕ) (srej : Bool) (a : Account) (po : Outgoing) (pi : Incoming) (line back : List Slot) : Type 0 where

@@ -1,5 +1,6 @@
 -- Each step of a play keeps it good.
-use Rattle.std.proofs.Common.{◌≡◌, ℕ, ◌+◌, ◌%◌, ◌<◌, ◌≤◌, ◌&&◌, min, Bool, true, false, cond, nat_le, nat_lt, List, [], ◌∷◌, ◌++◌, length, drop, slice_index_or, arith, refl, sym, ◌∙◌, ap, subst, Option, Some, None, Result, Ok, Err}
+use Rattle.std.proofs.Common.{◌≡◌, ℕ, ◌+◌, ◌%◌, ◌<◌, ◌≤◌, ◌&&◌, min, Bool, true, false, cond, nat_le, nat_lt, List, [], ◌∷◌, ◌++◌, length}
+use Rattle.std.proofs.Common.{drop, slice_index_or, arith, refl, sym, ◌∙◌, ap, subst, Option, Some, None, Result, Ok, Err}
 use Rattle.std.specs.Prelude.{is_some}
 use Rattle.std.proofs.lemmas.Bool.{false≢true}
 use Rattle.std.proofs.lemmas.List.{take-append-drop}
@@ -19,15 +20,20 @@ use Rattle.causes.specs.declared.fault.LinkFault.TheVariants.{NotDetected, Spent
 use Rattle.link_account.specs.declared.setup.Setup.{Setup}
 use Rattle.link_account.specs.declared.phase.Phase.{Phase}
 use Rattle.link_account.specs.declared.phase.Phase.TheVariants.{Detecting, Negotiating, Establishing, Connected, Releasing, Closed}
-use Rattle.link_account.specs.Account.{Account, fresh, wants, piece_size, after_offer, after_delivery, after_break_asked, after_given, is_connected, after_busy}
+use Rattle.link_account.specs.Account.{Account, fresh, wants, piece_size, after_offer, after_delivery, after_break_asked, after_given}
+use Rattle.link_account.specs.Account.{is_connected, after_busy}
 use Rattle.link_account.specs.Hear.{hear, on_nothing}
 use Rattle.link_account.specs.Speak.{Said, speak}
-use Rattle.link_account.specs.Play.{Slot, Play, Event, Speaks, Passes, Is_lost, Hears_nothing, Is_offered, Is_asked, Delivers, Gives_break, arrives, seen_from, play_of, spoken, heard, passes, is_lost, is_offered, happens_at, role_of, goes_on, happens, play, start, Is_busy}
-use Rattle.link_account.specs.Laws.{MayPlay, played, TakesInOrder, WantsAnswers, BreaksForWantAlone, IsTakenBy, TakesByNumber, AcknowledgesTaken, SendsWhatWasOffered, AgreesOnSrej, has_begun, KnownByNumber, IsInRange, SendsInRange}
+use Rattle.link_account.specs.Play.{Slot, Play, Event, Speaks, Passes, Is_lost, Hears_nothing, Is_offered, Is_asked, Delivers, Gives_break}
+use Rattle.link_account.specs.Play.{arrives, seen_from, play_of, spoken, heard, passes, is_lost, is_offered, happens_at, role_of, goes_on}
+use Rattle.link_account.specs.Play.{happens, play, start, Is_busy}
+use Rattle.link_account.specs.Laws.{MayPlay, played, TakesInOrder, WantsAnswers, BreaksForWantAlone, IsTakenBy, TakesByNumber}
+use Rattle.link_account.specs.Laws.{AcknowledgesTaken, SendsWhatWasOffered, AgreesOnSrej, has_begun, KnownByNumber, IsInRange, SendsInRange}
 use Rattle.plain_lists.specs.Prefix.{IsPrefixOf}
 use Rattle.link_account.proofs.Flow.{keeps-offered}
 use Rattle.link_account.proofs.Ends.{Goes, flow, order-exact}
-use Rattle.link_account.proofs.Good.{rank, IsBegun, PlaceO, PlaceA, DueA, LineO, LineA, terms_of, Good, lost-o, lost-a, changed-o, changed-a}
+use Rattle.link_account.proofs.Good.{rank, IsBegun, PlaceO, PlaceA, DueA, LineO, LineA, terms_of, Good, lost-o, lost-a, changed-o}
+use Rattle.link_account.proofs.Good.{changed-a}
 use Rattle.link_account.proofs.Hearing.{WellA, WellO, a-hears, o-hears, a-nothing, o-nothing}
 use Rattle.link_account.proofs.Speaking.{IsHarmless, OnSaid, SaidO, SaidA, o-speaks, a-speaks}
 

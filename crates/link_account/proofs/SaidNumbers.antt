@@ -18,7 +18,10 @@ use Rattle.link_account.specs.declared.answer.Answer.TheVariants as answers
 use Rattle.link_account.specs.Account.{Account}
 use Rattle.roles.specs.Role.{is_originator}
 use Rattle.link_account.specs.Hear.{trying}
-use Rattle.link_account.specs.Speak.{Said, says, says_frame, says_segment, says_own, says_break, says_asking, where_says, answering, may_send, step1, step2, step3, step4, step5, step6, step7, step8, step9, steps, speak_in, speak_detecting, speak_negotiating, speak_releasing, speak_linked, u_try, tries_frame, trying_again, spent, on_timer, then_tries, after_timers, tells, ready_frame, has_news, nr_of}
+use Rattle.link_account.specs.Speak.{Said, says, says_frame, says_segment, says_own, says_break, says_asking, where_says, answering}
+use Rattle.link_account.specs.Speak.{may_send, step1, step2, step3, step4, step5, step6, step7, step8, step9, steps, speak_in}
+use Rattle.link_account.specs.Speak.{speak_detecting, speak_negotiating, speak_releasing, speak_linked, u_try, tries_frame, trying_again}
+use Rattle.link_account.specs.Speak.{spent, on_timer, then_tries, after_timers, tells, ready_frame, has_news, nr_of}
 use Rattle.link_account.specs.Play.{arrives}
 use Rattle.link_account.specs.Numbers.{HasNumbers, IsNumbered}
 use Rattle.link_account.specs.Laws.{SaysNumbers}

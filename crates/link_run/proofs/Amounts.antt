@@ -1,5 +1,6 @@
 -- How many segments an end has sent, and which of them go again, is counted by the numbers modulo 128 as by the meant ones.
-use Rattle.std.proofs.Common.{◌≡◌, ◌≢◌, inl, inr, ℕ, zero, suc, ◌+◌, ◌%◌, ◌≤◌, ◌||◌, max, Bool, true, false, cond, nat_eq, nat_lt, List, [], ◌∷◌, ◌++◌, length, arith, refl, sym, ◌∙◌, ap, subst, Option, Some, None, Ok}
+use Rattle.std.proofs.Common.{◌≡◌, ◌≢◌, inl, inr, ℕ, zero, suc, ◌+◌, ◌%◌, ◌≤◌, ◌||◌, max, Bool, true, false, cond, nat_eq, nat_lt, List, []}
+use Rattle.std.proofs.Common.{◌∷◌, ◌++◌, length, arith, refl, sym, ◌∙◌, ap, subst, Option, Some, None, Ok}
 use Rattle.std.proofs.lemmas.Bool.{false≢true}
 use Rattle.std.proofs.lemmas.Bool.Decides.{nat_tests}
 use Rattle.roles.specs.declared.role.Role.{Role}
@@ -21,7 +22,8 @@ use Rattle.link_run.specs.End.{User, delivered, piece_at, offered_at, offered_ti
 use Rattle.link_run.specs.Run.{Link, Ends, Spoken, Turn, arrival, GoingTurn, start, said_at, served_at, releases}
 use Rattle.link_run.specs.Carried.{Carries}
 use Rattle.link_run.specs.Laws.{RunsOver, IsPlayed}
-use Rattle.link_run.specs.Counts.{number_in, segment_number, is_number, numbers_sent, repeated, sequence_number, sequence_in, sequence_of, next_count, again_in, CountsByNumber, SentBelowHigh}
+use Rattle.link_run.specs.Counts.{number_in, segment_number, is_number, numbers_sent, repeated, sequence_number, sequence_in, sequence_of}
+use Rattle.link_run.specs.Counts.{next_count, again_in, CountsByNumber, SentBelowHigh}
 use Rattle.link_run.proofs.Keeping.{stage, GoesOn, hears}
 use Rattle.link_run.proofs.Serving.{served-alone}
 use Rattle.link_run.proofs.Running.{runs_are_plays, hearings_are_plays}

@@ -24,7 +24,9 @@ use Rattle.causes.specs.declared.fault.LinkFault.{LinkFault}
 use Rattle.link_account.specs.declared.answer.Answer.{Answer}
 use Rattle.link_account.specs.declared.answer.Answer.TheVariants as answers
 use Rattle.link_account.specs.Account.{Account}
-use Rattle.link_account.specs.Hear.{hear, on_frame, on_seen, on_pattern, on_detecting, on_negotiating, on_establishing, on_connected, on_releasing, on_closed, without_adp, on_xid_command, on_xid_response, on_number, on_sabme, on_disc, on_word, then_in, taking, replying, hurrying, pausing, ends_wait, owing, peer_reset}
+use Rattle.link_account.specs.Hear.{hear, on_frame, on_seen, on_pattern, on_detecting, on_negotiating, on_establishing, on_connected}
+use Rattle.link_account.specs.Hear.{on_releasing, on_closed, without_adp, on_xid_command, on_xid_response, on_number, on_sabme, on_disc}
+use Rattle.link_account.specs.Hear.{on_word, then_in, taking, replying, hurrying, pausing, ends_wait, owing, peer_reset}
 
 -- how far an end has come
 pub record Course : Type 0 where

@@ -1,5 +1,6 @@
 -- What an end says by U frames, and in which phase: its own offer, its commands with P = 1, and the answers that it owes.
-use Rattle.std.proofs.Common.{◌≡◌, ◌⊎◌, inl, inr, ℕ, ◌+◌, ◌*◌, ◌&&◌, Bool, true, false, cond, nat_eq, nat_le, refl, ◌∙◌, subst, Option, Some, None, Result, Ok, Err}
+use Rattle.std.proofs.Common.{◌≡◌, ◌⊎◌, inl, inr, ℕ, ◌+◌, ◌*◌, ◌&&◌, Bool, true, false, cond, nat_eq, nat_le, refl, ◌∙◌, subst, Option}
+use Rattle.std.proofs.Common.{Some, None, Result, Ok, Err}
 use Rattle.roles.specs.declared.role.Role.{Role}
 use Rattle.roles.specs.declared.role.Role.TheVariants.{Originator, Answerer}
 use Rattle.roles.specs.Role.{is_originator}
@@ -21,7 +22,11 @@ use Rattle.link_account.specs.declared.answer.Answer.{Answer}
 use Rattle.link_account.specs.declared.answer.Answer.TheVariants as answers
 use Rattle.link_account.specs.Account.{Account}
 use Rattle.link_account.specs.Hear.{trying}
-use Rattle.link_account.specs.Speak.{Said, says, says_frame, telling, says_segment, says_own, says_break, says_asking, where_says, else_says, answering, may_send, step1, step2, step3, step4, step5, step6, step7, step8, steps, speak, speak_in, speak_detecting, speak_negotiating, speak_releasing, speak_linked, speak_answer, u_try, tries_frame, trying_again, spent, on_timer, timer_expires, polling, on_break_timer, breaking, then_tries, after_timers, tells, ready_frame, nr_of, has_news}
+use Rattle.link_account.specs.Speak.{Said, says, says_frame, telling, says_segment, says_own, says_break, says_asking, where_says}
+use Rattle.link_account.specs.Speak.{else_says, answering, may_send, step1, step2, step3, step4, step5, step6, step7, step8, steps, speak}
+use Rattle.link_account.specs.Speak.{speak_in, speak_detecting, speak_negotiating, speak_releasing, speak_linked, speak_answer, u_try}
+use Rattle.link_account.specs.Speak.{tries_frame, trying_again, spent, on_timer, timer_expires, polling, on_break_timer, breaking}
+use Rattle.link_account.specs.Speak.{then_tries, after_timers, tells, ready_frame, nr_of, has_news}
 
 -- a frame that an end in this phase, with this answer due, may send
 abbrev pub OwnFrame : Setup → Option Answer → Phase → Frame → Type 0

@@ -1,5 +1,6 @@
 -- Once the originator was told to release, nothing of both files or of any break is left; so done means whole.
-use Rattle.std.proofs.Common.{◌≡◌, inl, inr, ℕ, zero, suc, ◌+◌, ◌≤◌, ◌&&◌, ◌||◌, not, Bool, true, false, cond, nat_eq, nat_lt, List, [], ◌∷◌, ◌++◌, length, arith, length-append, refl, sym, ◌∙◌, ap, subst, Option, Some, None, Ok}
+use Rattle.std.proofs.Common.{◌≡◌, inl, inr, ℕ, zero, suc, ◌+◌, ◌≤◌, ◌&&◌, ◌||◌, not, Bool, true, false, cond, nat_eq, nat_lt, List, []}
+use Rattle.std.proofs.Common.{◌∷◌, ◌++◌, length, arith, length-append, refl, sym, ◌∙◌, ap, subst, Option, Some, None, Ok}
 use Rattle.std.specs.List.{concat}
 use Rattle.std.proofs.lemmas.Bool.{false≢true}
 use Rattle.std.proofs.lemmas.Bool.Decides.{nat_tests}
@@ -18,7 +19,8 @@ use Rattle.link_account.specs.declared.phase.Phase.TheVariants.{Detecting, Negot
 use Rattle.link_account.specs.Account.{Account, is_connected, wants, after_given, after_busy, is_done, break_waits}
 use Rattle.link_account.specs.Speak.{Said}
 use Rattle.link_account.specs.Laws.{MayPlay}
-use Rattle.link_run.specs.End.{User, delivered, offered_at, offered_times, room_for, is_busy, served, is_released, is_closed, has_finished, is_ready, next_break}
+use Rattle.link_run.specs.End.{User, delivered, offered_at, offered_times, room_for, is_busy, served, is_released, is_closed, has_finished}
+use Rattle.link_run.specs.End.{is_ready, next_break}
 use Rattle.link_run.specs.Run.{Link, Ends, Turn, arrival, Hears, RunOf, served_at, finished_at, releases, said_at}
 use Rattle.link_run.specs.Run as run
 use Rattle.link_run.specs.Carried.{IsCarried, HasDelays}
@@ -29,7 +31,8 @@ use Rattle.link_run.proofs.Serving.{Waiting, served-alone, busy-alone}
 use Rattle.link_run.proofs.Playing.{at, then-leads, serves}
 use Rattle.link_run.proofs.Running.{begun, Reaches, speaks-at, run-handed, hearing-waits, hearing-reaches, run-reaches}
 use Rattle.link_run.proofs.Cutting.{linked-stage}
-use Rattle.link_run.proofs.Ending.{AtBoth, kept-heard, kept-run, HasSetup, setups-kept, HasCut, cuts-kept, Facts, PlayLaws, facts, allowed-both}
+use Rattle.link_run.proofs.Ending.{AtBoth, kept-heard, kept-run, HasSetup, setups-kept, HasCut, cuts-kept, Facts, PlayLaws, facts}
+use Rattle.link_run.proofs.Ending.{allowed-both}
 
 both-true : (b c : Bool) → (b && c) ≡ true → (b ≡ true) × (c ≡ true)
 both-true true c e = (refl, e)

@@ -1,5 +1,6 @@
 -- All through a run the frames that passed tell how far both ends are.
-use Rattle.std.proofs.Common.{◌≡◌, ◌≢◌, ◌⊎◌, inl, inr, ℕ, ◌≤◌, ◌||◌, Bool, true, false, cond, nat_le, List, [], ◌∷◌, length, arith, refl, sym, ◌∙◌, ap, subst, Option, Some, None}
+use Rattle.std.proofs.Common.{◌≡◌, ◌≢◌, ◌⊎◌, inl, inr, ℕ, ◌≤◌, ◌||◌, Bool, true, false, cond, nat_le, List, [], ◌∷◌, length, arith, refl}
+use Rattle.std.proofs.Common.{sym, ◌∙◌, ap, subst, Option, Some, None}
 use Rattle.std.proofs.lemmas.Bool.{false≢true}
 use Rattle.std.proofs.lemmas.Bool.Decides.{nat_tests}
 use Rattle.roles.specs.declared.role.Role.{Role}
@@ -33,7 +34,8 @@ use Rattle.link_run.proofs.Saying.{Says, is-said}
 use Rattle.link_run.proofs.Joining.{serving}
 use Rattle.link_run.proofs.Coursing.{Course, course, heard_course, course-heard}
 use Rattle.link_run.proofs.Declaring.{OwnFrame, OwnSent, Declares, is-declared}
-use Rattle.link_run.proofs.Knowing.{rank, OnSent, IfSent, AllSent, all-weaker, came-all, passed-brings, SentO, SentA, sent_o-later, sent_a-later, DueO, DueA, due_a-later, terms_of, Reads, AfterO, o-hears, AfterA, a-hears}
+use Rattle.link_run.proofs.Knowing.{rank, OnSent, IfSent, AllSent, all-weaker, came-all, passed-brings, SentO, SentA, sent_o-later}
+use Rattle.link_run.proofs.Knowing.{sent_a-later, DueO, DueA, due_a-later, terms_of, Reads, AfterO, o-hears, AfterA, a-hears}
 
 -- what was sent in some turns and heard in some tells how far both ends are
 pub record Known (so sa : Setup) (sent heard : List Turn) (o a : Course) : Type 0 where

@@ -1,6 +1,8 @@
--- How far both ends have come, by what each has sent: neither is sent numbered frames before it is Connected, and the answerer is closed only once
+-- How far both ends have come, by what each has sent: neither is sent numbered frames before it is Connected, and the answerer is closed
+-- only once
 -- the originator releases.
-use Rattle.std.proofs.Common.{◌≡◌, ◌≢◌, ◌⊎◌, inl, inr, ℕ, zero, suc, ◌-◌, ◌≤◌, ◌||◌, Bool, true, false, cond, List, [], ◌∷◌, length, arith, refl, sym, ◌∙◌, ap, subst, Option, Some, None, slice_get}
+use Rattle.std.proofs.Common.{◌≡◌, ◌≢◌, ◌⊎◌, inl, inr, ℕ, zero, suc, ◌-◌, ◌≤◌, ◌||◌, Bool, true, false, cond, List, [], ◌∷◌, length, arith}
+use Rattle.std.proofs.Common.{refl, sym, ◌∙◌, ap, subst, Option, Some, None, slice_get}
 use Rattle.std.proofs.lemmas.Bool.{false≢true}
 use Rattle.roles.specs.declared.role.Role.{Role}
 use Rattle.roles.specs.declared.role.Role.TheVariants.{Originator, Answerer}

@@ -1,5 +1,6 @@
 -- What an end keeps of its books as it hears and speaks.
-use Rattle.std.proofs.Common.{◌≡◌, ◌≢◌, ◌⊎◌, inl, inr, ℕ, ◌+◌, ◌-◌, ◌%◌, ◌≤◌, ◌&&◌, ◌||◌, Bool, true, false, cond, nat_eq, List, [], ◌∷◌, ◌++◌, length, arith, lit≤, refl, sym, ◌∙◌, ap, subst, Option, Some, None, Result, Ok, Err}
+use Rattle.std.proofs.Common.{◌≡◌, ◌≢◌, ◌⊎◌, inl, inr, ℕ, ◌+◌, ◌-◌, ◌%◌, ◌≤◌, ◌&&◌, ◌||◌, Bool, true, false, cond, nat_eq, List, [], ◌∷◌}
+use Rattle.std.proofs.Common.{◌++◌, length, arith, lit≤, refl, sym, ◌∙◌, ap, subst, Option, Some, None, Result, Ok, Err}
 use Rattle.std.specs.Option.{option_map}
 use Rattle.std.proofs.lemmas.Bool.{false≢true}
 use Rattle.std.proofs.lemmas.List.{append-nil}
@@ -13,7 +14,8 @@ use Rattle.xid_params.specs.Terms.{agree, default_offer}
 use Rattle.xid_params.specs.Offers.{offer_in, IsAllowed, ReadsAllowed}
 use Rattle.lapm_sender.specs.Meant.{meant}
 use Rattle.lapm_sender.specs.Numbers.{with_number}
-use Rattle.lapm_sender.specs.Outgoing.{Outgoing, acknowledged, rejected, replied, selected, advanced, gone_back, wait_ended, is_outstanding, after_next, sent_among, expired, paused_at, resumed}
+use Rattle.lapm_sender.specs.Outgoing.{Outgoing, acknowledged, rejected, replied, selected, advanced, gone_back, wait_ended, is_outstanding}
+use Rattle.lapm_sender.specs.Outgoing.{after_next, sent_among, expired, paused_at, resumed}
 use Rattle.lapm_sender.specs.Outgoing as outgoing
 use Rattle.lapm_receiver.specs.Incoming.{Incoming, after_take, after_kind, kind_of, offset, KeepsTaken, asks, after_asked}
 use Rattle.lapm_receiver.specs.Incoming as incoming
@@ -35,7 +37,10 @@ use Rattle.causes.specs.declared.fault.LinkFault.{LinkFault}
 use Rattle.link_account.specs.declared.answer.Answer.TheVariants as answers
 use Rattle.link_account.specs.Account.{Account, size_for, window_for}
 use Rattle.link_account.specs.Laws.{WantsAnswers}
-use Rattle.link_account.specs.Hear.{hear, on_frame, on_seen, on_pattern, on_detecting, on_negotiating, on_establishing, on_connected, on_releasing, on_closed, on_nothing, on_xid_command, on_xid_response, connected, on_number, on_sabme, on_disc, on_word, then_in, taking, replying, hurrying, ends_wait, owing, trying, timer_after, peer_reset, pausing}
+use Rattle.link_account.specs.Hear.{hear, on_frame, on_seen, on_pattern, on_detecting, on_negotiating, on_establishing, on_connected}
+use Rattle.link_account.specs.Hear.{on_releasing, on_closed, on_nothing, on_xid_command, on_xid_response, connected, on_number, on_sabme}
+use Rattle.link_account.specs.Hear.{on_disc, on_word, then_in, taking, replying, hurrying, ends_wait, owing, trying, timer_after}
+use Rattle.link_account.specs.Hear.{peer_reset, pausing}
 use Rattle.roles.specs.Role.{is_originator}
 
 -- what neither hearing nor speaking changes

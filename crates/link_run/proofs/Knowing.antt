@@ -1,5 +1,7 @@
--- What is known of both ends by the frames that passed: who has heard an XID frame has agreed, and who has heard a UA or a SABME is Connected.
-use Rattle.std.proofs.Common.{◌≡◌, ◌≢◌, ℕ, zero, suc, ◌-◌, ◌≤◌, ◌||◌, Bool, true, false, cond, nat_le, List, [], ◌∷◌, arith, refl, sym, ◌∙◌, ap, subst, Option, Some, None, slice_get}
+-- What is known of both ends by the frames that passed: who has heard an XID frame has agreed, and who has heard a UA or a SABME is
+-- Connected.
+use Rattle.std.proofs.Common.{◌≡◌, ◌≢◌, ℕ, zero, suc, ◌-◌, ◌≤◌, ◌||◌, Bool, true, false, cond, nat_le, List, [], ◌∷◌, arith, refl, sym, ◌∙◌}
+use Rattle.std.proofs.Common.{ap, subst, Option, Some, None, slice_get}
 use Rattle.std.proofs.lemmas.Bool.{false≢true}
 use Rattle.roles.specs.declared.role.Role.{Role}
 use Rattle.roles.specs.declared.role.Role.TheVariants.{Originator, Answerer}

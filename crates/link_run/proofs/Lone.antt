@@ -11,7 +11,8 @@ use Rattle.xid_params.specs.Offers.{ReadsAllowed}
 use Rattle.lapm_receiver.specs.Incoming.{KeepsTaken}
 use Rattle.causes.specs.declared.fault.LinkFault.{LinkFault}
 use Rattle.link_run.specs.End.{has_finished}
-use Rattle.link_run.specs.Alone.{LoneRun, LoneNext, Goes_on, Is_last, Is_faulty, Is_broken, hangs_up, LoneHearingsDeliver, LoneSpeakingTakesNothing, EachLoneTurnIsMade}
+use Rattle.link_run.specs.Alone.{LoneRun, LoneNext, Goes_on, Is_last, Is_faulty, Is_broken, hangs_up, LoneHearingsDeliver}
+use Rattle.link_run.specs.Alone.{LoneSpeakingTakesNothing, EachLoneTurnIsMade}
 use Rattle.link_run.proofs.Keeping.{stage, hears}
 use Rattle.link_run.proofs.Speaking.{speaks}
 use Rattle.link_run.proofs.Serving.{Handed, heard-waits, served-handed, spoken-handed}

@@ -1,5 +1,6 @@
 -- What hearing and speaking tell of UA, of DISC and of frames with numbers: who sends them, and in which phase.
-use Rattle.std.proofs.Common.{◌≡◌, ◌⊎◌, inl, inr, ℕ, ◌≤◌, ◌&&◌, ◌||◌, Bool, true, false, cond, List, arith, refl, sym, ◌∙◌, ap, subst, Option, Some, None, Result, Ok, Err}
+use Rattle.std.proofs.Common.{◌≡◌, ◌⊎◌, inl, inr, ℕ, ◌≤◌, ◌&&◌, ◌||◌, Bool, true, false, cond, List, arith, refl, sym, ◌∙◌, ap, subst}
+use Rattle.std.proofs.Common.{Option, Some, None, Result, Ok, Err}
 use Rattle.std.proofs.lemmas.Bool.{false≢true}
 use Rattle.roles.specs.declared.role.Role.{Role}
 use Rattle.roles.specs.declared.role.Role.TheVariants.{Originator, Answerer}
@@ -26,7 +27,10 @@ use Rattle.causes.specs.declared.fault.LinkFault.{LinkFault}
 use Rattle.link_account.specs.declared.answer.Answer.{Answer}
 use Rattle.link_account.specs.declared.answer.Answer.TheVariants as answers
 use Rattle.link_account.specs.Account.{Account}
-use Rattle.link_account.specs.Hear.{hear, on_frame, on_seen, on_pattern, on_detecting, on_negotiating, on_establishing, on_connected, on_releasing, on_closed, on_nothing, without_adp, on_xid_command, on_xid_response, connected, on_number, on_sabme, on_disc, on_word, then_in, taking, replying, hurrying, ends_wait, owing, trying, timer_after, peer_reset, pausing}
+use Rattle.link_account.specs.Hear.{hear, on_frame, on_seen, on_pattern, on_detecting, on_negotiating, on_establishing, on_connected}
+use Rattle.link_account.specs.Hear.{on_releasing, on_closed, on_nothing, without_adp, on_xid_command, on_xid_response, connected, on_number}
+use Rattle.link_account.specs.Hear.{on_sabme, on_disc, on_word, then_in, taking, replying, hurrying, ends_wait, owing, trying, timer_after}
+use Rattle.link_account.specs.Hear.{peer_reset, pausing}
 use Rattle.link_account.specs.Play.{arrives}
 use Rattle.link_run.proofs.Keeping.{stage}
 use Rattle.roles.specs.Role.{is_originator}

@@ -1,5 +1,6 @@
 -- Which end breaks with which fault, and that each turn is made.
-use Rattle.std.proofs.Common.{◌≡◌, ℕ, ◌+◌, ◌*◌, ◌&&◌, Bool, true, false, cond, nat_eq, nat_le, List, length, refl, sym, ◌∙◌, ap, subst, Option, Some, None, Result, Ok, Err}
+use Rattle.std.proofs.Common.{◌≡◌, ℕ, ◌+◌, ◌*◌, ◌&&◌, Bool, true, false, cond, nat_eq, nat_le, List, length, refl, sym, ◌∙◌, ap, subst}
+use Rattle.std.proofs.Common.{Option, Some, None, Result, Ok, Err}
 use Rattle.std.specs.Prelude.{is_ok}
 use Rattle.std.proofs.lemmas.Bool.{false≢true}
 use Rattle.roles.specs.declared.role.Role.{Role}
@@ -17,7 +18,9 @@ use Rattle.causes.specs.declared.fault.LinkFault.{LinkFault}
 use Rattle.causes.specs.declared.fault.LinkFault.TheVariants.{NotDetected, Spent, BadAck, PeerReset, PeerRefused}
 use Rattle.link_account.specs.Account.{Account, given_break, check_of}
 use Rattle.link_account.specs.Hear.{hear, trying}
-use Rattle.link_account.specs.Speak.{Said, says, tries_frame, trying_again, spent, speak, speak_in, speak_detecting, speak_negotiating, speak_releasing, speak_linked, u_try, on_timer, timer_expires, polling, breaking, then_tries, after_timers}
+use Rattle.link_account.specs.Speak.{Said, says, tries_frame, trying_again, spent, speak, speak_in, speak_detecting, speak_negotiating}
+use Rattle.link_account.specs.Speak.{speak_releasing, speak_linked, u_try, on_timer, timer_expires, polling, breaking, then_tries}
+use Rattle.link_account.specs.Speak.{after_timers}
 use Rattle.lapm_frames.specs.declared.sent.Sent.TheVariants as slots
 use Rattle.lapm_frames.specs.declared.heard.Heard.{Heard}
 use Rattle.link_run.specs.End.{is_closed, is_released}

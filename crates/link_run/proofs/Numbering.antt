@@ -1,5 +1,6 @@
 -- What an end sends is the next segment, or one that it has sent.
-use Rattle.std.proofs.Common.{◌≡◌, ℕ, ◌+◌, ◌*◌, ◌%◌, ◌<◌, ◌≤◌, ◌&&◌, ◌||◌, max, Bool, true, false, cond, nat_eq, nat_le, nat_lt, List, [], ◌∷◌, length, arith, refl, sym, ◌∙◌, ap, subst, Option, Some, None, Result, Ok, Err}
+use Rattle.std.proofs.Common.{◌≡◌, ℕ, ◌+◌, ◌*◌, ◌%◌, ◌<◌, ◌≤◌, ◌&&◌, ◌||◌, max, Bool, true, false, cond, nat_eq, nat_le, nat_lt, List, []}
+use Rattle.std.proofs.Common.{◌∷◌, length, arith, refl, sym, ◌∙◌, ap, subst, Option, Some, None, Result, Ok, Err}
 use Rattle.std.specs.List.{AllByRecursion}
 use Rattle.roles.specs.declared.role.Role.{Role}
 use Rattle.roles.specs.declared.role.Role.TheVariants.{Originator, Answerer}
@@ -21,8 +22,10 @@ use Rattle.link_account.specs.declared.answer.Answer.TheVariants as answers
 use Rattle.link_account.specs.Account.{Account}
 use Rattle.link_account.specs.Hear.{trying}
 use Rattle.link_account.specs.Laws.{IsInRange}
-use Rattle.link_account.specs.Speak.{Said, says, says_frame, telling, says_segment, says_own, says_break, says_asking, where_says, else_says, answering, may_send, step1, step2, step3, step4, step5, step6, step7, step8, steps}
-use Rattle.link_account.specs.Speak.{speak, speak_in, speak_detecting, speak_negotiating, speak_releasing, speak_linked, speak_answer, u_try, tries_frame, trying_again, spent, on_timer, timer_expires, polling, on_break_timer, breaking}
+use Rattle.link_account.specs.Speak.{Said, says, says_frame, telling, says_segment, says_own, says_break, says_asking, where_says}
+use Rattle.link_account.specs.Speak.{else_says, answering, may_send, step1, step2, step3, step4, step5, step6, step7, step8, steps}
+use Rattle.link_account.specs.Speak.{speak, speak_in, speak_detecting, speak_negotiating, speak_releasing, speak_linked, speak_answer}
+use Rattle.link_account.specs.Speak.{u_try, tries_frame, trying_again, spent, on_timer, timer_expires, polling, on_break_timer, breaking}
 use Rattle.link_account.specs.Speak.{then_tries, after_timers, tells, has_news, ready_frame, nr_of}
 use Rattle.link_run.specs.Counts.{sequence_number, sequence_in}
 

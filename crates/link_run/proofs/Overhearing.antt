@@ -1,5 +1,6 @@
 -- What the frames that pass tell.
-use Rattle.std.proofs.Common.{zero, suc, ◌≡◌, ◌≢◌, inl, inr, ℕ, ◌+◌, ◌-◌, ◌%◌, ◌≤◌, Bool, true, false, cond, nat_eq, nat_le, List, [], ◌∷◌, ◌++◌, length, map, arith, length-append, refl, sym, ◌∙◌, ap, subst, Option, Some, None, Result, Ok, slice_get}
+use Rattle.std.proofs.Common.{zero, suc, ◌≡◌, ◌≢◌, inl, inr, ℕ, ◌+◌, ◌-◌, ◌%◌, ◌≤◌, Bool, true, false, cond, nat_eq, nat_le, List, [], ◌∷◌}
+use Rattle.std.proofs.Common.{◌++◌, length, map, arith, length-append, refl, sym, ◌∙◌, ap, subst, Option, Some, None, Result, Ok, slice_get}
 use Rattle.std.proofs.lemmas.Bool.{false≢true}
 use Rattle.std.proofs.lemmas.Bool.Decides.{nat_tests}
 use Rattle.std.proofs.lemmas.List.{append-nil}
@@ -32,12 +33,15 @@ use Rattle.causes.specs.declared.fault.LinkFault.{LinkFault}
 use Rattle.link_account.specs.Account.{Account, check_of, first_terms}
 use Rattle.link_account.specs.Hear.{hear, on_frame, on_detecting, on_negotiating}
 use Rattle.link_account.specs.Play.{Slot, Play}
-use Rattle.link_account.specs.Laws.{MayPlay, has_begun, NextIsKnown, KnownByNumber, NextWasOffered, SendsWhatWasOffered, NextIsBreak, SendsBreaksTaken}
+use Rattle.link_account.specs.Laws.{MayPlay, has_begun, NextIsKnown, KnownByNumber, NextWasOffered, SendsWhatWasOffered, NextIsBreak}
+use Rattle.link_account.specs.Laws.{SendsBreaksTaken}
 use Rattle.link_run.specs.End.{is_released}
 use Rattle.link_run.specs.Run.{RunOf, Link, Ends, Spoken, Turn, spoken, arrival}
 use Rattle.link_run.specs.Carried.{sent_in, sent_ago, Crosses, HasDelays, IsCarried}
 use Rattle.link_run.specs.Laws.{RunsOver, told_by_play, told_by_turn}
-use Rattle.link_run.specs.Overheard.{has_passed, is_xid, opens, OpensByFrames, agreed_terms, AgreesByXid, agreed_check, SendsAgreedCheck, HearsAgreedCheck, JudgesByItsCheck, SegmentsPassLater, IsOld, NothingNew, ReleasesLast, EarlyBreaksAreIgnored}
+use Rattle.link_run.specs.Overheard.{has_passed, is_xid, opens, OpensByFrames, agreed_terms, AgreesByXid, agreed_check, SendsAgreedCheck}
+use Rattle.link_run.specs.Overheard.{HearsAgreedCheck, JudgesByItsCheck, SegmentsPassLater, IsOld, NothingNew, ReleasesLast}
+use Rattle.link_run.specs.Overheard.{EarlyBreaksAreIgnored}
 use Rattle.link_run.proofs.Keeping.{stage, GoesOn, hears, Standing, standing, stands-heard}
 use Rattle.link_run.proofs.Playing.{made, next-first, head-of, none-is-some}
 use Rattle.link_run.proofs.Running.{Reaches, lines, run-reaches, hearing-reaches}

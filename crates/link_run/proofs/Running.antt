@@ -1,5 +1,6 @@
 -- Each run over a line is a play.
-use Rattle.std.proofs.Common.{◌≡◌, ℕ, zero, suc, Bool, false, ◌-◌, List, [], ◌∷◌, ◌++◌, length, map, refl, sym, ◌∙◌, ap, subst, Option, Some, Ok}
+use Rattle.std.proofs.Common.{◌≡◌, ℕ, zero, suc, Bool, false, ◌-◌, List, [], ◌∷◌, ◌++◌, length, map, refl, sym, ◌∙◌, ap, subst, Option}
+use Rattle.std.proofs.Common.{Some, Ok}
 use Rattle.roles.specs.declared.role.Role.{Role}
 use Rattle.roles.specs.declared.role.Role.TheVariants.{Originator, Answerer}
 use Rattle.roles.specs.Both.{of}
@@ -18,7 +19,8 @@ use Rattle.link_run.proofs.Keeping.{hears}
 use Rattle.link_run.proofs.Speaking.{speaks}
 use Rattle.link_run.proofs.Speaking as speaking
 use Rattle.link_run.proofs.Serving.{Handed, Waiting, heard-waits, served-handed, spoken-handed}
-use Rattle.link_run.proofs.Playing.{at, Leads, stay, then-leads, one, arrives-next, behind, told-behind, turns-behind, serves, speaks-one, slot_of}
+use Rattle.link_run.proofs.Playing.{at, Leads, stay, then-leads, one, arrives-next, behind, told-behind, turns-behind, serves, speaks-one}
+use Rattle.link_run.proofs.Playing.{slot_of}
 
 abbrev pub begun : Link → Play
 begun link = start (fresh link.orig.setup) (fresh link.answ.setup)

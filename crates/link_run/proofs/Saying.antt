@@ -1,5 +1,6 @@
 -- Who says a UA, a DISC and a frame with numbers, and in which phase.
-use Rattle.std.proofs.Common.{◌≡◌, ℕ, ◌+◌, ◌*◌, ◌≤◌, ◌&&◌, ◌||◌, Bool, true, false, cond, nat_eq, nat_le, List, [], ◌∷◌, ◌++◌, arith, refl, sym, ◌∙◌, ap, subst, Option, Some, None, Result, Ok, Err}
+use Rattle.std.proofs.Common.{◌≡◌, ℕ, ◌+◌, ◌*◌, ◌≤◌, ◌&&◌, ◌||◌, Bool, true, false, cond, nat_eq, nat_le, List, [], ◌∷◌, ◌++◌, arith, refl}
+use Rattle.std.proofs.Common.{sym, ◌∙◌, ap, subst, Option, Some, None, Result, Ok, Err}
 use Rattle.std.proofs.lemmas.Bool.{false≢true}
 use Rattle.roles.specs.declared.role.Role.{Role}
 use Rattle.roles.specs.declared.role.Role.TheVariants.{Originator, Answerer}
@@ -20,7 +21,11 @@ use Rattle.link_account.specs.declared.answer.Answer.{Answer}
 use Rattle.link_account.specs.declared.answer.Answer.TheVariants as answers
 use Rattle.link_account.specs.Account.{Account}
 use Rattle.link_account.specs.Hear.{trying}
-use Rattle.link_account.specs.Speak.{Said, says, says_frame, telling, says_segment, says_own, says_break, says_asking, where_says, else_says, answering, may_send, step1, step2, step3, step4, step5, step6, step7, step8, steps, speak, speak_in, speak_detecting, speak_negotiating, speak_releasing, speak_linked, speak_answer, u_try, tries_frame, trying_again, spent, on_timer, timer_expires, polling, on_break_timer, breaking, then_tries, after_timers, tells, ready_frame, nr_of, has_news}
+use Rattle.link_account.specs.Speak.{Said, says, says_frame, telling, says_segment, says_own, says_break, says_asking, where_says}
+use Rattle.link_account.specs.Speak.{else_says, answering, may_send, step1, step2, step3, step4, step5, step6, step7, step8, steps, speak}
+use Rattle.link_account.specs.Speak.{speak_in, speak_detecting, speak_negotiating, speak_releasing, speak_linked, speak_answer, u_try}
+use Rattle.link_account.specs.Speak.{tries_frame, trying_again, spent, on_timer, timer_expires, polling, on_break_timer, breaking}
+use Rattle.link_account.specs.Speak.{then_tries, after_timers, tells, ready_frame, nr_of, has_news}
 use Rattle.link_run.proofs.Keeping.{stage}
 use Rattle.link_run.proofs.Meeting.{is_ua, is_disc, is_segment, is_counted, carries, owes_ua}
 use Rattle.roles.specs.Role.{is_originator}

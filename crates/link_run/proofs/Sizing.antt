@@ -1,5 +1,6 @@
 -- Segments have at most the agreed length, and that is at most what their sender offers.
-use Rattle.std.proofs.Common.{◌≡◌, ◌≤◌, max, inl, inr, ℕ, zero, suc, ◌*◌, Bool, true, false, cond, nat_le, List, [], ◌∷◌, ◌++◌, length, drop, arith, refl, sym, ◌∙◌, ap, subst, Option, Some, None, Ok}
+use Rattle.std.proofs.Common.{◌≡◌, ◌≤◌, max, inl, inr, ℕ, zero, suc, ◌*◌, Bool, true, false, cond, nat_le, List, [], ◌∷◌, ◌++◌, length}
+use Rattle.std.proofs.Common.{drop, arith, refl, sym, ◌∙◌, ap, subst, Option, Some, None, Ok}
 use Rattle.std.proofs.lemmas.List.{length-take}
 use Rattle.roles.specs.declared.role.Role.{Role}
 use Rattle.roles.specs.declared.role.Role.TheVariants.{Originator, Answerer}

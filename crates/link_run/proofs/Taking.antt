@@ -1,5 +1,7 @@
 -- The segments that passed, by their numbers alone, give what the accounts took.
-use Rattle.std.proofs.Common.{◌≡◌, ◌≢◌, ◌⊎◌, inl, inr, ℕ, zero, suc, ◌+◌, ◌-◌, ◌%◌, ◌<◌, ◌≤◌, ◌||◌, Bool, true, false, cond, nat_eq, List, [], ◌∷◌, ◌++◌, length, map, slice_index_or, arith, length-append, refl, sym, ◌∙◌, ap, subst, Option, Some, None, Ok, slice_get}
+use Rattle.std.proofs.Common.{◌≡◌, ◌≢◌, ◌⊎◌, inl, inr, ℕ, zero, suc, ◌+◌, ◌-◌, ◌%◌, ◌<◌, ◌≤◌, ◌||◌, Bool, true, false, cond, nat_eq, List}
+use Rattle.std.proofs.Common.{[], ◌∷◌, ◌++◌, length, map, slice_index_or, arith, length-append, refl, sym, ◌∙◌, ap, subst, Option, Some}
+use Rattle.std.proofs.Common.{None, Ok, slice_get}
 use Rattle.std.specs.List.{concat}
 use Rattle.std.proofs.lemmas.Bool.{false≢true}
 use Rattle.std.proofs.lemmas.List.{append-nil, append_assoc}
@@ -26,7 +28,8 @@ use Rattle.lapm_frames.specs.declared.heard.Heard.TheVariants.{Nothing, Passed, 
 use Rattle.link_run.specs.End.{User, delivered, piece_at, offered_at, offered_times, room_for, offered, served, is_released}
 use Rattle.link_run.specs.Run.{Link, Ends, Turn, Spoken, arrival, Hears, RunOf, served_at}
 use Rattle.link_run.specs.Carried.{sent_in, sent_ago, Crosses, Carries, IsCarried, HasDelays, on_line}
-use Rattle.link_run.specs.Taken.{Segment, framed_segment, segment_in, segments_to, taken_octets, is_among, missing, keeping, kept, octets_in}
+use Rattle.link_run.specs.Taken.{Segment, framed_segment, segment_in, segments_to, taken_octets, is_among, missing, keeping, kept}
+use Rattle.link_run.specs.Taken.{octets_in}
 use Rattle.link_run.specs.Laws.{told_by_play, told_by_turn, agreed_srej, TakesWhatPassed, HearsWhatPassed}
 use Rattle.link_run.proofs.Keeping.{Books, stage, GoesOn, hears}
 use Rattle.link_run.proofs.Speaking.{Ledger, Speaks, Keeps_on, Releases}

@@ -1,5 +1,6 @@
 -- From every answer to what the command promises.
-use Rattle.std.proofs.Common.{◌≡◌, ◌∙◌, ℕ, ◌+◌, ◌*◌, ◌≤◌, ◌<◌, nat_lt, IsTrue, List, [], ◌++◌, length, length-append, take, Result, ap, subst, arith}
+use Rattle.std.proofs.Common.{◌≡◌, ◌∙◌, ℕ, ◌+◌, ◌*◌, ◌≤◌, ◌<◌, nat_lt, IsTrue, List, [], ◌++◌, length, length-append, take, Result, ap}
+use Rattle.std.proofs.Common.{subst, arith}
 use Rattle.std.specs.Option.{option_map}
 use Rattle.outside_calls.specs.Folder.{FolderState, octets_at}
 use Rattle.scramblers.specs.declared.mode.Mode.{Mode}

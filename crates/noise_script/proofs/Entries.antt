@@ -1,5 +1,6 @@
 -- What lines say, one line more at a time.
-use Rattle.std.proofs.Common.{◌≡◌, ℕ, ◌+◌, ◌<◌, ◌≤◌, Bool, true, false, ◌&&◌, ◌||◌, cond, List, [], ◌∷◌, ◌++◌, length, filter_map, Option, Some, None, is_some, refl, sym, ap, subst, ◌∙◌, arith, append-nil}
+use Rattle.std.proofs.Common.{◌≡◌, ℕ, ◌+◌, ◌<◌, ◌≤◌, Bool, true, false, ◌&&◌, ◌||◌, cond, List, [], ◌∷◌, ◌++◌, length, filter_map, Option}
+use Rattle.std.proofs.Common.{Some, None, is_some, refl, sym, ap, subst, ◌∙◌, arith, append-nil}
 use Rattle.std.specs.List.{cons_option}
 use Rattle.std.proofs.lemmas.List.Elements.{filter_map-append}
 use mir.Val.{bool_byte}
@@ -16,7 +17,9 @@ use Rattle.noise_script.specs.declared.offered.Offered.{Offered}
 use Rattle.noise_script.specs.declared.draft.Draft.{Draft}
 use Rattle.noise_script.specs.Forms.{Kind, row, kind_of, most}
 use Rattle.noise_script.specs.Breaks.{placed, placed_each, in_order}
-use Rattle.noise_script.specs.Grammar.{same_form, same_counted, same_kind, standing, AreAllowed, whole, each, stands, first, delays_said, tries_said, window_said, length_said, loss_said, hit_said, noise_said, break_said, pause_said, breaks_in, offered_in}
+use Rattle.noise_script.specs.Grammar.{same_form, same_counted, same_kind, standing, AreAllowed, whole, each, stands, first, delays_said}
+use Rattle.noise_script.specs.Grammar.{tries_said, window_said, length_said, loss_said, hit_said, noise_said, break_said, pause_said}
+use Rattle.noise_script.specs.Grammar.{breaks_in, offered_in}
 use Rattle.noise_script.specs.Draft.{Holds, Adds, or_before, offered_of, offered_after, placed_said}
 
 -- kinds

@@ -1,5 +1,6 @@
 -- Each text spells a script or has a first fault.
-use Rattle.std.proofs.Common.{◌≡◌, ◌≢◌, ◌⊎◌, inl, inr, ℕ, ◌+◌, ◌<◌, ◌≤◌, true, false, ◌<ℤ◌, ◌≤ℤ◌, List, [], ◌∷◌, ◌++◌, length, refl, sym, ap, subst, ◌∙◌, arith, append-nil, append_assoc, length-append}
+use Rattle.std.proofs.Common.{◌≡◌, ◌≢◌, ◌⊎◌, inl, inr, ℕ, ◌+◌, ◌<◌, ◌≤◌, true, false, ◌<ℤ◌, ◌≤ℤ◌, List, [], ◌∷◌, ◌++◌, length, refl, sym}
+use Rattle.std.proofs.Common.{ap, subst, ◌∙◌, arith, append-nil, append_assoc, length-append}
 use Rattle.std.proofs.lemmas.Bool.{cases_eq, cases_lt, cases_Bool}
 use Rattle.std.proofs.lemmas.Int.{by_lt_z}
 use Rattle.roles.specs.declared.role.Role.{Role}
@@ -11,7 +12,9 @@ use Rattle.noise_script.specs.declared.forms.Form.{Form}
 use Rattle.noise_script.specs.declared.forms.Form.TheVariants as forms
 use Rattle.noise_script.specs.Lines.{begins_with, lines_of, words_of, is_passed_over}
 use Rattle.noise_script.specs.Numbers.{is_number, value_of, is_signed, signed_value_of}
-use Rattle.noise_script.specs.Forms.{Argument, ARole, Number, Signed, Value, RoleIs, NumberIs, SignedIs, row, word_of, arguments_of, form_of, kind_of, values_of, most, too_many, Spells, Fails, SpellsEach, FirstFails, SpellsLine, Misspells}
+use Rattle.noise_script.specs.Forms.{Argument, ARole, Number, Signed, Value, RoleIs, NumberIs, SignedIs, row, word_of, arguments_of}
+use Rattle.noise_script.specs.Forms.{form_of, kind_of, values_of, most, too_many, Spells, Fails, SpellsEach, FirstFails, SpellsLine}
+use Rattle.noise_script.specs.Forms.{Misspells}
 use Rattle.roles.specs.Role.{role_word}
 use Rattle.noise_script.specs.Grammar.{Says, nothing, standing, AreAllowed, IsFaulty, script_of}
 use Rattle.noise_script.specs.Laws.{SomeAnswer}
@@ -47,7 +50,8 @@ is-named (form ∷ list) word = by (same-word word (word_of form)) (is-named lis
     by (inr n) (inr none) = inr (n, none)
 
 abbrev all_forms : List Form
-all_forms = forms.Delay ∷ forms.Window ∷ forms.Length ∷ forms.Tries ∷ forms.Srej ∷ forms.Check32 ∷ forms.Lose ∷ forms.Hit ∷ forms.Noise ∷ forms.Break ∷ forms.Busy ∷ []
+all_forms = forms.Delay ∷ forms.Window ∷ forms.Length ∷ forms.Tries ∷ forms.Srej ∷ forms.Check32 ∷ forms.Lose ∷ forms.Hit ∷ forms.Noise ∷
+    forms.Break ∷ forms.Busy ∷ []
 
 names-none : (word : List ℕ) → NamesNone all_forms word → (form : Form) → word ≢ word_of form
 names-none word n forms.Delay = n.0
@@ -241,7 +245,17 @@ fault-at text before line after said cause e s a f =
     inr (
       length before + 1,
       cause,
-      record { before = before; line = line; after = after; lines_are = e; number_is = refl; said = said; says = s; allowed = a; faulty = f },
+      record {
+        before = before;
+        line = line;
+        after = after;
+        lines_are = e;
+        number_is = refl;
+        said = said;
+        says = s;
+        allowed = a;
+        faulty = f;
+      },
     )
 
 lines-read : (text : List ℕ) (lines before : List (List ℕ)) (said : List Entry) → lines_of text ≡ before ++ lines → Says before said

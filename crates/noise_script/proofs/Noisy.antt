@@ -1,5 +1,6 @@
 -- Lines on delays, noise and losses spell their script.
-use Rattle.std.proofs.Common.{◌≡◌, ◌∙◌, ℕ, ◌+◌, ◌≤◌, ◌||◌, Bool, true, false, cond, List, [], ◌∷◌, ◌++◌, length, map, filter_map, refl, sym, ap, subst, arith, Option, Some, None}
+use Rattle.std.proofs.Common.{◌≡◌, ◌∙◌, ℕ, ◌+◌, ◌≤◌, ◌||◌, Bool, true, false, cond, List, [], ◌∷◌, ◌++◌, length, map, filter_map, refl, sym}
+use Rattle.std.proofs.Common.{ap, subst, arith, Option, Some, None}
 use Rattle.std.specs.List.{cons_option, list_any}
 use Rattle.roles.specs.declared.role.Role.{Role}
 use Rattle.roles.specs.declared.role.Role.TheVariants.{Originator, Answerer}
@@ -11,7 +12,8 @@ use Rattle.noise_script.specs.declared.forms.Form.{Form}
 use Rattle.noise_script.specs.declared.forms.Form.TheVariants as forms
 use Rattle.noise_script.specs.Lines.{lines_of, words_of}
 use Rattle.noise_script.specs.Forms.{Kind, row, kind_of, most, SpellsLine}
-use Rattle.noise_script.specs.Grammar.{Says, nothing, spelled, same_kind, standing, AreAllowed, each, tries_said, window_said, length_said, loss_said, hit_said, noise_said, break_said, pause_said, script_of}
+use Rattle.noise_script.specs.Grammar.{Says, nothing, spelled, same_kind, standing, AreAllowed, each, tries_said, window_said, length_said}
+use Rattle.noise_script.specs.Grammar.{loss_said, hit_said, noise_said, break_said, pause_said, script_of}
 use Rattle.noise_script.specs.Noisy.{text_of, IsWhole, SaysDelays, SaysNoise, SaysLoss, EachSays, noisy_script, NoisyLinesSpell}
 use Rattle.noise_script.proofs.Cuts.{line-cut}
 

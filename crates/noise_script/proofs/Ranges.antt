@@ -1,5 +1,6 @@
 -- What a script's lines say is in its range.
-use Rattle.std.proofs.Common.{◌≡◌, ℕ, ◌<◌, ◌≤◌, nat_lt, All, IfSome, Bool, true, false, cond, List, [], ◌∷◌, length, filter_map, Option, Some, None, refl, sym, subst, ◌∙◌, arith, append-nil}
+use Rattle.std.proofs.Common.{◌≡◌, ℕ, ◌<◌, ◌≤◌, nat_lt, All, IfSome, Bool, true, false, cond, List, [], ◌∷◌, length, filter_map, Option}
+use Rattle.std.proofs.Common.{Some, None, refl, sym, subst, ◌∙◌, arith, append-nil}
 use Rattle.std.specs.List.{cons_option, AllByRecursion}
 use Rattle.std.proofs.lemmas.List.Elements.{All-nil, All-cons, All-head, All-tail}
 use Rattle.frame_check.specs.declared.sizes.TheConstants.{INFO}
@@ -15,7 +16,10 @@ use Rattle.noise_script.specs.declared.draft.Draft.{Draft}
 use Rattle.noise_script.specs.Forms.{Kind, row, most, SpellsEach, arguments_of, values_of, form_of}
 use Rattle.noise_script.specs.Offsets.{IsQuiet, AreQuiet}
 use Rattle.noise_script.specs.Script.{ScriptValue, IsShort, IsInLimits}
-use Rattle.noise_script.specs.Grammar.{Says, nothing, passed_over, spelled, AreAllowed, whole, first, window_said, length_said, loss_said, hit_said, noise_said, break_said, pause_said, delays_in, tries_in, offered_in, noises_in, breaks_in, pauses_in, delays_or_one, tries_or_five, window_or_15, length_or_128, offer_by, script_of, ScriptSpelling}
+use Rattle.noise_script.specs.Grammar.{Says, nothing, passed_over, spelled, AreAllowed, whole, first, window_said, length_said, loss_said}
+use Rattle.noise_script.specs.Grammar.{hit_said, noise_said, break_said, pause_said, delays_in, tries_in, offered_in, noises_in, breaks_in}
+use Rattle.noise_script.specs.Grammar.{pauses_in, delays_or_one, tries_or_five, window_or_15, length_or_128, offer_by, script_of}
+use Rattle.noise_script.specs.Grammar.{ScriptSpelling}
 use Rattle.noise_script.specs.Draft.{Holds, HoldsUpTo, draft_script}
 use Rattle.noise_script.specs.Breaks.{placed, placed_each}
 use Rattle.noise_script.specs.Laws.{SpelledIsInLimits, BreaksAreOctets}

@@ -1,5 +1,6 @@
 -- A text spells one script at most, or has one first fault, and never both.
-use Rattle.std.proofs.Common.{◌≡◌, ◌⊎◌, inl, inr, ℕ, suc, ◌+◌, ◌<◌, true, false, nat_eq, if◌then◌else◌, ℤ, pos, ◌<ℤ◌, List, [], ◌∷◌, ◌++◌, length, get_or, refl, sym, ap, subst, ◌∙◌, arith}
+use Rattle.std.proofs.Common.{◌≡◌, ◌⊎◌, inl, inr, ℕ, suc, ◌+◌, ◌<◌, true, false, nat_eq, if◌then◌else◌, ℤ, pos, ◌<ℤ◌, List, [], ◌∷◌, ◌++◌}
+use Rattle.std.proofs.Common.{length, get_or, refl, sym, ap, subst, ◌∙◌, arith}
 use Rattle.std.proofs.lemmas.Bool.{false≢true}
 use Rattle.std.proofs.lemmas.Int.{ints}
 use Rattle.roles.specs.declared.role.Role.{Role}
@@ -12,7 +13,9 @@ use Rattle.noise_script.specs.declared.forms.Form.{Form}
 use Rattle.noise_script.specs.declared.forms.Form.TheVariants as forms
 use Rattle.noise_script.specs.Lines.{begins_with, words_of, is_passed_over}
 use Rattle.noise_script.specs.Numbers.{value_of, signed_value_of}
-use Rattle.noise_script.specs.Forms.{Argument, ARole, Number, Signed, Value, RoleIs, NumberIs, SignedIs, row, word_of, arguments_of, form_of, values_of, too_many, Spells, Fails, SpellsEach, FirstFails, SpellsLine, IsUnknown, IsMiscounted, IsMisread, Misspells}
+use Rattle.noise_script.specs.Forms.{Argument, ARole, Number, Signed, Value, RoleIs, NumberIs, SignedIs, row, word_of, arguments_of}
+use Rattle.noise_script.specs.Forms.{form_of, values_of, too_many, Spells, Fails, SpellsEach, FirstFails, SpellsLine, IsUnknown}
+use Rattle.noise_script.specs.Forms.{IsMiscounted, IsMisread, Misspells}
 use Rattle.roles.specs.Role.{role_word}
 use Rattle.noise_script.specs.Script.{ScriptValue}
 use Rattle.noise_script.specs.Grammar.{Says, nothing, passed_over, spelled, AreAllowed, IsFaulty, script_of, ScriptSpelling, FirstFault}

@@ -6,7 +6,8 @@ use Rattle.causes.specs.declared.cause.Cause.TheVariants as causes
 use Rattle.roles.specs.declared.role.Role.{Role}
 use Rattle.noise_script.specs.declared.entry.Entry.{Entry}
 use Rattle.noise_script.specs.declared.forms.Form.{Form}
-use Rattle.noise_script.specs.Forms.{Argument, ARole, Value, RoleIs, NumberIs, Reads, ReadsSpan, FailsToRead, FirstFails, SpellsEach, SpellsForm, SpellsLine, Misspells, word_of, arguments_of, values_of}
+use Rattle.noise_script.specs.Forms.{Argument, ARole, Value, RoleIs, NumberIs, Reads, ReadsSpan, FailsToRead, FirstFails, SpellsEach}
+use Rattle.noise_script.specs.Forms.{SpellsForm, SpellsLine, Misspells, word_of, arguments_of, values_of}
 
 pub fails-here : (argument : Argument) (arguments : List Argument) (words : List (List ℕ)) (cause : Cause)
     → FailsToRead argument words cause → FirstFails (argument ∷ arguments) words cause

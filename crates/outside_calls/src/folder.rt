@@ -7,7 +7,7 @@ use std::io::{self, ErrorKind};
 use thiserror::Error;
 
 /// Why a folder's call did nothing, or not all.
-#[derive(Clone, Copy, Debug, PartialEq, Eq, Hash, Error)]
+#[derive(Clone, Copy, Debug, PartialEq, Eq, Error)]
 pub enum FolderFault {
     /// The folder failed.
     #[error("the folder failed")]
@@ -29,7 +29,7 @@ impl From<io::Error> for FolderFault {
 }
 
 /// Memory was not found.
-#[derive(Clone, Copy, Debug, PartialEq, Eq, Hash, Error)]
+#[derive(Clone, Copy, Debug, PartialEq, Eq, Error)]
 #[error("no memory")]
 pub struct NoMemory;
 

@@ -247,9 +247,15 @@ pub fault-ends : (start mid next : FolderState) (n : Names) (p : Past) (octets s
     → FaultCounts mid next (turn_names n) fault → TurnEndsBy n.role mid next (turn_names n) p slot fault
     → EndsBy start next n (fault_stop n.role turn fault)
 fault-ends start mid next n p octets slot turn faults.ReadFault a number rose e =
-    inr (inr (refl, fails-later start mid next n.file folder.Failed a.stand (inl rose), reads-in start mid next n p octets slot turn a number e))
-fault-ends start mid next n p octets slot turn faults.WriteFault a number counts e = inr (stops-in start mid next n p octets slot turn a number e)
-fault-ends start mid next n p octets slot turn faults.NoMemory a number counts e = inr (stops-in start mid next n p octets slot turn a number e)
+    inr (inr (
+      refl,
+      fails-later start mid next n.file folder.Failed a.stand (inl rose),
+      reads-in start mid next n p octets slot turn a number e,
+    ))
+fault-ends start mid next n p octets slot turn faults.WriteFault a number counts e =
+    inr (stops-in start mid next n p octets slot turn a number e)
+fault-ends start mid next n p octets slot turn faults.NoMemory a number counts e =
+    inr (stops-in start mid next n p octets slot turn a number e)
 fault-ends start mid next n p octets slot turn (faults.Link fault) a number counts e =
     inr (
       fault,

@@ -1,5 +1,6 @@
 -- A recording that is read on behind its header.
-use Rattle.std.proofs.Common.{◌≡◌, ◌≢◌, ◌∙◌, ◌⊎◌, inl, inr, ℕ, ◌+◌, ◌%◌, ◌≤◌, ◌<◌, Bool, true, false, List, [], ◌++◌, IsTrue, length, length-append, drop, refl, sym, ap, subst, arith, append-nil, append_assoc}
+use Rattle.std.proofs.Common.{◌≡◌, ◌≢◌, ◌∙◌, ◌⊎◌, inl, inr, ℕ, ◌+◌, ◌%◌, ◌≤◌, ◌<◌, Bool, true, false, List, [], ◌++◌, IsTrue, length}
+use Rattle.std.proofs.Common.{length-append, drop, refl, sym, ap, subst, arith, append-nil, append_assoc}
 use Rattle.std.proofs.lemmas.List.{take_all, take-append-drop}
 use Rattle.outside_calls.specs.Folder.{FolderState, octets_at, GoesOn, KeepsName}
 use Rattle.scramblers.specs.declared.mode.Mode.{Mode}

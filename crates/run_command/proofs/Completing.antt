@@ -9,7 +9,8 @@ use Rattle.line_run.specs.Ends.{RunEnd}
 use Rattle.line_run.specs.Ends as runs
 use Rattle.line_run.specs.Scripted.{channel_of}
 use Rattle.line_ends.specs.Causes.{GivesUp, LostLinksWereStarved}
-use Rattle.line_ends.specs.Completes.{EndsDone, LineEnds, AreOfOctets, CompletesWithFewLosses, CompletesWithFewNamed, CompletesQuiet, CompletesUndisturbed}
+use Rattle.line_ends.specs.Completes.{EndsDone, LineEnds, AreOfOctets, CompletesWithFewLosses, CompletesWithFewNamed, CompletesQuiet}
+use Rattle.line_ends.specs.Completes.{CompletesUndisturbed}
 use Rattle.command_base.specs.declared.status.Status.{Status}
 use Rattle.command_base.specs.declared.status.Status.TheVariants.{BadScript, TooLong, LineLost, NotDetected, LinkLost, ChanceMatch}
 use Rattle.command_base.specs.declared.stop.Stop.TheVariants.{Own}

@@ -44,7 +44,8 @@ whole-of : RunLaws → (old before new : FolderState) (n : RunNames) (turn : ℕ
     → RanTo LIMITS old before n (runs.IsDone turn)
     → HoldsWhole old new n.got_o n.answ × HoldsWhole old new n.got_a n.orig
 whole-of laws old before new n turn g kept e =
-    let w = laws.whole (channel_of e.script) (link_of e.script e.files) turn e.left (may-run laws e.script e.files e.takes.limits) e.run in (
+    let w =
+    laws.whole (channel_of e.script) (link_of e.script e.files) turn e.left (may-run laws e.script e.files e.takes.limits) e.run in (
       (λ ts tg. kept n.got_o (told_later g n.got_o tg) ∙ e.holds.got_o (told_later g n.got_o tg)
           ∙ ap Some (w Originator ∙ e.takes.answ ts)),
       (λ ts tg. kept n.got_a (told_later g n.got_a tg) ∙ e.holds.got_a (told_later g n.got_a tg) ∙ ap Some (w Answerer ∙ e.takes.orig ts)),

@@ -1,7 +1,8 @@
 -- What the steps of a turn leave of the folder, in a row.
 use Rattle.std.proofs.Common.{◌≡◌, inl, inr, ℕ, ◌++◌, List, take, IsTrue, refl, sym, ◌∙◌, ap, subst, Some}
 use Rattle.outside_calls.specs.Folder.{FolderState, KeepsName, GoesOn, OnlyReads, OnlyWrites, Appended, PartlyAppended, CountsStand, Rose}
-use Rattle.outside_calls.specs.Steps.{GoesOn-trans, told_later, KeepsName-trans, octets-kept, Adds-kept, PartlyAppended-none, kept-PartlyAppended, FaultsStand-trans, CountsStand-trans}
+use Rattle.outside_calls.specs.Steps.{GoesOn-trans, told_later, KeepsName-trans, octets-kept, Adds-kept, PartlyAppended-none}
+use Rattle.outside_calls.specs.Steps.{kept-PartlyAppended, FaultsStand-trans, CountsStand-trans}
 use Rattle.roles.specs.Both.{Both}
 use Rattle.link_run.specs.Run.{Ends}
 use Rattle.turn_bound.specs.Limits.{file_limit}

@@ -1,5 +1,6 @@
 -- Parts of a turn of both ends.
-use Rattle.std.proofs.Common.{◌≡◌, ℕ, ◌+◌, Bool, true, false, is_ok, List, length, take, slice_get, arith, refl, sym, ◌∙◌, ap, Option, Result, Ok, Err}
+use Rattle.std.proofs.Common.{◌≡◌, ℕ, ◌+◌, Bool, true, false, is_ok, List, length, take, slice_get, arith, refl, sym, ◌∙◌, ap, Option}
+use Rattle.std.proofs.Common.{Result, Ok, Err}
 use Rattle.std.proofs.Common.{inl, inr, ◌++◌, Some}
 use Rattle.std.specs.Option.{option_map}
 use Rattle.outside_calls.specs.Folder.{FolderState, GoesOn, KeepsName, Adds, OnlyReads, OnlyWrites}
@@ -21,10 +22,12 @@ use Rattle.stations.specs.Station.{Stands, HearsAs, SpeaksAs, ReadsOn, IsCounted
 use Rattle.run_world.specs.Link.{HearsOn}
 use Rattle.run_world.specs.Names.{Written, OnlyGot}
 
-pub heard-well : (s : Station) (file : List ℕ) (a : Account) (turn : ℕ) (arrived : Arrived) → is_ok (hear turn arrived a) ≡ true → HearsAs (hear turn arrived a) file s (Ok tt) → HearsOn s file a turn arrived
+pub heard-well : (s : Station) (file : List ℕ) (a : Account) (turn : ℕ) (arrived : Arrived) → is_ok (hear turn arrived a) ≡ true
+    → HearsAs (hear turn arrived a) file s (Ok tt) → HearsOn s file a turn arrived
 heard-well s file a turn arrived well h = go (hear turn arrived a) refl well h
   where
-    go : (r : Result Account LinkFault) → hear turn arrived a ≡ r → is_ok r ≡ true → HearsAs r file s (Ok tt) → HearsOn s file a turn arrived
+    go : (r : Result Account LinkFault) → hear turn arrived a ≡ r → is_ok r ≡ true → HearsAs r file s (Ok tt)
+        → HearsOn s file a turn arrived
     go (Ok b) e w k = record { mid = b; hears = e; stands = k }
     go (Err fault) e w k = absurd (false≢true w)
 
@@ -38,10 +41,12 @@ next-is law value role index taken next e i =
     ap (option_map line_of) e ∙ sym (law value role index) ∙ ap (slice_get (breaks_of value role)) i
 
 -- Whoever isn't told to release asks for its next break,
-pub asks-so : BreaksAreTheScripts → PausesAreTheScripts → (value : ScriptValue) (role : Role) (turn : ℕ) (released busy : Bool) (a : Account)
+pub asks-so : BreaksAreTheScripts → PausesAreTheScripts
+    → (value : ScriptValue) (role : Role) (turn : ℕ) (released busy : Bool) (a : Account)
     → (index : ℕ) (next : Option (ℕ × ℕ)) → next ≡ break_of value role index → index ≡ length (after_busy busy a).own_breaks.lengths
     → busy ≡ script.is_busy value role turn → released ≡ false
-    → asked_at turn (option_map line_of next) (after_busy busy a) ≡ asked turn released (breaks_of value role) (after_busy (is_busy turn (busy_of value role)) a)
+    → asked_at turn (option_map line_of next) (after_busy busy a) ≡ asked turn released (breaks_of value role)
+    (after_busy (is_busy turn (busy_of value role)) a)
 asks-so breaks pauses value role turn true busy a index next e i b r = absurd (false≢true (sym r))
 asks-so breaks pauses value role turn false busy a index next e i b r =
     ap (λ n. asked_at turn n (after_busy busy a)) (next-is breaks value role index _ next e i)
@@ -55,7 +60,8 @@ asks-none pauses value role turn true busy a b r = ap (λ x. after_busy x a) (b 
 asks-none pauses value role turn false busy a b r = absurd (false≢true r)
 
 -- An end that breaks as it is to speak does so by its rules;
-pub broken-so : (r : Result Said LinkFault) (file : List ℕ) (sent : Sent) (s : Station) (fault : LinkFault) → SpeaksAs r file sent s (Err fault) → r ≡ Err fault
+pub broken-so : (r : Result Said LinkFault) (file : List ℕ) (sent : Sent) (s : Station) (fault : LinkFault)
+    → SpeaksAs r file sent s (Err fault) → r ≡ Err fault
 broken-so (Ok said) file sent s fault h = absurd h
 broken-so (Err broken) file sent s fault h = ap Err (sym h)
 
@@ -72,12 +78,14 @@ said-so (Ok said) file sent s h = record { said = said; is = refl; sent_is = h.0
 said-so (Err broken) file sent s h = absurd h
 
 -- What was read of a file after another was read is what the folder had of it before.
-pub reads-later : (start mid : FolderState) (name : List ℕ) (limit : ℕ) (file : List ℕ) (a : Account) (others : List ℕ) → OnlyReads start mid
+pub reads-later : (start mid : FolderState) (name : List ℕ) (limit : ℕ) (file : List ℕ) (a : Account) (others : List ℕ)
+    → OnlyReads start mid
     → ReadsOn mid name limit file a others → ReadsOn start name limit file a others
 reads-later start mid name limit file a others only r = record {
   within = r.within;
   same = r.same;
-  told = λ told e. r.told (told_later only.goes_on name told) (e ∙ ap (take limit) (sym (octets-kept start mid name (only.names name) told)));
+  told = λ told e. r.told (told_later only.goes_on name told) (e
+      ∙ ap (take limit) (sym (octets-kept start mid name (only.names name) told)));
 }
 
 -- Writing to the one received file, and then to the other.

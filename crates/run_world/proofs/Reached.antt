@@ -1,10 +1,12 @@
 -- Where the turns of a run have come.
-use Rattle.std.proofs.Common.{◌≡◌, inl, inr, ℕ, ◌+◌, ◌-◌, ◌≤◌, ◌<◌, ◌^◌, IsTrue, List, [], ◌∷◌, ◌++◌, length, take, refl, sym, ◌∙◌, ap, subst, arith}
+use Rattle.std.proofs.Common.{◌≡◌, inl, inr, ℕ, ◌+◌, ◌-◌, ◌≤◌, ◌<◌, ◌^◌, IsTrue, List, [], ◌∷◌, ◌++◌, length, take, refl, sym, ◌∙◌, ap}
+use Rattle.std.proofs.Common.{subst, arith}
 use Rattle.std.proofs.lemmas.List.{length-take, append-nil}
 use Rattle.std.proofs.lemmas.List.Folds.{concat-append}
 use Rattle.std.specs.List.{concat}
 use Rattle.outside_calls.specs.Folder.{FolderState, octets_at, GoesOn, KeepsName, Adds, CountsStand, Rose}
-use Rattle.outside_calls.specs.Steps.{GoesOn-refl, GoesOn-trans, KeepsName-trans, octets-kept, CountsStand-refl, CountsStand-trans, FaultsStand-trans}
+use Rattle.outside_calls.specs.Steps.{GoesOn-refl, GoesOn-trans, KeepsName-trans, octets-kept, CountsStand-refl, CountsStand-trans}
+use Rattle.outside_calls.specs.Steps.{FaultsStand-trans}
 use Rattle.roles.specs.declared.role.Role.{Role}
 use Rattle.roles.specs.declared.role.Role.TheVariants.{Originator, Answerer}
 use Rattle.roles.specs.Both.{Both, of}
@@ -28,12 +30,14 @@ use Rattle.run_world.specs.declared.world.World.{World}
 use Rattle.run_world.specs.declared.step.RunFault.{RunFault}
 use Rattle.run_world.specs.declared.step.RunFault.TheVariants as faults
 use Rattle.run_world.specs.World.{AreApart, KnowsFiles, OnlyOutputs, WorldAfter, script_of, turn_of, lost_of, again_of}
-use Rattle.run_world.specs.Turn.{WritesTurn, WritesPart, GoesOnBy, EndsInTurn, KeepsReceived, LosesLine, MeetsChance, StopsInTurn, StopsReading, Stops}
+use Rattle.run_world.specs.Turn.{WritesTurn, WritesPart, GoesOnBy, EndsInTurn, KeepsReceived, LosesLine, MeetsChance, StopsInTurn}
+use Rattle.run_world.specs.Turn.{StopsReading, Stops}
 use Rattle.run_world.specs.Turn.{EndsBy as TurnEndsBy, DoneIn, FaultCounts}
 use Rattle.run_world.specs.Turn as written
 use Rattle.outside_calls.specs.Outputs.{Holds}
 use Rattle.outside_calls.proofs.Holding.{Holds-kept, Holds-more, Holds-add, HoldsPart-more}
-use Rattle.run_world.specs.Turns.{HoldLeft, HoldPart, of_orig, of_answ, of_lines, AddsTurn, RunEnds, RunCounts, RunStops, RunStopsReading, FaultEnds}
+use Rattle.run_world.specs.Turns.{HoldLeft, HoldPart, of_orig, of_answ, of_lines, AddsTurn, RunEnds, RunCounts, RunStops, RunStopsReading}
+use Rattle.run_world.specs.Turns.{FaultEnds}
 
 -- what ends and a text leave
 abbrev pub left_of : Ends → List ℕ → Left

@@ -1,5 +1,6 @@
 -- What happens to both ends between hearing and speaking.
-use Rattle.std.proofs.Common.{◌≡◌, ◌-◌, ℕ, zero, suc, Bool, true, false, cond, List, length, drop, refl, sym, ◌∙◌, ap, subst, Option, Some, None, Result, Ok, Err, IsErrOf}
+use Rattle.std.proofs.Common.{◌≡◌, ◌-◌, ℕ, zero, suc, Bool, true, false, cond, List, length, drop, refl, sym, ◌∙◌, ap, subst, Option, Some}
+use Rattle.std.proofs.Common.{None, Result, Ok, Err, IsErrOf}
 use Rattle.outside_calls.specs.Folder.{FolderState, FaultsStand}
 use Rattle.outside_calls.specs.declared.folder.FolderFault.{FolderFault}
 use Rattle.outside_calls.specs.declared.folder.FolderFault.TheVariants.{Failed, NoMemory}

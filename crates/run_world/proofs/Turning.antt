@@ -27,7 +27,8 @@ use Rattle.run_world.specs.declared.step.RunFault.{RunFault}
 use Rattle.run_world.specs.declared.step.RunFault.TheVariants as run_faults
 use Rattle.run_world.specs.World.{IsReady, StayKnown, AreApart, OnlyOutputs}
 use Rattle.run_world.specs.Tally.{IsFew}
-use Rattle.run_world.specs.Turn.{DoneIn, MakesTurn, HasDelivered, Stops, StopsReading, EndsBy, EndsInTurn, GoesOnBy, IsWriting, IsReading, WritesTurn}
+use Rattle.run_world.specs.Turn.{DoneIn, MakesTurn, HasDelivered, Stops, StopsReading, EndsBy, EndsInTurn, GoesOnBy, IsWriting, IsReading}
+use Rattle.run_world.specs.Turn.{WritesTurn}
 use Rattle.run_world.specs.Mid.{Overhears, HasPart, HasGone, AddsLines, AddsPart, Finishes, SpeaksLast, turn_in}
 use Rattle.run_world.proofs.Hearing.{heard-in, none-sent, runs-over}
 use Rattle.run_world.proofs.Serving.{hears-in}

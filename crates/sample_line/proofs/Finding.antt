@@ -1,5 +1,6 @@
 -- What is found once one more bit was read.
-use Rattle.std.proofs.Common.{◌≡◌, inl, inr, ◌∙◌, ◌+◌, ℕ, zero, suc, ◌≤◌, Bool, List, take, [], ◌∷◌, ◌++◌, length, Option, Some, None, refl, sym, ap, subst, arith, map, append-nil, length-append, IfSome, IfNone}
+use Rattle.std.proofs.Common.{◌≡◌, inl, inr, ◌∙◌, ◌+◌, ℕ, zero, suc, ◌≤◌, Bool, List, take, [], ◌∷◌, ◌++◌, length, Option, Some, None, refl}
+use Rattle.std.proofs.Common.{sym, ap, subst, arith, map, append-nil, length-append, IfSome, IfNone}
 use Rattle.std.specs.Prelude.{option_to_list}
 use Rattle.std.proofs.lemmas.List.{append_assoc, map-append, take_all, take-append-le}
 use Rattle.frame_check.specs.declared.check.Check.{Check}

@@ -1,5 +1,6 @@
 -- Four bits that are turned at once, as numbers.
-use Rattle.std.proofs.Common.{◌≡◌, ◌∙◌, ℕ, zero, suc, ◌+◌, ◌-◌, ◌%◌, ◌<◌, ◌≤◌, Bool, true, false, List, length, arith, refl, ap, nat_eq, bit_xor}
+use Rattle.std.proofs.Common.{◌≡◌, ◌∙◌, ℕ, zero, suc, ◌+◌, ◌-◌, ◌%◌, ◌<◌, ◌≤◌, Bool, true, false, List, length, arith, refl, ap, nat_eq}
+use Rattle.std.proofs.Common.{bit_xor}
 use Rattle.std.proofs.lemmas.Nat.Bits.{bit_at_xor, bit_at-lt}
 use Rattle.std.specs.Int.{bit_at}
 use Rattle.plain_lists.specs.Xor.{xor}

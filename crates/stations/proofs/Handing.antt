@@ -234,7 +234,9 @@ handing-ends start now name s new file a h e end breaks =
       where
         go : (c l : Bool)
             → is_some (cond c (cond l (Some (slice_index_or h.after.incoming.taken h.after.incoming.given [])) None) None) ≡ false
-            → cond c (record h.after { incoming = cond l (record h.after.incoming { given = h.after.incoming.given + 1 }) h.after.incoming })
+            → cond c (record h.after {
+              incoming = cond l (record h.after.incoming { given = h.after.incoming.given + 1 }) h.after.incoming;
+            })
             h.after ≡ h.after
         go true true z = absurd (false≢true (sym z))
         go true false z = refl

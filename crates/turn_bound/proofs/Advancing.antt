@@ -1,5 +1,6 @@
 -- The front of an end that isn't whole advances within the turns of one segment, or the run ends.
-use Rattle.std.proofs.Common.{◌≡◌, ℕ, suc, ◌+◌, ◌-◌, ◌*◌, ◌<◌, ◌≤◌, ◌||◌, ◌⊎◌, Bool, true, false, cond, nat_lt, List, [], ◌∷◌, ◌++◌, length, inl, inr, arith, refl, sym, ◌∙◌, ap, subst, Option, Some, None}
+use Rattle.std.proofs.Common.{◌≡◌, ℕ, suc, ◌+◌, ◌-◌, ◌*◌, ◌<◌, ◌≤◌, ◌||◌, ◌⊎◌, Bool, true, false, cond, nat_lt, List, [], ◌∷◌, ◌++◌, length}
+use Rattle.std.proofs.Common.{inl, inr, arith, refl, sym, ◌∙◌, ap, subst, Option, Some, None}
 use Rattle.std.proofs.lemmas.Bool.Decides.{nat_tests}
 use Rattle.roles.specs.declared.role.Role.{Role}
 use Rattle.roles.specs.declared.role.Role.TheVariants.{Originator, Answerer}
@@ -27,7 +28,8 @@ use Rattle.turn_bound.proofs.Credits.{held_value, held-most, frame_poll}
 use Rattle.turn_bound.proofs.Taking.{may_send_at}
 use Rattle.turn_bound.proofs.HeldTurn.{Linking, Linger, lingers}
 use Rattle.turn_bound.proofs.Wholeness.{late-whole}
-use Rattle.turn_bound.proofs.CalmRuns.{said-speaks, EndAt, end-at, never-at, light-arrival, Unpaused, calm-run, going-run, polls_heard, few-heard}
+use Rattle.turn_bound.proofs.CalmRuns.{said-speaks, EndAt, end-at, never-at, light-arrival, Unpaused, calm-run, going-run, polls_heard}
+use Rattle.turn_bound.proofs.CalmRuns.{few-heard}
 
 -- the run behind later turns is one run
 joins : (link : Link) (ts us : List Turn) (before after : Ends) → RunOf link ts before → GoesOn link ts before us after

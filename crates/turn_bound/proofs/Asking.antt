@@ -1,5 +1,6 @@
 -- What serving an end makes of what may hold up a segment.
-use Rattle.std.proofs.Common.{◌≡◌, ℕ, ◌+◌, ◌-◌, ◌<◌, ◌≤◌, ◌&&◌, ◌⊎◌, not, min, Bool, true, false, cond, nat_lt, nat_le, [], ◌∷◌, ◌++◌, length, length-append, inl, inr, arith, refl, ap}
+use Rattle.std.proofs.Common.{◌≡◌, ℕ, ◌+◌, ◌-◌, ◌<◌, ◌≤◌, ◌&&◌, ◌⊎◌, not, min, Bool, true, false, cond, nat_lt, nat_le, [], ◌∷◌, ◌++◌}
+use Rattle.std.proofs.Common.{length, length-append, inl, inr, arith, refl, ap}
 use Rattle.std.proofs.lemmas.Bool.Decides.{nat_tests}
 use Rattle.break_signals.specs.Breaks.{OwnBreaks, waits, after_ask}
 use Rattle.std.specs.Prelude.{is_some}

@@ -1,4 +1,5 @@
-use Rattle.std.proofs.Common.{◌⊎◌, inl, inr, ◌≡◌, ℕ, ◌+◌, ◌*◌, ◌&&◌, ◌||◌, Bool, true, false, cond, nat_eq, nat_le, List, [], ◌∷◌, length, arith, refl, sym, ◌∙◌, ap, subst, Option, Some, None, Result, Ok, Err}
+use Rattle.std.proofs.Common.{◌⊎◌, inl, inr, ◌≡◌, ℕ, ◌+◌, ◌*◌, ◌&&◌, ◌||◌, Bool, true, false, cond, nat_eq, nat_le, List, [], ◌∷◌, length}
+use Rattle.std.proofs.Common.{arith, refl, sym, ◌∙◌, ap, subst, Option, Some, None, Result, Ok, Err}
 use Rattle.roles.specs.declared.role.Role.{Role}
 use Rattle.roles.specs.declared.role.Role.TheVariants.{Originator, Answerer}
 use Rattle.lapm_frames.specs.declared.frame.Frame.{Frame}
@@ -24,10 +25,15 @@ use Rattle.lapm_frames.specs.declared.sent.Sent.TheVariants as slots
 use Rattle.link_account.specs.Account.{Account, is_connected}
 use Rattle.link_account.specs.declared.answer.Answer.{Answer}
 use Rattle.link_account.specs.declared.answer.Answer.TheVariants as answers
-use Rattle.link_account.specs.Hear.{hear, on_frame, on_seen, on_pattern, on_detecting, on_negotiating, on_establishing, on_releasing, on_closed, on_connected, on_number, timer_after, then_in, replying, taking, hurrying, pausing, ends_wait, without_adp, on_disc, on_word, peer_reset, trying, owing, on_xid_command, on_xid_response}
+use Rattle.link_account.specs.Hear.{hear, on_frame, on_seen, on_pattern, on_detecting, on_negotiating, on_establishing, on_releasing}
+use Rattle.link_account.specs.Hear.{on_closed, on_connected, on_number, timer_after, then_in, replying, taking, hurrying, pausing}
+use Rattle.link_account.specs.Hear.{ends_wait, without_adp, on_disc, on_word, peer_reset, trying, owing, on_xid_command, on_xid_response}
 use Rattle.lapm_receiver.specs.Incoming.{asks}
 use Rattle.causes.specs.declared.fault.LinkFault.TheVariants.{NotDetected}
-use Rattle.link_account.specs.Speak.{Said, says, says_frame, else_says, where_says, spent, answering, trying_again, tries_frame, u_try, on_timer, may_send, says_segment, says_own, says_break, says_asking, step1, step2, step3, step4, step5, step6, step7, step8, step9, steps, tells, differs, after_timers, then_tries, speak_linked, speak, speak_in, speak_detecting, speak_negotiating, speak_releasing}
+use Rattle.link_account.specs.Speak.{Said, says, says_frame, else_says, where_says, spent, answering, trying_again, tries_frame, u_try}
+use Rattle.link_account.specs.Speak.{on_timer, may_send, says_segment, says_own, says_break, says_asking, step1, step2, step3, step4, step5}
+use Rattle.link_account.specs.Speak.{step6, step7, step8, step9, steps, tells, differs, after_timers, then_tries, speak_linked, speak}
+use Rattle.link_account.specs.Speak.{speak_in, speak_detecting, speak_negotiating, speak_releasing}
 use Rattle.turn_bound.proofs.Clock.{Rates, AreRates}
 use Rattle.turn_bound.proofs.Value.{IsOf, Stands, arrived_rnrs}
 use Rattle.link_run.specs.End.{User, is_busy, is_closed, is_released}

@@ -1,4 +1,5 @@
-use Rattle.std.specs.Prelude.{◌≡◌, ℕ, ◌+◌, ◌-◌, ◌*◌, ◌<◌, ◌≤◌, Bool, true, false, not, cond, ◌&&◌, ◌||◌, nat_lt, length, Option, Some, None, is_some}
+use Rattle.std.specs.Prelude.{◌≡◌, ℕ, ◌+◌, ◌-◌, ◌*◌, ◌<◌, ◌≤◌, Bool, true, false, not, cond, ◌&&◌, ◌||◌, nat_lt, length, Option, Some, None}
+use Rattle.std.specs.Prelude.{is_some}
 use Rattle.std.specs.List.{AllByRecursion}
 use Rattle.lapm_sender.specs.Outgoing.{Outgoing, is_outstanding}
 use Rattle.break_signals.specs.Breaks.{OwnBreaks, waits}
@@ -31,7 +32,8 @@ pub record AreRates (z : Rates) : Type 0 where
   pub tries : 1 ≤ z.tries
   pub period : 20 ≤ z.period
 
--- A clock that runs. `before` is the first turn in which it can't have been set yet: the turn itself between turns, and the next one within it.
+-- A clock that runs. `before` is the first turn in which it can't have been set yet: the turn itself between turns, and the next one
+-- within it.
 pub record Runs (z : Rates) (before turn count set : ℕ) : Type 0 where
   pub tied : count * z.period ≤ set
   pub started : set < before

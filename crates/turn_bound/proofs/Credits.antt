@@ -1,4 +1,5 @@
--- What an end may be held up by before it sends a segment, as a number that each turn in which it is held up lowers by three, but for a poll
+-- What an end may be held up by before it sends a segment, as a number that each turn in which it is held up lowers by three, but for a
+-- poll
 -- that is heard in it. A poll of the other end has a value too: one becomes due in nineteen turns at most.
 use Rattle.std.proofs.Common.{ℕ, ◌+◌, ◌-◌, ◌≤◌, ◌&&◌, min, Bool, true, false, cond, arith, Option, Some, None}
 use Rattle.std.specs.Prelude.{is_some}

@@ -1,11 +1,13 @@
-use Rattle.std.proofs.Common.{◌≡◌, ℕ, ◌+◌, ◌-◌, ◌%◌, ◌<◌, ◌≤◌, ◌&&◌, ◌||◌, not, Bool, true, false, cond, nat_eq, List, length, arith, refl, sym, ◌∙◌, ap, subst, Option, Some, None, Result, Ok, Err}
+use Rattle.std.proofs.Common.{◌≡◌, ℕ, ◌+◌, ◌-◌, ◌%◌, ◌<◌, ◌≤◌, ◌&&◌, ◌||◌, not, Bool, true, false, cond, nat_eq, List, length, arith, refl}
+use Rattle.std.proofs.Common.{sym, ◌∙◌, ap, subst, Option, Some, None, Result, Ok, Err}
 use Rattle.std.specs.Option.{option_map}
 use Rattle.std.proofs.lemmas.Bool.Decides.{nat_tests}
 use Rattle.roles.specs.declared.role.Role.{Role}
 use Rattle.roles.specs.declared.role.Role.TheVariants.{Originator, Answerer}
 use Rattle.lapm_sender.specs.Meant.{meant}
 use Rattle.lapm_sender.specs.Numbers.{with_number}
-use Rattle.lapm_sender.specs.Outgoing.{Outgoing, is_outstanding, acknowledged, rejected, replied, advanced, gone_back, wait_ended, resumed, paused_at}
+use Rattle.lapm_sender.specs.Outgoing.{Outgoing, is_outstanding, acknowledged, rejected, replied, advanced, gone_back, wait_ended, resumed}
+use Rattle.lapm_sender.specs.Outgoing.{paused_at}
 use Rattle.break_signals.specs.declared.word.BreakWord.{BreakWord}
 use Rattle.break_signals.specs.declared.word.BreakWord.TheVariants.{Brk, Ack}
 use Rattle.break_signals.specs.declared.fault.BreakFault.{BreakFault}
@@ -14,10 +16,12 @@ use Rattle.link_account.specs.declared.phase.Phase.{Phase}
 use Rattle.link_account.specs.declared.phase.Phase.TheVariants.{Connected}
 use Rattle.causes.specs.declared.fault.LinkFault.{LinkFault}
 use Rattle.link_account.specs.Account.{Account}
-use Rattle.link_account.specs.Hear.{on_i, on_ready, on_rnr, on_rej, on_srej, on_word, on_number, then_in, replying, taking, hurrying, pausing, ends_wait}
+use Rattle.link_account.specs.Hear.{on_i, on_ready, on_rnr, on_rej, on_srej, on_word, on_number, then_in, replying, taking, hurrying}
+use Rattle.link_account.specs.Hear.{pausing, ends_wait}
 use Rattle.turn_bound.proofs.Clock.{Rates, AreRates, is_waiting, Sends, ends, Breaks, is_breaking}
 use Rattle.turn_bound.proofs.Value.{value, lives, IsAck, IsSilent, Linked, Stands}
-use Rattle.turn_bound.proofs.Sender.{Heard, HeardWell, heard-well, heard-busy, meant-range, heard-advanced, heard-gone_back, heard-wait_ended, heard-resumed, heard-selected}
+use Rattle.turn_bound.proofs.Sender.{Heard, HeardWell, heard-well, heard-busy, meant-range, heard-advanced, heard-gone_back}
+use Rattle.turn_bound.proofs.Sender.{heard-wait_ended, heard-resumed, heard-selected}
 use Rattle.turn_bound.proofs.Sending.{later-sends}
 use Rattle.turn_bound.proofs.Breaking.{later-breaks, ChangedWell, answered-well, ends-same}
 

@@ -1,5 +1,6 @@
 -- A Connected end with a segment to send and nothing outstanding sends it, or something else goes first that it pays for.
-use Rattle.std.proofs.Common.{◌≡◌, ℕ, ◌+◌, ◌-◌, ◌%◌, ◌<◌, ◌≤◌, ◌&&◌, ◌||◌, ◌⊎◌, min, Bool, true, false, cond, nat_eq, nat_lt, List, [], ◌∷◌, ◌++◌, length, slice_index_or, inl, inr, arith, refl, sym, ◌∙◌, ap, Option, Some, None, Ok}
+use Rattle.std.proofs.Common.{◌≡◌, ℕ, ◌+◌, ◌-◌, ◌%◌, ◌<◌, ◌≤◌, ◌&&◌, ◌||◌, ◌⊎◌, min, Bool, true, false, cond, nat_eq, nat_lt, List, [], ◌∷◌}
+use Rattle.std.proofs.Common.{◌++◌, length, slice_index_or, inl, inr, arith, refl, sym, ◌∙◌, ap, Option, Some, None, Ok}
 use Rattle.std.specs.Prelude.{is_some}
 use Rattle.std.specs.List.{AllByRecursion}
 use Rattle.std.proofs.lemmas.Bool.Decides.{nat_tests}
@@ -12,7 +13,9 @@ use Rattle.break_signals.specs.declared.word.BreakWord.TheVariants.{Brk}
 use Rattle.break_signals.specs.Breaks.{OwnBreaks, waits, ticked}
 use Rattle.link_account.specs.Account.{Account}
 use Rattle.link_account.specs.declared.answer.Answer.{Answer}
-use Rattle.link_account.specs.Speak.{Said, answering, polling, timer_expires, on_timer, breaking, may_send, says_segment, says_own, says_break, says_asking, step1, step2, step3, step4, step5, step6, step7, steps, tells, differs, then_tries}
+use Rattle.link_account.specs.Speak.{Said, answering, polling, timer_expires, on_timer, breaking, may_send, says_segment, says_own}
+use Rattle.link_account.specs.Speak.{says_break, says_asking, step1, step2, step3, step4, step5, step6, step7, steps, tells, differs}
+use Rattle.link_account.specs.Speak.{then_tries}
 use Rattle.turn_bound.proofs.Clock.{Rates, AreRates, is_waiting, IsChosen, Sends}
 use Rattle.turn_bound.proofs.Value.{IsOf}
 use Rattle.turn_bound.proofs.Sending.{sent-well}

@@ -1,4 +1,5 @@
-use Rattle.std.proofs.Common.{◌≡◌, ℕ, ◌+◌, ◌*◌, ◌≤◌, ◌&&◌, ◌||◌, Bool, true, false, cond, nat_eq, nat_le, arith, refl, subst, Option, Some, None, Result, Ok, Err}
+use Rattle.std.proofs.Common.{◌≡◌, ℕ, ◌+◌, ◌*◌, ◌≤◌, ◌&&◌, ◌||◌, Bool, true, false, cond, nat_eq, nat_le, arith, refl, subst, Option, Some}
+use Rattle.std.proofs.Common.{None, Result, Ok, Err}
 use Rattle.roles.specs.declared.role.Role.{Role}
 use Rattle.roles.specs.declared.role.Role.TheVariants.{Originator, Answerer}
 use Rattle.lapm_frames.specs.declared.frame.Frame.{Frame}
@@ -22,7 +23,11 @@ use Rattle.link_account.specs.declared.answer.Answer.{Answer}
 use Rattle.link_account.specs.declared.answer.Answer.TheVariants as answers
 use Rattle.roles.specs.Role.{is_originator}
 use Rattle.link_account.specs.Hear.{trying}
-use Rattle.link_account.specs.Speak.{Said, says, says_frame, else_says, where_says, spent, answering, trying_again, tries_frame, u_try, polling, timer_expires, on_timer, breaking, nr_of, may_send, says_segment, says_own, says_break, says_asking, step1, step2, step3, step4, step5, step6, step7, step8, step9, steps, tells, ready_frame, differs, after_timers, then_tries, speak_linked, speak, speak_in, speak_detecting, speak_negotiating, speak_releasing}
+use Rattle.link_account.specs.Speak.{Said, says, says_frame, else_says, where_says, spent, answering, trying_again, tries_frame, u_try}
+use Rattle.link_account.specs.Speak.{polling, timer_expires, on_timer, breaking, nr_of, may_send, says_segment, says_own, says_break}
+use Rattle.link_account.specs.Speak.{says_asking, step1, step2, step3, step4, step5, step6, step7, step8, step9, steps, tells, ready_frame}
+use Rattle.link_account.specs.Speak.{differs, after_timers, then_tries, speak_linked, speak, speak_in, speak_detecting, speak_negotiating}
+use Rattle.link_account.specs.Speak.{speak_releasing}
 use Rattle.turn_bound.proofs.Clock.{one_if}
 use Rattle.turn_bound.proofs.Value.{two_if, weight, frame_weight, word_weight, rnrs, frame_rnrs}
 use Rattle.turn_bound.proofs.Speaking.{AllSaid, OnOk, else-says, where-says}

@@ -1,4 +1,5 @@
-use Rattle.std.proofs.Common.{◌≡◌, ℕ, ◌||◌, Bool, true, false, cond, nat_lt, List, [], ◌∷◌, ◌++◌, length, refl, sym, ◌∙◌, ap, subst, Result, Ok, Err}
+use Rattle.std.proofs.Common.{◌≡◌, ℕ, ◌||◌, Bool, true, false, cond, nat_lt, List, [], ◌∷◌, ◌++◌, length, refl, sym, ◌∙◌, ap, subst, Result}
+use Rattle.std.proofs.Common.{Ok, Err}
 use Rattle.std.specs.List.{AllByRecursion}
 use Rattle.roles.specs.declared.role.Role.TheVariants.{Answerer}
 use Rattle.lapm_frames.specs.declared.frame.Frame.{Frame}
@@ -21,7 +22,8 @@ use Rattle.turn_bound.proofs.Arithmetic.{all_weaker}
 use Rattle.turn_bound.proofs.Serving.{serves-all}
 use Rattle.turn_bound.proofs.Falls.{Sound, Fits, state_after, after-is}
 use Rattle.turn_bound.proofs.Ending.{sound-run}
-use Rattle.turn_bound.proofs.MeetHear.{is_begun, is_ua_due, frame_ua, frame_disc, frame_final, of_frame, of_arrived, OHeard, OHears, o-hears, AHeard, AHears, a-hears}
+use Rattle.turn_bound.proofs.MeetHear.{is_begun, is_ua_due, frame_ua, frame_disc, frame_final, of_frame, of_arrived, OHeard, OHears}
+use Rattle.turn_bound.proofs.MeetHear.{o-hears, AHeard, AHears, a-hears}
 use Rattle.turn_bound.proofs.MeetSpeak.{SaysSo, Says, speaks-so}
 
 -- each slot of that kind on a line says so

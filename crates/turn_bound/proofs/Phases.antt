@@ -1,4 +1,5 @@
-use Rattle.std.proofs.Common.{◌≡◌, ℕ, ◌+◌, ◌-◌, ◌*◌, ◌<◌, ◌≤◌, ◌||◌, Bool, true, false, cond, nat_lt, List, length, arith, refl, sym, ◌∙◌, ap, subst, Option, Some, None, Result, Ok, Err}
+use Rattle.std.proofs.Common.{◌≡◌, ℕ, ◌+◌, ◌-◌, ◌*◌, ◌<◌, ◌≤◌, ◌||◌, Bool, true, false, cond, nat_lt, List, length, arith, refl, sym, ◌∙◌}
+use Rattle.std.proofs.Common.{ap, subst, Option, Some, None, Result, Ok, Err}
 use Rattle.std.specs.Prelude.{is_some}
 use Rattle.std.proofs.lemmas.Bool.Decides.{nat_tests}
 use Rattle.roles.specs.declared.role.Role.{Role}
@@ -23,9 +24,12 @@ use Rattle.link_account.specs.declared.phase.Phase.TheVariants.{Detecting, Negot
 use Rattle.causes.specs.declared.fault.LinkFault.{LinkFault}
 use Rattle.link_account.specs.Account.{Account, window_for, size_for}
 use Rattle.link_account.specs.declared.answer.Answer.TheVariants as answers
-use Rattle.link_account.specs.Hear.{hear, on_frame, on_seen, on_nothing, on_pattern, on_detecting, on_negotiating, on_establishing, on_releasing, on_closed, on_connected, on_i, on_ready, on_rnr, on_rej, on_srej, on_sabme, on_disc, on_word, peer_reset, connected, trying, owing, on_xid_command, on_xid_response, first_wait}
+use Rattle.link_account.specs.Hear.{hear, on_frame, on_seen, on_nothing, on_pattern, on_detecting, on_negotiating, on_establishing}
+use Rattle.link_account.specs.Hear.{on_releasing, on_closed, on_connected, on_i, on_ready, on_rnr, on_rej, on_srej, on_sabme, on_disc}
+use Rattle.link_account.specs.Hear.{on_word, peer_reset, connected, trying, owing, on_xid_command, on_xid_response, first_wait}
 use Rattle.turn_bound.proofs.Clock.{Rates, AreRates, Ticks, left, is_waiting, ends, worth, Breaks, is_breaking, break_left}
-use Rattle.turn_bound.proofs.Value.{time_left, linked_left, value, linked_lives, lives, IsOf, Unlinked, IsAck, Linked, Tries, Stands, frame_rnrs, arrived_rnrs}
+use Rattle.turn_bound.proofs.Value.{time_left, linked_left, value, linked_lives, lives, IsOf, Unlinked, IsAck, Linked, Tries, Stands}
+use Rattle.turn_bound.proofs.Value.{frame_rnrs, arrived_rnrs}
 use Rattle.turn_bound.proofs.Arithmetic.{tries_fit, left-some, ticks-now}
 use Rattle.turn_bound.proofs.Sender.{ends-is}
 use Rattle.turn_bound.proofs.Offers.{read-windows, agreed-windows}

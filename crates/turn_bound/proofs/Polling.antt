@@ -1,5 +1,6 @@
 -- An end's polls become due once in a whole period, and so once in nineteen turns.
-use Rattle.std.proofs.Common.{◌≡◌, ℕ, ◌+◌, ◌-◌, ◌≤◌, ◌&&◌, ◌||◌, min, Bool, true, false, cond, nat_eq, nat_lt, inl, inr, arith, refl, ap, Option, Some, None, Result, Ok, Err}
+use Rattle.std.proofs.Common.{◌≡◌, ℕ, ◌+◌, ◌-◌, ◌≤◌, ◌&&◌, ◌||◌, min, Bool, true, false, cond, nat_eq, nat_lt, inl, inr, arith, refl, ap}
+use Rattle.std.proofs.Common.{Option, Some, None, Result, Ok, Err}
 use Rattle.std.proofs.lemmas.Bool.Decides.{nat_tests}
 use Rattle.roles.specs.declared.role.Role.{Role}
 use Rattle.roles.specs.Role.{is_originator}
@@ -14,7 +15,9 @@ use Rattle.link_account.specs.Account.{Account}
 use Rattle.link_account.specs.declared.answer.Answer.{Answer}
 use Rattle.link_account.specs.declared.answer.Answer.TheVariants as answers
 use Rattle.link_account.specs.Hear.{timer_after}
-use Rattle.link_account.specs.Speak.{Said, where_says, answering, polling, timer_expires, on_timer, breaking, running, nr_of, may_send, says_segment, says_own, says_break, says_asking, step1, step2, step3, step4, step5, step6, step7, step8, step9, steps, tells, ready_frame, differs, after_timers, then_tries, speak_linked}
+use Rattle.link_account.specs.Speak.{Said, where_says, answering, polling, timer_expires, on_timer, breaking, running, nr_of, may_send}
+use Rattle.link_account.specs.Speak.{says_segment, says_own, says_break, says_asking, step1, step2, step3, step4, step5, step6, step7}
+use Rattle.link_account.specs.Speak.{step8, step9, steps, tells, ready_frame, differs, after_timers, then_tries, speak_linked}
 use Rattle.turn_bound.proofs.Clock.{Rates, AreRates, Ticks}
 use Rattle.turn_bound.proofs.Value.{IsOf, Linked}
 use Rattle.turn_bound.proofs.Speaking.{AllSaid, OnOk, else-says, where-says}

@@ -1,4 +1,5 @@
-use Rattle.std.proofs.Common.{◌≡◌, ℕ, ◌+◌, ◌-◌, ◌*◌, ◌<◌, ◌≤◌, ◌&&◌, ◌⊎◌, not, Bool, true, false, cond, nat_le, [], ◌∷◌, ◌++◌, length, length-append, inl, inr, arith, refl, sym, ◌∙◌, ap, subst}
+use Rattle.std.proofs.Common.{◌≡◌, ℕ, ◌+◌, ◌-◌, ◌*◌, ◌<◌, ◌≤◌, ◌&&◌, ◌⊎◌, not, Bool, true, false, cond, nat_le, [], ◌∷◌, ◌++◌, length}
+use Rattle.std.proofs.Common.{length-append, inl, inr, arith, refl, sym, ◌∙◌, ap, subst}
 use Rattle.roles.specs.declared.role.Role.{Role}
 use Rattle.roles.specs.declared.role.Role.TheVariants.{Originator, Answerer}
 use Rattle.break_signals.specs.Breaks.{OwnBreaks, after_ask, waits}

@@ -1,4 +1,6 @@
-use Rattle.std.proofs.Common.{take, drop, ◌++◌, length-take, length-drop, ◌≡◌, ℕ, ◌-◌, ◌&&◌, ◌||◌, not, Bool, true, false, cond, refl, sym, ◌∙◌, ap, subst, Option, Some, None, Result, Ok, Err, ◌+◌, ◌*◌, nat_eq, nat_le, List, [], ◌∷◌, ◌⊎◌, inl, inr, length, arith, ◌<◌, ◌≤◌, zero, suc, nat_lt, length-append}
+use Rattle.std.proofs.Common.{take, drop, ◌++◌, length-take, length-drop, ◌≡◌, ℕ, ◌-◌, ◌&&◌, ◌||◌, not, Bool, true, false, cond, refl, sym}
+use Rattle.std.proofs.Common.{◌∙◌, ap, subst, Option, Some, None, Result, Ok, Err, ◌+◌, ◌*◌, nat_eq, nat_le, List, [], ◌∷◌, ◌⊎◌, inl, inr}
+use Rattle.std.proofs.Common.{length, arith, ◌<◌, ◌≤◌, zero, suc, nat_lt, length-append}
 use Rattle.roles.specs.declared.role.Role.{Role}
 use Rattle.roles.specs.declared.role.Role.TheVariants.{Originator, Answerer}
 use Rattle.lapm_frames.specs.declared.frame.Frame.{Frame}
@@ -7,7 +9,8 @@ use Rattle.xid_params.specs.declared.offer.Offer.{Offer}
 use Rattle.xid_params.specs.Offers.{offer_in, written}
 use Rattle.lapm_sender.specs.Meant.{meant}
 use Rattle.lapm_sender.specs.Numbers.{with_number}
-use Rattle.lapm_sender.specs.Outgoing.{Outgoing, is_outstanding, acknowledged, rejected, replied, advanced, gone_back, resumed, paused_at, sent_among, wait_ended}
+use Rattle.lapm_sender.specs.Outgoing.{Outgoing, is_outstanding, acknowledged, rejected, replied, advanced, gone_back, resumed, paused_at}
+use Rattle.lapm_sender.specs.Outgoing.{sent_among, wait_ended}
 use Rattle.std.specs.Option.{option_map}
 use Rattle.break_signals.specs.declared.word.BreakWord.{BreakWord}
 use Rattle.break_signals.specs.declared.word.BreakWord.TheVariants.{Brk, Ack}
@@ -25,14 +28,20 @@ use Rattle.lapm_frames.specs.declared.sent.Sent.TheVariants as slots
 use Rattle.link_account.specs.Account.{Account, is_connected, wants, after_offer, after_given, after_busy, after_break_asked}
 use Rattle.link_account.specs.declared.answer.Answer.{Answer}
 use Rattle.link_account.specs.declared.answer.Answer.TheVariants as answers
-use Rattle.link_account.specs.Hear.{hear, on_frame, on_seen, on_pattern, on_detecting, on_negotiating, on_establishing, on_releasing, on_closed, on_connected, on_number, then_in, replying, taking, hurrying, pausing, ends_wait, on_disc, on_word, peer_reset, owing, on_xid_command, on_xid_response, trying}
+use Rattle.link_account.specs.Hear.{hear, on_frame, on_seen, on_pattern, on_detecting, on_negotiating, on_establishing, on_releasing}
+use Rattle.link_account.specs.Hear.{on_closed, on_connected, on_number, then_in, replying, taking, hurrying, pausing, ends_wait, on_disc}
+use Rattle.link_account.specs.Hear.{on_word, peer_reset, owing, on_xid_command, on_xid_response, trying}
 use Rattle.lapm_receiver.specs.Incoming.{asks}
 use Rattle.break_signals.specs.Breaks.{OwnBreaks, own_due, ticked, after_ask}
 use Rattle.causes.specs.declared.fault.LinkFault.TheVariants.{NotDetected}
-use Rattle.link_account.specs.Speak.{Said, says, says_frame, else_says, where_says, spent, answering, trying_again, tries_frame, u_try, polling, timer_expires, on_timer, breaking, may_send, says_segment, says_own, says_break, says_asking, step1, step2, step3, step4, step5, step6, step7, step8, step9, steps, tells, differs, after_timers, then_tries, speak_linked, speak, speak_in, speak_detecting, speak_negotiating, speak_releasing}
+use Rattle.link_account.specs.Speak.{Said, says, says_frame, else_says, where_says, spent, answering, trying_again, tries_frame, u_try}
+use Rattle.link_account.specs.Speak.{polling, timer_expires, on_timer, breaking, may_send, says_segment, says_own, says_break, says_asking}
+use Rattle.link_account.specs.Speak.{step1, step2, step3, step4, step5, step6, step7, step8, step9, steps, tells, differs, after_timers}
+use Rattle.link_account.specs.Speak.{then_tries, speak_linked, speak, speak_in, speak_detecting, speak_negotiating, speak_releasing}
 use Rattle.roles.specs.Role.{is_originator, other}
 use Rattle.turn_bound.proofs.Run.{served_account, Link, State, Turn, RunOf, start, arrival}
-use Rattle.link_run.specs.End.{User, BreakLine, delivered, offered_at, offered_times, room_for, offered, is_busy, next_break, asked_at, asked, is_released}
+use Rattle.link_run.specs.End.{User, BreakLine, delivered, offered_at, offered_times, room_for, offered, is_busy, next_break, asked_at}
+use Rattle.link_run.specs.End.{asked, is_released}
 use Rattle.turn_bound.specs.Offered.{IsWithin}
 use Rattle.turn_bound.proofs.Speaking.{AllSaid, OnOk, else-says, where-says}
 use Rattle.turn_bound.proofs.Falls.{after-is}

@@ -1,4 +1,5 @@
-use Rattle.std.proofs.Common.{◌≡◌, ℕ, ◌+◌, ◌%◌, ◌<◌, ◌≤◌, ◌&&◌, ◌||◌, not, Bool, true, false, cond, nat_lt, List, [], ◌∷◌, ◌++◌, length, slice_index_or, arith, refl, sym, ◌∙◌, ap, Option, Some, None, Ok, Err}
+use Rattle.std.proofs.Common.{◌≡◌, ℕ, ◌+◌, ◌%◌, ◌<◌, ◌≤◌, ◌&&◌, ◌||◌, not, Bool, true, false, cond, nat_lt, List, [], ◌∷◌, ◌++◌, length}
+use Rattle.std.proofs.Common.{slice_index_or, arith, refl, sym, ◌∙◌, ap, Option, Some, None, Ok, Err}
 use Rattle.std.specs.Prelude.{is_some}
 use Rattle.std.proofs.lemmas.Bool.Decides.{nat_tests}
 use Rattle.roles.specs.declared.role.Role.{Role}
@@ -13,7 +14,9 @@ use Rattle.link_account.specs.Account.{Account}
 use Rattle.link_account.specs.declared.answer.Answer.{Answer}
 use Rattle.link_account.specs.declared.answer.Answer.TheVariants as answers
 use Rattle.roles.specs.Role.{is_originator}
-use Rattle.link_account.specs.Speak.{Said, else_says, where_says, answering, frame_for, nr_of, may_send, says_segment, says_own, says_break, says_asking, step1, step2, step3, step4, step5, step6, step7, step8, step9, steps, tells, ready_frame, differs}
+use Rattle.link_account.specs.Speak.{Said, else_says, where_says, answering, frame_for, nr_of, may_send, says_segment, says_own, says_break}
+use Rattle.link_account.specs.Speak.{says_asking, step1, step2, step3, step4, step5, step6, step7, step8, step9, steps, tells, ready_frame}
+use Rattle.link_account.specs.Speak.{differs}
 use Rattle.turn_bound.proofs.Clock.{Rates, AreRates, is_waiting, is_free, one_if}
 use Rattle.std.specs.List.{AllByRecursion}
 use Rattle.turn_bound.proofs.Clock.{IsChosen}

@@ -1,4 +1,5 @@
-use Rattle.std.proofs.Common.{◌≡◌, ℕ, ◌+◌, ◌-◌, ◌*◌, ◌≤◌, ◌&&◌, ◌||◌, Bool, true, false, cond, nat_eq, List, [], ◌∷◌, length, arith, refl, sym, ◌∙◌, ap, subst, Option, Some, None, Result, Ok, Err}
+use Rattle.std.proofs.Common.{◌≡◌, ℕ, ◌+◌, ◌-◌, ◌*◌, ◌≤◌, ◌&&◌, ◌||◌, Bool, true, false, cond, nat_eq, List, [], ◌∷◌, length, arith, refl}
+use Rattle.std.proofs.Common.{sym, ◌∙◌, ap, subst, Option, Some, None, Result, Ok, Err}
 use Rattle.roles.specs.declared.role.Role.{Role}
 use Rattle.roles.specs.declared.role.Role.TheVariants.{Originator, Answerer}
 use Rattle.lapm_sender.specs.Outgoing.{Outgoing, next_number, after_next, sent_among, expired}
@@ -11,7 +12,9 @@ use Rattle.causes.specs.declared.fault.LinkFault.{LinkFault}
 use Rattle.link_account.specs.Account.{Account, is_connected}
 use Rattle.link_account.specs.declared.answer.Answer.{Answer}
 use Rattle.roles.specs.Role.{is_originator}
-use Rattle.link_account.specs.Speak.{Said, else_says, where_says, answering, polling, timer_expires, on_timer, breaking, on_break_timer, may_send, running, says_segment, says_own, says_break, says_asking, step1, step2, step3, step4, step5, step6, step7, step8, step9, steps, tells, differs, after_timers, then_tries, speak_linked}
+use Rattle.link_account.specs.Speak.{Said, else_says, where_says, answering, polling, timer_expires, on_timer, breaking, on_break_timer}
+use Rattle.link_account.specs.Speak.{may_send, running, says_segment, says_own, says_break, says_asking, step1, step2, step3, step4, step5}
+use Rattle.link_account.specs.Speak.{step6, step7, step8, step9, steps, tells, differs, after_timers, then_tries, speak_linked}
 use Rattle.turn_bound.proofs.Clock.{Rates, AreRates, is_waiting, Sends, lasts, one_if, sender_value, Breaks, is_breaking, break_left}
 use Rattle.link_run.specs.End.{is_closed}
 use Rattle.turn_bound.proofs.Value.{value, linked_lives, lives, IsOf, IsAck, IsSilent, Linked, Stands}

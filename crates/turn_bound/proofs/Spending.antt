@@ -1,4 +1,5 @@
-use Rattle.std.proofs.Common.{◌≡◌, ℕ, ◌+◌, ◌-◌, ◌*◌, ◌&&◌, Bool, true, false, cond, nat_eq, nat_le, length, arith, refl, sym, ◌∙◌, ap, subst, Option, Some, None, Result, Ok, Err, inl, inr}
+use Rattle.std.proofs.Common.{◌≡◌, ℕ, ◌+◌, ◌-◌, ◌*◌, ◌&&◌, Bool, true, false, cond, nat_eq, nat_le, length, arith, refl, sym, ◌∙◌, ap}
+use Rattle.std.proofs.Common.{subst, Option, Some, None, Result, Ok, Err, inl, inr}
 use Rattle.std.proofs.lemmas.Bool.Decides.{nat_tests}
 use Rattle.roles.specs.declared.role.Role.{Role}
 use Rattle.roles.specs.declared.role.Role.TheVariants.{Originator, Answerer}
@@ -15,7 +16,9 @@ use Rattle.causes.specs.declared.fault.LinkFault.TheVariants.{NotDetected, Spent
 use Rattle.link_account.specs.Account.{Account, is_connected}
 use Rattle.roles.specs.Role.{is_originator}
 use Rattle.link_account.specs.Hear.{trying}
-use Rattle.link_account.specs.Speak.{says, spent, trying_again, tries_frame, u_try, polling, timer_expires, on_timer, breaking, on_break_timer, after_timers, then_tries, speak_linked, speak, speak_in, speak_detecting, speak_negotiating, speak_releasing}
+use Rattle.link_account.specs.Speak.{says, spent, trying_again, tries_frame, u_try, polling, timer_expires, on_timer, breaking}
+use Rattle.link_account.specs.Speak.{on_break_timer, after_timers, then_tries, speak_linked, speak, speak_in, speak_detecting}
+use Rattle.link_account.specs.Speak.{speak_negotiating, speak_releasing}
 use Rattle.turn_bound.proofs.Clock.{Rates, AreRates, Runs, Ticks}
 use Rattle.turn_bound.proofs.Value.{IsOf, Linked, Tries, Stands}
 use Rattle.turn_bound.specs.Spent.{since, SpentOnTime, IsTimely}

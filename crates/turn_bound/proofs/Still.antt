@@ -1,4 +1,5 @@
-use Rattle.std.proofs.Common.{◌≡◌, ℕ, ◌+◌, ◌-◌, ◌%◌, ◌≤◌, ◌&&◌, ◌||◌, not, Bool, true, false, cond, nat_eq, nat_lt, List, arith, refl, sym, ◌∙◌, subst, Option, Some, None, Result, Ok, Err}
+use Rattle.std.proofs.Common.{◌≡◌, ℕ, ◌+◌, ◌-◌, ◌%◌, ◌≤◌, ◌&&◌, ◌||◌, not, Bool, true, false, cond, nat_eq, nat_lt, List, arith, refl, sym}
+use Rattle.std.proofs.Common.{◌∙◌, subst, Option, Some, None, Result, Ok, Err}
 use Rattle.std.specs.Prelude.{is_some}
 use Rattle.std.specs.Option.{option_map}
 use Rattle.std.proofs.lemmas.Bool.Decides.{nat_tests}
@@ -8,7 +9,8 @@ use Rattle.lapm_frames.specs.declared.frame.Frame.{Frame}
 use Rattle.lapm_frames.specs.declared.frame.Frame.TheVariants.{I, Rr, Rnr, Rej, Srej, Sabme, Disc, Ua, Dm, Frmr, Ui, Xid, Test}
 use Rattle.lapm_sender.specs.Meant.{meant}
 use Rattle.lapm_sender.specs.Numbers.{with_number}
-use Rattle.lapm_sender.specs.Outgoing.{Outgoing, is_outstanding, acknowledged, rejected, replied, advanced, gone_back, wait_ended, resumed, paused_at}
+use Rattle.lapm_sender.specs.Outgoing.{Outgoing, is_outstanding, acknowledged, rejected, replied, advanced, gone_back, wait_ended, resumed}
+use Rattle.lapm_sender.specs.Outgoing.{paused_at}
 use Rattle.lapm_receiver.specs.Incoming.{Incoming, after_kind, kind_of, offset}
 use Rattle.lapm_receiver.specs.declared.took.Took.{Took}
 use Rattle.lapm_receiver.specs.declared.took.Took.TheVariants.{InOrder, Kept, Repeat, Gap}
@@ -25,7 +27,9 @@ use Rattle.link_account.specs.Account.{Account}
 use Rattle.link_account.specs.declared.answer.Answer.{Answer}
 use Rattle.link_account.specs.declared.answer.Answer.TheVariants as answers
 use Rattle.roles.specs.Role.{is_originator}
-use Rattle.link_account.specs.Hear.{hear, on_frame, on_seen, on_connected, on_i, on_ready, on_rnr, on_rej, on_srej, on_sabme, on_disc, on_word, on_number, then_in, replying, taking, hurrying, pausing, ends_wait, peer_reset, owing, without_adp}
+use Rattle.link_account.specs.Hear.{hear, on_frame, on_seen, on_connected, on_i, on_ready, on_rnr, on_rej, on_srej, on_sabme, on_disc}
+use Rattle.link_account.specs.Hear.{on_word, on_number, then_in, replying, taking, hurrying, pausing, ends_wait, peer_reset, owing}
+use Rattle.link_account.specs.Hear.{without_adp}
 use Rattle.turn_bound.proofs.Clock.{Rates, is_waiting, Sends, is_free, one_if}
 use Rattle.turn_bound.proofs.Value.{Linked, two_if, dues, frame_weight, word_weight, arrived_weight}
 use Rattle.turn_bound.proofs.Sender.{Heard, meant-range, heard-advanced, heard-gone_back, heard-wait_ended, heard-resumed}

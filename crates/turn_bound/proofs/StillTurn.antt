@@ -1,4 +1,5 @@
-use Rattle.std.proofs.Common.{◌≡◌, ℕ, ◌+◌, ◌*◌, ◌<◌, ◌≤◌, ◌&&◌, ◌||◌, not, Bool, true, false, cond, nat_eq, nat_lt, nat_le, [], ◌∷◌, ◌++◌, length, length-append, arith, refl, sym, ◌∙◌, ap, subst, Option, Some, None, Result, Ok, Err}
+use Rattle.std.proofs.Common.{◌≡◌, ℕ, ◌+◌, ◌*◌, ◌<◌, ◌≤◌, ◌&&◌, ◌||◌, not, Bool, true, false, cond, nat_eq, nat_lt, nat_le, [], ◌∷◌, ◌++◌}
+use Rattle.std.proofs.Common.{length, length-append, arith, refl, sym, ◌∙◌, ap, subst, Option, Some, None, Result, Ok, Err}
 use Rattle.std.specs.Prelude.{is_some}
 use Rattle.std.proofs.lemmas.Bool.Decides.{nat_tests}
 use Rattle.roles.specs.declared.role.Role.{Role}
@@ -13,7 +14,8 @@ use Rattle.link_account.specs.Account.{Account, is_connected, is_done, break_wai
 use Rattle.roles.specs.Role.{is_originator}
 use Rattle.link_account.specs.Hear.{hear, trying}
 use Rattle.lapm_frames.specs.declared.frame.Frame.TheVariants.{Disc}
-use Rattle.link_account.specs.Speak.{Said, speak, speak_linked, steps, then_tries, on_timer, after_timers, speak_in, speak_releasing, timer_expires, polling, breaking, u_try}
+use Rattle.link_account.specs.Speak.{Said, speak, speak_linked, steps, then_tries, on_timer, after_timers, speak_in, speak_releasing}
+use Rattle.link_account.specs.Speak.{timer_expires, polling, breaking, u_try}
 use Rattle.turn_bound.proofs.Clock.{Rates, AreRates, is_waiting, Sends, is_free, one_if, Breaks, is_breaking}
 use Rattle.turn_bound.proofs.Value.{two_if, four_if, linked_lives, IsOf, Linked, Stands, dues, weight, arrived_weight, arrived_rnrs}
 use Rattle.turn_bound.proofs.Run.{served_account}

@@ -1,5 +1,6 @@
 -- What a Connected end makes of what it hears, as far as it may hold up a segment.
-use Rattle.std.proofs.Common.{◌≡◌, ℕ, ◌+◌, ◌-◌, ◌%◌, ◌<◌, ◌≤◌, ◌&&◌, ◌||◌, ◌⊎◌, not, min, Bool, true, false, cond, nat_eq, nat_lt, List, length, inl, inr, arith, refl, sym, ◌∙◌, ap, subst, Option, Some, None, Result, Ok, Err}
+use Rattle.std.proofs.Common.{◌≡◌, ℕ, ◌+◌, ◌-◌, ◌%◌, ◌<◌, ◌≤◌, ◌&&◌, ◌||◌, ◌⊎◌, not, min, Bool, true, false, cond, nat_eq, nat_lt, List}
+use Rattle.std.proofs.Common.{length, inl, inr, arith, refl, sym, ◌∙◌, ap, subst, Option, Some, None, Result, Ok, Err}
 use Rattle.std.specs.Prelude.{is_some}
 use Rattle.std.specs.Option.{option_map}
 use Rattle.std.proofs.lemmas.Bool.Decides.{nat_tests}
@@ -25,7 +26,8 @@ use Rattle.link_account.specs.declared.phase.Phase.TheVariants.{Connected, Close
 use Rattle.causes.specs.declared.fault.LinkFault.{LinkFault}
 use Rattle.link_account.specs.Account.{Account}
 use Rattle.link_account.specs.declared.answer.Answer.TheVariants as answers
-use Rattle.link_account.specs.Hear.{hear, on_frame, on_seen, on_connected, on_i, on_ready, on_rej, on_srej, on_sabme, on_disc, on_word, on_number, timer_after, then_in, replying, taking, hurrying, ends_wait, peer_reset, owing, without_adp}
+use Rattle.link_account.specs.Hear.{hear, on_frame, on_seen, on_connected, on_i, on_ready, on_rej, on_srej, on_sabme, on_disc, on_word}
+use Rattle.link_account.specs.Hear.{on_number, timer_after, then_in, replying, taking, hurrying, ends_wait, peer_reset, owing, without_adp}
 use Rattle.turn_bound.proofs.Clock.{Rates, Breaks}
 use Rattle.turn_bound.proofs.Value.{Linked, frame_weight, frame_rnrs, arrived_weight, arrived_rnrs}
 use Rattle.turn_bound.proofs.Sender.{Heard, meant-range, heard-advanced, heard-gone_back, heard-wait_ended, heard-resumed, heard-selected}

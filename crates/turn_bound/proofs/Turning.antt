@@ -1,4 +1,5 @@
-use Rattle.std.proofs.Common.{◌≡◌, ℕ, ◌+◌, ◌-◌, ◌*◌, ◌<◌, ◌≤◌, ◌&&◌, Bool, true, false, cond, nat_eq, nat_le, length, arith, refl, sym, ◌∙◌, ap, subst, Option, Some, None, Result, Ok, Err}
+use Rattle.std.proofs.Common.{◌≡◌, ℕ, ◌+◌, ◌-◌, ◌*◌, ◌<◌, ◌≤◌, ◌&&◌, Bool, true, false, cond, nat_eq, nat_le, length, arith, refl, sym, ◌∙◌}
+use Rattle.std.proofs.Common.{ap, subst, Option, Some, None, Result, Ok, Err}
 use Rattle.std.proofs.lemmas.Bool.Decides.{nat_tests}
 use Rattle.roles.specs.declared.role.Role.{Role}
 use Rattle.roles.specs.declared.role.Role.TheVariants.{Originator, Answerer}
@@ -15,7 +16,8 @@ use Rattle.link_account.specs.Account.{Account}
 use Rattle.link_account.specs.declared.answer.Answer.{Answer}
 use Rattle.roles.specs.Role.{is_originator}
 use Rattle.link_account.specs.Hear.{trying}
-use Rattle.link_account.specs.Speak.{Said, says, says_frame, else_says, where_says, spent, answering, trying_again, tries_frame, u_try, speak_linked, speak, speak_in, speak_detecting, speak_answer, speak_negotiating, speak_releasing}
+use Rattle.link_account.specs.Speak.{Said, says, says_frame, else_says, where_says, spent, answering, trying_again, tries_frame, u_try}
+use Rattle.link_account.specs.Speak.{speak_linked, speak, speak_in, speak_detecting, speak_answer, speak_negotiating, speak_releasing}
 use Rattle.turn_bound.proofs.Clock.{Rates, AreRates, lasts, worth}
 use Rattle.turn_bound.proofs.Value.{time_left, try_left, linked_lives, lives, IsOf, Unlinked, Tries, Stands}
 use Rattle.turn_bound.proofs.Arithmetic.{tries_fit}

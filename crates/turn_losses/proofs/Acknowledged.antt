@@ -1,5 +1,6 @@
 -- What an end sends at the answer to its poll is acknowledged, where no line is lost.
-use Rattle.std.proofs.Common.{◌⊎◌, inl, inr, ◌≡◌, ℕ, zero, suc, ◌+◌, ◌-◌, ◌%◌, ◌<◌, ◌≤◌, ◌&&◌, Bool, true, false, cond, nat_lt, nat_le, length, arith, refl, sym, ◌∙◌, ap, Option, Some, None}
+use Rattle.std.proofs.Common.{◌⊎◌, inl, inr, ◌≡◌, ℕ, zero, suc, ◌+◌, ◌-◌, ◌%◌, ◌<◌, ◌≤◌, ◌&&◌, Bool, true, false, cond, nat_lt, nat_le}
+use Rattle.std.proofs.Common.{length, arith, refl, sym, ◌∙◌, ap, Option, Some, None}
 use Rattle.std.specs.Prelude.{is_some}
 use Rattle.std.proofs.lemmas.Bool.{cases_lt}
 use Rattle.std.proofs.lemmas.Bool.Decides.{nat_tests}
@@ -170,7 +171,8 @@ taken-rises turns e o c s (suc n) l h =
     ap (λ u. length (o.account u).incoming.taken) (omega arith) in
     omega (arith, before, low, after, there)
 
--- The first segment that isn't acknowledged, sent in the turn in which the answer to a poll is heard: the retry count is 0 within a round trip and a turn.
+-- The first segment that isn't acknowledged, sent in the turn in which the answer to a poll is heard: the retry count is 0 within a round
+-- trip and a turn.
 pub acknowledged : (period turns : ℕ) (e o : EndRun) → TwoEnds period turns e o → Counts turns e o → (u : ℕ)
     → u + (e.delay + o.delay) + 1 < turns → hears_final e u ≡ true
     → ns_sent (e.slot u) ≡ Some ((e.mid u).outgoing.front % 128)

@@ -13,7 +13,8 @@ pub record SendsSegment (n : ℕ) (b : Account) (said : Said) : Type 0 where
   pub sent : said.sent ≡ slots.Frame (I (n % 128) (nr_of b) false (slice_index_or b.outgoing.pieces n []))
   pub number : said.number ≡ n
 
--- Where a poll is awaited and none is due, a response with F = 1 leaves the retry count at 0, or the first segment that isn't acknowledged goes in that very turn.
+-- Where a poll is awaited and none is due, a response with F = 1 leaves the retry count at 0, or the first segment that isn't acknowledged
+-- goes in that very turn.
 abbrev pub AnswerTurn : (period turn : ℕ) → Arrived → (a mid b : Account) → Said → Type 0
 AnswerTurn period turn arrived a mid b said =
     is_connected a.phase ≡ true → a.outgoing.awaited ≡ true → a.wait.poll ≡ false → of_arrived is_final arrived ≡ true

@@ -1,9 +1,11 @@
-use Rattle.std.proofs.Common.{◌≡◌, ℕ, ◌+◌, ◌%◌, ◌<◌, ◌&&◌, ◌||◌, Bool, true, false, cond, nat_lt, List, [], ◌∷◌, length, arith, refl, sym, ◌∙◌, ap, subst, Option, Some, None, Result, Ok, Err, slice_index_or}
+use Rattle.std.proofs.Common.{◌≡◌, ℕ, ◌+◌, ◌%◌, ◌<◌, ◌&&◌, ◌||◌, Bool, true, false, cond, nat_lt, List, [], ◌∷◌, length, arith, refl, sym}
+use Rattle.std.proofs.Common.{◌∙◌, ap, subst, Option, Some, None, Result, Ok, Err, slice_index_or}
 use Rattle.std.proofs.lemmas.Bool.Decides.{nat_tests}
 use Rattle.lapm_frames.specs.declared.frame.Frame.{Frame}
 use Rattle.lapm_frames.specs.declared.frame.Frame.TheVariants.{I, Rr, Rnr, Rej, Srej, Sabme, Disc, Ua, Dm, Frmr, Ui, Xid, Test}
 use Rattle.lapm_sender.specs.Meant.{meant}
-use Rattle.lapm_sender.specs.Outgoing.{Outgoing, is_outstanding, acknowledged, rejected, replied, advanced, wait_ended, resumed, paused_at, next_number, after_next, expired}
+use Rattle.lapm_sender.specs.Outgoing.{Outgoing, is_outstanding, acknowledged, rejected, replied, advanced, wait_ended, resumed, paused_at}
+use Rattle.lapm_sender.specs.Outgoing.{next_number, after_next, expired}
 use Rattle.std.specs.Option.{option_map}
 use Rattle.break_signals.specs.Breaks.{OwnBreaks, ticked}
 use Rattle.lapm_frames.specs.declared.arrived.Arrived.TheVariants as arrivals
@@ -14,7 +16,8 @@ use Rattle.link_account.specs.Account.{Account}
 use Rattle.roles.specs.Role.{is_originator}
 use Rattle.link_account.specs.declared.answer.Answer.{Answer}
 use Rattle.link_account.specs.Hear.{hear, on_frame, on_connected, on_number, then_in, replying, hurrying, pausing}
-use Rattle.link_account.specs.Speak.{Said, else_says, where_says, answering, polling, timer_expires, breaking, nr_of, may_send, says_segment, steps, after_timers, then_tries, speak_linked}
+use Rattle.link_account.specs.Speak.{Said, else_says, where_says, answering, polling, timer_expires, breaking, nr_of, may_send}
+use Rattle.link_account.specs.Speak.{says_segment, steps, after_timers, then_tries, speak_linked}
 use Rattle.turn_bound.proofs.Clock.{Rates}
 use Rattle.turn_bound.proofs.Clock.{Sends}
 use Rattle.lapm_sender.specs.Outgoing.{next_among}

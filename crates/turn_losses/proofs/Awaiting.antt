@@ -1,11 +1,13 @@
-use Rattle.std.proofs.Common.{◌≡◌, ℕ, ◌-◌, ◌&&◌, ◌||◌, not, Bool, true, false, cond, refl, sym, ◌∙◌, ap, Option, Some, None, Result, Ok, Err}
+use Rattle.std.proofs.Common.{◌≡◌, ℕ, ◌-◌, ◌&&◌, ◌||◌, not, Bool, true, false, cond, refl, sym, ◌∙◌, ap, Option, Some, None, Result, Ok}
+use Rattle.std.proofs.Common.{Err}
 use Rattle.roles.specs.declared.role.Role.{Role}
 use Rattle.roles.specs.declared.role.Role.TheVariants.{Originator, Answerer}
 use Rattle.lapm_frames.specs.declared.frame.Frame.{Frame}
 use Rattle.lapm_frames.specs.declared.frame.Frame.TheVariants.{I, Rr, Rnr, Rej, Srej, Sabme, Disc, Ua, Dm, Frmr, Ui, Xid, Test}
 use Rattle.lapm_sender.specs.Meant.{meant}
 use Rattle.lapm_sender.specs.Numbers.{with_number}
-use Rattle.lapm_sender.specs.Outgoing.{Outgoing, is_outstanding, acknowledged, rejected, replied, advanced, gone_back, wait_ended, resumed, paused_at}
+use Rattle.lapm_sender.specs.Outgoing.{Outgoing, is_outstanding, acknowledged, rejected, replied, advanced, gone_back, wait_ended, resumed}
+use Rattle.lapm_sender.specs.Outgoing.{paused_at}
 use Rattle.std.specs.Option.{option_map}
 use Rattle.break_signals.specs.declared.word.BreakWord.{BreakWord}
 use Rattle.break_signals.specs.declared.word.BreakWord.TheVariants.{Brk, Ack}
@@ -19,7 +21,8 @@ use Rattle.causes.specs.declared.fault.LinkFault.{LinkFault}
 use Rattle.link_account.specs.Account.{Account, is_connected}
 use Rattle.roles.specs.Role.{is_originator}
 use Rattle.link_account.specs.declared.answer.Answer.TheVariants as answers
-use Rattle.link_account.specs.Hear.{hear, on_frame, on_seen, on_connected, on_number, then_in, replying, taking, hurrying, pausing, ends_wait, on_disc, on_word, peer_reset, owing}
+use Rattle.link_account.specs.Hear.{hear, on_frame, on_seen, on_connected, on_number, then_in, replying, taking, hurrying, pausing}
+use Rattle.link_account.specs.Hear.{ends_wait, on_disc, on_word, peer_reset, owing}
 use Rattle.turn_bound.proofs.MeetHear.{resumed-awaited, some-made, some-then}
 use Rattle.turn_losses.specs.Polls.{is_final}
 use Rattle.turn_bound.proofs.MeetHear.{of_arrived}

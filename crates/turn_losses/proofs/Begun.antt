@@ -1,5 +1,6 @@
 -- An end that isn't Connected yet has no break, owes none an answer, and has nothing urgent; and it becomes Connected so.
-use Rattle.std.proofs.Common.{◌≡◌, ℕ, zero, suc, ◌+◌, ◌*◌, ◌≤◌, Bool, true, false, cond, nat_eq, nat_le, List, length, arith, refl, sym, ◌∙◌, ap, subst, Option, Some, None, Result, Ok, Err}
+use Rattle.std.proofs.Common.{◌≡◌, ℕ, zero, suc, ◌+◌, ◌*◌, ◌≤◌, Bool, true, false, cond, nat_eq, nat_le, List, length, arith, refl, sym}
+use Rattle.std.proofs.Common.{◌∙◌, ap, subst, Option, Some, None, Result, Ok, Err}
 use Rattle.roles.specs.declared.role.Role.{Role}
 use Rattle.roles.specs.declared.role.Role.TheVariants.{Originator, Answerer}
 use Rattle.roles.specs.Both.{of}
@@ -21,8 +22,10 @@ use Rattle.causes.specs.declared.fault.LinkFault.TheVariants.{NotDetected}
 use Rattle.link_account.specs.declared.answer.Answer.{Answer}
 use Rattle.link_account.specs.declared.answer.Answer.TheVariants as answers
 use Rattle.link_account.specs.Account.{Account, is_connected}
-use Rattle.link_account.specs.Hear.{hear, on_frame, on_seen, on_pattern, on_nothing, on_detecting, on_negotiating, on_establishing, on_xid_command, on_xid_response, owing, trying, first_wait}
-use Rattle.link_account.specs.Speak.{Said, says, says_frame, else_says, where_says, spent, answering, trying_again, tries_frame, u_try, speak, speak_in, speak_detecting, speak_negotiating}
+use Rattle.link_account.specs.Hear.{hear, on_frame, on_seen, on_pattern, on_nothing, on_detecting, on_negotiating, on_establishing}
+use Rattle.link_account.specs.Hear.{on_xid_command, on_xid_response, owing, trying, first_wait}
+use Rattle.link_account.specs.Speak.{Said, says, says_frame, else_says, where_says, spent, answering, trying_again, tries_frame, u_try}
+use Rattle.link_account.specs.Speak.{speak, speak_in, speak_detecting, speak_negotiating}
 use Rattle.link_run.specs.End.{is_released}
 use Rattle.link_run.specs.Run.{Link, Ends, Turn, SpeaksAt, arrival, served_at, said_at}
 use Rattle.turn_bound.specs.Time.{KeepsTime}

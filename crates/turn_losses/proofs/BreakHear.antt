@@ -1,5 +1,6 @@
 -- What hearing makes of an end's breaks, of what it owes for the other end's, and of its urgent segment.
-use Rattle.std.proofs.Common.{◌⊎◌, inl, inr, ◌≡◌, ℕ, ◌+◌, ◌%◌, ◌&&◌, ◌||◌, not, Bool, true, false, cond, nat_eq, refl, sym, ◌∙◌, ap, subst, Option, Some, None, Result, Ok, Err}
+use Rattle.std.proofs.Common.{◌⊎◌, inl, inr, ◌≡◌, ℕ, ◌+◌, ◌%◌, ◌&&◌, ◌||◌, not, Bool, true, false, cond, nat_eq, refl, sym, ◌∙◌, ap, subst}
+use Rattle.std.proofs.Common.{Option, Some, None, Result, Ok, Err}
 use Rattle.roles.specs.declared.role.Role.{Role}
 use Rattle.roles.specs.declared.role.Role.TheVariants.{Originator, Answerer}
 use Rattle.roles.specs.Role.{is_originator}
@@ -17,7 +18,8 @@ use Rattle.link_account.specs.declared.phase.Phase.TheVariants.{Connected}
 use Rattle.causes.specs.declared.fault.LinkFault.{LinkFault}
 use Rattle.link_account.specs.declared.answer.Answer.TheVariants as answers
 use Rattle.link_account.specs.Account.{Account, is_connected}
-use Rattle.link_account.specs.Hear.{hear, on_frame, on_seen, on_nothing, on_connected, on_number, then_in, replying, taking, hurrying, pausing, ends_wait, on_disc, on_word, peer_reset, owing}
+use Rattle.link_account.specs.Hear.{hear, on_frame, on_seen, on_nothing, on_connected, on_number, then_in, replying, taking, hurrying}
+use Rattle.link_account.specs.Hear.{pausing, ends_wait, on_disc, on_word, peer_reset, owing}
 use Rattle.turn_bound.proofs.MeetHear.{of_arrived}
 use Rattle.turn_losses.specs.Polls.{is_final}
 

@@ -1,5 +1,6 @@
 -- What speaking makes of an end's breaks, of what it owes for the other end's, and of its urgent segment.
-use Rattle.std.proofs.Common.{◌⊎◌, inl, inr, ◌≡◌, ℕ, ◌+◌, ◌-◌, ◌%◌, ◌<◌, ◌&&◌, ◌||◌, not, Bool, true, false, cond, nat_eq, nat_lt, length, arith, refl, sym, ◌∙◌, ap, subst, Option, Some, None, Result, Ok, Err}
+use Rattle.std.proofs.Common.{◌⊎◌, inl, inr, ◌≡◌, ℕ, ◌+◌, ◌-◌, ◌%◌, ◌<◌, ◌&&◌, ◌||◌, not, Bool, true, false, cond, nat_eq, nat_lt, length}
+use Rattle.std.proofs.Common.{arith, refl, sym, ◌∙◌, ap, subst, Option, Some, None, Result, Ok, Err}
 use Rattle.std.specs.Prelude.{is_some, slice_index_or}
 use Rattle.std.proofs.lemmas.Bool.Decides.{nat_tests}
 use Rattle.roles.specs.Role.{is_originator}
@@ -14,7 +15,10 @@ use Rattle.link_account.specs.declared.answer.Answer.{Answer}
 use Rattle.link_account.specs.declared.answer.Answer.TheVariants as answers
 use Rattle.causes.specs.declared.fault.LinkFault.{LinkFault}
 use Rattle.link_account.specs.Account.{Account}
-use Rattle.link_account.specs.Speak.{Said, answering, polling, timer_expires, on_timer, breaking, on_break_timer, frame_for, says_word, where_says, may_send, says_segment, says_own, says_break, says_asking, step1, step2, step3, step4, step5, step6, step7, step8, step9, steps, tells, ready_frame, differs, after_timers, then_tries, speak_linked, nr_of}
+use Rattle.link_account.specs.Speak.{Said, answering, polling, timer_expires, on_timer, breaking, on_break_timer, frame_for, says_word}
+use Rattle.link_account.specs.Speak.{where_says, may_send, says_segment, says_own, says_break, says_asking, step1, step2, step3, step4}
+use Rattle.link_account.specs.Speak.{step5, step6, step7, step8, step9, steps, tells, ready_frame, differs, after_timers, then_tries}
+use Rattle.link_account.specs.Speak.{speak_linked, nr_of}
 use Rattle.turn_bound.proofs.MeetHear.{of_frame}
 use Rattle.turn_bound.proofs.Value.{IsAck}
 use Rattle.turn_bound.proofs.Speaking.{AllSaid, OnOk, else-says, where-says}

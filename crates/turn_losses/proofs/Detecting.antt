@@ -1,5 +1,6 @@
 -- Where the originator sees no pattern, something was lost in each period.
-use Rattle.std.proofs.Common.{◌⊎◌, inl, inr, ◌≡◌, ℕ, zero, suc, ◌+◌, ◌-◌, ◌*◌, ◌<◌, ◌≤◌, ◌&&◌, Bool, true, false, cond, nat_eq, nat_le, List, length, arith, refl, sym, ◌∙◌, ap, subst, Option, Some, None, Result, Ok, Err}
+use Rattle.std.proofs.Common.{◌⊎◌, inl, inr, ◌≡◌, ℕ, zero, suc, ◌+◌, ◌-◌, ◌*◌, ◌<◌, ◌≤◌, ◌&&◌, Bool, true, false, cond, nat_eq, nat_le}
+use Rattle.std.proofs.Common.{List, length, arith, refl, sym, ◌∙◌, ap, subst, Option, Some, None, Result, Ok, Err}
 use Rattle.std.proofs.lemmas.Bool.{cases_lt}
 use Rattle.roles.specs.declared.role.Role.{Role}
 use Rattle.roles.specs.declared.role.Role.TheVariants.{Originator, Answerer}
@@ -23,9 +24,12 @@ use Rattle.causes.specs.declared.fault.LinkFault.TheVariants.{NotDetected}
 use Rattle.link_account.specs.declared.answer.Answer.{Answer}
 use Rattle.link_account.specs.declared.answer.Answer.TheVariants as answers
 use Rattle.link_account.specs.Account.{Account}
-use Rattle.link_account.specs.Hear.{hear, on_frame, on_seen, on_pattern, on_negotiating, on_establishing, on_xid_command, on_xid_response, trying}
+use Rattle.link_account.specs.Hear.{hear, on_frame, on_seen, on_pattern, on_negotiating, on_establishing, on_xid_command, on_xid_response}
+use Rattle.link_account.specs.Hear.{trying}
 use Rattle.link_account.specs.Play.{arrives}
-use Rattle.link_account.specs.Speak.{Said, says, says_frame, else_says, where_says, spent, answering, trying_again, tries_frame, u_try, polling, timer_expires, breaking, after_timers, then_tries, speak_linked, speak, speak_in, speak_detecting, speak_answer, speak_negotiating, speak_releasing}
+use Rattle.link_account.specs.Speak.{Said, says, says_frame, else_says, where_says, spent, answering, trying_again, tries_frame, u_try}
+use Rattle.link_account.specs.Speak.{polling, timer_expires, breaking, after_timers, then_tries, speak_linked, speak, speak_in}
+use Rattle.link_account.specs.Speak.{speak_detecting, speak_answer, speak_negotiating, speak_releasing}
 use Rattle.link_run.specs.End.{User, is_busy, is_released}
 use Rattle.link_run.specs.Run.{Ends, Turn, RunOf, arrival, served_at, releases}
 use Rattle.link_run.specs.Carried.{IsCarried}

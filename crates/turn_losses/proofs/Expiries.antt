@@ -85,7 +85,8 @@ last-expired period turns e o k from c0 z (suc t) low within c n h = elim (cases
         }
         go (inr (m, q, runs)) = on m q runs (w.kept b)
 
--- The expiry before it came exactly a period before, and in the turns between, and in that of this expiry, the count was n + 1 once the end had heard.
+-- The expiry before it came exactly a period before, and in the turns between, and in that of this expiry, the count was n + 1 once the
+-- end had heard.
 pub record PeriodBefore (period n turn : ℕ) (e : EndRun) : Type 0 where
   pub expiry : Expired n turn e
   pub exact : expiry.at + period ≡ turn

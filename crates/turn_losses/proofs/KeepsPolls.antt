@@ -4,7 +4,8 @@ use Rattle.link_account.specs.Account.{Account, is_connected}
 use Rattle.turn_losses.proofs.Polling.{poll_due}
 use Rattle.turn_losses.proofs.TwoEnds.{EndRun, sends_poll, hears_poll, sends_final, hears_final}
 
--- What a response with F = 1 answers: a poll sent a round trip before, which became due in that turn or the one before it; none became due since.
+-- What a response with F = 1 answers: a poll sent a round trip before, which became due in that turn or the one before it; none became due
+-- since.
 pub record Answers (turn : ℕ) (e o : EndRun) : Type 0 where
   pub sent : ℕ  -- the turn in which the poll was sent
   pub round_trip : sent + (e.delay + o.delay) ≡ turn

@@ -1,5 +1,6 @@
 -- What an originator's try sends and hears, and what ends it.
-use Rattle.std.proofs.Common.{◌⊎◌, inl, inr, ◌≡◌, ℕ, ◌+◌, ◌*◌, ◌≤◌, ◌&&◌, ◌||◌, Bool, true, false, cond, nat_eq, nat_le, List, arith, refl, sym, ◌∙◌, ap, subst, Option, Some, None, Result, Ok, Err}
+use Rattle.std.proofs.Common.{◌⊎◌, inl, inr, ◌≡◌, ℕ, ◌+◌, ◌*◌, ◌≤◌, ◌&&◌, ◌||◌, Bool, true, false, cond, nat_eq, nat_le, List, arith, refl}
+use Rattle.std.proofs.Common.{sym, ◌∙◌, ap, subst, Option, Some, None, Result, Ok, Err}
 use Rattle.std.specs.Prelude.{is_some}
 use Rattle.std.proofs.lemmas.Bool.Decides.{nat_tests}
 use Rattle.roles.specs.declared.role.Role.{Role}
@@ -26,8 +27,11 @@ use Rattle.causes.specs.declared.fault.LinkFault.{LinkFault}
 use Rattle.causes.specs.declared.fault.LinkFault.TheVariants.{NotDetected}
 use Rattle.link_account.specs.declared.answer.Answer.TheVariants as answers
 use Rattle.link_account.specs.Account.{Account}
-use Rattle.link_account.specs.Hear.{hear, on_frame, on_seen, on_nothing, on_pattern, on_detecting, on_negotiating, on_establishing, on_releasing, on_closed, on_connected, on_number, then_in, replying, taking, hurrying, pausing, ends_wait, on_disc, on_word, peer_reset, owing, on_xid_response, trying, timer_after, connected}
-use Rattle.link_account.specs.Speak.{Said, says, says_frame, else_says, where_says, spent, trying_again, tries_frame, u_try, speak, speak_in, speak_detecting, speak_negotiating, speak_releasing, speak_linked, speak_answer}
+use Rattle.link_account.specs.Hear.{hear, on_frame, on_seen, on_nothing, on_pattern, on_detecting, on_negotiating, on_establishing}
+use Rattle.link_account.specs.Hear.{on_releasing, on_closed, on_connected, on_number, then_in, replying, taking, hurrying, pausing}
+use Rattle.link_account.specs.Hear.{ends_wait, on_disc, on_word, peer_reset, owing, on_xid_response, trying, timer_after, connected}
+use Rattle.link_account.specs.Speak.{Said, says, says_frame, else_says, where_says, spent, trying_again, tries_frame, u_try, speak}
+use Rattle.link_account.specs.Speak.{speak_in, speak_detecting, speak_negotiating, speak_releasing, speak_linked, speak_answer}
 use Rattle.turn_bound.proofs.MeetHear.{of_frame, of_arrived}
 use Rattle.turn_bound.proofs.Speaking.{OnOk}
 use Rattle.turn_losses.proofs.PollSpeak.{SaidPoll, linked-poll}

@@ -1,5 +1,6 @@
 -- What a Connected end makes of the numbers that it hears.
-use Rattle.std.proofs.Common.{◌⊎◌, inl, inr, ◌≡◌, ℕ, ◌-◌, ◌%◌, ◌<◌, ◌≤◌, ◌&&◌, ◌||◌, Bool, true, false, cond, nat_lt, List, length, length-append, arith, refl, sym, ◌∙◌, ap, subst, Option, Some, None, Result, Ok, Err}
+use Rattle.std.proofs.Common.{◌⊎◌, inl, inr, ◌≡◌, ℕ, ◌-◌, ◌%◌, ◌<◌, ◌≤◌, ◌&&◌, ◌||◌, Bool, true, false, cond, nat_lt, List, length}
+use Rattle.std.proofs.Common.{length-append, arith, refl, sym, ◌∙◌, ap, subst, Option, Some, None, Result, Ok, Err}
 use Rattle.std.proofs.lemmas.Bool.Decides.{nat_tests}
 use Rattle.std.proofs.lemmas.Bool.{cases_lt}
 use Rattle.roles.specs.declared.role.Role.{Role}
@@ -8,7 +9,8 @@ use Rattle.lapm_frames.specs.declared.frame.Frame.{Frame}
 use Rattle.lapm_frames.specs.declared.frame.Frame.TheVariants.{I, Rr, Rnr, Rej, Srej, Sabme, Disc, Ua, Dm, Frmr, Ui, Xid, Test}
 use Rattle.lapm_sender.specs.Meant.{meant}
 use Rattle.lapm_sender.specs.Numbers.{with_number}
-use Rattle.lapm_sender.specs.Outgoing.{Outgoing, is_outstanding, acknowledged, rejected, replied, advanced, gone_back, wait_ended, resumed, paused_at}
+use Rattle.lapm_sender.specs.Outgoing.{Outgoing, is_outstanding, acknowledged, rejected, replied, advanced, gone_back, wait_ended, resumed}
+use Rattle.lapm_sender.specs.Outgoing.{paused_at}
 use Rattle.lapm_receiver.specs.Incoming.{Incoming, after_take, after_kind, kind_of, kind_at, offset}
 use Rattle.lapm_receiver.specs.declared.took.Took.{Took}
 use Rattle.lapm_receiver.specs.declared.took.Took.TheVariants.{InOrder, Kept, Repeat, Gap}
@@ -26,7 +28,8 @@ use Rattle.link_account.specs.declared.phase.Phase.TheVariants.{Detecting, Negot
 use Rattle.causes.specs.declared.fault.LinkFault.{LinkFault}
 use Rattle.link_account.specs.Account.{Account, is_connected}
 use Rattle.link_account.specs.declared.answer.Answer.TheVariants as answers
-use Rattle.link_account.specs.Hear.{hear, on_frame, on_seen, on_connected, on_number, timer_after, then_in, replying, taking, hurrying, pausing, ends_wait, on_disc, on_word, peer_reset, owing}
+use Rattle.link_account.specs.Hear.{hear, on_frame, on_seen, on_connected, on_number, timer_after, then_in, replying, taking, hurrying}
+use Rattle.link_account.specs.Hear.{pausing, ends_wait, on_disc, on_word, peer_reset, owing}
 use Rattle.roles.specs.Role.{is_originator}
 use Rattle.turn_bound.proofs.Sender.{meant-range}
 

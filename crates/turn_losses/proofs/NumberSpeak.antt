@@ -1,5 +1,6 @@
 -- What a Connected end tells as it speaks.
-use Rattle.std.proofs.Common.{◌⊎◌, inl, inr, ◌≡◌, ℕ, ◌+◌, ◌++◌, ◌%◌, ◌&&◌, ◌||◌, Bool, true, false, cond, nat_eq, List, [], ◌∷◌, length, refl, sym, ◌∙◌, ap, subst, Option, Some, None, Result, Ok, Err}
+use Rattle.std.proofs.Common.{◌⊎◌, inl, inr, ◌≡◌, ℕ, ◌+◌, ◌++◌, ◌%◌, ◌&&◌, ◌||◌, Bool, true, false, cond, nat_eq, List, [], ◌∷◌, length}
+use Rattle.std.proofs.Common.{refl, sym, ◌∙◌, ap, subst, Option, Some, None, Result, Ok, Err}
 use Rattle.std.specs.Prelude.{is_some}
 use Rattle.roles.specs.Role.{is_originator}
 use Rattle.lapm_sender.specs.Outgoing.{Outgoing, after_next, sent_among, next_among, next_number}
@@ -10,7 +11,9 @@ use Rattle.causes.specs.declared.fault.LinkFault.{LinkFault}
 use Rattle.link_account.specs.Account.{Account}
 use Rattle.link_account.specs.declared.answer.Answer.{Answer}
 use Rattle.link_account.specs.declared.answer.Answer.TheVariants as answers
-use Rattle.link_account.specs.Speak.{Said, where_says, answering, polling, timer_expires, on_timer, breaking, nr_of, may_send, says_segment, says_own, says_break, says_asking, step1, step2, step3, step4, step5, step6, step7, step8, step9, steps, tells, ready_frame, differs, after_timers, then_tries, speak_linked}
+use Rattle.link_account.specs.Speak.{Said, where_says, answering, polling, timer_expires, on_timer, breaking, nr_of, may_send, says_segment}
+use Rattle.link_account.specs.Speak.{says_own, says_break, says_asking, step1, step2, step3, step4, step5, step6, step7, step8, step9}
+use Rattle.link_account.specs.Speak.{steps, tells, ready_frame, differs, after_timers, then_tries, speak_linked}
 use Rattle.turn_bound.proofs.Sending.{may-be}
 use Rattle.turn_bound.proofs.Speaking.{AllSaid, OnOk}
 use Rattle.turn_bound.proofs.AtMostOne.{by-steps}

@@ -1,5 +1,6 @@
 -- An answerer that heard a number has a peer that is Connected, or was.
-use Rattle.std.proofs.Common.{◌⊎◌, inl, inr, ◌≡◌, ◌≢◌, ℕ, zero, suc, ◌+◌, ◌-◌, ◌*◌, ◌<◌, ◌≤◌, ◌||◌, Bool, true, false, cond, nat_eq, nat_le, List, length, arith, refl, sym, ◌∙◌, ap, subst, Option, Some, None, Result, Ok, Err}
+use Rattle.std.proofs.Common.{◌⊎◌, inl, inr, ◌≡◌, ◌≢◌, ℕ, zero, suc, ◌+◌, ◌-◌, ◌*◌, ◌<◌, ◌≤◌, ◌||◌, Bool, true, false, cond, nat_eq, nat_le}
+use Rattle.std.proofs.Common.{List, length, arith, refl, sym, ◌∙◌, ap, subst, Option, Some, None, Result, Ok, Err}
 use Rattle.roles.specs.declared.role.Role.{Role}
 use Rattle.roles.specs.declared.role.Role.TheVariants.{Originator, Answerer}
 use Rattle.roles.specs.Role.{other, is_originator}
@@ -25,8 +26,10 @@ use Rattle.causes.specs.declared.fault.LinkFault.TheVariants.{NotDetected}
 use Rattle.link_account.specs.declared.answer.Answer.{Answer}
 use Rattle.link_account.specs.declared.answer.Answer.TheVariants as answers
 use Rattle.link_account.specs.Account.{Account, is_connected}
-use Rattle.link_account.specs.Hear.{hear, on_frame, on_seen, on_pattern, on_detecting, on_negotiating, on_establishing, on_releasing, on_closed, on_disc, on_word, peer_reset, owing, on_xid_command, on_xid_response}
-use Rattle.link_account.specs.Speak.{Said, says, says_frame, else_says, where_says, spent, answering, trying_again, tries_frame, u_try, speak, speak_in, speak_detecting, speak_negotiating}
+use Rattle.link_account.specs.Hear.{hear, on_frame, on_seen, on_pattern, on_detecting, on_negotiating, on_establishing, on_releasing}
+use Rattle.link_account.specs.Hear.{on_closed, on_disc, on_word, peer_reset, owing, on_xid_command, on_xid_response}
+use Rattle.link_account.specs.Speak.{Said, says, says_frame, else_says, where_says, spent, answering, trying_again, tries_frame, u_try}
+use Rattle.link_account.specs.Speak.{speak, speak_in, speak_detecting, speak_negotiating}
 use Rattle.link_run.specs.End.{is_released}
 use Rattle.link_run.specs.Run.{Link, Ends, Turn, arrival, served_at}
 use Rattle.turn_bound.specs.Time.{KeepsTime}

@@ -1,5 +1,6 @@
 -- An answerer that gives up, also while the originator releases.
-use Rattle.std.proofs.Common.{◌⊎◌, inl, inr, ◌≡◌, ◌≢◌, ℕ, zero, suc, ◌+◌, ◌-◌, ◌*◌, ◌%◌, ◌<◌, ◌≤◌, ◌&&◌, ◌||◌, not, Bool, true, false, cond, nat_eq, max, List, ◌∷◌, length, arith, refl, sym, ◌∙◌, ap, subst, Option, Some, None, Ok, Err}
+use Rattle.std.proofs.Common.{◌⊎◌, inl, inr, ◌≡◌, ◌≢◌, ℕ, zero, suc, ◌+◌, ◌-◌, ◌*◌, ◌%◌, ◌<◌, ◌≤◌, ◌&&◌, ◌||◌, not, Bool, true, false, cond}
+use Rattle.std.proofs.Common.{nat_eq, max, List, ◌∷◌, length, arith, refl, sym, ◌∙◌, ap, subst, Option, Some, None, Ok, Err}
 use Rattle.std.specs.Prelude.{slice_get}
 use Rattle.std.proofs.lemmas.Bool.{cases_lt}
 use Rattle.std.proofs.lemmas.Bool.Decides.{nat_tests}
@@ -26,7 +27,8 @@ use Rattle.link_account.specs.Laws.{MayPlay}
 use Rattle.link_account.specs.Play.{arrives}
 use Rattle.link_account.specs.Speak.{Said, speak, speak_in, speak_linked, speak_releasing, speak_detecting, speak_negotiating}
 use Rattle.link_run.specs.End.{is_busy, is_released, is_closed, is_ready, next_break}
-use Rattle.link_run.specs.Run.{Link, Ends, Spoken, Turn, RunOf, Hears, BrokenTurn, SpeaksAt, arrival, served_at, said_at, finished_at, releases, spoken}
+use Rattle.link_run.specs.Run.{Link, Ends, Spoken, Turn, RunOf, Hears, BrokenTurn, SpeaksAt, arrival, served_at, said_at, finished_at}
+use Rattle.link_run.specs.Run.{releases, spoken}
 use Rattle.link_run.specs.Carried.{Crosses, Carries, IsCarried, has_message, sent_in}
 use Rattle.link_run.specs.Laws.{RunsOver}
 use Rattle.link_run.specs.Starved.{LosesSome, SpanLoses, IsStarved, turn_at}

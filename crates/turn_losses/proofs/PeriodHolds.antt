@@ -1,4 +1,5 @@
-use Rattle.std.proofs.Common.{◌⊎◌, inl, inr, ◌≡◌, ℕ, zero, suc, ◌+◌, ◌*◌, ◌<◌, ◌≤◌, ◌&&◌, Bool, true, false, arith, refl, sym, ◌∙◌, ap, Some}
+use Rattle.std.proofs.Common.{◌⊎◌, inl, inr, ◌≡◌, ℕ, zero, suc, ◌+◌, ◌*◌, ◌<◌, ◌≤◌, ◌&&◌, Bool, true, false, arith, refl, sym, ◌∙◌, ap}
+use Rattle.std.proofs.Common.{Some}
 use Rattle.std.proofs.lemmas.Bool.{cases_lt}
 use Rattle.link_account.specs.Account.{Account, is_connected}
 use Rattle.link_account.specs.Speak.{Said}
@@ -31,7 +32,8 @@ unexpired period turns e o k t within c h r w =
     (omega (arith, trip, before, d)) (omega (arith, within)) in
     let set : m.due ≤ r = s.set c r w in omega (arith, set, trip, soon, p)
 
--- In the turn in which the answer to its poll is heard, an end's retry count is 0 once it has heard, or it sends the first segment that isn't acknowledged.
+-- In the turn in which the answer to its poll is heard, an end's retry count is 0 once it has heard, or it sends the first segment that
+-- isn't acknowledged.
 pub poll-answered : (period turns : ℕ) (e o : EndRun) → TwoEnds period turns e o → (t : ℕ) → t < turns
     → is_connected (e.account t).phase ≡ true → hears_final e t ≡ true
     → (mid b : Account) (said : Said) → e.account (t + 1) ≡ said.account → is_connected (e.account (t + 1)).phase ≡ true

@@ -1,4 +1,5 @@
-use Rattle.std.proofs.Common.{◌⊎◌, inl, inr, ◌≡◌, ℕ, zero, suc, ◌+◌, ◌*◌, ◌<◌, ◌≤◌, ◌||◌, Bool, true, false, cond, arith, refl, sym, ◌∙◌, ap, subst}
+use Rattle.std.proofs.Common.{◌⊎◌, inl, inr, ◌≡◌, ℕ, zero, suc, ◌+◌, ◌*◌, ◌<◌, ◌≤◌, ◌||◌, Bool, true, false, cond, arith, refl, sym, ◌∙◌}
+use Rattle.std.proofs.Common.{ap, subst}
 use Rattle.std.proofs.lemmas.Bool.{cases_lt}
 use Rattle.link_account.specs.Account.{is_connected}
 use Rattle.turn_losses.specs.Polls.{is_poll, is_final}
@@ -156,7 +157,8 @@ NoneLost e o from count = (t : ℕ) → from ≤ t → t < from + count → (e.l
 abbrev pub StayConnected : EndRun → ℕ → ℕ → Type 0
 StayConnected e from last = (t : ℕ) → from ≤ t → t ≤ last → is_connected (e.account t).phase ≡ true
 
--- A poll that became due by an expiry is answered within a round trip and a turn, where no line is lost in that time and both ends stay Connected.
+-- A poll that became due by an expiry is answered within a round trip and a turn, where no line is lost in that time and both ends stay
+-- Connected.
 pub answer-comes : (period turns : ℕ) (e o : EndRun) → TwoEnds period turns e o → (s : ℕ) → s + (e.delay + o.delay) + 1 < turns
     → e.made s ≡ true → StayConnected e s (s + 2) → StayConnected o s (s + (e.delay + o.delay) + 2)
     → NoneLost e o (s + 1) (e.delay + o.delay + 1)

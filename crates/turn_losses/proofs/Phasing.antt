@@ -1,5 +1,6 @@
 -- An answerer begins only once the originator establishes the link.
-use Rattle.std.proofs.Common.{◌⊎◌, inl, inr, ◌≡◌, ℕ, zero, suc, ◌+◌, ◌-◌, ◌*◌, ◌≤◌, Bool, true, false, cond, nat_eq, nat_le, List, length, arith, refl, sym, ◌∙◌, ap, subst, Option, Some, None, Result, Ok, Err}
+use Rattle.std.proofs.Common.{◌⊎◌, inl, inr, ◌≡◌, ℕ, zero, suc, ◌+◌, ◌-◌, ◌*◌, ◌≤◌, Bool, true, false, cond, nat_eq, nat_le, List, length}
+use Rattle.std.proofs.Common.{arith, refl, sym, ◌∙◌, ap, subst, Option, Some, None, Result, Ok, Err}
 use Rattle.roles.specs.declared.role.Role.{Role}
 use Rattle.roles.specs.declared.role.Role.TheVariants.{Originator, Answerer}
 use Rattle.lapm_frames.specs.declared.frame.Frame.{Frame}
@@ -19,8 +20,10 @@ use Rattle.causes.specs.declared.fault.LinkFault.TheVariants.{NotDetected}
 use Rattle.link_account.specs.declared.answer.Answer.{Answer}
 use Rattle.link_account.specs.declared.answer.Answer.TheVariants as answers
 use Rattle.link_account.specs.Account.{Account}
-use Rattle.link_account.specs.Hear.{hear, on_frame, on_seen, on_pattern, on_nothing, on_detecting, on_negotiating, on_establishing, on_xid_command, owing}
-use Rattle.link_account.specs.Speak.{Said, says, says_frame, else_says, where_says, spent, answering, trying_again, tries_frame, u_try, speak, speak_in, speak_detecting, speak_negotiating}
+use Rattle.link_account.specs.Hear.{hear, on_frame, on_seen, on_pattern, on_nothing, on_detecting, on_negotiating, on_establishing}
+use Rattle.link_account.specs.Hear.{on_xid_command, owing}
+use Rattle.link_account.specs.Speak.{Said, says, says_frame, else_says, where_says, spent, answering, trying_again, tries_frame, u_try}
+use Rattle.link_account.specs.Speak.{speak, speak_in, speak_detecting, speak_negotiating}
 use Rattle.link_run.specs.End.{is_released}
 use Rattle.link_run.specs.Run.{Link, Ends, Turn, SpeaksAt, arrival, served_at, said_at}
 use Rattle.turn_bound.specs.Time.{KeepsTime}

@@ -1,4 +1,5 @@
-use Rattle.std.proofs.Common.{◌⊎◌, inl, inr, ◌≡◌, ℕ, ◌&&◌, ◌||◌, not, Bool, true, false, cond, nat_lt, refl, sym, ◌∙◌, ap, subst, Option, Some, None, Result, Ok, Err}
+use Rattle.std.proofs.Common.{◌⊎◌, inl, inr, ◌≡◌, ℕ, ◌&&◌, ◌||◌, not, Bool, true, false, cond, nat_lt, refl, sym, ◌∙◌, ap, subst, Option}
+use Rattle.std.proofs.Common.{Some, None, Result, Ok, Err}
 use Rattle.roles.specs.declared.role.Role.{Role}
 use Rattle.roles.specs.declared.role.Role.TheVariants.{Originator, Answerer}
 use Rattle.lapm_frames.specs.declared.frame.Frame.{Frame}
@@ -20,7 +21,10 @@ use Rattle.causes.specs.declared.fault.LinkFault.{LinkFault}
 use Rattle.link_account.specs.Account.{Account, is_connected}
 use Rattle.roles.specs.Role.{is_originator}
 use Rattle.link_account.specs.declared.answer.Answer.TheVariants as answers
-use Rattle.link_account.specs.Hear.{hear, on_frame, on_seen, on_nothing, on_pattern, on_detecting, on_negotiating, on_establishing, on_releasing, on_closed, on_connected, on_number, timer_after, then_in, replying, taking, hurrying, pausing, ends_wait, without_adp, on_disc, on_word, peer_reset, owing, on_xid_command, on_xid_response, first_wait}
+use Rattle.link_account.specs.Hear.{hear, on_frame, on_seen, on_nothing, on_pattern, on_detecting, on_negotiating, on_establishing}
+use Rattle.link_account.specs.Hear.{on_releasing, on_closed, on_connected, on_number, timer_after, then_in, replying, taking, hurrying}
+use Rattle.link_account.specs.Hear.{pausing, ends_wait, without_adp, on_disc, on_word, peer_reset, owing, on_xid_command, on_xid_response}
+use Rattle.link_account.specs.Hear.{first_wait}
 use Rattle.turn_losses.specs.Polls.{is_poll}
 use Rattle.turn_bound.proofs.MeetHear.{of_arrived}
 use Rattle.turn_losses.proofs.Polling.{SetFrom, is_linked}

@@ -74,7 +74,8 @@ pub due-apart : (period turns : ℕ) (e o : EndRun) → TwoEnds period turns e o
     → e.made t ≡ true → s + period ≤ t
 due-apart period turns e o k = (own-polls period turns e o k).apart
 
--- A response with F = 1 is sent only where a poll is heard, and where one is heard at an end that is Connected and stays so, in that very turn.
+-- A response with F = 1 is sent only where a poll is heard, and where one is heard at an end that is Connected and stays so, in that very
+-- turn.
 pub reply-from : (period turns : ℕ) (e o : EndRun) → TwoEnds period turns e o → (t : ℕ) → t < turns → sends_final e t ≡ true
     → hears_poll e t ≡ true
 reply-from period turns e o k t l = (k.own t l).replied

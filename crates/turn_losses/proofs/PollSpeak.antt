@@ -1,4 +1,5 @@
-use Rattle.std.proofs.Common.{◌⊎◌, inl, inr, ◌≡◌, ℕ, ◌+◌, ◌*◌, ◌&&◌, ◌||◌, not, Bool, true, false, cond, nat_eq, nat_le, List, [], ◌∷◌, arith, refl, sym, ◌∙◌, ap, Option, Some, None, Result, Ok, Err}
+use Rattle.std.proofs.Common.{◌⊎◌, inl, inr, ◌≡◌, ℕ, ◌+◌, ◌*◌, ◌&&◌, ◌||◌, not, Bool, true, false, cond, nat_eq, nat_le, List, [], ◌∷◌}
+use Rattle.std.proofs.Common.{arith, refl, sym, ◌∙◌, ap, Option, Some, None, Result, Ok, Err}
 use Rattle.std.proofs.lemmas.Bool.Decides.{nat_tests}
 use Rattle.roles.specs.declared.role.Role.{Role}
 use Rattle.roles.specs.declared.role.Role.TheVariants.{Originator, Answerer}
@@ -20,7 +21,11 @@ use Rattle.link_account.specs.declared.answer.Answer.TheVariants as answers
 use Rattle.link_account.specs.Hear.{trying}
 use Rattle.lapm_receiver.specs.Incoming.{asks}
 use Rattle.causes.specs.declared.fault.LinkFault.TheVariants.{NotDetected}
-use Rattle.link_account.specs.Speak.{Said, says, says_frame, else_says, where_says, spent, answering, frame_for, trying_again, tries_frame, u_try, polling, timer_expires, on_timer, breaking, nr_of, may_send, running, says_segment, says_own, says_break, says_asking, step1, step2, step3, step4, step5, step6, step7, step8, step9, steps, tells, ready_frame, differs, after_timers, then_tries, speak_linked, speak, speak_in, speak_detecting, speak_negotiating, speak_releasing}
+use Rattle.link_account.specs.Speak.{Said, says, says_frame, else_says, where_says, spent, answering, frame_for, trying_again, tries_frame}
+use Rattle.link_account.specs.Speak.{u_try, polling, timer_expires, on_timer, breaking, nr_of, may_send, running, says_segment, says_own}
+use Rattle.link_account.specs.Speak.{says_break, says_asking, step1, step2, step3, step4, step5, step6, step7, step8, step9, steps, tells}
+use Rattle.link_account.specs.Speak.{ready_frame, differs, after_timers, then_tries, speak_linked, speak, speak_in, speak_detecting}
+use Rattle.link_account.specs.Speak.{speak_negotiating, speak_releasing}
 use Rattle.turn_bound.proofs.Speaking.{AllSaid, OnOk, else-says, where-says}
 use Rattle.turn_bound.proofs.AtMostOne.{by-steps}
 use Rattle.turn_losses.proofs.PollHear.{set-same}

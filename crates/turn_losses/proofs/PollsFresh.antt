@@ -2,7 +2,8 @@ use Rattle.std.proofs.Common.{◌⊎◌, inl, inr, ◌≡◌, ℕ, zero, suc, �
 use Rattle.std.proofs.lemmas.Bool.{cases_lt}
 use Rattle.turn_losses.proofs.Polls.{Polls, WasSent, Fresh}
 
--- One more turn, for one end: a poll that is due after it became due in it. Else it was held up twice, by two polls of the other end in turns that follow one another.
+-- One more turn, for one end: a poll that is due after it became due in it. Else it was held up twice, by two polls of the other end in
+-- turns that follow one another.
 fresh-turn : (period delay turns : ℕ) (due made sent heard due' made' sent' heard' : ℕ → Bool) → 3 ≤ period → 1 ≤ delay
     → Polls period turns due made sent heard → Polls period turns due' made' sent' heard' → WasSent delay turns heard sent'
     → (t : ℕ) → t < turns → Fresh t due made → Fresh t due' made' → due (t + 1) ≡ true → made t ≡ true

@@ -1,5 +1,6 @@
 -- What a Connected end was offered fits into its window, which is one of seven bits.
-use Rattle.std.proofs.Common.{◌≡◌, ℕ, zero, suc, ◌+◌, ◌<◌, ◌≤◌, ◌&&◌, not, min, Bool, true, false, cond, nat_lt, nat_le, List, [], ◌∷◌, length, length-append, arith, refl, sym, ◌∙◌, ap, subst, Option, Some, None, Result, Ok, Err}
+use Rattle.std.proofs.Common.{◌≡◌, ℕ, zero, suc, ◌+◌, ◌<◌, ◌≤◌, ◌&&◌, not, min, Bool, true, false, cond, nat_lt, nat_le, List, [], ◌∷◌}
+use Rattle.std.proofs.Common.{length, length-append, arith, refl, sym, ◌∙◌, ap, subst, Option, Some, None, Result, Ok, Err}
 use Rattle.std.proofs.lemmas.Bool.Decides.{nat_tests}
 use Rattle.roles.specs.declared.role.Role.{Role}
 use Rattle.roles.specs.declared.role.Role.TheVariants.{Originator, Answerer}
@@ -19,9 +20,11 @@ use Rattle.link_account.specs.declared.phase.Phase.{Phase}
 use Rattle.link_account.specs.declared.phase.Phase.TheVariants.{Detecting, Negotiating, Establishing, Connected, Releasing, Closed}
 use Rattle.causes.specs.declared.fault.LinkFault.{LinkFault}
 use Rattle.link_account.specs.Account.{Account, is_connected, window_for, wants, piece_size, after_given}
-use Rattle.link_account.specs.Hear.{hear, on_frame, on_seen, on_pattern, on_detecting, on_negotiating, on_establishing, on_xid_command, on_xid_response, on_nothing, owing}
+use Rattle.link_account.specs.Hear.{hear, on_frame, on_seen, on_pattern, on_detecting, on_negotiating, on_establishing, on_xid_command}
+use Rattle.link_account.specs.Hear.{on_xid_response, on_nothing, owing}
 use Rattle.link_account.specs.declared.answer.Answer.TheVariants as answers
-use Rattle.link_run.specs.End.{User, BreakLine, delivered, offered_at, offered_times, offered, room_for, piece_at, is_busy, next_break, asked_at}
+use Rattle.link_run.specs.End.{User, BreakLine, delivered, offered_at, offered_times, offered, room_for, piece_at, is_busy, next_break}
+use Rattle.link_run.specs.End.{asked_at}
 use Rattle.turn_bound.proofs.Run.{served_account}
 use Rattle.turn_bound.proofs.Serving.{before_asking, offers-well}
 use Rattle.turn_losses.proofs.Polling.{is_linked}

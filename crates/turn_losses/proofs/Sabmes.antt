@@ -1,5 +1,6 @@
 -- Where an originator is Connected, no SABME of its is on its way; so no UA is due at its peer.
-use Rattle.std.proofs.Common.{◌⊎◌, inl, inr, ◌≡◌, ℕ, ◌&&◌, ◌||◌, Bool, true, false, cond, refl, sym, ◌∙◌, ap, subst, Option, Some, None, Result, Ok, Err}
+use Rattle.std.proofs.Common.{◌⊎◌, inl, inr, ◌≡◌, ℕ, ◌&&◌, ◌||◌, Bool, true, false, cond, refl, sym, ◌∙◌, ap, subst, Option, Some, None}
+use Rattle.std.proofs.Common.{Result, Ok, Err}
 use Rattle.std.specs.Prelude.{is_some}
 use Rattle.roles.specs.declared.role.Role.{Role}
 use Rattle.roles.specs.declared.role.Role.TheVariants.{Originator, Answerer}
@@ -22,7 +23,10 @@ use Rattle.link_account.specs.declared.phase.Phase.TheVariants.{Detecting, Negot
 use Rattle.causes.specs.declared.fault.LinkFault.{LinkFault}
 use Rattle.link_account.specs.declared.answer.Answer.TheVariants as answers
 use Rattle.link_account.specs.Account.{Account, is_connected}
-use Rattle.link_account.specs.Hear.{hear, on_frame, on_seen, on_pattern, on_nothing, without_adp, on_detecting, on_negotiating, on_establishing, on_releasing, on_closed, on_connected, on_number, then_in, replying, taking, hurrying, pausing, ends_wait, on_disc, on_word, peer_reset, on_xid_command, on_xid_response, owing, trying, connected, timer_after}
+use Rattle.link_account.specs.Hear.{hear, on_frame, on_seen, on_pattern, on_nothing, without_adp, on_detecting, on_negotiating}
+use Rattle.link_account.specs.Hear.{on_establishing, on_releasing, on_closed, on_connected, on_number, then_in, replying, taking, hurrying}
+use Rattle.link_account.specs.Hear.{pausing, ends_wait, on_disc, on_word, peer_reset, on_xid_command, on_xid_response, owing, trying}
+use Rattle.link_account.specs.Hear.{connected, timer_after}
 use Rattle.turn_bound.proofs.MeetHear.{is_ua_due, frame_disc, of_arrived}
 use Rattle.turn_losses.proofs.Phasing.{is_sabme}
 

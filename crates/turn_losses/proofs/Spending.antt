@@ -1,5 +1,6 @@
 -- An end that gives up while a break waits: by the clock of its segments, or by that of the break.
-use Rattle.std.proofs.Common.{◌⊎◌, inl, inr, ◌≡◌, ℕ, ◌+◌, ◌<◌, ◌≤◌, ◌&&◌, Bool, true, false, cond, nat_eq, List, length, arith, refl, sym, ◌∙◌, ap, Option, Some, None, Ok, Err}
+use Rattle.std.proofs.Common.{◌⊎◌, inl, inr, ◌≡◌, ℕ, ◌+◌, ◌<◌, ◌≤◌, ◌&&◌, Bool, true, false, cond, nat_eq, List, length, arith, refl, sym}
+use Rattle.std.proofs.Common.{◌∙◌, ap, Option, Some, None, Ok, Err}
 use Rattle.std.proofs.lemmas.Bool.Decides.{nat_tests}
 use Rattle.roles.specs.declared.role.Role.{Role}
 use Rattle.roles.specs.Role.{is_originator}
@@ -12,7 +13,8 @@ use Rattle.link_account.specs.declared.phase.Phase.TheVariants.{Connected, Relea
 use Rattle.causes.specs.declared.fault.LinkFault.{LinkFault}
 use Rattle.link_account.specs.Account.{Account, is_connected}
 use Rattle.link_account.specs.Hear.{hear, trying}
-use Rattle.link_account.specs.Speak.{spent, trying_again, tries_frame, polling, timer_expires, breaking, on_break_timer, after_timers, then_tries, speak_linked, speak, speak_in, speak_releasing}
+use Rattle.link_account.specs.Speak.{spent, trying_again, tries_frame, polling, timer_expires, breaking, on_break_timer, after_timers}
+use Rattle.link_account.specs.Speak.{then_tries, speak_linked, speak, speak_in, speak_releasing}
 use Rattle.link_run.specs.End.{is_busy}
 use Rattle.link_run.specs.Run.{Link, Ends, Turn, RunOf}
 use Rattle.link_run.specs.Carried.{IsCarried}

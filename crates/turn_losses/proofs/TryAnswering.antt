@@ -1,5 +1,6 @@
 -- An answerer answers what an originator tries in the turn in which it hears it.
-use Rattle.std.proofs.Common.{◌⊎◌, inl, inr, ◌≡◌, ℕ, ◌||◌, not, Bool, true, false, cond, refl, sym, ◌∙◌, ap, subst, Option, Some, None, Result, Ok, Err}
+use Rattle.std.proofs.Common.{◌⊎◌, inl, inr, ◌≡◌, ℕ, ◌||◌, not, Bool, true, false, cond, refl, sym, ◌∙◌, ap, subst, Option, Some, None}
+use Rattle.std.proofs.Common.{Result, Ok, Err}
 use Rattle.std.specs.Prelude.{is_some}
 use Rattle.roles.specs.declared.role.Role.TheVariants.{Answerer}
 use Rattle.roles.specs.Role.{is_originator}
@@ -20,7 +21,8 @@ use Rattle.link_account.specs.declared.answer.Answer.{Answer}
 use Rattle.link_account.specs.declared.answer.Answer.TheVariants as answers
 use Rattle.link_account.specs.Account.{Account}
 use Rattle.link_account.specs.Hear.{hear, on_frame, on_detecting, on_negotiating, on_disc, on_xid_command, peer_reset, owing}
-use Rattle.link_account.specs.Speak.{Said, says, else_says, answering, frame_for, polling, timer_expires, on_timer, breaking, steps, after_timers, then_tries, speak_linked, speak, speak_in, speak_answer, speak_negotiating}
+use Rattle.link_account.specs.Speak.{Said, says, else_says, answering, frame_for, polling, timer_expires, on_timer, breaking, steps}
+use Rattle.link_account.specs.Speak.{after_timers, then_tries, speak_linked, speak, speak_in, speak_answer, speak_negotiating}
 use Rattle.turn_bound.proofs.MeetHear.{of_frame, of_arrived}
 use Rattle.turn_bound.proofs.Speaking.{OnOk}
 use Rattle.turn_losses.proofs.Moving.{asks, moves_on}

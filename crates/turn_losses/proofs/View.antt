@@ -1,5 +1,6 @@
 -- Each turn of a run after which an end is Connected, by its breaks.
-use Rattle.std.proofs.Common.{◌⊎◌, inl, inr, ◌≡◌, ℕ, ◌+◌, ◌<◌, ◌≤◌, ◌&&◌, Bool, true, false, nat_lt, List, length, arith, refl, sym, ◌∙◌, ap, subst, None, Ok}
+use Rattle.std.proofs.Common.{◌⊎◌, inl, inr, ◌≡◌, ℕ, ◌+◌, ◌<◌, ◌≤◌, ◌&&◌, Bool, true, false, nat_lt, List, length, arith, refl, sym, ◌∙◌}
+use Rattle.std.proofs.Common.{ap, subst, None, Ok}
 use Rattle.std.specs.Prelude.{is_some}
 use Rattle.std.proofs.lemmas.Bool.{cases_lt}
 use Rattle.roles.specs.declared.role.Role.{Role}
@@ -32,7 +33,8 @@ use Rattle.turn_losses.proofs.Tracing.{Known, known, timed, release_of, said-as}
 use Rattle.turn_losses.proofs.Setups.{heard-as, heard-setup}
 use Rattle.turn_losses.proofs.BreakHear.{of_word, any_brk, pends, BreakHeard, break-heard}
 use Rattle.turn_losses.proofs.BreakSpeak.{holds, SaidBreaks, breaks-said}
-use Rattle.turn_losses.proofs.BreakTurn.{Deeds, BreakTurn, ServedBreaks, served-breaks, break-turn-of, brk_due, ack_due, is_urgent, was_special}
+use Rattle.turn_losses.proofs.BreakTurn.{Deeds, BreakTurn, ServedBreaks, served-breaks, break-turn-of, brk_due, ack_due, is_urgent}
+use Rattle.turn_losses.proofs.BreakTurn.{was_special}
 use Rattle.turn_losses.proofs.Begun.{SameOld, old-heard, blank}
 use Rattle.turn_losses.proofs.Windows.{Breaking}
 use Rattle.turn_losses.proofs.Establishing.{word-connected}

@@ -9,7 +9,8 @@ use Rattle.xid_params.specs.Offers.{OfferSpelling}
 use Rattle.xid_params.proofs.Exact.{never-both}
 use Rattle.command_base.specs.declared.limits.TheConstants.{HEX_LIMIT}
 use Rattle.command_base.specs.declared.status.Status.{Status}
-use Rattle.command_base.specs.declared.status.Status.TheVariants.{Done, Usage, BadScript, BadRecording, BadHex, BadXid, TooLong, ReadFault, WriteFault}
+use Rattle.command_base.specs.declared.status.Status.TheVariants.{Done, Usage, BadScript, BadRecording, BadHex, BadXid, TooLong, ReadFault}
+use Rattle.command_base.specs.declared.status.Status.TheVariants.{WriteFault}
 use Rattle.command_base.specs.declared.status.Status.TheVariants.{LineLost, NotDetected, LinkLost, ChanceMatch, NoMemory, PeerFault}
 use Rattle.command_base.specs.declared.stop.Stop.TheVariants.{Own}
 use Rattle.command_base.specs.Stops.{IsOwn}

@@ -1,5 +1,7 @@
 -- The offer that is found is the one that is spelled.
-use Rattle.std.proofs.Common.{◌≡◌, ℕ, zero, suc, ◌+◌, ◌*◌, ◌/◌, ◌%◌, ◌<◌, ◌≤◌, Bool, true, false, IsTrue, ◌&&◌, List, [], ◌∷◌, ◌++◌, length, take, drop, nat_eq, nat_le, cond, Option, Some, None, append_assoc, length-append, length-drop, arith, refl, sym, ◌∙◌, ap, subst}
+use Rattle.std.proofs.Common.{◌≡◌, ℕ, zero, suc, ◌+◌, ◌*◌, ◌/◌, ◌%◌, ◌<◌, ◌≤◌, Bool, true, false, IsTrue, ◌&&◌, List, [], ◌∷◌, ◌++◌, length}
+use Rattle.std.proofs.Common.{take, drop, nat_eq, nat_le, cond, Option, Some, None, append_assoc, length-append, length-drop, arith, refl}
+use Rattle.std.proofs.Common.{sym, ◌∙◌, ap, subst}
 use Rattle.std.specs.List.{flat_map}
 use Rattle.std.specs.Option.{option_and_then}
 use Rattle.std.proofs.lemmas.Bool.Decides.{nat_tests}
@@ -11,7 +13,8 @@ use Rattle.xid_params.specs.declared.parameter.Parameter.{Parameter}
 use Rattle.xid_params.specs.declared.parameter.Parameter.TheVariants.{Functions, TxLength, RxLength, TxWindow, RxWindow}
 use Rattle.xid_params.specs.Parts.{Part, group_octets, parameter_octets, named}
 use Rattle.xid_params.specs.Parameters.{identifier_of, stands_well, offer_of, AreWell, ParametersSpell}
-use Rattle.xid_params.specs.Offers.{IsEnd, GroupsSpell, OfferSpelling, before, groups_in, parameters_in, all_well, offer_with, offer_of_groups, offer_in, SpellingIsFound}
+use Rattle.xid_params.specs.Offers.{IsEnd, GroupsSpell, OfferSpelling, before, groups_in, parameters_in, all_well, offer_with}
+use Rattle.xid_params.specs.Offers.{offer_of_groups, offer_in, SpellingIsFound}
 use Rattle.xid_params.proofs.Tables.{and-left, and-right, and-both}
 use Rattle.xid_params.proofs.Small.{AreSmall, small}
 

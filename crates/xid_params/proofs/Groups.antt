@@ -1,5 +1,6 @@
 -- Groups as they are passed, the faults of a field, and the first of these.
-use Rattle.std.proofs.Common.{◌≡◌, ◌≢◌, ℕ, suc, ◌+◌, ◌-◌, ◌/◌, ◌%◌, ◌<◌, ◌≤◌, ◌⊎◌, inl, inr, true, false, List, [], ◌∷◌, ◌++◌, length, nat_eq, cond, Option, Some, None, append_assoc, length-append, arith, refl, sym, ◌∙◌, ap, subst}
+use Rattle.std.proofs.Common.{◌≡◌, ◌≢◌, ℕ, suc, ◌+◌, ◌-◌, ◌/◌, ◌%◌, ◌<◌, ◌≤◌, ◌⊎◌, inl, inr, true, false, List, [], ◌∷◌, ◌++◌, length}
+use Rattle.std.proofs.Common.{nat_eq, cond, Option, Some, None, append_assoc, length-append, arith, refl, sym, ◌∙◌, ap, subst}
 use Rattle.std.specs.Prelude.{unwrap_or}
 use Rattle.std.specs.List.{flat_map}
 use Rattle.std.proofs.lemmas.Bool.Decides.{nat_tests}
@@ -12,7 +13,8 @@ use Rattle.xid_params.specs.Parts.{Part, group_octets, named}
 use Rattle.xid_params.specs.Parameters.{ParametersSpell}
 use Rattle.xid_params.specs.Offers.{Passes, IsEnd, GroupsSpell, OfferSpelling}
 use Rattle.xid_params.specs.Terms.{default_offer}
-use Rattle.xid_params.specs.Faults.{place_of, place_behind, IsGroupCut, IsGroupWrong, GroupHas, InnerHas, FormatHas, Has, IsFirst, FirstFault, ParameterHas}
+use Rattle.xid_params.specs.Faults.{place_of, place_behind, IsGroupCut, IsGroupWrong, GroupHas, InnerHas, FormatHas, Has, IsFirst}
+use Rattle.xid_params.specs.Faults.{FirstFault, ParameterHas}
 use Rattle.xid_params.specs.Gathered.{IsOffered, Offers}
 use Rattle.xid_params.proofs.Lists.{group-free, compare, named-append}
 use Rattle.xid_params.proofs.Tables.{named-other, named-first}

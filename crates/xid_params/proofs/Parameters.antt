@@ -1,5 +1,6 @@
 -- Group 80: its parameters as they are passed, their faults, and the first of these.
-use Rattle.std.proofs.Common.{◌≡◌, ℕ, suc, ◌+◌, ◌-◌, ◌<◌, ◌≤◌, ◌⊎◌, inl, inr, Bool, true, false, not, IsTrue, List, [], ◌∷◌, ◌++◌, length, append_assoc, length-append, arith, refl, sym, ◌∙◌, ap, subst}
+use Rattle.std.proofs.Common.{◌≡◌, ℕ, suc, ◌+◌, ◌-◌, ◌<◌, ◌≤◌, ◌⊎◌, inl, inr, Bool, true, false, not, IsTrue, List, [], ◌∷◌, ◌++◌, length}
+use Rattle.std.proofs.Common.{append_assoc, length-append, arith, refl, sym, ◌∙◌, ap, subst}
 use Rattle.std.specs.List.{flat_map}
 use Rattle.std.proofs.lemmas.Bool.{false≢true, cases_lt}
 use Rattle.std.proofs.lemmas.List.{append-nil}
@@ -11,7 +12,8 @@ use Rattle.xid_params.specs.declared.offer.Offer.{Offer}
 use Rattle.xid_params.specs.declared.parameter.Parameter.{Parameter}
 use Rattle.xid_params.specs.Parts.{Part, parameter_octets, named}
 use Rattle.xid_params.specs.Parameters.{identifier_of, accepts, is_low, AreWell, ParametersSpell}
-use Rattle.xid_params.specs.Faults.{place_of, IsParameterCut, IsRepeated, HasWrongLength, IsIdentifiedWrong, IsParameterWrong, ParameterHas, IsFirst}
+use Rattle.xid_params.specs.Faults.{place_of, IsParameterCut, IsRepeated, HasWrongLength, IsIdentifiedWrong, IsParameterWrong, ParameterHas}
+use Rattle.xid_params.specs.Faults.{IsFirst}
 use Rattle.xid_params.specs.Gathered.{Stands}
 use Rattle.xid_params.proofs.Lists.{parameter-free, cut-append, compare}
 use Rattle.xid_params.proofs.Tables.{same-parameter, stands-alone}

@@ -1,7 +1,8 @@
 use Rattle.std.proofs.Common.{◌++◌, codes}
 use Rattle.outside_calls.specs.Folder.{FolderState, Said, PartlySaid}
 use Rattle.outside_calls.specs.Steps.{GoesOn-trans, FaultsStand-trans, CountsStand-trans}
-use Rattle.command_base.proofs.Saying.{Said-Said, Said-PartlySaid, PartlySaid-longer, on-err, on-err-map, on-ok-map, OnlySays-trans, HasCause-earlier}
+use Rattle.command_base.proofs.Saying.{Said-Said, Said-PartlySaid, PartlySaid-longer, on-err, on-err-map, on-ok-map, OnlySays-trans}
+use Rattle.command_base.proofs.Saying.{HasCause-earlier}
 use Rattle.command_base.proofs.telling.say_too_long.Goals as goal
 
 pub returns-in_err-say-clause-err : goal.returns-in_err-say-clause-err

@@ -5,7 +5,9 @@ use Rattle.lapm_frames.specs.declared.frame.Frame.TheVariants.{Sabme, Disc, Ua, 
 use Rattle.lapm_frames.proofs.Forms.{allows}
 use Rattle.lapm_frames.proofs.Faults.{unnumbered-control, unnumbered-long}
 use Rattle.lapm_frames.proofs.unnumbered.read.Goals as goal
-use Rattle.lapm_frames.proofs.unnumbered.read.Goals.{in_default-via-in-111+else-command, in_default-via-in-67+else-command-2, in_default-via-in-99+else-not-command, in_default-via-in-15+else-not-command-2, in_default-via-in-135+else-not-command-3, in_default-via-in_default-1}
+use Rattle.lapm_frames.proofs.unnumbered.read.Goals.{in_default-via-in-111+else-command, in_default-via-in-67+else-command-2}
+use Rattle.lapm_frames.proofs.unnumbered.read.Goals.{in_default-via-in-99+else-not-command, in_default-via-in-15+else-not-command-2}
+use Rattle.lapm_frames.proofs.unnumbered.read.Goals.{in_default-via-in-135+else-not-command-3, in_default-via-in_default-1}
 
 pub returns-in-111-clause-err : goal.returns-in-111-clause-err
 returns-in-111-clause-err c =

@@ -5,7 +5,9 @@ use Rattle.decode_command.specs.Words.{named as decode_named}
 use Rattle.frames_command.specs.Words.{named as frames_named}
 use Rattle.peer_command.specs.Words.{named as peer_named}
 use Rattle.margin_command.specs.Words.{named as margin_named}
-use Rattle.modem_cli.proofs.Asked.{Run, Encode, Decode, Frames, Xid, Soak, Peer, Pickup, Margin, run-asked, encode-asked, decode-asked, frames-asked, xid-asked, soak-asked, peer-asked, pickup-asked, margin-asked, promised, answered, completed}
+use Rattle.modem_cli.proofs.Asked.{Run, Encode, Decode, Frames, Xid, Soak, Peer, Pickup, Margin, run-asked, encode-asked, decode-asked}
+use Rattle.modem_cli.proofs.Asked.{frames-asked, xid-asked, soak-asked, peer-asked, pickup-asked, margin-asked, promised, answered}
+use Rattle.modem_cli.proofs.Asked.{completed}
 use Rattle.modem_cli.proofs.top.modem.Goals as goal
 
 pub returns-in-Some-clause-promises : goal.returns-in-Some-clause-promises

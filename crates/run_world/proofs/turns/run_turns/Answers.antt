@@ -3,7 +3,8 @@ use Rattle.outside_calls.specs.Steps.{CountsStand-trans}
 use Rattle.outside_calls.specs.Folder.{FolderState}
 use Rattle.run_world.specs.Names.{Written, written}
 use Rattle.run_world.specs.World.{script_of}
-use Rattle.run_world.proofs.Reached.{reached-start, reached-going, reached-done, reached-counts, reached-fault, nearer, next-turn, only-trans, fault-earlier}
+use Rattle.run_world.proofs.Reached.{reached-start, reached-going, reached-done, reached-counts, reached-fault, nearer, next-turn}
+use Rattle.run_world.proofs.Reached.{only-trans, fault-earlier}
 use Rattle.run_world.proofs.turns.run_turns.Goals as goal
 
 pub loop-turn-init : goal.loop-turn-init

@@ -3,4 +3,7 @@ use Rattle.worked_traces.proofs.Texts.{plain_trace}
 use Rattle.worked_traces.proofs.runs.two_one_octet_files.Goals as goal
 
 pub returns : goal.returns
-returns c = record { trace = plain_trace; ends = record { done = refl; last = refl; orig = refl; answ = refl; orig_account = refl; answ_account = refl } }
+returns c = record {
+  trace = plain_trace;
+  ends = record { done = refl; last = refl; orig = refl; answ = refl; orig_account = refl; answ_account = refl };
+}

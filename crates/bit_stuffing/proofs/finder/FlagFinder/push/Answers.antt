@@ -1,7 +1,8 @@
 use Rattle.std.proofs.Common.{sym, subst, ◌∙◌}
 use Rattle.std.proofs.lemmas.Bool.{false≢true}
 use Rattle.bit_stuffing.specs.Deframer.{Finds}
-use Rattle.bit_stuffing.proofs.Openings.{at_end, from_end, seven_at_end, seven_from_end, room-open, flag-opens, flag-closes, flag-near, seven-aborts, seven-shuts, quiet, counts-more, shut-quiet, shut-stays}
+use Rattle.bit_stuffing.proofs.Openings.{at_end, from_end, seven_at_end, seven_from_end, room-open, flag-opens, flag-closes, flag-near}
+use Rattle.bit_stuffing.proofs.Openings.{seven-aborts, seven-shuts, quiet, counts-more, shut-quiet, shut-stays}
 use Rattle.bit_stuffing.proofs.finder.FlagFinder.push.Goals as goal
 use Rattle.bit_stuffing.proofs.finder.FlagFinder.push.Goals.{then-far, else-far}
 

@@ -1,4 +1,5 @@
-use Rattle.std.proofs.Common.{Bool, List, false, ◌≡◌, ◌-◌, ◌*◌, ◌%◌, [], ◌∷◌, ◌++◌, length, get_or, arith, ◌∙◌, sym, ap, append_assoc, length-append}
+use Rattle.std.proofs.Common.{Bool, List, false, ◌≡◌, ◌-◌, ◌*◌, ◌%◌, [], ◌∷◌, ◌++◌, length, get_or, arith, ◌∙◌, sym, ap, append_assoc}
+use Rattle.std.proofs.Common.{length-append}
 use Rattle.bit_stuffing.specs.Pen.{written}
 use Rattle.bit_stuffing.specs.Flags.{flag}
 use Rattle.bit_stuffing.specs.Slots.{fill}

@@ -3,7 +3,8 @@ use Rattle.bit_stuffing.specs.Deframer.{Gathers}
 use Rattle.bit_stuffing.specs.Pieces.{IsWhole}
 use Rattle.bit_stuffing.proofs.Gather.{judge-held, judge-ones, judge-short, judge-whole}
 use Rattle.bit_stuffing.proofs.unstuffer.Unstuffer.judge.Goals as goal
-use Rattle.bit_stuffing.proofs.unstuffer.Unstuffer.judge.Goals.{then-self-ne0-via-then-self-ne0, then-self-ne0-via-else-self-ne0+then-self-eq0}
+use Rattle.bit_stuffing.proofs.unstuffer.Unstuffer.judge.Goals.{then-self-ne0-via-then-self-ne0}
+use Rattle.bit_stuffing.proofs.unstuffer.Unstuffer.judge.Goals.{then-self-ne0-via-else-self-ne0+then-self-eq0}
 
 pub returns-then-self-ne0-clause-judged : goal.returns-then-self-ne0-clause-judged
 returns-then-self-ne0-clause-judged c = λ line f h.

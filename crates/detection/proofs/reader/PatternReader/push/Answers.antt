@@ -5,7 +5,8 @@ use Rattle.detection.specs.Reader.{ReaderStands}
 use Rattle.detection.proofs.Registers.{reader-shifted}
 use Rattle.detection.proofs.Answered.{seen-none, seen-once}
 use Rattle.detection.proofs.reader.PatternReader.push.Goals as goal
-use Rattle.detection.proofs.reader.PatternReader.push.Goals.{then-ends_pattern, else-ends_pattern+then-ends_pattern-2, else-ends_pattern+else-ends_pattern-2}
+use Rattle.detection.proofs.reader.PatternReader.push.Goals.{then-ends_pattern, else-ends_pattern+then-ends_pattern-2}
+use Rattle.detection.proofs.reader.PatternReader.push.Goals.{else-ends_pattern+else-ends_pattern-2}
 
 pub returns-clause-stands : goal.returns-clause-stands
 returns-clause-stands c =

@@ -7,10 +7,12 @@ pub returns-in-Detecting-clause-hears : goal.returns-in-Detecting-clause-hears
 returns-in-Detecting-clause-hears c = λ a h. c.hear.ensures.hears a (subst (λ (v : AnyEnd). StandsFor v a) c.in-Detecting.is h)
 
 pub returns-in-Negotiating-clause-hears : goal.returns-in-Negotiating-clause-hears
-returns-in-Negotiating-clause-hears c = λ a h. c.hear-in-Negotiating.ensures.hears a (subst (λ (v : AnyEnd). StandsFor v a) c.in-Negotiating.is h)
+returns-in-Negotiating-clause-hears c =
+    λ a h. c.hear-in-Negotiating.ensures.hears a (subst (λ (v : AnyEnd). StandsFor v a) c.in-Negotiating.is h)
 
 pub returns-in-Establishing-clause-hears : goal.returns-in-Establishing-clause-hears
-returns-in-Establishing-clause-hears c = λ a h. c.hear-in-Establishing.ensures.hears a (subst (λ (v : AnyEnd). StandsFor v a) c.in-Establishing.is h)
+returns-in-Establishing-clause-hears c =
+    λ a h. c.hear-in-Establishing.ensures.hears a (subst (λ (v : AnyEnd). StandsFor v a) c.in-Establishing.is h)
 
 pub returns-in-Connected-clause-hears : goal.returns-in-Connected-clause-hears
 returns-in-Connected-clause-hears c = λ a h. c.hear-in-Connected.ensures.hears a (subst (λ (v : AnyEnd). StandsFor v a) c.in-Connected.is h)

@@ -1,11 +1,13 @@
 use Rattle.std.proofs.Common.{◌∙◌, refl, sym, ap, length}
 use Rattle.noise_script.specs.declared.offered.Offered.{Offered}
-use Rattle.noise_script.specs.Grammar.{standing, whole, each, delays_said, tries_said, window_said, length_said, loss_said, hit_said, noise_said, break_said, pause_said, breaks_in}
+use Rattle.noise_script.specs.Grammar.{standing, whole, each, delays_said, tries_said, window_said, length_said, loss_said, hit_said}
+use Rattle.noise_script.specs.Grammar.{noise_said, break_said, pause_said, breaks_in}
 use Rattle.noise_script.specs.Forms.{kind_of}
 use Rattle.noise_script.specs.declared.entry.Entry.{Entry}
 use Rattle.noise_script.specs.declared.forms.Form.TheVariants as forms
 use Rattle.noise_script.proofs.Order.{in_order-length}
-use Rattle.noise_script.proofs.Entries.{counted-once, counted-flag, offered-held, counts-delay, counts-tries, counts-window, counts-length, standing-said, counts-lose, counts-hit, counts-noise, counts-break, counts-busy}
+use Rattle.noise_script.proofs.Entries.{counted-once, counted-flag, offered-held, counts-delay, counts-tries, counts-window, counts-length}
+use Rattle.noise_script.proofs.Entries.{standing-said, counts-lose, counts-hit, counts-noise, counts-break, counts-busy}
 use Rattle.noise_script.proofs.draft.Draft.standing.Goals as goal
 
 pub returns-in-Lose : goal.returns-in-Lose

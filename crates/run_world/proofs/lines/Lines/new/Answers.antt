@@ -6,6 +6,8 @@ pub returns : goal.returns
 returns c = record {
   orig_sends = c.in_ok-new.ensures.sender;
   answ_sends = c.in_ok-new-2.ensures.sender;
-  from_orig = c.in_ok-new.ensures.waits (channel_of c.args.script.now) (sym c.symbols-symbols.ensures.value) (sym c.delay-delay_orig.ensures.value);
-  from_answ = c.in_ok-new-2.ensures.waits (channel_of c.args.script.now) (sym c.symbols-symbols.ensures.value) (sym c.delay-delay_answ.ensures.value);
+  from_orig = c.in_ok-new.ensures.waits (channel_of c.args.script.now) (sym c.symbols-symbols.ensures.value)
+      (sym c.delay-delay_orig.ensures.value);
+  from_answ = c.in_ok-new-2.ensures.waits (channel_of c.args.script.now) (sym c.symbols-symbols.ensures.value)
+      (sym c.delay-delay_answ.ensures.value);
 }

@@ -11,9 +11,11 @@ returns-in-Ok-speak-clause-speaks c = λ files ends h.
     let release = c.are_finished-release.result in
     let told : release ≡ both_finished (link_of c.args.script.now files) turn ends = c.are_finished-release.ensures files ends h in
     let orig : Says (speak turn release ends.orig) files.orig c.speak.new.sent c.speak.new.self =
-    said-so (speak turn release ends.orig) files.orig c.speak.new.sent c.speak.new.self (c.in-Ok.ensures.speaks files.orig ends.orig h.orig) in
+    said-so (speak turn release ends.orig) files.orig c.speak.new.sent c.speak.new.self
+    (c.in-Ok.ensures.speaks files.orig ends.orig h.orig) in
     let answ : Says (speak turn false ends.answ) files.answ c.speak-2.new.sent c.speak-2.new.self =
-    said-so (speak turn false ends.answ) files.answ c.speak-2.new.sent c.speak-2.new.self (c.in-Ok-speak.ensures.speaks files.answ ends.answ h.answ) in
+    said-so (speak turn false ends.answ) files.answ c.speak-2.new.sent c.speak-2.new.self
+    (c.in-Ok-speak.ensures.speaks files.answ ends.answ h.answ) in
     record {
       orig = orig.said;
       answ = answ.said;
@@ -25,7 +27,8 @@ returns-in-Ok-speak-clause-speaks c = λ files ends h.
     }
 
 pub returns-in-Ok-speak-clause-counted : goal.returns-in-Ok-speak-clause-counted
-returns-in-Ok-speak-clause-counted c = λ heard asked h. record { orig = c.in-Ok.ensures.counted heard asked h.orig; answ = c.in-Ok-speak.ensures.counted heard asked h.answ }
+returns-in-Ok-speak-clause-counted c =
+    λ heard asked h. record { orig = c.in-Ok.ensures.counted heard asked h.orig; answ = c.in-Ok-speak.ensures.counted heard asked h.answ }
 
 pub returns-in-Err-speak-clause-speaks : goal.returns-in-Err-speak-clause-speaks
 returns-in-Err-speak-clause-speaks c = λ files ends h.
@@ -33,9 +36,11 @@ returns-in-Err-speak-clause-speaks c = λ files ends h.
     let release = c.are_finished-release.result in
     let told : release ≡ both_finished (link_of c.args.script.now files) turn ends = c.are_finished-release.ensures files ends h in
     let orig : Says (speak turn release ends.orig) files.orig c.speak.new.sent c.speak.new.self =
-    said-so (speak turn release ends.orig) files.orig c.speak.new.sent c.speak.new.self (c.in-Ok.ensures.speaks files.orig ends.orig h.orig) in (
+    said-so (speak turn release ends.orig) files.orig c.speak.new.sent c.speak.new.self
+    (c.in-Ok.ensures.speaks files.orig ends.orig h.orig) in (
       ap (λ (r : Bool). is_ok (speak turn r ends.orig)) (sym told) ∙ ap is_ok orig.is,
-      broken-so (speak turn false ends.answ) files.answ c.speak-2.new.sent c.speak-2.new.self c.in-Err-speak.fault (c.in-Err-speak.ensures.speaks files.answ ends.answ h.answ),
+      broken-so (speak turn false ends.answ) files.answ c.speak-2.new.sent c.speak-2.new.self c.in-Err-speak.fault
+          (c.in-Err-speak.ensures.speaks files.answ ends.answ h.answ),
     )
 
 pub returns-in-Err-clause-speaks : goal.returns-in-Err-clause-speaks
@@ -43,4 +48,5 @@ returns-in-Err-clause-speaks c = λ files ends h.
     let turn = c.args.turn in
     let release = c.are_finished-release.result in
     ap (λ (r : Bool). speak turn r ends.orig) (sym (c.are_finished-release.ensures files ends h))
-    ∙ broken-so (speak turn release ends.orig) files.orig c.speak.new.sent c.speak.new.self c.in-Err.fault (c.in-Err.ensures.speaks files.orig ends.orig h.orig)
+    ∙ broken-so (speak turn release ends.orig) files.orig c.speak.new.sent c.speak.new.self c.in-Err.fault
+    (c.in-Err.ensures.speaks files.orig ends.orig h.orig)

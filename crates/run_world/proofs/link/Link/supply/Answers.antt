@@ -15,8 +15,10 @@ returns-in-Ok-supply-clause-stands g c = λ files ends h within.
     let start = g.F.Folder.state c.args.folder.now in
     let mid = g.F.Folder.state c.supply.new.folder in
     let n = written c.args.names.now in
-    let orig : Supplies start n.orig file_limit files.orig ends.orig c.supply.new.self = c.in-Ok.ensures.stands files.orig ends.orig h.orig within.orig in
-    let answ : Supplies mid n.answ file_limit files.answ ends.answ c.supply-2.new.self = c.in-Ok-supply.ensures.stands files.answ ends.answ h.answ within.answ in
+    let orig : Supplies start n.orig file_limit files.orig ends.orig c.supply.new.self =
+    c.in-Ok.ensures.stands files.orig ends.orig h.orig within.orig in
+    let answ : Supplies mid n.answ file_limit files.answ ends.answ c.supply-2.new.self =
+    c.in-Ok-supply.ensures.stands files.answ ends.answ h.answ within.answ in
     record {
       others = record { orig = orig.others; answ = answ.others };
       orig = orig.reads_on;
@@ -25,13 +27,15 @@ returns-in-Ok-supply-clause-stands g c = λ files ends h within.
     }
 
 pub returns-in-Ok-supply-clause-counted : goal.returns-in-Ok-supply-clause-counted
-returns-in-Ok-supply-clause-counted g c = λ heard asked h. record { orig = c.supply.ensures.counted heard asked h.orig; answ = c.supply-2.ensures.counted heard asked h.answ }
+returns-in-Ok-supply-clause-counted g c =
+    λ heard asked h. record { orig = c.supply.ensures.counted heard asked h.orig; answ = c.supply-2.ensures.counted heard asked h.answ }
 
 pub returns-in-Ok-supply-clause-only : goal.returns-in-Ok-supply-clause-only
 returns-in-Ok-supply-clause-only g c = OnlyReads-trans c.supply.ensures.only c.supply-2.ensures.only
 
 pub returns-in-Err-supply-clause-counted : goal.returns-in-Err-supply-clause-counted
-returns-in-Err-supply-clause-counted g c = λ heard asked h. record { orig = c.supply.ensures.counted heard asked h.orig; answ = c.supply-2.ensures.counted heard asked h.answ }
+returns-in-Err-supply-clause-counted g c =
+    λ heard asked h. record { orig = c.supply.ensures.counted heard asked h.orig; answ = c.supply-2.ensures.counted heard asked h.answ }
 
 pub returns-in-Err-supply-clause-only : goal.returns-in-Err-supply-clause-only
 returns-in-Err-supply-clause-only g c = OnlyReads-trans c.supply.ensures.only c.supply-2.ensures.only

@@ -6,7 +6,8 @@ use Rattle.link_run.specs.Outcomes.{Going, Broken}
 use Rattle.run_world.specs.Names.{written}
 use Rattle.run_world.specs.Mid.{served, turn_in}
 use Rattle.run_world.proofs.Hearing.{none-sent}
-use Rattle.run_world.proofs.Speaking.{SpokenTurn, GoingLaws, sent_by, ends_of, spoken-turn, broken-turn, text-is, taken-back, all-codable, goes-on, ends-so, counts-so, stops-so, adds-part, sends-more, sends-none}
+use Rattle.run_world.proofs.Speaking.{SpokenTurn, GoingLaws, sent_by, ends_of, spoken-turn, broken-turn, text-is, taken-back, all-codable}
+use Rattle.run_world.proofs.Speaking.{goes-on, ends-so, counts-so, stops-so, adds-part, sends-more, sends-none}
 use Rattle.run_world.proofs.world.World.speak.Goals as goal
 
 -- the turn that both ends' words make

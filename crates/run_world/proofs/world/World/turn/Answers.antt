@@ -10,7 +10,8 @@ use Rattle.run_world.specs.Turn.{EndsBy, GoesOnBy}
 use Rattle.run_world.proofs.Serving.{phase-delivered, none-after, none-faulty}
 use Rattle.run_world.proofs.Folders.{then-only, reads-only, lines-only, counts-later, delivered-kept, stay-known, others-known}
 use Rattle.run_world.proofs.Speaking.{adds-heard, adds-kept, adds-sent}
-use Rattle.run_world.proofs.Turning.{MakingLaws, writing-ends, reading-ends, stops-handing, stops-reading, stops-writing, done-in, speaks-last, goes-on-by, ready-on}
+use Rattle.run_world.proofs.Turning.{MakingLaws, writing-ends, reading-ends, stops-handing, stops-reading, stops-writing, done-in}
+use Rattle.run_world.proofs.Turning.{speaks-last, goes-on-by, ready-on}
 use Rattle.run_world.proofs.world.World.turn.Goals as goal
 
 pub returns-in-Err-Chance-clause-turn : goal.returns-in-Err-Chance-clause-turn

@@ -7,7 +7,8 @@ use Rattle.stations.specs.Station.{IsCounted}
 use Rattle.single_end.specs.Peer.{Closed, after, over}
 use Rattle.single_end.specs.Single.{named}
 use Rattle.single_end.specs.Turn.{EndsBy}
-use Rattle.single_end.proofs.Folders.{got-only, trace-only, reads-only, then-only, trace-counts, read-counts, counts-later, stays-known, others-known}
+use Rattle.single_end.proofs.Folders.{got-only, trace-only, reads-only, then-only, trace-counts, read-counts, counts-later, stays-known}
+use Rattle.single_end.proofs.Folders.{others-known}
 use Rattle.single_end.proofs.Turning.{broke-off, not-handed, not-read, writing-ends, reading-ends, made, stopped-so, ended, gone-on}
 use Rattle.single_end.proofs.Turning.{counted-later, adds-on, keeps-on}
 use Rattle.single_end.specs.Mid.{handed}
@@ -185,7 +186,8 @@ returns-in-Err-clause-only g c =
 pub returns-in-Err-clause-counts : goal.returns-in-Err-clause-counts
 returns-in-Err-clause-counts g c =
     let n = named c.args.file.now c.args.got.now c.args.trace.now in
-    trace-counts (g.F.Folder.state c.args.folder.now) (g.F.Folder.state c.break_off.new.folder) n c.break_off.result c.break_off.ensures.counts
+    trace-counts (g.F.Folder.state c.args.folder.now)
+    (g.F.Folder.state c.break_off.new.folder) n c.break_off.result c.break_off.ensures.counts
 
 pub returns-in-Err-hand_over-clause-only : goal.returns-in-Err-hand_over-clause-only
 returns-in-Err-hand_over-clause-only g c =
@@ -225,16 +227,20 @@ returns-in-Ok-finish-clause-counts g c = CountsStand-trans c.in-Ok-hand_over.ens
 pub returns-in-Err-finish-clause-counts : goal.returns-in-Err-finish-clause-counts
 returns-in-Err-finish-clause-counts g c =
     let n = named c.args.file.now c.args.got.now c.args.trace.now in
-    counts-later (g.F.Folder.state c.args.folder.now) (g.F.Folder.state c.hand_over.new.folder) (g.F.Folder.state c.finish.new.folder) n c.in-Err-finish.fault
+    counts-later (g.F.Folder.state c.args.folder.now) (g.F.Folder.state c.hand_over.new.folder)
+    (g.F.Folder.state c.finish.new.folder) n c.in-Err-finish.fault
     c.in-Ok-hand_over.ensures.counts
-    (trace-counts (g.F.Folder.state c.hand_over.new.folder) (g.F.Folder.state c.finish.new.folder) n c.in-Err-finish.fault c.in-Err-finish.ensures.counts)
+    (trace-counts (g.F.Folder.state c.hand_over.new.folder)
+    (g.F.Folder.state c.finish.new.folder) n c.in-Err-finish.fault c.in-Err-finish.ensures.counts)
 
 pub returns-in-Err-serve-clause-counts : goal.returns-in-Err-serve-clause-counts
 returns-in-Err-serve-clause-counts g c =
     let n = named c.args.file.now c.args.got.now c.args.trace.now in
-    counts-later (g.F.Folder.state c.args.folder.now) (g.F.Folder.state c.hand_over.new.folder) (g.F.Folder.state c.serve.new.folder) n c.in-Err-serve.fault
+    counts-later (g.F.Folder.state c.args.folder.now) (g.F.Folder.state c.hand_over.new.folder)
+    (g.F.Folder.state c.serve.new.folder) n c.in-Err-serve.fault
     c.in-Ok-hand_over.ensures.counts
-    (read-counts (g.F.Folder.state c.hand_over.new.folder) (g.F.Folder.state c.serve.new.folder) n c.in-Err-serve.fault c.in-Err-serve.ensures.counts)
+    (read-counts (g.F.Folder.state c.hand_over.new.folder)
+    (g.F.Folder.state c.serve.new.folder) n c.in-Err-serve.fault c.in-Err-serve.ensures.counts)
 
 pub returns-in-Ok-speak-clause-counts : goal.returns-in-Ok-speak-clause-counts
 returns-in-Ok-speak-clause-counts g c =
@@ -243,9 +249,11 @@ returns-in-Ok-speak-clause-counts g c =
 pub returns-in-Err-speak-clause-counts : goal.returns-in-Err-speak-clause-counts
 returns-in-Err-speak-clause-counts g c =
     let n = named c.args.file.now c.args.got.now c.args.trace.now in
-    counts-later (g.F.Folder.state c.args.folder.now) (g.F.Folder.state c.serve.new.folder) (g.F.Folder.state c.speak.new.folder) n c.in-Err-speak.fault
+    counts-later (g.F.Folder.state c.args.folder.now) (g.F.Folder.state c.serve.new.folder)
+    (g.F.Folder.state c.speak.new.folder) n c.in-Err-speak.fault
     (CountsStand-trans c.in-Ok-hand_over.ensures.counts c.in-Ok-serve.ensures.counts)
-    (trace-counts (g.F.Folder.state c.serve.new.folder) (g.F.Folder.state c.speak.new.folder) n c.in-Err-speak.fault c.in-Err-speak.ensures.counts)
+    (trace-counts (g.F.Folder.state c.serve.new.folder)
+    (g.F.Folder.state c.speak.new.folder) n c.in-Err-speak.fault c.in-Err-speak.ensures.counts)
 
 pub returns-in-Err-clause-number : goal.returns-in-Err-clause-number
 returns-in-Err-clause-number g c = c.hear.ensures.turn

@@ -13,7 +13,8 @@ returns-clause-speaks c = λ file a h.
 
 pub returns-clause-sendable : goal.returns-clause-sendable
 returns-clause-sendable c =
-    kept-sendable (IsSendable c.speak-became.new.sent) c.keep_end.new.self c.speak-became.result c.keep_end.result c.keep_end.ensures.kept c.speak-became.ensures.sendable
+    kept-sendable (IsSendable c.speak-became.new.sent) c.keep_end.new.self c.speak-became.result c.keep_end.result c.keep_end.ensures.kept
+    c.speak-became.ensures.sendable
 
 pub returns-clause-idle : goal.returns-clause-idle
 returns-clause-idle c =
