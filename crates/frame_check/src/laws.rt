@@ -3,6 +3,15 @@ ghost use Rattle.std.specs.Prelude.{◌≡◌, ℕ, ◌+◌, ◌-◌, List, Bool
 ghost use Rattle.frame_check.specs.FrameCheck.{IsCheckOf, IsChecked, Leaves, width_of, generator_of};
 ghost use Rattle.frame_check.specs.Division.{check_of, count_of};
 ghost use Rattle.frame_check.specs.declared.check.Check.{Check};
+ghost use Rattle.frame_check.specs.declared.sizes.TheConstants.{INFO, WHOLE, SLOT};
+
+/// The numbers that the rules name: the most octets of information, the most octets of a frame with its check, and the most symbols
+/// of a slot.
+pub fn sizes()
+    ensures info { INFO ≡ 1024 }
+    ensures whole { WHOLE ≡ 1031 }
+    ensures slot { SLOT ≡ 2615 }
+{}
 
 /// Bits leave one remainder.
 pub fn one_remainder()
