@@ -8,6 +8,7 @@ use xid_params::XidFault;
 /// How a command ends. Everything but `Done` has one cause, which the contract of the command names.
 #[derive(Clone, Copy, PartialEq, Eq)]
 pub enum Status {
+    /// The job was done.
     Done,
     /// The words are no command's.
     Usage,
@@ -21,7 +22,9 @@ pub enum Status {
     BadXid(XidFault),
     /// The input that this word names, or is, is longer than its limit. Words count from 0.
     TooLong { word: usize },
+    /// An input was not read.
     ReadFault,
+    /// An output was not made, not written, or a line was not said.
     WriteFault,
     /// What that end receives can't be followed from that symbol on, counted from 0.
     LineLost { role: Role, symbol: u64 },
@@ -31,6 +34,7 @@ pub enum Status {
     LinkLost { role: Role, segment: u64, turn: u64 },
     /// That end received in that turn what was not sent, by a chance of the noise.
     ChanceMatch { role: Role, turn: u64 },
+    /// Memory was not found, by the program or by the folder.
     NoMemory,
     /// In that turn the end heard what no peer may send, or was refused.
     PeerFault { fault: LinkFault, turn: u64 },

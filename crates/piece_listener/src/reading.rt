@@ -11,14 +11,19 @@ use roles::Role;
 /// What a piece of a stream is to a reader of frames, who knows the end that sent it.
 #[derive(Drop)]
 pub enum Reading {
+    /// A frame, with the check of 16 bits.
     Frame(Frame),
     /// The check is right, and the octets before it are no frame.
     Refused(FrameFault),
     /// The check is wrong. The number is that of all octets, with those of the check.
     BadCheck { octets: usize },
+    /// The bits between two flags are no stuffing of whole octets.
     Ragged,
+    /// Seven ones in a row stood in place of the second flag.
     Aborted,
+    /// More bits than the longest frame has.
     TooLong,
+    /// Fewer octets than the shortest frame has.
     TooShort,
 }
 

@@ -5,6 +5,7 @@ use causes::LinkFault;
 /// What comes after a turn.
 #[derive(Clone, Copy, PartialEq, Eq)]
 pub enum SingleStep {
+    /// The link goes on.
     Going,
     /// The link was taken down. An originator alone is told.
     Closed,
