@@ -23,7 +23,7 @@ fn push_zeros(rt: &impl Abort, deframer: &mut Deframer, count: usize) {
 }
 
 /// A slot of these quads.
-fn slot_of(quads: &[u8]) -> BitSlot {
+pub(crate) fn slot_of(quads: &[u8]) -> BitSlot {
     let mut slot = BitSlot::new();
     for quad in quads {
         if slot.len() < SLOT {
