@@ -1,28 +1,26 @@
--- Whether octets spell a frame, and what a slot is to its hearer, can be told.
-use Rattle.std.proofs.Common.{◌≡◌, ◌⊎◌, inl, inr, ℕ, zero, suc, ◌+◌, ◌-◌, ◌<◌, ◌≤◌, Bool, true, false, List, [], ◌∷◌, length, take, drop}
-use Rattle.std.proofs.Common.{slice_index_or, All, arith, refl, sym, ◌∙◌, ap, subst, Option, Some, None, IfSome, length-append}
+-- Whether octets pass a check, and what a slot is to its hearer, can be told.
+use Rattle.std.proofs.Common.{◌≡◌, ◌⊎◌, inl, inr, ℕ, zero, suc, ◌-◌, ◌<◌, ◌≤◌, Bool, true, false, List, [], ◌∷◌, length, take, drop}
+use Rattle.std.proofs.Common.{slice_index_or, All, arith, refl, sym, ◌∙◌, ap, subst, Option, Some, None, IfSome}
 use Rattle.std.proofs.lemmas.Bool.{cases_lt}
 use Rattle.std.proofs.lemmas.List.Elements.{All-nil, All-cons, All-head, All-tail}
-use Rattle.std.proofs.Math.Seq.{take-append_seam}
 use Rattle.frame_check.specs.declared.sizes.TheConstants.{INFO}
 use Rattle.frame_check.specs.declared.check.Check.{Check}
-use Rattle.frame_check.specs.Division.{check_of, count_of}
-use Rattle.frame_check.proofs.Checks.{length-check_of}
+use Rattle.frame_check.specs.FrameCheck.{IsChecked, Passes}
+use Rattle.frame_check.specs.Division.{count_of, with_check}
+use Rattle.frame_check.proofs.Checks.{front-checked, with_check-is, with_check-one}
 use Rattle.roles.specs.declared.role.Role.{Role}
 use Rattle.lapm_frames.specs.declared.frame.Frame.{Frame}
-use Rattle.lapm_frames.specs.Frame.{IsFrame, control_octet, spelled, tail_octets}
+use Rattle.lapm_frames.specs.Frame.{IsFrame, spelled}
 use Rattle.lapm_frames.specs.Parts.{parts_of}
-use Rattle.lapm_frames.specs.Checked.{check_for, check_heard, checked, SpellsFrame}
-use Rattle.lapm_frames.proofs.Forms.{frame_at, frame_at-parts}
-use Rattle.lapm_frames.proofs.Checking.{kind-heard, spells, spelled-checked}
+use Rattle.lapm_frames.specs.Checked.{check_heard}
 use Rattle.lapm_frames.specs.declared.seen.Seen.{Seen}
 use Rattle.lapm_frames.specs.declared.seen.Seen.TheVariants as seen
 use Rattle.lapm_frames.specs.declared.sent.Sent.{Sent}
 use Rattle.lapm_frames.specs.declared.sent.Sent.TheVariants as slots
 use Rattle.lapm_frames.specs.declared.heard.Heard.{Heard}
 use Rattle.lapm_frames.specs.declared.heard.Heard.TheVariants.{Nothing, Passed, Lost, Chance}
-use Rattle.sample_line.specs.Received.{AreFrames}
-use Rattle.sample_line.specs.Outcomes.{is_message, IsSilent, IsPattern, IsWhatWasSent, IsOutcome}
+use Rattle.sample_line.specs.Received.{PassTheCheck}
+use Rattle.sample_line.specs.Outcomes.{is_message, IsSilent, IsPattern, IsFrameOnce, IsWhatWasSent, IsOutcome}
 
 -- it holds, or it doesn't
 abbrev pub Decided : Type 0 → Type 0
@@ -52,12 +50,6 @@ number-decided (suc m) (suc n) = go (number-decided m n)
 below-decided : (m n : ℕ) → Decided (m < n)
 below-decided m n = elim (cases_lt m n) [ inl l ↦ inl l | inr l ↦ inr (λ k. omega (arith, l, k)) ]
 
-bool-decided : (a b : Bool) → Decided (a ≡ b)
-bool-decided true true = inl refl
-bool-decided false false = inl refl
-bool-decided true false = inr (λ e. absurd cc)
-bool-decided false true = inr (λ e. absurd cc)
-
 head-same : (x y : ℕ) (xs ys : List ℕ) → x ∷ xs ≡ y ∷ ys → x ≡ y
 head-same x y xs ys e = ap (λ (l : List ℕ). slice_index_or l 0 0) e
 
@@ -75,22 +67,6 @@ list-decided (x ∷ xs) (y ∷ ys) = go (number-decided x y) (list-decided xs ys
     go (inl e) (inr f) = inr (λ g. f (tail-same x y xs ys g))
     go (inr e) f = inr (λ g. e (head-same x y xs ys g))
 
--- frames are the same where their parts are
-frame-decided : (a b : Frame) → Decided (a ≡ b)
-frame-decided a b =
-    go (bool-decided (parts_of a).command (parts_of b).command) (number-decided (control_octet (parts_of a)) (control_octet (parts_of b)))
-    (list-decided (tail_octets (parts_of a)) (tail_octets (parts_of b)))
-  where
-    go : Decided ((parts_of a).command ≡ (parts_of b).command) → Decided (control_octet (parts_of a) ≡ control_octet (parts_of b))
-        → Decided (tail_octets (parts_of a) ≡ tail_octets (parts_of b)) → Decided (a ≡ b)
-    go (inl x) (inl y) (inl z) = inl (
-        sym (frame_at-parts a) ∙ ap (λ c. frame_at c (control_octet (parts_of a)) (tail_octets (parts_of a))) x
-        ∙ ap (λ n. frame_at (parts_of b).command n (tail_octets (parts_of a))) y
-        ∙ ap (λ t. frame_at (parts_of b).command (control_octet (parts_of b)) t) z ∙ frame_at-parts b)
-    go (inr x) y z = inr (λ e. x (ap (λ (f : Frame). (parts_of f).command) e))
-    go (inl x) (inr y) z = inr (λ e. y (ap (λ (f : Frame). control_octet (parts_of f)) e))
-    go (inl x) (inl y) (inr z) = inr (λ e. z (ap (λ (f : Frame). tail_octets (parts_of f)) e))
-
 some-below : (o : Option ℕ) (m : ℕ) → Decided (IfSome o (λ n. n < m))
 some-below None m = inl tt
 some-below (Some n) m = below-decided n m
@@ -103,77 +79,27 @@ is-frame-decided : (frame : Frame) → Decided (IsFrame frame)
 is-frame-decided frame = three-decided (some-below (parts_of frame).ns 128) (some-below (parts_of frame).nr 128)
     (some-short (parts_of frame).info)
 
--- The frame of a role's command or response that octets can spell, and no other.
-abbrev candidate : Check → Bool → List ℕ → Frame
-candidate check command whole =
-    let octets : List ℕ = take (length whole - count_of (check_heard check whole)) whole in
-    frame_at command (slice_index_or octets 1 0) (drop 2 octets)
-
-front-of : (check : Check) (sender : Role) (dlci : ℕ) (whole : List ℕ) (frame : Frame) → SpellsFrame check sender dlci whole frame
-    → take (length whole - count_of (check_heard check whole)) whole ≡ spelled frame sender dlci
-front-of check sender dlci whole frame s =
-    let kind : Check = check_for check frame in
-    let octets : List ℕ = spelled frame sender dlci in
-    let is : whole ≡ checked check sender dlci frame = spelled-checked check sender dlci whole frame s in
-    let used : check_heard check whole ≡ kind = ap (check_heard check) is ∙ kind-heard check kind sender dlci frame in
-    let long : length (checked check sender dlci frame) ≡ length octets + count_of kind
-    = length-append {A = ℕ} octets (check_of kind octets) ∙ ap (λ n. length octets + n) (length-check_of kind octets) in
-    let all : length whole ≡ length octets + count_of kind = ap (λ (l : List ℕ). length l) is ∙ long in
-    let count : count_of (check_heard check whole) ≡ count_of kind = ap count_of used in
-    let few : length whole - count_of (check_heard check whole) ≡ length octets = omega (arith, all, count) in
-    ap (λ n. take n whole) few ∙ ap (take (length octets)) is ∙ take-append_seam octets (check_of kind octets)
-
-candidate-is : (check : Check) (sender : Role) (dlci : ℕ) (whole : List ℕ) (frame : Frame) → SpellsFrame check sender dlci whole frame
-    → candidate check (parts_of frame).command whole ≡ frame
-candidate-is check sender dlci whole frame s =
-    let front = front-of check sender dlci whole frame s in
-    ap (λ (octets : List ℕ). frame_at (parts_of frame).command (slice_index_or octets 1 0) (drop 2 octets)) front ∙ frame_at-parts frame
-
-spelled-decided : (check : Check) (sender : Role) (dlci : ℕ) (whole : List ℕ) (frame : Frame)
-    → Decided (SpellsFrame check sender dlci whole frame)
-spelled-decided check sender dlci whole frame = go (is-frame-decided frame) (list-decided (checked check sender dlci frame) whole)
+-- octets pass a check, or they don't
+passes-or-not : (check : Check) (whole : List ℕ) → ((front : List ℕ) × IsChecked check front whole) ⊎ (Passes check whole → ⊥)
+passes-or-not check whole = go (list-decided whole (with_check check front))
   where
-    go : Decided (IsFrame frame) → Decided (checked check sender dlci frame ≡ whole) → Decided (SpellsFrame check sender dlci whole frame)
-    go (inl f) (inl e) = inl (subst (λ w. SpellsFrame check sender dlci w frame) e (spells check sender dlci frame f))
-    go (inl f) (inr e) = inr (λ s. e (sym (spelled-checked check sender dlci whole frame s)))
-    go (inr f) e = inr (λ s. f s.spelling.0)
+    front : List ℕ
+    front = take (length whole - count_of check) whole
 
--- octets spell a frame, or none
-spells-or-none : (check : Check) (sender : Role) (dlci : ℕ) (whole : List ℕ) → ((frame : Frame) × SpellsFrame check sender dlci whole frame)
-    ⊎ ((frame : Frame) → SpellsFrame check sender dlci whole frame → ⊥)
-spells-or-none check sender dlci whole =
-    go (spelled-decided check sender dlci whole (candidate check true whole))
-    (spelled-decided check sender dlci whole (candidate check false whole))
+    go : Decided (whole ≡ with_check check front) → ((octets : List ℕ) × IsChecked check octets whole) ⊎ (Passes check whole → ⊥)
+    go (inl e) = inl (front, subst (λ (xs : List ℕ). IsChecked check front xs) (sym e) (with_check-is check front))
+    go (inr n) = inr (λ p. n (with_check-one check p.octets whole p.checked
+        ∙ ap (with_check check) (front-checked check p.octets whole p.checked)))
+
+-- so there is what passes in each list of octets
+pub some-pass : (check : Check) (wholes : List (List ℕ)) → (octets : List (List ℕ)) × PassTheCheck check wholes octets
+some-pass check [] = ([], refl)
+some-pass check (whole ∷ wholes) = go (passes-or-not (check_heard check whole) whole) (some-pass check wholes)
   where
-    none : (command : Bool) (frame : Frame) → (parts_of frame).command ≡ command
-        → (SpellsFrame check sender dlci whole (candidate check command whole) → ⊥) → SpellsFrame check sender dlci whole frame → ⊥
-    none command frame e n s = n (subst (SpellsFrame check sender dlci whole) (sym (candidate-is check sender dlci whole frame s)
-        ∙ ap (λ c. candidate check c whole) e) s)
-
-    go : Decided (SpellsFrame check sender dlci whole (candidate check true whole))
-        → Decided (SpellsFrame check sender dlci whole (candidate check false whole))
-        → ((frame : Frame) × SpellsFrame check sender dlci whole frame) ⊎ ((frame : Frame) → SpellsFrame check sender dlci whole frame → ⊥)
-    go (inl s) q = inl (candidate check true whole, s)
-    go (inr n) (inl s) = inl (candidate check false whole, s)
-    go (inr n) (inr m) = inr (λ frame s. either (parts_of frame).command refl frame s)
-      where
-        either : (command : Bool) → command ≡ command → (frame : Frame) → SpellsFrame check sender dlci whole frame → ⊥
-        either command e frame s = by (parts_of frame).command refl
-          where
-            by : (c : Bool) → (parts_of frame).command ≡ c → ⊥
-            by true f = none true frame f n s
-            by false f = none false frame f m s
-
--- so there are frames in each list of octets
-pub some-frames : (check : Check) (sender : Role) (dlci : ℕ) (wholes : List (List ℕ)) → (frames : List Frame)
-    × AreFrames check sender dlci wholes frames
-some-frames check sender dlci [] = ([], refl)
-some-frames check sender dlci (whole ∷ wholes) = go (spells-or-none check sender dlci whole) (some-frames check sender dlci wholes)
-  where
-    go : ((frame : Frame) × SpellsFrame check sender dlci whole frame) ⊎ ((frame : Frame) → SpellsFrame check sender dlci whole frame → ⊥)
-        → ((frames : List Frame) × AreFrames check sender dlci wholes frames) → (frames : List Frame)
-        × AreFrames check sender dlci (whole ∷ wholes) frames
-    go (inl s) r = (s.0 ∷ r.0, inr (s.0, r.0, s.1, refl, r.1))
+    go : ((front : List ℕ) × IsChecked (check_heard check whole) front whole) ⊎ (Passes (check_heard check whole) whole → ⊥)
+        → ((octets : List (List ℕ)) × PassTheCheck check wholes octets) → (octets : List (List ℕ))
+        × PassTheCheck check (whole ∷ wholes) octets
+    go (inl f) r = (f.0 ∷ r.0, inr (f.0, r.0, f.1, refl, r.1))
     go (inr n) r = (r.0, inl (n, r.1))
 
 -- what a slot is to its hearer
@@ -201,43 +127,50 @@ not-decided : {P : Type 0} → Decided P → Decided (P → ⊥)
 not-decided (inl p) = inr (λ n. n p)
 not-decided (inr n) = inl n
 
-one-decided : (frame : Frame) (frames : List Frame) → Decided (frames ≡ frame ∷ [])
-one-decided frame [] = inr (λ e. absurd cc)
-one-decided frame (x ∷ y ∷ frames) = inr (λ e. omega (arith, ap (λ (l : List Frame). length l) e))
-one-decided frame (x ∷ []) = go (frame-decided x frame)
+-- exactly this frame's octets, once
+once-decided : (sender : Role) (dlci : ℕ) (frame : Frame) (octets : List (List ℕ)) (patterns : List Seen)
+    → Decided (IsFrameOnce sender dlci frame octets patterns)
+once-decided sender dlci frame [] patterns = inr (λ h. none h.0 h.2)
   where
-    first : List Frame → Frame
-    first [] = frame
+    none : (front : List ℕ) → [] ≡ front ∷ [] → ⊥
+    none front e = absurd cc
+once-decided sender dlci frame (x ∷ y ∷ octets) patterns = inr (λ h. omega (arith, ap (λ (l : List (List ℕ)). length l) h.2))
+once-decided sender dlci frame (x ∷ []) patterns =
+    go (three-decided (is-frame-decided frame) (list-decided x (spelled frame sender dlci)) (empty-decided patterns))
+  where
+    first : List (List ℕ) → List ℕ
+    first [] = []
     first (z ∷ zs) = z
 
-    go : Decided (x ≡ frame) → Decided (x ∷ [] ≡ frame ∷ [])
-    go (inl e) = inl (ap (λ z. z ∷ []) e)
-    go (inr n) = inr (λ e. n (ap first e))
+    go : Decided (IsFrame frame × (x ≡ spelled frame sender dlci) × (patterns ≡ [])) → Decided (IsFrameOnce sender dlci frame (x ∷ []) patterns)
+    go (inl h) = inl (x, (h.0, h.1), refl, h.2)
+    go (inr n) = inr (λ h. n (h.1.0, ap first h.2 ∙ h.1.1, h.3))
 
-pattern-decided : (pattern : Seen) (frames : List Frame) (patterns : List Seen) → Decided (IsPattern pattern frames patterns)
-pattern-decided pattern frames patterns =
-    three-decided (empty-decided frames) (not-decided (empty-decided patterns)) (all-decided pattern patterns)
+pattern-decided : (pattern : Seen) (octets : List (List ℕ)) (patterns : List Seen) → Decided (IsPattern pattern octets patterns)
+pattern-decided pattern octets patterns =
+    three-decided (empty-decided octets) (not-decided (empty-decided patterns)) (all-decided pattern patterns)
 
-what-was-sent : (s : Sent) (frames : List Frame) (patterns : List Seen) → Decided (IsWhatWasSent s frames patterns)
-what-was-sent slots.Mark frames patterns = inr (λ h. h)
-what-was-sent slots.Flags frames patterns = inr (λ h. h)
-what-was-sent slots.Odp frames patterns = pattern-decided seen.Odp frames patterns
-what-was-sent slots.Adp frames patterns = pattern-decided seen.Adp frames patterns
-what-was-sent (slots.Frame frame) frames patterns = both-decided (one-decided frame frames) (empty-decided patterns)
+what-was-sent : (sender : Role) (dlci : ℕ) (s : Sent) (octets : List (List ℕ)) (patterns : List Seen)
+    → Decided (IsWhatWasSent sender dlci s octets patterns)
+what-was-sent sender dlci slots.Mark octets patterns = inr (λ h. h)
+what-was-sent sender dlci slots.Flags octets patterns = inr (λ h. h)
+what-was-sent sender dlci slots.Odp octets patterns = pattern-decided seen.Odp octets patterns
+what-was-sent sender dlci slots.Adp octets patterns = pattern-decided seen.Adp octets patterns
+what-was-sent sender dlci (slots.Frame frame) octets patterns = once-decided sender dlci frame octets patterns
 
 -- each slot has an outcome
-pub some-outcome : (loses : Bool) (s : Sent) (frames : List Frame) (patterns : List Seen) → (heard : Heard)
-    × IsOutcome loses s frames patterns heard
-some-outcome true s frames patterns = go (is_message s) refl
+pub some-outcome : (loses : Bool) (sender : Role) (dlci : ℕ) (s : Sent) (octets : List (List ℕ)) (patterns : List Seen) → (heard : Heard)
+    × IsOutcome loses sender dlci s octets patterns heard
+some-outcome true sender dlci s octets patterns = go (is_message s) refl
   where
-    go : (m : Bool) → is_message s ≡ m → (heard : Heard) × IsOutcome true s frames patterns heard
+    go : (m : Bool) → is_message s ≡ m → (heard : Heard) × IsOutcome true sender dlci s octets patterns heard
     go true e = (Lost s, (refl, e))
     go false e = (Nothing, e)
-some-outcome false s frames patterns =
-    go (both-decided (empty-decided frames) (empty-decided patterns)) (what-was-sent s frames patterns) (is_message s) refl
+some-outcome false sender dlci s octets patterns =
+    go (both-decided (empty-decided octets) (empty-decided patterns)) (what-was-sent sender dlci s octets patterns) (is_message s) refl
   where
-    go : Decided (IsSilent frames patterns) → Decided (IsWhatWasSent s frames patterns) → (m : Bool) → is_message s ≡ m → (heard : Heard)
-        × IsOutcome false s frames patterns heard
+    go : Decided (IsSilent octets patterns) → Decided (IsWhatWasSent sender dlci s octets patterns) → (m : Bool) → is_message s ≡ m
+        → (heard : Heard) × IsOutcome false sender dlci s octets patterns heard
     go (inl silent) w true e = (Lost s, (refl, e, silent))
     go (inl silent) w false e = (Nothing, (e, silent))
     go (inr n) (inl w) m e = (Passed s, (refl, w))

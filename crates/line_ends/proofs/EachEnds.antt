@@ -101,16 +101,16 @@ comes laws script sender earlier t hearing slot h fits fit e = go (lost-or-not u
         → Came c sender earlier t hearing slot
     go (inl l) = Is_lost l.0 upto.0 upto.1 l.1
     go (inr n) =
-        let r = some-received laws.receives script hearing sender 0 (lines.bits_of c sender earlier) bits before.0 upto.0 before.1
+        let r = some-received laws.receives script hearing sender (lines.bits_of c sender earlier) bits before.0 upto.0 before.1
         (subst (λ xs. Records script sender xs upto.0) joined upto.1) in
-        let o = some-outcome (loses script sender (length earlier)) slot.sent r.frames r.patterns in
+        let o = some-outcome (loses script sender (length earlier)) sender 0 slot.sent r.octets r.patterns in
         Is_heard o.0 (record {
           before = before.0;
           samples = upto.0;
           recorded_before = before.1;
           recorded = upto.1;
           not_lost = n;
-          frames = r.frames;
+          octets = r.octets;
           patterns = r.patterns;
           received = r.received;
           outcome = o.1;
@@ -132,7 +132,7 @@ each-slot-becomes laws script files ts ends role h o r = go (sent_ago delay send
     hearing = check_of (of role ends)
 
     fits : AreFit (bits_in script) 0 (signals c sender ts)
-    fits = fits-all laws.codable script files ts ends h r (laws.octets script files ts ends h o r) sender
+    fits = fits-all laws.codable script files ts ends h r (laws.octets (channel_of script) files ts ends h o r) sender
 
     heard-as : (o : Option Spoken) → sent_ago delay sender ts ≡ o → (heard : Heard)
         → ArrivesAs c sender (drop delay ts) (drop (delay - 1) ts) hearing o heard → Becomes c sender ts hearing

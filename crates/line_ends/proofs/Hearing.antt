@@ -1,7 +1,6 @@
 -- What is heard in a script's run whose noise is faint.
-use Rattle.std.proofs.Common.{◌≡◌, ◌≢◌, ℕ, ◌+◌, ◌-◌, ◌*◌, ◌<◌, ◌≤◌, Bool, true, false, List, [], ◌∷◌, ◌++◌, length, drop, replicate, arith}
+use Rattle.std.proofs.Common.{◌≡◌, ◌≢◌, ℕ, ◌+◌, ◌-◌, ◌*◌, ◌<◌, ◌≤◌, Bool, true, false, List, [], ◌∷◌, ◌++◌, length, drop, arith}
 use Rattle.std.proofs.Common.{refl, sym, ◌∙◌, subst, Option, Some, None, append-nil}
-use Rattle.std.proofs.lemmas.List.Elements.{All-replicate}
 use Rattle.frame_check.specs.declared.check.Check.{Check}
 use Rattle.roles.specs.declared.role.Role.{Role}
 use Rattle.roles.specs.declared.role.Role.TheVariants.{Originator, Answerer}
@@ -10,8 +9,6 @@ use Rattle.roles.specs.Both.{Both, of}
 use Rattle.detection.specs.Slots.{Signal, signal_bits}
 use Rattle.lapm_frames.specs.declared.frame.Frame.{Frame}
 use Rattle.lapm_frames.specs.Checked.{check_for}
-use Rattle.lapm_frames.specs.declared.seen.Seen.{Seen}
-use Rattle.lapm_frames.specs.declared.seen.Seen.TheVariants as seen
 use Rattle.lapm_frames.specs.declared.sent.Sent.{Sent}
 use Rattle.lapm_frames.specs.declared.sent.Sent.TheVariants as slots
 use Rattle.lapm_frames.specs.declared.heard.Heard.{Heard}
@@ -20,11 +17,12 @@ use Rattle.lapm_frames.specs.Sendable.{IsSendable}
 use Rattle.noise_script.specs.Script.{ScriptValue, IsInLimits, delay_of, loses}
 use Rattle.sample_line.specs.Signals.{signal_of}
 use Rattle.sample_line.specs.Recorded.{Records}
-use Rattle.sample_line.specs.Outcomes.{IsPattern, IsOutcome}
+use Rattle.sample_line.specs.Outcomes.{IsOutcome}
 use Rattle.sample_line.specs.Laws.{OneOutcome}
 use Rattle.line_laws.specs.Fitting.{AreFit}
-use Rattle.line_laws.specs.Unhindered.{ChecksAgree, frames_in, patterns_in, unhindered}
+use Rattle.line_laws.specs.Unhindered.{ChecksAgree, octets_in, patterns_in, unhindered}
 use Rattle.line_laws.specs.Laws.{FaintNeverLost, FaintReceivedIsSent, NeverChance}
+use Rattle.line_laws.proofs.Received.{as-expected}
 use Rattle.link_account.specs.Account.{check_of}
 use Rattle.link_run.specs.Run.{Ends, Spoken, Turn}
 use Rattle.link_run.specs.Carried.{sent_ago}
@@ -61,23 +59,7 @@ over laws script files ts ends h r = record {
   run = r.run;
 }
 
-nine : (pattern : Seen) → IsPattern pattern [] (replicate 9 pattern)
-nine pattern = (refl, (λ e. absurd cc), All-replicate (λ other. other ≡ pattern) 9 pattern refl)
-
--- the outcome where nothing but what was sent is received
-expected : (loses : Bool) (s : Sent) → IsOutcome loses s (frames_in s) (patterns_in s) (unhindered loses s)
-expected true slots.Mark = refl
-expected false slots.Mark = (refl, (refl, refl))
-expected true slots.Flags = refl
-expected false slots.Flags = (refl, (refl, refl))
-expected true slots.Odp = (refl, refl)
-expected false slots.Odp = (refl, nine seen.Odp)
-expected true slots.Adp = (refl, refl)
-expected false slots.Adp = (refl, nine seen.Adp)
-expected true (slots.Frame frame) = (refl, refl)
-expected false (slots.Frame frame) = (refl, (refl, refl))
-
-agree-on : (check hearing : Check) (s : Sent) → ((frame : Frame) → s ≡ slots.Frame frame → check_for check frame ≡ check_for hearing frame)
+pub agree-on : (check hearing : Check) (s : Sent) → ((frame : Frame) → s ≡ slots.Frame frame → check_for check frame ≡ check_for hearing frame)
     → ChecksAgree check hearing s
 agree-on check hearing slots.Mark f = tt
 agree-on check hearing slots.Odp f = tt
@@ -86,7 +68,7 @@ agree-on check hearing slots.Flags f = tt
 agree-on check hearing (slots.Frame frame) f = f frame refl
 
 -- the slots of a script are long enough
-slots-long : (script : ScriptValue) → 215 < symbols_of script
+pub slots-long : (script : ScriptValue) → 215 < symbols_of script
 slots-long script = omega arith
 
 -- a slot that arrives
@@ -104,12 +86,12 @@ arrives-unhindered laws script sender earlier t hearing slot heard h d e fit is 
     subst (λ o. AreFit (bits_in script) 0 (before ++ signal_in c sender o)) e fit in
     let recorded : Records script sender (signal_bits (bits_in script) (before ++ signal ∷ [])) a.samples
     = subst (λ o. Records script sender (signal_bits (bits_in script) (before ++ signal_in c sender o)) a.samples) e a.recorded in
-    let same = laws.received script slot.check hearing sender 0 (symbols_of script) before slot.sent a.before a.samples a.frames a.patterns
+    let same = laws.received script slot.check hearing sender 0 (symbols_of script) before slot.sent a.before a.samples a.octets a.patterns
     (d sender (symbols_of script * (length before + 1))) (slots-long script) fits is agree a.recorded_before recorded a.received in
     let lose : Bool = loses script sender (length earlier) in
-    laws.one lose slot.sent (frames_in slot.sent) (patterns_in slot.sent) heard (unhindered lose slot.sent)
-    (subst (λ xs. IsOutcome lose slot.sent (frames_in slot.sent) xs heard) same.1
-    (subst (λ xs. IsOutcome lose slot.sent xs a.patterns heard) same.0 a.outcome)) (expected lose slot.sent)
+    laws.one lose sender 0 slot.sent (octets_in sender 0 slot.sent) (patterns_in slot.sent) heard (unhindered lose slot.sent)
+    (subst (λ xs. IsOutcome lose sender 0 slot.sent (octets_in sender 0 slot.sent) xs heard) same.1
+    (subst (λ xs. IsOutcome lose sender 0 slot.sent xs a.patterns heard) same.0 a.outcome)) (as-expected lose sender 0 slot.sent is)
 
 -- What is heard of a sender in the turn after these: no chance match, and lost only where the script says so.
 pub record AsNamed (script : ScriptValue) (sender : Role) (ts : List Turn) (heard : Heard) : Type 0 where
@@ -155,7 +137,7 @@ heard-named laws script files ts ends h d r s role heard k = go (sent_ago delay 
         let checks : ChecksAgree slot.check hearing slot.sent
         = agree-on slot.check hearing slot.sent
         (λ frame f. laws.judges (link_of script files) (delay_of script) ts ends
-        (over laws script files ts ends h r) role slot frame e f) in
+        (over laws script files ts ends h r) delay role slot frame e f) in
         let same = arrives-unhindered laws script sender (drop delay ts) x.turn hearing slot heard h d x.sent fit
         (x.sendable s) checks arrives in
         record {

@@ -1,15 +1,15 @@
 mod Completing
-mod Fitting
-mod Slots
-mod Hearing
+pub mod Fitting
+pub mod Slots
+pub mod Hearing
 mod Counting
 mod Undisturbed
 mod Words
 mod Saying
 mod Handing
 mod Sending
-mod Deciding
-mod Receiving
+pub mod Deciding
+pub mod Receiving
 mod EachEnds
 mod Starving
 mod Making

@@ -17,7 +17,6 @@ use Rattle.survivors.proofs.V32.{line-has-laws}
 use Rattle.line_coding.specs.Demodulates.{line_of}
 use Rattle.roles.specs.declared.role.Role.{Role}
 use Rattle.roles.specs.Role.{mode_of}
-use Rattle.lapm_frames.specs.declared.frame.Frame.{Frame}
 use Rattle.lapm_frames.specs.declared.seen.Seen.{Seen}
 use Rattle.detection.specs.Sights.{Sight, SightsAdded}
 use Rattle.noise_script.specs.Script.{ScriptValue}
@@ -25,7 +24,7 @@ use Rattle.sample_line.specs.Recorded.{Records}
 use Rattle.sample_line.specs.Received.{Gives, FoundBetween, Receives}
 use Rattle.sample_line.specs.Laws.{RecordingsGrow, GivenStays}
 use Rattle.line_laws.proofs.Recordings.{tap-some}
-use Rattle.line_ends.proofs.Deciding.{Decided, some-frames}
+use Rattle.line_ends.proofs.Deciding.{Decided, some-pass}
 
 -- labels carry bits
 some-read : (tap : ℕ) → 1 ≤ tap → (done output more : List Bool) → Descrambles tap done output → (bits : List Bool)
@@ -115,15 +114,15 @@ pub record ReceiveLaws : Type 0 where
   pub sights : (bits more : List Bool) → (added : List Sight) × SightsAdded bits more added
 
 -- what is received in a slot
-pub record IsReceived (check : Check) (sender : Role) (dlci : ℕ) (before upto : List Sample) : Type 0 where
-  pub frames : List Frame
+pub record IsReceived (check : Check) (sender : Role) (before upto : List Sample) : Type 0 where
+  pub octets : List (List ℕ)
   pub patterns : List Seen
-  pub received : Receives check sender dlci before upto frames patterns
+  pub received : Receives check sender before upto octets patterns
 
 pub some-received : ReceiveLaws
-    → (script : ScriptValue) (check : Check) (sender : Role) (dlci : ℕ) (bits more : List Bool) (before upto : List Sample)
-    → Records script sender bits before → Records script sender (bits ++ more) upto → IsReceived check sender dlci before upto
-some-received laws script check sender dlci bits more before upto old new =
+    → (script : ScriptValue) (check : Check) (sender : Role) (bits more : List Bool) (before upto : List Sample)
+    → Records script sender bits before → Records script sender (bits ++ more) upto → IsReceived check sender before upto
+some-received laws script check sender bits more before upto old new =
     let grown = laws.grow script sender bits more before upto old new in
     let earlier = some-given sender before in
     let later = some-given sender upto in
@@ -131,18 +130,18 @@ some-received laws script check sender dlci bits more before upto old new =
     (subst (λ (xs : List Sample). Gives sender xs later.0) grown.1 later.1) in
     let pieces = pieces-stay earlier.0 stays.0 in
     let sights = laws.sights earlier.0 stays.0 in
-    let frames = some-frames check sender dlci (wholes pieces.0) in
-    let found : FoundBetween check sender dlci earlier.0 (earlier.0 ++ stays.0) frames.0 (map (λ (sight : Sight). sight.seen) sights.0) =
+    let octets = some-pass check (wholes pieces.0) in
+    let found : FoundBetween check earlier.0 (earlier.0 ++ stays.0) octets.0 (map (λ (sight : Sight). sight.seen) sights.0) =
     record {
       pieces = pieces.0;
       pieces_are = pieces.1.all;
-      frames_are = frames.1;
+      octets_are = octets.1;
       sights = sights.0;
       sights_are = sights.1.all;
       patterns_are = refl;
     } in
     record {
-      frames = frames.0;
+      octets = octets.0;
       patterns = map (λ (sight : Sight). sight.seen) sights.0;
       received = record {
         earlier = earlier.0;
@@ -150,6 +149,6 @@ some-received laws script check sender dlci bits more before upto old new =
         gave = earlier.1;
         gives = later.1;
         found = subst (λ (xs : List Bool).
-            FoundBetween check sender dlci earlier.0 xs frames.0 (map (λ (sight : Sight). sight.seen) sights.0)) (sym stays.1) found;
+            FoundBetween check earlier.0 xs octets.0 (map (λ (sight : Sight). sight.seen) sights.0)) (sym stays.1) found;
       };
     }

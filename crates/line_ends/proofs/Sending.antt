@@ -28,8 +28,8 @@ use Rattle.link_run.specs.Run.{Link, Ends, Spoken, Turn, start, arrival, served_
 use Rattle.link_run.specs.Carried.{sent_ago, Crosses, Carries}
 use Rattle.link_run.specs.Laws.{RunsOver, SendsShort}
 use Rattle.link_run.specs.Reading.{StaysOffered, BeginsUnoffered, HearingStaysOffered, SpeakingStaysOffered}
-use Rattle.line_run.specs.Sampled.{LineRun}
-use Rattle.line_run.specs.Scripted.{channel_of, link_of, break_line, breaks_of, ScriptsMayPlay, ScriptsHaveDelays}
+use Rattle.line_run.specs.Sampled.{Channel, LineRun}
+use Rattle.line_run.specs.Scripted.{link_of, break_line, breaks_of, ScriptsMayPlay, ScriptsHaveDelays}
 use Rattle.line_run.specs.LineLaws.{SamplesAreCarried, OneIsCarried}
 use Rattle.line_ends.specs.Completes.{AreOfOctets, AllSendable, OctetsAreSendable}
 use Rattle.line_ends.proofs.Slots.{sent-ago}
@@ -129,20 +129,20 @@ pub record HoldBoth (files : Role → List ℕ) (ts : List Turn) (ends : Ends) :
   pub holds : (role : Role) → Holds (files role) (of role ends)
 
 -- one turn more
-next-turn : SendLaws → (script : ScriptValue) (files : Both (List ℕ)) (ts : List Turn) (before : Ends) (t : Turn) (after : Ends)
-    → IsInLimits script → AreOfOctets script files
-    → LineRun (channel_of script) (link_of script files) ts before → Carries (delay_of script) ts t
-    → GoingTurn (link_of script files) ts before t after
-    → HoldBoth (λ role. (of role (link_of script files)).user.file) ts before
-    → HoldBoth (λ role. (of role (link_of script files)).user.file) (t ∷ ts) after
-next-turn laws script files ts before t after h o r c g k =
+next-turn : SendLaws → (c : Channel) (files : Both (List ℕ)) (ts : List Turn) (before : Ends) (t : Turn) (after : Ends)
+    → IsInLimits c.script → AreOfOctets c.script files
+    → LineRun c (link_of c.script files) ts before → Carries (delay_of c.script) ts t
+    → GoingTurn (link_of c.script files) ts before t after
+    → HoldBoth (λ role. (of role (link_of c.script files)).user.file) ts before
+    → HoldBoth (λ role. (of role (link_of c.script files)).user.file) (t ∷ ts) after
+next-turn laws c files ts before t after h o r carries g k =
     record {
       sendable = ((λ role slot e. sends role slot e), k.sendable);
       holds = λ role. subst (Holds (file role)) (sym (g.speaking role).after_is) (after-holds role);
     }
   where
     link : Link
-    link = link_of script files
+    link = link_of c.script files
 
     turn : ℕ
     turn = length ts
@@ -151,12 +151,12 @@ next-turn laws script files ts before t after h o r c g k =
     file role = (of role link).user.file
 
     octets : (role : Role) → HasOctets (of role link).user
-    octets role = user-octets script files o role
+    octets role = user-octets c.script files o role
 
     arrived : (role : Role) → ArrivesInOctets (arrival (of role t).heard)
     arrived role =
-        crosses-octets (sent_ago (delay_of script (other role)) (other role) ts) (of role t).heard (c role)
-        (λ slot e. (sent-ago (other role) (delay_of script (other role)) ts slot (laws.delays script h (other role)) e).sendable k.sendable)
+        crosses-octets (sent_ago (delay_of c.script (other role)) (other role) ts) (of role t).heard (carries role)
+        (λ slot e. (sent-ago (other role) (delay_of c.script (other role)) ts slot (laws.delays c.script h (other role)) e).sendable k.sendable)
 
     mid-holds : (role : Role) → Holds (file role) (of role g.mid)
     mid-holds role =
@@ -181,19 +181,19 @@ next-turn laws script files ts before t after h o r c g k =
     good role = says-good link turn g.mid role (g.speaking role).said (g.speaking role).says (file role) (octets role).file
         (served-holds role)
 
-    over : RunsOver link (delay_of script) ts before
+    over : RunsOver link (delay_of c.script) ts before
     over = record {
-      may_play = laws.play script files h;
-      delays = laws.delays script h;
-      carried = laws.carried (channel_of script) ts r.heard;
+      may_play = laws.play c.script files h;
+      delays = laws.delays c.script h;
+      carried = laws.carried c ts r.heard;
       run = r.run;
     }
 
     few : (role : Role) (slot : Spoken) (frame : Frame) → (of role t).sent ≡ Some slot → slot.sent ≡ slots.Frame frame
         → length (information_of frame) ≤ INFO
     few role slot frame e f =
-        let allowed = offers-allowed laws.play script files h role in
-        omega (arith, laws.short link (delay_of script) ts before t after over c g role slot frame e f, allowed.tx_len_high)
+        let allowed = offers-allowed laws.play c.script files h role in
+        omega (arith, laws.short link (delay_of c.script) ts before t after over carries g role slot frame e f, allowed.tx_len_high)
 
     sent-of : Spoken → Option Spoken → Sent
     sent-of slot None = slot.sent
@@ -204,32 +204,32 @@ next-turn laws script files ts before t after h o r c g k =
         let same : (g.speaking role).said.sent ≡ slot.sent = ap (sent-of slot) (sym (g.speaking role).sent_is ∙ e) in
         plain-sendable slot.sent (subst IsPlainSent same (good role).sent) (λ frame f. few role slot frame e f)
 
-holds-all : SendLaws → (script : ScriptValue) (files : Both (List ℕ)) (ts : List Turn) (ends : Ends) → IsInLimits script
-    → AreOfOctets script files
-    → LineRun (channel_of script) (link_of script files) ts ends → HoldBoth (λ role. (of role (link_of script files)).user.file) ts ends
-holds-all laws script files [] ends h o r =
+holds-all : SendLaws → (c : Channel) (files : Both (List ℕ)) (ts : List Turn) (ends : Ends) → IsInLimits c.script
+    → AreOfOctets c.script files
+    → LineRun c (link_of c.script files) ts ends → HoldBoth (λ role. (of role (link_of c.script files)).user.file) ts ends
+holds-all laws c files [] ends h o r =
     record {
       sendable = tt;
-      holds = λ role. subst (λ (e : Ends). Holds (of role (link_of script files)).user.file (of role e)) (sym r.run) (begins role);
+      holds = λ role. subst (λ (e : Ends). Holds (of role (link_of c.script files)).user.file (of role e)) (sym r.run) (begins role);
     }
   where
-    begins : (role : Role) → Holds (of role (link_of script files)).user.file (of role (start (link_of script files)))
+    begins : (role : Role) → Holds (of role (link_of c.script files)).user.file (of role (start (link_of c.script files)))
     begins Originator = record {
-      offered = laws.begins (link_of script files).orig.user.file (link_of script files).orig.setup
-          (offers-allowed laws.play script files h Originator);
+      offered = laws.begins (link_of c.script files).orig.user.file (link_of c.script files).orig.setup
+          (offers-allowed laws.play c.script files h Originator);
       own = All-nil (λ octet. octet < 256);
       owes = tt;
     }
     begins Answerer = record {
-      offered = laws.begins (link_of script files).answ.user.file (link_of script files).answ.setup
-          (offers-allowed laws.play script files h Answerer);
+      offered = laws.begins (link_of c.script files).answ.user.file (link_of c.script files).answ.setup
+          (offers-allowed laws.play c.script files h Answerer);
       own = All-nil (λ octet. octet < 256);
       owes = tt;
     }
-holds-all laws script files (t ∷ ts) ends h o r =
-    let before : LineRun (channel_of script) (link_of script files) ts r.run.0 = record { run = r.run.1; heard = r.heard.1 } in
-    next-turn laws script files ts r.run.0 t ends h o before (laws.one (channel_of script) ts t r.heard.0) r.run.2
-    (holds-all laws script files ts r.run.0 h o before)
+holds-all laws c files (t ∷ ts) ends h o r =
+    let before : LineRun c (link_of c.script files) ts r.run.0 = record { run = r.run.1; heard = r.heard.1 } in
+    next-turn laws c files ts r.run.0 t ends h o before (laws.one c ts t r.heard.0) r.run.2
+    (holds-all laws c files ts r.run.0 h o before)
 
 pub octets-are-sendable : SendLaws → OctetsAreSendable
-octets-are-sendable laws script files ts ends h o r = (holds-all laws script files ts ends h o r).sendable
+octets-are-sendable laws c files ts ends h o r = (holds-all laws c files ts ends h o r).sendable

@@ -80,7 +80,7 @@ line-ends-not law script files (NotDetected turn) left h d r s x = x
 
 pub completes-with-few-named : CompletesWithFewLosses → FaintGoOn → LosesWhatIsNamed → OctetsAreSendable → CompletesWithFewNamed
 completes-with-few-named few goes named octets script files end left h d o l r =
-    let s : AllSendable r.turns = octets script files r.turns r.ends h o r.run in
+    let s : AllSendable r.turns = octets (channel_of script) files r.turns r.ends h o r.run in
     let n = named script files end left h d r s in
     few script files end left h r (omega (arith, l, n)) (line-ends-not goes script files end left h d r s)
 

@@ -10,7 +10,7 @@ use Rattle.noise_script.specs.Script.{ScriptValue, IsInLimits}
 use Rattle.line_laws.specs.Faint.{IsFaintBefore}
 use Rattle.link_run.specs.Run.{Ends, Spoken, Turn}
 use Rattle.link_run.specs.Counts.{lost_slots}
-use Rattle.line_run.specs.Sampled.{LineRun, LineEnd, EndsLine}
+use Rattle.line_run.specs.Sampled.{Channel, LineRun, LineEnd, EndsLine}
 use Rattle.line_run.specs.Scripted.{channel_of, link_of}
 use Rattle.line_run.specs.Ends.{RunEnd, IsDone, LinkLost, NotDetected, LineLost, ChanceMatch, Left, RunsTo, turns_heard, StarvedBy}
 
@@ -77,8 +77,8 @@ AllSendable (t ∷ ts) = ((role : Role) (slot : Spoken) → (of role t).sent ≡
 
 -- Ends that are handed octets send what can be sent.
 abbrev pub OctetsAreSendable : Type 0
-OctetsAreSendable = (script : ScriptValue) (files : Both (List ℕ)) (ts : List Turn) (ends : Ends) → IsInLimits script
-    → AreOfOctets script files → LineRun (channel_of script) (link_of script files) ts ends → AllSendable ts
+OctetsAreSendable = (c : Channel) (files : Both (List ℕ)) (ts : List Turn) (ends : Ends) → IsInLimits c.script
+    → AreOfOctets c.script files → LineRun c (link_of c.script files) ts ends → AllSendable ts
 
 -- The line doesn't end a run whose noise is faint.
 abbrev pub FaintGoOn : Type 0

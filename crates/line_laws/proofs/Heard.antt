@@ -26,9 +26,9 @@ never-lost-where Holds lag follows sender script count before bits symbol h few 
 
 pub received-where : (Holds : ScriptValue → Role → ℕ → Type 0) (most lag : ℕ) → IsFollowed Holds most lag → AreSeen
     → ReceivedIsSentWhere Holds most
-received-where Holds most lag f laws script check hearing sender dlci symbols passed s before upto frames patterns h long fit is agree old
+received-where Holds most lag f laws script check hearing sender dlci symbols passed s before upto octets patterns h long fit is agree old
     new r =
-    received-sent laws lag script check hearing sender dlci symbols passed s before upto frames patterns
+    received-sent laws lag script check hearing sender dlci symbols passed s before upto octets patterns
     (f.follows script sender (symbols * (length passed + 1)) h) (f.time symbols long) fit is agree old new r
 
 pub sent-where : (Holds : ScriptValue → Role → ℕ → Type 0) (most lag : ℕ) → IsFollowed Holds most lag → AreSeen

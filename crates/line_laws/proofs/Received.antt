@@ -39,14 +39,14 @@ use Rattle.lapm_frames.specs.declared.heard.Heard.TheVariants.{Chance}
 use Rattle.sample_line.specs.Outcomes.{IsPattern, IsOutcome}
 use Rattle.sample_line.specs.Recorded.{Records}
 use Rattle.roles.specs.Role.{mode_of}
-use Rattle.sample_line.specs.Received.{AreFrames, FoundBetween, Gives, Receives}
+use Rattle.sample_line.specs.Received.{PassTheCheck, FoundBetween, Gives, Receives}
 use Rattle.sample_line.specs.Signals.{signal_of}
 use Rattle.lapm_frames.specs.Sendable.{IsSendable}
 use Rattle.sample_line.specs.Line.{bits_behind, Kept, Passes, PassesSlot, sender_of, size_of}
 use Rattle.sample_line.proofs.Finding.{wholes-append}
 use Rattle.sample_line.proofs.Once.{given-stays, outcome-once, received-once, recordings-grow}
 use Rattle.line_laws.specs.Fitting.{AreFit}
-use Rattle.line_laws.specs.Unhindered.{ChecksAgree, frames_in, patterns_in, unhindered}
+use Rattle.line_laws.specs.Unhindered.{ChecksAgree, octets_in, patterns_in, unhindered}
 use Rattle.line_laws.proofs.Patterns.{AreSeen}
 use Rattle.line_laws.proofs.Fitting.{fit-front, length-fit}
 use Rattle.line_laws.proofs.Recordings.{tap-some}
@@ -91,34 +91,30 @@ same-checked check hearing sender dlci frame agree = ap (λ (kind : Check). with
 
 -- what a slot adds
 
-slot-frames : (size start phase : ℕ) (behind : Bool) (check hearing : Check) (sender : Role) (dlci : ℕ) (s : Sent) (added : List Found)
+slot-octets : (size start phase : ℕ) (behind : Bool) (check hearing : Check) (sender : Role) (dlci : ℕ) (s : Sent) (added : List Found)
     → IsSendable s → ChecksAgree check hearing s
     → FoundIn size start phase behind (slot_of size (signal_of check sender dlci s)) added
-    → AreFrames hearing sender dlci (wholes added) (frames_in s)
-slot-frames size start phase true check hearing sender dlci sent.Mark added is agree h =
-    subst (λ (xs : List Found). AreFrames hearing sender dlci (wholes xs) []) (sym h.3) refl
-slot-frames size start phase false check hearing sender dlci sent.Mark added is agree h =
-    subst (λ (xs : List Found). AreFrames hearing sender dlci (wholes xs) []) (sym h) refl
-slot-frames size start phase true check hearing sender dlci sent.Odp added is agree h =
-    subst (λ (xs : List Found). AreFrames hearing sender dlci (wholes xs) []) (sym h.3) refl
-slot-frames size start phase false check hearing sender dlci sent.Odp added is agree h =
-    subst (λ (xs : List Found). AreFrames hearing sender dlci (wholes xs) []) (sym h) refl
-slot-frames size start phase true check hearing sender dlci sent.Adp added is agree h =
-    subst (λ (xs : List Found). AreFrames hearing sender dlci (wholes xs) []) (sym h.3) refl
-slot-frames size start phase false check hearing sender dlci sent.Adp added is agree h =
-    subst (λ (xs : List Found). AreFrames hearing sender dlci (wholes xs) []) (sym h) refl
-slot-frames size start phase behind check hearing sender dlci sent.Flags added is agree h =
-    subst (λ (xs : List Found). AreFrames hearing sender dlci (wholes xs) []) (sym h) refl
-slot-frames size start phase behind check hearing sender dlci (sent.Frame frame) added is agree h =
-    subst (λ (xs : List Found). AreFrames hearing sender dlci (wholes xs) (frame ∷ [])) (sym h)
-    (inr (
-      frame,
-      [],
-      subst (λ (whole : List ℕ). SpellsFrame hearing sender dlci whole frame)
-          (same-checked check hearing sender dlci frame agree) (spells hearing sender dlci frame is.0),
-      refl,
-      refl,
-    ))
+    → PassTheCheck hearing (wholes added) (octets_in sender dlci s)
+slot-octets size start phase true check hearing sender dlci sent.Mark added is agree h =
+    subst (λ (xs : List Found). PassTheCheck hearing (wholes xs) []) (sym h.3) refl
+slot-octets size start phase false check hearing sender dlci sent.Mark added is agree h =
+    subst (λ (xs : List Found). PassTheCheck hearing (wholes xs) []) (sym h) refl
+slot-octets size start phase true check hearing sender dlci sent.Odp added is agree h =
+    subst (λ (xs : List Found). PassTheCheck hearing (wholes xs) []) (sym h.3) refl
+slot-octets size start phase false check hearing sender dlci sent.Odp added is agree h =
+    subst (λ (xs : List Found). PassTheCheck hearing (wholes xs) []) (sym h) refl
+slot-octets size start phase true check hearing sender dlci sent.Adp added is agree h =
+    subst (λ (xs : List Found). PassTheCheck hearing (wholes xs) []) (sym h.3) refl
+slot-octets size start phase false check hearing sender dlci sent.Adp added is agree h =
+    subst (λ (xs : List Found). PassTheCheck hearing (wholes xs) []) (sym h) refl
+slot-octets size start phase behind check hearing sender dlci sent.Flags added is agree h =
+    subst (λ (xs : List Found). PassTheCheck hearing (wholes xs) []) (sym h) refl
+slot-octets size start phase behind check hearing sender dlci (sent.Frame frame) added is agree h =
+    let s : SpellsFrame hearing sender dlci (checked check sender dlci frame) frame
+    = subst (λ (whole : List ℕ). SpellsFrame hearing sender dlci whole frame) (same-checked check hearing sender dlci frame agree)
+    (spells hearing sender dlci frame is.0) in
+    subst (λ (xs : List Found). PassTheCheck hearing (wholes xs) (spelled frame sender dlci ∷ [])) (sym h)
+    (inr (s.octets, [], s.passes, ap (λ (front : List ℕ). front ∷ []) (sym s.spelling.1), refl))
 
 slot-patterns : (check : Check) (sender : Role) (dlci start : ℕ) (s : Sent)
     → map (λ (sight : Sight). sight.seen) (seen_in start (signal_of check sender dlci s)) ≡ patterns_in s
@@ -149,7 +145,7 @@ found-sent : (laws : AreSeen) (lag : ℕ) (check hearing : Check) (sender : Role
     (earlier later : List Bool)
     → LeavesTime lag size → AreFit size 0 (passed ++ signal_of check sender dlci s ∷ []) → IsSendable s → ChecksAgree check hearing s
     → Lags lag (signal_bits size passed) earlier → Lags lag (signal_bits size (passed ++ signal_of check sender dlci s ∷ [])) later
-    → Grows earlier later → FoundBetween hearing sender dlci earlier later (frames_in s) (patterns_in s)
+    → Grows earlier later → FoundBetween hearing earlier later (octets_in sender dlci s) (patterns_in s)
 found-sent laws lag check hearing sender dlci size passed s earlier later time fit is agree old new f =
     let signal : Signal = signal_of check sender dlci s in
     let a = slot-adds laws size passed signal time.long fit in
@@ -164,7 +160,7 @@ found-sent laws lag check hearing sender dlci size passed s earlier later time f
     = upto.pieces ∙ ap (λ xs. xs ++ upto.added) f.pieces_are ∙ append_assoc (pieces_of earlier) f.pieces upto.added in
     let pieces : f.pieces ++ upto.added ≡ before.added ++ a.added =
     same-behind (pieces_of earlier) (f.pieces ++ upto.added) (before.added ++ a.added) (sym other_way ∙ one_way) in
-    let octets : wholes f.pieces ≡ wholes a.added
+    let whole : wholes f.pieces ≡ wholes a.added
     = sym (append-nil (wholes f.pieces)) ∙ ap (λ xs. wholes f.pieces ++ xs) (sym upto.none) ∙ sym (wholes-append f.pieces upto.added)
     ∙ ap wholes pieces
     ∙ wholes-append before.added a.added ∙ ap (λ xs. xs ++ wholes a.added) before.none in
@@ -174,8 +170,8 @@ found-sent laws lag check hearing sender dlci size passed s earlier later time f
     record {
       pieces = f.pieces;
       pieces_are = f.pieces_are;
-      frames_are = subst (λ (xs : List (List ℕ)). AreFrames hearing sender dlci xs (frames_in s)) (sym octets)
-          (slot-frames size start _ _ check hearing sender dlci s a.added is agree a.found);
+      octets_are = subst (λ (xs : List (List ℕ)). PassTheCheck hearing xs (octets_in sender dlci s)) (sym whole)
+          (slot-octets size start _ _ check hearing sender dlci s a.added is agree a.found);
       sights = f.sights;
       sights_are = f.sights_are;
       patterns_are = sym (slot-patterns check sender dlci start s) ∙ ap (map (λ (sight : Sight). sight.seen)) (sym sights);
@@ -205,16 +201,16 @@ long-of lag symbols time = omega (arith, time.long)
 
 pub received-sent : (laws : AreSeen) (lag : ℕ) (script : ScriptValue) (check hearing : Check) (sender : Role) (dlci symbols : ℕ)
     (passed : List Signal) (s : Sent)
-    (before upto : List Sample) (frames : List Frame) (patterns : List Seen)
+    (before upto : List Sample) (octets : List (List ℕ)) (patterns : List Seen)
     → Follows lag script sender (symbols * (length passed + 1)) → LeavesTime lag (4 * symbols)
     → AreFit (4 * symbols) 0 (passed ++ signal_of check sender dlci s ∷ []) → IsSendable s → ChecksAgree check hearing s
     → Records script sender (signal_bits (4 * symbols) passed) before
     → Records script sender (signal_bits (4 * symbols) (passed ++ signal_of check sender dlci s ∷ [])) upto
-    → Receives hearing sender dlci before upto frames patterns
-    → (frames ≡ frames_in s) × (patterns ≡ patterns_in s)
-received-sent laws lag script check hearing sender dlci symbols passed s before upto frames patterns follows time fit is agree old new r =
+    → Receives hearing sender before upto octets patterns
+    → (octets ≡ octets_in sender dlci s) × (patterns ≡ patterns_in s)
+received-sent laws lag script check hearing sender dlci symbols passed s before upto octets patterns follows time fit is agree old new r =
     let b = bounds laws symbols passed (signal_of check sender dlci s) (long-of lag symbols time) fit in
-    received-once hearing sender dlci before upto frames (frames_in s) patterns (patterns_in s) r (record {
+    received-once hearing sender before upto octets (octets_in sender dlci s) patterns (patterns_in s) r (record {
       earlier = r.earlier;
       later = r.later;
       gave = r.gave;
@@ -260,7 +256,7 @@ given-received : (laws : AreSeen) (lag : ℕ) (script : ScriptValue) (check hear
     → Records script sender (signal_bits size passed) before
     → Records script sender (signal_bits size (passed ++ signal_of check sender dlci s ∷ [])) upto
     → Gives sender before earlier → Gives sender upto later
-    → Receives hearing sender dlci before upto (frames_in s) (patterns_in s)
+    → Receives hearing sender before upto (octets_in sender dlci s) (patterns_in s)
 given-received laws lag script check hearing sender dlci size passed s before upto earlier later count follows few_before few_upto time fit
     is agree old new gave gives =
     let signal : Signal = signal_of check sender dlci s in
@@ -288,7 +284,7 @@ pub sent-received : (laws : AreSeen) (lag : ℕ) (script : ScriptValue) (check h
     → AreFit (4 * symbols) 0 (passed ++ signal_of check sender dlci s ∷ []) → IsSendable s → ChecksAgree check hearing s
     → Records script sender (signal_bits (4 * symbols) passed) before
     → Records script sender (signal_bits (4 * symbols) (passed ++ signal_of check sender dlci s ∷ [])) upto
-    → Receives hearing sender dlci before upto (frames_in s) (patterns_in s)
+    → Receives hearing sender before upto (octets_in sender dlci s) (patterns_in s)
 sent-received laws lag script check hearing sender dlci symbols passed s before upto follows time fit is agree old new =
     let count : ℕ = symbols * (length passed + 1) in
     let b = bounds laws symbols passed (signal_of check sender dlci s) (long-of lag symbols time) fit in
@@ -303,17 +299,18 @@ sent-received laws lag script check hearing sender dlci symbols passed s before 
 all-nine : (pattern : Seen) → IsPattern pattern [] (replicate 9 pattern)
 all-nine pattern = (refl, (λ e. absurd cc), All-replicate (λ other. other ≡ pattern) 9 pattern refl)
 
-as-expected : (loses : Bool) (s : Sent) → IsOutcome loses s (frames_in s) (patterns_in s) (unhindered loses s)
-as-expected true sent.Mark = refl
-as-expected false sent.Mark = (refl, (refl, refl))
-as-expected true sent.Flags = refl
-as-expected false sent.Flags = (refl, (refl, refl))
-as-expected true sent.Odp = (refl, refl)
-as-expected false sent.Odp = (refl, all-nine seen.Odp)
-as-expected true sent.Adp = (refl, refl)
-as-expected false sent.Adp = (refl, all-nine seen.Adp)
-as-expected true (sent.Frame frame) = (refl, refl)
-as-expected false (sent.Frame frame) = (refl, (refl, refl))
+pub as-expected : (loses : Bool) (sender : Role) (dlci : ℕ) (s : Sent) → IsSendable s
+    → IsOutcome loses sender dlci s (octets_in sender dlci s) (patterns_in s) (unhindered loses s)
+as-expected true sender dlci sent.Mark is = refl
+as-expected false sender dlci sent.Mark is = (refl, (refl, refl))
+as-expected true sender dlci sent.Flags is = refl
+as-expected false sender dlci sent.Flags is = (refl, (refl, refl))
+as-expected true sender dlci sent.Odp is = (refl, refl)
+as-expected false sender dlci sent.Odp is = (refl, all-nine seen.Odp)
+as-expected true sender dlci sent.Adp is = (refl, refl)
+as-expected false sender dlci sent.Adp is = (refl, all-nine seen.Adp)
+as-expected true sender dlci (sent.Frame frame) is = (refl, refl)
+as-expected false sender dlci (sent.Frame frame) is = (refl, (spelled frame sender dlci, (is.0, refl), refl, refl))
 
 pub heard-sent : (laws : AreSeen) (lag : ℕ) (line : Kept) (script : ScriptValue) (passed waiting : List Signal) (signal : Signal)
     (check hearing : Check) (dlci : ℕ) (loses : Bool) (s : Sent) (heard : Heard)
@@ -327,11 +324,11 @@ heard-sent laws lag line script passed waiting signal check hearing dlci loses s
     subst (λ (x : Signal). AreFit (size_of line) 0 (passed ++ x ∷ [])) e fit in
     let recorded : Records script sender (signal_bits (size_of line) (passed ++ signal_of check sender dlci s ∷ [])) p.upto
     = subst (λ (x : Signal). Records script sender (signal_bits (size_of line) (passed ++ x ∷ [])) p.upto) e p.recorded in
-    let same = received-sent laws lag script check hearing sender dlci line.writer.symbols passed s p.before p.upto p.frames p.patterns
+    let same = received-sent laws lag script check hearing sender dlci line.writer.symbols passed s p.before p.upto p.octets p.patterns
     follows time fit_s is agree p.recorded_before recorded p.received in
-    outcome-once loses s (frames_in s) (patterns_in s) heard (unhindered loses s)
-    (subst (λ (xs : List Seen). IsOutcome loses s (frames_in s) xs heard) same.1
-    (subst (λ (xs : List Frame). IsOutcome loses s xs p.patterns heard) same.0 p.outcome)) (as-expected loses s)
+    outcome-once loses sender dlci s (octets_in sender dlci s) (patterns_in s) heard (unhindered loses s)
+    (subst (λ (xs : List Seen). IsOutcome loses sender dlci s (octets_in sender dlci s) xs heard) same.1
+    (subst (λ (xs : List (List ℕ)). IsOutcome loses sender dlci s xs p.patterns heard) same.0 p.outcome)) (as-expected loses sender dlci s is)
 
 pub never-chance : (loses : Bool) (s : Sent) → unhindered loses s ≡ Chance → ⊥
 never-chance loses sent.Mark e = absurd cc

@@ -28,7 +28,7 @@ use Rattle.sample_line.specs.Received.{Receives}
 use Rattle.sample_line.specs.Path.{LosesAt, LosesWithin}
 use Rattle.sample_line.specs.Line.{Kept, Passes, PassesSlot, sender_of, size_of}
 use Rattle.line_laws.specs.Fitting.{Fits, AreFit, OfOctets}
-use Rattle.line_laws.specs.Unhindered.{ChecksAgree, DisplacesNoneBefore, frames_in, patterns_in, unhindered}
+use Rattle.line_laws.specs.Unhindered.{ChecksAgree, DisplacesNoneBefore, octets_in, patterns_in, unhindered}
 use Rattle.line_laws.specs.Faint.{IsFaintBefore}
 
 -- a script displaces no symbol before the first that its hit lines and noise lines for the role name
@@ -120,13 +120,13 @@ NeverLostWhere Holds = (sender : Role) (script : ScriptValue) (count : ℕ) (bef
 abbrev pub ReceivedIsSentWhere : (ScriptValue → Role → ℕ → Type 0) → ℕ → Type 0
 ReceivedIsSentWhere Holds most =
     (script : ScriptValue) (check hearing : Check) (sender : Role) (dlci symbols : ℕ) (passed : List Signal) (s : Sent)
-    (before upto : List Sample) (frames : List Frame) (patterns : List Seen)
+    (before upto : List Sample) (octets : List (List ℕ)) (patterns : List Seen)
     → Holds script sender (symbols * (length passed + 1)) → most < symbols
     → AreFit (4 * symbols) 0 (passed ++ signal_of check sender dlci s ∷ []) → IsSendable s → ChecksAgree check hearing s
     → Records script sender (signal_bits (4 * symbols) passed) before
     → Records script sender (signal_bits (4 * symbols) (passed ++ signal_of check sender dlci s ∷ [])) upto
-    → Receives hearing sender dlci before upto frames patterns
-    → (frames ≡ frames_in s) × (patterns ≡ patterns_in s)
+    → Receives hearing sender before upto octets patterns
+    → (octets ≡ octets_in sender dlci s) × (patterns ≡ patterns_in s)
 
 abbrev pub SentIsReceivedWhere : (ScriptValue → Role → ℕ → Type 0) → ℕ → Type 0
 SentIsReceivedWhere Holds most =
@@ -136,7 +136,7 @@ SentIsReceivedWhere Holds most =
     → AreFit (4 * symbols) 0 (passed ++ signal_of check sender dlci s ∷ []) → IsSendable s → ChecksAgree check hearing s
     → Records script sender (signal_bits (4 * symbols) passed) before
     → Records script sender (signal_bits (4 * symbols) (passed ++ signal_of check sender dlci s ∷ [])) upto
-    → Receives hearing sender dlci before upto (frames_in s) (patterns_in s)
+    → Receives hearing sender before upto (octets_in sender dlci s) (patterns_in s)
 
 -- so it is what is heard
 abbrev pub HeardIsSentWhere : (ScriptValue → Role → ℕ → Type 0) → ℕ → Type 0

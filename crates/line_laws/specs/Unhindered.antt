@@ -5,7 +5,7 @@ use Rattle.lapm_frames.specs.declared.seen.Seen.TheVariants as seen
 use Rattle.frame_check.specs.declared.check.Check.{Check}
 use Rattle.roles.specs.declared.role.Role.{Role}
 use Rattle.lapm_frames.specs.Checked.{check_for}
-use Rattle.lapm_frames.specs.declared.frame.Frame.{Frame}
+use Rattle.lapm_frames.specs.Frame.{spelled}
 use Rattle.lapm_frames.specs.declared.sent.Sent.{Sent}
 use Rattle.lapm_frames.specs.declared.sent.Sent.TheVariants as sent
 use Rattle.noise_script.specs.Offsets.{nothing}
@@ -18,13 +18,13 @@ use Rattle.sample_line.specs.Outcomes.{is_message}
 abbrev pub DisplacesNoneBefore : ScriptValue → Role → ℕ → Type 0
 DisplacesNoneBefore script sender count = (symbol : ℕ) → symbol < count → offset_of script sender symbol ≡ nothing
 
--- the frames that are to be received
-abbrev pub frames_in : Sent → List Frame
-frames_in sent.Mark = []
-frames_in sent.Odp = []
-frames_in sent.Adp = []
-frames_in sent.Flags = []
-frames_in (sent.Frame frame) = frame ∷ []
+-- the octets that are to be received: those of a frame, once
+abbrev pub octets_in : Role → ℕ → Sent → List (List ℕ)
+octets_in sender dlci sent.Mark = []
+octets_in sender dlci sent.Odp = []
+octets_in sender dlci sent.Adp = []
+octets_in sender dlci sent.Flags = []
+octets_in sender dlci (sent.Frame frame) = spelled frame sender dlci ∷ []
 
 -- and the patterns: a pattern slot has ten, and each is seen with the one before it
 abbrev pub patterns_in : Sent → List Seen

@@ -11,7 +11,6 @@ use Rattle.roles.specs.declared.role.Role.{Role}
 use Rattle.roles.specs.declared.role.Role.TheVariants.{Originator, Answerer}
 use Rattle.roles.specs.Role.{other}
 use Rattle.roles.specs.Both.{of}
-use Rattle.lapm_frames.specs.declared.frame.Frame.{Frame}
 use Rattle.lapm_frames.specs.declared.seen.Seen.{Seen}
 use Rattle.lapm_frames.specs.declared.sent.Sent.{Sent}
 use Rattle.lapm_frames.specs.declared.sent.Sent.TheVariants as sent
@@ -25,9 +24,9 @@ use Rattle.link_account.specs.Account.{check_of}
 use Rattle.link_run.specs.Run.{Link, Ends, Spoken, Turn, Hears, RunOf}
 use Rattle.link_run.specs.Carried.{sent_ago, has_message, Crosses}
 use Rattle.link_run.specs.Laws.{heard_in, OneRun}
-use Rattle.line_run.specs.Sampled.{Channel, bits_of, ArrivesAs, IsHeardOf, HeardIn, IsHeardOver, LineLost, ChanceMatch, LosesLine}
+use Rattle.line_run.specs.Sampled.{Channel, bits_of, bits_before, ArrivesAs, IsHeardOf, HeardIn, IsHeardOver, LineLost, ChanceMatch, LosesLine}
 use Rattle.line_run.specs.Sampled.{IsHeardWell}
-use Rattle.line_run.specs.LineLaws.{SamplesAreCarried, OneIsCarried, HeardOnce, OneLineRun, OneLineEnd, EndsOrGoesOn}
+use Rattle.line_run.specs.LineLaws.{SamplesAreCarried, OneIsCarried, HeardOnce, OneLineRun, OneLineEnd, OneLineEndBy, EndsOrIsHeard, EndsOrGoesOn}
 
 -- a message is what arrives as something
 same-message : (s : Sent) → has_message s ≡ is_message s
@@ -37,28 +36,31 @@ same-message sent.Odp = refl
 same-message sent.Adp = refl
 same-message (sent.Frame frame) = refl
 
-what-was-sent : (s : Sent) (frames : List Frame) (patterns : List Seen) → IsWhatWasSent s frames patterns → is_message s ≡ true
-what-was-sent sent.Mark frames patterns h = absurd h
-what-was-sent sent.Flags frames patterns h = absurd h
-what-was-sent sent.Odp frames patterns h = refl
-what-was-sent sent.Adp frames patterns h = refl
-what-was-sent (sent.Frame frame) frames patterns h = refl
+what-was-sent : (sender : Role) (dlci : ℕ) (s : Sent) (octets : List (List ℕ)) (patterns : List Seen)
+    → IsWhatWasSent sender dlci s octets patterns → is_message s ≡ true
+what-was-sent sender dlci sent.Mark octets patterns h = absurd h
+what-was-sent sender dlci sent.Flags octets patterns h = absurd h
+what-was-sent sender dlci sent.Odp octets patterns h = refl
+what-was-sent sender dlci sent.Adp octets patterns h = refl
+what-was-sent sender dlci (sent.Frame frame) octets patterns h = refl
 
-outcome-crosses : (loses : Bool) (slot : Spoken) (frames : List Frame) (patterns : List Seen) (heard : Heard) → heard ≢ Chance
-    → IsOutcome loses slot.sent frames patterns heard → Crosses (Some slot) heard
-outcome-crosses true slot frames patterns Nothing well h = same-message slot.sent ∙ h
-outcome-crosses true slot frames patterns (Passed t) well h = absurd h
-outcome-crosses true slot frames patterns (Lost t) well h = (h.0, same-message slot.sent ∙ h.1)
-outcome-crosses true slot frames patterns Chance well h = absurd (well refl)
-outcome-crosses false slot frames patterns Nothing well h = same-message slot.sent ∙ h.0
-outcome-crosses false slot frames patterns (Passed t) well h = (h.0, same-message slot.sent ∙ what-was-sent slot.sent frames patterns h.1)
-outcome-crosses false slot frames patterns (Lost t) well h = (h.0, same-message slot.sent ∙ h.1)
-outcome-crosses false slot frames patterns Chance well h = absurd (well refl)
+outcome-crosses : (loses : Bool) (sender : Role) (dlci : ℕ) (slot : Spoken) (octets : List (List ℕ)) (patterns : List Seen) (heard : Heard)
+    → heard ≢ Chance → IsOutcome loses sender dlci slot.sent octets patterns heard → Crosses (Some slot) heard
+outcome-crosses true sender dlci slot octets patterns Nothing well h = same-message slot.sent ∙ h
+outcome-crosses true sender dlci slot octets patterns (Passed t) well h = absurd h
+outcome-crosses true sender dlci slot octets patterns (Lost t) well h = (h.0, same-message slot.sent ∙ h.1)
+outcome-crosses true sender dlci slot octets patterns Chance well h = absurd (well refl)
+outcome-crosses false sender dlci slot octets patterns Nothing well h = same-message slot.sent ∙ h.0
+outcome-crosses false sender dlci slot octets patterns (Passed t) well h =
+    (h.0, same-message slot.sent ∙ what-was-sent sender dlci slot.sent octets patterns h.1)
+outcome-crosses false sender dlci slot octets patterns (Lost t) well h = (h.0, same-message slot.sent ∙ h.1)
+outcome-crosses false sender dlci slot octets patterns Chance well h = absurd (well refl)
 
 arrives-crosses : (c : Channel) (sender : Role) (earlier upto : List Turn) (hearing : Check) (o : Option Spoken) (heard : Heard)
     → heard ≢ Chance → ArrivesAs c sender earlier upto hearing o heard → Crosses o heard
 arrives-crosses c sender earlier upto hearing None heard well h = subst (Crosses None) (sym h) tt
-arrives-crosses c sender earlier upto hearing (Some slot) heard well h = outcome-crosses _ slot h.frames h.patterns heard well h.outcome
+arrives-crosses c sender earlier upto hearing (Some slot) heard well h =
+    outcome-crosses _ sender c.dlci slot h.octets h.patterns heard well h.outcome
 
 pub one_is_carried : OneIsCarried
 one_is_carried c ts t h role =
@@ -80,14 +82,15 @@ arrives-once : (laws : SampleLaws) (c : Channel) (sender : Role) (earlier upto :
     → heard ≡ others
 arrives-once laws c sender earlier upto hearing None heard others h k = h ∙ sym k
 arrives-once laws c sender earlier upto hearing (Some slot) heard others h k =
-    let b = laws.recorded c.script sender (bits_of c sender earlier) k.before h.before k.recorded_before h.recorded_before in
+    let b = laws.recorded c.script sender (bits_before c sender earlier) k.before h.before k.recorded_before h.recorded_before in
     let s = laws.recorded c.script sender (bits_of c sender upto) k.samples h.samples k.recorded h.recorded in
-    let r : Receives hearing sender c.dlci h.before h.samples k.frames k.patterns =
-    subst (λ z. Receives hearing sender c.dlci h.before z k.frames k.patterns) s
-    (subst (λ z. Receives hearing sender c.dlci z k.samples k.frames k.patterns) b k.received) in
-    let f = laws.received hearing sender c.dlci h.before h.samples k.frames h.frames k.patterns h.patterns r h.received in
-    laws.outcome _ slot.sent h.frames h.patterns heard others h.outcome
-    (subst (λ z. IsOutcome _ slot.sent h.frames z others) f.1 (subst (λ z. IsOutcome _ slot.sent z k.patterns others) f.0 k.outcome))
+    let r : Receives hearing sender h.before h.samples k.octets k.patterns =
+    subst (λ z. Receives hearing sender h.before z k.octets k.patterns) s
+    (subst (λ z. Receives hearing sender z k.samples k.octets k.patterns) b k.received) in
+    let f = laws.received hearing sender h.before h.samples k.octets h.octets k.patterns h.patterns r h.received in
+    laws.outcome _ sender c.dlci slot.sent h.octets h.patterns heard others h.outcome
+    (subst (λ z. IsOutcome _ sender c.dlci slot.sent h.octets z others) f.1
+    (subst (λ z. IsOutcome _ sender c.dlci slot.sent z k.patterns others) f.0 k.outcome))
 
 pub heard_once : SampleLaws → HeardOnce
 heard_once laws c sender ts hearing heard others h k =
@@ -155,37 +158,40 @@ well-not-chance : (laws : SampleLaws) (c : Channel) (sender : Role) (ts : List T
     → IsHeardOf c sender ts hearing Chance → ⊥
 well-not-chance laws c sender ts hearing h k = h.well (heard_once laws c sender ts hearing h.heard Chance h.is k)
 
-pub one_line_end : SampleLaws → OneLineEnd
-one_line_end laws c ts ends (LineLost Originator m) (LineLost Originator n) h k =
+pub one_line_end_by : SampleLaws → OneLineEndBy
+one_line_end_by laws c ts checks (LineLost Originator m) (LineLost Originator n) h k =
     ap (LineLost Originator) (lost-once laws c Answerer ts m n h k)
-one_line_end laws c ts ends (LineLost Originator m) (LineLost Answerer n) h k =
-    absurd (lost-not-heard laws c Answerer ts (check_of ends.orig) m k.0.heard h k.0.is)
-one_line_end laws c ts ends (LineLost Originator m) (ChanceMatch Originator) h k =
-    absurd (lost-not-heard laws c Answerer ts (check_of ends.orig) m Chance h k)
-one_line_end laws c ts ends (LineLost Originator m) (ChanceMatch Answerer) h k =
-    absurd (lost-not-heard laws c Answerer ts (check_of ends.orig) m k.0.heard h k.0.is)
-one_line_end laws c ts ends (LineLost Answerer m) (LineLost Originator n) h k =
-    absurd (lost-not-heard laws c Answerer ts (check_of ends.orig) n h.0.heard k h.0.is)
-one_line_end laws c ts ends (LineLost Answerer m) (LineLost Answerer n) h k =
+one_line_end_by laws c ts checks (LineLost Originator m) (LineLost Answerer n) h k =
+    absurd (lost-not-heard laws c Answerer ts (checks Originator) m k.0.heard h k.0.is)
+one_line_end_by laws c ts checks (LineLost Originator m) (ChanceMatch Originator) h k =
+    absurd (lost-not-heard laws c Answerer ts (checks Originator) m Chance h k)
+one_line_end_by laws c ts checks (LineLost Originator m) (ChanceMatch Answerer) h k =
+    absurd (lost-not-heard laws c Answerer ts (checks Originator) m k.0.heard h k.0.is)
+one_line_end_by laws c ts checks (LineLost Answerer m) (LineLost Originator n) h k =
+    absurd (lost-not-heard laws c Answerer ts (checks Originator) n h.0.heard k h.0.is)
+one_line_end_by laws c ts checks (LineLost Answerer m) (LineLost Answerer n) h k =
     ap (LineLost Answerer) (lost-once laws c Originator ts m n h.1 k.1)
-one_line_end laws c ts ends (LineLost Answerer m) (ChanceMatch Originator) h k =
-    absurd (well-not-chance laws c Answerer ts (check_of ends.orig) h.0 k)
-one_line_end laws c ts ends (LineLost Answerer m) (ChanceMatch Answerer) h k =
-    absurd (lost-not-heard laws c Originator ts (check_of ends.answ) m Chance h.1 k.1)
-one_line_end laws c ts ends (ChanceMatch Originator) (LineLost Originator n) h k =
-    absurd (lost-not-heard laws c Answerer ts (check_of ends.orig) n Chance k h)
-one_line_end laws c ts ends (ChanceMatch Originator) (LineLost Answerer n) h k =
-    absurd (well-not-chance laws c Answerer ts (check_of ends.orig) k.0 h)
-one_line_end laws c ts ends (ChanceMatch Originator) (ChanceMatch Originator) h k = refl
-one_line_end laws c ts ends (ChanceMatch Originator) (ChanceMatch Answerer) h k =
-    absurd (well-not-chance laws c Answerer ts (check_of ends.orig) k.0 h)
-one_line_end laws c ts ends (ChanceMatch Answerer) (LineLost Originator n) h k =
-    absurd (lost-not-heard laws c Answerer ts (check_of ends.orig) n h.0.heard k h.0.is)
-one_line_end laws c ts ends (ChanceMatch Answerer) (LineLost Answerer n) h k =
-    absurd (lost-not-heard laws c Originator ts (check_of ends.answ) n Chance k.1 h.1)
-one_line_end laws c ts ends (ChanceMatch Answerer) (ChanceMatch Originator) h k =
-    absurd (well-not-chance laws c Answerer ts (check_of ends.orig) h.0 k)
-one_line_end laws c ts ends (ChanceMatch Answerer) (ChanceMatch Answerer) h k = refl
+one_line_end_by laws c ts checks (LineLost Answerer m) (ChanceMatch Originator) h k =
+    absurd (well-not-chance laws c Answerer ts (checks Originator) h.0 k)
+one_line_end_by laws c ts checks (LineLost Answerer m) (ChanceMatch Answerer) h k =
+    absurd (lost-not-heard laws c Originator ts (checks Answerer) m Chance h.1 k.1)
+one_line_end_by laws c ts checks (ChanceMatch Originator) (LineLost Originator n) h k =
+    absurd (lost-not-heard laws c Answerer ts (checks Originator) n Chance k h)
+one_line_end_by laws c ts checks (ChanceMatch Originator) (LineLost Answerer n) h k =
+    absurd (well-not-chance laws c Answerer ts (checks Originator) k.0 h)
+one_line_end_by laws c ts checks (ChanceMatch Originator) (ChanceMatch Originator) h k = refl
+one_line_end_by laws c ts checks (ChanceMatch Originator) (ChanceMatch Answerer) h k =
+    absurd (well-not-chance laws c Answerer ts (checks Originator) k.0 h)
+one_line_end_by laws c ts checks (ChanceMatch Answerer) (LineLost Originator n) h k =
+    absurd (lost-not-heard laws c Answerer ts (checks Originator) n h.0.heard k h.0.is)
+one_line_end_by laws c ts checks (ChanceMatch Answerer) (LineLost Answerer n) h k =
+    absurd (lost-not-heard laws c Originator ts (checks Answerer) n Chance k.1 h.1)
+one_line_end_by laws c ts checks (ChanceMatch Answerer) (ChanceMatch Originator) h k =
+    absurd (well-not-chance laws c Answerer ts (checks Originator) h.0 k)
+one_line_end_by laws c ts checks (ChanceMatch Answerer) (ChanceMatch Answerer) h k = refl
+
+pub one_line_end : SampleLaws → OneLineEnd
+one_line_end laws c ts ends = one_line_end_by laws c ts (λ role. check_of (of role ends))
 
 -- what an end hears by the check that it has
 heard-by : (c : Channel) (ts : List Turn) (ends : Ends) (t : Turn) (mid : Ends) → Hears (length ts) ends t mid → HeardIn c ts t
@@ -197,12 +203,12 @@ heard-by c ts ends t mid h k role =
       well = (k role).well;
     }
 
+pub ends_or_is_heard : SampleLaws → EndsOrIsHeard
+ends_or_is_heard laws c ts checks (LineLost Originator m) h w = lost-not-heard laws c Answerer ts (checks Originator) m (w Originator).heard h (w Originator).is
+ends_or_is_heard laws c ts checks (LineLost Answerer m) h w = lost-not-heard laws c Originator ts (checks Answerer) m (w Answerer).heard h.1 (w Answerer).is
+ends_or_is_heard laws c ts checks (ChanceMatch Originator) h w = well-not-chance laws c Answerer ts (checks Originator) (w Originator) h
+ends_or_is_heard laws c ts checks (ChanceMatch Answerer) h w = well-not-chance laws c Originator ts (checks Answerer) (w Answerer) h.1
+
 pub ends_or_goes_on : SampleLaws → EndsOrGoesOn
-ends_or_goes_on laws c ts ends (LineLost Originator m) t mid h n k = let w = heard-by c ts ends t mid n k Originator in
-    lost-not-heard laws c Answerer ts (check_of ends.orig) m w.heard h w.is
-ends_or_goes_on laws c ts ends (LineLost Answerer m) t mid h n k = let w = heard-by c ts ends t mid n k Answerer in
-    lost-not-heard laws c Originator ts (check_of ends.answ) m w.heard h.1 w.is
-ends_or_goes_on laws c ts ends (ChanceMatch Originator) t mid h n k =
-    well-not-chance laws c Answerer ts (check_of ends.orig) (heard-by c ts ends t mid n k Originator) h
-ends_or_goes_on laws c ts ends (ChanceMatch Answerer) t mid h n k =
-    well-not-chance laws c Originator ts (check_of ends.answ) (heard-by c ts ends t mid n k Answerer) h.1
+ends_or_goes_on laws c ts ends a t mid h n k =
+    ends_or_is_heard laws c ts (λ role. check_of (of role ends)) a h (heard-by c ts ends t mid n k)

@@ -10,7 +10,6 @@ use Rattle.roles.specs.declared.role.Role.TheVariants.{Originator, Answerer}
 use Rattle.roles.specs.Role.{other}
 use Rattle.roles.specs.Both.{of}
 use Rattle.detection.specs.Slots.{Signal, signal_bits}
-use Rattle.lapm_frames.specs.declared.frame.Frame.{Frame}
 use Rattle.lapm_frames.specs.declared.seen.Seen.{Seen}
 use Rattle.lapm_frames.specs.declared.heard.Heard.{Heard}
 use Rattle.lapm_frames.specs.declared.heard.Heard.TheVariants.{Nothing, Chance}
@@ -29,33 +28,46 @@ pub record Channel : Type 0 where
   pub script : ScriptValue
   pub symbols : ℕ  -- of a slot
   pub dlci : ℕ
+  pub beside : Role → ℕ → Option Signal  -- what a role sends of another link ahead of this link's slot of that turn, behind the one before
 
 -- a slot that was sent, as a signal: its frame has the check of its sender
 abbrev pub signal_in : Channel → Role → Option Spoken → List Signal
 signal_in c role None = []
 signal_in c role (Some slot) = signal_of slot.check role c.dlci slot.sent ∷ []
 
--- the slots that a role sent in these turns, in order
+-- one more slot behind these, where there is one
+abbrev pub and_then : List Signal → Option Signal → List Signal
+and_then before None = before
+and_then before (Some signal) = before ++ signal ∷ []
+
+-- The slots that a role sent up to the last of these turns, in order, with those of another link between them,
 abbrev pub signals : Channel → Role → List Turn → List Signal
 signals c role [] = []
-signals c role (t ∷ ts) = signals c role ts ++ signal_in c role (of role t).sent
+signals c role (t ∷ ts) = and_then (signals c role ts) (c.beside role (length ts)) ++ signal_in c role (of role t).sent
+
+-- and up to the slot of the turn after these
+abbrev pub signals_before : Channel → Role → List Turn → List Signal
+signals_before c role ts = and_then (signals c role ts) (c.beside role (length ts))
 
 -- and their bits
 abbrev pub bits_of : Channel → Role → List Turn → List Bool
 bits_of c role ts = signal_bits (4 * c.symbols) (signals c role ts)
+
+abbrev pub bits_before : Channel → Role → List Turn → List Bool
+bits_before c role ts = signal_bits (4 * c.symbols) (signals_before c role ts)
 
 -- The last slot that this sender sent in these turns has arrived: the line isn't lost by then, what is received in the slot is what its
 -- samples give beside those of all slots before, judged by the hearer's check, and this is its outcome.
 pub record Arrives (c : Channel) (sender : Role) (earlier upto : List Turn) (hearing : Check) (slot : Spoken) (heard : Heard) : Type 0 where
   pub before : List Sample
   pub samples : List Sample
-  pub recorded_before : Records c.script sender (bits_of c sender earlier) before
+  pub recorded_before : Records c.script sender (bits_before c sender earlier) before
   pub recorded : Records c.script sender (bits_of c sender upto) samples
   pub not_lost : LostIs line_trellis line_depth samples None
-  pub frames : List Frame
+  pub octets : List (List ℕ)
   pub patterns : List Seen
-  pub received : Receives hearing sender c.dlci before samples frames patterns
-  pub outcome : IsOutcome (loses c.script sender (length earlier)) slot.sent frames patterns heard
+  pub received : Receives hearing sender before samples octets patterns
+  pub outcome : IsOutcome (loses c.script sender (length earlier)) sender c.dlci slot.sent octets patterns heard
 
 -- a slot that has arrived, or none
 abbrev pub ArrivesAs : Channel → Role → List Turn → List Turn → Check → Option Spoken → Heard → Type 0
@@ -103,11 +115,15 @@ pub record IsHeardWell (c : Channel) (sender : Role) (ts : List Turn) (hearing :
   pub is : IsHeardOf c sender ts hearing heard
   pub well : heard ≢ Chance
 
--- The line ends the run in the turn after these, with these ends. The originator's slot counts first, and a lost line before a chance
--- match.
+-- The line ends a run, or a reading, in the turn after these, where the ends judge by these checks. The originator's slot counts first,
+-- and a lost line before a chance match.
+abbrev pub EndsLineBy : Channel → List Turn → (Role → Check) → LineEnd → Type 0
+EndsLineBy c ts checks (LineLost Originator symbol) = LosesLine c Answerer ts symbol
+EndsLineBy c ts checks (ChanceMatch Originator) = IsHeardOf c Answerer ts (checks Originator) Chance
+EndsLineBy c ts checks (LineLost Answerer symbol) = IsHeardWell c Answerer ts (checks Originator) × LosesLine c Originator ts symbol
+EndsLineBy c ts checks (ChanceMatch Answerer) =
+    IsHeardWell c Answerer ts (checks Originator) × IsHeardOf c Originator ts (checks Answerer) Chance
+
+-- so it ends the run with these ends
 abbrev pub EndsLine : Channel → List Turn → Ends → LineEnd → Type 0
-EndsLine c ts ends (LineLost Originator symbol) = LosesLine c Answerer ts symbol
-EndsLine c ts ends (ChanceMatch Originator) = IsHeardOf c Answerer ts (check_of ends.orig) Chance
-EndsLine c ts ends (LineLost Answerer symbol) = IsHeardWell c Answerer ts (check_of ends.orig) × LosesLine c Originator ts symbol
-EndsLine c ts ends (ChanceMatch Answerer) =
-    IsHeardWell c Answerer ts (check_of ends.orig) × IsHeardOf c Originator ts (check_of ends.answ) Chance
+EndsLine c ts ends end = EndsLineBy c ts (λ role. check_of (of role ends)) end

@@ -1,5 +1,5 @@
 -- The link and the line that a script and two files make.
-use Rattle.std.specs.Prelude.{◌≡◌, ℕ, ◌+◌, ◌*◌, ◌/◌, ◌<◌, ◌≤◌, max, List, map, filter, Some, slice_get}
+use Rattle.std.specs.Prelude.{◌≡◌, ℕ, ◌+◌, ◌*◌, ◌/◌, ◌<◌, ◌≤◌, max, List, map, filter, Some, None, slice_get}
 use Rattle.std.specs.Option.{option_map}
 use Rattle.frame_check.specs.declared.sizes.TheConstants.{SLOT}
 use Rattle.bit_stuffing.specs.declared.slot_writer.TheConstants.{HEAD, TAIL}
@@ -71,7 +71,7 @@ longest_of script = max 128 (max (offered_octets script.offer_orig) (offered_oct
 
 -- the line of a link alone, on channel 0
 abbrev pub channel_of : ScriptValue → Channel
-channel_of script = record { script = script; symbols = slot_symbols (longest_of script); dlci = 0 }
+channel_of script = record { script = script; symbols = slot_symbols (longest_of script); dlci = 0; beside = λ role turn. None }
 
 -- A script within its limits makes two ends that may play, over a line with delays.
 abbrev pub ScriptsMayPlay : Type 0
@@ -101,11 +101,11 @@ abbrev pub SlotsHaveRoom : Type 0
 SlotsHaveRoom = (script : ScriptValue) → IsInLimits script
     → (HEAD + TAIL < slot_symbols (longest_of script)) × (slot_symbols (longest_of script) ≤ SLOT)
 
--- and whatever its ends send fits a slot, behind any unfinished flag.
+-- and whatever its ends send fits a slot of that size, on each channel and behind any unfinished flag, whatever goes beside it.
 abbrev pub SlotsAreCodable : Type 0
-SlotsAreCodable = (script : ScriptValue) (files : Both (List ℕ)) (ts : List Turn) (ends : Ends) (t : Turn) (after : Ends)
-    → IsInLimits script
-    → LineRun (channel_of script) (link_of script files) ts ends → HeardIn (channel_of script) ts t
-    → GoingTurn (link_of script files) ts ends t after
-    → (role : Role) (slot : Spoken) (phase : ℕ) → phase < 8 → (of role t).sent ≡ Some slot → IsSendable slot.sent
-    → IsCodable slot.check role 0 (slot_symbols (longest_of script)) phase slot.sent
+SlotsAreCodable = (c : Channel) (files : Both (List ℕ)) (ts : List Turn) (ends : Ends) (t : Turn) (after : Ends)
+    → IsInLimits c.script
+    → LineRun c (link_of c.script files) ts ends → HeardIn c ts t
+    → GoingTurn (link_of c.script files) ts ends t after
+    → (role : Role) (slot : Spoken) (dlci phase : ℕ) → phase < 8 → (of role t).sent ≡ Some slot → IsSendable slot.sent
+    → IsCodable slot.check role dlci (slot_symbols (longest_of c.script)) phase slot.sent

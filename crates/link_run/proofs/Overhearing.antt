@@ -14,6 +14,7 @@ use Rattle.roles.specs.Both.{of}
 use Rattle.std.specs.Prelude.{is_some}
 use Rattle.lapm_frames.specs.declared.frame.Frame.{Frame}
 use Rattle.lapm_frames.specs.declared.frame.Frame.TheVariants.{I, Rr, Rnr, Rej, Srej, Sabme, Disc, Ua, Dm, Frmr, Ui, Xid, Test}
+use Rattle.lapm_frames.specs.Checked.{check_for}
 use Rattle.lapm_frames.specs.Frame.{has_number}
 use Rattle.xid_params.specs.declared.terms.Terms.{Terms}
 use Rattle.xid_params.specs.Offers.{ReadsAllowed, ReadsWritten}
@@ -40,7 +41,7 @@ use Rattle.link_run.specs.Run.{RunOf, Link, Ends, Spoken, Turn, spoken, arrival}
 use Rattle.link_run.specs.Carried.{sent_in, sent_ago, Crosses, HasDelays, IsCarried}
 use Rattle.link_run.specs.Laws.{RunsOver, told_by_play, told_by_turn}
 use Rattle.link_run.specs.Overheard.{has_passed, is_xid, opens, OpensByFrames, agreed_terms, AgreesByXid, agreed_check, SendsAgreedCheck}
-use Rattle.link_run.specs.Overheard.{HearsAgreedCheck, JudgesByItsCheck, SegmentsPassLater, IsOld, NothingNew, ReleasesLast}
+use Rattle.link_run.specs.Overheard.{HearsAgreedCheck, JudgesByItsCheck, JudgesOnceHeard, SegmentsPassLater, IsOld, NothingNew, ReleasesLast}
 use Rattle.link_run.specs.Overheard.{EarlyBreaksAreIgnored}
 use Rattle.link_run.proofs.Keeping.{stage, GoesOn, hears, Standing, standing, stands-heard}
 use Rattle.link_run.proofs.Playing.{made, next-first, head-of, none-is-some}
@@ -49,7 +50,7 @@ use Rattle.link_run.proofs.Ending.{Facts, PlayLaws, facts}
 use Rattle.link_run.proofs.Finishing.{Over, over-run}
 use Rattle.link_run.proofs.Taking.{side_with, all-taken}
 use Rattle.link_run.proofs.Knowing.{rank, OnSent, IfSent, OnArrived, ago-all, came-all, SentO, SentA}
-use Rattle.link_run.proofs.Following.{KnownOf, known-run}
+use Rattle.link_run.proofs.Following.{KnownOf, known-mid, known-run}
 use Rattle.link_run.proofs.Meeting.{is_segment, is_counted, brings}
 use Rattle.link_run.proofs.Joining.{Met, met-run, came}
 
@@ -209,30 +210,39 @@ ago-checked check role k [] h = λ slot frame e. absurd (false≢true (ap is_som
 ago-checked check role zero (t ∷ ts) h = h.0
 ago-checked check role (suc k) (t ∷ ts) h = ago-checked check role k ts h.1
 
-pub judges_by_its_check : KnowingLaws → JudgesByItsCheck
-judges_by_its_check laws link delay ts ends v role slot frame e f = go (has_number frame) refl
+-- what was sent in these turns, where so much is known of both ends
+judges-all : KnowingLaws → (link : Link) (delay : Role → ℕ) (ts heard : List Turn) (before ends : Ends) → RunsOver link delay ts before
+    → KnownOf link ts heard ends → (ago : ℕ) (role : Role) (slot : Spoken) (frame : Frame) → sent_ago ago (other role) ts ≡ Some slot
+    → slot.sent ≡ slots.Frame frame → check_for slot.check frame ≡ check_for (check_of (of role ends)) frame
+judges-all laws link delay ts heard before ends v k ago role slot frame e f = go (has_number frame) refl
   where
-    k : KnownOf link ts ts ends
-    k = known laws link delay ts ends v
-
-    at-role : (role : Role) → has_number frame ≡ true → sent_ago (delay (other role)) (other role) ts ≡ Some slot
+    at-role : (role : Role) → has_number frame ≡ true → sent_ago ago (other role) ts ≡ Some slot
         → check_of (of role ends) ≡ agreed_check link
     at-role Originator n q =
         let P = SentA link.answ.setup (rank ends.orig.phase) (rank ends.answ.phase) in
-        orig-agreed link ts ts ends k
+        orig-agreed link ts heard ends k
         (numbered-a link.answ.setup (rank ends.orig.phase) (rank ends.answ.phase) frame n
-        (of-slot P (sent_ago (delay Answerer) Answerer ts) slot frame q f (ago-all P Answerer (delay Answerer - 1) ts k.sent_a)))
+        (of-slot P (sent_ago ago Answerer ts) slot frame q f (ago-all P Answerer (ago - 1) ts k.sent_a)))
     at-role Answerer n q =
         let P = SentO link.orig.setup (rank ends.orig.phase) in
-        answ-agreed link ts ts ends k
+        answ-agreed link ts heard ends k
         (numbered-o link.orig.setup (rank ends.orig.phase) frame n
-        (of-slot P (sent_ago (delay Originator) Originator ts) slot frame q f
-        (ago-all P Originator (delay Originator - 1) ts k.sent_o)))
+        (of-slot P (sent_ago ago Originator ts) slot frame q f (ago-all P Originator (ago - 1) ts k.sent_o)))
 
     go : (b : Bool) → has_number frame ≡ b → cond b slot.check Sixteen ≡ cond b (check_of (of role ends)) Sixteen
     go false n = refl
-    go true n = ago-checked (agreed_check link) (other role) (delay (other role) - 1) ts
-        (all-checked laws link delay v.may_play v.delays (other role) ts ends v.carried v.run) slot frame e f n ∙ sym (at-role role n e)
+    go true n = ago-checked (agreed_check link) (other role) (ago - 1) ts
+        (all-checked laws link delay v.may_play v.delays (other role) ts before v.carried v.run) slot frame e f n ∙ sym (at-role role n e)
+
+pub judges_by_its_check : KnowingLaws → JudgesByItsCheck
+judges_by_its_check laws link delay ts ends v ago role slot frame e f =
+    judges-all laws link delay ts ts ends ends v (known laws link delay ts ends v) ago role slot frame e f
+
+pub judges_once_heard : KnowingLaws → JudgesOnceHeard
+judges_once_heard laws link delay ts ends t mid v c h ago role slot frame e f =
+    judges-all laws link delay ts (t ∷ ts) ends mid v
+    (known-mid laws.reads laws.keeps laws.written link delay ts ends t mid v.may_play v.run (known laws link delay ts ends v) c h) ago role
+    slot frame e f
 
 -- the slot that passes stands first on its line
 pub record First (line : List Slot) (s : Sent) : Type 0 where
@@ -322,7 +332,7 @@ pub record OldLaws : Type 0 where
   pub offered : SendsWhatWasOffered
   pub breaks : SendsBreaksTaken
 
-released-stage : (p : Phase) → is_released p ≡ true → 2 ≤ stage p
+pub released-stage : (p : Phase) → is_released p ≡ true → 2 ≤ stage p
 released-stage Releasing e = omega arith
 released-stage Closed e = omega arith
 released-stage Detecting e = absurd (false≢true e)
@@ -330,7 +340,7 @@ released-stage Negotiating e = absurd (false≢true e)
 released-stage Establishing e = absurd (false≢true e)
 released-stage Connected e = absurd (false≢true e)
 
-stage-begun : (p : Phase) → 1 ≤ stage p → has_begun p ≡ true
+pub stage-begun : (p : Phase) → 1 ≤ stage p → has_begun p ≡ true
 stage-begun Connected h = refl
 stage-begun Releasing h = refl
 stage-begun Closed h = refl

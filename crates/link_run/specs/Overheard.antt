@@ -87,12 +87,21 @@ HearsAgreedCheck = (link : Link) (delay : Role → ℕ) (ts : List Turn) (ends :
     → (role : Role) (frame : Frame) → (of role t).heard ≡ Passed (slots.Frame frame) → has_number frame ≡ true
     → (of role t).check ≡ agreed_check link
 
--- So whatever becomes of a frame on the line, its hearer judges it by the check that it was sent with.
+-- So whatever becomes of a frame on the line, and however long ago it was sent, its hearer judges it by the check that it was sent with,
+-- between turns
 abbrev pub JudgesByItsCheck : Type 0
 JudgesByItsCheck = (link : Link) (delay : Role → ℕ) (ts : List Turn) (ends : Ends) → RunsOver link delay ts ends
-    → (role : Role) (slot : Spoken) (frame : Frame) → sent_ago (delay (other role)) (other role) ts ≡ Some slot
+    → (ago : ℕ) (role : Role) (slot : Spoken) (frame : Frame) → sent_ago ago (other role) ts ≡ Some slot
     → slot.sent ≡ slots.Frame frame
     → check_for slot.check frame ≡ check_for (check_of (of role ends)) frame
+
+-- and once both ends have heard.
+abbrev pub JudgesOnceHeard : Type 0
+JudgesOnceHeard = (link : Link) (delay : Role → ℕ) (ts : List Turn) (ends : Ends) (t : Turn) (mid : Ends) → RunsOver link delay ts ends
+    → Carries delay ts t → Hears (length ts) ends t mid
+    → (ago : ℕ) (role : Role) (slot : Spoken) (frame : Frame) → sent_ago ago (other role) ts ≡ Some slot
+    → slot.sent ≡ slots.Frame frame
+    → check_for slot.check frame ≡ check_for (check_of (of role mid)) frame
 
 -- nothing of a frame is new to an end: an I frame is neither the next one expected nor one to be held, and a BRK isn't the next one
 -- expected

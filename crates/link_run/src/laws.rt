@@ -6,11 +6,12 @@ ghost use Rattle.link_run.specs.Laws.{OneRun, OneOutcome, HearingsDeliver, Speak
 ghost use Rattle.link_run.specs.Laws.{TakesWhatPassed, HearsWhatPassed, SendsShort, EachEndIsNamed, EachTurnIsMade, OffersUntilNoneIsWanted};
 ghost use Rattle.link_run.specs.Overheard.{OpensByFrames, SegmentsPassLater, AgreesByXid, SendsAgreedCheck, HearsAgreedCheck};
 ghost use Rattle.link_run.specs.Reading.{BeginsUnoffered, HearingStaysOffered, SpeakingStaysOffered, OffersWhatIsRead, SegmentsAreTold, OwnSegmentsStay, RunsByWhatWasRead, RunsByWhatIsReadOn};
-ghost use Rattle.link_run.specs.Overheard.{JudgesByItsCheck, ReleasesLast, EarlyBreaksAreIgnored};
+ghost use Rattle.link_run.specs.Overheard.{JudgesByItsCheck, JudgesOnceHeard, ReleasesLast, EarlyBreaksAreIgnored};
+ghost use Rattle.link_run.specs.Listened.{HearsByLine, RunsByLine};
 
 use lapm_receiver::laws::keeps_taken;
 use link_account::laws::{
-    acknowledgements, frames_on_the_line, next_numbers, numbers_on_the_line, plays,
+    acknowledgements, ends_receive_as_agreed, frames_on_the_line, next_numbers, numbers_on_the_line, plays,
 };
 use xid_params::laws::{reads_allowed, reads_written};
 
@@ -150,6 +151,7 @@ pub fn numbers_have_the_agreed_check()
     ensures sends { SendsAgreedCheck }
     ensures hears { HearsAgreedCheck }
     ensures judges { JudgesByItsCheck }
+    ensures heard { JudgesOnceHeard }
 {
     reads_allowed();
     reads_written();
@@ -167,6 +169,22 @@ pub fn releases_last()
     acknowledgements();
     frames_on_the_line();
     numbers_on_the_line();
+}
+
+/// One who hears the line, and knows what both ends offer, knows by the frames that pass by which check an end judges, which segments it has
+/// taken, and which breaks its user is given.
+pub fn ends_are_known_by_the_line()
+    ensures hearing { HearsByLine }
+    ensures runs { RunsByLine }
+{
+    reads_allowed();
+    reads_written();
+    keeps_taken();
+    plays();
+    acknowledgements();
+    frames_on_the_line();
+    numbers_on_the_line();
+    ends_receive_as_agreed();
 }
 
 /// A break's word that passes before its hearer is Connected is ignored: nothing of the end changes.

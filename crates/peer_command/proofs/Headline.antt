@@ -62,10 +62,10 @@ ran-of old before new n end last r = record {
   bits_are = r.takes.bits_are;
   left = r.left;
   run = r.run;
-  holds = record {
-    got = Holds-kept before new n.got r.left.got last.goes_on r.holds.got (last.names n.got tt);
-    trace = Holds-kept before new n.trace r.left.trace last.goes_on r.holds.trace (last.names n.trace tt);
-  };
+  holds = (
+    Holds-kept before new n.got r.left.got last.goes_on r.holds.0 (last.names n.got tt),
+    (Holds-kept before new n.trace r.left.trace last.goes_on r.holds.1.0 (last.names n.trace tt), tt),
+  );
 }
 
 -- answers of an end that gives its link up

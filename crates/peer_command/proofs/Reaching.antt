@@ -1,5 +1,5 @@
 -- From one turn to the next, and to the end of a run.
-use Rattle.std.proofs.Common.{◌≡◌, ◌≢◌, inl, inr, ◌∙◌, ℕ, suc, ◌+◌, ◌*◌, ◌<◌, ◌≤◌, Bool, true, false, IsTrue, List, [], ◌∷◌, ◌++◌, length}
+use Rattle.std.proofs.Common.{◌≡◌, inl, inr, ◌∙◌, ℕ, suc, ◌+◌, ◌*◌, ◌<◌, ◌≤◌, Bool, true, false, IsTrue, List, [], ◌∷◌, ◌++◌, length}
 use Rattle.std.proofs.Common.{take, refl, sym, ap, subst, arith, append-nil, append_assoc, length-append}
 use Rattle.std.proofs.lemmas.Bool.{false≢true, cases_lt}
 use Rattle.std.proofs.lemmas.List.{take_all}
@@ -16,31 +16,24 @@ use Rattle.single_end.specs.declared.single.Single.{Single}
 use Rattle.single_end.specs.declared.step.SingleFault.{SingleFault}
 use Rattle.single_end.specs.declared.step.SingleFault.TheVariants as faults
 use Rattle.single_end.specs.Heard.{slot_octets}
-use Rattle.single_end.specs.Peer.{Past, PeerRun, PeerTurn, Outcome, Going, Closed, Broken, party_of, after, over, trace_of, turn_line}
-use Rattle.single_end.specs.Single.{KnowsFile, OnlyOutputs, SingleAfter, file_limit}
-use Rattle.single_end.specs.Turn.{Makes, Stops, WritesPart, StopsInReading as TurnStopsInReading, EndsBy as TurnEndsBy, FaultCounts}
-use Rattle.single_end.specs.Turn as turns
+use Rattle.single_end.specs.Peer.{Past, PeerRun, PeerTurn, Outcome, Going, Closed, Broken, party_of, after, over, turn_line}
+use Rattle.single_end.specs.Single.{KnowsFile, SingleAfter, file_limit}
+use Rattle.single_end.specs.Turn.{Makes, Stops, added, StopsInReading as TurnStopsInReading, EndsBy as TurnEndsBy, FaultCounts}
 use Rattle.command_base.specs.declared.limits.TheConstants.{FILE_LIMIT}
 use Rattle.command_base.specs.declared.stop.Stop.TheVariants.{Read}
 use Rattle.command_base.specs.Inputs.{IsWithin, ReadTo}
 use Rattle.command_base.specs.Stops.{ReadFails}
 use Rattle.command_base.proofs.Jobs.{stop-earlier}
 use Rattle.outside_calls.specs.Outputs.{Holds}
-use Rattle.outside_calls.proofs.Holding.{Holds-kept, Holds-more, Holds-add, HoldsPart-more}
+use Rattle.several_outputs.specs.Outputs.{OnlyPuts, HoldPart}
+use Rattle.several_outputs.proofs.Putting.{KeepsEach-reads, HoldEach-add, HoldEach-kept, HoldPart-add}
+use Rattle.run_inputs.specs.Words.{AreNoneOf}
 use Rattle.command_base.proofs.Reading.{ReadTo-begins, ReadTo-kept}
-use Rattle.peer_command.specs.Words.{Names, turn_names}
+use Rattle.peer_command.specs.Words.{Names, inputs_of, outputs_of, turn_names}
 use Rattle.peer_command.specs.Runs.{Left, PeerEnd, IsDone, GivesUp, MakesTurn, RunsTo, left_of, left_after, slot_at, slots_before}
-use Rattle.peer_command.specs.Ends.{Takes, HoldLeft, HoldPart, of_octets, of_line, RanTo, StopsBetween, StopsInTurn, StopsInReading, EndsBy}
+use Rattle.peer_command.specs.Ends.{Takes, HoldLeft, held_of, RanTo, StopsBetween, StopsInTurn, StopsInReading, EndsBy}
 use Rattle.peer_command.specs.Turns.{Reached, fault_stop}
 use Rattle.peer_command.proofs.Slots.{slots-front, slot-behind, full-slot, short-slot, slots-whole, slots-short, slots-more}
-
--- names that the words keep apart
-pub record Distinct (n : Names) : Type 0 where
-  pub got_file : n.got ≢ n.file
-  pub got_bits : n.got ≢ n.bits
-  pub trace_file : n.trace ≢ n.file
-  pub trace_bits : n.trace ≢ n.bits
-  pub got_trace : n.got ≢ n.trace
 
 -- ---- what is known of the bits
 
@@ -93,7 +86,7 @@ file-is start now name file on kept within k told =
 
 -- what stands around a turn against a slot that was read: the folder at first, before and after the read, and after the turn
 pub record Around (start mid next : FolderState) (n : Names) (p : Past) (octets slot : List ℕ) : Type 0 where
-  pub apart : Distinct n
+  pub apart : AreNoneOf (outputs_of n) (inputs_of n)
   pub read : ReadTo start mid n.bits FILE_LIMIT (slot_octets * length p.turns + length slot) (octets ++ slot)
   pub count : length octets ≡ slot_octets * length p.turns
   pub some : 1 ≤ length slot
@@ -104,7 +97,7 @@ pub record Around (start mid next : FolderState) (n : Names) (p : Past) (octets 
   pub file_kept : KeepsName start mid n.file
   pub knows : KnowsFile mid n.file p.file
   pub holds : HoldLeft mid n (left_of n.role p)
-  pub only : OnlyOutputs mid next (turn_names n)
+  pub only : OnlyPuts mid next (outputs_of n)
   pub stand : CountsStand start mid
 
 abbrev on-to : (start mid next : FolderState) (n : Names) (p : Past) (octets slot : List ℕ) → Around start mid next n p octets slot
@@ -115,13 +108,13 @@ file-on : (start mid next : FolderState) (n : Names) (p : Past) (octets slot : L
     → KeepsName start next n.file
 file-on start mid next n p octets slot a =
     KeepsName-trans start mid next n.file a.read.goes_on a.file_kept
-    (a.only.names n.file (λ e. a.apart.got_file (sym e)) (λ e. a.apart.trace_file (sym e)))
+    (a.only.names n.file (λ e. a.apart.0.0 (sym e), (λ e. a.apart.1.0.0 (sym e), tt)))
 
 bits-on : (start mid next : FolderState) (n : Names) (p : Past) (octets slot : List ℕ) → Around start mid next n p octets slot
     → ReadTo start next n.bits FILE_LIMIT (slot_octets * length p.turns + length slot) (octets ++ slot)
 bits-on start mid next n p octets slot a =
     ReadTo-kept start mid next n.bits FILE_LIMIT _ (octets ++ slot) a.read a.only.goes_on
-    (a.only.names n.bits (λ e. a.apart.got_bits (sym e)) (λ e. a.apart.trace_bits (sym e)))
+    (a.only.names n.bits (λ e. a.apart.0.1.0 (sym e), (λ e. a.apart.1.0.1.0 (sym e), tt)))
 
 -- what a run took of the inputs
 taken : (start mid next : FolderState) (n : Names) (p : Past) (octets slot others all : List ℕ) → Around start mid next n p octets slot
@@ -165,10 +158,8 @@ makes-turn role p octets slot rest turn outcome t given number count slots some 
 made-holds : (mid next : FolderState) (n : Names) (p : Past) (slot : List ℕ) (outcome : Outcome) → GoesOn mid next
     → HoldLeft mid n (left_of n.role p) → (m : Makes n.role mid next (turn_names n) p slot outcome)
     → HoldLeft next n (left_after n.role (over m.others p) m.turn m.octets)
-made-holds mid next n p slot outcome on h m = record {
-  got = Holds-add mid next n.got (concat p.account.incoming.taken) m.octets on h.got m.writes.got;
-  trace = Holds-more mid next n.trace (trace_of n.role p.turns) (turn_line n.role (length p.turns) m.turn) on h.trace m.writes.trace;
-}
+made-holds mid next n p slot outcome on h m =
+    HoldEach-add mid next (outputs_of n) (held_of (left_of n.role p)) (added n.role p m.turn m.octets) on h m.writes
 
 -- it is the last one
 pub ends-in : (start mid next : FolderState) (n : Names) (p : Past) (octets slot : List ℕ) (turn : ℕ) (outcome : Outcome) (end : PeerEnd)
@@ -190,16 +181,6 @@ ends-in start mid next n p octets slot turn outcome end a number m by =
       holds = made-holds mid next n p slot outcome a.only.goes_on a.holds m;
     }
 
--- or a part of that
-stopped-holds : (mid next : FolderState) (n : Names) (p : Past) (octets line : List ℕ) → GoesOn mid next → HoldLeft mid n (left_of n.role p)
-    → WritesPart mid next (turn_names n) octets line → HoldPart next n (left_of n.role p) octets line
-stopped-holds mid next n p octets line on h (turns.of_octets got trace) =
-    of_octets (HoldsPart-more mid next n.got (concat p.account.incoming.taken) octets on h.got got)
-    (Holds-kept mid next n.trace (trace_of n.role p.turns) on h.trace trace)
-stopped-holds mid next n p octets line on h (turns.of_line got trace) =
-    of_line (Holds-add mid next n.got (concat p.account.incoming.taken) octets on h.got got)
-    (HoldsPart-more mid next n.trace (trace_of n.role p.turns) line on h.trace trace)
-
 -- the folder fails in it
 pub stops-in : (start mid next : FolderState) (n : Names) (p : Past) (octets slot : List ℕ) (turn : ℕ)
     → Around start mid next n p octets slot → turn ≡ length p.turns
@@ -218,8 +199,9 @@ stops-in start mid next n p octets slot turn a number s =
         left = left_after n.role (over s.others p) s.turn s.octets;
         makes = makes-turn n.role
             (over s.others p) octets slot k.rest turn s.outcome s.turn s.octets number a.count a.slots_are a.some k.cut s.is;
-        holds = subst (λ m. HoldPart next n (left_of n.role p) s.octets (turn_line n.role m s.turn)) (sym number)
-            (stopped-holds mid next n p s.octets (turn_line n.role (length p.turns) s.turn) a.only.goes_on a.holds s.writes);
+        holds = subst (λ m. HoldPart next (outputs_of n) (held_of (left_of n.role p)) (s.octets ∷ turn_line n.role m s.turn ∷ [])) (sym number)
+            (HoldPart-add mid next (outputs_of n) (held_of (left_of n.role p)) (added n.role p s.turn s.octets) a.only.goes_on a.holds
+            s.writes);
       };
     }
 
@@ -230,10 +212,7 @@ reads-in : (start mid next : FolderState) (n : Names) (p : Past) (octets slot : 
 unfolding makes-turn stops-in
 reads-in start mid next n p octets slot turn a number s = (
   stops-in start mid next n p octets slot turn a number s.0,
-  record {
-    got = Holds-add mid next n.got (concat p.account.incoming.taken) s.0.octets a.only.goes_on a.holds.got s.1.got;
-    trace = Holds-kept mid next n.trace (trace_of n.role p.turns) a.only.goes_on a.holds.trace s.1.trace;
-  },
+  HoldEach-add mid next (outputs_of n) (held_of (left_of n.role p)) (s.0.octets ∷ []) a.only.goes_on a.holds s.1,
 )
 
 -- the faults of one input, behind what counted none
@@ -244,12 +223,12 @@ fails-later start mid next name fault stand fails = stop-earlier start mid next 
 -- a fault of the turn
 pub fault-ends : (start mid next : FolderState) (n : Names) (p : Past) (octets slot : List ℕ) (turn : ℕ) (fault : SingleFault)
     → Around start mid next n p octets slot → turn ≡ length p.turns
-    → FaultCounts mid next (turn_names n) fault → TurnEndsBy n.role mid next (turn_names n) p slot fault
+    → FaultCounts mid next (n.file ∷ []) (outputs_of n) fault → TurnEndsBy n.role mid next (turn_names n) p slot fault
     → EndsBy start next n (fault_stop n.role turn fault)
 fault-ends start mid next n p octets slot turn faults.ReadFault a number rose e =
     inr (inr (
       refl,
-      fails-later start mid next n.file folder.Failed a.stand (inl rose),
+      fails-later start mid next n.file folder.Failed a.stand rose,
       reads-in start mid next n p octets slot turn a number e,
     ))
 fault-ends start mid next n p octets slot turn faults.WriteFault a number counts e =
@@ -290,10 +269,7 @@ gone-holds : LoneHearingsDeliver → LoneSpeakingTakesNothing → (mid next : Fo
     → HoldLeft next n (left_of n.role (after slot m.turn m.is.is.0 (over m.others p)))
 gone-holds hearing speaking mid next n p slot on h m =
     let k = made-holds mid next n p slot Going on h m in
-    record {
-      got = subst (Holds next n.got) (sym (took hearing speaking n.role (over m.others p) slot m.turn m.octets m.is)) k.got;
-      trace = k.trace;
-    }
+    (subst (Holds next n.got) (sym (took hearing speaking n.role (over m.others p) slot m.turn m.octets m.is)) k.0, k.1)
 
 slots-on : (p : Past) (octets slot : List ℕ) → length octets ≡ slot_octets * length p.turns → p.slots ≡ slots_before octets (length p.turns)
     → length slot ≤ slot_octets
@@ -359,10 +335,7 @@ ends-short hearing speaking start mid next n p octets slot turn a number m run s
 
 holds-read : (old mid : FolderState) (n : Names) (left : Left) → OnlyReads old mid → HoldLeft old n left → HoldLeft mid n left
 holds-read old mid n left r h =
-    record {
-      got = Holds-kept old mid n.got left.got r.goes_on h.got (r.names n.got);
-      trace = Holds-kept old mid n.trace left.trace r.goes_on h.trace (r.names n.trace);
-    }
+    HoldEach-kept old mid (outputs_of n) (held_of left) r.goes_on h (KeepsEach-reads old mid (outputs_of n) r)
 
 reads-file : (start old mid : FolderState) (n : Names) (s : Single) (r : Reached start old n s) → OnlyReads old mid
     → KeepsName start mid n.file
@@ -420,12 +393,12 @@ not-read start old mid n s r reads =
     }
 
 -- a slot is read, and a turn made
-pub around : (start old mid next : FolderState) (n : Names) (s : Single) (r : Reached start old n s) (slot : List ℕ) → Distinct n
+pub around : (start old mid next : FolderState) (n : Names) (s : Single) (r : Reached start old n s) (slot : List ℕ) → AreNoneOf (outputs_of n) (inputs_of n)
     → OnlyReads old mid
     → ReadTo start mid n.bits FILE_LIMIT (slot_octets * length r.past.turns + length slot) (r.octets ++ slot) → 1 ≤ length slot
     → length slot ≤ slot_octets
     → (length slot < slot_octets → IsTrue (start.tells n.bits) → r.octets ++ slot ≡ octets_at start n.bits)
-    → OnlyOutputs mid next (turn_names n) → CountsStand old mid → Around start mid next n r.past r.octets slot
+    → OnlyPuts mid next (outputs_of n) → CountsStand old mid → Around start mid next n r.past r.octets slot
 around start old mid next n s r slot apart reads read some few end only stand = record {
   apart = apart;
   read = read;

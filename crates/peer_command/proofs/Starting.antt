@@ -16,7 +16,7 @@ use Rattle.command_base.specs.declared.limits.TheConstants.{FILE_LIMIT}
 use Rattle.command_base.specs.declared.stop.Stop.{Stop}
 use Rattle.command_base.specs.declared.stop.Stop.TheVariants.{Own, Read, Write, Say, NoMemory}
 use Rattle.command_base.specs.Inputs.{IsWithin, IsNotWithin}
-use Rattle.outside_calls.specs.Outputs.{KeepsAll, AreApart, CreatesPart, Creates, IsNoneOf, KeepsEach, OnlyOutputs}
+use Rattle.outside_calls.specs.Outputs.{KeepsAll, CreatesPart, Creates, IsNoneOf, KeepsEach, OnlyOutputs}
 use Rattle.command_base.proofs.Creating.{CreatesPart-earlier}
 use Rattle.command_base.proofs.Reading.{ReadTo-none, longer-earlier}
 use Rattle.command_base.proofs.Jobs.{stop-earlier}
@@ -25,10 +25,7 @@ use Rattle.peer_command.specs.Words.{Names, turn_names, inputs_of, outputs_of}
 use Rattle.peer_command.specs.Runs.{IsDone}
 use Rattle.peer_command.specs.Ends.{RanTo, StopsCreating, EndsBy}
 use Rattle.peer_command.specs.Turns.{IsBegun, Reached}
-use Rattle.peer_command.proofs.Reaching.{Around, Distinct, goes-on, ends-short}
-
-pub distinct : (n : Names) → AreApart (outputs_of n) → AreNoneOf (outputs_of n) (inputs_of n) → Distinct n
-distinct n d i = record { got_file = i.0.0; got_bits = i.0.1.0; trace_file = i.1.0.0; trace_bits = i.1.0.1.0; got_trace = d.0.0 }
+use Rattle.peer_command.proofs.Reaching.{Around, goes-on, ends-short}
 
 -- the end's role is that of the words
 pub goes-by : LoneHearingsDeliver → LoneSpeakingTakesNothing
@@ -75,7 +72,7 @@ few octets = omega (arith, length-take file_limit octets)
 
 pub reached-first : (begin mid now : FolderState) (n : Names) (s : Single) → IsBegun begin mid n
     → OnlyOutputs mid now (outputs_of n) → CountsStand mid now
-    → Creates now (outputs_of n) → Distinct n → s.role ≡ n.role
+    → Creates now (outputs_of n) → AreNoneOf (outputs_of n) (inputs_of n) → s.role ≡ n.role
     → ((file : List ℕ) → SingleAfter s (record { file = file; slots = []; turns = []; account = fresh (setup_of n.role) }))
     → Reached begin now n s
 reached-first begin mid now n s b only stand c d role first = record {
@@ -83,12 +80,12 @@ reached-first begin mid now n s b only stand c d role first = record {
   after = first (file_at now n.file file_limit);
   role_is = role;
   octets = [];
-  read = ReadTo-none begin now n.bits FILE_LIMIT b.bits_within on (kept n.bits (λ e. d.got_bits (sym e), (λ e. d.trace_bits (sym e), tt)));
+  read = ReadTo-none begin now n.bits FILE_LIMIT b.bits_within on (kept n.bits (λ e. d.0.1.0 (sym e), (λ e. d.1.0.1.0 (sym e), tt)));
   slots_are = refl;
   file_within = b.file_within;
-  file_kept = kept n.file (λ e. d.got_file (sym e), (λ e. d.trace_file (sym e), tt));
+  file_kept = kept n.file (λ e. d.0.0 (sym e), (λ e. d.1.0.0 (sym e), tt));
   knows = record { within = few (octets_at now n.file); told = λ told. refl };
-  holds = record { got = c.0; trace = c.1.0 };
+  holds = c;
   stand = CountsStand-trans b.stand stand;
 }
   where

@@ -1,5 +1,5 @@
 -- How the job of the command ends, before its line is said. What is said of a name's octets holds where the folder tells that name.
-use Rattle.std.specs.Prelude.{◌≡◌, ◌⊎◌, ℕ, IsTrue, List, [], ◌∷◌, ◌++◌, Result, Ok, Err}
+use Rattle.std.specs.Prelude.{◌≡◌, ◌⊎◌, ℕ, IsTrue, List, [], ◌∷◌, Result, Ok, Err}
 use Rattle.outside_calls.specs.Folder.{FolderState, octets_at}
 use Rattle.outside_calls.specs.declared.folder.FolderFault.{FolderFault}
 use Rattle.outside_calls.specs.declared.folder.FolderFault.TheVariants as folder
@@ -15,7 +15,8 @@ use Rattle.command_base.specs.Inputs.{IsWithin, IsLonger}
 use Rattle.command_base.specs.Job.{Job}
 use Rattle.command_base.specs.Lines.{done_line}
 use Rattle.command_base.specs.Stops.{ReadFails}
-use Rattle.outside_calls.specs.Outputs.{Holds, HoldsPart, KeepsAll, CreatesPart, SaysNothing}
+use Rattle.outside_calls.specs.Outputs.{KeepsAll, CreatesPart, SaysNothing}
+use Rattle.several_outputs.specs.Outputs.{HoldEach, HoldPart, joined}
 use Rattle.single_end.specs.Peer.{Past, Outcome, turn_line}
 use Rattle.peer_command.specs.Words.{Names, inputs_of, outputs_of}
 use Rattle.peer_command.specs.Runs.{Left, PeerEnd, IsDone, GivesUp, IsPast, MakesTurn, RunsTo, left_of}
@@ -27,10 +28,13 @@ pub record Takes (old : FolderState) (n : Names) (file octets : List ℕ) : Type
   pub file_is : IsTrue (old.tells n.file) → file ≡ octets_at old n.file
   pub bits_are : IsTrue (old.tells n.bits) → octets ≡ octets_at old n.bits
 
--- The outputs hold what is left.
-pub record HoldLeft (f : FolderState) (n : Names) (left : Left) : Type 0 where
-  pub got : Holds f n.got left.got
-  pub trace : Holds f n.trace left.trace
+-- what is left of each output
+abbrev pub held_of : Left → List (List ℕ)
+held_of left = left.got ∷ left.trace ∷ []
+
+-- the outputs hold what is left
+abbrev pub HoldLeft : FolderState → Names → Left → Type 0
+HoldLeft f n left = HoldEach f (outputs_of n) (held_of left)
 
 -- The run of the inputs ended so, and the outputs hold what it left.
 pub record RanTo (old new : FolderState) (n : Names) (end : PeerEnd) : Type 0 where
@@ -50,19 +54,13 @@ pub record StopsBetween (old new : FolderState) (n : Names) : Type 0 where
   pub is_past : IsPast n.role file octets past
   pub holds : HoldLeft new n (left_of n.role past)
 
--- The outputs hold what turns left, and a part of what the next one adds: one of its octets, and nothing of its line; or one of its line,
--- behind all its octets.
-pub data HoldPart (f : FolderState) (n : Names) (before : Left) (octets line : List ℕ) : Type 0 where
-  of_octets : HoldsPart f n.got before.got octets → Holds f n.trace before.trace → HoldPart f n before octets line
-  of_line : Holds f n.got (before.got ++ octets) → HoldsPart f n.trace before.trace line → HoldPart f n before octets line
-
--- It failed in a turn: they hold that, and a part of what this turn adds, whatever it comes to.
+-- It failed in a turn: the outputs hold what the turns before left, and a part of what this turn adds, whatever it comes to.
 pub record StopsWithin (new : FolderState) (n : Names) (file octets : List ℕ) : Type 0 where
   pub turn : ℕ
   pub outcome : Outcome
   pub left : Left
   pub makes : MakesTurn n.role file octets turn outcome left
-  pub holds : HoldPart new n (left_of n.role makes.past) makes.given (turn_line n.role turn makes.last)
+  pub holds : HoldPart new (outputs_of n) (held_of (left_of n.role makes.past)) (makes.given ∷ turn_line n.role turn makes.last ∷ [])
 
 -- The folder failed in a turn of the run of the inputs.
 pub record StopsInTurn (old new : FolderState) (n : Names) : Type 0 where
@@ -72,9 +70,9 @@ pub record StopsInTurn (old new : FolderState) (n : Names) : Type 0 where
   pub stops : StopsWithin new n file octets
 
 -- It failed to read the file in it: the outputs hold all octets of this turn too, and nothing of its line.
-pub record StopsReading (new : FolderState) (n : Names) (file octets : List ℕ) (s : StopsWithin new n file octets) : Type 0 where
-  pub got : Holds new n.got ((left_of n.role s.makes.past).got ++ s.makes.given)
-  pub trace : Holds new n.trace (left_of n.role s.makes.past).trace
+abbrev pub StopsReading : (new : FolderState) (n : Names) (file octets : List ℕ) → StopsWithin new n file octets → Type 0
+StopsReading new n file octets s =
+    HoldEach new (outputs_of n) (joined (held_of (left_of n.role s.makes.past)) (s.makes.given ∷ []))
 
 abbrev pub StopsInReading : FolderState → FolderState → Names → Type 0
 StopsInReading old new n = (s : StopsInTurn old new n) × StopsReading new n s.file s.octets s.stops

@@ -46,9 +46,9 @@ whole-of : RunLaws → (old before new : FolderState) (n : RunNames) (turn : ℕ
 whole-of laws old before new n turn g kept e =
     let w =
     laws.whole (channel_of e.script) (link_of e.script e.files) turn e.left (may-run laws e.script e.files e.takes.limits) e.run in (
-      (λ ts tg. kept n.got_o (told_later g n.got_o tg) ∙ e.holds.got_o (told_later g n.got_o tg)
+      (λ ts tg. kept n.got_o (told_later g n.got_o tg) ∙ e.holds.0 (told_later g n.got_o tg)
           ∙ ap Some (w Originator ∙ e.takes.answ ts)),
-      (λ ts tg. kept n.got_a (told_later g n.got_a tg) ∙ e.holds.got_a (told_later g n.got_a tg) ∙ ap Some (w Answerer ∙ e.takes.orig ts)),
+      (λ ts tg. kept n.got_a (told_later g n.got_a tg) ∙ e.holds.1.0 (told_later g n.got_a tg) ∙ ap Some (w Answerer ∙ e.takes.orig ts)),
     )
 
 -- a run that ended by itself
@@ -69,11 +69,11 @@ ran-of laws old before new n end last e =
       read_off = run-read laws.least c link e.run.turns e.run.ends end e.left e.run.run e.run.ended;
       got = record {
         got_o = Holds-kept before new n.got_o (taken_octets (agreed_srej link) (delay_of e.script) Originator heard) last.goes_on
-            (subst (Holds before n.got_o) (passed Originator) e.holds.got_o) (last.names n.got_o tt);
+            (subst (Holds before n.got_o) (passed Originator) e.holds.0) (last.names n.got_o tt);
         got_a = Holds-kept before new n.got_a (taken_octets (agreed_srej link) (delay_of e.script) Answerer heard) last.goes_on
-            (subst (Holds before n.got_a) (passed Answerer) e.holds.got_a) (last.names n.got_a tt);
+            (subst (Holds before n.got_a) (passed Answerer) e.holds.1.0) (last.names n.got_a tt);
       };
-      trace = Holds-kept before new n.trace e.left.trace last.goes_on e.holds.trace (last.names n.trace tt);
+      trace = Holds-kept before new n.trace e.left.trace last.goes_on e.holds.1.1.0 (last.names n.trace tt);
       few = laws.soon c e.files e.run.turns e.run.ends e.takes.limits e.run.run;
       starved = laws.starved c e.files end e.left e.takes.limits e.run;
     }

@@ -30,8 +30,8 @@ use Rattle.command_base.specs.declared.stop.Stop.TheVariants as stops
 use Rattle.outside_calls.specs.Outputs.{Holds, HoldsPart, KeptOrEmpty, KeepsAll, CreatesPart}
 use Rattle.run_inputs.specs.declared.limits.TheConstants.{LIMITS}
 use Rattle.run_inputs.specs.Words.{RunNames, outputs_of}
-use Rattle.run_world.specs.Names.{Written}
-use Rattle.run_world.specs.Turns.{AddsTurn, AddsChance, StopsAfter, HoldPart, of_orig, of_answ, of_lines}
+use Rattle.run_world.specs.Turns.{AddsTurn, AddsChance, StopsAfter, held_of}
+use Rattle.several_outputs.specs.Outputs.{HoldPart}
 use Rattle.run_command.specs.Names.{names_written}
 use Rattle.run_command.specs.Ends.{RanTo, StopsInTurn, RanBy, EndsBy, Ends as EndsSo}
 use Rattle.run_command.specs.Headline.{KeptOrPrefix}
@@ -102,9 +102,9 @@ both-ran laws old before n end g e =
     let c = channel_of e.script in
     let link = link_of e.script e.files in
     let may = may-run laws e.script e.files e.takes.limits in record {
-      got_o = prefix-of old before n.got_o n.answ e.files.answ e.left.got.orig g e.takes.answ e.holds.got_o
+      got_o = prefix-of old before n.got_o n.answ e.files.answ e.left.got.orig g e.takes.answ e.holds.0
           (laws.prefixes c link end e.left may e.run Originator);
-      got_a = prefix-of old before n.got_a n.orig e.files.orig e.left.got.answ g e.takes.orig e.holds.got_a
+      got_a = prefix-of old before n.got_a n.orig e.files.orig e.left.got.answ g e.takes.orig e.holds.1.0
           (laws.prefixes c link end e.left may e.run Answerer);
     }
 
@@ -115,15 +115,16 @@ part-none f name octets piece holds told = ([], (piece, refl), holds told ∙ ap
 part-all : (f : FolderState) (name octets piece : List ℕ) → Holds f name (octets ++ piece) → HoldsPart f name octets piece
 part-all f name octets piece holds told = (piece, ([], append-nil piece), holds told)
 
-part-o : (f : FolderState) (n : Written) (left more : Left) → HoldPart f n left more → HoldsPart f n.got_o left.got.orig more.got.orig
-part-o f n left more (of_orig got_o got_a trace) = got_o
-part-o f n left more (of_answ got_o got_a trace) = part-all f n.got_o left.got.orig more.got.orig got_o
-part-o f n left more (of_lines got_o got_a trace) = part-all f n.got_o left.got.orig more.got.orig got_o
+part-o : (f : FolderState) (n : RunNames) (left more : Left) → HoldPart f (outputs_of n) (held_of left) (held_of more)
+    → HoldsPart f n.got_o left.got.orig more.got.orig
+part-o f n left more (inl h) = h.0
+part-o f n left more (inr h) = part-all f n.got_o left.got.orig more.got.orig h.0
 
-part-a : (f : FolderState) (n : Written) (left more : Left) → HoldPart f n left more → HoldsPart f n.got_a left.got.answ more.got.answ
-part-a f n left more (of_orig got_o got_a trace) = part-none f n.got_a left.got.answ more.got.answ got_a
-part-a f n left more (of_answ got_o got_a trace) = got_a
-part-a f n left more (of_lines got_o got_a trace) = part-all f n.got_a left.got.answ more.got.answ got_a
+part-a : (f : FolderState) (n : RunNames) (left more : Left) → HoldPart f (outputs_of n) (held_of left) (held_of more)
+    → HoldsPart f n.got_a left.got.answ more.got.answ
+part-a f n left more (inl h) = part-none f n.got_a left.got.answ more.got.answ h.1.0
+part-a f n left more (inr (o, inl h)) = h.0
+part-a f n left more (inr (o, inr h)) = part-all f n.got_a left.got.answ more.got.answ h.0
 
 hears-of : (link : Link) (ts : List Turn) (ends : Ends) (t : Turn) (mid : Ends) (o : Outcome) → TurnIs link ts ends t mid o
     → Hears (length ts) ends t mid
@@ -166,10 +167,10 @@ both-stopped : RunLaws → (old before : FolderState) (n : RunNames) → GoesOn 
 both-stopped laws old before n g e =
     let s = e.stops in record {
       got_o = part-of old before n.got_o n.answ e.files.answ s.left.got.orig s.more.got.orig g e.takes.answ
-          (part-o before (names_written n) s.left s.more s.holds)
+          (part-o before n s.left s.more s.holds)
           (stopped-prefix laws e.script e.files before n e.takes.limits s Originator);
       got_a = part-of old before n.got_a n.orig e.files.orig s.left.got.answ s.more.got.answ g e.takes.orig
-          (part-a before (names_written n) s.left s.more s.holds)
+          (part-a before n s.left s.more s.holds)
           (stopped-prefix laws e.script e.files before n e.takes.limits s Answerer);
     }
 

@@ -1,27 +1,28 @@
 -- From the phases of a run to how it ends.
-use Rattle.std.proofs.Common.{◌≡◌, ◌≢◌, inl, inr, ℕ, ◌≤◌, IsTrue, List, [], ◌∷◌, refl, sym, ◌∙◌, ap, subst, take, arith}
+use Rattle.std.proofs.Common.{◌≡◌, ◌≢◌, inl, inr, ℕ, ◌≤◌, IsTrue, List, [], ◌∷◌, ◌++◌, refl, sym, ◌∙◌, ap, take, arith}
 use Rattle.std.proofs.lemmas.List.{take_all}
-use Rattle.outside_calls.specs.Folder.{FolderState, octets_at, GoesOn, KeepsName, OnlyReads, Rose, CountsStand}
-use Rattle.outside_calls.specs.Steps.{GoesOn-trans, KeepsName-trans, octets-kept, told_later, CountsStand-trans}
+use Rattle.outside_calls.specs.Folder.{FolderState, octets_at, GoesOn, KeepsName, OnlyReads, CountsStand}
+use Rattle.outside_calls.specs.Steps.{GoesOn-trans, KeepsName-trans, octets-kept, told_later}
 use Rattle.roles.specs.Both.{Both}
 use Rattle.noise_script.specs.Script.{ScriptValue}
 use Rattle.line_run.specs.Ends.{RunEnd}
 use Rattle.line_run.specs.Ends as runs
 use Rattle.run_world.specs.Limits.{file_limit}
-use Rattle.run_world.specs.Names.{Written, ReadRose}
 use Rattle.run_world.specs.declared.step.RunFault.{RunFault}
 use Rattle.run_world.specs.declared.step.RunFault.TheVariants as faults
-use Rattle.run_world.specs.World.{AreApart, KnowsFiles, OnlyOutputs as OnlyWritten}
+use Rattle.run_world.specs.World.{KnowsFiles}
 use Rattle.run_world.specs.Turn.{FaultCounts}
 use Rattle.command_base.specs.declared.stop.Stop.{Stop}
 use Rattle.command_base.specs.declared.stop.Stop.TheVariants as stops
 use Rattle.command_base.specs.Inputs.{IsWithin}
-use Rattle.outside_calls.specs.Outputs.{IsNoneOf, OnlyOutputs, KeepsEach, CreatesPart, AreApart as AreDistinct}
+use Rattle.outside_calls.specs.Outputs.{IsNoneOf, OnlyOutputs, KeepsEach, CreatesPart, AreApart}
+use Rattle.several_outputs.specs.Outputs.{AreApartFrom, OnlyPuts}
+use Rattle.several_outputs.proofs.Putting.{SomeRose-earlier}
 use Rattle.command_base.specs.Stops.{StopCounts}
 use Rattle.command_base.proofs.Creating.{CreatesPart-earlier}
 use Rattle.run_inputs.specs.declared.limits.Limits.{Limits}
 use Rattle.run_inputs.specs.declared.limits.TheConstants.{LIMITS}
-use Rattle.run_inputs.specs.Words.{RunNames, AreNoneOf, inputs_of, outputs_of}
+use Rattle.run_inputs.specs.Words.{RunNames, AreNoneOf, files_of, inputs_of, outputs_of}
 use Rattle.run_inputs.specs.Inputs.{Refuses}
 use Rattle.run_world.specs.Turns.{RunEnds, RunStops, RunStopsReading, FaultEnds}
 use Rattle.run_command.specs.Names.{names_written}
@@ -49,30 +50,30 @@ ends-creating l old mid new n script b c = record {
   creates = CreatesPart-earlier old mid new (outputs_of n) b.reads.goes_on (keeps-each old mid (outputs_of n) b.reads) c;
 }
 
+-- a name that is none of some is none of the first of them
+none-front : (name : List ℕ) (front behind : List (List ℕ)) → IsNoneOf name (front ++ behind) → IsNoneOf name front
+none-front name [] behind apart = tt
+none-front name (first ∷ front) behind apart = (apart.0, none-front name front behind apart.1)
+
+none-fronts : (names front behind : List (List ℕ)) → AreNoneOf names (front ++ behind) → AreNoneOf names front
+none-fronts [] front behind apart = tt
+none-fronts (name ∷ names) front behind apart = (none-front name front behind apart.0, none-fronts names front behind apart.1)
+
 -- names that the words keep apart
-pub apart-names : (n : RunNames) → AreDistinct (outputs_of n) → AreNoneOf (outputs_of n) (inputs_of n) → AreApart (names_written n)
-apart-names n d i = record {
-  got = d.0.0;
-  got_o_trace = d.0.1.0;
-  got_a_trace = d.1.0.0;
-  got_o_orig = i.0.0;
-  got_o_answ = i.0.1.0;
-  got_a_orig = i.1.0.0;
-  got_a_answ = i.1.0.1.0;
-  trace_orig = i.1.1.0.0;
-  trace_answ = i.1.1.0.1.0;
-}
+pub apart-names : (n : RunNames) → AreApart (outputs_of n) → AreNoneOf (outputs_of n) (inputs_of n)
+    → AreApartFrom (files_of n) (outputs_of n)
+apart-names n d i = (d, none-fronts (outputs_of n) (files_of n) (n.script ∷ []) i)
 
 -- the outputs alone were touched
-pub only-written : (a b : FolderState) (n : RunNames) → OnlyWritten a b (names_written n) → OnlyOutputs a b (outputs_of n)
-only-written a b n o = record { goes_on = o.goes_on; names = λ other apart. o.names other apart.0 apart.1.0 apart.1.1.0 }
+pub only-put : {a b : FolderState} (names : List (List ℕ)) → OnlyPuts a b names → OnlyOutputs a b names
+only-put names o = record { goes_on = o.goes_on; names = o.names }
 
 -- the phases of a run, once its inputs were opened
 pub record Phases (l : Limits) (old mid now next : FolderState) (n : RunNames) (script : ScriptValue) : Type 0 where
   pub begun : IsBegun l old mid n script
   pub creates : OnlyOutputs mid now (outputs_of n)
-  pub turns : OnlyWritten now next (names_written n)
-  pub apart : AreApart (names_written n)
+  pub turns : OnlyPuts now next (outputs_of n)
+  pub apart : AreNoneOf (outputs_of n) (files_of n)
   pub stand : CountsStand mid now
 
 -- a file as it was before all of them
@@ -91,9 +92,9 @@ takes old mid now next n script files p k =
       limits = p.begun.limits;
       within = k.within;
       orig = file-is old next n.orig files.orig LIMITS.file on
-          (kept n.orig p.apart.got_o_orig p.apart.got_a_orig p.apart.trace_orig) p.begun.opens.files.0 (omega arith) k.orig;
+          (kept n.orig p.apart.0.0 p.apart.1.0.0 p.apart.1.1.0.0) p.begun.opens.files.0 (omega arith) k.orig;
       answ = file-is old next n.answ files.answ LIMITS.file on
-          (kept n.answ p.apart.got_o_answ p.apart.got_a_answ p.apart.trace_answ) p.begun.opens.files.1.0 (omega arith) k.answ;
+          (kept n.answ p.apart.0.1.0 p.apart.1.0.1.0 p.apart.1.1.0.1.0) p.begun.opens.files.1.0 (omega arith) k.answ;
     }
   where
     on : GoesOn old next
@@ -104,7 +105,7 @@ takes old mid now next n script files p k =
         let other : IsNoneOf name (outputs_of n) = (λ e. o (sym e), (λ e. a (sym e), (λ e. t (sym e), tt))) in
         KeepsName-trans old mid next name p.begun.reads.goes_on (p.begun.reads.names name)
         (KeepsName-trans mid now next name p.creates.goes_on (p.creates.names name other)
-        (p.turns.names name other.0 other.1.0 other.1.1.0))
+        (p.turns.names name other))
 
 -- the run ended by itself
 pub ran-to : (old mid now next : FolderState) (n : RunNames) (script : ScriptValue) (end : RunEnd) → Phases LIMITS old mid now next n script
@@ -130,11 +131,6 @@ stops-in-reading : (old mid now next : FolderState) (n : RunNames) (script : Scr
 unfolding stops-in
 stops-in-reading old mid now next n script p r = (stops-in old mid now next n script p r.0, r.1)
 
--- a file that is sent was not read, behind what counted no fault
-rose-later : (old mid next : FolderState) (n : Written) → CountsStand old mid → ReadRose mid next n → ReadRose old next n
-rose-later old mid next n s (inl rose) = inl (subst (λ (x : ℕ). Rose x (next.read_faults n.orig)) (s.faults.reads n.orig) rose)
-rose-later old mid next n s (inr rose) = inr (subst (λ (x : ℕ). Rose x (next.read_faults n.answ)) (s.faults.reads n.answ) rose)
-
 -- a turn's fault ended the run
 pub ends-in-turn : (old mid now next : FolderState) (n : RunNames) (script : ScriptValue) (fault : RunFault)
     → Phases LIMITS old mid now next n script → FaultCounts now next (names_written n) fault → FaultEnds script next (names_written n) fault
@@ -142,7 +138,8 @@ pub ends-in-turn : (old mid now next : FolderState) (n : RunNames) (script : Scr
 ends-in-turn old mid now next n script faults.ReadFault p counts e =
     inr (
       refl,
-      rose-later old now next (names_written n) (CountsStand-trans p.begun.stand p.stand) counts,
+      SomeRose-earlier old.read_faults now.read_faults next.read_faults (files_of n)
+          (λ name. p.stand.faults.reads name ∙ p.begun.stand.faults.reads name) counts,
       stops-in-reading old mid now next n script p e,
     )
 ends-in-turn old mid now next n script faults.WriteFault p counts e = inr (stops-in old mid now next n script p e)
@@ -160,10 +157,9 @@ ends-in-turn old mid now next n script (faults.LinkLost role segment turn) p cou
 pub turn-counts : (now next : FolderState) (n : RunNames) (fault : RunFault) → FaultCounts now next (names_written n) fault
     → StopCounts now next (inputs_of n) (outputs_of n) (fault_stop fault)
 turn-counts now next n faults.ReadFault (inl rose) = inl rose
-turn-counts now next n faults.ReadFault (inr rose) = inr (inl rose)
-turn-counts now next n faults.WriteFault (inl rose) = inl rose
-turn-counts now next n faults.WriteFault (inr (inl rose)) = inr (inl rose)
-turn-counts now next n faults.WriteFault (inr (inr rose)) = inr (inr (inl rose))
+turn-counts now next n faults.ReadFault (inr (inl rose)) = inr (inl rose)
+turn-counts now next n faults.ReadFault (inr (inr never)) = absurd never
+turn-counts now next n faults.WriteFault rose = rose
 turn-counts now next n faults.NoMemory counts = counts
 turn-counts now next n (faults.LineLost role symbol) stand = (tt, stand)
 turn-counts now next n (faults.ChanceMatch role turn) stand = (tt, stand)

@@ -8,7 +8,6 @@ use Rattle.noise_script.specs.Script.{ScriptValue, IsInLimits}
 use Rattle.line_run.specs.Ends.{RunEnd, Left, RunsTo}
 use Rattle.line_run.specs.Ends as runs
 use Rattle.line_run.specs.Scripted.{channel_of, link_of}
-use Rattle.run_world.specs.Names.{ReadRose}
 use Rattle.run_world.specs.Link.{AreWithin}
 use Rattle.run_world.specs.declared.step.RunFault.{RunFault}
 use Rattle.run_world.specs.declared.step.RunFault.TheVariants as faults
@@ -22,9 +21,10 @@ use Rattle.command_base.specs.Lines.{done_line}
 use Rattle.outside_calls.specs.Outputs.{KeepsAll, SaysNothing, CreatesPart}
 use Rattle.run_inputs.specs.declared.limits.Limits.{Limits}
 use Rattle.run_inputs.specs.declared.limits.TheConstants.{LIMITS}
-use Rattle.run_inputs.specs.Words.{RunNames, inputs_of, outputs_of}
+use Rattle.run_inputs.specs.Words.{RunNames, files_of, inputs_of, outputs_of}
 use Rattle.run_inputs.specs.Inputs.{Opens, RefusesOwn, FailsToRead}
-use Rattle.run_world.specs.Turns.{HoldLeft, StopsAfter, StopsReading}
+use Rattle.several_outputs.specs.Outputs.{HoldEach, SomeRose}
+use Rattle.run_world.specs.Turns.{StopsAfter, StopsReading, held_of}
 use Rattle.run_command.specs.Names.{names_written}
 
 -- The inputs were opened, nothing else was done, and no fault was counted: they are within their limits, and this is the script.
@@ -49,7 +49,7 @@ pub record RanTo (l : Limits) (old new : FolderState) (n : RunNames) (end : RunE
   pub takes : Takes l old n script files
   pub left : Left
   pub run : RunsTo (channel_of script) (link_of script files) end left
-  pub holds : HoldLeft new (names_written n) left
+  pub holds : HoldEach new (outputs_of n) (held_of left)
 
 -- The folder failed in a turn of the run of the inputs.
 pub record StopsInTurn (l : Limits) (old new : FolderState) (n : RunNames) : Type 0 where
@@ -82,7 +82,7 @@ abbrev pub EndsBy : Limits → FolderState → FolderState → RunNames → Stop
 EndsBy l old new n (Own answer) = (KeepsAll old new × RefusesOwn l old n answer) ⊎ RanBy l old new n answer
 EndsBy l old new n (Read fault) =
     (KeepsAll old new × FailsToRead l old new n fault)
-    ⊎ ((fault ≡ folder.Failed) × ReadRose old new (names_written n) × StopsInReading l old new n)
+    ⊎ ((fault ≡ folder.Failed) × SomeRose old.read_faults new.read_faults (files_of n) × StopsInReading l old new n)
 EndsBy l old new n (Write fault) = StopsCreating l old new n ⊎ StopsInTurn l old new n
 EndsBy l old new n (Say fault) = ⊥
 EndsBy l old new n NoMemory = KeepsAll old new × IsWithin old n.script l.script

@@ -17,7 +17,6 @@ use Rattle.survivors.specs.V32.{line_depth, line_trellis}
 use Rattle.exact_decoder.specs.declared.decoder.Lost.{Lost}
 use Rattle.roles.specs.declared.role.Role.{Role}
 use Rattle.roles.specs.Both.{of}
-use Rattle.lapm_frames.specs.declared.frame.Frame.{Frame}
 use Rattle.lapm_frames.specs.declared.seen.Seen.{Seen}
 use Rattle.lapm_frames.specs.declared.sent.Sent.{Sent}
 use Rattle.lapm_frames.specs.declared.heard.Heard.{Heard}
@@ -37,12 +36,12 @@ use Rattle.line_laws.specs.Laws.{LossStays}
 use Rattle.link_account.specs.Numbers.{IsNumbered}
 use Rattle.link_run.specs.Run.{Spoken, Turn, arrival}
 use Rattle.link_run.specs.Carried.{sent_in, sent_ago, on_line}
-use Rattle.line_run.specs.Sampled.{Channel, signal_in, signals, bits_of, Arrives, ArrivesAs as RunArrives, IsHeardOf, LosesLine}
+use Rattle.line_run.specs.Sampled.{Channel, signal_in, signals, signals_before, bits_of, Arrives, ArrivesAs as RunArrives, IsHeardOf, LosesLine}
 use Rattle.run_world.specs.declared.slot.Slot.{Slot}
 use Rattle.run_world.specs.declared.direction.DelayedLine.{DelayedLine}
 use Rattle.run_world.specs.OnWay.{AreOnWay, OnWay, WaitsFor, HasArrived, ArrivesAs, signals_in}
 use Rattle.run_world.proofs.Waiting.{many-turns, few-turns, same-count, all-wait, none-gone, none-sent, Front, front, behind}
-use Rattle.run_world.proofs.Waiting.{signals-more, first-of}
+use Rattle.run_world.proofs.Waiting.{signals-more, first-of, alone-before}
 
 few-of : (c : Channel) (role : Role) (d : ℕ) (ts : List Turn) (slots : List Slot)
     → AreOnWay c role (signals c role (drop d ts)) slots (on_line d role ts) → length slots < d → length ts < d
@@ -74,6 +73,7 @@ not-yet d c ts h less =
       symbols = h.symbols;
       delay = h.delay;
       some = h.some;
+      alone = h.alone;
       room = h.room;
     }
 
@@ -106,7 +106,7 @@ pub front-of : (d : DelayedLine) (c : Channel) (ts : List Turn) (slot : Slot) (s
     → d.slots.items ≡ slot ∷ slots → d.delay ≤ length d.slots.items → FrontOf d c ts slot slots
 front-of d c ts slot slots h e many =
     let some : d.delay ≡ suc (d.delay - 1) = omega (arith, h.some) in
-    front c d.sender d.delay (d.delay - 1) ts slot slots some (subst (λ l. d.delay ≤ length l) e many)
+    front c d.sender d.delay (d.delay - 1) ts slot slots h.alone some (subst (λ l. d.delay ≤ length l) e many)
     (subst (λ l. AreOnWay c d.sender (signals c d.sender (drop d.delay ts)) l (on_line d.delay d.sender ts)) e h.slots)
 
 -- what the line makes of it
@@ -157,13 +157,15 @@ arrives-so once d new c ts slot slots check heard f h sender delay items capacit
     arrives = record {
       before = p.before;
       samples = p.upto;
-      recorded_before = before;
+      recorded_before = subst (λ l. Records c.script role (signal_bits (4 * c.symbols) l) p.before)
+          (sym (alone-before c role (drop d.delay ts) h.alone)) before;
       recorded = upto;
       not_lost = not-lost;
-      frames = p.frames;
+      octets = p.octets;
       patterns = p.patterns;
-      received = subst (λ r. Receives check r c.dlci p.before p.upto p.frames p.patterns) from p.received;
-      outcome = subst (λ s. IsOutcome (loses c.script role (length (drop d.delay ts))) s p.frames p.patterns heard) f.is.sent p.outcome;
+      received = subst (λ r. Receives check r p.before p.upto p.octets p.patterns) from p.received;
+      outcome = subst (λ s. IsOutcome (loses c.script role (length (drop d.delay ts))) role c.dlci s p.octets p.patterns heard) f.is.sent
+          (subst (λ r. IsOutcome (loses c.script role (length (drop d.delay ts))) r c.dlci slot.sent p.octets p.patterns heard) from p.outcome);
     }
 
     is-heard : IsHeardOf c role ts check heard
@@ -183,6 +185,7 @@ arrives-so once d new c ts slot slots check heard f h sender delay items capacit
       symbols = ap (λ w. w.symbols) writer ∙ h.symbols;
       delay = delay ∙ h.delay ∙ ap (delay_of c.script) (sym sender);
       some = subst (λ n. 1 ≤ n) (sym delay) h.some;
+      alone = h.alone;
       room = capacity ∙ h.room ∙ sym delay;
     })
 
@@ -247,19 +250,19 @@ numbered-sent slots.Adp h = tt
 numbered-sent slots.Flags h = tt
 numbered-sent (slots.Frame frame) h = let f = h.0 in (f.0, f.1)
 
-as-heard : (lost : Bool) (s : Sent) (frames : List Frame) (patterns : List Seen) (heard : Heard) → IsSendable s
-    → IsOutcome lost s frames patterns heard → IsNumbered (arrival heard)
-as-heard lost s frames patterns Nothing h o = tt
-as-heard lost s frames patterns (LostSlot t) h o = tt
-as-heard lost s frames patterns Chance h o = tt
-as-heard true s frames patterns (Passed t) h o = absurd o
-as-heard false s frames patterns (Passed t) h o = subst (λ x. IsNumbered (arrival (Passed x))) (sym o.0) (numbered-sent s h)
+as-heard : (lost : Bool) (sender : Role) (dlci : ℕ) (s : Sent) (octets : List (List ℕ)) (patterns : List Seen) (heard : Heard)
+    → IsSendable s → IsOutcome lost sender dlci s octets patterns heard → IsNumbered (arrival heard)
+as-heard lost sender dlci s octets patterns Nothing h o = tt
+as-heard lost sender dlci s octets patterns (LostSlot t) h o = tt
+as-heard lost sender dlci s octets patterns Chance h o = tt
+as-heard true sender dlci s octets patterns (Passed t) h o = absurd o
+as-heard false sender dlci s octets patterns (Passed t) h o = subst (λ x. IsNumbered (arrival (Passed x))) (sym o.0) (numbered-sent s h)
 
 pub numbered-so : (c : Channel) (d : DelayedLine) (ts : List Turn) (slot : Slot) (slots : List Slot) (f : FrontOf d c ts slot slots)
-    (lost : Bool) (frames : List Frame) (patterns : List Seen) (heard : Heard)
-    → IsOutcome lost slot.sent frames patterns heard → IsNumbered (arrival heard)
-numbered-so c d ts slot slots f lost frames patterns heard o =
-    as-heard lost slot.sent frames patterns heard (subst IsSendable (sym f.is.sent) f.is.sendable) o
+    (lost : Bool) (sender : Role) (octets : List (List ℕ)) (patterns : List Seen) (heard : Heard)
+    → IsOutcome lost sender c.dlci slot.sent octets patterns heard → IsNumbered (arrival heard)
+numbered-so c d ts slot slots f lost sender octets patterns heard o =
+    as-heard lost sender c.dlci slot.sent octets patterns heard (subst IsSendable (sym f.is.sent) f.is.sendable) o
 
 -- ---- sending
 
@@ -305,6 +308,7 @@ sends-so d new c ts t slot spoken h e sender delay items capacity line symbols s
       symbols = symbols ∙ h.symbols;
       delay = delay ∙ h.delay ∙ ap (delay_of c.script) (sym sender);
       some = subst (λ n. 1 ≤ n) (sym delay) h.some;
+      alone = h.alone;
       room = capacity ∙ h.room ∙ sym delay;
     }))
   where
@@ -339,7 +343,8 @@ passed-few d c ts h = let few = signals-few (drop d.delay ts) in omega (arith, h
     signals-few (t ∷ us) =
         let rest = signals-few us in
         let last = one (of d.sender t).sent in
-        omega (arith, rest, last, length-append (signals c d.sender us) (signal_in c d.sender (of d.sender t).sent))
+        let front = ap (λ (l : List Signal). length l) (alone-before c d.sender us h.alone) in
+        omega (arith, rest, last, front, length-append (signals_before c d.sender us) (signal_in c d.sender (of d.sender t).sent))
 
 -- what the line's call says, whatever passed before
 abbrev pub PassesAll : DelayedLine → DelayedLine → Slot → Check → ScriptValue → ℕ → Bool → Result Heard Lost → Type 0
@@ -415,7 +420,7 @@ numbered-by d new c ts slot check r h first many p = go r (passes-front d new c 
         (signal_of f.spoken.check d.sender c.dlci f.spoken.sent) (signals_in c d.sender (on_line (d.delay - 1) d.sender ts)) check c.dlci
         (loses c.script d.sender (length (drop d.delay ts))) slot.sent r → IfOk r (λ heard. IsNumbered (arrival heard))
     go (Ok heard) q = numbered-so c d ts slot slots f
-        (loses c.script d.sender (length (drop d.delay ts))) q.frames q.patterns heard q.outcome
+        (loses c.script d.sender (length (drop d.delay ts))) (sender_of new.line) q.octets q.patterns heard q.outcome
     go (Err lost) q = tt
 
 pub front-number : (d : DelayedLine) (c : Channel) (ts : List Turn) (slot : Slot) → WaitsFor d c ts → Some slot ≡ slice_get d.slots.items 0

@@ -1,10 +1,9 @@
 -- Parts of a turn of both ends.
 use Rattle.std.proofs.Common.{◌≡◌, ℕ, ◌+◌, Bool, true, false, is_ok, List, length, take, slice_get, arith, refl, sym, ◌∙◌, ap, Option}
 use Rattle.std.proofs.Common.{Result, Ok, Err}
-use Rattle.std.proofs.Common.{inl, inr, ◌++◌, Some}
 use Rattle.std.specs.Option.{option_map}
-use Rattle.outside_calls.specs.Folder.{FolderState, GoesOn, KeepsName, Adds, OnlyReads, OnlyWrites}
-use Rattle.outside_calls.specs.Steps.{GoesOn-trans, KeepsName-trans, told_later, octets-kept}
+use Rattle.outside_calls.specs.Folder.{FolderState, OnlyReads}
+use Rattle.outside_calls.specs.Steps.{told_later, octets-kept}
 use Rattle.std.proofs.lemmas.Bool.{false≢true}
 use Rattle.roles.specs.declared.role.Role.{Role}
 use Rattle.noise_script.specs.Script.{ScriptValue, break_of}
@@ -20,7 +19,6 @@ use Rattle.line_run.specs.Scripted.{breaks_of, busy_of, BreaksAreTheScripts, Pau
 use Rattle.stations.specs.declared.station.Station.{Station}
 use Rattle.stations.specs.Station.{Stands, HearsAs, SpeaksAs, ReadsOn, IsCounted, line_of}
 use Rattle.run_world.specs.Link.{HearsOn}
-use Rattle.run_world.specs.Names.{Written, OnlyGot}
 
 pub heard-well : (s : Station) (file : List ℕ) (a : Account) (turn : ℕ) (arrived : Arrived) → is_ok (hear turn arrived a) ≡ true
     → HearsAs (hear turn arrived a) file s (Ok tt) → HearsOn s file a turn arrived
@@ -87,20 +85,3 @@ reads-later start mid name limit file a others only r = record {
   told = λ told e. r.told (told_later only.goes_on name told) (e
       ∙ ap (take limit) (sym (octets-kept start mid name (only.names name) told)));
 }
-
--- Writing to the one received file, and then to the other.
-pub got-both : (start mid end : FolderState) (n : Written) → OnlyWrites start mid n.got_o → OnlyWrites mid end n.got_a → OnlyGot n start end
-got-both start mid end n h k = record {
-  goes_on = GoesOn-trans h.goes_on k.goes_on;
-  names = λ other orig answ. KeepsName-trans start mid end other h.goes_on (h.names other orig) (k.names other answ);
-  said = k.said ∙ h.said;
-  read_faults = λ other. k.read_faults other ∙ h.read_faults other;
-}
-
--- What is added behind a name that was kept is added to what it held before.
-pub kept-Adds : (start mid end : FolderState) (name xs : List ℕ) → GoesOn start mid → KeepsName start mid name → Adds mid end name xs
-    → Adds start end name xs
-kept-Adds start mid end name xs on kept h = elim h [
-  | inl none ↦ inl (none.0, KeepsName-trans start mid end name on kept none.1)
-  | inr put ↦ inr (λ told. put (told_later on name told) ∙ ap (λ o. Some (o ++ xs)) (octets-kept start mid name kept told))
-]

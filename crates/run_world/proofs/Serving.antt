@@ -24,7 +24,8 @@ use Rattle.run_world.specs.Lines.{LinesWait, HaveArrived}
 use Rattle.run_world.specs.World.{HasPassed, HasPassedToo}
 use Rattle.run_world.specs.declared.each.Each.{Each}
 use Rattle.lapm_frames.specs.declared.heard.Heard.{Heard}
-use Rattle.run_world.specs.Names.{Written, ReadCause}
+use Rattle.run_world.specs.Names.{Written, inputs_of}
+use Rattle.several_outputs.specs.Outputs.{SomeCause}
 use Rattle.run_world.specs.declared.step.RunFault.{RunFault}
 use Rattle.run_world.specs.declared.step.RunFault.TheVariants.{ReadFault}
 use Rattle.run_world.specs.declared.step.Step.{Step}
@@ -140,7 +141,7 @@ reading-fault x Failed e = subst IsReading (sym e) tt
 reading-fault x NoMemory e = subst IsReading (sym e) tt
 
 pub reading-counts : (old new : FolderState) (n : Written) (x : RunFault) (fault : FolderFault) → x ≡ fault_of ReadFault fault
-    → ReadCause old new n (Err fault) → (IsErrOf {T = Unit {0}} {E = FolderFault} (Err fault) NoMemory → FaultsStand old new)
+    → SomeCause {T = Unit {0}} old.read_faults new.read_faults (inputs_of n) old.refusals new.refusals (Err fault) → (IsErrOf {T = Unit {0}} {E = FolderFault} (Err fault) NoMemory → FaultsStand old new)
     → FaultCounts old new n x
 reading-counts old new n x Failed e cause spared = subst (FaultCounts old new n) (sym e) (cause.failed refl)
 reading-counts old new n x NoMemory e cause spared = subst (FaultCounts old new n) (sym e) (spared refl, cause.memory refl)

@@ -184,12 +184,12 @@ pub all-codable : SlotsAreCodable
 all-codable law script files ts ends heard mid from_orig from_answ so sa k l checks limits o t h sendo senda eo ea co ca =
     let orig : IsCodable (check_of t.orig.account) Originator 0
     (slot_symbols (longest_of script)) l.from_orig.line.writer.phase t.orig.sent =
-    law script files ts ends (turn_in heard ends mid (sent_by t.orig t.answ))
-    (ends_of t.orig t.answ) limits o.run t.heard_in t.going Originator (spoken t.orig)
+    law (channel_of script) files ts ends (turn_in heard ends mid (sent_by t.orig t.answ))
+    (ends_of t.orig t.answ) limits o.run t.heard_in t.going Originator (spoken t.orig) 0
     l.from_orig.line.writer.phase h.from_orig.line.writer.low refl (subst IsSendable t.orig_sent sendo) in
     let answ : IsCodable (check_of t.answ.account) Answerer 0 (slot_symbols (longest_of script)) l.from_answ.line.writer.phase t.answ.sent =
-    law script files ts ends (turn_in heard ends mid (sent_by t.orig t.answ))
-    (ends_of t.orig t.answ) limits o.run t.heard_in t.going Answerer (spoken t.answ)
+    law (channel_of script) files ts ends (turn_in heard ends mid (sent_by t.orig t.answ))
+    (ends_of t.orig t.answ) limits o.run t.heard_in t.going Answerer (spoken t.answ) 0
     l.from_answ.line.writer.phase h.from_answ.line.writer.low refl (subst IsSendable t.answ_sent senda) in
     record {
       orig = rw (co, h.orig_sends, h.from_orig.symbols, eo, t.orig_sent) orig;

@@ -1,6 +1,8 @@
 -- A whole turn.
-use Rattle.std.proofs.Common.{◌≡◌, inl, ℕ, List, ◌∷◌, length, sym, ◌∙◌, ap, subst, Result, Ok, Err}
+use Rattle.std.proofs.Common.{◌≡◌, inl, inr, ℕ, List, [], ◌∷◌, length, sym, ◌∙◌, ap, subst, Result, Ok, Err}
 use Rattle.outside_calls.specs.Folder.{FolderState, OnlyWrites}
+use Rattle.several_outputs.specs.Outputs.{OnlyPuts, AddEach, AddPart}
+use Rattle.several_outputs.proofs.Putting.{AddEach-next, AddPart-next, AddPart-none, AddPart-longer}
 use Rattle.roles.specs.declared.role.Role.{Role}
 use Rattle.roles.specs.declared.role.Role.TheVariants.{Originator, Answerer}
 use Rattle.roles.specs.Role.{other}
@@ -19,20 +21,20 @@ use Rattle.line_run.specs.Sampled.{HeardIn, IsHeardOf}
 use Rattle.line_run.specs.Scripted.{channel_of, link_of, ScriptsMayPlay, ScriptsHaveDelays}
 use Rattle.line_run.specs.LineLaws.{SamplesAreCarried, OneIsCarried}
 use Rattle.run_world.specs.declared.each.Each.{Each}
-use Rattle.run_world.specs.Names.{Written}
+use Rattle.run_world.specs.Names.{Written, outputs_of, received_of}
 use Rattle.run_world.specs.Lines.{HaveArrived}
-use Rattle.run_world.specs.Link.{AreCounted, AreIdle, AreWithin}
+use Rattle.run_world.specs.Link.{AreCounted, AreIdle, AreWithin, octets_of}
 use Rattle.run_world.specs.declared.world.World.{World}
 use Rattle.run_world.specs.declared.step.RunFault.{RunFault}
 use Rattle.run_world.specs.declared.step.RunFault.TheVariants as run_faults
-use Rattle.run_world.specs.World.{IsReady, StayKnown, AreApart, OnlyOutputs}
+use Rattle.run_world.specs.World.{IsReady, StayKnown}
 use Rattle.run_world.specs.Tally.{IsFew}
-use Rattle.run_world.specs.Turn.{DoneIn, MakesTurn, HasDelivered, Stops, StopsReading, EndsBy, EndsInTurn, GoesOnBy, IsWriting, IsReading}
-use Rattle.run_world.specs.Turn.{WritesTurn}
-use Rattle.run_world.specs.Mid.{Overhears, HasPart, HasGone, AddsLines, AddsPart, Finishes, SpeaksLast, turn_in}
+use Rattle.run_world.specs.Turn.{DoneIn, MakesTurn, Stops, StopsReading, EndsBy, EndsInTurn, GoesOnBy, IsWriting, IsReading}
+use Rattle.run_world.specs.Turn.{added}
+use Rattle.run_world.specs.Mid.{Overhears, HasGone, AddsLines, AddsPart, Finishes, SpeaksLast, turn_in}
 use Rattle.run_world.proofs.Hearing.{heard-in, none-sent, runs-over}
 use Rattle.run_world.proofs.Serving.{hears-in}
-use Rattle.run_world.proofs.Folders.{part-none, writes-none, writes-turn, writes-part, stay-known}
+use Rattle.run_world.proofs.Folders.{IsApart, stay-known}
 
 -- ---- what a turn would come to
 
@@ -138,7 +140,7 @@ reading-ends script a b n files ts ends (run_faults.LinkLost role segment turn) 
 pub stops-handing : MakingLaws
     → (script : ScriptValue) (a b : FolderState) (n : Written) (files : Both (List ℕ)) (ts : List Turn) (ends : Ends) (heard : Each Heard)
     (mid : Ends)
-    → IsInLimits script → AreApart n → AreWithin files → OnlyOutputs a b n → Overhears script files ts ends heard mid → HasPart a b n mid
+    → IsInLimits script → IsApart n → AreWithin files → OnlyPuts a b (outputs_of n) → Overhears script files ts ends heard mid → AddPart a b (outputs_of n) (octets_of mid)
     → Stops script a b n files ts ends
 stops-handing laws script a b n files ts ends heard mid limits apart within only o part =
     let m = making laws script files ts ends heard mid limits o in
@@ -149,15 +151,15 @@ stops-handing laws script a b n files ts ends heard mid limits apart within only
       mid = mid;
       outcome = m.outcome;
       makes = m.makes;
-      writes = part-none a b n mid (turn_text (length ts) m.turn) part;
+      writes = AddPart-longer a b (outputs_of n) (octets_of mid) (turn_text (length ts) m.turn ∷ []) part;
     })
 
 -- as the files are read,
 pub stops-reading : MakingLaws
     → (script : ScriptValue) (a b : FolderState) (n : Written) (files : Both (List ℕ)) (ts : List Turn) (ends : Ends) (heard : Each Heard)
     (mid : Ends)
-    → IsInLimits script → AreApart n → AreWithin files → OnlyOutputs a b n → Overhears script files ts ends heard mid
-    → HasDelivered a b n mid → StopsReading script a b n files ts ends
+    → IsInLimits script → IsApart n → AreWithin files → OnlyPuts a b (outputs_of n) → Overhears script files ts ends heard mid
+    → AddEach a b (outputs_of n) (octets_of mid) → StopsReading script a b n files ts ends
 stops-reading laws script a b n files ts ends heard mid limits apart within only o delivered =
     let m = making laws script files ts ends heard mid limits o in (
       record {
@@ -167,15 +169,15 @@ stops-reading laws script a b n files ts ends heard mid limits apart within only
         mid = mid;
         outcome = m.outcome;
         makes = m.makes;
-        writes = writes-none a b n mid (turn_text (length ts) m.turn) delivered;
+        writes = AddPart-none a b (received_of n) n.trace [] (octets_of mid) (turn_text (length ts) m.turn) [] tt delivered;
       },
       delivered,
     )
 
 -- and as the lines go out.
 pub stops-writing : (script : ScriptValue) (a b c : FolderState) (n : Written) (files others : Both (List ℕ)) (ts : List Turn)
-    (ends mid : Ends) → AreApart n
-    → StayKnown a c n files others → OnlyOutputs a b n → HasDelivered a b n mid → OnlyWrites b c n.trace
+    (ends mid : Ends) → IsApart n
+    → StayKnown a c n files others → OnlyPuts a b (outputs_of n) → AddEach a b (outputs_of n) (octets_of mid) → OnlyWrites b c n.trace
     → AddsPart script b c n others ts ends mid → Stops script a c n files ts ends
 stops-writing script a b c n files others ts ends mid apart known only delivered w p =
     inl (record {
@@ -185,14 +187,14 @@ stops-writing script a b c n files others ts ends mid apart known only delivered
       mid = mid;
       outcome = p.outcome;
       makes = p.makes;
-      writes = writes-part a b c n mid (turn_text (length ts) p.turn) apart only.goes_on delivered w p.trace;
+      writes = AddPart-next a b c (received_of n) n.trace [] (octets_of mid) _ tt apart.0 only.goes_on delivered w p.trace;
     })
 
 -- ---- the run ends in this turn
 
 pub ends-in : (script : ScriptValue) (a b c : FolderState) (n : Written) (files others : Both (List ℕ)) (ts : List Turn) (ends mid : Ends)
     (outcome : Outcome) (number : ℕ)
-    → AreApart n → number ≡ length ts → StayKnown a c n files others → OnlyOutputs a b n → HasDelivered a b n mid → OnlyWrites b c n.trace
+    → IsApart n → number ≡ length ts → StayKnown a c n files others → OnlyPuts a b (outputs_of n) → AddEach a b (outputs_of n) (octets_of mid) → OnlyWrites b c n.trace
     → AddsLines script b c n others ts ends mid outcome → EndsInTurn script a c n files ts ends outcome number
 ends-in script a b c n files others ts ends mid outcome number apart e known only delivered w p = record {
   number_is = e;
@@ -201,12 +203,12 @@ ends-in script a b c n files others ts ends mid outcome number apart e known onl
   turn = p.turn;
   mid = mid;
   makes = p.makes;
-  writes = writes-turn a b c n mid (turn_text (length ts) p.turn) apart only.goes_on delivered w p.trace;
+  writes = AddEach-next a b c (received_of n) n.trace [] (octets_of mid) _ tt apart.0 only.goes_on delivered w (inr p.trace);
 }
 
 pub speaks-last : (script : ScriptValue) (a b c : FolderState) (n : Written) (files others : Both (List ℕ)) (ts : List Turn)
     (ends mid : Ends) (fault : RunFault)
-    → AreApart n → StayKnown a c n files others → OnlyOutputs a b n → HasDelivered a b n mid → OnlyWrites b c n.trace
+    → IsApart n → StayKnown a c n files others → OnlyPuts a b (outputs_of n) → AddEach a b (outputs_of n) (octets_of mid) → OnlyWrites b c n.trace
     → SpeaksLast script b c n others ts ends mid fault → EndsBy script a c n files ts ends fault
 speaks-last script a b c n files others ts ends mid run_faults.WriteFault apart known only d w h =
     stops-writing script a b c n files others ts ends mid apart known only d w h
@@ -221,7 +223,7 @@ speaks-last script a b c n files others ts ends mid (run_faults.LineLost role sy
 speaks-last script a b c n files others ts ends mid (run_faults.ChanceMatch role turn) apart known only d w h = absurd h
 
 pub done-in : (w : World) (a b c : FolderState) (n : Written) (files : Both (List ℕ)) (ts : List Turn) (ends mid : Ends) (number : ℕ)
-    → AreApart n → number ≡ length ts → StayKnown a c n files files → OnlyOutputs a b n → HasDelivered a b n mid → OnlyWrites b c n.trace
+    → IsApart n → number ≡ length ts → StayKnown a c n files files → OnlyPuts a b (outputs_of n) → AddEach a b (outputs_of n) (octets_of mid) → OnlyWrites b c n.trace
     → Finishes w b c n files ts ends mid → HaveArrived w.lines (channel_of w.script) ts → DoneIn w a c n files ts ends number
 done-in w a b c n files ts ends mid number apart e known only delivered lines f arrived = record {
   ended = record {
@@ -231,7 +233,7 @@ done-in w a b c n files ts ends mid number apart e known only delivered lines f 
     turn = f.adds.turn;
     mid = mid;
     makes = f.adds.makes;
-    writes = writes-turn a b c n mid (turn_text (length ts) f.adds.turn) apart only.goes_on delivered lines f.adds.trace;
+    writes = AddEach-next a b c (received_of n) n.trace [] (octets_of mid) _ tt apart.0 only.goes_on delivered lines (inr f.adds.trace);
   };
   lines = arrived;
   lost = f.lost;
@@ -241,7 +243,7 @@ done-in w a b c n files ts ends mid number apart e known only delivered lines f 
 -- ---- the run goes on
 
 pub goes-on-by : (w : World) (a b c : FolderState) (n : Written) (files others : Both (List ℕ)) (ts : List Turn) (ends mid : Ends)
-    → AreApart n → StayKnown a c n files others → OnlyOutputs a b n → HasDelivered a b n mid → OnlyWrites b c n.trace
+    → IsApart n → StayKnown a c n files others → OnlyPuts a b (outputs_of n) → AddEach a b (outputs_of n) (octets_of mid) → OnlyWrites b c n.trace
     → HasGone w w.script b c n others ts ends mid → GoesOnBy w a c n files ts ends
 goes-on-by w a b c n files others ts ends mid apart known only delivered lines h = record {
   others = others;
@@ -251,8 +253,8 @@ goes-on-by w a b c n files others ts ends mid apart known only delivered lines h
   going = h.going;
   heard = h.heard;
   world = h.world;
-  writes = subst (λ m. WritesTurn a c n m (turn_text (length ts) h.turn)) (sym h.mid_is)
-      (writes-turn a b c n mid (turn_text (length ts) h.turn) apart only.goes_on delivered lines h.trace);
+  writes = subst (λ m. AddEach a c (outputs_of n) (added m (turn_text (length ts) h.turn))) (sym h.mid_is)
+      (AddEach-next a b c (received_of n) n.trace [] (octets_of mid) _ tt apart.0 only.goes_on delivered lines (inr h.trace));
 }
 
 -- and is ready for the next turn

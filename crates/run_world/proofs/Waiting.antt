@@ -12,10 +12,10 @@ use Rattle.sample_line.specs.Signals.{signal_of}
 use Rattle.sample_line.specs.Line.{LineStands, sender_of}
 use Rattle.link_run.specs.Run.{Spoken, Turn}
 use Rattle.link_run.specs.Carried.{sent_in, on_line}
-use Rattle.line_run.specs.Sampled.{Channel, signal_in, signals}
+use Rattle.line_run.specs.Sampled.{Channel, and_then, signal_in, signals, signals_before}
 use Rattle.run_world.specs.declared.slot.Slot.{Slot}
 use Rattle.run_world.specs.declared.direction.DelayedLine.{DelayedLine}
-use Rattle.run_world.specs.OnWay.{IsOnWay, AreOnWay, OnWay, signals_in}
+use Rattle.run_world.specs.OnWay.{IsOnWay, AreOnWay, IsAlone, OnWay, signals_in}
 
 -- how many slots are on their way
 pub many-turns : (n : ℕ) (role : Role) (ts : List Turn) → n ≤ length ts → length (on_line n role ts) ≡ n
@@ -90,14 +90,20 @@ pub record Front (c : Channel) (role : Role) (d k : ℕ) (ts : List Turn) (slot 
       ≡ signal_of spoken.check role c.dlci spoken.sent ∷ signals_in c role (on_line k role ts)
   pub number : length ts ≡ d + length (drop d ts)
 
+-- so the slots before one are those of the turns before
+pub alone-before : (c : Channel) (role : Role) (ts : List Turn) → IsAlone c → signals_before c role ts ≡ signals c role ts
+alone-before c role ts alone = ap (and_then (signals c role ts)) (alone role (length ts))
+
 by-slot : (c : Channel) (role : Role) (k : ℕ) (ts : List Turn) (slot : Slot) (slots : List Slot) (b : Back k role ts) (o : Option Spoken)
-    → (of role b.turn).sent ≡ o
+    → IsAlone c → (of role b.turn).sent ≡ o
     → AreOnWay c role (signals c role (drop (suc k) ts)) (slot ∷ slots) (o ∷ on_line k role ts)
     → Front c role (suc k) k ts slot slots
-by-slot c role k ts slot slots b None e h = absurd h
-by-slot c role k ts slot slots b (Some spoken) e h =
+by-slot c role k ts slot slots b None alone e h = absurd h
+by-slot c role k ts slot slots b (Some spoken) alone e h =
     let upto : signals c role (drop k ts) ≡ signals c role (drop (suc k) ts) ++ signal_of spoken.check role c.dlci spoken.sent ∷ [] =
-    ap (signals c role) b.behind ∙ ap (λ o. signals c role (drop (suc k) ts) ++ signal_in c role o) e in
+    ap (signals c role) b.behind
+    ∙ ap (λ l. l ++ signal_in c role (of role b.turn).sent) (alone-before c role (drop (suc k) ts) alone)
+    ∙ ap (λ o. signals c role (drop (suc k) ts) ++ signal_in c role o) e in
     record {
       spoken = spoken;
       ago = ap (sent_in role) b.is ∙ e;
@@ -108,9 +114,9 @@ by-slot c role k ts slot slots b (Some spoken) e h =
       number = b.earlier;
     }
 
-pub front : (c : Channel) (role : Role) (d k : ℕ) (ts : List Turn) (slot : Slot) (slots : List Slot) → d ≡ suc k → d ≤ length (slot ∷ slots)
+pub front : (c : Channel) (role : Role) (d k : ℕ) (ts : List Turn) (slot : Slot) (slots : List Slot) → IsAlone c → d ≡ suc k → d ≤ length (slot ∷ slots)
     → AreOnWay c role (signals c role (drop d ts)) (slot ∷ slots) (on_line d role ts) → Front c role d k ts slot slots
-front c role d k ts slot slots e many h = subst (λ n. Front c role n k ts slot slots) (sym e) at-suc
+front c role d k ts slot slots alone e many h = subst (λ n. Front c role n k ts slot slots) (sym e) at-suc
   where
     count : length (slot ∷ slots) ≡ length (on_line d role ts)
     count = same-count c role (signals c role (drop d ts)) (slot ∷ slots) (on_line d role ts) h
@@ -129,7 +135,7 @@ front c role d k ts slot slots e many h = subst (λ n. Front c role n k ts slot 
 
     at-suc : Front c role (suc k) k ts slot slots
     at-suc =
-        by-slot c role k ts slot slots b (of role b.turn).sent refl
+        by-slot c role k ts slot slots b (of role b.turn).sent alone refl
         (subst (λ l. AreOnWay c role (signals c role (drop (suc k) ts)) (slot ∷ slots) l) b.oldest
         (subst (λ n. AreOnWay c role (signals c role (drop n ts)) (slot ∷ slots) (on_line n role ts)) e h))
 
@@ -162,8 +168,8 @@ none-way (suc n) role = refl
 
 pub starts : (d : DelayedLine) (c : Channel) (n : ℕ) → LineStands d.line c.script [] [] → d.slots.items ≡ [] → sender_of d.line ≡ d.sender
     → d.line.writer.symbols ≡ c.symbols
-    → d.delay ≡ delay_of c.script d.sender → 1 ≤ d.delay → d.slots.capacity ≡ d.delay → OnWay d c n []
-starts d c n stands items sender symbols delay some room =
+    → d.delay ≡ delay_of c.script d.sender → 1 ≤ d.delay → IsAlone c → d.slots.capacity ≡ d.delay → OnWay d c n []
+starts d c n stands items sender symbols delay some alone room =
     let gone : drop n [] ≡ [] = none-gone n [] (omega arith) in
     record {
       line = subst (λ l. LineStands d.line c.script (signals c d.sender (drop n [])) (signals_in c d.sender l)) (sym (none-way n d.sender))
@@ -174,6 +180,7 @@ starts d c n stands items sender symbols delay some room =
       symbols = symbols;
       delay = delay;
       some = some;
+      alone = alone;
       room = room;
     }
 

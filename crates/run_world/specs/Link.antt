@@ -1,7 +1,7 @@
 -- The two ends of a run, each with its user.
-use Rattle.std.specs.Prelude.{◌≡◌, ℕ, ◌≤◌, Bool, true, false, ◌&&◌, is_ok, List, length, Result, Ok, Err}
+use Rattle.std.specs.Prelude.{◌≡◌, ℕ, ◌≤◌, Bool, true, false, ◌&&◌, is_ok, List, [], ◌∷◌, length, Result, Ok, Err}
 use Rattle.std.specs.List.{concat}
-use Rattle.outside_calls.specs.Folder.{FolderState, KeepsName, Adds, PartlyAppended}
+use Rattle.outside_calls.specs.Folder.{FolderState}
 use Rattle.roles.specs.declared.role.Role.{Role}
 use Rattle.roles.specs.declared.role.Role.TheVariants.{Originator, Answerer}
 use Rattle.roles.specs.Both.{Both}
@@ -67,17 +67,9 @@ pub record AreWithin (files : Both (List ℕ)) : Type 0 where
   pub orig : length files.orig ≤ file_limit
   pub answ : length files.answ ≤ file_limit
 
--- What both ends took stands behind what the received files held.
-pub record Delivers (old new : FolderState) (n : Written) (ends : Ends) : Type 0 where
-  pub got_o : Adds old new n.got_o (concat (deliveries ends.orig))
-  pub got_a : Adds old new n.got_a (concat (deliveries ends.answ))
-
--- A part of that does, where the folder took no more: one of what the originator took, and nothing of the answerer's; or one of what the
--- answerer took, behind all of the originator's.
-pub data DeliversPart (old new : FolderState) (n : Written) (ends : Ends) : Type 0 where
-  of_orig : PartlyAppended old new n.got_o (concat (deliveries ends.orig)) → KeepsName old new n.got_a → DeliversPart old new n ends
-  of_answ : Adds old new n.got_o (concat (deliveries ends.orig)) → PartlyAppended old new n.got_a (concat (deliveries ends.answ))
-      → DeliversPart old new n ends
+-- the octets that both users are given
+abbrev pub octets_of : Ends → List (List ℕ)
+octets_of ends = concat (deliveries ends.orig) ∷ concat (deliveries ends.answ) ∷ []
 
 -- each end, as a function of its account
 abbrev pub both_ends : (Account → Account) → Ends → Ends

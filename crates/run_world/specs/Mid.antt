@@ -1,6 +1,7 @@
 -- A turn of a world in its middle: both ends have heard, and the rest of the turn is to come.
 use Rattle.std.specs.Prelude.{◌≡◌, ◌≢◌, ℕ, ◌+◌, false, ◌∷◌, List, length, Option, Result, Ok, Err}
-use Rattle.outside_calls.specs.Folder.{FolderState, KeepsName, Appended, PartlyAppended}
+use Rattle.outside_calls.specs.Folder.{FolderState, Appended, PartlyAppended}
+use Rattle.several_outputs.specs.Outputs.{AddEach}
 use Rattle.roles.specs.declared.role.Role.{Role}
 use Rattle.roles.specs.declared.role.Role.TheVariants.{Originator, Answerer}
 use Rattle.roles.specs.Both.{Both}
@@ -24,15 +25,15 @@ use Rattle.run_world.specs.declared.lines.LineEnd.{LineEnd}
 use Rattle.run_world.specs.declared.lines.LineEnd.TheVariants as ways
 use Rattle.turn_bound.specs.Limits.{file_limit}
 use Rattle.stations.specs.Station.{ReadsOn}
-use Rattle.run_world.specs.Names.{Written}
-use Rattle.run_world.specs.Link.{LinkStands, DeliversPart, both_ends, served_on}
+use Rattle.run_world.specs.Names.{Written, outputs_of}
+use Rattle.run_world.specs.Link.{LinkStands, both_ends, octets_of, served_on}
 use Rattle.run_world.specs.Lines.{HaveArrived}
 use Rattle.run_world.specs.declared.world.World.{World}
 use Rattle.run_world.specs.declared.tally.Tally.{Tally}
 use Rattle.run_world.specs.declared.step.RunFault.{RunFault}
 use Rattle.run_world.specs.declared.step.RunFault.TheVariants as run_faults
 use Rattle.run_world.specs.World.{WorldAfter}
-use Rattle.run_world.specs.Turn.{MakesTurn, HasDelivered}
+use Rattle.run_world.specs.Turn.{MakesTurn}
 
 -- What both ends hear in the turn after these, and are once they have heard.
 pub record Overhears (script : ScriptValue) (files : Both (List ℕ)) (ts : List Turn) (ends : Ends) (heard : Each Heard)
@@ -105,11 +106,6 @@ abbrev pub HearsTurn : World → Both (List ℕ) → List Turn → Ends → Resu
 HearsTurn w files ts ends (Ok heard) = HasHeard w files ts ends heard
 HearsTurn w files ts ends (Err end) = IsLineEnd w.script ts ends end
 
--- A part of what both ends took stands behind what the received files held, and the trace is as it was.
-pub record HasPart (old now : FolderState) (n : Written) (mid : Ends) : Type 0 where
-  pub octets : DeliversPart old now n mid
-  pub trace : KeepsName old now n.trace
-
 -- What both ends took is handed over, segments and the lengths of breaks.
 pub record HandsOver (w : World) (old new : FolderState) (n : Written) (files : Both (List ℕ)) (ts : List Turn) (ends : Ends)
     (heard : Each Heard) (mid : Ends)
@@ -117,7 +113,7 @@ pub record HandsOver (w : World) (old new : FolderState) (n : Written) (files : 
   pub stands : InTurn w files ts ends heard mid (handed mid)
   pub orig_given : given.orig ≡ given_break mid.orig
   pub answ_given : given.answ ≡ given_break mid.answ
-  pub delivered : HasDelivered old new n mid
+  pub delivered : AddEach old new (outputs_of n) (octets_of mid)
 
 -- Both files were read on, as far as the ends want them.
 pub record ReadsBoth (f : FolderState) (n : Written) (files : Both (List ℕ)) (ends : Ends) (others : Both (List ℕ)) : Type 0 where

@@ -36,6 +36,10 @@ AreOnWay c role before (slot ∷ slots) (None ∷ line) = ⊥
 AreOnWay c role before [] (slot ∷ line) = ⊥
 AreOnWay c role before (slot ∷ slots) [] = ⊥
 
+-- nothing goes beside the link
+abbrev pub IsAlone : Channel → Type 0
+IsAlone c = (role : Role) (turn : ℕ) → c.beside role turn ≡ None
+
 -- All slots of these turns have arrived but those of the latest, of which so many turns are on their way.
 pub record OnWay (d : DelayedLine) (c : Channel) (turns : ℕ) (ts : List Turn) : Type 0 where
   pub line : LineStands d.line c.script (signals c d.sender (drop turns ts)) (signals_in c d.sender (on_line turns d.sender ts))
@@ -44,6 +48,7 @@ pub record OnWay (d : DelayedLine) (c : Channel) (turns : ℕ) (ts : List Turn) 
   pub symbols : d.line.writer.symbols ≡ c.symbols
   pub delay : d.delay ≡ delay_of c.script d.sender
   pub some : 1 ≤ d.delay
+  pub alone : IsAlone c
   pub room : d.slots.capacity ≡ d.delay
 
 -- between turns all slots of the delay are on their way

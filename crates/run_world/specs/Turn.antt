@@ -1,16 +1,16 @@
 -- What a turn answers, what it adds to each output, and what is left where the folder doesn't take that.
-use Rattle.std.specs.Prelude.{◌≡◌, ◌⊎◌, ℕ, ◌+◌, ◌∷◌, List, length, Result, Ok, Err}
-use Rattle.std.specs.List.{concat}
-use Rattle.outside_calls.specs.Folder.{FolderState, KeepsName, Adds, Appended, PartlyAppended, Rose, FaultsStand, CountsStand}
+use Rattle.std.specs.Prelude.{◌≡◌, ◌⊎◌, ℕ, ◌+◌, ◌∷◌, [], ◌++◌, List, length, Result, Ok, Err}
+use Rattle.outside_calls.specs.Folder.{FolderState, Appended, PartlyAppended, Rose, FaultsStand, CountsStand}
 use Rattle.outside_calls.specs.declared.folder.FolderFault.{FolderFault}
 use Rattle.outside_calls.specs.declared.folder.FolderFault.TheVariants.{Failed, NoMemory}
+use Rattle.outside_calls.specs.Outputs.{KeepsEach}
+use Rattle.several_outputs.specs.Outputs.{AddEach, AddPart, SomeRose}
 use Rattle.roles.specs.declared.role.Role.{Role}
 use Rattle.roles.specs.declared.role.Role.TheVariants.{Originator}
 use Rattle.roles.specs.Both.{Both}
 use Rattle.noise_script.specs.Script.{ScriptValue}
 use Rattle.line_texts.specs.LineText.{chance_line}
 use Rattle.causes.specs.declared.fault.LinkFault.TheVariants as faults
-use Rattle.link_run.specs.End.{deliveries}
 use Rattle.link_run.specs.Run.{Ends, Turn, GoingTurn}
 use Rattle.link_run.specs.Outcomes.{Outcome, Done, Broken, TurnIs}
 use Rattle.link_run.specs.Trace.{turn_text}
@@ -18,7 +18,8 @@ use Rattle.link_run.specs.Counts.{lost_slots, sent_again}
 use Rattle.line_run.specs.Sampled.{HeardIn, LineRun, EndsLine}
 use Rattle.line_run.specs.Sampled as lines
 use Rattle.line_run.specs.Scripted.{channel_of, link_of}
-use Rattle.run_world.specs.Names.{Written, ReadRose}
+use Rattle.run_world.specs.Names.{Written, inputs_of, outputs_of, received_of}
+use Rattle.run_world.specs.Link.{octets_of}
 use Rattle.run_world.specs.Lines.{HaveArrived}
 use Rattle.run_world.specs.declared.world.World.{World}
 use Rattle.run_world.specs.declared.step.Step.{Step}
@@ -27,27 +28,9 @@ use Rattle.run_world.specs.declared.step.RunFault.{RunFault}
 use Rattle.run_world.specs.declared.step.RunFault.TheVariants as run_faults
 use Rattle.run_world.specs.World.{StayKnown, WorldAfter, script_of, lines_of, lost_of, again_of}
 
--- What a turn adds to the outputs: to each received file what its end took, and to the trace both lines.
-pub record WritesTurn (old new : FolderState) (n : Written) (mid : Ends) (text : List ℕ) : Type 0 where
-  pub got_o : Adds old new n.got_o (concat (deliveries mid.orig))
-  pub got_a : Adds old new n.got_a (concat (deliveries mid.answ))
-  pub trace : Appended old new n.trace text
-
--- A part of that, where the folder took no more: one of what the originator took, and nothing else; one of what the answerer took, behind
--- all of the originator's, and nothing of the lines; or one of both lines, behind all that both took.
-pub data WritesPart (old new : FolderState) (n : Written) (mid : Ends) (text : List ℕ) : Type 0 where
-  of_orig : PartlyAppended old new n.got_o (concat (deliveries mid.orig)) → KeepsName old new n.got_a → KeepsName old new n.trace
-      → WritesPart old new n mid text
-  of_answ : Adds old new n.got_o (concat (deliveries mid.orig)) → PartlyAppended old new n.got_a (concat (deliveries mid.answ))
-      → KeepsName old new n.trace → WritesPart old new n mid text
-  of_lines : Adds old new n.got_o (concat (deliveries mid.orig)) → Adds old new n.got_a (concat (deliveries mid.answ))
-      → PartlyAppended old new n.trace text → WritesPart old new n mid text
-
--- What both ends took stands behind what the received files held, and the trace is as it was.
-pub record HasDelivered (old new : FolderState) (n : Written) (mid : Ends) : Type 0 where
-  pub got_o : Adds old new n.got_o (concat (deliveries mid.orig))
-  pub got_a : Adds old new n.got_a (concat (deliveries mid.answ))
-  pub trace : KeepsName old new n.trace
+-- what a turn adds to the outputs: to each received file what its end took, and to the trace both lines
+abbrev pub added : Ends → List ℕ → List (List ℕ)
+added mid text = octets_of mid ++ text ∷ []
 
 -- The turn after these, over a script and files: what both ends hear in it, are once they have heard, and what it comes to.
 pub record MakesTurn (script : ScriptValue) (files : Both (List ℕ)) (ts : List Turn) (ends : Ends) (turn : Turn) (mid : Ends)
@@ -65,7 +48,7 @@ pub record GoesOnBy (w : World) (old new : FolderState) (n : Written) (files : B
   pub going : GoingTurn (link_of (script_of w) others) ts ends turn after
   pub heard : HeardIn (channel_of (script_of w)) ts turn
   pub world : WorldAfter w others (turn ∷ ts) after
-  pub writes : WritesTurn old new n going.mid (turn_text (length ts) turn)
+  pub writes : AddEach old new (outputs_of n) (added going.mid (turn_text (length ts) turn))
 
 -- The run ends in this turn, with that outcome.
 pub record EndsInTurn (script : ScriptValue) (old new : FolderState) (n : Written) (files : Both (List ℕ)) (ts : List Turn) (ends : Ends)
@@ -76,7 +59,7 @@ pub record EndsInTurn (script : ScriptValue) (old new : FolderState) (n : Writte
   pub turn : Turn
   pub mid : Ends
   pub makes : MakesTurn script others ts ends turn mid outcome
-  pub writes : WritesTurn old new n mid (turn_text (length ts) turn)
+  pub writes : AddEach old new (outputs_of n) (added mid (turn_text (length ts) turn))
 
 -- The run is done in this turn: the lines have passed the slots that arrived in it too, and all turns are counted.
 pub record DoneIn (w : World) (old new : FolderState) (n : Written) (files : Both (List ℕ)) (ts : List Turn) (ends : Ends)
@@ -86,24 +69,18 @@ pub record DoneIn (w : World) (old new : FolderState) (n : Written) (files : Bot
   pub lost : lost_of w ≡ lost_slots (ended.turn ∷ ts)
   pub again : again_of w ≡ sent_again (ended.turn ∷ ts)
 
--- neither received file was written to
-pub record KeepsReceived (old new : FolderState) (n : Written) : Type 0 where
-  pub got_o : KeepsName old new n.got_o
-  pub got_a : KeepsName old new n.got_a
-
 -- The line is lost as this turn begins: nothing is written.
 pub record LosesLine (script : ScriptValue) (old new : FolderState) (n : Written) (ts : List Turn) (ends : Ends) (role : Role)
     (symbol : ℕ) : Type 0 where
   pub is : EndsLine (channel_of script) ts ends (lines.LineLost role symbol)
-  pub received : KeepsReceived old new n
-  pub trace : KeepsName old new n.trace
+  pub kept : KeepsEach old new (outputs_of n)
 
 -- A slot is a chance match: the one line of it is written.
 pub record MeetsChance (script : ScriptValue) (old new : FolderState) (n : Written) (ts : List Turn) (ends : Ends) (role : Role)
     (number : ℕ) : Type 0 where
   pub number_is : number ≡ length ts
   pub is : EndsLine (channel_of script) ts ends (lines.ChanceMatch role)
-  pub received : KeepsReceived old new n
+  pub received : KeepsEach old new (received_of n)
   pub trace : Appended old new n.trace (chance_line (length ts) role)
 
 -- The folder fails in this turn, and a part of what it adds is written: whatever the turn comes to,
@@ -115,18 +92,18 @@ pub record StopsInTurn (script : ScriptValue) (old new : FolderState) (n : Writt
   pub mid : Ends
   pub outcome : Outcome
   pub makes : MakesTurn script others ts ends turn mid outcome
-  pub writes : WritesPart old new n mid (turn_text (length ts) turn)
+  pub writes : AddPart old new (outputs_of n) (added mid (turn_text (length ts) turn))
 
 -- or where a slot is a chance match.
 pub record StopsAtChance (script : ScriptValue) (old new : FolderState) (n : Written) (ts : List Turn) (ends : Ends) : Type 0 where
   pub role : Role
   pub is : EndsLine (channel_of script) ts ends (lines.ChanceMatch role)
-  pub received : KeepsReceived old new n
+  pub received : KeepsEach old new (received_of n)
   pub trace : PartlyAppended old new n.trace (chance_line (length ts) role)
 
 -- A file that is sent isn't read: what both ends took is written, and nothing of the lines.
 abbrev pub StopsReading : ScriptValue → FolderState → FolderState → Written → Both (List ℕ) → List Turn → Ends → Type 0
-StopsReading script old new n files ts ends = (stops : StopsInTurn script old new n files ts ends) × HasDelivered old new n stops.mid
+StopsReading script old new n files ts ends = (stops : StopsInTurn script old new n files ts ends) × AddEach old new (outputs_of n) (octets_of stops.mid)
 
 abbrev pub Stops : ScriptValue → FolderState → FolderState → Written → Both (List ℕ) → List Turn → Ends → Type 0
 Stops script old new n files ts ends = StopsInTurn script old new n files ts ends ⊎ StopsAtChance script old new n ts ends
@@ -175,16 +152,10 @@ IsReading run_faults.ReadFault = Unit {0}
 IsReading run_faults.NoMemory = Unit {0}
 IsReading fault = ⊥
 
--- a count of writing an output rose, or stands at its last value
-abbrev pub OutputRose : FolderState → FolderState → Written → Type 0
-OutputRose old new n =
-    Rose (old.write_faults n.got_o) (new.write_faults n.got_o) ⊎ (Rose (old.write_faults n.got_a) (new.write_faults n.got_a)
-    ⊎ Rose (old.write_faults n.trace) (new.write_faults n.trace))
-
 -- what was counted where a run ends in this turn: a fault of its own names, a refusal of memory by the folder, or nothing
 abbrev pub FaultCounts : FolderState → FolderState → Written → RunFault → Type 0
-FaultCounts old new n run_faults.ReadFault = ReadRose old new n
-FaultCounts old new n run_faults.WriteFault = OutputRose old new n
+FaultCounts old new n run_faults.ReadFault = SomeRose old.read_faults new.read_faults (inputs_of n)
+FaultCounts old new n run_faults.WriteFault = SomeRose old.write_faults new.write_faults (outputs_of n)
 FaultCounts old new n run_faults.NoMemory = FaultsStand old new × Rose old.refusals new.refusals
 FaultCounts old new n (run_faults.LineLost role symbol) = CountsStand old new
 FaultCounts old new n (run_faults.ChanceMatch role turn) = CountsStand old new

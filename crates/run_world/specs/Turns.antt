@@ -1,5 +1,5 @@
 -- What the outputs hold of a run: what its turns left, and a part of what the next turn adds where the folder fails in it.
-use Rattle.std.specs.Prelude.{◌≡◌, ◌⊎◌, ℕ, List, [], ◌∷◌, ◌++◌, length, Result, Ok, Err}
+use Rattle.std.specs.Prelude.{◌≡◌, ◌⊎◌, ℕ, List, [], ◌∷◌, length, Result, Ok, Err}
 use Rattle.std.specs.List.{concat}
 use Rattle.outside_calls.specs.Folder.{FolderState}
 use Rattle.roles.specs.declared.role.Role.{Role}
@@ -16,27 +16,15 @@ use Rattle.line_run.specs.Ends.{RunEnd, Left, Leaves, RunsTo}
 use Rattle.line_run.specs.Ends as runs
 use Rattle.line_run.specs.Scripted.{channel_of, link_of}
 use Rattle.noise_script.specs.Script.{ScriptValue}
-use Rattle.outside_calls.specs.Outputs.{Holds, HoldsPart}
-use Rattle.run_world.specs.Names.{Written}
+use Rattle.several_outputs.specs.Outputs.{HoldEach, HoldPart, joined}
+use Rattle.run_world.specs.Names.{Written, outputs_of}
 use Rattle.run_world.specs.World.{KnowsFiles}
 use Rattle.run_world.specs.declared.step.RunFault.{RunFault}
 use Rattle.run_world.specs.declared.step.RunFault.TheVariants as faults
 
--- The outputs hold what is left.
-pub record HoldLeft (f : FolderState) (n : Written) (left : Left) : Type 0 where
-  pub got_o : Holds f n.got_o left.got.orig
-  pub got_a : Holds f n.got_a left.got.answ
-  pub trace : Holds f n.trace left.trace
-
--- They hold that, and a part of what comes behind it: one of what the originator's user is given, and nothing else; one of what the
--- answerer's is given, behind all of the originator's, and nothing of the trace; or one of the trace, behind all that both are given.
-pub data HoldPart (f : FolderState) (n : Written) (left more : Left) : Type 0 where
-  of_orig : HoldsPart f n.got_o left.got.orig more.got.orig → Holds f n.got_a left.got.answ → Holds f n.trace left.trace
-      → HoldPart f n left more
-  of_answ : Holds f n.got_o (left.got.orig ++ more.got.orig) → HoldsPart f n.got_a left.got.answ more.got.answ
-      → Holds f n.trace left.trace → HoldPart f n left more
-  of_lines : Holds f n.got_o (left.got.orig ++ more.got.orig) → Holds f n.got_a (left.got.answ ++ more.got.answ)
-      → HoldsPart f n.trace left.trace more.trace → HoldPart f n left more
+-- what is left of each output
+abbrev pub held_of : Left → List (List ℕ)
+held_of left = left.got.orig ∷ left.got.answ ∷ left.trace ∷ []
 
 -- What a turn after these adds, whatever it comes to: what both ends take in it, and its two lines of the trace.
 pub record AddsTurn (c : Channel) (link : Link) (ts : List Turn) (ends : Ends) (more : Left) : Type 0 where
@@ -64,14 +52,12 @@ pub record StopsAfter (c : Channel) (link : Link) (f : FolderState) (n : Written
   pub leaves : Leaves ends (trace_text turns) left
   pub more : Left
   pub adds : AddsTurn c link turns ends more ⊎ AddsChance c turns ends more
-  pub holds : HoldPart f n left more
+  pub holds : HoldPart f (outputs_of n) (held_of left) (held_of more)
 
 -- It failed to read a file that is sent: the outputs hold all that both users are given in that turn, and nothing of its lines.
 pub record StopsReading (c : Channel) (link : Link) (f : FolderState) (n : Written) (s : StopsAfter c link f n) : Type 0 where
   pub adds : AddsTurn c link s.turns s.ends s.more
-  pub got_o : Holds f n.got_o (s.left.got.orig ++ s.more.got.orig)
-  pub got_a : Holds f n.got_a (s.left.got.answ ++ s.more.got.answ)
-  pub trace : Holds f n.trace s.left.trace
+  pub holds : HoldEach f (outputs_of n) (joined (held_of s.left) (s.more.got.orig ∷ s.more.got.answ ∷ []))
 
 -- ---- what turns come to that are made over a folder
 
@@ -81,7 +67,7 @@ pub record RunEnds (script : ScriptValue) (f : FolderState) (n : Written) (end :
   pub knows : KnowsFiles f n files
   pub left : Left
   pub run : RunsTo (channel_of script) (link_of script files) end left
-  pub holds : HoldLeft f n left
+  pub holds : HoldEach f (outputs_of n) (held_of left)
 
 -- It was done in this turn, with so many slots lost and so many segments sent again in all its turns.
 pub record RunCounts (script : ScriptValue) (f : FolderState) (n : Written) (turn lost again : ℕ) : Type 0 where

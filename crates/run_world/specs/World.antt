@@ -1,6 +1,6 @@
 -- For which run a world stands: its turns so far, over two files that are known as far as they were read.
-use Rattle.std.specs.Prelude.{◌≡◌, ◌≢◌, ℕ, ◌+◌, ◌-◌, ◌≤◌, IsTrue, List, length, drop}
-use Rattle.outside_calls.specs.Folder.{FolderState, GoesOn, KeepsName}
+use Rattle.std.specs.Prelude.{◌≡◌, ℕ, ◌+◌, ◌-◌, ◌≤◌, IsTrue, List, length, drop}
+use Rattle.outside_calls.specs.Folder.{FolderState}
 use Rattle.roles.specs.Both.{Both}
 use Rattle.noise_script.specs.Script.{ScriptValue, IsInLimits, delay_of}
 use Rattle.roles.specs.declared.role.Role.{Role}
@@ -85,21 +85,3 @@ pub record IsReady (w : World) : Type 0 where
   pub idle : AreIdle w.link
   pub counted : AreCounted w.link w.turn w.turn
   pub few : IsFew w.tally w.turn w.turn
-
--- outputs differ from one another and from the inputs
-pub record AreApart (n : Written) : Type 0 where
-  pub got : n.got_o ≢ n.got_a
-  pub got_o_trace : n.got_o ≢ n.trace
-  pub got_a_trace : n.got_a ≢ n.trace
-  pub got_o_orig : n.got_o ≢ n.orig
-  pub got_o_answ : n.got_o ≢ n.answ
-  pub got_a_orig : n.got_a ≢ n.orig
-  pub got_a_answ : n.got_a ≢ n.answ
-  pub trace_orig : n.trace ≢ n.orig
-  pub trace_answ : n.trace ≢ n.answ
-
--- The outputs alone were touched, and nothing was said.
-pub record OnlyOutputs (old new : FolderState) (n : Written) : Type 0 where
-  pub goes_on : GoesOn old new
-  pub names : (other : List ℕ) → other ≢ n.got_o → other ≢ n.got_a → other ≢ n.trace → KeepsName old new other
-  pub said : new.said ≡ old.said

@@ -9,7 +9,7 @@ ghost use Rattle.sample_line.specs.Signals.{IsCodable};
 ghost use Rattle.link_account.specs.Numbers.{IsNumbered};
 ghost use Rattle.link_run.specs.Run.{Spoken, Turn, arrival};
 ghost use Rattle.line_run.specs.Sampled.{Channel};
-ghost use Rattle.run_world.specs.OnWay.{WaitsFor, HasArrived, ArrivesAs};
+ghost use Rattle.run_world.specs.OnWay.{IsAlone, WaitsFor, HasArrived, ArrivesAs};
 
 use crate::slot::Slot;
 use bit_stuffing::BitSlot;
@@ -63,7 +63,7 @@ impl DelayedLine {
         requires high { symbols ≤ SLOT }
         requires some { 1 ≤ delay }
         ensures sender { IfOk result (λ direction. direction.sender ≡ sender) }
-        ensures waits { IfOk result (λ direction. (c : Channel) → c.symbols ≡ symbols → delay_of c.script sender ≡ delay → WaitsFor direction c []) }
+        ensures waits { IfOk result (λ direction. (c : Channel) → c.symbols ≡ symbols → delay_of c.script sender ≡ delay → IsAlone c → WaitsFor direction c []) }
     {
         Ok(DelayedLine {
             line: Line::new(alloc, sender, symbols)?,

@@ -1,7 +1,8 @@
 // The two ends of a run, each with its user.
-ghost use Rattle.std.specs.Prelude.{◌≡◌, ◌≢◌, ℕ, ◌+◌, ◌<◌, ◌≤◌, ◌^◌, List, length, true, is_ok, IfOk, OnOk, OnErr, IsErrOf};
-ghost use Rattle.std.specs.List.{concat};
-ghost use Rattle.outside_calls.specs.Folder.{OnlyReads, OnlyWrites, HasCause, Adds, PartlyAppended, FaultsStand, CountsStand};
+ghost use Rattle.std.specs.Prelude.{◌≡◌, ℕ, ◌+◌, ◌<◌, ◌≤◌, ◌^◌, List, length, true, is_ok, IfOk, OnOk, OnErr, IsErrOf};
+ghost use Rattle.outside_calls.specs.Folder.{OnlyReads, FaultsStand, CountsStand};
+ghost use Rattle.outside_calls.specs.Outputs.{AreApart};
+ghost use Rattle.several_outputs.specs.Outputs.{AddEach, AddPart, OnlyPuts, SomeCause};
 ghost use Rattle.lapm_link.specs.Fits.{IsSetUp};
 ghost use Rattle.lapm_link.specs.Stands.{undelivered_of};
 ghost use Rattle.roles.specs.Both.{Both, of};
@@ -10,11 +11,11 @@ ghost use Rattle.noise_script.specs.Script.{ScriptValue};
 ghost use Rattle.lapm_frames.specs.Sendable.{IsSendable};
 ghost use Rattle.link_account.specs.Numbers.{IsNumbered};
 ghost use Rattle.link_account.specs.Account.{Account, fresh, after_given, after_busy, given_break, check_of};
-ghost use Rattle.link_run.specs.End.{deliveries, delivered, asked, is_busy, is_closed, is_released, has_finished};
+ghost use Rattle.link_run.specs.End.{delivered, asked, is_busy, is_closed, is_released, has_finished};
 ghost use Rattle.link_run.specs.Run.{Ends, start};
 ghost use Rattle.line_run.specs.Scripted.{setup_of, breaks_of, busy_of, party_of, link_of};
 ghost use Rattle.stations.specs.Station.{Stands, IsIdle, IsCounted};
-ghost use Rattle.run_world.specs.Names.{OnlyGot, WriteCause, ReadCause, written};
+ghost use Rattle.run_world.specs.Names.{inputs_of, outputs_of, written};
 ghost use Rattle.run_world.specs.Link.{HearsOn};
 ghost use Rattle.link_account.specs.Hear.{hear};
 
@@ -122,7 +123,7 @@ fn hear_well(station: &mut Station, turn: u64, arrived: &Arrived)
 
 impl Link {
     ghost use Rattle.run_world.specs.declared.link.Link.{Link};
-    ghost use Rattle.run_world.specs.Link.{LinkStands, AreIdle, AreCounted, HaveDelivered, AreWithin, HearsBoth, HearsWell, SuppliesBoth, SpeaksBoth, served_on, both_ends, Delivers, DeliversPart, both_finished};
+    ghost use Rattle.run_world.specs.Link.{LinkStands, AreIdle, AreCounted, HaveDelivered, AreWithin, HearsBoth, HearsWell, SuppliesBoth, SpeaksBoth, served_on, both_ends, both_finished, octets_of};
 
     /// Both ends before their first turn, set up by a script.
     pub fn new(alloc: Global, script: &Script) -> Result<Link, NoMemory>
@@ -168,14 +169,14 @@ impl Link {
         folder: &mut F,
         names: &Names<'_>,
     ) -> Result<(), FolderFault>
-        requires apart { (written names.now).got_o ≢ (written names.now).got_a }
+        requires apart { AreApart (outputs_of (written names.now)) }
         ensures stands { OnOk result ((files : Both (List ℕ)) (ends : Ends) → LinkStands self.old files ends → LinkStands self.new files (both_ends delivered ends)) }
         ensures delivered { OnOk result (HaveDelivered self.new) }
         ensures counted { OnOk result ((heard asked : ℕ) → AreCounted self.old heard asked → AreCounted self.new heard asked) }
-        ensures ok { OnOk result ((files : Both (List ℕ)) (ends : Ends) → LinkStands self.old files ends → Delivers (F.state folder.old) (F.state folder.new) (written names.now) ends) }
-        ensures err { OnErr result ((files : Both (List ℕ)) (ends : Ends) → LinkStands self.old files ends → DeliversPart (F.state folder.old) (F.state folder.new) (written names.now) ends) }
-        ensures only { OnlyGot (written names.now) (F.state folder.old) (F.state folder.new) }
-        ensures cause { WriteCause (F.state folder.old) (F.state folder.new) (written names.now) result }
+        ensures ok { OnOk result ((files : Both (List ℕ)) (ends : Ends) → LinkStands self.old files ends → AddEach (F.state folder.old) (F.state folder.new) (outputs_of (written names.now)) (octets_of ends)) }
+        ensures err { OnErr result ((files : Both (List ℕ)) (ends : Ends) → LinkStands self.old files ends → AddPart (F.state folder.old) (F.state folder.new) (outputs_of (written names.now)) (octets_of ends)) }
+        ensures only { OnlyPuts (F.state folder.old) (F.state folder.new) (outputs_of (written names.now)) }
+        ensures cause { SomeCause (F.state folder.old).write_faults (F.state folder.new).write_faults (outputs_of (written names.now)) (F.state folder.old).refusals (F.state folder.new).refusals result }
         ensures stand { OnOk result (CountsStand (F.state folder.old) (F.state folder.new)) }
         ensures spared { IsErrOf result FolderFault.NoMemory → FaultsStand (F.state folder.old) (F.state folder.new) }
     {
@@ -221,7 +222,7 @@ impl Link {
         ensures idle { AreIdle self.old → AreIdle self.new }
         ensures counted { (heard asked : ℕ) → AreCounted self.old heard asked → AreCounted self.new heard asked }
         ensures only { OnlyReads (F.state folder.old) (F.state folder.new) }
-        ensures cause { ReadCause (F.state folder.old) (F.state folder.new) (written names.now) result }
+        ensures cause { SomeCause (F.state folder.old).read_faults (F.state folder.new).read_faults (inputs_of (written names.now)) (F.state folder.old).refusals (F.state folder.new).refusals result }
         ensures stand { OnOk result (CountsStand (F.state folder.old) (F.state folder.new)) }
         ensures spared { IsErrOf result FolderFault.NoMemory → FaultsStand (F.state folder.old) (F.state folder.new) }
     {

@@ -3,10 +3,11 @@ ghost use Rattle.std.specs.Prelude.{◌≡◌, [], List, ℕ, IfOk};
 ghost use Rattle.roles.specs.Both.{Both};
 ghost use Rattle.link_run.specs.Run.{start};
 ghost use Rattle.line_run.specs.Scripted.{link_of};
-ghost use Rattle.run_world.specs.Names.{written};
-ghost use Rattle.run_world.specs.World.{AreApart, IsReady, OnlyOutputs, WorldAfter, script_of, lost_of, again_of};
+ghost use Rattle.run_world.specs.Names.{inputs_of, outputs_of, written};
+ghost use Rattle.run_world.specs.World.{IsReady, WorldAfter, script_of, lost_of, again_of};
 ghost use Rattle.run_world.specs.Turn.{TurnCounts};
-ghost use Rattle.outside_calls.specs.Outputs.{Holds};
+ghost use Rattle.outside_calls.specs.Outputs.{Creates};
+ghost use Rattle.several_outputs.specs.Outputs.{AreApartFrom, OnlyPuts};
 ghost use Rattle.run_world.specs.Turns.{TurnsEnd, RunCounts};
 
 use crate::laws::turns_are_few;
@@ -22,14 +23,12 @@ pub fn run_turns<F: Folder>(
 ) -> Result<u64, RunFault>
     requires ready { IsReady world.old }
     requires first { (files : Both (List ℕ)) → WorldAfter world.old files [] (start (link_of (script_of world.old) files)) }
-    requires apart { AreApart (written names.now) }
-    requires got_o { Holds (F.state folder.old) names.now.got_o.now [] }
-    requires got_a { Holds (F.state folder.old) names.now.got_a.now [] }
-    requires trace { Holds (F.state folder.old) names.now.trace.now [] }
+    requires apart { AreApartFrom (inputs_of (written names.now)) (outputs_of (written names.now)) }
+    requires created { Creates (F.state folder.old) (outputs_of (written names.now)) }
 
     ensures run { TurnsEnd (script_of world.old) (F.state folder.new) (written names.now) result }
     ensures tally { IfOk result (λ turn. RunCounts (script_of world.old) (F.state folder.new) (written names.now) turn (lost_of world.new) (again_of world.new)) }
-    ensures only { OnlyOutputs (F.state folder.old) (F.state folder.new) (written names.now) }
+    ensures only { OnlyPuts (F.state folder.old) (F.state folder.new) (outputs_of (written names.now)) }
     ensures counts { TurnCounts (F.state folder.old) (F.state folder.new) (written names.now) result }
 {
     turns_are_few();

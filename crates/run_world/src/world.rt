@@ -8,10 +8,11 @@ ghost use Rattle.line_run.specs.Sampled.{EndsLine};
 ghost use Rattle.line_run.specs.Sampled as line_ends;
 ghost use Rattle.line_run.specs.Scripted.{channel_of, link_of};
 ghost use Rattle.run_world.specs.declared.each.Each.{Each};
-ghost use Rattle.run_world.specs.Names.{written};
+ghost use Rattle.run_world.specs.Names.{inputs_of, outputs_of, written};
 ghost use Rattle.run_world.specs.Lines.{HaveArrived};
-ghost use Rattle.run_world.specs.Link.{AreCounted, AreIdle, AreWithin, LinkStands};
+ghost use Rattle.run_world.specs.Link.{AreCounted, AreIdle, AreWithin, LinkStands, octets_of};
 ghost use Rattle.outside_calls.specs.Folder.{OnlyReads, OnlyWrites};
+ghost use Rattle.several_outputs.specs.Outputs.{AddPart, AreApartFrom, OnlyPuts};
 ghost use Rattle.link_account.specs.Account.{check_of, given_break};
 ghost use Rattle.noise_script.specs.Script.{IsInLimits};
 
@@ -73,8 +74,8 @@ fn checks(link: &Link) -> Each<Check>
 impl World {
     ghost use Rattle.run_world.specs.declared.world.World.{World};
     ghost use Rattle.run_world.specs.Tally.{IsFew, HearsMore, SendsMore};
-    ghost use Rattle.run_world.specs.World.{IsReady, WorldAfter, AreApart, HasPassed, HasPassedToo, OnlyOutputs, AddsNumbers, script_of, lines_of, turn_of, lost_of, again_of};
-    ghost use Rattle.run_world.specs.Mid.{AddsPart, Finishes, HearsTurn, InTurn, HandsOver, HasPart, IsToSpeak, SameBeside, Serves, SpeaksTurn, handed};
+    ghost use Rattle.run_world.specs.World.{IsReady, WorldAfter, HasPassed, HasPassedToo, AddsNumbers, script_of, lines_of, turn_of, lost_of, again_of};
+    ghost use Rattle.run_world.specs.Mid.{AddsPart, Finishes, HearsTurn, InTurn, HandsOver, IsToSpeak, SameBeside, Serves, SpeaksTurn, handed};
     ghost use Rattle.run_world.specs.Turn.{EndsBy, FaultCounts, IsReading, IsWriting, TurnAnswers, TurnCounts, turns_made};
 
     /// A world before its first turn. It takes all memory of its ends and its lines.
@@ -133,15 +134,15 @@ impl World {
         folder: &mut F,
         names: &Names<'_>,
     ) -> Result<Each<Option<u8>>, RunFault>
-        requires apart { AreApart (written names.now) }
+        requires apart { AreApartFrom (inputs_of (written names.now)) (outputs_of (written names.now)) }
         ensures hands { IfOk result (λ given. (files : Both (List ℕ)) (ts : List Turn) (ends : Ends) (heard : Each Heard) (mid : Ends) → InTurn self.old files ts ends heard mid mid
             → HandsOver self.new (F.state folder.old) (F.state folder.new) (written names.now) files ts ends heard mid given) }
         ensures part { OnErr result ((files : Both (List ℕ)) (ts : List Turn) (ends : Ends) (heard : Each Heard) (mid : Ends) → InTurn self.old files ts ends heard mid mid
-            → HasPart (F.state folder.old) (F.state folder.new) (written names.now) mid) }
+            → AddPart (F.state folder.old) (F.state folder.new) (outputs_of (written names.now)) (octets_of mid)) }
         ensures idle { OnOk result (AreIdle self.new.link) }
         ensures counted { OnOk result ((heard asked : ℕ) → AreCounted self.old.link heard asked → AreCounted self.new.link heard asked) }
         ensures beside { SameBeside self.old self.new }
-        ensures only { OnlyOutputs (F.state folder.old) (F.state folder.new) (written names.now) }
+        ensures only { OnlyPuts (F.state folder.old) (F.state folder.new) (outputs_of (written names.now)) }
         ensures counts { TurnCounts (F.state folder.old) (F.state folder.new) (written names.now) result }
         ensures write { IfErr result IsWriting }
     {
@@ -268,7 +269,7 @@ impl World {
 
     /// A slot is a chance match: its one line goes out.
     fn meet_chance<F: Folder>(&self, folder: &mut F, names: &Names<'_>, role: Role) -> RunFault
-        requires apart { AreApart (written names.now) }
+        requires apart { AreApartFrom (inputs_of (written names.now)) (outputs_of (written names.now)) }
         ensures meets { (ts : List Turn) (ends : Ends) → turn_of self.now ≡ length ts → EndsLine (channel_of (script_of self.now)) ts ends (line_ends.ChanceMatch role)
             → (files : Both (List ℕ)) → EndsBy (script_of self.now) (F.state folder.old) (F.state folder.new) (written names.now) files ts ends result }
         ensures only { OnlyWrites (F.state folder.old) (F.state folder.new) (written names.now).trace }
@@ -287,7 +288,7 @@ impl World {
     /// turns are the same. A file that is sent ends at [`crate::FILE_LIMIT`] octets.
     pub fn turn<F: Folder>(&mut self, folder: &mut F, names: &Names<'_>) -> Result<Step, RunFault>
         requires ready { IsReady self.old }
-        requires apart { AreApart (written names.now) }
+        requires apart { AreApartFrom (inputs_of (written names.now)) (outputs_of (written names.now)) }
 
         // A turn is one of the run that the script and the files make, and adds to each output what that turn gives.
         ensures turn { (files : Both (List ℕ)) (ts : List Turn) (ends : Ends) → WorldAfter self.old files ts ends → AreWithin files
@@ -298,7 +299,7 @@ impl World {
         ensures tally { AddsNumbers self.old self.new }
 
         // It touches the outputs alone, and a fault has its cause.
-        ensures only { OnlyOutputs (F.state folder.old) (F.state folder.new) (written names.now) }
+        ensures only { OnlyPuts (F.state folder.old) (F.state folder.new) (outputs_of (written names.now)) }
         ensures counts { TurnCounts (F.state folder.old) (F.state folder.new) (written names.now) result }
     {
         turns_are_few();

@@ -46,7 +46,7 @@ pub begun : (path : Path) (script : ScriptValue) (before earlier : List Bool) (c
 begun path script before earlier check sender dlci s h = record {
   read = earlier;
   carries = subst (λ (xs : List Bool). Carries path script xs earlier) (sym (append-nil before)) h;
-  tallies = record { frames = []; patterns = []; found = found-none check sender dlci earlier; tallies = (refl, refl) };
+  tallies = record { octets = []; patterns = []; found = found-none check earlier; tallies = (refl, refl) };
 }
 
 pub lost-within : (sender : Role) (script : ScriptValue) (before bits : List Bool) (quads : List ℕ) (n symbol : ℕ)

@@ -7,6 +7,7 @@ use Rattle.std.proofs.Math.Seq.{take-nil, take-append_seam}
 use Rattle.std.proofs.lemmas.List.{take-append-drop, take-map}
 use Rattle.std.proofs.lemmas.List.Elements.{All-take}
 use Rattle.frame_check.specs.declared.check.Check.{Check}
+use Rattle.frame_check.proofs.Checks.{fronts-one}
 use Rattle.plain_lists.specs.Bits.{low_bits}
 use Rattle.scramblers.specs.Mode.{tap_of}
 use Rattle.scramblers.proofs.Readings.{Scrambles_once, Scrambles-take, Descrambles_once}
@@ -25,7 +26,6 @@ use Rattle.bit_stuffing.specs.Found.{Found, pieces_of}
 use Rattle.bit_stuffing.specs.Sent.{wholes}
 use Rattle.roles.specs.declared.role.Role.{Role}
 use Rattle.roles.specs.declared.role.Role.TheVariants.{Originator, Answerer}
-use Rattle.lapm_frames.specs.declared.frame.Frame.{Frame}
 use Rattle.lapm_frames.specs.declared.sent.Sent.{Sent}
 use Rattle.lapm_frames.specs.declared.sent.Sent.TheVariants as sent
 use Rattle.noise_script.specs.Script.{ScriptValue, offset_of}
@@ -34,8 +34,8 @@ use Rattle.lapm_frames.specs.declared.heard.Heard.TheVariants as heard
 use Rattle.sample_line.specs.Outcomes.{IsSilent, IsWhatWasSent, IsOutcome}
 use Rattle.sample_line.specs.Recorded.{displaced, displaced_from, Records}
 use Rattle.roles.specs.Role.{mode_of}
-use Rattle.lapm_frames.proofs.Checking.{spells-one}
-use Rattle.sample_line.specs.Received.{AreFrames, FoundBetween, Gives, Receives}
+use Rattle.lapm_frames.specs.Checked.{check_heard}
+use Rattle.sample_line.specs.Received.{PassTheCheck, FoundBetween, Gives, Receives}
 
 tap-some : (sender : Role) → 1 ≤ tap_of (mode_of sender)
 tap-some Originator = omega arith
@@ -175,81 +175,81 @@ given-stays sender samples more bits later h k =
 
 -- what is received in a slot
 
-frames-once : (check : Check) (sender : Role) (dlci : ℕ) (wholes : List (List ℕ)) (frames others : List Frame)
-    → AreFrames check sender dlci wholes frames → AreFrames check sender dlci wholes others → frames ≡ others
-frames-once check sender dlci [] frames others h k = h ∙ sym k
-frames-once check sender dlci (whole ∷ wholes) frames others (inl h) (inl k) = frames-once check sender dlci wholes frames others h.1 k.1
-frames-once check sender dlci (whole ∷ wholes) frames others (inl h) (inr k) = absurd (h.0 k.0 k.2)
-frames-once check sender dlci (whole ∷ wholes) frames others (inr h) (inl k) = absurd (k.0 h.0 h.2)
-frames-once check sender dlci (whole ∷ wholes) frames others (inr h) (inr k) =
-    let same : h.0 ≡ k.0 = spells-one check sender dlci whole h.0 k.0 h.2 k.2 in
-    let rest : h.1 ≡ k.1 = frames-once check sender dlci wholes h.1 k.1 h.4 k.4 in
-    h.3 ∙ ap (λ f. f ∷ h.1) same ∙ ap (λ xs. k.0 ∷ xs) rest ∙ sym k.3
+passing-once : (check : Check) (wholes octets others : List (List ℕ)) → PassTheCheck check wholes octets → PassTheCheck check wholes others
+    → octets ≡ others
+passing-once check [] octets others h k = h ∙ sym k
+passing-once check (whole ∷ wholes) octets others (inl h) (inl k) = passing-once check wholes octets others h.1 k.1
+passing-once check (whole ∷ wholes) octets others (inl h) (inr k) = absurd (h.0 (record { octets = k.0; checked = k.2 }))
+passing-once check (whole ∷ wholes) octets others (inr h) (inl k) = absurd (k.0 (record { octets = h.0; checked = h.2 }))
+passing-once check (whole ∷ wholes) octets others (inr h) (inr k) =
+    let same : h.0 ≡ k.0 = fronts-one (check_heard check whole) h.0 k.0 whole h.2 k.2 in
+    let rest : h.1 ≡ k.1 = passing-once check wholes h.1 k.1 h.4 k.4 in
+    h.3 ∙ ap (λ (front : List ℕ). front ∷ h.1) same ∙ ap (λ (xs : List (List ℕ)). k.0 ∷ xs) rest ∙ sym k.3
 
 same-behind : {X : Type 0} (front a b : List X) → front ++ a ≡ front ++ b → a ≡ b
 same-behind [] a b e = e
 same-behind (x ∷ front) a b e = same-behind front a b (head-tail _ _ _ _ e).1
 
-found-once : (check : Check) (sender : Role) (dlci : ℕ) (earlier later : List Bool) (frames others : List Frame)
-    (patterns other_patterns : List Seen)
-    → FoundBetween check sender dlci earlier later frames patterns → FoundBetween check sender dlci earlier later others other_patterns
-    → (frames ≡ others) × (patterns ≡ other_patterns)
-found-once check sender dlci earlier later frames others patterns other_patterns h k =
+found-once : (check : Check) (earlier later : List Bool) (octets others : List (List ℕ)) (patterns other_patterns : List Seen)
+    → FoundBetween check earlier later octets patterns → FoundBetween check earlier later others other_patterns
+    → (octets ≡ others) × (patterns ≡ other_patterns)
+found-once check earlier later octets others patterns other_patterns h k =
     let pieces : h.pieces ≡ k.pieces = same-behind (pieces_of earlier) h.pieces k.pieces (sym h.pieces_are ∙ k.pieces_are) in
     let sights : h.sights ≡ k.sights = same-behind (sights_of earlier) h.sights k.sights (sym h.sights_are ∙ k.sights_are) in (
-      frames-once check sender dlci (wholes k.pieces) frames others
-          (subst (λ (xs : List Found). AreFrames check sender dlci (wholes xs) frames) pieces h.frames_are) k.frames_are,
+      passing-once check (wholes k.pieces) octets others
+          (subst (λ (xs : List Found). PassTheCheck check (wholes xs) octets) pieces h.octets_are) k.octets_are,
       h.patterns_are ∙ ap (map (λ (sight : Sight). sight.seen)) sights ∙ sym k.patterns_are,
     )
 
-pub received-once : (check : Check) (sender : Role) (dlci : ℕ) (before upto : List Sample) (frames others : List Frame)
+pub received-once : (check : Check) (sender : Role) (before upto : List Sample) (octets others : List (List ℕ))
     (patterns other_patterns : List Seen)
-    → Receives check sender dlci before upto frames patterns → Receives check sender dlci before upto others other_patterns
-    → (frames ≡ others) × (patterns ≡ other_patterns)
-received-once check sender dlci before upto frames others patterns other_patterns h k =
+    → Receives check sender before upto octets patterns → Receives check sender before upto others other_patterns
+    → (octets ≡ others) × (patterns ≡ other_patterns)
+received-once check sender before upto octets others patterns other_patterns h k =
     let earlier : h.earlier ≡ k.earlier = given-once sender before h.earlier k.earlier h.gave k.gave in
     let later : h.later ≡ k.later = given-once sender upto h.later k.later h.gives k.gives in
-    found-once check sender dlci k.earlier k.later frames others patterns other_patterns
-    (subst (λ (xs : List Bool). FoundBetween check sender dlci xs k.later frames patterns) earlier
-    (subst (λ (xs : List Bool). FoundBetween check sender dlci h.earlier xs frames patterns) later h.found)) k.found
+    found-once check k.earlier k.later octets others patterns other_patterns
+    (subst (λ (xs : List Bool). FoundBetween check xs k.later octets patterns) earlier
+    (subst (λ (xs : List Bool). FoundBetween check h.earlier xs octets patterns) later h.found)) k.found
 
 -- outcomes
 
-silent-sent : (s : Sent) (frames : List Frame) (patterns : List Seen) → IsSilent frames patterns → IsWhatWasSent s frames patterns → ⊥
-silent-sent sent.Mark frames patterns q w = w
-silent-sent sent.Flags frames patterns q w = w
-silent-sent sent.Odp frames patterns q w = w.1 q.1
-silent-sent sent.Adp frames patterns q w = w.1 q.1
-silent-sent (sent.Frame frame) frames patterns q w = none (sym q.0 ∙ w.0)
+silent-sent : (sender : Role) (dlci : ℕ) (s : Sent) (octets : List (List ℕ)) (patterns : List Seen) → IsSilent octets patterns
+    → IsWhatWasSent sender dlci s octets patterns → ⊥
+silent-sent sender dlci sent.Mark octets patterns q w = w
+silent-sent sender dlci sent.Flags octets patterns q w = w
+silent-sent sender dlci sent.Odp octets patterns q w = w.1 q.1
+silent-sent sender dlci sent.Adp octets patterns q w = w.1 q.1
+silent-sent sender dlci (sent.Frame frame) octets patterns q w = none (sym q.0 ∙ w.2)
   where
-    none : [] ≡ frame ∷ [] → ⊥
+    none : [] ≡ w.0 ∷ [] → ⊥
     none e = absurd cc
 
-pub outcome-once : (loses : Bool) (s : Sent) (frames : List Frame) (patterns : List Seen) (h other : Heard)
-    → IsOutcome loses s frames patterns h → IsOutcome loses s frames patterns other → h ≡ other
-outcome-once true s frames patterns heard.Nothing heard.Nothing a b = refl
-outcome-once true s frames patterns heard.Nothing (heard.Lost t) a b = absurd (false≢true (sym a ∙ b.1))
-outcome-once true s frames patterns heard.Nothing (heard.Passed t) a b = absurd b
-outcome-once true s frames patterns heard.Nothing heard.Chance a b = absurd b
-outcome-once true s frames patterns (heard.Lost t) heard.Nothing a b = absurd (false≢true (sym b ∙ a.1))
-outcome-once true s frames patterns (heard.Lost t) (heard.Lost u) a b = ap heard.Lost (a.0 ∙ sym b.0)
-outcome-once true s frames patterns (heard.Lost t) (heard.Passed u) a b = absurd b
-outcome-once true s frames patterns (heard.Lost t) heard.Chance a b = absurd b
-outcome-once true s frames patterns (heard.Passed t) other a b = absurd a
-outcome-once true s frames patterns heard.Chance other a b = absurd a
-outcome-once false s frames patterns heard.Nothing heard.Nothing a b = refl
-outcome-once false s frames patterns heard.Nothing (heard.Lost t) a b = absurd (false≢true (sym a.0 ∙ b.1))
-outcome-once false s frames patterns heard.Nothing (heard.Passed t) a b = absurd (silent-sent s frames patterns a.1 b.1)
-outcome-once false s frames patterns heard.Nothing heard.Chance a b = absurd (b.0 a.1)
-outcome-once false s frames patterns (heard.Lost t) heard.Nothing a b = absurd (false≢true (sym b.0 ∙ a.1))
-outcome-once false s frames patterns (heard.Lost t) (heard.Lost u) a b = ap heard.Lost (a.0 ∙ sym b.0)
-outcome-once false s frames patterns (heard.Lost t) (heard.Passed u) a b = absurd (silent-sent s frames patterns a.2 b.1)
-outcome-once false s frames patterns (heard.Lost t) heard.Chance a b = absurd (b.0 a.2)
-outcome-once false s frames patterns (heard.Passed t) heard.Nothing a b = absurd (silent-sent s frames patterns b.1 a.1)
-outcome-once false s frames patterns (heard.Passed t) (heard.Lost u) a b = absurd (silent-sent s frames patterns b.2 a.1)
-outcome-once false s frames patterns (heard.Passed t) (heard.Passed u) a b = ap heard.Passed (a.0 ∙ sym b.0)
-outcome-once false s frames patterns (heard.Passed t) heard.Chance a b = absurd (b.1 a.1)
-outcome-once false s frames patterns heard.Chance heard.Nothing a b = absurd (a.0 b.1)
-outcome-once false s frames patterns heard.Chance (heard.Lost t) a b = absurd (a.0 b.2)
-outcome-once false s frames patterns heard.Chance (heard.Passed t) a b = absurd (a.1 b.1)
-outcome-once false s frames patterns heard.Chance heard.Chance a b = refl
+pub outcome-once : (loses : Bool) (sender : Role) (dlci : ℕ) (s : Sent) (octets : List (List ℕ)) (patterns : List Seen)
+    (h other : Heard) → IsOutcome loses sender dlci s octets patterns h → IsOutcome loses sender dlci s octets patterns other → h ≡ other
+outcome-once true sender dlci s octets patterns heard.Nothing heard.Nothing a b = refl
+outcome-once true sender dlci s octets patterns heard.Nothing (heard.Lost t) a b = absurd (false≢true (sym a ∙ b.1))
+outcome-once true sender dlci s octets patterns heard.Nothing (heard.Passed t) a b = absurd b
+outcome-once true sender dlci s octets patterns heard.Nothing heard.Chance a b = absurd b
+outcome-once true sender dlci s octets patterns (heard.Lost t) heard.Nothing a b = absurd (false≢true (sym b ∙ a.1))
+outcome-once true sender dlci s octets patterns (heard.Lost t) (heard.Lost u) a b = ap heard.Lost (a.0 ∙ sym b.0)
+outcome-once true sender dlci s octets patterns (heard.Lost t) (heard.Passed u) a b = absurd b
+outcome-once true sender dlci s octets patterns (heard.Lost t) heard.Chance a b = absurd b
+outcome-once true sender dlci s octets patterns (heard.Passed t) other a b = absurd a
+outcome-once true sender dlci s octets patterns heard.Chance other a b = absurd a
+outcome-once false sender dlci s octets patterns heard.Nothing heard.Nothing a b = refl
+outcome-once false sender dlci s octets patterns heard.Nothing (heard.Lost t) a b = absurd (false≢true (sym a.0 ∙ b.1))
+outcome-once false sender dlci s octets patterns heard.Nothing (heard.Passed t) a b = absurd (silent-sent sender dlci s octets patterns a.1 b.1)
+outcome-once false sender dlci s octets patterns heard.Nothing heard.Chance a b = absurd (b.0 a.1)
+outcome-once false sender dlci s octets patterns (heard.Lost t) heard.Nothing a b = absurd (false≢true (sym b.0 ∙ a.1))
+outcome-once false sender dlci s octets patterns (heard.Lost t) (heard.Lost u) a b = ap heard.Lost (a.0 ∙ sym b.0)
+outcome-once false sender dlci s octets patterns (heard.Lost t) (heard.Passed u) a b = absurd (silent-sent sender dlci s octets patterns a.2 b.1)
+outcome-once false sender dlci s octets patterns (heard.Lost t) heard.Chance a b = absurd (b.0 a.2)
+outcome-once false sender dlci s octets patterns (heard.Passed t) heard.Nothing a b = absurd (silent-sent sender dlci s octets patterns b.1 a.1)
+outcome-once false sender dlci s octets patterns (heard.Passed t) (heard.Lost u) a b = absurd (silent-sent sender dlci s octets patterns b.2 a.1)
+outcome-once false sender dlci s octets patterns (heard.Passed t) (heard.Passed u) a b = ap heard.Passed (a.0 ∙ sym b.0)
+outcome-once false sender dlci s octets patterns (heard.Passed t) heard.Chance a b = absurd (b.1 a.1)
+outcome-once false sender dlci s octets patterns heard.Chance heard.Nothing a b = absurd (a.0 b.1)
+outcome-once false sender dlci s octets patterns heard.Chance (heard.Lost t) a b = absurd (a.0 b.2)
+outcome-once false sender dlci s octets patterns heard.Chance (heard.Passed t) a b = absurd (a.1 b.1)
+outcome-once false sender dlci s octets patterns heard.Chance heard.Chance a b = refl

@@ -12,7 +12,6 @@ use Rattle.lapm_frames.specs.declared.seen.Seen.{Seen}
 use Rattle.detection.specs.Slots.{Signal, signal_bits, slot_of, slots_of}
 use Rattle.bit_stuffing.proofs.Fill.{bits-append}
 use Rattle.roles.specs.declared.role.Role.{Role}
-use Rattle.lapm_frames.specs.declared.frame.Frame.{Frame}
 use Rattle.lapm_frames.specs.declared.sent.Sent.{Sent}
 use Rattle.noise_script.specs.Script.{ScriptValue}
 use Rattle.lapm_frames.specs.declared.heard.Heard.{Heard}
@@ -20,7 +19,7 @@ use Rattle.sample_line.specs.declared.tally.Tally.{Tally}
 use Rattle.sample_line.specs.declared.path.Path.{Path}
 use Rattle.sample_line.specs.Recorded.{Records}
 use Rattle.survivors.specs.V32.{line_depth}
-use Rattle.sample_line.specs.Received.{Gives, FoundBetween}
+use Rattle.sample_line.specs.Received.{Gives}
 use Rattle.sample_line.specs.Outcomes.{IsOutcome}
 use Rattle.sample_line.specs.Tallies.{Tallies}
 use Rattle.sample_line.specs.Path.{Carries, CarriesBetween}
@@ -68,7 +67,8 @@ pub slot-passes : (script : ScriptValue) (line : Kept) (path : Path) (passed : L
     → CarriesBetween path script
     (signal_bits (4 * line.writer.symbols) passed ++ bits) check line.path.transmitter.sender dlci s stands.read tally
     → path.hearer.reader.decoder.lost ≡ None → path.hearer.reader.decoder.pending ≡ []
-    → ((frames : List Frame) (patterns : List Seen) → Tallies s frames patterns tally → IsOutcome loses s frames patterns heard)
+    → ((octets : List (List ℕ)) (patterns : List Seen) → Tallies line.path.transmitter.sender dlci s octets patterns tally
+    → IsOutcome loses line.path.transmitter.sender dlci s octets patterns heard)
     → PassesSlot (kept line.writer (line.passed + 1) path) script passed signal waiting check dlci loses s heard
 slot-passes script line path passed signal waiting check dlci loses s bits tally heard stands e sender_is found not_lost taken outcome =
     let size : ℕ = 4 * line.writer.symbols in
@@ -83,7 +83,7 @@ slot-passes script line path passed signal waiting check dlci loses s bits tally
           (recorded line.path.transmitter script (signal_bits size passed) stands.carries.samples stands.carries.transmits);
       recorded = subst (λ (xs : List Bool). Records script new xs found.carries.samples) all
           (recorded path.transmitter script (signal_bits size passed ++ bits) found.carries.samples found.carries.transmits);
-      frames = found.tallies.frames;
+      octets = found.tallies.octets;
       patterns = found.tallies.patterns;
       received = record {
         earlier = stands.read;
@@ -91,10 +91,10 @@ slot-passes script line path passed signal waiting check dlci loses s bits tally
         gave = subst (λ (r : Role). Gives r stands.carries.samples stands.read) (sym sender_is)
             (gives old line.path.hearer stands.carries.samples stands.read stands.carries.hears stands.not_lost stands.all_taken);
         gives = gives new path.hearer found.carries.samples found.read found.carries.hears not_lost taken;
-        found = subst (λ (r : Role). FoundBetween check r dlci stands.read found.read found.tallies.frames found.tallies.patterns)
-            (sym sender_is) found.tallies.found;
+        found = found.tallies.found;
       };
-      outcome = outcome found.tallies.frames found.tallies.patterns found.tallies.tallies;
+      outcome = subst (λ (r : Role). IsOutcome loses r dlci s found.tallies.octets found.tallies.patterns heard) (sym sender_is)
+          (outcome found.tallies.octets found.tallies.patterns found.tallies.tallies);
       stands = record {
         writer = subst (λ (xs : List Signal). WriterStands line.writer (slots_of size xs))
             (sym (append_assoc passed (signal ∷ []) waiting)) stands.writer;

@@ -1,11 +1,17 @@
--- A tally once one more frame or pattern was received.
-use Rattle.std.proofs.Common.{◌≡◌, ◌⊎◌, inl, inr, ◌∙◌, Bool, true, false, List, [], ◌∷◌, ◌++◌, ◌-◌, length, refl, sym, ap, subst, arith}
+-- A tally once octets passed the check once more, or one more pattern was received.
+use Rattle.std.proofs.Common.{◌≡◌, ◌⊎◌, inl, inr, ◌∙◌, ℕ, Bool, true, false, List, [], ◌∷◌, ◌++◌, ◌-◌, length, refl, sym, ap, subst, arith}
 use Rattle.std.proofs.Common.{get_or, length-append}
 use Rattle.std.specs.List.{All}
 use Rattle.std.proofs.lemmas.Bool.{false≢true}
 use Rattle.std.proofs.lemmas.List.{get_or-append_right, get_or_append_left}
 use Rattle.std.proofs.lemmas.List.Elements.{All-push}
+use Rattle.roles.specs.declared.role.Role.{Role}
 use Rattle.lapm_frames.specs.declared.frame.Frame.{Frame}
+use Rattle.lapm_frames.specs.declared.fault.FrameFault.{FrameFault}
+use Rattle.lapm_frames.specs.Frame.{FrameSpelling}
+use Rattle.lapm_frames.specs.Fault.{FirstFault}
+use Rattle.lapm_frames.proofs.Spellings.{frames-one}
+use Rattle.lapm_frames.proofs.Exact.{never-both}
 use Rattle.lapm_frames.specs.declared.seen.Seen.{Seen}
 use Rattle.lapm_frames.specs.declared.seen.Seen.TheVariants as seen
 use Rattle.lapm_frames.specs.declared.sent.Sent.{Sent}
@@ -15,7 +21,7 @@ use Rattle.sample_line.specs.declared.tally.Tally.TheVariants.{Silent, AsSent, O
 use Rattle.lapm_frames.specs.declared.heard.Heard.{Heard}
 use Rattle.lapm_frames.specs.declared.heard.Heard.TheVariants as heard
 use Rattle.sample_line.specs.Outcomes.{IsSilent, IsPattern, IsWhatWasSent, IsLostAs, IsHeardAs}
-use Rattle.sample_line.specs.Tallies.{Tallies, carries, after_frame, after_pattern}
+use Rattle.sample_line.specs.Tallies.{Tallies, carries, after_octets, after_pattern}
 
 snoc-some : {X : Type 0} (xs : List X) (x : X) → xs ++ x ∷ [] ≡ [] → ⊥
 snoc-some [] x e = absurd cc
@@ -37,43 +43,86 @@ All-front : {X : Type 0} (P : X → Type 0) (xs : List X) (x : X) → All P (xs 
 All-front P xs x h k d low =
     subst P (get_or_append_left xs (x ∷ []) d k low) (h k d (omega (arith, low, length-append xs (x ∷ []))))
 
--- frames
+-- octets
 
-only-frame : (s : Sent) (frames : List Frame) (patterns : List Seen) (frame : Frame) → IsWhatWasSent s (frames ++ frame ∷ []) patterns
-    → (frames ≡ []) × (patterns ≡ []) × (s ≡ sent.Frame frame)
-only-frame sent.Mark frames patterns frame w = absurd w
-only-frame sent.Flags frames patterns frame w = absurd w
-only-frame sent.Odp frames patterns frame w = absurd (snoc-some frames frame w.0)
-only-frame sent.Adp frames patterns frame w = absurd (snoc-some frames frame w.0)
-only-frame (sent.Frame other) frames patterns frame w =
-    let one = one-empty frames frame other w.0 in
-    (one.0, w.1, ap sent.Frame (sym one.1))
+-- the octets are those of the frame that was sent
+abbrev pub SpellsSent : Role → ℕ → Sent → List ℕ → Type 0
+SpellsSent sender dlci (sent.Frame frame) front = FrameSpelling frame sender dlci front
+SpellsSent sender dlci s front = ⊥
 
-no-frame : (s : Sent) (patterns : List Seen) (frame : Frame) → s ≡ sent.Frame frame → IsWhatWasSent s [] patterns → ⊥
-no-frame s patterns frame e w = none (subst (λ z. IsWhatWasSent z [] patterns) e w).0
+only-front : (sender : Role) (dlci : ℕ) (s : Sent) (octets : List (List ℕ)) (patterns : List Seen) (front : List ℕ)
+    → IsWhatWasSent sender dlci s (octets ++ front ∷ []) patterns → (octets ≡ []) × (patterns ≡ []) × SpellsSent sender dlci s front
+only-front sender dlci sent.Mark octets patterns front w = absurd w
+only-front sender dlci sent.Flags octets patterns front w = absurd w
+only-front sender dlci sent.Odp octets patterns front w = absurd (snoc-some octets front w.0)
+only-front sender dlci sent.Adp octets patterns front w = absurd (snoc-some octets front w.0)
+only-front sender dlci (sent.Frame frame) octets patterns front w =
+    let one = one-empty octets front w.0 w.2 in
+    (one.0, w.3, subst (λ (xs : List ℕ). FrameSpelling frame sender dlci xs) (sym one.1) w.1)
+
+first-front : (sender : Role) (dlci : ℕ) (s : Sent) (octets : List (List ℕ)) (patterns : List Seen) (front : List ℕ)
+    → SpellsSent sender dlci s front → IsSilent octets patterns → IsWhatWasSent sender dlci s (octets ++ front ∷ []) patterns
+first-front sender dlci sent.Mark octets patterns front h q = absurd h
+first-front sender dlci sent.Flags octets patterns front h q = absurd h
+first-front sender dlci sent.Odp octets patterns front h q = absurd h
+first-front sender dlci sent.Adp octets patterns front h q = absurd h
+first-front sender dlci (sent.Frame frame) octets patterns front h q =
+    (front, h, ap (λ (xs : List (List ℕ)). xs ++ front ∷ []) q.0, q.1)
+
+no-front : (sender : Role) (dlci : ℕ) (s : Sent) (patterns : List Seen) (front : List ℕ) → SpellsSent sender dlci s front
+    → IsWhatWasSent sender dlci s [] patterns → ⊥
+no-front sender dlci sent.Mark patterns front h w = h
+no-front sender dlci sent.Flags patterns front h w = h
+no-front sender dlci sent.Odp patterns front h w = h
+no-front sender dlci sent.Adp patterns front h w = h
+no-front sender dlci (sent.Frame frame) patterns front h w = none w.0 w.2
   where
-    none : [] ≡ frame ∷ [] → ⊥
-    none q = absurd cc
+    none : (own : List ℕ) → [] ≡ own ∷ [] → ⊥
+    none own e = absurd cc
 
-pub frame-more : (s : Sent) (frames : List Frame) (patterns : List Seen) (frame : Frame) (carried : Bool) (t : Tally)
-    → (carried ≡ true → s ≡ sent.Frame frame) → (carried ≡ false → s ≡ sent.Frame frame → ⊥)
-    → Tallies s frames patterns t → Tallies s (frames ++ frame ∷ []) patterns (after_frame carried t)
-frame-more s frames patterns frame true Silent sure never h =
-    subst (λ z. IsWhatWasSent z (frames ++ frame ∷ []) patterns) (sym (sure refl)) (ap (λ xs. xs ++ frame ∷ []) h.0, h.1)
-frame-more s frames patterns frame false Silent sure never h =
-    (λ q. snoc-some frames frame q.0, λ w. never refl (only-frame s frames patterns frame w).2)
-frame-more s frames patterns frame carried AsSent sure never h = (
-  λ q. snoc-some frames frame q.0,
+pub octets-more : (sender : Role) (dlci : ℕ) (s : Sent) (octets : List (List ℕ)) (patterns : List Seen) (front : List ℕ) (carried : Bool)
+    (t : Tally)
+    → (carried ≡ true → SpellsSent sender dlci s front) → (carried ≡ false → SpellsSent sender dlci s front → ⊥)
+    → Tallies sender dlci s octets patterns t → Tallies sender dlci s (octets ++ front ∷ []) patterns (after_octets carried t)
+octets-more sender dlci s octets patterns front true Silent sure never h =
+    first-front sender dlci s octets patterns front (sure refl) h
+octets-more sender dlci s octets patterns front false Silent sure never h =
+    (λ q. snoc-some octets front q.0, λ w. never refl (only-front sender dlci s octets patterns front w).2)
+octets-more sender dlci s octets patterns front carried AsSent sure never h = (
+  λ q. snoc-some octets front q.0,
   λ w.
-      let only = only-frame s frames patterns frame w in
-      no-frame s patterns frame only.2 (subst (λ xs. IsWhatWasSent s xs patterns) only.0 h),
+      let only = only-front sender dlci s octets patterns front w in
+      no-front sender dlci s patterns front only.2
+      (subst (λ (xs : List (List ℕ)). IsWhatWasSent sender dlci s xs patterns) only.0 h),
 )
-frame-more s frames patterns frame carried Other sure never h = (
-  λ q. snoc-some frames frame q.0,
+octets-more sender dlci s octets patterns front carried Other sure never h = (
+  λ q. snoc-some octets front q.0,
   λ w.
-      let only = only-frame s frames patterns frame w in
+      let only = only-front sender dlci s octets patterns front w in
       h.0 (only.0, only.1),
 )
+
+-- what of a whole piece is read as a frame, or refused
+
+pub spells-sent : (sender : Role) (dlci : ℕ) (s : Sent) (frame : Frame) (front : List ℕ) → FrameSpelling frame sender dlci front
+    → s ≡ sent.Frame frame → SpellsSent sender dlci s front
+spells-sent sender dlci s frame front h e = subst (λ (z : Sent). SpellsSent sender dlci z front) (sym e) h
+
+pub another-sent : (sender : Role) (dlci : ℕ) (s : Sent) (frame : Frame) (front : List ℕ) → FrameSpelling frame sender dlci front
+    → (s ≡ sent.Frame frame → ⊥) → SpellsSent sender dlci s front → ⊥
+another-sent sender dlci sent.Mark frame front h n own = own
+another-sent sender dlci sent.Flags frame front h n own = own
+another-sent sender dlci sent.Odp frame front h n own = own
+another-sent sender dlci sent.Adp frame front h n own = own
+another-sent sender dlci (sent.Frame other) frame front h n own = n (ap sent.Frame (frames-one other frame sender dlci front own h))
+
+pub refused-sent : (sender : Role) (dlci : ℕ) (s : Sent) (fault : FrameFault) (front : List ℕ) → FirstFault sender dlci front fault
+    → SpellsSent sender dlci s front → ⊥
+refused-sent sender dlci sent.Mark fault front h own = own
+refused-sent sender dlci sent.Flags fault front h own = own
+refused-sent sender dlci sent.Odp fault front h own = own
+refused-sent sender dlci sent.Adp fault front h own = own
+refused-sent sender dlci (sent.Frame frame) fault front h own = never-both frame sender dlci front fault own h
 
 -- patterns
 
@@ -82,31 +131,31 @@ carries-own : (p : Seen) (own : Seen) (s : Sent) → ((own ≡ seen.Odp) × (s �
 carries-own p own s (inl q) e = rw (e, q.0, q.1) refl
 carries-own p own s (inr q) e = rw (e, q.0, q.1) refl
 
-some-before : (own : Seen) (frames : List Frame) (patterns : List Seen) (p : Seen) → IsPattern own frames (patterns ++ p ∷ [])
-    → (patterns ≡ []) ⊎ IsPattern own frames patterns
-some-before own frames [] p w = inl refl
-some-before own frames (q ∷ patterns) p w = inr (w.0, (λ e. absurd cc), All-front (λ other. other ≡ own) (q ∷ patterns) p w.2)
+some-before : (own : Seen) (octets : List (List ℕ)) (patterns : List Seen) (p : Seen) → IsPattern own octets (patterns ++ p ∷ [])
+    → (patterns ≡ []) ⊎ IsPattern own octets patterns
+some-before own octets [] p w = inl refl
+some-before own octets (q ∷ patterns) p w = inr (w.0, (λ e. absurd cc), All-front (λ other. other ≡ own) (q ∷ patterns) p w.2)
 
-last-pattern : (s : Sent) (frames : List Frame) (patterns : List Seen) (p : Seen) → IsWhatWasSent s frames (patterns ++ p ∷ [])
-    → (carries s p ≡ true) × (frames ≡ []) × ((patterns ≡ []) ⊎ IsWhatWasSent s frames patterns)
-last-pattern sent.Mark frames patterns p w = absurd w
-last-pattern sent.Flags frames patterns p w = absurd w
-last-pattern sent.Odp frames patterns p w = (
+last-pattern : (sender : Role) (dlci : ℕ) (s : Sent) (octets : List (List ℕ)) (patterns : List Seen) (p : Seen) → IsWhatWasSent sender dlci s octets (patterns ++ p ∷ [])
+    → (carries s p ≡ true) × (octets ≡ []) × ((patterns ≡ []) ⊎ IsWhatWasSent sender dlci s octets patterns)
+last-pattern sender dlci sent.Mark octets patterns p w = absurd w
+last-pattern sender dlci sent.Flags octets patterns p w = absurd w
+last-pattern sender dlci sent.Odp octets patterns p w = (
   carries-own p seen.Odp sent.Odp (inl (refl, refl)) (All-last (λ other. other ≡ seen.Odp) patterns p w.2),
   w.0,
-  some-before seen.Odp frames patterns p w,
+  some-before seen.Odp octets patterns p w,
 )
-last-pattern sent.Adp frames patterns p w = (
+last-pattern sender dlci sent.Adp octets patterns p w = (
   carries-own p seen.Adp sent.Adp (inr (refl, refl)) (All-last (λ other. other ≡ seen.Adp) patterns p w.2),
   w.0,
-  some-before seen.Adp frames patterns p w,
+  some-before seen.Adp octets patterns p w,
 )
-last-pattern (sent.Frame frame) frames patterns p w = absurd (snoc-some patterns p w.1)
+last-pattern sender dlci (sent.Frame frame) octets patterns p w = absurd (snoc-some patterns p w.3)
 
-own-more : (own : Seen) (frames : List Frame) (patterns : List Seen) (p : Seen) → p ≡ own → frames ≡ []
+own-more : (own : Seen) (octets : List (List ℕ)) (patterns : List Seen) (p : Seen) → p ≡ own → octets ≡ []
     → All (λ other. other ≡ own) patterns
-    → IsPattern own frames (patterns ++ p ∷ [])
-own-more own frames patterns p e none all = (none, snoc-some patterns p, All-push (λ other. other ≡ own) patterns p all e)
+    → IsPattern own octets (patterns ++ p ∷ [])
+own-more own octets patterns p e none all = (none, snoc-some patterns p, All-push (λ other. other ≡ own) patterns p all e)
 
 none-all : (own : Seen) (patterns : List Seen) → patterns ≡ [] → All (λ other. other ≡ own) patterns
 none-all own [] e k d low = absurd (omega (arith, low))
@@ -120,49 +169,49 @@ is-adp : (p : Seen) → carries sent.Adp p ≡ true → p ≡ seen.Adp
 is-adp seen.Adp e = refl
 is-adp seen.Odp e = absurd (false≢true e)
 
-first-pattern : (s : Sent) (frames : List Frame) (patterns : List Seen) (p : Seen) → carries s p ≡ true → IsSilent frames patterns
-    → IsWhatWasSent s frames (patterns ++ p ∷ [])
-first-pattern sent.Mark frames patterns p e h = absurd (false≢true e)
-first-pattern sent.Flags frames patterns p e h = absurd (false≢true e)
-first-pattern (sent.Frame frame) frames patterns p e h = absurd (false≢true e)
-first-pattern sent.Odp frames patterns p e h = own-more seen.Odp frames patterns p (is-odp p e) h.0 (none-all seen.Odp patterns h.1)
-first-pattern sent.Adp frames patterns p e h = own-more seen.Adp frames patterns p (is-adp p e) h.0 (none-all seen.Adp patterns h.1)
+first-pattern : (sender : Role) (dlci : ℕ) (s : Sent) (octets : List (List ℕ)) (patterns : List Seen) (p : Seen) → carries s p ≡ true → IsSilent octets patterns
+    → IsWhatWasSent sender dlci s octets (patterns ++ p ∷ [])
+first-pattern sender dlci sent.Mark octets patterns p e h = absurd (false≢true e)
+first-pattern sender dlci sent.Flags octets patterns p e h = absurd (false≢true e)
+first-pattern sender dlci (sent.Frame frame) octets patterns p e h = absurd (false≢true e)
+first-pattern sender dlci sent.Odp octets patterns p e h = own-more seen.Odp octets patterns p (is-odp p e) h.0 (none-all seen.Odp patterns h.1)
+first-pattern sender dlci sent.Adp octets patterns p e h = own-more seen.Adp octets patterns p (is-adp p e) h.0 (none-all seen.Adp patterns h.1)
 
-next-pattern : (s : Sent) (frames : List Frame) (patterns : List Seen) (p : Seen) → carries s p ≡ true → IsWhatWasSent s frames patterns
-    → IsWhatWasSent s frames (patterns ++ p ∷ [])
-next-pattern sent.Mark frames patterns p e h = absurd (false≢true e)
-next-pattern sent.Flags frames patterns p e h = absurd (false≢true e)
-next-pattern (sent.Frame frame) frames patterns p e h = absurd (false≢true e)
-next-pattern sent.Odp frames patterns p e h = own-more seen.Odp frames patterns p (is-odp p e) h.0 h.2
-next-pattern sent.Adp frames patterns p e h = own-more seen.Adp frames patterns p (is-adp p e) h.0 h.2
+next-pattern : (sender : Role) (dlci : ℕ) (s : Sent) (octets : List (List ℕ)) (patterns : List Seen) (p : Seen) → carries s p ≡ true → IsWhatWasSent sender dlci s octets patterns
+    → IsWhatWasSent sender dlci s octets (patterns ++ p ∷ [])
+next-pattern sender dlci sent.Mark octets patterns p e h = absurd (false≢true e)
+next-pattern sender dlci sent.Flags octets patterns p e h = absurd (false≢true e)
+next-pattern sender dlci (sent.Frame frame) octets patterns p e h = absurd (false≢true e)
+next-pattern sender dlci sent.Odp octets patterns p e h = own-more seen.Odp octets patterns p (is-odp p e) h.0 h.2
+next-pattern sender dlci sent.Adp octets patterns p e h = own-more seen.Adp octets patterns p (is-adp p e) h.0 h.2
 
-pub pattern-more : (s : Sent) (frames : List Frame) (patterns : List Seen) (p : Seen) (t : Tally)
-    → Tallies s frames patterns t → Tallies s frames (patterns ++ p ∷ []) (after_pattern (carries s p) t)
-pattern-more s frames patterns p t h = go (carries s p) t refl h
+pub pattern-more : (sender : Role) (dlci : ℕ) (s : Sent) (octets : List (List ℕ)) (patterns : List Seen) (p : Seen) (t : Tally)
+    → Tallies sender dlci s octets patterns t → Tallies sender dlci s octets (patterns ++ p ∷ []) (after_pattern (carries s p) t)
+pattern-more sender dlci s octets patterns p t h = go (carries s p) t refl h
   where
-    not-silent : IsSilent frames (patterns ++ p ∷ []) → ⊥
+    not-silent : IsSilent octets (patterns ++ p ∷ []) → ⊥
     not-silent q = snoc-some patterns p q.1
 
-    not-sent : carries s p ≡ false → IsWhatWasSent s frames (patterns ++ p ∷ []) → ⊥
-    not-sent e w = false≢true (sym e ∙ (last-pattern s frames patterns p w).0)
+    not-sent : carries s p ≡ false → IsWhatWasSent sender dlci s octets (patterns ++ p ∷ []) → ⊥
+    not-sent e w = false≢true (sym e ∙ (last-pattern sender dlci s octets patterns p w).0)
 
-    go : (b : Bool) (t : Tally) → carries s p ≡ b → Tallies s frames patterns t → Tallies s frames (patterns ++ p ∷ []) (after_pattern b t)
-    go true Silent e h = first-pattern s frames patterns p e h
+    go : (b : Bool) (t : Tally) → carries s p ≡ b → Tallies sender dlci s octets patterns t → Tallies sender dlci s octets (patterns ++ p ∷ []) (after_pattern b t)
+    go true Silent e h = first-pattern sender dlci s octets patterns p e h
     go false Silent e h = (not-silent, not-sent e)
-    go true AsSent e h = next-pattern s frames patterns p e h
+    go true AsSent e h = next-pattern sender dlci s octets patterns p e h
     go false AsSent e h = (not-silent, not-sent e)
     go b Other e h = (
       not-silent,
       λ w.
-          let last = last-pattern s frames patterns p w in
+          let last = last-pattern sender dlci s octets patterns p w in
           elim last.2 [ inl none ↦ h.0 (last.1, none) | inr sent ↦ h.1 sent ],
     )
 
 -- outcomes
 
-pub silent-outcome : (s : Sent) (frames : List Frame) (patterns : List Seen) (h : Heard) → IsSilent frames patterns → IsLostAs s h
-    → IsHeardAs s frames patterns h
-silent-outcome s frames patterns heard.Nothing silent lost = (lost, silent)
-silent-outcome s frames patterns (heard.Lost t) silent lost = (lost.0, lost.1, silent)
-silent-outcome s frames patterns (heard.Passed t) silent lost = absurd lost
-silent-outcome s frames patterns heard.Chance silent lost = absurd lost
+pub silent-outcome : (sender : Role) (dlci : ℕ) (s : Sent) (octets : List (List ℕ)) (patterns : List Seen) (h : Heard) → IsSilent octets patterns → IsLostAs s h
+    → IsHeardAs sender dlci s octets patterns h
+silent-outcome sender dlci s octets patterns heard.Nothing silent lost = (lost, silent)
+silent-outcome sender dlci s octets patterns (heard.Lost t) silent lost = (lost.0, lost.1, silent)
+silent-outcome sender dlci s octets patterns (heard.Passed t) silent lost = absurd lost
+silent-outcome sender dlci s octets patterns heard.Chance silent lost = absurd lost

@@ -14,7 +14,7 @@ use Rattle.sample_line.specs.declared.tally.Tally.{Tally}
 use Rattle.sample_line.specs.Receiver.{HasRead}
 use Rattle.sample_line.specs.Tallies.{TalliesBetween}
 
--- The reader stands for the samples, and its bits were searched for frames and patterns.
+-- The reader stands for the samples, and its bits were searched for pieces and patterns.
 pub record Hears (mode : Mode) (hearer : Hearer) (samples : List Sample) (read : List Bool) : Type 0 where
   pub reader : LineRead mode at_beginning line_depth hearer.reader samples read
   pub finder : HasRead hearer.finder read

@@ -5,7 +5,6 @@ use Rattle.frame_check.specs.declared.sizes.TheConstants.{SLOT}
 use Rattle.symbol_map.specs.declared.sample.Sample.{Sample}
 use Rattle.lapm_frames.specs.declared.seen.Seen.{Seen}
 use Rattle.roles.specs.declared.role.Role.{Role}
-use Rattle.lapm_frames.specs.declared.frame.Frame.{Frame}
 use Rattle.lapm_frames.specs.declared.sent.Sent.{Sent}
 use Rattle.noise_script.specs.Script.{ScriptValue}
 use Rattle.lapm_frames.specs.declared.heard.Heard.{Heard}
@@ -36,17 +35,17 @@ abbrev pub GivenStays : Type 0
 GivenStays = (sender : Role) (samples more : List Sample) (bits later : List Bool)
     → Gives sender samples bits → Gives sender (samples ++ more) later → (rest : List Bool) × (later ≡ bits ++ rest)
 
--- one list of frames and one of patterns are received in a slot
+-- one list of octets and one of patterns are received in a slot
 abbrev pub ReceivedOnce : Type 0
-ReceivedOnce = (check : Check) (sender : Role) (dlci : ℕ) (before upto : List Sample) (frames others : List Frame)
+ReceivedOnce = (check : Check) (sender : Role) (before upto : List Sample) (octets others : List (List ℕ))
     (patterns other_patterns : List Seen)
-    → Receives check sender dlci before upto frames patterns → Receives check sender dlci before upto others other_patterns
-    → (frames ≡ others) × (patterns ≡ other_patterns)
+    → Receives check sender before upto octets patterns → Receives check sender before upto others other_patterns
+    → (octets ≡ others) × (patterns ≡ other_patterns)
 
 -- and they have one outcome
 abbrev pub OneOutcome : Type 0
-OneOutcome = (loses : Bool) (s : Sent) (frames : List Frame) (patterns : List Seen) (heard other : Heard)
-    → IsOutcome loses s frames patterns heard → IsOutcome loses s frames patterns other → heard ≡ other
+OneOutcome = (loses : Bool) (sender : Role) (dlci : ℕ) (s : Sent) (octets : List (List ℕ)) (patterns : List Seen) (heard other : Heard)
+    → IsOutcome loses sender dlci s octets patterns heard → IsOutcome loses sender dlci s octets patterns other → heard ≡ other
 
 -- what can be sent fits a slot of the most symbols, behind any unfinished flag
 abbrev pub AllFits : Type 0

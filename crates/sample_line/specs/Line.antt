@@ -9,7 +9,6 @@ use Rattle.bit_stuffing.specs.SlotWriter.{Writer, WriterStands}
 use Rattle.lapm_frames.specs.declared.seen.Seen.{Seen}
 use Rattle.detection.specs.Slots.{Signal, signal_bits, slot_of, slots_of}
 use Rattle.roles.specs.declared.role.Role.{Role}
-use Rattle.lapm_frames.specs.declared.frame.Frame.{Frame}
 use Rattle.lapm_frames.specs.declared.sent.Sent.{Sent}
 use Rattle.noise_script.specs.Script.{ScriptValue}
 use Rattle.lapm_frames.specs.declared.heard.Heard.{Heard}
@@ -56,10 +55,10 @@ pub record PassesSlot (line : Kept) (script : ScriptValue) (passed : List Signal
   pub upto : List Sample
   pub recorded_before : Records script (sender_of line) (signal_bits (size_of line) passed) before
   pub recorded : Records script (sender_of line) (signal_bits (size_of line) (passed ++ signal ∷ [])) upto
-  pub frames : List Frame
+  pub octets : List (List ℕ)
   pub patterns : List Seen
-  pub received : Receives check (sender_of line) dlci before upto frames patterns
-  pub outcome : IsOutcome loses s frames patterns heard
+  pub received : Receives check (sender_of line) before upto octets patterns
+  pub outcome : IsOutcome loses (sender_of line) dlci s octets patterns heard
   pub stands : LineStands line script (passed ++ signal ∷ []) waiting
 
 -- A slot passes, or the line is lost within it.

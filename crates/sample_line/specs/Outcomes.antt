@@ -1,6 +1,8 @@
 -- What a slot is to the end that hears it.
-use Rattle.std.specs.Prelude.{◌≡◌, ◌≢◌, Bool, true, false, List, [], ◌∷◌, All}
+use Rattle.std.specs.Prelude.{◌≡◌, ◌≢◌, ℕ, Bool, true, false, List, [], ◌∷◌, All}
+use Rattle.roles.specs.declared.role.Role.{Role}
 use Rattle.lapm_frames.specs.declared.frame.Frame.{Frame}
+use Rattle.lapm_frames.specs.Frame.{FrameSpelling}
 use Rattle.lapm_frames.specs.declared.seen.Seen.{Seen}
 use Rattle.lapm_frames.specs.declared.seen.Seen.TheVariants as seen
 use Rattle.lapm_frames.specs.declared.sent.Sent.{Sent}
@@ -17,27 +19,32 @@ is_message sent.Adp = true
 is_message (sent.Frame frame) = true
 
 -- nothing was received
-abbrev pub IsSilent : List Frame → List Seen → Type 0
-IsSilent frames patterns = (frames ≡ []) × (patterns ≡ [])
+abbrev pub IsSilent : List (List ℕ) → List Seen → Type 0
+IsSilent octets patterns = (octets ≡ []) × (patterns ≡ [])
 
 -- exactly this pattern was received, once or more often
-abbrev pub IsPattern : Seen → List Frame → List Seen → Type 0
-IsPattern pattern frames patterns = (frames ≡ []) × (patterns ≢ []) × All (λ other. other ≡ pattern) patterns
+abbrev pub IsPattern : Seen → List (List ℕ) → List Seen → Type 0
+IsPattern pattern octets patterns = (octets ≡ []) × (patterns ≢ []) × All (λ other. other ≡ pattern) patterns
+
+-- exactly this frame's octets were received, once
+abbrev pub IsFrameOnce : Role → ℕ → Frame → List (List ℕ) → List Seen → Type 0
+IsFrameOnce sender dlci frame octets patterns =
+    (front : List ℕ) × FrameSpelling frame sender dlci front × (octets ≡ front ∷ []) × (patterns ≡ [])
 
 -- exactly what was sent was received: a frame once, a pattern once or more often
-abbrev pub IsWhatWasSent : Sent → List Frame → List Seen → Type 0
-IsWhatWasSent sent.Mark frames patterns = ⊥
-IsWhatWasSent sent.Flags frames patterns = ⊥
-IsWhatWasSent sent.Odp frames patterns = IsPattern seen.Odp frames patterns
-IsWhatWasSent sent.Adp frames patterns = IsPattern seen.Adp frames patterns
-IsWhatWasSent (sent.Frame frame) frames patterns = (frames ≡ frame ∷ []) × (patterns ≡ [])
+abbrev pub IsWhatWasSent : Role → ℕ → Sent → List (List ℕ) → List Seen → Type 0
+IsWhatWasSent sender dlci sent.Mark octets patterns = ⊥
+IsWhatWasSent sender dlci sent.Flags octets patterns = ⊥
+IsWhatWasSent sender dlci sent.Odp octets patterns = IsPattern seen.Odp octets patterns
+IsWhatWasSent sender dlci sent.Adp octets patterns = IsPattern seen.Adp octets patterns
+IsWhatWasSent sender dlci (sent.Frame frame) octets patterns = IsFrameOnce sender dlci frame octets patterns
 
 -- A slot that no line of the script loses: a message is passed or lost, an empty slot is idle, and all else is chance.
-abbrev pub IsHeardAs : Sent → List Frame → List Seen → Heard → Type 0
-IsHeardAs s frames patterns Nothing = (is_message s ≡ false) × IsSilent frames patterns
-IsHeardAs s frames patterns (Passed t) = (t ≡ s) × IsWhatWasSent s frames patterns
-IsHeardAs s frames patterns (Lost t) = (t ≡ s) × (is_message s ≡ true) × IsSilent frames patterns
-IsHeardAs s frames patterns Chance = (IsSilent frames patterns → ⊥) × (IsWhatWasSent s frames patterns → ⊥)
+abbrev pub IsHeardAs : Role → ℕ → Sent → List (List ℕ) → List Seen → Heard → Type 0
+IsHeardAs sender dlci s octets patterns Nothing = (is_message s ≡ false) × IsSilent octets patterns
+IsHeardAs sender dlci s octets patterns (Passed t) = (t ≡ s) × IsWhatWasSent sender dlci s octets patterns
+IsHeardAs sender dlci s octets patterns (Lost t) = (t ≡ s) × (is_message s ≡ true) × IsSilent octets patterns
+IsHeardAs sender dlci s octets patterns Chance = (IsSilent octets patterns → ⊥) × (IsWhatWasSent sender dlci s octets patterns → ⊥)
 
 -- a slot that a line of the script loses: a message is lost, whatever was received
 abbrev pub IsLostAs : Sent → Heard → Type 0
@@ -46,7 +53,7 @@ IsLostAs s (Lost t) = (t ≡ s) × (is_message s ≡ true)
 IsLostAs s (Passed t) = ⊥
 IsLostAs s Chance = ⊥
 
--- the outcome of a slot in which this was sent and that was received
-abbrev pub IsOutcome : Bool → Sent → List Frame → List Seen → Heard → Type 0
-IsOutcome true s frames patterns heard = IsLostAs s heard
-IsOutcome false s frames patterns heard = IsHeardAs s frames patterns heard
+-- the outcome of a slot in which this was sent, by this sender on this channel, and that was received
+abbrev pub IsOutcome : Bool → Role → ℕ → Sent → List (List ℕ) → List Seen → Heard → Type 0
+IsOutcome true sender dlci s octets patterns heard = IsLostAs s heard
+IsOutcome false sender dlci s octets patterns heard = IsHeardAs sender dlci s octets patterns heard

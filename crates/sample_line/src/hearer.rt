@@ -20,12 +20,12 @@ pub const DEPTH: usize = 128;
 /// The decoder of a line.
 pub type LineDecoder = Decoder<V32Code, 8, 32, DEPTH>;
 
-/// What reads the samples, and what finds frames and patterns in their bits.
+/// What reads the samples, and what finds pieces and patterns in their bits.
 #[derive(Drop)]
 pub(crate) struct Hearer {
     /// From samples to bits.
     pub reader: LineReader<DEPTH>,
-    /// From bits to frames and patterns.
+    /// From bits to pieces and patterns.
     finder: Finder,
 }
 

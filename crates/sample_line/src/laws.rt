@@ -13,7 +13,7 @@ pub fn given_bits_stay()
     ensures stay { GivenStays }
 {}
 
-/// In a slot one list of frames and one of patterns are received, and they have one outcome.
+/// In a slot one list of octets and one of patterns are received, and they have one outcome.
 pub fn one_outcome()
     ensures received { ReceivedOnce }
     ensures outcome { OneOutcome }

@@ -2,7 +2,6 @@
 //! script. [`Line`] codes slots as bits and passes them as samples to the receiver's decoder; [`Heard`] is what becomes of a slot.
 #![tactic(auto)]
 
-mod checks;
 mod coding;
 mod hearer;
 pub mod laws;

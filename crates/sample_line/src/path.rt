@@ -22,7 +22,7 @@ use std::alloc::Global;
 pub(crate) struct Path {
     /// From bits to samples.
     pub transmitter: Transmitter,
-    /// From samples to frames and patterns.
+    /// From samples to pieces and patterns.
     pub hearer: Hearer,
 }
 

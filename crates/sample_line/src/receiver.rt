@@ -3,17 +3,15 @@ ghost use Rattle.std.specs.Prelude.{◌≡◌, ◌<◌, true, false, Some, ℕ, 
 ghost use Rattle.plain_lists.specs.Bits.{low_bits};
 ghost use Rattle.bit_stuffing.specs.Deframer.{DeframerStands};
 ghost use Rattle.bit_stuffing.specs.declared.piece.Piece.{Piece};
-ghost use Rattle.lapm_frames.specs.declared.frame.Frame.{Frame};
 ghost use Rattle.lapm_frames.specs.declared.seen.Seen.{Seen};
 ghost use Rattle.sample_line.specs.Tallies.{BitIsTallied, Tallies, TalliesBetween, WholeIsTallied};
 ghost use Rattle.sample_line.specs.Receiver.{HasRead};
 
-use crate::checks::frame_in;
-use crate::tally::Tally;
+use crate::tally::{Tally, carries_frame};
 use bit_stuffing::{Deframer, Piece};
 use detection::PatternReader;
 use frame_check::Check;
-use lapm_frames::Sent;
+use lapm_frames::{CheckedFault, Sent, read_checked};
 use roles::Role;
 
 /// What is known of the slot that is received: what was sent in it, and how its receiver judges frames.
@@ -37,24 +35,27 @@ fn is_whole(piece: Option<Piece>) -> bool
     matches!(piece, Some(Piece::Whole))
 }
 
-/// The tally once the frame that stands in a whole piece, if one does, was received. A frame has room for the longest information: what each bit
-/// goes through has no part in that.
+/// The tally once a whole piece was received: its octets count where they pass the check, whether they are a frame or not. A frame has room for the
+/// longest information: what each bit goes through has no part in that.
 fn with_whole(whole: &[u8], slot: Slot<'_>, tally: Tally) -> Tally
     requires { slot.dlci < 64 }
-    ensures { (frames : List Frame) (patterns : List Seen) → Tallies slot.entry.sent.now frames patterns tally
-        → WholeIsTallied slot.entry.check slot.entry.sender slot.entry.dlci slot.entry.sent.now whole.now frames patterns result }
+    ensures { (octets : List (List ℕ)) (patterns : List Seen) → Tallies slot.entry.sender slot.entry.dlci slot.entry.sent.now octets patterns tally
+        → WholeIsTallied slot.entry.check slot.entry.sender slot.entry.dlci slot.entry.sent.now whole.now octets patterns result }
 {
-    let frame = frame_in(whole, slot.check, slot.sender, slot.dlci);
-    tally.with_frame(slot.sent, frame)
+    match read_checked(whole, slot.check, slot.sender, slot.dlci) {
+        Ok(frame) => tally.after_octets(carries_frame(slot.sent, &frame)),
+        Err(CheckedFault::Refused(_)) => tally.after_octets(false),
+        Err(CheckedFault::BadCheck) => tally,
+    }
 }
 
-/// The tally once the deframer took one bit more: with the frame that ends there, if one does.
+/// The tally once the deframer took one bit more: with the piece that ends there, if one does.
 fn with_bit(deframer: &mut Deframer, bit: bool, slot: Slot<'_>, tally: Tally) -> Tally
     requires { slot.dlci < 64 }
     ensures stands { (bits : List Bool) → DeframerStands deframer.old bits → DeframerStands deframer.new (bits ++ bit ∷ []) }
-    ensures frame { (bits : List Bool) (frames : List Frame) (patterns : List Seen) → DeframerStands deframer.old bits
-        → Tallies slot.entry.sent.now frames patterns tally
-        → BitIsTallied slot.entry.check slot.entry.sender slot.entry.dlci slot.entry.sent.now (bits ++ bit ∷ []) frames patterns result }
+    ensures tallied { (bits : List Bool) (octets : List (List ℕ)) (patterns : List Seen) → DeframerStands deframer.old bits
+        → Tallies slot.entry.sender slot.entry.dlci slot.entry.sent.now octets patterns tally
+        → BitIsTallied slot.entry.check slot.entry.sender slot.entry.dlci slot.entry.sent.now (bits ++ bit ∷ []) octets patterns result }
 {
     if is_whole(deframer.push(bit)) {
         with_whole(deframer.whole(), slot, tally)
@@ -63,10 +64,10 @@ fn with_bit(deframer: &mut Deframer, bit: bool, slot: Slot<'_>, tally: Tally) ->
     }
 }
 
-/// Finds frames and patterns in a stream of bits.
+/// Finds pieces and patterns in a stream of bits.
 #[derive(Drop)]
 pub(crate) struct Finder {
-    /// Finds frames.
+    /// Finds pieces.
     deframer: Deframer,
     /// Finds patterns.
     reader: PatternReader,

@@ -1,10 +1,10 @@
 // What was received in a slot so far, beside what was sent in it.
-ghost use Rattle.std.specs.Prelude.{◌≡◌, true, false, [], ◌∷◌, ◌++◌, List, option_to_list};
-ghost use Rattle.lapm_frames.specs.declared.frame.Frame.{Frame};
+ghost use Rattle.std.specs.Prelude.{◌≡◌, true, false, [], ◌∷◌, ◌++◌, ℕ, List, option_to_list};
+ghost use Rattle.roles.specs.declared.role.Role.{Role};
 ghost use Rattle.lapm_frames.specs.declared.seen.Seen.{Seen};
 ghost use Rattle.lapm_frames.specs.declared.sent.Sent.{Sent};
 ghost use Rattle.sample_line.specs.Outcomes.{is_message, IsLostAs, IsOutcome};
-ghost use Rattle.sample_line.specs.Tallies.{Tallies, carries, after_frame, after_pattern};
+ghost use Rattle.sample_line.specs.Tallies.{Tallies, carries, after_octets, after_pattern};
 
 use crate::Heard;
 use lapm_frames::{Frame, Seen, Sent};
@@ -21,7 +21,7 @@ pub(crate) enum Tally {
 }
 
 /// Whether the slot carries this frame.
-fn carries_frame(sent: &Sent, frame: &Frame) -> bool
+pub(crate) fn carries_frame(sent: &Sent, frame: &Frame) -> bool
     ensures yes { result ≡ true → sent.now ≡ Sent.Frame frame.now }
     ensures no { result ≡ false → sent.now ≡ Sent.Frame frame.now → ⊥ }
 {
@@ -76,9 +76,9 @@ fn unheard(sent: &Sent) -> Heard
 }
 
 impl Tally {
-    /// A frame more was received, which the slot carries or not.
-    fn after_frame(self, carried: bool) -> Tally
-        ensures { result ≡ after_frame carried self }
+    /// Octets passed the check once more, which the slot carries or not.
+    pub fn after_octets(self, carried: bool) -> Tally
+        ensures { result ≡ after_octets carried self }
     {
         match self {
             Tally::Silent => { if carried { Tally::AsSent } else { Tally::Other } }
@@ -96,21 +96,10 @@ impl Tally {
         }
     }
 
-    /// A frame more was received, if there is one.
-    pub fn with_frame(self, sent: &Sent, frame: Option<Frame>) -> Tally
-        ensures { (frames : List Frame) (patterns : List Seen) → Tallies sent.now frames patterns self
-            → Tallies sent.now (frames ++ option_to_list frame) patterns result }
-    {
-        match frame {
-            Some(frame) => self.after_frame(carries_frame(sent, &frame)),
-            None => self,
-        }
-    }
-
     /// A pattern more was received, if there is one.
     pub fn with_pattern(self, sent: &Sent, pattern: Option<Seen>) -> Tally
-        ensures { (frames : List Frame) (patterns : List Seen) → Tallies sent.now frames patterns self
-            → Tallies sent.now frames (patterns ++ option_to_list pattern) result }
+        ensures { (sender : Role) (dlci : ℕ) (octets : List (List ℕ)) (patterns : List Seen) → Tallies sender dlci sent.now octets patterns self
+            → Tallies sender dlci sent.now octets (patterns ++ option_to_list pattern) result }
     {
         match pattern {
             Some(pattern) => self.after_pattern(carries_pattern(sent, pattern)),
@@ -120,8 +109,8 @@ impl Tally {
 
     /// What becomes of the slot.
     pub fn outcome(self, sent: &Sent, loses: bool) -> Heard
-        ensures { (frames : List Frame) (patterns : List Seen) → Tallies sent.now frames patterns self
-            → IsOutcome loses sent.now frames patterns result }
+        ensures { (sender : Role) (dlci : ℕ) (octets : List (List ℕ)) (patterns : List Seen) → Tallies sender dlci sent.now octets patterns self
+            → IsOutcome loses sender dlci sent.now octets patterns result }
     {
         if loses {
             return unheard(sent);

@@ -5,8 +5,10 @@ use Rattle.std.specs.List.{concat}
 use Rattle.std.proofs.lemmas.Bool.{false≢true}
 use Rattle.std.specs.Prelude.{slice_get, is_ok}
 use Rattle.std.specs.Option.{option_map}
-use Rattle.outside_calls.specs.Folder.{FolderState, KeepsName, GoesOn, OnlyReads, OnlyWrites, Adds, Appended, PartlyAppended}
-use Rattle.outside_calls.specs.Steps.{GoesOn-refl, KeepsName-trans, Adds-kept, PartlyAppended-none}
+use Rattle.outside_calls.specs.Folder.{FolderState, GoesOn, OnlyWrites, Adds, Appended, PartlyAppended}
+use Rattle.outside_calls.specs.Steps.{GoesOn-refl}
+use Rattle.several_outputs.specs.Outputs.{OnlyPuts, AddEach}
+use Rattle.several_outputs.proofs.Putting.{KeepsEach-refl, AddEach-next, AddPart-next, AddPart-none}
 use Rattle.roles.specs.declared.role.Role.{Role}
 use Rattle.roles.specs.declared.role.Role.TheVariants.{Originator, Answerer}
 use Rattle.roles.specs.Role.{is_originator, other}
@@ -29,11 +31,11 @@ use Rattle.line_texts.specs.LineText.{trace_line}
 use Rattle.single_end.specs.Heard.{IsHeard, stream, slot_bits}
 use Rattle.single_end.specs.Ear.{HasHeard}
 use Rattle.single_end.specs.Peer.{Past, PeerRun, PeerTurn, Outcome, Going, Closed, Broken, party_of, over, heard_as, turn_line}
-use Rattle.single_end.specs.Single.{PeerNames, AreApart, StaysKnown, file_limit}
-use Rattle.single_end.specs.Turn.{Makes, Stops, StopsInReading, GoesOnBy, EndsBy, of_octets, of_line}
-use Rattle.single_end.specs.Mid.{InTurn, BreaksOff, Serves, AddsLine, AddsPart, HasGone, EndsLine, IsWriting, ReadCounts, handed}
+use Rattle.single_end.specs.Single.{PeerNames, StaysKnown, file_limit, outputs_of}
+use Rattle.single_end.specs.Turn.{Makes, Stops, StopsInReading, GoesOnBy, EndsBy}
+use Rattle.single_end.specs.Mid.{InTurn, BreaksOff, Serves, AddsLine, AddsPart, HasGone, EndsLine, IsReading, IsWriting, handed}
 use Rattle.single_end.specs.Mid.{served_with}
-use Rattle.single_end.proofs.Folders.{got-only, trace-only, reads-only, then-only, writes-turn, writes-part, stays-known}
+use Rattle.single_end.proofs.Folders.{IsApart, got-only, trace-only, stays-known}
 use Rattle.single_end.specs.declared.single.Single.{Single}
 use Rattle.single_end.specs.declared.step.SingleFault.{SingleFault}
 use Rattle.single_end.specs.declared.step.SingleFault.TheVariants as faults
@@ -366,33 +368,33 @@ heard-badly (Err fault) file s broken h = ap (λ f. Err f) (sym h)
 -- ---- the whole turn
 
 -- the line stands behind what was handed over
-pub made : (s : Single) (a b z : FolderState) (n : PeerNames) (p : Past) (slot octets others : List ℕ) (outcome : Outcome) → AreApart n
-    → GoesOn a b → Adds a b n.got octets → KeepsName a b n.trace
+pub made : (s : Single) (a b z : FolderState) (n : PeerNames) (p : Past) (slot octets others : List ℕ) (outcome : Outcome) → IsApart n
+    → GoesOn a b → AddEach a b (outputs_of n) (octets ∷ [])
     → OnlyWrites b z n.trace → StaysKnown a z n.file p.file others → AddsLine s b z n.trace (over others p) slot octets outcome
     → Makes s.role a z n p slot outcome
-made s a b z n p slot octets others outcome apart g d k w known l =
+made s a b z n p slot octets others outcome apart g d w known l =
     record {
       others = others;
       known = known;
       turn = l.turn;
       octets = octets;
       is = l.is;
-      writes = writes-turn a b z n octets (turn_line s.role (length p.turns) l.turn) apart g d k w l.line;
+      writes = AddEach-next a b z (n.got ∷ []) n.trace [] (octets ∷ []) _ tt apart.0 g d w (inr l.line);
     }
 
 -- or a part of it
-stopped : (s : Single) (a b z : FolderState) (n : PeerNames) (p : Past) (slot octets others : List ℕ) → AreApart n → GoesOn a b
-    → Adds a b n.got octets → KeepsName a b n.trace
+stopped : (s : Single) (a b z : FolderState) (n : PeerNames) (p : Past) (slot octets others : List ℕ) → IsApart n → GoesOn a b
+    → AddEach a b (outputs_of n) (octets ∷ [])
     → OnlyWrites b z n.trace → StaysKnown a z n.file p.file others → AddsPart s b z n.trace (over others p) slot octets
     → Stops s.role a z n p slot
-stopped s a b z n p slot octets others apart g d k w known l = record {
+stopped s a b z n p slot octets others apart g d w known l = record {
   others = others;
   known = known;
   turn = l.turn;
   octets = octets;
   outcome = l.outcome;
   is = l.is;
-  writes = writes-part a b z n octets (turn_line s.role (length p.turns) l.turn) apart g d k w l.line;
+  writes = AddPart-next a b z (n.got ∷ []) n.trace [] (octets ∷ []) _ tt apart.0 g d w l.line;
 }
 
 pub writing-ends : (role : Role) (a b : FolderState) (n : PeerNames) (p : Past) (slot : List ℕ) (fault : SingleFault) → IsWriting fault
@@ -403,50 +405,50 @@ writing-ends role a b n p slot faults.ReadFault w s = absurd w
 writing-ends role a b n p slot (faults.Link fault) w s = absurd w
 
 pub stopped-so : (s : Single) (a b z : FolderState) (n : PeerNames) (p : Past) (slot octets others : List ℕ) (fault : SingleFault)
-    → AreApart n → GoesOn a b → Adds a b n.got octets → KeepsName a b n.trace
+    → IsApart n → GoesOn a b → AddEach a b (outputs_of n) (octets ∷ [])
     → OnlyWrites b z n.trace → StaysKnown a z n.file p.file others → IsWriting fault → AddsPart s b z n.trace (over others p) slot octets
     → EndsBy s.role a z n p slot fault
-stopped-so s a b z n p slot octets others fault apart g d k w known i l =
-    writing-ends s.role a z n p slot fault i (stopped s a b z n p slot octets others apart g d k w known l)
+stopped-so s a b z n p slot octets others fault apart g d w known i l =
+    writing-ends s.role a z n p slot fault i (stopped s a b z n p slot octets others apart g d w known l)
 
-pub ended : (s : Single) (a b z : FolderState) (n : PeerNames) (p : Past) (slot octets others : List ℕ) (fault : SingleFault) → AreApart n
-    → GoesOn a b → Adds a b n.got octets → KeepsName a b n.trace
+pub ended : (s : Single) (a b z : FolderState) (n : PeerNames) (p : Past) (slot octets others : List ℕ) (fault : SingleFault) → IsApart n
+    → GoesOn a b → AddEach a b (outputs_of n) (octets ∷ [])
     → OnlyWrites b z n.trace → StaysKnown a z n.file p.file others → EndsLine s b z n.trace (over others p) slot octets fault
     → EndsBy s.role a z n p slot fault
-ended s a b z n p slot octets others (faults.Link fault) apart g d k w known l =
-    made s a b z n p slot octets others (Broken fault) apart g d k w known l
-ended s a b z n p slot octets others faults.WriteFault apart g d k w known l = stopped s a b z n p slot octets others apart g d k w known l
-ended s a b z n p slot octets others faults.NoMemory apart g d k w known l = stopped s a b z n p slot octets others apart g d k w known l
-ended s a b z n p slot octets others faults.ReadFault apart g d k w known l = absurd l
+ended s a b z n p slot octets others (faults.Link fault) apart g d w known l =
+    made s a b z n p slot octets others (Broken fault) apart g d w known l
+ended s a b z n p slot octets others faults.WriteFault apart g d w known l = stopped s a b z n p slot octets others apart g d w known l
+ended s a b z n p slot octets others faults.NoMemory apart g d w known l = stopped s a b z n p slot octets others apart g d w known l
+ended s a b z n p slot octets others faults.ReadFault apart g d w known l = absurd l
 
 -- the run goes on
-pub gone-on : (s : Single) (a b z : FolderState) (n : PeerNames) (p : Past) (slot octets others : List ℕ) → AreApart n → GoesOn a b
-    → Adds a b n.got octets → KeepsName a b n.trace
+pub gone-on : (s : Single) (a b z : FolderState) (n : PeerNames) (p : Past) (slot octets others : List ℕ) → IsApart n → GoesOn a b
+    → AddEach a b (outputs_of n) (octets ∷ [])
     → OnlyWrites b z n.trace → StaysKnown a z n.file p.file others → HasGone s b z n.trace (over others p) slot octets
     → GoesOnBy s a z n p slot
-gone-on s a b z n p slot octets others apart g d k w known h = record {
+gone-on s a b z n p slot octets others apart g d w known h = record {
   makes = record {
     others = others;
     known = known;
     turn = h.adds.turn;
     octets = octets;
     is = h.adds.is;
-    writes = writes-turn a b z n octets (turn_line s.role (length p.turns) h.adds.turn) apart g d k w h.adds.line;
+    writes = AddEach-next a b z (n.got ∷ []) n.trace [] (octets ∷ []) _ tt apart.0 g d w (inr h.adds.line);
   };
   single = h.single;
 }
 
 -- nothing is handed over where the end breaks as it hears
-pub broke-off : (s : Single) (a z : FolderState) (n : PeerNames) (p : Past) (slot : List ℕ) (fault : SingleFault) → AreApart n
+pub broke-off : (s : Single) (a z : FolderState) (n : PeerNames) (p : Past) (slot : List ℕ) (fault : SingleFault) → IsApart n
     → length p.file ≤ file_limit → OnlyWrites a z n.trace
     → EndsLine s a z n.trace p slot [] fault → EndsBy s.role a z n p slot fault
 broke-off s a z n p slot fault apart within w l =
-    ended s a a z n p slot [] p.file fault apart (GoesOn-refl a) (inl (refl, λ told. refl)) (λ told. refl) w
+    ended s a a z n p slot [] p.file fault apart (GoesOn-refl a) (inl (refl, λ told. refl), (λ told. refl, tt)) w
     (stays-known a z n p.file apart (trace-only a z n w) within) l
 
 -- the folder doesn't take what is handed over
 pub not-handed : EachLoneTurnIsMade
-    → (s : Single) (a b : FolderState) (n : PeerNames) (p : Past) (slot : List ℕ) (arrived : Arrived) (mid : Account) → AreApart n
+    → (s : Single) (a b : FolderState) (n : PeerNames) (p : Past) (slot : List ℕ) (arrived : Arrived) (mid : Account) → IsApart n
     → length p.file ≤ file_limit
     → InTurn s p slot arrived mid mid → OnlyWrites a b n.got → PartlyAppended a b n.got (concat (deliveries mid))
     → Stops s.role a b n p slot
@@ -459,28 +461,23 @@ not-handed law s a b n p slot arrived mid apart within h w part =
       octets = concat (deliveries mid);
       outcome = m.outcome;
       is = m.is;
-      writes = of_octets part (w.names n.trace (λ e. apart.got_trace (sym e)));
+      writes = inl (part, (w.names n.trace (λ e. apart.0.0.0 (sym e)), tt));
     }
 
--- what is handed over stays as the file is read
-pub adds-on : (a b d : FolderState) (n : PeerNames) (octets : List ℕ) → OnlyWrites a b n.got → Adds a b n.got octets → OnlyReads b d
-    → Adds a d n.got octets
-adds-on a b d n octets w adds r = Adds-kept a b d n.got octets w.goes_on adds (r.names n.got)
-
-pub keeps-on : (a b d : FolderState) (n : PeerNames) → AreApart n → OnlyWrites a b n.got → OnlyReads b d → KeepsName a d n.trace
-keeps-on a b d n apart w r = KeepsName-trans a b d n.trace w.goes_on (w.names n.trace (λ e. apart.got_trace (sym e))) (r.names n.trace)
+-- the octets are handed over
+pub hands-over : (a b : FolderState) (n : PeerNames) (octets : List ℕ) → IsApart n → OnlyWrites a b n.got → Adds a b n.got octets
+    → AddEach a b (outputs_of n) (octets ∷ [])
+hands-over a b n octets apart w adds =
+    AddEach-next a a b [] n.got (n.trace ∷ []) [] octets tt apart.0 (GoesOn-refl a) (KeepsEach-refl a (outputs_of n)) w adds
 
 -- or the file isn't read
 pub not-read : EachLoneTurnIsMade
-    → (s : Single) (a b d : FolderState) (n : PeerNames) (p : Past) (slot : List ℕ) (arrived : Arrived) (mid now : Account) → AreApart n
+    → (s : Single) (a d : FolderState) (n : PeerNames) (p : Past) (slot : List ℕ) (arrived : Arrived) (mid now : Account) → IsApart n
     → length p.file ≤ file_limit
-    → InTurn s p slot arrived mid now → OnlyWrites a b n.got → Adds a b n.got (concat (deliveries mid)) → OnlyReads b d
+    → InTurn s p slot arrived mid now → OnlyPuts a d (outputs_of n) → AddEach a d (outputs_of n) (concat (deliveries mid) ∷ [])
     → StopsInReading s.role a d n p slot
-not-read law s a b d n p slot arrived mid now apart within h w adds r =
-    let m = comes law s p slot arrived mid now h in
-    let only = then-only a b d n (got-only a b n w) (reads-only b d n r) in
-    let got = adds-on a b d n (concat (deliveries mid)) w adds r in
-    let trace = keeps-on a b d n apart w r in (
+not-read law s a d n p slot arrived mid now apart within h only adds =
+    let m = comes law s p slot arrived mid now h in (
       record {
         others = p.file;
         known = stays-known a d n p.file apart only within;
@@ -488,15 +485,15 @@ not-read law s a b d n p slot arrived mid now apart within h w adds r =
         octets = concat (deliveries mid);
         outcome = m.outcome;
         is = m.is;
-        writes = of_line got (PartlyAppended-none a d n.trace _ trace);
+        writes = AddPart-none a d (n.got ∷ []) n.trace [] (concat (deliveries mid) ∷ []) _ [] tt adds;
       },
-      record { got = got; trace = trace },
+      adds,
     )
 
-pub reading-ends : (role : Role) (a b d : FolderState) (n : PeerNames) (p : Past) (slot : List ℕ) (fault : SingleFault)
-    → ReadCounts {T = Unit {0}} b d n.file (Err fault) → StopsInReading role a d n p slot
+pub reading-ends : (role : Role) (a d : FolderState) (n : PeerNames) (p : Past) (slot : List ℕ) (fault : SingleFault) → IsReading fault
+    → StopsInReading role a d n p slot
     → EndsBy role a d n p slot fault
-reading-ends role a b d n p slot faults.ReadFault w s = s
-reading-ends role a b d n p slot faults.NoMemory w s = s.0
-reading-ends role a b d n p slot faults.WriteFault w s = absurd w
-reading-ends role a b d n p slot (faults.Link fault) w s = absurd w
+reading-ends role a d n p slot faults.ReadFault w s = s
+reading-ends role a d n p slot faults.NoMemory w s = s.0
+reading-ends role a d n p slot faults.WriteFault w s = absurd w
+reading-ends role a d n p slot (faults.Link fault) w s = absurd w

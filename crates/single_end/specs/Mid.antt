@@ -1,6 +1,6 @@
 -- A turn of a single end in its middle: the end has heard, and the rest of the turn is to come.
 use Rattle.std.specs.Prelude.{◌≡◌, ℕ, false, List, ◌∷◌, length, Result, Ok, Err}
-use Rattle.outside_calls.specs.Folder.{FolderState, Appended, PartlyAppended, Rose, FaultsStand, CountsStand}
+use Rattle.outside_calls.specs.Folder.{FolderState, Appended, PartlyAppended}
 use Rattle.roles.specs.Role.{other}
 use Rattle.lapm_frames.specs.declared.arrived.Arrived.{Arrived}
 use Rattle.causes.specs.declared.fault.LinkFault.{LinkFault}
@@ -91,18 +91,8 @@ IsWriting faults.WriteFault = Unit {0}
 IsWriting faults.NoMemory = Unit {0}
 IsWriting fault = ⊥
 
--- what a step counted that writes one output, or was to
-abbrev pub WriteCounts : {T : Type 0} → FolderState → FolderState → List ℕ → Result T SingleFault → Type 0
-WriteCounts old new name (Ok done) = CountsStand old new
-WriteCounts old new name (Err faults.WriteFault) = Rose (old.write_faults name) (new.write_faults name)
-WriteCounts old new name (Err faults.NoMemory) = FaultsStand old new × Rose old.refusals new.refusals
-WriteCounts old new name (Err (faults.Link fault)) = CountsStand old new
-WriteCounts old new name (Err faults.ReadFault) = ⊥
-
--- what a step counted that reads the user's file
-abbrev pub ReadCounts : {T : Type 0} → FolderState → FolderState → List ℕ → Result T SingleFault → Type 0
-ReadCounts old new name (Ok done) = CountsStand old new
-ReadCounts old new name (Err faults.ReadFault) = Rose (old.read_faults name) (new.read_faults name)
-ReadCounts old new name (Err faults.NoMemory) = FaultsStand old new × Rose old.refusals new.refusals
-ReadCounts old new name (Err (faults.Link fault)) = ⊥
-ReadCounts old new name (Err faults.WriteFault) = ⊥
+-- the user's file was not read
+abbrev pub IsReading : SingleFault → Type 0
+IsReading faults.ReadFault = Unit {0}
+IsReading faults.NoMemory = Unit {0}
+IsReading fault = ⊥

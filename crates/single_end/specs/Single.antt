@@ -1,6 +1,6 @@
 -- For which run a single end stands: its turns so far, over a file that is known as far as it was read.
-use Rattle.std.specs.Prelude.{◌≡◌, ◌≢◌, ℕ, ◌≤◌, IsTrue, List, length}
-use Rattle.outside_calls.specs.Folder.{FolderState, GoesOn, KeepsName}
+use Rattle.std.specs.Prelude.{◌≡◌, ℕ, ◌≤◌, IsTrue, List, [], ◌∷◌, length}
+use Rattle.outside_calls.specs.Folder.{FolderState}
 use Rattle.roles.specs.declared.role.Role.{Role}
 use Rattle.stations.specs.Station.{Stands, IsIdle, IsCounted, file_at}
 use Rattle.single_end.specs.Heard.{stream}
@@ -24,11 +24,12 @@ pub record PeerNames : Type 0 where
 abbrev pub named : List ℕ → List ℕ → List ℕ → PeerNames
 named file got trace = record { file = file; got = got; trace = trace }
 
--- they differ from one another
-pub record AreApart (n : PeerNames) : Type 0 where
-  pub got_file : n.got ≢ n.file
-  pub trace_file : n.trace ≢ n.file
-  pub got_trace : n.got ≢ n.trace
+-- what is read, and what is written, in that order
+abbrev pub inputs_of : PeerNames → List (List ℕ)
+inputs_of n = n.file ∷ []
+
+abbrev pub outputs_of : PeerNames → List (List ℕ)
+outputs_of n = n.got ∷ n.trace ∷ []
 
 -- the most octets of a file: it ends there for its reader
 abbrev pub file_limit : ℕ
@@ -58,9 +59,3 @@ pub record IsReady (s : Single) : Type 0 where
   pub after : SingleAfter s past
   pub idle : IsIdle s.station
   pub counted : IsCounted s.station s.turn s.turn
-
--- The outputs alone were touched, and nothing was said.
-pub record OnlyOutputs (old new : FolderState) (n : PeerNames) : Type 0 where
-  pub goes_on : GoesOn old new
-  pub names : (other : List ℕ) → other ≢ n.got → other ≢ n.trace → KeepsName old new other
-  pub said : new.said ≡ old.said

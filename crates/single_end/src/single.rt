@@ -1,7 +1,8 @@
 // Turns of one end against a peer's bits.
-ghost use Rattle.std.specs.Prelude.{◌≡◌, ℕ, ◌+◌, ◌<◌, ◌≤◌, ◌^◌, [], true, false, List, length, Err, IfOk, IfErr, OnOk, OnErr};
+ghost use Rattle.std.specs.Prelude.{◌≡◌, ℕ, ◌+◌, ◌<◌, ◌≤◌, ◌^◌, [], ◌∷◌, true, false, List, length, Err, IfOk, IfErr, OnOk, OnErr};
 ghost use Rattle.std.specs.List.{concat};
 ghost use Rattle.outside_calls.specs.Folder.{OnlyReads, OnlyWrites, Adds, Appended, PartlyAppended};
+ghost use Rattle.several_outputs.specs.Outputs.{AreApartFrom, OnlyPuts};
 ghost use Rattle.lapm_frames.specs.declared.arrived.Arrived.{Arrived};
 ghost use Rattle.lapm_link.specs.Fits.{IsSetUp};
 ghost use Rattle.link_account.specs.Account.{Account, fresh, given_break};
@@ -84,10 +85,10 @@ fn is_closed(phase: Phase) -> bool
 
 impl Single {
     ghost use Rattle.single_end.specs.declared.single.Single.{Single};
-    ghost use Rattle.single_end.specs.Single.{AreApart, IsReady, OnlyOutputs, SingleAfter, file_limit, named, role_of, turn_of};
-    ghost use Rattle.single_end.specs.Turn.{TurnAnswers, TurnCounts, turns_made};
-    ghost use Rattle.single_end.specs.Mid.{AddsLine, AddsPart, BreaksOff, EndsLine, HearsTurn, InTurn, IsWriting, ReadCounts};
-    ghost use Rattle.single_end.specs.Mid.{Serves, SpeaksTurn, WriteCounts, handed, served_with};
+    ghost use Rattle.single_end.specs.Single.{IsReady, SingleAfter, file_limit, inputs_of, named, outputs_of, role_of, turn_of};
+    ghost use Rattle.single_end.specs.Turn.{Counts, TurnAnswers, turns_made};
+    ghost use Rattle.single_end.specs.Mid.{AddsLine, AddsPart, BreaksOff, EndsLine, HearsTurn, InTurn, IsReading, IsWriting};
+    ghost use Rattle.single_end.specs.Mid.{Serves, SpeaksTurn, handed, served_with};
 
     /// A single end before its first turn. It takes all memory that its turns need.
     pub fn new(alloc: Global, role: Role) -> Result<Single, NoMemory>
@@ -147,7 +148,7 @@ impl Single {
         ensures turn { self.new.turn ≡ self.old.turn }
         ensures role { self.new.role ≡ self.old.role }
         ensures only { OnlyWrites (F.state folder.old) (F.state folder.new) got.now }
-        ensures counts { WriteCounts (F.state folder.old) (F.state folder.new) got.now result }
+        ensures counts { Counts (F.state folder.old) (F.state folder.new) [] (got.now ∷ []) result }
         ensures write { IfErr result IsWriting }
     {
         match self.station.deliver(folder, got) {
@@ -181,7 +182,8 @@ impl Single {
         ensures turn { self.new.turn ≡ self.old.turn }
         ensures role { self.new.role ≡ self.old.role }
         ensures only { OnlyReads (F.state folder.old) (F.state folder.new) }
-        ensures counts { ReadCounts (F.state folder.old) (F.state folder.new) file.now result }
+        ensures counts { Counts (F.state folder.old) (F.state folder.new) (file.now ∷ []) [] result }
+        ensures read { IfErr result IsReading }
     {
         the_file_of_one_counts_as_far_as_it_was_read();
         match self.station.supply(folder, file, FILE_LIMIT) {
@@ -206,7 +208,7 @@ impl Single {
             (PartlyAppended (F.state folder.old) (F.state folder.new) trace.now
             (trace_line self.now.turn self.now.role (heard_as words.arrived) words.sent words.given)) }
         ensures only { OnlyWrites (F.state folder.old) (F.state folder.new) trace.now }
-        ensures counts { WriteCounts (F.state folder.old) (F.state folder.new) trace.now result }
+        ensures counts { Counts (F.state folder.old) (F.state folder.new) [] (trace.now ∷ []) result }
         ensures write { IfErr result IsWriting }
     {
         match append_line(folder, trace, self.turn, self.role, words) {
@@ -220,7 +222,7 @@ impl Single {
         ensures ends { (p : Past) (slot : List ℕ) → BreaksOff self.now p slot breaking.arrived breaking.fault
             → EndsLine self.now (F.state folder.old) (F.state folder.new) trace.now p slot [] result }
         ensures only { OnlyWrites (F.state folder.old) (F.state folder.new) trace.now }
-        ensures counts { WriteCounts {T = Unit {0}} (F.state folder.old) (F.state folder.new) trace.now (Err result) }
+        ensures counts { Counts {T = Unit {0}} (F.state folder.old) (F.state folder.new) [] (trace.now ∷ []) (Err result) }
     {
         let words = TurnWords {
             arrived: breaking.arrived,
@@ -250,7 +252,7 @@ impl Single {
             → given ≡ given_break mid
             → AddsPart self.now (F.state folder.old) (F.state folder.new) trace.now p slot (concat (deliveries mid))) }
         ensures only { OnlyWrites (F.state folder.old) (F.state folder.new) trace.now }
-        ensures counts { WriteCounts (F.state folder.old) (F.state folder.new) trace.now result }
+        ensures counts { Counts (F.state folder.old) (F.state folder.new) [] (trace.now ∷ []) result }
         ensures write { IfErr result IsWriting }
     {
         let words = TurnWords {
@@ -284,7 +286,7 @@ impl Single {
         ensures halts { OnErr result (self.new.turn ≡ self.old.turn) }
         ensures role { self.new.role ≡ self.old.role }
         ensures only { OnlyWrites (F.state folder.old) (F.state folder.new) trace.now }
-        ensures counts { WriteCounts (F.state folder.old) (F.state folder.new) trace.now result }
+        ensures counts { Counts (F.state folder.old) (F.state folder.new) [] (trace.now ∷ []) result }
     {
         let release = self.station.is_finished(self.turn, None);
         let mut sent = Sent::Flags;
@@ -331,7 +333,7 @@ impl Single {
         requires ready { IsReady self.old }
         requires few { turn_of self.old < 2 ^ 40 }
         requires short { length bits.now ≤ SLOT_OCTETS }
-        requires apart { AreApart (named file.now got.now trace.now) }
+        requires apart { AreApartFrom (inputs_of (named file.now got.now trace.now)) (outputs_of (named file.now got.now trace.now)) }
 
         // A turn is one of the run that the file and the slots make, and adds to each output what that turn gives.
         ensures turn { (p : Past) → SingleAfter self.old p → length p.file ≤ file_limit
@@ -341,8 +343,9 @@ impl Single {
         ensures number { turn_of self.new ≡ turns_made (turn_of self.old) result }
 
         // It touches the outputs alone, and a fault has its cause.
-        ensures only { OnlyOutputs (F.state folder.old) (F.state folder.new) (named file.now got.now trace.now) }
-        ensures counts { TurnCounts (F.state folder.old) (F.state folder.new) (named file.now got.now trace.now) result }
+        ensures only { OnlyPuts (F.state folder.old) (F.state folder.new) (outputs_of (named file.now got.now trace.now)) }
+        ensures counts { Counts (F.state folder.old) (F.state folder.new) (inputs_of (named file.now got.now trace.now))
+            (outputs_of (named file.now got.now trace.now)) result }
     {
         one_lone_run();
         let arrived = match self.hear(bits) {

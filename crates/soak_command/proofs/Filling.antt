@@ -7,7 +7,8 @@ use Rattle.std.specs.Cmp.Lexicographic.{nat_list_cmp_total}
 use Rattle.outside_calls.specs.Folder.{Files}
 use Rattle.program_folders.specs.Sure.{SureState, sure_folder}
 use Rattle.roles.specs.declared.role.Role.TheVariants.{Originator, Answerer}
-use Rattle.run_world.specs.World.{AreApart}
+use Rattle.several_outputs.specs.Outputs.{AreApartFrom}
+use Rattle.run_world.specs.Names.{inputs_of, outputs_of}
 use Rattle.run_world.specs.declared.step.RunFault.{RunFault}
 use Rattle.run_world.specs.declared.step.RunFault.TheVariants as faults
 use Rattle.run_world.specs.Turn.{FaultCounts}
@@ -23,18 +24,20 @@ unequal x y f e = grind (arith, nat_tests, f, e)
 pub differ : (at : ℕ) (a b : List ℕ) → nat_eq (get_or a at 0) (get_or b at 0) ≡ false → a ≢ b
 differ at a b f e = unequal (get_or a at 0) (get_or b at 0) f (ap (λ (l : List ℕ). get_or l at 0) e)
 
-pub apart : AreApart soak_names
-apart = record {
-  got = differ 4 soak_names.got_o soak_names.got_a refl;
-  got_o_trace = differ 0 soak_names.got_o soak_names.trace refl;
-  got_a_trace = differ 0 soak_names.got_a soak_names.trace refl;
-  got_o_orig = differ 0 soak_names.got_o soak_names.orig refl;
-  got_o_answ = differ 0 soak_names.got_o soak_names.answ refl;
-  got_a_orig = differ 0 soak_names.got_a soak_names.orig refl;
-  got_a_answ = differ 0 soak_names.got_a soak_names.answ refl;
-  trace_orig = differ 0 soak_names.trace soak_names.orig refl;
-  trace_answ = differ 0 soak_names.trace soak_names.answ refl;
-}
+pub apart : AreApartFrom (inputs_of soak_names) (outputs_of soak_names)
+apart = (
+  (
+    (differ 4 soak_names.got_o soak_names.got_a refl, (differ 0 soak_names.got_o soak_names.trace refl, tt)),
+    ((differ 0 soak_names.got_a soak_names.trace refl, tt), (tt, tt)),
+  ),
+  (
+    (differ 0 soak_names.got_o soak_names.orig refl, (differ 0 soak_names.got_o soak_names.answ refl, tt)),
+    (
+      (differ 0 soak_names.got_a soak_names.orig refl, (differ 0 soak_names.got_a soak_names.answ refl, tt)),
+      ((differ 0 soak_names.trace soak_names.orig refl, (differ 0 soak_names.trace soak_names.answ refl, tt)), tt),
+    ),
+  ),
+)
 
 -- both files were put into a folder
 pub both-put : (s : SureState) (seed : ℕ) (held : Files) (orig answ : List ℕ)
@@ -63,11 +66,8 @@ none-rose (name ∷ names) (inr rose) = none-rose names rose
 
 -- so turns don't end by one
 pub turn-end : (a b : SureState) (fault : RunFault) → FaultCounts (sure_folder a) (sure_folder b) soak_names fault → IsTurnEnd fault
-turn-end a b faults.ReadFault (inl rose) = omega (arith, rose)
-turn-end a b faults.ReadFault (inr rose) = omega (arith, rose)
-turn-end a b faults.WriteFault (inl rose) = omega (arith, rose)
-turn-end a b faults.WriteFault (inr (inl rose)) = omega (arith, rose)
-turn-end a b faults.WriteFault (inr (inr rose)) = omega (arith, rose)
+turn-end a b faults.ReadFault rose = absurd (none-rose (inputs_of soak_names) rose)
+turn-end a b faults.WriteFault rose = absurd (none-rose (outputs_of soak_names) rose)
 turn-end a b faults.NoMemory counts = tt
 turn-end a b (faults.LineLost role symbol) counts = tt
 turn-end a b (faults.ChanceMatch role turn) counts = tt

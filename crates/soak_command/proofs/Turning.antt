@@ -12,12 +12,13 @@ use Rattle.line_run.specs.Ends.{RunEnd, RunsTo}
 use Rattle.line_run.specs.Ends as runs
 use Rattle.line_run.specs.Scripted.{link_of}
 use Rattle.run_world.specs.Limits.{file_limit}
-use Rattle.run_world.specs.Names.{Written}
-use Rattle.run_world.specs.World.{KnowsFiles, OnlyOutputs as OnlyWritten}
+use Rattle.run_world.specs.Names.{Written, outputs_of}
+use Rattle.run_world.specs.World.{KnowsFiles}
 use Rattle.run_world.specs.declared.step.RunFault.{RunFault}
 use Rattle.run_world.specs.declared.step.RunFault.TheVariants as faults
 use Rattle.run_world.specs.Turn.{FaultCounts}
-use Rattle.outside_calls.specs.Outputs.{OnlyOutputs}
+use Rattle.outside_calls.specs.Outputs.{IsNoneOf, OnlyOutputs}
+use Rattle.several_outputs.specs.Outputs.{OnlyPuts}
 use Rattle.run_world.specs.Turns.{RunEnds, RunCounts, FaultEnds}
 use Rattle.soak_inputs.specs.Soak.{soak_file, soak_script}
 use Rattle.soak_command.specs.Ends.{Ends, SoakEnds, IsTurnEnd, fault_stop, soak_channel, soak_files}
@@ -29,7 +30,7 @@ pub record Made (seed : ℕ) (a b d : SureState) : Type 0 where
   pub limits : IsInLimits (soak_script seed)
   pub holds : HoldsFiles (sure_folder a) seed
   pub creates : OnlyOutputs (sure_folder a) (sure_folder b) soak_outputs
-  pub turns : OnlyWritten (sure_folder b) (sure_folder d) soak_names
+  pub turns : OnlyPuts (sure_folder b) (sure_folder d) soak_outputs
 
 -- a file as it was before all turns
 file-is : (seed : ℕ) (a b d : SureState) (name file content : List ℕ) → KeepsName (sure_folder a) (sure_folder b) name
@@ -46,18 +47,20 @@ files-are : (seed : ℕ) (a b d : SureState) (files : Both (List ℕ)) → Made 
 files-are seed a b d files m k =
     let orig : files.orig ≡ soak_file seed Originator
     = file-is seed a b d soak_names.orig files.orig (soak_file seed Originator)
-    (m.creates.names soak_names.orig
-    ((λ e. apart.got_o_orig (sym e)), ((λ e. apart.got_a_orig (sym e)), ((λ e. apart.trace_orig (sym e)), tt))))
-    (m.turns.names soak_names.orig (λ e. apart.got_o_orig (sym e)) (λ e. apart.got_a_orig (sym e)) (λ e. apart.trace_orig (sym e)))
+    (m.creates.names soak_names.orig none-orig) (m.turns.names soak_names.orig none-orig)
     m.holds.orig m.holds.orig_size (k.orig refl) in
     let answ : files.answ ≡ soak_file seed Answerer
     = file-is seed a b d soak_names.answ files.answ (soak_file seed Answerer)
-    (m.creates.names soak_names.answ
-    ((λ e. apart.got_o_answ (sym e)), ((λ e. apart.got_a_answ (sym e)), ((λ e. apart.trace_answ (sym e)), tt))))
-    (m.turns.names soak_names.answ (λ e. apart.got_o_answ (sym e)) (λ e. apart.got_a_answ (sym e)) (λ e. apart.trace_answ (sym e)))
+    (m.creates.names soak_names.answ none-answ) (m.turns.names soak_names.answ none-answ)
     m.holds.answ m.holds.answ_size (k.answ refl) in
     both files orig answ
   where
+    none-orig : IsNoneOf soak_names.orig soak_outputs
+    none-orig = (λ e. apart.1.0.0 (sym e), (λ e. apart.1.1.0.0 (sym e), (λ e. apart.1.1.1.0.0 (sym e), tt)))
+
+    none-answ : IsNoneOf soak_names.answ soak_outputs
+    none-answ = (λ e. apart.1.0.1.0 (sym e), (λ e. apart.1.1.0.1.0 (sym e), (λ e. apart.1.1.1.0.1.0 (sym e), tt)))
+
     both : (files : Both (List ℕ)) → files.orig ≡ soak_file seed Originator → files.answ ≡ soak_file seed Answerer → files ≡ soak_files seed
     both files o a =
         let first : files ≡ record { orig = soak_file seed Originator; answ = files.answ } =
@@ -105,14 +108,14 @@ pub record MadeOver (seed : ℕ) (a b d : SureState) (script : ScriptValue) (n :
   pub limits : IsInLimits script
   pub holds : HoldsFiles (sure_folder a) seed
   pub creates : OnlyOutputs (sure_folder a) (sure_folder b) soak_outputs
-  pub turns : OnlyWritten (sure_folder b) (sure_folder d) n
+  pub turns : OnlyPuts (sure_folder b) (sure_folder d) (outputs_of n)
 
 made : (seed : ℕ) (a b d : SureState) (script : ScriptValue) (n : Written) → MadeOver seed a b d script n → Made seed a b d
 made seed a b d script n m = record {
   limits = subst IsInLimits m.script_is m.limits;
   holds = m.holds;
   creates = m.creates;
-  turns = subst (OnlyWritten (sure_folder b) (sure_folder d)) m.names_are m.turns;
+  turns = subst (λ (w : Written). OnlyPuts (sure_folder b) (sure_folder d) (outputs_of w)) m.names_are m.turns;
 }
 
 pub soaked-over : (seed : ℕ) (a b d : SureState) (script : ScriptValue) (n : Written) (turn lost again : ℕ) → MadeOver seed a b d script n

@@ -1,6 +1,6 @@
 // Offsets that turn a slot into another, or into nothing.
 use super::*;
-use bit_stuffing::BitSlot;
+use bit_stuffing::{BitSlot, SlotWriter};
 use detection::{mark_slot, pattern_slot};
 use lapm_frames::Seen;
 use line_coding::Modulator;
@@ -32,6 +32,16 @@ fn marks() -> BitSlot {
 fn patterns(seen: Seen) -> BitSlot {
     let mut slot = BitSlot::new();
     pattern_slot(seen, SYMBOLS, &mut slot);
+    slot
+}
+
+/// Octets of the answerer's that pass the check and are no frame: no kind has the control octet 7F.
+const NO_FRAME: &[u8] = b"\x03\x7f\x5f\xae";
+
+/// A slot of flags with these octets.
+fn no_frame() -> BitSlot {
+    let mut slot = BitSlot::new();
+    SlotWriter::new(SYMBOLS).slot(Some(NO_FRAME), &mut slot);
     slot
 }
 
@@ -75,18 +85,28 @@ fn samples_that_say_nothing_lose_the_line(rt: HostRuntime) -> Result<(), Fail> {
     Ok(())
 }
 
-#[test]
-fn a_pattern_that_was_not_sent_is_a_chance_match(rt: HostRuntime) -> Result<(), Fail> {
-    let other = points(rt.alloc(), Mode::Answer, &patterns(Seen::Adp))?;
-    let ran = run_hit(rt.alloc(), &other)?;
+/// Looks whether a run ends by a chance match where the answerer's first slot is turned into this one.
+fn is_chance(rt: &impl Abort, alloc: Global, slot: &BitSlot) -> Result<(), Fail> {
+    let other = points(alloc, Mode::Answer, slot)?;
+    let ran = run_hit(alloc, &other)?;
     let chance = Status::ChanceMatch {
         role: Role::Originator,
         turn: 1,
     };
-    says(&rt, &ran, chance, "chance match: orig turn 1\n");
+    says(rt, &ran, chance, "chance match: orig turn 1\n");
     let trace = b"0 orig - > odp\n0 answ - > mark\n1 orig chance\n";
-    leaves(&rt, &ran, "t", trace);
+    leaves(rt, &ran, "t", trace);
     Ok(())
+}
+
+#[test]
+fn a_pattern_that_was_not_sent_is_a_chance_match(rt: HostRuntime) -> Result<(), Fail> {
+    is_chance(&rt, rt.alloc(), &patterns(Seen::Adp))
+}
+
+#[test]
+fn octets_that_pass_the_check_are_a_chance_match(rt: HostRuntime) -> Result<(), Fail> {
+    is_chance(&rt, rt.alloc(), &no_frame())
 }
 
 /// The originator's first sample and its noise.

@@ -1,5 +1,5 @@
 use Rattle.peer_command.specs.Words.{Names, named, inputs_of, outputs_of}
-use Rattle.peer_command.proofs.Starting.{distinct, reached-first}
+use Rattle.peer_command.proofs.Starting.{reached-first}
 use Rattle.peer_command.proofs.command.run_single.Goals as goal
 
 pub returns-clause-ends : goal.returns-clause-ends
@@ -8,6 +8,5 @@ returns-clause-ends g c = λ begin b.
     c.run_turns.ensures.ends begin
     (reached-first begin (g.F.Folder.state c.args.folder.now)
     (g.F.Folder.state c.create_outputs.new.folder) n c.args.single.now b c.in-Ok.ensures.only c.in-Ok.ensures.stand c.in-Ok.ensures.ok
-    (distinct n (c.apart_names_differ.ensures.outputs (inputs_of n) (outputs_of n) c.requires.apart)
-    (c.apart_names_differ.ensures.inputs (inputs_of n) (outputs_of n) c.requires.apart))
+    (c.apart_names_differ.ensures.inputs (inputs_of n) (outputs_of n) c.requires.apart)
     c.requires.role c.requires.first)

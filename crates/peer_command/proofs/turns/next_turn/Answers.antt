@@ -11,8 +11,8 @@ use Rattle.single_end.specs.Peer.{Closed}
 use Rattle.single_end.specs.Turn.{Makes, EndsBy as TurnEndsBy}
 use Rattle.peer_command.specs.Words.{Names, named, turn_names, inputs_of, outputs_of}
 use Rattle.peer_command.specs.Ends.{EndsBy}
-use Rattle.peer_command.proofs.Starting.{distinct, goes-by, ends-short-by}
-use Rattle.peer_command.proofs.Reaching.{fails-later, Around, Distinct, around, fault-ends, closed-ends, ends-whole, not-read}
+use Rattle.peer_command.proofs.Starting.{goes-by, ends-short-by}
+use Rattle.peer_command.proofs.Reaching.{fails-later, Around, around, fault-ends, closed-ends, ends-whole, not-read}
 use Rattle.peer_command.proofs.turns.next_turn.Goals as goal
 
 -- a run that ends, or stops, has no next turn
@@ -61,9 +61,7 @@ returns-then-count-lt-SLOT_OCTETS-clause-done g c = λ start r.
     subst (λ x. ReadTo start old n.bits FILE_LIMIT (slot_octets * x) r.octets) (sym number) r.read in
     let long : length slot ≡ c.in-Ok.count =
     length-take-le c.in-Ok.count c.read_piece.new.piece (omega (arith, c.in-Ok.ensures.bound, c.in-Ok.ensures.kept)) in
-    let apart : Distinct n =
-    distinct n (c.apart_names_differ.ensures.outputs (inputs_of n) (outputs_of n) c.requires.apart)
-    (c.apart_names_differ.ensures.inputs (inputs_of n) (outputs_of n) c.requires.apart) in
+    let apart = c.apart_names_differ.ensures.inputs (inputs_of n) (outputs_of n) c.requires.apart in
     let a : Around start mid next n r.past r.octets slot = around start old mid next n c.args.single.now r slot apart c.in-Ok.ensures.reads
     (subst (λ x. ReadTo start mid n.bits FILE_LIMIT x (r.octets ++ slot)) (omega (arith, number, long))
     (c.in-Ok.ensures.more start r.octets read))
@@ -87,9 +85,7 @@ returns-else-count-lt-SLOT_OCTETS-clause-going g c = λ start r going.
     subst (λ x. ReadTo start old n.bits FILE_LIMIT (slot_octets * x) r.octets) (sym number) r.read in
     let long : length slot ≡ c.in-Ok.count =
     length-take-le c.in-Ok.count c.read_piece.new.piece (omega (arith, c.in-Ok.ensures.bound, c.in-Ok.ensures.kept)) in
-    let apart : Distinct n =
-    distinct n (c.apart_names_differ.ensures.outputs (inputs_of n) (outputs_of n) c.requires.apart)
-    (c.apart_names_differ.ensures.inputs (inputs_of n) (outputs_of n) c.requires.apart) in
+    let apart = c.apart_names_differ.ensures.inputs (inputs_of n) (outputs_of n) c.requires.apart in
     let a : Around start mid next n r.past r.octets slot = around start old mid next n c.args.single.now r slot apart c.in-Ok.ensures.reads
     (subst (λ x. ReadTo start mid n.bits FILE_LIMIT x (r.octets ++ slot)) (omega (arith, number, long))
     (c.in-Ok.ensures.more start r.octets read))
@@ -113,9 +109,7 @@ returns-in-Ok-Closed-clause-done g c = λ start r.
     subst (λ x. ReadTo start old n.bits FILE_LIMIT (slot_octets * x) r.octets) (sym number) r.read in
     let long : length slot ≡ c.in-Ok.count =
     length-take-le c.in-Ok.count c.read_piece.new.piece (omega (arith, c.in-Ok.ensures.bound, c.in-Ok.ensures.kept)) in
-    let apart : Distinct n =
-    distinct n (c.apart_names_differ.ensures.outputs (inputs_of n) (outputs_of n) c.requires.apart)
-    (c.apart_names_differ.ensures.inputs (inputs_of n) (outputs_of n) c.requires.apart) in
+    let apart = c.apart_names_differ.ensures.inputs (inputs_of n) (outputs_of n) c.requires.apart in
     let a : Around start mid next n r.past r.octets slot = around start old mid next n c.args.single.now r slot apart c.in-Ok.ensures.reads
     (subst (λ x. ReadTo start mid n.bits FILE_LIMIT x (r.octets ++ slot)) (omega (arith, number, long))
     (c.in-Ok.ensures.more start r.octets read))
@@ -137,9 +131,7 @@ returns-in-Err-turn-clause-err g c = λ start r.
     subst (λ x. ReadTo start old n.bits FILE_LIMIT (slot_octets * x) r.octets) (sym number) r.read in
     let long : length slot ≡ c.in-Ok.count =
     length-take-le c.in-Ok.count c.read_piece.new.piece (omega (arith, c.in-Ok.ensures.bound, c.in-Ok.ensures.kept)) in
-    let apart : Distinct n =
-    distinct n (c.apart_names_differ.ensures.outputs (inputs_of n) (outputs_of n) c.requires.apart)
-    (c.apart_names_differ.ensures.inputs (inputs_of n) (outputs_of n) c.requires.apart) in
+    let apart = c.apart_names_differ.ensures.inputs (inputs_of n) (outputs_of n) c.requires.apart in
     let a : Around start mid next n r.past r.octets slot = around start old mid next n c.args.single.now r slot apart c.in-Ok.ensures.reads
     (subst (λ x. ReadTo start mid n.bits FILE_LIMIT x (r.octets ++ slot)) (omega (arith, number, long))
     (c.in-Ok.ensures.more start r.octets read))

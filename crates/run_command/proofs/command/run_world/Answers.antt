@@ -1,8 +1,12 @@
 use Rattle.std.proofs.Common.{inl, sym, subst}
 use Rattle.outside_calls.specs.Folder.{FolderState}
+use Rattle.outside_calls.specs.Steps.{CountsStand-trans}
 use Rattle.noise_script.specs.Script.{ScriptValue}
+use Rattle.several_outputs.specs.Outputs.{AreApartFrom, OnlyPuts}
+use Rattle.outside_calls.specs.Outputs.{Creates}
 use Rattle.run_world.specs.Names.{Written}
-use Rattle.run_world.specs.World.{AreApart, OnlyOutputs as OnlyWritten, script_of}
+use Rattle.run_world.specs.Names as written
+use Rattle.run_world.specs.World.{script_of}
 use Rattle.run_world.specs.Turn.{FaultCounts}
 use Rattle.command_base.specs.Stops.{StopCounts}
 use Rattle.command_base.proofs.Jobs.{stop-earlier}
@@ -12,7 +16,7 @@ use Rattle.run_inputs.specs.Words.{RunNames, named, inputs_of, outputs_of}
 use Rattle.run_world.specs.Turns.{RunEnds, FaultEnds}
 use Rattle.run_command.specs.Ends.{EndsBy}
 use Rattle.line_run.specs.Ends as runs
-use Rattle.run_command.proofs.Runs.{apart-names, only-written, ends-creating, ran-to, ends-in-turn, turn-counts}
+use Rattle.run_command.proofs.Runs.{apart-names, only-put, ends-creating, ran-to, ends-in-turn, turn-counts}
 use Rattle.run_command.proofs.command.run_world.Goals as goal
 
 pub returns-in-Err-clause-ends : goal.returns-in-Err-clause-ends
@@ -23,9 +27,14 @@ returns-in-Err-clause-ends g c = λ begin b.
 pub run_turns-requires-clause-apart : goal.run_turns-requires-clause-apart
 run_turns-requires-clause-apart g c =
     let n : RunNames = named c.args.words.now in
-    subst AreApart (sym c.names_of.ensures)
+    subst (λ (w : Written). AreApartFrom (written.inputs_of w) (written.outputs_of w)) (sym c.names_of.ensures)
     (apart-names n (c.apart_names_differ.ensures.outputs (inputs_of n) (outputs_of n) c.requires.apart)
     (c.apart_names_differ.ensures.inputs (inputs_of n) (outputs_of n) c.requires.apart))
+
+pub run_turns-requires-clause-created : goal.run_turns-requires-clause-created
+run_turns-requires-clause-created g c =
+    subst (λ (w : Written). Creates (g.F.Folder.state c.create_all.new.folder) (written.outputs_of w)) (sym c.names_of.ensures)
+    c.in-Ok.ensures.ok
 
 pub returns-in-Ok-run_turns-clause-ends : goal.returns-in-Ok-run_turns-clause-ends
 returns-in-Ok-run_turns-clause-ends g c = λ begin b.
@@ -38,9 +47,9 @@ returns-in-Ok-run_turns-clause-ends g c = λ begin b.
     ran-to begin mid now next n script end (record {
       begun = b;
       creates = c.in-Ok.ensures.only;
-      turns = subst (OnlyWritten now next) c.names_of.ensures c.in-Ok-run_turns.ensures.only;
-      apart = apart-names n (c.apart_names_differ.ensures.outputs (inputs_of n) (outputs_of n) c.requires.apart)
-          (c.apart_names_differ.ensures.inputs (inputs_of n) (outputs_of n) c.requires.apart);
+      turns = subst (λ (w : Written). OnlyPuts now next (written.outputs_of w)) c.names_of.ensures c.in-Ok-run_turns.ensures.only;
+      apart = (apart-names n (c.apart_names_differ.ensures.outputs (inputs_of n) (outputs_of n) c.requires.apart)
+          (c.apart_names_differ.ensures.inputs (inputs_of n) (outputs_of n) c.requires.apart)).1;
       stand = c.in-Ok.ensures.stand;
     }) (subst (λ (w : Written). RunEnds script next w end) c.names_of.ensures c.in-Ok-run_turns.ensures.run)
 
@@ -50,7 +59,10 @@ returns-in-Ok-run_turns-clause-only g c =
     let next : FolderState = g.F.Folder.state c.run_turns.new.folder in
     let n : RunNames = named c.args.words.now in
     OnlyOutputs-trans (outputs_of n) c.in-Ok.ensures.only
-    (only-written now next n (subst (OnlyWritten now next) c.names_of.ensures c.in-Ok-run_turns.ensures.only))
+    (only-put (outputs_of n) (subst (λ (w : Written). OnlyPuts now next (written.outputs_of w)) c.names_of.ensures c.in-Ok-run_turns.ensures.only))
+
+pub returns-in-Ok-run_turns-clause-counts : goal.returns-in-Ok-run_turns-clause-counts
+returns-in-Ok-run_turns-clause-counts g c = CountsStand-trans c.in-Ok.ensures.stand c.in-Ok-run_turns.ensures.counts
 
 pub returns-in-Err-run_turns-clause-ends : goal.returns-in-Err-run_turns-clause-ends
 returns-in-Err-run_turns-clause-ends g c = λ begin b.
@@ -64,9 +76,9 @@ returns-in-Err-run_turns-clause-ends g c = λ begin b.
     (ends-in-turn begin mid now next n script fault (record {
       begun = b;
       creates = c.in-Ok.ensures.only;
-      turns = subst (OnlyWritten now next) c.names_of.ensures c.in-Err-run_turns.ensures.only;
-      apart = apart-names n (c.apart_names_differ.ensures.outputs (inputs_of n) (outputs_of n) c.requires.apart)
-          (c.apart_names_differ.ensures.inputs (inputs_of n) (outputs_of n) c.requires.apart);
+      turns = subst (λ (w : Written). OnlyPuts now next (written.outputs_of w)) c.names_of.ensures c.in-Err-run_turns.ensures.only;
+      apart = (apart-names n (c.apart_names_differ.ensures.outputs (inputs_of n) (outputs_of n) c.requires.apart)
+          (c.apart_names_differ.ensures.inputs (inputs_of n) (outputs_of n) c.requires.apart)).1;
       stand = c.in-Ok.ensures.stand;
     }) (subst (λ (w : Written). FaultCounts now next w fault) c.names_of.ensures c.in-Err-run_turns.ensures.counts)
     (subst (λ (w : Written). FaultEnds script next w fault) c.names_of.ensures c.in-Err-run_turns.ensures.run))
@@ -77,7 +89,7 @@ returns-in-Err-run_turns-clause-only g c =
     let next : FolderState = g.F.Folder.state c.run_turns.new.folder in
     let n : RunNames = named c.args.words.now in
     OnlyOutputs-trans (outputs_of n) c.in-Ok.ensures.only
-    (only-written now next n (subst (OnlyWritten now next) c.names_of.ensures c.in-Err-run_turns.ensures.only))
+    (only-put (outputs_of n) (subst (λ (w : Written). OnlyPuts now next (written.outputs_of w)) c.names_of.ensures c.in-Err-run_turns.ensures.only))
 
 pub returns-in-Err-run_turns-clause-counts : goal.returns-in-Err-run_turns-clause-counts
 returns-in-Err-run_turns-clause-counts g c =

@@ -1,16 +1,17 @@
 use Rattle.std.proofs.Common.{refl}
 use Rattle.outside_calls.specs.Steps.{CountsStand-trans}
+use Rattle.several_outputs.proofs.Putting.{OnlyPuts-trans}
 use Rattle.outside_calls.specs.Folder.{FolderState}
-use Rattle.run_world.specs.Names.{Written, written}
+use Rattle.run_world.specs.Names.{Written, outputs_of, written}
 use Rattle.run_world.specs.World.{script_of}
 use Rattle.run_world.proofs.Reached.{reached-start, reached-going, reached-done, reached-counts, reached-fault, nearer, next-turn}
-use Rattle.run_world.proofs.Reached.{only-trans, fault-earlier}
+use Rattle.run_world.proofs.Folders.{counts-later}
 use Rattle.run_world.proofs.turns.run_turns.Goals as goal
 
 pub loop-turn-init : goal.loop-turn-init
 loop-turn-init g c = record {
   reached = reached-start c.args.world.now (written c.args.names.now)
-      (g.F.Folder.state c.args.folder.now) c.requires.first c.requires.got_o c.requires.got_a c.requires.trace;
+      (g.F.Folder.state c.args.folder.now) c.requires.first c.requires.created;
   ready = c.requires.ready;
 }
 
@@ -64,8 +65,8 @@ returns-in-Ok-Done-clause-tally g c =
 
 pub returns-in-Ok-Done-clause-only : goal.returns-in-Ok-Done-clause-only
 returns-in-Ok-Done-clause-only g c =
-    only-trans (g.F.Folder.state c.args.folder.now) (g.F.Folder.state c.loop-turn.folder) (g.F.Folder.state c.turn.new.folder)
-    (written c.args.names.now) c.loop-turn.invariant.reached.only c.in-Ok-Done.ensures.only
+    OnlyPuts-trans (g.F.Folder.state c.args.folder.now) (g.F.Folder.state c.loop-turn.folder) (g.F.Folder.state c.turn.new.folder)
+    (outputs_of (written c.args.names.now)) c.loop-turn.invariant.reached.only c.in-Ok-Done.ensures.only
 
 pub returns-in-Ok-Done-clause-counts : goal.returns-in-Ok-Done-clause-counts
 returns-in-Ok-Done-clause-counts g c = CountsStand-trans c.loop-turn.invariant.reached.stand c.in-Ok-Done.ensures.counts
@@ -83,10 +84,10 @@ returns-in-Err-clause-run g c =
 
 pub returns-in-Err-clause-only : goal.returns-in-Err-clause-only
 returns-in-Err-clause-only g c =
-    only-trans (g.F.Folder.state c.args.folder.now) (g.F.Folder.state c.loop-turn.folder) (g.F.Folder.state c.turn.new.folder)
-    (written c.args.names.now) c.loop-turn.invariant.reached.only c.in-Err.ensures.only
+    OnlyPuts-trans (g.F.Folder.state c.args.folder.now) (g.F.Folder.state c.loop-turn.folder) (g.F.Folder.state c.turn.new.folder)
+    (outputs_of (written c.args.names.now)) c.loop-turn.invariant.reached.only c.in-Err.ensures.only
 
 pub returns-in-Err-clause-counts : goal.returns-in-Err-clause-counts
 returns-in-Err-clause-counts g c =
-    fault-earlier (g.F.Folder.state c.args.folder.now) (g.F.Folder.state c.loop-turn.folder) (g.F.Folder.state c.turn.new.folder)
+    counts-later (g.F.Folder.state c.args.folder.now) (g.F.Folder.state c.loop-turn.folder) (g.F.Folder.state c.turn.new.folder)
     (written c.args.names.now) c.in-Err.fault c.loop-turn.invariant.reached.stand c.in-Err.ensures.counts

@@ -1,10 +1,21 @@
 use Rattle.std.proofs.Common.{ℕ, Ok, Err, sym, subst}
-use Rattle.run_world.specs.Names.{written}
+use Rattle.outside_calls.specs.Outputs.{Creates}
+use Rattle.several_outputs.specs.Outputs.{AreApartFrom}
+use Rattle.program_folders.specs.Sure.{sure_folder}
+use Rattle.run_world.specs.Names.{Written, inputs_of, outputs_of, written}
 use Rattle.run_world.specs.World.{script_of, lost_of, again_of}
 use Rattle.command_base.specs.declared.stop.Stop.{Stop}
 use Rattle.soak_command.specs.Ends.{Ends}
+use Rattle.soak_command.proofs.Filling.{apart}
 use Rattle.soak_command.proofs.Turning.{soaked-over, ended-over}
 use Rattle.soak_command.proofs.soaking.soak_world.Goals as goal
+
+pub run_turns-requires-clause-apart : goal.run_turns-requires-clause-apart
+run_turns-requires-clause-apart c = subst (λ (w : Written). AreApartFrom (inputs_of w) (outputs_of w)) (sym c.soak_names.ensures) apart
+
+pub run_turns-requires-clause-created : goal.run_turns-requires-clause-created
+run_turns-requires-clause-created c =
+    subst (λ (w : Written). Creates (sure_folder c.make_outputs.new.folder) (outputs_of w)) (sym c.soak_names.ensures) c.in-Ok.ensures.made
 
 pub returns-in-Ok-run_turns : goal.returns-in-Ok-run_turns
 returns-in-Ok-run_turns c = λ seed same holds.

@@ -4,7 +4,7 @@ use Rattle.run_world.proofs.Waiting.{starts}
 use Rattle.run_world.proofs.direction.DelayedLine.new.Goals as goal
 
 pub returns-clause-waits : goal.returns-clause-waits
-returns-clause-waits c = λ channel symbols delay.
+returns-clause-waits c = λ channel symbols delay alone.
     let ring = c.in_ok-with_capacity.ensures in
     let new : DelayedLine = record {
       line = c.in_ok-new.field-0;
@@ -14,4 +14,4 @@ returns-clause-waits c = λ channel symbols delay.
     } in
     starts new channel c.args.delay (c.in_ok-new.ensures.stands channel.script)
     (ap (λ b. b.items) ring) c.in_ok-new.ensures.sender (c.in_ok-new.ensures.symbols ∙ sym symbols)
-    (sym delay) c.requires.some (ap (λ b. b.capacity) ring ∙ c.from.ensures)
+    (sym delay) c.requires.some alone (ap (λ b. b.capacity) ring ∙ c.from.ensures)

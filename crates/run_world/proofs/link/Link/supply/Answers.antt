@@ -63,8 +63,8 @@ returns-in-Err-supply-clause-cause g c =
     let end = g.F.Folder.state c.supply-2.new.folder in
     let name = (written c.args.names.now).answ in
     record {
-      failed = λ e. inr (subst (λ before. Rose before (end.read_faults name)) (c.in-Ok.ensures.stand.faults.reads name)
-          (c.in-Err-supply.ensures.cause.failed e));
+      failed = λ e. inr (inl (subst (λ before. Rose before (end.read_faults name)) (c.in-Ok.ensures.stand.faults.reads name)
+          (c.in-Err-supply.ensures.cause.failed e)));
       memory = λ e. subst (λ before. Rose before end.refusals) c.in-Ok.ensures.stand.refusals (c.in-Err-supply.ensures.cause.memory e);
     }
 

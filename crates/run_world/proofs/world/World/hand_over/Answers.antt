@@ -1,16 +1,12 @@
-use Rattle.std.proofs.Common.{sym, ◌∙◌}
+use Rattle.std.proofs.Common.{◌∙◌}
 use Rattle.run_world.specs.Link.{both_ends}
-use Rattle.run_world.specs.Names.{written}
 use Rattle.link_run.specs.End.{delivered}
 use Rattle.run_world.proofs.Serving.{given-delivered}
 use Rattle.run_world.proofs.world.World.hand_over.Goals as goal
 
 pub returns-in-Ok-clause-hands : goal.returns-in-Ok-clause-hands
 returns-in-Ok-clause-hands g c = λ files ts ends heard mid h.
-    let n = written c.args.names.now in
-    let apart = c.requires.apart in
     let delivered-link = c.in-Ok.ensures.stands files mid h.link in
-    let wrote = c.in-Ok.ensures.ok files mid h.link in
     let given = c.given_breaks.ensures.answer files (both_ends delivered mid) delivered-link in
     record {
       stands = record {
@@ -22,21 +18,11 @@ returns-in-Ok-clause-hands g c = λ files ts ends heard mid h.
       };
       orig_given = given.0 ∙ given-delivered mid.orig;
       answ_given = given.1 ∙ given-delivered mid.answ;
-      delivered = record {
-        got_o = wrote.got_o;
-        got_a = wrote.got_a;
-        trace = c.deliver.ensures.only.names n.trace (λ e. apart.got_o_trace (sym e)) (λ e. apart.got_a_trace (sym e));
-      };
+      delivered = c.in-Ok.ensures.ok files mid h.link;
     }
 
 pub returns-in-Err-clause-part : goal.returns-in-Err-clause-part
-returns-in-Err-clause-part g c = λ files ts ends heard mid h.
-    let n = written c.args.names.now in
-    let apart = c.requires.apart in
-    record {
-      octets = c.in-Err.ensures.err files mid h.link;
-      trace = c.in-Err.ensures.only.names n.trace (λ e. apart.got_o_trace (sym e)) (λ e. apart.got_a_trace (sym e));
-    }
+returns-in-Err-clause-part g c = λ files ts ends heard mid h. c.in-Err.ensures.err files mid h.link
 
 pub returns-in-Ok-clause-counted : goal.returns-in-Ok-clause-counted
 returns-in-Ok-clause-counted g c = λ heard asked h. c.given_breaks.ensures.counted heard asked (c.in-Ok.ensures.counted heard asked h)

@@ -2,17 +2,25 @@ use Rattle.std.proofs.Common.{◌≡◌, ◌+◌, refl, sym, ◌∙◌, ap, subs
 use Rattle.outside_calls.specs.Steps.{CountsStand-trans}
 use Rattle.noise_script.specs.Script.{ScriptValue, IsInLimits}
 use Rattle.link_run.specs.End.{is_closed}
-use Rattle.run_world.specs.Names.{written}
-use Rattle.run_world.specs.Link.{AreCounted}
+use Rattle.several_outputs.proofs.Putting.{OnlyPuts-trans, OnlyPuts-reads, KeepsEach-refl, KeepsEach-reads, AddEach-kept}
+use Rattle.run_world.specs.Names.{outputs_of, written}
+use Rattle.run_world.specs.Link.{AreCounted, octets_of}
 use Rattle.run_world.specs.declared.lines.LineEnd.{LineEnd}
 use Rattle.run_world.specs.Mid.{IsLineEnd, handed}
 use Rattle.run_world.specs.Turn.{EndsBy, GoesOnBy}
 use Rattle.run_world.proofs.Serving.{phase-delivered, none-after, none-faulty}
-use Rattle.run_world.proofs.Folders.{then-only, reads-only, lines-only, counts-later, delivered-kept, stay-known, others-known}
+use Rattle.run_world.proofs.Folders.{lines-only, counts-later, stay-known, others-known}
 use Rattle.run_world.proofs.Speaking.{adds-heard, adds-kept, adds-sent}
 use Rattle.run_world.proofs.Turning.{MakingLaws, writing-ends, reading-ends, stops-handing, stops-reading, stops-writing, done-in}
 use Rattle.run_world.proofs.Turning.{speaks-last, goes-on-by, ready-on}
 use Rattle.run_world.proofs.world.World.turn.Goals as goal
+
+pub returns-in-Err-Lost-clause-turn : goal.returns-in-Err-Lost-clause-turn
+returns-in-Err-Lost-clause-turn g c = λ files ts ends h within. record {
+  is = subst (λ (e : LineEnd). IsLineEnd c.hear.new.self.script ts ends e) c.in-Err-Lost.field-0-is
+      (c.in-Err-Lost.ensures.hears files ts ends h);
+  kept = KeepsEach-refl (g.F.Folder.state c.args.folder.now) (outputs_of (written c.args.names.now));
+}
 
 pub returns-in-Err-Chance-clause-turn : goal.returns-in-Err-Chance-clause-turn
 returns-in-Err-Chance-clause-turn g c = λ files ts ends h within.
@@ -52,13 +60,13 @@ returns-in-Ok-finish-clause-turn g c = λ files ts ends h within.
     let closed = sym (ap is_closed (phase-delivered has.mid.orig)) ∙ sym (c.is_closed.ensures files (handed has.mid) hands.stands.link)
     ∙ c.if-is_closed.true in
     done-in c.hand_over.new.self a b d n files ts ends has.mid c.hand_over.new.self.turn c.requires.apart hands.stands.turn
-    (stay-known a d n files c.requires.apart (then-only a b d n c.hand_over.ensures.only (lines-only b d n c.finish.ensures.only)) within)
+    (stay-known a d n files c.requires.apart (OnlyPuts-trans a b d (outputs_of n) c.hand_over.ensures.only (lines-only b d n c.finish.ensures.only)) within)
     c.hand_over.ensures.only hands.delivered c.finish.ensures.only
     (c.in-Ok-finish.ensures.adds files ts ends has.mid hands.stands closed hands.orig_given hands.answ_given) hands.stands.lines
 
 pub returns-in-Ok-finish-clause-only : goal.returns-in-Ok-finish-clause-only
 returns-in-Ok-finish-clause-only g c =
-    then-only _ _ _ (written c.args.names.now) c.hand_over.ensures.only (lines-only _ _ (written c.args.names.now) c.finish.ensures.only)
+    OnlyPuts-trans _ _ _ (outputs_of (written c.args.names.now)) c.hand_over.ensures.only (lines-only _ _ (written c.args.names.now) c.finish.ensures.only)
 
 pub returns-in-Ok-finish-clause-counts : goal.returns-in-Ok-finish-clause-counts
 returns-in-Ok-finish-clause-counts g c = CountsStand-trans c.in-Ok-hand_over.ensures.counts c.in-Ok-finish.ensures.counts
@@ -76,13 +84,13 @@ returns-in-Err-finish-clause-turn g c = λ files ts ends h within.
     ∙ c.if-is_closed.true in
     writing-ends script a d n files ts ends c.in-Err-finish.fault c.in-Err-finish.ensures.write
     (stops-writing script a b d n files files ts ends has.mid c.requires.apart
-    (stay-known a d n files c.requires.apart (then-only a b d n c.hand_over.ensures.only (lines-only b d n c.finish.ensures.only)) within)
+    (stay-known a d n files c.requires.apart (OnlyPuts-trans a b d (outputs_of n) c.hand_over.ensures.only (lines-only b d n c.finish.ensures.only)) within)
     c.hand_over.ensures.only hands.delivered c.finish.ensures.only
     (c.in-Err-finish.ensures.part files ts ends has.mid hands.stands closed hands.orig_given hands.answ_given))
 
 pub returns-in-Err-finish-clause-only : goal.returns-in-Err-finish-clause-only
 returns-in-Err-finish-clause-only g c =
-    then-only _ _ _ (written c.args.names.now) c.hand_over.ensures.only (lines-only _ _ (written c.args.names.now) c.finish.ensures.only)
+    OnlyPuts-trans _ _ _ (outputs_of (written c.args.names.now)) c.hand_over.ensures.only (lines-only _ _ (written c.args.names.now) c.finish.ensures.only)
 
 pub returns-in-Err-finish-clause-counts : goal.returns-in-Err-finish-clause-counts
 returns-in-Err-finish-clause-counts g c =
@@ -128,12 +136,13 @@ returns-in-Err-serve-clause-turn g c = λ files ts ends h within.
     subst (λ (s : ScriptValue). EndsBy s a d n files ts ends c.in-Err-serve.fault) (sym c.serve.ensures.beside.script)
     (reading-ends script a d n files ts ends c.in-Err-serve.fault c.in-Err-serve.ensures.read
     (stops-reading laws script a d n files ts ends c.in-Ok.heard has.mid limits c.requires.apart within
-    (then-only a b d n c.hand_over.ensures.only (reads-only b d n c.serve.ensures.only)) hands.stands.overhears
-    (delivered-kept a b d n has.mid c.hand_over.ensures.only.goes_on c.serve.ensures.only hands.delivered)))
+    (OnlyPuts-trans a b d (outputs_of n) c.hand_over.ensures.only (OnlyPuts-reads b d (outputs_of n) c.serve.ensures.only)) hands.stands.overhears
+    (AddEach-kept a b d (outputs_of n) (octets_of has.mid) c.hand_over.ensures.only.goes_on hands.delivered
+    (KeepsEach-reads b d (outputs_of n) c.serve.ensures.only))))
 
 pub returns-in-Err-serve-clause-only : goal.returns-in-Err-serve-clause-only
 returns-in-Err-serve-clause-only g c =
-    then-only _ _ _ (written c.args.names.now) c.hand_over.ensures.only (reads-only _ _ (written c.args.names.now) c.serve.ensures.only)
+    OnlyPuts-trans _ _ _ (outputs_of (written c.args.names.now)) c.hand_over.ensures.only (OnlyPuts-reads _ _ (outputs_of (written c.args.names.now)) c.serve.ensures.only)
 
 pub returns-in-Err-serve-clause-counts : goal.returns-in-Err-serve-clause-counts
 returns-in-Err-serve-clause-counts g c =
@@ -184,11 +193,12 @@ returns-in-Ok-speak-clause-turn g c = λ files ts ends h within.
     let s = c.in-Ok-serve.ensures.serves files ts ends c.in-Ok.heard has.mid hands.stands within in
     let gone = c.in-Ok-speak.ensures.speaks s.others ts ends has.mid
     (record { stands = s.stands; going = still }) hands.orig_given hands.answ_given in
-    let only-d = then-only a b d n c.hand_over.ensures.only (reads-only b d n c.serve.ensures.only) in
-    let only-z = then-only a d z n only-d (lines-only d z n c.speak.ensures.only) in
+    let only-d = OnlyPuts-trans a b d (outputs_of n) c.hand_over.ensures.only (OnlyPuts-reads b d (outputs_of n) c.serve.ensures.only) in
+    let only-z = OnlyPuts-trans a d z (outputs_of n) only-d (lines-only d z n c.speak.ensures.only) in
     goes-on-by c.speak.new.self a d z n files s.others ts ends has.mid c.requires.apart
     (others-known a b z n files s.others has.mid c.requires.apart c.hand_over.ensures.only only-z s.reads) only-d
-    (delivered-kept a b d n has.mid c.hand_over.ensures.only.goes_on c.serve.ensures.only hands.delivered) c.speak.ensures.only gone
+    (AddEach-kept a b d (outputs_of n) (octets_of has.mid) c.hand_over.ensures.only.goes_on hands.delivered
+    (KeepsEach-reads b d (outputs_of n) c.serve.ensures.only)) c.speak.ensures.only gone
 
 pub returns-in-Ok-speak-clause-ready : goal.returns-in-Ok-speak-clause-ready
 returns-in-Ok-speak-clause-ready g c = λ going.
@@ -208,12 +218,13 @@ returns-in-Ok-speak-clause-ready g c = λ going.
     let s = c.in-Ok-serve.ensures.serves files ts ends c.in-Ok.heard has.mid hands.stands r.within in
     let gone = c.in-Ok-speak.ensures.speaks s.others ts ends has.mid
     (record { stands = s.stands; going = still }) hands.orig_given hands.answ_given in
-    let only-d = then-only a b d n c.hand_over.ensures.only (reads-only b d n c.serve.ensures.only) in
-    let only-z = then-only a d z n only-d (lines-only d z n c.speak.ensures.only) in
+    let only-d = OnlyPuts-trans a b d (outputs_of n) c.hand_over.ensures.only (OnlyPuts-reads b d (outputs_of n) c.serve.ensures.only) in
+    let only-z = OnlyPuts-trans a d z (outputs_of n) only-d (lines-only d z n c.speak.ensures.only) in
     let by : GoesOnBy c.speak.new.self a z n files ts ends =
     goes-on-by c.speak.new.self a d z n files s.others ts ends has.mid c.requires.apart
     (others-known a b z n files s.others has.mid c.requires.apart c.hand_over.ensures.only only-z s.reads) only-d
-    (delivered-kept a b d n has.mid c.hand_over.ensures.only.goes_on c.serve.ensures.only hands.delivered) c.speak.ensures.only gone in
+    (AddEach-kept a b d (outputs_of n) (octets_of has.mid) c.hand_over.ensures.only.goes_on hands.delivered
+    (KeepsEach-reads b d (outputs_of n) c.serve.ensures.only)) c.speak.ensures.only gone in
     let t = c.hand_over.new.self.turn + 1 in
     let same : c.serve.new.self.turn + 1 ≡ t = ap (λ x. x + 1) c.serve.ensures.beside.turn in
     ready-on c.speak.new.self a d z n files ts ends t
@@ -227,7 +238,7 @@ returns-in-Ok-speak-clause-ready g c = λ going.
 pub returns-in-Ok-speak-clause-only : goal.returns-in-Ok-speak-clause-only
 returns-in-Ok-speak-clause-only g c =
     let n = written c.args.names.now in
-    then-only _ _ _ n (then-only _ _ _ n c.hand_over.ensures.only (reads-only _ _ n c.serve.ensures.only))
+    OnlyPuts-trans _ _ _ (outputs_of n) (OnlyPuts-trans _ _ _ (outputs_of n) c.hand_over.ensures.only (OnlyPuts-reads _ _ (outputs_of n) c.serve.ensures.only))
     (lines-only _ _ n c.speak.ensures.only)
 
 pub returns-in-Ok-speak-clause-counts : goal.returns-in-Ok-speak-clause-counts
@@ -249,16 +260,17 @@ returns-in-Err-speak-clause-turn g c = λ files ts ends h within.
     let s = c.in-Ok-serve.ensures.serves files ts ends c.in-Ok.heard has.mid hands.stands within in
     let last = c.in-Err-speak.ensures.speaks s.others ts ends has.mid
     (record { stands = s.stands; going = still }) hands.orig_given hands.answ_given in
-    let only-d = then-only a b d n c.hand_over.ensures.only (reads-only b d n c.serve.ensures.only) in
-    let only-z = then-only a d z n only-d (lines-only d z n c.speak.ensures.only) in
+    let only-d = OnlyPuts-trans a b d (outputs_of n) c.hand_over.ensures.only (OnlyPuts-reads b d (outputs_of n) c.serve.ensures.only) in
+    let only-z = OnlyPuts-trans a d z (outputs_of n) only-d (lines-only d z n c.speak.ensures.only) in
     speaks-last c.speak.new.self.script a d z n files s.others ts ends has.mid c.in-Err-speak.fault c.requires.apart
     (others-known a b z n files s.others has.mid c.requires.apart c.hand_over.ensures.only only-z s.reads) only-d
-    (delivered-kept a b d n has.mid c.hand_over.ensures.only.goes_on c.serve.ensures.only hands.delivered) c.speak.ensures.only last
+    (AddEach-kept a b d (outputs_of n) (octets_of has.mid) c.hand_over.ensures.only.goes_on hands.delivered
+    (KeepsEach-reads b d (outputs_of n) c.serve.ensures.only)) c.speak.ensures.only last
 
 pub returns-in-Err-speak-clause-only : goal.returns-in-Err-speak-clause-only
 returns-in-Err-speak-clause-only g c =
     let n = written c.args.names.now in
-    then-only _ _ _ n (then-only _ _ _ n c.hand_over.ensures.only (reads-only _ _ n c.serve.ensures.only))
+    OnlyPuts-trans _ _ _ (outputs_of n) (OnlyPuts-trans _ _ _ (outputs_of n) c.hand_over.ensures.only (OnlyPuts-reads _ _ (outputs_of n) c.serve.ensures.only))
     (lines-only _ _ n c.speak.ensures.only)
 
 pub returns-in-Err-speak-clause-counts : goal.returns-in-Err-speak-clause-counts

@@ -5,7 +5,7 @@ use Rattle.exact_decoder.specs.declared.decoder.Lost.{Lost}
 use Rattle.detection.specs.Slots.{signal_bits}
 use Rattle.lapm_frames.specs.declared.heard.Heard.{Heard}
 use Rattle.sample_line.specs.Path.{LosesWithin}
-use Rattle.sample_line.specs.Line.{Kept, LineStands, Passes, bits_behind, size_of}
+use Rattle.sample_line.specs.Line.{Kept, LineStands, Passes, bits_behind, sender_of, size_of}
 use Rattle.sample_line.proofs.Passing.{kept, slot-passes}
 use Rattle.sample_line.proofs.line.Line.pass.Goals as goal
 
@@ -33,4 +33,4 @@ returns-clause-passes c = λ passed waiting signal h e.
     (line_bits c.args.slot.now) c.in_ok-tally.tally c.outcome.result
     stands bits c.pass.ensures.sender
     (c.in_ok-tally.ensures.passes (signal_bits (size_of line) passed) stands.read stands.carries) c.in_ok-tally.ensures.lost
-    c.in_ok-tally.ensures.pending c.outcome.ensures
+    c.in_ok-tally.ensures.pending (c.outcome.ensures (sender_of line) c.args.dlci)

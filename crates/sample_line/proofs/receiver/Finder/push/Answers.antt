@@ -10,12 +10,12 @@ returns-clause-stands c =
 pub returns-clause-tallies : goal.returns-clause-tallies
 returns-clause-tallies c = λ earlier bits has h.
     let patterns = h.patterns ++ option_to_list c.push-pattern.result in
-    let b = c.with_bit.ensures.frame bits h.frames patterns has.deframer (c.with_pattern-tally.ensures h.frames h.patterns h.tallies) in
+    let b = c.with_bit.ensures.tallied bits h.octets patterns has.deframer
+    (c.with_pattern-tally.ensures c.args.slot.sender c.args.slot.dlci h.octets h.patterns h.tallies) in
     record {
-      frames = h.frames ++ option_to_list b.frame;
+      octets = h.octets ++ option_to_list b.front;
       patterns = patterns;
-      found = found-more c.args.slot.check c.args.slot.sender c.args.slot.dlci earlier bits c.args.bit h.frames h.patterns b.frame
-          c.push-pattern.result h.found
-          b.found (c.push-pattern.ensures.value bits has.reader);
+      found = found-more c.args.slot.check earlier bits c.args.bit h.octets h.patterns b.front c.push-pattern.result h.found b.passes
+          (c.push-pattern.ensures.value bits has.reader);
       tallies = b.tallies;
     }

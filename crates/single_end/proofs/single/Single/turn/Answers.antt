@@ -1,16 +1,16 @@
-use Rattle.std.proofs.Common.{◌≡◌, ◌+◌, ◌∙◌, sym, ap, subst}
+use Rattle.std.proofs.Common.{◌≡◌, ◌+◌, ◌∙◌, [], ◌∷◌, sym, ap, subst}
 use Rattle.std.specs.List.{concat}
 use Rattle.outside_calls.specs.Steps.{CountsStand-trans}
+use Rattle.several_outputs.proofs.Putting.{OnlyPuts-trans, OnlyPuts-reads, KeepsEach-reads, AddEach-kept}
 use Rattle.roles.specs.declared.role.Role.{Role}
 use Rattle.link_run.specs.End.{deliveries}
 use Rattle.stations.specs.Station.{IsCounted}
 use Rattle.single_end.specs.Peer.{Closed, after, over}
-use Rattle.single_end.specs.Single.{named}
+use Rattle.single_end.specs.Single.{inputs_of, named, outputs_of}
 use Rattle.single_end.specs.Turn.{EndsBy}
-use Rattle.single_end.proofs.Folders.{got-only, trace-only, reads-only, then-only, trace-counts, read-counts, counts-later, stays-known}
-use Rattle.single_end.proofs.Folders.{others-known}
-use Rattle.single_end.proofs.Turning.{broke-off, not-handed, not-read, writing-ends, reading-ends, made, stopped-so, ended, gone-on}
-use Rattle.single_end.proofs.Turning.{counted-later, adds-on, keeps-on}
+use Rattle.single_end.proofs.Folders.{got-only, trace-only, trace-counts, read-counts, counts-later, stays-known, others-known}
+use Rattle.single_end.proofs.Turning.{broke-off, hands-over, not-handed, not-read, writing-ends, reading-ends, made, stopped-so, ended, gone-on}
+use Rattle.single_end.proofs.Turning.{counted-later}
 use Rattle.single_end.specs.Mid.{handed}
 use Rattle.single_end.proofs.single.Single.turn.Goals as goal
 
@@ -44,10 +44,10 @@ returns-in-Ok-finish-clause-turn g c = λ p h within.
     let mid = has.0 in
     let now = c.in-Ok-hand_over.ensures.stands p slot arrived mid has.1 in
     let closed = sym (c.hangs_up.ensures p slot arrived mid now) ∙ c.if-hangs_up.true in
-    let only = then-only a b z n (got-only a b n c.hand_over.ensures.only) (trace-only b z n c.finish.ensures.only) in
+    let only = OnlyPuts-trans a b z (outputs_of n) (got-only a b n c.hand_over.ensures.only) (trace-only b z n c.finish.ensures.only) in
     made c.hand_over.new.self a b z n p slot (concat (deliveries mid)) p.file Closed c.requires.apart c.hand_over.ensures.only.goes_on
-    (c.in-Ok-hand_over.ensures.adds p slot arrived mid has.1)
-    (c.hand_over.ensures.only.names n.trace (λ e. c.requires.apart.got_trace (sym e))) c.finish.ensures.only
+    (hands-over a b n (concat (deliveries mid)) c.requires.apart c.hand_over.ensures.only
+    (c.in-Ok-hand_over.ensures.adds p slot arrived mid has.1)) c.finish.ensures.only
     (stays-known a z n p.file c.requires.apart only within)
     (c.in-Ok-finish.ensures.adds p slot mid now closed (c.in-Ok-hand_over.ensures.given p slot arrived mid has.1))
 
@@ -63,11 +63,11 @@ returns-in-Err-finish-clause-turn g c = λ p h within.
     let mid = has.0 in
     let now = c.in-Ok-hand_over.ensures.stands p slot arrived mid has.1 in
     let closed = sym (c.hangs_up.ensures p slot arrived mid now) ∙ c.if-hangs_up.true in
-    let only = then-only a b z n (got-only a b n c.hand_over.ensures.only) (trace-only b z n c.finish.ensures.only) in
+    let only = OnlyPuts-trans a b z (outputs_of n) (got-only a b n c.hand_over.ensures.only) (trace-only b z n c.finish.ensures.only) in
     stopped-so c.hand_over.new.self a b z n p slot
     (concat (deliveries mid)) p.file c.in-Err-finish.fault c.requires.apart c.hand_over.ensures.only.goes_on
-    (c.in-Ok-hand_over.ensures.adds p slot arrived mid has.1)
-    (c.hand_over.ensures.only.names n.trace (λ e. c.requires.apart.got_trace (sym e))) c.finish.ensures.only
+    (hands-over a b n (concat (deliveries mid)) c.requires.apart c.hand_over.ensures.only
+    (c.in-Ok-hand_over.ensures.adds p slot arrived mid has.1)) c.finish.ensures.only
     (stays-known a z n p.file c.requires.apart only within) c.in-Err-finish.ensures.write
     (c.in-Err-finish.ensures.part p slot mid now closed (c.in-Ok-hand_over.ensures.given p slot arrived mid has.1))
 
@@ -98,10 +98,12 @@ returns-in-Err-serve-clause-turn g c = λ p h within.
     let has = c.in-Ok.ensures.hears p h in
     let now = c.in-Ok-hand_over.ensures.stands p slot arrived has.0 has.1 in
     subst (λ (r : Role). EndsBy r a d n p slot c.in-Err-serve.fault) (sym c.serve.ensures.role)
-    (reading-ends c.hand_over.new.self.role a b d n p slot c.in-Err-serve.fault c.in-Err-serve.ensures.counts
-    (not-read c.one_lone_run.ensures.made c.hand_over.new.self a b d n p slot arrived has.0
-    (handed has.0) c.requires.apart within now c.hand_over.ensures.only
-    (c.in-Ok-hand_over.ensures.adds p slot arrived has.0 has.1) c.serve.ensures.only))
+    (reading-ends c.hand_over.new.self.role a d n p slot c.in-Err-serve.fault c.in-Err-serve.ensures.read
+    (not-read c.one_lone_run.ensures.made c.hand_over.new.self a d n p slot arrived has.0 (handed has.0) c.requires.apart within now
+    (OnlyPuts-trans a b d (outputs_of n) (got-only a b n c.hand_over.ensures.only) (OnlyPuts-reads b d (outputs_of n) c.serve.ensures.only))
+    (AddEach-kept a b d (outputs_of n) (concat (deliveries has.0) ∷ []) c.hand_over.ensures.only.goes_on
+    (hands-over a b n (concat (deliveries has.0)) c.requires.apart c.hand_over.ensures.only
+    (c.in-Ok-hand_over.ensures.adds p slot arrived has.0 has.1)) (KeepsEach-reads b d (outputs_of n) c.serve.ensures.only))))
 
 pub returns-in-Ok-speak-clause-turn : goal.returns-in-Ok-speak-clause-turn
 returns-in-Ok-speak-clause-turn g c = λ p h within.
@@ -118,12 +120,13 @@ returns-in-Ok-speak-clause-turn g c = λ p h within.
     let still = sym (c.hangs_up.ensures p slot arrived mid now) ∙ c.if-hangs_up.false in
     let s = c.in-Ok-serve.ensures.serves p slot arrived mid now within in
     let first = got-only a b n c.hand_over.ensures.only in
-    let only-d = then-only a b d n first (reads-only b d n c.serve.ensures.only) in
-    let only-z = then-only a d z n only-d (trace-only d z n c.speak.ensures.only) in
+    let only-d = OnlyPuts-trans a b d (outputs_of n) first (OnlyPuts-reads b d (outputs_of n) c.serve.ensures.only) in
+    let only-z = OnlyPuts-trans a d z (outputs_of n) only-d (trace-only d z n c.speak.ensures.only) in
     gone-on c.speak.new.self a d z n p slot (concat (deliveries mid)) s.others c.requires.apart only-d.goes_on
-    (adds-on a b d n (concat (deliveries mid)) c.hand_over.ensures.only
-    (c.in-Ok-hand_over.ensures.adds p slot arrived mid has.1) c.serve.ensures.only)
-    (keeps-on a b d n c.requires.apart c.hand_over.ensures.only c.serve.ensures.only) c.speak.ensures.only
+    (AddEach-kept a b d (outputs_of n) (concat (deliveries mid) ∷ []) c.hand_over.ensures.only.goes_on
+    (hands-over a b n (concat (deliveries mid)) c.requires.apart c.hand_over.ensures.only
+    (c.in-Ok-hand_over.ensures.adds p slot arrived mid has.1)) (KeepsEach-reads b d (outputs_of n) c.serve.ensures.only))
+    c.speak.ensures.only
     (others-known a b z n p.file s.others (handed mid) c.requires.apart first only-z s.reads)
     (c.in-Ok-speak.ensures.speaks (over s.others p) slot mid s.stands still (c.in-Ok-hand_over.ensures.given p slot arrived mid has.1))
 
@@ -169,12 +172,13 @@ returns-in-Err-speak-clause-turn g c = λ p h within.
     let still = sym (c.hangs_up.ensures p slot arrived mid now) ∙ c.if-hangs_up.false in
     let s = c.in-Ok-serve.ensures.serves p slot arrived mid now within in
     let first = got-only a b n c.hand_over.ensures.only in
-    let only-d = then-only a b d n first (reads-only b d n c.serve.ensures.only) in
-    let only-z = then-only a d z n only-d (trace-only d z n c.speak.ensures.only) in
+    let only-d = OnlyPuts-trans a b d (outputs_of n) first (OnlyPuts-reads b d (outputs_of n) c.serve.ensures.only) in
+    let only-z = OnlyPuts-trans a d z (outputs_of n) only-d (trace-only d z n c.speak.ensures.only) in
     ended c.speak.new.self a d z n p slot (concat (deliveries mid)) s.others c.in-Err-speak.fault c.requires.apart only-d.goes_on
-    (adds-on a b d n (concat (deliveries mid)) c.hand_over.ensures.only
-    (c.in-Ok-hand_over.ensures.adds p slot arrived mid has.1) c.serve.ensures.only)
-    (keeps-on a b d n c.requires.apart c.hand_over.ensures.only c.serve.ensures.only) c.speak.ensures.only
+    (AddEach-kept a b d (outputs_of n) (concat (deliveries mid) ∷ []) c.hand_over.ensures.only.goes_on
+    (hands-over a b n (concat (deliveries mid)) c.requires.apart c.hand_over.ensures.only
+    (c.in-Ok-hand_over.ensures.adds p slot arrived mid has.1)) (KeepsEach-reads b d (outputs_of n) c.serve.ensures.only))
+    c.speak.ensures.only
     (others-known a b z n p.file s.others (handed mid) c.requires.apart first only-z s.reads)
     (c.in-Err-speak.ensures.speaks (over s.others p) slot mid s.stands still (c.in-Ok-hand_over.ensures.given p slot arrived mid has.1))
 
@@ -197,28 +201,28 @@ returns-in-Err-hand_over-clause-only g c =
 pub returns-in-Ok-finish-clause-only : goal.returns-in-Ok-finish-clause-only
 returns-in-Ok-finish-clause-only g c =
     let n = named c.args.file.now c.args.got.now c.args.trace.now in
-    then-only _ _ _ n (got-only _ _ n c.hand_over.ensures.only) (trace-only _ _ n c.finish.ensures.only)
+    OnlyPuts-trans _ _ _ (outputs_of n) (got-only _ _ n c.hand_over.ensures.only) (trace-only _ _ n c.finish.ensures.only)
 
 pub returns-in-Err-finish-clause-only : goal.returns-in-Err-finish-clause-only
 returns-in-Err-finish-clause-only g c =
     let n = named c.args.file.now c.args.got.now c.args.trace.now in
-    then-only _ _ _ n (got-only _ _ n c.hand_over.ensures.only) (trace-only _ _ n c.finish.ensures.only)
+    OnlyPuts-trans _ _ _ (outputs_of n) (got-only _ _ n c.hand_over.ensures.only) (trace-only _ _ n c.finish.ensures.only)
 
 pub returns-in-Err-serve-clause-only : goal.returns-in-Err-serve-clause-only
 returns-in-Err-serve-clause-only g c =
     let n = named c.args.file.now c.args.got.now c.args.trace.now in
-    then-only _ _ _ n (got-only _ _ n c.hand_over.ensures.only) (reads-only _ _ n c.serve.ensures.only)
+    OnlyPuts-trans _ _ _ (outputs_of n) (got-only _ _ n c.hand_over.ensures.only) (OnlyPuts-reads _ _ (outputs_of n) c.serve.ensures.only)
 
 pub returns-in-Ok-speak-clause-only : goal.returns-in-Ok-speak-clause-only
 returns-in-Ok-speak-clause-only g c =
     let n = named c.args.file.now c.args.got.now c.args.trace.now in
-    then-only _ _ _ n (then-only _ _ _ n (got-only _ _ n c.hand_over.ensures.only) (reads-only _ _ n c.serve.ensures.only))
+    OnlyPuts-trans _ _ _ (outputs_of n) (OnlyPuts-trans _ _ _ (outputs_of n) (got-only _ _ n c.hand_over.ensures.only) (OnlyPuts-reads _ _ (outputs_of n) c.serve.ensures.only))
     (trace-only _ _ n c.speak.ensures.only)
 
 pub returns-in-Err-speak-clause-only : goal.returns-in-Err-speak-clause-only
 returns-in-Err-speak-clause-only g c =
     let n = named c.args.file.now c.args.got.now c.args.trace.now in
-    then-only _ _ _ n (then-only _ _ _ n (got-only _ _ n c.hand_over.ensures.only) (reads-only _ _ n c.serve.ensures.only))
+    OnlyPuts-trans _ _ _ (outputs_of n) (OnlyPuts-trans _ _ _ (outputs_of n) (got-only _ _ n c.hand_over.ensures.only) (OnlyPuts-reads _ _ (outputs_of n) c.serve.ensures.only))
     (trace-only _ _ n c.speak.ensures.only)
 
 pub returns-in-Ok-finish-clause-counts : goal.returns-in-Ok-finish-clause-counts
@@ -228,7 +232,7 @@ pub returns-in-Err-finish-clause-counts : goal.returns-in-Err-finish-clause-coun
 returns-in-Err-finish-clause-counts g c =
     let n = named c.args.file.now c.args.got.now c.args.trace.now in
     counts-later (g.F.Folder.state c.args.folder.now) (g.F.Folder.state c.hand_over.new.folder)
-    (g.F.Folder.state c.finish.new.folder) n c.in-Err-finish.fault
+    (g.F.Folder.state c.finish.new.folder) (inputs_of n) (outputs_of n) c.in-Err-finish.fault
     c.in-Ok-hand_over.ensures.counts
     (trace-counts (g.F.Folder.state c.hand_over.new.folder)
     (g.F.Folder.state c.finish.new.folder) n c.in-Err-finish.fault c.in-Err-finish.ensures.counts)
@@ -237,7 +241,7 @@ pub returns-in-Err-serve-clause-counts : goal.returns-in-Err-serve-clause-counts
 returns-in-Err-serve-clause-counts g c =
     let n = named c.args.file.now c.args.got.now c.args.trace.now in
     counts-later (g.F.Folder.state c.args.folder.now) (g.F.Folder.state c.hand_over.new.folder)
-    (g.F.Folder.state c.serve.new.folder) n c.in-Err-serve.fault
+    (g.F.Folder.state c.serve.new.folder) (inputs_of n) (outputs_of n) c.in-Err-serve.fault
     c.in-Ok-hand_over.ensures.counts
     (read-counts (g.F.Folder.state c.hand_over.new.folder)
     (g.F.Folder.state c.serve.new.folder) n c.in-Err-serve.fault c.in-Err-serve.ensures.counts)
@@ -250,7 +254,7 @@ pub returns-in-Err-speak-clause-counts : goal.returns-in-Err-speak-clause-counts
 returns-in-Err-speak-clause-counts g c =
     let n = named c.args.file.now c.args.got.now c.args.trace.now in
     counts-later (g.F.Folder.state c.args.folder.now) (g.F.Folder.state c.serve.new.folder)
-    (g.F.Folder.state c.speak.new.folder) n c.in-Err-speak.fault
+    (g.F.Folder.state c.speak.new.folder) (inputs_of n) (outputs_of n) c.in-Err-speak.fault
     (CountsStand-trans c.in-Ok-hand_over.ensures.counts c.in-Ok-serve.ensures.counts)
     (trace-counts (g.F.Folder.state c.serve.new.folder)
     (g.F.Folder.state c.speak.new.folder) n c.in-Err-speak.fault c.in-Err-speak.ensures.counts)

@@ -1,0 +1,147 @@
+-- Bits and the samples that they become: each tells the other, the first of one the first of the other; and samples as octets.
+use Rattle.std.proofs.Common.{◌≡◌, ◌∙◌, ◌*◌, ◌<◌, ◌≤◌, ℕ, zero, suc, Bool, true, false, ◌&&◌, nat_eq, List, [], ◌∷◌, ◌++◌, length}
+use Rattle.std.proofs.Common.{take, map, refl, sym, ap, subst, arith, All, length-append}
+use Rattle.std.specs.List.{flat_map}
+use Rattle.std.proofs.lemmas.Bool.{false≢true, eqb-true}
+use Rattle.std.proofs.Math.Seq.{take-nil, take-append_seam}
+use Rattle.std.proofs.lemmas.List.{take-map, length-map}
+use Rattle.std.proofs.lemmas.List.Elements.{All-take, All-head, All-tail}
+use Rattle.plain_lists.specs.Bits.{low_bits}
+use Rattle.scramblers.proofs.Readings.{Scrambles-take, Descrambles_once}
+use Rattle.symbol_map.specs.declared.sample.Sample.{Sample}
+use Rattle.symbol_map.specs.Points.{point_of}
+use Rattle.symbol_map.specs.Distance.{distance_of}
+use Rattle.symbol_map.specs.Laws.{PointsDiffer, NoDistanceIsEqual}
+use Rattle.symbol_map.specs.Finite.{each_below, at_each}
+use Rattle.trellis_tables.specs.Table.{next_state}
+use Rattle.trellis_tables.specs.V32Laws.{v32_bounded}
+use Rattle.trellis_tables.proofs.Codings.{Encodes-take}
+use Rattle.trellis_tables.proofs.Sequences.{Leads-below}
+use Rattle.line_coding.specs.Modulates.{Modulates}
+use Rattle.line_coding.specs.Demodulates.{line_of, Demodulates}
+use Rattle.line_coding.proofs.Readings.{comes-back, four-each}
+use Rattle.recordings.specs.Recording.{sample_octets}
+use Rattle.recordings.specs.Samples.{samples_in}
+use Rattle.recordings.proofs.Samples.{samples_in-append}
+
+pub carried : (tap : ℕ) (bits : List Bool) (samples : List Sample) → (h : Modulates tap bits samples) → Demodulates tap h.labels bits
+carried tap bits samples h = comes-back tap bits h.line h.quads h.labels h.end h.scrambled h.in_fours h.are_quads h.encoded
+
+pub small : (tap : ℕ) (bits : List Bool) (samples : List Sample) → (h : Modulates tap bits samples) → All (λ label. label < 32) h.labels
+small tap bits samples h = Leads-below next_state 8 32 0 h.labels h.end v32_bounded h.encoded.leads
+
+pub points-tell : PointsDiffer → (a b : List ℕ) → All (λ label. label < 32) a → All (λ label. label < 32) b → map point_of a ≡ map point_of b
+    → a ≡ b
+points-tell differ [] [] h k e = refl
+points-tell differ [] (y ∷ b) h k e = absurd cc
+points-tell differ (x ∷ a) [] h k e = absurd cc
+points-tell differ (x ∷ a) (y ∷ b) h k e =
+    let first : point_of x ≡ point_of y = cc in
+    let others : map point_of a ≡ map point_of b = cc in
+    let same : x ≡ y = differ x y (All-head (λ label. label < 32) x a h) (All-head (λ label. label < 32) y b k) first in
+    let rest : a ≡ b =
+    points-tell differ a b (All-tail (λ label. label < 32) x a h) (All-tail (λ label. label < 32) y b k) others in
+    rw (same, rest) refl
+
+-- samples are those of one list of bits
+pub samples-tell : PointsDiffer → (tap : ℕ) (a b : List Bool) (samples : List Sample) → Modulates tap a samples → Modulates tap b samples
+    → a ≡ b
+samples-tell differ tap a b samples h k =
+    let labels : h.labels ≡ k.labels =
+    points-tell differ h.labels k.labels (small tap a samples h) (small tap b samples k) (sym h.points ∙ k.points) in
+    Descrambles_once tap (line_of k.labels) a b (subst (λ (xs : List ℕ). Demodulates tap xs a) labels (carried tap a samples h))
+    (carried tap b samples k)
+
+-- four bits each
+pub length-modulated : (tap : ℕ) (bits : List Bool) (samples : List Sample) → Modulates tap bits samples → length bits ≡ 4 * length samples
+length-modulated tap bits samples h =
+    four-each tap h.labels bits (carried tap bits samples h) ∙ ap (λ n. 4 * n) (sym (ap length h.points ∙ length-map h.labels point_of))
+
+take-fours : (n : ℕ) (quads : List ℕ) → take (4 * n) (flat_map (low_bits 4) quads) ≡ flat_map (low_bits 4) (take n quads)
+take-fours zero quads = refl
+take-fours (suc n) [] = take-nil (4 * suc n)
+take-fours (suc n) (quad ∷ quads) =
+    let four : 4 * suc n ≡ suc (suc (suc (suc (4 * n)))) = omega arith in
+    let first : take (4 * suc n) (flat_map (low_bits 4) (quad ∷ quads)) ≡ low_bits 4 quad ++ take (4 * n) (flat_map (low_bits 4) quads) =
+    ap (λ m. take m (flat_map (low_bits 4) (quad ∷ quads))) four in
+    first ∙ ap (λ xs. low_bits 4 quad ++ xs) (take-fours n quads)
+
+modulates-take : (tap n : ℕ) (bits : List Bool) (samples : List Sample) → 1 ≤ tap → Modulates tap bits samples
+    → Modulates tap (take (4 * n) bits) (take n samples)
+modulates-take tap n bits samples low h =
+    let coded = Encodes-take h.quads h.labels h.end n h.encoded in
+    record {
+      line = take (4 * n) h.line;
+      quads = take n h.quads;
+      labels = take n h.labels;
+      end = coded.0;
+      scrambled = Scrambles-take tap (4 * n) bits h.line low h.scrambled;
+      in_fours = ap (take (4 * n)) h.in_fours ∙ take-fours n h.quads;
+      are_quads = All-take (λ q. q < 16) n h.quads h.are_quads;
+      encoded = coded.1;
+      points = ap (take n) h.points ∙ take-map point_of n h.labels;
+    }
+
+-- the samples of the first bits are the first samples
+pub modulates-front : (tap n : ℕ) (bits more : List Bool) (samples : List Sample) → 1 ≤ tap → length bits ≡ 4 * n
+    → Modulates tap (bits ++ more) samples → Modulates tap bits (take n samples)
+modulates-front tap n bits more samples low e h =
+    subst (λ (xs : List Bool). Modulates tap xs (take n samples))
+    (ap (λ m. take m (bits ++ more)) (sym e) ∙ take-append_seam bits more) (modulates-take tap n (bits ++ more) samples low h)
+
+-- ---- octets
+
+abbrev is_one : List Sample → Sample → Bool
+is_one [] point = false
+is_one (s ∷ []) point = nat_eq (distance_of s point) 0
+is_one (s ∷ t ∷ rest) point = false
+
+abbrev reads_back : ℕ → Bool
+reads_back label =
+    nat_eq (length (sample_octets (point_of label))) 4 && is_one (samples_in (sample_octets (point_of label))) (point_of label)
+
+reads_back-test : each_below 32 reads_back ≡ true
+reads_back-test = refl
+
+both : (a b : Bool) → (a && b) ≡ true → (a ≡ true) × (b ≡ true)
+both true b e = (refl, e)
+both false b e = absurd (false≢true e)
+
+the-one : NoDistanceIsEqual → (xs : List Sample) (point : Sample) → is_one xs point ≡ true → xs ≡ point ∷ []
+the-one none [] point e = absurd (false≢true e)
+the-one none (s ∷ []) point e = ap (λ x. x ∷ []) ((none s point).0 (eqb-true (distance_of s point) 0 e))
+the-one none (s ∷ t ∷ rest) point e = absurd (false≢true e)
+
+point-back : NoDistanceIsEqual → (label : ℕ) → label < 32
+    → (length (sample_octets (point_of label)) ≡ 4) × (samples_in (sample_octets (point_of label)) ≡ point_of label ∷ [])
+point-back none label low =
+    let t = both (nat_eq (length (sample_octets (point_of label))) 4)
+    (is_one (samples_in (sample_octets (point_of label))) (point_of label)) (at_each 32 reads_back reads_back-test label low) in
+    (
+      eqb-true (length (sample_octets (point_of label))) 4 t.0,
+      the-one none (samples_in (sample_octets (point_of label))) (point_of label) t.1,
+    )
+
+pub record ReadsBack (samples : List Sample) : Type 0 where
+  pub count : length (flat_map sample_octets samples) ≡ 4 * length samples
+  pub same : samples_in (flat_map sample_octets samples) ≡ samples
+
+points-back : NoDistanceIsEqual → (labels : List ℕ) → All (λ label. label < 32) labels → ReadsBack (map point_of labels)
+points-back none [] h = record { count = refl; same = refl }
+points-back none (label ∷ labels) h =
+    let one = point-back none label (All-head (λ l. l < 32) label labels h) in
+    let rest = points-back none labels (All-tail (λ l. l < 32) label labels h) in
+    let octets : List ℕ = sample_octets (point_of label) in
+    let others : List ℕ = flat_map sample_octets (map point_of labels) in
+    record {
+      count = length-append {A = ℕ} octets others
+          ∙ (let more : length (map point_of (label ∷ labels)) ≡ suc (length (map point_of labels)) = refl in
+              omega (arith, one.0, rest.count, more));
+      same = samples_in-append octets others (omega (arith, one.0)) ∙ ap (λ xs. xs ++ samples_in others) one.1
+          ∙ ap (λ xs. point_of label ∷ xs) rest.same;
+    }
+
+-- samples that bits became are read back from their octets
+pub recorded-back : NoDistanceIsEqual → (tap : ℕ) (bits : List Bool) (samples : List Sample) → Modulates tap bits samples
+    → ReadsBack samples
+recorded-back none tap bits samples h = subst ReadsBack (sym h.points) (points-back none h.labels (small tap bits samples h))

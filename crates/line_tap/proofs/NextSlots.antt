@@ -1,0 +1,118 @@
+-- What a reader takes for the next slot is the next slot that the recording holds, and the other way.
+use Rattle.std.proofs.Common.{◌≡◌, ◌∙◌, ℕ, zero, suc, ◌+◌, ◌*◌, ◌≤◌, List, [], ◌∷◌, ◌++◌, length, take, drop, refl, sym, ap, subst, arith}
+use Rattle.std.proofs.Math.Seq.{take-add}
+use Rattle.std.proofs.lemmas.Grind.{common_steps}
+use Rattle.frame_check.specs.declared.check.Check.{Check}
+use Rattle.roles.specs.declared.role.Role.{Role}
+use Rattle.roles.specs.Role.{mode_of}
+use Rattle.scramblers.specs.Mode.{tap_of}
+use Rattle.symbol_map.specs.declared.sample.Sample.{Sample}
+use Rattle.detection.specs.Slots.{Signal, signal_bits}
+use Rattle.line_coding.specs.Modulates.{Modulates}
+use Rattle.recordings.specs.Samples.{samples_in, sample_of}
+use Rattle.lapm_frames.specs.declared.sent.Sent.{Sent}
+use Rattle.sample_line.specs.Signals.{signal_of, IsCodable}
+use Rattle.sample_line.specs.Line.{bits_behind}
+use Rattle.link_run.specs.Run.{Turn}
+use Rattle.line_run.specs.Sampled.{Channel, signals, bits_of}
+use Rattle.line_tap.specs.declared.seeker.Sender.{Sender}
+use Rattle.line_tap.specs.declared.reader.SlotReader.{SlotReader}
+use Rattle.line_tap.specs.Reader.{IsNext, carries}
+use Rattle.line_tap.specs.Tapping.{HoldsNext, next_bits, octets_of, phase_behind}
+
+samples-drop : (n : ℕ) (octets : List ℕ) → 4 * n ≤ length octets → samples_in (drop (4 * n) octets) ≡ drop n (samples_in octets)
+samples-drop zero octets h = refl
+samples-drop (suc n) [] h = absurd (omega (arith, h))
+samples-drop (suc n) (a ∷ []) h = absurd (omega (arith, h))
+samples-drop (suc n) (a ∷ b ∷ []) h = absurd (omega (arith, h))
+samples-drop (suc n) (a ∷ b ∷ c ∷ []) h = absurd (omega (arith, h))
+samples-drop (suc n) (a ∷ b ∷ c ∷ d ∷ octets) h =
+    let four : 4 * suc n ≡ suc (suc (suc (suc (4 * n)))) = omega arith in
+    ap (λ k. samples_in (drop k (a ∷ b ∷ c ∷ d ∷ octets))) four ∙ samples-drop n octets (omega (arith, h))
+
+samples-take : (n : ℕ) (octets : List ℕ) → 4 * n ≤ length octets → samples_in (take (4 * n) octets) ≡ take n (samples_in octets)
+samples-take zero octets h = refl
+samples-take (suc n) [] h = absurd (omega (arith, h))
+samples-take (suc n) (a ∷ []) h = absurd (omega (arith, h))
+samples-take (suc n) (a ∷ b ∷ []) h = absurd (omega (arith, h))
+samples-take (suc n) (a ∷ b ∷ c ∷ []) h = absurd (omega (arith, h))
+samples-take (suc n) (a ∷ b ∷ c ∷ d ∷ octets) h =
+    let four : 4 * suc n ≡ suc (suc (suc (suc (4 * n)))) = omega arith in
+    ap (λ k. samples_in (take k (a ∷ b ∷ c ∷ d ∷ octets))) four ∙ ap (λ xs. sample_of a b c d ∷ xs) (samples-take n octets (omega (arith, h)))
+
+-- the octets of the slot of the turn after so many
+abbrev pub piece_of : Channel → ℕ → List ℕ → List ℕ
+piece_of c turns body = take (4 * c.symbols) (drop (octets_of c turns) body)
+
+one-slot-more : (c : Channel) (turns : ℕ) (body : List ℕ) → octets_of c (turns + 1) ≤ length body
+    → take (c.symbols * (turns + 1)) (samples_in body)
+    ≡ take (c.symbols * turns) (samples_in body) ++ samples_in (piece_of c turns body)
+one-slot-more c turns body h =
+    let n : ℕ = c.symbols * turns in
+    let next : c.symbols * (turns + 1) ≡ n + c.symbols = mul-one c.symbols turns in
+    let left : 4 * n ≤ length body = omega (arith, h, next) in
+    let rest : 4 * c.symbols ≤ length (drop (4 * n) body) = rest-long (4 * n) (4 * c.symbols) body (omega (arith, h, next)) in
+    ap (λ k. take k (samples_in body)) next ∙ take-add n c.symbols (samples_in body)
+    ∙ ap (λ xs. take n (samples_in body) ++ take c.symbols xs) (sym (samples-drop n body left))
+    ∙ ap (λ xs. take n (samples_in body) ++ xs) (sym (samples-take c.symbols (drop (4 * n) body) rest))
+  where
+    mul-one : (a b : ℕ) → a * (b + 1) ≡ a * b + a
+    mul-one a b = grind (arith, common_steps)
+    rest-long : (i j : ℕ) (xs : List ℕ) → i + j ≤ length xs → j ≤ length (drop i xs)
+    rest-long i j xs h = grind (arith, common_steps)
+
+abbrev pub sender_for : Check → Role → ℕ → Sender
+sender_for check role dlci = record { check = check; role = role; dlci = dlci }
+
+-- The reader reads what this role sends, frames with numbers by this check, and it stands behind these turns.
+pub record ReadsFor (r : SlotReader) (c : Channel) (check : Check) (role : Role) (ts : List Turn) : Type 0 where
+  pub symbols : r.symbols ≡ c.symbols
+  pub sender : r.sender ≡ sender_for check role c.dlci
+  pub phase : r.phase ≡ phase_behind c role ts
+
+-- the same bits
+same-bits : (r : SlotReader) (c : Channel) (check : Check) (role : Role) (ts : List Turn) (s : Sent) → ReadsFor r c check role ts
+    → signal_bits (4 * r.symbols) (signals c role ts) ++ bits_behind (4 * r.symbols) (signals c role ts) (carries r s)
+    ≡ bits_of c role ts ++ next_bits c check role ts s
+same-bits r c check role ts s h =
+    let sigs : List Signal = signals c role ts in
+    ap (λ n. signal_bits (4 * n) sigs ++ bits_behind (4 * n) sigs (carries r s)) h.symbols
+    ∙ ap (λ (w : Sender). bits_of c role ts ++ bits_behind (4 * c.symbols) sigs (signal_of w.check w.role w.dlci s)) h.sender
+
+pub held-is-next : (r : SlotReader) (c : Channel) (check : Check) (role : Role) (ts : List Turn) (body : List ℕ) (s : Sent)
+    → ReadsFor r c check role ts → HoldsNext c check role ts body s
+    → IsNext r (signals c role ts) (take (c.symbols * length ts) (samples_in body)) (samples_in (piece_of c (length ts) body)) s
+held-is-next r c check role ts body s h k =
+    let sigs : List Signal = signals c role ts in
+    let front : List Sample = take (c.symbols * length ts) (samples_in body) in
+    let more : List Sample = samples_in (piece_of c (length ts) body) in
+    record {
+      codable = subst (λ (w : Sender). IsCodable w.check w.role w.dlci r.symbols r.phase s) (sym h.sender)
+          (subst (λ n. IsCodable check role c.dlci n r.phase s) (sym h.symbols)
+          (subst (λ p. IsCodable check role c.dlci c.symbols p s) (sym h.phase) k.codable));
+      modulated = subst (λ (w : Sender). Modulates (tap_of (mode_of w.role))
+          (signal_bits (4 * r.symbols) sigs ++ bits_behind (4 * r.symbols) sigs (carries r s)) (front ++ more)) (sym h.sender)
+          (subst (λ bits. Modulates (tap_of (mode_of role)) bits (front ++ more)) (sym (same-bits r c check role ts s h))
+          (subst (Modulates (tap_of (mode_of role)) (bits_of c role ts ++ next_bits c check role ts s))
+          (one-slot-more c (length ts) body k.whole) k.modulated));
+    }
+
+pub next-is-held : (r : SlotReader) (c : Channel) (check : Check) (role : Role) (ts : List Turn) (body : List ℕ) (s : Sent)
+    → ReadsFor r c check role ts → octets_of c (length ts + 1) ≤ length body
+    → IsNext r (signals c role ts) (take (c.symbols * length ts) (samples_in body)) (samples_in (piece_of c (length ts) body)) s
+    → HoldsNext c check role ts body s
+next-is-held r c check role ts body s h whole k =
+    let sigs : List Signal = signals c role ts in
+    let front : List Sample = take (c.symbols * length ts) (samples_in body) in
+    let more : List Sample = samples_in (piece_of c (length ts) body) in
+    record {
+      whole = whole;
+      codable = subst (λ p. IsCodable check role c.dlci c.symbols p s) h.phase
+          (subst (λ n. IsCodable check role c.dlci n r.phase s) h.symbols
+          (subst (λ (w : Sender). IsCodable w.check w.role w.dlci r.symbols r.phase s) h.sender k.codable));
+      modulated = subst (Modulates (tap_of (mode_of role)) (bits_of c role ts ++ next_bits c check role ts s))
+          (sym (one-slot-more c (length ts) body whole))
+          (subst (λ bits. Modulates (tap_of (mode_of role)) bits (front ++ more)) (same-bits r c check role ts s h)
+          (subst (λ (w : Sender). Modulates (tap_of (mode_of w.role))
+          (signal_bits (4 * r.symbols) sigs ++ bits_behind (4 * r.symbols) sigs (carries r s)) (front ++ more)) h.sender k.modulated));
+    }

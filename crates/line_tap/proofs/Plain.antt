@@ -1,0 +1,244 @@
+-- Turns of a run without what the line doesn't tell: the meant numbers, and the checks of frames that have no numbers.
+use Rattle.std.proofs.Common.{◌≡◌, ℕ, zero, suc, ◌-◌, ◌*◌, Bool, true, false, cond, List, [], ◌∷◌, ◌++◌, length, map, drop, refl, sym, ◌∙◌}
+use Rattle.std.proofs.Common.{ap, subst, Option, Some, None, slice_get}
+use Rattle.std.specs.Prelude.{is_some, ◌||◌}
+use Rattle.std.specs.Option.{option_map}
+use Rattle.std.proofs.lemmas.List.{length-map, drop-map}
+use Rattle.std.proofs.lemmas.Option.{slice_get-map}
+use Rattle.frame_check.specs.declared.check.Check.{Check}
+use Rattle.frame_check.specs.declared.check.Check.TheVariants.{Sixteen}
+use Rattle.frame_check.specs.Division.{with_check}
+use Rattle.roles.specs.declared.role.Role.{Role}
+use Rattle.roles.specs.declared.role.Role.TheVariants.{Originator, Answerer}
+use Rattle.roles.specs.Both.{of}
+use Rattle.detection.specs.Slots.{signal_bits}
+use Rattle.detection.specs.Slots.Signal.{FlagSlot}
+use Rattle.lapm_frames.specs.declared.frame.Frame.{Frame}
+use Rattle.lapm_frames.specs.Frame.{has_number, spelled}
+use Rattle.lapm_frames.specs.declared.sent.Sent.{Sent}
+use Rattle.lapm_frames.specs.declared.sent.Sent.TheVariants as slots
+use Rattle.lapm_frames.specs.declared.heard.Heard.{Heard}
+use Rattle.xid_params.specs.declared.terms.Terms.{Terms}
+use Rattle.noise_script.specs.Script.{delay_of, loses}
+use Rattle.sample_line.specs.Signals.{signal_of}
+use Rattle.sample_line.specs.Recorded.{Records}
+use Rattle.sample_line.specs.Outcomes.{IsOutcome}
+use Rattle.sample_line.specs.Path.{LosesAt}
+use Rattle.link_run.specs.Run.{Spoken, Side, Turn}
+use Rattle.link_run.specs.Carried.{sent_in, sent_ago}
+use Rattle.link_run.specs.Laws.{given_in, given_breaks}
+use Rattle.link_run.specs.Overheard.{passes_in, has_passed, is_xid, opens}
+use Rattle.link_run.specs.Trace.{side_line, turn_text, trace_text}
+use Rattle.link_run.specs.Listened.{check_by, judged_by, taking_in, received, given_by, given_to}
+use Rattle.line_run.specs.Sampled.{Channel, signal_in, and_then, signals, signals_before, bits_of, bits_before, ArrivesAs, IsHeardOf, IsHeardWell, HeardIn, LosesLine}
+use Rattle.line_tap.specs.Tapping.{told}
+
+-- a slot, an end in a turn, a turn, as the line tells them
+abbrev pub plain_slot : Check → Spoken → Spoken
+plain_slot check slot = told check slot.sent
+
+abbrev pub plain_side : Check → Side → Side
+plain_side check s = record { heard = s.heard; check = s.check; sent = option_map (plain_slot check) s.sent; given = s.given }
+
+abbrev pub plain : Check → Turn → Turn
+plain check t = record { orig = plain_side check t.orig; answ = plain_side check t.answ }
+
+abbrev pub plains : Check → List Turn → List Turn
+plains check ts = map (plain check) ts
+
+pub plain-heard : (check : Check) (role : Role) (t : Turn) → (of role (plain check t)).heard ≡ (of role t).heard
+plain-heard check Originator t = refl
+plain-heard check Answerer t = refl
+
+pub plain-check : (check : Check) (role : Role) (t : Turn) → (of role (plain check t)).check ≡ (of role t).check
+plain-check check Originator t = refl
+plain-check check Answerer t = refl
+
+pub plain-given : (check : Check) (role : Role) (t : Turn) → (of role (plain check t)).given ≡ (of role t).given
+plain-given check Originator t = refl
+plain-given check Answerer t = refl
+
+pub plain-sent : (check : Check) (role : Role) (t : Turn) → (of role (plain check t)).sent ≡ option_map (plain_slot check) (of role t).sent
+plain-sent check Originator t = refl
+plain-sent check Answerer t = refl
+
+-- what passed, what was taken and given, and the trace are the same
+plain-passed : (is : Frame → Bool) (check : Check) (role : Role) (ts : List Turn) → has_passed is role (plains check ts) ≡ has_passed is role ts
+plain-passed is check role [] = refl
+plain-passed is check role (t ∷ ts) =
+    ap (λ h. passes_in is h || has_passed is role (plains check ts)) (plain-heard check role t)
+    ∙ ap (λ b. passes_in is (of role t).heard || b) (plain-passed is check role ts)
+
+pub plain-judged : (terms : Terms) (check : Check) (role : Role) (ts : List Turn)
+    → judged_by terms role (plains check ts) ≡ judged_by terms role ts
+plain-judged terms check role ts = ap (λ b. cond b (check_by terms) Sixteen) (plain-passed is_xid check role ts)
+
+pub plain-received : (terms : Terms) (check : Check) (role : Role) (ts : List Turn)
+    → received terms role (plains check ts) ≡ received terms role ts
+plain-received terms check role [] = refl
+plain-received terms check role (t ∷ ts) =
+    ap (λ h. taking_in h (received terms role (plains check ts))) (plain-heard check role t)
+    ∙ ap (taking_in (of role t).heard) (plain-received terms check role ts)
+
+plain-breaks : (check : Check) (role : Role) (ts : List Turn) → given_breaks role (plains check ts) ≡ given_breaks role ts
+plain-breaks check role [] = refl
+plain-breaks check role (t ∷ ts) =
+    ap (λ g. given_breaks role (plains check ts) ++ given_in g) (plain-given check role t)
+    ∙ ap (λ l. l ++ given_in (of role t).given) (plain-breaks check role ts)
+
+pub plain-given_to : (check : Check) (role : Role) (ts : List Turn) (h : Heard) → given_to role (plains check ts) h ≡ given_to role ts h
+plain-given_to check role ts h =
+    ap (λ b. given_by b h (given_breaks role (plains check ts))) (plain-passed (opens role) check role ts)
+    ∙ ap (given_by (has_passed (opens role) role ts) h) (plain-breaks check role ts)
+
+plain-line : (check : Check) (turn : ℕ) (role : Role) (s : Side) → side_line turn role (plain_side check s) ≡ side_line turn role s
+plain-line check turn role s = go s.sent refl
+  where
+    go : (o : Option Spoken) → s.sent ≡ o → side_line turn role (plain_side check s) ≡ side_line turn role s
+    go None e = rw e refl
+    go (Some slot) e = rw e refl
+
+pub plain-text : (check : Check) (ts : List Turn) → trace_text (plains check ts) ≡ trace_text ts
+plain-text check [] = refl
+plain-text check (t ∷ ts) =
+    ap (λ n. trace_text (plains check ts) ++ turn_text n (plain check t)) (length-map ts (plain check))
+    ∙ ap (λ l. trace_text (plains check ts) ++ (l ++ side_line (length ts) Answerer (plain_side check t.answ)))
+    (plain-line check (length ts) Originator t.orig)
+    ∙ ap (λ l. trace_text (plains check ts) ++ (side_line (length ts) Originator t.orig ++ l)) (plain-line check (length ts) Answerer t.answ)
+    ∙ ap (λ l. l ++ turn_text (length ts) t) (plain-text check ts)
+
+-- ---- the slots, where each frame with numbers has that check
+
+abbrev pub HasCheck : Check → Option Spoken → Type 0
+HasCheck check o = (slot : Spoken) (frame : Frame) → o ≡ Some slot → slot.sent ≡ slots.Frame frame → has_number frame ≡ true
+    → slot.check ≡ check
+
+abbrev pub AllChecked : Check → Role → List Turn → Type 0
+AllChecked check role [] = Unit {0}
+AllChecked check role (t ∷ ts) = HasCheck check (of role t).sent × AllChecked check role ts
+
+checked-drop : (check : Check) (role : Role) (n : ℕ) (ts : List Turn) → AllChecked check role ts → AllChecked check role (drop n ts)
+checked-drop check role zero ts h = h
+checked-drop check role (suc n) [] h = tt
+checked-drop check role (suc n) (t ∷ ts) h = checked-drop check role n ts h.1
+
+pub plain-signal : (check own : Check) (role : Role) (dlci : ℕ) (s : Sent)
+    → ((frame : Frame) → s ≡ slots.Frame frame → has_number frame ≡ true → own ≡ check)
+    → signal_of check role dlci s ≡ signal_of own role dlci s
+plain-signal check own role dlci slots.Mark h = refl
+plain-signal check own role dlci slots.Odp h = refl
+plain-signal check own role dlci slots.Adp h = refl
+plain-signal check own role dlci slots.Flags h = refl
+plain-signal check own role dlci (slots.Frame frame) h =
+    ap (λ k. FlagSlot (Some (with_check k (spelled frame role dlci)))) (go (has_number frame) refl)
+  where
+    go : (b : Bool) → has_number frame ≡ b → cond b check Sixteen ≡ cond b own Sixteen
+    go true e = sym (h frame refl e)
+    go false e = refl
+
+plain-signal_in : (c : Channel) (check : Check) (role : Role) (o : Option Spoken) → HasCheck check o
+    → signal_in c role (option_map (plain_slot check) o) ≡ signal_in c role o
+plain-signal_in c check role None h = refl
+plain-signal_in c check role (Some slot) h =
+    ap (λ x. x ∷ []) (plain-signal check slot.check role c.dlci slot.sent (λ frame e n. h slot frame refl e n))
+
+-- nothing else goes beside as many turns
+before-by : (c : Channel) (check : Check) (role : Role) (ts : List Turn) → signals c role (plains check ts) ≡ signals c role ts
+    → signals_before c role (plains check ts) ≡ signals_before c role ts
+before-by c check role ts e =
+    ap (λ n. and_then (signals c role (plains check ts)) (c.beside role n)) (length-map ts (plain check))
+    ∙ ap (λ l. and_then l (c.beside role (length ts))) e
+
+pub plain-signals : (c : Channel) (check : Check) (role : Role) (ts : List Turn) → AllChecked check role ts
+    → signals c role (plains check ts) ≡ signals c role ts
+plain-signals c check role [] h = refl
+plain-signals c check role (t ∷ ts) h =
+    ap (λ o. signals_before c role (plains check ts) ++ signal_in c role o) (plain-sent check role t)
+    ∙ ap (λ l. signals_before c role (plains check ts) ++ l) (plain-signal_in c check role (of role t).sent h.0)
+    ∙ ap (λ l. l ++ signal_in c role (of role t).sent) (before-by c check role ts (plain-signals c check role ts h.1))
+
+pub plain-bits : (c : Channel) (check : Check) (role : Role) (ts : List Turn) → AllChecked check role ts
+    → bits_of c role (plains check ts) ≡ bits_of c role ts
+plain-bits c check role ts h = ap (signal_bits (4 * c.symbols)) (plain-signals c check role ts h)
+
+bits-dropped : (c : Channel) (check : Check) (role : Role) (n : ℕ) (ts : List Turn) → AllChecked check role ts
+    → bits_of c role (drop n (plains check ts)) ≡ bits_of c role (drop n ts)
+bits-dropped c check role n ts h =
+    ap (bits_of c role) (drop-map (plain check) n ts) ∙ plain-bits c check role (drop n ts) (checked-drop check role n ts h)
+
+before-dropped : (c : Channel) (check : Check) (role : Role) (n : ℕ) (ts : List Turn) → AllChecked check role ts
+    → bits_before c role (drop n (plains check ts)) ≡ bits_before c role (drop n ts)
+before-dropped c check role n ts h =
+    ap (bits_before c role) (drop-map (plain check) n ts)
+    ∙ ap (signal_bits (4 * c.symbols))
+    (before-by c check role (drop n ts) (plain-signals c check role (drop n ts) (checked-drop check role n ts h)))
+
+length-dropped : (check : Check) (n : ℕ) (ts : List Turn) → length (drop n (plains check ts)) ≡ length (drop n ts)
+length-dropped check n ts = ap length (drop-map (plain check) n ts) ∙ length-map (drop n ts) (plain check)
+
+plain-in : (check : Check) (role : Role) (o : Option Turn)
+    → sent_in role (option_map (plain check) o) ≡ option_map (plain_slot check) (sent_in role o)
+plain-in check role None = refl
+plain-in check role (Some t) = plain-sent check role t
+
+plain-ago : (check : Check) (d : ℕ) (role : Role) (ts : List Turn)
+    → sent_ago d role (plains check ts) ≡ option_map (plain_slot check) (sent_ago d role ts)
+plain-ago check d role ts = ap (sent_in role) (slice_get-map (plain check) ts (d - 1)) ∙ plain-in check role (slice_get ts (d - 1))
+
+-- ---- what is heard of them
+
+arrives-plain : (c : Channel) (check : Check) (sender : Role) (earlier upto others later : List Turn) (hearing : Check) (o : Option Spoken)
+    (heard : Heard) → bits_before c sender others ≡ bits_before c sender earlier → bits_of c sender later ≡ bits_of c sender upto
+    → length others ≡ length earlier
+    → ArrivesAs c sender earlier upto hearing o heard → ArrivesAs c sender others later hearing (option_map (plain_slot check) o) heard
+arrives-plain c check sender earlier upto others later hearing None heard b u n h = h
+arrives-plain c check sender earlier upto others later hearing (Some slot) heard b u n h = record {
+  before = h.before;
+  samples = h.samples;
+  recorded_before = subst (λ xs. Records c.script sender xs h.before) (sym b) h.recorded_before;
+  recorded = subst (λ xs. Records c.script sender xs h.samples) (sym u) h.recorded;
+  not_lost = h.not_lost;
+  octets = h.octets;
+  patterns = h.patterns;
+  received = h.received;
+  outcome = subst (λ m. IsOutcome (loses c.script sender m) sender c.dlci slot.sent h.octets h.patterns heard) (sym n) h.outcome;
+}
+
+pub heard_of-plain : (c : Channel) (check : Check) (sender : Role) (ts : List Turn) (hearing : Check) (heard : Heard)
+    → AllChecked check sender ts → IsHeardOf c sender ts hearing heard → IsHeardOf c sender (plains check ts) hearing heard
+heard_of-plain c check sender ts hearing heard a h =
+    let d = delay_of c.script sender in
+    subst (λ o. ArrivesAs c sender (drop d (plains check ts)) (drop (d - 1) (plains check ts)) hearing o heard)
+    (sym (plain-ago check d sender ts))
+    (arrives-plain c check sender (drop d ts) (drop (d - 1) ts) (drop d (plains check ts)) (drop (d - 1) (plains check ts)) hearing
+    (sent_ago d sender ts) heard (before-dropped c check sender d ts a) (bits-dropped c check sender (d - 1) ts a)
+    (length-dropped check d ts) h)
+
+pub well-plain : (c : Channel) (check : Check) (sender : Role) (ts : List Turn) (hearing : Check) → AllChecked check sender ts
+    → IsHeardWell c sender ts hearing → IsHeardWell c sender (plains check ts) hearing
+well-plain c check sender ts hearing a h =
+    record { heard = h.heard; is = heard_of-plain c check sender ts hearing h.heard a h.is; well = h.well }
+
+pub heard_in-plain : (c : Channel) (check : Check) (ts : List Turn) (t : Turn) → ((role : Role) → AllChecked check role ts) → HeardIn c ts t
+    → HeardIn c (plains check ts) (plain check t)
+heard_in-plain c check ts t a h Originator = record {
+  heard_of = heard_of-plain c check Answerer ts t.orig.check t.orig.heard (a Answerer) (h Originator).heard_of;
+  well = (h Originator).well;
+}
+heard_in-plain c check ts t a h Answerer = record {
+  heard_of = heard_of-plain c check Originator ts t.answ.check t.answ.heard (a Originator) (h Answerer).heard_of;
+  well = (h Answerer).well;
+}
+
+some-plain : (check : Check) (o : Option Spoken) → is_some (option_map (plain_slot check) o) ≡ is_some o
+some-plain check None = refl
+some-plain check (Some slot) = refl
+
+pub loses-plain : (c : Channel) (check : Check) (sender : Role) (ts : List Turn) (symbol : ℕ) → AllChecked check sender ts
+    → LosesLine c sender ts symbol → LosesLine c sender (plains check ts) symbol
+loses-plain c check sender ts symbol a h =
+    let d = delay_of c.script sender in
+    record {
+      arrives = ap is_some (plain-ago check d sender ts) ∙ some-plain check (sent_ago d sender ts) ∙ h.arrives;
+      loses = subst (λ xs. LosesAt sender c.script xs symbol) (sym (bits-dropped c check sender (d - 1) ts a)) h.loses;
+    }

@@ -1,0 +1,106 @@
+-- Samples that are points, one after another.
+use Rattle.std.proofs.Common.{◌≡◌, ◌∙◌, inl, inr, ℕ, zero, suc, ◌+◌, ◌*◌, ◌<◌, ◌≤◌, Bool, List, [], ◌∷◌, ◌++◌, length, take, map, slice_index, refl, sym, ap, subst, arith, length-append, append-nil}
+use Rattle.std.proofs.lemmas.Bool.{cases_lt}
+use Rattle.std.proofs.lemmas.List.{append_assoc, map-append}
+use Rattle.std.proofs.lemmas.List.Elements.{All-append, All-cons, All-nil, All-head, All-tail}
+use Rattle.scramblers.specs.declared.mode.Mode.{Mode}
+use Rattle.symbol_map.specs.declared.sample.Sample.{Sample}
+use Rattle.symbol_map.specs.Points.{point_of}
+use Rattle.plain_lists.specs.Bits.{low_bits}
+use Rattle.bit_stuffing.specs.BitSlot.{line_bits}
+use Rattle.std.proofs.lemmas.Grind.{flat_map-append}
+use Rattle.line_coding.specs.declared.demodulator.Demodulator.{Demodulator}
+use Rattle.line_coding.specs.Demodulates.{DemodulatorStands}
+use Rattle.recordings.specs.Samples.{samples_in, sample_at, sample_of}
+use Rattle.line_tap.specs.Labels.{AreLabels, ReadsLabels}
+
+pub none-next : (n : ℕ) (s : Sample) → ((label : ℕ) → label < n → point_of label ≡ s → ⊥) → (point_of n ≡ s → ⊥)
+    → (label : ℕ) → label < n + 1 → point_of label ≡ s → ⊥
+none-next n s h k label low e =
+    elim (cases_lt label n) [
+      | inl less ↦ h label less e
+      | inr last ↦ let same : label ≡ n = omega (arith, low, last) in k (sym (ap point_of same) ∙ e)
+    ]
+
+pub reads-none : (d : Demodulator) → ReadsLabels d d [] []
+reads-none d = record {
+  labels = [];
+  are = (All-nil (λ label. label < 32), refl);
+  count = refl;
+  stands = λ mode before bits h. subst (λ xs. DemodulatorStands mode d xs (bits ++ [])) (sym (append-nil before))
+      (subst (DemodulatorStands mode d before) (sym (append-nil bits)) h);
+}
+
+pub reads-more : (old mid new : Demodulator) (samples : List Sample) (quads : List ℕ) (sample : Sample) (label quad : ℕ) → label < 32
+    → point_of label ≡ sample
+    → ((mode : Mode) (before : List ℕ) (bits : List Bool) → DemodulatorStands mode mid before bits
+    → DemodulatorStands mode new (before ++ label ∷ []) (bits ++ low_bits 4 quad))
+    → ReadsLabels old mid samples quads → ReadsLabels old new (samples ++ sample ∷ []) (quads ++ quad ∷ [])
+reads-more old mid new samples quads sample label quad low e step h = record {
+  labels = h.labels ++ label ∷ [];
+  are = (
+    All-append (λ l. l < 32) h.labels (label ∷ []) h.are.0 (All-cons (λ l. l < 32) label [] low (All-nil (λ l. l < 32))),
+    map-append point_of h.labels (label ∷ []) ∙ ap (λ xs. xs ++ point_of label ∷ []) h.are.1 ∙ ap (λ s. samples ++ s ∷ []) e,
+  );
+  count = (let a = length-append quads (quad ∷ []) in
+      let b = length-append samples (sample ∷ []) in
+      omega (arith, a, b, h.count));
+  stands = λ mode before bits k.
+      let here = step mode (before ++ h.labels) (bits ++ line_bits quads) (h.stands mode before bits k) in
+      let tail : line_bits (quad ∷ []) ≡ low_bits 4 quad = append-nil (low_bits 4 quad) in
+      subst (λ xs. DemodulatorStands mode new xs (bits ++ line_bits (quads ++ quad ∷ []))) (append_assoc before h.labels (label ∷ []))
+      (subst (DemodulatorStands mode new ((before ++ h.labels) ++ label ∷ []))
+      (append_assoc bits (line_bits quads) (low_bits 4 quad)
+      ∙ ap (λ xs. bits ++ (line_bits quads ++ xs)) (sym tail)
+      ∙ ap (λ xs. bits ++ xs) (sym (flat_map-append (low_bits 4) quads (quad ∷ [])))) here);
+}
+
+-- the samples of whole octets, and each of them
+pub count-samples : (n : ℕ) (octets : List ℕ) → length octets ≡ 4 * n → length (samples_in octets) ≡ n
+count-samples zero [] e = refl
+count-samples zero (a ∷ octets) e = absurd (omega (arith, e))
+count-samples (suc n) [] e = absurd (omega (arith, e))
+count-samples (suc n) (a ∷ []) e = absurd (omega (arith, e))
+count-samples (suc n) (a ∷ b ∷ []) e = absurd (omega (arith, e))
+count-samples (suc n) (a ∷ b ∷ c ∷ []) e = absurd (omega (arith, e))
+count-samples (suc n) (a ∷ b ∷ c ∷ d ∷ octets) e = ap suc (count-samples n octets (omega (arith, e)))
+
+next-at : (a b c d n : ℕ) (octets : List ℕ) → sample_at (a ∷ b ∷ c ∷ d ∷ octets) (suc n) ≡ sample_at octets n
+next-at a b c d n octets =
+    let all : List ℕ = a ∷ b ∷ c ∷ d ∷ octets in
+    let zeroth : 4 * suc n ≡ suc (suc (suc (suc (4 * n)))) = omega arith in
+    let one : 4 * suc n + 1 ≡ suc (suc (suc (suc (4 * n + 1)))) = omega arith in
+    let two : 4 * suc n + 2 ≡ suc (suc (suc (suc (4 * n + 2)))) = omega arith in
+    let three : 4 * suc n + 3 ≡ suc (suc (suc (suc (4 * n + 3)))) = omega arith in
+    λ i. sample_of (slice_index all (zeroth i)) (slice_index all (one i)) (slice_index all (two i)) (slice_index all (three i))
+
+pub one-more : (n : ℕ) (octets : List ℕ) → 4 * n + 4 ≤ length octets
+    → take (n + 1) (samples_in octets) ≡ take n (samples_in octets) ++ sample_at octets n ∷ []
+one-more n [] h = absurd (omega (arith, h))
+one-more n (a ∷ []) h = absurd (omega (arith, h))
+one-more n (a ∷ b ∷ []) h = absurd (omega (arith, h))
+one-more n (a ∷ b ∷ c ∷ []) h = absurd (omega (arith, h))
+one-more zero (a ∷ b ∷ c ∷ d ∷ octets) h = refl
+one-more (suc n) (a ∷ b ∷ c ∷ d ∷ octets) h =
+    let m : suc n + 1 ≡ suc (n + 1) = omega arith in
+    ap (λ k. take k (sample_of a b c d ∷ samples_in octets)) m
+    ∙ ap (λ xs. sample_of a b c d ∷ xs) (one-more n octets (omega (arith, h)))
+    ∙ ap (λ s. sample_of a b c d ∷ (take n (samples_in octets) ++ s ∷ [])) (sym (next-at a b c d n octets))
+
+-- where one of the samples is no point there are no labels
+pub no-labels : (n : ℕ) (octets : List ℕ) → 4 * n + 4 ≤ length octets
+    → ((label : ℕ) → label < 32 → point_of label ≡ sample_at octets n → ⊥) → (labels : List ℕ) → AreLabels labels (samples_in octets) → ⊥
+no-labels n [] h none labels k = absurd (omega (arith, h))
+no-labels n (a ∷ []) h none labels k = absurd (omega (arith, h))
+no-labels n (a ∷ b ∷ []) h none labels k = absurd (omega (arith, h))
+no-labels n (a ∷ b ∷ c ∷ []) h none labels k = absurd (omega (arith, h))
+no-labels n (a ∷ b ∷ c ∷ d ∷ octets) h none [] k = let e : [] ≡ sample_of a b c d ∷ samples_in octets = k.1 in absurd cc
+no-labels zero (a ∷ b ∷ c ∷ d ∷ octets) h none (label ∷ labels) k =
+    let e : point_of label ∷ map point_of labels ≡ sample_of a b c d ∷ samples_in octets = k.1 in
+    let first : point_of label ≡ sample_of a b c d = cc in
+    none label (All-head (λ l. l < 32) label labels k.0) first
+no-labels (suc n) (a ∷ b ∷ c ∷ d ∷ octets) h none (label ∷ labels) k =
+    let e : point_of label ∷ map point_of labels ≡ sample_of a b c d ∷ samples_in octets = k.1 in
+    let rest : map point_of labels ≡ samples_in octets = cc in
+    no-labels n octets (omega (arith, h)) (λ l low same. none l low (same ∙ sym (next-at a b c d n octets))) labels
+    (All-tail (λ l. l < 32) label labels k.0, rest)

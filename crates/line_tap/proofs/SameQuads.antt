@@ -1,0 +1,86 @@
+-- Quads and their bits: each tells the other.
+use Rattle.std.proofs.Common.{◌≡◌, ◌∙◌, ℕ, zero, suc, ◌<◌, Bool, true, nat_eq, List, [], ◌∷◌, ◌++◌, length, slice_index, All, refl, sym, ap, arith}
+use Rattle.std.proofs.lemmas.List.Elements.{All-head, All-tail}
+use Rattle.std.proofs.lemmas.Bool.{eqb-true, false≢true}
+use Rattle.plain_lists.specs.Bits.{low_bits, number_of}
+use Rattle.bit_stuffing.specs.BitSlot.{line_bits}
+use Rattle.bit_stuffing.proofs.Written.{length-line_bits}
+use Rattle.symbol_map.specs.Finite.{each_below, at_each}
+use Rattle.lapm_frames.specs.declared.seen.Seen.TheVariants as seen
+use Rattle.lapm_frames.specs.declared.sent.Sent.{Sent}
+use Rattle.lapm_frames.specs.declared.sent.Sent.TheVariants as sent
+use Rattle.detection.specs.Patterns.{ones}
+use Rattle.detection.specs.Slots.{pattern_bits}
+use Rattle.line_tap.specs.Reading.{is_plain, plain_bits}
+
+abbrev comes_back : ℕ → Bool
+comes_back quad = nat_eq (number_of (low_bits 4 quad)) quad
+
+comes_back-test : each_below 16 comes_back ≡ true
+comes_back-test = refl
+
+back : (quad : ℕ) → quad < 16 → number_of (low_bits 4 quad) ≡ quad
+back quad low = eqb-true (number_of (low_bits 4 quad)) quad (at_each 16 comes_back comes_back-test quad low)
+
+same-quad : (a b : ℕ) → a < 16 → b < 16 → low_bits 4 a ≡ low_bits 4 b → a ≡ b
+same-quad a b low few e = sym (back a low) ∙ ap number_of e ∙ back b few
+
+-- two halves of equal lengths
+halves : (p q r s : List Bool) → length p ≡ length q → p ++ r ≡ q ++ s → (p ≡ q) × (r ≡ s)
+halves [] [] r s same e = (refl, e)
+halves [] (y ∷ q) r s same e = absurd (omega (arith, same))
+halves (x ∷ p) [] r s same e = absurd (omega (arith, same))
+halves (x ∷ p) (y ∷ q) r s same e =
+    let first : x ≡ y = cc in
+    let rest : p ++ r ≡ q ++ s = cc in
+    let on = halves p q r s (omega (arith, same)) rest in
+    (ap (λ z. z ∷ p) first ∙ ap (λ zs. y ∷ zs) on.0, on.1)
+
+four-at : (n : ℕ) (a b : List ℕ) → n < length a → n < length b → line_bits a ≡ line_bits b
+    → low_bits 4 (slice_index a n) ≡ low_bits 4 (slice_index b n)
+four-at n [] b h k e = absurd (omega (arith, h))
+four-at n (x ∷ a) [] h k e = absurd (omega (arith, k))
+four-at zero (x ∷ a) (y ∷ b) h k e =
+    let all : low_bits 4 x ++ line_bits a ≡ low_bits 4 y ++ line_bits b = e in
+    (halves (low_bits 4 x) (low_bits 4 y) (line_bits a) (line_bits b) refl all).0
+four-at (suc n) (x ∷ a) (y ∷ b) h k e =
+    let all : low_bits 4 x ++ line_bits a ≡ low_bits 4 y ++ line_bits b = e in
+    four-at n a b (omega (arith, h)) (omega (arith, k)) (halves (low_bits 4 x) (low_bits 4 y) (line_bits a) (line_bits b) refl all).1
+
+-- a quad that differs
+pub quads-differ : (n : ℕ) (a b : List ℕ) → n < length a → n < length b → slice_index a n < 16 → slice_index b n < 16
+    → (slice_index a n ≡ slice_index b n → ⊥) → line_bits a ≡ line_bits b → ⊥
+quads-differ n a b h k low few differ e = differ (same-quad (slice_index a n) (slice_index b n) low few (four-at n a b h k e))
+
+-- or another count
+pub counts-differ : (a b : List ℕ) → (length a ≡ length b → ⊥) → line_bits a ≡ line_bits b → ⊥
+counts-differ a b differ e =
+    let same : length (line_bits a) ≡ length (line_bits b) = ap length e in
+    differ (omega (arith, same, length-line_bits a, length-line_bits b))
+
+-- three slots that it isn't
+pub none-plain : (size : ℕ) (bits : List Bool) → (bits ≡ ones size → ⊥) → (bits ≡ pattern_bits size seen.Odp → ⊥)
+    → (bits ≡ pattern_bits size seen.Adp → ⊥) → (s : Sent) → is_plain s ≡ true → bits ≡ plain_bits size s → ⊥
+none-plain size bits a b c sent.Mark e k = a k
+none-plain size bits a b c sent.Odp e k = b k
+none-plain size bits a b c sent.Adp e k = c k
+none-plain size bits a b c sent.Flags e k = false≢true e
+none-plain size bits a b c (sent.Frame frame) e k = false≢true e
+
+-- quads of one list of bits are one
+pub quads-once : (a b : List ℕ) → All (λ quad. quad < 16) a → All (λ quad. quad < 16) b → line_bits a ≡ line_bits b → a ≡ b
+quads-once [] [] h k e = refl
+quads-once [] (y ∷ b) h k e =
+    let none : length (line_bits []) ≡ length (line_bits (y ∷ b)) = ap length e in
+    absurd (omega (arith, none, length-line_bits (y ∷ b)))
+quads-once (x ∷ a) [] h k e =
+    let none : length (line_bits (x ∷ a)) ≡ length (line_bits []) = ap length e in
+    absurd (omega (arith, none, length-line_bits (x ∷ a)))
+quads-once (x ∷ a) (y ∷ b) h k e =
+    let all : low_bits 4 x ++ line_bits a ≡ low_bits 4 y ++ line_bits b = e in
+    let parts = halves (low_bits 4 x) (low_bits 4 y) (line_bits a) (line_bits b) refl all in
+    let first : x ≡ y =
+    same-quad x y (All-head (λ quad. quad < 16) x a h) (All-head (λ quad. quad < 16) y b k) parts.0 in
+    let rest : a ≡ b =
+    quads-once a b (All-tail (λ quad. quad < 16) x a h) (All-tail (λ quad. quad < 16) y b k) parts.1 in
+    rw (first, rest) refl

@@ -1,0 +1,41 @@
+-- A frame that octets spell can be sent.
+use Rattle.std.proofs.Common.{ℕ, ◌<◌, Bool, List, ◌∷◌, ◌++◌, length, Option, Some, None, Result, Ok, Err, subst}
+use Rattle.std.specs.Prelude.{IfOk}
+use Rattle.std.specs.Result.{result_ok}
+use Rattle.std.proofs.Math.Seq.{take-append_seam}
+use Rattle.std.proofs.lemmas.List.Elements.{All-take, All-tail}
+use Rattle.plain_lists.specs.Octets.{AreOctets}
+use Rattle.frame_check.specs.declared.check.Check.{Check}
+use Rattle.roles.specs.declared.role.Role.{Role}
+use Rattle.lapm_frames.specs.declared.fault.CheckedFault.{CheckedFault}
+use Rattle.lapm_frames.specs.declared.frame.Frame.{Frame}
+use Rattle.lapm_frames.specs.declared.sent.Sent.TheVariants as sent
+use Rattle.lapm_frames.specs.Parts.{parts_of}
+use Rattle.lapm_frames.specs.Frame.{address_of, control_octet, information_of, numbered, numbers_before, spelled, tail_octets}
+use Rattle.lapm_frames.specs.Checked.{SpellsFrame}
+use Rattle.lapm_frames.specs.Sendable.{IsSendable}
+use Rattle.line_tap.specs.Seeking.{CanBeSent}
+
+front-octets : (a b : List ℕ) → AreOctets (a ++ b) → AreOctets a
+front-octets a b h = subst AreOctets (take-append_seam a b) (All-take (λ octet. octet < 256) (length a) (a ++ b) h)
+
+info-octets : (nr : Option ℕ) (pf : Bool) (info : List ℕ) → AreOctets (numbers_before nr pf info) → AreOctets info
+info-octets None pf info h = h
+info-octets (Some nr) pf info h = All-tail (λ octet. octet < 256) (numbered nr pf) info h
+
+pub spells-sendable : (check : Check) (sender : Role) (dlci : ℕ) (whole : List ℕ) (frame : Frame) → AreOctets whole
+    → SpellsFrame check sender dlci whole frame → IsSendable (sent.Frame frame)
+spells-sendable check sender dlci whole frame small h =
+    let front : AreOctets h.octets = front-octets h.octets h.passes.check_octets (subst AreOctets h.passes.whole_is small) in
+    let all : AreOctets (spelled frame sender dlci) = subst AreOctets h.spelling.1 front in
+    let address : ℕ = address_of (parts_of frame).command sender dlci in
+    let behind : AreOctets (control_octet (parts_of frame) ∷ tail_octets (parts_of frame)) =
+    All-tail (λ octet. octet < 256) address (control_octet (parts_of frame) ∷ tail_octets (parts_of frame)) all in
+    let tail : AreOctets (tail_octets (parts_of frame)) =
+    All-tail (λ octet. octet < 256) (control_octet (parts_of frame)) (tail_octets (parts_of frame)) behind in
+    (h.spelling.0, info-octets (parts_of frame).nr (parts_of frame).pf (information_of frame) tail)
+
+pub ok-sendable : (check : Check) (sender : Role) (dlci : ℕ) (whole : List ℕ) (r : Result Frame CheckedFault) → AreOctets whole
+    → IfOk r (SpellsFrame check sender dlci whole) → CanBeSent (result_ok r)
+ok-sendable check sender dlci whole (Ok frame) small h = spells-sendable check sender dlci whole frame small h
+ok-sendable check sender dlci whole (Err fault) small h = tt

@@ -1,0 +1,16 @@
+use Rattle.std.proofs.Common.{◌∙◌, ◌<◌, ap, sym, subst, arith}
+use Rattle.std.proofs.lemmas.List.Elements.{All-from_get_or}
+use Rattle.std.specs.Result.{result_ok}
+use Rattle.line_tap.specs.Seeking.{CanBeSent}
+use Rattle.line_tap.proofs.SentFrames.{ok-sendable}
+use Rattle.line_tap.proofs.seeker.frame_of.Goals as goal
+
+pub returns-clause-all : goal.returns-clause-all
+returns-clause-all c = λ frame k. c.ok.ensures.value ∙ ap result_ok (c.read_checked.ensures.all frame k)
+
+pub returns-clause-sendable : goal.returns-clause-sendable
+returns-clause-sendable c =
+    subst CanBeSent (sym c.ok.ensures.value)
+    (ok-sendable c.args.sender.check c.args.sender.role c.args.sender.dlci c.args.octets.now c.read_checked.result
+    (All-from_get_or (λ octet. octet < 256) c.args.octets.now 0 (λ i within. omega (arith, c.type_inv.octets i)))
+    c.read_checked.ensures.ok)

@@ -1,0 +1,45 @@
+-- For which past a reader of slots stands, and what it reads.
+use Rattle.std.specs.Prelude.{◌≡◌, ℕ, ◌*◌, List, [], ◌∷◌, ◌++◌}
+use Rattle.roles.specs.Role.{mode_of}
+use Rattle.scramblers.specs.Mode.{tap_of}
+use Rattle.symbol_map.specs.declared.sample.Sample.{Sample}
+use Rattle.bit_stuffing.specs.BitSlot.{line_bits}
+use Rattle.bit_stuffing.specs.Deframer.{DeframerStands}
+use Rattle.detection.specs.Slots.{Signal, signal_bits}
+use Rattle.line_coding.specs.Modulates.{Modulates, ModulatorStands}
+use Rattle.line_coding.specs.Demodulates.{DemodulatorStands}
+use Rattle.lapm_frames.specs.declared.sent.Sent.{Sent}
+use Rattle.noise_script.specs.Script.{ScriptValue}
+use Rattle.sample_line.specs.Signals.{signal_of, IsCodable}
+use Rattle.sample_line.specs.Line.{Kept, LineStands, bits_behind}
+use Rattle.line_tap.specs.declared.reader.SlotReader.{SlotReader}
+use Rattle.line_tap.specs.Labels.{AreLabels}
+
+-- A reader has read these samples, which are those of these slots.
+pub record ReaderStands (reader : SlotReader) (sigs : List Signal) (samples : List Sample) : Type 0 where
+  pub labels : List ℕ
+  pub are : AreLabels labels samples
+  pub read : DemodulatorStands (mode_of reader.sender.role) reader.demodulator labels (signal_bits (4 * reader.symbols) sigs)
+  pub framed : DeframerStands reader.deframer (signal_bits (4 * reader.symbols) sigs)
+  pub made : ModulatorStands (mode_of reader.sender.role) reader.modulator (signal_bits (4 * reader.symbols) sigs) samples
+
+-- what a reader's slot of this carries
+abbrev pub carries : SlotReader → Sent → Signal
+carries reader s = signal_of reader.sender.check reader.sender.role reader.sender.dlci s
+
+-- These samples follow those that were read, and they are those of a slot in which this is sent.
+pub record IsNext (reader : SlotReader) (sigs : List Signal) (samples more : List Sample) (s : Sent) : Type 0 where
+  pub codable : IsCodable reader.sender.check reader.sender.role reader.sender.dlci reader.symbols reader.phase s
+  pub modulated : Modulates (tap_of (mode_of reader.sender.role))
+      (signal_bits (4 * reader.symbols) sigs ++ bits_behind (4 * reader.symbols) sigs (carries reader s)) (samples ++ more)
+
+-- The slot was read, and the line has coded it: reader and line stand for it too.
+pub record ReadsSlot (old new : SlotReader) (line : Kept) (script : ScriptValue) (passed waiting : List Signal)
+    (samples more : List Sample) (quads : List ℕ) (s : Sent) : Type 0 where
+  pub next : IsNext old (passed ++ waiting) samples more s
+  pub coded : line_bits quads ≡ bits_behind (4 * old.symbols) (passed ++ waiting) (carries old s)
+  pub sender : new.sender ≡ old.sender
+  pub symbols : new.symbols ≡ old.symbols
+  pub phase : new.phase ≡ line.writer.phase
+  pub stands : ReaderStands new ((passed ++ waiting) ++ carries old s ∷ []) (samples ++ more)
+  pub line_stands : LineStands line script passed (waiting ++ carries old s ∷ [])

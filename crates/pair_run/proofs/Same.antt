@@ -1,0 +1,254 @@
+-- What a link came to over a channel in so many rounds is one thing.
+use Rattle.std.proofs.Common.{◌≡◌, ◌≢◌, ◌⊎◌, inl, inr, ℕ, zero, suc, ◌<◌, List, [], ◌∷◌, length, arith, refl, sym, ◌∙◌, ap}
+use Rattle.std.proofs.Common.{subst}
+use Rattle.std.specs.List.{concat}
+use Rattle.roles.specs.declared.role.Role.{Role}
+use Rattle.roles.specs.declared.role.Role.TheVariants.{Originator, Answerer}
+use Rattle.roles.specs.Role.{other}
+use Rattle.roles.specs.Both.{of}
+use Rattle.causes.specs.declared.fault.LinkFault.{LinkFault}
+use Rattle.causes.specs.declared.fault.LinkFault.TheVariants as faults
+use Rattle.link_account.specs.Account.{check_of}
+use Rattle.link_run.specs.Run.{Link, Ends, Turn, Hears, GoingTurn, RunOf}
+use Rattle.link_run.specs.Outcomes.{Outcome, Going, Done, Broken, TurnIs}
+use Rattle.link_run.specs.Trace.{trace_text}
+use Rattle.link_run.specs.Laws.{heard_in, OneOutcome}
+use Rattle.line_run.specs.Sampled.{Channel, IsHeardOf, HeardIn, IsHeardOver, LineRun, LineEnd, EndsLine}
+use Rattle.line_run.specs.LineLaws.{HeardOnce, OneLineRun, EndsOrIsHeard}
+use Rattle.line_run.specs.Ends.{RunEnd, IsDone, LinkLost, NotDetected, LineLost, ChanceMatch, Left, Leaves, EndsBy}
+use Rattle.pair_run.specs.Pair.{Progress, Goes, Ended, last_ends, IsByLink, HearsIdly, HasEnded, Lasts}
+
+pub record SameLaws : Type 0 where
+  pub heard : HeardOnce
+  pub run : OneLineRun
+  pub either : EndsOrIsHeard
+  pub outcome : OneOutcome
+
+-- what both ends hear in a turn, by the checks that they had
+pub well-heard : (c : Channel) (ts : List Turn) (ends : Ends) (t : Turn) (mid : Ends) → Hears (length ts) ends t mid → HeardIn c ts t
+    → HearsIdly c ts ends
+well-heard c ts ends t mid h k role = record {
+  heard = (of role t).heard;
+  is = subst (λ z. IsHeardOf c (other role) ts z (of role t).heard) (h role).check_is (k role).heard_of;
+  well = (k role).well;
+}
+
+same-heard : (laws : SameLaws) (c : Channel) (ts : List Turn) (ends : Ends) (t u : Turn) (mid later : Ends)
+    → Hears (length ts) ends t mid → Hears (length ts) ends u later → HeardIn c ts t → HeardIn c ts u → heard_in t ≡ heard_in u
+same-heard laws c ts ends t u mid later h k p q =
+    ap (λ z. record { orig = z; answ = t.answ.heard }) (each Originator)
+    ∙ ap (λ z. record { orig = u.orig.heard; answ = z }) (each Answerer)
+  where
+    each : (role : Role) → (of role t).heard ≡ (of role u).heard
+    each role = laws.heard c (other role) ts (check_of (of role ends)) (of role t).heard (of role u).heard
+        (subst (λ z. IsHeardOf c (other role) ts z (of role t).heard) (h role).check_is (p role).heard_of)
+        (subst (λ z. IsHeardOf c (other role) ts z (of role u).heard) (k role).check_is (q role).heard_of)
+
+pub hearing-of : (link : Link) (ts : List Turn) (ends : Ends) (t : Turn) (mid : Ends) (o : Outcome) → TurnIs link ts ends t mid o
+    → Hears (length ts) ends t mid
+hearing-of link ts ends t mid Going h = subst (Hears (length ts) ends t) h.2 h.1.hearing
+hearing-of link ts ends t mid Done h = h.hearing
+hearing-of link ts ends t mid (Broken role fault) h = h.hearing
+
+-- one turn is made behind these, with one outcome
+same-turn : (laws : SameLaws) (c : Channel) (link : Link) (ts : List Turn) (ends : Ends) (t u : Turn) (mid later : Ends) (a b : Outcome)
+    → TurnIs link ts ends t mid a → TurnIs link ts ends u later b → HeardIn c ts t → HeardIn c ts u
+    → (t ≡ u) × (mid ≡ later) × (a ≡ b)
+same-turn laws c link ts ends t u mid later a b h k p q =
+    laws.outcome link ts ends t u mid later a b h k
+    (same-heard laws c ts ends t u mid later (hearing-of link ts ends t mid a h) (hearing-of link ts ends u later b k) p q)
+
+-- how a link ended, by its last turn
+abbrev pub named : ℕ → Outcome → RunEnd
+named turn Going = IsDone turn
+named turn Done = IsDone turn
+named turn (Broken role (faults.Spent segment since)) = LinkLost role segment turn
+named turn (Broken role fault) = NotDetected turn
+
+pub record LastTurnIs (c : Channel) (link : Link) (ts : List Turn) (before mid : Ends) (end : RunEnd) (left : Left) : Type 0 where
+  pub last : Turn
+  pub outcome : Outcome
+  pub heard : HeardIn c ts last
+  pub is : TurnIs link ts before last mid outcome
+  pub not_going : outcome ≢ Going
+  pub named_is : named (length ts) outcome ≡ end
+  pub leaves : Leaves mid (trace_text (last ∷ ts)) left
+
+kind : Outcome → ℕ
+kind Going = 0
+kind Done = 1
+kind (Broken role fault) = 2
+
+done-not : Done ≢ Going
+unfolding kind
+done-not e = omega (arith, ap kind e)
+
+broken-not : (role : Role) (fault : LinkFault) → Broken role fault ≢ Going
+unfolding kind
+broken-not role fault e = omega (arith, ap kind e)
+
+last-turn : (c : Channel) (link : Link) (ts : List Turn) (before : Ends) (end : RunEnd) (left : Left) → IsByLink end
+    → (e : EndsBy c link ts before end left) → LastTurnIs c link ts before (last_ends c link ts before end left e) end left
+last-turn c link ts before (IsDone turn) left b e = record {
+  last = e.last;
+  outcome = Done;
+  heard = e.heard;
+  is = e.is;
+  not_going = done-not;
+  named_is = ap IsDone (sym e.number);
+  leaves = e.leaves;
+}
+last-turn c link ts before (LinkLost role segment turn) left b e = record {
+  last = e.1.last;
+  outcome = Broken role (faults.Spent segment e.0);
+  heard = e.1.heard;
+  is = e.1.is;
+  not_going = broken-not role (faults.Spent segment e.0);
+  named_is = ap (LinkLost role segment) (sym e.1.number);
+  leaves = e.1.leaves;
+}
+last-turn c link ts before (NotDetected turn) left b e = record {
+  last = e.last;
+  outcome = Broken Originator faults.NotDetected;
+  heard = e.heard;
+  is = e.is;
+  not_going = broken-not Originator faults.NotDetected;
+  named_is = ap NotDetected (sym e.number);
+  leaves = e.leaves;
+}
+last-turn c link ts before (LineLost role symbol) left b e = absurd b
+last-turn c link ts before (ChanceMatch role turn) left b e = absurd b
+
+-- an ended link, by the turns before its last one
+pub record EndedIs (c : Channel) (link : Link) (ts : List Turn) (ends : Ends) (end : RunEnd) (left : Left) : Type 0 where
+  pub before : Ends
+  pub run : LineRun c link ts before
+  pub last : LastTurnIs c link ts before ends end left
+
+pub ended-is : (c : Channel) (link : Link) (rounds : ℕ) (ts : List Turn) (ends : Ends) (end : RunEnd) (left : Left)
+    → HasEnded c link rounds ts ends end left → EndedIs c link ts ends end left
+ended-is c link rounds ts ends end left h = record {
+  before = h.ran.ends;
+  run = subst (λ us. LineRun c link us h.ran.ends) h.turns_are h.ran.run;
+  last =
+      subst (λ us. LastTurnIs c link us h.ran.ends ends end left) h.turns_are
+      (subst (λ mid. LastTurnIs c link h.ran.turns h.ran.ends mid end left) h.ends_are
+      (last-turn c link h.ran.turns h.ran.ends end left h.by_link h.ran.ended));
+}
+
+-- what is left is told by its parts
+abbrev pub left_of : Ends → List ℕ → Left
+left_of ends text = record { got = record { orig = concat ends.orig.incoming.taken; answ = concat ends.answ.incoming.taken }; trace = text }
+
+pub left-is : (ends : Ends) (text : List ℕ) (left : Left) → Leaves ends text left → left ≡ left_of ends text
+left-is ends text left h =
+    ap (λ (z : List ℕ). record { got = record { orig = z; answ = left.got.answ }; trace = left.trace }) (h.got_is Originator)
+    ∙ ap (λ (z : List ℕ). record { got = record { orig = concat ends.orig.incoming.taken; answ = z }; trace = left.trace }) (h.got_is Answerer)
+    ∙ ap (λ (z : List ℕ). record { got = record { orig = concat ends.orig.incoming.taken; answ = concat ends.answ.incoming.taken }; trace = z })
+    h.trace_is
+
+-- the turn of that number in a longer run
+pub record Cut (c : Channel) (link : Link) (n : ℕ) : Type 0 where
+  pub turns : List Turn
+  pub before : Ends
+  pub count : length turns ≡ n
+  pub run : LineRun c link turns before
+  pub turn : Turn
+  pub after : Ends
+  pub going : GoingTurn link turns before turn after
+  pub heard : HeardIn c turns turn
+
+pub same-or-less : (m n : ℕ) → m < suc n → (n ≡ m) ⊎ (m < n)
+same-or-less zero zero l = inl refl
+same-or-less zero (suc n) l = inr (omega arith)
+same-or-less (suc m) zero l = absurd (omega (arith, l))
+same-or-less (suc m) (suc n) l = up (same-or-less m n (omega (arith, l)))
+  where
+    up : (n ≡ m) ⊎ (m < n) → (suc n ≡ suc m) ⊎ (suc m < suc n)
+    up (inl e) = inl (ap suc e)
+    up (inr k) = inr (omega (arith, k))
+
+cut : (c : Channel) (link : Link) (n : ℕ) (ts : List Turn) (ends : Ends) → RunOf link ts ends → IsHeardOver c ts → n < length ts
+    → Cut c link n
+cut c link n [] ends h k l = absurd (omega (arith, l))
+cut c link n (t ∷ ts) ends h k l = go (same-or-less n (length ts) l) (cut c link n ts h.0 h.1 k.1)
+  where
+    go : (length ts ≡ n) ⊎ (n < length ts) → (n < length ts → Cut c link n) → Cut c link n
+    go (inl e) f = record {
+      turns = ts;
+      before = h.0;
+      count = e;
+      run = record { run = h.1; heard = k.1 };
+      turn = t;
+      after = ends;
+      going = h.2;
+      heard = k.0;
+    }
+    go (inr e) f = f e
+
+-- a link that ended doesn't go on
+ended-stays : (laws : SameLaws) (c : Channel) (link : Link) (ts : List Turn) (ends : Ends) (end : RunEnd) (left : Left)
+    → EndedIs c link ts ends end left → (us : List Turn) (others : Ends) → LineRun c link us others → length ts < length us → ⊥
+ended-stays laws c link ts ends end left e us others r l =
+    let k : Cut c link (length ts) = cut c link (length ts) us others r.run r.heard l in
+    let same = laws.run c link k.turns ts k.before e.before k.count k.run e.run in
+    let there : LastTurnIs c link k.turns k.before ends end left =
+    subst (λ vs. LastTurnIs c link vs k.before ends end left) (sym same.0)
+    (subst (λ b. LastTurnIs c link ts b ends end left) (sym same.1) e.last) in
+    let s = same-turn laws c link k.turns k.before there.last k.turn ends k.going.mid there.outcome Going there.is (k.after, k.going, refl)
+    there.heard k.heard in
+    there.not_going s.2
+
+pub compare : (m n : ℕ) → (m ≡ n) ⊎ ((m < n) ⊎ (n < m))
+compare zero zero = inl refl
+compare zero (suc n) = inr (inl (omega arith))
+compare (suc m) zero = inr (inr (omega arith))
+compare (suc m) (suc n) = up (compare m n)
+  where
+    up : (m ≡ n) ⊎ ((m < n) ⊎ (n < m)) → (suc m ≡ suc n) ⊎ ((suc m < suc n) ⊎ (suc n < suc m))
+    up (inl e) = inl (ap suc e)
+    up (inr (inl l)) = inr (inl (omega (arith, l)))
+    up (inr (inr l)) = inr (inr (omega (arith, l)))
+
+-- two ends of one link are one
+ended-once : (laws : SameLaws) (c : Channel) (link : Link) (ts us : List Turn) (ends others : Ends) (a b : RunEnd) (left leaves : Left)
+    → EndedIs c link ts ends a left → EndedIs c link us others b leaves → Ended ts ends a left ≡ Ended us others b leaves
+ended-once laws c link ts us ends others a b left leaves e f = go (compare (length ts) (length us))
+  where
+    go : (length ts ≡ length us) ⊎ ((length ts < length us) ⊎ (length us < length ts)) → Ended ts ends a left ≡ Ended us others b leaves
+    go (inr (inl l)) = absurd (ended-stays laws c link ts ends a left e us f.before f.run l)
+    go (inr (inr l)) = absurd (ended-stays laws c link us others b leaves f ts e.before e.run l)
+    go (inl n) =
+        let same = laws.run c link ts us e.before f.before n e.run f.run in
+        let there : LastTurnIs c link us f.before ends a left =
+        subst (λ vs. LastTurnIs c link vs f.before ends a left) same.0
+        (subst (λ z. LastTurnIs c link ts z ends a left) same.1 e.last) in
+        let s = same-turn laws c link us f.before there.last f.last.last ends others there.outcome f.last.outcome there.is f.last.is there.heard
+        f.last.heard in
+        let end-is : a ≡ b = sym there.named_is ∙ ap (named (length us)) s.2 ∙ f.last.named_is in
+        let left-same : left ≡ leaves =
+        left-is ends (trace_text (there.last ∷ us)) left there.leaves ∙ ap (λ t. left_of ends (trace_text (t ∷ us))) s.0
+        ∙ ap (λ z. left_of z (trace_text (f.last.last ∷ us))) s.1 ∙ sym (left-is others (trace_text (f.last.last ∷ us)) leaves f.last.leaves) in
+        ap (λ vs. Ended vs ends a left) same.0 ∙ ap (λ z. Ended us z a left) s.1 ∙ ap (λ z. Ended us others z left) end-is
+        ∙ ap (Ended us others b) left-same
+
+-- So what a link came to is one thing.
+pub lasts-once : (laws : SameLaws) (c : Channel) (link : Link) (rounds : ℕ) (p q : Progress) → Lasts c link rounds p → Lasts c link rounds q
+    → p ≡ q
+lasts-once laws c link rounds (Goes ts ends) (Goes us others) h k =
+    let same = laws.run c link ts us ends others (h.count ∙ sym k.count) h.run k.run in
+    ap (λ vs. Goes vs ends) same.0 ∙ ap (Goes us) same.1
+lasts-once laws c link rounds (Goes ts ends) (Ended us others b leaves) h k =
+    absurd (ended-stays laws c link us others b leaves (ended-is c link rounds us others b leaves k) ts ends h.run
+    (omega (arith, k.before, h.count)))
+lasts-once laws c link rounds (Ended ts ends a left) (Goes us others) h k =
+    absurd (ended-stays laws c link ts ends a left (ended-is c link rounds ts ends a left h) us others k.run
+    (omega (arith, h.before, k.count)))
+lasts-once laws c link rounds (Ended ts ends a left) (Ended us others b leaves) h k =
+    ended-once laws c link ts us ends others a b left leaves (ended-is c link rounds ts ends a left h)
+    (ended-is c link rounds us others b leaves k)
+
+-- where the line ends a turn, its slots aren't heard well
+pub ends-or-hears : (laws : SameLaws) (c : Channel) (ts : List Turn) (ends : Ends) (end : LineEnd) → EndsLine c ts ends end
+    → HearsIdly c ts ends → ⊥
+ends-or-hears laws c ts ends end e w = laws.either c ts (λ role. check_of (of role ends)) end e w

@@ -1,0 +1,101 @@
+-- For which slots a direction stands: those that have passed, and those that are on their way.
+use Rattle.std.specs.Prelude.{◌≡◌, ℕ, ◌-◌, ◌<◌, ◌≤◌, List, [], ◌∷◌, ◌++◌, length, map, take, drop, None, Result, Ok, Err}
+use Rattle.frame_check.specs.declared.check.Check.{Check}
+use Rattle.bit_stuffing.specs.BitSlot.{line_bits}
+use Rattle.symbol_map.specs.declared.sample.Sample.{Sample}
+use Rattle.survivors.specs.Survivors.{LostIs}
+use Rattle.survivors.specs.V32.{line_depth, line_trellis}
+use Rattle.detection.specs.Slots.{Signal, signal_bits}
+use Rattle.exact_decoder.specs.declared.decoder.Lost.{Lost}
+use Rattle.roles.specs.declared.role.Role.{Role}
+use Rattle.lapm_frames.specs.declared.seen.Seen.{Seen}
+use Rattle.lapm_frames.specs.Sendable.{IsSendable}
+use Rattle.lapm_frames.specs.declared.heard.Heard.{Heard}
+use Rattle.lapm_frames.specs.declared.heard.Heard.TheVariants.{Nothing}
+use Rattle.noise_script.specs.Script.{ScriptValue, delay_of, loses}
+use Rattle.link_run.specs.Run.{Turn}
+use Rattle.line_run.specs.Sampled.{Channel, IsHeardOf, LosesLine}
+use Rattle.sample_line.specs.Recorded.{Records}
+use Rattle.sample_line.specs.Received.{Receives}
+use Rattle.sample_line.specs.Outcomes.{IsOutcome}
+use Rattle.sample_line.specs.Path.{LosesAt}
+use Rattle.sample_line.specs.Line.{LineStands, bits_behind, sender_of, size_of}
+use Rattle.pair_run.specs.Stream.{Carried, carried_signal}
+use Rattle.shared_line.specs.declared.slot.Slot.{Slot}
+use Rattle.shared_line.specs.declared.direction.DelayedLine.{DelayedLine}
+
+-- A slot is what was sent, which an end may send, and its bits stand behind those of all slots before.
+pub record IsOnWay (size : ℕ) (role : Role) (before : List Signal) (slot : Slot) (x : Carried) : Type 0 where
+  pub sent : slot.sent ≡ x.spoken.sent
+  pub sendable : IsSendable x.spoken.sent
+  pub bits : line_bits slot.bits ≡ bits_behind size before (carried_signal role x)
+
+-- so are these, the oldest first
+abbrev pub AreOnWay : ℕ → Role → List Signal → List Slot → List Carried → Type 0
+AreOnWay size role before [] [] = Unit {0}
+AreOnWay size role before (slot ∷ slots) (x ∷ way) = IsOnWay size role before slot x × AreOnWay size role (before ++ carried_signal role x ∷ []) slots way
+AreOnWay size role before (slot ∷ slots) [] = ⊥
+AreOnWay size role before [] (x ∷ way) = ⊥
+
+-- These slots have passed, and those are on their way.
+pub record Stands (d : DelayedLine) (script : ScriptValue) (passed : List Signal) (way : List Carried) : Type 0 where
+  pub line : LineStands d.line script passed (map (carried_signal d.sender) way)
+  pub slots : AreOnWay (size_of d.line) d.sender passed d.slots.items way
+  pub sender : sender_of d.line ≡ d.sender
+  pub room : d.slots.capacity ≡ d.lag
+
+-- What is heard of a slot behind those that passed, by a hearer with this check on this channel: that of this number of its sender.
+pub record HeardBehind (script : ScriptValue) (sender : Role) (size dlci : ℕ) (passed : List Signal) (number : ℕ) (hearing : Check)
+    (x : Carried) (heard : Heard) : Type 0 where
+  pub before : List Sample
+  pub samples : List Sample
+  pub recorded_before : Records script sender (signal_bits size passed) before
+  pub recorded : Records script sender (signal_bits size (passed ++ carried_signal sender x ∷ [])) samples
+  pub not_lost : LostIs line_trellis line_depth samples None
+  pub octets : List (List ℕ)
+  pub patterns : List Seen
+  pub received : Receives hearing sender before samples octets patterns
+  pub outcome : IsOutcome (loses script sender number) sender dlci x.spoken.sent octets patterns heard
+
+-- the oldest slot on its way has passed, or the line is lost within it
+abbrev pub PassesOldest : DelayedLine → DelayedLine → ScriptValue → List Signal → Carried → List Carried → ℕ → Check → ℕ
+    → Result Heard Lost → Type 0
+PassesOldest old new script passed x rest number hearing dlci (Ok heard) =
+    HeardBehind script old.sender (size_of old.line) dlci passed number hearing x heard
+    × Stands new script (passed ++ carried_signal old.sender x ∷ []) rest
+PassesOldest old new script passed x rest number hearing dlci (Err lost) =
+    LosesAt old.sender script (signal_bits (size_of old.line) (passed ++ carried_signal old.sender x ∷ [])) lost.symbol
+
+-- What arriving answers: nothing as long as there is room on the line, and then what becomes of the oldest slot.
+pub data Arrival (old new : DelayedLine) (script : ScriptValue) (passed : List Signal) (way : List Carried) (turn : ℕ) (hearing : Check)
+    (dlci : ℕ) (result : Result Heard Lost) : Type 0 where
+  Early : length way < old.lag → result ≡ Ok Nothing → Stands new script passed way → Arrival old new script passed way turn hearing dlci result
+  Due : (x : Carried) (rest : List Carried) → way ≡ x ∷ rest → old.lag ≤ length way
+      → PassesOldest old new script passed x rest (turn - old.delay) hearing dlci result
+      → Arrival old new script passed way turn hearing dlci result
+
+-- These slots were put on the line in this order, and all but so many of the last have passed.
+abbrev pub StandsAt : DelayedLine → ScriptValue → List Carried → ℕ → Type 0
+StandsAt d script stream lag =
+    Stands d script (map (carried_signal d.sender) (take (length stream - lag) stream)) (drop (length stream - lag) stream)
+
+-- A direction waits for the next slot of a channel behind these.
+pub record WaitsFor (d : DelayedLine) (c : Channel) (stream : List Carried) : Type 0 where
+  pub stands : StandsAt d c.script stream d.lag
+  pub symbols : d.line.writer.symbols ≡ c.symbols
+  pub delay : d.delay ≡ delay_of c.script d.sender
+  pub some : 1 ≤ d.delay
+  pub lag_some : 1 ≤ d.lag
+
+-- Once that has arrived, there is room for one.
+pub record HasRoom (d : DelayedLine) (c : Channel) (stream : List Carried) : Type 0 where
+  pub stands : StandsAt d c.script stream (d.lag - 1)
+  pub symbols : d.line.writer.symbols ≡ c.symbols
+  pub delay : d.delay ≡ delay_of c.script d.sender
+  pub some : 1 ≤ d.delay
+  pub lag_some : 1 ≤ d.lag
+
+-- what arrives for a link in the turn after these
+abbrev pub ArrivesAs : DelayedLine → Channel → List Turn → List Carried → Check → Result Heard Lost → Type 0
+ArrivesAs d c ts stream hearing (Ok heard) = IsHeardOf c d.sender ts hearing heard × HasRoom d c stream
+ArrivesAs d c ts stream hearing (Err lost) = LosesLine c d.sender ts lost.symbol
