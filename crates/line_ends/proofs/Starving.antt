@@ -1,5 +1,5 @@
--- A run that ends by a lost link was starved.
-use Rattle.std.proofs.Common.{arith, ◌≡◌, ℕ, List, [], map, filter, ap}
+-- A run that ends by a lost link was starved, and what else its end says.
+use Rattle.std.proofs.Common.{arith, ◌≡◌, ◌∙◌, ℕ, List, [], map, filter, ap}
 use Rattle.roles.specs.declared.role.Role.{Role}
 use Rattle.roles.specs.declared.role.Role.TheVariants.{Originator, Answerer}
 use Rattle.roles.specs.Role.{same_role}
@@ -8,8 +8,8 @@ use Rattle.noise_script.specs.declared.entry.Break.{Break}
 use Rattle.noise_script.specs.Script.{ScriptValue, IsInLimits, delay_of}
 use Rattle.causes.specs.declared.fault.LinkFault.TheVariants as faults
 use Rattle.link_run.specs.Run.{Ends, Turn}
-use Rattle.link_run.specs.Laws.{RunsOver}
-use Rattle.turn_losses.specs.Losses.{OriginatorWantsPattern, StarvedLosesMany}
+use Rattle.link_run.specs.Laws.{RunsOver, DoneIsWhole, HearingsGiveAllBreaks}
+use Rattle.turn_losses.specs.Losses.{OriginatorWantsPattern, UndetectedOnTime, StarvedLosesMany}
 use Rattle.turn_losses.specs.Tries.{GivesUpForLosses, GivesUpUnbroken}
 use Rattle.turn_losses.proofs.Parting.{later-loses}
 use Rattle.turn_losses.specs.Breaks.{GivesUpStarved}
@@ -18,7 +18,9 @@ use Rattle.line_run.specs.Scripted.{period_of, link_of, break_line, ScriptsMayPl
 use Rattle.line_run.specs.LineLaws.{SamplesAreCarried, OneIsCarried}
 use Rattle.line_run.specs.Ends.{IsDone, LinkLost, NotDetected, LineLost, ChanceMatch, Left, RunsTo, turns_heard}
 use Rattle.line_run.specs.Scripts.{ScriptsKeepTime}
-use Rattle.line_ends.specs.Causes.{LostLinksWereStarved, LosesInPeriods, LosesWithoutBreak, LosesUnbroken, FewLossesKeepLinks}
+use Rattle.line_run.specs.Ends.{RunEnd}
+use Rattle.line_ends.specs.Causes.{LostLinksWereStarved, LosesInPeriods, WaitsForNoBreak, GivesUp, FewLossesKeepLinks}
+use Rattle.line_ends.specs.Causes.{GivesUpOnTime, GivesEachBreak, EndsHaveCauses}
 
 pub record Laws : Type 0 where
   pub play : ScriptsMayPlay
@@ -30,6 +32,9 @@ pub record Laws : Type 0 where
   pub unbroken : GivesUpUnbroken
   pub pattern : OriginatorWantsPattern
   pub starves : GivesUpStarved
+  pub on_time : UndetectedOnTime
+  pub whole : DoneIsWhole
+  pub given : HearingsGiveAllBreaks
 
 -- the line of samples as any line
 over : Laws → (c : Channel) (files : Both (List ℕ)) (ts : List Turn) (ends : Ends) → IsInLimits c.script
@@ -61,7 +66,9 @@ undetected laws c files turn left h r n l =
     (laws.pattern c.script.tries (period_of c.script) (delay_of c.script) (link_of c.script files) r.turns r.ends e.last e.mid
     (laws.time c.script files h) run.run run.carried e.is n l)
 
-pub loses-without-break : Laws → LosesWithoutBreak
+loses-without-break : Laws → (c : Channel) (files : Both (List ℕ)) (end : RunEnd) (left : Left) → IsInLimits c.script
+    → (r : RunsTo c (link_of c.script files) end left) → GivesUp end
+    → WaitsForNoBreak c (link_of c.script files) r.turns r.ends end left r.ended → LosesInPeriods c files end left r
 loses-without-break laws c files (LinkLost role segment turn) left h r g quiet =
     let e = r.ended.1 in
     (laws.quiet c.script.tries (period_of c.script) (delay_of c.script) (link_of c.script files) r.turns r.ends e.last e.mid role
@@ -77,16 +84,52 @@ no-breaks : (script : ScriptValue) (files : Both (List ℕ)) → script.breaks �
 no-breaks script files e Originator = ap (λ (l : List Break). map break_line (filter (λ (b : Break). same_role b.role Originator) l)) e
 no-breaks script files e Answerer = ap (λ (l : List Break). map break_line (filter (λ (b : Break). same_role b.role Answerer) l)) e
 
-pub loses-unbroken : Laws → LosesUnbroken
-loses-unbroken laws c files (LinkLost role segment turn) left h none r g =
+loses-unasked : Laws → (c : Channel) (files : Both (List ℕ)) (end : RunEnd) (left : Left) → IsInLimits c.script
+    → (r : RunsTo c (link_of c.script files) end left) → GivesUp end → c.script.breaks ≡ [] → LosesInPeriods c files end left r
+loses-unasked laws c files (LinkLost role segment turn) left h r g none =
     let e = r.ended.1 in
     (laws.unbroken c.script.tries (period_of c.script) (delay_of c.script) (link_of c.script files) r.turns r.ends e.last e.mid role
     (faults.Spent segment r.ended.0) (laws.time c.script files h)
     (no-breaks c.script files none role) (over laws c files r.turns r.ends h r.run) (laws.one c r.turns e.last e.heard) e.is).each
-loses-unbroken laws c files (NotDetected turn) left h none r g = undetected laws c files turn left h r
-loses-unbroken laws c files (IsDone turn) left h none r g = absurd g
-loses-unbroken laws c files (LineLost role symbol) left h none r g = absurd g
-loses-unbroken laws c files (ChanceMatch role turn) left h none r g = absurd g
+loses-unasked laws c files (NotDetected turn) left h r g none = undetected laws c files turn left h r
+loses-unasked laws c files (IsDone turn) left h r g none = absurd g
+loses-unasked laws c files (LineLost role symbol) left h r g none = absurd g
+loses-unasked laws c files (ChanceMatch role turn) left h r g none = absurd g
+
+gives-up-on-time : Laws → (c : Channel) (files : Both (List ℕ)) (end : RunEnd) (left : Left) → IsInLimits c.script
+    → (r : RunsTo c (link_of c.script files) end left) → GivesUpOnTime c (link_of c.script files) r.turns r.ends end left r.ended
+gives-up-on-time laws c files (NotDetected turn) left h r =
+    let e = r.ended in
+    let run = over laws c files r.turns r.ends h r.run in
+    let told = laws.on_time c.script.tries (period_of c.script) (delay_of c.script) (link_of c.script files) r.turns r.ends e.last e.mid
+    (laws.time c.script files h) run.run run.carried e.is in
+    (e.number ∙ told.0, told.1)
+gives-up-on-time laws c files (LinkLost role segment turn) left h r = tt
+gives-up-on-time laws c files (IsDone turn) left h r = tt
+gives-up-on-time laws c files (LineLost role symbol) left h r = tt
+gives-up-on-time laws c files (ChanceMatch role turn) left h r = tt
+
+gives-each-break : Laws → (c : Channel) (files : Both (List ℕ)) (end : RunEnd) (left : Left) → IsInLimits c.script
+    → (r : RunsTo c (link_of c.script files) end left) → GivesEachBreak c (link_of c.script files) r.turns r.ends end left r.ended
+gives-each-break laws c files (IsDone turn) left h r =
+    let e = r.ended in
+    let link = link_of c.script files in
+    λ role. laws.given link r.turns r.ends e.last e.mid r.run.run e.is.hearing role
+    ∙ (laws.whole link (delay_of c.script) r.turns r.ends e.last e.mid (over laws c files r.turns r.ends h r.run)
+    (laws.one c r.turns e.last e.heard) e.is role).breaks_are
+gives-each-break laws c files (LinkLost role segment turn) left h r = tt
+gives-each-break laws c files (NotDetected turn) left h r = tt
+gives-each-break laws c files (LineLost role symbol) left h r = tt
+gives-each-break laws c files (ChanceMatch role turn) left h r = tt
+
+pub ends-have-causes : Laws → EndsHaveCauses
+ends-have-causes laws c files end left h r = record {
+  starved = lost-links-were-starved laws c files end left h r;
+  periods = loses-without-break laws c files end left h r;
+  unasked = loses-unasked laws c files end left h r;
+  on_time = gives-up-on-time laws c files end left h r;
+  breaks = gives-each-break laws c files end left h r;
+}
 
 pub few-losses-keep-links : ScriptsKeepTime → LostLinksWereStarved → StarvedLosesMany → FewLossesKeepLinks
 few-losses-keep-links time starved many c files end left h r few g =

@@ -1,5 +1,5 @@
--- Why a script's run over the line of samples ends by a lost link.
-use Rattle.std.specs.Prelude.{◌≡◌, ℕ, ◌+◌, ◌*◌, ◌<◌, false, List, [], length}
+-- Why a script's run over the line of samples ends as it does.
+use Rattle.std.specs.Prelude.{◌≡◌, ℕ, ◌+◌, ◌*◌, ◌<◌, false, List, [], ◌∷◌, length}
 use Rattle.roles.specs.declared.role.Role.{Role}
 use Rattle.roles.specs.Role.{other}
 use Rattle.roles.specs.Both.{Both, of}
@@ -8,7 +8,8 @@ use Rattle.link_account.specs.Account.{break_waits, check_of}
 use Rattle.link_run.specs.Run.{Link, Ends, Turn, served_at}
 use Rattle.link_run.specs.Outcomes.{Outcome, TurnIs}
 use Rattle.link_run.specs.Counts.{lost_slots}
-use Rattle.turn_losses.specs.Losses.{LosesEach}
+use Rattle.link_run.specs.Laws.{given_breaks}
+use Rattle.turn_losses.specs.Losses.{LosesEach, PassesNoPattern}
 use Rattle.line_run.specs.Sampled.{Channel, HeardIn, IsHeardWell, LineRun}
 use Rattle.line_run.specs.Scripted.{period_of, link_of}
 use Rattle.line_run.specs.Ends.{RunEnd, IsDone, LinkLost, NotDetected, LineLost, ChanceMatch, Left, EndsBy, RunsTo, turns_heard, StarvedBy}
@@ -52,17 +53,40 @@ LosesInPeriods c files end left r =
     LosesEach (period_of c.script) (periods_lost end c.script.tries) (length r.turns)
     (turns_heard c (link_of c.script files) r.turns r.ends end left r.ended)
 
--- Where no break waits at that end, each of the latest periods lost something;
-abbrev pub LosesWithoutBreak : Type 0
-LosesWithoutBreak = (c : Channel) (files : Both (List ℕ)) (end : RunEnd) (left : Left) → IsInLimits c.script
-    → (r : RunsTo c (link_of c.script files) end left) → GivesUp end
-    → WaitsForNoBreak c (link_of c.script files) r.turns r.ends end left r.ended
-    → LosesInPeriods c files end left r
+-- An originator that saw no pattern gives up in the first turn behind the periods of all its tries, and none of the answerer's patterns
+-- passed until then.
+abbrev pub GivesUpOnTime : (c : Channel) (link : Link) (ts : List Turn) (ends : Ends) (end : RunEnd) (left : Left)
+    → EndsBy c link ts ends end left → Type 0
+GivesUpOnTime c link ts ends (NotDetected turn) left e =
+    (turn ≡ (c.script.tries + 1) * period_of c.script) × PassesNoPattern (e.last ∷ ts)
+GivesUpOnTime c link ts ends (LinkLost role segment turn) left e = Unit {0}
+GivesUpOnTime c link ts ends (IsDone turn) left e = Unit {0}
+GivesUpOnTime c link ts ends (LineLost role symbol) left e = Unit {0}
+GivesUpOnTime c link ts ends (ChanceMatch role turn) left e = Unit {0}
 
--- and so it is in each run of a script without break lines.
-abbrev pub LosesUnbroken : Type 0
-LosesUnbroken = (c : Channel) (files : Both (List ℕ)) (end : RunEnd) (left : Left) → IsInLimits c.script → c.script.breaks ≡ []
-    → (r : RunsTo c (link_of c.script files) end left) → GivesUp end → LosesInPeriods c files end left r
+-- In a run that is done the breaks that a user was given are those that the other end took of its user, in their order.
+abbrev pub GivesEachBreak : (c : Channel) (link : Link) (ts : List Turn) (ends : Ends) (end : RunEnd) (left : Left)
+    → EndsBy c link ts ends end left → Type 0
+GivesEachBreak c link ts ends (IsDone turn) left e =
+    (role : Role) → given_breaks role (e.last ∷ ts) ≡ (of (other role) e.mid).own_breaks.lengths
+GivesEachBreak c link ts ends (LinkLost role segment turn) left e = Unit {0}
+GivesEachBreak c link ts ends (NotDetected turn) left e = Unit {0}
+GivesEachBreak c link ts ends (LineLost role symbol) left e = Unit {0}
+GivesEachBreak c link ts ends (ChanceMatch role turn) left e = Unit {0}
+
+-- What the end of a run says of its turns. An end that gave the link up did so for losses that went on; where no break waited there, in each
+-- of its latest periods.
+pub record HasCause (c : Channel) (files : Both (List ℕ)) (end : RunEnd) (left : Left)
+    (r : RunsTo c (link_of c.script files) end left) : Type 0 where
+  pub starved : GivesUp end → StarvedBy c.script (turns_heard c (link_of c.script files) r.turns r.ends end left r.ended)
+  pub periods : GivesUp end → WaitsForNoBreak c (link_of c.script files) r.turns r.ends end left r.ended → LosesInPeriods c files end left r
+  pub unasked : GivesUp end → c.script.breaks ≡ [] → LosesInPeriods c files end left r
+  pub on_time : GivesUpOnTime c (link_of c.script files) r.turns r.ends end left r.ended
+  pub breaks : GivesEachBreak c (link_of c.script files) r.turns r.ends end left r.ended
+
+abbrev pub EndsHaveCauses : Type 0
+EndsHaveCauses = (c : Channel) (files : Both (List ℕ)) (end : RunEnd) (left : Left) → IsInLimits c.script
+    → (r : RunsTo c (link_of c.script files) end left) → HasCause c files end left r
 
 -- So where fewer slots were lost than one for each two tries, no end gave the link up: the run ends by Done, or the line ends it.
 abbrev pub FewLossesKeepLinks : Type 0

@@ -1,5 +1,5 @@
 //! Which runs of a script are done. The functions do nothing but name the laws that they rest on: each law is a contract.
-ghost use Rattle.line_ends.specs.Causes.{LostLinksWereStarved, LosesWithoutBreak, LosesUnbroken, FewLossesKeepLinks, HeardTurnsAreMade};
+ghost use Rattle.line_ends.specs.Causes.{LostLinksWereStarved, EndsHaveCauses, FewLossesKeepLinks, HeardTurnsAreMade};
 ghost use Rattle.line_ends.specs.Completes.{CompletesUnstarved, CompletesWithFewLosses, DisplacesNoneIsFaint, FaintGoOn, LosesWhatIsNamed};
 ghost use Rattle.line_ends.specs.EachEnds.{EachSlotBecomes, EachTurnIsDecided, EachRunEnds, QuietRunsDeliver, UndisturbedRunsDeliver};
 ghost use Rattle.line_ends.specs.Completes.{OctetsAreSendable, CompletesWithFewNamed, CompletesQuiet, CompletesUndisturbed};
@@ -16,8 +16,8 @@ use line_run::laws::{
     slots_have_room,
 };
 use link_run::laws::{
-    each_turn_is_made, frames_are_short, numbers_have_the_agreed_check,
-    segments_are_offered_as_they_are_read,
+    done_is_whole, each_turn_is_made, frames_are_short, numbers_have_the_agreed_check,
+    segments_are_offered_as_they_are_read, turns_deliver_what_came,
 };
 use sample_line::laws::{given_bits_stay, one_outcome, recordings_grow};
 use turn_losses::laws::{
@@ -26,16 +26,17 @@ use turn_losses::laws::{
 };
 
 /// A run over the line of samples that ends by a link that is lost or not detected was starved. Where no break waits at the end that
-/// gives up, something was lost in each of its latest periods, as many as the script has tries, and one more where it isn't detected. In
-/// a script without break lines none waits.
+/// gives up, something was lost in each of its latest periods, as many as the script has tries, and one more where it isn't detected. That
+/// one gives up as these periods are over. In a run that is done each break that an end took was given to the other's user.
 pub fn lost_links_were_starved()
     ensures starved { LostLinksWereStarved }
-    ensures waiting_for_none { LosesWithoutBreak }
-    ensures asked_for_none { LosesUnbroken }
+    ensures causes { EndsHaveCauses }
 {
     scripts_make_links();
     scripts_keep_time();
     samples_are_carried();
+    done_is_whole();
+    turns_deliver_what_came();
     ends_give_up_starved();
     ends_give_up_for_losses();
     patterns_are_missed_for_losses();

@@ -135,10 +135,16 @@ abbrev pub given_breaks : Role → List Turn → List ℕ
 given_breaks role [] = []
 given_breaks role (t ∷ ts) = given_breaks role ts ++ given_in (of role t).given
 
--- The breaks that were given in the turns of a run are all that were taken from the other end.
+-- The breaks that were given in the turns of a run are all that were taken from the other end: between turns,
 abbrev pub GivesAllBreaks : Type 0
 GivesAllBreaks = (link : Link) (ts : List Turn) (ends : Ends) → RunOf link ts ends → (role : Role)
     → given_breaks role ts ≡ (of role ends).their_breaks.lengths
+
+-- and once both ends have heard.
+abbrev pub HearingsGiveAllBreaks : Type 0
+HearingsGiveAllBreaks = (link : Link) (ts : List Turn) (before : Ends) (t : Turn) (mid : Ends) → RunOf link ts before
+    → Hears (length ts) before t mid → (role : Role)
+    → given_breaks role (t ∷ ts) ≡ (of role mid).their_breaks.lengths
 
 -- both ends offer SREJ
 abbrev pub agreed_srej : Link → Bool

@@ -2,7 +2,7 @@
 ghost use Rattle.link_run.specs.Alone.{OneLoneRun, LoneHearingsDeliver, LoneSpeakingTakesNothing, EachLoneTurnIsMade, LoneRunsByWhatIsReadOn, LoneRunsKeepTheirSetup};
 ghost use Rattle.link_run.specs.Counts.{CountsByNumber, SentBelowHigh};
 ghost use Rattle.link_run.specs.Laws.{RunsArePlays, HearingsArePlays, TakesPrefixes, HearsPrefixes, DoneIsWhole, HearingsAreWell, BrokenForWant};
-ghost use Rattle.link_run.specs.Laws.{OneRun, OneOutcome, HearingsDeliver, SpeakingTakesNothing, GivesAllBreaks};
+ghost use Rattle.link_run.specs.Laws.{OneRun, OneOutcome, HearingsDeliver, SpeakingTakesNothing, GivesAllBreaks, HearingsGiveAllBreaks};
 ghost use Rattle.link_run.specs.Laws.{TakesWhatPassed, HearsWhatPassed, SendsShort, EachEndIsNamed, EachTurnIsMade, OffersUntilNoneIsWanted};
 ghost use Rattle.link_run.specs.Overheard.{OpensByFrames, SegmentsPassLater, AgreesByXid, SendsAgreedCheck, HearsAgreedCheck};
 ghost use Rattle.link_run.specs.Reading.{BeginsUnoffered, HearingStaysOffered, SpeakingStaysOffered, OffersWhatIsRead, SegmentsAreTold, OwnSegmentsStay, RunsByWhatWasRead, RunsByWhatIsReadOn};
@@ -67,6 +67,7 @@ pub fn turns_deliver_what_came()
     ensures hearing { HearingsDeliver }
     ensures speaking { SpeakingTakesNothing }
     ensures breaks { GivesAllBreaks }
+    ensures heard_breaks { HearingsGiveAllBreaks }
 {
     reads_allowed();
     keeps_taken();

@@ -31,9 +31,10 @@ use Rattle.link_account.specs.Speak.{Said, says, says_frame, else_says, where_sa
 use Rattle.link_account.specs.Speak.{polling, timer_expires, breaking, after_timers, then_tries, speak_linked, speak, speak_in}
 use Rattle.link_account.specs.Speak.{speak_detecting, speak_answer, speak_negotiating, speak_releasing}
 use Rattle.link_run.specs.End.{User, is_busy, is_released}
-use Rattle.link_run.specs.Run.{Ends, Turn, RunOf, arrival, served_at, releases}
+use Rattle.link_run.specs.Run.{Link, Ends, Turn, Hears, RunOf, arrival, served_at, releases}
 use Rattle.link_run.specs.Carried.{IsCarried}
 use Rattle.link_run.specs.Starved.{LosesSome}
+use Rattle.turn_bound.specs.Time.{KeepsTime}
 use Rattle.turn_bound.specs.Due.{NoneDue}
 use Rattle.turn_bound.specs.Spent.{SpendsOnTime}
 use Rattle.turn_bound.proofs.Clock.{Rates, rates}
@@ -51,7 +52,7 @@ use Rattle.turn_losses.proofs.PollSpeak.{poll-speaks}
 use Rattle.turn_losses.proofs.NumberTurn.{poll-ok, speak-ok}
 use Rattle.turn_losses.proofs.Trace.{past, sent_or}
 use Rattle.turn_losses.proofs.TwoEnds.{EndRun, TwoEnds, end_run}
-use Rattle.turn_losses.proofs.Tracing.{Known, known, timed, rated, Traced, traced}
+use Rattle.turn_losses.proofs.Tracing.{known, timed, rated, Traced, traced}
 use Rattle.turn_losses.proofs.PollLaws.{two-ends}
 use Rattle.turn_losses.proofs.PeriodLaws.{NoneLost}
 use Rattle.turn_losses.proofs.PeriodHolds.{LostIn, lost-or-none}
@@ -92,7 +93,7 @@ phase-ok p said (Err fault) e h = cc
 phase-ok p said (Ok other) e h = let same : other ≡ said = cc in subst (λ s. s.account.phase ≡ p) same h
 
 -- an end that is Detecting after it spoke was so before
-said-from : (turn : ℕ) (release : Bool) (b : Account) (said : Said) → speak turn release b ≡ Ok said → said.account.phase ≡ Detecting
+pub said-from : (turn : ℕ) (release : Bool) (b : Account) (said : Said) → speak turn release b ≡ Ok said → said.account.phase ≡ Detecting
     → b.phase ≡ Detecting
 said-from turn release b said h d = go b.phase refl h
   where
@@ -198,7 +199,7 @@ detects-all (arrivals.Pattern seen) turn a r l = go a.phase refl l
     go Closed e f = cc
 detects-all (arrivals.Frame frame) turn a r l = detects-frame a.phase frame turn a refl l
 
-heard-from : (arrived : Arrived) (turn : ℕ) (a mid : Account) → a.setup.role ≡ Originator → NoneDue a → hear turn arrived a ≡ Ok mid
+pub heard-from : (arrived : Arrived) (turn : ℕ) (a mid : Account) → a.setup.role ≡ Originator → NoneDue a → hear turn arrived a ≡ Ok mid
     → mid.phase ≡ Detecting → (a.phase ≡ Detecting) × (arrived ≡ arrivals.Pattern seens.Adp → ⊥)
 heard-from arrived turn a mid r none h d = go (is_linked a.phase) refl
   where
@@ -284,7 +285,7 @@ answers-odp user turn arrived a mid released release said e r r' only hears spea
         (k.1, λ f. ap (λ y. y.sent) (sym k.0))
 
 -- only an end that is Detecting breaks so
-err-detecting : (turn : ℕ) (release : Bool) (b : Account) → speak turn release b ≡ Err NotDetected → b.phase ≡ Detecting
+pub err-detecting : (turn : ℕ) (release : Bool) (b : Account) → speak turn release b ≡ Err NotDetected → b.phase ≡ Detecting
 err-detecting turn release b h = go b.phase refl h
   where
     tried : (frame : Frame) (a : Account) → u_try turn frame a ≡ Err NotDetected → ⊥
@@ -326,6 +327,23 @@ err-detecting turn release b h = go b.phase refl h
     go Releasing e q = absurd (tried (Disc true) b q)
     go Closed e q = cc
 
+-- an end's setup is its link's, also once it has heard
+pub heard-setup : (tries period : ℕ) (delay : Role → ℕ) (link : Link) (ts : List Turn) (before : Ends) (t : Turn) (mid : Ends)
+    → KeepsTime tries period delay link → RunOf link ts before → IsCarried delay ts → Hears (length ts) before t mid → (r : Role)
+    → (of r mid).setup ≡ (of r link).setup
+heard-setup tries period delay link ts before t mid kt run c hears r =
+    let turn = length ts in
+    let z : Rates = rates tries period in
+    let a : Account = of r before in
+    let kn = known tries period delay link ts before kt run c r in
+    let tm = timed tries period delay link kt r in
+    let arrived : Arrived = arrival (of r t).heard in
+    let heard = heard-ok z (length a.outgoing.pieces) 0 turn (z.quota * arrived_rnrs arrived) r a.phase a (of r mid)
+    (hear turn arrived a) (hears r).hears
+    (hears-well z (length a.outgoing.pieces) 0 turn r a.phase arrived a (rated tries period delay link kt)
+    (subst (IsOf z) (sym kn.setup) tm.is_of) kn.stands refl (ap (λ s. s.role) kn.setup ∙ tm.role_is) (omega arith)) in
+    heard.1.setup ∙ kn.setup
+
 pub wants-pattern : SpendsOnTime → OriginatorWantsPattern
 wants-pattern spends tries period delay link ts before t mid kt run c broken number less =
     at-number (times (number + 1) (tries + 1) (omega (arith, less)))
@@ -363,17 +381,9 @@ wants-pattern spends tries period delay link ts before t mid kt run c broken num
     mid-role : (r : Role) (u : ℕ) → u < turns → (of r (w.deed u).mid).setup.role ≡ r
     mid-role r u l =
         let h = w.trace.happens u l in
-        let a : Account = of r (w.state u) in
-        let kn = known tries period delay link (past ts u) (w.state u) kt h.run h.carried r in
-        let kn' : Known z link u (w.state u) r = subst (λ n. Known z link n (w.state u) r) h.number kn in
-        let tm = timed tries period delay link kt r in
-        let role : a.setup.role ≡ r = ap (λ s. s.role) kn.setup ∙ tm.role_is in
-        let arrived : Arrived = arrival (of r (w.deed u).turn).heard in
-        let heard = heard-ok z (length a.outgoing.pieces) 0 u (z.quota * arrived_rnrs arrived) r a.phase a (of r (w.deed u).mid)
-        (hear u arrived a) (h.hearing r).hears
-        (hears-well z (length a.outgoing.pieces) 0 u r a.phase arrived a (rated tries period delay link kt)
-        (subst (IsOf z) (sym kn.setup) tm.is_of) kn'.stands refl role (omega arith)) in
-        ap (λ s. s.role) heard.1.setup ∙ role
+        ap (λ s. s.role) (heard-setup tries period delay link (past ts u) (w.state u) (w.deed u).turn (w.deed u).mid kt h.run h.carried
+        (subst (λ n. Hears n (w.state u) (w.deed u).turn (w.deed u).mid) (sym h.number) h.hearing) r)
+        ∙ (timed tries period delay link kt r).role_is
 
     served-role : (r : Role) (u : ℕ) → u < turns → (served_at link u (w.deed u).mid r).account.setup.role ≡ r
     served-role r u l = ap (λ s. s.role) (serves-all (of r link).user u (is_released (w.deed u).mid.orig.phase) (of r (w.deed u).mid)).setup

@@ -28,6 +28,7 @@ pub mod Numbering
 pub mod Wanting
 pub mod Starving
 pub mod Detecting
+mod Undetected
 pub mod Fewness
 pub mod Numbered
 pub mod Answerer

@@ -1,7 +1,9 @@
 -- What is lost before an end gives up.
-use Rattle.std.specs.Prelude.{◌≡◌, ℕ, ◌+◌, ◌*◌, ◌<◌, ◌≤◌, false, List, ◌∷◌, length}
+use Rattle.std.specs.Prelude.{◌≡◌, ◌≢◌, ℕ, ◌+◌, ◌*◌, ◌<◌, ◌≤◌, false, List, [], ◌∷◌, length}
 use Rattle.roles.specs.declared.role.Role.{Role}
 use Rattle.roles.specs.declared.role.Role.TheVariants.{Originator, Answerer}
+use Rattle.lapm_frames.specs.declared.heard.Heard.TheVariants.{Passed}
+use Rattle.lapm_frames.specs.declared.sent.Sent.TheVariants.{Adp}
 use Rattle.break_signals.specs.Breaks.{waits}
 use Rattle.link_account.specs.declared.phase.Phase.TheVariants.{Connected}
 use Rattle.causes.specs.declared.fault.LinkFault.TheVariants.{Spent, NotDetected}
@@ -60,6 +62,18 @@ OriginatorWantsPattern = (tries period : ℕ) (delay : Role → ℕ) (link : Lin
     → KeepsTime tries period delay link → RunOf link ts before → IsCarried delay ts
     → BrokenTurn link ts before t mid Originator NotDetected
     → LosesEach period (tries + 1) (length ts) ts
+
+-- None of the answerer's patterns passed in these turns.
+abbrev pub PassesNoPattern : List Turn → Type 0
+PassesNoPattern [] = Unit {0}
+PassesNoPattern (t ∷ ts) = (t.orig.heard ≢ Passed Adp) × PassesNoPattern ts
+
+-- It gives up in one turn alone, the first one behind the periods of all its tries, and no pattern of the answerer's passed until then.
+abbrev pub UndetectedOnTime : Type 0
+UndetectedOnTime = (tries period : ℕ) (delay : Role → ℕ) (link : Link) (ts : List Turn) (before : Ends) (t : Turn) (mid : Ends)
+    → KeepsTime tries period delay link → RunOf link ts before → IsCarried delay ts
+    → BrokenTurn link ts before t mid Originator NotDetected
+    → (length ts ≡ (tries + 1) * period) × PassesNoPattern (t ∷ ts)
 
 abbrev pub UndetectedIsStarved : Type 0
 UndetectedIsStarved = (tries period : ℕ) (delay : Role → ℕ) (link : Link) (ts : List Turn) (before : Ends) (t : Turn) (mid : Ends)

@@ -1,7 +1,7 @@
 //! What holds of each run over a line that carries what is sent, whatever it loses. The functions do nothing but name the laws that
 //! they rest on: each law is a contract.
 ghost use Rattle.turn_losses.specs.Polls.{PollsKeepApart, RepliesAtOnce, AnswersMatchPolls};
-ghost use Rattle.turn_losses.specs.Losses.{OriginatorWantsAnswers, OriginatorIsStarved, AnswererWantsAnswers, OriginatorWantsPattern, UndetectedIsStarved};
+ghost use Rattle.turn_losses.specs.Losses.{OriginatorWantsAnswers, OriginatorIsStarved, AnswererWantsAnswers, OriginatorWantsPattern, UndetectedIsStarved, UndetectedOnTime};
 ghost use Rattle.turn_losses.specs.Losses.{StarvedLosesMany, LosslessIsFed};
 ghost use Rattle.turn_losses.specs.Tries.{OriginatorWantsFrame, AnswererWantsAnswer, GivesUpForLosses, GivesUpUnbroken};
 ghost use Rattle.turn_losses.specs.Breaks.{GivesUpStarved};
@@ -43,8 +43,9 @@ pub fn connected_answerers_give_up_for_losses()
 }
 
 /// An originator gives up for want of a pattern only where something was lost in each of the latest periods, one more than it has
-/// tries: so the run was starved.
+/// tries: so the run was starved. It does so in the turn behind these periods, and none of the answerer's patterns had passed.
 pub fn patterns_are_missed_for_losses()
+    ensures on_time { UndetectedOnTime }
     ensures each_period { OriginatorWantsPattern }
     ensures starved { UndetectedIsStarved }
 {
