@@ -1,28 +1,35 @@
 -- Where the inputs are right and the line carries their run to its end, the run is done, but for want of memory.
-use Rattle.std.proofs.Common.{◌≡◌, ◌⊎◌, inl, inr, ℕ, ◌≤◌, ◌<◌, List, length, sym, subst, arith}
+use Rattle.std.proofs.Common.{◌≡◌, ◌⊎◌, inl, inr, ℕ, ◌≤◌, ◌<◌, List, [], ◌∷◌, length, refl, sym, ◌∙◌, ap, subst, arith, Result}
 use Rattle.roles.specs.Both.{Both}
 use Rattle.outside_calls.specs.Folder.{FolderState, octets_at}
 use Rattle.noise_script.specs.Script.{ScriptValue}
 use Rattle.noise_script.specs.Grammar.{ScriptSpelling}
 use Rattle.noise_script.specs.Laws.{ScriptsAreOne, NoFaultInScripts, SpelledIsInLimits, BreaksAreOctets}
-use Rattle.line_run.specs.Ends.{RunEnd}
+use Rattle.line_run.specs.Ends.{RunEnd, Left, OneResult}
 use Rattle.line_run.specs.Ends as runs
-use Rattle.line_run.specs.Scripted.{channel_of}
+use Rattle.line_run.specs.Scripted.{channel_of, link_of}
 use Rattle.line_ends.specs.Causes.{GivesUp, LostLinksWereStarved}
-use Rattle.line_ends.specs.Completes.{EndsDone, LineEnds, AreOfOctets, CompletesWithFewLosses, CompletesWithFewNamed, CompletesQuiet}
+use Rattle.line_ends.specs.Completes.{ScriptRunsTo, EndsDone, LineEnds, AreOfOctets, CompletesWithFewLosses, CompletesWithFewNamed, CompletesQuiet}
 use Rattle.line_ends.specs.Completes.{CompletesUndisturbed}
 use Rattle.command_base.specs.declared.status.Status.{Status}
-use Rattle.command_base.specs.declared.status.Status.TheVariants.{BadScript, TooLong, LineLost, NotDetected, LinkLost, ChanceMatch}
+use Rattle.command_base.specs.declared.status.Status.TheVariants.{BadScript, TooLong, LineLost, NotDetected, LinkLost, ChanceMatch, NoMemory}
+use Rattle.command_base.specs.declared.stop.Stop.{Stop}
 use Rattle.command_base.specs.declared.stop.Stop.TheVariants.{Own}
 use Rattle.command_base.specs.Inputs.{IsWithin, IsLonger}
 use Rattle.command_base.specs.Job.{Answers}
-use Rattle.command_base.proofs.Jobs.{done-unless-memory}
+use Rattle.command_base.specs.Lines.{done_line}
+use Rattle.command_base.proofs.Jobs.{Comes, is_done, is_own, is_memory, comes-to, last-only, done-unless-memory}
+use Rattle.outside_calls.specs.Outputs.{OnlyOutputs, KeepsEach}
+use Rattle.several_outputs.specs.Outputs.{HoldEach}
+use Rattle.several_outputs.proofs.Putting.{HoldEach-kept}
 use Rattle.run_inputs.specs.declared.limits.TheConstants.{LIMITS}
-use Rattle.run_inputs.specs.Words.{RunNames}
+use Rattle.run_inputs.specs.Words.{RunNames, outputs_of}
+use Rattle.run_inputs.specs.Answers.{answer_of}
+use Rattle.run_world.specs.Turns.{held_of}
 use Rattle.run_inputs.specs.Inputs.{RefusesOwn}
-use Rattle.run_command.specs.Ends.{RanTo, RanBy, EndsBy, run_job}
+use Rattle.run_command.specs.Ends.{RanTo, RanBy, EndsBy, Ends, run_job}
 use Rattle.line_ends.specs.Carried.{IsCarried}
-use Rattle.run_command.specs.Completes.{LosesFew, NamesFew, RunsQuietly, IsUndisturbed, AreRight, files_at, DoneWhere, Completes}
+use Rattle.run_command.specs.Completes.{LosesFew, NamesFew, RunsQuietly, IsUndisturbed, AreRight, files_at, DoneWhere, Answered, AnsweredByItsEnd, Completes}
 
 script-fits : (count : ℕ) → count ≤ 65536 → LIMITS.script < count → ⊥
 script-fits count within longer = omega (arith, within, longer)
@@ -47,6 +54,7 @@ never-refused law old n script answer r never = never
 
 -- the laws that a run's end rests on
 pub record DoneLaws : Type 0 where
+  pub result : OneResult
   pub one : ScriptsAreOne
   pub apart : NoFaultInScripts
   pub limits : SpelledIsInLimits
@@ -151,11 +159,71 @@ carried-done : DoneLaws → (words : List (List ℕ)) (old new : FolderState) (n
 carried-done laws words old new n s a sound script r c =
     done-unless-memory (run_job n) words old new s a sound (λ answer ends. never-own laws old a.before n script answer r c ends.0)
 
+-- ---- over a sound folder the answer is that of the one run that there is
+
+-- the script and the files of the run that was made
+inputs-run : ScriptsAreOne → (old before : FolderState) (n : RunNames) (script : ScriptValue) (found : RunEnd) → AreRight old n script
+    → (e : RanTo LIMITS old before n found) → ScriptRunsTo script (files_at old n) found e.left
+inputs-run law old before n script found r e =
+    let same : script ≡ e.script = law (octets_at old n.script) script e.script r.spelled (e.takes.opens.reads.spelled r.script_told) in
+    let at-orig : ScriptRunsTo e.script (record { orig = octets_at old n.orig; answ = e.files.answ }) found e.left =
+    subst (λ (o : List ℕ). ScriptRunsTo e.script (record { orig = o; answ = e.files.answ }) found e.left) (e.takes.orig r.orig_told) e.run in
+    let at-files : ScriptRunsTo e.script (files_at old n) found e.left =
+    subst (λ (a : List ℕ). ScriptRunsTo e.script (record { orig = octets_at old n.orig; answ = a }) found e.left)
+    (e.takes.answ r.answ_told) at-orig in
+    subst (λ (s : ScriptValue). ScriptRunsTo s (files_at old n) found e.left) (sym same) at-files
+
+answered : DoneLaws → (old before new : FolderState) (n : RunNames) (s : Status) (script : ScriptValue) (found end : RunEnd) (left : Left)
+    → OnlyOutputs before new [] → AreRight old n script → RanTo LIMITS old before n found → ScriptRunsTo script (files_at old n) end left
+    → s ≡ answer_of found → Answered new n end left s
+answered laws old before new n s script found end left last r e run is =
+    let one = laws.result (channel_of script) (link_of script (files_at old n)) found end e.left left
+    (inputs-run laws.one old before n script found r e) run in
+    record {
+      answer = is ∙ ap answer_of one.0;
+      holds = subst (λ (l : Left). HoldEach new (outputs_of n) (held_of l)) one.1
+          (HoldEach-kept before new (outputs_of n) (held_of e.left) last.goes_on e.holds (kept (outputs_of n)));
+    }
+  where
+    kept : (names : List (List ℕ)) → KeepsEach before new names
+    kept [] = tt
+    kept (name ∷ names) = (last.names name tt, kept names)
+
+-- the end of the run that an answer names
+own-ran : (old before : FolderState) (n : RunNames) (answer : Status) → RanBy LIMITS old before n answer
+    → (found : RunEnd) × (answer ≡ answer_of found) × RanTo LIMITS old before n found
+own-ran old before n (LinkLost role segment turn) e = (runs.LinkLost role segment turn, refl, e)
+own-ran old before n (NotDetected turn) e = (runs.NotDetected turn, refl, e)
+own-ran old before n (LineLost role symbol) e = (runs.LineLost role symbol, refl, e)
+own-ran old before n (ChanceMatch role turn) e = (runs.ChanceMatch role turn, refl, e)
+own-ran old before n answer e = absurd e
+
+exact-of : DoneLaws → (words : List (List ℕ)) (old new : FolderState) (n : RunNames) (s : Status) → Answers (run_job n) words old new s
+    → AnsweredByItsEnd old new n s
+exact-of laws words old new n s a sound script r end left run = by (comes-to (run_job n) words old new s a sound)
+  where
+    last : OnlyOutputs a.before new []
+    last = last-only done_line words a.before new a.end s a.says
+
+    own : (answer : Status) → s ≡ answer → EndsBy LIMITS old a.before n (Own answer) → Answered new n end left s ⊎ (s ≡ NoMemory)
+    own answer e (inl refused) = absurd (never-refused laws.apart old n script answer r refused.1)
+    own answer e (inr ran) =
+        let by-end = own-ran old a.before n answer ran in
+        inl (answered laws old a.before new n s script by-end.0 end left last r by-end.2 run (e ∙ by-end.1))
+
+    by : Comes a.end s → Answered new n end left s ⊎ (s ≡ NoMemory)
+    by (is_done turn is e) =
+        inl (answered laws old a.before new n s script (runs.IsDone turn) end left last r
+        (subst (λ (x : Result ℕ Stop). Ends LIMITS old a.before n x) is a.ends.0) run e)
+    by (is_own answer is e) = own answer e (subst (λ (x : Result ℕ Stop). Ends LIMITS old a.before n x) is a.ends.0)
+    by (is_memory e) = inr e
+
 pub completes-of : DoneLaws → (words : List (List ℕ)) (old new : FolderState) (n : RunNames) (s : Status)
     → Answers (run_job n) words old new s → Completes old new n s
 completes-of laws words old new n s a =
     let done : DoneWhere old new n s IsCarried = carried-done laws words old new n s a in
     record {
+      exact = exact-of laws words old new n s a;
       carried = done;
       few_losses = λ sound script r f. done sound script r (few-carried laws (octets_at old n.script) script (files_at old n) r.spelled f);
       few_named = λ sound script r f. done sound script r (named-carried laws (octets_at old n.script) script (files_at old n) r.spelled f);

@@ -60,6 +60,7 @@ ran-of laws old before new n end last e =
     let heard = turns_heard c link e.run.turns e.run.ends end e.left e.run.ended in
     let passed = laws.passed c link end e.left (may-run laws e.script e.files e.takes.limits) e.run in record {
       script = e.script;
+      limits = e.takes.limits;
       files = e.files;
       are_of = record { script_is = e.takes.opens.reads.spelled; orig_is = e.takes.orig; answ_is = e.takes.answ };
       left = e.left;
@@ -75,7 +76,7 @@ ran-of laws old before new n end last e =
       };
       trace = Holds-kept before new n.trace e.left.trace last.goes_on e.holds.1.1.0 (last.names n.trace tt);
       few = laws.soon c e.files e.run.turns e.run.ends e.takes.limits e.run.run;
-      starved = laws.starved c e.files end e.left e.takes.limits e.run;
+      cause = laws.causes c e.files end e.left e.takes.limits e.run;
     }
 
 -- answers by which a run itself ends

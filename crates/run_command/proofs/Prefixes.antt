@@ -22,7 +22,7 @@ use Rattle.line_run.specs.LineLaws.{SamplesAreCarried, OneIsCarried}
 use Rattle.line_run.specs.Ends.{RunEnd, Left, MayRun, RunsLeavePrefixes, DoneLeavesWhole, RunsLeaveWhatPassed}
 use Rattle.line_run.specs.Scripted.{channel_of, link_of, ScriptsMayPlay, ScriptsHaveDelays}
 use Rattle.line_ends.specs.Scripts.{LineRunsEndSoon}
-use Rattle.line_ends.specs.Causes.{LostLinksWereStarved}
+use Rattle.line_ends.specs.Causes.{EndsHaveCauses}
 use Rattle.command_base.specs.declared.status.Status.{Status}
 use Rattle.command_base.specs.declared.status.Status.TheVariants.{LineLost, NotDetected, LinkLost, ChanceMatch}
 use Rattle.command_base.specs.declared.stop.Stop.{Stop}
@@ -49,7 +49,7 @@ pub record RunLaws : Type 0 where
   pub whole : DoneLeavesWhole
   pub passed : RunsLeaveWhatPassed
   pub soon : LineRunsEndSoon
-  pub starved : LostLinksWereStarved
+  pub causes : EndsHaveCauses
   pub least : OfEachCode ReleasedIsLeast
 
 pub may-run : RunLaws → (script : ScriptValue) (files : Both (List ℕ)) → IsInLimits script

@@ -7,6 +7,8 @@ use Rattle.roles.specs.Both.{Both}
 use Rattle.noise_script.specs.Script.{ScriptValue}
 use Rattle.line_run.specs.Ends.{RunEnd}
 use Rattle.line_run.specs.Ends as runs
+use Rattle.line_run.specs.Scripted.{channel_of}
+use Rattle.line_run.specs.Scripts.{LineRunsEndSoon}
 use Rattle.run_world.specs.Limits.{file_limit}
 use Rattle.run_world.specs.declared.step.RunFault.{RunFault}
 use Rattle.run_world.specs.declared.step.RunFault.TheVariants as faults
@@ -121,36 +123,42 @@ ran-to old mid now next n script end p r =
     }
 
 -- or for the folder
-stops-in : (old mid now next : FolderState) (n : RunNames) (script : ScriptValue) → Phases LIMITS old mid now next n script
+stops-in : LineRunsEndSoon → (old mid now next : FolderState) (n : RunNames) (script : ScriptValue) → Phases LIMITS old mid now next n script
     → RunStops script next (names_written n) → StopsInTurn LIMITS old next n
-stops-in old mid now next n script p r =
-    record { script = script; files = r.files; takes = takes old mid now next n script r.files p r.knows; stops = r.stops }
+stops-in soon old mid now next n script p r =
+    record {
+      script = script;
+      files = r.files;
+      takes = takes old mid now next n script r.files p r.knows;
+      stops = r.stops;
+      few = soon (channel_of script) r.files r.stops.turns r.stops.ends p.begun.limits r.stops.run;
+    }
 
-stops-in-reading : (old mid now next : FolderState) (n : RunNames) (script : ScriptValue) → Phases LIMITS old mid now next n script
+stops-in-reading : LineRunsEndSoon → (old mid now next : FolderState) (n : RunNames) (script : ScriptValue) → Phases LIMITS old mid now next n script
     → RunStopsReading script next (names_written n) → StopsInReading LIMITS old next n
 unfolding stops-in
-stops-in-reading old mid now next n script p r = (stops-in old mid now next n script p r.0, r.1)
+stops-in-reading soon old mid now next n script p r = (stops-in soon old mid now next n script p r.0, r.1)
 
 -- a turn's fault ended the run
-pub ends-in-turn : (old mid now next : FolderState) (n : RunNames) (script : ScriptValue) (fault : RunFault)
+pub ends-in-turn : LineRunsEndSoon → (old mid now next : FolderState) (n : RunNames) (script : ScriptValue) (fault : RunFault)
     → Phases LIMITS old mid now next n script → FaultCounts now next (names_written n) fault → FaultEnds script next (names_written n) fault
     → EndsBy LIMITS old next n (fault_stop fault)
-ends-in-turn old mid now next n script faults.ReadFault p counts e =
+ends-in-turn soon old mid now next n script faults.ReadFault p counts e =
     inr (
       refl,
       SomeRose-earlier old.read_faults now.read_faults next.read_faults (files_of n)
           (λ name. p.stand.faults.reads name ∙ p.begun.stand.faults.reads name) counts,
-      stops-in-reading old mid now next n script p e,
+      stops-in-reading soon old mid now next n script p e,
     )
-ends-in-turn old mid now next n script faults.WriteFault p counts e = inr (stops-in old mid now next n script p e)
-ends-in-turn old mid now next n script faults.NoMemory p counts e = inr (stops-in old mid now next n script p e)
-ends-in-turn old mid now next n script (faults.LineLost role symbol) p counts e =
+ends-in-turn soon old mid now next n script faults.WriteFault p counts e = inr (stops-in soon old mid now next n script p e)
+ends-in-turn soon old mid now next n script faults.NoMemory p counts e = inr (stops-in soon old mid now next n script p e)
+ends-in-turn soon old mid now next n script (faults.LineLost role symbol) p counts e =
     inr (ran-to old mid now next n script (runs.LineLost role symbol) p e)
-ends-in-turn old mid now next n script (faults.ChanceMatch role turn) p counts e =
+ends-in-turn soon old mid now next n script (faults.ChanceMatch role turn) p counts e =
     inr (ran-to old mid now next n script (runs.ChanceMatch role turn) p e)
-ends-in-turn old mid now next n script (faults.NotDetected turn) p counts e =
+ends-in-turn soon old mid now next n script (faults.NotDetected turn) p counts e =
     inr (ran-to old mid now next n script (runs.NotDetected turn) p e)
-ends-in-turn old mid now next n script (faults.LinkLost role segment turn) p counts e =
+ends-in-turn soon old mid now next n script (faults.LinkLost role segment turn) p counts e =
     inr (ran-to old mid now next n script (runs.LinkLost role segment turn) p e)
 
 -- what a turn's fault counts

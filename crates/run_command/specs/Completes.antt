@@ -1,5 +1,5 @@
--- When nothing but want of memory keeps a run from being done.
-use Rattle.std.specs.Prelude.{◌≡◌, ℕ, ◌*◌, ◌<◌, ◌≤◌, IsTrue, List, [], length}
+-- Which answer the inputs have over a sound folder, and when nothing but want of memory keeps a run from being done.
+use Rattle.std.specs.Prelude.{◌≡◌, ◌⊎◌, ℕ, ◌*◌, ◌<◌, ◌≤◌, IsTrue, List, [], length}
 use Rattle.plain_lists.specs.Octets.{AreOctets}
 use Rattle.outside_calls.specs.Folder.{FolderState, octets_at}
 use Rattle.roles.specs.declared.role.Role.{Role}
@@ -11,8 +11,12 @@ use Rattle.line_run.specs.Ends.{RunEnd, Left}
 use Rattle.line_ends.specs.Completes.{ScriptRunsTo, heard_turns, IsFaint, IsQuiet, slots_named}
 use Rattle.line_ends.specs.Carried.{LineStays, IsCarried}
 use Rattle.command_base.specs.declared.status.Status.{Status}
+use Rattle.command_base.specs.declared.status.Status.TheVariants.{NoMemory}
 use Rattle.command_base.specs.Sound.{IsSound, DoneUnlessMemory}
 use Rattle.run_inputs.specs.Words.{RunNames, inputs_of, outputs_of}
+use Rattle.run_inputs.specs.Answers.{answer_of}
+use Rattle.several_outputs.specs.Outputs.{HoldEach}
+use Rattle.run_world.specs.Turns.{held_of}
 
 -- The line doesn't end the run, and fewer slots are lost in it than one for each two tries.
 pub record LosesFew (script : ScriptValue) (files : Both (List ℕ)) : Type 0 where
@@ -58,9 +62,21 @@ DoneWhere old new n s Holds =
     IsSound old new (inputs_of n) (outputs_of n) → (script : ScriptValue) → AreRight old n script → Holds script (files_at old n)
     → DoneUnlessMemory s
 
+-- The answer is that to this end of a run, and the outputs hold what it leaves.
+pub record Answered (new : FolderState) (n : RunNames) (end : RunEnd) (left : Left) (s : Status) : Type 0 where
+  pub answer : s ≡ answer_of end
+  pub holds : HoldEach new (outputs_of n) (held_of left)
+
+-- However the run of right inputs ends over a sound folder, that is the answer, but for want of memory.
+abbrev pub AnsweredByItsEnd : FolderState → FolderState → RunNames → Status → Type 0
+AnsweredByItsEnd old new n s =
+    IsSound old new (inputs_of n) (outputs_of n) → (script : ScriptValue) → AreRight old n script → (end : RunEnd) (left : Left)
+    → ScriptRunsTo script (files_at old n) end left → Answered new n end left s ⊎ (s ≡ NoMemory)
+
 -- The run is done, but for want of memory: where it is carried to its end; where it loses few slots; and, whatever else its script says and
 -- its files hold, where few are named and noise is faint, so also where the script is quiet, and where nothing disturbs it.
 pub record Completes (old new : FolderState) (n : RunNames) (s : Status) : Type 0 where
+  pub exact : AnsweredByItsEnd old new n s
   pub carried : DoneWhere old new n s IsCarried
   pub few_losses : DoneWhere old new n s LosesFew
   pub few_named : DoneWhere old new n s NamesFew

@@ -8,6 +8,7 @@ use Rattle.noise_script.specs.Script.{ScriptValue, IsInLimits}
 use Rattle.line_run.specs.Ends.{RunEnd, Left, RunsTo}
 use Rattle.line_run.specs.Ends as runs
 use Rattle.line_run.specs.Scripted.{channel_of, link_of}
+use Rattle.line_run.specs.Scripts.{HasFewTurns}
 use Rattle.run_world.specs.Link.{AreWithin}
 use Rattle.run_world.specs.declared.step.RunFault.{RunFault}
 use Rattle.run_world.specs.declared.step.RunFault.TheVariants as faults
@@ -51,12 +52,13 @@ pub record RanTo (l : Limits) (old new : FolderState) (n : RunNames) (end : RunE
   pub run : RunsTo (channel_of script) (link_of script files) end left
   pub holds : HoldEach new (outputs_of n) (held_of left)
 
--- The folder failed in a turn of the run of the inputs.
+-- The folder failed in a turn of the run of the inputs, behind few turns.
 pub record StopsInTurn (l : Limits) (old new : FolderState) (n : RunNames) : Type 0 where
   pub script : ScriptValue
   pub files : Both (List ℕ)
   pub takes : Takes l old n script files
   pub stops : StopsAfter (channel_of script) (link_of script files) new (names_written n)
+  pub few : HasFewTurns script files stops.turns stops.ends
 
 -- It failed to read a file that is sent.
 abbrev pub StopsInReading : Limits → FolderState → FolderState → RunNames → Type 0

@@ -4,16 +4,16 @@ use Rattle.plain_lists.specs.Prefix.{IsPrefixOf}
 use Rattle.outside_calls.specs.Folder.{FolderState, held_at, octets_at, KeepsName, Said}
 use Rattle.roles.specs.declared.role.Role.TheVariants.{Originator, Answerer}
 use Rattle.roles.specs.Both.{Both}
-use Rattle.noise_script.specs.Script.{ScriptValue, delay_of}
+use Rattle.noise_script.specs.Script.{ScriptValue, IsInLimits, delay_of}
 use Rattle.noise_script.specs.Grammar.{ScriptSpelling}
 use Rattle.link_run.specs.Run.{Link, Turn}
 use Rattle.link_run.specs.Laws.{agreed_srej}
 use Rattle.link_run.specs.Taken.{taken_octets}
-use Rattle.line_run.specs.Ends.{RunEnd, Left, RunsTo, StarvedBy, turns_heard}
+use Rattle.line_run.specs.Ends.{RunEnd, Left, RunsTo, turns_heard}
 use Rattle.line_run.specs.Ends as runs
 use Rattle.line_run.specs.Scripted.{channel_of, link_of}
 use Rattle.line_ends.specs.Scripts.{HasFewTurns}
-use Rattle.line_ends.specs.Causes.{GivesUp}
+use Rattle.line_ends.specs.Causes.{HasCause}
 use Rattle.command_base.specs.declared.status.Status.{Status}
 use Rattle.command_base.specs.declared.status.Status.TheVariants.{Done, LineLost, NotDetected, LinkLost, ChanceMatch}
 use Rattle.command_base.specs.Job.{Shared}
@@ -45,9 +45,10 @@ pub record HoldWhatPassed (f : FolderState) (n : RunNames) (script : ScriptValue
   pub got_a : Holds f n.got_a (taken_octets (agreed_srej link) (delay_of script) Answerer ts)
 
 -- The run of the folder's script and files ended so: each outcome was read off the line, the received files hold what passed, the trace holds
--- its text, there were few turns, and no link was given up but for losses that went on.
+-- its text, there were few turns, and its end has its cause: no link was given up but for losses that went on.
 pub record Ran (old new : FolderState) (n : RunNames) (end : RunEnd) : Type 0 where
   pub script : ScriptValue
+  pub limits : IsInLimits script
   pub files : Both (List ℕ)
   pub are_of : AreOf old n script files
   pub left : Left
@@ -58,7 +59,7 @@ pub record Ran (old new : FolderState) (n : RunNames) (end : RunEnd) : Type 0 wh
   pub got : HoldWhatPassed new n script (link_of script files) heard
   pub trace : Holds new n.trace left.trace
   pub few : HasFewTurns script files run.turns run.ends
-  pub starved : GivesUp end → StarvedBy script heard
+  pub cause : HasCause (channel_of script) files end left run
 
 -- the run, where the answer is one by which a run itself ends; done says its last turn
 abbrev pub RanBy : FolderState → FolderState → RunNames → Status → Type 0

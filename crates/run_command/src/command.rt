@@ -18,6 +18,7 @@ ghost use Rattle.run_command.specs.Completes.{Completes};
 use crate::laws::{answers_keep_the_headline, right_runs_are_done};
 use crate::outputs::create_all;
 use command_base::{Status, Stop, tell, tell_stop, write_done};
+use line_run::laws::line_runs_end_soon;
 use outside_calls::{Folder, FolderFault};
 use run_inputs::laws::apart_names_differ;
 use run_inputs::{LIMITS, RunWords, open_inputs};
@@ -75,6 +76,7 @@ fn run_world<F: Folder>(
     ensures counts { EndCounts (F.state folder.old) (F.state folder.new) (inputs_of (named words.now)) (outputs_of (named words.now)) result }
 {
     apart_names_differ();
+    line_runs_end_soon();
     match create_all(folder, words) {
         Ok(()) => {}
         Err(fault) => return Err(Stop::Write(fault)),
@@ -133,8 +135,8 @@ pub fn run<F: Folder>(
     // Each end receives a prefix of the other's file, and done means that both are whole. The run is that of the script and the files.
     ensures headline { Headline (F.state folder.old) (F.state folder.new) (named names.now) result }
 
-    // Where the inputs are right and the folder is sound, nothing but want of memory keeps the run from being done, if the line carries it
-    // to its end, or loses few slots of it, or the script names few and its noise is faint.
+    // Where the inputs are right and the folder is sound, and but for want of memory, the answer is that to how their run ends. It is done if
+    // the line carries it to its end, or loses few slots of it, or the script names few and its noise is faint.
     ensures completes { Completes (F.state folder.old) (F.state folder.new) (named names.now) result }
 
     // Each answer comes where it has to, with its line.

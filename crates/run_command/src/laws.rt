@@ -11,7 +11,9 @@ ghost use Rattle.run_command.specs.Completes.{Completes};
 use line_ends::laws::{
     line_runs_end_soon, lost_links_were_starved, undisturbed_runs_complete, unstarved_runs_complete,
 };
-use line_run::laws::{runs_leave_prefixes, samples_are_carried, scripts_make_links};
+use line_run::laws::{
+    one_result, runs_leave_prefixes, samples_are_carried, scripts_make_links,
+};
 use link_run::laws::{prefixes, turns_deliver_what_came};
 use noise_script::laws::{one_answer, spelled_scripts_are_in_limits};
 use survivors::laws::released_labels_begin_a_least_sequence;
@@ -30,10 +32,12 @@ pub(crate) fn answers_keep_the_headline()
     released_labels_begin_a_least_sequence();
 }
 
-/// Where the inputs are right, the folder is sound, and the run is carried to its end, or its losses are few, it is done, but for want of memory.
+/// Where the inputs are right and the folder is sound, the answer is that to how their run ends, but for want of memory; where besides the
+/// run is carried to its end, or its losses are few, it is done.
 pub(crate) fn right_runs_are_done()
     ensures { (words : List (List ℕ)) (old new : FolderState) (n : RunNames) (s : Status) → Answers (run_job n) words old new s → Completes old new n s }
 {
+    one_result();
     one_answer();
     spelled_scripts_are_in_limits();
     lost_links_were_starved();

@@ -2,3 +2,4 @@ pub mod Words
 pub mod Scripts
 pub mod Lengths
 pub mod Inputs
+pub mod Answers

@@ -1,5 +1,5 @@
 -- From every answer to the headline, and to when a soak is done.
-use Rattle.std.proofs.Common.{◌≡◌, ◌≢◌, ◌∙◌, ℕ, List, [], ◌++◌, Result, Ok, Err, refl, sym, ap, subst}
+use Rattle.std.proofs.Common.{◌≡◌, ◌≢◌, ◌∙◌, ◌⊎◌, inl, inr, ℕ, List, [], ◌++◌, Result, Ok, Err, refl, sym, ap, subst}
 use Rattle.std.specs.Option.{option_map}
 use Rattle.outside_calls.specs.Folder.{FolderState}
 use Rattle.outside_calls.specs.Steps.{CountsStand-refl, FaultsStand-refl}
@@ -7,13 +7,13 @@ use Rattle.roles.specs.declared.role.Role.{Role}
 use Rattle.roles.specs.declared.role.Role.TheVariants.{Originator, Answerer}
 use Rattle.roles.specs.Role.{other}
 use Rattle.roles.specs.Both.{of}
-use Rattle.line_run.specs.Ends.{RunEnd, MayRun, RunsLeavePrefixes, DoneLeavesWhole}
+use Rattle.line_run.specs.Ends.{RunEnd, Left, MayRun, RunsLeavePrefixes, DoneLeavesWhole, OneResult}
 use Rattle.line_run.specs.Ends as runs
 use Rattle.line_run.specs.Scripted.{ScriptsMayPlay, ScriptsHaveDelays}
 use Rattle.line_ends.specs.Scripts.{LineRunsEndSoon}
-use Rattle.line_ends.specs.Causes.{GivesUp, LostLinksWereStarved}
+use Rattle.line_ends.specs.Causes.{GivesUp, LostLinksWereStarved, EndsHaveCauses}
 use Rattle.command_base.specs.declared.status.Status.{Status}
-use Rattle.command_base.specs.declared.status.Status.TheVariants.{Done, LineLost, NotDetected, LinkLost, ChanceMatch}
+use Rattle.command_base.specs.declared.status.Status.TheVariants.{Done, LineLost, NotDetected, LinkLost, ChanceMatch, NoMemory}
 use Rattle.command_base.specs.declared.stop.Stop.{Stop}
 use Rattle.command_base.specs.declared.stop.Stop.TheVariants as stops
 use Rattle.command_base.specs.Stops.{IsOwn, StopCounts, end_status}
@@ -21,7 +21,10 @@ use Rattle.command_base.specs.Job.{Answers, SaysStop}
 use Rattle.command_base.specs.Lines.{soak_line}
 use Rattle.command_base.specs.Tells.{Tells}
 use Rattle.command_base.proofs.Answering.{IsPlain}
-use Rattle.command_base.proofs.Jobs.{last-plain, done-of, done-unless-memory, shared-of}
+use Rattle.command_base.specs.Sound.{IsSound}
+use Rattle.command_base.proofs.Jobs.{last-plain, done-of, done-unless-memory, shared-of, Comes, is_done, is_own, is_memory, comes-to}
+use Rattle.run_inputs.specs.Answers.{answer_of}
+use Rattle.line_ends.specs.Completes.{ScriptRunsTo}
 use Rattle.outside_calls.proofs.OnlyOutputs.{OnlyOutputs-refl}
 use Rattle.line_ends.specs.Carried.{IsCarried}
 use Rattle.soak_inputs.specs.Soak.{soak_file, soak_script}
@@ -81,7 +84,7 @@ pub record SoakLaws : Type 0 where
   pub prefixes : RunsLeavePrefixes
   pub whole : DoneLeavesWhole
   pub soon : LineRunsEndSoon
-  pub starved : LostLinksWereStarved
+  pub causes : EndsHaveCauses
 
 may-run : SoakLaws → (seed : ℕ) (end : RunEnd) → SoakEnds seed end → MayRun (soak_channel seed) (soak_link seed)
 may-run laws seed end e = record {
@@ -100,7 +103,7 @@ soaks-of laws seed end e = record {
   begins = λ role. let p = laws.prefixes (soak_channel seed) (soak_link seed) end e.left (may-run laws seed end e) e.run role in
       (p.0, p.1 ∙ file-of seed (other role));
   few = laws.soon (soak_channel seed) (soak_files seed) e.run.turns e.run.ends e.limits e.run.run;
-  starved = laws.starved (soak_channel seed) (soak_files seed) end e.left e.limits e.run;
+  cause = laws.causes (soak_channel seed) (soak_files seed) end e.left e.limits e.run;
 }
 
 -- the answer is that of the run's end
@@ -165,7 +168,34 @@ never-ran starved seed (LineLost role symbol) c e = c.stays (runs.LineLost role 
 never-ran starved seed (ChanceMatch role turn) c e = c.stays (runs.ChanceMatch role turn) e.left e.run tt
 never-ran starved seed answer c e = e
 
-pub completes-of : LostLinksWereStarved → (words : List (List ℕ)) (old new : FolderState) (seed : ℕ) (s : Status)
+-- the end of the run that an answer names
+own-end : (seed : ℕ) (answer : Status) → ends.RanBy seed answer → (found : RunEnd) × (answer ≡ answer_of found) × SoakEnds seed found
+own-end seed (LinkLost role segment turn) e = (runs.LinkLost role segment turn, refl, e)
+own-end seed (NotDetected turn) e = (runs.NotDetected turn, refl, e)
+own-end seed (LineLost role symbol) e = (runs.LineLost role symbol, refl, e)
+own-end seed (ChanceMatch role turn) e = (runs.ChanceMatch role turn, refl, e)
+own-end seed answer e = absurd e
+
+exact-of : OneResult → (words : List (List ℕ)) (old new : FolderState) (seed : ℕ) (s : Status) → Answers (soak_job seed) words old new s
+    → IsSound old new [] [] → (end : RunEnd) (left : Left) → ScriptRunsTo (soak_script seed) (soak_files seed) end left
+    → (s ≡ answer_of end) ⊎ (s ≡ NoMemory)
+exact-of law words old new seed s a sound end left run = by (comes-to (soak_job seed) words old new s a sound)
+  where
+    so : (found : RunEnd) → SoakEnds seed found → s ≡ answer_of found → (s ≡ answer_of end) ⊎ (s ≡ NoMemory)
+    so found e is = inl (is ∙ ap answer_of (law (soak_channel seed) (soak_link seed) found end e.left left e.run run).0)
+
+    by : Comes a.end s → (s ≡ answer_of end) ⊎ (s ≡ NoMemory)
+    by (is_done counts is e) =
+        let soaked : IsSoaked seed counts = subst (λ (x : Result SoakCounts Stop). Ends seed x) is a.ends.0 in
+        so (runs.IsDone counts.turn) soaked.ends e
+    by (is_own answer is e) =
+        let found = own-end seed answer (subst (λ (x : Result SoakCounts Stop). Ends seed x) is a.ends.0) in
+        so found.0 found.2 (e ∙ found.1)
+    by (is_memory e) = inr e
+
+pub completes-of : OneResult → LostLinksWereStarved → (words : List (List ℕ)) (old new : FolderState) (seed : ℕ) (s : Status)
     → Answers (soak_job seed) words old new s → Completes old new seed s
-completes-of starved words old new seed s a sound c =
-    done-unless-memory (soak_job seed) words old new s a sound (λ answer e. never-ran starved seed answer c e.0)
+completes-of law starved words old new seed s a = record {
+  exact = exact-of law words old new seed s a;
+  carried = λ sound c. done-unless-memory (soak_job seed) words old new s a sound (λ answer e. never-ran starved seed answer c e.0);
+}

@@ -5,27 +5,25 @@ use Rattle.outside_calls.specs.Folder.{FolderState, Said}
 use Rattle.roles.specs.declared.role.Role.{Role}
 use Rattle.roles.specs.Role.{other}
 use Rattle.roles.specs.Both.{of}
-use Rattle.line_run.specs.Ends.{RunEnd, StarvedBy, turns_heard}
+use Rattle.line_run.specs.Ends.{RunEnd}
 use Rattle.line_run.specs.Ends as runs
 use Rattle.line_ends.specs.Scripts.{HasFewTurns}
-use Rattle.line_ends.specs.Causes.{GivesUp}
+use Rattle.line_ends.specs.Causes.{HasCause}
 use Rattle.command_base.specs.declared.status.Status.{Status}
 use Rattle.command_base.specs.declared.status.Status.TheVariants.{Done, LineLost, NotDetected, LinkLost, ChanceMatch}
 use Rattle.command_base.specs.Job.{Shared}
 use Rattle.command_base.specs.Lines.{soak_line}
 use Rattle.soak_inputs.specs.Soak.{soak_file, soak_script}
 use Rattle.soak_command.specs.declared.counts.SoakCounts.{SoakCounts}
-use Rattle.soak_command.specs.Ends.{SoakEnds, IsSoaked, soak_channel, soak_link, soak_files}
+use Rattle.soak_command.specs.Ends.{SoakEnds, IsSoaked, soak_channel, soak_files}
 
--- The run of the seed ended so: each end received the beginning of the other's file, there were few turns, and no link was given up but for
--- losses that went on.
+-- The run of the seed ended so: each end received the beginning of the other's file, there were few turns, and its end has its cause: no link
+-- was given up but for losses that went on.
 pub record Soaks (seed : ℕ) (end : RunEnd) : Type 0 where
   pub ends : SoakEnds seed end
   pub begins : (role : Role) → IsPrefixOf (of role ends.left.got) (soak_file seed (other role))
   pub few : HasFewTurns (soak_script seed) (soak_files seed) ends.run.turns ends.run.ends
-  pub starved : GivesUp end
-      → StarvedBy (soak_script seed)
-      (turns_heard (soak_channel seed) (soak_link seed) ends.run.turns ends.run.ends end ends.left ends.run.ended)
+  pub cause : HasCause (soak_channel seed) (soak_files seed) end ends.left ends.run
 
 -- It was done, what its turns show was said, and each end received the other's file whole.
 pub record SoaksWhole (old new : FolderState) (seed : ℕ) : Type 0 where

@@ -31,7 +31,8 @@ pub fn soak<F: Folder>(alloc: Global, folder: &mut F, words: &[String], seed: u6
     // are whole.
     ensures headline { Headline (F.state folder.old) (F.state folder.new) seed result }
 
-    // Where the line carries the run to its end and saying doesn't fail, nothing but want of memory keeps it from being done.
+    // Where saying doesn't fail, the answer is that to how the seed's run ends, but for want of memory; and it is done where the line carries
+    // it to its end.
     ensures completes { Completes (F.state folder.old) (F.state folder.new) seed result }
 
     // Each answer comes where it has to, with its line.

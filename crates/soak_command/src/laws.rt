@@ -8,7 +8,7 @@ ghost use Rattle.soak_command.specs.Headline.{Headline};
 ghost use Rattle.soak_command.specs.Completes.{Completes};
 
 use line_ends::laws::{line_runs_end_soon, lost_links_were_starved};
-use line_run::laws::{runs_leave_prefixes, scripts_make_links};
+use line_run::laws::{one_result, runs_leave_prefixes, scripts_make_links};
 
 /// Whatever a soak answers, its headline holds.
 pub(crate) fn answers_keep_the_headline()
@@ -20,9 +20,11 @@ pub(crate) fn answers_keep_the_headline()
     lost_links_were_starved();
 }
 
-/// Where the line carries the run to its end and saying doesn't fail, the soak is done, but for want of memory.
+/// Where saying doesn't fail, the answer is that to how the seed's run ends, but for want of memory; where the line carries it to its end, it is
+/// done.
 pub(crate) fn carried_soaks_are_done()
     ensures { (words : List (List ℕ)) (old new : FolderState) (seed : ℕ) (s : Status) → Answers (soak_job seed) words old new s → Completes old new seed s }
 {
+    one_result();
     lost_links_were_starved();
 }

@@ -73,7 +73,7 @@ returns-in-Err-run_turns-clause-ends g c = λ begin b.
     let script : ScriptValue = script_of c.args.world.now in
     let fault = c.in-Err-run_turns.fault in
     subst (EndsBy LIMITS begin next n) (sym c.stop_of.ensures)
-    (ends-in-turn begin mid now next n script fault (record {
+    (ends-in-turn c.line_runs_end_soon.ensures.soon begin mid now next n script fault (record {
       begun = b;
       creates = c.in-Ok.ensures.only;
       turns = subst (λ (w : Written). OnlyPuts now next (written.outputs_of w)) c.names_of.ensures c.in-Err-run_turns.ensures.only;

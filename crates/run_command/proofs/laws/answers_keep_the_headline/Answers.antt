@@ -16,7 +16,7 @@ returns c =
       whole = c.runs_leave_prefixes.ensures.whole;
       passed = c.runs_leave_prefixes.ensures.passed;
       soon = c.line_runs_end_soon.ensures.soon;
-      starved = c.lost_links_were_starved.ensures.starved;
+      causes = c.lost_links_were_starved.ensures.causes;
       least = c.released_labels_begin_a_least_sequence.ensures;
     } in
     headline-of laws

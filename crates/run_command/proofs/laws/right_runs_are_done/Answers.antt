@@ -4,6 +4,7 @@ use Rattle.run_command.proofs.laws.right_runs_are_done.Goals as goal
 pub returns : goal.returns
 returns c =
     let laws : DoneLaws = record {
+      result = c.one_result.ensures;
       one = c.one_answer.ensures.scripts;
       apart = c.one_answer.ensures.apart;
       limits = c.spelled_scripts_are_in_limits.ensures.limits;

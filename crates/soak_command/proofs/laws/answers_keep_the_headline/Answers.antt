@@ -9,6 +9,6 @@ returns c =
       prefixes = c.runs_leave_prefixes.ensures.prefixes;
       whole = c.runs_leave_prefixes.ensures.whole;
       soon = c.line_runs_end_soon.ensures.soon;
-      starved = c.lost_links_were_starved.ensures.starved;
+      causes = c.lost_links_were_starved.ensures.causes;
     } in
     headline-of laws
