@@ -6,7 +6,7 @@ use Rattle.plain_lists.specs.Prefix.{IsPrefixOf}
 use Rattle.outside_calls.specs.Folder.{FolderState, octets_at, GoesOn, KeepsName, OnlyReads, HasCause, FaultsStand}
 use Rattle.outside_calls.specs.declared.folder.FolderFault.{FolderFault}
 use Rattle.outside_calls.specs.declared.folder.FolderFault.TheVariants.{Failed, NoMemory}
-use Rattle.outside_calls.specs.Steps.{GoesOn-trans, KeepsName-trans, told_later, octets-kept}
+use Rattle.outside_calls.proofs.Steps.{GoesOn-trans, KeepsName-trans, told_later, octets-kept}
 use Rattle.command_base.specs.Inputs.{IsWithin, IsLonger, ReadTo}
 use Rattle.command_base.specs.Stops.{ReadFails}
 

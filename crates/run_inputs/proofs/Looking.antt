@@ -1,14 +1,15 @@
 -- Lengths that are looked at one after the other.
 use Rattle.std.proofs.Common.{inl, inr, ℕ, ◌+◌, ◌<◌, ◌≤◌, List, [], ◌∷◌, length, Result, Ok, Err, OnOk, refl, sym, subst}
 use Rattle.outside_calls.specs.Folder.{FolderState, OnlyReads, CountsStand}
-use Rattle.outside_calls.specs.Steps.{octets-kept, told_later, CountsStand-trans}
+use Rattle.outside_calls.proofs.Steps.{octets-kept, told_later, CountsStand-trans}
 use Rattle.outside_calls.specs.declared.folder.FolderFault.{FolderFault}
 use Rattle.outside_calls.specs.declared.folder.FolderFault.TheVariants as folder
+use Rattle.outside_calls.specs.Outputs.{SomeRose}
 use Rattle.command_base.specs.declared.status.Status.TheVariants.{BadScript, TooLong}
 use Rattle.command_base.specs.declared.stop.Stop.{Stop}
 use Rattle.command_base.specs.declared.stop.Stop.TheVariants.{Own, Read, Write, Say, NoMemory}
 use Rattle.command_base.specs.Inputs.{IsWithin, IsLonger, IsNotWithin}
-use Rattle.command_base.specs.Stops.{IsOwn, SomeRose, StopCounts, EndCounts}
+use Rattle.command_base.specs.Stops.{IsOwn, StopCounts, EndCounts}
 use Rattle.command_base.proofs.Jobs.{stop-earlier}
 use Rattle.command_base.proofs.Reading.{within-earlier, longer-earlier}
 use Rattle.noise_script.specs.Script.{ScriptValue}

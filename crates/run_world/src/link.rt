@@ -2,7 +2,7 @@
 ghost use Rattle.std.specs.Prelude.{◌≡◌, ℕ, ◌+◌, ◌<◌, ◌≤◌, ◌^◌, List, length, true, is_ok, IfOk, OnOk, OnErr, IsErrOf};
 ghost use Rattle.outside_calls.specs.Folder.{OnlyReads, FaultsStand, CountsStand};
 ghost use Rattle.outside_calls.specs.Outputs.{AreApart};
-ghost use Rattle.several_outputs.specs.Outputs.{AddEach, AddPart, OnlyPuts, SomeCause};
+ghost use Rattle.outside_calls.specs.Outputs.{AddEach, AddPart, OnlyPuts, SomeCause};
 ghost use Rattle.lapm_link.specs.Fits.{IsSetUp};
 ghost use Rattle.lapm_link.specs.Stands.{undelivered_of};
 ghost use Rattle.roles.specs.Both.{Both, of};

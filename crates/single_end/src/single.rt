@@ -2,7 +2,7 @@
 ghost use Rattle.std.specs.Prelude.{◌≡◌, ℕ, ◌+◌, ◌<◌, ◌≤◌, ◌^◌, [], ◌∷◌, true, false, List, length, Err, IfOk, IfErr, OnOk, OnErr};
 ghost use Rattle.std.specs.List.{concat};
 ghost use Rattle.outside_calls.specs.Folder.{OnlyReads, OnlyWrites, Adds, Appended, PartlyAppended};
-ghost use Rattle.several_outputs.specs.Outputs.{AreApartFrom, OnlyPuts};
+ghost use Rattle.outside_calls.specs.Outputs.{AreApartFrom, OnlyPuts};
 ghost use Rattle.lapm_frames.specs.declared.arrived.Arrived.{Arrived};
 ghost use Rattle.lapm_link.specs.Fits.{IsSetUp};
 ghost use Rattle.link_account.specs.Account.{Account, fresh, given_break};

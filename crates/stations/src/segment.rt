@@ -30,6 +30,7 @@ pub(crate) fn read_segment<F: Folder>(
     ensures cause { HasCause ((F.state folder.old).read_faults name.now) ((F.state folder.new).read_faults name.now) (F.state folder.old).refusals (F.state folder.new).refusals result }
     ensures stand { OnOk result (CountsStand (F.state folder.old) (F.state folder.new)) }
     ensures spared { IsErrOf result FolderFault.NoMemory → FaultsStand (F.state folder.old) (F.state folder.new) }
+    ensures came { F.came folder.old folder.new }
 {
     let at = u64::from(size) * number;
     let left = limit - at;
