@@ -7,7 +7,7 @@ use Rattle.command_base.specs.declared.stop.Stop.{Stop}
 use Rattle.command_base.specs.declared.stop.Stop.TheVariants.{Say}
 use Rattle.command_base.specs.Status.{IsRefusal, PassesNoneOver}
 use Rattle.command_base.specs.Lines.{status_line}
-use Rattle.outside_calls.specs.Outputs.{KeepsAll, IsNoneOf, OnlyOutputs}
+use Rattle.outside_calls.specs.Outputs.{KeepsAll, IsNoneOf, OnlyOutputs, SomeRose}
 use Rattle.command_base.specs.Stops.{fault_status, stop_status, end_status, EndCounts}
 use Rattle.command_base.specs.Tells.{Tells}
 

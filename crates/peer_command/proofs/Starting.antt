@@ -17,6 +17,7 @@ use Rattle.command_base.specs.declared.stop.Stop.{Stop}
 use Rattle.command_base.specs.declared.stop.Stop.TheVariants.{Own, Read, Write, Say, NoMemory}
 use Rattle.command_base.specs.Inputs.{IsWithin, IsNotWithin}
 use Rattle.outside_calls.specs.Outputs.{KeepsAll, CreatesPart, Creates, IsNoneOf, AreNoneOf, OnlyOutputs}
+use Rattle.outside_calls.proofs.Putting.{KeepsEach-reads}
 use Rattle.command_base.proofs.Creating.{CreatesPart-earlier}
 use Rattle.command_base.proofs.Reading.{ReadTo-none, longer-earlier}
 use Rattle.command_base.proofs.Jobs.{stop-earlier}

@@ -1,6 +1,6 @@
 // A segment of a user's file.
-ghost use Rattle.std.specs.Prelude.{◌≡◌, ◌≤◌, ◌+◌, ◌*◌, ◌^◌, ◌<◌, IfOk, OnOk, IsErrOf, IsTrue, length, take, drop, min};
-ghost use Rattle.outside_calls.specs.Folder.{OnlyReads, HasCause, FaultsStand, CountsStand, octets_at};
+ghost use Rattle.std.specs.Prelude.{◌≡◌, ◌≤◌, ◌+◌, ◌*◌, ◌^◌, ◌<◌, IfOk, OnOk, IsErrOf, IsTrue, length, take};
+ghost use Rattle.outside_calls.specs.Folder.{OnlyReads, HasCause, FaultsStand, CountsStand};
 ghost use Rattle.frame_check.specs.declared.sizes.TheConstants.{INFO};
 ghost use Rattle.link_run.specs.End.{piece_at};
 ghost use Rattle.stations.specs.Station.{file_at};

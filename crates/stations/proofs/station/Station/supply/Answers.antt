@@ -114,3 +114,6 @@ returns-in-Err-clause-cause g c =
           (c.in-Err.ensures.cause.failed (as-err c.in-Err.fault _ e));
       memory = λ e. subst (λ before. Rose before next.refusals) stand.refusals (c.in-Err.ensures.cause.memory (as-err c.in-Err.fault _ e));
     }
+
+pub returns-in-Err-clause-came : goal.returns-in-Err-clause-came
+returns-in-Err-clause-came g c = g.met.F.Folder.came_on _ _ _ c.loop-number.invariant.came c.read_segment.ensures.came
