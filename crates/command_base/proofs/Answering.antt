@@ -1,7 +1,7 @@
 -- What an answer tells of the line that was said last, and of what it belongs to.
 use Rattle.std.proofs.Common.{◌≡◌, ◌≢◌, ◌⊎◌, ◌∙◌, inl, inr, ℕ, List, sym, subst, arith}
 use Rattle.outside_calls.specs.Folder.{FolderState, GoesOn, Said, Rose}
-use Rattle.outside_calls.specs.Steps.{CountsStand-trans, Rose-later}
+use Rattle.outside_calls.proofs.Steps.{CountsStand-trans, Rose-later}
 use Rattle.command_base.specs.declared.status.Status.{Status}
 use Rattle.command_base.specs.declared.status.Status.TheVariants.{Done, Usage, ReadFault, WriteFault, NoMemory}
 use Rattle.command_base.specs.Status.{IsRefusal, IsFolderFault, PassesNoneOver}

@@ -1,25 +1,14 @@
 -- Outputs that are created in order.
-use Rattle.std.proofs.Common.{inl, inr, ℕ, List, [], ◌∷◌, sym}
+use Rattle.std.proofs.Common.{inl, inr, ℕ, List, [], ◌∷◌}
 use Rattle.outside_calls.specs.Folder.{FolderState, GoesOn, KeepsName, OnlyWrites, CountsStand}
-use Rattle.outside_calls.specs.Steps.{KeepsName-trans}
+use Rattle.outside_calls.proofs.Steps.{KeepsName-trans}
 use Rattle.outside_calls.specs.declared.folder.FolderFault.{FolderFault}
 use Rattle.outside_calls.specs.declared.folder.FolderFault.TheVariants as folder
 use Rattle.outside_calls.specs.Outputs.{Holds, KeptOrEmpty, KeepsEach, IsNoneOf, CreatesPart, OnlyOutputs}
 use Rattle.command_base.specs.Stops.{WriteFails}
 use Rattle.outside_calls.proofs.Holding.{Holds-kept}
+use Rattle.outside_calls.proofs.Putting.{KeepsEach-writes, KeepsEach-trans}
 use Rattle.command_base.proofs.Jobs.{write-earlier}
-
--- a write to one name keeps each of the others
-pub KeepsEach-writes : (old new : FolderState) (name : List ℕ) (names : List (List ℕ)) → IsNoneOf name names → OnlyWrites old new name
-    → KeepsEach old new names
-KeepsEach-writes old new name [] apart w = tt
-KeepsEach-writes old new name (other ∷ names) apart w =
-    (w.names other (λ e. apart.0 (sym e)), KeepsEach-writes old new name names apart.1 w)
-
-KeepsEach-trans : (old mid new : FolderState) (names : List (List ℕ)) → GoesOn old mid → KeepsEach old mid names → KeepsEach mid new names
-    → KeepsEach old new names
-KeepsEach-trans old mid new [] g p q = tt
-KeepsEach-trans old mid new (name ∷ names) g p q = (KeepsName-trans old mid new name g p.0 q.0, KeepsEach-trans old mid new names g p.1 q.1)
 
 kept-earlier : (old mid new : FolderState) (name : List ℕ) → GoesOn old mid → KeepsName old mid name → KeptOrEmpty mid new name
     → KeptOrEmpty old new name

@@ -1,7 +1,7 @@
 -- From how a command answers to what every command promises.
 use Rattle.std.proofs.Common.{◌≡◌, ◌≢◌, ◌⊎◌, ◌∙◌, ◌≤◌, inl, inr, ℕ, List, [], ◌∷◌, Result, Ok, Err, refl, sym, subst, arith}
 use Rattle.outside_calls.specs.Folder.{FolderState, GoesOn, Said, Rose, CountsStand}
-use Rattle.outside_calls.specs.Steps.{KeepsName-trans, Rose-later, FaultsStand-trans, CountsStand-trans}
+use Rattle.outside_calls.proofs.Steps.{KeepsName-trans, Rose-later, FaultsStand-trans, CountsStand-trans}
 use Rattle.outside_calls.specs.declared.folder.FolderFault.{FolderFault}
 use Rattle.outside_calls.specs.declared.folder.FolderFault.TheVariants as folder
 use Rattle.command_base.specs.declared.status.Status.{Status}
@@ -9,29 +9,17 @@ use Rattle.command_base.specs.declared.status.Status.TheVariants as status
 use Rattle.command_base.specs.declared.stop.Stop.{Stop}
 use Rattle.command_base.specs.declared.stop.Stop.TheVariants.{Own, Read, Write, Say, NoMemory}
 use Rattle.command_base.specs.Status.{IsRefusal, IsFolderFault, PassesNoneOver}
-use Rattle.outside_calls.specs.Outputs.{KeepsAll, OnlyOutputs}
-use Rattle.command_base.specs.Stops.{SomeRose, IsOwn, ReadFails, WriteFails, SayFails, StopCounts, EndCounts, fault_status, stop_status}
-use Rattle.command_base.specs.Stops.{end_status}
+use Rattle.outside_calls.specs.Outputs.{KeepsAll, OnlyOutputs, SomeRose}
+use Rattle.command_base.specs.Stops.{IsOwn, ReadFails, WriteFails, SayFails, StopCounts, EndCounts, fault_status, stop_status, end_status}
 use Rattle.command_base.specs.Job.{Job, SaysLast, Answers, Shared}
 use Rattle.command_base.specs.Sound.{NoneRose, IsSound, DoneUnlessMemory}
 use Rattle.command_base.specs.Tells.{Tells}
 use Rattle.outside_calls.proofs.OnlyOutputs.{OnlyOutputs-refl, OnlyOutputs-says}
+use Rattle.outside_calls.proofs.Putting.{SomeRose-earlier, SomeRose-later}
 use Rattle.command_base.proofs.Answering.{IsPlain, done-plain, read-plain, usage-plain, tells-plain, tells-fault, tells-memory}
 use Rattle.command_base.proofs.Answering.{tells-refusal, told-or-memory, stand-later}
 
 -- ---- counts over several steps
-
-SomeRose-later : (before mid now : List ℕ → ℕ) (names : List (List ℕ)) → ((name : List ℕ) → mid name ≤ now name) → SomeRose before mid names
-    → SomeRose before now names
-SomeRose-later before mid now [] on rose = rose
-SomeRose-later before mid now (name ∷ names) on (inl rose) = inl (Rose-later _ _ (mid name) (now name) (omega arith) rose (on name))
-SomeRose-later before mid now (name ∷ names) on (inr rose) = inr (SomeRose-later before mid now names on rose)
-
-SomeRose-earlier : (before mid now : List ℕ → ℕ) (names : List (List ℕ)) → ((name : List ℕ) → mid name ≡ before name)
-    → SomeRose mid now names → SomeRose before now names
-SomeRose-earlier before mid now [] same rose = rose
-SomeRose-earlier before mid now (name ∷ names) same (inl rose) = inl (subst (λ (count : ℕ). Rose count (now name)) (same name) rose)
-SomeRose-earlier before mid now (name ∷ names) same (inr rose) = inr (SomeRose-earlier before mid now names same rose)
 
 read-earlier : (old mid new : FolderState) (inputs : List (List ℕ)) (fault : FolderFault) → CountsStand old mid
     → ReadFails mid new inputs fault → ReadFails old new inputs fault

@@ -2,15 +2,16 @@
 use Rattle.std.proofs.Common.{◌≡◌, ◌∙◌, ℕ, ◌+◌, ◌-◌, ◌≤◌, ◌<◌, min, List, [], ◌++◌, IsTrue, length, take, take-add, drop, refl, sym, ap}
 use Rattle.std.proofs.Common.{subst, arith, length-append, inl, ◌∷◌, Err, IsErrOf}
 use Rattle.std.proofs.lemmas.List.{take-append-drop, take_all, drop_all}
+use Rattle.plain_lists.specs.Octets.{AreOctets}
 use Rattle.plain_lists.specs.Prefix.{IsPrefixOf}
-use Rattle.outside_calls.specs.Folder.{FolderState, octets_at, GoesOn, KeepsName, OnlyReads, HasCause, FaultsStand}
+use Rattle.outside_calls.specs.Folder.{FolderState, TellsOctets, octets_at, GoesOn, KeepsName, OnlyReads, HasCause, FaultsStand}
 use Rattle.outside_calls.specs.declared.folder.FolderFault.{FolderFault}
 use Rattle.outside_calls.specs.declared.folder.FolderFault.TheVariants.{Failed, NoMemory}
-use Rattle.outside_calls.specs.Steps.{GoesOn-trans, KeepsName-trans, told_later, octets-kept}
+use Rattle.outside_calls.proofs.Steps.{GoesOn-trans, KeepsName-trans, told_later, octets-kept}
 use Rattle.command_base.specs.Inputs.{IsWithin, IsLonger, ReadTo}
 use Rattle.command_base.specs.Stops.{ReadFails}
 
--- an input that is within its limit, or longer, was so before others were read
+-- an input that is within its limit, or longer, or is octets, was so before others were read
 pub within-earlier : (old mid : FolderState) (name : List ℕ) (limit : ℕ) → OnlyReads old mid → IsWithin mid name limit
     → IsWithin old name limit
 within-earlier old mid name limit reads within told =
@@ -22,6 +23,10 @@ pub longer-earlier : (old mid : FolderState) (name : List ℕ) (limit : ℕ) →
 longer-earlier old mid name limit reads longer told =
     subst (λ (o : List ℕ). limit < length o) (octets-kept old mid name (reads.names name) told)
     (longer (told_later reads.goes_on name told))
+
+pub octets-earlier : (old mid : FolderState) (name : List ℕ) → OnlyReads old mid → TellsOctets mid name → TellsOctets old name
+octets-earlier old mid name reads octets told =
+    subst AreOctets (octets-kept old mid name (reads.names name) told) (octets (told_later reads.goes_on name told))
 
 -- nothing was read yet
 pub ReadTo-none : (start now : FolderState) (name : List ℕ) (limit : ℕ) → IsWithin start name limit → GoesOn start now

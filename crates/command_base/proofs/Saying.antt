@@ -3,7 +3,7 @@ use Rattle.std.proofs.Common.{inl, inr, IsErrOf, ◌≡◌, ◌∙◌, ℕ, List
 use Rattle.std.proofs.Common.{refl, sym, ap, append_assoc}
 use Rattle.std.specs.Option.{option_map}
 use Rattle.outside_calls.specs.Folder.{FolderState, GoesOn, FaultsStand, OnlySays, HasCause, Said, PartlySaid}
-use Rattle.outside_calls.specs.Steps.{GoesOn-trans, KeepsName-trans, Rose-later}
+use Rattle.outside_calls.proofs.Steps.{GoesOn-trans, KeepsName-trans, Rose-later}
 use Rattle.outside_calls.specs.declared.folder.FolderFault.{FolderFault}
 use Rattle.outside_calls.specs.declared.folder.FolderFault.TheVariants.{Failed, NoMemory}
 use Rattle.command_base.specs.declared.status.Status.{Status}

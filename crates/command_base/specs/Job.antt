@@ -7,8 +7,8 @@ use Rattle.command_base.specs.declared.stop.Stop.{Stop}
 use Rattle.command_base.specs.declared.stop.Stop.TheVariants.{Say}
 use Rattle.command_base.specs.Status.{IsRefusal, PassesNoneOver}
 use Rattle.command_base.specs.Lines.{status_line}
-use Rattle.outside_calls.specs.Outputs.{KeepsAll, IsNoneOf, OnlyOutputs}
-use Rattle.command_base.specs.Stops.{SomeRose, fault_status, stop_status, end_status, EndCounts}
+use Rattle.outside_calls.specs.Outputs.{KeepsAll, IsNoneOf, OnlyOutputs, SomeRose}
+use Rattle.command_base.specs.Stops.{fault_status, stop_status, end_status, EndCounts}
 use Rattle.command_base.specs.Tells.{Tells}
 
 -- A job that is done with a value of D: the names that it reads and writes, how it ends, and the line that is said once it is done.

@@ -1,8 +1,9 @@
 -- Why a job stops before it is done: its status, and what the folder counted.
-use Rattle.std.specs.Prelude.{◌⊎◌, ℕ, List, [], ◌∷◌, Result, Ok, Err}
+use Rattle.std.specs.Prelude.{ℕ, List, Result, Ok, Err}
 use Rattle.outside_calls.specs.Folder.{FolderState, Rose, FaultsStand, CountsStand}
 use Rattle.outside_calls.specs.declared.folder.FolderFault.{FolderFault}
 use Rattle.outside_calls.specs.declared.folder.FolderFault.TheVariants as folder
+use Rattle.outside_calls.specs.Outputs.{SomeRose}
 use Rattle.command_base.specs.declared.status.Status.{Status}
 use Rattle.command_base.specs.declared.status.Status.TheVariants as status
 use Rattle.command_base.specs.declared.stop.Stop.{Stop}
@@ -37,11 +38,6 @@ IsOwn (status.LinkLost role segment turn) = Unit {0}
 IsOwn (status.ChanceMatch role turn) = Unit {0}
 IsOwn (status.PeerFault fault turn) = Unit {0}
 IsOwn answer = ⊥
-
--- of one of these names the count rose, or stands at its last value
-abbrev pub SomeRose : (List ℕ → ℕ) → (List ℕ → ℕ) → List (List ℕ) → Type 0
-SomeRose before now [] = ⊥
-SomeRose before now (name ∷ names) = Rose (before name) (now name) ⊎ SomeRose before now names
 
 -- why one of these inputs is not read
 abbrev pub ReadFails : FolderState → FolderState → List (List ℕ) → FolderFault → Type 0

@@ -1,6 +1,6 @@
 // Steps of an input.
 ghost use Rattle.std.specs.Prelude.{◌≡◌, ◌≤◌, ◌<◌, ◌+◌, ◌-◌, ◌++◌, ℕ, List, [], ◌∷◌, IsTrue, IfOk, IfErr, OnOk, min, length, take, drop, vec_len};
-ghost use Rattle.outside_calls.specs.Folder.{FolderState, OnlyReads, ReadsFront, CountsStand, octets_at};
+ghost use Rattle.outside_calls.specs.Folder.{FolderState, OnlyReads, ReadsFront, TellsOctets, CountsStand, octets_at};
 ghost use Rattle.command_base.specs.Inputs.{IsWithin, IsNotWithin, FailsToHold, ReadTo};
 ghost use Rattle.command_base.specs.Stops.{ReadFails};
 
@@ -16,6 +16,7 @@ pub fn within_limit<F: Folder>(
     word: usize,
 ) -> Result<(), Stop>
     ensures within { OnOk result (IsWithin (F.state folder.old) name.now limit) }
+    ensures octets { OnOk result (TellsOctets (F.state folder.old) name.now) }
     ensures refused { IfErr result (IsNotWithin (F.state folder.old) (F.state folder.new) name.now limit word) }
     ensures reads { OnlyReads (F.state folder.old) (F.state folder.new) }
     ensures stand { OnOk result (CountsStand (F.state folder.old) (F.state folder.new)) }

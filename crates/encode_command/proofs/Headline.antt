@@ -2,7 +2,7 @@
 use Rattle.std.proofs.Common.{◌⊎◌, ◌∙◌, inl, inr, ℕ, List, [], ◌++◌, length, ◌≤◌, ◌<◌, Result, Ok, Err, ap, subst, arith}
 use Rattle.std.specs.Option.{option_map}
 use Rattle.outside_calls.specs.Folder.{FolderState, octets_at, GoesOn, KeepsName}
-use Rattle.outside_calls.specs.Steps.{KeepsName-trans}
+use Rattle.outside_calls.proofs.Steps.{KeepsName-trans}
 use Rattle.recordings.specs.Recording.{IsRecordingOf}
 use Rattle.command_base.specs.declared.limits.TheConstants.{FILE_LIMIT}
 use Rattle.command_base.specs.declared.status.Status.{Status}

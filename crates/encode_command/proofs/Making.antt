@@ -3,7 +3,7 @@ use Rattle.std.proofs.Common.{◌≡◌, ◌≢◌, ◌∙◌, inl, inr, ℕ, �
 use Rattle.std.proofs.Common.{arith, rules, append-nil, append_assoc}
 use Rattle.plain_lists.specs.Prefix.{IsPrefixOf}
 use Rattle.outside_calls.specs.Folder.{FolderState, octets_at, OnlyReads, OnlyWrites, Appended, PartlyAppended}
-use Rattle.outside_calls.specs.Steps.{KeepsName-trans}
+use Rattle.outside_calls.proofs.Steps.{KeepsName-trans}
 use Rattle.scramblers.specs.declared.mode.Mode.{Mode}
 use Rattle.plain_lists.specs.Bits.{bits_of}
 use Rattle.line_coding.proofs.Standing.{modulated}

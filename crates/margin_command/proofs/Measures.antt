@@ -4,7 +4,7 @@ use Rattle.std.proofs.Common.{subst, arith, append-nil, append_assoc}
 use Rattle.std.proofs.lemmas.Bool.{cases_lt}
 use Rattle.std.proofs.lemmas.List.{length-take, take_all}
 use Rattle.outside_calls.specs.Folder.{FolderState, octets_at, OnlyReads}
-use Rattle.outside_calls.specs.Steps.{OnlyReads-trans, told_later, octets-kept}
+use Rattle.outside_calls.proofs.Steps.{OnlyReads-trans}
 use Rattle.scramblers.specs.declared.mode.Mode.{Mode}
 use Rattle.scramblers.specs.declared.mode.Mode.TheVariants.{Call, Answer}
 use Rattle.symbol_map.specs.declared.sample.Sample.{Sample}

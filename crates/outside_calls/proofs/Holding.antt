@@ -2,7 +2,7 @@
 use Rattle.std.proofs.Common.{◌∙◌, inl, inr, ℕ, List, [], ◌++◌, Some, refl, sym, ap, subst, append-nil, append_assoc}
 use Rattle.plain_lists.specs.Prefix.{IsPrefixOf}
 use Rattle.outside_calls.specs.Folder.{FolderState, GoesOn, KeepsName, Adds, Appended, PartlyAppended}
-use Rattle.outside_calls.specs.Steps.{octets-held}
+use Rattle.outside_calls.proofs.Steps.{octets-held}
 use Rattle.outside_calls.specs.Outputs.{Holds, HoldsFront, HoldsPart}
 use Rattle.outside_calls.proofs.OnlyOutputs.{told_earlier}
 

@@ -1,2 +1,4 @@
+pub mod Steps
 pub mod OnlyOutputs
 pub mod Holding
+pub mod Putting

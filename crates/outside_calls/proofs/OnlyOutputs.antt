@@ -1,7 +1,7 @@
 -- What follows from several steps over one output, and over several.
 use Rattle.std.proofs.Common.{◌∙◌, ℕ, List, [], ◌∷◌, IsTrue, refl, subst}
 use Rattle.outside_calls.specs.Folder.{FolderState, GoesOn, OnlyReads, OnlyWrites, OnlySays}
-use Rattle.outside_calls.specs.Steps.{GoesOn-refl, GoesOn-trans, KeepsName-trans}
+use Rattle.outside_calls.proofs.Steps.{GoesOn-refl, GoesOn-trans, KeepsName-trans}
 use Rattle.outside_calls.specs.Outputs.{OnlyOutput, OnlyOutputs}
 
 -- a name that is told was told before

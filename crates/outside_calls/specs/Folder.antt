@@ -7,6 +7,7 @@ use Rattle.std.specs.Cmp.Lexicographic.{slice_cmp}
 use Rattle.std.specs.IoError.{error_kind}
 use Rattle.std.specs.declared.io.Error.{Error}
 use Rattle.std.specs.declared.io.ErrorKind.TheVariants.{OutOfMemory}
+use Rattle.plain_lists.specs.Octets.{AreOctets}
 use Rattle.plain_lists.specs.Prefix.{IsPrefixOf}
 use Rattle.outside_calls.specs.declared.folder.FolderFault.{FolderFault}
 use Rattle.outside_calls.specs.declared.folder.FolderFault.TheVariants.{Failed, NoMemory}
@@ -95,6 +96,10 @@ abbrev pub ReadsFront : FolderState → List ℕ → ℕ → List ℕ → List �
 ReadsFront f name at before after count =
     IsTrue (f.tells name) → let rest = drop at (octets_at f name) in
     (count ≡ min (length before) (length rest)) × (after ≡ take count rest ++ drop count before)
+
+-- what is told of a name are octets
+abbrev pub TellsOctets : FolderState → List ℕ → Type 0
+TellsOctets f name = IsTrue (f.tells name) → AreOctets (octets_at f name)
 
 -- octets stand behind what the name held
 abbrev pub Appended : FolderState → FolderState → List ℕ → List ℕ → Type 0

@@ -1,3 +1,2 @@
 pub mod Folder
-pub mod Steps
 pub mod Outputs

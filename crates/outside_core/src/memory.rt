@@ -2,7 +2,7 @@
 ghost use Rattle.std.specs.Prelude.{◌≡◌, ◌≤◌, ◌⊎◌, ◌++◌, [], ◌↔◌, length, unwrap_or, OnOk, OnErr, IfOk, IsErrOf, IsNone};
 ghost use Rattle.std.specs.Option.{option_map};
 ghost use Rattle.std.specs.FinMap as finite;
-ghost use Rattle.outside_calls.specs.Folder.{ReadsFront, OnlyReads, OnlyWrites, OnlySays, HasCause, FaultsStand, CountsStand, KeepsName, Appended, PartlyAppended, Created, Said, PartlySaid};
+ghost use Rattle.outside_calls.specs.Folder.{ReadsFront, OnlyReads, OnlyWrites, OnlySays, HasCause, FaultsStand, CountsStand, TellsOctets, KeepsName, Appended, PartlyAppended, Created, Said, PartlySaid};
 ghost use Rattle.outside_core.specs.Memory.{memory_folder, FailsNext, AfterRead, AfterWrite};
 
 use outside_calls::{Folder, FolderFault, NoMemory};
@@ -132,13 +132,21 @@ impl MemoryFolder {
 impl Folder for MemoryFolder {
     ghost state = { memory_folder };
 
+    ghost came = { λ a b. Unit {0} };
+
+    ghost came_none = { λ a. tt };
+
+    ghost came_on = { λ a b c p q. tt };
+
     fn read_at(&mut self, name: &str, at: u64, buf: &mut [u8]) -> Result<usize, FolderFault>
         ensures octets { IfOk result (ReadsFront (memory_folder self.old) name.now at buf.old buf.new) }
         ensures bound { IfOk result (λ count. count ≤ length buf.old) }
+        ensures told { OnOk result (TellsOctets (memory_folder self.old) name.now) }
         ensures only { OnlyReads (memory_folder self.old) (memory_folder self.new) }
         ensures cause { HasCause self.old.read_faults self.new.read_faults self.old.refusals self.new.refusals result }
         ensures stand { OnOk result (CountsStand (memory_folder self.old) (memory_folder self.new)) }
         ensures spared { IsErrOf result FolderFault.NoMemory → FaultsStand (memory_folder self.old) (memory_folder self.new) }
+        ensures came { Unit {0} }
 
         ensures failed { IsErrOf result FolderFault.Failed ↔ (FailsNext self.old ⊎ IsNone (finite.get self.old.held name.now)) }
         ensures after { AfterRead self.old self.new result }
@@ -166,6 +174,7 @@ impl Folder for MemoryFolder {
         ensures cause { HasCause self.old.write_faults self.new.write_faults self.old.refusals self.new.refusals result }
         ensures stand { OnOk result (CountsStand (memory_folder self.old) (memory_folder self.new)) }
         ensures spared { IsErrOf result FolderFault.NoMemory → FaultsStand (memory_folder self.old) (memory_folder self.new) }
+        ensures came { Unit {0} }
 
         ensures failed { IsErrOf result FolderFault.Failed ↔ FailsNext self.old }
         ensures after { AfterWrite self.old self.new (record self.old { held = finite.insert self.old.held name.now [] }) result }
@@ -192,6 +201,7 @@ impl Folder for MemoryFolder {
         ensures cause { HasCause self.old.write_faults self.new.write_faults self.old.refusals self.new.refusals result }
         ensures stand { OnOk result (CountsStand (memory_folder self.old) (memory_folder self.new)) }
         ensures spared { IsErrOf result FolderFault.NoMemory → FaultsStand (memory_folder self.old) (memory_folder self.new) }
+        ensures came { Unit {0} }
 
         ensures failed { IsErrOf result FolderFault.Failed ↔ FailsNext self.old }
         ensures after { AfterWrite self.old self.new (record self.old { held = finite.insert self.old.held name.now (unwrap_or (finite.get self.old.held name.now) [] ++ piece.now) }) result }
@@ -217,6 +227,7 @@ impl Folder for MemoryFolder {
         ensures cause { HasCause self.old.write_faults self.new.write_faults self.old.refusals self.new.refusals result }
         ensures stand { OnOk result (CountsStand (memory_folder self.old) (memory_folder self.new)) }
         ensures spared { IsErrOf result FolderFault.NoMemory → FaultsStand (memory_folder self.old) (memory_folder self.new) }
+        ensures came { Unit {0} }
 
         ensures failed { IsErrOf result FolderFault.Failed ↔ FailsNext self.old }
         ensures after { AfterWrite self.old self.new (record self.old { said = self.old.said ++ piece.now }) result }

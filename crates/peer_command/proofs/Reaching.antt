@@ -6,7 +6,7 @@ use Rattle.std.proofs.lemmas.List.{take_all}
 use Rattle.std.proofs.lemmas.List.Folds.{concat-append}
 use Rattle.std.specs.List.{concat}
 use Rattle.outside_calls.specs.Folder.{FolderState, octets_at, GoesOn, KeepsName, OnlyReads, CountsStand}
-use Rattle.outside_calls.specs.Steps.{GoesOn-trans, KeepsName-trans, octets-kept, told_later, CountsStand-trans}
+use Rattle.outside_calls.proofs.Steps.{GoesOn-trans, KeepsName-trans, octets-kept, told_later, CountsStand-trans}
 use Rattle.outside_calls.specs.declared.folder.FolderFault.{FolderFault}
 use Rattle.outside_calls.specs.declared.folder.FolderFault.TheVariants as folder
 use Rattle.roles.specs.declared.role.Role.{Role}
@@ -24,10 +24,8 @@ use Rattle.command_base.specs.declared.stop.Stop.TheVariants.{Read}
 use Rattle.command_base.specs.Inputs.{IsWithin, ReadTo}
 use Rattle.command_base.specs.Stops.{ReadFails}
 use Rattle.command_base.proofs.Jobs.{stop-earlier}
-use Rattle.outside_calls.specs.Outputs.{Holds}
-use Rattle.several_outputs.specs.Outputs.{OnlyPuts, HoldPart}
-use Rattle.several_outputs.proofs.Putting.{KeepsEach-reads, HoldEach-add, HoldEach-kept, HoldPart-add}
-use Rattle.run_inputs.specs.Words.{AreNoneOf}
+use Rattle.outside_calls.specs.Outputs.{AreNoneOf, Holds, OnlyPuts, HoldPart}
+use Rattle.outside_calls.proofs.Putting.{KeepsEach-reads, HoldEach-add, HoldEach-kept, HoldPart-add}
 use Rattle.command_base.proofs.Reading.{ReadTo-begins, ReadTo-kept}
 use Rattle.peer_command.specs.Words.{Names, inputs_of, outputs_of, turn_names}
 use Rattle.peer_command.specs.Runs.{Left, PeerEnd, IsDone, GivesUp, MakesTurn, RunsTo, left_of, left_after, slot_at, slots_before}

@@ -2,7 +2,7 @@
 use Rattle.std.proofs.Common.{◌≡◌, ◌∙◌, inl, inr, ℕ, ◌<◌, ◌≤◌, ◌+◌, List, [], ◌∷◌, length, take, refl, sym, subst, arith}
 use Rattle.std.proofs.lemmas.List.{length-take}
 use Rattle.outside_calls.specs.Folder.{FolderState, octets_at, GoesOn, KeepsName, OnlyReads, CountsStand}
-use Rattle.outside_calls.specs.Steps.{GoesOn-trans, KeepsName-trans, CountsStand-trans}
+use Rattle.outside_calls.proofs.Steps.{GoesOn-trans, KeepsName-trans, CountsStand-trans}
 use Rattle.roles.specs.declared.role.Role.{Role}
 use Rattle.link_account.specs.Account.{fresh}
 use Rattle.link_run.specs.Alone.{LoneHearingsDeliver, LoneSpeakingTakesNothing}
@@ -16,11 +16,11 @@ use Rattle.command_base.specs.declared.limits.TheConstants.{FILE_LIMIT}
 use Rattle.command_base.specs.declared.stop.Stop.{Stop}
 use Rattle.command_base.specs.declared.stop.Stop.TheVariants.{Own, Read, Write, Say, NoMemory}
 use Rattle.command_base.specs.Inputs.{IsWithin, IsNotWithin}
-use Rattle.outside_calls.specs.Outputs.{KeepsAll, CreatesPart, Creates, IsNoneOf, KeepsEach, OnlyOutputs}
+use Rattle.outside_calls.specs.Outputs.{KeepsAll, CreatesPart, Creates, IsNoneOf, AreNoneOf, OnlyOutputs}
+use Rattle.outside_calls.proofs.Putting.{KeepsEach-reads}
 use Rattle.command_base.proofs.Creating.{CreatesPart-earlier}
 use Rattle.command_base.proofs.Reading.{ReadTo-none, longer-earlier}
 use Rattle.command_base.proofs.Jobs.{stop-earlier}
-use Rattle.run_inputs.specs.Words.{AreNoneOf}
 use Rattle.peer_command.specs.Words.{Names, turn_names, inputs_of, outputs_of}
 use Rattle.peer_command.specs.Runs.{IsDone}
 use Rattle.peer_command.specs.Ends.{RanTo, StopsCreating, EndsBy}
@@ -55,16 +55,12 @@ ends-short-by hearing speaking start mid next n old new p octets slot turn a num
 
 -- ---- the outputs are created
 
-keeps-each : (old new : FolderState) (names : List (List ℕ)) → OnlyReads old new → KeepsEach old new names
-keeps-each old new [] reads = tt
-keeps-each old new (name ∷ names) reads = (reads.names name, keeps-each old new names reads)
-
 pub ends-creating : (begin mid now : FolderState) (n : Names) → IsBegun begin mid n → CreatesPart mid now (outputs_of n)
     → StopsCreating begin now n
 ends-creating begin mid now n b c = record {
   bits_within = b.bits_within;
   file_within = b.file_within;
-  creates = CreatesPart-earlier begin mid now (outputs_of n) b.reads.goes_on (keeps-each begin mid (outputs_of n) b.reads) c;
+  creates = CreatesPart-earlier begin mid now (outputs_of n) b.reads.goes_on (KeepsEach-reads begin mid (outputs_of n) b.reads) c;
 }
 
 few : (octets : List ℕ) → length (take file_limit octets) ≤ file_limit

@@ -16,7 +16,7 @@ use Rattle.command_base.specs.Job.{Job}
 use Rattle.command_base.specs.Lines.{done_line}
 use Rattle.command_base.specs.Stops.{ReadFails}
 use Rattle.outside_calls.specs.Outputs.{KeepsAll, CreatesPart, SaysNothing}
-use Rattle.several_outputs.specs.Outputs.{HoldEach, HoldPart, joined}
+use Rattle.outside_calls.specs.Outputs.{HoldEach, HoldPart, joined}
 use Rattle.single_end.specs.Peer.{Past, Outcome, turn_line}
 use Rattle.peer_command.specs.Words.{Names, inputs_of, outputs_of}
 use Rattle.peer_command.specs.Runs.{Left, PeerEnd, IsDone, GivesUp, IsPast, MakesTurn, RunsTo, left_of}

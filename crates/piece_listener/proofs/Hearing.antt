@@ -6,7 +6,7 @@ use Rattle.std.specs.Option.{option_map, option_map_or}
 use Rattle.std.proofs.lemmas.List.{take_more, take-append-drop}
 use Rattle.std.proofs.lemmas.Nat.{and_mask}
 use Rattle.outside_calls.specs.Folder.{FolderState, OnlyReads, OnlySays, Said, PartlySaid}
-use Rattle.outside_calls.specs.Steps.{GoesOn-trans, KeepsName-trans}
+use Rattle.outside_calls.proofs.Steps.{GoesOn-trans, KeepsName-trans}
 use Rattle.plain_lists.specs.Bits.{low_bits, octet_bits, bits_of}
 use Rattle.frame_check.proofs.BitLists.{length-low_bits, get_or-low_bits, bits_of-snoc, bits_of-append}
 use Rattle.bit_stuffing.specs.declared.piece.Piece.{Piece}

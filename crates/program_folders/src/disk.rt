@@ -101,6 +101,12 @@ fn counted<T>(
 impl<R: Files + Print + Clone + Drop> Folder for DiskFolder<R> {
     ghost state = { disk_folder };
 
+    ghost came = { λ a b. Unit {0} };
+
+    ghost came_none = { λ a. tt };
+
+    ghost came_on = { λ a b c p q. tt };
+
     fn read_at(&mut self, name: &str, at: u64, buf: &mut [u8]) -> Result<usize, FolderFault> {
         let read = self.read_from(name, at, buf);
         counted(read, &mut self.read_faults, &mut self.refusals)

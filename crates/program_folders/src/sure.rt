@@ -2,7 +2,7 @@
 ghost use Rattle.std.specs.Prelude.{◌≡◌, ◌≤◌, ◌⊎◌, ◌++◌, [], length, unwrap_or, OnOk, OnErr, IfOk, IsOk, IsErrOf};
 ghost use Rattle.std.specs.Option.{option_map};
 ghost use Rattle.std.specs.FinMap as finite;
-ghost use Rattle.outside_calls.specs.Folder.{ReadsFront, OnlyReads, OnlyWrites, OnlySays, HasCause, FaultsStand, CountsStand, KeepsName, Appended, PartlyAppended, Created, Said, PartlySaid};
+ghost use Rattle.outside_calls.specs.Folder.{ReadsFront, OnlyReads, OnlyWrites, OnlySays, HasCause, FaultsStand, CountsStand, TellsOctets, KeepsName, Appended, PartlyAppended, Created, Said, PartlySaid};
 ghost use Rattle.program_folders.specs.Sure.{sure_folder, counted, AfterSureWrite};
 
 use crate::store::Store;
@@ -92,13 +92,21 @@ impl SureFolder {
 impl Folder for SureFolder {
     ghost state = { sure_folder };
 
+    ghost came = { λ a b. Unit {0} };
+
+    ghost came_none = { λ a. tt };
+
+    ghost came_on = { λ a b c p q. tt };
+
     fn read_at(&mut self, name: &str, at: u64, buf: &mut [u8]) -> Result<usize, FolderFault>
         ensures octets { IfOk result (ReadsFront (sure_folder self.old) name.now at buf.old buf.new) }
         ensures bound { IfOk result (λ count. count ≤ length buf.old) }
+        ensures told { OnOk result (TellsOctets (sure_folder self.old) name.now) }
         ensures only { OnlyReads (sure_folder self.old) (sure_folder self.new) }
         ensures cause { HasCause 0 0 self.old.refusals self.new.refusals result }
         ensures stand { OnOk result (CountsStand (sure_folder self.old) (sure_folder self.new)) }
         ensures spared { IsErrOf result FolderFault.NoMemory → FaultsStand (sure_folder self.old) (sure_folder self.new) }
+        ensures came { Unit {0} }
 
         ensures sure { IsOk result }
         ensures after { self.new ≡ counted self.old }
@@ -118,6 +126,7 @@ impl Folder for SureFolder {
         ensures cause { HasCause 0 0 self.old.refusals self.new.refusals result }
         ensures stand { OnOk result (CountsStand (sure_folder self.old) (sure_folder self.new)) }
         ensures spared { IsErrOf result FolderFault.NoMemory → FaultsStand (sure_folder self.old) (sure_folder self.new) }
+        ensures came { Unit {0} }
 
         ensures after { AfterSureWrite self.old self.new (record self.old { held = finite.insert self.old.held name.now [] }) result }
     {
@@ -139,6 +148,7 @@ impl Folder for SureFolder {
         ensures cause { HasCause 0 0 self.old.refusals self.new.refusals result }
         ensures stand { OnOk result (CountsStand (sure_folder self.old) (sure_folder self.new)) }
         ensures spared { IsErrOf result FolderFault.NoMemory → FaultsStand (sure_folder self.old) (sure_folder self.new) }
+        ensures came { Unit {0} }
 
         ensures after { AfterSureWrite self.old self.new (record self.old { held = finite.insert self.old.held name.now (unwrap_or (finite.get self.old.held name.now) [] ++ piece.now) }) result }
     {
@@ -159,6 +169,7 @@ impl Folder for SureFolder {
         ensures cause { HasCause 0 0 self.old.refusals self.new.refusals result }
         ensures stand { OnOk result (CountsStand (sure_folder self.old) (sure_folder self.new)) }
         ensures spared { IsErrOf result FolderFault.NoMemory → FaultsStand (sure_folder self.old) (sure_folder self.new) }
+        ensures came { Unit {0} }
 
         ensures after { AfterSureWrite self.old self.new (record self.old { said = self.old.said ++ piece.now }) result }
     {

@@ -1,6 +1,7 @@
 // Octets between files and buffers.
 ghost use Rattle.std.specs.Prelude.{◌≡◌, ◌≤◌, ◌-◌, ◌++◌, length, take, drop, min, IfOk, OnOk, OnErr};
-ghost use Rattle.std.specs.Io.KnownBytes.{Appends, Consumes};
+ghost use Rattle.std.specs.Io.KnownBytes.{Appends};
+ghost use Rattle.plain_lists.specs.Octets.{AreOctets};
 ghost use Rattle.program_folders.specs.Transfer.{AppendsPart, ReadsUp};
 
 use outside_calls::FolderFault;
@@ -10,6 +11,7 @@ use std::io::{self, ErrorKind, Read, Seek, SeekFrom, Write};
 pub fn copy_from(octets: &[u8], at: u64, buf: &mut [u8]) -> usize
     ensures count { result ≡ min (length buf.old) (length octets.now - at) }
     ensures front { buf.new ≡ take result (drop at octets.now) ++ drop result buf.old }
+    ensures octets { AreOctets octets.now }
 {
     let len = octets.len();
     let start = if at < len as u64 { at as usize } else { len };

@@ -20,8 +20,8 @@ use Rattle.command_base.specs.Job.{Answers}
 use Rattle.command_base.specs.Lines.{done_line}
 use Rattle.command_base.proofs.Jobs.{Comes, is_done, is_own, is_memory, comes-to, last-only, done-unless-memory}
 use Rattle.outside_calls.specs.Outputs.{OnlyOutputs, KeepsEach}
-use Rattle.several_outputs.specs.Outputs.{HoldEach}
-use Rattle.several_outputs.proofs.Putting.{HoldEach-kept}
+use Rattle.outside_calls.specs.Outputs.{HoldEach}
+use Rattle.outside_calls.proofs.Putting.{HoldEach-kept}
 use Rattle.run_inputs.specs.declared.limits.TheConstants.{LIMITS}
 use Rattle.run_inputs.specs.Words.{RunNames, outputs_of}
 use Rattle.run_inputs.specs.Answers.{answer_of}

@@ -3,7 +3,7 @@ use Rattle.std.proofs.Common.{◌≡◌, ◌⊎◌, inl, inr, ℕ, Bool, true, f
 use Rattle.std.specs.Option.{option_map}
 use Rattle.std.proofs.lemmas.Bool.{false≢true}
 use Rattle.outside_calls.specs.Folder.{FolderState, GoesOn, KeepsName}
-use Rattle.outside_calls.specs.Steps.{KeepsName-trans, told_later}
+use Rattle.outside_calls.proofs.Steps.{KeepsName-trans, told_later}
 use Rattle.outside_calls.specs.declared.folder.FolderFault.{FolderFault}
 use Rattle.outside_calls.specs.declared.folder.FolderFault.TheVariants as folder
 use Rattle.roles.specs.declared.role.Role.TheVariants.{Originator, Answerer}

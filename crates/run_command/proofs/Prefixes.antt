@@ -6,7 +6,7 @@ use Rattle.std.proofs.lemmas.List.Folds.{concat-append}
 use Rattle.std.specs.List.{concat}
 use Rattle.plain_lists.specs.Prefix.{IsPrefixOf}
 use Rattle.outside_calls.specs.Folder.{FolderState, octets_at, GoesOn}
-use Rattle.outside_calls.specs.Steps.{told_later}
+use Rattle.outside_calls.proofs.Steps.{told_later}
 use Rattle.roles.specs.declared.role.Role.{Role}
 use Rattle.roles.specs.declared.role.Role.TheVariants.{Originator, Answerer}
 use Rattle.roles.specs.Role.{other}
@@ -31,7 +31,7 @@ use Rattle.outside_calls.specs.Outputs.{Holds, HoldsPart, KeptOrEmpty, KeepsAll,
 use Rattle.run_inputs.specs.declared.limits.TheConstants.{LIMITS}
 use Rattle.run_inputs.specs.Words.{RunNames, outputs_of}
 use Rattle.run_world.specs.Turns.{AddsTurn, AddsChance, StopsAfter, held_of}
-use Rattle.several_outputs.specs.Outputs.{HoldPart}
+use Rattle.outside_calls.specs.Outputs.{HoldPart}
 use Rattle.run_command.specs.Names.{names_written}
 use Rattle.run_command.specs.Ends.{RanTo, StopsInTurn, RanBy, EndsBy, Ends as EndsSo}
 use Rattle.run_command.specs.Headline.{KeptOrPrefix}

@@ -2,7 +2,7 @@
 use Rattle.std.proofs.Common.{◌≡◌, ◌≢◌, inl, inr, ℕ, ◌≤◌, IsTrue, List, [], ◌∷◌, ◌++◌, refl, sym, ◌∙◌, ap, take, arith}
 use Rattle.std.proofs.lemmas.List.{take_all}
 use Rattle.outside_calls.specs.Folder.{FolderState, octets_at, GoesOn, KeepsName, OnlyReads, CountsStand}
-use Rattle.outside_calls.specs.Steps.{GoesOn-trans, KeepsName-trans, octets-kept, told_later}
+use Rattle.outside_calls.proofs.Steps.{GoesOn-trans, KeepsName-trans, octets-kept, told_later}
 use Rattle.roles.specs.Both.{Both}
 use Rattle.noise_script.specs.Script.{ScriptValue}
 use Rattle.line_run.specs.Ends.{RunEnd}
@@ -17,14 +17,14 @@ use Rattle.run_world.specs.Turn.{FaultCounts}
 use Rattle.command_base.specs.declared.stop.Stop.{Stop}
 use Rattle.command_base.specs.declared.stop.Stop.TheVariants as stops
 use Rattle.command_base.specs.Inputs.{IsWithin}
-use Rattle.outside_calls.specs.Outputs.{IsNoneOf, OnlyOutputs, KeepsEach, CreatesPart, AreApart}
-use Rattle.several_outputs.specs.Outputs.{AreApartFrom, OnlyPuts}
-use Rattle.several_outputs.proofs.Putting.{SomeRose-earlier}
+use Rattle.outside_calls.specs.Outputs.{IsNoneOf, AreNoneOf, OnlyOutputs, KeepsEach, CreatesPart, AreApart}
+use Rattle.outside_calls.specs.Outputs.{AreApartFrom, OnlyPuts}
+use Rattle.outside_calls.proofs.Putting.{SomeRose-earlier}
 use Rattle.command_base.specs.Stops.{StopCounts}
 use Rattle.command_base.proofs.Creating.{CreatesPart-earlier}
 use Rattle.run_inputs.specs.declared.limits.Limits.{Limits}
 use Rattle.run_inputs.specs.declared.limits.TheConstants.{LIMITS}
-use Rattle.run_inputs.specs.Words.{RunNames, AreNoneOf, files_of, inputs_of, outputs_of}
+use Rattle.run_inputs.specs.Words.{RunNames, files_of, inputs_of, outputs_of}
 use Rattle.run_inputs.specs.Inputs.{Refuses}
 use Rattle.run_world.specs.Turns.{RunEnds, RunStops, RunStopsReading, FaultEnds}
 use Rattle.run_command.specs.Names.{names_written}

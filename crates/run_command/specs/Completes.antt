@@ -15,7 +15,7 @@ use Rattle.command_base.specs.declared.status.Status.TheVariants.{NoMemory}
 use Rattle.command_base.specs.Sound.{IsSound, DoneUnlessMemory}
 use Rattle.run_inputs.specs.Words.{RunNames, inputs_of, outputs_of}
 use Rattle.run_inputs.specs.Answers.{answer_of}
-use Rattle.several_outputs.specs.Outputs.{HoldEach}
+use Rattle.outside_calls.specs.Outputs.{HoldEach}
 use Rattle.run_world.specs.Turns.{held_of}
 
 -- The line doesn't end the run, and fewer slots are lost in it than one for each two tries.

@@ -24,7 +24,7 @@ use Rattle.run_inputs.specs.declared.limits.Limits.{Limits}
 use Rattle.run_inputs.specs.declared.limits.TheConstants.{LIMITS}
 use Rattle.run_inputs.specs.Words.{RunNames, files_of, inputs_of, outputs_of}
 use Rattle.run_inputs.specs.Inputs.{Opens, RefusesOwn, FailsToRead}
-use Rattle.several_outputs.specs.Outputs.{HoldEach, SomeRose}
+use Rattle.outside_calls.specs.Outputs.{HoldEach, SomeRose}
 use Rattle.run_world.specs.Turns.{StopsAfter, StopsReading, held_of}
 use Rattle.run_command.specs.Names.{names_written}
 

@@ -1,20 +1,21 @@
 -- Lengths that are looked at one after the other.
-use Rattle.std.proofs.Common.{inl, inr, ℕ, ◌+◌, ◌<◌, ◌≤◌, List, [], ◌∷◌, length, Result, Ok, Err, OnOk, refl, sym, subst}
-use Rattle.outside_calls.specs.Folder.{FolderState, OnlyReads, CountsStand}
-use Rattle.outside_calls.specs.Steps.{octets-kept, told_later, CountsStand-trans}
+use Rattle.std.proofs.Common.{inl, inr, ℕ, ◌+◌, List, [], ◌∷◌, Result, Ok, Err, OnOk, refl, sym, subst}
+use Rattle.outside_calls.specs.Folder.{FolderState, TellsOctets, OnlyReads, CountsStand}
+use Rattle.outside_calls.proofs.Steps.{CountsStand-trans}
 use Rattle.outside_calls.specs.declared.folder.FolderFault.{FolderFault}
 use Rattle.outside_calls.specs.declared.folder.FolderFault.TheVariants as folder
+use Rattle.outside_calls.specs.Outputs.{SomeRose}
 use Rattle.command_base.specs.declared.status.Status.TheVariants.{BadScript, TooLong}
 use Rattle.command_base.specs.declared.stop.Stop.{Stop}
 use Rattle.command_base.specs.declared.stop.Stop.TheVariants.{Own, Read, Write, Say, NoMemory}
-use Rattle.command_base.specs.Inputs.{IsWithin, IsLonger, IsNotWithin}
-use Rattle.command_base.specs.Stops.{IsOwn, SomeRose, StopCounts, EndCounts}
+use Rattle.command_base.specs.Inputs.{IsWithin, IsNotWithin}
+use Rattle.command_base.specs.Stops.{IsOwn, StopCounts, EndCounts}
 use Rattle.command_base.proofs.Jobs.{stop-earlier}
-use Rattle.command_base.proofs.Reading.{within-earlier, longer-earlier}
+use Rattle.command_base.proofs.Reading.{within-earlier, longer-earlier, octets-earlier}
 use Rattle.noise_script.specs.Script.{ScriptValue}
 use Rattle.run_inputs.specs.declared.limits.Limits.{Limits}
 use Rattle.run_inputs.specs.Words.{RunNames, files_of}
-use Rattle.run_inputs.specs.Lengths.{AreWithin, IsFirstLong, FailsInOrder, RefusesLengths}
+use Rattle.run_inputs.specs.Lengths.{AreWithin, TellOctets, IsFirstLong, FailsInOrder, RefusesLengths}
 use Rattle.run_inputs.specs.Scripts.{ReadsScript, RefusesScript}
 use Rattle.run_inputs.specs.Inputs.{RefusesOwn, Refuses}
 
@@ -24,6 +25,10 @@ all-kept : (old mid : FolderState) (names : List (List ℕ)) (limit : ℕ) → O
     → AreWithin limit mid names → AreWithin limit old names
 all-kept old mid [] limit r w = tt
 all-kept old mid (name ∷ names) limit r w = (within-earlier old mid name limit r w.0, all-kept old mid names limit r w.1)
+
+octets-kept : (old mid : FolderState) (names : List (List ℕ)) → OnlyReads old mid → TellOctets mid names → TellOctets old names
+octets-kept old mid [] r o = tt
+octets-kept old mid (name ∷ names) r o = (octets-earlier old mid name r o.0, octets-kept old mid names r o.1)
 
 first-kept : (old mid : FolderState) (names : List (List ℕ)) (limit place word : ℕ) → OnlyReads old mid
     → IsFirstLong limit mid place names word → IsFirstLong limit old place names word
@@ -79,6 +84,11 @@ pub within-all : {D : Type 0} (old mid : FolderState) (name : List ℕ) (names :
     → OnlyReads old mid → IsWithin old name limit → OnOk end (AreWithin limit mid names) → OnOk end (AreWithin limit old (name ∷ names))
 within-all old mid name names limit (Ok done) r w within = (w, all-kept old mid names limit r within)
 within-all old mid name names limit (Err stop) r w within = tt
+
+pub octets-all : {D : Type 0} (old mid : FolderState) (name : List ℕ) (names : List (List ℕ)) (end : Result D Stop) → OnlyReads old mid
+    → TellsOctets old name → OnOk end (TellOctets mid names) → OnOk end (TellOctets old (name ∷ names))
+octets-all old mid name names (Ok done) r o octets = (o, octets-kept old mid names r octets)
+octets-all old mid name names (Err stop) r o octets = tt
 
 -- ---- the first is not within its limit
 

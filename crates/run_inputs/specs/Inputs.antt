@@ -12,12 +12,13 @@ use Rattle.command_base.specs.Stops.{ReadFails}
 use Rattle.run_inputs.specs.declared.limits.Limits.{Limits}
 use Rattle.run_inputs.specs.Words.{RunNames, files_of}
 use Rattle.run_inputs.specs.Scripts.{ReadsScript, ScriptTooLong, ScriptFaulty}
-use Rattle.run_inputs.specs.Lengths.{AreWithin, IsFirstLong, FailsInOrder}
+use Rattle.run_inputs.specs.Lengths.{AreWithin, TellOctets, IsFirstLong, FailsInOrder}
 
--- The inputs are within their limits, and the script is this one.
+-- The inputs are octets within their limits, and the script is this one.
 pub record Opens (l : Limits) (f : FolderState) (n : RunNames) (script : ScriptValue) : Type 0 where
   pub reads : ReadsScript l.script f n.script script
   pub files : AreWithin l.file f (files_of n)
+  pub octets : TellOctets f (files_of n)
 
 -- The script is right, and that file is the first that is too long.
 pub record FileTooLong (l : Limits) (f : FolderState) (n : RunNames) (word : ℕ) : Type 0 where

@@ -1,6 +1,6 @@
 -- Which files are short enough, and which one is not. What is said of a file holds where the folder tells its name.
 use Rattle.std.specs.Prelude.{◌≡◌, ◌⊎◌, ℕ, ◌+◌, List, [], ◌∷◌}
-use Rattle.outside_calls.specs.Folder.{FolderState}
+use Rattle.outside_calls.specs.Folder.{FolderState, TellsOctets}
 use Rattle.outside_calls.specs.declared.folder.FolderFault.{FolderFault}
 use Rattle.command_base.specs.Inputs.{IsWithin, IsLonger}
 use Rattle.command_base.specs.declared.status.Status.{Status}
@@ -13,6 +13,11 @@ use Rattle.command_base.specs.Stops.{ReadFails}
 abbrev pub AreWithin : ℕ → FolderState → List (List ℕ) → Type 0
 AreWithin limit f [] = Unit {0}
 AreWithin limit f (name ∷ names) = IsWithin f name limit × AreWithin limit f names
+
+-- what is told of each of these files are octets
+abbrev pub TellOctets : FolderState → List (List ℕ) → Type 0
+TellOctets f [] = Unit {0}
+TellOctets f (name ∷ names) = TellsOctets f name × TellOctets f names
 
 -- the first of these files that is longer is that of the second word, where the name of the first of them is the first word
 abbrev pub IsFirstLong : ℕ → FolderState → ℕ → List (List ℕ) → ℕ → Type 0

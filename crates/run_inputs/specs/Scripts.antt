@@ -1,6 +1,6 @@
 -- Which file is a run's script, and why another one is refused. What is said of its octets holds where the folder tells its name.
 use Rattle.std.specs.Prelude.{◌≡◌, ℕ, IsTrue, List}
-use Rattle.outside_calls.specs.Folder.{FolderState, octets_at}
+use Rattle.outside_calls.specs.Folder.{FolderState, TellsOctets, octets_at}
 use Rattle.causes.specs.declared.cause.Cause.{Cause}
 use Rattle.noise_script.specs.Script.{ScriptValue}
 use Rattle.noise_script.specs.Grammar.{ScriptSpelling, FirstFault}
@@ -13,6 +13,7 @@ use Rattle.command_base.specs.declared.stop.Stop.TheVariants.{Own, Read, NoMemor
 -- A file within its limit that spells this script.
 pub record ReadsScript (limit : ℕ) (f : FolderState) (name : List ℕ) (script : ScriptValue) : Type 0 where
   pub within : IsWithin f name limit
+  pub octets : TellsOctets f name
   pub spelled : IsTrue (f.tells name) → ScriptSpelling (octets_at f name) script
 
 -- A file within its limit whose first faulty line is that one, with that cause.

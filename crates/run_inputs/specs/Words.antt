@@ -1,7 +1,6 @@
 -- The words of a run, as octets.
 use Rattle.std.specs.Prelude.{ℕ, Bool, true, not, ◌&&◌, List, [], ◌∷◌, Option, Some, None, if◌then◌else◌, codes}
 use Rattle.std.specs.Str.{bytes_eq}
-use Rattle.outside_calls.specs.Outputs.{IsNoneOf}
 use Rattle.run_inputs.specs.declared.words.RunWords.{RunWords}
 
 -- the names of a run
@@ -22,11 +21,6 @@ is_none_of name (first ∷ others) = not (bytes_eq name first) && is_none_of nam
 abbrev pub are_apart : List (List ℕ) → List (List ℕ) → Bool
 are_apart inputs [] = true
 are_apart inputs (name ∷ others) = is_none_of name inputs && is_none_of name others && are_apart inputs others
-
--- each of the first names is none of the second ones
-abbrev pub AreNoneOf : List (List ℕ) → List (List ℕ) → Type 0
-AreNoneOf [] inputs = Unit {0}
-AreNoneOf (name ∷ names) inputs = IsNoneOf name inputs × AreNoneOf names inputs
 
 -- the files that are sent, the names that are read, and those that are written, in the order of the words
 abbrev pub files_of : RunNames → List (List ℕ)

@@ -1,7 +1,7 @@
 //! Laws over the definitions alone, and the limits of a run as numbers. The functions do nothing: each law is a contract.
 ghost use Rattle.std.specs.Prelude.{◌≡◌, ℕ, List, true};
-ghost use Rattle.outside_calls.specs.Outputs.{AreApart};
-ghost use Rattle.run_inputs.specs.Words.{are_apart, AreNoneOf};
+ghost use Rattle.outside_calls.specs.Outputs.{AreApart, AreNoneOf};
+ghost use Rattle.run_inputs.specs.Words.{are_apart};
 ghost use Rattle.run_inputs.specs.declared.limits.TheConstants.{LIMITS};
 
 /// A script has at most 65,536 octets, and each file that is sent at most 16,777,216.

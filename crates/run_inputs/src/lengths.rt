@@ -2,7 +2,7 @@
 ghost use Rattle.std.specs.Prelude.{◌≡◌, ◌≤◌, ◌<◌, ◌+◌, ◌^◌, List, ℕ, OnOk, IfErr, length, map};
 ghost use Rattle.outside_calls.specs.Folder.{OnlyReads};
 ghost use Rattle.command_base.specs.Stops.{EndCounts};
-ghost use Rattle.run_inputs.specs.Lengths.{AreWithin, RefusesLengths};
+ghost use Rattle.run_inputs.specs.Lengths.{AreWithin, TellOctets, RefusesLengths};
 
 use command_base::{Stop, within_limit};
 use outside_calls::Folder;
@@ -17,6 +17,7 @@ pub fn check_lengths<F: Folder>(
 ) -> Result<(), Stop>
     requires { word + length names.now < 2 ^ 32 }
     ensures within { OnOk result (AreWithin limit (F.state folder.old) (map (λ name. name.now) names.now)) }
+    ensures octets { OnOk result (TellOctets (F.state folder.old) (map (λ name. name.now) names.now)) }
     ensures refused { IfErr result (RefusesLengths limit (F.state folder.old) (F.state folder.new) word (map (λ name. name.now) names.now)) }
     ensures reads { OnlyReads (F.state folder.old) (F.state folder.new) }
     ensures counts { (outputs : List (List ℕ)) → EndCounts (F.state folder.old) (F.state folder.new) (map (λ name. name.now) names.now) outputs result }

@@ -1,10 +1,10 @@
 -- What the steps of a turn leave of the folder, in a row.
 use Rattle.std.proofs.Common.{◌≡◌, ℕ, List, [], take, IsTrue, refl, sym, ◌∙◌, ap, subst}
 use Rattle.outside_calls.specs.Folder.{FolderState, KeepsName, GoesOn, OnlyWrites, CountsStand, Rose}
-use Rattle.outside_calls.specs.Steps.{told_later, octets-kept, FaultsStand-trans, CountsStand-trans}
+use Rattle.outside_calls.proofs.Steps.{told_later, octets-kept, FaultsStand-trans, CountsStand-trans}
 use Rattle.outside_calls.specs.Outputs.{KeepsEach}
-use Rattle.several_outputs.specs.Outputs.{AreApartFrom, OnlyPuts}
-use Rattle.several_outputs.proofs.Putting.{OnlyPuts-one, SomeRose-earlier, inputs-kept}
+use Rattle.outside_calls.specs.Outputs.{AreApartFrom, OnlyPuts}
+use Rattle.outside_calls.proofs.Putting.{OnlyPuts-one, SomeRose-earlier, inputs-kept}
 use Rattle.roles.specs.Both.{Both}
 use Rattle.link_run.specs.Run.{Ends}
 use Rattle.turn_bound.specs.Limits.{file_limit}
@@ -54,7 +54,7 @@ one-known a b c name file others gb gc kb kc told known tells =
 
 -- an input is no output
 pub sent-kept : (a b : FolderState) (n : Written) → IsApart n → OnlyPuts a b (outputs_of n) → KeepsEach a b (inputs_of n)
-sent-kept a b n apart p = inputs-kept a b (inputs_of n) (outputs_of n) apart.1 p
+sent-kept a b n apart p = inputs-kept a b (inputs_of n) (outputs_of n) apart.1 p.names
 
 -- where nothing more was read they are the same
 pub stay-known : (a b : FolderState) (n : Written) (files : Both (List ℕ)) → IsApart n → OnlyPuts a b (outputs_of n) → AreWithin files

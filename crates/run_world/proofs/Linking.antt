@@ -3,7 +3,7 @@ use Rattle.std.proofs.Common.{◌≡◌, ℕ, ◌+◌, Bool, true, false, is_ok,
 use Rattle.std.proofs.Common.{Result, Ok, Err}
 use Rattle.std.specs.Option.{option_map}
 use Rattle.outside_calls.specs.Folder.{FolderState, OnlyReads}
-use Rattle.outside_calls.specs.Steps.{told_later, octets-kept}
+use Rattle.outside_calls.proofs.Steps.{told_later, octets-kept}
 use Rattle.std.proofs.lemmas.Bool.{false≢true}
 use Rattle.roles.specs.declared.role.Role.{Role}
 use Rattle.noise_script.specs.Script.{ScriptValue, break_of}

@@ -5,7 +5,7 @@ use Rattle.std.proofs.lemmas.List.{length-take, append-nil}
 use Rattle.std.proofs.lemmas.List.Folds.{concat-append}
 use Rattle.std.specs.List.{concat}
 use Rattle.outside_calls.specs.Folder.{FolderState, octets_at, GoesOn, KeepsName, CountsStand}
-use Rattle.outside_calls.specs.Steps.{CountsStand-refl, CountsStand-trans}
+use Rattle.outside_calls.proofs.Steps.{CountsStand-refl, CountsStand-trans}
 use Rattle.roles.specs.declared.role.Role.{Role}
 use Rattle.roles.specs.declared.role.Role.TheVariants.{Originator, Answerer}
 use Rattle.roles.specs.Both.{Both, of}
@@ -35,8 +35,8 @@ use Rattle.run_world.specs.Turn.{StopsReading, Stops}
 use Rattle.run_world.specs.Turn.{EndsBy as TurnEndsBy, DoneIn}
 use Rattle.outside_calls.specs.Outputs.{Holds, Creates}
 use Rattle.outside_calls.proofs.Holding.{Holds-kept, Holds-more, HoldsPart-more}
-use Rattle.several_outputs.specs.Outputs.{OnlyPuts, AddEach, HoldEach}
-use Rattle.several_outputs.proofs.Putting.{OnlyPuts-refl, OnlyPuts-trans, HoldEach-kept, HoldEach-add, HoldPart-add}
+use Rattle.outside_calls.specs.Outputs.{OnlyPuts, AddEach, HoldEach}
+use Rattle.outside_calls.proofs.Putting.{OnlyPuts-refl, OnlyPuts-trans, HoldEach-kept, HoldEach-add, HoldPart-add}
 use Rattle.run_world.proofs.Folders.{IsApart, stay-known}
 use Rattle.run_world.specs.Turns.{held_of, AddsTurn, RunEnds, RunCounts, RunStops, RunStopsReading}
 use Rattle.run_world.specs.Turns.{FaultEnds}

@@ -25,7 +25,7 @@ use Rattle.run_world.specs.World.{HasPassed, HasPassedToo}
 use Rattle.run_world.specs.declared.each.Each.{Each}
 use Rattle.lapm_frames.specs.declared.heard.Heard.{Heard}
 use Rattle.run_world.specs.Names.{Written, inputs_of}
-use Rattle.several_outputs.specs.Outputs.{SomeCause}
+use Rattle.outside_calls.specs.Outputs.{SomeCause}
 use Rattle.run_world.specs.declared.step.RunFault.{RunFault}
 use Rattle.run_world.specs.declared.step.RunFault.TheVariants.{ReadFault}
 use Rattle.run_world.specs.declared.step.Step.{Step}

@@ -1,8 +1,8 @@
 -- A whole turn.
 use Rattle.std.proofs.Common.{◌≡◌, inl, inr, ℕ, List, [], ◌∷◌, length, sym, ◌∙◌, ap, subst, Result, Ok, Err}
 use Rattle.outside_calls.specs.Folder.{FolderState, OnlyWrites}
-use Rattle.several_outputs.specs.Outputs.{OnlyPuts, AddEach, AddPart}
-use Rattle.several_outputs.proofs.Putting.{AddEach-next, AddPart-next, AddPart-none, AddPart-longer}
+use Rattle.outside_calls.specs.Outputs.{OnlyPuts, AddEach, AddPart}
+use Rattle.outside_calls.proofs.Putting.{AddEach-next, AddPart-next, AddPart-none, AddPart-longer}
 use Rattle.roles.specs.declared.role.Role.{Role}
 use Rattle.roles.specs.declared.role.Role.TheVariants.{Originator, Answerer}
 use Rattle.roles.specs.Role.{other}

@@ -1,7 +1,7 @@
 -- A turn of a world in its middle: both ends have heard, and the rest of the turn is to come.
 use Rattle.std.specs.Prelude.{◌≡◌, ◌≢◌, ℕ, ◌+◌, false, ◌∷◌, List, length, Option, Result, Ok, Err}
 use Rattle.outside_calls.specs.Folder.{FolderState, Appended, PartlyAppended}
-use Rattle.several_outputs.specs.Outputs.{AddEach}
+use Rattle.outside_calls.specs.Outputs.{AddEach}
 use Rattle.roles.specs.declared.role.Role.{Role}
 use Rattle.roles.specs.declared.role.Role.TheVariants.{Originator, Answerer}
 use Rattle.roles.specs.Both.{Both}

@@ -4,7 +4,7 @@ use Rattle.outside_calls.specs.Folder.{FolderState, Appended, PartlyAppended, Ro
 use Rattle.outside_calls.specs.declared.folder.FolderFault.{FolderFault}
 use Rattle.outside_calls.specs.declared.folder.FolderFault.TheVariants.{Failed, NoMemory}
 use Rattle.outside_calls.specs.Outputs.{KeepsEach}
-use Rattle.several_outputs.specs.Outputs.{AddEach, AddPart, SomeRose}
+use Rattle.outside_calls.specs.Outputs.{AddEach, AddPart, SomeRose}
 use Rattle.roles.specs.declared.role.Role.{Role}
 use Rattle.roles.specs.declared.role.Role.TheVariants.{Originator}
 use Rattle.roles.specs.Both.{Both}

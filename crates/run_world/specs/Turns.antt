@@ -16,7 +16,7 @@ use Rattle.line_run.specs.Ends.{RunEnd, Left, Leaves, RunsTo}
 use Rattle.line_run.specs.Ends as runs
 use Rattle.line_run.specs.Scripted.{channel_of, link_of}
 use Rattle.noise_script.specs.Script.{ScriptValue}
-use Rattle.several_outputs.specs.Outputs.{HoldEach, HoldPart, joined}
+use Rattle.outside_calls.specs.Outputs.{HoldEach, HoldPart, joined}
 use Rattle.run_world.specs.Names.{Written, outputs_of}
 use Rattle.run_world.specs.World.{KnowsFiles}
 use Rattle.run_world.specs.declared.step.RunFault.{RunFault}

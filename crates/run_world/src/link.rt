@@ -2,7 +2,7 @@
 ghost use Rattle.std.specs.Prelude.{◌≡◌, ℕ, ◌+◌, ◌<◌, ◌≤◌, ◌^◌, List, length, true, is_ok, IfOk, OnOk, OnErr, IsErrOf};
 ghost use Rattle.outside_calls.specs.Folder.{OnlyReads, FaultsStand, CountsStand};
 ghost use Rattle.outside_calls.specs.Outputs.{AreApart};
-ghost use Rattle.several_outputs.specs.Outputs.{AddEach, AddPart, OnlyPuts, SomeCause};
+ghost use Rattle.outside_calls.specs.Outputs.{AddEach, AddPart, OnlyPuts, SomeCause};
 ghost use Rattle.lapm_link.specs.Fits.{IsSetUp};
 ghost use Rattle.lapm_link.specs.Stands.{undelivered_of};
 ghost use Rattle.roles.specs.Both.{Both, of};
@@ -179,6 +179,7 @@ impl Link {
         ensures cause { SomeCause (F.state folder.old).write_faults (F.state folder.new).write_faults (outputs_of (written names.now)) (F.state folder.old).refusals (F.state folder.new).refusals result }
         ensures stand { OnOk result (CountsStand (F.state folder.old) (F.state folder.new)) }
         ensures spared { IsErrOf result FolderFault.NoMemory → FaultsStand (F.state folder.old) (F.state folder.new) }
+        ensures came { F.came folder.old folder.new }
     {
         match self.orig.deliver(folder, names.got_o) {
             Ok(()) => {}
@@ -225,6 +226,7 @@ impl Link {
         ensures cause { SomeCause (F.state folder.old).read_faults (F.state folder.new).read_faults (inputs_of (written names.now)) (F.state folder.old).refusals (F.state folder.new).refusals result }
         ensures stand { OnOk result (CountsStand (F.state folder.old) (F.state folder.new)) }
         ensures spared { IsErrOf result FolderFault.NoMemory → FaultsStand (F.state folder.old) (F.state folder.new) }
+        ensures came { F.came folder.old folder.new }
     {
         match self.orig.supply(folder, names.orig, FILE_LIMIT) {
             Ok(()) => {}

@@ -10,12 +10,13 @@ ghost use Rattle.run_world.specs.Mid.{fault_named};
 ghost use Rattle.link_run.specs.Laws.{IsNamed};
 
 use crate::step::RunFault;
-use crate::{Breaking, Each, Names, append_line, append_turn};
+use crate::{Breaking, Each, Names};
 use lapm_frames::{Heard, Sent};
 use lapm_link::LinkFault;
 use line_texts::TraceLine;
 use outside_calls::{Folder, FolderFault};
 use roles::Role;
+use stations::{append_line, append_lines};
 
 /// Why a run ends whose folder doesn't do a call: this, where it failed.
 pub(crate) fn folder_fault(failed: RunFault, fault: FolderFault) -> RunFault
@@ -68,8 +69,9 @@ pub(crate) fn write_turn<F: Folder>(
     ensures only { OnlyWrites (F.state folder.old) (F.state folder.new) (written names.now).trace }
     ensures counts { TurnCounts (F.state folder.old) (F.state folder.new) (written names.now) result }
     ensures write { IfErr result IsWriting }
+    ensures came { F.came folder.old folder.new }
 {
-    match append_turn(folder, names.trace, lines) {
+    match append_lines(folder, names.trace, &lines.orig, &lines.answ) {
         Ok(()) => Ok(()),
         Err(fault) => Err(folder_fault(RunFault::WriteFault, fault)),
     }
@@ -87,6 +89,7 @@ pub(crate) fn write_chance<F: Folder>(
     ensures only { OnlyWrites (F.state folder.old) (F.state folder.new) (written names.now).trace }
     ensures counts { TurnCounts (F.state folder.old) (F.state folder.new) (written names.now) result }
     ensures write { IfErr result IsWriting }
+    ensures came { F.came folder.old folder.new }
 {
     let line = TraceLine {
         turn,

@@ -7,7 +7,7 @@ ghost use Rattle.run_world.specs.Names.{inputs_of, outputs_of, written};
 ghost use Rattle.run_world.specs.World.{IsReady, WorldAfter, script_of, lost_of, again_of};
 ghost use Rattle.run_world.specs.Turn.{TurnCounts};
 ghost use Rattle.outside_calls.specs.Outputs.{Creates};
-ghost use Rattle.several_outputs.specs.Outputs.{AreApartFrom, OnlyPuts};
+ghost use Rattle.outside_calls.specs.Outputs.{AreApartFrom, OnlyPuts};
 ghost use Rattle.run_world.specs.Turns.{TurnsEnd, RunCounts};
 
 use crate::laws::turns_are_few;

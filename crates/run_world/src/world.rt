@@ -12,7 +12,7 @@ ghost use Rattle.run_world.specs.Names.{inputs_of, outputs_of, written};
 ghost use Rattle.run_world.specs.Lines.{HaveArrived};
 ghost use Rattle.run_world.specs.Link.{AreCounted, AreIdle, AreWithin, LinkStands, octets_of};
 ghost use Rattle.outside_calls.specs.Folder.{OnlyReads, OnlyWrites};
-ghost use Rattle.several_outputs.specs.Outputs.{AddPart, AreApartFrom, OnlyPuts};
+ghost use Rattle.outside_calls.specs.Outputs.{AddPart, AreApartFrom, OnlyPuts};
 ghost use Rattle.link_account.specs.Account.{check_of, given_break};
 ghost use Rattle.noise_script.specs.Script.{IsInLimits};
 

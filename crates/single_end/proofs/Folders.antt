@@ -1,9 +1,9 @@
 -- What the steps of a turn leave of the folder, in a row.
 use Rattle.std.proofs.Common.{◌≡◌, inl, inr, ℕ, ◌≤◌, List, [], ◌∷◌, length, take, IsTrue, sym, ◌∙◌, ap, subst}
 use Rattle.outside_calls.specs.Folder.{FolderState, KeepsName, OnlyWrites, CountsStand, Rose}
-use Rattle.outside_calls.specs.Steps.{told_later, octets-kept, FaultsStand-trans, CountsStand-trans}
-use Rattle.several_outputs.specs.Outputs.{AreApartFrom, OnlyPuts}
-use Rattle.several_outputs.proofs.Putting.{OnlyPuts-one, SomeRose-earlier}
+use Rattle.outside_calls.proofs.Steps.{told_later, octets-kept, FaultsStand-trans, CountsStand-trans}
+use Rattle.outside_calls.specs.Outputs.{AreApartFrom, OnlyPuts}
+use Rattle.outside_calls.proofs.Putting.{OnlyPuts-one, SomeRose-earlier}
 use Rattle.stations.specs.Station.{file_at, ReadsOn}
 use Rattle.link_account.specs.Account.{Account}
 use Rattle.single_end.specs.declared.step.SingleFault.{SingleFault}

@@ -6,9 +6,9 @@ use Rattle.std.proofs.lemmas.Bool.{false≢true}
 use Rattle.std.specs.Prelude.{slice_get, is_ok}
 use Rattle.std.specs.Option.{option_map}
 use Rattle.outside_calls.specs.Folder.{FolderState, GoesOn, OnlyWrites, Adds, Appended, PartlyAppended}
-use Rattle.outside_calls.specs.Steps.{GoesOn-refl}
-use Rattle.several_outputs.specs.Outputs.{OnlyPuts, AddEach}
-use Rattle.several_outputs.proofs.Putting.{KeepsEach-refl, AddEach-next, AddPart-next, AddPart-none}
+use Rattle.outside_calls.proofs.Steps.{GoesOn-refl}
+use Rattle.outside_calls.specs.Outputs.{OnlyPuts, AddEach}
+use Rattle.outside_calls.proofs.Putting.{KeepsEach-refl, AddEach-next, AddPart-next, AddPart-none}
 use Rattle.roles.specs.declared.role.Role.{Role}
 use Rattle.roles.specs.declared.role.Role.TheVariants.{Originator, Answerer}
 use Rattle.roles.specs.Role.{is_originator, other}

@@ -3,7 +3,7 @@ use Rattle.std.specs.Prelude.{ℕ, ◌+◌, List, [], ◌∷◌, length, Result,
 use Rattle.outside_calls.specs.Folder.{FolderState, Rose, FaultsStand, CountsStand}
 use Rattle.outside_calls.specs.declared.folder.FolderFault.{FolderFault}
 use Rattle.outside_calls.specs.declared.folder.FolderFault.TheVariants as folder
-use Rattle.several_outputs.specs.Outputs.{AddEach, AddPart, SomeRose}
+use Rattle.outside_calls.specs.Outputs.{AddEach, AddPart, SomeRose}
 use Rattle.roles.specs.declared.role.Role.{Role}
 use Rattle.link_run.specs.Alone.{LoneTurn}
 use Rattle.single_end.specs.Peer.{Past, Outcome, Going, Closed, Broken, PeerTurn, after, over, turn_line}

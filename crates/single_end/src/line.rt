@@ -1,15 +1,13 @@
 // The line of a turn in the trace, and the faults of a turn's calls.
-ghost use Rattle.std.specs.Prelude.{◌≡◌, OnOk, OnErr, IfErr};
-ghost use Rattle.outside_calls.specs.Folder.{Appended, OnlyWrites, PartlyAppended, HasCause, FaultsStand, CountsStand};
-ghost use Rattle.std.specs.Prelude.{IsErrOf};
-ghost use Rattle.line_texts.specs.LineText.{trace_line};
+ghost use Rattle.std.specs.Prelude.{◌≡◌};
+ghost use Rattle.line_texts.specs.LineText.{line_text, trace_line};
 ghost use Rattle.single_end.specs.Peer.{heard_as};
 ghost use Rattle.single_end.specs.Turn.{fault_of};
 
 use crate::step::SingleFault;
 use lapm_frames::{Arrived, Heard, Seen, Sent};
-use line_texts::{LineText, TraceLine, write_line};
-use outside_calls::{Folder, FolderFault};
+use line_texts::TraceLine;
+use outside_calls::FolderFault;
 use roles::Role;
 
 /// Why there is no further turn where a call of the folder is not done: `failed`, where it failed.
@@ -45,34 +43,15 @@ pub(crate) struct TurnWords {
     pub given: Option<u8>,
 }
 
-/// Appends the line of a turn to the trace.
-pub(crate) fn append_line<F: Folder>(
-    folder: &mut F,
-    name: &str,
-    turn: u64,
-    role: Role,
-    words: TurnWords,
-) -> Result<(), FolderFault>
-    ensures ok { OnOk result
-        (Appended (F.state folder.old) (F.state folder.new) name.now
-        (trace_line turn role (heard_as words.arrived) words.sent words.given)) }
-    ensures err { OnErr result
-        (PartlyAppended (F.state folder.old) (F.state folder.new) name.now
-        (trace_line turn role (heard_as words.arrived) words.sent words.given)) }
-    ensures only { OnlyWrites (F.state folder.old) (F.state folder.new) name.now }
-    ensures cause { HasCause ((F.state folder.old).write_faults name.now) ((F.state folder.new).write_faults name.now)
-        (F.state folder.old).refusals (F.state folder.new).refusals result }
-    ensures stand { OnOk result (CountsStand (F.state folder.old) (F.state folder.new)) }
-    ensures spared { IsErrOf result FolderFault.NoMemory → FaultsStand (F.state folder.old) (F.state folder.new) }
+/// The line of a turn.
+pub(crate) fn line_of(turn: u64, role: Role, words: TurnWords) -> TraceLine
+    ensures { line_text result ≡ trace_line turn role (heard_as words.arrived) words.sent words.given }
 {
-    let line = TraceLine {
+    TraceLine {
         turn,
         role,
         arrived: heard_as(words.arrived),
         sent: words.sent,
         given: words.given,
-    };
-    let mut text = LineText::new();
-    write_line(&line, &mut text);
-    folder.append(name, text.as_slice())
+    }
 }

@@ -2,7 +2,7 @@
 ghost use Rattle.std.specs.Prelude.{◌≡◌, ℕ, ◌+◌, ◌<◌, ◌≤◌, ◌^◌, [], ◌∷◌, true, false, List, length, Err, IfOk, IfErr, OnOk, OnErr};
 ghost use Rattle.std.specs.List.{concat};
 ghost use Rattle.outside_calls.specs.Folder.{OnlyReads, OnlyWrites, Adds, Appended, PartlyAppended};
-ghost use Rattle.several_outputs.specs.Outputs.{AreApartFrom, OnlyPuts};
+ghost use Rattle.outside_calls.specs.Outputs.{AreApartFrom, OnlyPuts};
 ghost use Rattle.lapm_frames.specs.declared.arrived.Arrived.{Arrived};
 ghost use Rattle.lapm_link.specs.Fits.{IsSetUp};
 ghost use Rattle.link_account.specs.Account.{Account, fresh, given_break};
@@ -15,7 +15,7 @@ ghost use Rattle.single_end.specs.Peer.{Past, Closed, heard_as, setup_of};
 
 use crate::ear::Ear;
 use crate::limits::{FILE_LIMIT, SLOT_OCTETS};
-use crate::line::{TurnWords, append_line, folder_fault};
+use crate::line::{TurnWords, folder_fault, line_of};
 use crate::step::{SingleFault, SingleStep};
 use causes::LinkFault;
 use lapm_frames::{Arrived, Sent};
@@ -23,7 +23,7 @@ use lapm_link::{Phase, Setup};
 use link_run::laws::{one_lone_run, the_file_of_one_counts_as_far_as_it_was_read};
 use outside_calls::{Folder, NoMemory};
 use roles::Role;
-use stations::Station;
+use stations::{Station, append_line};
 use std::alloc::Global;
 use xid_params::default_offer;
 
@@ -150,6 +150,7 @@ impl Single {
         ensures only { OnlyWrites (F.state folder.old) (F.state folder.new) got.now }
         ensures counts { Counts (F.state folder.old) (F.state folder.new) [] (got.now ∷ []) result }
         ensures write { IfErr result IsWriting }
+        ensures came { F.came folder.old folder.new }
     {
         match self.station.deliver(folder, got) {
             Ok(()) => Ok(self.station.given_break()),
@@ -184,6 +185,7 @@ impl Single {
         ensures only { OnlyReads (F.state folder.old) (F.state folder.new) }
         ensures counts { Counts (F.state folder.old) (F.state folder.new) (file.now ∷ []) [] result }
         ensures read { IfErr result IsReading }
+        ensures came { F.came folder.old folder.new }
     {
         the_file_of_one_counts_as_far_as_it_was_read();
         match self.station.supply(folder, file, FILE_LIMIT) {
@@ -210,8 +212,10 @@ impl Single {
         ensures only { OnlyWrites (F.state folder.old) (F.state folder.new) trace.now }
         ensures counts { Counts (F.state folder.old) (F.state folder.new) [] (trace.now ∷ []) result }
         ensures write { IfErr result IsWriting }
+        ensures came { F.came folder.old folder.new }
     {
-        match append_line(folder, trace, self.turn, self.role, words) {
+        let line = line_of(self.turn, self.role, words);
+        match append_line(folder, trace, &line) {
             Ok(()) => Ok(()),
             Err(fault) => Err(folder_fault(SingleFault::WriteFault, fault)),
         }
@@ -223,6 +227,7 @@ impl Single {
             → EndsLine self.now (F.state folder.old) (F.state folder.new) trace.now p slot [] result }
         ensures only { OnlyWrites (F.state folder.old) (F.state folder.new) trace.now }
         ensures counts { Counts {T = Unit {0}} (F.state folder.old) (F.state folder.new) [] (trace.now ∷ []) (Err result) }
+        ensures came { F.came folder.old folder.new }
     {
         let words = TurnWords {
             arrived: breaking.arrived,
@@ -254,6 +259,7 @@ impl Single {
         ensures only { OnlyWrites (F.state folder.old) (F.state folder.new) trace.now }
         ensures counts { Counts (F.state folder.old) (F.state folder.new) [] (trace.now ∷ []) result }
         ensures write { IfErr result IsWriting }
+        ensures came { F.came folder.old folder.new }
     {
         let words = TurnWords {
             arrived,
@@ -287,6 +293,7 @@ impl Single {
         ensures role { self.new.role ≡ self.old.role }
         ensures only { OnlyWrites (F.state folder.old) (F.state folder.new) trace.now }
         ensures counts { Counts (F.state folder.old) (F.state folder.new) [] (trace.now ∷ []) result }
+        ensures came { F.came folder.old folder.new }
     {
         let release = self.station.is_finished(self.turn, None);
         let mut sent = Sent::Flags;
@@ -346,6 +353,7 @@ impl Single {
         ensures only { OnlyPuts (F.state folder.old) (F.state folder.new) (outputs_of (named file.now got.now trace.now)) }
         ensures counts { Counts (F.state folder.old) (F.state folder.new) (inputs_of (named file.now got.now trace.now))
             (outputs_of (named file.now got.now trace.now)) result }
+        ensures came { F.came folder.old folder.new }
     {
         one_lone_run();
         let arrived = match self.hear(bits) {

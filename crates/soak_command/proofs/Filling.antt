@@ -7,12 +7,11 @@ use Rattle.std.specs.Cmp.Lexicographic.{nat_list_cmp_total}
 use Rattle.outside_calls.specs.Folder.{Files}
 use Rattle.program_folders.specs.Sure.{SureState, sure_folder}
 use Rattle.roles.specs.declared.role.Role.TheVariants.{Originator, Answerer}
-use Rattle.several_outputs.specs.Outputs.{AreApartFrom}
+use Rattle.outside_calls.specs.Outputs.{AreApartFrom, SomeRose}
 use Rattle.run_world.specs.Names.{inputs_of, outputs_of}
 use Rattle.run_world.specs.declared.step.RunFault.{RunFault}
 use Rattle.run_world.specs.declared.step.RunFault.TheVariants as faults
 use Rattle.run_world.specs.Turn.{FaultCounts}
-use Rattle.command_base.specs.Stops.{SomeRose}
 use Rattle.soak_inputs.specs.Soak.{soak_file}
 use Rattle.soak_command.specs.Ends.{IsTurnEnd}
 use Rattle.soak_command.specs.Folder.{HoldsFiles, soak_names}

@@ -2,7 +2,7 @@
 use Rattle.std.proofs.Common.{◌≡◌, ◌≢◌, ◌∙◌, ◌⊎◌, inl, inr, ℕ, List, [], ◌++◌, Result, Ok, Err, refl, sym, ap, subst}
 use Rattle.std.specs.Option.{option_map}
 use Rattle.outside_calls.specs.Folder.{FolderState}
-use Rattle.outside_calls.specs.Steps.{CountsStand-refl, FaultsStand-refl}
+use Rattle.outside_calls.proofs.Steps.{CountsStand-refl, FaultsStand-refl}
 use Rattle.roles.specs.declared.role.Role.{Role}
 use Rattle.roles.specs.declared.role.Role.TheVariants.{Originator, Answerer}
 use Rattle.roles.specs.Role.{other}

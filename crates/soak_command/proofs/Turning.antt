@@ -2,7 +2,7 @@
 use Rattle.std.proofs.Common.{◌≡◌, ◌∙◌, ℕ, List, ◌∷◌, length, take, Ok, Err, refl, sym, ap, subst, arith}
 use Rattle.std.proofs.lemmas.List.{take_all}
 use Rattle.outside_calls.specs.Folder.{octets_at, KeepsName}
-use Rattle.outside_calls.specs.Steps.{octets-kept}
+use Rattle.outside_calls.proofs.Steps.{octets-kept}
 use Rattle.program_folders.specs.Sure.{SureState, sure_folder}
 use Rattle.roles.specs.declared.role.Role.TheVariants.{Originator, Answerer}
 use Rattle.roles.specs.Both.{Both}
@@ -18,7 +18,7 @@ use Rattle.run_world.specs.declared.step.RunFault.{RunFault}
 use Rattle.run_world.specs.declared.step.RunFault.TheVariants as faults
 use Rattle.run_world.specs.Turn.{FaultCounts}
 use Rattle.outside_calls.specs.Outputs.{IsNoneOf, OnlyOutputs}
-use Rattle.several_outputs.specs.Outputs.{OnlyPuts}
+use Rattle.outside_calls.specs.Outputs.{OnlyPuts}
 use Rattle.run_world.specs.Turns.{RunEnds, RunCounts, FaultEnds}
 use Rattle.soak_inputs.specs.Soak.{soak_file, soak_script}
 use Rattle.soak_command.specs.Ends.{Ends, SoakEnds, IsTurnEnd, fault_stop, soak_channel, soak_files}

@@ -1,12 +1,14 @@
 -- What a station stands for once its end has heard or spoken, or was asked for a break.
 use Rattle.std.proofs.Common.{◌≡◌, ℕ, ◌+◌, Bool, true, false, cond, nat_le, List, [], ◌∷◌, ◌++◌, length, arith, length-append}
-use Rattle.std.proofs.Common.{refl, sym, ◌∙◌, ap, subst, Some, Ok, Err, Result, IfOk, OnOk, ◌≤◌}
+use Rattle.std.proofs.Common.{refl, sym, ◌∙◌, ap, subst, Some, Ok, Err, Result, IfOk, OnOk, OnErr, ◌≤◌}
+use Rattle.std.proofs.lemmas.Bool.{false≢true}
 use Rattle.break_signals.specs.Breaks.{OwnBreaks, takes_break, after_ask}
 use Rattle.lapm_frames.specs.declared.arrived.Arrived.{Arrived}
 use Rattle.lapm_frames.specs.declared.sent.Sent.{Sent}
 use Rattle.lapm_link.specs.declared.any_end.AnyEnd.{AnyEnd}
+use Rattle.lapm_link.specs.declared.any_end.AnyEnd.TheVariants as ends
 use Rattle.lapm_link.specs.declared.closed.Broken.{Broken}
-use Rattle.lapm_link.specs.Stands.{StandsFor, Hears, Speaks, TakesNothing, taken_of}
+use Rattle.lapm_link.specs.Stands.{StandsFor, IsOver, Hears, Speaks, TakesNothing, given_up, taken_of}
 use Rattle.causes.specs.declared.fault.LinkFault.{LinkFault}
 use Rattle.link_account.specs.Account.{Account, is_connected, takes_own, after_break_asked}
 use Rattle.link_account.specs.Hear.{hear}
@@ -101,6 +103,52 @@ kept-spoken stays turn release file a before sent old new (Ok end) result h brea
     (subst (λ (e : AnyEnd). Speaks (speak turn release a) a before sent (Ok e)) (sym is) k))
 kept-spoken stays turn release file a before sent old new (Err broken) result h breaks (is, so) k =
     subst (SpeaksAs (speak turn release a) file sent new) (sym so) (spoken-breaks turn release file a before sent new broken k)
+
+-- what holds where the end broke holds where the station answers a fault
+pub kept-fault : (P : Type 0) (new : Station) (became : Result AnyEnd Broken) (result : Result (Unit {0}) LinkFault)
+    → IsKept became new result → OnErr became P → OnErr result P
+kept-fault P new (Ok end) result (is, so) p = subst (λ (r : Result (Unit {0}) LinkFault). OnErr r P) (sym so) tt
+kept-fault P new (Err broken) result (is, so) p = subst (λ (r : Result (Unit {0}) LinkFault). OnErr r P) (sym so) p
+
+-- its end is over, and of its user's file and breaks nothing has changed
+abbrev pub GivesUp : Station → Station → Type 0
+GivesUp old new = (file : List ℕ) (a : Account) → Stands old file a → Stands new file (given_up a)
+
+given-up : (file : List ℕ) (a : Account) (old new : Station) (broken : Broken) → Stands old file a → new.breaks ≡ old.breaks
+    → new.end ≡ ends.Closed broken.end → IsOver broken.end.setup broken.end.answer broken.end.terms (given_up a)
+    → Stands new file (given_up a)
+given-up file a old new broken h breaks is over = record {
+  end = subst (λ e. StandsFor e (given_up a)) (sym is) (refl, over);
+  breaks = breaks ∙ h.breaks;
+  offered = record { allowed = h.offered.allowed; terms = h.offered.terms; size = λ e. absurd (false≢true e); cut = h.offered.cut };
+}
+
+heard-over : (r : Result Account LinkFault) (a : Account) (broken : Broken) → Hears r a (Err broken)
+    → IsOver broken.end.setup broken.end.answer broken.end.terms (given_up a)
+heard-over (Ok b) a broken k = absurd k
+heard-over (Err fault) a broken k = k.over
+
+spoken-over : (r : Result Said LinkFault) (a : Account) (before sent : Sent) (broken : Broken) → Speaks r a before sent (Err broken)
+    → IsOver broken.end.setup broken.end.answer broken.end.terms (given_up a)
+spoken-over (Ok said) a before sent broken k = absurd k
+spoken-over (Err fault) a before sent broken k = k.1.over
+
+pub heard-gives-up : (turn : ℕ) (arrived : Arrived) (old new : Station) (became : Result AnyEnd Broken)
+    (result : Result (Unit {0}) LinkFault) → new.breaks ≡ old.breaks → IsKept became new result
+    → ((a : Account) → StandsFor old.end a → Hears (hear turn arrived a) a became) → OnErr result (GivesUp old new)
+heard-gives-up turn arrived old new (Ok end) result breaks kept k = kept-fault (GivesUp old new) new (Ok end) result kept tt
+heard-gives-up turn arrived old new (Err broken) result breaks kept k =
+    kept-fault (GivesUp old new) new (Err broken) result kept (λ file a h.
+    given-up file a old new broken h breaks kept.0 (heard-over (hear turn arrived a) a broken (k a h.end)))
+
+pub spoken-gives-up : (turn : ℕ) (release : Bool) (before sent : Sent) (old new : Station) (became : Result AnyEnd Broken)
+    (result : Result (Unit {0}) LinkFault) → new.breaks ≡ old.breaks → IsKept became new result
+    → ((a : Account) → StandsFor old.end a → Speaks (speak turn release a) a before sent became) → OnErr result (GivesUp old new)
+spoken-gives-up turn release before sent old new (Ok end) result breaks kept k =
+    kept-fault (GivesUp old new) new (Ok end) result kept tt
+spoken-gives-up turn release before sent old new (Err broken) result breaks kept k =
+    kept-fault (GivesUp old new) new (Err broken) result kept (λ file a h.
+    given-up file a old new broken h breaks kept.0 (spoken-over (speak turn release a) a before sent broken (k a h.end)))
 
 -- what holds of it, where it answers no fault
 pub kept-so : (P : Type 0) (became : Result AnyEnd Broken) (new : Station) (result : Result (Unit {0}) LinkFault)

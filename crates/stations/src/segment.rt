@@ -1,6 +1,6 @@
 // A segment of a user's file.
-ghost use Rattle.std.specs.Prelude.{◌≡◌, ◌≤◌, ◌+◌, ◌*◌, ◌^◌, ◌<◌, IfOk, OnOk, IsErrOf, IsTrue, length, take, drop, min};
-ghost use Rattle.outside_calls.specs.Folder.{OnlyReads, HasCause, FaultsStand, CountsStand, octets_at};
+ghost use Rattle.std.specs.Prelude.{◌≡◌, ◌≤◌, ◌+◌, ◌*◌, ◌^◌, ◌<◌, IfOk, OnOk, IsErrOf, IsTrue, length, take};
+ghost use Rattle.outside_calls.specs.Folder.{OnlyReads, HasCause, FaultsStand, CountsStand};
 ghost use Rattle.frame_check.specs.declared.sizes.TheConstants.{INFO};
 ghost use Rattle.link_run.specs.End.{piece_at};
 ghost use Rattle.stations.specs.Station.{file_at};
@@ -30,6 +30,7 @@ pub(crate) fn read_segment<F: Folder>(
     ensures cause { HasCause ((F.state folder.old).read_faults name.now) ((F.state folder.new).read_faults name.now) (F.state folder.old).refusals (F.state folder.new).refusals result }
     ensures stand { OnOk result (CountsStand (F.state folder.old) (F.state folder.new)) }
     ensures spared { IsErrOf result FolderFault.NoMemory → FaultsStand (F.state folder.old) (F.state folder.new) }
+    ensures came { F.came folder.old folder.new }
 {
     let at = u64::from(size) * number;
     let left = limit - at;

@@ -35,12 +35,12 @@ impl Drop for Station {
 }
 
 impl Station {
-    ghost use Rattle.std.specs.Prelude.{◌≡◌, ℕ, ◌+◌, ◌*◌, ◌≤◌, ◌<◌, ◌^◌, List, length, IfOk, OnOk, OnErr, IsErrOf, not, ◌&&◌, ◌||◌};
+    ghost use Rattle.std.specs.Prelude.{◌≡◌, ℕ, ◌+◌, ◌≤◌, ◌<◌, ◌^◌, List, length, IfOk, OnOk, OnErr, IsErrOf, not, ◌&&◌, ◌||◌};
     ghost use Rattle.std.specs.List.{concat};
     ghost use Rattle.std.specs.Option.{option_map};
     ghost use Rattle.outside_calls.specs.Folder.{OnlyReads, OnlyWrites, HasCause, Adds, PartlyAppended, FaultsStand, CountsStand};
     ghost use Rattle.lapm_frames.specs.Sendable.{IsSendable};
-    ghost use Rattle.lapm_link.specs.Stands.{TakesNothing, undelivered_of};
+    ghost use Rattle.lapm_link.specs.Stands.{TakesNothing, undelivered_of, given_up};
     ghost use Rattle.link_account.specs.Numbers.{IsNumbered};
     ghost use Rattle.link_account.specs.Account.{Account, fresh, after_given, after_busy, given_break, is_done, break_waits, check_of};
     ghost use Rattle.link_account.specs.Hear.{hear};
@@ -48,7 +48,7 @@ impl Station {
     ghost use Rattle.link_run.specs.End.{deliveries, delivered, asked_at, is_ready};
     ghost use Rattle.stations.specs.Station.{Stands, HearsAs, SpeaksAs, Supplies, IsKept, IsIdle, IsCounted, line_of};
 
-    /// A station before its first turn. It takes all the memory that its end will need.
+    /// A station before its first turn.
     pub fn new(alloc: Global, setup: Setup) -> Result<Station, NoMemory>
         requires { IsSetUp setup }
         ensures stands { IfOk result (λ station. (file : List ℕ) → Stands station file (fresh setup)) }
@@ -64,7 +64,7 @@ impl Station {
         })
     }
 
-    /// The end, which is handed out and put back by each call that moves it on.
+    /// Hands the end out.
     fn take_end(&mut self) -> AnyEnd
         ensures end { result ≡ self.old.end }
         ensures breaks { self.new.breaks ≡ self.old.breaks }
@@ -89,7 +89,7 @@ impl Station {
         }
     }
 
-    /// Hears what arrives. After a fault the end is closed.
+    /// Hears what arrives. After a fault the end is closed and owes nothing, and its user's breaks are counted as before.
     pub fn hear(&mut self, turn: u64, arrived: &Arrived) -> Result<(), LinkFault>
         requires turn { turn < 2 ^ 40 }
         requires numbers { IsNumbered arrived.now }
@@ -97,13 +97,14 @@ impl Station {
         requires counted { IsCounted self.old turn turn }
         ensures hears { (file : List ℕ) (a : Account) → Stands self.old file a → HearsAs (hear turn arrived.now a) file self.new result }
         ensures counted { OnOk result (IsCounted self.new (turn + 1) turn) }
+        ensures over { OnErr result ((file : List ℕ) (a : Account) → Stands self.old file a → Stands self.new file (given_up a)) }
     {
         segments_are_offered_as_they_are_read();
         let became = self.take_end().hear(turn, arrived);
         self.keep_end(became)
     }
 
-    /// What the end took is appended to the file of that name, segment by segment.
+    /// Appends what the end took to the file of that name.
     pub fn deliver<F: Folder>(&mut self, folder: &mut F, name: &str) -> Result<(), FolderFault>
         ensures stands { OnOk result ((file : List ℕ) (a : Account) → Stands self.old file a → Stands self.new file (delivered a)) }
         ensures delivered { OnOk result (undelivered_of self.new.end ≡ 0) }
@@ -116,6 +117,7 @@ impl Station {
         ensures cause { HasCause ((F.state folder.old).write_faults name.now) ((F.state folder.new).write_faults name.now) (F.state folder.old).refusals (F.state folder.new).refusals result }
         ensures stand { OnOk result (CountsStand (F.state folder.old) (F.state folder.new)) }
         ensures spared { IsErrOf result FolderFault.NoMemory → FaultsStand (F.state folder.old) (F.state folder.new) }
+        ensures came { F.came folder.old folder.new }
     {
         let mut segment = Info::new();
         loop {
@@ -139,7 +141,7 @@ impl Station {
         self.end.given_break()
     }
 
-    /// Reads the user's file, segment by segment, as far as the end wants it. A file ends at its limit.
+    /// Reads the user's file as far as the end wants it. A file ends at its limit.
     pub fn supply<F: Folder>(
         &mut self,
         folder: &mut F,
@@ -156,6 +158,7 @@ impl Station {
         ensures cause { HasCause ((F.state folder.old).read_faults name.now) ((F.state folder.new).read_faults name.now) (F.state folder.old).refusals (F.state folder.new).refusals result }
         ensures stand { OnOk result (CountsStand (F.state folder.old) (F.state folder.new)) }
         ensures spared { IsErrOf result FolderFault.NoMemory → FaultsStand (F.state folder.old) (F.state folder.new) }
+        ensures came { F.came folder.old folder.new }
     {
         segments_are_offered_as_they_are_read();
         pieces_are_offered_until_none_is_wanted();
@@ -221,14 +224,16 @@ impl Station {
         self.end.whole() && !(self.end.break_waiting() || is_ready)
     }
 
-    /// What the end sends in this turn. `release` tells a Connected originator to take the link down. After a fault the end is closed, and
-    /// `sent` is as it was.
+    /// What the end sends in this turn. `release` tells a Connected originator to take the link down. After a fault the end is closed and
+    /// owes nothing, its user's breaks are counted as before, and `sent` is as it was.
     pub fn speak(&mut self, turn: u64, release: bool, sent: &mut Sent) -> Result<(), LinkFault>
         requires { turn < 2 ^ 40 }
         ensures speaks { (file : List ℕ) (a : Account) → Stands self.old file a → SpeaksAs (speak turn release a) file sent.new self.new result }
         ensures sendable { OnOk result (IsSendable sent.new) }
         ensures idle { OnOk result (IsIdle self.old → IsIdle self.new) }
         ensures counted { OnOk result ((heard asked : ℕ) → IsCounted self.old heard asked → IsCounted self.new heard asked) }
+        ensures over { OnErr result ((file : List ℕ) (a : Account) → Stands self.old file a → Stands self.new file (given_up a)) }
+        ensures unchanged { OnErr result (sent.new ≡ sent.old) }
     {
         segments_are_offered_as_they_are_read();
         let became = self.take_end().speak(turn, release, sent);

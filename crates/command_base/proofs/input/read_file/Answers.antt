@@ -2,7 +2,7 @@ use Rattle.std.proofs.Common.{◌∙◌, arith}
 use Rattle.std.proofs.lemmas.Grind.{common_steps}
 use Rattle.std.proofs.lemmas.List.{take_all}
 use Rattle.outside_calls.specs.Folder.{octets_at}
-use Rattle.outside_calls.specs.Steps.{OnlyReads-trans, CountsStand-trans}
+use Rattle.outside_calls.proofs.Steps.{OnlyReads-trans, CountsStand-trans}
 use Rattle.command_base.proofs.Reading.{held-more}
 use Rattle.command_base.proofs.input.read_file.Goals as goal
 

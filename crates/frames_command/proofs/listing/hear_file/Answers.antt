@@ -1,6 +1,6 @@
 use Rattle.std.proofs.Common.{[], arith}
 use Rattle.outside_calls.specs.Folder.{FolderState}
-use Rattle.outside_calls.specs.Steps.{CountsStand-refl}
+use Rattle.outside_calls.proofs.Steps.{CountsStand-refl}
 use Rattle.outside_calls.proofs.OnlyOutputs.{OnlyOutputs-refl}
 use Rattle.frames_command.specs.Words.{named}
 use Rattle.frames_command.proofs.Listed.{heard-none-yet}

@@ -1,6 +1,6 @@
 use Rattle.std.proofs.Common.{◌+◌, arith}
 use Rattle.outside_calls.specs.Folder.{FolderState}
-use Rattle.outside_calls.specs.Steps.{OnlyReads-refl, OnlyReads-trans, CountsStand-refl, CountsStand-trans}
+use Rattle.outside_calls.proofs.Steps.{OnlyReads-refl, OnlyReads-trans, CountsStand-refl, CountsStand-trans}
 use Rattle.margin_command.specs.Words.{MarginNames, named}
 use Rattle.margin_command.proofs.Measures.{measured-none, measures-all}
 use Rattle.margin_command.proofs.measuring.measure_to_end.Goals as goal

@@ -1,6 +1,6 @@
 use Rattle.std.proofs.Common.{◌∙◌, ℕ, List, [], refl, sym, subst, take}
 use Rattle.outside_calls.specs.Folder.{FolderState, OnlyReads}
-use Rattle.outside_calls.specs.Steps.{OnlyReads-trans}
+use Rattle.outside_calls.proofs.Steps.{OnlyReads-trans}
 use Rattle.command_base.specs.declared.limits.TheConstants.{FILE_LIMIT, RECORDING_LIMIT}
 use Rattle.command_base.specs.Inputs.{ReadTo}
 use Rattle.command_base.proofs.Reading.{ReadTo-none, within-earlier}

@@ -2,7 +2,7 @@ use Rattle.std.proofs.Common.{◌≡◌, ◌≢◌, ◌∙◌, inl, inr, ℕ, �
 use Rattle.std.proofs.Common.{arith}
 use Rattle.std.proofs.lemmas.List.{length-take}
 use Rattle.outside_calls.specs.Folder.{FolderState}
-use Rattle.outside_calls.specs.Steps.{CountsStand-trans}
+use Rattle.outside_calls.proofs.Steps.{CountsStand-trans}
 use Rattle.symbol_map.specs.declared.sample.Sample.{Sample}
 use Rattle.command_base.proofs.Jobs.{stop-earlier}
 use Rattle.outside_calls.proofs.OnlyOutputs.{OnlyOutputs-reads, OnlyOutputs-says, OnlyOutputs-trans}

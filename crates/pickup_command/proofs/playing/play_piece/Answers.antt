@@ -1,7 +1,7 @@
 use Rattle.std.proofs.Common.{◌≡◌, ◌∙◌, ◌≤◌, ◌+◌, ◌*◌, ◌/◌, ◌++◌, ◌∷◌, ℕ, List, [], length, take, sym, ap, subst, arith, append_assoc}
 use Rattle.symbol_map.specs.declared.sample.Sample.{Sample}
 use Rattle.outside_calls.specs.Folder.{FolderState}
-use Rattle.outside_calls.specs.Steps.{CountsStand-trans}
+use Rattle.outside_calls.proofs.Steps.{CountsStand-trans}
 use Rattle.command_base.specs.declared.limits.TheConstants.{RECORDING_LIMIT}
 use Rattle.command_base.proofs.Jobs.{stop-earlier}
 use Rattle.recordings.specs.Samples.{sample_at, samples_in}

@@ -1,6 +1,6 @@
 use Rattle.std.proofs.Common.{inr, ℕ, List, [], ◌∙◌, refl, sym, take, subst}
 use Rattle.outside_calls.specs.Folder.{FolderState}
-use Rattle.outside_calls.specs.Steps.{OnlyReads-trans, CountsStand-trans}
+use Rattle.outside_calls.proofs.Steps.{OnlyReads-trans, CountsStand-trans}
 use Rattle.command_base.specs.declared.limits.TheConstants.{RECORDING_LIMIT}
 use Rattle.command_base.specs.Inputs.{ReadTo}
 use Rattle.command_base.proofs.Reading.{ReadTo-none}

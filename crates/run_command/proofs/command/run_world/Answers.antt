@@ -1,8 +1,8 @@
 use Rattle.std.proofs.Common.{inl, sym, subst}
 use Rattle.outside_calls.specs.Folder.{FolderState}
-use Rattle.outside_calls.specs.Steps.{CountsStand-trans}
+use Rattle.outside_calls.proofs.Steps.{CountsStand-trans}
 use Rattle.noise_script.specs.Script.{ScriptValue}
-use Rattle.several_outputs.specs.Outputs.{AreApartFrom, OnlyPuts}
+use Rattle.outside_calls.specs.Outputs.{AreApartFrom, OnlyPuts}
 use Rattle.outside_calls.specs.Outputs.{Creates}
 use Rattle.run_world.specs.Names.{Written}
 use Rattle.run_world.specs.Names as written

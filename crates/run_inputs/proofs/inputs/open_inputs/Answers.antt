@@ -1,6 +1,6 @@
 use Rattle.std.proofs.Common.{[]}
 use Rattle.outside_calls.specs.Folder.{FolderState}
-use Rattle.outside_calls.specs.Steps.{CountsStand-trans}
+use Rattle.outside_calls.proofs.Steps.{CountsStand-trans}
 use Rattle.run_inputs.specs.Words.{named}
 use Rattle.run_inputs.proofs.Looking.{counts-script, counts-files, refused-script, refused-files}
 use Rattle.run_inputs.proofs.inputs.open_inputs.Goals as goal

@@ -3,8 +3,8 @@ use Rattle.outside_calls.specs.Folder.{FolderState}
 use Rattle.command_base.specs.declared.stop.Stop.{Stop}
 use Rattle.command_base.specs.Stops.{EndCounts}
 use Rattle.command_base.proofs.Saying.{if-err-map}
-use Rattle.run_inputs.specs.Lengths.{AreWithin, RefusesLengths}
-use Rattle.run_inputs.proofs.Looking.{within-all, refused-later, counts-later}
+use Rattle.run_inputs.specs.Lengths.{AreWithin, TellOctets, RefusesLengths}
+use Rattle.run_inputs.proofs.Looking.{within-all, octets-all, refused-later, counts-later}
 use Rattle.run_inputs.proofs.lengths.+check_lengths.Goals as goal
 
 abbrev texts : List (Bor (List ℕ)) → List (List ℕ)
@@ -20,6 +20,17 @@ returns-in-Ok-clause-within g t c =
     subst (λ (all : List (List ℕ)). OnOk c.check_lengths.result (AreWithin c.args.limit old all)) (sym e)
     (within-all old mid name names c.args.limit c.check_lengths.result c.within_limit.ensures.reads c.in-Ok.ensures.within
     c.check_lengths.ensures.within)
+
+pub returns-in-Ok-clause-octets : goal.returns-in-Ok-clause-octets
+returns-in-Ok-clause-octets g t c =
+    let old : FolderState = g.F.Folder.state c.args.folder.now in
+    let mid : FolderState = g.F.Folder.state c.within_limit.new.folder in
+    let name : List ℕ = c.in-Some.name.now.now in
+    let names : List (List ℕ) = texts c.in-Some.others.now in
+    let e : texts c.args.names.now ≡ name ∷ names = ap texts c.in-Some.ensures.cases.0 in
+    subst (λ (all : List (List ℕ)). OnOk c.check_lengths.result (TellOctets old all)) (sym e)
+    (octets-all old mid name names c.check_lengths.result c.within_limit.ensures.reads c.in-Ok.ensures.octets
+    c.check_lengths.ensures.octets)
 
 pub returns-in-Ok-clause-refused : goal.returns-in-Ok-clause-refused
 returns-in-Ok-clause-refused g t c =

@@ -1,6 +1,6 @@
 use Rattle.std.proofs.Common.{refl}
-use Rattle.outside_calls.specs.Steps.{CountsStand-trans}
-use Rattle.several_outputs.proofs.Putting.{OnlyPuts-trans}
+use Rattle.outside_calls.proofs.Steps.{CountsStand-trans}
+use Rattle.outside_calls.proofs.Putting.{OnlyPuts-trans}
 use Rattle.outside_calls.specs.Folder.{FolderState}
 use Rattle.run_world.specs.Names.{Written, outputs_of, written}
 use Rattle.run_world.specs.World.{script_of}

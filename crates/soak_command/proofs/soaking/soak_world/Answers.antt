@@ -1,6 +1,6 @@
 use Rattle.std.proofs.Common.{ℕ, Ok, Err, sym, subst}
 use Rattle.outside_calls.specs.Outputs.{Creates}
-use Rattle.several_outputs.specs.Outputs.{AreApartFrom}
+use Rattle.outside_calls.specs.Outputs.{AreApartFrom}
 use Rattle.program_folders.specs.Sure.{sure_folder}
 use Rattle.run_world.specs.Names.{Written, inputs_of, outputs_of, written}
 use Rattle.run_world.specs.World.{script_of, lost_of, again_of}

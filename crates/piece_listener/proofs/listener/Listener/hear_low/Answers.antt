@@ -1,7 +1,7 @@
 use Rattle.std.proofs.Common.{◌∙◌, ◌+◌, ◌≤◌, ◌/◌, ◌^◌, Bool, List, [], ◌∷◌, ◌++◌, length, take, drop, nat_eq, bit_and, ap, subst, arith}
 use Rattle.std.proofs.lemmas.List.{take_all}
 use Rattle.outside_calls.specs.Folder.{FolderState}
-use Rattle.outside_calls.specs.Steps.{CountsStand-trans}
+use Rattle.outside_calls.proofs.Steps.{CountsStand-trans}
 use Rattle.plain_lists.specs.Bits.{low_bits}
 use Rattle.frame_check.proofs.BitLists.{length-low_bits}
 use Rattle.roles.specs.declared.role.Role.{Role}

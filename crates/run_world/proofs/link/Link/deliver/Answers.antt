@@ -1,8 +1,8 @@
 use Rattle.std.proofs.Common.{[], ◌∷◌, inl, inr, subst}
 use Rattle.std.specs.List.{concat}
 use Rattle.outside_calls.specs.Folder.{Rose}
-use Rattle.outside_calls.specs.Steps.{GoesOn-refl, CountsStand-trans, FaultsStand-trans}
-use Rattle.several_outputs.proofs.Putting.{OnlyPuts-one, OnlyPuts-trans, KeepsEach-refl, AddEach-next, AddPart-longer, AddPart-next}
+use Rattle.outside_calls.proofs.Steps.{GoesOn-refl, CountsStand-trans, FaultsStand-trans}
+use Rattle.outside_calls.proofs.Putting.{OnlyPuts-one, OnlyPuts-trans, KeepsEach-refl, AddEach-next, AddPart-longer, AddPart-next}
 use Rattle.link_run.specs.End.{deliveries}
 use Rattle.run_world.specs.Names.{outputs_of, written}
 use Rattle.stations.proofs.Standing.{counted-on}

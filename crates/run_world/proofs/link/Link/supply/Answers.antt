@@ -1,6 +1,6 @@
 use Rattle.std.proofs.Common.{inl, inr, subst}
 use Rattle.outside_calls.specs.Folder.{Rose}
-use Rattle.outside_calls.specs.Steps.{OnlyReads-trans, CountsStand-trans, FaultsStand-trans}
+use Rattle.outside_calls.proofs.Steps.{OnlyReads-trans, CountsStand-trans, FaultsStand-trans}
 use Rattle.turn_bound.specs.Limits.{file_limit}
 use Rattle.stations.specs.Station.{Supplies}
 use Rattle.run_world.specs.Names.{written}

@@ -1,8 +1,8 @@
 use Rattle.std.proofs.Common.{◌≡◌, ◌+◌, refl, sym, ◌∙◌, ap, subst}
-use Rattle.outside_calls.specs.Steps.{CountsStand-trans}
+use Rattle.outside_calls.proofs.Steps.{CountsStand-trans}
 use Rattle.noise_script.specs.Script.{ScriptValue, IsInLimits}
 use Rattle.link_run.specs.End.{is_closed}
-use Rattle.several_outputs.proofs.Putting.{OnlyPuts-trans, OnlyPuts-reads, KeepsEach-refl, KeepsEach-reads, AddEach-kept}
+use Rattle.outside_calls.proofs.Putting.{OnlyPuts-trans, OnlyPuts-reads, KeepsEach-refl, KeepsEach-reads, AddEach-kept}
 use Rattle.run_world.specs.Names.{outputs_of, written}
 use Rattle.run_world.specs.Link.{AreCounted, octets_of}
 use Rattle.run_world.specs.declared.lines.LineEnd.{LineEnd}

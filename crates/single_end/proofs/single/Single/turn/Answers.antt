@@ -1,7 +1,7 @@
 use Rattle.std.proofs.Common.{◌≡◌, ◌+◌, ◌∙◌, [], ◌∷◌, sym, ap, subst}
 use Rattle.std.specs.List.{concat}
-use Rattle.outside_calls.specs.Steps.{CountsStand-trans}
-use Rattle.several_outputs.proofs.Putting.{OnlyPuts-trans, OnlyPuts-reads, KeepsEach-reads, AddEach-kept}
+use Rattle.outside_calls.proofs.Steps.{CountsStand-trans}
+use Rattle.outside_calls.proofs.Putting.{OnlyPuts-trans, OnlyPuts-reads, KeepsEach-reads, AddEach-kept}
 use Rattle.roles.specs.declared.role.Role.{Role}
 use Rattle.link_run.specs.End.{deliveries}
 use Rattle.stations.specs.Station.{IsCounted}

@@ -1,6 +1,6 @@
 use Rattle.std.proofs.Common.{ℕ, List, arith, refl, sym, subst}
 use Rattle.outside_calls.specs.Folder.{FolderState, Appended, PartlyAppended, Rose}
-use Rattle.outside_calls.specs.Steps.{CountsStand-refl, CountsStand-trans, FaultsStand-trans}
+use Rattle.outside_calls.proofs.Steps.{CountsStand-refl, CountsStand-trans, FaultsStand-trans}
 use Rattle.stations.specs.declared.station.Station.{Station}
 use Rattle.stations.proofs.Handing.{handing-starts, handing-next, handing-ends, handing-stops, handed-segment, writes-on}
 use Rattle.stations.proofs.Handing.{writes-none}
@@ -14,6 +14,7 @@ loop-segment-init g c = record {
   breaks = refl;
   only = writes-none (g.F.Folder.state c.args.folder.now) c.args.name.now;
   stand = CountsStand-refl (g.F.Folder.state c.args.folder.now);
+  came = g.met.F.Folder.came_none _;
 }
 
 pub returns-then-not-deliver-clause-stands : goal.returns-then-not-deliver-clause-stands
@@ -54,6 +55,7 @@ loop-segment-preserved g c =
       breaks = old.breaks;
       only = writes-on start now next name old.only c.in-Ok.ensures.only;
       stand = CountsStand-trans old.stand c.in-Ok.ensures.stand;
+      came = g.met.F.Folder.came_on _ _ _ old.came c.append.ensures.came;
     }
 
 pub returns-in-Err-clause-err : goal.returns-in-Err-clause-err

@@ -14,6 +14,7 @@ invariant-loop-segment g l = record {
   breaks : l.self.breaks ≡ l.fn.self.breaks;
   only : OnlyWrites (g.F.Folder.state l.fn.folder) (g.F.Folder.state l.folder) l.name;
   stand : CountsStand (g.F.Folder.state l.fn.folder) (g.F.Folder.state l.folder);
+  came : g.F.Folder.came l.fn.folder l.folder;
 }
 
 abbrev pub decreases-loop-segment : goal.decreases-loop-segment

@@ -1,6 +1,6 @@
 use Rattle.std.proofs.Common.{◌+◌, ◌≤◌, IfOk, subst, sym, ◌∙◌}
 use Rattle.lapm_link.specs.Stands.{StandsFor, taken_of}
-use Rattle.stations.proofs.Standing.{kept-heard, kept-counted}
+use Rattle.stations.proofs.Standing.{kept-heard, kept-counted, heard-gives-up}
 use Rattle.stations.proofs.station.Station.hear.Goals as goal
 
 pub returns-clause-hears : goal.returns-clause-hears
@@ -16,3 +16,9 @@ returns-clause-counted c =
     (c.keep_end.ensures.breaks ∙ c.take_end.ensures.breaks) c.keep_end.ensures.kept
     (subst (λ before. IfOk c.hear-became.result (λ end. taken_of end ≤ taken_of before + 128)) c.take_end.ensures.end
     c.hear-became.ensures.counted) c.requires.counted
+
+pub returns-clause-over : goal.returns-clause-over
+returns-clause-over c =
+    heard-gives-up c.args.turn c.args.arrived.now c.args.self.now c.keep_end.new.self c.hear-became.result c.keep_end.result
+    (c.keep_end.ensures.breaks ∙ c.take_end.ensures.breaks) c.keep_end.ensures.kept
+    (λ a h. c.hear-became.ensures.hears a (subst (λ e. StandsFor e a) (sym c.take_end.ensures.end) h))

@@ -1,7 +1,7 @@
 use Rattle.std.proofs.Common.{IfOk, subst, sym, ◌∙◌}
 use Rattle.lapm_link.specs.Stands.{StandsFor, TakesNothing}
 use Rattle.lapm_frames.specs.Sendable.{IsSendable}
-use Rattle.stations.proofs.Standing.{kept-spoken, kept-idle, kept-counts, kept-sendable}
+use Rattle.stations.proofs.Standing.{kept-spoken, kept-idle, kept-counts, kept-sendable, kept-fault, spoken-gives-up}
 use Rattle.stations.proofs.station.Station.speak.Goals as goal
 
 pub returns-clause-speaks : goal.returns-clause-speaks
@@ -26,3 +26,13 @@ returns-clause-counted c =
     kept-counts c.args.self.now c.keep_end.new.self c.speak-became.result c.keep_end.result
     (c.keep_end.ensures.breaks ∙ c.take_end.ensures.breaks) c.keep_end.ensures.kept
     (subst (λ before. IfOk c.speak-became.result (TakesNothing before)) c.take_end.ensures.end c.speak-became.ensures.takes_nothing)
+
+pub returns-clause-over : goal.returns-clause-over
+returns-clause-over c =
+    spoken-gives-up c.args.turn c.args.release c.args.sent.now c.speak-became.new.sent c.args.self.now c.keep_end.new.self
+    c.speak-became.result c.keep_end.result (c.keep_end.ensures.breaks ∙ c.take_end.ensures.breaks) c.keep_end.ensures.kept
+    (λ a h. c.speak-became.ensures.speaks a (subst (λ e. StandsFor e a) (sym c.take_end.ensures.end) h))
+
+pub returns-clause-unchanged : goal.returns-clause-unchanged
+returns-clause-unchanged c =
+    kept-fault _ c.keep_end.new.self c.speak-became.result c.keep_end.result c.keep_end.ensures.kept c.speak-became.ensures.unchanged

@@ -2,8 +2,8 @@ use Rattle.std.proofs.Common.{◌≡◌, ◌<◌, ◌^◌, ℕ, List, length, ta
 use Rattle.std.proofs.lemmas.List.{length-take-le}
 use Rattle.std.specs.Option.{IsSomeAnd}
 use Rattle.outside_calls.specs.Folder.{FolderState, Rose}
-use Rattle.outside_calls.specs.Steps.{OnlyReads-refl, OnlyReads-trans, CountsStand-refl, CountsStand-trans, FaultsStand-trans, told_later}
-use Rattle.outside_calls.specs.Steps.{octets-kept}
+use Rattle.outside_calls.proofs.Steps.{OnlyReads-refl, OnlyReads-trans, CountsStand-refl, CountsStand-trans, FaultsStand-trans, told_later}
+use Rattle.outside_calls.proofs.Steps.{octets-kept}
 use Rattle.link_run.specs.End.{piece_at}
 use Rattle.stations.proofs.Offering.{supplying-starts, supplying-next, supplying-ends, wants-within, as-err}
 use Rattle.stations.proofs.Standing.{idle-on, counted-on, takes-on}
@@ -18,6 +18,7 @@ loop-number-init g c = record {
   room = refl;
   only = OnlyReads-refl (g.F.Folder.state c.args.folder.now);
   stand = CountsStand-refl (g.F.Folder.state c.args.folder.now);
+  came = g.met.F.Folder.came_none _;
 }
 
 pub returns-in-None-clause-stands : goal.returns-in-None-clause-stands
@@ -82,6 +83,7 @@ loop-number-preserved g c =
       room = c.read_segment.ensures.length ∙ old.room;
       only = OnlyReads-trans old.only c.read_segment.ensures.only;
       stand = CountsStand-trans old.stand c.in-Ok.ensures.stand;
+      came = g.met.F.Folder.came_on _ _ _ old.came c.read_segment.ensures.came;
     }
 
 pub returns-in-Err-clause-only : goal.returns-in-Err-clause-only
@@ -112,3 +114,6 @@ returns-in-Err-clause-cause g c =
           (c.in-Err.ensures.cause.failed (as-err c.in-Err.fault _ e));
       memory = λ e. subst (λ before. Rose before next.refusals) stand.refusals (c.in-Err.ensures.cause.memory (as-err c.in-Err.fault _ e));
     }
+
+pub returns-in-Err-clause-came : goal.returns-in-Err-clause-came
+returns-in-Err-clause-came g c = g.met.F.Folder.came_on _ _ _ c.loop-number.invariant.came c.read_segment.ensures.came

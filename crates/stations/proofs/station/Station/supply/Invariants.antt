@@ -15,6 +15,7 @@ invariant-loop-number g l = record {
   room : length l.segment ≡ INFO;
   only : OnlyReads (g.F.Folder.state l.fn.folder) (g.F.Folder.state l.folder);
   stand : CountsStand (g.F.Folder.state l.fn.folder) (g.F.Folder.state l.folder);
+  came : g.F.Folder.came l.fn.folder l.folder;
 }
 
 abbrev pub decreases-loop-number : goal.decreases-loop-number

@@ -98,5 +98,3 @@ FaultsStand-trans p q = record {
 
 pub CountsStand-trans : {a b c : FolderState} → CountsStand a b → CountsStand b c → CountsStand a c
 CountsStand-trans p q = record { faults = FaultsStand-trans p.faults q.faults; refusals = q.refusals ∙ p.refusals }
-
-pub ruleset standing_counts = (FaultsStand-trans, CountsStand-trans)

@@ -1,11 +1,11 @@
 -- What several steps in a row leave of several outputs.
-use Rattle.std.proofs.Common.{◌≡◌, inl, inr, ◌∙◌, ℕ, List, [], ◌∷◌, ◌++◌, Some, refl, sym, ap, subst}
+use Rattle.std.proofs.Common.{◌≡◌, ◌≤◌, inl, inr, ◌∙◌, ℕ, List, [], ◌∷◌, ◌++◌, Some, refl, sym, ap, subst, arith}
 use Rattle.outside_calls.specs.Folder.{FolderState, GoesOn, KeepsName, OnlyReads, OnlyWrites, Adds, PartlyAppended, Rose}
-use Rattle.outside_calls.specs.Steps.{GoesOn-refl, GoesOn-trans, told_later, KeepsName-trans, octets-kept, Adds-kept, kept-PartlyAppended}
-use Rattle.outside_calls.specs.Steps.{PartlyAppended-none}
-use Rattle.outside_calls.specs.Outputs.{IsNoneOf, AreApart, KeepsEach}
+use Rattle.outside_calls.proofs.Steps.{GoesOn-refl, GoesOn-trans, told_later, KeepsName-trans, octets-kept, Adds-kept, kept-PartlyAppended}
+use Rattle.outside_calls.proofs.Steps.{PartlyAppended-none, Rose-later}
+use Rattle.outside_calls.specs.Outputs.{IsNoneOf, AreNoneOf, AreApart, OnlyPuts, OnlyOutputs, SomeRose, KeepsEach, AddEach, AddPart}
+use Rattle.outside_calls.specs.Outputs.{HoldEach, HoldPart, joined}
 use Rattle.outside_calls.proofs.Holding.{Holds-kept, Holds-add, HoldsPart-more}
-use Rattle.several_outputs.specs.Outputs.{AreNoneOf, OnlyPuts, SomeRose, AddEach, AddPart, HoldEach, HoldPart, joined}
 
 -- as many of these as of those
 abbrev pub AreAsMany : List (List ℕ) → List (List ℕ) → Type 0
@@ -28,6 +28,9 @@ OnlyPuts-trans a b c names p q = record {
 pub OnlyPuts-reads : (a b : FolderState) (names : List (List ℕ)) → OnlyReads a b → OnlyPuts a b names
 OnlyPuts-reads a b names r = record { goes_on = r.goes_on; names = λ other apart. r.names other; said = r.said }
 
+pub OnlyOutputs-puts : {a b : FolderState} (names : List (List ℕ)) → OnlyPuts a b names → OnlyOutputs a b names
+OnlyOutputs-puts names p = record { goes_on = p.goes_on; names = p.names }
+
 -- a name that is none of some isn't one that stands among them
 none-among : (front : List (List ℕ)) (name other : List ℕ) (behind : List (List ℕ)) → IsNoneOf other (front ++ name ∷ behind)
     → other ≡ name → ⊥
@@ -45,6 +48,15 @@ OnlyPuts-one a b front name behind w = record {
 
 -- ---- inputs are kept
 
+-- a name that is none of some is none of the first of them
+none-front : (name : List ℕ) (front behind : List (List ℕ)) → IsNoneOf name (front ++ behind) → IsNoneOf name front
+none-front name [] behind apart = tt
+none-front name (first ∷ front) behind apart = (apart.0, none-front name front behind apart.1)
+
+pub none-fronts : (names front behind : List (List ℕ)) → AreNoneOf names (front ++ behind) → AreNoneOf names front
+none-fronts [] front behind apart = tt
+none-fronts (name ∷ names) front behind apart = (none-front name front behind apart.0, none-fronts names front behind apart.1)
+
 heads-none : (input : List ℕ) (inputs outputs : List (List ℕ)) → AreNoneOf outputs (input ∷ inputs) → IsNoneOf input outputs
 heads-none input inputs [] apart = tt
 heads-none input inputs (output ∷ outputs) apart = (λ e. apart.0.0 (sym e), heads-none input inputs outputs apart.1)
@@ -53,15 +65,21 @@ tails-none : (input : List ℕ) (inputs outputs : List (List ℕ)) → AreNoneOf
 tails-none input inputs [] apart = tt
 tails-none input inputs (output ∷ outputs) apart = (apart.0.1, tails-none input inputs outputs apart.1)
 
-pub inputs-kept : (a b : FolderState) (inputs outputs : List (List ℕ)) → AreNoneOf outputs inputs → OnlyPuts a b outputs
-    → KeepsEach a b inputs
+pub inputs-kept : (a b : FolderState) (inputs outputs : List (List ℕ)) → AreNoneOf outputs inputs
+    → ((other : List ℕ) → IsNoneOf other outputs → KeepsName a b other) → KeepsEach a b inputs
 inputs-kept a b [] outputs apart only = tt
 inputs-kept a b (input ∷ inputs) outputs apart only = (
-  only.names input (heads-none input inputs outputs apart),
+  only input (heads-none input inputs outputs apart),
   inputs-kept a b inputs outputs (tails-none input inputs outputs apart) only,
 )
 
 -- ---- what was counted
+
+pub SomeRose-later : (before mid now : List ℕ → ℕ) (names : List (List ℕ)) → ((name : List ℕ) → mid name ≤ now name)
+    → SomeRose before mid names → SomeRose before now names
+SomeRose-later before mid now [] on rose = rose
+SomeRose-later before mid now (name ∷ names) on (inl rose) = inl (Rose-later _ _ (mid name) (now name) (omega arith) rose (on name))
+SomeRose-later before mid now (name ∷ names) on (inr rose) = inr (SomeRose-later before mid now names on rose)
 
 pub SomeRose-earlier : (before mid now : List ℕ → ℕ) (names : List (List ℕ)) → ((name : List ℕ) → mid name ≡ before name)
     → SomeRose mid now names → SomeRose before now names
@@ -84,11 +102,11 @@ pub KeepsEach-trans : (a b c : FolderState) (names : List (List ℕ)) → GoesOn
 KeepsEach-trans a b c [] g p q = tt
 KeepsEach-trans a b c (name ∷ names) g p q = (KeepsName-trans a b c name g p.0 q.0, KeepsEach-trans a b c names g p.1 q.1)
 
--- those before and behind the one that is written
-KeepsEach-behind : (a b : FolderState) (name : List ℕ) (names : List (List ℕ)) → IsNoneOf name names → OnlyWrites a b name
+-- a write to one name keeps each of the others
+pub KeepsEach-writes : (a b : FolderState) (name : List ℕ) (names : List (List ℕ)) → IsNoneOf name names → OnlyWrites a b name
     → KeepsEach a b names
-KeepsEach-behind a b name [] apart w = tt
-KeepsEach-behind a b name (other ∷ names) apart w = (w.names other (λ e. apart.0 (sym e)), KeepsEach-behind a b name names apart.1 w)
+KeepsEach-writes a b name [] apart w = tt
+KeepsEach-writes a b name (other ∷ names) apart w = (w.names other (λ e. apart.0 (sym e)), KeepsEach-writes a b name names apart.1 w)
 
 -- ---- what was put
 
@@ -111,7 +129,7 @@ pub AddEach-next : (a b c : FolderState) (front : List (List ℕ)) (name : List 
     → AreAsMany pieces front → AreApart (front ++ name ∷ behind) → GoesOn a b → AddEach a b (front ++ name ∷ behind) pieces
     → OnlyWrites b c name → Adds b c name piece → AddEach a c (front ++ name ∷ behind) (pieces ++ piece ∷ [])
 AddEach-next a b c [] name behind [] piece e apart g p w put =
-    (Adds-behind a b c name piece g p.0 put, KeepsEach-trans a b c behind g p.1 (KeepsEach-behind b c name behind apart.0 w))
+    (Adds-behind a b c name piece g p.0 put, KeepsEach-trans a b c behind g p.1 (KeepsEach-writes b c name behind apart.0 w))
 AddEach-next a b c [] name behind (first ∷ pieces) piece e apart g p w put = absurd e
 AddEach-next a b c (first ∷ front) name behind [] piece e apart g p w put = absurd e
 AddEach-next a b c (first ∷ front) name behind (one ∷ pieces) piece e apart g p w put = (
@@ -123,7 +141,7 @@ pub AddPart-next : (a b c : FolderState) (front : List (List ℕ)) (name : List 
     → AreAsMany pieces front → AreApart (front ++ name ∷ behind) → GoesOn a b → AddEach a b (front ++ name ∷ behind) pieces
     → OnlyWrites b c name → PartlyAppended b c name piece → AddPart a c (front ++ name ∷ behind) (pieces ++ piece ∷ [])
 AddPart-next a b c [] name behind [] piece e apart g p w put =
-    inl (kept-PartlyAppended a b c name piece g p.0 put, KeepsEach-trans a b c behind g p.1 (KeepsEach-behind b c name behind apart.0 w))
+    inl (kept-PartlyAppended a b c name piece g p.0 put, KeepsEach-trans a b c behind g p.1 (KeepsEach-writes b c name behind apart.0 w))
 AddPart-next a b c [] name behind (first ∷ pieces) piece e apart g p w put = absurd e
 AddPart-next a b c (first ∷ front) name behind [] piece e apart g p w put = absurd e
 AddPart-next a b c (first ∷ front) name behind (one ∷ pieces) piece e apart g p w put = inr (
