@@ -1,6 +1,9 @@
 -- Where the inputs are right and the line carries their run to its end, the run is done, but for want of memory.
 use Rattle.std.proofs.Common.{◌≡◌, ◌⊎◌, inl, inr, ℕ, ◌≤◌, ◌<◌, List, [], ◌∷◌, length, refl, sym, ◌∙◌, ap, subst, arith, Result}
-use Rattle.roles.specs.Both.{Both}
+use Rattle.plain_lists.specs.Octets.{AreOctets}
+use Rattle.roles.specs.declared.role.Role.{Role}
+use Rattle.roles.specs.declared.role.Role.TheVariants.{Originator, Answerer}
+use Rattle.roles.specs.Both.{Both, of}
 use Rattle.outside_calls.specs.Folder.{FolderState, octets_at}
 use Rattle.noise_script.specs.Script.{ScriptValue}
 use Rattle.noise_script.specs.Grammar.{ScriptSpelling}
@@ -9,7 +12,7 @@ use Rattle.line_run.specs.Ends.{RunEnd, Left, OneResult}
 use Rattle.line_run.specs.Ends as runs
 use Rattle.line_run.specs.Scripted.{channel_of, link_of}
 use Rattle.line_ends.specs.Causes.{GivesUp, LostLinksWereStarved}
-use Rattle.line_ends.specs.Completes.{ScriptRunsTo, EndsDone, LineEnds, AreOfOctets, CompletesWithFewLosses, CompletesWithFewNamed, CompletesQuiet}
+use Rattle.line_ends.specs.Completes.{ScriptRunsTo, IsQuiet, EndsDone, LineEnds, AreOfOctets, CompletesWithFewLosses, CompletesWithFewNamed, CompletesQuiet}
 use Rattle.line_ends.specs.Completes.{CompletesUndisturbed}
 use Rattle.command_base.specs.declared.status.Status.{Status}
 use Rattle.command_base.specs.declared.status.Status.TheVariants.{BadScript, TooLong, LineLost, NotDetected, LinkLost, ChanceMatch, NoMemory}
@@ -29,7 +32,7 @@ use Rattle.run_world.specs.Turns.{held_of}
 use Rattle.run_inputs.specs.Inputs.{RefusesOwn}
 use Rattle.run_command.specs.Ends.{RanTo, RanBy, EndsBy, Ends, run_job}
 use Rattle.line_ends.specs.Carried.{IsCarried}
-use Rattle.run_command.specs.Completes.{LosesFew, NamesFew, RunsQuietly, IsUndisturbed, AreRight, files_at, DoneWhere, Answered, AnsweredByItsEnd, Completes}
+use Rattle.run_command.specs.Completes.{LosesFew, NamesFew, IsUndisturbed, AreRight, files_at, DoneWhere, Answered, AnsweredByItsEnd, Completes}
 
 script-fits : (count : ℕ) → count ≤ 65536 → LIMITS.script < count → ⊥
 script-fits count within longer = omega (arith, within, longer)
@@ -76,22 +79,32 @@ carried-so law old before n script end r c e =
     subst (λ (a : List ℕ). IsCarried script (record { orig = e.files.orig; answ = a })) (sym (e.takes.answ r.answ_told)) at-orig in
     subst (λ (s : ScriptValue). IsCarried s e.files) same at-files
 
+-- the files that were opened are octets
+abbrev AreOfOctetsAt : FolderState → RunNames → Type 0
+AreOfOctetsAt old n = (role : Role) → AreOctets (of role (files_at old n))
+
+octets-told : (old before : FolderState) (n : RunNames) (script : ScriptValue) (end : RunEnd) → AreRight old n script
+    → RanTo LIMITS old before n end → AreOfOctetsAt old n
+octets-told old before n script end r e Originator = e.takes.opens.octets.0 r.orig_told
+octets-told old before n script end r e Answerer = e.takes.opens.octets.1.0 r.answ_told
+
 -- so no end gave up
 never-up : ScriptsAreOne → LostLinksWereStarved → (old before : FolderState) (n : RunNames) (script : ScriptValue) (end : RunEnd)
     → AreRight old n script
-    → IsCarried script (files_at old n) → GivesUp end → RanTo LIMITS old before n end → ⊥
+    → (AreOfOctetsAt old n → IsCarried script (files_at old n)) → GivesUp end → RanTo LIMITS old before n end → ⊥
 never-up one starved old before n script end r c g e =
-    (carried-so one old before n script end r c e).not_starved end e.left e.run g
+    (carried-so one old before n script end r (c (octets-told old before n script end r e)) e).not_starved end e.left e.run g
     (starved (channel_of e.script) e.files end e.left e.takes.limits e.run g)
 
 -- and the line didn't end it
 never-line : ScriptsAreOne → (old before : FolderState) (n : RunNames) (script : ScriptValue) (end : RunEnd) → AreRight old n script
-    → IsCarried script (files_at old n) → LineEnds end → RanTo LIMITS old before n end → ⊥
-never-line one old before n script end r c x e = (carried-so one old before n script end r c e).stays end e.left e.run x
+    → (AreOfOctetsAt old n → IsCarried script (files_at old n)) → LineEnds end → RanTo LIMITS old before n end → ⊥
+never-line one old before n script end r c x e =
+    (carried-so one old before n script end r (c (octets-told old before n script end r e)) e).stays end e.left e.run x
 
 never-ran : ScriptsAreOne → LostLinksWereStarved → (old before : FolderState) (n : RunNames) (script : ScriptValue) (answer : Status)
     → AreRight old n script
-    → IsCarried script (files_at old n) → RanBy LIMITS old before n answer → ⊥
+    → (AreOfOctetsAt old n → IsCarried script (files_at old n)) → RanBy LIMITS old before n answer → ⊥
 never-ran one starved old before n script (LinkLost role segment turn) r c e =
     never-up one starved old before n script (runs.LinkLost role segment turn) r c tt e
 never-ran one starved old before n script (NotDetected turn) r c e =
@@ -103,7 +116,7 @@ never-ran one starved old before n script (ChanceMatch role turn) r c e =
 never-ran one starved old before n script answer r c e = e
 
 never-own : DoneLaws → (old before : FolderState) (n : RunNames) (script : ScriptValue) (answer : Status) → AreRight old n script
-    → IsCarried script (files_at old n) → EndsBy LIMITS old before n (Own answer) → ⊥
+    → (AreOfOctetsAt old n → IsCarried script (files_at old n)) → EndsBy LIMITS old before n (Own answer) → ⊥
 never-own laws old before n script answer r c (inl refused) = never-refused laws.apart old n script answer r refused.1
 never-own laws old before n script answer r c (inr e) = never-ran laws.one laws.starved old before n script answer r c e
 
@@ -124,30 +137,30 @@ few-carried laws text script files spelled f = record {
 }
 
 named-carried : DoneLaws → (text : List ℕ) (script : ScriptValue) (files : Both (List ℕ)) → ScriptSpelling text script
-    → NamesFew script files → IsCarried script files
-named-carried laws text script files spelled f =
+    → NamesFew script → ((role : Role) → AreOctets (of role files)) → IsCarried script files
+named-carried laws text script files spelled f are =
     let limits = laws.limits text script spelled in
-    let octets : AreOfOctets script files = record { files_are = f.octets; breaks_are = laws.breaks text script spelled } in
+    let octets : AreOfOctets script files = record { files_are = are; breaks_are = laws.breaks text script spelled } in
     record {
       stays = λ end left r x. done-stays end (laws.few_named script files end left limits f.faint octets f.few r) x;
       not_starved = λ end left r g starved. done-kept end (laws.few_named script files end left limits f.faint octets f.few r) g;
     }
 
 quiet-carried : DoneLaws → (text : List ℕ) (script : ScriptValue) (files : Both (List ℕ)) → ScriptSpelling text script
-    → RunsQuietly script files → IsCarried script files
-quiet-carried laws text script files spelled q =
+    → IsQuiet script → ((role : Role) → AreOctets (of role files)) → IsCarried script files
+quiet-carried laws text script files spelled q are =
     let limits = laws.limits text script spelled in
-    let octets : AreOfOctets script files = record { files_are = q.octets; breaks_are = laws.breaks text script spelled } in
+    let octets : AreOfOctets script files = record { files_are = are; breaks_are = laws.breaks text script spelled } in
     record {
-      stays = λ end left r x. done-stays end (laws.quiet script files end left limits q.quiet octets r) x;
-      not_starved = λ end left r g starved. done-kept end (laws.quiet script files end left limits q.quiet octets r) g;
+      stays = λ end left r x. done-stays end (laws.quiet script files end left limits q octets r) x;
+      not_starved = λ end left r g starved. done-kept end (laws.quiet script files end left limits q octets r) g;
     }
 
 undisturbed-carried : DoneLaws → (text : List ℕ) (script : ScriptValue) (files : Both (List ℕ)) → ScriptSpelling text script
-    → IsUndisturbed script files → IsCarried script files
-undisturbed-carried laws text script files spelled u =
+    → IsUndisturbed script → ((role : Role) → AreOctets (of role files)) → IsCarried script files
+undisturbed-carried laws text script files spelled u are =
     let limits = laws.limits text script spelled in
-    let octets : AreOfOctets script files = record { files_are = u.octets; breaks_are = laws.breaks text script spelled } in
+    let octets : AreOfOctets script files = record { files_are = are; breaks_are = laws.breaks text script spelled } in
     record {
       stays = λ end left r x. done-stays end (laws.undisturbed script files end left limits u.no_losses u.no_hits u.no_noises octets r) x;
       not_starved = λ end left r g starved.
@@ -155,7 +168,7 @@ undisturbed-carried laws text script files spelled u =
     }
 
 carried-done : DoneLaws → (words : List (List ℕ)) (old new : FolderState) (n : RunNames) (s : Status) → Answers (run_job n) words old new s
-    → DoneWhere old new n s IsCarried
+    → DoneWhere old new n s (λ script files. ((role : Role) → AreOctets (of role files)) → IsCarried script files)
 carried-done laws words old new n s a sound script r c =
     done-unless-memory (run_job n) words old new s a sound (λ answer ends. never-own laws old a.before n script answer r c ends.0)
 
@@ -221,11 +234,12 @@ exact-of laws words old new n s a sound script r end left run = by (comes-to (ru
 pub completes-of : DoneLaws → (words : List (List ℕ)) (old new : FolderState) (n : RunNames) (s : Status)
     → Answers (run_job n) words old new s → Completes old new n s
 completes-of laws words old new n s a =
-    let done : DoneWhere old new n s IsCarried = carried-done laws words old new n s a in
+    let done = carried-done laws words old new n s a in
     record {
       exact = exact-of laws words old new n s a;
-      carried = done;
-      few_losses = λ sound script r f. done sound script r (few-carried laws (octets_at old n.script) script (files_at old n) r.spelled f);
+      carried = λ sound script r c. done sound script r (λ are. c);
+      few_losses = λ sound script r f.
+          done sound script r (λ are. few-carried laws (octets_at old n.script) script (files_at old n) r.spelled f);
       few_named = λ sound script r f. done sound script r (named-carried laws (octets_at old n.script) script (files_at old n) r.spelled f);
       quiet = λ sound script r q. done sound script r (quiet-carried laws (octets_at old n.script) script (files_at old n) r.spelled q);
       undisturbed = λ sound script r u.

@@ -1,9 +1,7 @@
 -- Which answer the inputs have over a sound folder, and when nothing but want of memory keeps a run from being done.
 use Rattle.std.specs.Prelude.{◌≡◌, ◌⊎◌, ℕ, ◌*◌, ◌<◌, ◌≤◌, IsTrue, List, [], length}
-use Rattle.plain_lists.specs.Octets.{AreOctets}
 use Rattle.outside_calls.specs.Folder.{FolderState, octets_at}
-use Rattle.roles.specs.declared.role.Role.{Role}
-use Rattle.roles.specs.Both.{Both, of}
+use Rattle.roles.specs.Both.{Both}
 use Rattle.noise_script.specs.Script.{ScriptValue}
 use Rattle.noise_script.specs.Grammar.{ScriptSpelling}
 use Rattle.link_run.specs.Counts.{lost_slots}
@@ -24,20 +22,13 @@ pub record LosesFew (script : ScriptValue) (files : Both (List ℕ)) : Type 0 wh
   pub few : (end : RunEnd) (left : Left) (r : ScriptRunsTo script files end left)
       → 2 * lost_slots (heard_turns script files end left r) < script.tries
 
--- The files are octets, the noise of the script is faint, as it is where no symbol is displaced, and its lose lines name fewer slots than one for each two tries.
-pub record NamesFew (script : ScriptValue) (files : Both (List ℕ)) : Type 0 where
-  pub octets : (role : Role) → AreOctets (of role files)
+-- The noise of the script is faint, as it is where no symbol is displaced, and its lose lines name fewer slots than one for each two tries.
+pub record NamesFew (script : ScriptValue) : Type 0 where
   pub faint : IsFaint script
   pub few : 2 * slots_named script.losses < script.tries
 
--- The files are octets, and the script is quiet: it loses no slot, and its noise is faint.
-pub record RunsQuietly (script : ScriptValue) (files : Both (List ℕ)) : Type 0 where
-  pub octets : (role : Role) → AreOctets (of role files)
-  pub quiet : IsQuiet script
-
--- The files are octets, and no line of the script loses, hits or displaces.
-pub record IsUndisturbed (script : ScriptValue) (files : Both (List ℕ)) : Type 0 where
-  pub octets : (role : Role) → AreOctets (of role files)
+-- No line of the script loses, hits or displaces.
+pub record IsUndisturbed (script : ScriptValue) : Type 0 where
   pub no_losses : script.losses ≡ []
   pub no_hits : script.hits ≡ []
   pub no_noises : script.noises ≡ []
@@ -74,11 +65,11 @@ AnsweredByItsEnd old new n s =
     → ScriptRunsTo script (files_at old n) end left → Answered new n end left s ⊎ (s ≡ NoMemory)
 
 -- The run is done, but for want of memory: where it is carried to its end; where it loses few slots; and, whatever else its script says and
--- its files hold, where few are named and noise is faint, so also where the script is quiet, and where nothing disturbs it.
+-- whatever its files hold, where few are named and noise is faint, so also where the script is quiet, and where nothing disturbs it.
 pub record Completes (old new : FolderState) (n : RunNames) (s : Status) : Type 0 where
   pub exact : AnsweredByItsEnd old new n s
   pub carried : DoneWhere old new n s IsCarried
   pub few_losses : DoneWhere old new n s LosesFew
-  pub few_named : DoneWhere old new n s NamesFew
-  pub quiet : DoneWhere old new n s RunsQuietly
-  pub undisturbed : DoneWhere old new n s IsUndisturbed
+  pub few_named : DoneWhere old new n s (λ script files. NamesFew script)
+  pub quiet : DoneWhere old new n s (λ script files. IsQuiet script)
+  pub undisturbed : DoneWhere old new n s (λ script files. IsUndisturbed script)
