@@ -86,3 +86,20 @@ fn listing_over_a_failing_folder(rt: HostRuntime) -> Result<(), Fail> {
     }
     Ok(())
 }
+
+/// The output isn't made, and so nothing is read behind the recording's header: where the next read fails too, it is no read fault.
+#[test]
+fn an_output_that_is_not_made_comes_before_what_is_read(rt: HostRuntime) -> Result<(), Fail> {
+    let mut faults = 0u32;
+    let calls = decoded_to(rt.alloc(), 16, &[])?.calls();
+    for number in 1..calls {
+        let first = decoded_to(rt.alloc(), 16, &[number])?;
+        let both = decoded_to(rt.alloc(), 16, &[number, number + 1])?;
+        if first.folder.get("f").is_none() && first.status == Status::WriteFault {
+            assert!(&rt; both.status == Status::WriteFault, "{number}");
+            faults = faults.saturating_add(1);
+        }
+    }
+    assert!(&rt; faults == 1);
+    Ok(())
+}

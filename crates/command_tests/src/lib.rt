@@ -24,6 +24,8 @@ mod measuring;
 #[cfg(test)]
 mod meeting;
 #[cfg(test)]
+mod noting;
+#[cfg(test)]
 mod opening;
 #[cfg(test)]
 mod picking;

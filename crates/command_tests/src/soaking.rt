@@ -29,3 +29,14 @@ fn seeds_are_soaked(rt: HostRuntime) -> Result<(), Fail> {
     }
     Ok(())
 }
+
+/// Seeds of either parity are done: their lines say so, whatever is lost.
+#[test]
+fn seeds_of_either_parity_are_done(rt: HostRuntime) -> Result<(), Fail> {
+    for (seed, begins) in [("8", "soak 8 done "), ("9", "soak 9 done ")] {
+        let ran = run_over(rt.alloc(), &["soak", seed], &[], &[])?;
+        assert!(&rt; ran.status == Status::Done, "{seed}");
+        assert!(&rt; ran.folder.said().starts_with(begins.as_bytes()), "{seed}");
+    }
+    Ok(())
+}

@@ -3,6 +3,7 @@ ghost use Rattle.std.specs.Prelude.{◌≤◌, IfOk};
 
 use outside_calls::{Folder, FolderFault};
 use outside_core::{DiskFolder, MemoryFolder, SureFolder, fill, write_all};
+use std::alloc::Global;
 use std::io::{self, ErrorKind, Read, Write};
 use std::process::Abort;
 use std::test::Fail;
@@ -81,7 +82,8 @@ fn the_disk_keeps_files_and_fails_at_bad_names(rt: HostRuntime) -> Result<(), Fa
     for name in ["missing/f", "/dev/full", "."] {
         assert!(rt; folder.append(name, b"piece") == failed, "{name}");
     }
-    for name in ["missing", "."] {
+    // The last one has no places to go to, as a pipe has none.
+    for name in ["missing", ".", "/dev/ptmx"] {
         let read = folder.read_at(name, 0, &mut [0u8; 4]);
         assert!(rt; read == Err(FolderFault::Failed), "{name}");
     }
@@ -147,7 +149,7 @@ impl Write for Slow {
     }
 }
 
-/// A transfer of 1,500 octets, 700 at a time, where so many are there and then this end comes.
+/// A transfer, 700 octets at a time, where so many are there and then this end comes.
 fn transfer_of(left: usize, end: Option<ErrorKind>) -> Slow {
     Slow {
         step: 700,
@@ -156,16 +158,20 @@ fn transfer_of(left: usize, end: Option<ErrorKind>) -> Slow {
     }
 }
 
-#[test]
-fn long_reads_end_with_the_reader_alone(rt: HostRuntime) -> Result<(), Fail> {
+/// So many octets as are read or written at once: a fixed number, a piece of a recording, and what a script may have at most and more.
+const SIZES: [usize; 3] = [1500, 4096, 66_560];
+
+/// Looks at reads of so many octets: more are there, then as many and a fault behind them, then fewer.
+fn reads(rt: &impl Abort, alloc: Global, size: usize) -> Result<(), Fail> {
     let fault = Some(ErrorKind::BrokenPipe);
-    let mut buf = [0u8; 1500];
-    for (left, end, count) in [(2000, None, 1500), (1500, fault, 1500), (1100, None, 1100)] {
+    let mut buf = vec![in alloc; 0u8; size]?;
+    let few = size - 400;
+    for (left, end, count) in [(size + 500, None, size), (size, fault, size), (few, None, few)] {
         let read = fill(&mut transfer_of(left, end), &mut buf)?;
         assert!(rt; read == count, "{left}");
         assert!(rt; buf[..read].iter().all(|octet| *octet == b'r'), "{left}");
     }
-    match fill(&mut transfer_of(1100, fault), &mut buf) {
+    match fill(&mut transfer_of(few, fault), &mut buf) {
         Ok(_) => panic!(rt; "read over a fault"),
         Err(error) => assert!(rt; error.kind() == ErrorKind::BrokenPipe),
     }
@@ -173,19 +179,35 @@ fn long_reads_end_with_the_reader_alone(rt: HostRuntime) -> Result<(), Fail> {
 }
 
 #[test]
-fn long_writes_end_with_the_writer_alone(rt: HostRuntime) -> Result<(), Fail> {
-    let piece = long_piece();
+fn long_reads_end_with_the_reader_alone(rt: HostRuntime) -> Result<(), Fail> {
+    for size in SIZES {
+        reads(&rt, rt.alloc(), size)?;
+    }
+    Ok(())
+}
+
+/// Looks at writes of so many octets: where there is room for more, for as many, and for fewer.
+fn writes(rt: &impl Abort, alloc: Global, size: usize) -> Result<(), Fail> {
+    let piece = vec![in alloc; b'w'; size]?;
     let fault = Some(ErrorKind::BrokenPipe);
-    for (left, end, rest) in [(2000, None, 500), (1500, fault, 0)] {
+    for (left, end, rest) in [(size + 500, None, 500), (size, fault, 0)] {
         let mut writer = transfer_of(left, end);
         write_all(&mut writer, &piece)?;
         assert!(rt; writer.left == rest, "{left}");
     }
     for (end, kind) in [(fault, ErrorKind::BrokenPipe), (None, ErrorKind::WriteZero)] {
-        match write_all(&mut transfer_of(1100, end), &piece) {
+        match write_all(&mut transfer_of(size - 400, end), &piece) {
             Ok(()) => panic!(rt; "wrote over a fault"),
             Err(error) => assert!(rt; error.kind() == kind),
         }
+    }
+    Ok(())
+}
+
+#[test]
+fn long_writes_end_with_the_writer_alone(rt: HostRuntime) -> Result<(), Fail> {
+    for size in SIZES {
+        writes(&rt, rt.alloc(), size)?;
     }
     Ok(())
 }

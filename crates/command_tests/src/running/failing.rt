@@ -105,3 +105,22 @@ fn the_first_faulty_line_of_a_script_is_named(rt: HostRuntime) -> Result<(), Fai
     leaves_none(&rt, &ran, "go");
     Ok(())
 }
+
+/// As many lines of comments, and then a faulty one.
+fn faulty_behind(alloc: Global, comments: u32) -> Result<Vec<u8>, Fail> {
+    let mut script = Vec::new(alloc);
+    for _ in 0..comments {
+        script.extend_from_slice(b"#\n")?;
+    }
+    script.extend_from_slice(b"speed 3\n")?;
+    Ok(script)
+}
+
+#[test]
+fn a_faulty_line_is_named_behind_many(rt: HostRuntime) -> Result<(), Fail> {
+    let script = faulty_behind(rt.alloc(), 149)?;
+    let ran = run(rt.alloc(), b"a", b"b", &script)?;
+    assert!(&rt; matches!(ran.status, Status::BadScript { line: 150, .. }));
+    says(&rt, &ran, ran.status, "bad script: line 150: word\n");
+    Ok(())
+}
