@@ -4,6 +4,7 @@
 
 mod edge;
 mod top;
+mod words;
 
 pub use command_base::Status;
 pub use edge::program;
