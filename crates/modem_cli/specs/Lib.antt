@@ -1,2 +1,1 @@
 pub mod Modem
-pub mod Words

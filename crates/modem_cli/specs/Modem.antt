@@ -1,6 +1,6 @@
 -- What the top call promises and answers, over the folder before and after it: by what the words ask for. A command has a constructor of
 -- `Asked`, a row in the table `commands` for each of its words, and a row in each of `PromisesOf`, `AnswersBy` and `CompletesOf`.
-use Rattle.std.specs.Prelude.{ℕ, List, [], ◌∷◌, map, Option, if◌then◌else◌, codes}
+use Rattle.std.specs.Prelude.{◌≡◌, true, ℕ, List, [], ◌∷◌, map, Option, if◌then◌else◌, codes}
 use Rattle.std.specs.Option.{option_map_or}
 use Rattle.std.specs.Str.{bytes_eq}
 use Rattle.outside_calls.specs.Folder.{FolderState}
@@ -10,19 +10,19 @@ use Rattle.command_base.specs.Job.{Answers, Shared}
 use Rattle.command_base.specs.Lines.{usage_line}
 use Rattle.outside_calls.specs.Outputs.{KeepsAll}
 use Rattle.command_base.specs.Tells.{Tells}
-use Rattle.run_inputs.specs.Words.{RunNames, names_of as run_names}
+use Rattle.run_inputs.specs.Words.{RunNames, are_apart, inputs_of as run_inputs, outputs_of as run_outputs, named as run_named, names_of as run_names}
 use Rattle.run_command.specs.Ends.{run_job}
 use Rattle.run_command.specs.Headline.{Headline as RunHeadline}
 use Rattle.run_command.specs.Completes.{Completes as RunCompletes}
-use Rattle.encode_command.specs.Words.{EncodeNames, names_of as encode_names}
+use Rattle.encode_command.specs.Words.{EncodeNames, are_apart as encode_apart, named as encode_named, names_of as encode_names}
 use Rattle.encode_command.specs.Ends.{encode_job}
 use Rattle.encode_command.specs.Headline.{Headline as EncodeHeadline}
 use Rattle.encode_command.specs.Completes.{Completes as EncodeCompletes}
-use Rattle.decode_command.specs.Words.{DecodeNames, names_of as decode_names}
+use Rattle.decode_command.specs.Words.{DecodeNames, are_apart as decode_apart, named as decode_named, names_of as decode_names}
 use Rattle.decode_command.specs.Ends.{decode_job}
 use Rattle.decode_command.specs.Headline.{Headline as DecodeHeadline}
 use Rattle.decode_command.specs.Completes.{Completes as DecodeCompletes}
-use Rattle.frames_command.specs.Words.{FramesNames, names_of as frames_names}
+use Rattle.frames_command.specs.Words.{FramesNames, named as frames_named, names_of as frames_names}
 use Rattle.frames_command.specs.Ends.{frames_job}
 use Rattle.frames_command.specs.Headline.{Headline as FramesHeadline}
 use Rattle.frames_command.specs.Completes.{Completes as FramesCompletes}
@@ -33,7 +33,7 @@ use Rattle.soak_command.specs.Words.{seed_named}
 use Rattle.soak_command.specs.Ends.{soak_job}
 use Rattle.soak_command.specs.Headline.{Headline as SoakHeadline}
 use Rattle.soak_command.specs.Completes.{Completes as SoakCompletes}
-use Rattle.peer_command.specs.Words.{Names as PeerNames, names_of as peer_names}
+use Rattle.peer_command.specs.Words.{Names as PeerNames, inputs_of as peer_inputs, outputs_of as peer_outputs, named as peer_named, names_of as peer_names}
 use Rattle.peer_command.specs.Ends.{peer_job}
 use Rattle.peer_command.specs.Headline.{Headline as PeerHeadline}
 use Rattle.peer_command.specs.Completes.{Completes as PeerCompletes}
@@ -41,10 +41,12 @@ use Rattle.pickup_command.specs.Words.{recording_named}
 use Rattle.pickup_command.specs.Ends.{pickup_job}
 use Rattle.pickup_command.specs.Headline.{Headline as PickupHeadline}
 use Rattle.pickup_command.specs.Completes.{Completes as PickupCompletes}
-use Rattle.margin_command.specs.Words.{MarginNames, names_of as margin_names}
+use Rattle.margin_command.specs.Words.{MarginNames, named as margin_named, names_of as margin_names}
 use Rattle.margin_command.specs.Ends.{margin_job}
 use Rattle.margin_command.specs.Headline.{Headline as MarginHeadline}
 use Rattle.margin_command.specs.Completes.{Completes as MarginCompletes}
+use Rattle.modem_cli.specs.declared.top.Asked.{Asked as AskedInCode}
+use Rattle.modem_cli.specs.declared.top.Asked.TheVariants as code
 
 -- What words ask for: a command, with the names that they give it, or nothing that there is.
 pub data Asked : Type 0 where
@@ -136,3 +138,25 @@ CompletesOf (Peer n) old new s = PeerCompletes old new n s
 CompletesOf (Pickup rec) old new s = PickupCompletes old new rec s
 CompletesOf (Margin n) old new s = MarginCompletes old new n s
 CompletesOf Nothing old new s = Unit {0}
+
+-- ---- in code
+
+-- what the code's own value asks for
+abbrev pub named : AskedInCode → Asked
+named (code.Run names) = Run (run_named names)
+named (code.Encode names) = Encode (encode_named names)
+named (code.Decode names) = Decode (decode_named names)
+named (code.Frames names) = Frames (frames_named names)
+named (code.Xid digits) = Xid digits.now
+named (code.Soak seed) = Soak seed
+named (code.Peer names) = Peer (peer_named names)
+named (code.Pickup rec) = Pickup rec.now
+named (code.Margin names) = Margin (margin_named names)
+
+-- outputs have names of their own, where words ask for a command that makes any
+abbrev pub AreApart : Asked → Type 0
+AreApart (Run n) = are_apart (run_inputs n) (run_outputs n) ≡ true
+AreApart (Encode n) = encode_apart n ≡ true
+AreApart (Decode n) = decode_apart n ≡ true
+AreApart (Peer n) = are_apart (peer_inputs n) (peer_outputs n) ≡ true
+AreApart other = Unit {0}

@@ -4,7 +4,6 @@
 
 mod edge;
 mod top;
-mod words;
 
 pub use command_base::Status;
 pub use edge::program;

@@ -1,21 +1,59 @@
 // The top call.
-ghost use Rattle.std.specs.Prelude.{◌≡◌, map, string_bytes};
+ghost use Rattle.std.specs.Prelude.{◌≡◌, IfSome, map, string_bytes};
+ghost use Rattle.std.specs.Option.{option_map_or};
 ghost use Rattle.command_base.specs.Status.{PassesNoneOver};
-ghost use Rattle.modem_cli.specs.Modem.{Nothing, asked, PromisesOf, AnswersBy, CompletesOf, usage};
+ghost use Rattle.modem_cli.specs.Modem.{Nothing, named, AreApart, asked, PromisesOf, AnswersBy, CompletesOf, usage};
 
-use crate::words::{Asked, read_words};
 use command_base::{Line, Status, tell, write_usage};
-use decode_command::decode;
-use encode_command::encode;
-use frames_command::frames;
-use margin_command::margin;
+use decode_command::{DecodeWords, decode, decode_words};
+use encode_command::{EncodeWords, encode, encode_words};
+use frames_command::{FramesWords, frames, frames_words};
+use margin_command::{MarginWords, margin, margin_words};
 use outside_calls::Folder;
-use peer_command::peer;
-use pickup_command::pickup;
-use run_command::run;
-use soak_command::soak;
+use peer_command::{PeerWords, peer, peer_words};
+use pickup_command::{pickup, pickup_words};
+use run_command::{RunWords, run, run_words};
+use soak_command::{soak, soak_words};
 use std::alloc::Global;
-use xid_command::xid;
+use xid_command::{xid, xid_words};
+
+/// A command, with the names that words give it.
+#[derive(Drop)]
+enum Asked<'a> {
+    Run(RunWords<'a>),
+    Encode(EncodeWords<'a>),
+    Decode(DecodeWords<'a>),
+    Frames(FramesWords<'a>),
+    Xid(&'a str),
+    Soak(u64),
+    Peer(PeerWords<'a>),
+    Pickup(&'a str),
+    Margin(MarginWords<'a>),
+}
+
+/// What words ask for, by the first one.
+#[tactic(auto, using(crate::proofs::Others::others))]
+fn read_words(words: &[String]) -> Option<Asked<'_>>
+    ensures names { asked (map string_bytes words.now) ≡ option_map_or named result Nothing }
+    ensures apart { IfSome result (λ it. AreApart (named it)) }
+{
+    let [first, ..] = words else {
+        return None;
+    };
+    let asked = match first.as_str() {
+        "run" => Asked::Run(run_words(words)?),
+        "encode" | "encode4" => Asked::Encode(encode_words(words)?),
+        "decode" | "decode4" => Asked::Decode(decode_words(words)?),
+        "frames" => Asked::Frames(frames_words(words)?),
+        "xid" => Asked::Xid(xid_words(words)?),
+        "soak" => Asked::Soak(soak_words(words)?),
+        "peer" => Asked::Peer(peer_words(words)?),
+        "pickup" => Asked::Pickup(pickup_words(words)?),
+        "margin" => Asked::Margin(margin_words(words)?),
+        _ => return None,
+    };
+    Some(asked)
+}
 
 /// How the program is used.
 fn usage() -> Line
