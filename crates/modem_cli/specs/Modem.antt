@@ -1,5 +1,6 @@
--- What the top call promises and answers, over the folder before and after it: by what the words ask for. A command has a constructor of
--- `Asked`, a row in the table `commands` for each of its words, and a row in each of `PromisesOf`, `AnswersBy` and `CompletesOf`.
+-- What the top call promises and answers, over the folder before and after it, by what the words ask for. A command has a constructor of
+-- `Asked`, a row in the table `commands` for each of its words, and a row in each of `PromisesOf`, `AnswersBy` and `CompletesOf`. Words ask for
+-- `Nothing` exactly where their first one is in no row of that table, or where they don't give the names that its row asks for.
 use Rattle.std.specs.Prelude.{◌≡◌, true, ℕ, List, [], ◌∷◌, map, Option, if◌then◌else◌, codes}
 use Rattle.std.specs.Option.{option_map_or}
 use Rattle.std.specs.Str.{bytes_eq}
@@ -66,7 +67,7 @@ pub record Command : Type 0 where
   pub word : List ℕ
   pub asks : List (List ℕ) → Asked
 
--- words that begin so ask for this where they give its names, else for nothing
+-- words that begin with this one ask for the command that they name, where they give its names, else for nothing
 abbrev pub command : {A : Type 0} → List ℕ → (A → Asked) → (List (List ℕ) → Option A) → Command
 command word make names_of = record { word = word; asks = λ words. option_map_or make (names_of words) Nothing }
 
