@@ -19,7 +19,8 @@ const FILES: &[(&str, &[u8])] = &[
     ("z", b"\0"),
 ];
 
-const USAGE: &str =
+/// What other words are told.
+pub(crate) const USAGE: &str =
     "usage: modem run, encode, decode, frames, xid, soak, peer, pickup, margin, encode4, decode4\n";
 
 /// Words of each command with what is said once it is done, and words that are no command's.

@@ -1,10 +1,8 @@
 // Soaks, and words that spell no seed.
 use super::asking::{run_over, says};
+use super::choosing::USAGE;
 use modem_cli::Status;
 use std::test::Fail;
-
-const USAGE: &str =
-    "usage: modem run, encode, decode, frames, xid, soak, peer, pickup, margin, encode4, decode4\n";
 
 /// Words of soaks, all but the first without a seed, the answers, and what is said.
 const SOAKS: &[(&[&str], Status, &str)] = &[

@@ -1,26 +1,29 @@
--- What the top call promises and answers, over the folder before and after it: by the words, what their command does. A command has one
--- line in the list of commands and in each record.
-use Rattle.std.specs.Prelude.{◌≡◌, Bool, true, false, ℕ, List, [], ◌∷◌, map, Option, Some, None, codes}
+-- What the top call promises and answers, over the folder before and after it, by what the words ask for. A command has a constructor of
+-- `Asked`, a row in the table `commands` for each of its words, and a row in each of `PromisesOf`, `AnswersBy` and `CompletesOf`. Words ask for
+-- `Nothing` exactly where their first one is in no row of that table, or where they don't give the names that its row asks for.
+use Rattle.std.specs.Prelude.{◌≡◌, true, ℕ, List, [], ◌∷◌, map, Option, if◌then◌else◌, codes}
+use Rattle.std.specs.Option.{option_map_or}
+use Rattle.std.specs.Str.{bytes_eq}
 use Rattle.outside_calls.specs.Folder.{FolderState}
 use Rattle.command_base.specs.declared.status.Status.{Status}
 use Rattle.command_base.specs.declared.status.Status.TheVariants.{Usage}
-use Rattle.command_base.specs.Job.{Answers as AnswersOf, Shared}
+use Rattle.command_base.specs.Job.{Answers, Shared}
 use Rattle.command_base.specs.Lines.{usage_line}
 use Rattle.outside_calls.specs.Outputs.{KeepsAll}
 use Rattle.command_base.specs.Tells.{Tells}
-use Rattle.run_inputs.specs.Words.{RunNames, names_of as run_names}
+use Rattle.run_inputs.specs.Words.{RunNames, are_apart, inputs_of as run_inputs, outputs_of as run_outputs, named as run_named, names_of as run_names}
 use Rattle.run_command.specs.Ends.{run_job}
 use Rattle.run_command.specs.Headline.{Headline as RunHeadline}
 use Rattle.run_command.specs.Completes.{Completes as RunCompletes}
-use Rattle.encode_command.specs.Words.{EncodeNames, names_of as encode_names}
+use Rattle.encode_command.specs.Words.{EncodeNames, are_apart as encode_apart, named as encode_named, names_of as encode_names}
 use Rattle.encode_command.specs.Ends.{encode_job}
 use Rattle.encode_command.specs.Headline.{Headline as EncodeHeadline}
 use Rattle.encode_command.specs.Completes.{Completes as EncodeCompletes}
-use Rattle.decode_command.specs.Words.{DecodeNames, names_of as decode_names}
+use Rattle.decode_command.specs.Words.{DecodeNames, are_apart as decode_apart, named as decode_named, names_of as decode_names}
 use Rattle.decode_command.specs.Ends.{decode_job}
 use Rattle.decode_command.specs.Headline.{Headline as DecodeHeadline}
 use Rattle.decode_command.specs.Completes.{Completes as DecodeCompletes}
-use Rattle.frames_command.specs.Words.{FramesNames, names_of as frames_names}
+use Rattle.frames_command.specs.Words.{FramesNames, named as frames_named, names_of as frames_names}
 use Rattle.frames_command.specs.Ends.{frames_job}
 use Rattle.frames_command.specs.Headline.{Headline as FramesHeadline}
 use Rattle.frames_command.specs.Completes.{Completes as FramesCompletes}
@@ -31,7 +34,7 @@ use Rattle.soak_command.specs.Words.{seed_named}
 use Rattle.soak_command.specs.Ends.{soak_job}
 use Rattle.soak_command.specs.Headline.{Headline as SoakHeadline}
 use Rattle.soak_command.specs.Completes.{Completes as SoakCompletes}
-use Rattle.peer_command.specs.Words.{Names as PeerNames, names_of as peer_names}
+use Rattle.peer_command.specs.Words.{Names as PeerNames, inputs_of as peer_inputs, outputs_of as peer_outputs, named as peer_named, names_of as peer_names}
 use Rattle.peer_command.specs.Ends.{peer_job}
 use Rattle.peer_command.specs.Headline.{Headline as PeerHeadline}
 use Rattle.peer_command.specs.Completes.{Completes as PeerCompletes}
@@ -39,83 +42,122 @@ use Rattle.pickup_command.specs.Words.{recording_named}
 use Rattle.pickup_command.specs.Ends.{pickup_job}
 use Rattle.pickup_command.specs.Headline.{Headline as PickupHeadline}
 use Rattle.pickup_command.specs.Completes.{Completes as PickupCompletes}
-use Rattle.margin_command.specs.Words.{MarginNames, names_of as margin_names}
+use Rattle.margin_command.specs.Words.{MarginNames, named as margin_named, names_of as margin_names}
 use Rattle.margin_command.specs.Ends.{margin_job}
 use Rattle.margin_command.specs.Headline.{Headline as MarginHeadline}
 use Rattle.margin_command.specs.Completes.{Completes as MarginCompletes}
+use Rattle.modem_cli.specs.declared.top.Asked.{Asked as AskedInCode}
+use Rattle.modem_cli.specs.declared.top.Asked.TheVariants as code
 
--- A command: its word, and whether words are not its own.
+-- What words ask for: a command, with the names that they give it, or nothing that there is.
+pub data Asked : Type 0 where
+  Run : RunNames → Asked
+  Encode : EncodeNames → Asked
+  Decode : DecodeNames → Asked
+  Frames : FramesNames → Asked
+  Xid : List ℕ → Asked
+  Soak : ℕ → Asked
+  Peer : PeerNames → Asked
+  Pickup : List ℕ → Asked
+  Margin : MarginNames → Asked
+  Nothing : Asked
+
+-- A first word, and what words ask for that begin with it.
 pub record Command : Type 0 where
   pub word : List ℕ
-  pub refuses : List (List ℕ) → Bool
+  pub asks : List (List ℕ) → Asked
 
-abbrev pub is_none : {A : Type 0} → Option A → Bool
-is_none None = true
-is_none (Some found) = false
+-- words that begin with this one ask for the command that they name, where they give its names, else for nothing
+abbrev pub command : {A : Type 0} → List ℕ → (A → Asked) → (List (List ℕ) → Option A) → Command
+command word make names_of = record { word = word; asks = λ words. option_map_or make (names_of words) Nothing }
 
 -- the commands that there are, in the order in which the usage line names them
 abbrev pub commands : List Command
 commands =
-    record { word = codes "run"; refuses = λ words. is_none (run_names words) }
-    ∷ record { word = codes "encode"; refuses = λ words. is_none (encode_names words) }
-    ∷ record { word = codes "decode"; refuses = λ words. is_none (decode_names words) }
-    ∷ record { word = codes "frames"; refuses = λ words. is_none (frames_names words) }
-    ∷ record { word = codes "xid"; refuses = λ words. is_none (digits_named words) }
-    ∷ record { word = codes "soak"; refuses = λ words. is_none (seed_named words) }
-    ∷ record { word = codes "peer"; refuses = λ words. is_none (peer_names words) }
-    ∷ record { word = codes "pickup"; refuses = λ words. is_none (recording_named words) }
-    ∷ record { word = codes "margin"; refuses = λ words. is_none (margin_names words) }
-    ∷ record { word = codes "encode4"; refuses = λ words. is_none (encode_names words) }
-    ∷ record { word = codes "decode4"; refuses = λ words. is_none (decode_names words) }
+    command (codes "run") Run run_names
+    ∷ command (codes "encode") Encode encode_names
+    ∷ command (codes "decode") Decode decode_names
+    ∷ command (codes "frames") Frames frames_names
+    ∷ command (codes "xid") Xid digits_named
+    ∷ command (codes "soak") Soak seed_named
+    ∷ command (codes "peer") Peer peer_names
+    ∷ command (codes "pickup") Pickup recording_named
+    ∷ command (codes "margin") Margin margin_names
+    ∷ command (codes "encode4") Encode encode_names
+    ∷ command (codes "decode4") Decode decode_names
     ∷ []
 
--- the words are those of none of these
-abbrev pub AreOther : List Command → List (List ℕ) → Type 0
-AreOther [] words = Unit {0}
-AreOther (command ∷ more) words = (command.refuses words ≡ true) × AreOther more words
+-- what words ask for whose first one is this: nothing, where no command has that word
+abbrev pub asked_by : List Command → List ℕ → List (List ℕ) → Asked
+asked_by [] first words = Nothing
+asked_by (it ∷ others) first words = if bytes_eq first it.word then it.asks words else asked_by others first words
 
--- the words are those of no command
-abbrev pub IsNoCommand : List (List ℕ) → Type 0
-IsNoCommand words = AreOther commands words
+-- what words ask for
+abbrev pub asked : List (List ℕ) → Asked
+asked [] = Nothing
+asked (first ∷ more) = asked_by commands first (first ∷ more)
 
 -- how the program is used
 abbrev pub usage : List ℕ
-usage = usage_line (map (λ command. command.word) commands)
+usage = usage_line (map (λ it. it.word) commands)
 
--- What holds of the files after any words.
-pub record Promises (words : List (List ℕ)) (old new : FolderState) (s : Status) : Type 0 where
-  pub run : (n : RunNames) → run_names words ≡ Some n → RunHeadline old new n s
-  pub encode : (n : EncodeNames) → encode_names words ≡ Some n → EncodeHeadline old new n s
-  pub decode : (n : DecodeNames) → decode_names words ≡ Some n → DecodeHeadline old new n s
-  pub frames : (n : FramesNames) → frames_names words ≡ Some n → FramesHeadline old new n s
-  pub xid : (digits : List ℕ) → digits_named words ≡ Some digits → Shared [] [] old new s
-  pub soak : (seed : ℕ) → seed_named words ≡ Some seed → SoakHeadline old new seed s
-  pub peer : (n : PeerNames) → peer_names words ≡ Some n → PeerHeadline old new n s
-  pub pickup : (rec : List ℕ) → recording_named words ≡ Some rec → PickupHeadline old new rec s
-  pub margin : (n : MarginNames) → margin_names words ≡ Some n → MarginHeadline old new n s
-  pub other : IsNoCommand words → KeepsAll old new
+-- what holds of the files after the words that ask for this
+abbrev pub PromisesOf : Asked → FolderState → FolderState → Status → Type 0
+PromisesOf (Run n) old new s = RunHeadline old new n s
+PromisesOf (Encode n) old new s = EncodeHeadline old new n s
+PromisesOf (Decode n) old new s = DecodeHeadline old new n s
+PromisesOf (Frames n) old new s = FramesHeadline old new n s
+PromisesOf (Xid digits) old new s = Shared [] [] old new s
+PromisesOf (Soak seed) old new s = SoakHeadline old new seed s
+PromisesOf (Peer n) old new s = PeerHeadline old new n s
+PromisesOf (Pickup rec) old new s = PickupHeadline old new rec s
+PromisesOf (Margin n) old new s = MarginHeadline old new n s
+PromisesOf Nothing old new s = KeepsAll old new
 
--- The answer to any words.
-pub record Answers (words : List (List ℕ)) (old new : FolderState) (s : Status) : Type 0 where
-  pub run : (n : RunNames) → run_names words ≡ Some n → AnswersOf (run_job n) words old new s
-  pub encode : (n : EncodeNames) → encode_names words ≡ Some n → AnswersOf (encode_job n) words old new s
-  pub decode : (n : DecodeNames) → decode_names words ≡ Some n → AnswersOf (decode_job n) words old new s
-  pub frames : (n : FramesNames) → frames_names words ≡ Some n → AnswersOf (frames_job n) words old new s
-  pub xid : (digits : List ℕ) → digits_named words ≡ Some digits → AnswersOf (xid_job digits) words old new s
-  pub soak : (seed : ℕ) → seed_named words ≡ Some seed → AnswersOf (soak_job seed) words old new s
-  pub peer : (n : PeerNames) → peer_names words ≡ Some n → AnswersOf (peer_job n) words old new s
-  pub pickup : (rec : List ℕ) → recording_named words ≡ Some rec → AnswersOf (pickup_job rec) words old new s
-  pub margin : (n : MarginNames) → margin_names words ≡ Some n → AnswersOf (margin_job n) words old new s
-  pub other : IsNoCommand words → Tells old new usage Usage s
+-- the answer to words that ask for this
+abbrev pub AnswersBy : Asked → List (List ℕ) → FolderState → FolderState → Status → Type 0
+AnswersBy (Run n) words old new s = Answers (run_job n) words old new s
+AnswersBy (Encode n) words old new s = Answers (encode_job n) words old new s
+AnswersBy (Decode n) words old new s = Answers (decode_job n) words old new s
+AnswersBy (Frames n) words old new s = Answers (frames_job n) words old new s
+AnswersBy (Xid digits) words old new s = Answers (xid_job digits) words old new s
+AnswersBy (Soak seed) words old new s = Answers (soak_job seed) words old new s
+AnswersBy (Peer n) words old new s = Answers (peer_job n) words old new s
+AnswersBy (Pickup rec) words old new s = Answers (pickup_job rec) words old new s
+AnswersBy (Margin n) words old new s = Answers (margin_job n) words old new s
+AnswersBy Nothing words old new s = Tells old new usage Usage s
 
--- When words of a command are done, but for want of memory.
-pub record Completes (words : List (List ℕ)) (old new : FolderState) (s : Status) : Type 0 where
-  pub run : (n : RunNames) → run_names words ≡ Some n → RunCompletes old new n s
-  pub encode : (n : EncodeNames) → encode_names words ≡ Some n → EncodeCompletes old new n s
-  pub decode : (n : DecodeNames) → decode_names words ≡ Some n → DecodeCompletes old new n s
-  pub frames : (n : FramesNames) → frames_names words ≡ Some n → FramesCompletes old new n s
-  pub xid : (digits : List ℕ) → digits_named words ≡ Some digits → XidCompletes old new digits s
-  pub soak : (seed : ℕ) → seed_named words ≡ Some seed → SoakCompletes old new seed s
-  pub peer : (n : PeerNames) → peer_names words ≡ Some n → PeerCompletes old new n s
-  pub pickup : (rec : List ℕ) → recording_named words ≡ Some rec → PickupCompletes old new rec s
-  pub margin : (n : MarginNames) → margin_names words ≡ Some n → MarginCompletes old new n s
+-- when words that ask for this are done, but for want of memory
+abbrev pub CompletesOf : Asked → FolderState → FolderState → Status → Type 0
+CompletesOf (Run n) old new s = RunCompletes old new n s
+CompletesOf (Encode n) old new s = EncodeCompletes old new n s
+CompletesOf (Decode n) old new s = DecodeCompletes old new n s
+CompletesOf (Frames n) old new s = FramesCompletes old new n s
+CompletesOf (Xid digits) old new s = XidCompletes old new digits s
+CompletesOf (Soak seed) old new s = SoakCompletes old new seed s
+CompletesOf (Peer n) old new s = PeerCompletes old new n s
+CompletesOf (Pickup rec) old new s = PickupCompletes old new rec s
+CompletesOf (Margin n) old new s = MarginCompletes old new n s
+CompletesOf Nothing old new s = Unit {0}
+
+-- ---- in code
+
+-- what the code's own value asks for
+abbrev pub named : AskedInCode → Asked
+named (code.Run names) = Run (run_named names)
+named (code.Encode names) = Encode (encode_named names)
+named (code.Decode names) = Decode (decode_named names)
+named (code.Frames names) = Frames (frames_named names)
+named (code.Xid digits) = Xid digits.now
+named (code.Soak seed) = Soak seed
+named (code.Peer names) = Peer (peer_named names)
+named (code.Pickup rec) = Pickup rec.now
+named (code.Margin names) = Margin (margin_named names)
+
+-- outputs have names of their own, where words ask for a command that makes any
+abbrev pub AreApart : Asked → Type 0
+AreApart (Run n) = are_apart (run_inputs n) (run_outputs n) ≡ true
+AreApart (Encode n) = encode_apart n ≡ true
+AreApart (Decode n) = decode_apart n ≡ true
+AreApart (Peer n) = are_apart (peer_inputs n) (peer_outputs n) ≡ true
+AreApart other = Unit {0}

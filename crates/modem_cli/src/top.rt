@@ -1,20 +1,59 @@
 // The top call.
-ghost use Rattle.std.specs.Prelude.{◌≡◌, map, string_bytes};
+ghost use Rattle.std.specs.Prelude.{◌≡◌, IfSome, map, string_bytes};
+ghost use Rattle.std.specs.Option.{option_map_or};
 ghost use Rattle.command_base.specs.Status.{PassesNoneOver};
-ghost use Rattle.modem_cli.specs.Modem.{IsNoCommand, Answers, Promises, Completes, usage};
+ghost use Rattle.modem_cli.specs.Modem.{Nothing, named, AreApart, asked, PromisesOf, AnswersBy, CompletesOf, usage};
 
 use command_base::{Line, Status, tell, write_usage};
-use decode_command::{decode, decode_words};
-use encode_command::{encode, encode_words};
-use frames_command::{frames, frames_words};
-use margin_command::{margin, margin_words};
+use decode_command::{DecodeWords, decode, decode_words};
+use encode_command::{EncodeWords, encode, encode_words};
+use frames_command::{FramesWords, frames, frames_words};
+use margin_command::{MarginWords, margin, margin_words};
 use outside_calls::Folder;
-use peer_command::{peer, peer_words};
+use peer_command::{PeerWords, peer, peer_words};
 use pickup_command::{pickup, pickup_words};
-use run_command::{run, run_words};
+use run_command::{RunWords, run, run_words};
 use soak_command::{soak, soak_words};
 use std::alloc::Global;
 use xid_command::{xid, xid_words};
+
+/// A command, with the names that words give it.
+#[derive(Drop)]
+enum Asked<'a> {
+    Run(RunWords<'a>),
+    Encode(EncodeWords<'a>),
+    Decode(DecodeWords<'a>),
+    Frames(FramesWords<'a>),
+    Xid(&'a str),
+    Soak(u64),
+    Peer(PeerWords<'a>),
+    Pickup(&'a str),
+    Margin(MarginWords<'a>),
+}
+
+/// What words ask for, by the first one.
+#[tactic(auto, using(crate::proofs::Others::others))]
+fn read_words(words: &[String]) -> Option<Asked<'_>>
+    ensures names { asked (map string_bytes words.now) ≡ option_map_or named result Nothing }
+    ensures apart { IfSome result (λ it. AreApart (named it)) }
+{
+    let [first, ..] = words else {
+        return None;
+    };
+    let asked = match first.as_str() {
+        "run" => Asked::Run(run_words(words)?),
+        "encode" | "encode4" => Asked::Encode(encode_words(words)?),
+        "decode" | "decode4" => Asked::Decode(decode_words(words)?),
+        "frames" => Asked::Frames(frames_words(words)?),
+        "xid" => Asked::Xid(xid_words(words)?),
+        "soak" => Asked::Soak(soak_words(words)?),
+        "peer" => Asked::Peer(peer_words(words)?),
+        "pickup" => Asked::Pickup(pickup_words(words)?),
+        "margin" => Asked::Margin(margin_words(words)?),
+        _ => return None,
+    };
+    Some(asked)
+}
 
 /// How the program is used.
 fn usage() -> Line
@@ -33,46 +72,30 @@ pub fn modem<F: Folder>(alloc: Global, words: &[String], folder: &mut F) -> Stat
     // recording than any other, or is the beginning of that. What `frames` says are the pieces of the file's bits, and what `pickup` says
     // those that a recording gives from whatever state its line began in. What `peer` leaves is what an end's run against the file's bits
     // gives. Where `margin` says that it is sure, what a recording releases begins the labels of the file.
-    ensures promises { Promises (map string_bytes words.now) (F.state folder.old) (F.state folder.new) result }
+    ensures promises { PromisesOf (asked (map string_bytes words.now)) (F.state folder.old) (F.state folder.new) result }
 
     // Each answer comes where it has to, with its line.
-    ensures answer { Answers (map string_bytes words.now) (F.state folder.old) (F.state folder.new) result }
+    ensures answer { AnswersBy (asked (map string_bytes words.now)) (map string_bytes words.now) (F.state folder.old) (F.state folder.new) result }
 
     // Where a command's inputs are right and the folder is sound, nothing but want of memory keeps it from being done.
-    ensures completes { Completes (map string_bytes words.now) (F.state folder.old) (F.state folder.new) result }
+    ensures completes { CompletesOf (asked (map string_bytes words.now)) (F.state folder.old) (F.state folder.new) result }
 
     // No fault of the folder is passed over.
     ensures stand { PassesNoneOver (F.state folder.old) (F.state folder.new) result }
 
     // How the program is used is told for no other words.
-    ensures usage { result ≡ Status.Usage → IsNoCommand (map string_bytes words.now) }
+    ensures usage { result ≡ Status.Usage → asked (map string_bytes words.now) ≡ Nothing }
 {
-    if let Some(names) = run_words(words) {
-        return run(alloc, folder, words, &names);
+    match read_words(words) {
+        Some(Asked::Run(names)) => run(alloc, folder, words, &names),
+        Some(Asked::Encode(names)) => encode(folder, words, &names),
+        Some(Asked::Decode(names)) => decode(alloc, folder, words, &names),
+        Some(Asked::Frames(names)) => frames(folder, words, &names),
+        Some(Asked::Xid(digits)) => xid(folder, words, digits),
+        Some(Asked::Soak(seed)) => soak(alloc, folder, words, seed),
+        Some(Asked::Peer(names)) => peer(alloc, folder, words, &names),
+        Some(Asked::Pickup(rec)) => pickup(alloc, folder, words, rec),
+        Some(Asked::Margin(names)) => margin(folder, words, &names),
+        None => tell(folder, usage().as_slice(), Status::Usage),
     }
-    if let Some(names) = encode_words(words) {
-        return encode(folder, words, &names);
-    }
-    if let Some(names) = decode_words(words) {
-        return decode(alloc, folder, words, &names);
-    }
-    if let Some(names) = frames_words(words) {
-        return frames(folder, words, &names);
-    }
-    if let Some(digits) = xid_words(words) {
-        return xid(folder, words, digits);
-    }
-    if let Some(seed) = soak_words(words) {
-        return soak(alloc, folder, words, seed);
-    }
-    if let Some(names) = peer_words(words) {
-        return peer(alloc, folder, words, &names);
-    }
-    if let Some(rec) = pickup_words(words) {
-        return pickup(alloc, folder, words, rec);
-    }
-    if let Some(names) = margin_words(words) {
-        return margin(folder, words, &names);
-    }
-    tell(folder, usage().as_slice(), Status::Usage)
 }

@@ -1,4 +1,4 @@
-//! The program again, which the gate starts with words that are no command's: it ends with their status.
+//! The program again, which the gate starts with digits that `xid` refuses: it ends with the status of that answer.
 #![tactic(auto)]
 
 use modem_cli::program;
