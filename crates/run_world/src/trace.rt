@@ -4,16 +4,16 @@ ghost use Rattle.outside_calls.specs.Folder.{OnlyWrites, HasCause, Appended, Par
 ghost use Rattle.line_texts.specs.LineText.{line_text};
 ghost use Rattle.line_texts.specs.declared.words.TheConstants.{TEXT};
 
-use crate::each::Each;
 use frame_check::Octets;
 use line_texts::{LineText, TraceLine, write_line};
 use outside_calls::{Folder, FolderFault};
+use roles::Both;
 
 /// Appends both lines of a turn to the trace, the originator's first.
 pub fn append_turn<F: Folder>(
     folder: &mut F,
     name: &str,
-    lines: &Each<TraceLine>,
+    lines: &Both<TraceLine>,
 ) -> Result<(), FolderFault>
     ensures ok { OnOk result (Appended (F.state folder.old) (F.state folder.new) name.now (line_text lines.now.orig ++ line_text lines.now.answ)) }
     ensures err { OnErr result (PartlyAppended (F.state folder.old) (F.state folder.new) name.now (line_text lines.now.orig ++ line_text lines.now.answ)) }
