@@ -42,7 +42,7 @@ use Rattle.line_ends.specs.Completes.{AreOfOctets, OctetsAreSendable}
 use Rattle.line_ends.specs.EachEnds.{Becomes, EachSlotBecomes, EachTurnIsDecided, HasEnd, EachRunEnds}
 use Rattle.line_ends.specs.EachEnds as becomes
 use Rattle.line_ends.proofs.Fitting.{symbols_of, bits_in, fits-all, fits-before}
-use Rattle.line_ends.proofs.Slots.{SentAgo, sent-ago}
+use Rattle.line_run.proofs.Slots.{SentAgo, sent-ago}
 use Rattle.line_ends.proofs.Deciding.{some-outcome}
 use Rattle.line_ends.proofs.Receiving.{ReceiveLaws, lost-or-not, some-received}
 
@@ -289,7 +289,7 @@ goes laws script files h ts ends r on (inr m) = made m.outcome refl
 -- with so many turns to go at most
 ends-within : EndLaws → (script : ScriptValue) (files : Both (List ℕ)) → IsInLimits script
     → ((role : Role) → length (of role files) ≤ file_limit) → AreOfOctets script files
-    → (n : ℕ) (ts : List Turn) (ends : Ends) → LineRun (channel_of script) (link_of script files) ts ends → 2 ^ 40 ≤ length ts + n
+    → (n : ℕ) (ts : List Turn) (ends : Ends) → LineRun (channel_of script) (link_of script files) ts ends → 2 ^ 39 ≤ length ts + n
     → HasEnd script files
 ends-within laws script files h f o zero ts ends r l = absurd (omega (arith, l, laws.short (channel_of script) files ts ends h f r))
 ends-within laws script files h f o (suc n) ts ends r l =
@@ -298,4 +298,4 @@ ends-within laws script files h f o (suc n) ts ends r l =
 
 pub each-run-ends : EndLaws → EachRunEnds
 each-run-ends laws script files h f o =
-    ends-within laws script files h f o (2 ^ 40) [] (start (link_of script files)) (record { run = refl; heard = tt }) (omega arith)
+    ends-within laws script files h f o (2 ^ 39) [] (start (link_of script files)) (record { run = refl; heard = tt }) (omega arith)

@@ -13,7 +13,7 @@ use Rattle.line_laws.proofs.Fitting.{codable-fits, fit-front, fit-more, spelled-
 use Rattle.link_run.specs.Run.{Ends, Spoken, Turn, spoken, GoingTurn}
 use Rattle.line_run.specs.Sampled.{signal_in, signals, HeardIn, LineRun}
 use Rattle.line_run.specs.Scripted.{channel_of, link_of, slot_symbols, longest_of, SlotsAreCodable}
-use Rattle.line_ends.specs.Completes.{AllSendable}
+use Rattle.line_run.specs.Stream.{AllSendable}
 
 -- the symbols of a slot, and its bits
 abbrev pub symbols_of : ScriptValue → ℕ

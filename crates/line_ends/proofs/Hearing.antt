@@ -33,9 +33,10 @@ use Rattle.line_run.specs.Sampled.{Channel, signal_in, signals, Arrives, Arrives
 use Rattle.line_run.specs.Sampled as lines
 use Rattle.line_run.specs.Scripted.{channel_of, link_of, ScriptsMayPlay, ScriptsHaveDelays, SlotsHaveRoom, SlotsAreCodable}
 use Rattle.line_run.specs.LineLaws.{SamplesAreCarried}
-use Rattle.line_ends.specs.Completes.{IsFaint, AllSendable, FaintGoOn}
+use Rattle.line_ends.specs.Completes.{IsFaint, FaintGoOn}
+use Rattle.line_run.specs.Stream.{AllSendable}
 use Rattle.line_ends.proofs.Fitting.{symbols_of, bits_in, fits-all, fits-before}
-use Rattle.line_ends.proofs.Slots.{SentAgo, sent-ago}
+use Rattle.line_run.proofs.Slots.{SentAgo, sent-ago}
 
 pub record HearLaws : Type 0 where
   pub play : ScriptsMayPlay

@@ -1,6 +1,5 @@
 mod Completing
 pub mod Fitting
-pub mod Slots
 pub mod Hearing
 mod Counting
 mod Undisturbed

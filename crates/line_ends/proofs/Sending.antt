@@ -31,8 +31,9 @@ use Rattle.link_run.specs.Reading.{StaysOffered, BeginsUnoffered, HearingStaysOf
 use Rattle.line_run.specs.Sampled.{Channel, LineRun}
 use Rattle.line_run.specs.Scripted.{link_of, break_line, breaks_of, ScriptsMayPlay, ScriptsHaveDelays}
 use Rattle.line_run.specs.LineLaws.{SamplesAreCarried, OneIsCarried}
-use Rattle.line_ends.specs.Completes.{AreOfOctets, AllSendable, OctetsAreSendable}
-use Rattle.line_ends.proofs.Slots.{sent-ago}
+use Rattle.line_ends.specs.Completes.{AreOfOctets, OctetsAreSendable}
+use Rattle.line_run.specs.Stream.{AllSendable}
+use Rattle.line_run.proofs.Slots.{sent-ago}
 use Rattle.line_ends.proofs.Words.{ArrivesInOctets, heard-owes}
 use Rattle.line_ends.proofs.Saying.{IsPlain, IsPlainSent, IsGood, said-good}
 use Rattle.line_ends.proofs.Handing.{IsOctetBreak, HasOctets, Holds, OfferLaws, ready, holds-served}

@@ -13,7 +13,8 @@ use Rattle.line_run.specs.Sampled.{Channel, IsHeardOf, HeardIn, LineRun}
 use Rattle.line_run.specs.Sampled as lines
 use Rattle.line_run.specs.Scripted.{channel_of, link_of, ScriptsMayPlay, ScriptsHaveDelays}
 use Rattle.line_run.specs.Ends.{RunEnd, IsDone, LinkLost, NotDetected, LineLost, ChanceMatch, Left, EndsInTurn, DoneLeavesWhole}
-use Rattle.line_ends.specs.Completes.{ScriptRunsTo, heard_turns, LineEnds, IsFaint, IsQuiet, DisplacesNoneIsFaint, AllSendable}
+use Rattle.line_ends.specs.Completes.{ScriptRunsTo, heard_turns, LineEnds, IsFaint, IsQuiet, DisplacesNoneIsFaint}
+use Rattle.line_run.specs.Stream.{AllSendable}
 use Rattle.line_ends.specs.Completes.{OctetsAreSendable, FaintGoOn, LosesWhatIsNamed, CompletesWithFewLosses, CompletesWithFewNamed}
 use Rattle.line_ends.specs.Completes.{CompletesQuiet, CompletesUndisturbed, slots_named}
 use Rattle.line_ends.specs.EachEnds.{HasEnd, EachRunEnds, QuietRunsDeliver, UndisturbedRunsDeliver}

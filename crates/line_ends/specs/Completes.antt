@@ -12,6 +12,7 @@ use Rattle.link_run.specs.Run.{Ends, Spoken, Turn}
 use Rattle.link_run.specs.Counts.{lost_slots}
 use Rattle.line_run.specs.Sampled.{Channel, LineRun, LineEnd, EndsLine}
 use Rattle.line_run.specs.Scripted.{channel_of, link_of}
+use Rattle.line_run.specs.Stream.{AllSendable}
 use Rattle.line_run.specs.Ends.{RunEnd, IsDone, LinkLost, NotDetected, LineLost, ChanceMatch, Left, RunsTo, turns_heard, StarvedBy}
 
 -- a script's run, over two users' files, that ends so
@@ -69,11 +70,6 @@ DisplacesNoneIsFaint = (script : ScriptValue) → DisplacesNone script → IsFai
 pub record AreOfOctets (script : ScriptValue) (files : Both (List ℕ)) : Type 0 where
   pub files_are : (role : Role) → AreOctets (of role files)
   pub breaks_are : All (λ (b : Break). b.length < 256) script.breaks
-
--- All that was sent in these turns can be sent: the numbers of its frames are below 128, and it consists of octets.
-abbrev pub AllSendable : List Turn → Type 0
-AllSendable [] = Unit {0}
-AllSendable (t ∷ ts) = ((role : Role) (slot : Spoken) → (of role t).sent ≡ Some slot → IsSendable slot.sent) × AllSendable ts
 
 -- Ends that are handed octets send what can be sent.
 abbrev pub OctetsAreSendable : Type 0

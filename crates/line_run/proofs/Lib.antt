@@ -5,3 +5,5 @@ mod Scripting
 mod Fitting
 mod Pausing
 mod Timing
+pub mod Slots
+pub mod Streaming

@@ -1,4 +1,5 @@
 pub mod Sampled
+pub mod Stream
 pub mod Scripted
 pub mod Ends
 pub mod LineLaws

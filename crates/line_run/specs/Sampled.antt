@@ -30,6 +30,10 @@ pub record Channel : Type 0 where
   pub dlci : ℕ
   pub beside : Role → ℕ → Option Signal  -- what a role sends of another link ahead of this link's slot of that turn, behind the one before
 
+-- nothing goes beside the link
+abbrev pub IsAlone : Channel → Type 0
+IsAlone c = (role : Role) (turn : ℕ) → c.beside role turn ≡ None
+
 -- a slot that was sent, as a signal: its frame has the check of its sender
 abbrev pub signal_in : Channel → Role → Option Spoken → List Signal
 signal_in c role None = []

@@ -1,5 +1,5 @@
 -- The link and the line that a script and two files make.
-use Rattle.std.specs.Prelude.{◌≡◌, ℕ, ◌+◌, ◌*◌, ◌/◌, ◌<◌, ◌≤◌, max, List, map, filter, Some, None, slice_get}
+use Rattle.std.specs.Prelude.{◌≡◌, ℕ, ◌+◌, ◌*◌, ◌/◌, ◌<◌, ◌≤◌, max, List, map, filter, Option, Some, None, slice_get}
 use Rattle.std.specs.Option.{option_map}
 use Rattle.frame_check.specs.declared.sizes.TheConstants.{SLOT}
 use Rattle.bit_stuffing.specs.declared.slot_writer.TheConstants.{HEAD, TAIL}
@@ -12,6 +12,7 @@ use Rattle.noise_script.specs.declared.entry.Pause.{Pause}
 use Rattle.noise_script.specs.Script.{ScriptValue, IsInLimits, delay_of, offer_of, break_of}
 use Rattle.noise_script.specs.Script as script
 use Rattle.xid_params.specs.declared.offer.Offer.{Offer}
+use Rattle.detection.specs.Slots.{Signal}
 use Rattle.link_account.specs.declared.setup.Setup.{Setup}
 use Rattle.link_account.specs.Laws.{MayPlay}
 use Rattle.link_run.specs.Carried.{HasDelays}
@@ -69,9 +70,14 @@ offered_octets offer = max offer.tx_len offer.rx_len
 abbrev pub longest_of : ScriptValue → ℕ
 longest_of script = max 128 (max (offered_octets script.offer_orig) (offered_octets script.offer_answ))
 
+-- a script's line on a channel, with these slots of another link beside
+abbrev pub channel_at : ScriptValue → ℕ → (Role → ℕ → Option Signal) → Channel
+channel_at script dlci beside =
+    record { script = script; symbols = slot_symbols (longest_of script); dlci = dlci; beside = beside }
+
 -- the line of a link alone, on channel 0
 abbrev pub channel_of : ScriptValue → Channel
-channel_of script = record { script = script; symbols = slot_symbols (longest_of script); dlci = 0; beside = λ role turn. None }
+channel_of script = channel_at script 0 (λ role turn. None)
 
 -- A script within its limits makes two ends that may play, over a line with delays.
 abbrev pub ScriptsMayPlay : Type 0

@@ -37,8 +37,8 @@ LineRunsAdvance = (c : Channel) (files : Both (List ℕ)) (ts us : List Turn) (b
     → is_whole (of role after).outgoing ≡ false → (of role after).outgoing.front ≡ (of role before).outgoing.front
     → length us < quota c.script.tries (period_of c.script)
 
--- No run of a script, of files within their limit, is as long as the turns that an end can count.
+-- No run of a script, of files within their limit, is half as long as the turns that an end can count.
 abbrev pub NoLineRunIsLong : Type 0
 NoLineRunIsLong = (c : Channel) (files : Both (List ℕ)) (ts : List Turn) (ends : Ends)
     → IsInLimits c.script → ((role : Role) → length (of role files) ≤ file_limit)
-    → LineRun c (link_of c.script files) ts ends → length ts < 2 ^ 40
+    → LineRun c (link_of c.script files) ts ends → length ts < 2 ^ 39

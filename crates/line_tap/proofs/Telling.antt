@@ -1,6 +1,6 @@
 -- What was recorded of a run tells all that the run left.
 use Rattle.std.proofs.Common.{◌≡◌, ℕ, suc, ◌+◌, ◌-◌, ◌*◌, ◌<◌, ◌≤◌, Bool, true, false, cond, List, [], ◌∷◌, ◌++◌, length}
-use Rattle.std.proofs.Common.{take, arith, length-append, refl, sym, ◌∙◌, ap, subst, Some, None}
+use Rattle.std.proofs.Common.{take, arith, length-append, refl, sym, ◌∙◌, ap, subst, Some}
 use Rattle.std.specs.List.{concat}
 use Rattle.std.specs.Option.{option_map}
 use Rattle.std.proofs.Math.Nat.{mul-suc, mul_assoc}
@@ -41,7 +41,7 @@ use Rattle.link_run.specs.Laws.{RunsOver}
 use Rattle.link_run.specs.Overheard.{agreed_terms, SendsAgreedCheck}
 use Rattle.link_run.specs.Trace.{trace_text}
 use Rattle.link_run.specs.Listened.{check_by, judged_by, given_to, HearsByLine, StaysKnownByLine, RunsByLine}
-use Rattle.line_run.specs.Sampled.{Channel, signal_in, and_then, signals, bits_of, IsHeardOf, IsHeardWell, HeardIn, LineRun, LineEnd, LosesLine}
+use Rattle.line_run.specs.Sampled.{Channel, IsAlone, signal_in, and_then, signals, bits_of, IsHeardOf, IsHeardWell, HeardIn, LineRun, LineEnd, LosesLine}
 use Rattle.line_run.specs.Sampled as lines
 use Rattle.line_run.specs.LineLaws.{SamplesAreCarried, OneIsCarried}
 use Rattle.line_run.specs.Scripted.{channel_of, link_of, ScriptsMayPlay, ScriptsHaveDelays, SlotsHaveRoom}
@@ -76,10 +76,6 @@ pub record TellingLaws : Type 0 where
 abbrev AllSent : Role → List Turn → Type 0
 AllSent role [] = Unit {0}
 AllSent role (t ∷ ts) = ((slot : Spoken) × ((of role t).sent ≡ Some slot)) × AllSent role ts
-
--- nothing goes beside the link
-abbrev pub IsAlone : Channel → Type 0
-IsAlone c = (role : Role) (n : ℕ) → c.beside role n ≡ None
 
 signals-more : (c : Channel) (role : Role) (ts : List Turn) (slot : Spoken) (t : Turn) → IsAlone c → (of role t).sent ≡ Some slot
     → signals c role (t ∷ ts) ≡ signals c role ts ++ signal_of slot.check role c.dlci slot.sent ∷ []

@@ -18,8 +18,9 @@ use Rattle.link_run.specs.Outcomes.{Outcome}
 use Rattle.line_run.specs.Sampled.{and_then, signal_in, signals, signals_before, ArrivesAs, IsHeardOf}
 use Rattle.line_run.specs.Sampled.{HeardIn, IsHeardOver, LineRun}
 use Rattle.line_run.specs.Ends.{RunEnd, IsDone, LinkLost, NotDetected, LineLost, ChanceMatch, Left, EndsInTurn, EndsBy}
-use Rattle.line_ends.proofs.Slots.{SentAgo, sent-ago}
-use Rattle.pair_run.specs.Beside.{signal_or_flags, slot_in, channel_at, lasting}
+use Rattle.line_run.proofs.Slots.{SentAgo, sent-ago}
+use Rattle.pair_run.specs.Beside.{signal_or_flags, slot_in, lasting}
+use Rattle.line_run.specs.Scripted.{channel_at}
 use Rattle.pair_run.specs.Pair.{last_ends, IsByLink, Progress, Goes, Ended, HearsIdly, IdlesFor, Lasts}
 use Rattle.pair_run.proofs.Clear.{Beside, bits_in}
 

@@ -38,8 +38,9 @@ use Rattle.line_ends.specs.EachEnds.{Becomes}
 use Rattle.line_ends.specs.EachEnds as becomes
 use Rattle.line_ends.proofs.Deciding.{some-outcome}
 use Rattle.line_ends.proofs.Receiving.{ReceiveLaws, lost-or-not, some-received}
-use Rattle.line_ends.proofs.Slots.{SentAgo, sent-ago}
-use Rattle.pair_run.specs.Beside.{slot_in, channel_at, lasting}
+use Rattle.line_run.proofs.Slots.{SentAgo, sent-ago}
+use Rattle.pair_run.specs.Beside.{slot_in, lasting}
+use Rattle.line_run.specs.Scripted.{channel_at}
 use Rattle.pair_run.specs.Pair.{Progress, Goes, Ended, turns_in, ends_in, turns_on_line, HearsIdly, IdlesFor, Lasts}
 use Rattle.pair_run.specs.Ends.{is_going}
 use Rattle.pair_run.proofs.Fitting.{AllFitting, fitting-dropped, fitting-lasting, BesideFits}

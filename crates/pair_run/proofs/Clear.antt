@@ -25,10 +25,11 @@ use Rattle.link_run.specs.Run.{Spoken, Turn}
 use Rattle.link_run.specs.Carried.{sent_ago}
 use Rattle.line_run.specs.Sampled.{Channel, signal_in, signals, signals_before, bits_of, Arrives, ArrivesAs, IsHeardOf, LosesLine}
 use Rattle.line_run.specs.Scripted.{slot_symbols, longest_of}
-use Rattle.line_ends.specs.Completes.{IsFaint, AllSendable}
+use Rattle.line_ends.specs.Completes.{IsFaint}
+use Rattle.line_run.specs.Stream.{AllSendable}
 use Rattle.line_ends.proofs.Receiving.{lost-or-not}
-use Rattle.line_ends.proofs.Slots.{SentAgo, sent-ago}
-use Rattle.pair_run.specs.Beside.{channel_at}
+use Rattle.line_run.proofs.Slots.{SentAgo, sent-ago}
+use Rattle.line_run.specs.Scripted.{channel_at}
 use Rattle.pair_run.proofs.Fitting.{AllFit, all-fit, fit-and-one, AllFitting, fitting-dropped, BesideFits, before-fit}
 
 pub record ClearLaws : Type 0 where

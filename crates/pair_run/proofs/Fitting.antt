@@ -19,7 +19,7 @@ use Rattle.line_laws.proofs.Fitting.{codable-fits, spelled-octets}
 use Rattle.link_run.specs.Run.{Ends, Spoken, Turn}
 use Rattle.line_run.specs.Sampled.{Channel, and_then, signal_in, signals, signals_before, LineRun}
 use Rattle.line_run.specs.Scripted.{link_of, slot_symbols, longest_of, SlotsAreCodable}
-use Rattle.line_ends.specs.Completes.{AllSendable}
+use Rattle.line_run.specs.Stream.{AllSendable}
 use Rattle.pair_run.specs.Beside.{signal_or_flags, slot_in, after_second, after_first, idle_turn, lasting}
 
 -- what fits a slot of this size behind whatever was sent before

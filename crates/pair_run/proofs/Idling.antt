@@ -19,7 +19,8 @@ use Rattle.line_run.specs.Scripted.{link_of}
 use Rattle.line_run.specs.LineLaws.{OneIsCarried}
 use Rattle.line_run.specs.Ends.{RunEnd, IsDone, LinkLost, NotDetected, LineLost, ChanceMatch, Left, EndsInTurn, EndsBy}
 use Rattle.line_ends.proofs.Hearing.{agree-on}
-use Rattle.pair_run.specs.Beside.{channel_at, lasting}
+use Rattle.pair_run.specs.Beside.{lasting}
+use Rattle.line_run.specs.Scripted.{channel_at}
 use Rattle.pair_run.specs.Pair.{last_ends, IsByLink}
 use Rattle.pair_run.proofs.Fitting.{idle-sends}
 use Rattle.pair_run.proofs.Clear.{Beside, Agrees}

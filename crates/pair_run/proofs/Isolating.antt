@@ -15,7 +15,7 @@ use Rattle.line_run.specs.LineLaws.{SamplesAreCarried}
 use Rattle.line_run.specs.Ends.{RunEnd, IsDone, LinkLost, NotDetected, LineLost, ChanceMatch, Left, EndsInTurn, RunsTo}
 use Rattle.line_ends.specs.Completes.{IsFaint, AreOfOctets, OctetsAreSendable}
 use Rattle.line_ends.proofs.Hearing.{agree-on}
-use Rattle.pair_run.specs.Beside.{channel_at}
+use Rattle.line_run.specs.Scripted.{channel_at}
 use Rattle.pair_run.specs.Pair.{IsByLink}
 use Rattle.pair_run.proofs.Fitting.{AllFitting, fitting-run, BesideFits}
 use Rattle.pair_run.proofs.Clear.{ClearLaws, Beside, bits_in, IsClear, Agrees, due, heard-due, due-heard}

@@ -17,7 +17,8 @@ use Rattle.line_run.specs.LineLaws.{SamplesAreCarried}
 use Rattle.line_run.specs.Ends.{RunEnd, IsDone, Left, Leaves, MayRun, RunsLeavePrefixes, DoneLeavesWhole}
 use Rattle.line_run.specs.Ends as runs
 use Rattle.line_ends.specs.Causes.{LostLinksWereStarved}
-use Rattle.pair_run.specs.Beside.{first_dlci, second_dlci, after_second, after_first, channel_at, first_channel, second_channel}
+use Rattle.pair_run.specs.Beside.{first_dlci, second_dlci, after_second, after_first, first_channel, second_channel}
+use Rattle.line_run.specs.Scripted.{channel_at}
 use Rattle.pair_run.specs.Pair.{Progress, Goes, Ended, turns_in, Lasts}
 use Rattle.pair_run.specs.Ends.{Which, First, Second, PairEnd, BothDone, end_of, line_end, is_going, LeavesOf, BothEnd, LineEnds, PairRunsTo}
 use Rattle.pair_run.specs.Ends.{by_links, by_line}
@@ -161,7 +162,7 @@ few-rounds soon long script files dlci beside rounds h f (Goes ts ends) l e = re
   count = l.count;
   ends = ends;
   few = soon (channel_at script dlci beside) files ts ends h l.run;
-  below = subst (λ n. n < 2 ^ 40) l.count (long (channel_at script dlci beside) files ts ends h f l.run);
+  below = subst (λ n. n < 2 ^ 39) l.count (long (channel_at script dlci beside) files ts ends h f l.run);
 }
 few-rounds soon long script files dlci beside rounds h f (Ended ts ends end left) l e = absurd (false≢true e)
 

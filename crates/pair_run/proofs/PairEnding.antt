@@ -11,7 +11,8 @@ use Rattle.line_run.specs.Sampled.{LineEnd}
 use Rattle.line_run.specs.Scripted.{link_of}
 use Rattle.line_run.specs.Ends.{Left}
 use Rattle.line_ends.specs.Completes.{AreOfOctets}
-use Rattle.pair_run.specs.Beside.{first_dlci, second_dlci, after_second, after_first, channel_at, slot_in}
+use Rattle.pair_run.specs.Beside.{first_dlci, second_dlci, after_second, after_first, slot_in}
+use Rattle.line_run.specs.Scripted.{channel_at}
 use Rattle.pair_run.specs.Pair.{Progress, Goes, Ended, turns_in, Lasts, PairAt}
 use Rattle.pair_run.specs.Ends.{Which, First, Second, end_of, line_end, is_going, EndsTurn, LeavesOf, text_for}
 use Rattle.pair_run.specs.Ends.{by_links, by_line}
@@ -202,7 +203,7 @@ first-turn laws script files others v round p q a g on =
 
 -- with so many rounds to go at most
 ends-within : EndLaws → (script : ScriptValue) (files others : Both (List ℕ)) → IsGiven script files others → (n round : ℕ) (p q : Progress)
-    → At script files others First round p q → (is_going p || is_going q) ≡ true → 2 ^ 40 ≤ round + n → HasPairEnd script files others
+    → At script files others First round p q → (is_going p || is_going q) ≡ true → 2 ^ 39 ≤ round + n → HasPairEnd script files others
 ends-within laws script files others v zero round p q a g l = absurd (go (either (is_going p) (is_going q) g))
   where
     go : (is_going p ≡ true) ⊎ ((is_going p ≡ false) × (is_going q ≡ true)) → ⊥
@@ -213,7 +214,7 @@ ends-within laws script files others v (suc n) round p q a g l =
 
 pub each-pair-ends : EndLaws → EachPairEnds
 each-pair-ends laws script files others h short shorts o oo =
-    ends-within laws script files others (record { limits = h; octets = o; more = oo; short = short; shorts = shorts }) (2 ^ 40) 0
+    ends-within laws script files others (record { limits = h; octets = o; more = oo; short = short; shorts = shorts }) (2 ^ 39) 0
     (Goes [] (start (link_of script files))) (Goes [] (start (link_of script others)))
     (record {
       first = record { run = record { run = refl; heard = tt }; count = refl };

@@ -14,7 +14,8 @@ use Rattle.line_run.specs.Sampled as lines
 use Rattle.line_run.specs.Scripted.{link_of}
 use Rattle.line_run.specs.LineLaws.{OneIsCarried}
 use Rattle.line_ends.specs.Completes.{IsFaint, DisplacesNoneIsFaint}
-use Rattle.pair_run.specs.Beside.{first_dlci, second_dlci, after_second, after_first, channel_at}
+use Rattle.pair_run.specs.Beside.{first_dlci, second_dlci, after_second, after_first}
+use Rattle.line_run.specs.Scripted.{channel_at}
 use Rattle.pair_run.specs.Pair.{Progress, Goes, Ended, turns_in, ends_in, turns_on_line, Lasts, PairAt}
 use Rattle.pair_run.specs.Ends.{Which, First, Second, EndsTurn, by_links, by_line}
 use Rattle.pair_run.specs.Laws.{FaintPairsAreIsolated, UndisplacedPairsAreIsolated}

@@ -1,32 +1,27 @@
 -- The slots of a pair in the order in which they are sent: as each link's turn begins, the slot that is due is that link's.
-use Rattle.std.proofs.Common.{◌≡◌, ℕ, zero, suc, ◌-◌, ◌*◌, ◌<◌, ◌≤◌, Bool, true, false, cond, nat_eq, List, [], ◌∷◌, ◌++◌, length, map, drop}
-use Rattle.std.proofs.Common.{take, append-nil, append_assoc, arith, length-append, refl, sym, ◌∙◌, ap, Some, None}
+use Rattle.std.proofs.Common.{◌≡◌, ℕ, zero, suc, ◌-◌, ◌*◌, ◌<◌, ◌≤◌, Bool, true, false, cond, nat_eq, List, [], ◌∷◌, length, drop}
+use Rattle.std.proofs.Common.{arith, refl, sym, ◌∙◌, ap, Some, None}
 use Rattle.std.specs.Prelude.{is_some}
 use Rattle.std.proofs.lemmas.Bool.Decides.{nat_tests}
-use Rattle.std.proofs.lemmas.List.{length-drop, map-append}
 use Rattle.roles.specs.declared.role.Role.{Role}
 use Rattle.roles.specs.declared.role.Role.TheVariants.{Originator, Answerer}
 use Rattle.roles.specs.Both.{of}
 use Rattle.detection.specs.Slots.Signal.{FlagSlot}
 use Rattle.noise_script.specs.Script.{ScriptValue, delay_of}
-use Rattle.link_run.specs.Run.{Link, Ends, Spoken, Turn, RunOf}
-use Rattle.link_run.specs.Carried.{sent_ago}
-use Rattle.line_run.specs.Sampled.{signals_before}
-use Rattle.line_run.specs.Scripted.{channel_of, link_of}
-use Rattle.pair_run.specs.Beside.{first_dlci, second_dlci, signal_or_flags, slot_in, after_second, after_first, channel_at}
+use Rattle.link_run.specs.Run.{Link, Turn}
+use Rattle.line_run.specs.Scripted.{link_of}
+use Rattle.pair_run.specs.Beside.{first_dlci, second_dlci, signal_or_flags, slot_in, after_second, after_first}
+use Rattle.line_run.specs.Scripted.{channel_at}
 use Rattle.pair_run.specs.Beside.{second_channel, idle_turn, lasting}
 use Rattle.pair_run.specs.Pair.{Progress, Goes, Ended, turns_in, turns_on_line, Lasts}
-use Rattle.pair_run.specs.Stream.{Carried, carried_signal, carry, sent_by, both_sent, first_sent, AreSent, IsDue}
-use Rattle.pair_run.specs.Laws.{FirstSlotsAreDue, SecondSlotsAreDue, LoneSlotsAreDue}
+use Rattle.line_run.specs.Stream.{Carried, AreSent, IsDue}
+use Rattle.line_run.proofs.Streaming.{run-sent}
+use Rattle.pair_run.specs.Stream.{both_sent, first_sent}
+use Rattle.pair_run.specs.Laws.{FirstSlotsAreDue, SecondSlotsAreDue}
 use Rattle.pair_run.proofs.Clear.{Beside}
 use Rattle.pair_run.proofs.Pairing.{has-run}
 use Rattle.pair_run.proofs.Agreeing.{same-before, length-lasting}
-use Rattle.pair_run.proofs.Streaming.{one-carried, carried-signal, Back, back, none-back, first-due, second-due, cut-at, sent-dropped}
-
--- what a role sent in the turns of a run
-run-sent : (link : Link) (role : Role) (ts : List Turn) (ends : Ends) → RunOf link ts ends → AreSent role ts
-run-sent link role [] ends h = tt
-run-sent link role (t ∷ ts) ends h = (ap is_some (h.2.speaking role).sent_is, run-sent link role ts h.0 h.1)
+use Rattle.pair_run.proofs.Streaming.{first-due, second-due}
 
 lasting-sent : (role : Role) (n : ℕ) (ts : List Turn) → AreSent role ts → AreSent role (lasting n ts)
 lasting-sent role zero ts h = h
@@ -93,13 +88,12 @@ due-beside : (script : ScriptValue) (dlci : ℕ) (b d : Beside) (role : Role) (t
 due-beside script dlci b d role ts stream lag same h = record {
   early = h.early;
   late = h.late;
-  due = λ l. let w = h.due l in
-      (
-        w.0,
-        w.1,
-        w.2,
-        w.3 ∙ same-before script dlci b d role (drop (delay_of script role) ts) (λ r round less. same r round),
-      );
+  due = λ l. let w = h.due l in (
+    w.0,
+    w.1,
+    w.2,
+    w.3 ∙ same-before script dlci b d role (drop (delay_of script role) ts) (λ r round less. same r round),
+  );
 }
 
 second-same : (rounds : ℕ) (q : Progress) (role : Role) (round : ℕ)
@@ -143,65 +137,3 @@ second-slots-are-due script files others round p q a role some =
         → IsDue (second_channel script ts) role us (first_sent role ts us) (2 * delay_of script role)
     go [] e h = absurd (omega (arith, e))
     go (t ∷ ts) e h = second-due script role t ts us some h sent (omega (arith, e, count))
-
--- ---- a link alone
-
-lone-length : (role : Role) (ts : List Turn) → AreSent role ts → length (sent_by 0 role ts) ≡ length ts
-lone-length role [] h = refl
-lone-length role (t ∷ ts) h =
-    let rest = lone-length role ts h.1 in
-    omega (arith, rest, one-carried 0 (of role t).sent h.0, length-append {A = Carried} (sent_by 0 role ts) (carry 0 (of role t).sent))
-
-lone-front : (role : Role) (n : ℕ) (ts : List Turn) → (rest : List Carried) × (sent_by 0 role ts ≡ sent_by 0 role (drop n ts) ++ rest)
-lone-front role zero ts = ([], sym (append-nil (sent_by 0 role ts)))
-lone-front role (suc n) [] = ([], refl)
-lone-front role (suc n) (t ∷ ts) =
-    let r = lone-front role n ts in
-    (r.0 ++ carry 0 (of role t).sent,
-        ap (λ l. l ++ carry 0 (of role t).sent) r.1 ∙ append_assoc (sent_by 0 role (drop n ts)) r.0 (carry 0 (of role t).sent))
-
-lone-signals : (script : ScriptValue) (role : Role) (ts : List Turn)
-    → map (carried_signal role) (sent_by 0 role ts) ≡ signals_before (channel_of script) role ts
-lone-signals script role [] = refl
-lone-signals script role (t ∷ ts) =
-    map-append (carried_signal role) (sent_by 0 role ts) (carry 0 (of role t).sent)
-    ∙ ap (λ l. l ++ map (carried_signal role) (carry 0 (of role t).sent)) (lone-signals script role ts)
-    ∙ ap (λ l. signals_before (channel_of script) role ts ++ l) (carried-signal (channel_of script) role (of role t).sent)
-
-pub lone-slots-are-due : LoneSlotsAreDue
-lone-slots-are-due script files ts ends run role some =
-    record {
-      early = λ l. none-back (d - 1) role ts (omega (arith, l, count, some));
-      late = λ l. omega (arith, l, count);
-      due = λ l. found (omega (arith, l, count, some));
-    }
-  where
-    d : ℕ
-    d = delay_of script role
-
-    h : AreSent role ts
-    h = run-sent (link_of script files) role ts ends run.run
-
-    stream : List Carried
-    stream = sent_by 0 role ts
-
-    count : length stream ≡ length ts
-    count = lone-length role ts h
-
-    found : d - 1 < length ts → (slot : Spoken) × (sent_ago d role ts ≡ Some slot)
-        × (drop (length stream - d) stream ≡ (record { dlci = 0; spoken = slot }) ∷ drop (suc (length stream - d)) stream)
-        × (map (carried_signal role) (take (length stream - d) stream) ≡ signals_before (channel_of script) role (drop d ts))
-    found l =
-        let b : Back (d - 1) role ts = back (d - 1) role ts h l in
-        let up : suc (d - 1) ≡ d = omega (arith, some) in
-        let f = lone-front role (d - 1) ts in
-        let front : List Carried = sent_by 0 role (drop d ts) in
-        let x : Carried = record { dlci = 0; spoken = b.slot } in
-        let there : sent_by 0 role (drop (d - 1) ts) ≡ front ++ x ∷ [] =
-        ap (sent_by 0 role) b.behind ∙ ap (λ n. sent_by 0 role (drop n ts) ++ carry 0 (of role b.turn).sent) up
-        ∙ ap (λ o. front ++ carry 0 o) b.sent in
-        let cut : stream ≡ front ++ (x ∷ f.0) = f.1 ∙ ap (λ l. l ++ f.0) there ∙ append_assoc front (x ∷ []) f.0 in
-        let front-count = lone-length role (drop d ts) (sent-dropped role d ts h) in
-        let place : length stream - d ≡ length front = omega (arith, count, front-count, length-drop d ts, l, some) in
-        let q = cut-at stream front x f.0 (length stream - d) cut place in
-        (b.slot, b.ago, q.rest, ap (map (carried_signal role)) q.before ∙ lone-signals script role (drop d ts))

@@ -8,7 +8,8 @@ use Rattle.noise_script.specs.Script.{ScriptValue, delay_of}
 use Rattle.link_run.specs.Run.{Link, Ends, Turn, start}
 use Rattle.line_run.specs.Scripted.{link_of}
 use Rattle.line_run.specs.Ends.{RunEnd, Left}
-use Rattle.pair_run.specs.Beside.{first_dlci, second_dlci, slot_in, after_second, after_first, channel_at, first_channel, second_channel, lasting}
+use Rattle.pair_run.specs.Beside.{first_dlci, second_dlci, slot_in, after_second, after_first, first_channel, second_channel, lasting}
+use Rattle.line_run.specs.Scripted.{channel_at}
 use Rattle.pair_run.specs.Pair.{Progress, Goes, Ended, turns_in, ends_in, turns_on_line, HearsIdly, IdlesFor, Lasts, PairAt}
 use Rattle.pair_run.specs.Ends.{Which, First, Second, is_going, firsts_at}
 use Rattle.pair_run.proofs.Clear.{Beside}

@@ -1,31 +1,23 @@
 -- The slots of both links in one stream are those that each link's channel has.
 use Rattle.std.proofs.Common.{◌≡◌, ℕ, zero, suc, ◌+◌, ◌-◌, ◌*◌, ◌<◌, ◌≤◌, Bool, true, false, cond, nat_eq, List, [], ◌∷◌, ◌++◌}
 use Rattle.std.proofs.Common.{length, map, take, drop, arith, length-append, refl, sym, ◌∙◌, ap, subst, Option, Some, None, append-nil, append_assoc}
-use Rattle.std.specs.Prelude.{slice_get, is_some}
+use Rattle.std.specs.Prelude.{is_some}
 use Rattle.std.proofs.lemmas.Bool.{false≢true}
 use Rattle.std.proofs.lemmas.Bool.Decides.{nat_tests}
 use Rattle.std.proofs.lemmas.List.{map-append, length-drop}
-use Rattle.std.proofs.Math.Seq.{take-append_seam, drop-append_seam}
 use Rattle.roles.specs.declared.role.Role.{Role}
 use Rattle.roles.specs.Both.{of}
 use Rattle.detection.specs.Slots.{Signal}
 use Rattle.noise_script.specs.Script.{ScriptValue, delay_of}
 use Rattle.link_run.specs.Run.{Spoken, Turn}
-use Rattle.link_run.specs.Carried.{sent_in, sent_ago}
+use Rattle.link_run.specs.Carried.{sent_ago}
 use Rattle.line_run.specs.Sampled.{Channel, signal_in, signals, signals_before}
 use Rattle.pair_run.specs.Beside.{first_dlci, second_dlci, signal_or_flags, slot_in, after_second, after_first, first_channel}
 use Rattle.pair_run.specs.Beside.{second_channel}
-use Rattle.pair_run.specs.Stream.{Carried, carried_signal, carry, both_sent, first_sent, AreSent, IsDue}
+use Rattle.line_run.specs.Stream.{Carried, carried_signal, carry, AreSent, IsDue}
+use Rattle.line_run.proofs.Streaming.{one-carried, carried-signal, Back, back, none-back, sent-dropped, cut-at}
+use Rattle.pair_run.specs.Stream.{both_sent, first_sent}
 use Rattle.pair_run.proofs.Agreeing.{SameBelow, same-signals, same-before, slot-stays}
-
--- one slot is carried
-pub one-carried : (dlci : ℕ) (o : Option Spoken) → is_some o ≡ true → length (carry dlci o) ≡ 1
-one-carried dlci None e = absurd (false≢true e)
-one-carried dlci (Some slot) e = refl
-
-pub carried-signal : (c : Channel) (role : Role) (o : Option Spoken) → map (carried_signal role) (carry c.dlci o) ≡ signal_in c role o
-carried-signal c role None = refl
-carried-signal c role (Some slot) = refl
 
 carried-one : (dlci : ℕ) (role : Role) (o : Option Spoken) → is_some o ≡ true
     → map (carried_signal role) (carry dlci o) ≡ signal_or_flags dlci role o ∷ []
@@ -54,40 +46,11 @@ both-front role (suc n) (t ∷ ts) (u ∷ us) e =
     let r = both-front role n ts us (omega (arith, e)) in
     let front = both_sent role (drop n ts) (drop n us) in
     let first = carry first_dlci (of role t).sent in
-    let second = carry second_dlci (of role u).sent in
-    (r.0 ++ first ++ second, ap (λ l. l ++ first ++ second) r.1 ∙ ap (λ l. l ++ second) (append_assoc front r.0 first)
-        ∙ append_assoc front (r.0 ++ first) second)
-
--- the turn that has so many turns behind it
-pub record Back (n : ℕ) (role : Role) (ts : List Turn) : Type 0 where
-  pub turn : Turn
-  pub slot : Spoken
-  pub behind : drop n ts ≡ turn ∷ drop (suc n) ts
-  pub sent : (of role turn).sent ≡ Some slot
-  pub ago : sent_in role (slice_get ts n) ≡ Some slot
-
-some-slot : (o : Option Spoken) → is_some o ≡ true → (slot : Spoken) × (o ≡ Some slot)
-some-slot None e = absurd (false≢true e)
-some-slot (Some slot) e = (slot, refl)
-
-pub back : (n : ℕ) (role : Role) (ts : List Turn) → AreSent role ts → n < length ts → Back n role ts
-back n role [] h l = absurd (omega (arith, l))
-back zero role (t ∷ ts) h l =
-    let s = some-slot (of role t).sent h.0 in
-    record { turn = t; slot = s.0; behind = refl; sent = s.1; ago = s.1 }
-back (suc n) role (t ∷ ts) h l =
-    let b = back n role ts h.1 (omega (arith, l)) in
-    record { turn = b.turn; slot = b.slot; behind = b.behind; sent = b.sent; ago = b.ago }
-
-pub none-back : (n : ℕ) (role : Role) (ts : List Turn) → length ts ≤ n → sent_in role (slice_get ts n) ≡ None
-none-back n role [] h = refl
-none-back zero role (t ∷ ts) h = absurd (omega (arith, h))
-none-back (suc n) role (t ∷ ts) h = none-back n role ts (omega (arith, h))
-
-pub sent-dropped : (role : Role) (n : ℕ) (ts : List Turn) → AreSent role ts → AreSent role (drop n ts)
-sent-dropped role zero ts h = h
-sent-dropped role (suc n) [] h = h
-sent-dropped role (suc n) (t ∷ ts) h = sent-dropped role n ts h.1
+    let second = carry second_dlci (of role u).sent in (
+      r.0 ++ first ++ second,
+      ap (λ l. l ++ first ++ second) r.1 ∙ ap (λ l. l ++ second) (append_assoc front r.0 first)
+          ∙ append_assoc front (r.0 ++ first) second,
+    )
 
 -- slots of later rounds don't matter
 slot-dropped : (dlci : ℕ) (role : Role) (n : ℕ) (ts : List Turn) (round : ℕ) → round < length (drop n ts)
@@ -189,28 +152,6 @@ second-signals script role (t ∷ ts) (u ∷ us) h k e = go (second-signals scri
         ∙ ap (λ z. signals c role us ++ z ∷ [] ++ map (carried_signal role) second) (sym (newest first_dlci role t ts (length us) same))
         ∙ ap (λ l. signals c role us ++ slot_in first_dlci role (t ∷ ts) (length us) ∷ [] ++ l) (carried-signal c role (of role u).sent)
 
--- a stream that is cut where a slot stands
-pub record CutAt (stream front : List Carried) (x : Carried) (n : ℕ) : Type 0 where
-  pub rest : drop n stream ≡ x ∷ drop (suc n) stream
-  pub before : take n stream ≡ front
-
-pub cut-at : (stream front : List Carried) (x : Carried) (rest : List Carried) (n : ℕ) → stream ≡ front ++ (x ∷ rest) → n ≡ length front
-    → CutAt stream front x n
-cut-at stream front x rest n e f = record {
-  rest = at ∙ ap (λ l. x ∷ l) (sym more);
-  before = ap (take n) e ∙ ap (λ m. take m (front ++ (x ∷ rest))) f ∙ take-append_seam front (x ∷ rest);
-}
-  where
-    at : drop n stream ≡ x ∷ rest
-    at = ap (drop n) e ∙ ap (λ m. drop m (front ++ (x ∷ rest))) f ∙ drop-append_seam front (x ∷ rest)
-
-    place : suc n ≡ length (front ++ x ∷ [])
-    place = omega (arith, f, length-append {A = Carried} front (x ∷ []))
-
-    more : drop (suc n) stream ≡ rest
-    more = ap (drop (suc n)) (e ∙ sym (append_assoc front (x ∷ []) rest)) ∙ ap (λ m. drop m (front ++ x ∷ [] ++ rest)) place
-        ∙ drop-append_seam (front ++ x ∷ []) rest
-
 -- The first link's slot is due as a round begins,
 pub first-due : (script : ScriptValue) (role : Role) (ts us : List Turn) → 1 ≤ delay_of script role → AreSent role ts → AreSent role us
     → length ts ≡ length us → IsDue (first_channel script us) role ts (both_sent role ts us) (2 * delay_of script role)
@@ -239,8 +180,8 @@ first-due script role ts us some h k e = record {
         let front : List Carried = both_sent role (drop d ts) (drop d us) in
         let x : Carried = record { dlci = first_dlci; spoken = b.slot } in
         let there : both_sent role (drop (d - 1) ts) (drop (d - 1) us)
-            ≡ both_sent role (drop (suc (d - 1)) ts) (drop (suc (d - 1)) us) ++ carry first_dlci (of role b.turn).sent
-            ++ carry second_dlci (of role w.turn).sent =
+        ≡ both_sent role (drop (suc (d - 1)) ts) (drop (suc (d - 1)) us) ++ carry first_dlci (of role b.turn).sent
+        ++ carry second_dlci (of role w.turn).sent =
         ap (λ l. both_sent role l (drop (d - 1) us)) b.behind ∙ ap (λ l. both_sent role (b.turn ∷ drop (suc (d - 1)) ts) l) w.behind in
         let dropped : both_sent role (drop (suc (d - 1)) ts) (drop (suc (d - 1)) us) ≡ front =
         ap (λ n. both_sent role (drop n ts) (drop n us)) up in
@@ -300,8 +241,8 @@ second-due script role t ts us some h k e = record {
         let x : Carried = record { dlci = second_dlci; spoken = w.slot } in
         let front : List Carried = both_sent role (drop d ts) (drop d us) ++ carry first_dlci (of role b.turn).sent in
         let there : both_sent role (drop (d - 1) ts) (drop (d - 1) us)
-            ≡ both_sent role (drop (suc (d - 1)) ts) (drop (suc (d - 1)) us) ++ carry first_dlci (of role b.turn).sent
-            ++ carry second_dlci (of role w.turn).sent =
+        ≡ both_sent role (drop (suc (d - 1)) ts) (drop (suc (d - 1)) us) ++ carry first_dlci (of role b.turn).sent
+        ++ carry second_dlci (of role w.turn).sent =
         ap (λ l. both_sent role l (drop (d - 1) us)) b.behind ∙ ap (λ l. both_sent role (b.turn ∷ drop (suc (d - 1)) ts) l) w.behind in
         let dropped : both_sent role (drop (suc (d - 1)) ts) (drop (suc (d - 1)) us) ≡ both_sent role (drop d ts) (drop d us) =
         ap (λ n. both_sent role (drop n ts) (drop n us)) up in
@@ -330,7 +271,7 @@ second-due script role t ts us some h k e = record {
         let newer : slot_in first_dlci role (b.turn ∷ drop d ts) (length (drop d us)) ≡ signal_or_flags first_dlci role (of role b.turn).sent =
         newest first_dlci role b.turn (drop d ts) (length (drop d us)) (sym few) in
         let same-slots : (r : Role) (round : ℕ) → round < suc (length (drop d us))
-            → after_first (b.turn ∷ drop d ts) r round ≡ after_first (t ∷ ts) r round =
+        → after_first (b.turn ∷ drop d ts) r round ≡ after_first (t ∷ ts) r round =
         λ r round less. ap Some (ap (λ l. slot_in first_dlci r l round) (sym behind)
         ∙ sym (slot-dropped first_dlci r (d - 1) ts round (omega (arith, less, few, length-drop d ts, length-drop (d - 1) ts, l, e, some)))
         ∙ sym (slot-stays first_dlci r t ts round (omega (arith, less, length-drop d us, l, e)))) in (

@@ -1,13 +1,13 @@
 //! What holds of all pairs of links. The functions do nothing but name the laws that they rest on: each law is a contract.
 ghost use Rattle.pair_run.specs.Laws.{FaintPairsAreIsolated, UndisplacedPairsAreIsolated, PairsLeavePrefixes, DonePairsAreWhole};
 ghost use Rattle.pair_run.specs.Laws.{PairedLinksRun, PairedLinksWereStarved, PairsHaveFewRounds, OnePairResult, EachPairEnds};
-ghost use Rattle.pair_run.specs.Laws.{FirstSlotsAreDue, SecondSlotsAreDue, LoneSlotsAreDue};
+ghost use Rattle.pair_run.specs.Laws.{FirstSlotsAreDue, SecondSlotsAreDue};
 ghost use Rattle.pair_run.specs.Laws.{UnstarvedPairsAreDone, QuietPairsAreDone};
 
 use detection::laws::sights_stay;
 use line_ends::laws::{
-    heard_turns_are_made, lost_links_were_starved, octets_are_sendable, undisplaced_runs_have_faint_noise,
-    undisturbed_runs_complete,
+    heard_turns_are_made, lost_links_were_starved, octets_are_sendable,
+    undisplaced_runs_have_faint_noise, undisturbed_runs_complete,
 };
 use line_laws::laws::{
     each_list_of_fours_is_recorded, faint_lines_are_never_lost, heard_is_sent,
@@ -101,7 +101,6 @@ pub fn pairs_end()
 pub fn slots_are_due()
     ensures first { FirstSlotsAreDue }
     ensures second { SecondSlotsAreDue }
-    ensures lone { LoneSlotsAreDue }
 {}
 
 /// A pair that the line doesn't end is done unless a link was starved; and each pair of a quiet script is done.

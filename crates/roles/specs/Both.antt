@@ -1,10 +1,10 @@
 -- What there is of each end: one for the originator and one for the answerer. A sentence on a link is said once, for a role and its peer.
 use Rattle.roles.specs.declared.role.Role.{Role}
 use Rattle.roles.specs.declared.role.Role.TheVariants.{Originator, Answerer}
+use Rattle.roles.specs.declared.both.Both as code
 
-pub record Both (A : Type 0) : Type 0 where
-  pub orig : A
-  pub answ : A
+abbrev pub Both : Type 0 → Type 0
+Both A = code.Both A
 
 -- the one of this role
 abbrev pub of : {A : Type 0} → Role → Both A → A

@@ -2,6 +2,8 @@
 //! which its modem sends. Pure functions of a [`Role`].
 #![tactic(auto)]
 
+mod both;
 mod role;
 
+pub use both::Both;
 pub use role::Role;

@@ -5,5 +5,3 @@ pub mod Folders
 pub mod Turning
 pub mod Reached
 pub mod Linking
-pub mod Waiting
-pub mod Arriving

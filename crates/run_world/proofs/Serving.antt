@@ -1,5 +1,5 @@
 -- What happens to both ends between hearing and speaking.
-use Rattle.std.proofs.Common.{◌≡◌, ◌-◌, ℕ, zero, suc, Bool, true, false, cond, List, length, drop, refl, sym, ◌∙◌, ap, subst, Option, Some}
+use Rattle.std.proofs.Common.{◌≡◌, ◌-◌, ℕ, zero, suc, Bool, true, false, cond, List, length, map, take, drop, arith, refl, sym, ◌∙◌, ap, subst, Option, Some}
 use Rattle.std.proofs.Common.{None, Result, Ok, Err, IsErrOf}
 use Rattle.outside_calls.specs.Folder.{FolderState, FaultsStand}
 use Rattle.outside_calls.specs.declared.folder.FolderFault.{FolderFault}
@@ -14,15 +14,13 @@ use Rattle.link_run.specs.End.{asked, delivered, is_busy, is_released, offered, 
 use Rattle.link_run.specs.Run.{Ends, Spoken, Turn, Hears, served_at}
 use Rattle.link_run.specs.Reading.{RunsByWhatIsReadOn, SameSoFar}
 use Rattle.line_run.specs.Scripted.{channel_of, link_of, breaks_of, busy_of}
-use Rattle.link_run.specs.Carried.{on_line}
-use Rattle.line_run.specs.Sampled.{signals}
 use Rattle.sample_line.specs.Line.{Kept, LineStands}
-use Rattle.run_world.specs.declared.direction.DelayedLine.{DelayedLine}
-use Rattle.run_world.specs.OnWay.{OnWay, signals_in}
-use Rattle.run_world.specs.declared.lines.Lines.{Lines}
-use Rattle.run_world.specs.Lines.{LinesWait, HaveArrived}
+use Rattle.line_run.specs.Stream.{carried_signal, sent_by, both_sent_by}
+use Rattle.shared_line.specs.declared.direction.DelayedLine.{DelayedLine}
+use Rattle.shared_line.specs.Way.{IsOver, Carries}
+use Rattle.shared_line.specs.declared.lines.Lines.{Lines}
+use Rattle.shared_line.specs.Lines.{LinesWait, HaveArrived, from}
 use Rattle.run_world.specs.World.{HasPassed, HasPassedToo}
-use Rattle.run_world.specs.declared.each.Each.{Each}
 use Rattle.lapm_frames.specs.declared.heard.Heard.{Heard}
 use Rattle.run_world.specs.Names.{Written, inputs_of}
 use Rattle.outside_calls.specs.Outputs.{SomeCause}
@@ -41,25 +39,22 @@ given-delivered a = go _
     go true = refl
     go false = refl
 
-pub hears-in : (script : ScriptValue) (files : Both (List ℕ)) (ts : List Turn) (ends mid : Ends) (heard : Each Heard)
+pub hears-in : (script : ScriptValue) (files : Both (List ℕ)) (ts : List Turn) (ends mid : Ends) (heard : Both Heard)
     (sent : Both (Option Spoken))
     → Overhears script files ts ends heard mid → Hears (length ts) ends (turn_in heard ends mid sent) mid
-hears-in script files ts ends mid heard sent o Originator = record { hears = o.orig_hears; check_is = refl; given_is = refl }
-hears-in script files ts ends mid heard sent o Answerer = record { hears = o.answ_hears; check_is = refl; given_is = refl }
+hears-in script files ts ends mid heard sent o Originator = record { hears = o.hears Originator; check_is = refl; given_is = refl }
+hears-in script files ts ends mid heard sent o Answerer = record { hears = o.hears Answerer; check_is = refl; given_is = refl }
 
 -- a run is one of the files as far as they are read now
 pub over-others : RunsByWhatIsReadOn
-    → (script : ScriptValue) (files others : Both (List ℕ)) (ts : List Turn) (ends mid : Ends) (heard : Each Heard) (f : FolderState)
+    → (script : ScriptValue) (files others : Both (List ℕ)) (ts : List Turn) (ends mid : Ends) (heard : Both Heard) (f : FolderState)
     (n : Written)
     → IsInLimits script → Overhears script files ts ends heard mid → ReadsBoth f n files (handed mid) others
     → Overhears script others ts ends heard mid
 over-others law script files others ts ends mid heard f n limits o r = record {
-  orig_heard = o.orig_heard;
-  answ_heard = o.answ_heard;
-  orig_well = o.orig_well;
-  answ_well = o.answ_well;
-  orig_hears = o.orig_hears;
-  answ_hears = o.answ_hears;
+  heard_of = o.heard_of;
+  well = o.well;
+  hears = o.hears;
   run = record {
     run = law (link_of script files) files others ts ends
         (turn_in heard ends mid (record { orig = None; answ = None })) mid allowed o.run.run
@@ -107,32 +102,26 @@ served-is script files turn mid = ap (λ r. record {
     x : Account
     x = after_given (delivered mid.orig)
 
--- the slots that have passed a direction while so many turns are on their way
-abbrev Passes : Kept → ScriptValue → Role → ℕ → List Turn → Type 0
-Passes line script role turns ts =
-    LineStands line script (signals (channel_of script) role (drop turns ts)) (signals_in (channel_of script) role (on_line turns role ts))
+-- the slots that have passed a direction
+passed-by : (d : DelayedLine) (script : ScriptValue) (role : Role) (ts : List Turn) (line : Kept) (waiting : ℕ → ℕ)
+    → IsOver d (channel_of script) role 1 (sent_by 0 role ts) (waiting d.lag) → line ≡ d.line
+    → Carries line script role (sent_by 0 role ts) (waiting (delay_of script role))
+passed-by d script role ts line waiting h is =
+    let lag : d.lag ≡ delay_of script role = omega (arith, h.lag, h.delay) in
+    subst (λ l. Carries l script role (sent_by 0 role ts) (waiting (delay_of script role))) (sym is)
+    (subst (λ n. Carries d.line script role (sent_by 0 role ts) (waiting n)) lag
+    (subst (λ r. LineStands d.line script (map (carried_signal r) (take (length (sent_by 0 role ts) - waiting d.lag) (sent_by 0 role ts)))
+    (map (carried_signal r) (drop (length (sent_by 0 role ts) - waiting d.lag) (sent_by 0 role ts)))) h.sends h.stands.line))
 
-passed-by : (d : DelayedLine) (script : ScriptValue) (role : Role) (ts : List Turn) (line : Kept) (turns : ℕ → ℕ)
-    → OnWay d (channel_of script) (turns d.delay) ts → d.sender ≡ role → line ≡ d.line
-    → Passes line script role (turns (delay_of script role)) ts
-passed-by d script role ts line turns h sends is =
-    let delay : d.delay ≡ delay_of script role = h.delay ∙ ap (delay_of script) sends in
-    subst (λ l. Passes l script role (turns (delay_of script role)) ts) (sym is)
-    (subst (λ k. Passes d.line script role (turns k) ts) delay (subst (λ r. Passes d.line script r (turns d.delay) ts) sends h.line))
+pub passed-so : (l : Lines) (script : ScriptValue) (role : Role) (ts : List Turn) (line : Kept)
+    → LinesWait l (channel_of script) 1 (both_sent_by 0 ts) → line ≡ (from role l).line → HasPassed line script role ts
+passed-so l script Originator ts line h is = passed-by l.from_orig script Originator ts line (λ k. k) (h Originator) is
+passed-so l script Answerer ts line h is = passed-by l.from_answ script Answerer ts line (λ k. k) (h Answerer) is
 
-pub passed-so : (l : Lines) (script : ScriptValue) (role : Role) (ts : List Turn) (line : Kept) → LinesWait l (channel_of script) ts
-    → (role ≡ Originator → line ≡ l.from_orig.line) → (role ≡ Answerer → line ≡ l.from_answ.line) → HasPassed line script role ts
-passed-so l script Originator ts line h orig answ =
-    passed-by l.from_orig script Originator ts line (λ k. k) h.from_orig h.orig_sends (orig refl)
-passed-so l script Answerer ts line h orig answ =
-    passed-by l.from_answ script Answerer ts line (λ k. k) h.from_answ h.answ_sends (answ refl)
-
-pub passed-too : (l : Lines) (script : ScriptValue) (role : Role) (ts : List Turn) (line : Kept) → HaveArrived l (channel_of script) ts
-    → (role ≡ Originator → line ≡ l.from_orig.line) → (role ≡ Answerer → line ≡ l.from_answ.line) → HasPassedToo line script role ts
-passed-too l script Originator ts line h orig answ =
-    passed-by l.from_orig script Originator ts line (λ k. k - 1) h.from_orig h.orig_sends (orig refl)
-passed-too l script Answerer ts line h orig answ =
-    passed-by l.from_answ script Answerer ts line (λ k. k - 1) h.from_answ h.answ_sends (answ refl)
+pub passed-too : (l : Lines) (script : ScriptValue) (role : Role) (ts : List Turn) (line : Kept)
+    → HaveArrived l (channel_of script) 1 (both_sent_by 0 ts) → line ≡ (from role l).line → HasPassedToo line script role ts
+passed-too l script Originator ts line h is = passed-by l.from_orig script Originator ts line (λ k. k - 1) (h Originator) is
+passed-too l script Answerer ts line h is = passed-by l.from_answ script Answerer ts line (λ k. k - 1) (h Answerer) is
 
 -- ---- a file that is not read
 

@@ -28,12 +28,12 @@ use Rattle.link_run.specs.Trace.{side_line, turn_text}
 use Rattle.line_run.specs.Sampled.{HeardIn, LineRun}
 use Rattle.line_run.specs.Scripted.{channel_of, link_of, longest_of, slot_symbols, ScriptsMayPlay, ScriptsHaveDelays, SlotsAreCodable}
 use Rattle.line_run.specs.LineLaws.{SamplesAreCarried, OneIsCarried}
-use Rattle.run_world.specs.declared.each.Each.{Each}
 use Rattle.run_world.specs.declared.link.Link.{Link}
-use Rattle.run_world.specs.declared.lines.Lines.{Lines}
+use Rattle.shared_line.specs.declared.lines.Lines.{Lines}
 use Rattle.run_world.specs.Names.{Written}
 use Rattle.run_world.specs.Link.{LinkStands, SaysBoth, BreaksSo, both_finished}
-use Rattle.run_world.specs.Lines.{LinesWait, HaveArrived, AreCodable}
+use Rattle.line_run.specs.Stream.{Carried, both_sent_by}
+use Rattle.shared_line.specs.Lines.{LinesWait, HaveArrived, AreCodable, ArePut}
 use Rattle.run_world.specs.declared.world.World.{World}
 use Rattle.run_world.specs.declared.tally.Tally.{Tally}
 use Rattle.run_world.specs.declared.step.RunFault.{RunFault}
@@ -47,24 +47,24 @@ use Rattle.run_world.proofs.Serving.{hears-in, served-is}
 
 -- ---- what is made of what both say
 
-abbrev pub sent_by : Said → Said → Both (Option Spoken)
-sent_by orig answ = record { orig = Some (spoken orig); answ = Some (spoken answ) }
+abbrev pub spoken_by : Said → Said → Both (Option Spoken)
+spoken_by orig answ = record { orig = Some (spoken orig); answ = Some (spoken answ) }
 
 abbrev pub ends_of : Said → Said → Ends
 ends_of orig answ = record { orig = orig.account; answ = answ.account }
 
-pub record SpokenTurn (script : ScriptValue) (files : Both (List ℕ)) (ts : List Turn) (ends : Ends) (heard : Each Heard) (mid : Ends)
+pub record SpokenTurn (script : ScriptValue) (files : Both (List ℕ)) (ts : List Turn) (ends : Ends) (heard : Both Heard) (mid : Ends)
     (from_orig from_answ : Sent) (l : Link) : Type 0 where
   pub orig : Said
   pub answ : Said
   pub orig_sent : from_orig ≡ orig.sent
   pub answ_sent : from_answ ≡ answ.sent
-  pub going : GoingTurn (link_of script files) ts ends (turn_in heard ends mid (sent_by orig answ)) (ends_of orig answ)
+  pub going : GoingTurn (link_of script files) ts ends (turn_in heard ends mid (spoken_by orig answ)) (ends_of orig answ)
   pub mid_is : going.mid ≡ mid
-  pub heard_in : HeardIn (channel_of script) ts (turn_in heard ends mid (sent_by orig answ))
+  pub heard_in : HeardIn (channel_of script) ts (turn_in heard ends mid (spoken_by orig answ))
   pub stands : LinkStands l files (ends_of orig answ)
 
-pub spoken-turn : (script : ScriptValue) (files : Both (List ℕ)) (ts : List Turn) (ends : Ends) (heard : Each Heard) (mid : Ends)
+pub spoken-turn : (script : ScriptValue) (files : Both (List ℕ)) (ts : List Turn) (ends : Ends) (heard : Both Heard) (mid : Ends)
     (from_orig from_answ : Sent) (l : Link) (turn : ℕ)
     → turn ≡ length ts → Overhears script files ts ends heard mid → is_closed mid.orig.phase ≡ false
     → SaysBoth l files (link_of script files) turn (served script files (length ts) mid) from_orig from_answ
@@ -76,12 +76,12 @@ spoken-turn script files ts ends heard mid from_orig from_answ l turn number o o
   answ_sent = s.answ_sent;
   going = record {
     mid = mid;
-    hearing = hears-in script files ts ends mid heard (sent_by s.orig s.answ) o;
+    hearing = hears-in script files ts ends mid heard (spoken_by s.orig s.answ) o;
     going = open-still;
     speaking = says;
   };
   mid_is = refl;
-  heard_in = heard-in script ts ends mid heard (sent_by s.orig s.answ) o.orig_heard o.answ_heard o.orig_well o.answ_well;
+  heard_in = heard-in script files ts ends heard mid (spoken_by s.orig s.answ) o;
   stands = s.stands;
 }
   where
@@ -96,7 +96,7 @@ spoken-turn script files ts ends heard mid from_orig from_answ l turn number o o
         (subst (λ t. speak t false (served script files (length ts) mid).answ ≡ Ok s.answ) number s.answ_says)
 
     says : (role : Role) → SpeaksAt (said_at (link_of script files) (length ts) mid role)
-        (of role (turn_in heard ends mid (sent_by s.orig s.answ))) (of role (ends_of s.orig s.answ))
+        (of role (turn_in heard ends mid (spoken_by s.orig s.answ))) (of role (ends_of s.orig s.answ))
     says Originator = record { said = s.orig; says = orig-says; sent_is = refl; after_is = refl }
     says Answerer = record { said = s.answ; says = answ-says; sent_is = refl; after_is = refl }
 
@@ -118,11 +118,11 @@ broken-so script files number turn mid Answerer fault e h = (
       (subst (λ t. speak t false (served script files number mid).answ ≡ Err fault) e h.1),
 )
 
-silent : (heard : Each Heard) (ends mid : Ends) (role : Role) → (of role (turn_in heard ends mid none-sent)).sent ≡ None
+silent : (heard : Both Heard) (ends mid : Ends) (role : Role) → (of role (turn_in heard ends mid none-sent)).sent ≡ None
 silent heard ends mid Originator = refl
 silent heard ends mid Answerer = refl
 
-pub broken-turn : (script : ScriptValue) (files : Both (List ℕ)) (ts : List Turn) (ends : Ends) (heard : Each Heard) (mid : Ends) (turn : ℕ)
+pub broken-turn : (script : ScriptValue) (files : Both (List ℕ)) (ts : List Turn) (ends : Ends) (heard : Both Heard) (mid : Ends) (turn : ℕ)
     (role : Role) (fault : LinkFault)
     → turn ≡ length ts → Overhears script files ts ends heard mid → is_closed mid.orig.phase ≡ false
     → BreaksSo (link_of script files) turn (served script files (length ts) mid) role fault
@@ -150,8 +150,8 @@ side-text : (line : TraceLine) (number t : ℕ) (role : Role) (heard : Heard) (s
 side-text line number t role heard sent given s e well n h x g =
     ap line_text e ∙ line-of number role heard sent given well ∙ (λ k. trace_line (n k) role (h k) (x k) (g k))
 
-pub text-is : (lines : Each TraceLine) (number : ℕ) (ts : List Turn) (ends mid : Ends) (heard : Each Heard) (given : Each (Option ℕ))
-    (sent : Each (Option Sent)) (sents : Both (Option Spoken))
+pub text-is : (lines : Both TraceLine) (number : ℕ) (ts : List Turn) (ends mid : Ends) (heard : Both Heard) (given : Both (Option ℕ))
+    (sent : Both (Option Sent)) (sents : Both (Option Spoken))
     → lines ≡ record {
       orig = record { turn = number; role = Originator; arrived = heard.orig; sent = sent.orig; given = given.orig };
       answ = record { turn = number; role = Answerer; arrived = heard.answ; sent = sent.answ; given = given.answ };
@@ -162,10 +162,10 @@ pub text-is : (lines : Each TraceLine) (number : ℕ) (ts : List Turn) (ends mid
 text-is lines number ts ends mid heard given sent sents e wo wa n go ga so sa =
     let o : line_text lines.orig ≡ side_line (length ts) Originator (side_of heard.orig ends.orig mid.orig sents.orig) =
     side-text lines.orig number (length ts) Originator heard.orig sent.orig given.orig (side_of heard.orig ends.orig mid.orig sents.orig)
-    (ap (λ (l : Each TraceLine). l.orig) e) wo n refl so go in
+    (ap (λ (l : Both TraceLine). l.orig) e) wo n refl so go in
     let a : line_text lines.answ ≡ side_line (length ts) Answerer (side_of heard.answ ends.answ mid.answ sents.answ) =
     side-text lines.answ number (length ts) Answerer heard.answ sent.answ given.answ (side_of heard.answ ends.answ mid.answ sents.answ)
-    (ap (λ (l : Each TraceLine). l.answ) e) wa n refl sa ga in
+    (ap (λ (l : Both TraceLine). l.answ) e) wa n refl sa ga in
     λ k. o k ++ a k
 
 -- what was taken back of the lines is what was put there
@@ -175,26 +175,35 @@ taken-back x y a b e f g = ap (λ o. unwrap_or o x) (sym e ∙ g ∙ f)
 -- ---- what is sent can be coded
 
 pub all-codable : SlotsAreCodable
-    → (script : ScriptValue) (files : Both (List ℕ)) (ts : List Turn) (ends : Ends) (heard : Each Heard) (mid : Ends)
-    (from_orig from_answ so sa : Sent)
-    (k : Link) (l : Lines) (checks : Each Check) → IsInLimits script → Overhears script files ts ends heard mid
-    → (t : SpokenTurn script files ts ends heard mid from_orig from_answ k) → HaveArrived l (channel_of script) ts
-    → IsSendable from_orig → IsSendable from_answ → so ≡ from_orig → sa ≡ from_answ
-    → checks.orig ≡ check_of t.orig.account → checks.answ ≡ check_of t.answ.account → AreCodable l so sa checks
-all-codable law script files ts ends heard mid from_orig from_answ so sa k l checks limits o t h sendo senda eo ea co ca =
-    let orig : IsCodable (check_of t.orig.account) Originator 0
-    (slot_symbols (longest_of script)) l.from_orig.line.writer.phase t.orig.sent =
-    law (channel_of script) files ts ends (turn_in heard ends mid (sent_by t.orig t.answ))
+    → (script : ScriptValue) (files : Both (List ℕ)) (ts : List Turn) (ends : Ends) (heard : Both Heard) (mid : Ends)
+    (from_orig from_answ : Sent) (sent : Both Sent)
+    (k : Link) (l : Lines) (checks : Both Check) → IsInLimits script → Overhears script files ts ends heard mid
+    → (t : SpokenTurn script files ts ends heard mid from_orig from_answ k) → HaveArrived l (channel_of script) 1 (both_sent_by 0 ts)
+    → IsSendable from_orig → IsSendable from_answ → sent.orig ≡ from_orig → sent.answ ≡ from_answ
+    → checks.orig ≡ check_of t.orig.account → checks.answ ≡ check_of t.answ.account → AreCodable l sent checks 0
+all-codable law script files ts ends heard mid from_orig from_answ sent k l checks limits o t h sendo senda eo ea co ca Originator =
+    let d = h Originator in
+    let is : IsCodable (check_of t.orig.account) Originator 0 (slot_symbols (longest_of script)) l.from_orig.line.writer.phase t.orig.sent =
+    law (channel_of script) files ts ends (turn_in heard ends mid (spoken_by t.orig t.answ))
     (ends_of t.orig t.answ) limits o.run t.heard_in t.going Originator (spoken t.orig) 0
-    l.from_orig.line.writer.phase h.from_orig.line.writer.low refl (subst IsSendable t.orig_sent sendo) in
-    let answ : IsCodable (check_of t.answ.account) Answerer 0 (slot_symbols (longest_of script)) l.from_answ.line.writer.phase t.answ.sent =
-    law (channel_of script) files ts ends (turn_in heard ends mid (sent_by t.orig t.answ))
+    l.from_orig.line.writer.phase d.stands.line.writer.low refl (subst IsSendable t.orig_sent sendo) in
+    rw (co, d.symbols, eo, t.orig_sent) is
+all-codable law script files ts ends heard mid from_orig from_answ sent k l checks limits o t h sendo senda eo ea co ca Answerer =
+    let d = h Answerer in
+    let is : IsCodable (check_of t.answ.account) Answerer 0 (slot_symbols (longest_of script)) l.from_answ.line.writer.phase t.answ.sent =
+    law (channel_of script) files ts ends (turn_in heard ends mid (spoken_by t.orig t.answ))
     (ends_of t.orig t.answ) limits o.run t.heard_in t.going Answerer (spoken t.answ) 0
-    l.from_answ.line.writer.phase h.from_answ.line.writer.low refl (subst IsSendable t.answ_sent senda) in
-    record {
-      orig = rw (co, h.orig_sends, h.from_orig.symbols, eo, t.orig_sent) orig;
-      answ = rw (ca, h.answ_sends, h.from_answ.symbols, ea, t.answ_sent) answ;
-    }
+    l.from_answ.line.writer.phase d.stands.line.writer.low refl (subst IsSendable t.answ_sent senda) in
+    rw (ca, d.symbols, ea, t.answ_sent) is
+
+-- as one slot more behind each
+abbrev pub put_by : Said → Said → Both Carried
+put_by orig answ = record { orig = record { dlci = 0; spoken = spoken orig }; answ = record { dlci = 0; spoken = spoken answ } }
+
+pub are-put : (orig answ : Said) (sent : Both Sent) (checks : Both Check) → orig.sent ≡ sent.orig → answ.sent ≡ sent.answ
+    → check_of orig.account ≡ checks.orig → check_of answ.account ≡ checks.answ → ArePut (put_by orig answ) sent checks 0
+are-put orig answ sent checks so sa co ca Originator = record { dlci_is = refl; sent_is = so; check_is = co }
+are-put orig answ sent checks so sa co ca Answerer = record { dlci_is = refl; sent_is = sa; check_is = ca }
 
 -- ---- the run goes on
 
@@ -212,14 +221,14 @@ pub record CountsSent (old new : Tally) (from_orig from_answ : Sent) : Type 0 wh
   pub orig : new.orig ≡ next_count (sequence_in from_orig) old.orig
   pub answ : new.answ ≡ next_count (sequence_in from_answ) old.answ
 
-pub tallies-on : GoingLaws → (script : ScriptValue) (files : Both (List ℕ)) (ts : List Turn) (ends : Ends) (heard : Each Heard) (mid : Ends)
+pub tallies-on : GoingLaws → (script : ScriptValue) (files : Both (List ℕ)) (ts : List Turn) (ends : Ends) (heard : Both Heard) (mid : Ends)
     (from_orig from_answ : Sent) (k : Link)
     (old new : Tally) → IsInLimits script → Overhears script files ts ends heard mid
     → (t : SpokenTurn script files ts ends heard mid from_orig from_answ k)
     → TalliesHeard old ts ends heard → CountsSent old new from_orig from_answ
-    → Tallies new (turn_in heard ends mid (sent_by t.orig t.answ) ∷ ts) (ends_of t.orig t.answ)
+    → Tallies new (turn_in heard ends mid (spoken_by t.orig t.answ) ∷ ts) (ends_of t.orig t.answ)
 tallies-on laws script files ts ends heard mid from_orig from_answ k old new limits o t h n =
-    let turn : Turn = turn_in heard ends mid (sent_by t.orig t.answ) in
+    let turn : Turn = turn_in heard ends mid (spoken_by t.orig t.answ) in
     let carries = laws.one (channel_of script) ts turn t.heard_in in
     let over = runs-over laws.play laws.delays laws.carried script files ts ends limits o.run in
     let counts = laws.counted (link_of script files) (delay_of script) ts ends turn (ends_of t.orig t.answ) over carries t.going in
@@ -237,15 +246,15 @@ tallies-on laws script files ts ends heard mid from_orig from_answ k old new lim
     }
 
 pub goes-on : GoingLaws → (script : ScriptValue) (old : Tally) (w : World) (f new : FolderState) (n : Written) (files : Both (List ℕ))
-    (ts : List Turn) (ends : Ends) (heard : Each Heard) (mid : Ends)
+    (ts : List Turn) (ends : Ends) (heard : Both Heard) (mid : Ends)
     (from_orig from_answ : Sent) → IsInLimits script → w.script ≡ script → w.turn ≡ length ts + 1
     → Overhears script files ts ends heard mid → (t : SpokenTurn script files ts ends heard mid from_orig from_answ w.link)
     → TalliesHeard old ts ends heard → CountsSent old w.tally from_orig from_answ
-    → LinesWait w.lines (channel_of script) (turn_in heard ends mid (sent_by t.orig t.answ) ∷ ts)
-    → Appended f new n.trace (turn_text (length ts) (turn_in heard ends mid (sent_by t.orig t.answ)))
+    → LinesWait w.lines (channel_of script) 1 (both_sent_by 0 (turn_in heard ends mid (spoken_by t.orig t.answ) ∷ ts))
+    → Appended f new n.trace (turn_text (length ts) (turn_in heard ends mid (spoken_by t.orig t.answ)))
     → HasGone w script f new n files ts ends mid
 goes-on laws script old w f new n files ts ends heard mid from_orig from_answ limits is number o t tally counts lines trace =
-    let turn : Turn = turn_in heard ends mid (sent_by t.orig t.answ) in
+    let turn : Turn = turn_in heard ends mid (spoken_by t.orig t.answ) in
     let after : Ends = ends_of t.orig t.answ in
     record {
       turn = turn;
@@ -257,7 +266,7 @@ goes-on laws script old w f new n files ts ends heard mid from_orig from_answ li
         run = subst (λ s. LineRun (channel_of s) (link_of s files) (turn ∷ ts) after) (sym is)
             (record { run = (ends, o.run.run, t.going); heard = (t.heard_in, o.run.heard) });
         link = t.stands;
-        lines = subst (λ s. LinesWait w.lines (channel_of s) (turn ∷ ts)) (sym is) lines;
+        lines = subst (λ s. LinesWait w.lines (channel_of s) 1 (both_sent_by 0 (turn ∷ ts))) (sym is) lines;
         turn = omega (arith, number);
         tally = tallies-on laws script files ts ends heard mid from_orig from_answ w.link old w.tally limits o t tally counts;
       };
@@ -267,7 +276,7 @@ goes-on laws script old w f new n files ts ends heard mid from_orig from_answ li
 -- ---- the run ends as an end breaks
 
 pub ends-so : (script : ScriptValue) (f new : FolderState) (n : Written) (files : Both (List ℕ)) (ts : List Turn) (ends : Ends)
-    (heard : Each Heard) (mid : Ends) (turn : ℕ) (role : Role)
+    (heard : Both Heard) (mid : Ends) (turn : ℕ) (role : Role)
     (fault : LinkFault) → turn ≡ length ts → IsNamed role fault → Overhears script files ts ends heard mid
     → BrokenTurn (link_of script files) ts ends (turn_in heard ends mid none-sent) mid role fault
     → Appended f new n.trace (turn_text (length ts) (turn_in heard ends mid none-sent))
@@ -278,7 +287,7 @@ ends-so script f new n files ts ends heard mid turn role faults.NotDetected numb
     turn = turn_in heard ends mid none-sent;
     makes = record {
       run = o.run;
-      heard = heard-in script ts ends mid heard none-sent o.orig_heard o.answ_heard o.orig_well o.answ_well;
+      heard = heard-in script files ts ends heard mid none-sent o;
       is = subst (λ r. BrokenTurn (link_of script files) ts ends (turn_in heard ends mid none-sent) mid r faults.NotDetected) named b;
     };
     trace = trace;
@@ -291,7 +300,7 @@ ends-so script f new n files ts ends heard mid turn role (faults.Spent segment s
     turn = turn_in heard ends mid none-sent;
     makes = record {
       run = o.run;
-      heard = heard-in script ts ends mid heard none-sent o.orig_heard o.answ_heard o.orig_well o.answ_well;
+      heard = heard-in script files ts ends heard mid none-sent o;
       is = b;
     };
     trace = trace;
@@ -324,7 +333,7 @@ stops-so script f new n files ts ends mid (run_faults.NotDetected turn) w h = ab
 stops-so script f new n files ts ends mid (run_faults.LinkLost role segment turn) w h = absurd w
 
 pub adds-part : (script : ScriptValue) (f new : FolderState) (n : Written) (files : Both (List ℕ)) (ts : List Turn) (ends : Ends)
-    (heard : Each Heard) (mid : Ends) (sents : Both (Option Spoken))
+    (heard : Both Heard) (mid : Ends) (sents : Both (Option Spoken))
     (outcome : Outcome) → Overhears script files ts ends heard mid
     → TurnIs (link_of script files) ts ends (turn_in heard ends mid sents) mid outcome
     → PartlyAppended f new n.trace (turn_text (length ts) (turn_in heard ends mid sents)) → AddsPart script f new n files ts ends mid
@@ -333,7 +342,7 @@ adds-part script f new n files ts ends heard mid sents outcome o is trace = reco
   turn = turn_in heard ends mid sents;
   makes = record {
     run = o.run;
-    heard = heard-in script ts ends mid heard sents o.orig_heard o.answ_heard o.orig_well o.answ_well;
+    heard = heard-in script files ts ends heard mid sents o;
     is = is;
   };
   trace = trace;
@@ -341,7 +350,7 @@ adds-part script f new n files ts ends heard mid sents outcome o is trace = reco
 
 -- ---- the run is done
 
-pub last-turn : (script : ScriptValue) (files : Both (List ℕ)) (ts : List Turn) (ends : Ends) (heard : Each Heard) (mid : Ends)
+pub last-turn : (script : ScriptValue) (files : Both (List ℕ)) (ts : List Turn) (ends : Ends) (heard : Both Heard) (mid : Ends)
     → Overhears script files ts ends heard mid
     → is_closed mid.orig.phase ≡ true → LastTurn ts ends (turn_in heard ends mid none-sent) mid
 last-turn script files ts ends heard mid o closed = record {

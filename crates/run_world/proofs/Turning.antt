@@ -20,9 +20,9 @@ use Rattle.link_run.specs.Trace.{turn_text}
 use Rattle.line_run.specs.Sampled.{HeardIn, IsHeardOf}
 use Rattle.line_run.specs.Scripted.{channel_of, link_of, ScriptsMayPlay, ScriptsHaveDelays}
 use Rattle.line_run.specs.LineLaws.{SamplesAreCarried, OneIsCarried}
-use Rattle.run_world.specs.declared.each.Each.{Each}
 use Rattle.run_world.specs.Names.{Written, outputs_of, received_of}
-use Rattle.run_world.specs.Lines.{HaveArrived}
+use Rattle.line_run.specs.Stream.{both_sent_by}
+use Rattle.shared_line.specs.Lines.{HaveArrived}
 use Rattle.run_world.specs.Link.{AreCounted, AreIdle, AreWithin, octets_of}
 use Rattle.run_world.specs.declared.world.World.{World}
 use Rattle.run_world.specs.declared.step.RunFault.{RunFault}
@@ -68,7 +68,7 @@ pub record Making (script : ScriptValue) (files : Both (List ℕ)) (ts : List Tu
   pub outcome : Outcome
   pub makes : MakesTurn script files ts ends turn mid outcome
 
-pub making : MakingLaws → (script : ScriptValue) (files : Both (List ℕ)) (ts : List Turn) (ends : Ends) (heard : Each Heard) (mid : Ends)
+pub making : MakingLaws → (script : ScriptValue) (files : Both (List ℕ)) (ts : List Turn) (ends : Ends) (heard : Both Heard) (mid : Ends)
     → IsInLimits script
     → Overhears script files ts ends heard mid → Making script files ts ends mid
 making laws script files ts ends heard mid limits o = record {
@@ -81,7 +81,7 @@ making laws script files ts ends heard mid limits o = record {
     first = turn_in heard ends mid none-sent
 
     heard-first : HeardIn (channel_of script) ts first
-    heard-first = heard-in script ts ends mid heard none-sent o.orig_heard o.answ_heard o.orig_well o.answ_well
+    heard-first = heard-in script files ts ends heard mid none-sent o
 
     m : MakesAny (link_of script files) ts ends (λ role. (of role first).heard)
     m = laws.made (link_of script files) (delay_of script) ts ends (λ role. (of role first).heard)
@@ -138,7 +138,7 @@ reading-ends script a b n files ts ends (run_faults.LinkLost role segment turn) 
 
 -- as what both took is handed over,
 pub stops-handing : MakingLaws
-    → (script : ScriptValue) (a b : FolderState) (n : Written) (files : Both (List ℕ)) (ts : List Turn) (ends : Ends) (heard : Each Heard)
+    → (script : ScriptValue) (a b : FolderState) (n : Written) (files : Both (List ℕ)) (ts : List Turn) (ends : Ends) (heard : Both Heard)
     (mid : Ends)
     → IsInLimits script → IsApart n → AreWithin files → OnlyPuts a b (outputs_of n) → Overhears script files ts ends heard mid → AddPart a b (outputs_of n) (octets_of mid)
     → Stops script a b n files ts ends
@@ -156,7 +156,7 @@ stops-handing laws script a b n files ts ends heard mid limits apart within only
 
 -- as the files are read,
 pub stops-reading : MakingLaws
-    → (script : ScriptValue) (a b : FolderState) (n : Written) (files : Both (List ℕ)) (ts : List Turn) (ends : Ends) (heard : Each Heard)
+    → (script : ScriptValue) (a b : FolderState) (n : Written) (files : Both (List ℕ)) (ts : List Turn) (ends : Ends) (heard : Both Heard)
     (mid : Ends)
     → IsInLimits script → IsApart n → AreWithin files → OnlyPuts a b (outputs_of n) → Overhears script files ts ends heard mid
     → AddEach a b (outputs_of n) (octets_of mid) → StopsReading script a b n files ts ends
@@ -224,7 +224,7 @@ speaks-last script a b c n files others ts ends mid (run_faults.ChanceMatch role
 
 pub done-in : (w : World) (a b c : FolderState) (n : Written) (files : Both (List ℕ)) (ts : List Turn) (ends mid : Ends) (number : ℕ)
     → IsApart n → number ≡ length ts → StayKnown a c n files files → OnlyPuts a b (outputs_of n) → AddEach a b (outputs_of n) (octets_of mid) → OnlyWrites b c n.trace
-    → Finishes w b c n files ts ends mid → HaveArrived w.lines (channel_of w.script) ts → DoneIn w a c n files ts ends number
+    → Finishes w b c n files ts ends mid → HaveArrived w.lines (channel_of w.script) 1 (both_sent_by 0 ts) → DoneIn w a c n files ts ends number
 done-in w a b c n files ts ends mid number apart e known only delivered lines f arrived = record {
   ended = record {
     number_is = e;

@@ -7,5 +7,3 @@ pub mod Mid
 pub mod Turns
 pub mod Names
 pub mod Link
-pub mod Lines
-pub mod OnWay

@@ -19,7 +19,6 @@ use Rattle.line_run.specs.Scripted.{breaks_of, busy_of}
 use Rattle.turn_bound.specs.Limits.{file_limit}
 use Rattle.stations.specs.declared.station.Station.{Station}
 use Rattle.stations.specs.Station.{Stands, ReadsOn, IsIdle, IsCounted}
-use Rattle.run_world.specs.declared.each.Each.{Each}
 use Rattle.run_world.specs.declared.link.Link.{Link}
 use Rattle.run_world.specs.declared.link.Breaking.{Breaking}
 use Rattle.run_world.specs.Names.{Written}
@@ -111,6 +110,6 @@ BreaksSo link turn ends Originator fault = speak turn (both_finished link turn e
 BreaksSo link turn ends Answerer fault = (is_ok (speak turn (both_finished link turn ends) ends.orig) ≡ true) × (speak turn false ends.answ ≡ Err fault)
 
 -- what speaking answers
-abbrev pub SpeaksBoth : Link → Both (List ℕ) → RunLink → ℕ → Ends → Result (Each Sent) Breaking → Type 0
+abbrev pub SpeaksBoth : Link → Both (List ℕ) → RunLink → ℕ → Ends → Result (Both Sent) Breaking → Type 0
 SpeaksBoth l files link turn ends (Ok sent) = SaysBoth l files link turn ends sent.orig sent.answ
 SpeaksBoth l files link turn ends (Err breaking) = BreaksSo link turn ends breaking.role breaking.fault

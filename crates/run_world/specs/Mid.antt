@@ -3,8 +3,9 @@ use Rattle.std.specs.Prelude.{◌≡◌, ◌≢◌, ℕ, ◌+◌, false, ◌∷�
 use Rattle.outside_calls.specs.Folder.{FolderState, Appended, PartlyAppended}
 use Rattle.outside_calls.specs.Outputs.{AddEach}
 use Rattle.roles.specs.declared.role.Role.{Role}
-use Rattle.roles.specs.declared.role.Role.TheVariants.{Originator, Answerer}
-use Rattle.roles.specs.Both.{Both}
+use Rattle.roles.specs.declared.role.Role.TheVariants.{Originator}
+use Rattle.roles.specs.Role.{other}
+use Rattle.roles.specs.Both.{Both, of}
 use Rattle.noise_script.specs.Script.{ScriptValue}
 use Rattle.lapm_frames.specs.declared.heard.Heard.{Heard}
 use Rattle.lapm_frames.specs.declared.heard.Heard.TheVariants.{Chance}
@@ -18,16 +19,14 @@ use Rattle.link_run.specs.Outcomes.{Outcome, Done, Broken}
 use Rattle.link_run.specs.Trace.{turn_text}
 use Rattle.link_run.specs.Counts.{lost_in, lost_slots, sent_again}
 use Rattle.line_run.specs.Sampled.{IsHeardOf, HeardIn, LineRun, EndsLine}
-use Rattle.line_run.specs.Sampled as line_ends
 use Rattle.line_run.specs.Scripted.{channel_of, link_of}
-use Rattle.run_world.specs.declared.each.Each.{Each}
-use Rattle.run_world.specs.declared.lines.LineEnd.{LineEnd}
-use Rattle.run_world.specs.declared.lines.LineEnd.TheVariants as ways
+use Rattle.shared_line.specs.declared.lines.LineEnd.{LineEnd}
 use Rattle.turn_bound.specs.Limits.{file_limit}
 use Rattle.stations.specs.Station.{ReadsOn}
 use Rattle.run_world.specs.Names.{Written, outputs_of}
 use Rattle.run_world.specs.Link.{LinkStands, both_ends, octets_of, served_on}
-use Rattle.run_world.specs.Lines.{HaveArrived}
+use Rattle.line_run.specs.Stream.{both_sent_by}
+use Rattle.shared_line.specs.Lines.{HaveArrived, end_of}
 use Rattle.run_world.specs.declared.world.World.{World}
 use Rattle.run_world.specs.declared.tally.Tally.{Tally}
 use Rattle.run_world.specs.declared.step.RunFault.{RunFault}
@@ -36,22 +35,19 @@ use Rattle.run_world.specs.World.{WorldAfter}
 use Rattle.run_world.specs.Turn.{MakesTurn}
 
 -- What both ends hear in the turn after these, and are once they have heard.
-pub record Overhears (script : ScriptValue) (files : Both (List ℕ)) (ts : List Turn) (ends : Ends) (heard : Each Heard)
+pub record Overhears (script : ScriptValue) (files : Both (List ℕ)) (ts : List Turn) (ends : Ends) (heard : Both Heard)
     (mid : Ends) : Type 0 where
   pub run : LineRun (channel_of script) (link_of script files) ts ends
-  pub orig_heard : IsHeardOf (channel_of script) Answerer ts (check_of ends.orig) heard.orig
-  pub answ_heard : IsHeardOf (channel_of script) Originator ts (check_of ends.answ) heard.answ
-  pub orig_well : heard.orig ≢ Chance
-  pub answ_well : heard.answ ≢ Chance
-  pub orig_hears : hear (length ts) (arrival heard.orig) ends.orig ≡ Ok mid.orig
-  pub answ_hears : hear (length ts) (arrival heard.answ) ends.answ ≡ Ok mid.answ
+  pub heard_of : (role : Role) → IsHeardOf (channel_of script) (other role) ts (check_of (of role ends)) (of role heard)
+  pub well : (role : Role) → of role heard ≢ Chance
+  pub hears : (role : Role) → hear (length ts) (arrival (of role heard)) (of role ends) ≡ Ok (of role mid)
 
 -- an end's side of that turn
 abbrev pub side_of : Heard → Account → Account → Option Spoken → Side
 side_of heard before mid sent = record { heard = heard; check = check_of before; sent = sent; given = given_break mid }
 
 -- the turn, where this is sent in it
-abbrev pub turn_in : Each Heard → Ends → Ends → Both (Option Spoken) → Turn
+abbrev pub turn_in : Both Heard → Ends → Ends → Both (Option Spoken) → Turn
 turn_in heard ends mid sent = record {
   orig = side_of heard.orig ends.orig mid.orig sent.orig;
   answ = side_of heard.answ ends.answ mid.answ sent.answ;
@@ -70,17 +66,17 @@ abbrev pub served : ScriptValue → Both (List ℕ) → ℕ → Ends → Ends
 served script files turn mid = served_on script turn (supplied files (handed mid))
 
 -- A tally of these turns, and of what is heard in the next one.
-pub record TalliesHeard (t : Tally) (ts : List Turn) (ends : Ends) (heard : Each Heard) : Type 0 where
+pub record TalliesHeard (t : Tally) (ts : List Turn) (ends : Ends) (heard : Both Heard) : Type 0 where
   pub lost : t.lost ≡ lost_slots ts + lost_in heard.orig + lost_in heard.answ
   pub again : t.again ≡ sent_again ts
   pub orig : t.orig ≡ ends.orig.outgoing.high
   pub answ : t.answ ≡ ends.answ.outgoing.high
 
 -- A world in the turn after these, whose ends are by now these.
-pub record InTurn (w : World) (files : Both (List ℕ)) (ts : List Turn) (ends : Ends) (heard : Each Heard) (mid now : Ends) : Type 0 where
+pub record InTurn (w : World) (files : Both (List ℕ)) (ts : List Turn) (ends : Ends) (heard : Both Heard) (mid now : Ends) : Type 0 where
   pub overhears : Overhears w.script files ts ends heard mid
   pub link : LinkStands w.link files now
-  pub lines : HaveArrived w.lines (channel_of w.script) ts
+  pub lines : HaveArrived w.lines (channel_of w.script) 1 (both_sent_by 0 ts)
   pub turn : w.turn ≡ length ts
   pub tally : TalliesHeard w.tally ts ends heard
 
@@ -92,24 +88,19 @@ pub record SameBeside (old new : World) : Type 0 where
   pub tally : new.tally ≡ old.tally
 
 -- both ends have heard
-pub record HasHeard (w : World) (files : Both (List ℕ)) (ts : List Turn) (ends : Ends) (heard : Each Heard) : Type 0 where
+pub record HasHeard (w : World) (files : Both (List ℕ)) (ts : List Turn) (ends : Ends) (heard : Both Heard) : Type 0 where
   pub mid : Ends
   pub stands : InTurn w files ts ends heard mid mid
 
--- the line ends the run
-abbrev pub IsLineEnd : ScriptValue → List Turn → Ends → LineEnd → Type 0
-IsLineEnd script ts ends (ways.Lost role symbol) = EndsLine (channel_of script) ts ends (line_ends.LineLost role symbol)
-IsLineEnd script ts ends (ways.Chance role) = EndsLine (channel_of script) ts ends (line_ends.ChanceMatch role)
-
 -- what hearing answers
-abbrev pub HearsTurn : World → Both (List ℕ) → List Turn → Ends → Result (Each Heard) LineEnd → Type 0
+abbrev pub HearsTurn : World → Both (List ℕ) → List Turn → Ends → Result (Both Heard) LineEnd → Type 0
 HearsTurn w files ts ends (Ok heard) = HasHeard w files ts ends heard
-HearsTurn w files ts ends (Err end) = IsLineEnd w.script ts ends end
+HearsTurn w files ts ends (Err end) = EndsLine (channel_of w.script) ts ends (end_of end)
 
 -- What both ends took is handed over, segments and the lengths of breaks.
 pub record HandsOver (w : World) (old new : FolderState) (n : Written) (files : Both (List ℕ)) (ts : List Turn) (ends : Ends)
-    (heard : Each Heard) (mid : Ends)
-    (given : Each (Option ℕ)) : Type 0 where
+    (heard : Both Heard) (mid : Ends)
+    (given : Both (Option ℕ)) : Type 0 where
   pub stands : InTurn w files ts ends heard mid (handed mid)
   pub orig_given : given.orig ≡ given_break mid.orig
   pub answ_given : given.answ ≡ given_break mid.answ
@@ -121,7 +112,7 @@ pub record ReadsBoth (f : FolderState) (n : Written) (files : Both (List ℕ)) (
   pub answ : ReadsOn f n.answ file_limit files.answ ends.answ others.answ
 
 -- Both ends are served, and are to speak.
-pub record Serves (w : World) (f : FolderState) (n : Written) (files : Both (List ℕ)) (ts : List Turn) (ends : Ends) (heard : Each Heard)
+pub record Serves (w : World) (f : FolderState) (n : Written) (files : Both (List ℕ)) (ts : List Turn) (ends : Ends) (heard : Both Heard)
     (mid : Ends) : Type 0 where
   pub others : Both (List ℕ)
   pub reads : ReadsBoth f n files (handed mid) others
@@ -179,7 +170,7 @@ SpeaksTurn w old new n files ts ends mid (Ok done) = HasGone w w.script old new 
 SpeaksTurn w old new n files ts ends mid (Err fault) = SpeaksLast w.script old new n files ts ends mid fault
 
 -- Both ends are to speak, in a turn in which the originator isn't closed.
-pub record IsToSpeak (w : World) (files : Both (List ℕ)) (ts : List Turn) (ends : Ends) (heard : Each Heard) (mid : Ends) : Type 0 where
+pub record IsToSpeak (w : World) (files : Both (List ℕ)) (ts : List Turn) (ends : Ends) (heard : Both Heard) (mid : Ends) : Type 0 where
   pub stands : InTurn w files ts ends heard mid (served w.script files (length ts) mid)
   pub going : is_closed mid.orig.phase ≡ false
 

@@ -20,7 +20,8 @@ use Rattle.line_run.specs.Sampled as lines
 use Rattle.line_run.specs.Scripted.{channel_of, link_of}
 use Rattle.run_world.specs.Names.{Written, inputs_of, outputs_of, received_of}
 use Rattle.run_world.specs.Link.{octets_of}
-use Rattle.run_world.specs.Lines.{HaveArrived}
+use Rattle.line_run.specs.Stream.{both_sent_by}
+use Rattle.shared_line.specs.Lines.{HaveArrived}
 use Rattle.run_world.specs.declared.world.World.{World}
 use Rattle.run_world.specs.declared.step.Step.{Step}
 use Rattle.run_world.specs.declared.step.Step.TheVariants as steps
@@ -65,7 +66,7 @@ pub record EndsInTurn (script : ScriptValue) (old new : FolderState) (n : Writte
 pub record DoneIn (w : World) (old new : FolderState) (n : Written) (files : Both (List ℕ)) (ts : List Turn) (ends : Ends)
     (number : ℕ) : Type 0 where
   pub ended : EndsInTurn (script_of w) old new n files ts ends Done number
-  pub lines : HaveArrived (lines_of w) (channel_of (script_of w)) ts
+  pub lines : HaveArrived (lines_of w) (channel_of (script_of w)) 1 (both_sent_by 0 ts)
   pub lost : lost_of w ≡ lost_slots (ended.turn ∷ ts)
   pub again : again_of w ≡ sent_again (ended.turn ∷ ts)
 

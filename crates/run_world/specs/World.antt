@@ -1,21 +1,21 @@
 -- For which run a world stands: its turns so far, over two files that are known as far as they were read.
-use Rattle.std.specs.Prelude.{◌≡◌, ℕ, ◌+◌, ◌-◌, ◌≤◌, IsTrue, List, length, drop}
+use Rattle.std.specs.Prelude.{◌≡◌, ℕ, ◌+◌, ◌-◌, ◌≤◌, IsTrue, List, length}
 use Rattle.outside_calls.specs.Folder.{FolderState}
 use Rattle.roles.specs.Both.{Both}
 use Rattle.noise_script.specs.Script.{ScriptValue, IsInLimits, delay_of}
 use Rattle.roles.specs.declared.role.Role.{Role}
-use Rattle.sample_line.specs.Line.{Kept, LineStands}
+use Rattle.sample_line.specs.Line.{Kept}
 use Rattle.link_run.specs.Run.{Ends, Turn}
-use Rattle.link_run.specs.Carried.{on_line}
-use Rattle.line_run.specs.Sampled.{LineRun, signals}
-use Rattle.run_world.specs.OnWay.{signals_in}
+use Rattle.line_run.specs.Sampled.{LineRun}
 use Rattle.line_run.specs.Scripted.{channel_of, link_of}
 use Rattle.turn_bound.specs.Limits.{file_limit}
 use Rattle.stations.specs.Station.{file_at}
 use Rattle.run_world.specs.Names.{Written}
 use Rattle.run_world.specs.Link.{LinkStands, AreIdle, AreCounted, AreWithin}
-use Rattle.run_world.specs.Lines.{LinesWait}
-use Rattle.run_world.specs.declared.lines.Lines.{Lines}
+use Rattle.line_run.specs.Stream.{sent_by, both_sent_by}
+use Rattle.shared_line.specs.Way.{Carries}
+use Rattle.shared_line.specs.Lines.{LinesWait}
+use Rattle.shared_line.specs.declared.lines.Lines.{Lines}
 use Rattle.run_world.specs.declared.world.World.{World}
 use Rattle.run_world.specs.Tally.{Tallies, IsFew}
 
@@ -51,21 +51,17 @@ pub record StayKnown (old new : FolderState) (n : Written) (files others : Both 
 pub record WorldAfter (w : World) (files : Both (List ℕ)) (ts : List Turn) (ends : Ends) : Type 0 where
   pub run : LineRun (channel_of w.script) (link_of w.script files) ts ends
   pub link : LinkStands w.link files ends
-  pub lines : LinesWait w.lines (channel_of w.script) ts
+  pub lines : LinesWait w.lines (channel_of w.script) 1 (both_sent_by 0 ts)
   pub turn : w.turn ≡ length ts
   pub tally : Tallies w.tally ts ends
 
--- the line of this role stands for its slots of these turns: those sent as many turns ago as its delay has passed, the others wait
+-- the line of this role stands for its slots of these turns: those sent as many turns ago as its delay have passed, the others wait
 abbrev pub HasPassed : Kept → ScriptValue → Role → List Turn → Type 0
-HasPassed line script role ts =
-    LineStands line script (signals (channel_of script) role (drop (delay_of script role) ts))
-    (signals_in (channel_of script) role (on_line (delay_of script role) role ts))
+HasPassed line script role ts = Carries line script role (sent_by 0 role ts) (delay_of script role)
 
 -- so it does for one slot more, once that of the turn after these has arrived
 abbrev pub HasPassedToo : Kept → ScriptValue → Role → List Turn → Type 0
-HasPassedToo line script role ts =
-    LineStands line script (signals (channel_of script) role (drop (delay_of script role - 1) ts))
-    (signals_in (channel_of script) role (on_line (delay_of script role - 1) role ts))
+HasPassedToo line script role ts = Carries line script role (sent_by 0 role ts) (delay_of script role - 1)
 
 -- What a turn may add to the numbers, however it is answered: both slots that are heard may be lost, and both that are sent may go again.
 pub record AddsNumbers (old new : World) : Type 0 where

@@ -2,29 +2,22 @@
 //! determine it. A pure function of the script and of the folder that is lent to each turn. The central type is [`World`], and
 //! [`run_turns`] makes its turns up to the end of the run.
 //!
-//! A world is what there is twice: both ends, each with its user ([`Link`]), and both directions of the line ([`Lines`]), the originator's
-//! first where the order counts. A direction has a delay: what an end sends in a turn is on its way for some turns ([`DelayedLine`]), and
-//! then passes through the line of samples to the other end.
+//! A world is what there is twice: both ends, each with its user ([`Link`]), and both directions of the line ([`shared_line::Lines`]), the
+//! originator's first where the order counts. A direction has a delay: what an end sends in a turn is on its way for some turns, and then
+//! passes through the line of samples to the other end.
 #![tactic(auto)]
 
-mod direction;
-mod each;
 mod heard;
 pub mod laws;
-mod lines;
 mod link;
 mod names;
-mod slot;
 mod step;
 mod tally;
 mod turn_text;
 mod turns;
 mod world;
 
-use direction::DelayedLine;
-use each::Each;
 use heard::arrived;
-use lines::{LineEnd, Lines};
 use link::{Breaking, Link};
 pub use names::{FILE_LIMIT, Names};
 pub use step::{RunFault, Step};

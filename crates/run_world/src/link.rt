@@ -19,14 +19,13 @@ ghost use Rattle.run_world.specs.Names.{inputs_of, outputs_of, written};
 ghost use Rattle.run_world.specs.Link.{HearsOn};
 ghost use Rattle.link_account.specs.Hear.{hear};
 
-use crate::each::Each;
 use crate::names::{FILE_LIMIT, Names};
 use frame_check::Check;
 use lapm_link::{Arrived, LinkFault, Phase, Sent, Setup};
 use line_run::laws::scripts_make_links;
 use noise_script::Script;
 use outside_calls::{Folder, FolderFault, NoMemory};
-use roles::Role;
+use roles::{Both, Role};
 use stations::Station;
 use std::alloc::Global;
 
@@ -192,7 +191,7 @@ impl Link {
     }
 
     /// The lengths of the breaks that came, for both users.
-    pub fn given_breaks(&mut self) -> Each<Option<u8>>
+    pub fn given_breaks(&mut self) -> Both<Option<u8>>
         requires { HaveDelivered self.old }
         ensures answer { (files : Both (List ℕ)) (ends : Ends) → LinkStands self.old files ends → (result.orig ≡ given_break ends.orig) × (result.answ ≡ given_break ends.answ) }
         ensures stands { (files : Both (List ℕ)) (ends : Ends) → LinkStands self.old files ends → LinkStands self.new files (both_ends after_given ends) }
@@ -201,7 +200,7 @@ impl Link {
     {
         let orig = self.orig.given_break();
         let answ = self.answ.given_break();
-        Each { orig, answ }
+        Both { orig, answ }
     }
 
     /// The originator is closed: the run is done.
@@ -260,7 +259,7 @@ impl Link {
     }
 
     /// What both ends send in this turn. The originator is told to release where both need the link no more; where both break it counts.
-    pub fn speak(&mut self, script: &Script, turn: u64) -> Result<Each<Sent>, Breaking>
+    pub fn speak(&mut self, script: &Script, turn: u64) -> Result<Both<Sent>, Breaking>
         requires { turn < 2 ^ 40 }
         ensures speaks { (files : Both (List ℕ)) (ends : Ends) → LinkStands self.old files ends → SpeaksBoth self.new files (link_of script.now files) turn ends result }
         ensures orig_sendable { IfOk result (λ sent. IsSendable sent.orig) }
@@ -281,7 +280,7 @@ impl Link {
             }
         }
         match self.answ.speak(turn, false, &mut answ) {
-            Ok(()) => Ok(Each { orig, answ }),
+            Ok(()) => Ok(Both { orig, answ }),
             Err(fault) => Err(Breaking {
                 role: Role::Answerer,
                 fault,

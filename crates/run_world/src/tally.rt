@@ -2,8 +2,8 @@
 ghost use Rattle.std.specs.Prelude.{◌≡◌, ℕ, ◌+◌, ◌<◌, ◌≤◌, ◌^◌};
 ghost use Rattle.link_run.specs.Counts.{again_in, lost_in, next_count, sequence_in};
 
-use crate::Each;
 use lapm_frames::{Frame, Heard, Sent};
+use roles::Both;
 
 /// Counts over the turns of a run.
 #[derive(Drop)]
@@ -76,7 +76,7 @@ impl Tally {
     }
 
     /// Counts what both ends hear in a turn.
-    pub fn hear(&mut self, heard: &Each<Heard>)
+    pub fn hear(&mut self, heard: &Both<Heard>)
         requires { self.old.lost + 2 < 2 ^ 64 }
         ensures { self.new ≡ record self.old { lost = self.old.lost + lost_in heard.now.orig + lost_in heard.now.answ } }
     {
@@ -84,7 +84,7 @@ impl Tally {
     }
 
     /// Counts what both ends send in a turn.
-    pub fn send(&mut self, sent: &Each<Sent>)
+    pub fn send(&mut self, sent: &Both<Sent>)
         requires again { self.old.again + 2 < 2 ^ 64 }
         requires orig { self.old.orig + 1 < 2 ^ 64 }
         requires answ { self.old.answ + 1 < 2 ^ 64 }

@@ -3,19 +3,19 @@ ghost use Rattle.std.specs.Prelude.{◌≡◌, ◌++◌, is_some, true, Some, On
 ghost use Rattle.outside_calls.specs.Folder.{Appended, OnlyWrites, PartlyAppended};
 ghost use Rattle.roles.specs.declared.role.Role.{Role};
 ghost use Rattle.line_texts.specs.LineText.{chance_line, line_text};
-ghost use Rattle.run_world.specs.declared.each.Each.{Each};
+ghost use Rattle.roles.specs.Both.{Both};
 ghost use Rattle.run_world.specs.Names.{written};
 ghost use Rattle.run_world.specs.Turn.{IsWriting, TurnCounts, fault_of};
 ghost use Rattle.run_world.specs.Mid.{fault_named};
 ghost use Rattle.link_run.specs.Laws.{IsNamed};
 
 use crate::step::RunFault;
-use crate::{Breaking, Each, Names};
+use crate::{Breaking, Names};
 use lapm_frames::{Heard, Sent};
 use lapm_link::LinkFault;
 use line_texts::TraceLine;
 use outside_calls::{Folder, FolderFault};
-use roles::Role;
+use roles::{Both, Role};
 use stations::{append_line, append_lines};
 
 /// Why a run ends whose folder doesn't do a call: this, where it failed.
@@ -31,16 +31,16 @@ pub(crate) fn folder_fault(failed: RunFault, fault: FolderFault) -> RunFault
 /// Both lines of a turn.
 pub(crate) fn turn_lines(
     turn: u64,
-    heard: Each<Heard>,
-    given: &Each<Option<u8>>,
-    sent: Each<Option<Sent>>,
-) -> Each<TraceLine>
+    heard: Both<Heard>,
+    given: &Both<Option<u8>>,
+    sent: Both<Option<Sent>>,
+) -> Both<TraceLine>
     ensures { result ≡ record {
       orig = record { turn = turn; role = Role.Originator; arrived = heard.orig; sent = sent.orig; given = given.now.orig };
       answ = record { turn = turn; role = Role.Answerer; arrived = heard.answ; sent = sent.answ; given = given.now.answ };
     } }
 {
-    Each {
+    Both {
         orig: TraceLine {
             turn,
             role: Role::Originator,
@@ -62,7 +62,7 @@ pub(crate) fn turn_lines(
 pub(crate) fn write_turn<F: Folder>(
     folder: &mut F,
     names: &Names<'_>,
-    lines: &Each<TraceLine>,
+    lines: &Both<TraceLine>,
 ) -> Result<(), RunFault>
     ensures ok { OnOk result (Appended (F.state folder.old) (F.state folder.new) (written names.now).trace (line_text lines.now.orig ++ line_text lines.now.answ)) }
     ensures err { OnErr result (PartlyAppended (F.state folder.old) (F.state folder.new) (written names.now).trace (line_text lines.now.orig ++ line_text lines.now.answ)) }
@@ -105,14 +105,14 @@ pub(crate) fn write_chance<F: Folder>(
 }
 
 /// What both ends send in a turn, taken back from its lines.
-pub(crate) fn sent_in(lines: Each<TraceLine>) -> Each<Sent>
+pub(crate) fn sent_in(lines: Both<TraceLine>) -> Both<Sent>
     requires orig { is_some lines.orig.sent ≡ true }
     requires answ { is_some lines.answ.sent ≡ true }
     ensures orig { lines.orig.sent ≡ Some result.orig }
     ensures answ { lines.answ.sent ≡ Some result.answ }
 {
     match (lines.orig.sent, lines.answ.sent) {
-        (Some(orig), Some(answ)) => Each { orig, answ },
+        (Some(orig), Some(answ)) => Both { orig, answ },
         _ => unreachable!(),
     }
 }

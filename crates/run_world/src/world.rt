@@ -7,9 +7,9 @@ ghost use Rattle.link_run.specs.End.{is_closed};
 ghost use Rattle.line_run.specs.Sampled.{EndsLine};
 ghost use Rattle.line_run.specs.Sampled as line_ends;
 ghost use Rattle.line_run.specs.Scripted.{channel_of, link_of};
-ghost use Rattle.run_world.specs.declared.each.Each.{Each};
 ghost use Rattle.run_world.specs.Names.{inputs_of, outputs_of, written};
-ghost use Rattle.run_world.specs.Lines.{HaveArrived};
+ghost use Rattle.line_run.specs.Stream.{both_sent_by};
+ghost use Rattle.shared_line.specs.Lines.{HaveArrived};
 ghost use Rattle.run_world.specs.Link.{AreCounted, AreIdle, AreWithin, LinkStands, octets_of};
 ghost use Rattle.outside_calls.specs.Folder.{OnlyReads, OnlyWrites};
 ghost use Rattle.outside_calls.specs.Outputs.{AddPart, AreApartFrom, OnlyPuts};
@@ -20,17 +20,21 @@ use crate::laws::turns_are_few;
 use crate::step::{RunFault, Step};
 use crate::tally::Tally;
 use crate::turn_text::{folder_fault, link_fault, sent_in, turn_lines, write_chance, write_turn};
-use crate::{Each, LineEnd, Lines, Link, Names, arrived};
+use crate::{Link, Names, arrived};
 use frame_check::Check;
-use line_run::laws::{samples_are_carried, scripts_make_links, slots_have_room};
+use line_run::laws::{
+    line_runs_end_soon, samples_are_carried, scripts_make_links, slots_are_due_alone,
+    slots_have_room,
+};
 use link_run::laws::{
     each_turn_is_made, ends_break_for_want_alone, files_count_as_far_as_they_were_read,
     segments_are_counted_by_their_numbers,
 };
 use noise_script::Script;
 use outside_calls::{Folder, NoMemory};
-use roles::Role;
+use roles::{Both, Role};
 use sample_line::{Heard, Line};
+use shared_line::{LineEnd, Lines};
 use std::alloc::Global;
 
 /// Two ends with their users, and the line between them.
@@ -61,11 +65,11 @@ impl Drop for World {
 }
 
 /// The checks of both ends' frames with numbers: with these each hears, and sends.
-fn checks(link: &Link) -> Each<Check>
+fn checks(link: &Link) -> Both<Check>
     ensures orig { (files : Both (List ℕ)) (ends : Ends) → LinkStands link.now files ends → result.orig ≡ check_of ends.orig }
     ensures answ { (files : Both (List ℕ)) (ends : Ends) → LinkStands link.now files ends → result.answ ≡ check_of ends.answ }
 {
-    Each {
+    Both {
         orig: link.check(Role::Originator),
         answ: link.check(Role::Answerer),
     }
@@ -88,7 +92,7 @@ impl World {
         script.is_in_limits();
         Ok(World {
             link: Link::new(alloc, &script)?,
-            lines: Lines::new(alloc, &script)?,
+            lines: Lines::new(alloc, &script, 1)?,
             script,
             turn: 0,
             tally: Tally::new(),
@@ -103,7 +107,7 @@ impl World {
     }
 
     /// Both ends hear what arrives, or the line ends the run.
-    fn hear(&mut self) -> Result<Each<Heard>, LineEnd>
+    fn hear(&mut self) -> Result<Both<Heard>, LineEnd>
         requires ready { IsReady self.old }
         ensures hears { (files : Both (List ℕ)) (ts : List Turn) (ends : Ends) → WorldAfter self.old files ts ends → HearsTurn self.new files ts ends result }
         ensures counted { OnOk result (AreCounted self.new.link (self.old.turn + 1) self.old.turn) }
@@ -116,9 +120,11 @@ impl World {
         samples_are_carried();
         scripts_make_links();
         ends_break_for_want_alone();
+        slots_are_due_alone();
+        line_runs_end_soon();
         self.script.is_in_limits();
         let checks = checks(&self.link);
-        let heard = match self.lines.arrive(&self.script, self.turn, &checks) {
+        let heard = match self.lines.arrive(&self.script, self.turn, &checks, 0) {
             Ok(heard) => heard,
             Err(end) => return Err(end),
         };
@@ -133,11 +139,11 @@ impl World {
         &mut self,
         folder: &mut F,
         names: &Names<'_>,
-    ) -> Result<Each<Option<u8>>, RunFault>
+    ) -> Result<Both<Option<u8>>, RunFault>
         requires apart { AreApartFrom (inputs_of (written names.now)) (outputs_of (written names.now)) }
-        ensures hands { IfOk result (λ given. (files : Both (List ℕ)) (ts : List Turn) (ends : Ends) (heard : Each Heard) (mid : Ends) → InTurn self.old files ts ends heard mid mid
+        ensures hands { IfOk result (λ given. (files : Both (List ℕ)) (ts : List Turn) (ends : Ends) (heard : Both Heard) (mid : Ends) → InTurn self.old files ts ends heard mid mid
             → HandsOver self.new (F.state folder.old) (F.state folder.new) (written names.now) files ts ends heard mid given) }
-        ensures part { OnErr result ((files : Both (List ℕ)) (ts : List Turn) (ends : Ends) (heard : Each Heard) (mid : Ends) → InTurn self.old files ts ends heard mid mid
+        ensures part { OnErr result ((files : Both (List ℕ)) (ts : List Turn) (ends : Ends) (heard : Both Heard) (mid : Ends) → InTurn self.old files ts ends heard mid mid
             → AddPart (F.state folder.old) (F.state folder.new) (outputs_of (written names.now)) (octets_of mid)) }
         ensures idle { OnOk result (AreIdle self.new.link) }
         ensures counted { OnOk result ((heard asked : ℕ) → AreCounted self.old.link heard asked → AreCounted self.new.link heard asked) }
@@ -157,9 +163,9 @@ impl World {
         requires early { self.old.turn < 2 ^ 40 }
         requires counted { AreCounted self.old.link (self.old.turn + 1) self.old.turn }
         requires limits { IsInLimits self.old.script }
-        requires stands { (files : Both (List ℕ)) × (ts : List Turn) × (ends : Ends) × (heard : Each Heard) × (mid : Ends) × InTurn self.old files ts ends heard mid (handed mid)
+        requires stands { (files : Both (List ℕ)) × (ts : List Turn) × (ends : Ends) × (heard : Both Heard) × (mid : Ends) × InTurn self.old files ts ends heard mid (handed mid)
             × AreWithin files }
-        ensures serves { OnOk result ((files : Both (List ℕ)) (ts : List Turn) (ends : Ends) (heard : Each Heard) (mid : Ends) → InTurn self.old files ts ends heard mid (handed mid)
+        ensures serves { OnOk result ((files : Both (List ℕ)) (ts : List Turn) (ends : Ends) (heard : Both Heard) (mid : Ends) → InTurn self.old files ts ends heard mid (handed mid)
             → AreWithin files → Serves self.new (F.state folder.old) (written names.now) files ts ends heard mid) }
         ensures idle { OnOk result (AreIdle self.old.link → AreIdle self.new.link) }
         ensures counted { OnOk result (AreCounted self.new.link (self.old.turn + 1) (self.old.turn + 1)) }
@@ -182,8 +188,8 @@ impl World {
         &mut self,
         folder: &mut F,
         names: &Names<'_>,
-        heard: Each<Heard>,
-        given: &Each<Option<u8>>,
+        heard: Both<Heard>,
+        given: &Both<Option<u8>>,
     ) -> Result<(), RunFault>
         requires early { self.old.turn < 2 ^ 40 }
         requires limits { IsInLimits self.old.script }
@@ -211,7 +217,7 @@ impl World {
             Ok(sent) => {
                 let checks = checks(&self.link);
                 self.tally.send(&sent);
-                let sent = Each {
+                let sent = Both {
                     orig: Some(sent.orig),
                     answ: Some(sent.answ),
                 };
@@ -220,12 +226,12 @@ impl World {
                     Ok(()) => {}
                     Err(fault) => return Err(fault),
                 }
-                self.lines.send(sent_in(lines), &checks);
+                self.lines.send(sent_in(lines), &checks, 0);
                 self.turn += 1;
                 Ok(())
             }
             Err(breaking) => {
-                let silent = Each {
+                let silent = Both {
                     orig: None,
                     answ: None,
                 };
@@ -243,8 +249,8 @@ impl World {
         &self,
         folder: &mut F,
         names: &Names<'_>,
-        heard: Each<Heard>,
-        given: &Each<Option<u8>>,
+        heard: Both<Heard>,
+        given: &Both<Option<u8>>,
     ) -> Result<(), RunFault>
         ensures adds { OnOk result ((files : Both (List ℕ)) (ts : List Turn) (ends mid : Ends) → InTurn self.now files ts ends heard mid (handed mid) → is_closed mid.orig.phase ≡ true
             → given.now.orig ≡ given_break mid.orig → given.now.answ ≡ given_break mid.answ
@@ -256,7 +262,7 @@ impl World {
         ensures counts { TurnCounts (F.state folder.old) (F.state folder.new) (written names.now) result }
         ensures write { IfErr result IsWriting }
     {
-        let silent = Each {
+        let silent = Both {
             orig: None,
             answ: None,
         };
@@ -337,7 +343,7 @@ impl World {
     /// script loses, and also once the run is done.
     pub fn line(&self, role: Role) -> &Line
         ensures passed { (files : Both (List ℕ)) (ts : List Turn) (ends : Ends) → WorldAfter self.now files ts ends → HasPassed result.now (script_of self.now) role ts }
-        ensures arrived { (ts : List Turn) → HaveArrived (lines_of self.now) (channel_of (script_of self.now)) ts → HasPassedToo result.now (script_of self.now) role ts }
+        ensures arrived { (ts : List Turn) → HaveArrived (lines_of self.now) (channel_of (script_of self.now)) 1 (both_sent_by 0 ts) → HasPassedToo result.now (script_of self.now) role ts }
     {
         self.lines.line(role)
     }

@@ -34,7 +34,7 @@ use Rattle.link_account.specs.Numbers.{IsNumbered}
 use Rattle.link_run.specs.Run.{arrival}
 use Rattle.shared_line.specs.declared.slot.Slot.{Slot}
 use Rattle.shared_line.specs.declared.direction.DelayedLine.{DelayedLine}
-use Rattle.pair_run.specs.Stream.{Carried, carried_signal}
+use Rattle.line_run.specs.Stream.{Carried, carried_signal}
 use Rattle.shared_line.specs.Way.{IsOnWay, AreOnWay, Stands, HeardBehind, PassesOldest}
 
 -- as many slots as are said

@@ -1,15 +1,19 @@
 -- What arrives of a stream is what a link's channel has.
-use Rattle.std.proofs.Common.{◌≡◌, ◌⊎◌, inl, inr, ℕ, zero, suc, ◌-◌, ◌*◌, ◌<◌, ◌≤◌, List, [], ◌∷◌, ◌++◌, length, map, take, drop}
+use Rattle.std.proofs.Common.{◌≡◌, ◌≢◌, ℕ, zero, suc, ◌-◌, ◌*◌, ◌<◌, ◌≤◌, List, [], ◌∷◌, ◌++◌, length, map, take, drop}
 use Rattle.std.proofs.Common.{arith, length-append, refl, sym, ◌∙◌, ap, subst, Some, Ok, Err}
 use Rattle.std.specs.Prelude.{is_some, Result}
-use Rattle.std.proofs.lemmas.Bool.{cases_lt}
 use Rattle.std.proofs.lemmas.List.{map-append, length-drop, length-map, length-take}
+use Rattle.std.proofs.Math.Nat.{one-le-mul}
 use Rattle.frame_check.specs.declared.check.Check.{Check}
 use Rattle.exact_decoder.specs.declared.decoder.Lost.{Lost}
 use Rattle.roles.specs.declared.role.Role.{Role}
+use Rattle.roles.specs.declared.role.Role.TheVariants.{Originator, Answerer}
+use Rattle.roles.specs.Role.{other}
+use Rattle.roles.specs.Both.{Both, of}
 use Rattle.detection.specs.Slots.{Signal, signal_bits}
 use Rattle.lapm_frames.specs.declared.heard.Heard.{Heard}
-use Rattle.lapm_frames.specs.declared.heard.Heard.TheVariants.{Nothing}
+use Rattle.lapm_frames.specs.declared.heard.Heard.TheVariants.{Nothing, Chance}
+use Rattle.shared_line.specs.Lines.{ArrivesBoth, HaveArrived, LinesWait, and_more, none_sent}
 use Rattle.noise_script.specs.Script.{ScriptValue, delay_of, loses}
 use Rattle.sample_line.specs.Recorded.{Records}
 use Rattle.sample_line.specs.Outcomes.{IsOutcome}
@@ -18,11 +22,11 @@ use Rattle.sample_line.specs.Line.{size_of}
 use Rattle.link_run.specs.Run.{Spoken, Turn}
 use Rattle.link_run.specs.Carried.{sent_ago}
 use Rattle.line_run.specs.Sampled.{Channel, signal_in, signals, signals_before, Arrives, ArrivesAs as RunArrives, IsHeardOf, LosesLine}
-use Rattle.line_ends.proofs.Slots.{SentAgo, sent-ago}
-use Rattle.pair_run.specs.Stream.{Carried, carried_signal, IsDue}
+use Rattle.line_run.proofs.Slots.{SentAgo, sent-ago}
+use Rattle.line_run.specs.Stream.{Carried, carried_signal, IsDue}
 use Rattle.shared_line.specs.declared.direction.DelayedLine.{DelayedLine}
 use Rattle.shared_line.proofs.Passing.{same-count}
-use Rattle.shared_line.specs.Way.{Stands, HeardBehind, PassesOldest, Arrival, Early, Due, StandsAt, WaitsFor, HasRoom, ArrivesAs}
+use Rattle.shared_line.specs.Way.{Stands, HeardBehind, PassesOldest, Arrival, Early, Due, StandsAt, IsOver, WaitsFor, HasRoom, ArrivesAs}
 
 -- one more of a list
 take-one : (n : ℕ) (xs : List Carried) (x : Carried) → drop n xs ≡ x ∷ drop (suc n) xs → take (suc n) xs ≡ take n xs ++ x ∷ []
@@ -49,18 +53,15 @@ tail-of : (x y : Carried) (xs ys : List Carried) → x ∷ xs ≡ y ∷ ys → x
 tail-of x y xs ys e = ap (drop 1) e
 
 -- the slot that arrives is heard as the channel has it
-heard-as : (d : DelayedLine) (c : Channel) (ts : List Turn) (passed : List Signal) (slot : Spoken) (x : Carried) (number : ℕ) (hearing : Check)
-    (heard : Heard)
-    → 1 ≤ delay_of c.script d.sender → size_of d.line ≡ 4 * c.symbols → number ≡ length ts - delay_of c.script d.sender
-    → sent_ago (delay_of c.script d.sender) d.sender ts ≡ Some slot → x ≡ record { dlci = c.dlci; spoken = slot }
-    → passed ≡ signals_before c d.sender (drop (delay_of c.script d.sender) ts)
-    → HeardBehind c.script d.sender (size_of d.line) c.dlci passed number hearing x heard → IsHeardOf c d.sender ts hearing heard
-heard-as d c ts passed slot x number hearing heard some size count ago is before h =
+heard-as : (c : Channel) (role : Role) (ts : List Turn) (size : ℕ) (passed : List Signal) (slot : Spoken) (x : Carried) (number : ℕ)
+    (hearing : Check) (heard : Heard)
+    → 1 ≤ delay_of c.script role → size ≡ 4 * c.symbols → number ≡ length ts - delay_of c.script role
+    → sent_ago (delay_of c.script role) role ts ≡ Some slot → x ≡ record { dlci = c.dlci; spoken = slot }
+    → passed ≡ signals_before c role (drop (delay_of c.script role) ts)
+    → HeardBehind c.script role size c.dlci passed number hearing x heard → IsHeardOf c role ts hearing heard
+heard-as c role ts size passed slot x number hearing heard some same count ago is before h =
     subst (λ o. RunArrives c role (drop delay ts) (drop (delay - 1) ts) hearing o heard) (sym ago) there
   where
-    role : Role
-    role = d.sender
-
     delay : ℕ
     delay = delay_of c.script role
 
@@ -79,9 +80,9 @@ heard-as d c ts passed slot x number hearing heard some size count ago is before
       before = h.before;
       samples = h.samples;
       recorded_before = subst (λ l. Records c.script role (signal_bits (4 * c.symbols) l) h.before) before
-          (subst (λ n. Records c.script role (signal_bits n passed) h.before) size h.recorded_before);
+          (subst (λ n. Records c.script role (signal_bits n passed) h.before) same h.recorded_before);
       recorded = subst (λ l. Records c.script role (signal_bits (4 * c.symbols) l) h.samples) upto
-          (subst (λ n. Records c.script role (signal_bits n (passed ++ carried_signal role x ∷ [])) h.samples) size h.recorded);
+          (subst (λ n. Records c.script role (signal_bits n (passed ++ carried_signal role x ∷ [])) h.samples) same h.recorded);
       not_lost = h.not_lost;
       octets = h.octets;
       patterns = h.patterns;
@@ -90,14 +91,13 @@ heard-as d c ts passed slot x number hearing heard some size count ago is before
           (subst (λ (z : Carried). IsOutcome (loses c.script role number) role c.dlci z.spoken.sent h.octets h.patterns heard) is h.outcome);
     }
 
-lost-as : (d : DelayedLine) (c : Channel) (ts : List Turn) (passed : List Signal) (slot : Spoken) (x : Carried) (symbol : ℕ)
-    → 1 ≤ delay_of c.script d.sender → size_of d.line ≡ 4 * c.symbols
-    → sent_ago (delay_of c.script d.sender) d.sender ts ≡ Some slot → x ≡ record { dlci = c.dlci; spoken = slot }
-    → passed ≡ signals_before c d.sender (drop (delay_of c.script d.sender) ts)
-    → LosesAt d.sender c.script (signal_bits (size_of d.line) (passed ++ carried_signal d.sender x ∷ [])) symbol
-    → LosesLine c d.sender ts symbol
-lost-as d c ts passed slot x symbol some size ago is before h =
-    let role : Role = d.sender in
+lost-as : (c : Channel) (role : Role) (ts : List Turn) (size : ℕ) (passed : List Signal) (slot : Spoken) (x : Carried) (symbol : ℕ)
+    → 1 ≤ delay_of c.script role → size ≡ 4 * c.symbols
+    → sent_ago (delay_of c.script role) role ts ≡ Some slot → x ≡ record { dlci = c.dlci; spoken = slot }
+    → passed ≡ signals_before c role (drop (delay_of c.script role) ts)
+    → LosesAt role c.script (signal_bits size (passed ++ carried_signal role x ∷ [])) symbol
+    → LosesLine c role ts symbol
+lost-as c role ts size passed slot x symbol some same ago is before h =
     let delay : ℕ = delay_of c.script role in
     let s : SentAgo role delay ts slot = sent-ago role delay ts slot some ago in
     let upto : passed ++ carried_signal role x ∷ [] ≡ signals c role (drop (delay - 1) ts) =
@@ -107,100 +107,121 @@ lost-as d c ts passed slot x symbol some size ago is before h =
     record {
       arrives = ap is_some ago;
       loses = subst (λ l. LosesAt role c.script (signal_bits (4 * c.symbols) l) symbol) upto
-          (subst (λ n. LosesAt role c.script (signal_bits n (passed ++ carried_signal role x ∷ [])) symbol) size h);
+          (subst (λ n. LosesAt role c.script (signal_bits n (passed ++ carried_signal role x ∷ [])) symbol) same h);
     }
+
+-- a direction that a call has moved on
+pub record Moved (d new : DelayedLine) : Type 0 where
+  pub sender : new.sender ≡ d.sender
+  pub delay : new.delay ≡ d.delay
+  pub lag : new.lag ≡ d.lag
+  pub symbols : new.line.writer.symbols ≡ d.line.writer.symbols
+
+still-over : (d new : DelayedLine) (c : Channel) (role : Role) (links : ℕ) (stream others : List Carried) (waiting now : ℕ)
+    → IsOver d c role links stream waiting → Moved d new → StandsAt new c.script others now → IsOver new c role links others now
+still-over d new c role links stream others waiting now h m stands = record {
+  stands = stands;
+  sends = m.sender ∙ h.sends;
+  symbols = m.symbols ∙ h.symbols;
+  delay = m.delay ∙ h.delay;
+  lag = m.lag ∙ h.lag ∙ ap (λ n. links * n) (sym m.delay);
+  some = subst (λ n. 1 ≤ n) (sym m.delay) h.some;
+  lag_some = subst (λ n. 1 ≤ n) (sym m.lag) h.lag_some;
+}
+
+-- the slots of a direction stand for its sender, by whatever name
+sent-as : (d new : DelayedLine) (script : ScriptValue) (passed way : List Carried) → new.sender ≡ d.sender
+    → Stands new script (map (carried_signal d.sender) passed) way → Stands new script (map (carried_signal new.sender) passed) way
+sent-as d new script passed way e h = subst (λ s. Stands new script (map (carried_signal s) passed) way) (sym e) h
+
+due-lag : (d : DelayedLine) (c : Channel) (role : Role) (links : ℕ) (stream : List Carried) → WaitsFor d c role links stream
+    → d.lag ≡ links * delay_of c.script role
+due-lag d c role links stream h = h.lag ∙ ap (λ n. links * n) h.delay
 
 -- So what arrives is what the link is to hear.
-pub arrives-as : (d new : DelayedLine) (c : Channel) (ts : List Turn) (stream : List Carried) (turn : ℕ) (hearing : Check)
-    (r : Result Heard Lost)
-    → WaitsFor d c stream → IsDue c d.sender ts stream d.lag → turn ≡ length ts → new.sender ≡ d.sender → new.delay ≡ d.delay
-    → new.lag ≡ d.lag → new.line.writer.symbols ≡ d.line.writer.symbols
+pub arrives-as : (d new : DelayedLine) (c : Channel) (role : Role) (links : ℕ) (ts : List Turn) (stream : List Carried) (turn : ℕ)
+    (hearing : Check) (r : Result Heard Lost)
+    → WaitsFor d c role links stream → IsDue c role ts stream (links * delay_of c.script role) → turn ≡ length ts → Moved d new
     → Arrival d new c.script (map (carried_signal d.sender) (take (length stream - d.lag) stream)) (drop (length stream - d.lag) stream) turn
     hearing c.dlci r
-    → ArrivesAs new c ts stream hearing r
-arrives-as d new c ts stream turn hearing r h due number sender delay lag symbols (Early less result stands) = go (cases_lt (length stream) d.lag)
-  where
-    room : StandsAt new c.script stream (d.lag - 1) → HasRoom new c stream
-    room s = record {
-      stands = subst (λ n. StandsAt new c.script stream (n - 1)) (sym lag) s;
-      symbols = symbols ∙ h.symbols;
-      delay = delay ∙ h.delay ∙ ap (delay_of c.script) (sym sender);
-      some = subst (λ n. 1 ≤ n) (sym delay) h.some;
-      lag_some = subst (λ n. 1 ≤ n) (sym lag) h.lag_some;
-    }
-
-    go : (length stream < d.lag) ⊎ (d.lag ≤ length stream) → ArrivesAs new c ts stream hearing r
-    go (inr l) = absurd (omega (arith, l, less, length-drop (length stream - d.lag) stream))
-    go (inl l) =
-        let none = due.early l in
-        let heard : IsHeardOf c d.sender ts hearing Nothing =
-        subst (λ o. RunArrives c d.sender (drop (delay_of c.script d.sender) ts) (drop (delay_of c.script d.sender - 1) ts) hearing o Nothing)
-        (sym none) refl in
-        let here : length stream - d.lag ≡ length stream - (d.lag - 1) = omega (arith, l, h.lag_some) in
-        let there : StandsAt new c.script stream (d.lag - 1) =
-        subst (λ n. Stands new c.script (map (carried_signal new.sender) (take n stream)) (drop n stream)) here
-        (subst (λ s. Stands new c.script (map (carried_signal s) (take (length stream - d.lag) stream)) (drop (length stream - d.lag) stream))
-        (sym sender) stands) in
-        subst (ArrivesAs new c ts stream hearing) (sym result)
-        (subst (λ s. IsHeardOf c s ts hearing Nothing) (sym sender) heard, room there)
-arrives-as d new c ts stream turn hearing r h due number sender delay lag symbols (Due x rest way-is full passes) = go r passes
+    → ArrivesAs new c role links ts stream hearing r
+arrives-as d new c role links ts stream turn hearing r h due-links number m a = by a
   where
     k : ℕ
     k = length stream - d.lag
 
-    enough : d.lag ≤ length stream
-    enough = omega (arith, full, length-drop k stream)
+    due : IsDue c role ts stream d.lag
+    due = subst (IsDue c role ts stream) (sym (due-lag d c role links stream h)) due-links
 
-    found : (slot : Spoken) × (sent_ago (delay_of c.script d.sender) d.sender ts ≡ Some slot)
-        × (drop k stream ≡ (record { dlci = c.dlci; spoken = slot }) ∷ drop (suc k) stream)
-        × (map (carried_signal d.sender) (take k stream) ≡ signals_before c d.sender (drop (delay_of c.script d.sender) ts))
-    found = due.due enough
+    room : (n : ℕ) → n ≡ length stream - (d.lag - 1) → Stands new c.script (map (carried_signal d.sender) (take n stream)) (drop n stream)
+        → HasRoom new c role links stream
+    room n e stands =
+        still-over d new c role links stream stream d.lag (new.lag - 1) h m
+        (sent-as d new c.script (take (length stream - (new.lag - 1)) stream) (drop (length stream - (new.lag - 1)) stream) m.sender
+        (subst (λ x. Stands new c.script (map (carried_signal d.sender) (take x stream)) (drop x stream))
+        (e ∙ ap (λ y. length stream - (y - 1)) (sym m.lag)) stands))
 
-    is : x ≡ record { dlci = c.dlci; spoken = found.0 }
-    is = head-of x (record { dlci = c.dlci; spoken = found.0 }) rest (drop (suc k) stream) (sym way-is ∙ found.2)
+    early : length stream < d.lag → r ≡ Ok Nothing
+        → Stands new c.script (map (carried_signal d.sender) (take k stream)) (drop k stream)
+        → ArrivesAs new c role links ts stream hearing r
+    early l result stands =
+        let heard : IsHeardOf c role ts hearing Nothing =
+        subst (λ o. RunArrives c role (drop (delay_of c.script role) ts) (drop (delay_of c.script role - 1) ts) hearing o Nothing)
+        (sym (due.early l)) refl in
+        subst (ArrivesAs new c role links ts stream hearing) (sym result) (heard, room k (omega (arith, l, h.lag_some)) stands)
 
-    rest-is : rest ≡ drop (suc k) stream
-    rest-is = tail-of x (record { dlci = c.dlci; spoken = found.0 }) rest (drop (suc k) stream) (sym way-is ∙ found.2)
-
-    some : 1 ≤ delay_of c.script d.sender
-    some = subst (λ n. 1 ≤ n) h.delay h.some
-
-    size : size_of d.line ≡ 4 * c.symbols
-    size = ap (λ n. 4 * n) h.symbols
-
-    place : suc k ≡ length stream - (d.lag - 1)
-    place = omega (arith, enough, h.lag_some)
-
-    one-more : map (carried_signal d.sender) (take k stream) ++ carried_signal d.sender x ∷ [] ≡ map (carried_signal d.sender) (take (suc k) stream)
-    one-more =
-        sym (map-append (carried_signal d.sender) (take k stream) (x ∷ []))
-        ∙ ap (map (carried_signal d.sender)) (sym (take-one k stream x (way-is ∙ ap (λ l. x ∷ l) rest-is)))
-
-    go : (r : Result Heard Lost)
+    late : (x : Carried) (rest : List Carried) → drop k stream ≡ x ∷ rest → d.lag ≤ length (drop k stream)
         → PassesOldest d new c.script (map (carried_signal d.sender) (take k stream)) x rest (turn - d.delay) hearing c.dlci r
-        → ArrivesAs new c ts stream hearing r
-    go (Ok heard) p =
-        let n : turn - d.delay ≡ length ts - delay_of c.script d.sender = omega (arith, number, h.delay) in
-        let heard-is = heard-as d c ts (map (carried_signal d.sender) (take k stream)) found.0 x (turn - d.delay) hearing heard some size n
-        found.1 is found.3 p.0 in
-        let stands : StandsAt new c.script stream (d.lag - 1) =
-        subst (λ m. Stands new c.script (map (carried_signal new.sender) (take m stream)) (drop m stream)) place
-        (subst (λ s. Stands new c.script (map (carried_signal s) (take (suc k) stream)) (drop (suc k) stream)) (sym sender)
-        (subst (λ l. Stands new c.script l (drop (suc k) stream)) one-more
-        (subst (Stands new c.script (map (carried_signal d.sender) (take k stream) ++ carried_signal d.sender x ∷ [])) rest-is p.1))) in
-        (
-          subst (λ s. IsHeardOf c s ts hearing heard) (sym sender) heard-is,
-          record {
-            stands = subst (λ m. StandsAt new c.script stream (m - 1)) (sym lag) stands;
-            symbols = symbols ∙ h.symbols;
-            delay = delay ∙ h.delay ∙ ap (delay_of c.script) (sym sender);
-            some = subst (λ m. 1 ≤ m) (sym delay) h.some;
-            lag_some = subst (λ m. 1 ≤ m) (sym lag) h.lag_some;
-          },
-        )
-    go (Err lost) p =
-        subst (λ s. LosesLine c s ts lost.symbol) (sym sender)
-        (lost-as d c ts (map (carried_signal d.sender) (take k stream)) found.0 x lost.symbol some size found.1 is found.3 p)
+        → ArrivesAs new c role links ts stream hearing r
+    late x rest way-is full passes = go r passes
+      where
+        enough : d.lag ≤ length stream
+        enough = omega (arith, full, length-drop k stream)
+
+        found : (slot : Spoken) × (sent_ago (delay_of c.script role) role ts ≡ Some slot)
+            × (drop k stream ≡ (record { dlci = c.dlci; spoken = slot }) ∷ drop (suc k) stream)
+            × (map (carried_signal role) (take k stream) ≡ signals_before c role (drop (delay_of c.script role) ts))
+        found = due.due enough
+
+        is : x ≡ record { dlci = c.dlci; spoken = found.0 }
+        is = head-of x (record { dlci = c.dlci; spoken = found.0 }) rest (drop (suc k) stream) (sym way-is ∙ found.2)
+
+        rest-is : rest ≡ drop (suc k) stream
+        rest-is = tail-of x (record { dlci = c.dlci; spoken = found.0 }) rest (drop (suc k) stream) (sym way-is ∙ found.2)
+
+        size : size_of d.line ≡ 4 * c.symbols
+        size = ap (λ n. 4 * n) h.symbols
+
+        some : 1 ≤ delay_of c.script role
+        some = subst (λ z. 1 ≤ z) h.delay h.some
+
+        one-more : map (carried_signal d.sender) (take k stream) ++ carried_signal d.sender x ∷ []
+            ≡ map (carried_signal d.sender) (take (suc k) stream)
+        one-more =
+            sym (map-append (carried_signal d.sender) (take k stream) (x ∷ []))
+            ∙ ap (map (carried_signal d.sender)) (sym (take-one k stream x (way-is ∙ ap (λ l. x ∷ l) rest-is)))
+
+        go : (r : Result Heard Lost)
+            → PassesOldest d new c.script (map (carried_signal d.sender) (take k stream)) x rest (turn - d.delay) hearing c.dlci r
+            → ArrivesAs new c role links ts stream hearing r
+        go (Ok heard) p =
+            let n : turn - d.delay ≡ length ts - delay_of c.script role = omega (arith, number, h.delay) in (
+              heard-as c role ts (size_of d.line) (map (carried_signal role) (take k stream)) found.0 x (turn - d.delay) hearing heard some size n
+                  found.1 is found.3
+                  (subst (λ s. HeardBehind c.script s (size_of d.line) c.dlci (map (carried_signal s) (take k stream)) (turn - d.delay) hearing x
+                  heard) h.sends p.0),
+              room (suc k) (omega (arith, enough, h.lag_some)) (subst (λ l. Stands new c.script l (drop (suc k) stream)) one-more
+                  (subst (Stands new c.script (map (carried_signal d.sender) (take k stream) ++ carried_signal d.sender x ∷ [])) rest-is p.1)),
+            )
+        go (Err lost) p =
+            lost-as c role ts (size_of d.line) (map (carried_signal role) (take k stream)) found.0 x lost.symbol some size found.1 is found.3
+            (subst (λ s. LosesAt s c.script (signal_bits (size_of d.line) (map (carried_signal s) (take k stream) ++ carried_signal s x ∷ []))
+            lost.symbol) h.sends p)
+
+    by : Arrival d new c.script (map (carried_signal d.sender) (take k stream)) (drop k stream) turn hearing c.dlci r
+        → ArrivesAs new c role links ts stream hearing r
+    by (Early less result stands) = early (omega (arith, less, length-drop k stream)) result stands
+    by (Due x rest way-is full passes) = late x rest way-is full passes
 
 -- and one more slot is put behind the stream
 take-front : (n : ℕ) (xs ys : List Carried) → n ≤ length xs → take n (xs ++ ys) ≡ take n xs
@@ -213,54 +234,37 @@ drop-front zero xs ys h = refl
 drop-front (suc n) [] ys h = absurd (omega (arith, h))
 drop-front (suc n) (x ∷ xs) ys h = drop-front n xs ys (omega (arith, h))
 
-pub sends-behind : (d new : DelayedLine) (c : Channel) (stream : List Carried) (x : Carried) → HasRoom d c stream → new.sender ≡ d.sender
-    → new.delay ≡ d.delay → new.lag ≡ d.lag → new.line.writer.symbols ≡ d.line.writer.symbols
+pub sends-behind : (d new : DelayedLine) (c : Channel) (role : Role) (links : ℕ) (stream : List Carried) (x : Carried)
+    → HasRoom d c role links stream → Moved d new
     → Stands new c.script (map (carried_signal d.sender) (take (length stream - (d.lag - 1)) stream))
     (drop (length stream - (d.lag - 1)) stream ++ x ∷ [])
-    → WaitsFor new c (stream ++ x ∷ [])
-sends-behind d new c stream x h sender delay lag symbols stands =
+    → WaitsFor new c role links (stream ++ x ∷ [])
+sends-behind d new c role links stream x h m stands =
     let k : ℕ = length stream - (d.lag - 1) in
     let few : k ≤ length stream = omega arith in
-    let same : k ≡ length (stream ++ x ∷ []) - d.lag = omega (arith, h.lag_some, length-append {A = Carried} stream (x ∷ [])) in
-    let there : Stands new c.script (map (carried_signal new.sender) (take k (stream ++ x ∷ []))) (drop k (stream ++ x ∷ [])) =
-    subst (λ s. Stands new c.script (map (carried_signal s) (take k (stream ++ x ∷ []))) (drop k (stream ++ x ∷ []))) (sym sender)
-    (subst (λ l. Stands new c.script (map (carried_signal d.sender) (take k (stream ++ x ∷ []))) l) (sym (drop-front k stream (x ∷ []) few))
-    (subst (λ l. Stands new c.script (map (carried_signal d.sender) l) (drop k stream ++ x ∷ [])) (sym (take-front k stream (x ∷ []) few)) stands))
+    let same : k ≡ length (stream ++ x ∷ []) - new.lag = omega (arith, h.lag_some, m.lag, length-append {A = Carried} stream (x ∷ [])) in
+    let there : Stands new c.script (map (carried_signal d.sender) (take k (stream ++ x ∷ []))) (drop k (stream ++ x ∷ [])) =
+    subst (λ l. Stands new c.script (map (carried_signal d.sender) (take k (stream ++ x ∷ []))) l) (sym (drop-front k stream (x ∷ []) few))
+    (subst (λ l. Stands new c.script (map (carried_signal d.sender) l) (drop k stream ++ x ∷ [])) (sym (take-front k stream (x ∷ []) few)) stands)
     in
-    record {
-      stands = subst (λ m. StandsAt new c.script (stream ++ x ∷ []) m) (sym lag)
-          (subst (λ n. Stands new c.script (map (carried_signal new.sender) (take n (stream ++ x ∷ []))) (drop n (stream ++ x ∷ []))) same there);
-      symbols = symbols ∙ h.symbols;
-      delay = delay ∙ h.delay ∙ ap (delay_of c.script) (sym sender);
-      some = subst (λ n. 1 ≤ n) (sym delay) h.some;
-      lag_some = subst (λ n. 1 ≤ n) (sym lag) h.lag_some;
-    }
+    let n : ℕ = length (stream ++ x ∷ []) - new.lag in
+    still-over d new c role links stream (stream ++ x ∷ []) (d.lag - 1) new.lag h m
+    (sent-as d new c.script (take n (stream ++ x ∷ [])) (drop n (stream ++ x ∷ [])) m.sender
+    (subst (λ y. Stands new c.script (map (carried_signal d.sender) (take y (stream ++ x ∷ []))) (drop y (stream ++ x ∷ []))) same there))
 
 -- ---- for the two directions
 
--- what arrives of a role's slots
-abbrev pub RoleHears : DelayedLine → Channel → Role → List Turn → List Carried → Check → Result Heard Lost → Type 0
-RoleHears new c role ts stream hearing (Ok heard) = IsHeardOf c role ts hearing heard × HasRoom new c stream
-RoleHears new c role ts stream hearing (Err lost) = LosesLine c role ts lost.symbol
-
--- a direction that a call of `arrive` has moved on
-pub record Moved (d new : DelayedLine) : Type 0 where
-  pub sender : new.sender ≡ d.sender
-  pub delay : new.delay ≡ d.delay
-  pub lag : new.lag ≡ d.lag
-  pub symbols : new.line.writer.symbols ≡ d.line.writer.symbols
-
-pub role-hears : (d new : DelayedLine) (c : Channel) (role : Role) (ts : List Turn) (stream : List Carried) (turn : ℕ) (known hearing : Check)
-    (script : ScriptValue) (dlci : ℕ) (r : Result Heard Lost)
-    → d.sender ≡ role → WaitsFor d c stream → IsDue c role ts stream d.lag → c.script ≡ script → c.dlci ≡ dlci → turn ≡ length ts
-    → known ≡ hearing → Moved d new
-    → ((passed : List Signal) (way : List Carried) → Stands d script passed way → Arrival d new script passed way turn known dlci r)
-    → RoleHears new c role ts stream hearing r
-role-hears d new c role ts stream turn known hearing script dlci r own h due script-is dlci-is number check m a =
-    go r (arrives-as d new c ts stream turn known r h (subst (λ s. IsDue c s ts stream d.lag) (sym own) due) number m.sender m.delay m.lag m.symbols
-    (subst (λ n. Arrival d new c.script passed way turn known n r) (sym dlci-is)
-    (subst (λ s. ((l : List Signal) (w : List Carried) → Stands d s l w → Arrival d new s l w turn known dlci r)) (sym script-is) a passed way
-    h.stands)))
+pub role-hears : (d new : DelayedLine) (c : Channel) (role : Role) (links : ℕ) (ts : List Turn) (stream : List Carried) (turn : ℕ)
+    (hearing : Check) (script : ScriptValue) (dlci : ℕ) (r : Result Heard Lost)
+    → WaitsFor d c role links stream → IsDue c role ts stream (links * delay_of c.script role) → c.script ≡ script → c.dlci ≡ dlci
+    → turn ≡ length ts → Moved d new
+    → ((passed : List Signal) (way : List Carried) → Stands d script passed way → Arrival d new script passed way turn hearing dlci r)
+    → ArrivesAs new c role links ts stream hearing r
+role-hears d new c role links ts stream turn hearing script dlci r h due script-is dlci-is number m a =
+    arrives-as d new c role links ts stream turn hearing r h due number m
+    (subst (λ n. Arrival d new c.script passed way turn hearing n r) (sym dlci-is)
+    (subst (λ s. ((l : List Signal) (w : List Carried) → Stands d s l w → Arrival d new s l w turn hearing dlci r)) (sym script-is) a passed way
+    h.stands))
   where
     passed : List Signal
     passed = map (carried_signal d.sender) (take (length stream - d.lag) stream)
@@ -268,39 +272,88 @@ role-hears d new c role ts stream turn known hearing script dlci r own h due scr
     way : List Carried
     way = drop (length stream - d.lag) stream
 
-    go : (r : Result Heard Lost) → ArrivesAs new c ts stream known r → RoleHears new c role ts stream hearing r
-    go (Ok heard) k = (
-      subst (λ s. IsHeardOf c s ts hearing heard) (m.sender ∙ own) (subst (λ z. IsHeardOf c new.sender ts z heard) check k.0),
-      k.1,
-    )
-    go (Err lost) k = subst (λ s. LosesLine c s ts lost.symbol) (m.sender ∙ own) k
-
 -- where a slot arrives, it was sent as many turns ago
-pub late-of : (d : DelayedLine) (c : Channel) (role : Role) (ts : List Turn) (stream : List Carried) (turn : ℕ) → d.sender ≡ role
-    → WaitsFor d c stream → IsDue c role ts stream d.lag → turn ≡ length ts → d.lag ≤ length d.slots.items → d.delay ≤ turn
-late-of d c role ts stream turn own h due number l =
+pub late-of : (d : DelayedLine) (c : Channel) (role : Role) (links : ℕ) (ts : List Turn) (stream : List Carried) (turn : ℕ)
+    → WaitsFor d c role links stream → IsDue c role ts stream (links * delay_of c.script role) → turn ≡ length ts
+    → d.lag ≤ length d.slots.items → d.delay ≤ turn
+late-of d c role links ts stream turn h due number l =
     let way = drop (length stream - d.lag) stream in
     let passed = map (carried_signal d.sender) (take (length stream - d.lag) stream) in
     let count = same-count (size_of d.line) d.sender passed d.slots.items way h.stands.slots in
-    let late = due.late (omega (arith, l, count, length-drop (length stream - d.lag) stream)) in
-    let same : delay_of c.script d.sender ≡ delay_of c.script role = ap (delay_of c.script) own in
-    omega (arith, late, same, number, h.delay)
+    let enough : d.lag ≤ length stream = omega (arith, l, count, length-drop (length stream - d.lag) stream) in
+    let late = due.late (subst (λ n. n ≤ length stream) (due-lag d c role links stream h) enough) in
+    omega (arith, late, number, h.delay)
 
-pub room-of : (d : DelayedLine) (c : Channel) (stream : List Carried) → HasRoom d c stream → length d.slots.items < d.lag
-room-of d c stream h =
+pub room-of : (d : DelayedLine) (c : Channel) (role : Role) (links : ℕ) (stream : List Carried) → HasRoom d c role links stream
+    → length d.slots.items < d.lag
+room-of d c role links stream h =
     let k = length stream - (d.lag - 1) in
     let count = same-count (size_of d.line) d.sender (map (carried_signal d.sender) (take k stream)) d.slots.items (drop k stream) h.stands.slots in
     omega (arith, count, length-drop k stream, h.lag_some)
 
-pub stands-of : (d : DelayedLine) (c : Channel) (stream : List Carried) (script : ScriptValue) → WaitsFor d c stream → c.script ≡ script
+pub stands-of : (d : DelayedLine) (c : Channel) (role : Role) (links : ℕ) (stream : List Carried) (script : ScriptValue)
+    → WaitsFor d c role links stream → c.script ≡ script
     → (passed : List Signal) × (way : List Carried) × Stands d script passed way
-stands-of d c stream script h e =
+stands-of d c role links stream script h e =
     let passed : List Signal = map (carried_signal d.sender) (take (length stream - d.lag) stream) in
     let way : List Carried = drop (length stream - d.lag) stream in
     (passed, way, subst (λ s. Stands d s passed way) e h.stands)
 
 -- as many slots have passed as were put on the line, at most
-pub passed-few : (d : DelayedLine) (c : Channel) (stream : List Carried) → WaitsFor d c stream → d.line.passed ≤ length stream
-passed-few d c stream h =
+pub passed-few : (d : DelayedLine) (c : Channel) (role : Role) (links : ℕ) (stream : List Carried) → WaitsFor d c role links stream
+    → d.line.passed ≤ length stream
+passed-few d c role links stream h =
     let k = length stream - d.lag in
     omega (arith, h.stands.line.slots, length-map (take k stream) (carried_signal d.sender), length-take k stream)
+
+-- before the first slot
+pub waits-first : (d : DelayedLine) (c : Channel) (role : Role) (links : ℕ)
+    → ((script : ScriptValue) → Stands d script [] []) → d.sender ≡ role → d.line.writer.symbols ≡ c.symbols
+    → d.delay ≡ delay_of c.script role → d.lag ≡ links * d.delay → 1 ≤ links → 1 ≤ delay_of c.script role
+    → WaitsFor d c role links []
+waits-first d c role links stands sends symbols delay lag many some = record {
+  stands = subst (λ n. Stands d c.script (map (carried_signal d.sender) (take n [])) (drop n [])) none (stands c.script);
+  sends = sends;
+  symbols = symbols;
+  delay = delay;
+  lag = lag;
+  some = low;
+  lag_some = subst (λ n. 1 ≤ n) (sym lag) (one-le-mul many low);
+}
+  where
+    low : 1 ≤ d.delay
+    low = subst (λ n. 1 ≤ n) (sym delay) some
+
+    none : 0 ≡ 0 - d.lag
+    none = omega arith
+
+-- what is so of each role is so of both
+pub hears-both : (orig answ : DelayedLine) (c : Channel) (links : ℕ) (ts : List Turn) (streams : Both (List Carried)) (checks : Both Check)
+    (to_orig to_answ : Heard) → IsHeardOf c Answerer ts checks.orig to_orig → IsHeardOf c Originator ts checks.answ to_answ
+    → to_orig ≢ Chance → to_answ ≢ Chance → HasRoom orig c Originator links streams.orig → HasRoom answ c Answerer links streams.answ
+    → ArrivesBoth (record { from_orig = orig; from_answ = answ }) c links ts streams checks (record { orig = to_orig; answ = to_answ })
+hears-both orig answ c links ts streams checks to_orig to_answ ho ha wo wa ro ra =
+    record { heard_of = each; well = well; lines = room }
+  where
+    each : (role : Role) → IsHeardOf c (other role) ts (of role checks) (of role (record { orig = to_orig; answ = to_answ }))
+    each Originator = ho
+    each Answerer = ha
+
+    well : (role : Role) → of role (record { orig = to_orig; answ = to_answ }) ≢ Chance
+    well Originator = wo
+    well Answerer = wa
+
+    room : HaveArrived (record { from_orig = orig; from_answ = answ }) c links streams
+    room Originator = ro
+    room Answerer = ra
+
+pub waits-both : (orig answ : DelayedLine) (c : Channel) (links : ℕ) (streams : Both (List Carried)) (more : Both Carried)
+    → WaitsFor orig c Originator links (streams.orig ++ more.orig ∷ []) → WaitsFor answ c Answerer links (streams.answ ++ more.answ ∷ [])
+    → LinesWait (record { from_orig = orig; from_answ = answ }) c links (and_more streams more)
+waits-both orig answ c links streams more ho ha Originator = ho
+waits-both orig answ c links streams more ho ha Answerer = ha
+
+pub waits-none : (orig answ : DelayedLine) (c : Channel) (links : ℕ) → WaitsFor orig c Originator links [] → WaitsFor answ c Answerer links []
+    → LinesWait (record { from_orig = orig; from_answ = answ }) c links none_sent
+waits-none orig answ c links ho ha Originator = ho
+waits-none orig answ c links ho ha Answerer = ha

@@ -1,70 +1,82 @@
 -- The two directions of the line, between the turns of links and within one.
-use Rattle.std.specs.Prelude.{◌≡◌, ◌≢◌, ◌<◌, ◌^◌, ℕ, List, Result, Ok, Err}
+use Rattle.std.specs.Prelude.{◌≡◌, ◌≢◌, ◌*◌, ◌<◌, ◌^◌, ℕ, List, [], ◌∷◌, ◌++◌, Result, Ok, Err}
 use Rattle.frame_check.specs.declared.check.Check.{Check}
-use Rattle.roles.specs.Both.{Both}
+use Rattle.roles.specs.declared.role.Role.{Role}
 use Rattle.roles.specs.declared.role.Role.TheVariants.{Originator, Answerer}
+use Rattle.roles.specs.Role.{other}
+use Rattle.roles.specs.Both.{Both, of}
 use Rattle.lapm_frames.specs.declared.sent.Sent.{Sent}
 use Rattle.lapm_frames.specs.declared.heard.Heard.{Heard}
 use Rattle.lapm_frames.specs.declared.heard.Heard.TheVariants.{Chance}
+use Rattle.noise_script.specs.Script.{delay_of}
 use Rattle.sample_line.specs.Signals.{IsCodable}
-use Rattle.link_account.specs.Account.{check_of}
-use Rattle.link_run.specs.Run.{Ends, Turn}
-use Rattle.line_run.specs.Sampled.{Channel, IsHeardOf, EndsLine}
+use Rattle.link_run.specs.Run.{Turn}
+use Rattle.line_run.specs.Sampled.{Channel, IsHeardOf, EndsLineBy}
 use Rattle.line_run.specs.Sampled as line_ends
-use Rattle.pair_run.specs.Stream.{Carried, IsDue}
+use Rattle.line_run.specs.Stream.{Carried, IsDue}
 use Rattle.shared_line.specs.Way.{WaitsFor, HasRoom}
-use Rattle.shared_line.specs.declared.each.Each.{Each}
+use Rattle.shared_line.specs.declared.direction.DelayedLine.{DelayedLine}
 use Rattle.shared_line.specs.declared.lines.Lines.{Lines}
 use Rattle.shared_line.specs.declared.lines.LineEnd.{LineEnd}
 use Rattle.shared_line.specs.declared.lines.LineEnd.TheVariants as ways
 
--- Both directions wait for the next slot behind what each role has sent.
-pub record LinesWait (l : Lines) (c : Channel) (streams : Both (List Carried)) : Type 0 where
-  pub orig_sends : l.from_orig.sender ≡ Originator
-  pub answ_sends : l.from_answ.sender ≡ Answerer
-  pub from_orig : WaitsFor l.from_orig c streams.orig
-  pub from_answ : WaitsFor l.from_answ c streams.answ
+-- the direction in which a role sends
+abbrev pub from : Role → Lines → DelayedLine
+from Originator l = l.from_orig
+from Answerer l = l.from_answ
 
--- Both have room for one.
-pub record HaveRoom (l : Lines) (c : Channel) (streams : Both (List Carried)) : Type 0 where
-  pub orig_sends : l.from_orig.sender ≡ Originator
-  pub answ_sends : l.from_answ.sender ≡ Answerer
-  pub from_orig : HasRoom l.from_orig c streams.orig
-  pub from_answ : HasRoom l.from_answ c streams.answ
+-- Both directions wait for the next slot behind what each role has sent of so many links,
+abbrev pub LinesWait : Lines → Channel → ℕ → Both (List Carried) → Type 0
+LinesWait l c links streams = (role : Role) → WaitsFor (from role l) c role links (of role streams)
 
--- The slots of a link are due in both.
-pub record AreDue (l : Lines) (c : Channel) (ts : List Turn) (streams : Both (List Carried)) : Type 0 where
-  pub from_orig : IsDue c Originator ts streams.orig l.from_orig.lag
-  pub from_answ : IsDue c Answerer ts streams.answ l.from_answ.lag
+-- or that has arrived, and both have room for one.
+abbrev pub HaveArrived : Lines → Channel → ℕ → Both (List Carried) → Type 0
+HaveArrived l c links streams = (role : Role) → HasRoom (from role l) c role links (of role streams)
+
+-- no slot was sent
+abbrev pub none_sent : Both (List Carried)
+none_sent = record { orig = []; answ = [] }
+
+-- the slots of a link are due in both
+abbrev pub AreDue : Channel → ℕ → List Turn → Both (List Carried) → Type 0
+AreDue c links ts streams = (role : Role) → IsDue c role ts (of role streams) (links * delay_of c.script role)
 
 -- fewer slots have passed than a line counts
-abbrev pub passed_few : Lines → Type 0
-passed_few l = (l.from_orig.line.passed < 2 ^ 40) × (l.from_answ.line.passed < 2 ^ 40)
+abbrev pub PassedFew : Lines → Type 0
+PassedFew l = (role : Role) → (from role l).line.passed < 2 ^ 40
 
--- Both ends hear these, and neither is a chance match.
-pub record ArrivesBoth (l : Lines) (c : Channel) (ts : List Turn) (streams : Both (List Carried)) (ends : Ends) (heard : Each Heard) : Type 0 where
-  pub orig : IsHeardOf c Answerer ts (check_of ends.orig) heard.orig
-  pub answ : IsHeardOf c Originator ts (check_of ends.answ) heard.answ
-  pub orig_well : heard.orig ≢ Chance
-  pub answ_well : heard.answ ≢ Chance
-  pub lines : HaveRoom l c streams
+-- Both ends hear these with these checks, and neither is a chance match.
+pub record ArrivesBoth (l : Lines) (c : Channel) (links : ℕ) (ts : List Turn) (streams : Both (List Carried)) (checks : Both Check)
+    (heard : Both Heard) : Type 0 where
+  pub heard_of : (role : Role) → IsHeardOf c (other role) ts (of role checks) (of role heard)
+  pub well : (role : Role) → of role heard ≢ Chance
+  pub lines : HaveArrived l c links streams
+
+-- how the line ends a run
+abbrev pub end_of : LineEnd → line_ends.LineEnd
+end_of (ways.Lost role symbol) = line_ends.LineLost role symbol
+end_of (ways.Chance role) = line_ends.ChanceMatch role
 
 -- what arriving answers
-abbrev pub ArrivesSo : Lines → Channel → List Turn → Both (List Carried) → Ends → Result (Each Heard) LineEnd → Type 0
-ArrivesSo l c ts streams ends (Ok heard) = ArrivesBoth l c ts streams ends heard
-ArrivesSo l c ts streams ends (Err (ways.Lost role symbol)) = EndsLine c ts ends (line_ends.LineLost role symbol)
-ArrivesSo l c ts streams ends (Err (ways.Chance role)) = EndsLine c ts ends (line_ends.ChanceMatch role)
+abbrev pub ArrivesSo : Lines → Channel → ℕ → List Turn → Both (List Carried) → Both Check → Result (Both Heard) LineEnd → Type 0
+ArrivesSo l c links ts streams checks (Ok heard) = ArrivesBoth l c links ts streams checks heard
+ArrivesSo l c links ts streams checks (Err end) = EndsLineBy c ts (λ role. of role checks) (end_of end)
 
 -- what is sent can be coded next in each direction
-pub record AreCodable (l : Lines) (from_orig from_answ : Sent) (checks : Each Check) (dlci : ℕ) : Type 0 where
-  pub orig : IsCodable checks.orig l.from_orig.sender dlci l.from_orig.line.writer.symbols l.from_orig.line.writer.phase from_orig
-  pub answ : IsCodable checks.answ l.from_answ.sender dlci l.from_answ.line.writer.symbols l.from_answ.line.writer.phase from_answ
+abbrev pub AreCodable : Lines → Both Sent → Both Check → ℕ → Type 0
+AreCodable l sent checks dlci = (role : Role)
+    → IsCodable (of role checks) role dlci (from role l).line.writer.symbols (from role l).line.writer.phase (of role sent)
+
+-- a slot in which this was sent
+pub record IsPut (x : Carried) (sent : Sent) (check : Check) (dlci : ℕ) : Type 0 where
+  pub dlci_is : x.dlci ≡ dlci
+  pub sent_is : x.spoken.sent ≡ sent
+  pub check_is : x.spoken.check ≡ check
 
 -- both are put on the line
-pub record ArePut (more : Both Carried) (from_orig from_answ : Sent) (checks : Each Check) (dlci : ℕ) : Type 0 where
-  pub orig_dlci : more.orig.dlci ≡ dlci
-  pub answ_dlci : more.answ.dlci ≡ dlci
-  pub orig_sent : more.orig.spoken.sent ≡ from_orig
-  pub answ_sent : more.answ.spoken.sent ≡ from_answ
-  pub orig_check : more.orig.spoken.check ≡ checks.orig
-  pub answ_check : more.answ.spoken.check ≡ checks.answ
+abbrev pub ArePut : Both Carried → Both Sent → Both Check → ℕ → Type 0
+ArePut more sent checks dlci = (role : Role) → IsPut (of role more) (of role sent) (of role checks) dlci
+
+-- one more behind each
+abbrev pub and_more : Both (List Carried) → Both Carried → Both (List Carried)
+and_more streams more = record { orig = streams.orig ++ more.orig ∷ []; answ = streams.answ ++ more.answ ∷ [] }

@@ -1,5 +1,5 @@
 -- For which slots a direction stands: those that have passed, and those that are on their way.
-use Rattle.std.specs.Prelude.{◌≡◌, ℕ, ◌-◌, ◌<◌, ◌≤◌, List, [], ◌∷◌, ◌++◌, length, map, take, drop, None, Result, Ok, Err}
+use Rattle.std.specs.Prelude.{◌≡◌, ℕ, ◌-◌, ◌*◌, ◌<◌, ◌≤◌, List, [], ◌∷◌, ◌++◌, length, map, take, drop, None, Result, Ok, Err}
 use Rattle.frame_check.specs.declared.check.Check.{Check}
 use Rattle.bit_stuffing.specs.BitSlot.{line_bits}
 use Rattle.symbol_map.specs.declared.sample.Sample.{Sample}
@@ -19,8 +19,8 @@ use Rattle.sample_line.specs.Recorded.{Records}
 use Rattle.sample_line.specs.Received.{Receives}
 use Rattle.sample_line.specs.Outcomes.{IsOutcome}
 use Rattle.sample_line.specs.Path.{LosesAt}
-use Rattle.sample_line.specs.Line.{LineStands, bits_behind, sender_of, size_of}
-use Rattle.pair_run.specs.Stream.{Carried, carried_signal}
+use Rattle.sample_line.specs.Line.{Kept, LineStands, bits_behind, sender_of, size_of}
+use Rattle.line_run.specs.Stream.{Carried, carried_signal}
 use Rattle.shared_line.specs.declared.slot.Slot.{Slot}
 use Rattle.shared_line.specs.declared.direction.DelayedLine.{DelayedLine}
 
@@ -76,26 +76,35 @@ pub data Arrival (old new : DelayedLine) (script : ScriptValue) (passed : List S
 
 -- These slots were put on the line in this order, and all but so many of the last have passed.
 abbrev pub StandsAt : DelayedLine → ScriptValue → List Carried → ℕ → Type 0
-StandsAt d script stream lag =
-    Stands d script (map (carried_signal d.sender) (take (length stream - lag) stream)) (drop (length stream - lag) stream)
+StandsAt d script stream waiting =
+    Stands d script (map (carried_signal d.sender) (take (length stream - waiting) stream)) (drop (length stream - waiting) stream)
 
--- A direction waits for the next slot of a channel behind these.
-pub record WaitsFor (d : DelayedLine) (c : Channel) (stream : List Carried) : Type 0 where
-  pub stands : StandsAt d c.script stream d.lag
+-- so it is of the line that a role's direction has
+abbrev pub Carries : Kept → ScriptValue → Role → List Carried → ℕ → Type 0
+Carries line script role stream waiting =
+    LineStands line script (map (carried_signal role) (take (length stream - waiting) stream))
+    (map (carried_signal role) (drop (length stream - waiting) stream))
+
+-- This direction, in which a role sends, stands for a stream of slots over a channel, of which so many are on their way. So many links send one
+-- in each turn.
+pub record IsOver (d : DelayedLine) (c : Channel) (role : Role) (links : ℕ) (stream : List Carried) (waiting : ℕ) : Type 0 where
+  pub stands : StandsAt d c.script stream waiting
+  pub sends : d.sender ≡ role
   pub symbols : d.line.writer.symbols ≡ c.symbols
-  pub delay : d.delay ≡ delay_of c.script d.sender
+  pub delay : d.delay ≡ delay_of c.script role
+  pub lag : d.lag ≡ links * d.delay
   pub some : 1 ≤ d.delay
   pub lag_some : 1 ≤ d.lag
 
--- Once that has arrived, there is room for one.
-pub record HasRoom (d : DelayedLine) (c : Channel) (stream : List Carried) : Type 0 where
-  pub stands : StandsAt d c.script stream (d.lag - 1)
-  pub symbols : d.line.writer.symbols ≡ c.symbols
-  pub delay : d.delay ≡ delay_of c.script d.sender
-  pub some : 1 ≤ d.delay
-  pub lag_some : 1 ≤ d.lag
+-- it waits for the next slot,
+abbrev pub WaitsFor : DelayedLine → Channel → Role → ℕ → List Carried → Type 0
+WaitsFor d c role links stream = IsOver d c role links stream d.lag
+
+-- or that has arrived, and there is room for one
+abbrev pub HasRoom : DelayedLine → Channel → Role → ℕ → List Carried → Type 0
+HasRoom d c role links stream = IsOver d c role links stream (d.lag - 1)
 
 -- what arrives for a link in the turn after these
-abbrev pub ArrivesAs : DelayedLine → Channel → List Turn → List Carried → Check → Result Heard Lost → Type 0
-ArrivesAs d c ts stream hearing (Ok heard) = IsHeardOf c d.sender ts hearing heard × HasRoom d c stream
-ArrivesAs d c ts stream hearing (Err lost) = LosesLine c d.sender ts lost.symbol
+abbrev pub ArrivesAs : DelayedLine → Channel → Role → ℕ → List Turn → List Carried → Check → Result Heard Lost → Type 0
+ArrivesAs d c role links ts stream hearing (Ok heard) = IsHeardOf c role ts hearing heard × HasRoom d c role links stream
+ArrivesAs d c role links ts stream hearing (Err lost) = LosesLine c role ts lost.symbol

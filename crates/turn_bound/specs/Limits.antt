@@ -41,8 +41,8 @@ pub record IsLimited (tries : ℕ) (delay : Role → ℕ) (link : Link) : Type 0
   pub busy_few : of_both (λ role. length (of role link).user.busy) ≤ busy_lines
   pub busy_short : (role : Role) → AllByRecursion IsShort (of role link).user.busy
 
--- No run is as long as the turns that an end can count.
+-- No run is half as long as the turns that an end can count, so that a line may carry the slots of two links.
 abbrev pub NoRunIsLong : Type 0
 NoRunIsLong = (tries period : ℕ) (delay : Role → ℕ) (link : Link) (ts : List Turn) (ends : Ends)
     → KeepsTime tries period delay link → IsLimited tries delay link → RunOf link ts ends → IsCarried delay ts
-    → length ts < 2 ^ 40
+    → length ts < 2 ^ 39

@@ -1,5 +1,6 @@
 use Rattle.std.proofs.Common.{refl, subst, None}
 use Rattle.outside_calls.specs.Folder.{Appended, PartlyAppended}
+use Rattle.roles.specs.declared.role.Role.TheVariants.{Originator, Answerer}
 use Rattle.link_run.specs.Outcomes.{Done}
 use Rattle.run_world.specs.Names.{written}
 use Rattle.run_world.specs.Mid.{turn_in}
@@ -16,13 +17,13 @@ returns-in-Ok-clause-adds g c = λ files ts ends mid h closed go ga.
     let n = written c.args.names.now in
     let text = text-is c.turn_lines-lines.result c.args.self.now.turn ts ends mid c.args.heard c.args.given.now
     (record { orig = None; answ = None }) none-sent
-    c.turn_lines-lines.ensures o.orig_well o.answ_well h.turn go ga refl refl in
+    c.turn_lines-lines.ensures (o.well Originator) (o.well Answerer) h.turn go ga refl refl in
     record {
       adds = record {
         turn = turn_in c.args.heard ends mid none-sent;
         makes = record {
           run = o.run;
-          heard = heard-in script ts ends mid c.args.heard none-sent o.orig_heard o.answ_heard o.orig_well o.answ_well;
+          heard = heard-in script files ts ends c.args.heard mid none-sent o;
           is = last-turn script files ts ends c.args.heard mid o closed;
         };
         trace = subst (Appended f new n.trace) text c.in-Ok.ensures.ok;
@@ -40,6 +41,6 @@ returns-in-Err-clause-part g c = λ files ts ends mid h closed go ga.
     let n = written c.args.names.now in
     let text = text-is c.turn_lines-lines.result c.args.self.now.turn ts ends mid c.args.heard c.args.given.now
     (record { orig = None; answ = None }) none-sent
-    c.turn_lines-lines.ensures o.orig_well o.answ_well h.turn go ga refl refl in
+    c.turn_lines-lines.ensures (o.well Originator) (o.well Answerer) h.turn go ga refl refl in
     adds-part script f new n files ts ends c.args.heard mid none-sent Done o (last-turn script files ts ends c.args.heard mid o closed)
     (subst (PartlyAppended f new n.trace) text c.in-Err.ensures.err)

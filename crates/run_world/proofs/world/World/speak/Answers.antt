@@ -1,12 +1,13 @@
 use Rattle.std.proofs.Common.{◌≡◌, ◌+◌, length, refl, sym, ◌∙◌, subst, Some, None}
 use Rattle.outside_calls.specs.Folder.{Appended, PartlyAppended}
 use Rattle.link_run.specs.Counts.{sequence_in}
-use Rattle.link_run.specs.Run.{spoken}
+use Rattle.roles.specs.declared.role.Role.TheVariants.{Originator, Answerer}
+use Rattle.line_run.specs.Stream.{both_sent_by}
 use Rattle.link_run.specs.Outcomes.{Going, Broken}
 use Rattle.run_world.specs.Names.{written}
 use Rattle.run_world.specs.Mid.{served, turn_in}
 use Rattle.run_world.proofs.Hearing.{none-sent}
-use Rattle.run_world.proofs.Speaking.{SpokenTurn, GoingLaws, sent_by, ends_of, spoken-turn, broken-turn, text-is, taken-back, all-codable}
+use Rattle.run_world.proofs.Speaking.{SpokenTurn, GoingLaws, spoken_by, ends_of, spoken-turn, broken-turn, text-is, taken-back, all-codable, put_by, are-put}
 use Rattle.run_world.proofs.Speaking.{goes-on, ends-so, counts-so, stops-so, adds-part, sends-more, sends-none}
 use Rattle.run_world.proofs.world.World.speak.Goals as goal
 
@@ -22,10 +23,10 @@ returns-in-Err-write_turn-clause-speaks g c = λ files ts ends mid h go ga.
     spoken-turn script files ts ends c.args.heard mid c.in-Ok.sent.orig c.in-Ok.sent.answ c.speak.new.self c.args.self.now.turn
     h.stands.turn o h.going
     (c.in-Ok.ensures.speaks files (served script files (length ts) mid) h.stands.link) in
-    let sents = sent_by t.orig t.answ in
+    let sents = spoken_by t.orig t.answ in
     let text = text-is c.turn_lines-lines.result c.args.self.now.turn ts ends mid c.args.heard c.args.given.now
     (record { orig = Some c.in-Ok.sent.orig; answ = Some c.in-Ok.sent.answ }) sents
-    c.turn_lines-lines.ensures o.orig_well o.answ_well h.stands.turn go ga (λ k. Some (t.orig_sent k)) (λ k. Some (t.answ_sent k)) in
+    c.turn_lines-lines.ensures (o.well Originator) (o.well Answerer) h.stands.turn go ga (λ k. Some (t.orig_sent k)) (λ k. Some (t.answ_sent k)) in
     stops-so script f new n files ts ends mid c.in-Err-write_turn.fault c.in-Err-write_turn.ensures.write
     (adds-part script f new n files ts ends c.args.heard mid sents Going o (ends_of t.orig t.answ, t.going, t.mid_is)
     (subst (PartlyAppended f new n.trace) text c.in-Err-write_turn.ensures.err))
@@ -44,8 +45,7 @@ send-requires-in-Ok-clause-codable g c =
     h.stands.turn o h.going
     (c.in-Ok.ensures.speaks files (served script files (length ts) mid) h.stands.link) in
     all-codable c.slots_have_room.ensures.codable script files ts ends c.args.heard mid c.in-Ok.sent.orig c.in-Ok.sent.answ
-    c.sent_in.result.orig c.sent_in.result.answ
-    c.speak.new.self c.args.self.now.lines c.checks-checks.result c.requires.limits o t h.stands.lines
+    c.sent_in.result c.speak.new.self c.args.self.now.lines c.checks-checks.result c.requires.limits o t h.stands.lines
     c.in-Ok.ensures.orig_sendable c.in-Ok.ensures.answ_sendable
     (taken-back c.sent_in.result.orig c.in-Ok.sent.orig _ _ c.sent_in.ensures.orig (λ k. (c.turn_lines-lines.ensures k).orig.sent) refl)
     (taken-back c.sent_in.result.answ c.in-Ok.sent.answ _ _ c.sent_in.ensures.answ (λ k. (c.turn_lines-lines.ensures k).answ.sent) refl)
@@ -78,10 +78,10 @@ returns-in-Ok-write_turn-clause-speaks g c = λ files ts ends mid h go ga.
     spoken-turn script files ts ends c.args.heard mid c.in-Ok.sent.orig c.in-Ok.sent.answ c.speak.new.self c.args.self.now.turn
     h.stands.turn o h.going
     (c.in-Ok.ensures.speaks files (served script files (length ts) mid) h.stands.link) in
-    let sents = sent_by t.orig t.answ in
+    let sents = spoken_by t.orig t.answ in
     let text = text-is c.turn_lines-lines.result c.args.self.now.turn ts ends mid c.args.heard c.args.given.now
     (record { orig = Some c.in-Ok.sent.orig; answ = Some c.in-Ok.sent.answ }) sents
-    c.turn_lines-lines.ensures o.orig_well o.answ_well h.stands.turn go ga (λ k. Some (t.orig_sent k)) (λ k. Some (t.answ_sent k)) in
+    c.turn_lines-lines.ensures (o.well Originator) (o.well Answerer) h.stands.turn go ga (λ k. Some (t.orig_sent k)) (λ k. Some (t.answ_sent k)) in
     let laws : GoingLaws = record {
       play = c.scripts_make_links.ensures.ends;
       delays = c.scripts_make_links.ensures.delays;
@@ -96,17 +96,10 @@ returns-in-Ok-write_turn-clause-speaks g c = λ files ts ends mid h go ga.
     goes-on laws script c.args.self.now.tally _ f new n files ts ends c.args.heard mid c.in-Ok.sent.orig c.in-Ok.sent.answ c.requires.limits
     refl (λ k. h.stands.turn k + 1) o t h.stands.tally
     (record { lost = c.send.ensures.lost; again = c.send.ensures.again; orig = c.send.ensures.orig; answ = c.send.ensures.answ })
-    (c.send-in-Ok.ensures.waits _ ts (turn_in c.args.heard ends mid sents) h.stands.lines refl
-    (record {
-      orig = spoken t.orig;
-      answ = spoken t.answ;
-      orig_is = refl;
-      answ_is = refl;
-      orig_sent = sym t.orig_sent ∙ sym so;
-      answ_sent = sym t.answ_sent ∙ sym sa;
-      orig_check = sym (c.checks-checks.ensures.orig files (ends_of t.orig t.answ) t.stands);
-      answ_check = sym (c.checks-checks.ensures.answ files (ends_of t.orig t.answ) t.stands);
-    }))
+    (c.send-in-Ok.ensures.waits _ 1 (both_sent_by 0 ts) (put_by t.orig t.answ) h.stands.lines
+    (are-put t.orig t.answ c.sent_in.result c.checks-checks.result (sym t.orig_sent ∙ sym so) (sym t.answ_sent ∙ sym sa)
+    (sym (c.checks-checks.ensures.orig files (ends_of t.orig t.answ) t.stands))
+    (sym (c.checks-checks.ensures.answ files (ends_of t.orig t.answ) t.stands))))
     (subst (Appended f new n.trace) text c.in-Ok-write_turn.ensures.ok)
 
 pub returns-in-Ok-write_turn-clause-few : goal.returns-in-Ok-write_turn-clause-few
@@ -127,7 +120,7 @@ returns-in-Ok-write_turn-2-clause-speaks g c = λ files ts ends mid h go ga.
     (c.scripts_make_links.ensures.ends script files c.requires.limits) o.run.run b in
     let text = text-is c.turn_lines-lines-in-Err.result c.args.self.now.turn ts ends mid c.args.heard c.args.given.now
     (record { orig = None; answ = None }) none-sent
-    c.turn_lines-lines-in-Err.ensures o.orig_well o.answ_well h.stands.turn go ga refl refl in
+    c.turn_lines-lines-in-Err.ensures (o.well Originator) (o.well Answerer) h.stands.turn go ga refl refl in
     rw c.link_fault.ensures (ends-so script f new n files ts ends c.args.heard mid c.args.self.now.turn role fault h.stands.turn named o b
     (subst (Appended f new n.trace) text c.in-Ok-write_turn-2.ensures.ok))
 
@@ -163,7 +156,7 @@ returns-in-Err-write_turn-2-clause-speaks g c = λ files ts ends mid h go ga.
     (c.in-Err.ensures.speaks files (served script files (length ts) mid) h.stands.link) in
     let text = text-is c.turn_lines-lines-in-Err.result c.args.self.now.turn ts ends mid c.args.heard c.args.given.now
     (record { orig = None; answ = None }) none-sent
-    c.turn_lines-lines-in-Err.ensures o.orig_well o.answ_well h.stands.turn go ga refl refl in
+    c.turn_lines-lines-in-Err.ensures (o.well Originator) (o.well Answerer) h.stands.turn go ga refl refl in
     stops-so script f new n files ts ends mid c.in-Err-write_turn-2.fault c.in-Err-write_turn-2.ensures.write
     (adds-part script f new n files ts ends c.args.heard mid none-sent (Broken role fault) o b
     (subst (PartlyAppended f new n.trace) text c.in-Err-write_turn-2.ensures.err))

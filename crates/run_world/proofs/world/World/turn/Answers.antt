@@ -5,8 +5,11 @@ use Rattle.link_run.specs.End.{is_closed}
 use Rattle.outside_calls.proofs.Putting.{OnlyPuts-trans, OnlyPuts-reads, KeepsEach-refl, KeepsEach-reads, AddEach-kept}
 use Rattle.run_world.specs.Names.{outputs_of, written}
 use Rattle.run_world.specs.Link.{AreCounted, octets_of}
-use Rattle.run_world.specs.declared.lines.LineEnd.{LineEnd}
-use Rattle.run_world.specs.Mid.{IsLineEnd, handed}
+use Rattle.shared_line.specs.declared.lines.LineEnd.{LineEnd}
+use Rattle.line_run.specs.Sampled.{EndsLine}
+use Rattle.line_run.specs.Scripted.{channel_of}
+use Rattle.shared_line.specs.Lines.{end_of}
+use Rattle.run_world.specs.Mid.{handed}
 use Rattle.run_world.specs.Turn.{EndsBy, GoesOnBy}
 use Rattle.run_world.proofs.Serving.{phase-delivered, none-after, none-faulty}
 use Rattle.run_world.proofs.Folders.{lines-only, counts-later, stay-known, others-known}
@@ -17,7 +20,7 @@ use Rattle.run_world.proofs.world.World.turn.Goals as goal
 
 pub returns-in-Err-Lost-clause-turn : goal.returns-in-Err-Lost-clause-turn
 returns-in-Err-Lost-clause-turn g c = λ files ts ends h within. record {
-  is = subst (λ (e : LineEnd). IsLineEnd c.hear.new.self.script ts ends e) c.in-Err-Lost.field-0-is
+  is = subst (λ (e : LineEnd). EndsLine (channel_of c.hear.new.self.script) ts ends (end_of e)) c.in-Err-Lost.field-0-is
       (c.in-Err-Lost.ensures.hears files ts ends h);
   kept = KeepsEach-refl (g.F.Folder.state c.args.folder.now) (outputs_of (written c.args.names.now));
 }
@@ -25,7 +28,7 @@ returns-in-Err-Lost-clause-turn g c = λ files ts ends h within. record {
 pub returns-in-Err-Chance-clause-turn : goal.returns-in-Err-Chance-clause-turn
 returns-in-Err-Chance-clause-turn g c = λ files ts ends h within.
     c.meet_chance.ensures.meets ts ends (c.hear.ensures.turn ∙ h.turn)
-    (subst (λ (e : LineEnd). IsLineEnd c.hear.new.self.script ts ends e) c.in-Err-Chance.field-0-is
+    (subst (λ (e : LineEnd). EndsLine (channel_of c.hear.new.self.script) ts ends (end_of e)) c.in-Err-Chance.field-0-is
     (c.in-Err-Chance.ensures.hears files ts ends h)) files
 
 pub returns-in-Err-clause-turn : goal.returns-in-Err-clause-turn

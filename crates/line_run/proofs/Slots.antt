@@ -6,7 +6,7 @@ use Rattle.roles.specs.Both.{of}
 use Rattle.lapm_frames.specs.Sendable.{IsSendable}
 use Rattle.link_run.specs.Run.{Spoken, Turn}
 use Rattle.link_run.specs.Carried.{sent_in, sent_ago}
-use Rattle.line_ends.specs.Completes.{AllSendable}
+use Rattle.line_run.specs.Stream.{AllSendable}
 
 -- it was sent in this turn, behind those
 pub record SentIn (role : Role) (n : ℕ) (ts : List Turn) (slot : Spoken) : Type 0 where
