@@ -11,6 +11,7 @@ use Rattle.command_base.specs.declared.status.Status.TheVariants.{Usage}
 use Rattle.command_base.specs.Job.{Answers as AnswersOf, Shared}
 use Rattle.outside_calls.specs.Outputs.{KeepsAll}
 use Rattle.command_base.specs.Tells.{Tells}
+use Rattle.command_base.specs.Apart.{are_apart}
 use Rattle.run_inputs.specs.Words.{RunNames, names_of as run_names}
 use Rattle.run_command.specs.Ends.{run_job}
 use Rattle.run_command.specs.Headline.{Headline as RunHeadline}
@@ -116,13 +117,13 @@ pub run-asked : (words : List (List ℕ)) (n : RunNames) → run_names words ≡
 run-asked words n e = subst (λ (word : List ℕ). asked_by word words ≡ Run n) (sym (run-first words n e)) (ap (of Run) e)
 
 -- of two commands one is named, where there are names
-either : {A : Type 0} (made : Option Rate → Option A) (a : A) (same here there : Bool) → made None ≡ None
-    → (if same then None else made (if here then Some Trellis else if there then Some Quarters else None)) ≡ Some a
+either : {A : Type 0} (made : Option Rate → Option A) (a : A) (apart here there : Bool) → made None ≡ None
+    → (if apart then made (if here then Some Trellis else if there then Some Quarters else None) else None) ≡ Some a
     → (here ≡ true) ⊎ (there ≡ true)
-either made a true here there none e = absurd cc
-either made a false true there none e = inl refl
-either made a false false true none e = inr refl
-either made a false false false none e = (let never : ⊥ = cc (sym none ∙ e) in absurd never)
+either made a false here there none e = absurd cc
+either made a true true there none e = inl refl
+either made a true false true none e = inr refl
+either made a true false false none e = (let never : ⊥ = cc (sym none ∙ e) in absurd never)
 
 encode-first : (words : List (List ℕ)) (n : EncodeNames) → encode_names words ≡ Some n → (first words ≡ codes "encode")
     ⊎ (first words ≡ codes "encode4")
@@ -131,7 +132,8 @@ encode-first (a ∷ []) n e = absurd cc
 encode-first (a ∷ b ∷ []) n e = absurd cc
 encode-first (a ∷ b ∷ d ∷ []) n e = absurd cc
 encode-first (a ∷ b ∷ d ∷ f ∷ []) n e =
-    elim (either (λ (rate : Option Rate). names_with d f rate (mode_named b)) n (bytes_eq f d) (bytes_eq a (codes "encode"))
+    elim (either (λ (rate : Option Rate). names_with d f rate (mode_named b)) n (are_apart (d ∷ []) (f ∷ []))
+    (bytes_eq a (codes "encode"))
     (bytes_eq a (codes "encode4")) refl e) [
       | inl here ↦ inl (is-word a (codes "encode") here)
       | inr there ↦ inr (is-word a (codes "encode4") there)
@@ -150,7 +152,8 @@ decode-first [] n e = absurd cc
 decode-first (a ∷ []) n e = absurd cc
 decode-first (a ∷ b ∷ []) n e = absurd cc
 decode-first (a ∷ b ∷ d ∷ []) n e =
-    elim (either (option_map (λ r. record { rate = r; rec = b; file = d })) n (bytes_eq d b) (bytes_eq a (codes "decode"))
+    elim (either (option_map (λ r. record { rate = r; rec = b; file = d })) n (are_apart (b ∷ []) (d ∷ []))
+    (bytes_eq a (codes "decode"))
     (bytes_eq a (codes "decode4")) refl e) [
       | inl here ↦ inl (is-word a (codes "decode") here)
       | inr there ↦ inr (is-word a (codes "decode4") there)

@@ -5,7 +5,6 @@
 //! [`open_script`], and looks at its files by [`check_lengths`].
 #![tactic(auto)]
 
-mod apart;
 mod inputs;
 pub mod laws;
 mod lengths;
@@ -13,7 +12,6 @@ mod limits;
 mod script;
 mod words;
 
-pub use apart::are_apart;
 pub use inputs::open_inputs;
 pub use lengths::check_lengths;
 pub use limits::{LIMITS, Limits};
