@@ -18,7 +18,8 @@ fn open_by(
     words: &[String],
 ) -> Result<Result<Script, Stop>, Fail> {
     let names = run_words(words).ok_or("no words of a run")?;
-    Ok(open_inputs(alloc, folder, &names, LIMITS))
+    let files = [names.orig, names.answ];
+    Ok(open_inputs(alloc, folder, (names.script, 3), &files, 1, LIMITS))
 }
 
 /// Opens the inputs of a run over the folder.

@@ -18,7 +18,7 @@ use Rattle.command_base.specs.Inputs.{IsWithin, IsLonger}
 use Rattle.command_base.specs.Job.{Answers}
 use Rattle.command_base.proofs.Jobs.{done-unless-memory}
 use Rattle.run_inputs.specs.declared.limits.TheConstants.{LIMITS}
-use Rattle.run_inputs.specs.Words.{RunNames}
+use Rattle.run_inputs.specs.Words.{RunNames, files_of}
 use Rattle.run_inputs.specs.Inputs.{RefusesOwn}
 use Rattle.run_command.specs.Ends.{RanTo, RanBy, EndsBy, run_job}
 use Rattle.line_ends.specs.Carried.{IsCarried}
@@ -32,7 +32,7 @@ file-fits count within longer = omega (arith, within, longer)
 
 -- right inputs are not refused
 never-refused : NoFaultInScripts → (old : FolderState) (n : RunNames) (script : ScriptValue) (answer : Status) → AreRight old n script
-    → RefusesOwn LIMITS old n answer → ⊥
+    → RefusesOwn LIMITS old n.script 3 (files_of n) 1 answer → ⊥
 never-refused law old n script (TooLong word) r (inl s) =
     script-fits (length (octets_at old n.script)) r.script_short (s.longer r.script_told)
 never-refused law old n script (TooLong word) r (inr f) = by f.first

@@ -24,6 +24,12 @@ use run_inputs::{LIMITS, RunWords, open_inputs};
 use run_world::{Names, RunFault, World, run_turns};
 use std::alloc::Global;
 
+/// The place of the first file's name among the words.
+const ORIG: usize = 1;
+
+/// The place of the script's name.
+const SCRIPT: usize = 3;
+
 /// The names that turns use.
 fn names_of<'a>(words: &RunWords<'a>) -> Names<'a>
     ensures { written result ≡ names_written (named words.now) }
@@ -93,7 +99,8 @@ fn run_to_end<F: Folder>(alloc: Global, folder: &mut F, words: &RunWords<'_>) ->
     ensures said { SaysNothing (F.state folder.old) (F.state folder.new) }
     ensures counts { EndCounts (F.state folder.old) (F.state folder.new) (inputs_of (named words.now)) (outputs_of (named words.now)) result }
 {
-    let script = match open_inputs(alloc, folder, words, LIMITS) {
+    let files = [words.orig, words.answ];
+    let script = match open_inputs(alloc, folder, (words.script, SCRIPT), &files, ORIG, LIMITS) {
         Ok(script) => script,
         Err(stop) => return Err(stop),
     };
