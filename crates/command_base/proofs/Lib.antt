@@ -1,3 +1,4 @@
+pub mod Differing
 pub mod Saying
 pub mod Reading
 pub mod Answering

@@ -1,4 +1,5 @@
 pub mod Status
+pub mod Apart
 pub mod Inputs
 pub mod Lines
 pub mod Tells

@@ -1,5 +1,7 @@
-// The limits as numbers.
-ghost use Rattle.std.specs.Prelude.{◌≡◌};
+// The limits as numbers, and what names are that are apart.
+ghost use Rattle.std.specs.Prelude.{◌≡◌, ℕ, List, true};
+ghost use Rattle.outside_calls.specs.Outputs.{AreApart, AreNoneOf};
+ghost use Rattle.command_base.specs.Apart.{are_apart};
 ghost use Rattle.command_base.specs.declared.limits.TheConstants.{RUN_FILE_LIMIT, FILE_LIMIT, RECORDING_LIMIT, HEX_LIMIT};
 
 /// How many octets each input may have: a file that `run` sends 16,777,216, other files 1,048,576, a recording 8,388,616, hexadecimal
@@ -9,4 +11,10 @@ pub fn limits_in_octets()
     ensures file { FILE_LIMIT ≡ 1048576 }
     ensures recording { RECORDING_LIMIT ≡ 8388616 }
     ensures hex { HEX_LIMIT ≡ 512 }
+{}
+
+/// Of names that are apart no two outputs are one, and none is an input.
+pub fn apart_names_differ()
+    ensures outputs { (inputs outputs : List (List ℕ)) → are_apart inputs outputs ≡ true → AreApart outputs }
+    ensures inputs { (inputs outputs : List (List ℕ)) → are_apart inputs outputs ≡ true → AreNoneOf outputs inputs }
 {}

@@ -3,6 +3,7 @@
 //! values and of the folder that are handed in.
 #![tactic(auto)]
 
+mod apart;
 mod input;
 mod laws;
 mod limits;
@@ -12,9 +13,10 @@ mod status;
 mod stop;
 mod telling;
 
+pub use apart::are_apart;
 pub use causes::{Cause, LinkFault};
 pub use input::{read_file, read_piece, within_limit};
-pub use laws::limits_in_octets;
+pub use laws::{apart_names_differ, limits_in_octets};
 pub use limits::{FILE_LIMIT, HEX_LIMIT, RECORDING_LIMIT, RUN_FILE_LIMIT};
 pub use lines::{
     LINE, Line, write_count, write_done, write_margin, write_octets, write_pieces, write_samples,

@@ -1,12 +1,12 @@
 // The inputs of a run, taken in order from a folder in memory.
 use super::asking::{folder_with, put, words_of};
 use causes::Cause;
-use command_base::{Status, Stop};
+use command_base::{Status, Stop, are_apart};
 use noise_script::Script;
 use outside_calls::FolderFault;
 use outside_core::MemoryFolder;
 use roles::Role;
-use run_inputs::{LIMITS, are_apart, open_inputs, run_words};
+use run_inputs::{LIMITS, open_inputs, run_words};
 use std::alloc::Global;
 use std::process::Abort;
 use std::test::Fail;
@@ -18,7 +18,8 @@ fn open_by(
     words: &[String],
 ) -> Result<Result<Script, Stop>, Fail> {
     let names = run_words(words).ok_or("no words of a run")?;
-    Ok(open_inputs(alloc, folder, &names, LIMITS))
+    let files = [names.orig, names.answ];
+    Ok(open_inputs(alloc, folder, (names.script, 3), &files, 1, LIMITS))
 }
 
 /// Opens the inputs of a run over the folder.

@@ -1,5 +1,5 @@
 -- When nothing but want of memory keeps the command from being done.
-use Rattle.std.specs.Prelude.{◌≡◌, ℕ, ◌%◌, ◌≤◌, IsTrue, List, [], ◌∷◌, ◌++◌, length, None}
+use Rattle.std.specs.Prelude.{◌≡◌, ℕ, ◌%◌, ◌≤◌, IsTrue, List, ◌++◌, length, None}
 use Rattle.scramblers.specs.declared.mode.Mode.{Mode}
 use Rattle.outside_calls.specs.Folder.{FolderState, octets_at}
 use Rattle.survivors.specs.Survivors.{LostIs}
@@ -10,7 +10,7 @@ use Rattle.recordings.specs.Recording.{header_at}
 use Rattle.recordings.specs.Samples.{samples_in}
 use Rattle.command_base.specs.declared.status.Status.{Status}
 use Rattle.command_base.specs.Sound.{IsSound, DoneUnlessMemory}
-use Rattle.decode_command.specs.Words.{DecodeNames}
+use Rattle.decode_command.specs.Words.{DecodeNames, inputs_of, outputs_of}
 use Rattle.decode_command.specs.Rates.{trellis_at}
 
 -- A recording at this rate of at most 8,388,616 octets: a header, and whole samples, with which a line of the trellis code isn't lost.
@@ -25,4 +25,4 @@ pub record IsRecording (rate : Rate) (octets : List ℕ) : Type 0 where
 -- the name is told and holds such a recording, and the folder is sound
 abbrev pub Completes : FolderState → FolderState → DecodeNames → Status → Type 0
 Completes old new n s =
-    IsSound old new (n.rec ∷ []) (n.file ∷ []) → IsTrue (old.tells n.rec) → IsRecording n.rate (octets_at old n.rec) → DoneUnlessMemory s
+    IsSound old new (inputs_of n) (outputs_of n) → IsTrue (old.tells n.rec) → IsRecording n.rate (octets_at old n.rec) → DoneUnlessMemory s

@@ -7,7 +7,8 @@ ghost use Rattle.recordings.specs.declared.rate.Rate.{Rate};
 ghost use Rattle.command_base.specs.declared.limits.TheConstants.{RECORDING_LIMIT};
 ghost use Rattle.outside_calls.specs.Outputs.{OnlyOutput};
 ghost use Rattle.command_base.specs.Stops.{EndCounts};
-ghost use Rattle.decode_command.specs.Words.{named, are_apart};
+ghost use Rattle.command_base.specs.Apart.{are_apart};
+ghost use Rattle.decode_command.specs.Words.{named, inputs_of, outputs_of};
 ghost use Rattle.decode_command.specs.Playing.{decoding_of, Hears, IsReady};
 ghost use Rattle.decode_command.specs.Played.{PlayedTo, PlaysPiece};
 ghost use Rattle.decode_command.specs.Ends.{EndsBy, Ends};
@@ -63,7 +64,7 @@ pub(crate) fn play_next<F: Folder>(
     octets: &mut Octets<ROOM>,
     at: u64,
 ) -> Result<Step, Stop>
-    requires apart { are_apart (named names.now) ≡ true }
+    requires apart { are_apart (inputs_of (named names.now)) (outputs_of (named names.now)) ≡ true }
     requires size { length piece.old ≡ PIECE }
     requires within { at ≤ RECORDING_LIMIT }
     requires ready { IsReady playback.old.reader at }
@@ -112,7 +113,7 @@ pub(crate) fn play_to_end<F: Folder>(
     mode: Mode,
     playback: &mut Playback,
 ) -> Result<u64, Stop>
-    requires apart { are_apart (named names.now) ≡ true }
+    requires apart { are_apart (inputs_of (named names.now)) (outputs_of (named names.now)) ≡ true }
     requires ready { IsReady playback.old.reader 0 }
     ensures ok { (start : FolderState) → PlayedTo start (F.state folder.old) (named names.now) mode playback.old HEADER 0
         → IfOk result (λ written. (at : ℕ) × PlayedTo start (F.state folder.new) (named names.now) mode playback.new at written × IsAtEnd start names.now.rec.now at) }
@@ -146,7 +147,7 @@ pub(crate) fn write_rest<F: Folder>(
     playback: Playback,
     written: u64,
 ) -> Result<u64, Stop>
-    requires apart { are_apart (named names.now) ≡ true }
+    requires apart { are_apart (inputs_of (named names.now)) (outputs_of (named names.now)) ≡ true }
     requires taken { (decoding_of playback.reader).pending ≡ [] }
     requires not_lost { (decoding_of playback.reader).lost ≡ None }
     requires room { written ≤ 2 ^ 60 }

@@ -21,13 +21,15 @@ use Rattle.outside_calls.specs.Outputs.{Holds, HoldsFront, KeptOrEmpty}
 use Rattle.outside_calls.proofs.Holding.{Holds-kept, Holds-more, HoldsFront-all, HoldsFront-more, HoldsFront-longer}
 use Rattle.outside_calls.proofs.OnlyOutputs.{OnlyOutput-reads, OnlyOutput-writes, OnlyOutput-trans}
 use Rattle.command_base.proofs.Reading.{ReadTo-kept, ReadTo-begins}
-use Rattle.encode_command.specs.Words.{EncodeNames, are_apart}
+use Rattle.command_base.specs.Apart.{are_apart}
+use Rattle.command_base.proofs.Differing.{none-of-inputs}
+use Rattle.encode_command.specs.Words.{EncodeNames, inputs_of, outputs_of}
 use Rattle.encode_command.specs.Ends.{WritesAll, WritesPart, WritesFront, LeavesPart, EndsBy}
 use Rattle.encode_command.specs.Recorded.{Begun, RecordedTo}
 use Rattle.encode_command.proofs.Longer.{goes_on}
 
-file-apart : (n : EncodeNames) → are_apart n ≡ true → n.file ≢ n.rec
-file-apart n e = search rules
+file-apart : (n : EncodeNames) → are_apart (inputs_of n) (outputs_of n) ≡ true → n.file ≢ n.rec
+file-apart n e same = (none-of-inputs (inputs_of n) (outputs_of n) e).0.0 (sym same)
 
 -- what a recorder made stands behind the header
 recorded-as : (rate : Rate) (mode : Mode) (kept : Recorder) (octets recorded : List ℕ) → RecorderStands rate mode kept octets recorded
@@ -146,7 +148,7 @@ create-part old mid new n within reads (inr empty) =
 
 -- a piece more is recorded
 pub recorded-more : (start old mid new : FolderState) (n : EncodeNames) (kept next : Recorder) (at count : ℕ) (piece made : List ℕ)
-    (r : RecordedTo start old n kept at) → are_apart n ≡ true →
+    (r : RecordedTo start old n kept at) → are_apart (inputs_of n) (outputs_of n) ≡ true →
     ReadTo start mid n.file FILE_LIMIT (at + count) (r.octets ++ piece)
     → RecorderStands n.rate n.mode next (r.octets ++ piece) (r.recorded ++ made) →
     OnlyReads old mid → OnlyWrites mid new n.rec → Appended mid new n.rec made → RecordedTo start new n next (at + count)

@@ -1,6 +1,6 @@
 -- How the making of a recording ends, before its line is said. What is said of a name's octets holds where the folder
 -- tells that name.
-use Rattle.std.specs.Prelude.{◌≡◌, ◌⊎◌, ℕ, IsTrue, List, [], ◌∷◌, Result, Ok, Err}
+use Rattle.std.specs.Prelude.{◌≡◌, ◌⊎◌, ℕ, IsTrue, List, Result, Ok, Err}
 use Rattle.plain_lists.specs.Prefix.{IsPrefixOf}
 use Rattle.outside_calls.specs.Folder.{FolderState, octets_at, KeepsName}
 use Rattle.recordings.specs.Recording.{IsRecordingOf}
@@ -12,7 +12,7 @@ use Rattle.command_base.specs.Lines.{samples_line}
 use Rattle.command_base.specs.declared.status.Status.TheVariants.{TooLong}
 use Rattle.command_base.specs.declared.stop.Stop.{Stop}
 use Rattle.command_base.specs.declared.stop.Stop.TheVariants.{Own, Read, Write, Say, NoMemory}
-use Rattle.encode_command.specs.Words.{EncodeNames}
+use Rattle.encode_command.specs.Words.{EncodeNames, inputs_of, outputs_of}
 
 -- The file is within its limit, and this is its recording.
 pub record RecordsFile (old : FolderState) (n : EncodeNames) (recording : List ℕ) (samples : ℕ) : Type 0 where
@@ -64,8 +64,8 @@ Ends old new n (Err stop) = EndsBy old new n stop
 -- The job of the command: done, its line says the number of samples.
 abbrev pub encode_job : EncodeNames → Job ℕ
 encode_job n = record {
-  inputs = n.file ∷ [];
-  outputs = n.rec ∷ [];
+  inputs = inputs_of n;
+  outputs = outputs_of n;
   Ends = λ old new end. Ends old new n end × SaysNothing old new;
   line_of = samples_line;
 }

@@ -1,6 +1,6 @@
 -- What the command promises, over the folder before and after it. What is said of a name's octets holds where the
 -- folder tells that name.
-use Rattle.std.specs.Prelude.{◌≡◌, ◌⊎◌, ℕ, IsTrue, List, [], ◌∷◌}
+use Rattle.std.specs.Prelude.{◌≡◌, ◌⊎◌, ℕ, IsTrue, List}
 use Rattle.outside_calls.specs.Folder.{FolderState, octets_at, KeepsName, Said}
 use Rattle.recordings.specs.Recording.{IsRecordingOf}
 use Rattle.command_base.specs.declared.status.Status.{Status}
@@ -8,7 +8,7 @@ use Rattle.command_base.specs.declared.status.Status.TheVariants.{Done}
 use Rattle.command_base.specs.Job.{Shared}
 use Rattle.command_base.specs.Lines.{samples_line}
 use Rattle.outside_calls.specs.Outputs.{Holds, HoldsFront}
-use Rattle.encode_command.specs.Words.{EncodeNames}
+use Rattle.encode_command.specs.Words.{EncodeNames, inputs_of, outputs_of}
 
 -- the file's octets have a recording, and the output holds the beginning of it
 abbrev pub HoldsBeginning : FolderState → FolderState → EncodeNames → Type 0
@@ -24,6 +24,6 @@ HoldsWhole old new n = (samples : ℕ) × Said old new (samples_line samples)
 
 -- The output becomes the file's recording, or the beginning of it where the command ends by a fault.
 pub record Headline (old new : FolderState) (n : EncodeNames) (s : Status) : Type 0 where
-  pub shared : Shared (n.file ∷ []) (n.rec ∷ []) old new s
+  pub shared : Shared (inputs_of n) (outputs_of n) old new s
   pub rec : KeepsName old new n.rec ⊎ HoldsBeginning old new n
   pub whole : s ≡ Done → HoldsWhole old new n

@@ -1,11 +1,12 @@
 -- The words of a command line, as octets.
-use Rattle.std.specs.Prelude.{ℕ, Bool, not, ◌&&◌, List, [], ◌∷◌, Option, Some, None, if◌then◌else◌, codes}
+use Rattle.std.specs.Prelude.{ℕ, List, [], ◌∷◌, Option, Some, None, if◌then◌else◌, codes}
 use Rattle.std.specs.Option.{option_map}
 use Rattle.std.specs.Str.{bytes_eq}
 use Rattle.scramblers.specs.declared.mode.Mode.{Mode}
 use Rattle.scramblers.specs.declared.mode.Mode.TheVariants.{Call, Answer}
 use Rattle.recordings.specs.declared.rate.Rate.{Rate}
 use Rattle.recordings.specs.declared.rate.Rate.TheVariants.{Trellis, Quarters}
+use Rattle.command_base.specs.Apart.{are_apart}
 use Rattle.encode_command.specs.declared.words.EncodeWords.{EncodeWords}
 
 -- the rate, the mode and the names of a recording that is to be made
@@ -29,9 +30,12 @@ mode_named word =
     else if bytes_eq word (codes "answer") then Some Answer
     else None
 
--- the output has not the input's name
-abbrev pub are_apart : EncodeNames → Bool
-are_apart n = not (bytes_eq n.rec n.file)
+-- the name that is read, and the one that is written
+abbrev pub inputs_of : EncodeNames → List (List ℕ)
+inputs_of n = n.file ∷ []
+
+abbrev pub outputs_of : EncodeNames → List (List ℕ)
+outputs_of n = n.rec ∷ []
 
 -- where there are both, a rate and a mode with these names
 abbrev pub names_with : List ℕ → List ℕ → Option Rate → Option Mode → Option EncodeNames
@@ -40,7 +44,8 @@ names_with file rec (Some rate) mode = option_map (λ m. record { rate = rate; m
 
 -- the words `encode MODE FILE REC` and `encode4 MODE FILE REC`, and no others
 abbrev pub names_of : List (List ℕ) → Option EncodeNames
-names_of (command ∷ mode ∷ file ∷ rec ∷ []) = if bytes_eq rec file then None else names_with file rec (rate_named command) (mode_named mode)
+names_of (command ∷ mode ∷ file ∷ rec ∷ []) =
+    if are_apart (file ∷ []) (rec ∷ []) then names_with file rec (rate_named command) (mode_named mode) else None
 names_of words = None
 
 abbrev pub named : EncodeWords → EncodeNames

@@ -1,7 +1,8 @@
 // The command: the recording is made, and its line is said.
 ghost use Rattle.std.specs.Prelude.{◌≡◌, true, map, string_bytes};
 ghost use Rattle.command_base.specs.Job.{Answers};
-ghost use Rattle.encode_command.specs.Words.{named, are_apart};
+ghost use Rattle.command_base.specs.Apart.{are_apart};
+ghost use Rattle.encode_command.specs.Words.{named, inputs_of, outputs_of};
 ghost use Rattle.encode_command.specs.Completes.{Completes};
 ghost use Rattle.encode_command.specs.Ends.{encode_job};
 ghost use Rattle.encode_command.specs.Headline.{Headline};
@@ -13,7 +14,7 @@ use outside_calls::Folder;
 
 /// Makes the recording, and says how it ended.
 fn encode_and_tell<F: Folder>(folder: &mut F, words: &[String], names: &EncodeWords<'_>) -> Status
-    requires { are_apart (named names.now) ≡ true }
+    requires { are_apart (inputs_of (named names.now)) (outputs_of (named names.now)) ≡ true }
     ensures { Answers (encode_job (named names.now)) (map string_bytes words.now) (F.state folder.old) (F.state folder.new) result }
 {
     match make_recording(folder, names) {
@@ -24,7 +25,7 @@ fn encode_and_tell<F: Folder>(folder: &mut F, words: &[String], names: &EncodeWo
 
 /// Does what the words of a recording say, and answers how it ended. The line of the answer is said last.
 pub fn encode<F: Folder>(folder: &mut F, words: &[String], names: &EncodeWords<'_>) -> Status
-    requires { are_apart (named names.now) ≡ true }
+    requires { are_apart (inputs_of (named names.now)) (outputs_of (named names.now)) ≡ true }
 
     // The output becomes the file's recording, or the beginning of it where the command ends by a fault.
     ensures headline { Headline (F.state folder.old) (F.state folder.new) (named names.now) result }

@@ -7,7 +7,8 @@ ghost use Rattle.recordings.specs.Recording.{samples_each, RecorderStands};
 ghost use Rattle.command_base.specs.declared.limits.TheConstants.{FILE_LIMIT};
 ghost use Rattle.outside_calls.specs.Outputs.{OnlyOutput};
 ghost use Rattle.command_base.specs.Stops.{EndCounts};
-ghost use Rattle.encode_command.specs.Words.{named, are_apart};
+ghost use Rattle.command_base.specs.Apart.{are_apart};
+ghost use Rattle.encode_command.specs.Words.{named, inputs_of, outputs_of};
 ghost use Rattle.encode_command.specs.Ends.{WritesAll, EndsBy, Ends};
 ghost use Rattle.encode_command.specs.Recorded.{Begun, RecordedTo};
 
@@ -46,7 +47,7 @@ fn record_next<F: Folder>(
     recorder: &mut Recorder,
     at: u64,
 ) -> Result<usize, Stop>
-    requires apart { are_apart (named names.now) ≡ true }
+    requires apart { are_apart (inputs_of (named names.now)) (outputs_of (named names.now)) ≡ true }
     requires within { at ≤ FILE_LIMIT }
     ensures ok { (start : FolderState) → RecordedTo start (F.state folder.old) (named names.now) recorder.old at
         → IfOk result (λ count. RecordedTo start (F.state folder.new) (named names.now) recorder.new (at + count)) }
@@ -73,7 +74,7 @@ fn record_next<F: Folder>(
 
 /// Records the whole file behind the header: the number of samples.
 fn record_file<F: Folder>(folder: &mut F, names: &EncodeWords<'_>) -> Result<u64, Stop>
-    requires apart { are_apart (named names.now) ≡ true }
+    requires apart { are_apart (inputs_of (named names.now)) (outputs_of (named names.now)) ≡ true }
     ensures ends { (start : FolderState) → Begun start (F.state folder.old) (named names.now)
         → Ends start (F.state folder.new) (named names.now) result }
     ensures only { OnlyOutput (F.state folder.old) (F.state folder.new) names.now.rec.now }
@@ -103,7 +104,7 @@ pub(crate) fn make_recording<F: Folder>(
     folder: &mut F,
     names: &EncodeWords<'_>,
 ) -> Result<u64, Stop>
-    requires { are_apart (named names.now) ≡ true }
+    requires { are_apart (inputs_of (named names.now)) (outputs_of (named names.now)) ≡ true }
     ensures ends { Ends (F.state folder.old) (F.state folder.new) (named names.now) result }
     ensures only { OnlyOutput (F.state folder.old) (F.state folder.new) names.now.rec.now }
     ensures counts { EndCounts (F.state folder.old) (F.state folder.new) (names.now.file.now ∷ []) (names.now.rec.now ∷ []) result }

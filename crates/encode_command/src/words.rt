@@ -1,8 +1,10 @@
 // The words of the command.
 ghost use Rattle.std.specs.Prelude.{◌≡◌, true, IfSome, string_bytes, map};
 ghost use Rattle.std.specs.Option.{option_map};
-ghost use Rattle.encode_command.specs.Words.{rate_named, mode_named, names_of, named, are_apart};
+ghost use Rattle.command_base.specs.Apart.{are_apart};
+ghost use Rattle.encode_command.specs.Words.{rate_named, mode_named, names_of, named, inputs_of, outputs_of};
 
+use command_base::are_apart;
 use recordings::Rate;
 use scramblers::Mode;
 
@@ -48,12 +50,12 @@ fn mode_of(word: &str) -> Option<Mode>
 /// The words of `encode` or `encode4`, where these are such words.
 pub fn encode_words(words: &[String]) -> Option<EncodeWords<'_>>
     ensures names { option_map named result ≡ names_of (map string_bytes words.now) }
-    ensures apart { IfSome result (λ names. are_apart (named names) ≡ true) }
+    ensures apart { IfSome result (λ names. are_apart (inputs_of (named names)) (outputs_of (named names)) ≡ true) }
 {
     let [command, mode, file, rec] = words else {
         return None;
     };
-    if rec.as_str() == file.as_str() {
+    if !are_apart(&[file.as_str()], &[rec.as_str()]) {
         return None;
     }
     match (rate_of(command.as_str()), mode_of(mode.as_str())) {

@@ -4,7 +4,7 @@ use Rattle.std.specs.Option.{option_map}
 use Rattle.std.specs.Str.{bytes_eq}
 use Rattle.roles.specs.declared.role.Role.{Role}
 use Rattle.roles.specs.Role.{role_named}
-use Rattle.run_inputs.specs.Words.{are_apart}
+use Rattle.command_base.specs.Apart.{are_apart}
 use Rattle.single_end.specs.Single.{PeerNames}
 use Rattle.peer_command.specs.declared.words.PeerWords.{PeerWords}
 

@@ -5,7 +5,7 @@ ghost use Rattle.outside_calls.specs.Folder.{FolderState};
 ghost use Rattle.command_base.specs.Job.{Answers};
 ghost use Rattle.outside_calls.specs.Outputs.{OnlyOutputs, SaysNothing};
 ghost use Rattle.command_base.specs.Stops.{EndCounts};
-ghost use Rattle.run_inputs.specs.Words.{are_apart};
+ghost use Rattle.command_base.specs.Apart.{are_apart};
 ghost use Rattle.link_account.specs.Account.{fresh};
 ghost use Rattle.single_end.specs.Peer.{setup_of};
 ghost use Rattle.single_end.specs.Single.{IsReady, SingleAfter, role_of, turn_of};
@@ -19,10 +19,10 @@ use crate::laws::one_result;
 use crate::turns::run_turns;
 use crate::words::PeerWords;
 use command_base::{
-    FILE_LIMIT, Status, Stop, create_outputs, tell, tell_stop, within_limit, write_done,
+    FILE_LIMIT, Status, Stop, apart_names_differ, create_outputs, tell, tell_stop, within_limit,
+    write_done,
 };
 use outside_calls::Folder;
-use run_inputs::laws::apart_names_differ;
 use single_end::Single;
 use std::alloc::Global;
 

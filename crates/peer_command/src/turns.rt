@@ -4,7 +4,7 @@ ghost use Rattle.outside_calls.specs.Folder.{FolderState};
 ghost use Rattle.command_base.specs.declared.limits.TheConstants.{FILE_LIMIT};
 ghost use Rattle.outside_calls.specs.Outputs.{OnlyOutputs, SaysNothing};
 ghost use Rattle.command_base.specs.Stops.{EndCounts};
-ghost use Rattle.run_inputs.specs.Words.{are_apart};
+ghost use Rattle.command_base.specs.Apart.{are_apart};
 ghost use Rattle.single_end.specs.Heard.{slot_octets};
 ghost use Rattle.single_end.specs.Single.{IsReady, turn_of};
 ghost use Rattle.peer_command.specs.Words.{named, inputs_of, outputs_of};
@@ -13,11 +13,10 @@ ghost use Rattle.peer_command.specs.Runs.{IsDone};
 ghost use Rattle.peer_command.specs.Turns.{Reached, fault_stop};
 
 use crate::words::PeerWords;
-use command_base::{FILE_LIMIT, LinkFault, Status, Stop, read_piece};
+use command_base::{FILE_LIMIT, LinkFault, Status, Stop, apart_names_differ, read_piece};
 use link_run::laws::lone_turns_deliver_what_came;
 use outside_calls::{Folder, FolderFault};
 use roles::Role;
-use run_inputs::laws::apart_names_differ;
 use single_end::{SLOT_OCTETS, Single, SingleFault, SingleStep};
 
 /// The answer of an end that gives its link up in this turn.

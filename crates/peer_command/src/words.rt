@@ -1,11 +1,11 @@
 // The words of the command.
 ghost use Rattle.std.specs.Prelude.{◌≡◌, true, IfSome, string_bytes, map};
 ghost use Rattle.std.specs.Option.{option_map};
-ghost use Rattle.run_inputs.specs.Words.{are_apart};
+ghost use Rattle.command_base.specs.Apart.{are_apart};
 ghost use Rattle.peer_command.specs.Words.{names_of, named, inputs_of, outputs_of};
 
+use command_base::are_apart;
 use roles::Role;
-use run_inputs::are_apart;
 
 /// An end that is to meet a peer.
 #[derive(Clone, Copy)]

@@ -26,7 +26,7 @@ use Rattle.outside_calls.specs.Outputs.{OnlyOutputs, KeepsEach}
 use Rattle.outside_calls.specs.Outputs.{HoldEach}
 use Rattle.outside_calls.proofs.Putting.{HoldEach-kept}
 use Rattle.run_inputs.specs.declared.limits.TheConstants.{LIMITS}
-use Rattle.run_inputs.specs.Words.{RunNames, outputs_of}
+use Rattle.run_inputs.specs.Words.{RunNames, files_of, outputs_of}
 use Rattle.run_inputs.specs.Answers.{answer_of}
 use Rattle.run_world.specs.Turns.{held_of}
 use Rattle.run_inputs.specs.Inputs.{RefusesOwn}
@@ -42,7 +42,7 @@ file-fits count within longer = omega (arith, within, longer)
 
 -- right inputs are not refused
 never-refused : NoFaultInScripts → (old : FolderState) (n : RunNames) (script : ScriptValue) (answer : Status) → AreRight old n script
-    → RefusesOwn LIMITS old n answer → ⊥
+    → RefusesOwn LIMITS old n.script 3 (files_of n) 1 answer → ⊥
 never-refused law old n script (TooLong word) r (inl s) =
     script-fits (length (octets_at old n.script)) r.script_short (s.longer r.script_told)
 never-refused law old n script (TooLong word) r (inr f) = by f.first

@@ -26,7 +26,7 @@ use Rattle.command_base.proofs.Answering.{IsPlain}
 use Rattle.outside_calls.proofs.Holding.{Holds-kept}
 use Rattle.command_base.proofs.Jobs.{last-only, last-plain, done-of, shared-of}
 use Rattle.run_inputs.specs.declared.limits.TheConstants.{LIMITS}
-use Rattle.run_inputs.specs.Words.{RunNames}
+use Rattle.run_inputs.specs.Words.{RunNames, files_of}
 use Rattle.run_inputs.specs.Inputs.{RefusesOwn}
 use Rattle.run_command.specs.Ends.{RanTo, EndsBy, run_job}
 use Rattle.run_command.specs.Ends as ends
@@ -109,8 +109,9 @@ own-ends words old new n s t a e f =
     let is = own-end a.end t e (last-plain done_line words a.before new a.end s t a.says f (plain-end t e)) in
     subst (ends.Ends LIMITS old a.before n) is a.ends.0
 
-not-refused : {P : Type 0} → (old before : FolderState) (n : RunNames) (answer : Status) → (RefusesOwn LIMITS old n answer → ⊥)
-    → (KeepsAll old before × RefusesOwn LIMITS old n answer) ⊎ P → P
+not-refused : {P : Type 0} → (old before : FolderState) (n : RunNames) (answer : Status)
+    → (RefusesOwn LIMITS old n.script 3 (files_of n) 1 answer → ⊥)
+    → (KeepsAll old before × RefusesOwn LIMITS old n.script 3 (files_of n) 1 answer) ⊎ P → P
 not-refused old before n answer never (inl r) = absurd (never r.1)
 not-refused old before n answer never (inr p) = p
 

@@ -31,7 +31,8 @@ use Rattle.run_command.specs.Names.{names_written}
 use Rattle.run_command.specs.Ends.{IsBegun, Takes, RanTo, StopsInTurn, StopsInReading, StopsCreating, EndsBy, fault_stop}
 
 -- the inputs were not taken
-pub ends-refused : (l : Limits) (old new : FolderState) (n : RunNames) (stop : Stop) → OnlyReads old new → Refuses l old new n stop
+pub ends-refused : (l : Limits) (old new : FolderState) (n : RunNames) (stop : Stop) → OnlyReads old new
+    → Refuses l old new n.script 3 (files_of n) 1 stop
     → EndsBy l old new n stop
 ends-refused l old new n (stops.Own answer) reads r = inl (reads.names, r)
 ends-refused l old new n (stops.Read fault) reads r = inl (reads.names, r)

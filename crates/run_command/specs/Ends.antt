@@ -30,14 +30,14 @@ use Rattle.run_command.specs.Names.{names_written}
 
 -- The inputs were opened, nothing else was done, and no fault was counted: they are within their limits, and this is the script.
 pub record IsBegun (l : Limits) (old now : FolderState) (n : RunNames) (script : ScriptValue) : Type 0 where
-  pub opens : Opens l old n script
+  pub opens : Opens l old n.script (files_of n) script
   pub limits : IsInLimits script
   pub reads : OnlyReads old now
   pub stand : CountsStand old now
 
 -- The inputs are within their limits, and are this script and these files.
 pub record Takes (l : Limits) (f : FolderState) (n : RunNames) (script : ScriptValue) (files : Both (List ℕ)) : Type 0 where
-  pub opens : Opens l f n script
+  pub opens : Opens l f n.script (files_of n) script
   pub limits : IsInLimits script
   pub within : AreWithin files
   pub orig : IsTrue (f.tells n.orig) → files.orig ≡ octets_at f n.orig
@@ -68,7 +68,7 @@ StopsInReading l old new n =
 -- An output was not created, once the inputs were opened.
 pub record StopsCreating (l : Limits) (old new : FolderState) (n : RunNames) : Type 0 where
   pub script : ScriptValue
-  pub opens : Opens l old n script
+  pub opens : Opens l old n.script (files_of n) script
   pub creates : CreatesPart old new (outputs_of n)
 
 -- the answers by which a run itself ends, each by its cause
@@ -81,9 +81,9 @@ RanBy l old new n answer = ⊥
 
 -- why a run stops with less than both files: for its inputs, before any output is created, for what becomes of it, or for the folder
 abbrev pub EndsBy : Limits → FolderState → FolderState → RunNames → Stop → Type 0
-EndsBy l old new n (Own answer) = (KeepsAll old new × RefusesOwn l old n answer) ⊎ RanBy l old new n answer
+EndsBy l old new n (Own answer) = (KeepsAll old new × RefusesOwn l old n.script 3 (files_of n) 1 answer) ⊎ RanBy l old new n answer
 EndsBy l old new n (Read fault) =
-    (KeepsAll old new × FailsToRead l old new n fault)
+    (KeepsAll old new × FailsToRead l old new n.script (files_of n) fault)
     ⊎ ((fault ≡ folder.Failed) × SomeRose old.read_faults new.read_faults (files_of n) × StopsInReading l old new n)
 EndsBy l old new n (Write fault) = StopsCreating l old new n ⊎ StopsInTurn l old new n
 EndsBy l old new n (Say fault) = ⊥

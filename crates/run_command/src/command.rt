@@ -9,7 +9,8 @@ ghost use Rattle.run_world.specs.World.{IsReady, WorldAfter, script_of};
 ghost use Rattle.command_base.specs.Job.{Answers};
 ghost use Rattle.outside_calls.specs.Outputs.{OnlyOutputs, SaysNothing};
 ghost use Rattle.command_base.specs.Stops.{EndCounts};
-ghost use Rattle.run_inputs.specs.Words.{named, are_apart, inputs_of, outputs_of};
+ghost use Rattle.command_base.specs.Apart.{are_apart};
+ghost use Rattle.run_inputs.specs.Words.{named, inputs_of, outputs_of};
 ghost use Rattle.run_command.specs.Names.{names_written};
 ghost use Rattle.run_command.specs.Ends.{Ends, IsBegun, fault_stop, run_job};
 ghost use Rattle.run_command.specs.Headline.{Headline};
@@ -17,13 +18,18 @@ ghost use Rattle.run_command.specs.Completes.{Completes};
 
 use crate::laws::{answers_keep_the_headline, right_runs_are_done};
 use crate::outputs::create_all;
-use command_base::{Status, Stop, tell, tell_stop, write_done};
+use command_base::{Status, Stop, apart_names_differ, tell, tell_stop, write_done};
 use line_run::laws::line_runs_end_soon;
 use outside_calls::{Folder, FolderFault};
-use run_inputs::laws::apart_names_differ;
 use run_inputs::{LIMITS, RunWords, open_inputs};
 use run_world::{Names, RunFault, World, run_turns};
 use std::alloc::Global;
+
+/// The place of the first file's name among the words.
+const ORIG: usize = 1;
+
+/// The place of the script's name.
+const SCRIPT: usize = 3;
 
 /// The names that turns use.
 fn names_of<'a>(words: &RunWords<'a>) -> Names<'a>
@@ -95,7 +101,8 @@ fn run_to_end<F: Folder>(alloc: Global, folder: &mut F, words: &RunWords<'_>) ->
     ensures said { SaysNothing (F.state folder.old) (F.state folder.new) }
     ensures counts { EndCounts (F.state folder.old) (F.state folder.new) (inputs_of (named words.now)) (outputs_of (named words.now)) result }
 {
-    let script = match open_inputs(alloc, folder, words, LIMITS) {
+    let files = [words.orig, words.answ];
+    let script = match open_inputs(alloc, folder, (words.script, SCRIPT), &files, ORIG, LIMITS) {
         Ok(script) => script,
         Err(stop) => return Err(stop),
     };

@@ -3,12 +3,12 @@ ghost use Rattle.std.specs.Prelude.{◌≡◌, true, OnOk, OnErr, IfErr};
 ghost use Rattle.outside_calls.specs.Folder.{CountsStand};
 ghost use Rattle.outside_calls.specs.Outputs.{Creates, CreatesPart, OnlyOutputs, SaysNothing};
 ghost use Rattle.command_base.specs.Stops.{WriteFails};
-ghost use Rattle.run_inputs.specs.Words.{named, are_apart, inputs_of, outputs_of};
+ghost use Rattle.command_base.specs.Apart.{are_apart};
+ghost use Rattle.run_inputs.specs.Words.{named, inputs_of, outputs_of};
 
-use command_base::create_outputs;
+use command_base::{apart_names_differ, create_outputs};
 use outside_calls::{Folder, FolderFault};
 use run_inputs::RunWords;
-use run_inputs::laws::apart_names_differ;
 
 /// The outputs are made, in the order of the words.
 pub(crate) fn create_all<F: Folder>(folder: &mut F, words: &RunWords<'_>) -> Result<(), FolderFault>

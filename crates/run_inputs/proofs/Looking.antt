@@ -1,5 +1,5 @@
 -- Lengths that are looked at one after the other.
-use Rattle.std.proofs.Common.{inl, inr, ℕ, ◌+◌, List, [], ◌∷◌, Result, Ok, Err, OnOk, refl, sym, subst}
+use Rattle.std.proofs.Common.{inl, inr, ℕ, ◌+◌, List, [], ◌∷◌, ◌++◌, Result, Ok, Err, OnOk, refl, sym, subst}
 use Rattle.outside_calls.specs.Folder.{FolderState, TellsOctets, OnlyReads, CountsStand}
 use Rattle.outside_calls.proofs.Steps.{CountsStand-trans}
 use Rattle.outside_calls.specs.declared.folder.FolderFault.{FolderFault}
@@ -14,10 +14,9 @@ use Rattle.command_base.proofs.Jobs.{stop-earlier}
 use Rattle.command_base.proofs.Reading.{within-earlier, longer-earlier, octets-earlier}
 use Rattle.noise_script.specs.Script.{ScriptValue}
 use Rattle.run_inputs.specs.declared.limits.Limits.{Limits}
-use Rattle.run_inputs.specs.Words.{RunNames, files_of}
 use Rattle.run_inputs.specs.Lengths.{AreWithin, TellOctets, IsFirstLong, FailsInOrder, RefusesLengths}
 use Rattle.run_inputs.specs.Scripts.{ReadsScript, RefusesScript}
-use Rattle.run_inputs.specs.Inputs.{RefusesOwn, Refuses}
+use Rattle.run_inputs.specs.Inputs.{Opens, RefusesOwn, Refuses}
 
 -- ---- a look changes nothing
 
@@ -114,48 +113,56 @@ counts-first old new name names outputs limit place NoMemory why = absurd why
 
 -- ---- the inputs of a run
 
--- the script stands behind both files
-pub counts-script : (old new : FolderState) (orig answ script : List ℕ) (outputs : List (List ℕ)) (stop : Stop)
-    → StopCounts old new (script ∷ []) outputs stop → StopCounts old new (orig ∷ answ ∷ script ∷ []) outputs stop
-counts-script old new orig answ script outputs stop counts =
-    of-more old new (script ∷ []) (orig ∷ answ ∷ script ∷ []) outputs stop among counts
-  where
-    among : SomeRose old.read_faults new.read_faults (script ∷ []) → SomeRose old.read_faults new.read_faults (orig ∷ answ ∷ script ∷ [])
-    among rose = inr (inr rose)
+-- the script stands behind the files
+script-among : (before now : List ℕ → ℕ) (script : List ℕ) (files : List (List ℕ)) → SomeRose before now (script ∷ [])
+    → SomeRose before now (files ++ script ∷ [])
+script-among before now script [] rose = rose
+script-among before now script (file ∷ files) rose = inr (script-among before now script files rose)
 
--- which nothing was counted of before they were looked at
-pub counts-files : (old mid new : FolderState) (orig answ script : List ℕ) (outputs : List (List ℕ)) (stop : Stop) → CountsStand old mid
-    → StopCounts mid new (orig ∷ answ ∷ []) outputs stop → StopCounts old new (orig ∷ answ ∷ script ∷ []) outputs stop
-counts-files old mid new orig answ script outputs stop stand counts =
-    of-more old new (orig ∷ answ ∷ []) (orig ∷ answ ∷ script ∷ []) outputs stop among
-    (stop-earlier old mid new (orig ∷ answ ∷ []) outputs stop stand counts)
-  where
-    among : SomeRose old.read_faults new.read_faults (orig ∷ answ ∷ [])
-        → SomeRose old.read_faults new.read_faults (orig ∷ answ ∷ script ∷ [])
-    among (inl rose) = inl rose
-    among (inr (inl rose)) = inr (inl rose)
-    among (inr (inr never)) = absurd never
+files-among : (before now : List ℕ → ℕ) (script : List ℕ) (files : List (List ℕ)) → SomeRose before now files
+    → SomeRose before now (files ++ script ∷ [])
+files-among before now script [] rose = absurd rose
+files-among before now script (file ∷ files) (inl rose) = inl rose
+files-among before now script (file ∷ files) (inr rose) = inr (files-among before now script files rose)
+
+pub counts-script : (old new : FolderState) (script : List ℕ) (files outputs : List (List ℕ)) (stop : Stop)
+    → StopCounts old new (script ∷ []) outputs stop → StopCounts old new (files ++ script ∷ []) outputs stop
+counts-script old new script files outputs stop counts =
+    of-more old new (script ∷ []) (files ++ script ∷ []) outputs stop (script-among old.read_faults new.read_faults script files) counts
+
+-- of which nothing was counted before the files were looked at
+pub counts-files : (old mid new : FolderState) (script : List ℕ) (files outputs : List (List ℕ)) (stop : Stop) → CountsStand old mid
+    → StopCounts mid new files outputs stop → StopCounts old new (files ++ script ∷ []) outputs stop
+counts-files old mid new script files outputs stop stand counts =
+    of-more old new files (files ++ script ∷ []) outputs stop (files-among old.read_faults new.read_faults script files)
+    (stop-earlier old mid new files outputs stop stand counts)
+
+-- all of them are taken
+pub opens : (l : Limits) (old mid : FolderState) (name : List ℕ) (names : List (List ℕ)) (script : ScriptValue) → OnlyReads old mid
+    → ReadsScript l.script old name script → AreWithin l.file mid names → TellOctets mid names → Opens l old name names script
+opens l old mid name names script r reads within octets =
+    record { reads = reads; files = all-kept old mid names l.file r within; octets = octets-kept old mid names r octets }
 
 -- the script was not taken
-pub refused-script : (l : Limits) (old new : FolderState) (n : RunNames) (stop : Stop) → RefusesScript l.script old n.script 3 stop
-    → StopCounts old new (n.script ∷ []) [] stop → Refuses l old new n stop
-refused-script l old new n (Own (TooLong word)) why counts = inl why
-refused-script l old new n (Own (BadScript line cause)) why counts = why
-refused-script l old new n (Own answer) why counts = absurd why
-refused-script l old new n (Read fault) why counts = inl counts
-refused-script l old new n (Write fault) why counts = absurd why
-refused-script l old new n (Say fault) why counts = absurd why
-refused-script l old new n NoMemory why counts = why
+pub refused-script : (l : Limits) (old new : FolderState) (name : List ℕ) (at : ℕ) (names : List (List ℕ)) (place : ℕ) (stop : Stop)
+    → RefusesScript l.script old name at stop → StopCounts old new (name ∷ []) [] stop → Refuses l old new name at names place stop
+refused-script l old new name at names place (Own (TooLong word)) why counts = inl why
+refused-script l old new name at names place (Own (BadScript line cause)) why counts = why
+refused-script l old new name at names place (Own answer) why counts = absurd why
+refused-script l old new name at names place (Read fault) why counts = inl counts
+refused-script l old new name at names place (Write fault) why counts = absurd why
+refused-script l old new name at names place (Say fault) why counts = absurd why
+refused-script l old new name at names place NoMemory why counts = why
 
 -- it was, and a file was not
-pub refused-files : (l : Limits) (old mid new : FolderState) (n : RunNames) (script : ScriptValue) (stop : Stop) → OnlyReads old mid
-    → CountsStand old mid
-    → ReadsScript l.script old n.script script → RefusesLengths l.file mid new 1 (files_of n) stop → Refuses l old new n stop
-refused-files l old mid new n script (Own answer) r stand reads long =
-    subst (RefusesOwn l old n) (sym long.answer_is)
-    (inr (record { script = script; reads = reads; first = first-kept old mid (files_of n) l.file 1 long.word r long.first }))
-refused-files l old mid new n script (Read fault) r stand reads why =
-    inr (record { script = script; reads = reads; fails = fails-kept old mid new (files_of n) l.file fault r stand why })
-refused-files l old mid new n script (Write fault) r stand reads why = absurd why
-refused-files l old mid new n script (Say fault) r stand reads why = absurd why
-refused-files l old mid new n script NoMemory r stand reads why = absurd why
+pub refused-files : (l : Limits) (old mid new : FolderState) (name : List ℕ) (at : ℕ) (names : List (List ℕ)) (place : ℕ)
+    (script : ScriptValue) (stop : Stop) → OnlyReads old mid → CountsStand old mid → ReadsScript l.script old name script
+    → RefusesLengths l.file mid new place names stop → Refuses l old new name at names place stop
+refused-files l old mid new name at names place script (Own answer) r stand reads long =
+    subst (RefusesOwn l old name at names place) (sym long.answer_is)
+    (inr (record { script = script; reads = reads; first = first-kept old mid names l.file place long.word r long.first }))
+refused-files l old mid new name at names place script (Read fault) r stand reads why =
+    inr (record { script = script; reads = reads; fails = fails-kept old mid new names l.file fault r stand why })
+refused-files l old mid new name at names place script (Write fault) r stand reads why = absurd why
+refused-files l old mid new name at names place script (Say fault) r stand reads why = absurd why
+refused-files l old mid new name at names place script NoMemory r stand reads why = absurd why

@@ -1,6 +1,7 @@
 -- The words of a run, as octets.
-use Rattle.std.specs.Prelude.{ℕ, Bool, true, not, ◌&&◌, List, [], ◌∷◌, Option, Some, None, if◌then◌else◌, codes}
+use Rattle.std.specs.Prelude.{ℕ, ◌&&◌, List, [], ◌∷◌, Option, Some, None, if◌then◌else◌, codes}
 use Rattle.std.specs.Str.{bytes_eq}
+use Rattle.command_base.specs.Apart.{are_apart}
 use Rattle.run_inputs.specs.declared.words.RunWords.{RunWords}
 
 -- the names of a run
@@ -11,16 +12,6 @@ pub record RunNames : Type 0 where
   pub got_o : List ℕ
   pub got_a : List ℕ
   pub trace : List ℕ
-
--- the name is none of these
-abbrev pub is_none_of : List ℕ → List (List ℕ) → Bool
-is_none_of name [] = true
-is_none_of name (first ∷ others) = not (bytes_eq name first) && is_none_of name others
-
--- no two outputs have one name, and no output has an input's name
-abbrev pub are_apart : List (List ℕ) → List (List ℕ) → Bool
-are_apart inputs [] = true
-are_apart inputs (name ∷ others) = is_none_of name inputs && is_none_of name others && are_apart inputs others
 
 -- the files that are sent, the names that are read, and those that are written, in the order of the words
 abbrev pub files_of : RunNames → List (List ℕ)

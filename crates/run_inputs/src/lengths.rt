@@ -1,5 +1,5 @@
 // The lengths of a run's files.
-ghost use Rattle.std.specs.Prelude.{◌≡◌, ◌≤◌, ◌<◌, ◌+◌, ◌^◌, List, ℕ, OnOk, IfErr, length, map};
+ghost use Rattle.std.specs.Prelude.{◌<◌, ◌+◌, ◌^◌, List, ℕ, OnOk, IfErr, length, map};
 ghost use Rattle.outside_calls.specs.Folder.{OnlyReads};
 ghost use Rattle.command_base.specs.Stops.{EndCounts};
 ghost use Rattle.run_inputs.specs.Lengths.{AreWithin, TellOctets, RefusesLengths};
@@ -9,7 +9,7 @@ use outside_calls::Folder;
 
 /// Looks whether these files are within their limit, one after the other: one octet of each is read there. The first file that is longer
 /// is named by its word, which is this one for the first of them, and the next one for each after it.
-pub fn check_lengths<F: Folder>(
+pub(crate) fn check_lengths<F: Folder>(
     folder: &mut F,
     names: &[&str],
     limit: u64,

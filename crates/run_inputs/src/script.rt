@@ -1,5 +1,5 @@
 // A run's script.
-ghost use Rattle.std.specs.Prelude.{◌≡◌, ◌≤◌, ◌∷◌, [], List, ℕ, IfOk, IfErr};
+ghost use Rattle.std.specs.Prelude.{◌≤◌, ◌∷◌, [], List, ℕ, IfOk, IfErr};
 ghost use Rattle.outside_calls.specs.Folder.{OnlyReads};
 ghost use Rattle.command_base.specs.Stops.{EndCounts};
 ghost use Rattle.noise_script.specs.declared.limits.TheConstants.{SCRIPT_OCTETS};
@@ -12,7 +12,7 @@ use std::alloc::Global;
 
 /// The script of that name: its length is looked at, it is read up to its limit, and understood. Where it is too long, the answer
 /// names this word.
-pub fn open_script<F: Folder>(
+pub(crate) fn open_script<F: Folder>(
     alloc: Global,
     folder: &mut F,
     name: &str,

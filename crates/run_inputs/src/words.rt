@@ -1,9 +1,10 @@
 // The words of a run.
 ghost use Rattle.std.specs.Prelude.{◌≡◌, true, IfSome, string_bytes, map};
 ghost use Rattle.std.specs.Option.{option_map};
-ghost use Rattle.run_inputs.specs.Words.{names_of, named, inputs_of, outputs_of, are_apart};
+ghost use Rattle.command_base.specs.Apart.{are_apart};
+ghost use Rattle.run_inputs.specs.Words.{names_of, named, inputs_of, outputs_of};
 
-use crate::apart::are_apart;
+use command_base::are_apart;
 
 /// The names of a run.
 #[derive(Clone, Copy)]

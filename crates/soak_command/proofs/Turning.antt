@@ -1,5 +1,5 @@
 -- From the turns of a soak to how it ends.
-use Rattle.std.proofs.Common.{◌≡◌, ◌∙◌, ℕ, List, ◌∷◌, length, take, Ok, Err, refl, sym, ap, subst, arith}
+use Rattle.std.proofs.Common.{◌≡◌, ◌∙◌, ℕ, List, ◌∷◌, length, take, Ok, Err, refl, ap, subst, arith}
 use Rattle.std.proofs.lemmas.List.{take_all}
 use Rattle.outside_calls.specs.Folder.{octets_at, KeepsName}
 use Rattle.outside_calls.proofs.Steps.{octets-kept}
@@ -12,13 +12,13 @@ use Rattle.line_run.specs.Ends.{RunEnd, RunsTo}
 use Rattle.line_run.specs.Ends as runs
 use Rattle.line_run.specs.Scripted.{link_of}
 use Rattle.run_world.specs.Limits.{file_limit}
-use Rattle.run_world.specs.Names.{Written, outputs_of}
+use Rattle.run_world.specs.Names.{Written, inputs_of, outputs_of}
 use Rattle.run_world.specs.World.{KnowsFiles}
 use Rattle.run_world.specs.declared.step.RunFault.{RunFault}
 use Rattle.run_world.specs.declared.step.RunFault.TheVariants as faults
 use Rattle.run_world.specs.Turn.{FaultCounts}
-use Rattle.outside_calls.specs.Outputs.{IsNoneOf, OnlyOutputs}
-use Rattle.outside_calls.specs.Outputs.{OnlyPuts}
+use Rattle.outside_calls.specs.Outputs.{KeepsEach, OnlyOutputs, OnlyPuts}
+use Rattle.outside_calls.proofs.Putting.{inputs-kept}
 use Rattle.run_world.specs.Turns.{RunEnds, RunCounts, FaultEnds}
 use Rattle.soak_inputs.specs.Soak.{soak_file, soak_script}
 use Rattle.soak_command.specs.Ends.{Ends, SoakEnds, IsTurnEnd, fault_stop, soak_channel, soak_files}
@@ -45,22 +45,17 @@ file-is seed a b d name file content first next is size known =
 files-are : (seed : ℕ) (a b d : SureState) (files : Both (List ℕ)) → Made seed a b d → KnowsFiles (sure_folder d) soak_names files
     → files ≡ soak_files seed
 files-are seed a b d files m k =
+    let first : KeepsEach (sure_folder a) (sure_folder b) (inputs_of soak_names) =
+    inputs-kept (sure_folder a) (sure_folder b) (inputs_of soak_names) soak_outputs apart.1 m.creates.names in
+    let next : KeepsEach (sure_folder b) (sure_folder d) (inputs_of soak_names) =
+    inputs-kept (sure_folder b) (sure_folder d) (inputs_of soak_names) soak_outputs apart.1 m.turns.names in
     let orig : files.orig ≡ soak_file seed Originator
-    = file-is seed a b d soak_names.orig files.orig (soak_file seed Originator)
-    (m.creates.names soak_names.orig none-orig) (m.turns.names soak_names.orig none-orig)
-    m.holds.orig m.holds.orig_size (k.orig refl) in
+    = file-is seed a b d soak_names.orig files.orig (soak_file seed Originator) first.0 next.0 m.holds.orig m.holds.orig_size (k.orig refl) in
     let answ : files.answ ≡ soak_file seed Answerer
-    = file-is seed a b d soak_names.answ files.answ (soak_file seed Answerer)
-    (m.creates.names soak_names.answ none-answ) (m.turns.names soak_names.answ none-answ)
-    m.holds.answ m.holds.answ_size (k.answ refl) in
+    = file-is seed a b d soak_names.answ files.answ (soak_file seed Answerer) first.1.0 next.1.0 m.holds.answ m.holds.answ_size
+    (k.answ refl) in
     both files orig answ
   where
-    none-orig : IsNoneOf soak_names.orig soak_outputs
-    none-orig = (λ e. apart.1.0.0 (sym e), (λ e. apart.1.1.0.0 (sym e), (λ e. apart.1.1.1.0.0 (sym e), tt)))
-
-    none-answ : IsNoneOf soak_names.answ soak_outputs
-    none-answ = (λ e. apart.1.0.1.0 (sym e), (λ e. apart.1.1.0.1.0 (sym e), (λ e. apart.1.1.1.0.1.0 (sym e), tt)))
-
     both : (files : Both (List ℕ)) → files.orig ≡ soak_file seed Originator → files.answ ≡ soak_file seed Answerer → files ≡ soak_files seed
     both files o a =
         let first : files ≡ record { orig = soak_file seed Originator; answ = files.answ } =

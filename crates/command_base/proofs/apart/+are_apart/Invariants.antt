@@ -1,5 +1,5 @@
 use Rattle.std.proofs.Common.{length}
-use Rattle.run_inputs.proofs.apart.+are_apart.Given as goal
+use Rattle.command_base.proofs.apart.+are_apart.Given as goal
 
 abbrev pub decreases-are_apart : goal.decreases-are_apart
 decreases-are_apart l = length l.outputs.now

@@ -1,5 +1,5 @@
 use Rattle.std.proofs.Common.{length}
-use Rattle.run_inputs.proofs.apart.+is_none_of.Given as goal
+use Rattle.command_base.proofs.apart.+is_none_of.Given as goal
 
 abbrev pub decreases-is_none_of : goal.decreases-is_none_of
 decreases-is_none_of l = length l.names.now

@@ -3,7 +3,7 @@ use Rattle.std.proofs.Common.{◌≡◌, ◌≢◌, ◌∙◌, ℕ, Bool, true, 
 use Rattle.std.specs.Str.{bytes_eq}
 use Rattle.std.proofs.lemmas.Slice.Eq.{bytes_eq-Decides}
 use Rattle.outside_calls.specs.Outputs.{AreApart, IsNoneOf, AreNoneOf}
-use Rattle.run_inputs.specs.Words.{are_apart, is_none_of}
+use Rattle.command_base.specs.Apart.{are_apart, is_none_of}
 
 -- both halves of a test
 left : (a b : Bool) → a && b ≡ true → a ≡ true

@@ -1,7 +1,6 @@
 // Names that are apart.
 ghost use Rattle.std.specs.Prelude.{◌≡◌, map, true};
-ghost use Rattle.outside_calls.specs.Outputs.{AreApart};
-ghost use Rattle.run_inputs.specs.Words.{are_apart, is_none_of};
+ghost use Rattle.command_base.specs.Apart.{are_apart, is_none_of};
 
 /// Whether a name is none of these.
 fn is_none_of(name: &str, names: &[&str]) -> bool
