@@ -12,7 +12,7 @@ use Rattle.run_world.specs.Names.{inputs_of, outputs_of}
 use Rattle.run_world.specs.declared.step.RunFault.{RunFault}
 use Rattle.run_world.specs.declared.step.RunFault.TheVariants as faults
 use Rattle.run_world.specs.Turn.{FaultCounts}
-use Rattle.soak_inputs.specs.Soak.{soak_file}
+use Rattle.soak_command.specs.Soak.{soak_file}
 use Rattle.soak_command.specs.Ends.{IsTurnEnd}
 use Rattle.soak_command.specs.Folder.{HoldsFiles, soak_names}
 

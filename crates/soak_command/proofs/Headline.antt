@@ -27,7 +27,7 @@ use Rattle.run_inputs.specs.Answers.{answer_of}
 use Rattle.line_ends.specs.Completes.{ScriptRunsTo}
 use Rattle.outside_calls.proofs.OnlyOutputs.{OnlyOutputs-refl}
 use Rattle.line_ends.specs.Carried.{IsCarried}
-use Rattle.soak_inputs.specs.Soak.{soak_file, soak_script}
+use Rattle.soak_command.specs.Soak.{soak_file, soak_script}
 use Rattle.soak_command.specs.declared.counts.SoakCounts.{SoakCounts}
 use Rattle.soak_command.specs.Ends.{Ends, SoakEnds, IsSoaked, soak_channel, soak_link, soak_files, soak_job}
 use Rattle.soak_command.specs.Ends as ends

@@ -1,3 +1,6 @@
+mod DrawnWords
+mod Lines
+mod Spelling
 mod Filling
 mod Turning
 mod Headline

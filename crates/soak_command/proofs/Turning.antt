@@ -20,7 +20,7 @@ use Rattle.run_world.specs.Turn.{FaultCounts}
 use Rattle.outside_calls.specs.Outputs.{KeepsEach, OnlyOutputs, OnlyPuts}
 use Rattle.outside_calls.proofs.Putting.{inputs-kept}
 use Rattle.run_world.specs.Turns.{RunEnds, RunCounts, FaultEnds}
-use Rattle.soak_inputs.specs.Soak.{soak_file, soak_script}
+use Rattle.soak_command.specs.Soak.{soak_file, soak_script}
 use Rattle.soak_command.specs.Ends.{Ends, SoakEnds, IsTurnEnd, fault_stop, soak_channel, soak_files}
 use Rattle.soak_command.specs.Folder.{HoldsFiles, soak_names, soak_outputs}
 use Rattle.soak_command.proofs.Filling.{apart, turn-end}

@@ -8,7 +8,7 @@ use Rattle.line_run.specs.Ends.{RunEnd, Left}
 use Rattle.line_ends.specs.Carried.{IsCarried}
 use Rattle.line_ends.specs.Completes.{ScriptRunsTo}
 use Rattle.run_inputs.specs.Answers.{answer_of}
-use Rattle.soak_inputs.specs.Soak.{soak_script}
+use Rattle.soak_command.specs.Soak.{soak_script}
 use Rattle.soak_command.specs.Ends.{soak_files}
 
 -- Where saying doesn't fail, and but for want of memory: however the run of the seed ends, that is the answer; and it is done where the line

@@ -17,7 +17,7 @@ use Rattle.command_base.specs.declared.stop.Stop.{Stop}
 use Rattle.command_base.specs.declared.stop.Stop.TheVariants.{Own, NoMemory}
 use Rattle.command_base.specs.Job.{Job}
 use Rattle.command_base.specs.Lines.{soak_line}
-use Rattle.soak_inputs.specs.Soak.{soak_file, soak_script}
+use Rattle.soak_command.specs.Soak.{soak_file, soak_script}
 use Rattle.soak_command.specs.declared.counts.SoakCounts.{SoakCounts}
 
 -- both files of a seed

@@ -13,7 +13,7 @@ use Rattle.command_base.specs.declared.status.Status.{Status}
 use Rattle.command_base.specs.declared.status.Status.TheVariants.{Done, LineLost, NotDetected, LinkLost, ChanceMatch}
 use Rattle.command_base.specs.Job.{Shared}
 use Rattle.command_base.specs.Lines.{soak_line}
-use Rattle.soak_inputs.specs.Soak.{soak_file, soak_script}
+use Rattle.soak_command.specs.Soak.{soak_file, soak_script}
 use Rattle.soak_command.specs.declared.counts.SoakCounts.{SoakCounts}
 use Rattle.soak_command.specs.Ends.{SoakEnds, IsSoaked, soak_channel, soak_files}
 

@@ -1,7 +1,7 @@
 -- The words of the command, as octets.
 use Rattle.std.specs.Prelude.{ℕ, List, [], ◌∷◌, Option, None, if◌then◌else◌, codes}
 use Rattle.std.specs.Str.{bytes_eq}
-use Rattle.soak_inputs.specs.Seed.{seed_in}
+use Rattle.soak_command.specs.Seed.{seed_in}
 
 -- the words `soak SEED`, and no others: the seed
 abbrev pub seed_named : List (List ℕ) → Option ℕ

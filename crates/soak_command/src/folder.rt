@@ -5,12 +5,12 @@ ghost use Rattle.outside_calls.specs.Outputs.{OnlyOutputs, Creates};
 ghost use Rattle.program_folders.specs.Sure.{sure_folder};
 ghost use Rattle.soak_command.specs.Folder.{HoldsFiles, soak_names, soak_outputs};
 
+use crate::files::soak_file;
 use command_base::create_outputs;
 use outside_calls::{FolderFault, NoMemory};
 use program_folders::SureFolder;
 use roles::Role;
 use run_world::Names;
-use soak_inputs::soak_file;
 use std::alloc::Global;
 
 /// The names that the soak's folder has.

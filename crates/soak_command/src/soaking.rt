@@ -6,16 +6,16 @@ ghost use Rattle.line_run.specs.Scripted.{link_of};
 ghost use Rattle.run_world.specs.World.{IsReady, WorldAfter, script_of};
 ghost use Rattle.noise_script.specs.Script.{IsInLimits};
 ghost use Rattle.program_folders.specs.Sure.{sure_folder};
-ghost use Rattle.soak_inputs.specs.Soak.{soak_script};
+ghost use Rattle.soak_command.specs.Soak.{soak_script};
 ghost use Rattle.soak_command.specs.Ends.{Ends, IsTurnEnd, fault_stop};
 ghost use Rattle.soak_command.specs.Folder.{HoldsFiles};
 
 use crate::counts::SoakCounts;
 use crate::folder::{make_outputs, soak_folder, soak_names};
+use crate::script::soak_script;
 use command_base::{Status, Stop};
 use program_folders::SureFolder;
 use run_world::{RunFault, World, run_turns};
-use soak_inputs::soak_script;
 use std::alloc::Global;
 
 /// Why a soak stops whose turns end by this fault. Its folder never fails.

@@ -2,7 +2,7 @@
 ghost use Rattle.std.specs.Prelude.{◌≡◌, map, string_bytes};
 ghost use Rattle.soak_command.specs.Words.{seed_named};
 
-use soak_inputs::read_seed;
+use crate::seed::read_seed;
 
 /// The seed in the words `soak SEED`, where these are such words.
 pub fn soak_words(words: &[String]) -> Option<u64>

@@ -1,0 +1,24 @@
+use Rattle.std.proofs.Common.{sym, ◌∙◌, arith}
+use Rattle.noise_script.proofs.Digits.{digit-more, digits-more, tenfold-fits}
+use Rattle.soak_command.proofs.seed.read_digits.Goals as goal
+
+pub overflow_mul-value : goal.overflow_mul-value
+overflow_mul-value c =
+    let small = tenfold-fits c.args.word.now c.loop-octet.octet-index c.loop-octet.value 0 c.loop-octet-test.true c.if-word-gt20.false
+    c.loop-octet.invariant.digits c.loop-octet.invariant.value (omega arith) in
+    omega (arith, small)
+
+pub overflow_add-value : goal.overflow_add-value
+overflow_add-value c =
+    let low = c.type_inv.word c.loop-octet.octet-index in
+    let small = tenfold-fits c.args.word.now c.loop-octet.octet-index c.loop-octet.value c.from.result c.loop-octet-test.true
+    c.if-word-gt20.false c.loop-octet.invariant.digits c.loop-octet.invariant.value (omega (arith, low, c.from.ensures)) in
+    omega (arith, small)
+
+pub loop-octet-preserved : goal.loop-octet-preserved
+loop-octet-preserved c = record {
+  value = digit-more c.args.word.now c.loop-octet.octet-index c.loop-octet.value c.from.result c.loop-octet-test.true
+      c.loop-octet.invariant.value c.from.ensures;
+  digits = digits-more c.args.word.now c.loop-octet.octet-index c.loop-octet-test.true c.loop-octet.invariant.digits
+      (sym c.is_ascii_digit.ensures.value ∙ c.if-not-is_ascii_digit.false);
+}

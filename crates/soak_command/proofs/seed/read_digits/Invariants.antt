@@ -1,0 +1,10 @@
+use Rattle.std.proofs.Common.{◌≡◌, true, take}
+use Rattle.std.specs.List.{list_all}
+use Rattle.noise_script.specs.Numbers.{is_digit, value_of}
+use Rattle.soak_command.proofs.seed.read_digits.Given as goal
+
+abbrev pub invariant-loop-octet : goal.invariant-loop-octet
+invariant-loop-octet l = record {
+  value : l.value ≡ value_of (take l.octet-index l.word);
+  digits : list_all is_digit (take l.octet-index l.word) ≡ true;
+}

@@ -1,4 +1,0 @@
-pub mod Drawing
-pub mod Soak
-pub mod Text
-pub mod Seed
