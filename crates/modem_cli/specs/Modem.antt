@@ -11,15 +11,16 @@ use Rattle.command_base.specs.Job.{Answers, Shared}
 use Rattle.command_base.specs.Lines.{usage_line}
 use Rattle.outside_calls.specs.Outputs.{KeepsAll}
 use Rattle.command_base.specs.Tells.{Tells}
-use Rattle.run_inputs.specs.Words.{RunNames, are_apart, inputs_of as run_inputs, outputs_of as run_outputs, named as run_named, names_of as run_names}
+use Rattle.command_base.specs.Apart.{are_apart}
+use Rattle.run_inputs.specs.Words.{RunNames, inputs_of as run_inputs, outputs_of as run_outputs, named as run_named, names_of as run_names}
 use Rattle.run_command.specs.Ends.{run_job}
 use Rattle.run_command.specs.Headline.{Headline as RunHeadline}
 use Rattle.run_command.specs.Completes.{Completes as RunCompletes}
-use Rattle.encode_command.specs.Words.{EncodeNames, are_apart as encode_apart, named as encode_named, names_of as encode_names}
+use Rattle.encode_command.specs.Words.{EncodeNames, inputs_of as encode_inputs, outputs_of as encode_outputs, named as encode_named, names_of as encode_names}
 use Rattle.encode_command.specs.Ends.{encode_job}
 use Rattle.encode_command.specs.Headline.{Headline as EncodeHeadline}
 use Rattle.encode_command.specs.Completes.{Completes as EncodeCompletes}
-use Rattle.decode_command.specs.Words.{DecodeNames, are_apart as decode_apart, named as decode_named, names_of as decode_names}
+use Rattle.decode_command.specs.Words.{DecodeNames, inputs_of as decode_inputs, outputs_of as decode_outputs, named as decode_named, names_of as decode_names}
 use Rattle.decode_command.specs.Ends.{decode_job}
 use Rattle.decode_command.specs.Headline.{Headline as DecodeHeadline}
 use Rattle.decode_command.specs.Completes.{Completes as DecodeCompletes}
@@ -157,7 +158,7 @@ named (code.Margin names) = Margin (margin_named names)
 -- outputs have names of their own, where words ask for a command that makes any
 abbrev pub AreApart : Asked → Type 0
 AreApart (Run n) = are_apart (run_inputs n) (run_outputs n) ≡ true
-AreApart (Encode n) = encode_apart n ≡ true
-AreApart (Decode n) = decode_apart n ≡ true
+AreApart (Encode n) = are_apart (encode_inputs n) (encode_outputs n) ≡ true
+AreApart (Decode n) = are_apart (decode_inputs n) (decode_outputs n) ≡ true
 AreApart (Peer n) = are_apart (peer_inputs n) (peer_outputs n) ≡ true
 AreApart other = Unit {0}
