@@ -1,4 +1,5 @@
-// Flags and aborts in a stream of bits.
+// Flags and aborts in a stream of bits. A bit is handed on eight bits late: until then it may be one of a flag, or of seven ones, that
+// end the piece.
 ghost use Rattle.std.specs.Prelude.{◌≡◌, ◌⊎◌, ◌≤◌, ◌<◌, ◌+◌, ◌-◌, ◌*◌, ◌↔◌, ℕ, IsTrue, true, false, Some, None, List, Bool, [], ◌∷◌, ◌++◌, length, drop};
 ghost use Rattle.std.specs.Int.{bit_at};
 ghost use Rattle.plain_lists.specs.Bits.{octet_bits};

@@ -44,10 +44,14 @@ own_due b = if b.brk then Some (Brk (b.answered % 2) (slice_index_or b.lengths b
 abbrev pub after_brk : OwnBreaks → OwnBreaks
 after_brk b = record b { brk = false }
 
+-- after a break was answered no other one is taken for so many turns
+abbrev pub break_rest : ℕ
+break_rest = 8
+
 -- answered: a BRKACK of the number of the break that waits
 abbrev pub after_answer : ℕ → ℕ → OwnBreaks → OwnBreaks
 after_answer turn number b =
-    if waits b && nat_eq number (b.answered % 2) then record b { answered = b.answered + 1; brk = false; count = 0; rest = turn + 8 } else b
+    if waits b && nat_eq number (b.answered % 2) then record b { answered = b.answered + 1; brk = false; count = 0; rest = turn + break_rest } else b
 
 -- the other end's breaks: the receiver's half, with all lengths given so far
 pub record TheirBreaks : Type 0 where

@@ -9,7 +9,7 @@ ghost use Rattle.decode_command.specs.Playing.{decoding_of, ReadsAt, IsReady};
 
 use crate::octet_joiner::Bits;
 use exact_decoder::Lost;
-use line_decoding::LineReader;
+use line_decoding::{DEPTH, LineReader};
 use outside_calls::NoMemory;
 use rate_4800::{QuarterReader, Rate4800};
 use recordings::Rate;
@@ -17,9 +17,6 @@ use scramblers::Mode;
 use std::alloc::Global;
 use symbol_map::Sample;
 use trellis_tables::V32Code;
-
-/// How many labels may be unreleased before the line is lost.
-pub(crate) const DEPTH: usize = 128;
 
 /// Reads the bits that a line's samples carry, at its rate.
 #[derive(Drop)]

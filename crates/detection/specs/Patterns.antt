@@ -1,5 +1,5 @@
 -- The two patterns, and where they end in a stream of bits.
-use Rattle.std.specs.Prelude.{◌≡◌, ℕ, zero, suc, ◌+◌, ◌≤◌, Bool, true, false, ◌||◌, if◌then◌else◌, List, [], ◌∷◌, ◌++◌, replicate, Option, Some, None}
+use Rattle.std.specs.Prelude.{◌≡◌, ℕ, zero, suc, ◌+◌, ◌-◌, ◌≤◌, Bool, true, false, ◌||◌, if◌then◌else◌, List, [], ◌∷◌, ◌++◌, replicate, Option, Some, None}
 use Rattle.std.specs.Bool.{beq}
 use Rattle.std.specs.List.{ends_with}
 use Rattle.lapm_frames.specs.declared.seen.Seen.{Seen}
@@ -16,18 +16,25 @@ abbrev pub second : Seen → List Bool
 second Odp = false ∷ true ∷ false ∷ false ∷ false ∷ true ∷ false ∷ false ∷ true ∷ []
 second Adp = false ∷ true ∷ true ∷ false ∷ false ∷ false ∷ false ∷ true ∷ false ∷ []
 
+-- the fewest ones behind a character, its stop bit among them, and the most
+abbrev pub shortest_gap : ℕ
+shortest_gap = 8
+
+abbrev pub longest_gap : ℕ
+longest_gap = 17
+
 -- so many ones
 abbrev pub ones : ℕ → List Bool
 ones count = replicate count true
 
--- two whole patterns with these gaps, up to the eighth one behind the last character
+-- two whole patterns with these gaps, up to the first ones behind the last character that can be a gap
 abbrev pub twice : Seen → ℕ → ℕ → ℕ → List Bool
-twice seen a b e = first seen ++ ones a ++ second seen ++ ones b ++ first seen ++ ones e ++ second seen ++ ones 8
+twice seen a b e = first seen ++ ones a ++ second seen ++ ones b ++ first seen ++ ones e ++ second seen ++ ones shortest_gap
 
 -- the ones behind a character, its stop bit among them
 pub record IsGap (count : ℕ) : Type 0 where
-  pub low : 8 ≤ count
-  pub high : count ≤ 17
+  pub low : shortest_gap ≤ count
+  pub high : count ≤ longest_gap
 
 -- the bits end with two whole patterns
 pub record EndsPattern (seen : Seen) (bits : List Bool) : Type 0 where
@@ -52,7 +59,7 @@ some_below (suc n) test = test n || some_below n test
 
 -- whether some gap does
 abbrev pub some_gap : (ℕ → Bool) → Bool
-some_gap test = some_below 10 (λ more. test (8 + more))
+some_gap test = some_below (longest_gap + 1 - shortest_gap) (λ more. test (shortest_gap + more))
 
 -- whether the bits end with two whole patterns
 abbrev pub ends_pattern : Seen → List Bool → Bool

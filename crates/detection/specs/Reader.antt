@@ -3,7 +3,7 @@ use Rattle.std.specs.Prelude.{◌≡◌, ℕ, ◌+◌, ◌-◌, ◌<◌, ◌≤�
 use Rattle.std.specs.Int.{bit_at}
 use Rattle.plain_lists.specs.Bits.{number}
 use Rattle.lapm_frames.specs.declared.seen.Seen.{Seen}
-use Rattle.detection.specs.Patterns.{first, second, ones}
+use Rattle.detection.specs.Patterns.{first, second, ones, shortest_gap, longest_gap}
 
 -- A number's low bits, so many, are the first of these bits, where ones stand behind the last.
 pub record Holds (width latest : ℕ) (recent : List Bool) : Type 0 where
@@ -13,10 +13,10 @@ pub record Holds (width latest : ℕ) (recent : List Bool) : Type 0 where
 abbrev pub ReaderStands : ℕ → List Bool → Type 0
 ReaderStands latest bits = Holds 128 latest (reverse bits)
 
--- Bits, the latest one first, begin with ones and a character, from eight ones to so many.
+-- Bits, the latest one first, begin with ones and a character, from the shortest gap to so many ones.
 pub record EndsCharacter (character : List Bool) (most : ℕ) (recent rest : List Bool) : Type 0 where
   pub gap : ℕ
-  pub low : 8 ≤ gap
+  pub low : shortest_gap ≤ gap
   pub high : gap ≤ most
   pub ends : recent ≡ ones gap ++ (character ++ rest)
 
@@ -24,7 +24,11 @@ pub record EndsCharacter (character : List Bool) (most : ℕ) (recent rest : Lis
 pub record EndsOnce (seen : Seen) (most : ℕ) (recent rest : List Bool) : Type 0 where
   pub middle : List Bool
   pub later : EndsCharacter (reverse (second seen)) most recent middle
-  pub earlier : EndsCharacter (reverse (first seen)) 17 middle rest
+  pub earlier : EndsCharacter (reverse (first seen)) longest_gap middle rest
+
+-- the most bits of a whole pattern without the ones behind it: two characters of nine bits, with the longest gap between them
+abbrev pub whole_pattern : ℕ
+whole_pattern = 9 + longest_gap + 9
 
 -- What is left behind a character, if the bits begin with it: a number that has the bits that follow.
 abbrev pub LeftBehind : ℕ → List Bool → ℕ → List Bool → Option ℕ → Type 0
@@ -36,4 +40,4 @@ LeftBehind width character most recent (Some left) =
 abbrev pub LeftBehindOnce : ℕ → Seen → ℕ → List Bool → Option ℕ → Type 0
 LeftBehindOnce width seen most recent None = (rest : List Bool) → EndsOnce seen most recent rest → ⊥
 LeftBehindOnce width seen most recent (Some left) =
-    (rest : List Bool) × EndsOnce seen most recent rest × Holds (width - (most + 35)) left rest
+    (rest : List Bool) × EndsOnce seen most recent rest × Holds (width - (most + whole_pattern)) left rest

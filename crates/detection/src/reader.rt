@@ -1,8 +1,8 @@
 // Patterns in a stream of bits.
 ghost use Rattle.std.specs.Prelude.{◌≡◌, ◌+◌, ◌<◌, ◌≤◌, ◌↔◌, ℕ, List, Bool, IsTrue};
 ghost use Rattle.plain_lists.specs.Bits.{low_bits};
-ghost use Rattle.detection.specs.Patterns.{EndsPattern};
-ghost use Rattle.detection.specs.Reader.{Holds, ReaderStands, LeftBehind, LeftBehindOnce};
+ghost use Rattle.detection.specs.Patterns.{EndsPattern, longest_gap};
+ghost use Rattle.detection.specs.Reader.{Holds, ReaderStands, LeftBehind, LeftBehindOnce, whole_pattern};
 
 use crate::Seen;
 use crate::characters::{first, second};
@@ -18,7 +18,7 @@ const SHORTEST: u32 = 8;
 /// many.
 fn before_character(latest: u128, character: u128, most: u32) -> Option<u128>
     requires start { character < 256 }
-    requires few { most ≤ 17 }
+    requires few { most ≤ longest_gap }
     ensures { (width : ℕ) (recent : List Bool) → most + 9 ≤ width → Holds width latest recent
         → LeftBehind width (low_bits 9 character) most recent result }
 {
@@ -38,8 +38,8 @@ fn before_character(latest: u128, character: u128, most: u32) -> Option<u128>
 
 /// The bits before a whole pattern that the latest bits end with, where up to so many ones stand behind it.
 fn before_pattern(latest: u128, seen: Seen, most: u32) -> Option<u128>
-    requires { most ≤ 17 }
-    ensures { (width : ℕ) (recent : List Bool) → most + 35 ≤ width → Holds width latest recent
+    requires { most ≤ longest_gap }
+    ensures { (width : ℕ) (recent : List Bool) → most + whole_pattern ≤ width → Holds width latest recent
         → LeftBehindOnce width seen most recent result }
 {
     let rest = before_character(latest, second(seen), most)?;

@@ -13,5 +13,3 @@ pub mod Kept
 pub mod Memory
 pub mod Decoder
 pub mod Laws
-pub mod Flips
-pub mod Laps

@@ -1,4 +1,5 @@
-// The segments that aren't acknowledged.
+// The segments that aren't acknowledged. A full ring would drop its first segment in silence as another is pushed: `push` asks that there be
+// room, which the window gives. A number is never taken modulo 128 here, so a place is a number less the front.
 ghost use Rattle.std.specs.Prelude.{◌≡◌, ◌≤◌, ◌<◌, ◌+◌, ◌-◌, ◌^◌, [], ◌∷◌, ◌++◌, length, drop, IfOk, IfSome, slice_get, slice_index_or};
 ghost use Rattle.frame_check.specs.declared.sizes.TheConstants.{INFO};
 ghost use Rattle.std.specs.List.{position};

@@ -1,4 +1,5 @@
-// The decoder with the reader of its labels.
+// The decoder with the reader of its labels. What is released has to be taken before the next sample is pushed: one sample may release more
+// than a hundred labels, which the decoder keeps in a list of fixed room.
 ghost use Rattle.std.specs.Prelude.{◌≡◌, ℕ, ◌+◌, ◌<◌, ◌≤◌, ◌^◌, Bool, List, All, [], ◌∷◌, ◌++◌, Some, None, length, drop, nat_eq, nat_lt, IfOk, MatchOption, MatchResult};
 ghost use Rattle.scramblers.specs.declared.mode.Mode.{Mode};
 ghost use Rattle.symbol_map.specs.declared.sample.Sample.{Sample};

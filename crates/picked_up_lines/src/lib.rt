@@ -6,4 +6,5 @@
 pub mod laws;
 mod middle_reader;
 
+pub use line_decoding::DEPTH;
 pub use middle_reader::{MiddleReader, Taken};

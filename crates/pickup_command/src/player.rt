@@ -10,16 +10,13 @@ ghost use Rattle.pickup_command.specs.Playing.{Plays, IsReady, SaysSome, StopsPl
 
 use command_base::{Status, Stop};
 use outside_calls::{Folder, FolderFault, NoMemory};
-use picked_up_lines::{MiddleReader, Taken};
+use picked_up_lines::{DEPTH, MiddleReader, Taken};
 use piece_listener::Listener;
 use recording_inputs::{hearer_of, sender_of};
 use scramblers::Mode;
 use std::alloc::Global;
 use std::marker::Model;
 use symbol_map::Sample;
-
-/// How many labels may be unreleased before the line is lost.
-const DEPTH: usize = 128;
 
 /// A recording on its way to lines: what reads its samples from the middle of a line, and what hears their bits.
 pub(crate) struct Player {

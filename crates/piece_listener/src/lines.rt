@@ -59,7 +59,7 @@ fn put_fault(fault: FrameFault, line: &mut PieceLine)
 }
 
 /// The line that says what a piece is.
-pub(crate) fn write_reading(reading: &Reading) -> PieceLine
+pub(crate) fn reading_line(reading: &Reading) -> PieceLine
     ensures { result ≡ reading_line reading.now }
 {
     let mut line = PieceLine::new();

@@ -5,8 +5,8 @@ ghost use Rattle.plain_lists.specs.Bits.{low_bits, octet_bits, bits_of};
 ghost use Rattle.command_base.specs.Stops.{SayFails};
 ghost use Rattle.piece_listener.specs.Heard.{Heard, PartlyHeard, LeftAt};
 
-use crate::lines::write_reading;
-use crate::reading::read_piece;
+use crate::lines::reading_line;
+use crate::reading::reading_of;
 use bit_stuffing::Deframer;
 use command_base::say_line;
 use outside_calls::{Folder, FolderFault};
@@ -80,8 +80,8 @@ impl Listener {
             None => Ok(()),
             Some(piece) => {
                 self.pieces += 1;
-                let reading = read_piece(piece, self.deframer.whole(), self.sender);
-                say_line(folder, write_reading(&reading).as_slice())
+                let reading = reading_of(piece, self.deframer.whole(), self.sender);
+                say_line(folder, reading_line(&reading).as_slice())
             }
         }
     }

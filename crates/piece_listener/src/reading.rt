@@ -41,7 +41,7 @@ fn read_whole(octets: &[u8], sender: Role) -> Reading
 }
 
 /// What a piece is, of these octets where it is whole.
-pub fn read_piece(piece: Piece, octets: &[u8], sender: Role) -> Reading
+pub fn reading_of(piece: Piece, octets: &[u8], sender: Role) -> Reading
     ensures { (found : Found) → found.piece ≡ piece → found.octets ≡ octets.now → Reads sender found result }
 {
     match piece {

@@ -7,15 +7,12 @@ ghost use Rattle.sample_line.specs.Hears.{Hears, HearsBetween, HearsSample};
 use crate::receiver::{Finder, Slot};
 use crate::tally::Tally;
 use exact_decoder::{Decoder, Lost};
-use line_decoding::LineReader;
+use line_decoding::{DEPTH, LineReader};
 use outside_calls::NoMemory;
 use scramblers::Mode;
 use std::alloc::Global;
 use symbol_map::Sample;
 use trellis_tables::V32Code;
-
-/// How many labels may be unreleased before the line is lost.
-pub const DEPTH: usize = 128;
 
 /// The decoder of a line.
 pub type LineDecoder = Decoder<V32Code, 8, 32, DEPTH>;

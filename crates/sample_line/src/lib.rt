@@ -11,6 +11,6 @@ mod receiver;
 mod tally;
 mod transmitter;
 
-pub use hearer::{DEPTH, LineDecoder};
+pub use hearer::LineDecoder;
 pub use lapm_frames::Heard;
 pub use line::Line;

@@ -136,7 +136,7 @@ struct Flips;
 
 impl TrellisCode<2, 2> for Flips {
     ghost use Rattle.std.proofs.Common.{lit≤, refl};
-    ghost use Rattle.exact_decoder.specs.Flips.{flips_next, flips_point, flips_differ, flips_bounded, flips_within, flips_enters_once, flips_reaches, flips_before, flips_subset, flips_ways_within, flips_ways_lead, flips_ways_all};
+    ghost use Rattle.signal_tests.specs.Flips.{flips_next, flips_point, flips_differ, flips_bounded, flips_within, flips_enters_once, flips_reaches, flips_before, flips_subset, flips_ways_within, flips_ways_lead, flips_ways_all};
 
     const REACH: usize = 1;
 
@@ -238,7 +238,7 @@ struct Laps;
 
 impl TrellisCode<80, 80> for Laps {
     ghost use Rattle.std.proofs.Common.{lit≤, refl};
-    ghost use Rattle.exact_decoder.specs.Laps.{laps_next, laps_bounded, laps_within, laps_enters_once, laps_reaches, laps_before, laps_subset, laps_ways_within, laps_ways_lead, laps_ways_all, laps_point, laps_differ};
+    ghost use Rattle.signal_tests.specs.Laps.{laps_next, laps_bounded, laps_within, laps_enters_once, laps_reaches, laps_before, laps_subset, laps_ways_within, laps_ways_lead, laps_ways_all, laps_point, laps_differ};
 
     const REACH: usize = 1;
 

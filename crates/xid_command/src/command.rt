@@ -5,7 +5,7 @@ ghost use Rattle.xid_command.specs.Completes.{Completes};
 ghost use Rattle.xid_command.specs.Ends.{Explains, Refuses, xid_job};
 
 use crate::digits::read_digits;
-use crate::offer_line::write_offer_line;
+use crate::offer_line::offer_line;
 use command_base::{Status, Stop, tell, tell_stop};
 use outside_calls::Folder;
 use xid_params::{Offer, read_offer};
@@ -27,7 +27,7 @@ fn explain_and_tell<F: Folder>(folder: &mut F, words: &[String], digits: &str) -
     ensures { Answers (xid_job digits.now) (map string_bytes words.now) (F.state folder.old) (F.state folder.new) result }
 {
     match explain(digits) {
-        Ok(offer) => tell(folder, write_offer_line(&offer).as_slice(), Status::Done),
+        Ok(offer) => tell(folder, offer_line(&offer).as_slice(), Status::Done),
         Err(answer) => tell_stop(folder, words, Stop::Own(answer)),
     }
 }

@@ -27,7 +27,7 @@ fn put_flag(line: &mut Line, word: &[u8], flag: bool)
 }
 
 /// The line of an offer: windows in segments, lengths in octets, and the functions that are offered.
-pub(crate) fn write_offer_line(offer: &Offer) -> Line
+pub(crate) fn offer_line(offer: &Offer) -> Line
     ensures { result ≡ offer_line offer.now }
 {
     let mut line = Line::new();

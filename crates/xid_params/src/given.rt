@@ -22,7 +22,7 @@ fn has_bit(value: &[u8], number: usize) -> bool
     (value[place / 8] >> (place % 8)) % 2 == 1
 }
 
-/// The octets of a length that is said in bits.
+/// The octets of a length that is said in bits, or the most that a frame may have where it says more.
 fn octets_of_bits(value: &[u8]) -> u16
     requires { length value.now ≤ 4 }
     ensures { result ≡ octets_of_bits value.now }
@@ -30,7 +30,7 @@ fn octets_of_bits(value: &[u8]) -> u16
     (number(value) / 8).min(INFO as u32) as u16
 }
 
-/// The segments of a window.
+/// The segments of a window, or the most that one may have where it says more.
 fn segments_of(value: &[u8]) -> u8
     requires { length value.now ≤ 4 }
     ensures { result ≡ segments_of value.now }

@@ -10,7 +10,7 @@ returns-in-Ok g c =
     let old : FolderState = g.F.Folder.state c.args.folder.now in let new : FolderState = g.F.Folder.state c.tell.new.folder in
     explained (map string_bytes c.args.words.now) old new c.args.digits.now c.in-Ok.offer c.tell.result c.in-Ok.ensures.ok
     (subst (λ (line : List ℕ). Tells old new line Done c.tell.result) (c.as_slice.ensures.items
-    ∙ c.write_offer_line.ensures) c.tell.ensures)
+    ∙ c.offer_line.ensures) c.tell.ensures)
 
 pub returns-in-Err : goal.returns-in-Err
 returns-in-Err g c =

@@ -24,11 +24,11 @@ returns-in-Some-clause-ok g c = λ start bits heard.
     let all : List Bool = bits ++ c.args.bit ∷ [] in
     let stands = c.in-Some.ensures.stands bits h.stands in
     let f : FoundThere all c.in-Some.piece = found-there all c.in-Some.piece (c.in-Some.ensures.value bits h.stands) in
-    let reads : Reads old.sender f.found c.read_piece-reading.result =
-    c.read_piece-reading.ensures f.found f.piece_is (f.octets_are ∙ sym (c.whole.ensures.value all stands)) in
-    let line : c.as_slice.result.now ≡ reading_line c.read_piece-reading.result = c.as_slice.ensures.items ∙ c.write_reading.ensures in
+    let reads : Reads old.sender f.found c.reading_of-reading.result =
+    c.reading_of-reading.ensures f.found f.piece_is (f.octets_are ∙ sym (c.whole.ensures.value all stands)) in
+    let line : c.as_slice.result.now ≡ reading_line c.reading_of-reading.result = c.as_slice.ensures.items ∙ c.reading_line.ensures in
     on-ok-map {P = Said now new c.as_slice.result.now} c.say_line.result
-    (λ said. heard-some start now new old next bits c.args.bit c.in-Some.piece c.read_piece-reading.result h f reads stands refl refl
+    (λ said. heard-some start now new old next bits c.args.bit c.in-Some.piece c.reading_of-reading.result h f reads stands refl refl
     (subst (λ (xs : List ℕ). Said now new xs) line said)) c.say_line.ensures.ok
 
 pub returns-in-Some-clause-left : goal.returns-in-Some-clause-left
@@ -40,9 +40,9 @@ returns-in-Some-clause-left g c = λ start bits heard.
     let all : List Bool = bits ++ c.args.bit ∷ [] in
     let stands = c.in-Some.ensures.stands bits h.stands in
     let f : FoundThere all c.in-Some.piece = found-there all c.in-Some.piece (c.in-Some.ensures.value bits h.stands) in
-    let reads : Reads old.sender f.found c.read_piece-reading.result =
-    c.read_piece-reading.ensures f.found f.piece_is (f.octets_are ∙ sym (c.whole.ensures.value all stands)) in
-    let line : c.as_slice.result.now ≡ reading_line c.read_piece-reading.result = c.as_slice.ensures.items ∙ c.write_reading.ensures in
+    let reads : Reads old.sender f.found c.reading_of-reading.result =
+    c.reading_of-reading.ensures f.found f.piece_is (f.octets_are ∙ sym (c.whole.ensures.value all stands)) in
+    let line : c.as_slice.result.now ≡ reading_line c.reading_of-reading.result = c.as_slice.ensures.items ∙ c.reading_line.ensures in
     on-err-map {P = PartlySaid now new c.as_slice.result.now} c.say_line.result
-    (λ said. left-some start now new old next bits c.args.bit c.in-Some.piece c.read_piece-reading.result h f reads stands refl refl
+    (λ said. left-some start now new old next bits c.args.bit c.in-Some.piece c.reading_of-reading.result h f reads stands refl refl
     (subst (λ (xs : List ℕ). PartlySaid now new xs) line said)) c.say_line.ensures.err
