@@ -29,7 +29,7 @@ use Rattle.shared_line.specs.declared.lines.LineEnd.{LineEnd}
 use Rattle.run_world.specs.declared.world.World.{World}
 use Rattle.run_world.specs.declared.tally.Tally.{Tally}
 use Rattle.run_world.specs.World.{IsReady, WorldAfter}
-use Rattle.run_world.specs.Tally.{Tallies, HearsMore}
+use Rattle.run_world.specs.Tally.{Tallies}
 use Rattle.run_world.specs.Mid.{Overhears, TalliesHeard, HasHeard, turn_in}
 
 pub few-turns : NoLineRunIsLong → (w : World) → IsReady w → w.turn < 2 ^ 40
@@ -181,23 +181,6 @@ tallies-heard old new ts ends heard h e = rw e (record {
   orig = h.orig;
   answ = h.answ;
 })
-
-lost-one : (h : Heard) → lost_in h ≤ 1
-lost-one Nothing = omega arith
-lost-one (Passed s) = omega arith
-lost-one (Lost s) = omega arith
-lost-one Chance = omega arith
-
-pub hears-more : (old new : Tally) (heard : Both Heard) → new ≡ record old { lost = old.lost + lost_in heard.orig + lost_in heard.answ }
-    → HearsMore old new
-hears-more old new heard e = rw e (record {
-  lost_low = omega arith;
-  lost_high = omega (arith, lost-one heard.orig, lost-one heard.answ);
-  again = refl;
-})
-
-pub hears-none : (t : Tally) → HearsMore t t
-hears-none t = record { lost_low = omega arith; lost_high = omega arith; again = refl }
 
 -- the line ends the run
 pub lost-so : (script : ScriptValue) (ts : List Turn) (ends : Ends) (checks : Both Check) (end : LineEnd)

@@ -12,9 +12,9 @@ use Rattle.roles.specs.Both.{Both, of}
 use Rattle.noise_script.specs.Script.{ScriptValue}
 use Rattle.causes.specs.declared.fault.LinkFault.TheVariants as causes
 use Rattle.line_texts.specs.LineText.{chance_line}
-use Rattle.link_run.specs.Counts.{lost_slots, sent_again}
+use Rattle.link_run.specs.Counts.{numbers_sent, repeated, segment_number, sent_again}
 use Rattle.link_run.specs.End.{deliveries}
-use Rattle.link_run.specs.Run.{Link, Ends, Turn, start, Hears, RunOf}
+use Rattle.link_run.specs.Run.{Link, Ends, Turn, LastTurn, start, Hears, RunOf}
 use Rattle.link_run.specs.Outcomes.{Outcome, Going, Done, Broken, TurnIs}
 use Rattle.link_run.specs.Laws.{HearingsDeliver, SpeakingTakesNothing}
 use Rattle.link_run.specs.Trace.{trace_text, turn_text}
@@ -32,7 +32,7 @@ use Rattle.run_world.specs.declared.step.RunFault.TheVariants as faults
 use Rattle.run_world.specs.World.{KnowsFiles, WorldAfter, script_of, turn_of, lost_of, again_of}
 use Rattle.run_world.specs.Turn.{added, GoesOnBy, EndsInTurn, LosesLine, MeetsChance, StopsInTurn}
 use Rattle.run_world.specs.Turn.{StopsReading, Stops}
-use Rattle.run_world.specs.Turn.{EndsBy as TurnEndsBy, DoneIn}
+use Rattle.run_world.specs.Turn.{EndsBy as TurnEndsBy}
 use Rattle.outside_calls.specs.Outputs.{Holds, Creates}
 use Rattle.outside_calls.proofs.Holding.{Holds-kept, Holds-more, HoldsPart-more}
 use Rattle.outside_calls.specs.Outputs.{OnlyPuts, AddEach, HoldEach}
@@ -82,6 +82,21 @@ knows-told f n = record {
 pub knows-later : (a b : FolderState) (n : Written) (files : Both (List ℕ)) → IsApart n → OnlyPuts a b (outputs_of n)
     → KnowsFiles a n files → KnowsFiles b n files
 knows-later a b n files apart only k = (stay-known a b n files apart only k.within).known k
+
+-- of a world that has made a turn, over its script
+abbrev over : (w v : World) (script : ScriptValue) (n : Written) (old now : FolderState) → Reached w script n old now
+    → script_of v ≡ script_of w → Reached w (script_of v) n old now
+over w v script n old now r same = record {
+  script_is = sym same;
+  files = r.files;
+  knows = r.knows;
+  turns = r.turns;
+  ends = r.ends;
+  world = r.world;
+  holds = r.holds;
+  only = r.only;
+  stand = r.stand;
+}
 
 -- before the first turn
 pub reached-start : (w : World) (n : Written) (s : FolderState)
@@ -155,12 +170,12 @@ reached-going delivers speaks w w' script n old now next r same g only stand =
     }
 
 -- the run ends in a turn that is written
-ended-turn : HearingsDeliver → (w : World) (script : ScriptValue) (n : Written) (old now next : FolderState)
-    (r : Reached w script n old now) (outcome : Outcome) (number : ℕ) → OnlyPuts now next (outputs_of n)
-    → (e : EndsInTurn script now next n r.files r.turns r.ends outcome number)
-    → runs.EndsInTurn (channel_of script) (link_of script e.others) r.turns r.ends outcome number
+ended-turn : HearingsDeliver → (w v : World) (n : Written) (old now next : FolderState)
+    (r : Reached w (script_of v) n old now) (outcome : Outcome) (number : ℕ) → OnlyPuts now next (outputs_of n)
+    → (e : EndsInTurn v now next n r.files r.turns r.ends outcome number)
+    → runs.EndsInTurn (channel_of (script_of v)) (link_of (script_of v) e.others) r.turns r.ends outcome number
     (left_of e.mid (trace_text (e.turn ∷ r.turns))) × HoldEach next (outputs_of n) (held_of (left_of e.mid (trace_text (e.turn ∷ r.turns))))
-ended-turn delivers w script n old now next r outcome number only e = (
+ended-turn delivers w v n old now next r outcome number only e = (
   record {
     number = e.number_is;
     last = e.turn;
@@ -170,7 +185,7 @@ ended-turn delivers w script n old now next r outcome number only e = (
     leaves = leaves-so e.mid (trace_text (e.turn ∷ r.turns));
   },
   held-turn delivers (link_of (script_of w) r.files) r.turns r.ends e.turn e.mid now next n r.world.run.run
-      (hears-of (link_of script e.others) r.turns r.ends e.turn e.mid outcome e.makes.is) only.goes_on r.holds e.writes,
+      (hears-of (link_of (script_of v) e.others) r.turns r.ends e.turn e.mid outcome e.makes.is) only.goes_on r.holds e.writes,
 )
 
 run-ends : (script : ScriptValue) (f : FolderState) (n : Written) (end : RunEnd) (files : Both (List ℕ)) (left : Left) (ts : List Turn)
@@ -180,56 +195,62 @@ run-ends script f n end files left ts ends knows run ended holds =
     record { files = files; knows = knows; left = left; run = record { turns = ts; ends = ends; run = run; ended = ended }; holds = holds }
 
 -- the run is done
+done-so : HearingsDeliver
+    → (w v : World) (n : Written) (old now next : FolderState) (number : ℕ) (r : Reached w (script_of v) n old now)
+    → EndsInTurn v now next n r.files r.turns r.ends Done number → OnlyPuts now next (outputs_of n)
+    → RunEnds (script_of v) next n (runs.IsDone number)
+done-so delivers w v n old now next number r e only =
+    let k = ended-turn delivers w v n old now next r Done number only e in
+    run-ends (script_of v) next n (runs.IsDone number) e.others _ r.turns r.ends (e.known.known r.knows) e.makes.run k.0 k.1
+
 pub reached-done : HearingsDeliver
-    → (w w' : World) (script : ScriptValue) (n : Written) (old now next : FolderState) (number : ℕ) (r : Reached w script n old now)
-    → script_of w' ≡ script_of w → DoneIn w' now next n r.files r.turns r.ends number → OnlyPuts now next (outputs_of n)
+    → (w v : World) (script : ScriptValue) (n : Written) (old now next : FolderState) (number : ℕ) (r : Reached w script n old now)
+    → script_of v ≡ script_of w → EndsInTurn v now next n r.files r.turns r.ends Done number → OnlyPuts now next (outputs_of n)
     → RunEnds script next n (runs.IsDone number)
-reached-done delivers w w' script n old now next number r same d only =
-    let e : EndsInTurn script now next n r.files r.turns r.ends Done number =
-    subst (λ s. EndsInTurn s now next n r.files r.turns r.ends Done number) (same ∙ r.script_is) d.ended in
-    let k = ended-turn delivers w script n old now next r Done number only e in
-    run-ends script next n (runs.IsDone number) e.others _ r.turns r.ends (e.known.known r.knows) e.makes.run k.0 k.1
+reached-done delivers w v script n old now next number r same e only =
+    subst (λ s. RunEnds s next n (runs.IsDone number)) (same ∙ r.script_is)
+    (done-so delivers w v n old now next number (over w v script n old now r same) e only)
+
+-- nothing goes again in a turn in which nothing is sent
+none-again : (ts : List Turn) (ends : Ends) (t : Turn) (mid : Ends) → LastTurn ts ends t mid → sent_again (t ∷ ts) ≡ sent_again ts
+none-again ts ends t mid h = λ k.
+    repeated (segment_number (h.silent Originator k) ++ numbers_sent Originator ts)
+    + repeated (segment_number (h.silent Answerer k) ++ numbers_sent Answerer ts)
 
 -- with all its turns counted
 pub reached-counts : HearingsDeliver
-    → (w w' : World) (script : ScriptValue) (n : Written) (old now next : FolderState) (number : ℕ) (r : Reached w script n old now)
-    → script_of w' ≡ script_of w → DoneIn w' now next n r.files r.turns r.ends number → OnlyPuts now next (outputs_of n)
-    → RunCounts script next n number (lost_of w') (again_of w')
-unfolding run-ends ended-turn
-reached-counts delivers w w' script n old now next number r same d only =
-    let counted = subst
-    (λ s. (e : EndsInTurn s now next n r.files r.turns r.ends Done number) × (lost_of w' ≡ lost_slots (e.turn ∷ r.turns))
-    × (again_of w' ≡ sent_again (e.turn ∷ r.turns)))
-    (same ∙ r.script_is) (d.ended, d.lost, d.again) in
-    let e : EndsInTurn script now next n r.files r.turns r.ends Done number = counted.0 in
-    let k = ended-turn delivers w script n old now next r Done number only e in
-    record {
-      ran = run-ends script next n (runs.IsDone number) e.others _ r.turns r.ends (e.known.known r.knows) e.makes.run k.0 k.1;
-      lost_is = counted.1;
-      again_is = counted.2;
-    }
+    → (w v : World) (script : ScriptValue) (n : Written) (old now next : FolderState) (number : ℕ) (r : Reached w script n old now)
+    → script_of v ≡ script_of w → EndsInTurn v now next n r.files r.turns r.ends Done number → OnlyPuts now next (outputs_of n)
+    → RunCounts script next n number (lost_of v) (again_of v)
+unfolding run-ends ended-turn done-so
+reached-counts delivers w v script n old now next number r same e only =
+    subst (λ s. RunCounts s next n number (lost_of v) (again_of v)) (same ∙ r.script_is) (record {
+      ran = done-so delivers w v n old now next number (over w v script n old now r same) e only;
+      lost_is = e.halts.lost;
+      again_is = e.halts.again ∙ sym (none-again r.turns r.ends e.turn e.mid e.makes.is);
+    })
 
 -- the run so far, over the script
 run-so : (w : World) (script : ScriptValue) (n : Written) (old now : FolderState) (r : Reached w script n old now)
     → LineRun (channel_of script) (link_of script r.files) r.turns r.ends
 run-so w script n old now r = subst (λ s. LineRun (channel_of s) (link_of s r.files) r.turns r.ends) r.script_is r.world.run
 
-reached-line : (w : World) (script : ScriptValue) (n : Written) (old now next : FolderState) (role : Role) (symbol : ℕ)
-    (r : Reached w script n old now) → IsApart n
-    → LosesLine script now next n r.turns r.ends role symbol → OnlyPuts now next (outputs_of n) → RunEnds script next n (runs.LineLost role symbol)
-reached-line w script n old now next role symbol r apart e only =
-    run-ends script next n (runs.LineLost role symbol) r.files (left_of r.ends (trace_text r.turns)) r.turns r.ends
-    (knows-later now next n r.files apart only r.knows) (run-so w script n old now r)
+reached-line : (w v : World) (n : Written) (old now next : FolderState) (role : Role) (symbol : ℕ)
+    (r : Reached w (script_of v) n old now) → IsApart n
+    → LosesLine v now next n r.turns r.ends role symbol → OnlyPuts now next (outputs_of n) → RunEnds (script_of v) next n (runs.LineLost role symbol)
+reached-line w v n old now next role symbol r apart e only =
+    run-ends (script_of v) next n (runs.LineLost role symbol) r.files (left_of r.ends (trace_text r.turns)) r.turns r.ends
+    (knows-later now next n r.files apart only r.knows) (run-so w (script_of v) n old now r)
     (record { is = e.is; leaves = leaves-so r.ends (trace_text r.turns) }) (HoldEach-kept now next (outputs_of n) (held_of (left_of r.ends (trace_text r.turns))) only.goes_on r.holds e.kept)
 
-reached-chance : (w : World) (script : ScriptValue) (n : Written) (old now next : FolderState) (role : Role) (number : ℕ)
-    (r : Reached w script n old now) → IsApart n
-    → MeetsChance script now next n r.turns r.ends role number → OnlyPuts now next (outputs_of n)
-    → RunEnds script next n (runs.ChanceMatch role number)
-reached-chance w script n old now next role number r apart e only =
+reached-chance : (w v : World) (n : Written) (old now next : FolderState) (role : Role) (number : ℕ)
+    (r : Reached w (script_of v) n old now) → IsApart n
+    → MeetsChance v now next n r.turns r.ends role number → OnlyPuts now next (outputs_of n)
+    → RunEnds (script_of v) next n (runs.ChanceMatch role number)
+reached-chance w v n old now next role number r apart e only =
     let text = trace_text r.turns ++ chance_line (length r.turns) role in
-    run-ends script next n (runs.ChanceMatch role number) r.files (left_of r.ends text) r.turns r.ends
-    (knows-later now next n r.files apart only r.knows) (run-so w script n old now r)
+    run-ends (script_of v) next n (runs.ChanceMatch role number) r.files (left_of r.ends text) r.turns r.ends
+    (knows-later now next n r.files apart only r.knows) (run-so w (script_of v) n old now r)
     (e.number_is, record { is = e.is; leaves = leaves-so r.ends text }) (
       Holds-kept now next n.got_o _ only.goes_on r.holds.0 e.received.0,
       (
@@ -252,10 +273,10 @@ abbrev more_of : Ends → List ℕ → Left
 more_of mid text = record { got = record { orig = concat (deliveries mid.orig); answ = concat (deliveries mid.answ) }; trace = text }
 
 -- the folder fails in a turn, whatever it comes to,
-adds-turn : (w : World) (script : ScriptValue) (n : Written) (old now next : FolderState) (r : Reached w script n old now)
-    → (s : StopsInTurn script now next n r.files r.turns r.ends)
-    → AddsTurn (channel_of script) (link_of script s.others) r.turns r.ends (more_of s.mid (turn_text (length r.turns) s.turn))
-adds-turn w script n old now next r s = record {
+adds-turn : (w v : World) (n : Written) (old now next : FolderState) (r : Reached w (script_of v) n old now)
+    → (s : StopsInTurn v now next n r.files r.turns r.ends)
+    → AddsTurn (channel_of (script_of v)) (link_of (script_of v) s.others) r.turns r.ends (more_of s.mid (turn_text (length r.turns) s.turn))
+adds-turn w v n old now next r s = record {
   turn = s.turn;
   mid = s.mid;
   outcome = s.outcome;
@@ -270,9 +291,9 @@ adds-turn w script n old now next r s = record {
     got Originator = refl
     got Answerer = refl
 
-stopped-turn : (w : World) (script : ScriptValue) (n : Written) (old now next : FolderState) (r : Reached w script n old now)
-    → StopsInTurn script now next n r.files r.turns r.ends → OnlyPuts now next (outputs_of n) → RunStops script next n
-stopped-turn w script n old now next r s only = record {
+stopped-turn : (w v : World) (n : Written) (old now next : FolderState) (r : Reached w (script_of v) n old now)
+    → StopsInTurn v now next n r.files r.turns r.ends → OnlyPuts now next (outputs_of n) → RunStops (script_of v) next n
+stopped-turn w v n old now next r s only = record {
   files = s.others;
   knows = s.known.known r.knows;
   stops = record {
@@ -282,35 +303,35 @@ stopped-turn w script n old now next r s only = record {
     left = left_of r.ends (trace_text r.turns);
     leaves = leaves-so r.ends (trace_text r.turns);
     more = more_of s.mid (turn_text (length r.turns) s.turn);
-    adds = inl (adds-turn w script n old now next r s);
+    adds = inl (adds-turn w v n old now next r s);
     holds = HoldPart-add now next (outputs_of n) (held_of (left_of r.ends (trace_text r.turns)))
         (added s.mid (turn_text (length r.turns) s.turn)) only.goes_on r.holds s.writes;
   };
 }
 
 -- as a file is read,
-reached-reading : (w : World) (script : ScriptValue) (n : Written) (old now next : FolderState) (r : Reached w script n old now)
-    → StopsReading script now next n r.files r.turns r.ends → OnlyPuts now next (outputs_of n) → RunStopsReading script next n
+reached-reading : (w v : World) (n : Written) (old now next : FolderState) (r : Reached w (script_of v) n old now)
+    → StopsReading v now next n r.files r.turns r.ends → OnlyPuts now next (outputs_of n) → RunStopsReading (script_of v) next n
 unfolding stopped-turn
-reached-reading w script n old now next r (s, delivered) only = (
-  stopped-turn w script n old now next r s only,
+reached-reading w v n old now next r (s, delivered) only = (
+  stopped-turn w v n old now next r s only,
   record {
-    adds = adds-turn w script n old now next r s;
+    adds = adds-turn w v n old now next r s;
     holds = HoldEach-add now next (outputs_of n) (held_of (left_of r.ends (trace_text r.turns))) (octets_of s.mid) only.goes_on r.holds delivered;
   },
 )
 
 -- or at any of its steps
-reached-stops : (w : World) (script : ScriptValue) (n : Written) (old now next : FolderState) (r : Reached w script n old now) → IsApart n
-    → Stops script now next n r.files r.turns r.ends → OnlyPuts now next (outputs_of n) → RunStops script next n
-reached-stops w script n old now next r apart (inl s) only = stopped-turn w script n old now next r s only
-reached-stops w script n old now next r apart (inr s) only = record {
+reached-stops : (w v : World) (n : Written) (old now next : FolderState) (r : Reached w (script_of v) n old now) → IsApart n
+    → Stops v now next n r.files r.turns r.ends → OnlyPuts now next (outputs_of n) → RunStops (script_of v) next n
+reached-stops w v n old now next r apart (inl s) only = stopped-turn w v n old now next r s only
+reached-stops w v n old now next r apart (inr s) only = record {
   files = r.files;
   knows = knows-later now next n r.files apart only r.knows;
   stops = record {
     turns = r.turns;
     ends = r.ends;
-    run = run-so w script n old now r;
+    run = run-so w (script_of v) n old now r;
     left = left_of r.ends (trace_text r.turns);
     leaves = leaves-so r.ends (trace_text r.turns);
     more = record { got = none_got; trace = chance_line (length r.turns) s.role };
@@ -330,27 +351,31 @@ reached-stops w script n old now next r apart (inr s) only = record {
     none Answerer = refl
 
 -- a fault ends the run
+fault-so : HearingsDeliver
+    → (w v : World) (n : Written) (old now next : FolderState) (fault : RunFault) (r : Reached w (script_of v) n old now)
+    → IsApart n → TurnEndsBy v now next n r.files r.turns r.ends fault → OnlyPuts now next (outputs_of n)
+    → FaultEnds (script_of v) next n fault
+fault-so delivers w v n old now next faults.ReadFault r apart e only = reached-reading w v n old now next r e only
+fault-so delivers w v n old now next faults.WriteFault r apart e only = reached-stops w v n old now next r apart e only
+fault-so delivers w v n old now next faults.NoMemory r apart e only = reached-stops w v n old now next r apart e only
+fault-so delivers w v n old now next (faults.LineLost role symbol) r apart e only = reached-line w v n old now next role symbol r apart e only
+fault-so delivers w v n old now next (faults.ChanceMatch role turn) r apart e only = reached-chance w v n old now next role turn r apart e only
+fault-so delivers w v n old now next (faults.NotDetected turn) r apart e only =
+    let k = ended-turn delivers w v n old now next r (Broken Originator causes.NotDetected) turn only e in
+    run-ends (script_of v) next n (runs.NotDetected turn) e.others _ r.turns r.ends (e.known.known r.knows) e.makes.run k.0 k.1
+fault-so delivers w v n old now next (faults.LinkLost role segment turn) r apart e only =
+    let k = ended-turn delivers w v n old now next r (Broken role (causes.Spent segment e.0)) turn only e.1 in
+    run-ends (script_of v) next n (runs.LinkLost role segment turn) e.1.others _ r.turns r.ends (e.1.known.known r.knows) e.1.makes.run
+    (e.0, k.0) k.1
+
 pub reached-fault : HearingsDeliver
-    → (w w' : World) (script : ScriptValue) (n : Written) (old now next : FolderState) (fault : RunFault) (r : Reached w script n old now)
+    → (w v : World) (script : ScriptValue) (n : Written) (old now next : FolderState) (fault : RunFault) (r : Reached w script n old now)
     → IsApart n
-    → script_of w' ≡ script_of w → TurnEndsBy (script_of w') now next n r.files r.turns r.ends fault → OnlyPuts now next (outputs_of n)
+    → script_of v ≡ script_of w → TurnEndsBy v now next n r.files r.turns r.ends fault → OnlyPuts now next (outputs_of n)
     → FaultEnds script next n fault
-reached-fault delivers w w' script n old now next fault r apart same e only =
-    by fault (subst (λ s. TurnEndsBy s now next n r.files r.turns r.ends fault) (same ∙ r.script_is) e)
-  where
-    by : (fault : RunFault) → TurnEndsBy script now next n r.files r.turns r.ends fault → FaultEnds script next n fault
-    by faults.ReadFault e = reached-reading w script n old now next r e only
-    by faults.WriteFault e = reached-stops w script n old now next r apart e only
-    by faults.NoMemory e = reached-stops w script n old now next r apart e only
-    by (faults.LineLost role symbol) e = reached-line w script n old now next role symbol r apart e only
-    by (faults.ChanceMatch role turn) e = reached-chance w script n old now next role turn r apart e only
-    by (faults.NotDetected turn) e =
-        let k = ended-turn delivers w script n old now next r (Broken Originator causes.NotDetected) turn only e in
-        run-ends script next n (runs.NotDetected turn) e.others _ r.turns r.ends (e.known.known r.knows) e.makes.run k.0 k.1
-    by (faults.LinkLost role segment turn) e =
-        let k = ended-turn delivers w script n old now next r (Broken role (causes.Spent segment e.0)) turn only e.1 in
-        run-ends script next n (runs.LinkLost role segment turn) e.1.others _ r.turns r.ends (e.1.known.known r.knows) e.1.makes.run
-        (e.0, k.0) k.1
+reached-fault delivers w v script n old now next fault r apart same e only =
+    subst (λ s. FaultEnds s next n fault) (same ∙ r.script_is)
+    (fault-so delivers w v n old now next fault (over w v script n old now r same) apart e only)
 
 -- a turn more is nearer to the bound
 pub nearer : (turns next : ℕ) → turns < 2 ^ 40 → next ≡ turns + 1 → 2 ^ 40 - next < 2 ^ 40 - turns

@@ -38,10 +38,9 @@ use Rattle.run_world.specs.declared.world.World.{World}
 use Rattle.run_world.specs.declared.tally.Tally.{Tally}
 use Rattle.run_world.specs.declared.step.RunFault.{RunFault}
 use Rattle.run_world.specs.declared.step.RunFault.TheVariants as run_faults
-use Rattle.run_world.specs.Tally.{Tallies, HearsMore, SendsMore}
-use Rattle.run_world.specs.World.{AddsNumbers}
+use Rattle.run_world.specs.Tally.{Tallies}
 use Rattle.run_world.specs.Turn.{IsWriting, FaultCounts}
-use Rattle.run_world.specs.Mid.{Overhears, TalliesHeard, HasGone, AddsPart, SpeaksLast, fault_named, served, side_of, turn_in}
+use Rattle.run_world.specs.Mid.{HearsThese, Overhears, TalliesHeard, HasGone, AddsPart, SpeaksLast, fault_named, served, side_of, turn_in}
 use Rattle.run_world.proofs.Hearing.{heard-in, none-sent, runs-over}
 use Rattle.run_world.proofs.Serving.{hears-in, served-is}
 
@@ -134,6 +133,11 @@ broken-turn script files ts ends heard mid turn role fault number o open-still b
   silent = silent heard ends mid;
 }
 
+-- both ends hear in it what was heard
+pub hears-these : (heard : Both Heard) (ends mid : Ends) (sent : Both (Option Spoken)) → HearsThese heard (turn_in heard ends mid sent)
+hears-these heard ends mid sent Originator = refl
+hears-these heard ends mid sent Answerer = refl
+
 -- ---- its text
 
 line-of : (turn : ℕ) (role : Role) (heard : Heard) (sent : Option Sent) (given : Option ℕ) → heard ≢ Chance
@@ -221,6 +225,11 @@ pub record CountsSent (old new : Tally) (from_orig from_answ : Sent) : Type 0 wh
   pub orig : new.orig ≡ next_count (sequence_in from_orig) old.orig
   pub answ : new.answ ≡ next_count (sequence_in from_answ) old.answ
 
+pub counts-what : (old new : Tally) (sent said : Both Sent) → sent.orig ≡ said.orig → sent.answ ≡ said.answ
+    → CountsSent old new sent.orig sent.answ → CountsSent old new said.orig said.answ
+counts-what old new sent said o a h =
+    subst (λ (x : Sent). CountsSent old new x said.answ) o (subst (λ (y : Sent). CountsSent old new sent.orig y) a h)
+
 pub tallies-on : GoingLaws → (script : ScriptValue) (files : Both (List ℕ)) (ts : List Turn) (ends : Ends) (heard : Both Heard) (mid : Ends)
     (from_orig from_answ : Sent) (k : Link)
     (old new : Tally) → IsInLimits script → Overhears script files ts ends heard mid
@@ -280,11 +289,12 @@ pub ends-so : (script : ScriptValue) (f new : FolderState) (n : Written) (files 
     (fault : LinkFault) → turn ≡ length ts → IsNamed role fault → Overhears script files ts ends heard mid
     → BrokenTurn (link_of script files) ts ends (turn_in heard ends mid none-sent) mid role fault
     → Appended f new n.trace (turn_text (length ts) (turn_in heard ends mid none-sent))
-    → SpeaksLast script f new n files ts ends mid (fault_named turn role fault)
+    → SpeaksLast script f new n files ts ends heard mid (fault_named turn role fault)
 ends-so script f new n files ts ends heard mid turn role faults.NotDetected number named o b trace = (
   number,
   record {
     turn = turn_in heard ends mid none-sent;
+    hears = hears-these heard ends mid none-sent;
     makes = record {
       run = o.run;
       heard = heard-in script files ts ends heard mid none-sent o;
@@ -298,6 +308,7 @@ ends-so script f new n files ts ends heard mid turn role (faults.Spent segment s
   since,
   record {
     turn = turn_in heard ends mid none-sent;
+    hears = hears-these heard ends mid none-sent;
     makes = record {
       run = o.run;
       heard = heard-in script files ts ends heard mid none-sent o;
@@ -321,25 +332,26 @@ counts-so f new n turn role faults.PeerRefused named stand = absurd named
 
 -- ---- the folder doesn't take the lines
 
-pub stops-so : (script : ScriptValue) (f new : FolderState) (n : Written) (files : Both (List ℕ)) (ts : List Turn) (ends mid : Ends)
-    (fault : RunFault) → IsWriting fault
-    → AddsPart script f new n files ts ends mid → SpeaksLast script f new n files ts ends mid fault
-stops-so script f new n files ts ends mid run_faults.WriteFault w h = h
-stops-so script f new n files ts ends mid run_faults.NoMemory w h = h
-stops-so script f new n files ts ends mid run_faults.ReadFault w h = absurd w
-stops-so script f new n files ts ends mid (run_faults.LineLost role symbol) w h = absurd w
-stops-so script f new n files ts ends mid (run_faults.ChanceMatch role turn) w h = absurd w
-stops-so script f new n files ts ends mid (run_faults.NotDetected turn) w h = absurd w
-stops-so script f new n files ts ends mid (run_faults.LinkLost role segment turn) w h = absurd w
+pub stops-so : (script : ScriptValue) (f new : FolderState) (n : Written) (files : Both (List ℕ)) (ts : List Turn) (ends : Ends)
+    (heard : Both Heard) (mid : Ends) (fault : RunFault) → IsWriting fault
+    → AddsPart script f new n files ts ends heard mid → SpeaksLast script f new n files ts ends heard mid fault
+stops-so script f new n files ts ends heard mid run_faults.WriteFault w h = h
+stops-so script f new n files ts ends heard mid run_faults.NoMemory w h = h
+stops-so script f new n files ts ends heard mid run_faults.ReadFault w h = absurd w
+stops-so script f new n files ts ends heard mid (run_faults.LineLost role symbol) w h = absurd w
+stops-so script f new n files ts ends heard mid (run_faults.ChanceMatch role turn) w h = absurd w
+stops-so script f new n files ts ends heard mid (run_faults.NotDetected turn) w h = absurd w
+stops-so script f new n files ts ends heard mid (run_faults.LinkLost role segment turn) w h = absurd w
 
 pub adds-part : (script : ScriptValue) (f new : FolderState) (n : Written) (files : Both (List ℕ)) (ts : List Turn) (ends : Ends)
     (heard : Both Heard) (mid : Ends) (sents : Both (Option Spoken))
     (outcome : Outcome) → Overhears script files ts ends heard mid
     → TurnIs (link_of script files) ts ends (turn_in heard ends mid sents) mid outcome
-    → PartlyAppended f new n.trace (turn_text (length ts) (turn_in heard ends mid sents)) → AddsPart script f new n files ts ends mid
+    → PartlyAppended f new n.trace (turn_text (length ts) (turn_in heard ends mid sents)) → AddsPart script f new n files ts ends heard mid
 adds-part script f new n files ts ends heard mid sents outcome o is trace = record {
   outcome = outcome;
   turn = turn_in heard ends mid sents;
+  hears = hears-these heard ends mid sents;
   makes = record {
     run = o.run;
     heard = heard-in script files ts ends heard mid sents o;
@@ -357,45 +369,4 @@ last-turn script files ts ends heard mid o closed = record {
   hearing = hears-in script files ts ends mid heard none-sent o;
   done = closed;
   silent = silent heard ends mid;
-}
-
--- ---- what a turn may add to the numbers
-
-again-one : (ns : Option ℕ) (sent : ℕ) → again_in ns sent ≤ 1
-again-one None sent = omega arith
-again-one (Some ns) sent = by (nat_eq ns (sent % 128))
-  where
-    by : (b : Bool) → (if b then 0 else 1) ≤ 1
-    by true = omega arith
-    by false = omega arith
-
-pub sends-more : (old new : Tally) (orig answ : Option ℕ) → new.lost ≡ old.lost
-    → new.again ≡ old.again + again_in orig old.orig + again_in answ old.answ → SendsMore old new
-sends-more old new orig answ lost again = record {
-  lost = lost;
-  again_low = omega (arith, again);
-  again_high = omega (arith, again, again-one orig old.orig, again-one answ old.answ);
-}
-
-pub sends-none : (t : Tally) → SendsMore t t
-sends-none t = record { lost = refl; again_low = omega arith; again_high = omega arith }
-
-pub adds-heard : (old new : World) → HearsMore old.tally new.tally → AddsNumbers old new
-adds-heard old new h = record {
-  lost_low = h.lost_low;
-  lost_high = h.lost_high;
-  again_low = omega (arith, h.again);
-  again_high = omega (arith, h.again);
-}
-
-pub adds-kept : (old mid new : World) → HearsMore old.tally mid.tally → new.tally ≡ mid.tally → AddsNumbers old new
-adds-kept old mid new h e = adds-heard old new (subst (HearsMore old.tally) (sym e) h)
-
-pub adds-sent : (old mid now new : World) → HearsMore old.tally mid.tally → now.tally ≡ mid.tally → SendsMore now.tally new.tally
-    → AddsNumbers old new
-adds-sent old mid now new h e s = record {
-  lost_low = omega (arith, h.lost_low, ap (λ (t : Tally). t.lost) e, s.lost);
-  lost_high = omega (arith, h.lost_high, ap (λ (t : Tally). t.lost) e, s.lost);
-  again_low = omega (arith, h.again, ap (λ (t : Tally). t.again) e, s.again_low);
-  again_high = omega (arith, h.again, ap (λ (t : Tally). t.again) e, s.again_high);
 }

@@ -1,5 +1,5 @@
 -- A whole turn.
-use Rattle.std.proofs.Common.{◌≡◌, inl, inr, ℕ, List, [], ◌∷◌, length, sym, ◌∙◌, ap, subst, Result, Ok, Err}
+use Rattle.std.proofs.Common.{◌≡◌, inl, inr, ℕ, ◌+◌, List, [], ◌∷◌, length, refl, sym, ◌∙◌, ap, subst, Result, Ok, Err}
 use Rattle.outside_calls.specs.Folder.{FolderState, OnlyWrites}
 use Rattle.outside_calls.specs.Outputs.{OnlyPuts, AddEach, AddPart}
 use Rattle.outside_calls.proofs.Putting.{AddEach-next, AddPart-next, AddPart-none, AddPart-longer}
@@ -29,9 +29,12 @@ use Rattle.run_world.specs.declared.step.RunFault.{RunFault}
 use Rattle.run_world.specs.declared.step.RunFault.TheVariants as run_faults
 use Rattle.run_world.specs.World.{IsReady, StayKnown}
 use Rattle.run_world.specs.Tally.{IsFew}
-use Rattle.run_world.specs.Turn.{DoneIn, MakesTurn, Stops, StopsReading, EndsBy, EndsInTurn, GoesOnBy, IsWriting, IsReading}
+use Rattle.run_world.specs.Turn.{SendsNone, MakesTurn, Stops, StopsReading, EndsBy, EndsInTurn, GoesOnBy, IsWriting, IsReading}
 use Rattle.run_world.specs.Turn.{added}
-use Rattle.run_world.specs.Mid.{Overhears, HasGone, AddsLines, AddsPart, Finishes, SpeaksLast, turn_in}
+use Rattle.run_world.specs.Mid.{Overhears, InTurn, SameBeside, HasGone, HearsThese, AddsLines, AddsPart, SpeaksLast, turn_in}
+use Rattle.run_world.specs.declared.tally.Tally.{Tally}
+use Rattle.link_run.specs.Counts.{lost_in, lost_slots}
+use Rattle.run_world.proofs.Speaking.{hears-these}
 use Rattle.run_world.proofs.Hearing.{heard-in, none-sent, runs-over}
 use Rattle.run_world.proofs.Serving.{hears-in}
 use Rattle.run_world.proofs.Folders.{IsApart, stay-known}
@@ -63,17 +66,19 @@ both-same : (x y : Ends) → x.orig ≡ y.orig → x.answ ≡ y.answ → x ≡ y
 both-same x y o a = λ k. record { orig = o k; answ = a k }
 
 -- The turn that is being made.
-pub record Making (script : ScriptValue) (files : Both (List ℕ)) (ts : List Turn) (ends mid : Ends) : Type 0 where
+pub record Making (script : ScriptValue) (files : Both (List ℕ)) (ts : List Turn) (ends : Ends) (heard : Both Heard) (mid : Ends) : Type 0 where
   pub turn : Turn
   pub outcome : Outcome
+  pub hears : HearsThese heard turn
   pub makes : MakesTurn script files ts ends turn mid outcome
 
 pub making : MakingLaws → (script : ScriptValue) (files : Both (List ℕ)) (ts : List Turn) (ends : Ends) (heard : Both Heard) (mid : Ends)
     → IsInLimits script
-    → Overhears script files ts ends heard mid → Making script files ts ends mid
+    → Overhears script files ts ends heard mid → Making script files ts ends heard mid
 making laws script files ts ends heard mid limits o = record {
   turn = m.turn;
   outcome = m.outcome;
+  hears = λ role. m.heard_is role ∙ hears-these heard ends mid none-sent role;
   makes = record { run = o.run; heard = well; is = subst (λ x. TurnIs (link_of script files) ts ends m.turn x m.outcome) same m.is };
 }
   where
@@ -112,38 +117,59 @@ making laws script files ts ends heard mid limits o = record {
           well = λ f. h.well (sym (m.heard_is role) ∙ f);
         }
 
+-- ---- the world after a turn in which nothing is sent
+
+abbrev pub Halts : World → List Turn → Both Heard → Type 0
+Halts w ts heard = (t : Turn) → HearsThese heard t → SendsNone w ts t
+
+pub same-beside : (w : World) → SameBeside w w
+same-beside w = record { lines = refl; script = refl; turn = refl; tally = refl }
+
+pub halts-so : (old w : World) (files : Both (List ℕ)) (ts : List Turn) (ends : Ends) (heard : Both Heard) (mid now : Ends)
+    → InTurn old files ts ends heard mid now → SameBeside old w → Halts w ts heard
+halts-so old w files ts ends heard mid now h same t hears =
+    let orig = sym (hears Originator) in
+    let answ = sym (hears Answerer) in
+    record {
+      lines = subst (λ s. HaveArrived w.lines (channel_of s) 1 (both_sent_by 0 ts)) (sym same.script)
+          (subst (λ l. HaveArrived l (channel_of old.script) 1 (both_sent_by 0 ts)) (sym same.lines) h.lines);
+      lost = ap (λ (x : Tally). x.lost) same.tally ∙ h.tally.lost ∙ (λ k. lost_slots ts + lost_in (orig k) + lost_in (answ k));
+      again = ap (λ (x : Tally). x.again) same.tally ∙ h.tally.again;
+    }
+
 -- ---- a fault of the folder
 
-pub writing-ends : (script : ScriptValue) (a b : FolderState) (n : Written) (files : Both (List ℕ)) (ts : List Turn) (ends : Ends)
+pub writing-ends : (w : World) (a b : FolderState) (n : Written) (files : Both (List ℕ)) (ts : List Turn) (ends : Ends)
     (fault : RunFault) → IsWriting fault
-    → Stops script a b n files ts ends → EndsBy script a b n files ts ends fault
-writing-ends script a b n files ts ends run_faults.WriteFault w h = h
-writing-ends script a b n files ts ends run_faults.NoMemory w h = h
-writing-ends script a b n files ts ends run_faults.ReadFault w h = absurd w
-writing-ends script a b n files ts ends (run_faults.LineLost role symbol) w h = absurd w
-writing-ends script a b n files ts ends (run_faults.ChanceMatch role turn) w h = absurd w
-writing-ends script a b n files ts ends (run_faults.NotDetected turn) w h = absurd w
-writing-ends script a b n files ts ends (run_faults.LinkLost role segment turn) w h = absurd w
+    → Stops w a b n files ts ends → EndsBy w a b n files ts ends fault
+writing-ends w a b n files ts ends run_faults.WriteFault is h = h
+writing-ends w a b n files ts ends run_faults.NoMemory is h = h
+writing-ends w a b n files ts ends run_faults.ReadFault is h = absurd is
+writing-ends w a b n files ts ends (run_faults.LineLost role symbol) is h = absurd is
+writing-ends w a b n files ts ends (run_faults.ChanceMatch role turn) is h = absurd is
+writing-ends w a b n files ts ends (run_faults.NotDetected turn) is h = absurd is
+writing-ends w a b n files ts ends (run_faults.LinkLost role segment turn) is h = absurd is
 
-pub reading-ends : (script : ScriptValue) (a b : FolderState) (n : Written) (files : Both (List ℕ)) (ts : List Turn) (ends : Ends)
+pub reading-ends : (w : World) (a b : FolderState) (n : Written) (files : Both (List ℕ)) (ts : List Turn) (ends : Ends)
     (fault : RunFault) → IsReading fault
-    → StopsReading script a b n files ts ends → EndsBy script a b n files ts ends fault
-reading-ends script a b n files ts ends run_faults.ReadFault w h = h
-reading-ends script a b n files ts ends run_faults.NoMemory w h = inl h.0
-reading-ends script a b n files ts ends run_faults.WriteFault w h = absurd w
-reading-ends script a b n files ts ends (run_faults.LineLost role symbol) w h = absurd w
-reading-ends script a b n files ts ends (run_faults.ChanceMatch role turn) w h = absurd w
-reading-ends script a b n files ts ends (run_faults.NotDetected turn) w h = absurd w
-reading-ends script a b n files ts ends (run_faults.LinkLost role segment turn) w h = absurd w
+    → StopsReading w a b n files ts ends → EndsBy w a b n files ts ends fault
+reading-ends w a b n files ts ends run_faults.ReadFault is h = h
+reading-ends w a b n files ts ends run_faults.NoMemory is h = inl h.0
+reading-ends w a b n files ts ends run_faults.WriteFault is h = absurd is
+reading-ends w a b n files ts ends (run_faults.LineLost role symbol) is h = absurd is
+reading-ends w a b n files ts ends (run_faults.ChanceMatch role turn) is h = absurd is
+reading-ends w a b n files ts ends (run_faults.NotDetected turn) is h = absurd is
+reading-ends w a b n files ts ends (run_faults.LinkLost role segment turn) is h = absurd is
 
 -- as what both took is handed over,
 pub stops-handing : MakingLaws
-    → (script : ScriptValue) (a b : FolderState) (n : Written) (files : Both (List ℕ)) (ts : List Turn) (ends : Ends) (heard : Both Heard)
+    → (w : World) (a b : FolderState) (n : Written) (files : Both (List ℕ)) (ts : List Turn) (ends : Ends) (heard : Both Heard)
     (mid : Ends)
-    → IsInLimits script → IsApart n → AreWithin files → OnlyPuts a b (outputs_of n) → Overhears script files ts ends heard mid → AddPart a b (outputs_of n) (octets_of mid)
-    → Stops script a b n files ts ends
-stops-handing laws script a b n files ts ends heard mid limits apart within only o part =
-    let m = making laws script files ts ends heard mid limits o in
+    → IsInLimits w.script → IsApart n → AreWithin files → OnlyPuts a b (outputs_of n) → Overhears w.script files ts ends heard mid
+    → Halts w ts heard → AddPart a b (outputs_of n) (octets_of mid)
+    → Stops w a b n files ts ends
+stops-handing laws w a b n files ts ends heard mid limits apart within only o halts part =
+    let m = making laws w.script files ts ends heard mid limits o in
     inl (record {
       others = files;
       known = stay-known a b n files apart only within;
@@ -151,17 +177,18 @@ stops-handing laws script a b n files ts ends heard mid limits apart within only
       mid = mid;
       outcome = m.outcome;
       makes = m.makes;
+      halts = halts m.turn m.hears;
       writes = AddPart-longer a b (outputs_of n) (octets_of mid) (turn_text (length ts) m.turn ∷ []) part;
     })
 
 -- as the files are read,
 pub stops-reading : MakingLaws
-    → (script : ScriptValue) (a b : FolderState) (n : Written) (files : Both (List ℕ)) (ts : List Turn) (ends : Ends) (heard : Both Heard)
+    → (w : World) (a b : FolderState) (n : Written) (files : Both (List ℕ)) (ts : List Turn) (ends : Ends) (heard : Both Heard)
     (mid : Ends)
-    → IsInLimits script → IsApart n → AreWithin files → OnlyPuts a b (outputs_of n) → Overhears script files ts ends heard mid
-    → AddEach a b (outputs_of n) (octets_of mid) → StopsReading script a b n files ts ends
-stops-reading laws script a b n files ts ends heard mid limits apart within only o delivered =
-    let m = making laws script files ts ends heard mid limits o in (
+    → IsInLimits w.script → IsApart n → AreWithin files → OnlyPuts a b (outputs_of n) → Overhears w.script files ts ends heard mid
+    → Halts w ts heard → AddEach a b (outputs_of n) (octets_of mid) → StopsReading w a b n files ts ends
+stops-reading laws w a b n files ts ends heard mid limits apart within only o halts delivered =
+    let m = making laws w.script files ts ends heard mid limits o in (
       record {
         others = files;
         known = stay-known a b n files apart only within;
@@ -169,17 +196,18 @@ stops-reading laws script a b n files ts ends heard mid limits apart within only
         mid = mid;
         outcome = m.outcome;
         makes = m.makes;
+        halts = halts m.turn m.hears;
         writes = AddPart-none a b (received_of n) n.trace [] (octets_of mid) (turn_text (length ts) m.turn) [] tt delivered;
       },
       delivered,
     )
 
 -- and as the lines go out.
-pub stops-writing : (script : ScriptValue) (a b c : FolderState) (n : Written) (files others : Both (List ℕ)) (ts : List Turn)
-    (ends mid : Ends) → IsApart n
+pub stops-writing : (w : World) (a b c : FolderState) (n : Written) (files others : Both (List ℕ)) (ts : List Turn)
+    (ends : Ends) (heard : Both Heard) (mid : Ends) → IsApart n
     → StayKnown a c n files others → OnlyPuts a b (outputs_of n) → AddEach a b (outputs_of n) (octets_of mid) → OnlyWrites b c n.trace
-    → AddsPart script b c n others ts ends mid → Stops script a c n files ts ends
-stops-writing script a b c n files others ts ends mid apart known only delivered w p =
+    → Halts w ts heard → AddsPart w.script b c n others ts ends heard mid → Stops w a c n files ts ends
+stops-writing w a b c n files others ts ends heard mid apart known only delivered lines halts p =
     inl (record {
       others = others;
       known = known;
@@ -187,58 +215,44 @@ stops-writing script a b c n files others ts ends mid apart known only delivered
       mid = mid;
       outcome = p.outcome;
       makes = p.makes;
-      writes = AddPart-next a b c (received_of n) n.trace [] (octets_of mid) _ tt apart.0 only.goes_on delivered w p.trace;
+      halts = halts p.turn p.hears;
+      writes = AddPart-next a b c (received_of n) n.trace [] (octets_of mid) _ tt apart.0 only.goes_on delivered lines p.trace;
     })
 
 -- ---- the run ends in this turn
 
-pub ends-in : (script : ScriptValue) (a b c : FolderState) (n : Written) (files others : Both (List ℕ)) (ts : List Turn) (ends mid : Ends)
-    (outcome : Outcome) (number : ℕ)
-    → IsApart n → number ≡ length ts → StayKnown a c n files others → OnlyPuts a b (outputs_of n) → AddEach a b (outputs_of n) (octets_of mid) → OnlyWrites b c n.trace
-    → AddsLines script b c n others ts ends mid outcome → EndsInTurn script a c n files ts ends outcome number
-ends-in script a b c n files others ts ends mid outcome number apart e known only delivered w p = record {
+pub ends-in : (w : World) (a b c : FolderState) (n : Written) (files others : Both (List ℕ)) (ts : List Turn) (ends : Ends)
+    (heard : Both Heard) (mid : Ends) (outcome : Outcome) (number : ℕ)
+    → IsApart n → number ≡ length ts → StayKnown a c n files others → OnlyPuts a b (outputs_of n) → AddEach a b (outputs_of n) (octets_of mid)
+    → OnlyWrites b c n.trace → Halts w ts heard
+    → AddsLines w.script b c n others ts ends heard mid outcome → EndsInTurn w a c n files ts ends outcome number
+ends-in w a b c n files others ts ends heard mid outcome number apart e known only delivered lines halts p = record {
   number_is = e;
   others = others;
   known = known;
   turn = p.turn;
   mid = mid;
   makes = p.makes;
-  writes = AddEach-next a b c (received_of n) n.trace [] (octets_of mid) _ tt apart.0 only.goes_on delivered w (inr p.trace);
+  halts = halts p.turn p.hears;
+  writes = AddEach-next a b c (received_of n) n.trace [] (octets_of mid) _ tt apart.0 only.goes_on delivered lines (inr p.trace);
 }
 
-pub speaks-last : (script : ScriptValue) (a b c : FolderState) (n : Written) (files others : Both (List ℕ)) (ts : List Turn)
-    (ends mid : Ends) (fault : RunFault)
-    → IsApart n → StayKnown a c n files others → OnlyPuts a b (outputs_of n) → AddEach a b (outputs_of n) (octets_of mid) → OnlyWrites b c n.trace
-    → SpeaksLast script b c n others ts ends mid fault → EndsBy script a c n files ts ends fault
-speaks-last script a b c n files others ts ends mid run_faults.WriteFault apart known only d w h =
-    stops-writing script a b c n files others ts ends mid apart known only d w h
-speaks-last script a b c n files others ts ends mid run_faults.NoMemory apart known only d w h =
-    stops-writing script a b c n files others ts ends mid apart known only d w h
-speaks-last script a b c n files others ts ends mid (run_faults.LinkLost role segment turn) apart known only d w h =
-    (h.1, ends-in script a b c n files others ts ends mid (Broken role (faults.Spent segment h.1)) turn apart h.0 known only d w h.2)
-speaks-last script a b c n files others ts ends mid (run_faults.NotDetected turn) apart known only d w h =
-    ends-in script a b c n files others ts ends mid (Broken Originator faults.NotDetected) turn apart h.0 known only d w h.1
-speaks-last script a b c n files others ts ends mid run_faults.ReadFault apart known only d w h = absurd h
-speaks-last script a b c n files others ts ends mid (run_faults.LineLost role symbol) apart known only d w h = absurd h
-speaks-last script a b c n files others ts ends mid (run_faults.ChanceMatch role turn) apart known only d w h = absurd h
-
-pub done-in : (w : World) (a b c : FolderState) (n : Written) (files : Both (List ℕ)) (ts : List Turn) (ends mid : Ends) (number : ℕ)
-    → IsApart n → number ≡ length ts → StayKnown a c n files files → OnlyPuts a b (outputs_of n) → AddEach a b (outputs_of n) (octets_of mid) → OnlyWrites b c n.trace
-    → Finishes w b c n files ts ends mid → HaveArrived w.lines (channel_of w.script) 1 (both_sent_by 0 ts) → DoneIn w a c n files ts ends number
-done-in w a b c n files ts ends mid number apart e known only delivered lines f arrived = record {
-  ended = record {
-    number_is = e;
-    others = files;
-    known = known;
-    turn = f.adds.turn;
-    mid = mid;
-    makes = f.adds.makes;
-    writes = AddEach-next a b c (received_of n) n.trace [] (octets_of mid) _ tt apart.0 only.goes_on delivered lines (inr f.adds.trace);
-  };
-  lines = arrived;
-  lost = f.lost;
-  again = f.again;
-}
+pub speaks-last : (w : World) (a b c : FolderState) (n : Written) (files others : Both (List ℕ)) (ts : List Turn)
+    (ends : Ends) (heard : Both Heard) (mid : Ends) (fault : RunFault)
+    → IsApart n → StayKnown a c n files others → OnlyPuts a b (outputs_of n) → AddEach a b (outputs_of n) (octets_of mid)
+    → OnlyWrites b c n.trace → Halts w ts heard
+    → SpeaksLast w.script b c n others ts ends heard mid fault → EndsBy w a c n files ts ends fault
+speaks-last w a b c n files others ts ends heard mid run_faults.WriteFault apart known only d lines halts h =
+    stops-writing w a b c n files others ts ends heard mid apart known only d lines halts h
+speaks-last w a b c n files others ts ends heard mid run_faults.NoMemory apart known only d lines halts h =
+    stops-writing w a b c n files others ts ends heard mid apart known only d lines halts h
+speaks-last w a b c n files others ts ends heard mid (run_faults.LinkLost role segment turn) apart known only d lines halts h =
+    (h.1, ends-in w a b c n files others ts ends heard mid (Broken role (faults.Spent segment h.1)) turn apart h.0 known only d lines halts h.2)
+speaks-last w a b c n files others ts ends heard mid (run_faults.NotDetected turn) apart known only d lines halts h =
+    ends-in w a b c n files others ts ends heard mid (Broken Originator faults.NotDetected) turn apart h.0 known only d lines halts h.1
+speaks-last w a b c n files others ts ends heard mid run_faults.ReadFault apart known only d lines halts h = absurd h
+speaks-last w a b c n files others ts ends heard mid (run_faults.LineLost role symbol) apart known only d lines halts h = absurd h
+speaks-last w a b c n files others ts ends heard mid (run_faults.ChanceMatch role turn) apart known only d lines halts h = absurd h
 
 -- ---- the run goes on
 

@@ -32,7 +32,7 @@ use Rattle.run_world.specs.declared.tally.Tally.{Tally}
 use Rattle.run_world.specs.declared.step.RunFault.{RunFault}
 use Rattle.run_world.specs.declared.step.RunFault.TheVariants as run_faults
 use Rattle.run_world.specs.World.{WorldAfter}
-use Rattle.run_world.specs.Turn.{MakesTurn}
+use Rattle.run_world.specs.Turn.{MakesTurn, HearsNone}
 
 -- What both ends hear in the turn after these, and are once they have heard.
 pub record Overhears (script : ScriptValue) (files : Both (List ℕ)) (ts : List Turn) (ends : Ends) (heard : Both Heard)
@@ -95,7 +95,7 @@ pub record HasHeard (w : World) (files : Both (List ℕ)) (ts : List Turn) (ends
 -- what hearing answers
 abbrev pub HearsTurn : World → Both (List ℕ) → List Turn → Ends → Result (Both Heard) LineEnd → Type 0
 HearsTurn w files ts ends (Ok heard) = HasHeard w files ts ends heard
-HearsTurn w files ts ends (Err end) = EndsLine (channel_of w.script) ts ends (end_of end)
+HearsTurn w files ts ends (Err end) = EndsLine (channel_of w.script) ts ends (end_of end) × HearsNone w ts
 
 -- What both ends took is handed over, segments and the lengths of breaks.
 pub record HandsOver (w : World) (old new : FolderState) (n : Written) (files : Both (List ℕ)) (ts : List Turn) (ends : Ends)
@@ -118,18 +118,24 @@ pub record Serves (w : World) (f : FolderState) (n : Written) (files : Both (Lis
   pub reads : ReadsBoth f n files (handed mid) others
   pub stands : InTurn w others ts ends heard mid (served w.script others (length ts) mid)
 
+-- In this turn both ends hear these.
+abbrev pub HearsThese : Both Heard → Turn → Type 0
+HearsThese heard t = (role : Role) → (of role t).heard ≡ of role heard
+
 -- The turn after these is made, with that outcome, and its lines stand behind the trace.
-pub record AddsLines (script : ScriptValue) (old new : FolderState) (n : Written) (files : Both (List ℕ)) (ts : List Turn) (ends mid : Ends)
-    (outcome : Outcome) : Type 0 where
+pub record AddsLines (script : ScriptValue) (old new : FolderState) (n : Written) (files : Both (List ℕ)) (ts : List Turn) (ends : Ends)
+    (heard : Both Heard) (mid : Ends) (outcome : Outcome) : Type 0 where
   pub turn : Turn
+  pub hears : HearsThese heard turn
   pub makes : MakesTurn script files ts ends turn mid outcome
   pub trace : Appended old new n.trace (turn_text (length ts) turn)
 
 -- A part of its lines does, whatever it comes to.
 pub record AddsPart (script : ScriptValue) (old new : FolderState) (n : Written) (files : Both (List ℕ)) (ts : List Turn)
-    (ends mid : Ends) : Type 0 where
+    (ends : Ends) (heard : Both Heard) (mid : Ends) : Type 0 where
   pub outcome : Outcome
   pub turn : Turn
+  pub hears : HearsThese heard turn
   pub makes : MakesTurn script files ts ends turn mid outcome
   pub trace : PartlyAppended old new n.trace (turn_text (length ts) turn)
 
@@ -144,30 +150,23 @@ pub record HasGone (w : World) (script : ScriptValue) (old new : FolderState) (n
   pub world : WorldAfter w files (turn ∷ ts) after
   pub trace : Appended old new n.trace (turn_text (length ts) turn)
 
--- The run is done in this turn, and all its turns are counted.
-pub record Finishes (w : World) (old new : FolderState) (n : Written) (files : Both (List ℕ)) (ts : List Turn)
-    (ends mid : Ends) : Type 0 where
-  pub adds : AddsLines w.script old new n files ts ends mid Done
-  pub lost : w.tally.lost ≡ lost_slots (adds.turn ∷ ts)
-  pub again : w.tally.again ≡ sent_again (adds.turn ∷ ts)
-
 -- why the run ends as the ends speak
-abbrev pub SpeaksLast : ScriptValue → FolderState → FolderState → Written → Both (List ℕ) → List Turn → Ends → Ends → RunFault → Type 0
-SpeaksLast script old new n files ts ends mid run_faults.WriteFault = AddsPart script old new n files ts ends mid
-SpeaksLast script old new n files ts ends mid run_faults.NoMemory = AddsPart script old new n files ts ends mid
-SpeaksLast script old new n files ts ends mid (run_faults.LinkLost role segment turn) =
-    (turn ≡ length ts) × (since : ℕ) × AddsLines script old new n files ts ends mid (Broken role (faults.Spent segment since))
-SpeaksLast script old new n files ts ends mid (run_faults.NotDetected turn) =
-    (turn ≡ length ts) × AddsLines script old new n files ts ends mid (Broken Originator faults.NotDetected)
-SpeaksLast script old new n files ts ends mid run_faults.ReadFault = ⊥
-SpeaksLast script old new n files ts ends mid (run_faults.LineLost role symbol) = ⊥
-SpeaksLast script old new n files ts ends mid (run_faults.ChanceMatch role turn) = ⊥
+abbrev pub SpeaksLast : ScriptValue → FolderState → FolderState → Written → Both (List ℕ) → List Turn → Ends → Both Heard → Ends → RunFault → Type 0
+SpeaksLast script old new n files ts ends heard mid run_faults.WriteFault = AddsPart script old new n files ts ends heard mid
+SpeaksLast script old new n files ts ends heard mid run_faults.NoMemory = AddsPart script old new n files ts ends heard mid
+SpeaksLast script old new n files ts ends heard mid (run_faults.LinkLost role segment turn) =
+    (turn ≡ length ts) × (since : ℕ) × AddsLines script old new n files ts ends heard mid (Broken role (faults.Spent segment since))
+SpeaksLast script old new n files ts ends heard mid (run_faults.NotDetected turn) =
+    (turn ≡ length ts) × AddsLines script old new n files ts ends heard mid (Broken Originator faults.NotDetected)
+SpeaksLast script old new n files ts ends heard mid run_faults.ReadFault = ⊥
+SpeaksLast script old new n files ts ends heard mid (run_faults.LineLost role symbol) = ⊥
+SpeaksLast script old new n files ts ends heard mid (run_faults.ChanceMatch role turn) = ⊥
 
 -- what speaking answers
-abbrev pub SpeaksTurn : World → FolderState → FolderState → Written → Both (List ℕ) → List Turn → Ends → Ends → Result (Unit {0}) RunFault
+abbrev pub SpeaksTurn : World → FolderState → FolderState → Written → Both (List ℕ) → List Turn → Ends → Both Heard → Ends → Result (Unit {0}) RunFault
     → Type 0
-SpeaksTurn w old new n files ts ends mid (Ok done) = HasGone w w.script old new n files ts ends mid
-SpeaksTurn w old new n files ts ends mid (Err fault) = SpeaksLast w.script old new n files ts ends mid fault
+SpeaksTurn w old new n files ts ends heard mid (Ok done) = HasGone w w.script old new n files ts ends mid
+SpeaksTurn w old new n files ts ends heard mid (Err fault) = SpeaksLast w.script old new n files ts ends heard mid fault
 
 -- Both ends are to speak, in a turn in which the originator isn't closed.
 pub record IsToSpeak (w : World) (files : Both (List ℕ)) (ts : List Turn) (ends : Ends) (heard : Both Heard) (mid : Ends) : Type 0 where

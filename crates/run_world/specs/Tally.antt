@@ -17,15 +17,3 @@ pub record IsFew (t : Tally) (heard sent : ℕ) : Type 0 where
   pub again : t.again ≤ 2 * sent
   pub orig : t.orig ≤ sent
   pub answ : t.answ ≤ sent
-
--- What is heard in a turn may have been lost, at both ends.
-pub record HearsMore (old new : Tally) : Type 0 where
-  pub lost_low : old.lost ≤ new.lost
-  pub lost_high : new.lost ≤ old.lost + 2
-  pub again : new.again ≡ old.again
-
--- What is sent in a turn may have been sent before, at both ends.
-pub record SendsMore (old new : Tally) : Type 0 where
-  pub lost : new.lost ≡ old.lost
-  pub again_low : old.again ≤ new.again
-  pub again_high : new.again ≤ old.again + 2

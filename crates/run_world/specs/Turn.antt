@@ -51,85 +51,93 @@ pub record GoesOnBy (w : World) (old new : FolderState) (n : Written) (files : B
   pub world : WorldAfter w others (turn ∷ ts) after
   pub writes : AddEach old new (outputs_of n) (added going.mid (turn_text (length ts) turn))
 
+-- Nothing is sent in this turn: the line has passed the slots that arrived in it, and those of them that were lost are counted.
+pub record SendsNone (w : World) (ts : List Turn) (turn : Turn) : Type 0 where
+  pub lines : HaveArrived (lines_of w) (channel_of (script_of w)) 1 (both_sent_by 0 ts)
+  pub lost : lost_of w ≡ lost_slots (turn ∷ ts)
+  pub again : again_of w ≡ sent_again ts
+
+-- Nothing is heard in it either, and no more is counted than in the turns before.
+pub record HearsNone (w : World) (ts : List Turn) : Type 0 where
+  pub lost : lost_of w ≡ lost_slots ts
+  pub again : again_of w ≡ sent_again ts
+
 -- The run ends in this turn, with that outcome.
-pub record EndsInTurn (script : ScriptValue) (old new : FolderState) (n : Written) (files : Both (List ℕ)) (ts : List Turn) (ends : Ends)
+pub record EndsInTurn (w : World) (old new : FolderState) (n : Written) (files : Both (List ℕ)) (ts : List Turn) (ends : Ends)
     (outcome : Outcome) (number : ℕ) : Type 0 where
   pub number_is : number ≡ length ts
   pub others : Both (List ℕ)
   pub known : StayKnown old new n files others
   pub turn : Turn
   pub mid : Ends
-  pub makes : MakesTurn script others ts ends turn mid outcome
+  pub makes : MakesTurn (script_of w) others ts ends turn mid outcome
+  pub halts : SendsNone w ts turn
   pub writes : AddEach old new (outputs_of n) (added mid (turn_text (length ts) turn))
 
--- The run is done in this turn: the lines have passed the slots that arrived in it too, and all turns are counted.
-pub record DoneIn (w : World) (old new : FolderState) (n : Written) (files : Both (List ℕ)) (ts : List Turn) (ends : Ends)
-    (number : ℕ) : Type 0 where
-  pub ended : EndsInTurn (script_of w) old new n files ts ends Done number
-  pub lines : HaveArrived (lines_of w) (channel_of (script_of w)) 1 (both_sent_by 0 ts)
-  pub lost : lost_of w ≡ lost_slots (ended.turn ∷ ts)
-  pub again : again_of w ≡ sent_again (ended.turn ∷ ts)
-
 -- The line is lost as this turn begins: nothing is written.
-pub record LosesLine (script : ScriptValue) (old new : FolderState) (n : Written) (ts : List Turn) (ends : Ends) (role : Role)
+pub record LosesLine (w : World) (old new : FolderState) (n : Written) (ts : List Turn) (ends : Ends) (role : Role)
     (symbol : ℕ) : Type 0 where
-  pub is : EndsLine (channel_of script) ts ends (lines.LineLost role symbol)
+  pub is : EndsLine (channel_of (script_of w)) ts ends (lines.LineLost role symbol)
+  pub halts : HearsNone w ts
   pub kept : KeepsEach old new (outputs_of n)
 
 -- A slot is a chance match: the one line of it is written.
-pub record MeetsChance (script : ScriptValue) (old new : FolderState) (n : Written) (ts : List Turn) (ends : Ends) (role : Role)
+pub record MeetsChance (w : World) (old new : FolderState) (n : Written) (ts : List Turn) (ends : Ends) (role : Role)
     (number : ℕ) : Type 0 where
   pub number_is : number ≡ length ts
-  pub is : EndsLine (channel_of script) ts ends (lines.ChanceMatch role)
+  pub is : EndsLine (channel_of (script_of w)) ts ends (lines.ChanceMatch role)
+  pub halts : HearsNone w ts
   pub received : KeepsEach old new (received_of n)
   pub trace : Appended old new n.trace (chance_line (length ts) role)
 
 -- The folder fails in this turn, and a part of what it adds is written: whatever the turn comes to,
-pub record StopsInTurn (script : ScriptValue) (old new : FolderState) (n : Written) (files : Both (List ℕ)) (ts : List Turn)
+pub record StopsInTurn (w : World) (old new : FolderState) (n : Written) (files : Both (List ℕ)) (ts : List Turn)
     (ends : Ends) : Type 0 where
   pub others : Both (List ℕ)
   pub known : StayKnown old new n files others
   pub turn : Turn
   pub mid : Ends
   pub outcome : Outcome
-  pub makes : MakesTurn script others ts ends turn mid outcome
+  pub makes : MakesTurn (script_of w) others ts ends turn mid outcome
+  pub halts : SendsNone w ts turn
   pub writes : AddPart old new (outputs_of n) (added mid (turn_text (length ts) turn))
 
 -- or where a slot is a chance match.
-pub record StopsAtChance (script : ScriptValue) (old new : FolderState) (n : Written) (ts : List Turn) (ends : Ends) : Type 0 where
+pub record StopsAtChance (w : World) (old new : FolderState) (n : Written) (ts : List Turn) (ends : Ends) : Type 0 where
   pub role : Role
-  pub is : EndsLine (channel_of script) ts ends (lines.ChanceMatch role)
+  pub is : EndsLine (channel_of (script_of w)) ts ends (lines.ChanceMatch role)
+  pub halts : HearsNone w ts
   pub received : KeepsEach old new (received_of n)
   pub trace : PartlyAppended old new n.trace (chance_line (length ts) role)
 
 -- A file that is sent isn't read: what both ends took is written, and nothing of the lines.
-abbrev pub StopsReading : ScriptValue → FolderState → FolderState → Written → Both (List ℕ) → List Turn → Ends → Type 0
-StopsReading script old new n files ts ends = (stops : StopsInTurn script old new n files ts ends) × AddEach old new (outputs_of n) (octets_of stops.mid)
+abbrev pub StopsReading : World → FolderState → FolderState → Written → Both (List ℕ) → List Turn → Ends → Type 0
+StopsReading w old new n files ts ends = (stops : StopsInTurn w old new n files ts ends) × AddEach old new (outputs_of n) (octets_of stops.mid)
 
-abbrev pub Stops : ScriptValue → FolderState → FolderState → Written → Both (List ℕ) → List Turn → Ends → Type 0
-Stops script old new n files ts ends = StopsInTurn script old new n files ts ends ⊎ StopsAtChance script old new n ts ends
+abbrev pub Stops : World → FolderState → FolderState → Written → Both (List ℕ) → List Turn → Ends → Type 0
+Stops w old new n files ts ends = StopsInTurn w old new n files ts ends ⊎ StopsAtChance w old new n ts ends
 
 -- an end's tries are spent, at its front
-abbrev pub LosesLink : ScriptValue → FolderState → FolderState → Written → Both (List ℕ) → List Turn → Ends → Role → ℕ → ℕ → Type 0
-LosesLink script old new n files ts ends role segment number =
-    (since : ℕ) × EndsInTurn script old new n files ts ends (Broken role (faults.Spent segment since)) number
+abbrev pub LosesLink : World → FolderState → FolderState → Written → Both (List ℕ) → List Turn → Ends → Role → ℕ → ℕ → Type 0
+LosesLink w old new n files ts ends role segment number =
+    (since : ℕ) × EndsInTurn w old new n files ts ends (Broken role (faults.Spent segment since)) number
 
 -- why a run ends in this turn with less than both files
-abbrev pub EndsBy : ScriptValue → FolderState → FolderState → Written → Both (List ℕ) → List Turn → Ends → RunFault → Type 0
-EndsBy script old new n files ts ends run_faults.ReadFault = StopsReading script old new n files ts ends
-EndsBy script old new n files ts ends run_faults.WriteFault = Stops script old new n files ts ends
-EndsBy script old new n files ts ends (run_faults.LineLost role symbol) = LosesLine script old new n ts ends role symbol
-EndsBy script old new n files ts ends (run_faults.ChanceMatch role turn) = MeetsChance script old new n ts ends role turn
-EndsBy script old new n files ts ends (run_faults.NotDetected turn) =
-    EndsInTurn script old new n files ts ends (Broken Originator faults.NotDetected) turn
-EndsBy script old new n files ts ends (run_faults.LinkLost role segment turn) = LosesLink script old new n files ts ends role segment turn
-EndsBy script old new n files ts ends run_faults.NoMemory = Stops script old new n files ts ends
+abbrev pub EndsBy : World → FolderState → FolderState → Written → Both (List ℕ) → List Turn → Ends → RunFault → Type 0
+EndsBy w old new n files ts ends run_faults.ReadFault = StopsReading w old new n files ts ends
+EndsBy w old new n files ts ends run_faults.WriteFault = Stops w old new n files ts ends
+EndsBy w old new n files ts ends (run_faults.LineLost role symbol) = LosesLine w old new n ts ends role symbol
+EndsBy w old new n files ts ends (run_faults.ChanceMatch role turn) = MeetsChance w old new n ts ends role turn
+EndsBy w old new n files ts ends (run_faults.NotDetected turn) =
+    EndsInTurn w old new n files ts ends (Broken Originator faults.NotDetected) turn
+EndsBy w old new n files ts ends (run_faults.LinkLost role segment turn) = LosesLink w old new n files ts ends role segment turn
+EndsBy w old new n files ts ends run_faults.NoMemory = Stops w old new n files ts ends
 
 -- what a turn answers, after these turns
 abbrev pub TurnAnswers : World → FolderState → FolderState → Written → Both (List ℕ) → List Turn → Ends → Result Step RunFault → Type 0
 TurnAnswers w old new n files ts ends (Ok steps.Going) = GoesOnBy w old new n files ts ends
-TurnAnswers w old new n files ts ends (Ok (steps.Done turn)) = DoneIn w old new n files ts ends turn
-TurnAnswers w old new n files ts ends (Err fault) = EndsBy (script_of w) old new n files ts ends fault
+TurnAnswers w old new n files ts ends (Ok (steps.Done turn)) = EndsInTurn w old new n files ts ends Done turn
+TurnAnswers w old new n files ts ends (Err fault) = EndsBy w old new n files ts ends fault
 
 -- how many turns were made, once a turn is answered: one more where the run goes on
 abbrev pub turns_made : ℕ → Result Step RunFault → ℕ

@@ -63,13 +63,6 @@ HasPassed line script role ts = Carries line script role (sent_by 0 role ts) (de
 abbrev pub HasPassedToo : Kept → ScriptValue → Role → List Turn → Type 0
 HasPassedToo line script role ts = Carries line script role (sent_by 0 role ts) (delay_of script role - 1)
 
--- What a turn may add to the numbers, however it is answered: both slots that are heard may be lost, and both that are sent may go again.
-pub record AddsNumbers (old new : World) : Type 0 where
-  pub lost_low : lost_of old ≤ lost_of new
-  pub lost_high : lost_of new ≤ lost_of old + 2
-  pub again_low : again_of old ≤ again_of new
-  pub again_high : again_of new ≤ again_of old + 2
-
 -- A turn may be made: the world stands for a run of some files, and what its ends took is handed over.
 pub record IsReady (w : World) : Type 0 where
   pub limits : IsInLimits w.script

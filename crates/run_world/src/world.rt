@@ -4,6 +4,7 @@ ghost use Rattle.roles.specs.Both.{Both};
 ghost use Rattle.lapm_frames.specs.declared.heard.Heard.{Heard};
 ghost use Rattle.link_run.specs.Run.{Ends, Turn, start};
 ghost use Rattle.link_run.specs.End.{is_closed};
+ghost use Rattle.link_run.specs.Outcomes.{Done};
 ghost use Rattle.line_run.specs.Sampled.{EndsLine};
 ghost use Rattle.line_run.specs.Sampled as line_ends;
 ghost use Rattle.line_run.specs.Scripted.{channel_of, link_of};
@@ -77,10 +78,10 @@ fn checks(link: &Link) -> Both<Check>
 
 impl World {
     ghost use Rattle.run_world.specs.declared.world.World.{World};
-    ghost use Rattle.run_world.specs.Tally.{IsFew, HearsMore, SendsMore};
-    ghost use Rattle.run_world.specs.World.{IsReady, WorldAfter, HasPassed, HasPassedToo, AddsNumbers, script_of, lines_of, turn_of, lost_of, again_of};
-    ghost use Rattle.run_world.specs.Mid.{AddsPart, Finishes, HearsTurn, InTurn, HandsOver, IsToSpeak, SameBeside, Serves, SpeaksTurn, handed};
-    ghost use Rattle.run_world.specs.Turn.{EndsBy, FaultCounts, IsReading, IsWriting, TurnAnswers, TurnCounts, turns_made};
+    ghost use Rattle.run_world.specs.Tally.{IsFew};
+    ghost use Rattle.run_world.specs.World.{IsReady, WorldAfter, HasPassed, HasPassedToo, script_of, lines_of, turn_of, lost_of, again_of};
+    ghost use Rattle.run_world.specs.Mid.{AddsLines, AddsPart, HearsTurn, InTurn, HandsOver, IsToSpeak, SameBeside, Serves, SpeaksTurn, handed};
+    ghost use Rattle.run_world.specs.Turn.{EndsBy, FaultCounts, HearsNone, IsReading, IsWriting, TurnAnswers, TurnCounts, turns_made};
 
     /// A world before its first turn. It takes all memory of its ends and its lines.
     pub fn new(alloc: Global, script: Script) -> Result<World, NoMemory>
@@ -112,7 +113,6 @@ impl World {
         ensures hears { (files : Both (List ℕ)) (ts : List Turn) (ends : Ends) → WorldAfter self.old files ts ends → HearsTurn self.new files ts ends result }
         ensures counted { OnOk result (AreCounted self.new.link (self.old.turn + 1) self.old.turn) }
         ensures few { OnOk result (IsFew self.new.tally (self.old.turn + 1) self.old.turn) }
-        ensures tally { HearsMore self.old.tally self.new.tally }
         ensures turn { self.new.turn ≡ self.old.turn }
         ensures script { self.new.script ≡ self.old.script }
     {
@@ -183,7 +183,8 @@ impl World {
         Ok(())
     }
 
-    /// Both ends speak: what they send is counted and put on the line, and both lines of the turn go out. In the last turn nothing is sent.
+    /// Both ends speak: both lines of the turn go out, and what they send is counted and put on the line. In a turn in which the run ends
+    /// nothing is sent.
     fn speak<F: Folder>(
         &mut self,
         folder: &mut F,
@@ -197,14 +198,13 @@ impl World {
         requires stands { (files : Both (List ℕ)) × (ts : List Turn) × (ends : Ends) × (mid : Ends) × IsToSpeak self.old files ts ends heard mid }
         ensures speaks { (files : Both (List ℕ)) (ts : List Turn) (ends mid : Ends) → IsToSpeak self.old files ts ends heard mid
             → given.now.orig ≡ given_break mid.orig → given.now.answ ≡ given_break mid.answ
-            → SpeaksTurn self.new (F.state folder.old) (F.state folder.new) (written names.now) files ts ends mid result }
+            → SpeaksTurn self.new (F.state folder.old) (F.state folder.new) (written names.now) files ts ends heard mid result }
         ensures idle { OnOk result (AreIdle self.old.link → AreIdle self.new.link) }
         ensures counted { OnOk result ((heard asked : ℕ) → AreCounted self.old.link heard asked → AreCounted self.new.link heard asked) }
         ensures few { OnOk result (IsFew self.new.tally (self.old.turn + 1) (self.old.turn + 1)) }
-        ensures tally { SendsMore self.old.tally self.new.tally }
         ensures script { self.new.script ≡ self.old.script }
         ensures turn { OnOk result (self.new.turn ≡ self.old.turn + 1) }
-        ensures halts { OnErr result (self.new.turn ≡ self.old.turn) }
+        ensures beside { OnErr result (SameBeside self.old self.new) }
         ensures only { OnlyWrites (F.state folder.old) (F.state folder.new) (written names.now).trace }
         ensures counts { TurnCounts (F.state folder.old) (F.state folder.new) (written names.now) result }
     {
@@ -216,7 +216,6 @@ impl World {
         match self.link.speak(&self.script, self.turn) {
             Ok(sent) => {
                 let checks = checks(&self.link);
-                self.tally.send(&sent);
                 let sent = Both {
                     orig: Some(sent.orig),
                     answ: Some(sent.answ),
@@ -226,7 +225,9 @@ impl World {
                     Ok(()) => {}
                     Err(fault) => return Err(fault),
                 }
-                self.lines.send(sent_in(lines), &checks, 0);
+                let sent = sent_in(lines);
+                self.tally.send(&sent);
+                self.lines.send(sent, &checks, 0);
                 self.turn += 1;
                 Ok(())
             }
@@ -254,10 +255,10 @@ impl World {
     ) -> Result<(), RunFault>
         ensures adds { OnOk result ((files : Both (List ℕ)) (ts : List Turn) (ends mid : Ends) → InTurn self.now files ts ends heard mid (handed mid) → is_closed mid.orig.phase ≡ true
             → given.now.orig ≡ given_break mid.orig → given.now.answ ≡ given_break mid.answ
-            → Finishes self.now (F.state folder.old) (F.state folder.new) (written names.now) files ts ends mid) }
+            → AddsLines self.now.script (F.state folder.old) (F.state folder.new) (written names.now) files ts ends heard mid Done) }
         ensures part { OnErr result ((files : Both (List ℕ)) (ts : List Turn) (ends mid : Ends) → InTurn self.now files ts ends heard mid (handed mid) → is_closed mid.orig.phase ≡ true
             → given.now.orig ≡ given_break mid.orig → given.now.answ ≡ given_break mid.answ
-            → AddsPart self.now.script (F.state folder.old) (F.state folder.new) (written names.now) files ts ends mid) }
+            → AddsPart self.now.script (F.state folder.old) (F.state folder.new) (written names.now) files ts ends heard mid) }
         ensures only { OnlyWrites (F.state folder.old) (F.state folder.new) (written names.now).trace }
         ensures counts { TurnCounts (F.state folder.old) (F.state folder.new) (written names.now) result }
         ensures write { IfErr result IsWriting }
@@ -277,7 +278,7 @@ impl World {
     fn meet_chance<F: Folder>(&self, folder: &mut F, names: &Names<'_>, role: Role) -> RunFault
         requires apart { AreApartFrom (inputs_of (written names.now)) (outputs_of (written names.now)) }
         ensures meets { (ts : List Turn) (ends : Ends) → turn_of self.now ≡ length ts → EndsLine (channel_of (script_of self.now)) ts ends (line_ends.ChanceMatch role)
-            → (files : Both (List ℕ)) → EndsBy (script_of self.now) (F.state folder.old) (F.state folder.new) (written names.now) files ts ends result }
+            → HearsNone self.now ts → (files : Both (List ℕ)) → EndsBy self.now (F.state folder.old) (F.state folder.new) (written names.now) files ts ends result }
         ensures only { OnlyWrites (F.state folder.old) (F.state folder.new) (written names.now).trace }
         ensures counts { FaultCounts (F.state folder.old) (F.state folder.new) (written names.now) result }
     {
@@ -302,7 +303,6 @@ impl World {
         ensures script { script_of self.new ≡ script_of self.old }
         ensures ready { result ≡ Ok Step.Going → IsReady self.new }
         ensures number { turn_of self.new ≡ turns_made (turn_of self.old) result }
-        ensures tally { AddsNumbers self.old self.new }
 
         // It touches the outputs alone, and a fault has its cause.
         ensures only { OnlyPuts (F.state folder.old) (F.state folder.new) (outputs_of (written names.now)) }

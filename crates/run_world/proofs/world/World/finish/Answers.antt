@@ -5,7 +5,7 @@ use Rattle.link_run.specs.Outcomes.{Done}
 use Rattle.run_world.specs.Names.{written}
 use Rattle.run_world.specs.Mid.{turn_in}
 use Rattle.run_world.proofs.Hearing.{heard-in, none-sent}
-use Rattle.run_world.proofs.Speaking.{last-turn, text-is, adds-part}
+use Rattle.run_world.proofs.Speaking.{hears-these, last-turn, text-is, adds-part}
 use Rattle.run_world.proofs.world.World.finish.Goals as goal
 
 pub returns-in-Ok-clause-adds : goal.returns-in-Ok-clause-adds
@@ -19,17 +19,14 @@ returns-in-Ok-clause-adds g c = λ files ts ends mid h closed go ga.
     (record { orig = None; answ = None }) none-sent
     c.turn_lines-lines.ensures (o.well Originator) (o.well Answerer) h.turn go ga refl refl in
     record {
-      adds = record {
-        turn = turn_in c.args.heard ends mid none-sent;
-        makes = record {
-          run = o.run;
-          heard = heard-in script files ts ends c.args.heard mid none-sent o;
-          is = last-turn script files ts ends c.args.heard mid o closed;
-        };
-        trace = subst (Appended f new n.trace) text c.in-Ok.ensures.ok;
+      turn = turn_in c.args.heard ends mid none-sent;
+      hears = hears-these c.args.heard ends mid none-sent;
+      makes = record {
+        run = o.run;
+        heard = heard-in script files ts ends c.args.heard mid none-sent o;
+        is = last-turn script files ts ends c.args.heard mid o closed;
       };
-      lost = h.tally.lost;
-      again = h.tally.again;
+      trace = subst (Appended f new n.trace) text c.in-Ok.ensures.ok;
     }
 
 pub returns-in-Err-clause-part : goal.returns-in-Err-clause-part

@@ -5,7 +5,7 @@ use Rattle.shared_line.specs.Lines.{AreDue, ArrivesBoth}
 use Rattle.run_world.specs.Link.{HearsWell}
 use Rattle.link_run.specs.Run.{arrival}
 use Rattle.run_world.proofs.Hearing.{HearingLaws, IsHeardBy, are-due, are-few, by-checks, heard-by, hears-well, has-heard, tallies-heard}
-use Rattle.run_world.proofs.Hearing.{hears-more, hears-none, lost-so}
+use Rattle.run_world.proofs.Hearing.{lost-so}
 use Rattle.run_world.proofs.world.World.hear.Goals as goal
 
 pub arrive-requires-clause-few : goal.arrive-requires-clause-few
@@ -28,10 +28,13 @@ returns-in-Err-clause-hears c = λ files ts ends h.
     let script = c.args.self.now.script in
     let due : AreDue (channel_of script) 1 ts (both_sent_by 0 ts) =
     are-due c.slots_are_due_alone.ensures.due c.slots_are_due_alone.ensures.sent c.scripts_make_links.ensures.delays script files ts ends
-    c.requires.ready.limits h.run in
-    lost-so script ts ends c.checks-checks.result c.in-Err.end
-    (by-checks c.checks-checks.result ends (c.checks-checks.ensures.orig files ends h.link) (c.checks-checks.ensures.answ files ends h.link))
-    (c.in-Err.ensures.arrives (channel_of script) 1 ts (both_sent_by 0 ts) h.lines due refl refl h.turn)
+    c.requires.ready.limits h.run in (
+      lost-so script ts ends c.checks-checks.result c.in-Err.end
+          (by-checks c.checks-checks.result ends (c.checks-checks.ensures.orig files ends h.link)
+          (c.checks-checks.ensures.answ files ends h.link))
+          (c.in-Err.ensures.arrives (channel_of script) 1 ts (both_sent_by 0 ts) h.lines due refl refl h.turn),
+      record { lost = h.tally.lost; again = h.tally.again },
+    )
 
 pub hear-requires-2-clause-well : goal.hear-requires-2-clause-well
 hear-requires-2-clause-well c =
@@ -89,9 +92,3 @@ returns-clause-hears c = λ files ts ends h.
       hears = c.hear-2.ensures.hears files ends h.link so;
     })
     (tallies-heard c.args.self.now.tally c.hear.new.self ts ends c.in-Ok.heard h.tally c.hear.ensures)
-
-pub returns-in-Err-clause-tally : goal.returns-in-Err-clause-tally
-returns-in-Err-clause-tally c = hears-none c.args.self.now.tally
-
-pub returns-clause-tally : goal.returns-clause-tally
-returns-clause-tally c = hears-more c.args.self.now.tally c.hear.new.self c.in-Ok.heard c.hear.ensures

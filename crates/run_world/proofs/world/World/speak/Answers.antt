@@ -7,8 +7,8 @@ use Rattle.link_run.specs.Outcomes.{Going, Broken}
 use Rattle.run_world.specs.Names.{written}
 use Rattle.run_world.specs.Mid.{served, turn_in}
 use Rattle.run_world.proofs.Hearing.{none-sent}
-use Rattle.run_world.proofs.Speaking.{SpokenTurn, GoingLaws, spoken_by, ends_of, spoken-turn, broken-turn, text-is, taken-back, all-codable, put_by, are-put}
-use Rattle.run_world.proofs.Speaking.{goes-on, ends-so, counts-so, stops-so, adds-part, sends-more, sends-none}
+use Rattle.run_world.proofs.Speaking.{SpokenTurn, GoingLaws, spoken_by, ends_of, spoken-turn, broken-turn, text-is, taken-back, all-codable, put_by, are-put, counts-what}
+use Rattle.run_world.proofs.Speaking.{goes-on, ends-so, counts-so, stops-so, adds-part}
 use Rattle.run_world.proofs.world.World.speak.Goals as goal
 
 -- the turn that both ends' words make
@@ -27,7 +27,7 @@ returns-in-Err-write_turn-clause-speaks g c = λ files ts ends mid h go ga.
     let text = text-is c.turn_lines-lines.result c.args.self.now.turn ts ends mid c.args.heard c.args.given.now
     (record { orig = Some c.in-Ok.sent.orig; answ = Some c.in-Ok.sent.answ }) sents
     c.turn_lines-lines.ensures (o.well Originator) (o.well Answerer) h.stands.turn go ga (λ k. Some (t.orig_sent k)) (λ k. Some (t.answ_sent k)) in
-    stops-so script f new n files ts ends mid c.in-Err-write_turn.fault c.in-Err-write_turn.ensures.write
+    stops-so script f new n files ts ends c.args.heard mid c.in-Err-write_turn.fault c.in-Err-write_turn.ensures.write
     (adds-part script f new n files ts ends c.args.heard mid sents Going o (ends_of t.orig t.answ, t.going, t.mid_is)
     (subst (PartlyAppended f new n.trace) text c.in-Err-write_turn.ensures.err))
 
@@ -45,10 +45,10 @@ send-requires-in-Ok-clause-codable g c =
     h.stands.turn o h.going
     (c.in-Ok.ensures.speaks files (served script files (length ts) mid) h.stands.link) in
     all-codable c.slots_have_room.ensures.codable script files ts ends c.args.heard mid c.in-Ok.sent.orig c.in-Ok.sent.answ
-    c.sent_in.result c.speak.new.self c.args.self.now.lines c.checks-checks.result c.requires.limits o t h.stands.lines
+    c.sent_in-sent.result c.speak.new.self c.args.self.now.lines c.checks-checks.result c.requires.limits o t h.stands.lines
     c.in-Ok.ensures.orig_sendable c.in-Ok.ensures.answ_sendable
-    (taken-back c.sent_in.result.orig c.in-Ok.sent.orig _ _ c.sent_in.ensures.orig (λ k. (c.turn_lines-lines.ensures k).orig.sent) refl)
-    (taken-back c.sent_in.result.answ c.in-Ok.sent.answ _ _ c.sent_in.ensures.answ (λ k. (c.turn_lines-lines.ensures k).answ.sent) refl)
+    (taken-back c.sent_in-sent.result.orig c.in-Ok.sent.orig _ _ c.sent_in-sent.ensures.orig (λ k. (c.turn_lines-lines.ensures k).orig.sent) refl)
+    (taken-back c.sent_in-sent.result.answ c.in-Ok.sent.answ _ _ c.sent_in-sent.ensures.answ (λ k. (c.turn_lines-lines.ensures k).answ.sent) refl)
     (c.checks-checks.ensures.orig files (ends_of t.orig t.answ) t.stands)
     (c.checks-checks.ensures.answ files (ends_of t.orig t.answ) t.stands)
 
@@ -89,15 +89,16 @@ returns-in-Ok-write_turn-clause-speaks g c = λ files ts ends mid h go ga.
       one = c.samples_are_carried.ensures.turn;
       counted = c.segments_are_counted_by_their_numbers.ensures.turn;
     } in
-    let so : c.sent_in.result.orig ≡ c.in-Ok.sent.orig =
-    taken-back c.sent_in.result.orig c.in-Ok.sent.orig _ _ c.sent_in.ensures.orig (λ k. (c.turn_lines-lines.ensures k).orig.sent) refl in
-    let sa : c.sent_in.result.answ ≡ c.in-Ok.sent.answ =
-    taken-back c.sent_in.result.answ c.in-Ok.sent.answ _ _ c.sent_in.ensures.answ (λ k. (c.turn_lines-lines.ensures k).answ.sent) refl in
+    let so : c.sent_in-sent.result.orig ≡ c.in-Ok.sent.orig =
+    taken-back c.sent_in-sent.result.orig c.in-Ok.sent.orig _ _ c.sent_in-sent.ensures.orig (λ k. (c.turn_lines-lines.ensures k).orig.sent) refl in
+    let sa : c.sent_in-sent.result.answ ≡ c.in-Ok.sent.answ =
+    taken-back c.sent_in-sent.result.answ c.in-Ok.sent.answ _ _ c.sent_in-sent.ensures.answ (λ k. (c.turn_lines-lines.ensures k).answ.sent) refl in
     goes-on laws script c.args.self.now.tally _ f new n files ts ends c.args.heard mid c.in-Ok.sent.orig c.in-Ok.sent.answ c.requires.limits
     refl (λ k. h.stands.turn k + 1) o t h.stands.tally
-    (record { lost = c.send.ensures.lost; again = c.send.ensures.again; orig = c.send.ensures.orig; answ = c.send.ensures.answ })
+    (counts-what c.args.self.now.tally c.send.new.self c.sent_in-sent.result c.in-Ok.sent so sa
+    (record { lost = c.send.ensures.lost; again = c.send.ensures.again; orig = c.send.ensures.orig; answ = c.send.ensures.answ }))
     (c.send-in-Ok.ensures.waits _ 1 (both_sent_by 0 ts) (put_by t.orig t.answ) h.stands.lines
-    (are-put t.orig t.answ c.sent_in.result c.checks-checks.result (sym t.orig_sent ∙ sym so) (sym t.answ_sent ∙ sym sa)
+    (are-put t.orig t.answ c.sent_in-sent.result c.checks-checks.result (sym t.orig_sent ∙ sym so) (sym t.answ_sent ∙ sym sa)
     (sym (c.checks-checks.ensures.orig files (ends_of t.orig t.answ) t.stands))
     (sym (c.checks-checks.ensures.answ files (ends_of t.orig t.answ) t.stands))))
     (subst (Appended f new n.trace) text c.in-Ok-write_turn.ensures.ok)
@@ -157,25 +158,9 @@ returns-in-Err-write_turn-2-clause-speaks g c = λ files ts ends mid h go ga.
     let text = text-is c.turn_lines-lines-in-Err.result c.args.self.now.turn ts ends mid c.args.heard c.args.given.now
     (record { orig = None; answ = None }) none-sent
     c.turn_lines-lines-in-Err.ensures (o.well Originator) (o.well Answerer) h.stands.turn go ga refl refl in
-    stops-so script f new n files ts ends mid c.in-Err-write_turn-2.fault c.in-Err-write_turn-2.ensures.write
+    stops-so script f new n files ts ends c.args.heard mid c.in-Err-write_turn-2.fault c.in-Err-write_turn-2.ensures.write
     (adds-part script f new n files ts ends c.args.heard mid none-sent (Broken role fault) o b
     (subst (PartlyAppended f new n.trace) text c.in-Err-write_turn-2.ensures.err))
-
-pub returns-in-Err-write_turn-clause-tally : goal.returns-in-Err-write_turn-clause-tally
-returns-in-Err-write_turn-clause-tally g c =
-    sends-more c.args.self.now.tally c.send.new.self (sequence_in c.in-Ok.sent.orig)
-    (sequence_in c.in-Ok.sent.answ) c.send.ensures.lost c.send.ensures.again
-
-pub returns-in-Ok-write_turn-clause-tally : goal.returns-in-Ok-write_turn-clause-tally
-returns-in-Ok-write_turn-clause-tally g c =
-    sends-more c.args.self.now.tally c.send.new.self (sequence_in c.in-Ok.sent.orig)
-    (sequence_in c.in-Ok.sent.answ) c.send.ensures.lost c.send.ensures.again
-
-pub returns-in-Ok-write_turn-2-clause-tally : goal.returns-in-Ok-write_turn-2-clause-tally
-returns-in-Ok-write_turn-2-clause-tally g c = sends-none c.args.self.now.tally
-
-pub returns-in-Err-write_turn-2-clause-tally : goal.returns-in-Err-write_turn-2-clause-tally
-returns-in-Err-write_turn-2-clause-tally g c = sends-none c.args.self.now.tally
 
 pub returns-in-Ok-write_turn-clause-idle : goal.returns-in-Ok-write_turn-clause-idle
 returns-in-Ok-write_turn-clause-idle g c = c.in-Ok.ensures.idle

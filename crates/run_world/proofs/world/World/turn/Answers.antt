@@ -1,4 +1,4 @@
-use Rattle.std.proofs.Common.{◌≡◌, ◌+◌, refl, sym, ◌∙◌, ap, subst}
+use Rattle.std.proofs.Common.{◌≡◌, ◌+◌, length, refl, sym, ◌∙◌, ap, subst}
 use Rattle.outside_calls.proofs.Steps.{CountsStand-trans}
 use Rattle.noise_script.specs.Script.{ScriptValue, IsInLimits}
 use Rattle.link_run.specs.End.{is_closed}
@@ -9,19 +9,20 @@ use Rattle.shared_line.specs.declared.lines.LineEnd.{LineEnd}
 use Rattle.line_run.specs.Sampled.{EndsLine}
 use Rattle.line_run.specs.Scripted.{channel_of}
 use Rattle.shared_line.specs.Lines.{end_of}
-use Rattle.run_world.specs.Mid.{handed}
-use Rattle.run_world.specs.Turn.{EndsBy, GoesOnBy}
+use Rattle.link_run.specs.Outcomes.{Done}
+use Rattle.run_world.specs.Mid.{Overhears, handed, served}
+use Rattle.run_world.specs.Turn.{GoesOnBy}
 use Rattle.run_world.proofs.Serving.{phase-delivered, none-after, none-faulty}
 use Rattle.run_world.proofs.Folders.{lines-only, counts-later, stay-known, others-known}
-use Rattle.run_world.proofs.Speaking.{adds-heard, adds-kept, adds-sent}
-use Rattle.run_world.proofs.Turning.{MakingLaws, writing-ends, reading-ends, stops-handing, stops-reading, stops-writing, done-in}
+use Rattle.run_world.proofs.Turning.{MakingLaws, writing-ends, reading-ends, same-beside, halts-so, stops-handing, stops-reading, stops-writing, ends-in}
 use Rattle.run_world.proofs.Turning.{speaks-last, goes-on-by, ready-on}
 use Rattle.run_world.proofs.world.World.turn.Goals as goal
 
 pub returns-in-Err-Lost-clause-turn : goal.returns-in-Err-Lost-clause-turn
 returns-in-Err-Lost-clause-turn g c = λ files ts ends h within. record {
   is = subst (λ (e : LineEnd). EndsLine (channel_of c.hear.new.self.script) ts ends (end_of e)) c.in-Err-Lost.field-0-is
-      (c.in-Err-Lost.ensures.hears files ts ends h);
+      (c.in-Err-Lost.ensures.hears files ts ends h).0;
+  halts = (c.in-Err-Lost.ensures.hears files ts ends h).1;
   kept = KeepsEach-refl (g.F.Folder.state c.args.folder.now) (outputs_of (written c.args.names.now));
 }
 
@@ -29,14 +30,14 @@ pub returns-in-Err-Chance-clause-turn : goal.returns-in-Err-Chance-clause-turn
 returns-in-Err-Chance-clause-turn g c = λ files ts ends h within.
     c.meet_chance.ensures.meets ts ends (c.hear.ensures.turn ∙ h.turn)
     (subst (λ (e : LineEnd). EndsLine (channel_of c.hear.new.self.script) ts ends (end_of e)) c.in-Err-Chance.field-0-is
-    (c.in-Err-Chance.ensures.hears files ts ends h)) files
+    (c.in-Err-Chance.ensures.hears files ts ends h).0) (c.in-Err-Chance.ensures.hears files ts ends h).1 files
 
 pub returns-in-Err-clause-turn : goal.returns-in-Err-clause-turn
 returns-in-Err-clause-turn g c = λ files ts ends h within.
     let a = g.F.Folder.state c.args.folder.now in
     let b = g.F.Folder.state c.hand_over.new.folder in
     let n = written c.args.names.now in
-    let script = c.hear.new.self.script in
+    let w = c.hand_over.new.self in
     let has = c.in-Ok.ensures.hears files ts ends h in
     let laws : MakingLaws = record {
       play = c.scripts_make_links.ensures.ends;
@@ -45,12 +46,13 @@ returns-in-Err-clause-turn g c = λ files ts ends h within.
       one = c.samples_are_carried.ensures.turn;
       made = c.each_turn_is_made.ensures.made;
     } in
-    let limits : IsInLimits script = subst IsInLimits (sym c.hear.ensures.script) c.requires.ready.limits in
-    subst (λ (s : ScriptValue). EndsBy s a b n files ts ends c.in-Err.fault) (sym c.hand_over.ensures.beside.script)
-    (writing-ends script a b n files ts ends c.in-Err.fault c.in-Err.ensures.write
-    (stops-handing laws script a b n files ts ends c.in-Ok.heard has.mid limits c.requires.apart within c.hand_over.ensures.only
-    has.stands.overhears
-    (c.in-Err.ensures.part files ts ends c.in-Ok.heard has.mid has.stands)))
+    let limits : IsInLimits w.script =
+    subst IsInLimits (sym (c.hand_over.ensures.beside.script ∙ c.hear.ensures.script)) c.requires.ready.limits in
+    writing-ends w a b n files ts ends c.in-Err.fault c.in-Err.ensures.write
+    (stops-handing laws w a b n files ts ends c.in-Ok.heard has.mid limits c.requires.apart within c.hand_over.ensures.only
+    (subst (λ (s : ScriptValue). Overhears s files ts ends c.in-Ok.heard has.mid) (sym c.hand_over.ensures.beside.script) has.stands.overhears)
+    (halts-so c.hear.new.self w files ts ends c.in-Ok.heard has.mid has.mid has.stands c.hand_over.ensures.beside)
+    (c.in-Err.ensures.part files ts ends c.in-Ok.heard has.mid has.stands))
 
 pub returns-in-Ok-finish-clause-turn : goal.returns-in-Ok-finish-clause-turn
 returns-in-Ok-finish-clause-turn g c = λ files ts ends h within.
@@ -62,10 +64,12 @@ returns-in-Ok-finish-clause-turn g c = λ files ts ends h within.
     let hands = c.in-Ok-hand_over.ensures.hands files ts ends c.in-Ok.heard has.mid has.stands in
     let closed = sym (ap is_closed (phase-delivered has.mid.orig)) ∙ sym (c.is_closed.ensures files (handed has.mid) hands.stands.link)
     ∙ c.if-is_closed.true in
-    done-in c.hand_over.new.self a b d n files ts ends has.mid c.hand_over.new.self.turn c.requires.apart hands.stands.turn
+    let w = c.hand_over.new.self in
+    ends-in w a b d n files files ts ends c.in-Ok.heard has.mid Done w.turn c.requires.apart hands.stands.turn
     (stay-known a d n files c.requires.apart (OnlyPuts-trans a b d (outputs_of n) c.hand_over.ensures.only (lines-only b d n c.finish.ensures.only)) within)
     c.hand_over.ensures.only hands.delivered c.finish.ensures.only
-    (c.in-Ok-finish.ensures.adds files ts ends has.mid hands.stands closed hands.orig_given hands.answ_given) hands.stands.lines
+    (halts-so w w files ts ends c.in-Ok.heard has.mid (handed has.mid) hands.stands (same-beside w))
+    (c.in-Ok-finish.ensures.adds files ts ends has.mid hands.stands closed hands.orig_given hands.answ_given)
 
 pub returns-in-Ok-finish-clause-only : goal.returns-in-Ok-finish-clause-only
 returns-in-Ok-finish-clause-only g c =
@@ -80,15 +84,16 @@ returns-in-Err-finish-clause-turn g c = λ files ts ends h within.
     let b = g.F.Folder.state c.hand_over.new.folder in
     let d = g.F.Folder.state c.finish.new.folder in
     let n = written c.args.names.now in
-    let script = c.hand_over.new.self.script in
+    let w = c.hand_over.new.self in
     let has = c.in-Ok.ensures.hears files ts ends h in
     let hands = c.in-Ok-hand_over.ensures.hands files ts ends c.in-Ok.heard has.mid has.stands in
     let closed = sym (ap is_closed (phase-delivered has.mid.orig)) ∙ sym (c.is_closed.ensures files (handed has.mid) hands.stands.link)
     ∙ c.if-is_closed.true in
-    writing-ends script a d n files ts ends c.in-Err-finish.fault c.in-Err-finish.ensures.write
-    (stops-writing script a b d n files files ts ends has.mid c.requires.apart
+    writing-ends w a d n files ts ends c.in-Err-finish.fault c.in-Err-finish.ensures.write
+    (stops-writing w a b d n files files ts ends c.in-Ok.heard has.mid c.requires.apart
     (stay-known a d n files c.requires.apart (OnlyPuts-trans a b d (outputs_of n) c.hand_over.ensures.only (lines-only b d n c.finish.ensures.only)) within)
     c.hand_over.ensures.only hands.delivered c.finish.ensures.only
+    (halts-so w w files ts ends c.in-Ok.heard has.mid (handed has.mid) hands.stands (same-beside w))
     (c.in-Err-finish.ensures.part files ts ends has.mid hands.stands closed hands.orig_given hands.answ_given))
 
 pub returns-in-Err-finish-clause-only : goal.returns-in-Err-finish-clause-only
@@ -124,7 +129,7 @@ returns-in-Err-serve-clause-turn g c = λ files ts ends h within.
     let b = g.F.Folder.state c.hand_over.new.folder in
     let d = g.F.Folder.state c.serve.new.folder in
     let n = written c.args.names.now in
-    let script = c.hand_over.new.self.script in
+    let w = c.serve.new.self in
     let has = c.in-Ok.ensures.hears files ts ends h in
     let hands = c.in-Ok-hand_over.ensures.hands files ts ends c.in-Ok.heard has.mid has.stands in
     let laws : MakingLaws = record {
@@ -134,14 +139,15 @@ returns-in-Err-serve-clause-turn g c = λ files ts ends h within.
       one = c.samples_are_carried.ensures.turn;
       made = c.each_turn_is_made.ensures.made;
     } in
-    let limits : IsInLimits script =
-    subst IsInLimits (sym (c.hand_over.ensures.beside.script ∙ c.hear.ensures.script)) c.requires.ready.limits in
-    subst (λ (s : ScriptValue). EndsBy s a d n files ts ends c.in-Err-serve.fault) (sym c.serve.ensures.beside.script)
-    (reading-ends script a d n files ts ends c.in-Err-serve.fault c.in-Err-serve.ensures.read
-    (stops-reading laws script a d n files ts ends c.in-Ok.heard has.mid limits c.requires.apart within
-    (OnlyPuts-trans a b d (outputs_of n) c.hand_over.ensures.only (OnlyPuts-reads b d (outputs_of n) c.serve.ensures.only)) hands.stands.overhears
+    let limits : IsInLimits w.script =
+    subst IsInLimits (sym (c.serve.ensures.beside.script ∙ c.hand_over.ensures.beside.script ∙ c.hear.ensures.script)) c.requires.ready.limits in
+    reading-ends w a d n files ts ends c.in-Err-serve.fault c.in-Err-serve.ensures.read
+    (stops-reading laws w a d n files ts ends c.in-Ok.heard has.mid limits c.requires.apart within
+    (OnlyPuts-trans a b d (outputs_of n) c.hand_over.ensures.only (OnlyPuts-reads b d (outputs_of n) c.serve.ensures.only))
+    (subst (λ (s : ScriptValue). Overhears s files ts ends c.in-Ok.heard has.mid) (sym c.serve.ensures.beside.script) hands.stands.overhears)
+    (halts-so c.hand_over.new.self w files ts ends c.in-Ok.heard has.mid (handed has.mid) hands.stands c.serve.ensures.beside)
     (AddEach-kept a b d (outputs_of n) (octets_of has.mid) c.hand_over.ensures.only.goes_on hands.delivered
-    (KeepsEach-reads b d (outputs_of n) c.serve.ensures.only))))
+    (KeepsEach-reads b d (outputs_of n) c.serve.ensures.only)))
 
 pub returns-in-Err-serve-clause-only : goal.returns-in-Err-serve-clause-only
 returns-in-Err-serve-clause-only g c =
@@ -255,7 +261,6 @@ returns-in-Err-speak-clause-turn g c = λ files ts ends h within.
     let d = g.F.Folder.state c.serve.new.folder in
     let z = g.F.Folder.state c.speak.new.folder in
     let n = written c.args.names.now in
-    let script = c.serve.new.self.script in
     let has = c.in-Ok.ensures.hears files ts ends h in
     let hands = c.in-Ok-hand_over.ensures.hands files ts ends c.in-Ok.heard has.mid has.stands in
     let still = sym (ap is_closed (phase-delivered has.mid.orig)) ∙ sym (c.is_closed.ensures files (handed has.mid) hands.stands.link)
@@ -265,10 +270,12 @@ returns-in-Err-speak-clause-turn g c = λ files ts ends h within.
     (record { stands = s.stands; going = still }) hands.orig_given hands.answ_given in
     let only-d = OnlyPuts-trans a b d (outputs_of n) c.hand_over.ensures.only (OnlyPuts-reads b d (outputs_of n) c.serve.ensures.only) in
     let only-z = OnlyPuts-trans a d z (outputs_of n) only-d (lines-only d z n c.speak.ensures.only) in
-    speaks-last c.speak.new.self.script a d z n files s.others ts ends has.mid c.in-Err-speak.fault c.requires.apart
+    speaks-last c.speak.new.self a d z n files s.others ts ends c.in-Ok.heard has.mid c.in-Err-speak.fault c.requires.apart
     (others-known a b z n files s.others has.mid c.requires.apart c.hand_over.ensures.only only-z s.reads) only-d
     (AddEach-kept a b d (outputs_of n) (octets_of has.mid) c.hand_over.ensures.only.goes_on hands.delivered
-    (KeepsEach-reads b d (outputs_of n) c.serve.ensures.only)) c.speak.ensures.only last
+    (KeepsEach-reads b d (outputs_of n) c.serve.ensures.only)) c.speak.ensures.only
+    (halts-so c.serve.new.self c.speak.new.self s.others ts ends c.in-Ok.heard has.mid
+    (served c.serve.new.self.script s.others (length ts) has.mid) s.stands c.in-Err-speak.ensures.beside) last
 
 pub returns-in-Err-speak-clause-only : goal.returns-in-Err-speak-clause-only
 returns-in-Err-speak-clause-only g c =
@@ -285,61 +292,28 @@ returns-in-Err-speak-clause-counts g c =
 pub returns-in-Err-Lost-clause-number : goal.returns-in-Err-Lost-clause-number
 returns-in-Err-Lost-clause-number g c = c.hear.ensures.turn
 
-pub returns-in-Err-Lost-clause-tally : goal.returns-in-Err-Lost-clause-tally
-returns-in-Err-Lost-clause-tally g c = adds-heard c.args.self.now c.hear.new.self c.hear.ensures.tally
-
 pub returns-in-Err-Chance-clause-number : goal.returns-in-Err-Chance-clause-number
 returns-in-Err-Chance-clause-number g c = c.hear.ensures.turn
-
-pub returns-in-Err-Chance-clause-tally : goal.returns-in-Err-Chance-clause-tally
-returns-in-Err-Chance-clause-tally g c = adds-heard c.args.self.now c.hear.new.self c.hear.ensures.tally
 
 pub returns-in-Err-clause-number : goal.returns-in-Err-clause-number
 returns-in-Err-clause-number g c = c.hand_over.ensures.beside.turn ∙ c.hear.ensures.turn
 
-pub returns-in-Err-clause-tally : goal.returns-in-Err-clause-tally
-returns-in-Err-clause-tally g c =
-    adds-kept c.args.self.now c.hear.new.self c.hand_over.new.self c.hear.ensures.tally c.hand_over.ensures.beside.tally
-
 pub returns-in-Ok-finish-clause-number : goal.returns-in-Ok-finish-clause-number
 returns-in-Ok-finish-clause-number g c = c.hand_over.ensures.beside.turn ∙ c.hear.ensures.turn
-
-pub returns-in-Ok-finish-clause-tally : goal.returns-in-Ok-finish-clause-tally
-returns-in-Ok-finish-clause-tally g c =
-    adds-kept c.args.self.now c.hear.new.self c.hand_over.new.self c.hear.ensures.tally c.hand_over.ensures.beside.tally
 
 pub returns-in-Err-finish-clause-number : goal.returns-in-Err-finish-clause-number
 returns-in-Err-finish-clause-number g c = c.hand_over.ensures.beside.turn ∙ c.hear.ensures.turn
 
-pub returns-in-Err-finish-clause-tally : goal.returns-in-Err-finish-clause-tally
-returns-in-Err-finish-clause-tally g c =
-    adds-kept c.args.self.now c.hear.new.self c.hand_over.new.self c.hear.ensures.tally c.hand_over.ensures.beside.tally
-
 pub returns-in-Err-serve-clause-number : goal.returns-in-Err-serve-clause-number
 returns-in-Err-serve-clause-number g c = c.serve.ensures.beside.turn ∙ c.hand_over.ensures.beside.turn ∙ c.hear.ensures.turn
-
-pub returns-in-Err-serve-clause-tally : goal.returns-in-Err-serve-clause-tally
-returns-in-Err-serve-clause-tally g c =
-    adds-kept c.args.self.now c.hear.new.self c.serve.new.self c.hear.ensures.tally (c.serve.ensures.beside.tally
-    ∙ c.hand_over.ensures.beside.tally)
 
 pub returns-in-Ok-speak-clause-number : goal.returns-in-Ok-speak-clause-number
 returns-in-Ok-speak-clause-number g c =
     c.in-Ok-speak.ensures.turn ∙ ap (λ x. x + 1) (c.serve.ensures.beside.turn ∙ c.hand_over.ensures.beside.turn ∙ c.hear.ensures.turn)
 
-pub returns-in-Ok-speak-clause-tally : goal.returns-in-Ok-speak-clause-tally
-returns-in-Ok-speak-clause-tally g c =
-    adds-sent c.args.self.now c.hear.new.self c.serve.new.self c.speak.new.self c.hear.ensures.tally (c.serve.ensures.beside.tally
-    ∙ c.hand_over.ensures.beside.tally) c.speak.ensures.tally
-
 pub returns-in-Err-speak-clause-number : goal.returns-in-Err-speak-clause-number
 returns-in-Err-speak-clause-number g c =
-    c.in-Err-speak.ensures.halts ∙ c.serve.ensures.beside.turn ∙ c.hand_over.ensures.beside.turn ∙ c.hear.ensures.turn
-
-pub returns-in-Err-speak-clause-tally : goal.returns-in-Err-speak-clause-tally
-returns-in-Err-speak-clause-tally g c =
-    adds-sent c.args.self.now c.hear.new.self c.serve.new.self c.speak.new.self c.hear.ensures.tally (c.serve.ensures.beside.tally
-    ∙ c.hand_over.ensures.beside.tally) c.speak.ensures.tally
+    c.in-Err-speak.ensures.beside.turn ∙ c.serve.ensures.beside.turn ∙ c.hand_over.ensures.beside.turn ∙ c.hear.ensures.turn
 
 pub returns-in-Ok-finish-clause-ready : goal.returns-in-Ok-finish-clause-ready
 returns-in-Ok-finish-clause-ready g c = λ going. absurd (none-after _ c.hand_over.new.self.turn going refl)
