@@ -145,6 +145,7 @@ impl World {
         ensures only { OnlyPuts (F.state folder.old) (F.state folder.new) (outputs_of (written names.now)) }
         ensures counts { TurnCounts (F.state folder.old) (F.state folder.new) (written names.now) result }
         ensures write { IfErr result IsWriting }
+        ensures came { F.came folder.old folder.new }
     {
         match self.link.deliver(folder, names) {
             Ok(()) => Ok(self.link.given_breaks()),
@@ -167,6 +168,7 @@ impl World {
         ensures only { OnlyReads (F.state folder.old) (F.state folder.new) }
         ensures counts { TurnCounts (F.state folder.old) (F.state folder.new) (written names.now) result }
         ensures read { IfErr result IsReading }
+        ensures came { F.came folder.old folder.new }
     {
         files_count_as_far_as_they_were_read();
         match self.link.supply(folder, names) {
@@ -201,6 +203,7 @@ impl World {
         ensures halts { OnErr result (self.new.turn ≡ self.old.turn) }
         ensures only { OnlyWrites (F.state folder.old) (F.state folder.new) (written names.now).trace }
         ensures counts { TurnCounts (F.state folder.old) (F.state folder.new) (written names.now) result }
+        ensures came { F.came folder.old folder.new }
     {
         samples_are_carried();
         scripts_make_links();
@@ -255,6 +258,7 @@ impl World {
         ensures only { OnlyWrites (F.state folder.old) (F.state folder.new) (written names.now).trace }
         ensures counts { TurnCounts (F.state folder.old) (F.state folder.new) (written names.now) result }
         ensures write { IfErr result IsWriting }
+        ensures came { F.came folder.old folder.new }
     {
         let silent = Each {
             orig: None,
@@ -274,6 +278,7 @@ impl World {
             → (files : Both (List ℕ)) → EndsBy (script_of self.now) (F.state folder.old) (F.state folder.new) (written names.now) files ts ends result }
         ensures only { OnlyWrites (F.state folder.old) (F.state folder.new) (written names.now).trace }
         ensures counts { FaultCounts (F.state folder.old) (F.state folder.new) (written names.now) result }
+        ensures came { F.came folder.old folder.new }
     {
         match write_chance(folder, names, self.turn, role) {
             Ok(()) => RunFault::ChanceMatch {
@@ -301,6 +306,7 @@ impl World {
         // It touches the outputs alone, and a fault has its cause.
         ensures only { OnlyPuts (F.state folder.old) (F.state folder.new) (outputs_of (written names.now)) }
         ensures counts { TurnCounts (F.state folder.old) (F.state folder.new) (written names.now) result }
+        ensures came { F.came folder.old folder.new }
     {
         turns_are_few();
         samples_are_carried();
