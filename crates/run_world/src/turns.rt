@@ -30,6 +30,7 @@ pub fn run_turns<F: Folder>(
     ensures tally { IfOk result (λ turn. RunCounts (script_of world.old) (F.state folder.new) (written names.now) turn (lost_of world.new) (again_of world.new)) }
     ensures only { OnlyPuts (F.state folder.old) (F.state folder.new) (outputs_of (written names.now)) }
     ensures counts { TurnCounts (F.state folder.old) (F.state folder.new) (written names.now) result }
+    ensures came { F.came folder.old folder.new }
 {
     turns_are_few();
     turns_deliver_what_came();

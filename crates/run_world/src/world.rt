@@ -151,6 +151,7 @@ impl World {
         ensures only { OnlyPuts (F.state folder.old) (F.state folder.new) (outputs_of (written names.now)) }
         ensures counts { TurnCounts (F.state folder.old) (F.state folder.new) (written names.now) result }
         ensures write { IfErr result IsWriting }
+        ensures came { F.came folder.old folder.new }
     {
         match self.link.deliver(folder, names) {
             Ok(()) => Ok(self.link.given_breaks()),
@@ -173,6 +174,7 @@ impl World {
         ensures only { OnlyReads (F.state folder.old) (F.state folder.new) }
         ensures counts { TurnCounts (F.state folder.old) (F.state folder.new) (written names.now) result }
         ensures read { IfErr result IsReading }
+        ensures came { F.came folder.old folder.new }
     {
         files_count_as_far_as_they_were_read();
         match self.link.supply(folder, names) {
@@ -207,6 +209,7 @@ impl World {
         ensures beside { OnErr result (SameBeside self.old self.new) }
         ensures only { OnlyWrites (F.state folder.old) (F.state folder.new) (written names.now).trace }
         ensures counts { TurnCounts (F.state folder.old) (F.state folder.new) (written names.now) result }
+        ensures came { F.came folder.old folder.new }
     {
         samples_are_carried();
         scripts_make_links();
@@ -262,6 +265,7 @@ impl World {
         ensures only { OnlyWrites (F.state folder.old) (F.state folder.new) (written names.now).trace }
         ensures counts { TurnCounts (F.state folder.old) (F.state folder.new) (written names.now) result }
         ensures write { IfErr result IsWriting }
+        ensures came { F.came folder.old folder.new }
     {
         let silent = Both {
             orig: None,
@@ -281,6 +285,7 @@ impl World {
             → HearsNone self.now ts → (files : Both (List ℕ)) → EndsBy self.now (F.state folder.old) (F.state folder.new) (written names.now) files ts ends result }
         ensures only { OnlyWrites (F.state folder.old) (F.state folder.new) (written names.now).trace }
         ensures counts { FaultCounts (F.state folder.old) (F.state folder.new) (written names.now) result }
+        ensures came { F.came folder.old folder.new }
     {
         match write_chance(folder, names, self.turn, role) {
             Ok(()) => RunFault::ChanceMatch {
@@ -307,6 +312,7 @@ impl World {
         // It touches the outputs alone, and a fault has its cause.
         ensures only { OnlyPuts (F.state folder.old) (F.state folder.new) (outputs_of (written names.now)) }
         ensures counts { TurnCounts (F.state folder.old) (F.state folder.new) (written names.now) result }
+        ensures came { F.came folder.old folder.new }
     {
         turns_are_few();
         samples_are_carried();

@@ -13,6 +13,7 @@ loop-turn-init g c = record {
   reached = reached-start c.args.world.now (written c.args.names.now)
       (g.F.Folder.state c.args.folder.now) c.requires.first c.requires.created;
   ready = c.requires.ready;
+  came = g.met.F.Folder.came_none _;
 }
 
 pub loop-turn-smaller : goal.loop-turn-smaller
@@ -39,6 +40,7 @@ loop-turn-preserved g c =
           c.in-Ok-Going.ensures.script ((rw c.in-Ok-Going.field-0-is at c.in-Ok-Going.ensures.turn) r.files r.turns r.ends r.world
           r.knows.within) c.in-Ok-Going.ensures.only c.in-Ok-Going.ensures.counts;
       ready = (rw c.in-Ok-Going.field-0-is at c.in-Ok-Going.ensures.ready) refl;
+      came = g.met.F.Folder.came_on _ _ _ c.loop-turn.invariant.came c.in-Ok-Going.ensures.came;
     }
 
 pub returns-in-Ok-Done-clause-run : goal.returns-in-Ok-Done-clause-run
@@ -91,3 +93,9 @@ pub returns-in-Err-clause-counts : goal.returns-in-Err-clause-counts
 returns-in-Err-clause-counts g c =
     counts-later (g.F.Folder.state c.args.folder.now) (g.F.Folder.state c.loop-turn.folder) (g.F.Folder.state c.turn.new.folder)
     (written c.args.names.now) c.in-Err.fault c.loop-turn.invariant.reached.stand c.in-Err.ensures.counts
+
+pub returns-in-Ok-Done-clause-came : goal.returns-in-Ok-Done-clause-came
+returns-in-Ok-Done-clause-came g c = g.met.F.Folder.came_on _ _ _ c.loop-turn.invariant.came c.in-Ok-Done.ensures.came
+
+pub returns-in-Err-clause-came : goal.returns-in-Err-clause-came
+returns-in-Err-clause-came g c = g.met.F.Folder.came_on _ _ _ c.loop-turn.invariant.came c.in-Err.ensures.came

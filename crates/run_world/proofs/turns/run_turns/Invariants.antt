@@ -8,6 +8,7 @@ abbrev pub invariant-loop-turn : goal.invariant-loop-turn
 invariant-loop-turn g l = record {
   reached : Reached l.world (script_of l.fn.world) (written l.names) (g.F.Folder.state l.fn.folder) (g.F.Folder.state l.folder);
   ready : IsReady l.world;
+  came : g.F.Folder.came l.fn.folder l.folder;
 }
 
 abbrev pub decreases-loop-turn : goal.decreases-loop-turn
