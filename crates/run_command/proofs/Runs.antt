@@ -17,9 +17,9 @@ use Rattle.run_world.specs.Turn.{FaultCounts}
 use Rattle.command_base.specs.declared.stop.Stop.{Stop}
 use Rattle.command_base.specs.declared.stop.Stop.TheVariants as stops
 use Rattle.command_base.specs.Inputs.{IsWithin}
-use Rattle.outside_calls.specs.Outputs.{IsNoneOf, AreNoneOf, OnlyOutputs, KeepsEach, CreatesPart, AreApart}
+use Rattle.outside_calls.specs.Outputs.{IsNoneOf, AreNoneOf, OnlyOutputs, CreatesPart, AreApart}
 use Rattle.outside_calls.specs.Outputs.{AreApartFrom, OnlyPuts}
-use Rattle.outside_calls.proofs.Putting.{SomeRose-earlier}
+use Rattle.outside_calls.proofs.Putting.{KeepsEach-reads, SomeRose-earlier, none-fronts}
 use Rattle.command_base.specs.Stops.{StopCounts}
 use Rattle.command_base.proofs.Creating.{CreatesPart-earlier}
 use Rattle.run_inputs.specs.declared.limits.Limits.{Limits}
@@ -40,36 +40,19 @@ ends-refused l old new n stops.NoMemory reads r = (reads.names, r)
 ends-refused l old new n (stops.Write fault) reads never = absurd never
 ends-refused l old new n (stops.Say fault) reads never = never
 
-keeps-each : (old new : FolderState) (names : List (List ℕ)) → OnlyReads old new → KeepsEach old new names
-keeps-each old new [] reads = tt
-keeps-each old new (name ∷ names) reads = (reads.names name, keeps-each old new names reads)
-
 -- an output was not created
 pub ends-creating : (l : Limits) (old mid new : FolderState) (n : RunNames) (script : ScriptValue) → IsBegun l old mid n script
     → CreatesPart mid new (outputs_of n) → StopsCreating l old new n
 ends-creating l old mid new n script b c = record {
   script = script;
   opens = b.opens;
-  creates = CreatesPart-earlier old mid new (outputs_of n) b.reads.goes_on (keeps-each old mid (outputs_of n) b.reads) c;
+  creates = CreatesPart-earlier old mid new (outputs_of n) b.reads.goes_on (KeepsEach-reads old mid (outputs_of n) b.reads) c;
 }
-
--- a name that is none of some is none of the first of them
-none-front : (name : List ℕ) (front behind : List (List ℕ)) → IsNoneOf name (front ++ behind) → IsNoneOf name front
-none-front name [] behind apart = tt
-none-front name (first ∷ front) behind apart = (apart.0, none-front name front behind apart.1)
-
-none-fronts : (names front behind : List (List ℕ)) → AreNoneOf names (front ++ behind) → AreNoneOf names front
-none-fronts [] front behind apart = tt
-none-fronts (name ∷ names) front behind apart = (none-front name front behind apart.0, none-fronts names front behind apart.1)
 
 -- names that the words keep apart
 pub apart-names : (n : RunNames) → AreApart (outputs_of n) → AreNoneOf (outputs_of n) (inputs_of n)
     → AreApartFrom (files_of n) (outputs_of n)
 apart-names n d i = (d, none-fronts (outputs_of n) (files_of n) (n.script ∷ []) i)
-
--- the outputs alone were touched
-pub only-put : {a b : FolderState} (names : List (List ℕ)) → OnlyPuts a b names → OnlyOutputs a b names
-only-put names o = record { goes_on = o.goes_on; names = o.names }
 
 -- the phases of a run, once its inputs were opened
 pub record Phases (l : Limits) (old mid now next : FolderState) (n : RunNames) (script : ScriptValue) : Type 0 where

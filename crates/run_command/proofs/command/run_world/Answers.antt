@@ -11,12 +11,13 @@ use Rattle.run_world.specs.Turn.{FaultCounts}
 use Rattle.command_base.specs.Stops.{StopCounts}
 use Rattle.command_base.proofs.Jobs.{stop-earlier}
 use Rattle.outside_calls.proofs.OnlyOutputs.{OnlyOutputs-trans}
+use Rattle.outside_calls.proofs.Putting.{OnlyOutputs-puts}
 use Rattle.run_inputs.specs.declared.limits.TheConstants.{LIMITS}
 use Rattle.run_inputs.specs.Words.{RunNames, named, inputs_of, outputs_of}
 use Rattle.run_world.specs.Turns.{RunEnds, FaultEnds}
 use Rattle.run_command.specs.Ends.{EndsBy}
 use Rattle.line_run.specs.Ends as runs
-use Rattle.run_command.proofs.Runs.{apart-names, only-put, ends-creating, ran-to, ends-in-turn, turn-counts}
+use Rattle.run_command.proofs.Runs.{apart-names, ends-creating, ran-to, ends-in-turn, turn-counts}
 use Rattle.run_command.proofs.command.run_world.Goals as goal
 
 pub returns-in-Err-clause-ends : goal.returns-in-Err-clause-ends
@@ -59,7 +60,7 @@ returns-in-Ok-run_turns-clause-only g c =
     let next : FolderState = g.F.Folder.state c.run_turns.new.folder in
     let n : RunNames = named c.args.words.now in
     OnlyOutputs-trans (outputs_of n) c.in-Ok.ensures.only
-    (only-put (outputs_of n) (subst (λ (w : Written). OnlyPuts now next (written.outputs_of w)) c.names_of.ensures c.in-Ok-run_turns.ensures.only))
+    (OnlyOutputs-puts (outputs_of n) (subst (λ (w : Written). OnlyPuts now next (written.outputs_of w)) c.names_of.ensures c.in-Ok-run_turns.ensures.only))
 
 pub returns-in-Ok-run_turns-clause-counts : goal.returns-in-Ok-run_turns-clause-counts
 returns-in-Ok-run_turns-clause-counts g c = CountsStand-trans c.in-Ok.ensures.stand c.in-Ok-run_turns.ensures.counts
@@ -89,7 +90,7 @@ returns-in-Err-run_turns-clause-only g c =
     let next : FolderState = g.F.Folder.state c.run_turns.new.folder in
     let n : RunNames = named c.args.words.now in
     OnlyOutputs-trans (outputs_of n) c.in-Ok.ensures.only
-    (only-put (outputs_of n) (subst (λ (w : Written). OnlyPuts now next (written.outputs_of w)) c.names_of.ensures c.in-Err-run_turns.ensures.only))
+    (OnlyOutputs-puts (outputs_of n) (subst (λ (w : Written). OnlyPuts now next (written.outputs_of w)) c.names_of.ensures c.in-Err-run_turns.ensures.only))
 
 pub returns-in-Err-run_turns-clause-counts : goal.returns-in-Err-run_turns-clause-counts
 returns-in-Err-run_turns-clause-counts g c =
