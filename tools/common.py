@@ -5,6 +5,7 @@ import math
 import os
 import re
 import shutil
+import signal
 import subprocess
 import sys
 from dataclasses import dataclass
@@ -23,6 +24,8 @@ POINTS = [
 ]  # of each label at 9600 bit/s, in units of the map
 QUARTERS = [(3, 1), (1, -3), (-3, -1), (-1, 3)]  # likewise at 4800 bit/s
 POWER = 10  # the mean of the squared distances of either map's points from the middle, in squares of a unit
+
+signal.signal(signal.SIGPIPE, signal.SIG_DFL)  # so that `| head` ends a tool quietly
 
 
 def fail(why, status=3):
