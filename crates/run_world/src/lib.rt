@@ -10,6 +10,7 @@
 mod heard;
 pub mod laws;
 mod link;
+mod modems;
 mod names;
 mod step;
 mod tally;
@@ -19,6 +20,7 @@ mod world;
 
 use heard::arrived;
 use link::{Breaking, Link};
+pub use modems::Modems;
 pub use names::{FILE_LIMIT, Names};
 pub use step::{RunFault, Step};
 pub use turns::run_turns;
