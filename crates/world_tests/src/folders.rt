@@ -166,7 +166,11 @@ fn reads(rt: &impl Abort, alloc: Global, size: usize) -> Result<(), Fail> {
     let fault = Some(ErrorKind::BrokenPipe);
     let mut buf = vec![in alloc; 0u8; size]?;
     let few = size - 400;
-    for (left, end, count) in [(size + 500, None, size), (size, fault, size), (few, None, few)] {
+    for (left, end, count) in [
+        (size + 500, None, size),
+        (size, fault, size),
+        (few, None, few),
+    ] {
         let read = fill(&mut transfer_of(left, end), &mut buf)?;
         assert!(rt; read == count, "{left}");
         assert!(rt; buf[..read].iter().all(|octet| *octet == b'r'), "{left}");
